@@ -1,0 +1,49 @@
+-- When two values or places are one, as tests that compute, and that these tests decide equality.
+use Rattle.std.specs.Prelude.{◌≡◌, Bool, true, false, nat_eq, refl}
+use Rattle.std.specs.Bool.{Decides}
+use Rattle.std.specs.Cmp.{IsEquivalence, unsigned_Decides, signed_Decides}
+use Rattle.std.specs.Cmp.Lexicographic.{pointwise, pointwise_decides}
+use Rattle.std.specs.Ordering.{int_eq}
+use Rattle.std.proofs.Common.{sym, ap}
+use Rattle.kt_tuple.specs.declared.value.Value.{Value}
+use Rattle.kt_tuple.specs.declared.value.Value.TheVariants.{Int, Str}
+use Rattle.kt_tuple.specs.declared.value.Kind.{Kind}
+use Rattle.kt_tuple.specs.declared.value.Kind.TheVariants as kinds
+
+abbrev pub kind_eq : Kind → Kind → Bool
+kind_eq kinds.Int kinds.Int = true
+kind_eq kinds.Int kinds.Str = false
+kind_eq kinds.Str kinds.Int = false
+kind_eq kinds.Str kinds.Str = true
+
+abbrev pub value_eq : Value → Value → Bool
+value_eq (Int m) (Int n) = int_eq m n
+value_eq (Int m) (Str t) = false
+value_eq (Str s) (Int n) = false
+value_eq (Str s) (Str t) = pointwise nat_eq s t
+
+pub kind_eq_decides : (a b : Kind) → Decides (kind_eq a b) (a ≡ b)
+kind_eq_decides kinds.Int kinds.Int = (λ _. refl, λ _. refl)
+kind_eq_decides kinds.Int kinds.Str = (λ e. absurd cc, λ e. absurd cc)
+kind_eq_decides kinds.Str kinds.Int = (λ e. absurd cc, λ e. absurd cc)
+kind_eq_decides kinds.Str kinds.Str = (λ _. refl, λ _. refl)
+
+pub value_eq_decides : (a b : Value) → Decides (value_eq a b) (a ≡ b)
+value_eq_decides (Int m) (Int n) =
+    (λ e. ap Int ((signed_Decides m n).0 e), λ (e : Int m ≡ Int n). (signed_Decides m n).1 cc)
+value_eq_decides (Int m) (Str t) = (λ e. absurd cc, λ e. absurd cc)
+value_eq_decides (Str s) (Int n) = (λ e. absurd cc, λ e. absurd cc)
+value_eq_decides (Str s) (Str t) =
+    (λ e. ap Str ((pointwise_decides unsigned_Decides s t).0 e), λ (e : Str s ≡ Str t). (pointwise_decides unsigned_Decides s t).1 cc)
+
+-- a test that decides equality is an equivalence
+pub equivalence_from_decides : {K : Type 0} (E : K → K → Bool) → ((a b : K) → Decides (E a b) (a ≡ b)) → IsEquivalence E
+equivalence_from_decides E d = record {
+  refl = λ x. (d x x).1 refl;
+  symm = λ x y. same (E x y) (E y x) (λ e. (d y x).1 (sym ((d x y).0 e))) (λ e. (d x y).1 (sym ((d y x).0 e)));
+  congr = λ x y z e. ap (λ v. E v z) ((d x y).0 e);
+} where
+  same : (a b : Bool) → (a ≡ true → b ≡ true) → (b ≡ true → a ≡ true) → a ≡ b
+  same true b f g = sym (f refl)
+  same false true f g = g refl
+  same false false f g = refl

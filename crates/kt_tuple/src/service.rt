@@ -1,0 +1,14 @@
+use crate::op::{Answer, Op};
+
+/// A request that was served: what a worker's request asked and what it was answered.
+#[derive(Debug, PartialEq, Eq, Drop)]
+pub struct Service {
+    /// The worker, counted from 1.
+    pub worker: u8,
+    /// The number of the worker's request, counted from 1.
+    pub number: u64,
+    /// What it asked.
+    pub op: Op,
+    /// What it was answered.
+    pub answer: Answer,
+}

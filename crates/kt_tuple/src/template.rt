@@ -1,0 +1,175 @@
+ghost use Rattle.std.specs.Prelude.{◌≡◌, ◌↔◌, IsTrue, IsSome, IfSome, IfOk};
+ghost use Rattle.kt_tuple.specs.Matching.{HasArity, Admits, Matches, admits, matches};
+
+use crate::signature::Signature;
+use crate::tuple::{MAX_PLACES, Tuple};
+use crate::value::{Kind, Value};
+use std::alloc::{AllocError, Global};
+use std::marker::Model;
+
+/// One place of a template.
+#[derive(Debug, PartialEq, Eq, Drop)]
+pub enum Place {
+    /// Only this value is admitted.
+    Actual(Value),
+    /// Any value of this kind is admitted.
+    Formal(Kind),
+}
+
+impl Place {
+    ghost use Rattle.kt_tuple.specs.Signature.{kind_of_place};
+
+    /// The kind of the values that it admits.
+    pub fn kind(&self) -> Kind
+        ensures { result ≡ kind_of_place self.now }
+    {
+        match self {
+            Place::Actual(value) => value.kind(),
+            Place::Formal(kind) => *kind,
+        }
+    }
+
+    /// Whether the value may stand here.
+    pub fn admits(&self, value: &Value) -> bool
+        ensures meaning { IsTrue result ↔ Admits self.now value.now }
+        ensures decided { result ≡ admits self.now value.now }
+    {
+        match self {
+            Place::Actual(actual) => actual.equals(value),
+            Place::Formal(kind) => *kind == value.kind(),
+        }
+    }
+
+    /// An equal place.
+    pub fn copy(&self, alloc: Global) -> Result<Place, AllocError>
+        ensures { IfOk result (λ p. p ≡ self.now) }
+    {
+        match self {
+            Place::Actual(value) => Ok(Place::Actual(value.copy(alloc)?)),
+            Place::Formal(kind) => Ok(Place::Formal(*kind)),
+        }
+    }
+}
+
+/// An ordered list of 1 to 8 places (Gelernter, "Generative Communication in Linda").
+#[derive(Debug, Drop)]
+pub struct Template {
+    places: Vec<Place>,
+}
+
+impl Model for Template {
+    ghost use Rattle.std.specs.Prelude.{List};
+    ghost use Rattle.kt_tuple.specs.declared.template.Place.{Place};
+    ghost use Rattle.kt_tuple.specs.Matching.{HasArity};
+
+    ghost Value = { List Place };
+
+    ghost view = { λ t. t.places.items };
+
+    ghost invariant = { λ t. HasArity t.places.items };
+}
+
+impl Template {
+    ghost use Rattle.kt_tuple.specs.Signature.{kinds_of_places, signature_of};
+
+    /// The template of these places, or `None` where there are none or more than 8.
+    pub fn new(places: Vec<Place>) -> Option<Template>
+        ensures within { IsSome result ↔ HasArity places.items }
+        ensures value { IfSome result (λ t. t ≡ places.items) }
+    {
+        if 1 <= places.len() && places.len() <= MAX_PLACES {
+            Some(Template { places })
+        } else {
+            None
+        }
+    }
+
+    /// The places, from left to right.
+    pub fn places(&self) -> &[Place]
+        ensures value { result.now ≡ self.now }
+        ensures arity { HasArity self.now }
+    {
+        &self.places
+    }
+
+    /// Whether the tuple has as many values as there are places, each admitted by its place.
+    pub fn matches(&self, tuple: &Tuple) -> bool
+        ensures meaning { IsTrue result ↔ Matches self.now tuple.now }
+        ensures decided { result ≡ matches self.now tuple.now }
+    {
+        all_admit(&self.places, tuple.values())
+    }
+
+    /// An equal template.
+    pub fn copy(&self, alloc: Global) -> Result<Template, AllocError>
+        ensures { IfOk result (λ t. t ≡ self.now) }
+    {
+        Ok(Template {
+            places: copy_places(alloc, &self.places)?,
+        })
+    }
+
+    /// The kinds of its places, as one number.
+    pub fn signature(&self) -> Signature
+        ensures { result ≡ signature_of (kinds_of_places self.now) }
+    {
+        let mut signature = Signature::empty();
+        for place in &self.places {
+            signature = signature.then(place.kind());
+        }
+        signature
+    }
+
+    /// Whether both have the same places in the same order.
+    pub fn equals(&self, other: &Template) -> bool
+        ensures { IsTrue result ↔ (self.now ≡ other.now) }
+    {
+        self == other
+    }
+}
+
+fn all_admit(places: &[Place], values: &[Value]) -> bool
+    ensures meaning { IsTrue result ↔ Matches places.now values.now }
+    ensures decided { result ≡ matches places.now values.now }
+{
+    match (places.split_first(), values.split_first()) {
+        (None, None) => true,
+        (Some((place, places)), Some((value, values))) => {
+            place.admits(value) && all_admit(places, values)
+        }
+        _ => false,
+    }
+}
+
+fn copy_places(alloc: Global, places: &[Place]) -> Result<Vec<Place>, AllocError>
+    ensures { IfOk result (λ v. v.items ≡ places.now) }
+{
+    let mut copies = Vec::with_capacity(alloc, places.len())?;
+    for place in places {
+        copies.push(place.copy(alloc)?)?;
+    }
+    Ok(copies)
+}
+
+impl PartialEq for Template {
+    ghost use Rattle.std.specs.Cmp.{partial_equiv_from_equiv};
+    ghost use Rattle.std.specs.Cmp.Lexicographic.{pointwise, lists_equiv};
+    ghost use Rattle.kt_tuple.specs.Equality.{equivalence_from_decides};
+    ghost use Rattle.kt_tuple.specs.Matching.{place_eq, place_eq_decides};
+
+    ghost eq = { λ a b. pointwise place_eq a b };
+
+    ghost laws = { partial_equiv_from_equiv (lists_equiv (equivalence_from_decides place_eq place_eq_decides)) };
+
+    fn eq(&self, other: &Template) -> bool {
+        self.places.as_slice() == other.places.as_slice()
+    }
+}
+
+impl Eq for Template {
+    ghost use Rattle.std.specs.Cmp.Lexicographic.{lists_equiv};
+    ghost use Rattle.kt_tuple.specs.Equality.{equivalence_from_decides};
+    ghost use Rattle.kt_tuple.specs.Matching.{place_eq, place_eq_decides};
+
+    ghost laws = { lists_equiv (equivalence_from_decides place_eq place_eq_decides) };
+}

@@ -1,0 +1,110 @@
+ghost use Rattle.std.specs.Prelude.{◌≡◌, ◌↔◌, IsTrue, IsSome, IfSome, IfOk};
+ghost use Rattle.kt_tuple.specs.Matching.{HasArity};
+
+use crate::signature::Signature;
+use crate::value::Value;
+use std::alloc::{AllocError, Global};
+use std::marker::Model;
+
+/// The most places that a tuple or a template has.
+pub const MAX_PLACES: usize = 8;
+
+/// An ordered list of 1 to 8 values (Gelernter, "Generative Communication in Linda").
+#[derive(Debug, Drop)]
+pub struct Tuple {
+    values: Vec<Value>,
+}
+
+impl Model for Tuple {
+    ghost use Rattle.std.specs.Prelude.{List};
+    ghost use Rattle.kt_tuple.specs.declared.value.Value.{Value as Datum};
+    ghost use Rattle.kt_tuple.specs.Matching.{HasArity};
+
+    ghost Value = { List Datum };
+
+    ghost view = { λ t. t.values.items };
+
+    ghost invariant = { λ t. HasArity t.values.items };
+}
+
+impl Tuple {
+    ghost use Rattle.kt_tuple.specs.Signature.{kinds_of, signature_of};
+
+    /// The tuple of these values, or `None` where there are none or more than 8.
+    pub fn new(values: Vec<Value>) -> Option<Tuple>
+        ensures within { IsSome result ↔ HasArity values.items }
+        ensures value { IfSome result (λ t. t ≡ values.items) }
+    {
+        if 1 <= values.len() && values.len() <= MAX_PLACES {
+            Some(Tuple { values })
+        } else {
+            None
+        }
+    }
+
+    /// The values, from left to right.
+    pub fn values(&self) -> &[Value]
+        ensures value { result.now ≡ self.now }
+        ensures arity { HasArity self.now }
+    {
+        &self.values
+    }
+
+    /// An equal tuple.
+    pub fn copy(&self, alloc: Global) -> Result<Tuple, AllocError>
+        ensures { IfOk result (λ t. t ≡ self.now) }
+    {
+        Ok(Tuple {
+            values: copy_values(alloc, &self.values)?,
+        })
+    }
+
+    /// The kinds of its values, as one number.
+    pub fn signature(&self) -> Signature
+        ensures { result ≡ signature_of (kinds_of self.now) }
+    {
+        let mut signature = Signature::empty();
+        for value in &self.values {
+            signature = signature.then(value.kind());
+        }
+        signature
+    }
+
+    /// Whether both have the same values in the same order.
+    pub fn equals(&self, other: &Tuple) -> bool
+        ensures { IsTrue result ↔ (self.now ≡ other.now) }
+    {
+        self == other
+    }
+}
+
+fn copy_values(alloc: Global, values: &[Value]) -> Result<Vec<Value>, AllocError>
+    ensures { IfOk result (λ v. v.items ≡ values.now) }
+{
+    let mut copies = Vec::with_capacity(alloc, values.len())?;
+    for value in values {
+        copies.push(value.copy(alloc)?)?;
+    }
+    Ok(copies)
+}
+
+impl PartialEq for Tuple {
+    ghost use Rattle.std.specs.Cmp.{partial_equiv_from_equiv};
+    ghost use Rattle.std.specs.Cmp.Lexicographic.{pointwise, lists_equiv};
+    ghost use Rattle.kt_tuple.specs.Equality.{value_eq, value_eq_decides, equivalence_from_decides};
+
+    ghost eq = { λ a b. pointwise value_eq a b };
+
+    ghost laws = { partial_equiv_from_equiv (lists_equiv (equivalence_from_decides value_eq value_eq_decides)) };
+
+    fn eq(&self, other: &Tuple) -> bool {
+        self.values.as_slice() == other.values.as_slice()
+    }
+}
+
+impl Eq for Tuple {
+    ghost use Rattle.std.specs.Cmp.Lexicographic.{lists_equiv};
+    ghost use Rattle.kt_tuple.specs.Equality.{value_eq, value_eq_decides, equivalence_from_decides};
+
+    ghost laws = { lists_equiv (equivalence_from_decides value_eq value_eq_decides) };
+}

@@ -1,0 +1,52 @@
+ghost use Rattle.std.specs.Prelude.{◌≡◌, ◌↔◌, IsTrue, IfOk};
+ghost use Rattle.kt_tuple.specs.Equality.{value_eq};
+ghost use Rattle.kt_tuple.specs.Value.{kind_of};
+
+use crate::string::Str;
+use std::alloc::{AllocError, Global};
+
+/// One value of a tuple.
+#[derive(Debug, PartialEq, Eq, Drop)]
+pub enum Value {
+    /// A whole number of 64 bits with a sign.
+    Int(i64),
+    /// A string.
+    Str(Str),
+}
+
+/// What kind of value a place holds.
+#[derive(Clone, Copy, Debug, PartialEq, Eq, Hash)]
+pub enum Kind {
+    Int,
+    Str,
+}
+
+impl Value {
+    /// What kind of value it is.
+    pub fn kind(&self) -> Kind
+        ensures { result ≡ kind_of self.now }
+    {
+        match self {
+            Value::Int(_) => Kind::Int,
+            Value::Str(_) => Kind::Str,
+        }
+    }
+
+    /// An equal value.
+    pub fn copy(&self, alloc: Global) -> Result<Value, AllocError>
+        ensures { IfOk result (λ v. v ≡ self.now) }
+    {
+        match self {
+            Value::Int(n) => Ok(Value::Int(*n)),
+            Value::Str(s) => Ok(Value::Str(s.copy(alloc)?)),
+        }
+    }
+
+    /// Whether both are of one kind and have one content.
+    pub fn equals(&self, other: &Value) -> bool
+        ensures meaning { IsTrue result ↔ (self.now ≡ other.now) }
+        ensures decided { result ≡ value_eq self.now other.now }
+    {
+        self == other
+    }
+}
