@@ -1,0 +1,2 @@
+pub mod Cast
+pub mod Step

@@ -1,0 +1,8 @@
+//! The world of workers and shards, and its step.
+#![tactic(auto)]
+
+mod scene;
+mod step;
+
+pub use scene::{MAX_COMMANDS, MAX_SHARDS, MAX_WORKERS, Scene, Script};
+pub use step::{Mode, Step, StepError};
