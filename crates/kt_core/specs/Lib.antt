@@ -1,2 +1,4 @@
 pub mod Cast
 pub mod Step
+pub mod Choice
+pub mod State

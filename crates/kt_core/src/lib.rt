@@ -1,6 +1,8 @@
 //! The world of workers and shards, and its step.
 #![tactic(auto)]
 
+mod choice;
+mod node;
 mod scene;
 mod step;
 
