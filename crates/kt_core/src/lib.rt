@@ -2,7 +2,9 @@
 #![tactic(auto)]
 
 mod choice;
+mod desk;
 mod node;
+mod plan;
 mod scene;
 mod step;
 
