@@ -143,13 +143,21 @@ bag_after bag bags.Stay = bag
 abbrev pub with_desk : Store → ℕ → Desk → Store
 with_desk y worker desk = record y { desks = put empty_desk y.desks worker desk }
 
+-- the worker of this number waits with the request
+abbrev pub waiting_store : Store → ℕ → Request → Store
+waiting_store y worker request =
+    with_desk y worker (record { waiting = Some request; kept = (at empty_desk y.desks worker).kept })
+
+-- the worker of this number was served, and this is kept
+abbrev pub served_store : Store → ℕ → BagChange → Kept → Store
+served_store y worker bag kept =
+    with_desk (record y { bag = bag_after y.bag bag }) worker (record { waiting = None; kept = Some kept })
+
 abbrev pub changed : Part → Change → Part
 changed (IsWorker x) (changes.Ask op) = IsWorker (record { number = x.number + 1; asked = Some op })
 changed (IsWorker x) changes.Accept = IsWorker (record { number = x.number; asked = None })
-changed (IsStore y) (changes.Wait worker request) =
-    IsStore (with_desk y worker (record { waiting = Some request; kept = (at empty_desk y.desks worker).kept }))
-changed (IsStore y) (changes.Serve worker bag kept) =
-    IsStore (with_desk (record y { bag = bag_after y.bag bag }) worker (record { waiting = None; kept = Some kept }))
+changed (IsStore y) (changes.Wait worker request) = IsStore (waiting_store y worker request)
+changed (IsStore y) (changes.Serve worker bag kept) = IsStore (served_store y worker bag kept)
 changed part _ = part
 
 -- the links with this message at the end of the one from p

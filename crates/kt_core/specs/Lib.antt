@@ -5,3 +5,4 @@ pub mod State
 pub mod Desk
 pub mod Plan
 pub mod Effect
+pub mod Ready

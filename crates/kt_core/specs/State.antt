@@ -34,11 +34,14 @@ pub data Part : Type 0 where
   IsWorker : Worker → Part
   IsStore : Store → Part
 
+abbrev pub store_view : Shard → Store
+store_view y = record { bag = y.bag.items; desks = y.desks.items }
+
 -- a row of the code's table, as plain data
 abbrev pub part_of : Node → Part
 part_of nodes.Nobody = Nobody
 part_of (nodes.Worker x) = IsWorker x
-part_of (nodes.Shard y) = IsStore (record { bag = y.bag.items; desks = y.desks.items })
+part_of (nodes.Shard y) = IsStore (store_view y)
 
 -- the scripts and the number of shards; the nodes by their numbers; the links, each a list of what is on its
 -- way, first sent first; what happened; the steps that each node made, by the nodes' numbers; all steps made
