@@ -1,3 +1,5 @@
 pub mod Places
 pub mod Rows
 pub mod Desks
+pub mod Queues
+pub mod Outcomes

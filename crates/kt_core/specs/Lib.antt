@@ -6,3 +6,4 @@ pub mod Desk
 pub mod Plan
 pub mod Effect
 pub mod Ready
+pub mod Machine

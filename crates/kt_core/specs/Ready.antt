@@ -13,7 +13,9 @@ use Rattle.kt_core.specs.declared.node.BagChange.{BagChange}
 use Rattle.kt_core.specs.declared.node.BagChange.TheVariants as bags
 use Rattle.kt_core.specs.declared.node.Change.{Change}
 use Rattle.kt_core.specs.declared.node.Change.TheVariants as changes
-use Rattle.kt_core.specs.State.{State, Part, Nobody, IsWorker, IsStore, at}
+use Rattle.kt_core.specs.declared.step.Step.{Step}
+use Rattle.kt_core.specs.declared.step.Step.TheVariants.{Issue, Deliver, Serve}
+use Rattle.kt_core.specs.State.{State, Part, Nobody, IsWorker, IsStore, at, link_index}
 
 -- the shard has a desk for each number that a worker can have
 abbrev pub HasDesks : Part → Type 0
@@ -57,3 +59,9 @@ abbrev pub HasRoom : Node → Type 0
 HasRoom nodes.Nobody = Unit {0}
 HasRoom (nodes.Worker x) = Unit {0}
 HasRoom (nodes.Shard y) = vec_len y.bag < vec_capacity y.bag
+
+-- a delivery comes by a link of a table with so many
+abbrev pub HasLink : ℕ → Step → Type 0
+HasLink links (Issue p) = Unit {0}
+HasLink links (Deliver p q) = link_index p q < links
+HasLink links (Serve p w place) = Unit {0}

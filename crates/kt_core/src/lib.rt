@@ -4,6 +4,7 @@
 mod change;
 mod choice;
 mod desk;
+mod machine;
 mod node;
 mod plan;
 mod scene;
