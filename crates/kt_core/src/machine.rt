@@ -1,25 +1,21 @@
-ghost use Rattle.std.specs.Prelude.{◌≡◌, ◌<◌, ◌∷◌, ◌++◌, [], drop, length, map, IfOk, OnOk, OnErr, IfSome, MatchOption};
+ghost use Rattle.std.specs.Prelude.{◌≡◌, ◌+◌, ◌<◌, ◌^◌, ◌∷◌, ◌++◌, [], drop, length, map, IfOk, OnOk, OnErr, IfSome, MatchOption};
 ghost use Rattle.std.specs.Option.{option_copied};
 ghost use Rattle.kt_history.specs.declared.note.Note.TheVariants.{Act as act_note};
 ghost use Rattle.kt_history.specs.WellFormed.{MayFollow};
-ghost use Rattle.kt_core.specs.State.{at, link_index, queues_of, store_view, part_of, node, node_number, Nobody};
-ghost use Rattle.kt_core.specs.Ready.{HasLink};
-ghost use Rattle.kt_core.specs.Effect.{sent, taken_off, script_of, next_op, cause_of_waiting};
+ghost use Rattle.kt_core.specs.State.{at, put, link_index, queues_of, store_view, part_of, node, node_number, Nobody};
+ghost use Rattle.kt_core.specs.declared.node.Node.TheVariants.{Nobody as nobody};
+ghost use Rattle.kt_core.specs.Ready.{HasLink, HasRoom, CanChange};
+ghost use Rattle.kt_core.specs.Effect.{sent, taken_off, changed};
 
-use crate::choice::{answer_of, bag_change_of, choice_of};
-use crate::node::{Message, Node, Shard, Worker};
-use crate::plan::{Plan, ignored_plan, issue_plan, reply_plan, request_plan, service_plan};
-use crate::node::Request;
+use crate::node::{Change, Message, Node};
+use crate::plan::Plan;
 use crate::scene::Scene;
-use crate::step::{Step, StepError};
-use crate::tables::{link_index, number_of};
-use kt_history::{Act, History, Note, What};
-use kt_tuple::{NodeId, Op};
+use crate::step::Step;
+use crate::tables::link_index;
+use kt_history::{Act, History, Note};
+use kt_tuple::NodeId;
 use std::alloc::{AllocError, Global};
 use std::collections::VecDeque;
-
-/// The most steps of a world.
-pub const MAX_STEPS: u64 = 100_000;
 
 /// The state of a world, and its step as it stands in the table of steps. Each growth is made before the
 /// first change.
@@ -38,7 +34,7 @@ pub(crate) struct Machine {
 }
 
 /// The first message on its way from one node to the other.
-fn front_of(links: &[VecDeque<Message>], from: NodeId, to: NodeId) -> Option<&Message>
+pub(crate) fn front_of(links: &[VecDeque<Message>], from: NodeId, to: NodeId) -> Option<&Message>
     ensures { MatchOption result (at [] (queues_of links.now) (link_index from to) ≡ []) (λ m. at [] (queues_of links.now) (link_index from to) ≡ m.now ∷ drop 1 (at [] (queues_of links.now) (link_index from to))) }
 {
     links.get(link_index(from, to))?.front()
@@ -65,6 +61,7 @@ fn note_and_send(
 ) -> Result<(), AllocError>
     requires follows { MayFollow history.old (act_note note) }
     requires link { IfSome send (λ m. link_index owner m.0 < length links.old.items) }
+    ensures links { length links.new.items ≡ length links.old.items }
     ensures noted { OnOk result (history.new ≡ history.old ++ act_note note ∷ []) }
     ensures sent { OnOk result (queues_of links.new.items ≡ sent (queues_of links.old.items) owner send) }
     ensures no_note { OnErr result (history.new ≡ history.old) }
@@ -79,5 +76,58 @@ fn note_and_send(
             queue.push_back_reserved(message);
             Ok(())
         }
+    }
+}
+
+/// Makes room for one more tuple in the node of this row.
+fn make_room(nodes: &mut Vec<Node>, row: usize) -> Result<(), AllocError>
+    requires { row < length nodes.old.items }
+    ensures room { OnOk result (HasRoom (at nobody nodes.new.items row)) }
+    ensures same { map part_of nodes.new.items ≡ map part_of nodes.old.items }
+{
+    nodes[row].make_room()
+}
+
+/// Changes the node of this row.
+fn change_node(nodes: &mut Vec<Node>, row: usize, change: Change)
+    requires row { row < length nodes.old.items }
+    requires can { CanChange (at Nobody (map part_of nodes.old.items) row) change }
+    requires room { HasRoom (at nobody nodes.old.items row) }
+    ensures { map part_of nodes.new.items ≡ put Nobody (map part_of nodes.old.items) row (changed (at Nobody (map part_of nodes.old.items) row) change) }
+{
+    nodes[row].change(change);
+}
+
+/// Counts one more step of the node of this row.
+fn count(own: &mut Vec<u64>, row: usize)
+    requires row { row < length own.old.items }
+    requires small { at 0 own.old.items row + 1 < 2 ^ 64 }
+    ensures { own.new.items ≡ put 0 own.old.items row (at 0 own.old.items row + 1) }
+{
+    own[row] += 1;
+}
+
+impl Machine {
+    ghost use Rattle.kt_core.specs.Effect.{applied};
+    ghost use Rattle.kt_core.specs.Ready.{IsReady};
+    ghost use Rattle.kt_core.specs.Machine.{state_of, CanApply, Gives};
+
+    /// Carries out the plan of the step, or changes nothing.
+    fn apply(&mut self, alloc: Global, step: Step, plan: Plan) -> Result<(), AllocError>
+        requires ready { IsReady (state_of self.old) }
+        requires can { CanApply (state_of self.old) step plan }
+        ensures ok { OnOk result (state_of self.new ≡ applied (state_of self.old) step plan) }
+        ensures err { OnErr result (state_of self.new ≡ state_of self.old) }
+    {
+        let Plan { change, send, note } = plan;
+        let owner = step.owner();
+        let row = owner.index();
+        make_room(&mut self.nodes, row)?;
+        note_and_send(alloc, &mut self.history, &mut self.links, owner, note, send)?;
+        take_off(&mut self.links, step);
+        change_node(&mut self.nodes, row, change);
+        count(&mut self.own, row);
+        self.made += 1;
+        Ok(())
     }
 }
