@@ -4,4 +4,5 @@ pub mod Desks
 pub mod Queues
 pub mod Readiness
 pub mod Hearings
+pub mod PlanCases
 pub mod Outcomes
