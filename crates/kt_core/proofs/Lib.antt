@@ -5,4 +5,5 @@ pub mod Queues
 pub mod Readiness
 pub mod Hearings
 pub mod PlanCases
+pub mod CanApplies
 pub mod Outcomes

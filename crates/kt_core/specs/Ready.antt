@@ -23,6 +23,12 @@ HasDesks Nobody = Unit {0}
 HasDesks (IsWorker x) = Unit {0}
 HasDesks (IsStore y) = length y.desks ≡ 9
 
+-- a worker has made fewer requests than there were steps
+abbrev pub HasAskedFew : ℕ → Part → Type 0
+HasAskedFew steps Nobody = Unit {0}
+HasAskedFew steps (IsWorker x) = x.number ≤ steps
+HasAskedFew steps (IsStore y) = Unit {0}
+
 -- the message names the act that sent it, if it names one
 abbrev pub NamesAct : List Note → Message → Type 0
 NamesAct h (Ask request by) = by ≢ 0 → IsAct h by
@@ -35,6 +41,7 @@ pub record IsReady (s : State) : Type 0 where
   pub links : length s.links ≡ 324
   pub counts : length s.own ≡ 18
   pub desks : (k : ℕ) → HasDesks (at Nobody s.nodes k)
+  pub requests : (k : ℕ) → HasAskedFew s.made (at Nobody s.nodes k)
   pub few_steps : s.made ≤ 100000
   pub few_own : (k : ℕ) → at 0 s.own k ≤ s.made
   pub few_notes : length s.history ≤ s.made
