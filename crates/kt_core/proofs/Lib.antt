@@ -6,4 +6,5 @@ pub mod Readiness
 pub mod Hearings
 pub mod PlanCases
 pub mod CanApplies
+pub mod StaysReady
 pub mod Outcomes
