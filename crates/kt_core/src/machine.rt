@@ -14,7 +14,7 @@ use crate::step::Step;
 use crate::tables::link_index;
 use kt_history::{Act, History, Note};
 use kt_tuple::NodeId;
-use std::alloc::{AllocError, Global};
+use std::alloc::AllocError;
 use std::collections::VecDeque;
 
 /// The state of a world, and its step as it stands in the table of steps. Each growth is made before the
@@ -52,7 +52,6 @@ fn take_off(links: &mut Vec<VecDeque<Message>>, step: Step)
 
 /// Makes the note and sends the message, or does neither.
 fn note_and_send(
-    alloc: Global,
     history: &mut History,
     links: &mut Vec<VecDeque<Message>>,
     owner: NodeId,
@@ -68,11 +67,11 @@ fn note_and_send(
     ensures not_sent { OnErr result (queues_of links.new.items ≡ queues_of links.old.items) }
 {
     match send {
-        None => history.push(alloc, Note::Act(note)),
+        None => history.push(Note::Act(note)),
         Some((to, message)) => {
             let queue = &mut links[link_index(owner, to)];
             queue.reserve(1)?;
-            history.push(alloc, Note::Act(note))?;
+            history.push(Note::Act(note))?;
             queue.push_back_reserved(message);
             Ok(())
         }
@@ -113,7 +112,7 @@ impl Machine {
     ghost use Rattle.kt_core.specs.Machine.{state_of, CanApply, Gives};
 
     /// Carries out the plan of the step, or changes nothing.
-    fn apply(&mut self, alloc: Global, step: Step, plan: Plan) -> Result<(), AllocError>
+    fn apply(&mut self, step: Step, plan: Plan) -> Result<(), AllocError>
         requires ready { IsReady (state_of self.old) }
         requires can { CanApply (state_of self.old) step plan }
         ensures ok { OnOk result (state_of self.new ≡ applied (state_of self.old) step plan) }
@@ -123,7 +122,7 @@ impl Machine {
         let owner = step.owner();
         let row = owner.index();
         make_room(&mut self.nodes, row)?;
-        note_and_send(alloc, &mut self.history, &mut self.links, owner, note, send)?;
+        note_and_send(&mut self.history, &mut self.links, owner, note, send)?;
         take_off(&mut self.links, step);
         change_node(&mut self.nodes, row, change);
         count(&mut self.own, row);
