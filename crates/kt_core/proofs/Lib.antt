@@ -7,4 +7,5 @@ pub mod Hearings
 pub mod PlanCases
 pub mod CanApplies
 pub mod StaysReady
+pub mod Openings
 pub mod Outcomes

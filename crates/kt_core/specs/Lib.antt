@@ -7,3 +7,4 @@ pub mod Plan
 pub mod Effect
 pub mod Ready
 pub mod Machine
+pub mod Reached
