@@ -8,4 +8,5 @@ pub mod PlanCases
 pub mod CanApplies
 pub mod StaysReady
 pub mod Openings
+pub mod Keeping
 pub mod Outcomes
