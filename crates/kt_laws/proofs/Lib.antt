@@ -1,0 +1,5 @@
+pub mod Bags
+pub mod Homes
+pub mod Rows
+pub mod Merge
+pub mod OneRun

@@ -1,0 +1,5 @@
+pub mod Bag
+pub mod Shard
+pub mod Worker
+pub mod Order
+pub mod Legal
