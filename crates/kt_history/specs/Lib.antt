@@ -1,0 +1,5 @@
+pub mod Line
+pub mod Past
+pub mod Survival
+pub mod WellFormed
+pub mod Closed

@@ -1,0 +1,75 @@
+-- What of a history lasts: the acts with nothing lost in their past, and the services among them.
+use Rattle.std.specs.Prelude.{◌≡◌, ℕ, zero, suc, ◌==◌, Bool, true, false, not, ◌&&◌, if◌then◌else◌, List, [], ◌∷◌, Option, None, Some, length, Contains}
+use Rattle.std.specs.List.{filter_map, list_any, list_all}
+use Rattle.kt_tuple.specs.declared.node.NodeId.{NodeId}
+use Rattle.kt_tuple.specs.declared.op.Answer.{Answer}
+use Rattle.kt_tuple.specs.declared.service.Service.{Service}
+use Rattle.kt_history.specs.declared.note.What.{What}
+use Rattle.kt_history.specs.declared.note.What.TheVariants as whats
+use Rattle.kt_history.specs.declared.note.Act.{Act}
+use Rattle.kt_history.specs.declared.note.Note.{Note}
+use Rattle.kt_history.specs.declared.note.Note.TheVariants as notes
+use Rattle.kt_history.specs.Line.{note_at, before, line}
+use Rattle.kt_history.specs.Past.{InPast}
+
+-- the act e is remembered: it stands in some node's line
+abbrev pub Stands : List Note → ℕ → Type 0
+Stands h e = (p : NodeId) × Contains (line h p) e
+
+-- the act e stands in no line
+abbrev pub IsLost : List Note → ℕ → Type 0
+IsLost h e = ¬ Stands h e
+
+-- nothing in the past of f is lost
+abbrev pub Survives : List Note → ℕ → Type 0
+Survives h f = (e : ℕ) → InPast h e f → ¬ IsLost h e
+
+-- the act of this number stands in its node's line: a test that computes
+abbrev pub note_stands : List Note → ℕ → Option Note → Bool
+note_stands h n None = false
+note_stands h n (Some (notes.Act a)) = list_any (λ m. m == n) (line h a.node)
+note_stands h n (Some (notes.Cut p keep)) = false
+
+-- the acts one step back in the past: those in the line before it, and its cause
+abbrev pub note_causes : List Note → ℕ → Option Note → List ℕ
+note_causes h n None = []
+note_causes h n (Some (notes.Act a)) = if a.by == 0 then line (before h n) a.node else a.by ∷ line (before h n) a.node
+note_causes h n (Some (notes.Cut p keep)) = []
+
+-- whether the act n stands, and all acts less than so many steps back in its past
+unfoldable pub stands_back : List Note → ℕ → ℕ → Bool
+stands_back h zero n = true
+stands_back h (suc steps) n =
+    note_stands h n (note_at h n) && list_all (stands_back h steps) (note_causes h n (note_at h n))
+
+-- whether n survives: a test that computes, since each step back goes to a smaller number
+unfoldable pub survives : List Note → ℕ → Bool
+survives h n = stands_back h (suc n) n
+
+-- the service that an act is, if it is one
+abbrev pub service_of : Act → What → Option Service
+service_of a (whats.Served answer) = Some (record { worker = a.worker; number = a.number; op = a.op; answer = answer })
+service_of a _ = None
+
+-- the services among these acts
+abbrev pub services_of : List Act → List Service
+services_of acts = filter_map (λ a. service_of a a.what) acts
+
+-- the marked acts by rising number, of notes the first of which has the number n
+unfoldable pub marked_from : (ℕ → Bool) → ℕ → List Note → List Act
+marked_from marks n [] = []
+marked_from marks n (notes.Act a ∷ later) =
+    if marks n then (a ∷ marked_from marks (suc n) later) else marked_from marks (suc n) later
+marked_from marks n (notes.Cut p keep ∷ later) = marked_from marks (suc n) later
+
+-- the marked acts by rising number
+abbrev pub marked_acts : (ℕ → Bool) → List Note → List Act
+marked_acts marks h = marked_from marks 1 h
+
+-- the surviving services by rising number
+unfoldable pub services : List Note → List Service
+services h = services_of (marked_acts (survives h) h)
+
+-- how many services do not survive
+unfoldable pub lost_count : List Note → ℕ
+lost_count h = length (services_of (marked_acts (λ n. not (survives h n)) h))
