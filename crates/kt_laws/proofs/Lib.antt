@@ -3,3 +3,5 @@ pub mod Homes
 pub mod Rows
 pub mod Merge
 pub mod OneRun
+pub mod Orders
+pub mod Follows
