@@ -5,3 +5,6 @@ pub mod Merge
 pub mod OneRun
 pub mod Orders
 pub mod Follows
+pub mod Fronts
+pub mod Causes
+pub mod Survive
