@@ -8,3 +8,5 @@ pub mod Follows
 pub mod Fronts
 pub mod Causes
 pub mod Survive
+pub mod Growth
+pub mod WellFormed
