@@ -1,6 +1,6 @@
 -- Choices of acts that hold the whole past of each of their acts (Koo and Toueg, "Checkpointing and
 -- Rollback-Recovery for Distributed Systems": a consistent set).
-use Rattle.std.specs.Prelude.{◌≡◌, ℕ, ◌<◌, ◌≤◌, Bool, IsTrue, List, ◌++◌, Option, None, Some, filter, Contains, All}
+use Rattle.std.specs.Prelude.{◌≡◌, ℕ, Bool, IsTrue, List, ◌++◌, Option, None, Some, filter, Contains}
 use Rattle.std.specs.List.{filter_map}
 use Rattle.kt_tuple.specs.declared.node.NodeId.{NodeId}
 use Rattle.kt_history.specs.declared.note.Act.{Act}
@@ -21,8 +21,8 @@ pub record IsFront (h : List Note) (marks : ℕ → Bool) (p : NodeId) : Type 0 
   pub front : List ℕ
   pub rest : List ℕ
   pub split : line h p ≡ front ++ rest
-  pub marked : All (λ n. IsTrue (marks n)) front
-  pub unmarked : All (λ n. ¬ IsTrue (marks n)) rest
+  pub marked : (n : ℕ) → Contains front n → IsTrue (marks n)
+  pub unmarked : (n : ℕ) → Contains rest n → ¬ IsTrue (marks n)
 
 -- the act of this number, if it names one
 abbrev pub act_of : Option Note → Option Act

@@ -3,3 +3,4 @@ pub mod Past
 pub mod Survival
 pub mod WellFormed
 pub mod Closed
+pub mod Marks
