@@ -1,0 +1,27 @@
+-- A desk that is written over in place is put into the table of desks.
+use Rattle.std.proofs.Common.{◌≡◌, ℕ, ◌<◌, List, length, set, get_or, refl, sym, ap, ◌∙◌}
+use Rattle.std.specs.Prelude.{Some, None}
+use Rattle.std.proofs.lemmas.List.{get_or_default}
+use Rattle.kt_core.specs.declared.node.Request.{Request}
+use Rattle.kt_core.specs.declared.node.Kept.{Kept}
+use Rattle.kt_core.specs.declared.node.Desk.{Desk}
+use Rattle.kt_tuple.specs.declared.tuple.Tuple.{Tuple}
+use Rattle.kt_core.specs.State.{at, put, Store}
+use Rattle.kt_core.specs.Desk.{empty_desk}
+use Rattle.kt_core.proofs.Rows.{put-set}
+
+pub put_desk : (desks : List Desk) (worker : ℕ) (new desk : Desk) → worker < length desks → new ≡ desk → set desks worker new ≡ put empty_desk desks worker desk
+put_desk desks worker new desk lt e = ap (set desks worker) e ∙ sym (put-set empty_desk desks worker desk lt)
+
+pub put_waiting : (desks : List Desk) (worker : ℕ) (old new : Desk) (request : Request) → worker < length desks → old ≡ get_or desks worker old
+    → new ≡ record { waiting = Some request; kept = old.kept }
+    → set desks worker new ≡ put empty_desk desks worker (record { waiting = Some request; kept = (at empty_desk desks worker).kept })
+put_waiting desks worker old new request lt was e =
+    let same : old ≡ at empty_desk desks worker = was ∙ get_or_default desks worker old empty_desk lt in
+    put_desk desks worker new _ lt (e ∙ ap (λ (d : Desk). record { waiting = Some request; kept = d.kept }) same)
+
+abbrev pub store : List Tuple → List Desk → Store
+store bag desks = record { bag = bag; desks = desks }
+
+pub same_store : (a b : List Tuple) (d e : List Desk) → a ≡ b → d ≡ e → store a d ≡ store b e
+same_store a b d e p q = ap (λ (x : List Tuple). store x d) p ∙ ap (store b) q

@@ -1,0 +1,48 @@
+-- What a shard makes of a request, and a worker of a reply.
+use Rattle.std.specs.Prelude.{ℕ, ◌==◌, max, Bool, false, ◌&&◌, if◌then◌else◌, Option, None, Some}
+use Rattle.kt_tuple.specs.declared.op.Op.{Op}
+use Rattle.kt_tuple.specs.declared.op.Answer.{Answer}
+use Rattle.kt_tuple.specs.Op.{op_eq}
+use Rattle.kt_core.specs.declared.node.Request.{Request}
+use Rattle.kt_core.specs.declared.node.Kept.{Kept}
+use Rattle.kt_core.specs.declared.node.Desk.{Desk}
+use Rattle.kt_core.specs.declared.node.Worker.{Worker}
+
+abbrev pub same_request : Request → Request → Bool
+same_request a b = (a.number == b.number) && op_eq a.op b.op
+
+-- the desk of a worker that was not heard of
+abbrev pub empty_desk : Desk
+empty_desk = record { waiting = None; kept = None }
+
+abbrev pub number_or_0 : Option Request → ℕ
+number_or_0 None = 0
+number_or_0 (Some request) = request.number
+
+abbrev pub kept_request : Option Kept → Option Request
+kept_request None = None
+kept_request (Some kept) = Some kept.request
+
+-- the greatest number that was heard of the worker, or 0
+abbrev pub newest : Desk → ℕ
+newest desk = max (number_or_0 desk.waiting) (number_or_0 (kept_request desk.kept))
+
+abbrev pub answer_if_kept : Option Kept → Request → Option Answer
+answer_if_kept None request = None
+answer_if_kept (Some kept) request = if same_request kept.request request then Some kept.answer else None
+
+abbrev pub answer_unless_waiting : Option Request → Option Kept → Request → Option Answer
+answer_unless_waiting None kept request = answer_if_kept kept request
+answer_unless_waiting (Some waiting) kept request = None
+
+-- what was answered to this request, where it is the one kept and the worker does not wait
+abbrev pub kept_answer : Desk → Request → Option Answer
+kept_answer desk request = answer_unless_waiting desk.waiting desk.kept request
+
+abbrev pub awaits_op : Option Op → ℕ → Request → Bool
+awaits_op None number request = false
+awaits_op (Some op) number request = (number == request.number) && op_eq op request.op
+
+-- this is what the worker asked last and has no answer to
+abbrev pub awaits : Worker → Request → Bool
+awaits worker request = awaits_op worker.asked worker.number request

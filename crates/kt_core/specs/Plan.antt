@@ -1,0 +1,89 @@
+-- What a step does, as a function of what its owner sees: its own state, the message that it hears, and the
+-- number of the next note.
+use Rattle.std.specs.Prelude.{ℕ, nat_lt, if◌then◌else◌, Option, None, Some}
+use Rattle.kt_tuple.specs.declared.node.NodeId.{NodeId}
+use Rattle.kt_tuple.specs.declared.node.NodeId.TheVariants.{Worker as worker_named}
+use Rattle.kt_tuple.specs.declared.op.Answer.{Answer}
+use Rattle.kt_history.specs.declared.note.What.{What}
+use Rattle.kt_history.specs.declared.note.What.TheVariants as whats
+use Rattle.kt_history.specs.declared.note.Act.{Act}
+use Rattle.kt_core.specs.declared.node.Request.{Request}
+use Rattle.kt_core.specs.declared.node.Desk.{Desk}
+use Rattle.kt_core.specs.declared.node.Worker.{Worker}
+use Rattle.kt_core.specs.declared.node.BagChange.{BagChange}
+use Rattle.kt_core.specs.declared.node.Message.TheVariants.{Ask, Reply}
+use Rattle.kt_core.specs.declared.node.Change.TheVariants as changes
+use Rattle.kt_core.specs.declared.plan.Plan.{Plan}
+use Rattle.kt_core.specs.Desk.{newest, kept_answer, awaits}
+
+-- an act of p about a request of the worker of this number
+abbrev pub act_of : NodeId → ℕ → ℕ → Request → What → Act
+act_of p by worker request what =
+    record { node = p; by = by; worker = worker; number = request.number; op = request.op; what = what }
+
+-- the worker asks the shard
+abbrev pub issue_plan : NodeId → ℕ → Request → NodeId → ℕ → Plan
+issue_plan p worker request shard next = record {
+  change = changes.Ask request.op;
+  send = Some (shard, Ask request next);
+  note = act_of p 0 worker request whats.Issue;
+}
+
+-- the worker waits at the shard from now on
+abbrev pub heard_plan : NodeId → ℕ → Request → ℕ → Plan
+heard_plan p worker request by = record {
+  change = changes.Wait worker request;
+  send = None;
+  note = act_of p by worker request whats.Heard;
+}
+
+-- the shard sends the kept answer again
+abbrev pub again_plan : NodeId → ℕ → Request → ℕ → Answer → ℕ → Plan
+again_plan p worker request by answer next = record {
+  change = changes.Stay;
+  send = Some (worker_named worker, Reply request answer next);
+  note = act_of p by worker request (whats.Again answer);
+}
+
+-- the node hears what changes nothing
+abbrev pub ignored_plan : NodeId → ℕ → Request → ℕ → Option Answer → Plan
+ignored_plan p worker request by answer = record {
+  change = changes.Stay;
+  send = None;
+  note = act_of p by worker request (whats.Ignored answer);
+}
+
+abbrev pub old_request_plan : NodeId → ℕ → Request → ℕ → ℕ → Option Answer → Plan
+old_request_plan p worker request by next None = ignored_plan p worker request by None
+old_request_plan p worker request by next (Some answer) = again_plan p worker request by answer next
+
+-- the shard p hears a request of the worker whose desk this is: a new number waits, the request that is kept
+-- is answered again, and all else is ignored
+abbrev pub request_plan : NodeId → Desk → ℕ → Request → ℕ → ℕ → Plan
+request_plan p desk worker request by next =
+    if nat_lt (newest desk) request.number
+    then heard_plan p worker request by
+    else old_request_plan p worker request by next (kept_answer desk request)
+
+-- the worker has its answer
+abbrev pub accepted_plan : NodeId → ℕ → Request → Answer → ℕ → Plan
+accepted_plan p number request answer by = record {
+  change = changes.Accept;
+  send = None;
+  note = act_of p by number request (whats.Accepted answer);
+}
+
+-- the worker of this number hears a reply: it accepts the one that it waits for, and ignores all else
+abbrev pub reply_plan : NodeId → Worker → ℕ → Request → Answer → ℕ → Plan
+reply_plan p worker number request answer by =
+    if awaits worker request
+    then accepted_plan p number request answer by
+    else ignored_plan p number request by (Some answer)
+
+-- the shard serves the request with which the worker waits
+abbrev pub service_plan : NodeId → ℕ → Request → Answer → BagChange → ℕ → ℕ → Plan
+service_plan p worker request answer bag by next = record {
+  change = changes.Serve worker bag (record { request = request; answer = answer });
+  send = Some (worker_named worker, Reply request answer next);
+  note = act_of p by worker request (whats.Served answer);
+}
