@@ -1,3 +1,14 @@
 pub mod Places
 pub mod Rows
 pub mod Desks
+pub mod Bags
+pub mod Homes
+pub mod Numbered
+pub mod Merge
+pub mod OneRun
+pub mod Orders
+pub mod Follows
+pub mod Causes
+pub mod Survive
+pub mod Growth
+pub mod WellFormed

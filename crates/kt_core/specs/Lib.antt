@@ -6,3 +6,8 @@ pub mod Desk
 pub mod Plan
 pub mod Effect
 pub mod Ready
+pub mod Bag
+pub mod ShardLine
+pub mod WorkerLine
+pub mod Order
+pub mod Legal

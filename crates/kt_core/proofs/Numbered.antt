@@ -2,10 +2,9 @@
 use Rattle.std.proofs.Common.{◌≡◌, ◌≢◌, ℕ, ◌+◌, ◌*◌, Bool, true, false, cond, eqb, eq-eqb, ne_eqb, eqb-true, ◌⊎◌, inl, inr, sym, refl, ap, ◌∙◌, subst, arith}
 use Rattle.std.proofs.lemmas.Bool.{cases_eq, eqb-false}
 use Rattle.kt_tuple.specs.declared.node.NodeId.{NodeId}
-use Rattle.kt_tuple.specs.declared.node.NodeId.TheVariants.{Worker, Shard}
 use Rattle.kt_tuple.specs.Node.{node_index}
 use Rattle.kt_history.specs.Line.{same_node}
-use Rattle.kt_laws.specs.Shard.{put_row}
+use Rattle.kt_core.specs.ShardLine.{put_row}
 
 pub put_row-same : {X : Type 0} (k : ℕ) (x : X) (rows : ℕ → X) → put_row k x rows k ≡ x
 put_row-same k x rows = rw (eq-eqb k k refl) refl
@@ -17,15 +16,6 @@ put_row-other k i x rows d = rw (ne_eqb k i d) refl
 pub put_row_holds : {X : Type 0} (P : ℕ → X → Type 0) (k : ℕ) (x : X) (rows : ℕ → X) → P k x → ((i : ℕ) → k ≢ i → P i (rows i)) → (i : ℕ) → P i (put_row k x rows i)
 put_row_holds P k x rows new old i =
     elim (cases_eq k i) [ inl e ↦ subst (λ j. P j (put_row k x rows j)) e (subst (λ y. P k y) (sym (put_row-same k x rows)) new) | inr d ↦ subst (λ y. P i y) (sym (put_row-other k i x rows d)) (old i d) ]
-
-pub same_node-same : (p : NodeId) → same_node p p ≡ true
-same_node-same p = eq-eqb (node_index p) (node_index p) refl
-
-pub same_node-true : (p q : NodeId) → same_node p q ≡ true → p ≡ q
-same_node-true (Worker m) (Worker n) e = ap Worker (omega (arith, eqb-true (2 * m) (2 * n) e))
-same_node-true (Worker m) (Shard n) e = absurd (omega (arith, eqb-true (2 * m) (2 * n + 1) e))
-same_node-true (Shard m) (Worker n) e = absurd (omega (arith, eqb-true (2 * m + 1) (2 * n) e))
-same_node-true (Shard m) (Shard n) e = ap Shard (omega (arith, eqb-true (2 * m + 1) (2 * n + 1) e))
 
 pub same_node-false : (p q : NodeId) → same_node p q ≡ false → p ≢ q
 same_node-false p q e d = eqb-false (node_index p) (node_index q) e (ap node_index d)

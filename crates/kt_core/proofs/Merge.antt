@@ -5,16 +5,17 @@ use Rattle.kt_tuple.specs.declared.node.NodeId.TheVariants as nodes
 use Rattle.kt_history.specs.declared.note.Act.{Act}
 use Rattle.kt_history.specs.Line.{same_node}
 use Rattle.kt_history.specs.Closed.{own}
-use Rattle.kt_laws.specs.Order.{Plan}
-use Rattle.kt_laws.specs.Shard.{Shard, ShardMakes, ShardLine, shard_after, shard_of_acts, put_row, new_shard}
-use Rattle.kt_laws.specs.Worker.{Worker, WorkerMakes, WorkerLine, worker_after, worker_of_acts, new_worker}
-use Rattle.kt_laws.specs.Legal.{IsLine}
-use Rattle.kt_laws.proofs.Rows.{put_row-same, put_row-other, same_node-same, same_node-true, same_node-false}
+use Rattle.kt_history.proofs.Lines.{same_node-refl, same_node-true}
+use Rattle.kt_core.specs.Order.{Setting}
+use Rattle.kt_core.specs.ShardLine.{MadeShard, ShardMakes, ShardLine, shard_after, shard_of_acts, put_row, new_shard}
+use Rattle.kt_core.specs.WorkerLine.{MadeWorker, WorkerMakes, WorkerLine, worker_after, worker_of_acts, new_worker}
+use Rattle.kt_core.specs.Legal.{IsLine}
+use Rattle.kt_core.proofs.Numbered.{put_row-same, put_row-other, same_node-false}
 
 -- the states of all nodes
 pub record World : Type 0 where
-  pub shard : ℕ → Shard
-  pub worker : ℕ → Worker
+  pub shard : ℕ → MadeShard
+  pub worker : ℕ → MadeWorker
 
 abbrev pub new_world : World
 new_world = record { shard = λ _. new_shard; worker = λ _. new_worker }
@@ -27,37 +28,37 @@ after_at x a (nodes.Shard s) = record { shard = put_row s (shard_after (x.shard 
 abbrev pub world_after : World → Act → World
 world_after x a = after_at x a a.node
 
-abbrev pub Makes : Plan → World → Act → NodeId → Type 0
-Makes plan x a (nodes.Worker w) = WorkerMakes (plan.asks w) w (x.worker w) a
-Makes plan x a (nodes.Shard s) = ShardMakes plan.shards s (x.shard s) a
+abbrev pub Makes : Setting → World → Act → NodeId → Type 0
+Makes setting x a (nodes.Worker w) = WorkerMakes (setting.asks w) w (x.worker w) a
+Makes setting x a (nodes.Shard s) = ShardMakes setting.shards s (x.shard s) a
 
 -- the nodes make these acts one after the other
-abbrev pub Runs : Plan → World → List Act → Type 0
-Runs plan x [] = Unit {0}
-Runs plan x (a ∷ later) = Makes plan x a a.node × Runs plan (world_after x a) later
+abbrev pub Runs : Setting → World → List Act → Type 0
+Runs setting x [] = Unit {0}
+Runs setting x (a ∷ later) = Makes setting x a a.node × Runs setting (world_after x a) later
 
 abbrev pub world_of_acts : World → List Act → World
 world_of_acts x [] = x
 world_of_acts x (a ∷ later) = world_of_acts (world_after x a) later
 
 -- from its state in x, the node may make these acts
-abbrev pub IsLineFrom : Plan → World → NodeId → List Act → Type 0
-IsLineFrom plan x (nodes.Worker w) acts = WorkerLine (plan.asks w) w (x.worker w) acts
-IsLineFrom plan x (nodes.Shard s) acts = ShardLine plan.shards s (x.shard s) acts
+abbrev pub IsLineFrom : Setting → World → NodeId → List Act → Type 0
+IsLineFrom setting x (nodes.Worker w) acts = WorkerLine (setting.asks w) w (x.worker w) acts
+IsLineFrom setting x (nodes.Shard s) acts = ShardLine setting.shards s (x.shard s) acts
 
 -- the node's first act, and the others from its state then
-line_split : (plan : Plan) (x : World) (a : Act) (later : List Act) (p : NodeId) → IsLineFrom plan x p (a ∷ later) →
-    Makes plan x a p × IsLineFrom plan (after_at x a p) p later
-line_split plan x a later (nodes.Worker w) h = (h.0, rw (put_row-same w (worker_after (x.worker w) a) x.worker) h.1)
-line_split plan x a later (nodes.Shard s) h = (h.0, rw (put_row-same s (shard_after (x.shard s) a) x.shard) h.1)
+line_split : (setting : Setting) (x : World) (a : Act) (later : List Act) (p : NodeId) → IsLineFrom setting x p (a ∷ later) →
+    Makes setting x a p × IsLineFrom setting (after_at x a p) p later
+line_split setting x a later (nodes.Worker w) h = (h.0, rw (put_row-same w (worker_after (x.worker w) a) x.worker) h.1)
+line_split setting x a later (nodes.Shard s) h = (h.0, rw (put_row-same s (shard_after (x.shard s) a) x.shard) h.1)
 
 -- an act of another node leaves the line
-line_kept : (plan : Plan) (x : World) (a : Act) (later : List Act) (q p : NodeId) → q ≢ p → IsLineFrom plan x p later →
-    IsLineFrom plan (after_at x a q) p later
-line_kept plan x a later (nodes.Worker v) (nodes.Worker w) d h = rw (put_row-other v w (worker_after (x.worker v) a) x.worker (λ e. d (ap nodes.Worker e))) h
-line_kept plan x a later (nodes.Worker v) (nodes.Shard s) d h = h
-line_kept plan x a later (nodes.Shard r) (nodes.Worker w) d h = h
-line_kept plan x a later (nodes.Shard r) (nodes.Shard s) d h = rw (put_row-other r s (shard_after (x.shard r) a) x.shard (λ e. d (ap nodes.Shard e))) h
+line_kept : (setting : Setting) (x : World) (a : Act) (later : List Act) (q p : NodeId) → q ≢ p → IsLineFrom setting x p later →
+    IsLineFrom setting (after_at x a q) p later
+line_kept setting x a later (nodes.Worker v) (nodes.Worker w) d h = rw (put_row-other v w (worker_after (x.worker v) a) x.worker (λ e. d (ap nodes.Worker e))) h
+line_kept setting x a later (nodes.Worker v) (nodes.Shard s) d h = h
+line_kept setting x a later (nodes.Shard r) (nodes.Worker w) d h = h
+line_kept setting x a later (nodes.Shard r) (nodes.Shard s) d h = rw (put_row-other r s (shard_after (x.shard r) a) x.shard (λ e. d (ap nodes.Shard e))) h
 
 pub own-same : (a : Act) (later : List Act) (p : NodeId) → same_node a.node p ≡ true → own p (a ∷ later) ≡ a ∷ own p later
 own-same a later p e = rw e refl
@@ -65,22 +66,22 @@ own-same a later p e = rw e refl
 pub own-other : (a : Act) (later : List Act) (p : NodeId) → same_node a.node p ≡ false → own p (a ∷ later) ≡ own p later
 own-other a later p e = rw e refl
 
-merge_from : (plan : Plan) (x : World) (acts : List Act) → ((p : NodeId) → IsLineFrom plan x p (own p acts)) → Runs plan x acts
-merge_from plan x [] h = tt
-merge_from plan x (a ∷ later) h = (here.0, merge_from plan (world_after x a) later rest)
+merge_from : (setting : Setting) (x : World) (acts : List Act) → ((p : NodeId) → IsLineFrom setting x p (own p acts)) → Runs setting x acts
+merge_from setting x [] h = tt
+merge_from setting x (a ∷ later) h = (here.0, merge_from setting (world_after x a) later rest)
   where
-    here : Makes plan x a a.node × IsLineFrom plan (world_after x a) a.node (own a.node later)
-    here = line_split plan x a (own a.node later) a.node (subst (IsLineFrom plan x a.node) (own-same a later a.node (same_node-same a.node)) (h a.node))
-    at : (p : NodeId) (r : Bool) → same_node a.node p ≡ r → IsLineFrom plan (world_after x a) p (own p later)
-    at p true e = subst (λ q. IsLineFrom plan (world_after x a) q (own q later)) (same_node-true a.node p e) here.1
-    at p false e = line_kept plan x a (own p later) a.node p (same_node-false a.node p e) (subst (IsLineFrom plan x p) (own-other a later p e) (h p))
-    rest : (p : NodeId) → IsLineFrom plan (world_after x a) p (own p later)
+    here : Makes setting x a a.node × IsLineFrom setting (world_after x a) a.node (own a.node later)
+    here = line_split setting x a (own a.node later) a.node (subst (IsLineFrom setting x a.node) (own-same a later a.node (same_node-refl a.node)) (h a.node))
+    at : (p : NodeId) (r : Bool) → same_node a.node p ≡ r → IsLineFrom setting (world_after x a) p (own p later)
+    at p true e = subst (λ q. IsLineFrom setting (world_after x a) q (own q later)) (same_node-true a.node p e) here.1
+    at p false e = line_kept setting x a (own p later) a.node p (same_node-false a.node p e) (subst (IsLineFrom setting x p) (own-other a later p e) (h p))
+    rest : (p : NodeId) → IsLineFrom setting (world_after x a) p (own p later)
     rest p = at p (same_node a.node p) refl
 
-pub merge : (plan : Plan) (acts : List Act) → ((p : NodeId) → IsLine plan p (own p acts)) → Runs plan new_world acts
-merge plan acts h = merge_from plan new_world acts line
+pub merge : (setting : Setting) (acts : List Act) → ((p : NodeId) → IsLine setting p (own p acts)) → Runs setting new_world acts
+merge setting acts h = merge_from setting new_world acts line
   where
-    line : (p : NodeId) → IsLineFrom plan new_world p (own p acts)
+    line : (p : NodeId) → IsLineFrom setting new_world p (own p acts)
     line (nodes.Worker w) = h (nodes.Worker w)
     line (nodes.Shard s) = h (nodes.Shard s)
 

@@ -5,7 +5,7 @@ use Rattle.kt_tuple.specs.declared.op.Answer.{Answer}
 use Rattle.kt_tuple.specs.declared.service.Service.{Service}
 
 -- how many shards there are, and what each worker asks next after a list of answers
-pub record Plan : Type 0 where
+pub record Setting : Type 0 where
   pub shards : ℕ
   pub asks : ℕ → List Answer → Option Op
 
@@ -19,5 +19,5 @@ OrderFrom asks answers [] = Unit {0}
 OrderFrom asks answers (s ∷ later) = (s.number ≡ suc (length answers)) × (asks answers ≡ Some s.op) × OrderFrom asks (answers ++ s.answer ∷ []) later
 
 -- each worker's services are numbered 1, 2, .., and ask what it asks after its earlier answers
-abbrev pub FollowsScripts : Plan → List Service → Type 0
-FollowsScripts plan services = (w : ℕ) → OrderFrom (plan.asks w) [] (of_worker w services)
+abbrev pub FollowsScripts : Setting → List Service → Type 0
+FollowsScripts setting services = (w : ℕ) → OrderFrom (setting.asks w) [] (of_worker w services)

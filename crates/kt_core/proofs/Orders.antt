@@ -6,8 +6,8 @@ use Rattle.std.proofs.lemmas.List.Elements.{filter-append, filter_passes, All-co
 use Rattle.kt_tuple.specs.declared.op.Op.{Op}
 use Rattle.kt_tuple.specs.declared.op.Answer.{Answer}
 use Rattle.kt_tuple.specs.declared.service.Service.{Service}
-use Rattle.kt_laws.specs.Order.{of_worker, OrderFrom}
-use Rattle.kt_laws.proofs.Bags.{Contains-here, Contains-there, Contains-cases, Contains-none, Contains-filter, Contains-unfilter}
+use Rattle.kt_core.specs.Order.{of_worker, OrderFrom}
+use Rattle.kt_core.proofs.Bags.{Contains-here, Contains-there, Contains-cases, Contains-none, Contains-filter, Contains-unfilter}
 
 abbrev pub answers_in : List Service → List Answer
 answers_in services = map (λ (s : Service). s.answer) services

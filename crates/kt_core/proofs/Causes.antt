@@ -1,5 +1,5 @@
 -- In a well-formed history the causes of a closed choice of acts come first among them.
-use Rattle.std.proofs.Common.{◌≡◌, ◌≢◌, ℕ, zero, suc, ◌+◌, ◌<◌, ◌≤◌, Bool, true, false, cond, Option, Some, None, List, [], ◌∷◌, ◌++◌, length, Contains, ◌⊎◌, inl, inr, sym, refl, ap, ◌∙◌, subst, append_assoc, length-append, IsTrue, arith}
+use Rattle.std.proofs.Common.{◌≡◌, ◌≢◌, ℕ, zero, suc, ◌+◌, ◌<◌, ◌≤◌, Bool, true, false, cond, Option, Some, None, List, [], ◌∷◌, ◌++◌, length, Contains, ◌⊎◌, inl, inr, sym, refl, ap, ◌∙◌, subst, append_assoc, length-append, IsTrue, slice_get, arith}
 use Rattle.std.proofs.lemmas.Bool.{cases_eq}
 use Rattle.kt_tuple.specs.declared.op.Answer.{Answer}
 use Rattle.kt_history.specs.declared.note.What.{What}
@@ -14,9 +14,16 @@ use Rattle.kt_history.specs.Closed.{IsClosed}
 use Rattle.kt_history.specs.WellFormed.{IsAsking, IsAnswering, SameRequest, HeardRequest, HeardReply, WasServed, ActFits, IsWellFormed}
 use Rattle.kt_history.proofs.Lists.{slice_get-take}
 use Rattle.kt_history.proofs.Lines.{note_at-within}
-use Rattle.kt_laws.proofs.Bags.{Contains-here, Contains-there, Contains-none}
-use Rattle.kt_laws.proofs.Fronts.{note_here}
-use Rattle.kt_laws.proofs.Follows.{IsRequested, IsServed, IsCaused, CausedFrom}
+use Rattle.kt_core.proofs.Bags.{Contains-here, Contains-there, Contains-none}
+use Rattle.kt_core.proofs.Follows.{IsRequested, IsServed, IsCaused, CausedFrom}
+
+slice_get-at : {X : Type 0} (us : List X) (x : X) (vs : List X) → slice_get (us ++ x ∷ vs) (length us) ≡ Some x
+slice_get-at [] x vs = refl
+slice_get-at (u ∷ us) x vs = slice_get-at us x vs
+
+-- the note of the number that comes next
+note_here : (h done : List Note) (note : Note) (later : List Note) (n : ℕ) → h ≡ done ++ note ∷ later → n ≡ suc (length done) → note_at h n ≡ Some note
+note_here h done note later n e l = subst (λ k. note_at h k ≡ Some note) (sym l) (ap (λ g. slice_get g (length done)) e ∙ slice_get-at done note later)
 
 -- a note of the history before n has a smaller number, and is a note of the whole
 before_at : (h : List Note) (n m : ℕ) (note : Note) → note_at (before h n) m ≡ Some note → (m < n) × (note_at h m ≡ Some note)
