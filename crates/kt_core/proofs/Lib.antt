@@ -12,3 +12,6 @@ pub mod Causes
 pub mod Survive
 pub mod Growth
 pub mod WellFormed
+pub mod Permutations
+pub mod Choices
+pub mod Traces
