@@ -26,7 +26,7 @@ note_here : (h done : List Note) (note : Note) (later : List Note) (n : ℕ) →
 note_here h done note later n e l = subst (λ k. note_at h k ≡ Some note) (sym l) (ap (λ g. slice_get g (length done)) e ∙ slice_get-at done note later)
 
 -- a note of the history before n has a smaller number, and is a note of the whole
-before_at : (h : List Note) (n m : ℕ) (note : Note) → note_at (before h n) m ≡ Some note → (m < n) × (note_at h m ≡ Some note)
+pub before_at : (h : List Note) (n m : ℕ) (note : Note) → note_at (before h n) m ≡ Some note → (m < n) × (note_at h m ≡ Some note)
 before_at h zero zero note e = absurd cc
 before_at h zero (suc m) note e = absurd cc
 before_at h (suc n) zero note e = absurd cc

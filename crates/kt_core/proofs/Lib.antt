@@ -15,3 +15,6 @@ pub mod WellFormed
 pub mod Permutations
 pub mod Choices
 pub mod Traces
+pub mod Sound
+pub mod WorkerPlans
+pub mod ShardPlans

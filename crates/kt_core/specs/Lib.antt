@@ -1,3 +1,4 @@
+pub mod Asks
 pub mod Cast
 pub mod Step
 pub mod Choice
