@@ -18,3 +18,4 @@ pub mod Traces
 pub mod Sound
 pub mod WorkerPlans
 pub mod ShardPlans
+pub mod Frame
