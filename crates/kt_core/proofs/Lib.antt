@@ -19,3 +19,4 @@ pub mod Sound
 pub mod WorkerPlans
 pub mod ShardPlans
 pub mod Frame
+pub mod StepSound
