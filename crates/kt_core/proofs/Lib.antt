@@ -1,6 +1,3 @@
-pub mod Places
-pub mod Rows
-pub mod Desks
 pub mod Bags
 pub mod Homes
 pub mod Numbered
@@ -20,3 +17,13 @@ pub mod WorkerPlans
 pub mod ShardPlans
 pub mod Frame
 pub mod StepSound
+pub mod Places
+pub mod Rows
+pub mod Desks
+pub mod Queues
+pub mod Readiness
+pub mod Hearings
+pub mod PlanCases
+pub mod CanApplies
+pub mod StaysReady
+pub mod Outcomes

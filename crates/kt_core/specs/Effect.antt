@@ -12,7 +12,8 @@ use Rattle.kt_history.specs.declared.note.What.TheVariants as whats
 use Rattle.kt_history.specs.declared.note.Act.{Act}
 use Rattle.kt_history.specs.declared.note.Note.{Note}
 use Rattle.kt_history.specs.declared.note.Note.TheVariants as notes
-use Rattle.kt_history.specs.Closed.{acts_in_line}
+use Rattle.kt_history.specs.Line.{line}
+use Rattle.kt_history.specs.Closed.{acts_at}
 use Rattle.kt_core.specs.declared.node.Request.{Request}
 use Rattle.kt_core.specs.declared.node.Kept.{Kept}
 use Rattle.kt_core.specs.declared.node.Desk.{Desk}
@@ -107,9 +108,13 @@ abbrev pub cause_of : Option Act → ℕ
 cause_of None = 0
 cause_of (Some a) = a.by
 
+-- the cause of the last hearing of the worker among the acts of these numbers
+abbrev pub cause_among : List Note → List ℕ → ℕ → ℕ
+cause_among h numbers worker = cause_of (find (hears_worker worker) (reverse (acts_at h numbers)))
+
 -- the cause of the hearing that put the worker's request in waiting: the last hearing in the shard's line
 abbrev pub cause_of_waiting : List Note → NodeId → ℕ → ℕ
-cause_of_waiting h p worker = cause_of (find (hears_worker worker) (reverse (acts_in_line h p)))
+cause_of_waiting h p worker = cause_among h (line h p) worker
 
 abbrev pub service_choice : State → NodeId → ℕ → Store → Request → Option Choice → Result Plan StepError
 service_choice s p worker y request None = Err refusals.NoSuchMatch

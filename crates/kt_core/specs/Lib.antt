@@ -1,4 +1,9 @@
 pub mod Asks
+pub mod Bag
+pub mod ShardLine
+pub mod WorkerLine
+pub mod Order
+pub mod Legal
 pub mod Cast
 pub mod Step
 pub mod Choice
@@ -7,8 +12,4 @@ pub mod Desk
 pub mod Plan
 pub mod Effect
 pub mod Ready
-pub mod Bag
-pub mod ShardLine
-pub mod WorkerLine
-pub mod Order
-pub mod Legal
+pub mod Machine

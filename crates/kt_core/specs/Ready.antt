@@ -13,13 +13,21 @@ use Rattle.kt_core.specs.declared.node.BagChange.{BagChange}
 use Rattle.kt_core.specs.declared.node.BagChange.TheVariants as bags
 use Rattle.kt_core.specs.declared.node.Change.{Change}
 use Rattle.kt_core.specs.declared.node.Change.TheVariants as changes
-use Rattle.kt_core.specs.State.{State, Part, Nobody, IsWorker, IsStore, at}
+use Rattle.kt_core.specs.declared.step.Step.{Step}
+use Rattle.kt_core.specs.declared.step.Step.TheVariants.{Issue, Deliver, Serve}
+use Rattle.kt_core.specs.State.{State, Part, Nobody, IsWorker, IsStore, at, link_index}
 
 -- the shard has a desk for each number that a worker can have
 abbrev pub HasDesks : Part → Type 0
 HasDesks Nobody = Unit {0}
 HasDesks (IsWorker x) = Unit {0}
 HasDesks (IsStore y) = length y.desks ≡ 9
+
+-- a worker has made fewer requests than there were steps
+abbrev pub HasAskedFew : ℕ → Part → Type 0
+HasAskedFew steps Nobody = Unit {0}
+HasAskedFew steps (IsWorker x) = x.number ≤ steps
+HasAskedFew steps (IsStore y) = Unit {0}
 
 -- the message names the act that sent it, if it names one
 abbrev pub NamesAct : List Note → Message → Type 0
@@ -33,6 +41,7 @@ pub record IsReady (s : State) : Type 0 where
   pub links : length s.links ≡ 324
   pub counts : length s.own ≡ 18
   pub desks : (k : ℕ) → HasDesks (at Nobody s.nodes k)
+  pub requests : (k : ℕ) → HasAskedFew s.made (at Nobody s.nodes k)
   pub few_steps : s.made ≤ 100000
   pub few_own : (k : ℕ) → at 0 s.own k ≤ s.made
   pub few_notes : length s.history ≤ s.made
@@ -57,3 +66,9 @@ abbrev pub HasRoom : Node → Type 0
 HasRoom nodes.Nobody = Unit {0}
 HasRoom (nodes.Worker x) = Unit {0}
 HasRoom (nodes.Shard y) = vec_len y.bag < vec_capacity y.bag
+
+-- a delivery comes by a link of a table with so many
+abbrev pub HasLink : ℕ → Step → Type 0
+HasLink links (Issue p) = Unit {0}
+HasLink links (Deliver p q) = link_index p q < links
+HasLink links (Serve p w place) = Unit {0}

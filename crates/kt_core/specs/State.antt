@@ -1,5 +1,7 @@
 -- The state of a world, as plain data.
 use Rattle.std.specs.Prelude.{◌≡◌, ℕ, zero, suc, ◌+◌, ◌*◌, List, [], ◌∷◌, map, Option, None, Some, slice_index_or}
+use Rattle.std.specs.declared.collections.VecDeque.{VecDeque}
+use Rattle.std.specs.declared.alloc.Global.{Global}
 use Rattle.kt_tuple.specs.declared.node.NodeId.{NodeId}
 use Rattle.kt_tuple.specs.declared.node.NodeId.TheVariants as ids
 use Rattle.kt_tuple.specs.declared.op.Op.{Op}
@@ -42,6 +44,10 @@ abbrev pub part_of : Node → Part
 part_of nodes.Nobody = Nobody
 part_of (nodes.Worker x) = IsWorker x
 part_of (nodes.Shard y) = IsStore (store_view y)
+
+-- what each of the code's queues holds
+abbrev pub queues_of : List (VecDeque Message Global) → List (List Message)
+queues_of queues = map (λ q. q.items) queues
 
 -- the scripts and the number of shards; the nodes by their numbers; the links, each a list of what is on its
 -- way, first sent first; what happened; the steps that each node made, by the nodes' numbers; all steps made

@@ -4,6 +4,8 @@
 mod change;
 mod choice;
 mod desk;
+mod judge;
+mod machine;
 mod node;
 mod plan;
 mod scene;
@@ -11,4 +13,4 @@ mod step;
 mod tables;
 
 pub use scene::{MAX_COMMANDS, MAX_SHARDS, MAX_WORKERS, Scene, Script};
-pub use step::{Mode, Step, StepError};
+pub use step::{MAX_STEPS, Mode, Step, StepError};

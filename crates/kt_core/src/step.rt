@@ -1,7 +1,11 @@
 ghost use Rattle.std.specs.Prelude.{◌≡◌};
 
 use kt_tuple::NodeId;
+use std::alloc::AllocError;
 use thiserror::Error;
+
+/// The most steps of a world.
+pub const MAX_STEPS: u64 = 100_000;
 
 /// One step of one node.
 #[derive(Clone, Copy, Debug, PartialEq, Eq)]
@@ -85,6 +89,17 @@ impl StepError {
             StepError::StepLimit => 7,
             StepError::OutOfMemory => 9,
         }
+    }
+}
+
+impl From<AllocError> for StepError {
+    ghost use Rattle.std.specs.Prelude.{◌≡◌};
+    ghost use Rattle.kt_core.specs.declared.step.StepError.TheVariants.{OutOfMemory};
+
+    ghost from_gives = { λ _ e. e ≡ OutOfMemory };
+
+    fn from(_error: AllocError) -> StepError {
+        StepError::OutOfMemory
     }
 }
 

@@ -1,6 +1,6 @@
 //! Reading the tables of nodes and links.
 
-ghost use Rattle.std.specs.Prelude.{◌≡◌, ◌<◌, map};
+ghost use Rattle.std.specs.Prelude.{◌≡◌, ◌<◌, length, map, OnSome};
 ghost use Rattle.std.specs.Option.{option_copied, option_map};
 ghost use Rattle.kt_core.specs.State.{Nobody, at, part_of, worker_of, store_of, store_view, node_number, link_index};
 ghost use Rattle.kt_tuple.specs.Node.{node_index};
@@ -32,7 +32,8 @@ pub(crate) fn link_index(from: NodeId, to: NodeId) -> usize
 
 /// The worker of this name, where there is one.
 pub(crate) fn worker_at(nodes: &[Node], node: NodeId) -> Option<&Worker>
-    ensures { option_copied result ≡ worker_of (at Nobody (map part_of nodes.now) (node_index node)) }
+    ensures value { option_copied result ≡ worker_of (at Nobody (map part_of nodes.now) (node_index node)) }
+    ensures row { OnSome result (node_index node < length nodes.now) }
 {
     match nodes.get(node.index()) {
         Some(Node::Worker(worker)) => Some(worker),
@@ -42,7 +43,8 @@ pub(crate) fn worker_at(nodes: &[Node], node: NodeId) -> Option<&Worker>
 
 /// The shard of this name, where there is one.
 pub(crate) fn store_at(nodes: &[Node], node: NodeId) -> Option<&Shard>
-    ensures { option_map (λ y. store_view y.now) result ≡ store_of (at Nobody (map part_of nodes.now) (node_index node)) }
+    ensures value { option_map (λ y. store_view y.now) result ≡ store_of (at Nobody (map part_of nodes.now) (node_index node)) }
+    ensures row { OnSome result (node_index node < length nodes.now) }
 {
     match nodes.get(node.index()) {
         Some(Node::Shard(shard)) => Some(shard),

@@ -4,3 +4,6 @@ pub mod Pasts
 pub mod Survivors
 pub mod Changes
 pub mod Fronts
+pub mod MarkSteps
+pub mod RowSteps
+pub mod Keeping

@@ -1,4 +1,7 @@
-use kt_tuple::{Answer, NodeId, Op};
+ghost use Rattle.std.specs.Prelude.{◌≡◌, IfOk};
+
+use kt_tuple::{Answer, NodeId, Op, Service};
+use std::alloc::{AllocError, Global};
 
 /// What a node did.
 #[derive(Debug, PartialEq, Eq, Drop)]
@@ -44,4 +47,36 @@ pub enum Note {
     Act(Act),
     /// A node gave up all but the first so many acts that it remembered.
     Cut { node: NodeId, keep: u64 },
+}
+
+impl Note {
+    ghost use Rattle.kt_history.specs.Marks.{is_service, note_service};
+
+    /// Whether it is the service of a request.
+    pub fn is_service(&self) -> bool
+        ensures { result ≡ is_service self.now }
+    {
+        match self {
+            Note::Act(act) => matches!(act.what, What::Served(_)),
+            Note::Cut { .. } => false,
+        }
+    }
+
+    /// The service that it is, if it is one.
+    pub fn service(&self, alloc: Global) -> Result<Option<Service>, AllocError>
+        ensures { IfOk result (λ service. service ≡ note_service self.now) }
+    {
+        match self {
+            Note::Act(act) => match &act.what {
+                What::Served(answer) => Ok(Some(Service {
+                    worker: act.worker,
+                    number: act.number,
+                    op: act.op.copy(alloc)?,
+                    answer: answer.copy(alloc)?,
+                })),
+                _ => Ok(None),
+            },
+            Note::Cut { .. } => Ok(None),
+        }
+    }
 }

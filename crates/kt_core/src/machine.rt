@@ -1,0 +1,133 @@
+ghost use Rattle.std.specs.Prelude.{◌≡◌, ◌+◌, ◌<◌, ◌^◌, ◌∷◌, ◌++◌, [], drop, length, map, IfOk, OnOk, OnErr, IfSome, MatchOption};
+ghost use Rattle.std.specs.Option.{option_copied};
+ghost use Rattle.kt_history.specs.declared.note.Note.TheVariants.{Act as act_note};
+ghost use Rattle.kt_history.specs.WellFormed.{MayFollow};
+ghost use Rattle.kt_core.specs.State.{at, put, link_index, queues_of, store_view, part_of, node, node_number, Nobody};
+ghost use Rattle.kt_core.specs.declared.node.Node.TheVariants.{Nobody as nobody};
+ghost use Rattle.kt_core.specs.Ready.{HasLink, HasRoom, CanChange};
+ghost use Rattle.kt_core.specs.Effect.{sent, taken_off, changed};
+
+use crate::node::{Change, Message, Node};
+use crate::plan::Plan;
+use crate::scene::Scene;
+use crate::step::Step;
+use crate::tables::link_index;
+use kt_history::{Act, History, Note};
+use kt_tuple::NodeId;
+use std::alloc::{AllocError, Global};
+use std::collections::VecDeque;
+
+/// The state of a world, and its step as it stands in the table of steps. Each growth is made before the
+/// first change.
+#[derive(Debug, Drop)]
+pub(crate) struct Machine {
+    pub(crate) scene: Scene,
+    /// By the nodes' numbers.
+    pub(crate) nodes: Vec<Node>,
+    /// By the numbers of sender and receiver.
+    pub(crate) links: Vec<VecDeque<Message>>,
+    pub(crate) history: History,
+    /// How many steps each node made, by the nodes' numbers.
+    pub(crate) own: Vec<u64>,
+    /// How many steps were made.
+    pub(crate) made: u64,
+}
+
+/// The first message on its way from one node to the other.
+pub(crate) fn front_of(links: &[VecDeque<Message>], from: NodeId, to: NodeId) -> Option<&Message>
+    ensures { MatchOption result (at [] (queues_of links.now) (link_index from to) ≡ []) (λ m. at [] (queues_of links.now) (link_index from to) ≡ m.now ∷ drop 1 (at [] (queues_of links.now) (link_index from to))) }
+{
+    links.get(link_index(from, to))?.front()
+}
+
+/// Takes the first message off the link by which the step's message came.
+fn take_off(links: &mut Vec<VecDeque<Message>>, step: Step)
+    requires { HasLink (length links.old.items) step }
+    ensures { queues_of links.new.items ≡ taken_off (queues_of links.old.items) step }
+{
+    if let Step::Deliver { from, to } = step {
+        links[link_index(from, to)].pop_front();
+    }
+}
+
+/// Makes the note and sends the message, or does neither.
+fn note_and_send(
+    alloc: Global,
+    history: &mut History,
+    links: &mut Vec<VecDeque<Message>>,
+    owner: NodeId,
+    note: Act,
+    send: Option<(NodeId, Message)>,
+) -> Result<(), AllocError>
+    requires follows { MayFollow history.old (act_note note) }
+    requires link { IfSome send (λ m. link_index owner m.0 < length links.old.items) }
+    ensures links { length links.new.items ≡ length links.old.items }
+    ensures noted { OnOk result (history.new ≡ history.old ++ act_note note ∷ []) }
+    ensures sent { OnOk result (queues_of links.new.items ≡ sent (queues_of links.old.items) owner send) }
+    ensures no_note { OnErr result (history.new ≡ history.old) }
+    ensures not_sent { OnErr result (queues_of links.new.items ≡ queues_of links.old.items) }
+{
+    match send {
+        None => history.push(alloc, Note::Act(note)),
+        Some((to, message)) => {
+            let queue = &mut links[link_index(owner, to)];
+            queue.reserve(1)?;
+            history.push(alloc, Note::Act(note))?;
+            queue.push_back_reserved(message);
+            Ok(())
+        }
+    }
+}
+
+/// Makes room for one more tuple in the node of this row.
+fn make_room(nodes: &mut Vec<Node>, row: usize) -> Result<(), AllocError>
+    requires { row < length nodes.old.items }
+    ensures room { OnOk result (HasRoom (at nobody nodes.new.items row)) }
+    ensures same { map part_of nodes.new.items ≡ map part_of nodes.old.items }
+{
+    nodes[row].make_room()
+}
+
+/// Changes the node of this row.
+fn change_node(nodes: &mut Vec<Node>, row: usize, change: Change)
+    requires row { row < length nodes.old.items }
+    requires can { CanChange (at Nobody (map part_of nodes.old.items) row) change }
+    requires room { HasRoom (at nobody nodes.old.items row) }
+    ensures { map part_of nodes.new.items ≡ put Nobody (map part_of nodes.old.items) row (changed (at Nobody (map part_of nodes.old.items) row) change) }
+{
+    nodes[row].change(change);
+}
+
+/// Counts one more step of the node of this row.
+fn count(own: &mut Vec<u64>, row: usize)
+    requires row { row < length own.old.items }
+    requires small { at 0 own.old.items row + 1 < 2 ^ 64 }
+    ensures { own.new.items ≡ put 0 own.old.items row (at 0 own.old.items row + 1) }
+{
+    own[row] += 1;
+}
+
+impl Machine {
+    ghost use Rattle.kt_core.specs.Effect.{applied};
+    ghost use Rattle.kt_core.specs.Ready.{IsReady};
+    ghost use Rattle.kt_core.specs.Machine.{state_of, CanApply, Gives};
+
+    /// Carries out the plan of the step, or changes nothing.
+    fn apply(&mut self, alloc: Global, step: Step, plan: Plan) -> Result<(), AllocError>
+        requires ready { IsReady (state_of self.old) }
+        requires can { CanApply (state_of self.old) step plan }
+        ensures ok { OnOk result (state_of self.new ≡ applied (state_of self.old) step plan) }
+        ensures err { OnErr result (state_of self.new ≡ state_of self.old) }
+    {
+        let Plan { change, send, note } = plan;
+        let owner = step.owner();
+        let row = owner.index();
+        make_room(&mut self.nodes, row)?;
+        note_and_send(alloc, &mut self.history, &mut self.links, owner, note, send)?;
+        take_off(&mut self.links, step);
+        change_node(&mut self.nodes, row, change);
+        count(&mut self.own, row);
+        self.made += 1;
+        Ok(())
+    }
+}
