@@ -27,3 +27,5 @@ pub mod PlanCases
 pub mod CanApplies
 pub mod StaysReady
 pub mod Outcomes
+pub mod Shares
+pub mod Headlines

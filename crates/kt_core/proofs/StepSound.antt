@@ -139,3 +139,22 @@ pub step-sound : (s : State) → IsSound s → HasBounds s → (step : Step) (af
 step-sound s sound b step after e =
     let r = step_result-ok s step after e in
     subst IsSound (sym r.2) (applied-sound s step r.0 sound (planned-kept s sound b step r.0 r.1))
+
+-- the owner of a step that is not refused has a state
+pub planned-some : (s : State) (step : Step) (plan : Plan) → planned s step ≡ Ok plan → node s (owner step) ≢ Nobody
+planned-some s (Issue p) plan e none = absurd (issue (worker_of (node s p)) (ap worker_of none) e)
+  where
+    issue : (o : Option Worker) → o ≡ None → issue_of s p o ≡ Ok plan → ⊥
+    issue None same e = cc (e)
+    issue (Some x) same e = cc (same)
+planned-some s (Deliver p q) plan e none = to (node s p) (node s q) none e
+  where
+    to : (from at_q : Part) → at_q ≡ Nobody → delivery_of s p q from at_q ≡ Ok plan → ⊥
+    to (IsWorker x) (IsStore y) same e = cc (same)
+    to (IsStore y) (IsWorker x) same e = cc (same)
+    to _ _ same e = cc
+planned-some s (Serve p v place) plan e none = of (node s p) (node s v) none e
+  where
+    of : (at_p at_v : Part) → at_p ≡ Nobody → service_of s p v place at_p at_v ≡ Ok plan → ⊥
+    of (IsStore y) (IsWorker x) same e = cc (same)
+    of _ _ same e = cc

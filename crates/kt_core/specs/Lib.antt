@@ -13,3 +13,5 @@ pub mod Plan
 pub mod Effect
 pub mod Ready
 pub mod Machine
+pub mod Headline
+pub mod Reached
