@@ -14,4 +14,3 @@ pub mod Effect
 pub mod Ready
 pub mod Machine
 pub mod Headline
-pub mod Reached
