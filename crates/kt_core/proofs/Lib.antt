@@ -17,6 +17,8 @@ pub mod WorkerPlans
 pub mod ShardPlans
 pub mod Frame
 pub mod StepSound
+pub mod Shares
+pub mod Headlines
 pub mod Places
 pub mod Rows
 pub mod Desks
@@ -26,6 +28,5 @@ pub mod Hearings
 pub mod PlanCases
 pub mod CanApplies
 pub mod StaysReady
+pub mod Openings
 pub mod Outcomes
-pub mod Shares
-pub mod Headlines

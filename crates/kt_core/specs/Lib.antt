@@ -4,6 +4,7 @@ pub mod ShardLine
 pub mod WorkerLine
 pub mod Order
 pub mod Legal
+pub mod Headline
 pub mod Cast
 pub mod Step
 pub mod Choice
@@ -13,4 +14,4 @@ pub mod Plan
 pub mod Effect
 pub mod Ready
 pub mod Machine
-pub mod Headline
+pub mod Reached

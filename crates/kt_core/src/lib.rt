@@ -7,10 +7,13 @@ mod desk;
 mod judge;
 mod machine;
 mod node;
+mod opening;
 mod plan;
 mod scene;
 mod step;
 mod tables;
+mod world;
 
 pub use scene::{MAX_COMMANDS, MAX_SHARDS, MAX_WORKERS, Scene, Script};
 pub use step::{MAX_STEPS, Mode, Step, StepError};
+pub use world::{OpenError, OpenRefused, World};

@@ -1,16 +1,18 @@
-ghost use Rattle.std.specs.Prelude.{◌≡◌, ◌+◌, ◌<◌, ◌^◌, ◌∷◌, ◌++◌, [], drop, length, map, IfOk, OnOk, OnErr, IfSome, MatchOption};
+ghost use Rattle.std.specs.Prelude.{◌≡◌, ◌+◌, ◌<◌, ◌^◌, ◌∷◌, ◌++◌, [], drop, length, map, IfOk, OnOk, OnErr, IfSome, MatchOption, replicate};
 ghost use Rattle.std.specs.Option.{option_copied};
 ghost use Rattle.kt_history.specs.declared.note.Note.TheVariants.{Act as act_note};
 ghost use Rattle.kt_history.specs.WellFormed.{MayFollow};
 ghost use Rattle.kt_core.specs.State.{at, put, link_index, queues_of, store_view, part_of, node, node_number, Nobody};
 ghost use Rattle.kt_core.specs.declared.node.Node.TheVariants.{Nobody as nobody};
+ghost use Rattle.kt_core.specs.Reached.{opening_rows};
 ghost use Rattle.kt_core.specs.Ready.{HasLink, HasRoom, CanChange};
 ghost use Rattle.kt_core.specs.Effect.{sent, taken_off, changed};
 
 use crate::node::{Change, Message, Node};
+use crate::opening::{empty_links, no_counts, opening_nodes};
 use crate::plan::Plan;
 use crate::scene::Scene;
-use crate::step::Step;
+use crate::step::{Step, StepError};
 use crate::tables::link_index;
 use kt_history::{Act, History, Note};
 use kt_tuple::NodeId;
@@ -52,7 +54,6 @@ fn take_off(links: &mut Vec<VecDeque<Message>>, step: Step)
 
 /// Makes the note and sends the message, or does neither.
 fn note_and_send(
-    alloc: Global,
     history: &mut History,
     links: &mut Vec<VecDeque<Message>>,
     owner: NodeId,
@@ -68,11 +69,11 @@ fn note_and_send(
     ensures not_sent { OnErr result (queues_of links.new.items ≡ queues_of links.old.items) }
 {
     match send {
-        None => history.push(alloc, Note::Act(note)),
+        None => history.push(Note::Act(note)),
         Some((to, message)) => {
             let queue = &mut links[link_index(owner, to)];
             queue.reserve(1)?;
-            history.push(alloc, Note::Act(note))?;
+            history.push(Note::Act(note))?;
             queue.push_back_reserved(message);
             Ok(())
         }
@@ -107,13 +108,48 @@ fn count(own: &mut Vec<u64>, row: usize)
     own[row] += 1;
 }
 
+/// The nodes, the links and the counts of a world that was just opened.
+type Tables = (Vec<Node>, Vec<VecDeque<Message>>, Vec<u64>);
+
+fn opening_tables(alloc: Global, scene: &Scene) -> Result<Tables, AllocError>
+    ensures nodes { IfOk result (λ t. map part_of t.0.items ≡ opening_rows (length scene.now.scripts) scene.now.shards 9) }
+    ensures links { IfOk result (λ t. queues_of t.1.items ≡ replicate 324 []) }
+    ensures own { IfOk result (λ t. t.2.items ≡ replicate 18 0) }
+{
+    let workers = scene.scripts().len() as u8;
+    let nodes = opening_nodes(alloc, workers, scene.shards())?;
+    let links = empty_links(alloc)?;
+    let own = no_counts(alloc)?;
+    Ok((nodes, links, own))
+}
+
 impl Machine {
-    ghost use Rattle.kt_core.specs.Effect.{applied};
+    ghost use Rattle.std.specs.Prelude.{Ok, IfErr};
+    ghost use Rattle.kt_core.specs.Effect.{applied, step_result};
     ghost use Rattle.kt_core.specs.Ready.{IsReady};
-    ghost use Rattle.kt_core.specs.Machine.{state_of, CanApply, Gives};
+    ghost use Rattle.kt_core.specs.Reached.{opening};
+    ghost use Rattle.kt_core.specs.Machine.{state_of, CanApply, Refuses};
+
+    /// The machine of the scene, in which nothing was done yet, or the scene where memory runs out.
+    pub(crate) fn open(alloc: Global, scene: Scene) -> Result<Machine, Scene>
+        ensures opened { IfOk result (λ m. state_of m ≡ opening scene) }
+        ensures back { IfErr result (λ back. back ≡ scene) }
+    {
+        match opening_tables(alloc, &scene) {
+            Ok((nodes, links, own)) => Ok(Machine {
+                scene,
+                nodes,
+                links,
+                history: History::new(alloc),
+                own,
+                made: 0,
+            }),
+            Err(_) => Err(scene),
+        }
+    }
 
     /// Carries out the plan of the step, or changes nothing.
-    fn apply(&mut self, alloc: Global, step: Step, plan: Plan) -> Result<(), AllocError>
+    fn apply(&mut self, step: Step, plan: Plan) -> Result<(), AllocError>
         requires ready { IsReady (state_of self.old) }
         requires can { CanApply (state_of self.old) step plan }
         ensures ok { OnOk result (state_of self.new ≡ applied (state_of self.old) step plan) }
@@ -123,11 +159,23 @@ impl Machine {
         let owner = step.owner();
         let row = owner.index();
         make_room(&mut self.nodes, row)?;
-        note_and_send(alloc, &mut self.history, &mut self.links, owner, note, send)?;
+        note_and_send(&mut self.history, &mut self.links, owner, note, send)?;
         take_off(&mut self.links, step);
         change_node(&mut self.nodes, row, change);
         count(&mut self.own, row);
         self.made += 1;
+        Ok(())
+    }
+
+    /// Makes the step, or changes nothing.
+    pub(crate) fn step(&mut self, alloc: Global, step: Step) -> Result<(), StepError>
+        requires { IsReady (state_of self.old) }
+        ensures effect { OnOk result (step_result (state_of self.old) step ≡ Ok (state_of self.new)) }
+        ensures refusal { IfErr result (λ e. Refuses e (step_result (state_of self.old) step)) }
+        ensures same { OnErr result (state_of self.new ≡ state_of self.old) }
+    {
+        let plan = self.plan(alloc, step)?;
+        self.apply(step, plan)?;
         Ok(())
     }
 }

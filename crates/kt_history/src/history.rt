@@ -1,5 +1,7 @@
 ghost use Rattle.std.specs.Prelude.{◌≡◌, ◌↔◌, ◌∷◌, ◌++◌, [], IsTrue, IfOk, OnOk, OnErr};
-ghost use Rattle.kt_history.specs.Line.{IsAct, line};
+ghost use Rattle.std.specs.Option.{option_copied};
+ghost use Rattle.kt_history.specs.Closed.{act_of};
+ghost use Rattle.kt_history.specs.Line.{IsAct, line, note_at};
 ghost use Rattle.kt_history.specs.Survival.{Survives, services, lost_count};
 ghost use Rattle.kt_history.specs.Marks.{kept_service};
 ghost use Rattle.kt_history.specs.WellFormed.{MayFollow};
@@ -53,6 +55,19 @@ impl History {
         ensures { result.now ≡ self.now }
     {
         &self.notes
+    }
+
+    /// The act of this number, if it names one.
+    pub fn act(&self, number: u64) -> Option<&Act>
+        ensures { option_copied result ≡ act_of (note_at self.now number) }
+    {
+        if number == 0 {
+            return None;
+        }
+        match self.notes.get(number as usize - 1) {
+            Some(Note::Act(act)) => Some(act),
+            _ => None,
+        }
     }
 
     /// The numbers of the node's acts that were not cut off, oldest first.

@@ -1,9 +1,6 @@
 use Rattle.kt_core.proofs.Hearings.{heard_here, not_heard, no_act}
 use Rattle.kt_core.proofs.judge.cause_of_waiting.Goals as goal
 
-pub loop-number-init : goal.loop-number-init
-loop-number-init c = ?
-
 pub returns-then-hears : goal.returns-then-hears
 returns-then-hears c =
     heard_here c.args.history.now c.in-Some.before.now c.in-Some.number.now c.loop-number.rest.now c.args.worker c.in-Some-act.act.now _ c.in-Some.ensures.cases.0 c.in-Some-act.ensures

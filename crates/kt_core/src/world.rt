@@ -1,0 +1,116 @@
+ghost use Rattle.std.specs.Prelude.{◌≡◌, ◌≤◌, IfOk, IfErr, OnOk, OnErr, Ok};
+
+use crate::machine::Machine;
+use crate::node::Node;
+use crate::scene::Scene;
+use crate::step::{Mode, Step, StepError};
+use kt_history::History;
+use kt_tuple::NodeId;
+use std::alloc::Global;
+use std::marker::Model;
+use thiserror::Error;
+
+/// Why a world was not opened.
+#[derive(Clone, Copy, Debug, PartialEq, Eq, Error)]
+pub enum OpenError {
+    /// Memory ran out.
+    #[error("OutOfMemory")]
+    OutOfMemory,
+}
+
+/// A world that was not opened, and the scene that was to be its own.
+#[derive(Debug, Drop)]
+pub struct OpenRefused {
+    /// Why.
+    pub cause: OpenError,
+    /// What was handed in.
+    pub scene: Scene,
+}
+
+/// The workers and shards of a scene, what is on its way between them, and what happened so far. Each value
+/// is what some list of steps leads to from the opening of some scene.
+#[derive(Debug, Drop)]
+pub struct World {
+    machine: Machine,
+}
+
+impl Model for World {
+    ghost use Rattle.std.specs.Prelude.{◌≡◌};
+    ghost use Rattle.kt_core.specs.State.{State};
+
+    ghost Value = { State };
+
+    ghost use Rattle.kt_core.specs.Machine.{state_of};
+    ghost use Rattle.kt_core.specs.Reached.{IsKept};
+
+    ghost view = { λ w. state_of w.machine };
+
+    ghost invariant = { λ w. IsKept (state_of w.machine) };
+}
+
+impl World {
+    ghost use Rattle.kt_core.specs.Effect.{step_result};
+    ghost use Rattle.kt_core.specs.Machine.{Refuses};
+    ghost use Rattle.kt_core.specs.Reached.{opening, mode_of};
+    ghost use Rattle.kt_core.specs.State.{at, node};
+    ghost use Rattle.kt_tuple.specs.Node.{node_index};
+
+    /// The world of the scene, in which nothing was done yet. Only want of memory refuses it, and then the
+    /// scene comes back.
+    pub fn open(alloc: Global, scene: Scene) -> Result<World, OpenRefused>
+        ensures opened { IfOk result (λ w. w ≡ opening scene) }
+        ensures back { IfErr result (λ refused. refused.scene ≡ scene) }
+    {
+        match Machine::open(alloc, scene) {
+            Ok(machine) => Ok(World { machine }),
+            Err(scene) => Err(OpenRefused {
+                cause: OpenError::OutOfMemory,
+                scene,
+            }),
+        }
+    }
+
+    /// Makes the step. A refused step changes nothing.
+    pub fn step(&mut self, alloc: Global, step: Step) -> Result<(), StepError>
+        ensures effect { OnOk result (step_result self.old step ≡ Ok self.new) }
+        ensures refusal { IfErr result (λ e. Refuses e (step_result self.old step)) }
+        ensures same { OnErr result (self.new ≡ self.old) }
+    {
+        self.machine.step(alloc, step)
+    }
+
+    /// What happened so far.
+    pub fn history(&self) -> &History
+        ensures { result.now ≡ self.now.history }
+    {
+        &self.machine.history
+    }
+
+    /// The scene that it was opened with.
+    pub fn scene(&self) -> &Scene
+        ensures shards { result.now.shards ≡ self.now.shards }
+        ensures scripts { result.now.scripts ≡ self.now.scripts }
+    {
+        &self.machine.scene
+    }
+
+    /// How many steps of its own the node made, 0 for a node that is not in the scene.
+    pub fn steps_of(&self, id: NodeId) -> u64
+        ensures { result ≡ at 0 self.now.own (node_index id) }
+    {
+        match self.machine.own.get(id.index()) {
+            Some(count) => *count,
+            None => 0,
+        }
+    }
+
+    /// What state the node is in, `None` for a node that is not in the scene.
+    pub fn mode(&self, id: NodeId) -> Option<Mode>
+        ensures { result ≡ mode_of (node self.now id) }
+    {
+        match self.machine.nodes.get(id.index()) {
+            Some(Node::Worker(_) | Node::Shard(_)) => Some(Mode::Up),
+            _ => None,
+        }
+    }
+}
