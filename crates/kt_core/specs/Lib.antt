@@ -1,3 +1,10 @@
+pub mod Asks
+pub mod Bag
+pub mod ShardLine
+pub mod WorkerLine
+pub mod Order
+pub mod Legal
+pub mod Headline
 pub mod Cast
 pub mod Step
 pub mod Choice

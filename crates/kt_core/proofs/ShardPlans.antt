@@ -1,0 +1,210 @@
+-- The plans of a shard keep a state sound: it hears what is new, answers again what it keeps, ignores the rest, and serves what waits.
+use Rattle.std.proofs.Common.{if◌then◌else◌, ◌≡◌, ◌≢◌, ℕ, zero, suc, ◌+◌, ◌<◌, ◌≤◌, ◌==◌, ◌&&◌, Bool, true, false, List, [], ◌∷◌, ◌++◌, length, Contains, Option, Some, None, nat_lt, IsPermutation, refl, sym, ap, ◌∙◌, subst, eq-eqb, eqb-true, ltb-true, ltb-false, arith}
+use Rattle.std.proofs.lemmas.Bool.{and_parts, and_from, false≢true}
+use Rattle.kt_tuple.specs.declared.node.NodeId.{NodeId}
+use Rattle.kt_tuple.specs.declared.node.NodeId.TheVariants as ids
+use Rattle.kt_tuple.specs.declared.tuple.Tuple.{Tuple}
+use Rattle.kt_tuple.specs.declared.op.Op.{Op}
+use Rattle.kt_tuple.specs.declared.op.Answer.{Answer}
+use Rattle.kt_tuple.specs.Node.{node_index}
+use Rattle.kt_tuple.specs.Op.{op_eq, op_eq_decides}
+use Rattle.kt_tuple.specs.Signature.{kinds_of_op, shard_of}
+use Rattle.kt_tuple.specs.Space.{SpaceStep}
+use Rattle.kt_history.specs.declared.note.What.TheVariants as whats
+use Rattle.kt_history.specs.declared.note.Act.{Act}
+use Rattle.kt_history.specs.declared.note.Note.{Note}
+use Rattle.kt_history.specs.declared.note.Note.TheVariants as notes
+use Rattle.kt_history.specs.Line.{note_at, before, line}
+use Rattle.kt_history.specs.Closed.{acts_in_line}
+use Rattle.kt_history.specs.WellFormed.{HeardRequest, WasServed, ActFits, IsWellFormed}
+use Rattle.kt_core.specs.declared.node.Request.{Request}
+use Rattle.kt_core.specs.declared.node.Kept.{Kept}
+use Rattle.kt_core.specs.declared.node.Desk.{Desk}
+use Rattle.kt_core.specs.declared.choice.Choice.{Choice}
+use Rattle.kt_core.specs.State.{Store, IsStore, at, put}
+use Rattle.kt_core.specs.Desk.{empty_desk, newest, same_request, answer_if_kept, answer_unless_waiting, kept_answer}
+use Rattle.kt_core.specs.Choice.{choice_of, answer_of, bag_change_of}
+use Rattle.kt_core.specs.Plan.{act_of, heard_plan, again_plan, ignored_plan, old_request_plan, request_plan, service_plan}
+use Rattle.kt_core.specs.Effect.{bag_after, cause_of_waiting, with_desk, waiting_store, served_store}
+use Rattle.kt_core.specs.Bag.{served_bag}
+use Rattle.kt_core.specs.Order.{Setting}
+use Rattle.kt_core.specs.Legal.{AreLegal}
+use Rattle.kt_core.specs.ShardLine.{MadeShard, request_of, Hears, AnswersAgain, Ignores, shard_after, shard_of_acts, new_shard, put_row}
+use Rattle.kt_core.proofs.Rows.{at-put_same, at-put_other}
+use Rattle.kt_core.proofs.Numbered.{put_row_holds}
+use Rattle.kt_core.proofs.Permutations.{step_like}
+use Rattle.kt_core.proofs.Choices.{choice_step}
+use Rattle.kt_core.proofs.Traces.{WasHeard, waits_heard, ServedIn, keeps_served, ShardLine-home, Contains-acts_at, cause_found}
+use Rattle.kt_core.proofs.Causes.{before_at}
+use Rattle.kt_core.proofs.Growth.{shard_of_acts-push}
+use Rattle.kt_core.proofs.Sound.{rows, IsStoreLike, IsAskOf, IsReplyOf, Keeps, note_at-next}
+
+-- what the shard's acts make of it
+abbrev made_of : List Note → ℕ → MadeShard
+made_of h s = shard_of_acts new_shard (acts_in_line h (ids.Shard s))
+
+like-push : (acts : List Act) (a : Act) (y : Store) → IsStoreLike (shard_after (shard_of_acts new_shard acts) a) y → IsStoreLike (shard_of_acts new_shard (acts ++ a ∷ [])) y
+like-push acts a y like = subst (λ m. IsStoreLike m y) (sym (shard_of_acts-push new_shard acts a)) like
+
+-- a desk put into both tables leaves them alike
+desks_like : (desks : List Desk) (made : ℕ → Desk) (w : ℕ) (desk new : Desk) → ((v : ℕ) → at empty_desk desks v ≡ made v) → desk ≡ new →
+    (v : ℕ) → at empty_desk (put empty_desk desks w desk) v ≡ put_row w new made v
+desks_like desks made w desk new like same =
+    put_row_holds (λ v z. at empty_desk (put empty_desk desks w desk) v ≡ z) w new made (at-put_same empty_desk desks w desk ∙ same)
+      (λ v d. at-put_other empty_desk desks w v desk (λ e. d (sym e)) ∙ like v)
+
+-- a desk that stays leaves the table as it was
+desks_stay : (desks : List Desk) (made : ℕ → Desk) (w : ℕ) → ((v : ℕ) → at empty_desk desks v ≡ made v) → (v : ℕ) → at empty_desk desks v ≡ put_row w (made w) made v
+desks_stay desks made w like = put_row_holds (λ v z. at empty_desk desks v ≡ z) w (made w) made (like w) (λ v d. like v)
+
+-- the test of answering again
+kept_answer-is : (d : Desk) (request : Request) (answer : Answer) → kept_answer d request ≡ Some answer → AnswersAgain request answer d
+kept_answer-is d request answer = by d.waiting d.kept
+  where
+    same : (kept : Kept) → (if same_request kept.request request then Some kept.answer else None) ≡ Some answer → Some kept ≡ Some (record { request = request; answer = answer })
+    same kept = at' (same_request kept.request request) refl
+      where
+        at' : (r : Bool) → same_request kept.request request ≡ r → (if r then Some kept.answer else None) ≡ Some answer → Some kept ≡ Some (record { request = request; answer = answer })
+        at' true e given =
+            let both = and_parts (kept.request.number == request.number) (op_eq kept.request.op request.op) e in
+            let n : kept.request.number ≡ request.number = eqb-true kept.request.number request.number both.0 in
+            let o : kept.request.op ≡ request.op = (op_eq_decides kept.request.op request.op).0 both.1 in
+            let a : kept.answer ≡ answer = cc (given) in
+            λ i. Some (record { request = record { number = n i; op = o i }; answer = a i })
+        at' false e given = absurd cc
+    by : (waiting : Option Request) (kept : Option Kept) → answer_unless_waiting waiting kept request ≡ Some answer → (waiting ≡ None) × (kept ≡ Some (record { request = request; answer = answer }))
+    by None None e = absurd cc
+    by None (Some kept) e = (refl, same kept e)
+    by (Some other) kept e = absurd cc
+
+kept_answer-none : (d : Desk) (request : Request) → kept_answer d request ≡ None → (answer : Answer) → ¬ AnswersAgain request answer d
+kept_answer-none d request none answer h = absurd (by d.waiting d.kept h.0 h.1 none)
+  where
+    itself : same_request request request ≡ true
+    itself = and_from (request.number == request.number) (op_eq request.op request.op) (eq-eqb request.number request.number refl) ((op_eq_decides request.op request.op).1 refl)
+    by : (waiting : Option Request) (kept : Option Kept) → waiting ≡ None → kept ≡ Some (record { request = request; answer = answer }) → answer_unless_waiting waiting kept request ≡ None → ⊥
+    by None None w k e = cc (k)
+    by None (Some kept) w k e =
+        let same : kept ≡ record { request = request; answer = answer } = cc (k) in
+        let found : answer_if_kept (Some kept) request ≡ Some answer = ap (λ (z : Kept). answer_if_kept (Some z) request) same ∙ ap (λ b. if b then Some answer else None) itself in
+        cc (found, e)
+    by (Some other) kept w k e = cc (w)
+
+-- what was heard was asked for
+heard_request : (shards : ℕ) (h : List Note) (w s : ℕ) (request : Request) (by : ℕ) (a : Act) → IsAskOf shards h w s request by → a.by ≡ by → a.worker ≡ w → a.number ≡ request.number → a.op ≡ request.op → HeardRequest h a
+heard_request shards h w s request by a m cause worker number op = record {
+  cause = m.act;
+  is_cause = subst (λ n. note_at h n ≡ Some (notes.Act m.act)) (sym cause) m.is_act;
+  asking = m.asking;
+  same = record { worker = m.worker ∙ sym worker; number = m.number ∙ sym number; op = m.op ∙ sym op };
+}
+
+heard_keeps : (setting : Setting) (h : List Note) (w s : ℕ) (y : Store) (request : Request) (by : ℕ) → IsStoreLike (made_of h s) y → IsAskOf setting.shards h w s request by →
+    newest (at empty_desk y.desks w) < request.number → Keeps setting h (ids.Shard s) (IsStore y) (heard_plan (ids.Shard s) w request by)
+heard_keeps setting h w s y request by like m new =
+    let made : MadeShard = made_of h s in
+    let a : Act = act_of (ids.Shard s) by w request whats.Heard in record {
+      own = refl;
+      may = (m.home, subst (Hears request.number) (like.desks w) new);
+      fits = heard_request setting.shards h w s request by a m refl refl refl refl;
+      like = like-push (acts_in_line h (ids.Shard s)) a (waiting_store y w request) (record {
+        bag = like.bag;
+        desks = desks_like y.desks made.desk w (record { waiting = Some request; kept = (at empty_desk y.desks w).kept }) (record { waiting = Some request; kept = (made.desk w).kept }) like.desks (ap (λ (d : Desk). record { waiting = Some request; kept = d.kept }) (like.desks w));
+      });
+      sends = tt;
+    }
+
+-- what is kept was served, and that stands in the line
+was_served : (h : List Note) (w s : ℕ) (request : Request) (answer : Answer) (a : Act) → AnswersAgain request answer ((made_of h s).desk w) → a.node ≡ ids.Shard s → a.worker ≡ w → a.number ≡ request.number → a.op ≡ request.op → WasServed h a answer
+was_served h w s request answer a again node worker number op =
+    let kept : ServedIn (acts_in_line h (ids.Shard s)) w (record { request = request; answer = answer }) = keeps_served (acts_in_line h (ids.Shard s)) w (record { request = request; answer = answer }) again.1 in
+    let n = Contains-acts_at h (line h (ids.Shard s)) kept.act kept.among in record {
+      service = n.0;
+      stands = subst (λ p. Contains (line h p) n.0) (sym node) n.1;
+      act = kept.act;
+      is_act = n.2;
+      served = kept.serves;
+      same = record { worker = kept.worker ∙ sym worker; number = ap (λ (r : Request). r.number) kept.about ∙ sym number; op = ap (λ (r : Request). r.op) kept.about ∙ sym op };
+    }
+
+again_keeps : (setting : Setting) (h : List Note) (w s : ℕ) (y : Store) (request : Request) (answer : Answer) (by : ℕ) → IsStoreLike (made_of h s) y → IsAskOf setting.shards h w s request by → node_index (ids.Worker w) < rows →
+    AnswersAgain request answer (at empty_desk y.desks w) → Keeps setting h (ids.Shard s) (IsStore y) (again_plan (ids.Shard s) w request by answer (length h + 1))
+again_keeps setting h w s y request answer by like m row again =
+    let made : MadeShard = made_of h s in
+    let known : AnswersAgain request answer (made.desk w) = subst (AnswersAgain request answer) (like.desks w) again in
+    let a : Act = act_of (ids.Shard s) by w request (whats.Again answer) in record {
+      own = refl;
+      may = (m.home, known);
+      fits = (heard_request setting.shards h w s request by a m refl refl refl refl, was_served h w s request answer a known refl refl refl refl);
+      like = like-push (acts_in_line h (ids.Shard s)) a y (record { bag = like.bag; desks = desks_stay y.desks made.desk w like.desks });
+      sends = (record { act = a; is_act = note_at-next h (notes.Act a); own = refl; answering = refl; worker = refl; number = refl; op = refl }, row);
+    }
+
+ignored_keeps : (setting : Setting) (h : List Note) (w s : ℕ) (y : Store) (request : Request) (by : ℕ) → IsStoreLike (made_of h s) y → IsAskOf setting.shards h w s request by →
+    Ignores request (at empty_desk y.desks w) → Keeps setting h (ids.Shard s) (IsStore y) (ignored_plan (ids.Shard s) w request by None)
+ignored_keeps setting h w s y request by like m ignores =
+    let made : MadeShard = made_of h s in
+    let a : Act = act_of (ids.Shard s) by w request (whats.Ignored None) in record {
+      own = refl;
+      may = (m.home, subst (Ignores request) (like.desks w) ignores);
+      fits = heard_request setting.shards h w s request by a m refl refl refl refl;
+      like = like-push (acts_in_line h (ids.Shard s)) a y (record { bag = like.bag; desks = desks_stay y.desks made.desk w like.desks });
+      sends = tt;
+    }
+
+pub request_keeps : (setting : Setting) (h : List Note) (w s : ℕ) (y : Store) (request : Request) (by : ℕ) → IsStoreLike (made_of h s) y → IsAskOf setting.shards h w s request by → node_index (ids.Worker w) < rows →
+    Keeps setting h (ids.Shard s) (IsStore y) (request_plan (ids.Shard s) (at empty_desk y.desks w) w request by (length h + 1))
+request_keeps setting h w s y request by like m row = hears (nat_lt (newest d) request.number) refl
+  where
+    d : Desk
+    d = at empty_desk y.desks w
+    old : (o : Option Answer) → kept_answer d request ≡ o → request.number ≤ newest d → Keeps setting h (ids.Shard s) (IsStore y) (old_request_plan (ids.Shard s) w request by (length h + 1) o)
+    old None e seen = ignored_keeps setting h w s y request by like m (seen, kept_answer-none d request e)
+    old (Some answer) e seen = again_keeps setting h w s y request answer by like m row (kept_answer-is d request answer e)
+    hears : (r : Bool) → nat_lt (newest d) request.number ≡ r →
+        Keeps setting h (ids.Shard s) (IsStore y) (if r then heard_plan (ids.Shard s) w request by else old_request_plan (ids.Shard s) w request by (length h + 1) (kept_answer d request))
+    hears true e = heard_keeps setting h w s y request by like m (ltb-true (newest d) request.number e)
+    hears false e = old (kept_answer d request) refl (ltb-false (newest d) request.number e)
+
+-- what waits at a shard was asked for, by the act that its last hearing names
+waiting_request : (setting : Setting) (h : List Note) (w s : ℕ) (request : Request) (a : Act) → IsWellFormed h → ((made_of h s).desk w).waiting ≡ Some request → a.by ≡ (made_of h s).cause w → a.worker ≡ w → a.number ≡ request.number → a.op ≡ request.op → HeardRequest h a
+waiting_request setting h w s request a wf waits cause worker number op =
+    let heard : WasHeard (acts_in_line h (ids.Shard s)) w request ((made_of h s).cause w) = waits_heard (acts_in_line h (ids.Shard s)) w request waits in
+    let n = Contains-acts_at h (line h (ids.Shard s)) heard.act heard.among in
+    let fits : HeardRequest (before h n.0) heard.act = subst (ActFits (before h n.0) heard.act) heard.hears (wf.fits n.0 (notes.Act heard.act) n.2) in record {
+      cause = fits.cause;
+      is_cause = ap (note_at h) (cause ∙ sym heard.by) ∙ (before_at h n.0 heard.act.by (notes.Act fits.cause) fits.is_cause).1;
+      asking = fits.asking;
+      same = record {
+        worker = fits.same.worker ∙ heard.worker ∙ sym worker;
+        number = fits.same.number ∙ ap (λ (r : Request). r.number) heard.about ∙ sym number;
+        op = fits.same.op ∙ ap (λ (r : Request). r.op) heard.about ∙ sym op;
+      };
+    }
+
+-- and is at home there
+waiting_home : (setting : Setting) (h : List Note) (w s : ℕ) (request : Request) → AreLegal setting h → ((made_of h s).desk w).waiting ≡ Some request → shard_of setting.shards (kinds_of_op request.op) ≡ s
+waiting_home setting h w s request legal waits =
+    let heard : WasHeard (acts_in_line h (ids.Shard s)) w request ((made_of h s).cause w) = waits_heard (acts_in_line h (ids.Shard s)) w request waits in
+    ap (λ (r : Request). shard_of setting.shards (kinds_of_op r.op)) (sym heard.about) ∙ ShardLine-home setting.shards s new_shard (acts_in_line h (ids.Shard s)) heard.act (legal (ids.Shard s)) heard.among
+
+pub service_keeps : (setting : Setting) (h : List Note) (w s : ℕ) (y : Store) (request : Request) (place : ℕ) (choice : Choice) → AreLegal setting h → IsWellFormed h → IsStoreLike (made_of h s) y → node_index (ids.Worker w) < rows →
+    (at empty_desk y.desks w).waiting ≡ Some request → choice_of y.bag request.op place ≡ Some choice →
+    Keeps setting h (ids.Shard s) (IsStore y) (service_plan (ids.Shard s) w request (answer_of y.bag choice) (bag_change_of request.op choice) (cause_of_waiting h (ids.Shard s) w) (length h + 1))
+service_keeps setting h w s y request place choice legal wf like row waiting chosen =
+    let made : MadeShard = made_of h s in
+    let answer : Answer = answer_of y.bag choice in
+    let new : List Tuple = bag_after y.bag (bag_change_of request.op choice) in
+    let waits : (made.desk w).waiting ≡ Some request = ap (λ (d : Desk). d.waiting) (sym (like.desks w)) ∙ waiting in
+    let cause : cause_of_waiting h (ids.Shard s) w ≡ made.cause w = cause_found (acts_in_line h (ids.Shard s)) w in
+    let step = step_like made.bag y.bag request.op answer new like.bag (choice_step y.bag request.op place choice chosen) in
+    let a : Act = act_of (ids.Shard s) (cause_of_waiting h (ids.Shard s) w) w request (whats.Served answer) in record {
+      own = refl;
+      may = (waiting_home setting h w s request legal waits, (waits, cause, step.0));
+      fits = waiting_request setting h w s request a wf waits cause refl refl refl;
+      like = like-push (acts_in_line h (ids.Shard s)) a (served_store y w (bag_change_of request.op choice) (record { request = request; answer = answer })) (record {
+        bag = step.1;
+        desks = desks_like y.desks made.desk w (record { waiting = None; kept = Some (record { request = request; answer = answer }) }) (record { waiting = None; kept = Some (record { request = request; answer = answer }) }) like.desks refl;
+      });
+      sends = (record { act = a; is_act = note_at-next h (notes.Act a); own = refl; answering = refl; worker = refl; number = refl; op = refl }, row);
+    }
