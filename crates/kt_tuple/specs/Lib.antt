@@ -6,3 +6,4 @@ pub mod Signature
 pub mod Op
 pub mod Node
 pub mod Space
+pub mod Spelling
