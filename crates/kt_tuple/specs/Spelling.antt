@@ -1,5 +1,5 @@
 -- The one text of each value, tuple, template, operation and answer.
-use Rattle.std.specs.Prelude.{ℕ, ◌==◌, ◌||◌, if◌then◌else◌, List, [], ◌∷◌, ◌++◌, codes, map, decimal}
+use Rattle.std.specs.Prelude.{ℕ, ◌==◌, ◌||◌, if◌then◌else◌, List, [], ◌∷◌, ◌++◌, codes, map}
 use Rattle.std.specs.Fmt.{signed_decimal}
 use Rattle.std.specs.List.{flat_map}
 use Rattle.kt_tuple.specs.declared.value.Value.{Value}
@@ -37,12 +37,16 @@ place_text (Formal k) = 63 ∷ kind_text k
 
 -- a comma and a space, and then the text
 abbrev pub further : List ℕ → List ℕ
-further text = codes ", " ++ text
+further text = 44 ∷ 32 ∷ text
 
--- the texts in parentheses, each but the first behind a comma and a space
+-- the texts, each but the first behind a comma and a space
+abbrev pub separated : List (List ℕ) → List ℕ
+separated [] = []
+separated (first ∷ others) = first ++ flat_map further others
+
+-- the texts in parentheses
 abbrev pub in_parentheses : List (List ℕ) → List ℕ
-in_parentheses [] = codes "()"
-in_parentheses (first ∷ others) = codes "(" ++ first ++ flat_map further others ++ codes ")"
+in_parentheses texts = 40 ∷ separated texts ++ 41 ∷ []
 
 abbrev pub tuple_text : List Value → List ℕ
 tuple_text values = in_parentheses (map value_text values)

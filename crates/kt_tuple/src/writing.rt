@@ -1,5 +1,10 @@
 //! The one text of each value, tuple, template, operation and answer, written at the end of bytes.
 
+ghost use Rattle.std.specs.Prelude.{◌≡◌, ◌≤◌, ◌++◌, List, ℕ, [], ◌∷◌, length, take, vec_len, OnOk, OnErr, codes};
+ghost use Rattle.std.specs.Fmt.{signed_decimal};
+ghost use Rattle.std.specs.Io.{StartsWith};
+ghost use Rattle.kt_tuple.specs.Spelling.{character_text, string_text, value_text, place_text, tuple_text, template_text, op_text, answer_text};
+
 use crate::op::{Answer, Op};
 use crate::template::{Place, Template};
 use crate::tuple::Tuple;
@@ -9,7 +14,10 @@ use std::alloc::AllocError;
 
 impl Tuple {
     /// Appends its text, as `("a", 1)`. A refused call leaves the bytes as they were.
-    pub fn write_to(&self, out: &mut Vec<u8>) -> Result<(), AllocError> {
+    pub fn write_to(&self, out: &mut Vec<u8>) -> Result<(), AllocError>
+        ensures ok { OnOk result (out.new.items ≡ out.old.items ++ tuple_text self.now) }
+        ensures err { OnErr result (out.new.items ≡ out.old.items) }
+    {
         let start = out.len();
         let written = push_tuple(out, self);
         cut_back(out, start, written)
@@ -18,7 +26,10 @@ impl Tuple {
 
 impl Template {
     /// Appends its text, as `("a", ?int)`. A refused call leaves the bytes as they were.
-    pub fn write_to(&self, out: &mut Vec<u8>) -> Result<(), AllocError> {
+    pub fn write_to(&self, out: &mut Vec<u8>) -> Result<(), AllocError>
+        ensures ok { OnOk result (out.new.items ≡ out.old.items ++ template_text self.now) }
+        ensures err { OnErr result (out.new.items ≡ out.old.items) }
+    {
         let start = out.len();
         let written = push_template(out, self);
         cut_back(out, start, written)
@@ -27,7 +38,10 @@ impl Template {
 
 impl Op {
     /// Appends its text, as `in ("a", ?int)`. A refused call leaves the bytes as they were.
-    pub fn write_to(&self, out: &mut Vec<u8>) -> Result<(), AllocError> {
+    pub fn write_to(&self, out: &mut Vec<u8>) -> Result<(), AllocError>
+        ensures ok { OnOk result (out.new.items ≡ out.old.items ++ op_text self.now) }
+        ensures err { OnErr result (out.new.items ≡ out.old.items) }
+    {
         let start = out.len();
         let written = push_op(out, self);
         cut_back(out, start, written)
@@ -36,7 +50,10 @@ impl Op {
 
 impl Answer {
     /// Appends its text, as `got ("a", 1)`. A refused call leaves the bytes as they were.
-    pub fn write_to(&self, out: &mut Vec<u8>) -> Result<(), AllocError> {
+    pub fn write_to(&self, out: &mut Vec<u8>) -> Result<(), AllocError>
+        ensures ok { OnOk result (out.new.items ≡ out.old.items ++ answer_text self.now) }
+        ensures err { OnErr result (out.new.items ≡ out.old.items) }
+    {
         let start = out.len();
         let written = push_answer(out, self);
         cut_back(out, start, written)
@@ -48,14 +65,21 @@ fn cut_back(
     out: &mut Vec<u8>,
     start: usize,
     written: Result<(), AllocError>,
-) -> Result<(), AllocError> {
+) -> Result<(), AllocError>
+    ensures same { result ≡ written }
+    ensures ok { OnOk result (out.new.items ≡ out.old.items) }
+    ensures err { OnErr result (out.new.items ≡ take start out.old.items) }
+{
     if written.is_err() {
         out.truncate(start);
     }
     written
 }
 
-fn push_op(out: &mut Vec<u8>, op: &Op) -> Result<(), AllocError> {
+fn push_op(out: &mut Vec<u8>, op: &Op) -> Result<(), AllocError>
+    ensures ok { OnOk result (out.new.items ≡ out.old.items ++ op_text op.now) }
+    ensures front { StartsWith out.new.items out.old.items }
+{
     match op {
         Op::Out(tuple) => {
             out.extend_from_slice(b"out ")?;
@@ -80,7 +104,10 @@ fn push_op(out: &mut Vec<u8>, op: &Op) -> Result<(), AllocError> {
     }
 }
 
-fn push_answer(out: &mut Vec<u8>, answer: &Answer) -> Result<(), AllocError> {
+fn push_answer(out: &mut Vec<u8>, answer: &Answer) -> Result<(), AllocError>
+    ensures ok { OnOk result (out.new.items ≡ out.old.items ++ answer_text answer.now) }
+    ensures front { StartsWith out.new.items out.old.items }
+{
     match answer {
         Answer::Done => out.extend_from_slice(b"done"),
         Answer::Got(tuple) => {
@@ -91,29 +118,40 @@ fn push_answer(out: &mut Vec<u8>, answer: &Answer) -> Result<(), AllocError> {
     }
 }
 
-fn push_tuple(out: &mut Vec<u8>, tuple: &Tuple) -> Result<(), AllocError> {
-    let mut before: &[u8] = b"(";
+fn push_tuple(out: &mut Vec<u8>, tuple: &Tuple) -> Result<(), AllocError>
+    ensures ok { OnOk result (out.new.items ≡ out.old.items ++ tuple_text tuple.now) }
+    ensures front { StartsWith out.new.items out.old.items }
+{
+    out.push(b'(')?;
+    let mut separator: &[u8] = b"";
     for value in tuple.values() {
-        out.extend_from_slice(before)?;
+        out.extend_from_slice(separator)?;
         push_value(out, value)?;
-        before = b", ";
+        separator = b", ";
     }
     out.push(b')')?;
     Ok(())
 }
 
-fn push_template(out: &mut Vec<u8>, template: &Template) -> Result<(), AllocError> {
-    let mut before: &[u8] = b"(";
+fn push_template(out: &mut Vec<u8>, template: &Template) -> Result<(), AllocError>
+    ensures ok { OnOk result (out.new.items ≡ out.old.items ++ template_text template.now) }
+    ensures front { StartsWith out.new.items out.old.items }
+{
+    out.push(b'(')?;
+    let mut separator: &[u8] = b"";
     for place in template.places() {
-        out.extend_from_slice(before)?;
+        out.extend_from_slice(separator)?;
         push_place(out, place)?;
-        before = b", ";
+        separator = b", ";
     }
     out.push(b')')?;
     Ok(())
 }
 
-fn push_place(out: &mut Vec<u8>, place: &Place) -> Result<(), AllocError> {
+fn push_place(out: &mut Vec<u8>, place: &Place) -> Result<(), AllocError>
+    ensures ok { OnOk result (out.new.items ≡ out.old.items ++ place_text place.now) }
+    ensures front { StartsWith out.new.items out.old.items }
+{
     match place {
         Place::Actual(value) => push_value(out, value),
         Place::Formal(Kind::Int) => out.extend_from_slice(b"?int"),
@@ -121,19 +159,28 @@ fn push_place(out: &mut Vec<u8>, place: &Place) -> Result<(), AllocError> {
     }
 }
 
-fn push_value(out: &mut Vec<u8>, value: &Value) -> Result<(), AllocError> {
+fn push_value(out: &mut Vec<u8>, value: &Value) -> Result<(), AllocError>
+    ensures ok { OnOk result (out.new.items ≡ out.old.items ++ value_text value.now) }
+    ensures front { StartsWith out.new.items out.old.items }
+{
     match value {
         Value::Int(number) => push_int(out, *number),
         Value::Str(string) => push_string(out, string.as_bytes()),
     }
 }
 
-fn push_int(out: &mut Vec<u8>, number: i64) -> Result<(), AllocError> {
+fn push_int(out: &mut Vec<u8>, number: i64) -> Result<(), AllocError>
+    ensures ok { OnOk result (out.new.items ≡ out.old.items ++ signed_decimal number) }
+    ensures front { StartsWith out.new.items out.old.items }
+{
     let mut buffer = Buffer::new();
     out.extend_from_slice(buffer.format(number).as_bytes())
 }
 
-fn push_string(out: &mut Vec<u8>, characters: &[u8]) -> Result<(), AllocError> {
+fn push_string(out: &mut Vec<u8>, characters: &[u8]) -> Result<(), AllocError>
+    ensures ok { OnOk result (out.new.items ≡ out.old.items ++ string_text characters.now) }
+    ensures front { StartsWith out.new.items out.old.items }
+{
     out.push(b'"')?;
     for character in characters {
         push_character(out, *character)?;
@@ -142,7 +189,10 @@ fn push_string(out: &mut Vec<u8>, characters: &[u8]) -> Result<(), AllocError> {
     Ok(())
 }
 
-fn push_character(out: &mut Vec<u8>, character: u8) -> Result<(), AllocError> {
+fn push_character(out: &mut Vec<u8>, character: u8) -> Result<(), AllocError>
+    ensures ok { OnOk result (out.new.items ≡ out.old.items ++ character_text character) }
+    ensures front { StartsWith out.new.items out.old.items }
+{
     if character == b'"' || character == b'\\' {
         out.push(b'\\')?;
     }
