@@ -1,3 +1,4 @@
 pub mod Homes
 pub mod Nodes
 pub mod Separated
+pub mod Readers

@@ -7,3 +7,4 @@ pub mod Op
 pub mod Node
 pub mod Space
 pub mod Spelling
+pub mod Reading

@@ -3,13 +3,20 @@
 //! A reader is given the bytes that are left. It answers the spelling that it read and the bytes after
 //! it, or the bytes from the first one that no text of its kind goes on with.
 
+ghost use Rattle.std.specs.Prelude.{◌≡◌, ◌≤◌, ℕ, List, length, take, drop, false, position, IfSome};
+ghost use Rattle.std.specs.Option.{option_map};
+ghost use Rattle.kt_tuple.specs.Reading.{Gives, word_at, after_digits, after_positive, split_before, int_at, after_characters, str_at, value_at, formal_at, place_at, after_place, is_no_digit, is_printable};
+
 use crate::string::{MAX_CHARACTERS, Str};
 use crate::template::Place;
 use crate::value::{Kind, Value};
 use std::alloc::{AllocError, Global};
 
 /// Reads a value.
-pub fn value_at(text: &[u8]) -> Result<(&[u8], &[u8]), &[u8]> {
+#[tactic(auto, unfolding(crate::specs::Reading::value_at))]
+pub fn value_at(text: &[u8]) -> Result<(&[u8], &[u8]), &[u8]>
+    ensures { Gives (λ x. (x.0.now, x.1.now)) (λ e. e.now) result (value_at text.now) }
+{
     match text.first() {
         Some(b'"') => str_at(text),
         _ => int_at(text),
@@ -17,7 +24,10 @@ pub fn value_at(text: &[u8]) -> Result<(&[u8], &[u8]), &[u8]> {
 }
 
 /// Reads a value, `?int` or `?str`.
-pub fn place_at(text: &[u8]) -> Result<(&[u8], &[u8]), &[u8]> {
+#[tactic(auto, unfolding(crate::specs::Reading::place_at))]
+pub fn place_at(text: &[u8]) -> Result<(&[u8], &[u8]), &[u8]>
+    ensures { Gives (λ x. (x.0.now, x.1.now)) (λ e. e.now) result (place_at text.now) }
+{
     match text.first() {
         Some(b'?') => formal_at(text),
         _ => value_at(text),
@@ -26,7 +36,10 @@ pub fn place_at(text: &[u8]) -> Result<(&[u8], &[u8]), &[u8]> {
 
 /// Reads what stands behind a place: a comma and a space, and then the next place, which is given;
 /// or the closing parenthesis, with which the text ends.
-pub fn after_place(text: &[u8]) -> Result<Option<&[u8]>, &[u8]> {
+#[tactic(auto, unfolding(crate::specs::Reading::after_place))]
+pub fn after_place(text: &[u8]) -> Result<Option<&[u8]>, &[u8]>
+    ensures { Gives (λ next. option_map (λ x. x.now) next) (λ e. e.now) result (after_place text.now) }
+{
     match text.split_first() {
         Some((b')', rest)) if rest.is_empty() => Ok(None),
         Some((b')', rest)) => Err(rest),
@@ -35,7 +48,9 @@ pub fn after_place(text: &[u8]) -> Result<Option<&[u8]>, &[u8]> {
 }
 
 /// Reads just this word, and answers the bytes after it.
-pub fn word_at<'a>(text: &'a [u8], word: &[u8]) -> Result<&'a [u8], &'a [u8]> {
+pub fn word_at<'a>(text: &'a [u8], word: &[u8]) -> Result<&'a [u8], &'a [u8]>
+    ensures { Gives (λ x. x.now) (λ e. e.now) result (word_at text.now word.now) }
+{
     match (word.split_first(), text.split_first()) {
         (None, _) => Ok(text),
         (Some((wanted, word)), Some((found, rest))) if wanted == found => word_at(rest, word),
@@ -44,7 +59,10 @@ pub fn word_at<'a>(text: &'a [u8], word: &[u8]) -> Result<&'a [u8], &'a [u8]> {
 }
 
 /// Reads `?int` or `?str`.
-pub fn formal_at(text: &[u8]) -> Result<(&[u8], &[u8]), &[u8]> {
+#[tactic(auto, unfolding(crate::specs::Reading::formal_at))]
+pub fn formal_at(text: &[u8]) -> Result<(&[u8], &[u8]), &[u8]>
+    ensures { Gives (λ x. (x.0.now, x.1.now)) (λ e. e.now) result (formal_at text.now) }
+{
     let kind = word_at(text, b"?")?;
     let rest = match kind.first() {
         Some(b'i') => word_at(kind, b"int")?,
@@ -54,12 +72,17 @@ pub fn formal_at(text: &[u8]) -> Result<(&[u8], &[u8]), &[u8]> {
 }
 
 /// The bytes in front of the rest, and the rest.
-fn split_before<'a>(text: &'a [u8], rest: &'a [u8]) -> (&'a [u8], &'a [u8]) {
+fn split_before<'a>(text: &'a [u8], rest: &'a [u8]) -> (&'a [u8], &'a [u8])
+    ensures { (result.0.now, result.1.now) ≡ split_before text.now rest.now }
+{
     text.split_at(text.len().saturating_sub(rest.len()))
 }
 
 /// Reads `0`, or a minus sign or none and digits of which the first is not 0.
-fn int_at(text: &[u8]) -> Result<(&[u8], &[u8]), &[u8]> {
+#[tactic(auto, unfolding(crate::specs::Reading::int_at))]
+fn int_at(text: &[u8]) -> Result<(&[u8], &[u8]), &[u8]>
+    ensures { Gives (λ x. (x.0.now, x.1.now)) (λ e. e.now) result (int_at text.now) }
+{
     match text.split_first() {
         Some((b'0', _)) => Ok(text.split_at(1)),
         Some((b'-', rest)) => Ok(split_before(text, after_positive(rest)?)),
@@ -68,7 +91,9 @@ fn int_at(text: &[u8]) -> Result<(&[u8], &[u8]), &[u8]> {
 }
 
 /// Reads digits of which the first is not 0, and answers the bytes after them.
-fn after_positive(text: &[u8]) -> Result<&[u8], &[u8]> {
+fn after_positive(text: &[u8]) -> Result<&[u8], &[u8]>
+    ensures { Gives (λ x. x.now) (λ e. e.now) result (after_positive text.now) }
+{
     match text.split_first() {
         Some((b'1'..=b'9', rest)) => Ok(after_digits(rest)),
         _ => Err(text),
@@ -76,21 +101,39 @@ fn after_positive(text: &[u8]) -> Result<&[u8], &[u8]> {
 }
 
 /// The bytes after the digits that stand in front.
-fn after_digits(text: &[u8]) -> &[u8] {
-    match text.iter().position(|c| !c.is_ascii_digit()) {
-        Some(count) => &text[count..],
+fn after_digits(text: &[u8]) -> &[u8]
+    ensures { result.now ≡ after_digits text.now }
+{
+    match first_no_digit(text) {
+        Some(count) => {
+            let (_, rest) = text.split_at(count);
+            rest
+        }
         None => &[],
     }
 }
 
+/// Where the digits in front end.
+fn first_no_digit(text: &[u8]) -> Option<usize>
+    ensures value { result ≡ position is_no_digit text.now }
+    ensures within { IfSome result (λ count. count ≤ length text.now) }
+{
+    text.iter().position(|c| !c.is_ascii_digit())
+}
+
 /// Reads characters between quotes.
-fn str_at(text: &[u8]) -> Result<(&[u8], &[u8]), &[u8]> {
+#[tactic(auto, unfolding(crate::specs::Reading::str_at))]
+fn str_at(text: &[u8]) -> Result<(&[u8], &[u8]), &[u8]>
+    ensures { Gives (λ x. (x.0.now, x.1.now)) (λ e. e.now) result (str_at text.now) }
+{
     let characters = word_at(text, b"\"")?;
     Ok(split_before(text, after_characters(characters)?))
 }
 
 /// Reads characters and the closing quote, and answers the bytes after it.
-fn after_characters(text: &[u8]) -> Result<&[u8], &[u8]> {
+fn after_characters(text: &[u8]) -> Result<&[u8], &[u8]>
+    ensures { Gives (λ x. x.now) (λ e. e.now) result (after_characters false text.now) }
+{
     let mut behind_backslash = false;
     for (i, c) in text.iter().enumerate() {
         if behind_backslash {
@@ -109,7 +152,9 @@ fn after_characters(text: &[u8]) -> Result<&[u8], &[u8]> {
     Err(&[])
 }
 
-fn is_printable(c: u8) -> bool {
+fn is_printable(c: u8) -> bool
+    ensures { result ≡ is_printable c }
+{
     32 <= c && c <= 126
 }
 
