@@ -2,3 +2,5 @@ pub mod Homes
 pub mod Nodes
 pub mod Separated
 pub mod Readers
+pub mod Ints
+pub mod Strings

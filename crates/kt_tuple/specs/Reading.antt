@@ -2,7 +2,18 @@
 -- stands in front and the bytes after it, or the bytes from the first one with which it can't go on.
 use Rattle.std.specs.Char.{is_ascii_digit}
 use Rattle.std.specs.Int.{is_in_range}
-use Rattle.std.specs.Prelude.{◌≡◌, ℕ, ◌-◌, ◌==◌, ◌||◌, Bool, true, false, not, if◌then◌else◌, List, [], ◌∷◌, length, take, drop, codes, Option, Some, None, Result, Ok, Err}
+use Rattle.std.specs.Cmp.Lexicographic.{pointwise}
+use Rattle.std.specs.List.{list_all}
+use Rattle.std.specs.Option.{option_map}
+use Rattle.std.specs.Str.{all_ascii_digits}
+use Rattle.kt_tuple.specs.declared.value.Value.{Value}
+use Rattle.kt_tuple.specs.declared.value.Value.TheVariants.{Int, Str}
+use Rattle.kt_tuple.specs.declared.value.Kind.TheVariants as kinds
+use Rattle.kt_tuple.specs.declared.template.Place.{Place}
+use Rattle.kt_tuple.specs.declared.template.Place.TheVariants.{Actual, Formal}
+use Rattle.std.specs.Str.Parse.{without_leading_sign, signed_digits_value}
+use lib.Signed.{mag}
+use Rattle.std.specs.Prelude.{◌&&◌, ◌++◌, ◌^◌, ℤ, nat_lt, nat_le, nat_eq, is_some, ◌≡◌, ℕ, ◌-◌, ◌==◌, ◌||◌, Bool, true, false, not, if◌then◌else◌, List, [], ◌∷◌, length, take, drop, codes, Option, Some, None, Result, Ok, Err}
 
 infixl 10 ◌>>=◌
 abbrev pub ◌>>=◌ : {A B E : Type 0} → Result A E → (A → Result B E) → Result B E
@@ -100,3 +111,61 @@ after_place (c ∷ rest) = if c == 41 then closing rest else word_at (c ∷ rest
     closing : List ℕ → Result (Option (List ℕ)) (List ℕ)
     closing [] = Ok None
     closing (d ∷ more) = Err (d ∷ more)
+
+-- a digit or more and nothing else
+abbrev pub is_numeral : List ℕ → Bool
+is_numeral digits = nat_lt 0 (length digits) && all_ascii_digits digits
+
+abbrev pub is_i64 : ℤ → Bool
+is_i64 z = nat_lt (mag z) (2 ^ 63)
+
+-- the number that a sign and digits spell, where it has 64 bits
+unfoldable pub int_of : List ℕ → Option ℤ
+int_of spelling = if is_numeral (without_leading_sign spelling) && is_i64 (signed_digits_value 10 spelling) then Some (signed_digits_value 10 spelling) else None
+
+-- what stands between the quotes
+abbrev pub between_quotes : List ℕ → List ℕ
+between_quotes [] = []
+between_quotes (c ∷ rest) = take (length rest - 1) rest
+
+-- a backslash that is not behind a backslash, the test of which comes first
+abbrev pub is_escape : Bool → ℕ → Bool
+is_escape behind c = not behind && (c == 92)
+
+-- the characters without the backslashes in front of them; the test says whether one came just before
+abbrev pub unescaped : Bool → List ℕ → List ℕ
+unescaped behind [] = []
+unescaped behind (c ∷ cs) = (if is_escape behind c then [] else c ∷ []) ++ unescaped (is_escape behind c) cs
+
+-- the characters of a str
+abbrev pub characters_of : List ℕ → List ℕ
+characters_of spelling = unescaped false (between_quotes spelling)
+
+-- the str of these characters, where they are at most 64 and printable
+abbrev pub str_of : List ℕ → Option Value
+str_of cs = if nat_le (length cs) 64 && list_all is_printable cs then Some (Str cs) else None
+
+abbrev pub int_value_of : List ℕ → Option Value
+int_value_of spelling = option_map (λ n. Int n) (int_of spelling)
+
+-- the value with this spelling
+unfoldable pub value_of : List ℕ → Option Value
+value_of [] = int_value_of []
+value_of (c ∷ rest) = if c == 34 then str_of (characters_of (c ∷ rest)) else int_value_of (c ∷ rest)
+
+-- the place with this spelling
+unfoldable pub place_of : List ℕ → Option Place
+place_of spelling =
+    if pointwise nat_eq spelling (codes "?int") then Some (Formal kinds.Int)
+    else if pointwise nat_eq spelling (codes "?str") then Some (Formal kinds.Str)
+    else option_map (λ v. Actual v) (value_of spelling)
+
+-- the place is no int outside 64 bits
+unfoldable pub has_range : List ℕ → Bool
+has_range [] = is_some (int_of [])
+has_range (c ∷ rest) = if (c == 34) || (c == 63) then true else is_some (int_of (c ∷ rest))
+
+-- the place is no str of more than 64 characters
+unfoldable pub is_short : List ℕ → Bool
+is_short [] = true
+is_short (c ∷ rest) = if c == 34 then nat_le (length (characters_of (c ∷ rest))) 64 else true

@@ -3,9 +3,9 @@
 //! A reader is given the bytes that are left. It answers the spelling that it read and the bytes after
 //! it, or the bytes from the first one that no text of its kind goes on with.
 
-ghost use Rattle.std.specs.Prelude.{◌≡◌, ◌≤◌, ℕ, List, length, take, drop, false, position, IfSome};
+ghost use Rattle.std.specs.Prelude.{◌≡◌, ◌≤◌, ℕ, List, length, take, drop, false, position, IfSome, IfOk};
 ghost use Rattle.std.specs.Option.{option_map};
-ghost use Rattle.kt_tuple.specs.Reading.{Gives, word_at, after_digits, after_positive, split_before, int_at, after_characters, str_at, value_at, formal_at, place_at, after_place, is_no_digit, is_printable};
+ghost use Rattle.kt_tuple.specs.Reading.{Gives, word_at, after_digits, after_positive, split_before, int_at, after_characters, str_at, value_at, formal_at, place_at, after_place, is_no_digit, is_printable, int_of, has_range, is_short, value_of, place_of, between_quotes, characters_of, str_of, is_escape};
 
 use crate::string::{MAX_CHARACTERS, Str};
 use crate::template::Place;
@@ -159,7 +159,10 @@ fn is_printable(c: u8) -> bool
 }
 
 /// Whether the place is no int outside 64 bits.
-pub fn is_in_range(spelling: &[u8]) -> bool {
+#[tactic(auto, unfolding(crate::specs::Reading::has_range))]
+pub fn is_in_range(spelling: &[u8]) -> bool
+    ensures { result ≡ has_range spelling.now }
+{
     match spelling.first() {
         Some(b'"' | b'?') => true,
         _ => int_of(spelling).is_some(),
@@ -167,7 +170,10 @@ pub fn is_in_range(spelling: &[u8]) -> bool {
 }
 
 /// Whether the place is no str of more than 64 characters.
-pub fn is_short(spelling: &[u8]) -> bool {
+#[tactic(auto, unfolding(crate::specs::Reading::is_short))]
+pub fn is_short(spelling: &[u8]) -> bool
+    ensures { result ≡ is_short spelling.now }
+{
     match spelling.first() {
         Some(b'"') => character_count(spelling) <= MAX_CHARACTERS,
         _ => true,
@@ -175,18 +181,24 @@ pub fn is_short(spelling: &[u8]) -> bool {
 }
 
 /// The value with this spelling, or `None` where it is out of range or too long.
-pub fn value_of(alloc: Global, spelling: &[u8]) -> Result<Option<Value>, AllocError> {
+#[tactic(auto, unfolding(crate::specs::Reading::value_of))]
+pub fn value_of(alloc: Global, spelling: &[u8]) -> Result<Option<Value>, AllocError>
+    ensures { IfOk result (λ value. value ≡ value_of spelling.now) }
+{
     match spelling.first() {
         Some(b'"') => {
             let characters = characters_of(alloc, spelling)?;
-            Ok(Str::new(characters).map(Value::Str))
+            Ok(str_of(characters))
         }
         _ => Ok(int_of(spelling).map(Value::Int)),
     }
 }
 
 /// The place with this spelling, or `None` where it is out of range or too long.
-pub fn place_of(alloc: Global, spelling: &[u8]) -> Result<Option<Place>, AllocError> {
+#[tactic(auto, unfolding(crate::specs::Reading::place_of))]
+pub fn place_of(alloc: Global, spelling: &[u8]) -> Result<Option<Place>, AllocError>
+    ensures { IfOk result (λ place. place ≡ place_of spelling.now) }
+{
     if spelling == b"?int".as_slice() {
         Ok(Some(Place::Formal(Kind::Int)))
     } else if spelling == b"?str".as_slice() {
@@ -197,27 +209,53 @@ pub fn place_of(alloc: Global, spelling: &[u8]) -> Result<Option<Place>, AllocEr
 }
 
 /// The number with this spelling, where it has 64 bits.
-fn int_of(spelling: &[u8]) -> Option<i64> {
+fn int_of(spelling: &[u8]) -> Option<i64>
+    ensures { result ≡ int_of spelling.now }
+{
     match str::from_utf8(spelling) {
-        Ok(digits) => digits.parse::<i64>().ok(),
+        Ok(digits) => match digits.parse::<i64>() {
+            Ok(number) => Some(number),
+            Err(_) => None,
+        },
         Err(_) => None,
     }
 }
 
 /// What stands between the quotes.
-fn between_quotes(spelling: &[u8]) -> &[u8] {
+fn between_quotes(spelling: &[u8]) -> &[u8]
+    ensures { result.now ≡ between_quotes spelling.now }
+{
     match spelling.split_first() {
         Some((_, rest)) => &rest[..rest.len().saturating_sub(1)],
         None => spelling,
     }
 }
 
+/// The str of these characters, where they are at most 64 and printable.
+fn str_of(characters: Vec<u8>) -> Option<Value>
+    ensures { result ≡ str_of characters.items }
+{
+    match Str::new(characters) {
+        Some(string) => Some(Value::Str(string)),
+        None => None,
+    }
+}
+
+/// Whether this is a backslash that is not behind a backslash.
+fn is_escape(behind_backslash: bool, c: u8) -> bool
+    ensures { result ≡ is_escape behind_backslash c }
+{
+    !behind_backslash && c == b'\\'
+}
+
 /// How many characters the str has.
-fn character_count(spelling: &[u8]) -> usize {
+fn character_count(spelling: &[u8]) -> usize
+    ensures { result ≡ length (characters_of spelling.now) }
+{
     let mut count = 0;
     let mut behind_backslash = false;
     for c in between_quotes(spelling) {
-        behind_backslash = !behind_backslash && *c == b'\\';
+        behind_backslash = is_escape(behind_backslash, *c);
         if !behind_backslash {
             count += 1;
         }
@@ -226,11 +264,13 @@ fn character_count(spelling: &[u8]) -> usize {
 }
 
 /// The characters of the str.
-fn characters_of(alloc: Global, spelling: &[u8]) -> Result<Vec<u8>, AllocError> {
+fn characters_of(alloc: Global, spelling: &[u8]) -> Result<Vec<u8>, AllocError>
+    ensures { IfOk result (λ characters. characters.items ≡ characters_of spelling.now) }
+{
     let mut characters = Vec::with_capacity(alloc, spelling.len())?;
     let mut behind_backslash = false;
     for c in between_quotes(spelling) {
-        behind_backslash = !behind_backslash && *c == b'\\';
+        behind_backslash = is_escape(behind_backslash, *c);
         if !behind_backslash {
             characters.push(*c)?;
         }
