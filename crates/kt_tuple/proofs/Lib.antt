@@ -4,3 +4,5 @@ pub mod Separated
 pub mod Readers
 pub mod Ints
 pub mod Strings
+pub mod Places
+pub mod Made

@@ -8,3 +8,4 @@ pub mod Node
 pub mod Space
 pub mod Spelling
 pub mod Reading
+pub mod Parsing
