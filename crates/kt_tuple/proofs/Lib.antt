@@ -6,3 +6,4 @@ pub mod Ints
 pub mod Strings
 pub mod Places
 pub mod Made
+pub mod IntLaws
