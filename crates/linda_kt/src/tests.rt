@@ -165,3 +165,44 @@ fn streams_that_fail(rt: HostRuntime) -> Result<(), Fail> {
     assert!(rt; writer.held.as_slice() == &PUT_AND_TAKE_REPORT.as_bytes()[..20]);
     Ok(())
 }
+
+/// All the memory that is left, in blocks that nothing touches.
+fn all_memory(alloc: Global) -> Result<Vec<Vec<u8>>, AllocError> {
+    let mut blocks = Vec::with_capacity(alloc, 100_000)?;
+    let mut size = 1usize << 45;
+    for _ in 0..42usize {
+        for _ in 0..100_000usize {
+            let Ok(block) = Vec::with_capacity(alloc, size) else {
+                break;
+            };
+            blocks.push(block)?;
+        }
+        size /= 2;
+    }
+    Ok(blocks)
+}
+
+/// With ever more memory a run ends for want of memory, with nothing written, until it is done.
+#[test]
+fn little_memory(rt: HostRuntime) -> Result<(), Fail> {
+    let alloc = rt.alloc();
+    for round in 0..2000usize {
+        let mut output = Vec::with_capacity(alloc, 1000)?;
+        let mut errors = Vec::with_capacity(alloc, 1000)?;
+        let spare: Vec<u8> = Vec::with_capacity(alloc, 512 * round)?;
+        let hoard = all_memory(alloc)?;
+        drop(spare);
+        let mut reader = PUT_AND_TAKE.as_bytes();
+        let status = run_program(alloc, &["replay"], &mut reader, &mut output, &mut errors);
+        drop(hoard);
+        if status == 0 {
+            assert!(rt; output.as_slice() == PUT_AND_TAKE_REPORT.as_bytes());
+            assert!(rt; errors.is_empty() && round > 10);
+            return Ok(());
+        }
+        assert!(rt;
+            output.is_empty() && errors.as_slice() == b"memory\n".as_slice() && status == 6
+        );
+    }
+    Err(Fail::new("never done"))
+}
