@@ -31,3 +31,7 @@ status_of Write = 7
 -- memory ran out, 7 where help could not be written
 abbrev pub IsWordsStatus : ℕ → Type 0
 IsWordsStatus n = (n ≡ 0) ⊎ ((n ≡ 2) ⊎ ((n ≡ 6) ⊎ (n ≡ 7)))
+
+-- the exit status of a command: 0 where it was done, else that of a fault
+abbrev pub IsRunStatus : ℕ → Type 0
+IsRunStatus n = (n ≡ 0) ⊎ ((fault : ReplayFault) × (n ≡ status_of fault))

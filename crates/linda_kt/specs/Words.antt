@@ -1,9 +1,10 @@
 -- The words of the command line.
-use Rattle.std.specs.Prelude.{◌≢◌, ◌⊎◌, List, [], Option, codes, map, option_map, true}
+use Rattle.std.specs.Prelude.{◌≡◌, ◌≢◌, ◌⊎◌, List, [], ◌∷◌, Some, refl, Option, codes, map, option_map, true}
 use Rattle.std.specs.Borrow.{Bor}
 use Rattle.clap.specs.Words.{App, IsAmong, Kinds, Text, fault_of, new_app, subcommand_of, with_subcommand}
 use Rattle.clap.specs.Simple.{new_shape, on_top}
-use Rattle.clap.specs.declared.error.kind.ErrorKind.TheVariants.{DisplayHelp, DisplayVersion}
+use Rattle.clap.specs.declared.error.kind.ErrorKind.TheVariants.{DisplayHelp, DisplayVersion, InvalidSubcommand, MissingSubcommand, UnknownArgument}
+use Rattle.clap.proofs.OnLiterals.{clap_on_literals}
 use Rattle.linda_kt.specs.declared.words.Command.{Command}
 use Rattle.linda_kt.specs.declared.words.Command.TheVariants.{Replay}
 
@@ -39,3 +40,24 @@ AskForHelp words = IsAmong DisplayHelp (words_fault words) ⊎ IsAmong DisplayVe
 -- the words name no command and do not ask for help
 abbrev pub AreWrong : List Text → Type 0
 AreWrong words = (words_fault words ≢ []) × (AskForHelp words → ⊥)
+
+-- `replay` has no fault and names the command
+pub replay_passes : (words_fault (codes "replay" ∷ []) ≡ []) × (named_command (codes "replay" ∷ []) ≡ Some (codes "replay"))
+unfolding clap_on_literals
+replay_passes = (refl, refl)
+
+-- without a word a command is missing
+pub nothing_fails : words_fault [] ≡ MissingSubcommand ∷ []
+unfolding clap_on_literals
+nothing_fails = refl
+
+-- another word is no command
+pub other_word_fails : words_fault (codes "run" ∷ []) ≡ UnknownArgument ∷ InvalidSubcommand ∷ []
+unfolding clap_on_literals
+other_word_fails = refl
+
+-- `--help` asks for help, before a command and behind it
+pub help_asks : (words_fault (codes "--help" ∷ []) ≡ DisplayHelp ∷ [])
+    × (words_fault (codes "replay" ∷ codes "--help" ∷ []) ≡ DisplayHelp ∷ [])
+unfolding clap_on_literals
+help_asks = (refl, refl)

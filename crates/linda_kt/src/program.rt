@@ -2,7 +2,7 @@
 ghost use Rattle.std.specs.Prelude.{◌≡◌, ◌≢◌, ◌⊎◌, [], IsErr};
 ghost use Rattle.clap.specs.Words.{kind_of};
 ghost use Rattle.clap.specs.declared.error.kind.ErrorKind.TheVariants as kind;
-ghost use Rattle.linda_kt.specs.Status.{IsWordsStatus, status_of, step_status};
+ghost use Rattle.linda_kt.specs.Status.{IsRunStatus, IsWordsStatus, status_of, step_status};
 ghost use Rattle.kt_core.specs.declared.step.StepError.TheVariants as step;
 ghost use Rattle.linda_kt.specs.Words.{AreWrong, texts, words_fault};
 
@@ -77,6 +77,7 @@ pub fn run_program<R: Read, W: Write, E: Write>(
     writer: &mut W,
     errors: &mut E,
 ) -> u8
+    ensures told { words_fault (texts words.now) ≡ [] → IsRunStatus result }
     ensures wrong_words { AreWrong (texts words.now)
         → (result ≡ COMMAND_LINE) ⊎ (result ≡ MEMORY) }
     ensures wrong_words_print_nothing { AreWrong (texts words.now) → writer.new ≡ writer.old }
