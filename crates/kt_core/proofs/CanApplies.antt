@@ -108,25 +108,25 @@ put-within false bag c e = absurd cc
 pub choice_of-within : (bag : List Tuple) (op : Op) (n : ℕ) (c : Choice) → choice_of bag op n ≡ Some c → IsInBag bag c
 choice_of-within bag (Out u) n c e = put-within _ bag c e
 choice_of-within bag (In t) n c e = taken (place_of t n bag) (place_of-within t n bag) e
-    where
-  taken : (o : Option ℕ) → ((p : ℕ) → o ≡ Some p → p < length bag) → option_map choices.Take o ≡ Some c → IsInBag bag c
-  taken None h e = absurd cc
-  taken (Some p) h e = let P : Choice → Type 0 = IsInBag bag in let is : choices.Take p ≡ c = cc in subst P is (h p refl)
+  where
+    taken : (o : Option ℕ) → ((p : ℕ) → o ≡ Some p → p < length bag) → option_map choices.Take o ≡ Some c → IsInBag bag c
+    taken None h e = absurd cc
+    taken (Some p) h e = let P : Choice → Type 0 = IsInBag bag in let is : choices.Take p ≡ c = cc in subst P is (h p refl)
 choice_of-within bag (Rd t) n c e = read (place_of t n bag) (place_of-within t n bag) e
-    where
-  read : (o : Option ℕ) → ((p : ℕ) → o ≡ Some p → p < length bag) → option_map choices.Read o ≡ Some c → IsInBag bag c
-  read None h e = absurd cc
-  read (Some p) h e = let P : Choice → Type 0 = IsInBag bag in let is : choices.Read p ≡ c = cc in subst P is (h p refl)
+  where
+    read : (o : Option ℕ) → ((p : ℕ) → o ≡ Some p → p < length bag) → option_map choices.Read o ≡ Some c → IsInBag bag c
+    read None h e = absurd cc
+    read (Some p) h e = let P : Choice → Type 0 = IsInBag bag in let is : choices.Read p ≡ c = cc in subst P is (h p refl)
 choice_of-within bag (Inp t) n c e = taken (place_of t n bag) (place_of-within t n bag) e
-    where
-  taken : (o : Option ℕ) → ((p : ℕ) → o ≡ Some p → p < length bag) → taken_or_nothing n o ≡ Some c → IsInBag bag c
-  taken None h e = nothing-within _ bag c e
-  taken (Some p) h e = let P : Choice → Type 0 = IsInBag bag in let is : choices.Take p ≡ c = cc in subst P is (h p refl)
+  where
+    taken : (o : Option ℕ) → ((p : ℕ) → o ≡ Some p → p < length bag) → taken_or_nothing n o ≡ Some c → IsInBag bag c
+    taken None h e = nothing-within _ bag c e
+    taken (Some p) h e = let P : Choice → Type 0 = IsInBag bag in let is : choices.Take p ≡ c = cc in subst P is (h p refl)
 choice_of-within bag (Rdp t) n c e = read (place_of t n bag) (place_of-within t n bag) e
-    where
-  read : (o : Option ℕ) → ((p : ℕ) → o ≡ Some p → p < length bag) → read_or_nothing n o ≡ Some c → IsInBag bag c
-  read None h e = nothing-within _ bag c e
-  read (Some p) h e = let P : Choice → Type 0 = IsInBag bag in let is : choices.Read p ≡ c = cc in subst P is (h p refl)
+  where
+    read : (o : Option ℕ) → ((p : ℕ) → o ≡ Some p → p < length bag) → read_or_nothing n o ≡ Some c → IsInBag bag c
+    read None h e = nothing-within _ bag c e
+    read (Some p) h e = let P : Choice → Type 0 = IsInBag bag in let is : choices.Read p ≡ c = cc in subst P is (h p refl)
 
 put_of-fits : (bag : List Tuple) (op : Op) → FitsBag bag (put_of op)
 put_of-fits bag (Out u) = tt
@@ -178,19 +178,19 @@ HasCause h a = a.by ≢ 0 → IsAct h a.by
 all-have_causes : (h : List Note) → CausesComeFirst h → (numbers : List ℕ) → AllByRecursion (HasCause h) (acts_at h numbers)
 all-have_causes h causes [] = tt
 all-have_causes h causes (n ∷ later) = one (note_at h n) refl (all-have_causes h causes later)
-    where
-  one : (o : Option Note) → note_at h n ≡ o → AllByRecursion (HasCause h) (acts_at h later) → AllByRecursion (HasCause h) (cons_option (act_of o) (acts_at h later))
-  one None at rest = rest
-  one (Some (notes.Act a)) at rest = (cause_named h causes n a at, rest)
-  one (Some (notes.Cut p keep)) at rest = rest
+  where
+    one : (o : Option Note) → note_at h n ≡ o → AllByRecursion (HasCause h) (acts_at h later) → AllByRecursion (HasCause h) (cons_option (act_of o) (acts_at h later))
+    one None at rest = rest
+    one (Some (notes.Act a)) at rest = (cause_named h causes n a at, rest)
+    one (Some (notes.Cut p keep)) at rest = rest
 
 -- the cause that is found for a service is an act
 pub cause_of_waiting-named : (h : List Note) → CausesComeFirst h → (p : NodeId) (worker : ℕ) → cause_of_waiting h p worker ≢ 0 → IsAct h (cause_of_waiting h p worker)
 cause_of_waiting-named h causes p worker = among (find (hears_worker worker) (reverse (acts_at h (line h p)))) refl
-    where
-  among : (o : Option Act) → find (hears_worker worker) (reverse (acts_at h (line h p))) ≡ o → cause_of o ≢ 0 → IsAct h (cause_of o)
-  among None e some = absurd (some refl)
-  among (Some a) e some = find-holds (HasCause h) (hears_worker worker) (reverse (acts_at h (line h p))) a (all-reverse (HasCause h) (acts_at h (line h p)) (all-have_causes h causes (line h p))) e some
+  where
+    among : (o : Option Act) → find (hears_worker worker) (reverse (acts_at h (line h p))) ≡ o → cause_of o ≢ 0 → IsAct h (cause_of o)
+    among None e some = absurd (some refl)
+    among (Some a) e some = find-holds (HasCause h) (hears_worker worker) (reverse (acts_at h (line h p))) a (all-reverse (HasCause h) (acts_at h (line h p)) (all-have_causes h causes (line h p))) e some
 
 -- what can be done to what the node is can be done to the node
 change_at : (part : Part) (change : Change) (is : Part) → part ≡ is → CanChange is change → CanChange part change
@@ -272,6 +272,6 @@ can_apply s ready (Serve p w place) plan (serves {x = x} {y = y} {request = requ
       link = tt;
       send = worker_link p (node_number w) row small;
       change = change_at (node s p) _ (IsStore y) at_p (let nine = nine_desks s ready p y at_p in let lt : node_number w < length y.desks = omega (arith, nine, small) in
-        (lt, change_fits y.bag request.op choice (choice_of-within y.bag request.op place choice chosen)));
+          (lt, change_fits y.bag request.op choice (choice_of-within y.bag request.op place choice chosen)));
       note = cause_of_waiting-named s.history ready.causes p (node_number w);
     }

@@ -17,10 +17,10 @@ backwards h before n rest e =
     ap (λ (l : List ℕ). reverse (acts_at h l)) e
     ∙ ap reverse (filter_map-append (λ m. act_of (note_at h m)) before (n ∷ []))
     ∙ turned (act_of (note_at h n)) (acts_at h before)
-    where
-  turned : (o : Option Act) (acts : List Act) → reverse (acts ++ cons_option o []) ≡ cons_option o (reverse acts)
-  turned None acts = reverse-append acts []
-  turned (Some a) acts = reverse-append acts (a ∷ [])
+  where
+    turned : (o : Option Act) (acts : List Act) → reverse (acts ++ cons_option o []) ≡ cons_option o (reverse acts)
+    turned None acts = reverse-append acts []
+    turned (Some a) acts = reverse-append acts (a ∷ [])
 
 pub heard_here : (h : List Note) (before : List ℕ) (n : ℕ) (rest : List ℕ) (worker : ℕ) (a : Act) (total : ℕ) → rest ≡ before ++ n ∷ [] → Some a ≡ act_of (note_at h n)
     → true ≡ hears_worker worker a → cause_among h rest worker ≡ total → a.by ≡ total

@@ -30,4 +30,5 @@ pub mod PlanCases
 pub mod CanApplies
 pub mod StaysReady
 pub mod Openings
+pub mod Keeping
 pub mod Outcomes

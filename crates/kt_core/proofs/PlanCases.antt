@@ -28,31 +28,31 @@ desk_of y w = at empty_desk y.desks (node_number w)
 
 pub data PlanOf (s : State) : Step → Plan → Type 0 where
   issues : {p : NodeId} {x : Worker} {op : Op} → node s p ≡ IsWorker x → x.asked ≡ None → slice_get (script_of s.scripts p) x.number ≡ Some op → s.made < 100000
-    → PlanOf s (Issue p) (issue_plan p (node_number p) (record { number = x.number + 1; op = op }) (home s.shards op) (next_note s))
+      → PlanOf s (Issue p) (issue_plan p (node_number p) (record { number = x.number + 1; op = op }) (home s.shards op) (next_note s))
   hears : {p q : NodeId} {x : Worker} {y : Store} {request : Request} {by : ℕ} {later : List Message}
-    → node s p ≡ IsWorker x → node s q ≡ IsStore y → link s p q ≡ Ask request by ∷ later → newest (desk_of y p) < request.number → s.made < 100000
-    → PlanOf s (Deliver p q) (heard_plan q (node_number p) request by)
+      → node s p ≡ IsWorker x → node s q ≡ IsStore y → link s p q ≡ Ask request by ∷ later → newest (desk_of y p) < request.number → s.made < 100000
+      → PlanOf s (Deliver p q) (heard_plan q (node_number p) request by)
   answers_again : {p q : NodeId} {x : Worker} {y : Store} {request : Request} {by : ℕ} {later : List Message} {answer : Answer}
-    → node s p ≡ IsWorker x → node s q ≡ IsStore y → link s p q ≡ Ask request by ∷ later → request.number ≤ newest (desk_of y p) → kept_answer (desk_of y p) request ≡ Some answer
-    → s.made < 100000 → PlanOf s (Deliver p q) (again_plan q (node_number p) request by answer (next_note s))
+      → node s p ≡ IsWorker x → node s q ≡ IsStore y → link s p q ≡ Ask request by ∷ later → request.number ≤ newest (desk_of y p) → kept_answer (desk_of y p) request ≡ Some answer
+      → s.made < 100000 → PlanOf s (Deliver p q) (again_plan q (node_number p) request by answer (next_note s))
   ignores_request : {p q : NodeId} {x : Worker} {y : Store} {request : Request} {by : ℕ} {later : List Message}
-    → node s p ≡ IsWorker x → node s q ≡ IsStore y → link s p q ≡ Ask request by ∷ later → request.number ≤ newest (desk_of y p) → kept_answer (desk_of y p) request ≡ None
-    → s.made < 100000 → PlanOf s (Deliver p q) (ignored_plan q (node_number p) request by None)
+      → node s p ≡ IsWorker x → node s q ≡ IsStore y → link s p q ≡ Ask request by ∷ later → request.number ≤ newest (desk_of y p) → kept_answer (desk_of y p) request ≡ None
+      → s.made < 100000 → PlanOf s (Deliver p q) (ignored_plan q (node_number p) request by None)
   misses_reply : {p q : NodeId} {x : Worker} {y : Store} {request : Request} {answer : Answer} {by : ℕ} {later : List Message}
-    → node s p ≡ IsWorker x → node s q ≡ IsStore y → link s p q ≡ Reply request answer by ∷ later → s.made < 100000
-    → PlanOf s (Deliver p q) (ignored_plan q (node_number p) request by (Some answer))
+      → node s p ≡ IsWorker x → node s q ≡ IsStore y → link s p q ≡ Reply request answer by ∷ later → s.made < 100000
+      → PlanOf s (Deliver p q) (ignored_plan q (node_number p) request by (Some answer))
   accepts : {p q : NodeId} {x : Worker} {y : Store} {request : Request} {answer : Answer} {by : ℕ} {later : List Message}
-    → node s p ≡ IsStore y → node s q ≡ IsWorker x → link s p q ≡ Reply request answer by ∷ later → awaits x request ≡ true → s.made < 100000
-    → PlanOf s (Deliver p q) (accepted_plan q (node_number q) request answer by)
+      → node s p ≡ IsStore y → node s q ≡ IsWorker x → link s p q ≡ Reply request answer by ∷ later → awaits x request ≡ true → s.made < 100000
+      → PlanOf s (Deliver p q) (accepted_plan q (node_number q) request answer by)
   ignores_reply : {p q : NodeId} {x : Worker} {y : Store} {request : Request} {answer : Answer} {by : ℕ} {later : List Message}
-    → node s p ≡ IsStore y → node s q ≡ IsWorker x → link s p q ≡ Reply request answer by ∷ later → awaits x request ≡ false → s.made < 100000
-    → PlanOf s (Deliver p q) (ignored_plan q (node_number q) request by (Some answer))
+      → node s p ≡ IsStore y → node s q ≡ IsWorker x → link s p q ≡ Reply request answer by ∷ later → awaits x request ≡ false → s.made < 100000
+      → PlanOf s (Deliver p q) (ignored_plan q (node_number q) request by (Some answer))
   misses_request : {p q : NodeId} {x : Worker} {y : Store} {request : Request} {by : ℕ} {later : List Message}
-    → node s p ≡ IsStore y → node s q ≡ IsWorker x → link s p q ≡ Ask request by ∷ later → s.made < 100000
-    → PlanOf s (Deliver p q) (ignored_plan q (node_number q) request by None)
+      → node s p ≡ IsStore y → node s q ≡ IsWorker x → link s p q ≡ Ask request by ∷ later → s.made < 100000
+      → PlanOf s (Deliver p q) (ignored_plan q (node_number q) request by None)
   serves : {p w : NodeId} {place : ℕ} {x : Worker} {y : Store} {request : Request} {choice : Choice}
-    → node s p ≡ IsStore y → node s w ≡ IsWorker x → (desk_of y w).waiting ≡ Some request → choice_of y.bag request.op place ≡ Some choice → s.made < 100000
-    → PlanOf s (Serve p w place) (service_plan p (node_number w) request (answer_of y.bag choice) (bag_change_of request.op choice) (cause_of_waiting s.history p (node_number w)) (next_note s))
+      → node s p ≡ IsStore y → node s w ≡ IsWorker x → (desk_of y w).waiting ≡ Some request → choice_of y.bag request.op place ≡ Some choice → s.made < 100000
+      → PlanOf s (Serve p w place) (service_plan p (node_number w) request (answer_of y.bag choice) (bag_change_of request.op choice) (cause_of_waiting s.history p (node_number w)) (next_note s))
 
 -- what is allowed within the limit
 within : (b : Bool) (plan made : Plan) → cond b (Ok plan) (Err refusals.StepLimit) ≡ Ok made → (b ≡ true) × (plan ≡ made)
@@ -69,10 +69,10 @@ issue_op-cases s p x (Some op) plan at_p next e =
     let free = asked-none x.asked x.number (script_of s.scripts p) op next in
     let P : Plan → Type 0 = λ made. PlanOf s (Issue p) made in
     subst P l.1 (issues at_p free.0 free.1 l.0)
-    where
-  asked-none : (asked : Option Op) (n : ℕ) (script : List Op) (op : Op) → op_after asked n script ≡ Some op → (asked ≡ None) × (slice_get script n ≡ Some op)
-  asked-none None n script op e = (refl, e)
-  asked-none (Some o) n script op e = absurd cc
+  where
+    asked-none : (asked : Option Op) (n : ℕ) (script : List Op) (op : Op) → op_after asked n script ≡ Some op → (asked ≡ None) × (slice_get script n ≡ Some op)
+    asked-none None n script op e = (refl, e)
+    asked-none (Some o) n script op e = absurd cc
 
 issue_of-cases : (s : State) (p : NodeId) (part : Part) (plan : Plan) → node s p ≡ part → issue_of s p (worker_of part) ≡ Ok plan → PlanOf s (Issue p) plan
 issue_of-cases s p Nobody plan at_p e = absurd cc
@@ -83,24 +83,25 @@ request-cases : (s : State) (p q : NodeId) (x : Worker) (y : Store) (request : R
     → node s p ≡ IsWorker x → node s q ≡ IsStore y → link s p q ≡ Ask request by ∷ later → s.made < 100000
     → PlanOf s (Deliver p q) (request_plan q (desk_of y p) (node_number p) request by (next_note s))
 request-cases s p q x y request by later at_p at_q on_link few = decide (ltb (newest (desk_of y p)) request.number) refl
-    where
-  old : (o : Option Answer) → kept_answer (desk_of y p) request ≡ o → request.number ≤ newest (desk_of y p) → PlanOf s (Deliver p q) (old_request_plan q (node_number p) request by (next_note s) o)
-  old None kept le = ignores_request at_p at_q on_link le kept few
-  old (Some answer) kept le = answers_again at_p at_q on_link le kept few
-  decide : (b : Bool) → ltb (newest (desk_of y p)) request.number ≡ b
-    → PlanOf s (Deliver p q) (cond b (heard_plan q (node_number p) request by) (old_request_plan q (node_number p) request by (next_note s) (kept_answer (desk_of y p) request)))
-  decide true e = hears at_p at_q on_link (ltb-true _ _ e) few
-  decide false e = old (kept_answer (desk_of y p) request) refl (ltb-false _ _ e)
+  where
+    old : (o : Option Answer) → kept_answer (desk_of y p) request ≡ o → request.number ≤ newest (desk_of y p) → PlanOf s (Deliver p q) (old_request_plan q (node_number p) request by (next_note s) o)
+    old None kept le = ignores_request at_p at_q on_link le kept few
+    old (Some answer) kept le = answers_again at_p at_q on_link le kept few
+
+    decide : (b : Bool) → ltb (newest (desk_of y p)) request.number ≡ b
+        → PlanOf s (Deliver p q) (cond b (heard_plan q (node_number p) request by) (old_request_plan q (node_number p) request by (next_note s) (kept_answer (desk_of y p) request)))
+    decide true e = hears at_p at_q on_link (ltb-true _ _ e) few
+    decide false e = old (kept_answer (desk_of y p) request) refl (ltb-false _ _ e)
 
 reply-cases : (s : State) (p q : NodeId) (x : Worker) (y : Store) (request : Request) (answer : Answer) (by : ℕ) (later : List Message)
     → node s p ≡ IsStore y → node s q ≡ IsWorker x → link s p q ≡ Reply request answer by ∷ later → s.made < 100000
     → PlanOf s (Deliver p q) (reply_plan q x (node_number q) request answer by)
 reply-cases s p q x y request answer by later at_p at_q on_link few = decide (awaits x request) refl
-    where
-  decide : (b : Bool) → awaits x request ≡ b
-    → PlanOf s (Deliver p q) (cond b (accepted_plan q (node_number q) request answer by) (ignored_plan q (node_number q) request by (Some answer)))
-  decide true e = accepts at_p at_q on_link e few
-  decide false e = ignores_reply at_p at_q on_link e few
+  where
+    decide : (b : Bool) → awaits x request ≡ b
+        → PlanOf s (Deliver p q) (cond b (accepted_plan q (node_number q) request answer by) (ignored_plan q (node_number q) request by (Some answer)))
+    decide true e = accepts at_p at_q on_link e few
+    decide false e = ignores_reply at_p at_q on_link e few
 
 delivery_to_store-cases : (s : State) (p q : NodeId) (x : Worker) (y : Store) (messages : List Message) (plan : Plan)
     → node s p ≡ IsWorker x → node s q ≡ IsStore y → link s p q ≡ messages → delivery_to_store s p q y messages ≡ Ok plan → PlanOf s (Deliver p q) plan

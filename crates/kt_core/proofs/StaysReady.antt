@@ -31,9 +31,9 @@ use Rattle.kt_core.proofs.CanApplies.{can_apply}
 -- what holds of the new entry, and of the others as they were, holds of each entry after a put
 put-holds : {A : Type 0} (P : A → Type 0) (d : A) (xs : List A) (i : ℕ) (y : A) → P y → ((k : ℕ) → P (at d xs k)) → (k : ℕ) → P (at d (put d xs i y) k)
 put-holds P d xs i y new old k = elim (cases_eq k i) [
-    inl same ↦ subst (λ (j : ℕ). P (at d (put d xs i y) j)) (sym same) (subst P (sym (at-put_same d xs i y)) new)
+  | inl same ↦ subst (λ (j : ℕ). P (at d (put d xs i y) j)) (sym same) (subst P (sym (at-put_same d xs i y)) new)
   | inr other ↦ subst P (sym (at-put_other d xs i k y other)) (old k)
-  ]
+]
 
 -- ---- nodes
 
@@ -96,36 +96,36 @@ Contains-tail (x ∷ xs) m h = Contains-there x xs m h
 was_on_link : (links : List (List Message)) (step : Step) (k : ℕ) (m : Message) → Contains (at [] (taken_off links step) k) m → Contains (at [] links k) m
 was_on_link links (Issue p) k m h = h
 was_on_link links (Deliver p q) k m h = elim (cases_eq k (link_index p q)) [
-    inl same ↦
+  | inl same ↦
       let here : at [] (taken_off links (Deliver p q)) k ≡ drop 1 (at [] links k) = ap (λ (j : ℕ). at [] (taken_off links (Deliver p q)) j) same ∙ at-put_same [] links (link_index p q) _ ∙ ap (λ (j : ℕ). drop 1 (at [] links j)) (sym same) in
       let P : List Message → Type 0 = λ l. Contains l m in
       Contains-tail (at [] links k) m (subst P here h)
   | inr other ↦
       let P : List Message → Type 0 = λ l. Contains l m in
       subst P (at-put_other [] links (link_index p q) k _ other) h
-  ]
+]
 was_on_link links (Serve p w place) k m h = h
 
 pushed-cases : (messages : List Message) (new m : Message) → Contains (messages ++ new ∷ []) m → Contains messages m ⊎ (new ≡ m)
 pushed-cases [] new m h = elim (Contains-cons_cases new [] m h) [ inl e ↦ inr e | inr none ↦ inl none ]
 pushed-cases (x ∷ xs) new m h = elim (Contains-cons_cases x (xs ++ new ∷ []) m h) [
-    inl e ↦ inl (let P : Message → Type 0 = Contains (x ∷ xs) in subst P e (Contains-here x xs))
+  | inl e ↦ inl (let P : Message → Type 0 = Contains (x ∷ xs) in subst P e (Contains-here x xs))
   | inr later ↦ elim (pushed-cases xs new m later) [ inl old ↦ inl (Contains-there x xs m old) | inr e ↦ inr e ]
-  ]
+]
 
 -- what is on its way was so before, or was sent just now
 on_link-cases : (links : List (List Message)) (p : NodeId) (send : Option (NodeId × Message)) (k : ℕ) (m : Message) → Contains (at [] (sent links p send) k) m
     → Contains (at [] links k) m ⊎ ((to : NodeId) × (send ≡ Some (to, m)))
 on_link-cases links p None k m h = inl h
 on_link-cases links p (Some (to, new)) k m h = elim (cases_eq k (link_index p to)) [
-    inl same ↦
+  | inl same ↦
       let here : at [] (sent links p (Some (to, new))) k ≡ at [] links k ++ new ∷ [] = ap (λ (j : ℕ). at [] (sent links p (Some (to, new))) j) same ∙ at-put_same [] links (link_index p to) _ ∙ ap (λ (j : ℕ). at [] links j ++ new ∷ []) (sym same) in
       let P : List Message → Type 0 = λ l. Contains l m in
       elim (pushed-cases (at [] links k) new m (subst P here h)) [ inl old ↦ inl old | inr e ↦ inr (to, ap (λ (x : Message). Some (to, x)) e) ]
   | inr other ↦
       let P : List Message → Type 0 = λ l. Contains l m in
       inl (subst P (at-put_other [] links (link_index p to) k _ other) h)
-  ]
+]
 
 -- ---- causes
 
@@ -204,5 +204,5 @@ stays_ready s ready step plan of =
       few_notes = let h = ready.few_notes in omega (arith, h, length-append s.history (notes.Act plan.note ∷ []));
       causes = CausesComeFirst-push s.history (notes.Act plan.note) ready.causes can.note;
       messages = λ k m on. message_names s plan.note plan.send m (at [] s.links k) (sends_next s step plan of) (ready.messages k)
-        (on_link-cases s.links p plan.send k m (was_on_link (sent s.links p plan.send) step k m on));
+          (on_link-cases s.links p plan.send k m (was_on_link (sent s.links p plan.send) step k m on));
     }

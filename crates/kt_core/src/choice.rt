@@ -71,11 +71,7 @@ pub(crate) fn answer_of(alloc: Global, bag: &[Tuple], choice: Choice) -> Result<
 }
 
 /// What becomes of the bag.
-pub(crate) fn bag_change_of(
-    alloc: Global,
-    op: &Op,
-    choice: Choice,
-) -> Result<BagChange, AllocError>
+pub(crate) fn bag_change_of(alloc: Global, op: &Op, choice: Choice) -> Result<BagChange, AllocError>
     ensures { IfOk result (λ change. change ≡ bag_change_of op.now choice) }
 {
     match (choice, op) {

@@ -19,7 +19,10 @@ use std::alloc::Global;
 fn script_of(scene: &Scene, worker: NodeId) -> &[Op]
     ensures value { result.now ≡ script_of scene.now.scripts worker }
 {
-    match scene.scripts().get(usize::from(number_of(worker)).saturating_sub(1)) {
+    match scene
+        .scripts()
+        .get(usize::from(number_of(worker)).saturating_sub(1))
+    {
         Some(script) => script.commands(),
         None => &[],
     }

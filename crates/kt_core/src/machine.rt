@@ -4,6 +4,7 @@ ghost use Rattle.kt_history.specs.declared.note.Note.TheVariants.{Act as act_not
 ghost use Rattle.kt_history.specs.WellFormed.{MayFollow};
 ghost use Rattle.kt_core.specs.State.{at, put, link_index, queues_of, store_view, part_of, node, node_number, Nobody};
 ghost use Rattle.kt_core.specs.declared.node.Node.TheVariants.{Nobody as nobody};
+ghost use Rattle.kt_core.specs.Cast.{IsCast};
 ghost use Rattle.kt_core.specs.Reached.{opening_rows};
 ghost use Rattle.kt_core.specs.Ready.{HasLink, HasRoom, CanChange};
 ghost use Rattle.kt_core.specs.Effect.{sent, taken_off, changed};
@@ -112,6 +113,7 @@ fn count(own: &mut Vec<u64>, row: usize)
 type Tables = (Vec<Node>, Vec<VecDeque<Message>>, Vec<u64>);
 
 fn opening_tables(alloc: Global, scene: &Scene) -> Result<Tables, AllocError>
+    ensures cast { IsCast scene.now }
     ensures nodes { IfOk result (λ t. map part_of t.0.items ≡ opening_rows (length scene.now.scripts) scene.now.shards 9) }
     ensures links { IfOk result (λ t. queues_of t.1.items ≡ replicate 324 []) }
     ensures own { IfOk result (λ t. t.2.items ≡ replicate 18 0) }
@@ -133,6 +135,7 @@ impl Machine {
     /// The machine of the scene, in which nothing was done yet, or the scene where memory runs out.
     pub(crate) fn open(alloc: Global, scene: Scene) -> Result<Machine, Scene>
         ensures opened { IfOk result (λ m. state_of m ≡ opening scene) }
+        ensures cast { IsCast scene }
         ensures back { IfErr result (λ back. back ≡ scene) }
     {
         match opening_tables(alloc, &scene) {

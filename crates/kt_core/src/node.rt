@@ -67,7 +67,10 @@ pub(crate) enum Node {
 #[derive(Debug, Drop)]
 pub(crate) enum Message {
     /// A worker asks.
-    Ask { request: Request, by: u64 },
+    Ask {
+        request: Request,
+        by: u64,
+    },
     /// A shard answers.
     Reply {
         request: Request,
@@ -95,7 +98,10 @@ pub(crate) enum Change {
     /// The worker has its answer.
     Accept,
     /// The worker of this number waits with this.
-    Wait { worker: u8, request: Request },
+    Wait {
+        worker: u8,
+        request: Request,
+    },
     /// The worker of this number was served, and this is kept.
     Serve {
         worker: u8,

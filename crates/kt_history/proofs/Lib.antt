@@ -7,3 +7,5 @@ pub mod Fronts
 pub mod MarkSteps
 pub mod RowSteps
 pub mod Keeping
+pub mod Runs
+pub mod Sense

@@ -4,3 +4,4 @@ pub mod Survival
 pub mod WellFormed
 pub mod Closed
 pub mod Marks
+pub mod Run

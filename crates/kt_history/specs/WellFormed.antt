@@ -89,3 +89,7 @@ Fits h (notes.Cut p keep) = keep ≤ length (line h p)
 -- each note makes sense after those before it
 pub record IsWellFormed (h : List Note) : Type 0 where
   pub fits : (n : ℕ) (note : Note) → note_at h n ≡ Some note → Fits (before h n) note
+
+-- no note is a cut
+pub record HasNoCut (h : List Note) : Type 0 where
+  pub none : (n : ℕ) (p : NodeId) (keep : ℕ) → note_at h n ≢ Some (notes.Cut p keep)

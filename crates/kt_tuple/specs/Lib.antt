@@ -6,3 +6,6 @@ pub mod Signature
 pub mod Op
 pub mod Node
 pub mod Space
+pub mod Spelling
+pub mod Reading
+pub mod Parsing

@@ -4,19 +4,30 @@
 mod laws;
 mod node;
 mod op;
+mod parse_error;
+mod parsing;
+mod reading;
 mod service;
 mod signature;
 mod string;
 mod template;
 mod tuple;
 mod value;
+mod writing;
 
 pub use laws::{matching_has_one_home, node_numbers_differ};
 pub use node::{NODES, NodeId};
 pub use op::{Answer, Op};
+pub use parse_error::ParseError;
+pub use reading::{
+    after_place, formal_at, is_in_range, is_short, place_at, place_of, value_at, value_of, word_at,
+};
 pub use service::Service;
 pub use signature::Signature;
 pub use string::{MAX_CHARACTERS, Str};
 pub use template::{Place, Template};
 pub use tuple::{MAX_PLACES, Tuple};
 pub use value::{Kind, Value};
+
+#[cfg(test)]
+mod text_tests;

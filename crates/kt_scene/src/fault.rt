@@ -1,0 +1,57 @@
+//! What ends a replay.
+
+use thiserror::Error;
+
+/// What is wrong with a line of a scenario. Of several faults of one line it is the one with the
+/// lowest number.
+#[derive(Clone, Copy, Debug, PartialEq, Eq, Error)]
+pub enum SceneError {
+    /// The line is not the header that must stand here.
+    #[error("Header")]
+    Header,
+    /// No rule allows such a line here.
+    #[error("Word")]
+    Word,
+    /// The command's tuple or template is not as said.
+    #[error("Tuple")]
+    Tuple,
+    /// A name breaks the rules of variables.
+    #[error("Variable")]
+    Variable,
+    /// A limit is passed.
+    #[error("Limit")]
+    Limit,
+    /// A fault line names a node that is not in the scene.
+    #[error("Node")]
+    Node,
+    /// The text ends too early or goes on too long, or its last line has no line feed.
+    #[error("End")]
+    End,
+    /// Memory ran out.
+    #[error("OutOfMemory")]
+    OutOfMemory,
+}
+
+impl SceneError {
+    /// The fault's number.
+    pub fn number(self) -> u8 {
+        match self {
+            SceneError::Header => 1,
+            SceneError::Word => 2,
+            SceneError::Tuple => 3,
+            SceneError::Variable => 4,
+            SceneError::Limit => 5,
+            SceneError::Node => 6,
+            SceneError::End => 7,
+            SceneError::OutOfMemory => 8,
+        }
+    }
+}
+
+/// Why a text is no scenario: its first line that has a fault, counted from 1, and what is wrong there.
+#[derive(Clone, Copy, Debug, PartialEq, Eq, Error)]
+#[error("line {line}: {cause}")]
+pub struct SceneFault {
+    pub line: usize,
+    pub cause: SceneError,
+}

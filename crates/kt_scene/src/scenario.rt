@@ -1,0 +1,17 @@
+use kt_core::{Scene, Step};
+
+/// What a scenario's text stands for.
+#[derive(Debug, Drop)]
+pub struct Scenario {
+    /// Who takes part.
+    pub scene: Scene,
+    /// What is done.
+    pub work: Work,
+}
+
+/// What is done in a scene.
+#[derive(Debug, Drop)]
+pub enum Work {
+    /// These steps, one after the other.
+    Steps(Vec<Step>),
+}

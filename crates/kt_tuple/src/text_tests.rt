@@ -1,0 +1,221 @@
+//! The text of tuples and templates, against texts worked out by hand from the grammar.
+
+use super::*;
+use std::process::Abort;
+use std::test::Fail;
+
+/// Texts of tuples and what `Tuple::parse` answers.
+const TUPLES: [(&[u8], Result<(), ParseError>); 71] = [
+    (b"(-9223372036854775808, \"\")", Ok(())),
+    (b"(9223372036854775807)", Ok(())),
+    (b"(9223372036854775808)", Err(ParseError::Range { at: 1 })),
+    (b"(-9223372036854775809)", Err(ParseError::Range { at: 1 })),
+    (
+        b"(1, -9223372036854775809)",
+        Err(ParseError::Range { at: 4 }),
+    ),
+    (
+        b"(99999999999999999999999999)",
+        Err(ParseError::Range { at: 1 }),
+    ),
+    (b"(-0)", Err(ParseError::Syntax { at: 2 })),
+    (b"(01)", Err(ParseError::Syntax { at: 2 })),
+    (b"(00)", Err(ParseError::Syntax { at: 2 })),
+    (b"(-01)", Err(ParseError::Syntax { at: 2 })),
+    (b"(--1)", Err(ParseError::Syntax { at: 2 })),
+    (b"(+1)", Err(ParseError::Syntax { at: 1 })),
+    (b"(1.5)", Err(ParseError::Syntax { at: 2 })),
+    (b"(1a)", Err(ParseError::Syntax { at: 2 })),
+    (b"(-)", Err(ParseError::Syntax { at: 2 })),
+    (b"()", Err(ParseError::Syntax { at: 1 })),
+    (b"", Err(ParseError::Syntax { at: 0 })),
+    (b"(", Err(ParseError::Syntax { at: 1 })),
+    (b"1", Err(ParseError::Syntax { at: 0 })),
+    (b" (1)", Err(ParseError::Syntax { at: 0 })),
+    (b"( 1)", Err(ParseError::Syntax { at: 1 })),
+    (b"(1 )", Err(ParseError::Syntax { at: 2 })),
+    (b"(1) ", Err(ParseError::Syntax { at: 3 })),
+    (b"(1)(2)", Err(ParseError::Syntax { at: 3 })),
+    (b"(1))", Err(ParseError::Syntax { at: 3 })),
+    (b"(1", Err(ParseError::Syntax { at: 2 })),
+    (b"(1,", Err(ParseError::Syntax { at: 3 })),
+    (b"(1, ", Err(ParseError::Syntax { at: 4 })),
+    (b"(1, )", Err(ParseError::Syntax { at: 4 })),
+    (b"(, 1)", Err(ParseError::Syntax { at: 1 })),
+    (b"(1,2)", Err(ParseError::Syntax { at: 3 })),
+    (b"(1,  2)", Err(ParseError::Syntax { at: 4 })),
+    (b"(1 , 2)", Err(ParseError::Syntax { at: 2 })),
+    (b"(1, 2]", Err(ParseError::Syntax { at: 5 })),
+    (b"((1))", Err(ParseError::Syntax { at: 1 })),
+    (b"(9223372036854775808", Err(ParseError::Syntax { at: 20 })),
+    (
+        b"(9223372036854775808, x)",
+        Err(ParseError::Syntax { at: 22 }),
+    ),
+    (b"(1, 1, 1, 1, 1, 1, 1, 1)", Ok(())),
+    (b"(1, 1, 1, 1, 1, 1, 1, 1, 1)", Err(ParseError::TooLong)),
+    (
+        b"(1, 1, 1, 1, 1, 1, 1, 1, 1",
+        Err(ParseError::Syntax { at: 26 }),
+    ),
+    (
+        b"(1, 1, 1, 1, 1, 1, 1, 1, 9223372036854775808)",
+        Err(ParseError::Range { at: 25 }),
+    ),
+    (b"(\"\")", Ok(())),
+    (b"(\"a\", 1)", Ok(())),
+    (b"(\" ~\")", Ok(())),
+    (b"(\"(1, 2)\")", Ok(())),
+    (b"(\"\\\"\")", Ok(())),
+    (b"(\"\\\\\")", Ok(())),
+    (b"(\"\\\\\\\"\", 0)", Ok(())),
+    (b"(\"", Err(ParseError::Syntax { at: 2 })),
+    (b"(\"\"", Err(ParseError::Syntax { at: 3 })),
+    (b"(\"a)", Err(ParseError::Syntax { at: 4 })),
+    (b"(\"\\)", Err(ParseError::Syntax { at: 3 })),
+    (b"(\"\\\"", Err(ParseError::Syntax { at: 4 })),
+    (b"(\"\\n\")", Err(ParseError::Syntax { at: 3 })),
+    (b"(\"a\tb\")", Err(ParseError::Syntax { at: 3 })),
+    (b"(\"a\nb\")", Err(ParseError::Syntax { at: 3 })),
+    (b"(\"\x7f\")", Err(ParseError::Syntax { at: 2 })),
+    (b"(\"\xc3\xa9\")", Err(ParseError::Syntax { at: 2 })),
+    (b"(\"\x1f\")", Err(ParseError::Syntax { at: 2 })),
+    (b"('a')", Err(ParseError::Syntax { at: 1 })),
+    (b"(\"a\"\"b\")", Err(ParseError::Syntax { at: 4 })),
+    (b"(\"a\" )", Err(ParseError::Syntax { at: 4 })),
+    (b"(?int)", Err(ParseError::Syntax { at: 1 })),
+    (b"(1, ?int)", Err(ParseError::Syntax { at: 4 })),
+    (b"(x)", Err(ParseError::Syntax { at: 1 })),
+    (b"(true)", Err(ParseError::Syntax { at: 1 })),
+    (b"(0, -1, 10, -10)", Ok(())),
+    // 64 and 65 characters
+    (
+        b"(\"0123456789012345678901234567890123456789012345678901234567890123\")",
+        Ok(()),
+    ),
+    (
+        b"(\"01234567890123456789012345678901234567890123456789012345678901234\")",
+        Err(ParseError::TooLong),
+    ),
+    // 64 characters, of which one is behind a backslash
+    (
+        b"(\"\\\"123456789012345678901234567890123456789012345678901234567890123\")",
+        Ok(()),
+    ),
+    (
+        b"(\"01234567890123456789012345678901234567890123456789012345678901234\", 9223372036854775808)",
+        Err(ParseError::Range { at: 70 }),
+    ),
+];
+
+/// Texts of templates and what `Template::parse` answers.
+const TEMPLATES: [(&[u8], Result<(), ParseError>); 21] = [
+    (b"(?int)", Ok(())),
+    (b"(?str)", Ok(())),
+    (b"(\"a\", ?int)", Ok(())),
+    (b"(?int, ?str, 1, \"\")", Ok(())),
+    (b"(1)", Ok(())),
+    (b"()", Err(ParseError::Syntax { at: 1 })),
+    (b"(?)", Err(ParseError::Syntax { at: 2 })),
+    (b"(?", Err(ParseError::Syntax { at: 2 })),
+    (b"(?i)", Err(ParseError::Syntax { at: 3 })),
+    (b"(?in", Err(ParseError::Syntax { at: 4 })),
+    (b"(?ins)", Err(ParseError::Syntax { at: 4 })),
+    (b"(?st)", Err(ParseError::Syntax { at: 4 })),
+    (b"(?bool)", Err(ParseError::Syntax { at: 2 })),
+    (b"(? int)", Err(ParseError::Syntax { at: 2 })),
+    (b"(?int x)", Err(ParseError::Syntax { at: 5 })),
+    (b"(?intx)", Err(ParseError::Syntax { at: 5 })),
+    (b"(?int,?int)", Err(ParseError::Syntax { at: 6 })),
+    (b"(??int)", Err(ParseError::Syntax { at: 2 })),
+    (b"(?int, ?int, ?int, ?int, ?int, ?int, ?int, ?int)", Ok(())),
+    (
+        b"(?int, ?int, ?int, ?int, ?int, ?int, ?int, ?int, ?int)",
+        Err(ParseError::TooLong),
+    ),
+    (
+        b"(?int, 9223372036854775808)",
+        Err(ParseError::Range { at: 7 }),
+    ),
+];
+
+/// Each text is answered as the grammar says, and one that is read is written back.
+#[test]
+fn tuple_texts(rt: HostRuntime) -> Result<(), Fail> {
+    for (text, expected) in TUPLES {
+        match Tuple::parse(rt.alloc(), text) {
+            Ok(tuple) => {
+                assert!(rt; expected.is_ok(), "{text:?} is read");
+                let mut written = Vec::from_slice(rt.alloc(), b"# ")?;
+                tuple.write_to(&mut written)?;
+                assert_eq!(rt; written.get(..2).ok_or("front")?, b"# ".as_slice());
+                assert_eq!(rt; written.get(2..).ok_or("text")?, text);
+            }
+            Err(error) => assert_eq!(rt; Err(error), expected, "at {text:?}"),
+        }
+    }
+    Ok(())
+}
+
+#[test]
+fn template_texts(rt: HostRuntime) -> Result<(), Fail> {
+    for (text, expected) in TEMPLATES {
+        match Template::parse(rt.alloc(), text) {
+            Ok(template) => {
+                assert!(rt; expected.is_ok(), "{text:?} is read");
+                let mut written = Vec::new(rt.alloc());
+                template.write_to(&mut written)?;
+                assert_eq!(rt; written.as_slice(), text);
+            }
+            Err(error) => assert_eq!(rt; Err(error), expected, "at {text:?}"),
+        }
+    }
+    Ok(())
+}
+
+/// The value that is read, and not only its text.
+#[test]
+fn values_are_read(rt: HostRuntime) -> Result<(), Fail> {
+    let tuple = Tuple::parse(rt.alloc(), b"(-12, \"a\\\\\\\"b\", 0)")
+        .ok()
+        .ok_or("a tuple")?;
+    match tuple.values() {
+        [Value::Int(first), Value::Str(second), Value::Int(third)] => {
+            assert_eq!(rt; *first, -12);
+            assert_eq!(rt; second.as_bytes(), b"a\\\"b".as_slice());
+            assert_eq!(rt; *third, 0);
+        }
+        _ => assert!(rt; false, "three values"),
+    }
+    Ok(())
+}
+
+/// Operations and answers as a report shows them.
+#[test]
+fn operations_and_answers(rt: HostRuntime) -> Result<(), Fail> {
+    let tuple = || Tuple::parse(rt.alloc(), b"(\"a\", 1)");
+    let template = || Template::parse(rt.alloc(), b"(\"a\", ?int)");
+    let ops = [
+        (Op::Out(tuple()?), b"out (\"a\", 1)".as_slice()),
+        (Op::In(template()?), b"in (\"a\", ?int)"),
+        (Op::Rd(template()?), b"rd (\"a\", ?int)"),
+        (Op::Inp(template()?), b"inp (\"a\", ?int)"),
+        (Op::Rdp(template()?), b"rdp (\"a\", ?int)"),
+    ];
+    for (op, text) in ops {
+        let mut written = Vec::new(rt.alloc());
+        op.write_to(&mut written)?;
+        assert_eq!(rt; written.as_slice(), text);
+    }
+    let answers = [
+        (Answer::Done, b"done".as_slice()),
+        (Answer::Got(tuple()?), b"got (\"a\", 1)"),
+        (Answer::None, b"none"),
+    ];
+    for (answer, text) in answers {
+        let mut written = Vec::new(rt.alloc());
+        answer.write_to(&mut written)?;
+        assert_eq!(rt; written.as_slice(), text);
+    }
+    Ok(())
+}

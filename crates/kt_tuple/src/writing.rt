@@ -1,0 +1,201 @@
+//! The one text of each value, tuple, template, operation and answer, written at the end of bytes.
+
+ghost use Rattle.std.specs.Prelude.{◌≡◌, ◌≤◌, ◌++◌, List, ℕ, [], ◌∷◌, length, take, vec_len, OnOk, OnErr, codes};
+ghost use Rattle.std.specs.Fmt.{signed_decimal};
+ghost use Rattle.std.specs.Io.{StartsWith};
+ghost use Rattle.kt_tuple.specs.Spelling.{character_text, string_text, value_text, place_text, tuple_text, template_text, op_text, answer_text};
+
+use crate::op::{Answer, Op};
+use crate::template::{Place, Template};
+use crate::tuple::Tuple;
+use crate::value::{Kind, Value};
+use itoa::Buffer;
+use std::alloc::AllocError;
+
+impl Tuple {
+    /// Appends its text, as `("a", 1)`. A refused call leaves the bytes as they were.
+    pub fn write_to(&self, out: &mut Vec<u8>) -> Result<(), AllocError>
+        ensures ok { OnOk result (out.new.items ≡ out.old.items ++ tuple_text self.now) }
+        ensures err { OnErr result (out.new.items ≡ out.old.items) }
+    {
+        let start = out.len();
+        let written = push_tuple(out, self);
+        cut_back(out, start, written)
+    }
+}
+
+impl Template {
+    /// Appends its text, as `("a", ?int)`. A refused call leaves the bytes as they were.
+    pub fn write_to(&self, out: &mut Vec<u8>) -> Result<(), AllocError>
+        ensures ok { OnOk result (out.new.items ≡ out.old.items ++ template_text self.now) }
+        ensures err { OnErr result (out.new.items ≡ out.old.items) }
+    {
+        let start = out.len();
+        let written = push_template(out, self);
+        cut_back(out, start, written)
+    }
+}
+
+impl Op {
+    /// Appends its text, as `in ("a", ?int)`. A refused call leaves the bytes as they were.
+    pub fn write_to(&self, out: &mut Vec<u8>) -> Result<(), AllocError>
+        ensures ok { OnOk result (out.new.items ≡ out.old.items ++ op_text self.now) }
+        ensures err { OnErr result (out.new.items ≡ out.old.items) }
+    {
+        let start = out.len();
+        let written = push_op(out, self);
+        cut_back(out, start, written)
+    }
+}
+
+impl Answer {
+    /// Appends its text, as `got ("a", 1)`. A refused call leaves the bytes as they were.
+    pub fn write_to(&self, out: &mut Vec<u8>) -> Result<(), AllocError>
+        ensures ok { OnOk result (out.new.items ≡ out.old.items ++ answer_text self.now) }
+        ensures err { OnErr result (out.new.items ≡ out.old.items) }
+    {
+        let start = out.len();
+        let written = push_answer(out, self);
+        cut_back(out, start, written)
+    }
+}
+
+/// Takes away what was appended, where not all of it was.
+fn cut_back(
+    out: &mut Vec<u8>,
+    start: usize,
+    written: Result<(), AllocError>,
+) -> Result<(), AllocError>
+    ensures same { result ≡ written }
+    ensures ok { OnOk result (out.new.items ≡ out.old.items) }
+    ensures err { OnErr result (out.new.items ≡ take start out.old.items) }
+{
+    if written.is_err() {
+        out.truncate(start);
+    }
+    written
+}
+
+fn push_op(out: &mut Vec<u8>, op: &Op) -> Result<(), AllocError>
+    ensures ok { OnOk result (out.new.items ≡ out.old.items ++ op_text op.now) }
+    ensures front { StartsWith out.new.items out.old.items }
+{
+    match op {
+        Op::Out(tuple) => {
+            out.extend_from_slice(b"out ")?;
+            push_tuple(out, tuple)
+        }
+        Op::In(template) => {
+            out.extend_from_slice(b"in ")?;
+            push_template(out, template)
+        }
+        Op::Rd(template) => {
+            out.extend_from_slice(b"rd ")?;
+            push_template(out, template)
+        }
+        Op::Inp(template) => {
+            out.extend_from_slice(b"inp ")?;
+            push_template(out, template)
+        }
+        Op::Rdp(template) => {
+            out.extend_from_slice(b"rdp ")?;
+            push_template(out, template)
+        }
+    }
+}
+
+fn push_answer(out: &mut Vec<u8>, answer: &Answer) -> Result<(), AllocError>
+    ensures ok { OnOk result (out.new.items ≡ out.old.items ++ answer_text answer.now) }
+    ensures front { StartsWith out.new.items out.old.items }
+{
+    match answer {
+        Answer::Done => out.extend_from_slice(b"done"),
+        Answer::Got(tuple) => {
+            out.extend_from_slice(b"got ")?;
+            push_tuple(out, tuple)
+        }
+        Answer::None => out.extend_from_slice(b"none"),
+    }
+}
+
+fn push_tuple(out: &mut Vec<u8>, tuple: &Tuple) -> Result<(), AllocError>
+    ensures ok { OnOk result (out.new.items ≡ out.old.items ++ tuple_text tuple.now) }
+    ensures front { StartsWith out.new.items out.old.items }
+{
+    out.push(b'(')?;
+    let mut separator: &[u8] = b"";
+    for value in tuple.values() {
+        out.extend_from_slice(separator)?;
+        push_value(out, value)?;
+        separator = b", ";
+    }
+    out.push(b')')?;
+    Ok(())
+}
+
+fn push_template(out: &mut Vec<u8>, template: &Template) -> Result<(), AllocError>
+    ensures ok { OnOk result (out.new.items ≡ out.old.items ++ template_text template.now) }
+    ensures front { StartsWith out.new.items out.old.items }
+{
+    out.push(b'(')?;
+    let mut separator: &[u8] = b"";
+    for place in template.places() {
+        out.extend_from_slice(separator)?;
+        push_place(out, place)?;
+        separator = b", ";
+    }
+    out.push(b')')?;
+    Ok(())
+}
+
+fn push_place(out: &mut Vec<u8>, place: &Place) -> Result<(), AllocError>
+    ensures ok { OnOk result (out.new.items ≡ out.old.items ++ place_text place.now) }
+    ensures front { StartsWith out.new.items out.old.items }
+{
+    match place {
+        Place::Actual(value) => push_value(out, value),
+        Place::Formal(Kind::Int) => out.extend_from_slice(b"?int"),
+        Place::Formal(Kind::Str) => out.extend_from_slice(b"?str"),
+    }
+}
+
+fn push_value(out: &mut Vec<u8>, value: &Value) -> Result<(), AllocError>
+    ensures ok { OnOk result (out.new.items ≡ out.old.items ++ value_text value.now) }
+    ensures front { StartsWith out.new.items out.old.items }
+{
+    match value {
+        Value::Int(number) => push_int(out, *number),
+        Value::Str(string) => push_string(out, string.as_bytes()),
+    }
+}
+
+fn push_int(out: &mut Vec<u8>, number: i64) -> Result<(), AllocError>
+    ensures ok { OnOk result (out.new.items ≡ out.old.items ++ signed_decimal number) }
+    ensures front { StartsWith out.new.items out.old.items }
+{
+    let mut buffer = Buffer::new();
+    out.extend_from_slice(buffer.format(number).as_bytes())
+}
+
+fn push_string(out: &mut Vec<u8>, characters: &[u8]) -> Result<(), AllocError>
+    ensures ok { OnOk result (out.new.items ≡ out.old.items ++ string_text characters.now) }
+    ensures front { StartsWith out.new.items out.old.items }
+{
+    out.push(b'"')?;
+    for character in characters {
+        push_character(out, *character)?;
+    }
+    out.push(b'"')?;
+    Ok(())
+}
+
+fn push_character(out: &mut Vec<u8>, character: u8) -> Result<(), AllocError>
+    ensures ok { OnOk result (out.new.items ≡ out.old.items ++ character_text character) }
+    ensures front { StartsWith out.new.items out.old.items }
+{
+    if character == b'"' || character == b'\\' {
+        out.push(b'\\')?;
+    }
+    out.push(character)?;
+    Ok(())
+}

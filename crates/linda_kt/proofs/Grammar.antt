@@ -1,0 +1,75 @@
+-- What a parse by the program's own command line can give.
+use Rattle.std.proofs.Common.{◌≡◌, Bool, true, false, cond, List, [], ◌∷◌, Option, Some, None, option_map, codes, ap, refl, sym, ◌∙◌}
+use Rattle.std.specs.Prelude.{is_some}
+use Rattle.std.specs.Borrow.{Bor}
+use Rattle.clap.specs.Words.{App, HasMatchesOf, Kinds, Row, Shape, Text, built, fault_of, is_simple, subcommand_of, subcommand_name_of, subcommand_rows_of}
+use Rattle.clap.specs.Kinds.{or_else}
+use Rattle.clap.specs.Walk.{Held, Names, finished, nothing_held, settled, walk, walk_from}
+use Rattle.clap.specs.Simple.{entered, names_of, rows_at}
+use Rattle.clap.specs.Faults.{check_fault, defaults_fault, entered_fault, level_fault, settle_fault, walk_fault}
+use Rattle.clap.specs.declared.parser.matches.ArgMatches.{ArgMatches}
+use Rattle.clap.specs.declared.parser.matches.ArgMatches.TheViews.{out-ArgMatches}
+use Rattle.linda_kt.specs.Words.{command_line_app}
+
+-- where two steps have no fault, the second has none
+rest_empty : (a b : Kinds) → or_else a b ≡ [] → b ≡ []
+rest_empty [] b e = e
+rest_empty (k ∷ ks) b e = cc
+
+-- where one level of a parse has no fault, its last checks have none
+level_end : (s : Shape) (names : Names) (h : Held) (words : List Text) (has : Bool) (below : Kinds)
+    → level_fault s names h words has below ≡ []
+    → check_fault s (finished s.rules (walk s.rules names h words).held) has ≡ []
+level_end s names h words has below e =
+    let end = (walk s.rules names h words).held in
+    let last = check_fault s (finished s.rules end) has in
+    let defaults = defaults_fault (settled s.rules end).rows s.rules in
+    let settle = settle_fault s.rules s.args_override_self end in
+    rest_empty defaults last
+    (rest_empty settle (or_else defaults last)
+    (rest_empty below (or_else settle (or_else defaults last))
+    (rest_empty (walk_fault s names (walk_from h) words) (or_else below (or_else settle (or_else defaults last))) e)))
+
+-- the last checks pass only where a command stands
+checks_pass : (rows : List Row) (has : Bool) → check_fault (built command_line_app).top rows has ≡ [] → has ≡ true
+checks_pass rows true e = refl
+checks_pass rows false e = cc
+
+-- the one command there is
+found_is : (b : Bool) (s : Shape) (words : List Text) → is_some (option_map (λ s. rows_at s words) (cond b (Some s) None)) ≡ true
+    → option_map (λ p. p.0) (option_map (λ s. rows_at s words) (cond b (Some s) None)) ≡ Some s.name
+found_is true s words e = refl
+found_is false s words e = cc
+
+entered_is : (stop : Option (Text × List Text)) → is_some (entered (built command_line_app) stop) ≡ true
+    → option_map (λ p. p.0) (entered (built command_line_app) stop) ≡ Some (codes "replay")
+entered_is None e = cc
+entered_is (Some p) e = found_is _ _ p.1 e
+
+-- words without a fault name `replay`
+pub names_replay : (words : List Text) → fault_of command_line_app words ≡ []
+    → option_map (λ p. p.0) (subcommand_of command_line_app words) ≡ Some (codes "replay")
+names_replay words e =
+    let a = built command_line_app in
+    let end = walk a.top.rules (names_of a) nothing_held words in
+    let has = is_some (entered a end.stopped) in
+    entered_is end.stopped (checks_pass (finished a.top.rules end.held) has
+    (level_end a.top (names_of a) nothing_held words has (entered_fault a end.stopped) e))
+
+-- a map after a map
+fused : {X Y Z : Type 0} (g : X → Y) (f : Y → Z) (o : Option X) → option_map f (option_map g o) ≡ option_map (λ x. f (g x)) o
+fused g f None = refl
+fused g f (Some x) = refl
+
+-- a parse of words without a fault met `replay`
+pub met_replay : (a : App) (words : List Text) (m : ArgMatches) → a ≡ command_line_app → HasMatchesOf a words m
+    → fault_of a words ≡ [] → subcommand_name_of m ≡ Some (codes "replay")
+met_replay a words m same has none =
+    let rows : subcommand_rows_of m ≡ subcommand_of command_line_app words =
+    (has (ap is_simple same)).1 ∙ ap (λ x. subcommand_of x words) same in
+    sym (fused _ _ (out-ArgMatches m).subcommand) ∙ ap (option_map (λ p. p.0)) rows
+    ∙ names_replay words (sym (ap (λ x. fault_of x words) same) ∙ none)
+
+-- the name that was met is that one
+pub is_that : (o : Option (Bor Text)) (s : Bor Text) (n : Text) → option_map (λ s. s.now) o ≡ Some n → o ≡ Some s → s.now ≡ n
+is_that o s n e some = let same : Some s.now ≡ Some n = ap (option_map (λ s. s.now)) (sym some) ∙ e in cc

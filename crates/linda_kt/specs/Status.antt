@@ -1,0 +1,37 @@
+-- How a run ends.
+use Rattle.std.specs.Prelude.{◌≡◌, ◌⊎◌, ℕ}
+use Rattle.kt_core.specs.declared.step.StepError.{StepError}
+use Rattle.kt_core.specs.declared.step.StepError.TheVariants as step
+use Rattle.kt_scene.specs.declared.fault.SceneError.{SceneError}
+use Rattle.kt_scene.specs.declared.fault.SceneError.TheVariants as scene
+use Rattle.kt_scene.specs.declared.fault.ReplayFault.{ReplayFault}
+use Rattle.kt_scene.specs.declared.fault.ReplayFault.TheVariants.{Scene, Step, Open, Memory, Read, Write}
+
+-- 3 for a fault of the scenario, but 6 where memory ran out
+abbrev pub scene_status : SceneError → ℕ
+scene_status scene.OutOfMemory = 6
+scene_status _ = 3
+
+-- 4 for a step that is not enabled, but 8 for one past the limit and 6 where memory ran out
+abbrev pub step_status : StepError → ℕ
+step_status step.StepLimit = 8
+step_status step.OutOfMemory = 6
+step_status _ = 4
+
+-- the exit status that tells of a fault; 7 is for the streams
+abbrev pub status_of : ReplayFault → ℕ
+status_of (Scene line cause) = scene_status cause
+status_of (Step at cause) = step_status cause
+status_of (Open cause) = 6
+status_of Memory = 6
+status_of Read = 7
+status_of Write = 7
+
+-- the exit status of words that name no command: 0 where help was shown, 2 where they are wrong, 6 where
+-- memory ran out, 7 where help could not be written
+abbrev pub IsWordsStatus : ℕ → Type 0
+IsWordsStatus n = (n ≡ 0) ⊎ ((n ≡ 2) ⊎ ((n ≡ 6) ⊎ (n ≡ 7)))
+
+-- the exit status of a command: 0 where it was done, else that of a fault
+abbrev pub IsRunStatus : ℕ → Type 0
+IsRunStatus n = (n ≡ 0) ⊎ ((fault : ReplayFault) × (n ≡ status_of fault))

@@ -1,0 +1,63 @@
+-- The words of the command line.
+use Rattle.std.specs.Prelude.{◌≡◌, ◌≢◌, ◌⊎◌, List, [], ◌∷◌, Some, refl, Option, codes, map, option_map, true}
+use Rattle.std.specs.Borrow.{Bor}
+use Rattle.clap.specs.Words.{App, IsAmong, Kinds, Text, fault_of, new_app, subcommand_of, with_subcommand}
+use Rattle.clap.specs.Simple.{new_shape, on_top}
+use Rattle.clap.specs.declared.error.kind.ErrorKind.TheVariants.{DisplayHelp, DisplayVersion, InvalidSubcommand, MissingSubcommand, UnknownArgument}
+use Rattle.clap.proofs.OnLiterals.{clap_on_literals}
+use Rattle.linda_kt.specs.declared.words.Command.{Command}
+use Rattle.linda_kt.specs.declared.words.Command.TheVariants.{Replay}
+
+-- the word that asks for a command
+abbrev pub name_of : Command → Text
+name_of Replay = codes "replay"
+
+-- the command line: no program's name, no command `help`, and one command, which must stand
+abbrev pub command_line_app : App
+command_line_app =
+    with_subcommand (on_top (λ s. record s {
+      no_binary_name = true;
+      subcommand_required = true;
+      disable_help_subcommand = true;
+    }) (new_app (codes "linda_kt"))) (new_shape (codes "replay"))
+
+-- the texts behind references
+abbrev pub texts : List (Bor Text) → List Text
+texts = map (λ w. w.now)
+
+-- the name of the command that the words name, by the rules of `clap`
+abbrev pub named_command : List Text → Option Text
+named_command words = option_map (λ p. p.0) (subcommand_of command_line_app words)
+
+-- what is wrong with the words, by the rules of `clap`: nothing, or the kinds that its error may have
+abbrev pub words_fault : List Text → Kinds
+words_fault = fault_of command_line_app
+
+-- the words ask for a text about the program
+abbrev pub AskForHelp : List Text → Type 0
+AskForHelp words = IsAmong DisplayHelp (words_fault words) ⊎ IsAmong DisplayVersion (words_fault words)
+
+-- the words name no command and do not ask for help
+abbrev pub AreWrong : List Text → Type 0
+AreWrong words = (words_fault words ≢ []) × (AskForHelp words → ⊥)
+
+-- `replay` has no fault and names the command
+pub replay_passes : (words_fault (codes "replay" ∷ []) ≡ []) × (named_command (codes "replay" ∷ []) ≡ Some (codes "replay"))
+unfolding clap_on_literals
+replay_passes = (refl, refl)
+
+-- without a word a command is missing
+pub nothing_fails : words_fault [] ≡ MissingSubcommand ∷ []
+unfolding clap_on_literals
+nothing_fails = refl
+
+-- another word is no command
+pub other_word_fails : words_fault (codes "run" ∷ []) ≡ UnknownArgument ∷ InvalidSubcommand ∷ []
+unfolding clap_on_literals
+other_word_fails = refl
+
+-- `--help` asks for help, before a command and behind it
+pub help_asks : (words_fault (codes "--help" ∷ []) ≡ DisplayHelp ∷ [])
+    × (words_fault (codes "replay" ∷ codes "--help" ∷ []) ≡ DisplayHelp ∷ [])
+unfolding clap_on_literals
+help_asks = (refl, refl)

@@ -1,0 +1,166 @@
+//! What the program does with its words and its three streams.
+ghost use Rattle.std.specs.Prelude.{◌≡◌, ◌≢◌, ◌⊎◌, [], IsErr};
+ghost use Rattle.clap.specs.Words.{kind_of};
+ghost use Rattle.clap.specs.declared.error.kind.ErrorKind.TheVariants as kind;
+ghost use Rattle.linda_kt.specs.Status.{IsRunStatus, IsWordsStatus, status_of, step_status};
+ghost use Rattle.kt_core.specs.declared.step.StepError.TheVariants as step;
+ghost use Rattle.linda_kt.specs.Words.{AreWrong, texts, words_fault};
+
+use crate::words::{Command, read_words, refuse_bytes};
+use clap::Error;
+use clap::error::ErrorKind;
+use kt_core::StepError;
+use kt_scene::{OpenError, ReplayFault, SceneError, replay};
+use std::alloc::{AllocError, Global};
+use std::env::Args;
+use std::io;
+use std::io::{Read, Write};
+
+/// The exit status of a run that did what it was asked.
+const DONE: u8 = 0;
+/// The words of the command line are wrong.
+const COMMAND_LINE: u8 = 2;
+/// The scenario has a fault.
+const SCENARIO: u8 = 3;
+/// A step is not enabled.
+const STEP: u8 = 4;
+/// Memory was refused.
+const MEMORY: u8 = 6;
+/// Standard input or standard output failed.
+const STREAM: u8 = 7;
+/// The scenario has more steps than a run makes.
+const STEP_LIMIT: u8 = 8;
+
+/// Runs the program on the arguments of its process, of which the first is its name. Arguments that
+/// are not text are wrong words.
+pub fn run_arguments<R: Read, W: Write, E: Write>(
+    alloc: Global,
+    arguments: io::Result<Args>,
+    reader: &mut R,
+    writer: &mut W,
+    errors: &mut E,
+) -> u8
+    ensures no_text { IsErr arguments → (result ≡ COMMAND_LINE) ⊎ (result ≡ MEMORY) }
+    ensures no_text_reads_nothing { IsErr arguments → reader.new ≡ reader.old }
+{
+    let arguments = match arguments {
+        Ok(arguments) => arguments,
+        Err(error) if error.kind() == io::ErrorKind::OutOfMemory => {
+            return end_by("memory", MEMORY, errors);
+        }
+        Err(_) => return answer_words(&refuse_bytes(alloc), writer, errors),
+    };
+    match run_texts(alloc, arguments, reader, writer, errors) {
+        Ok(status) => status,
+        Err(AllocError) => end_by("memory", MEMORY, errors),
+    }
+}
+
+fn run_texts<R: Read, W: Write, E: Write>(
+    alloc: Global,
+    arguments: Args,
+    reader: &mut R,
+    writer: &mut W,
+    errors: &mut E,
+) -> Result<u8, AllocError> {
+    let texts: Vec<String> = arguments.skip(1).collect(alloc)?;
+    let words: Vec<&str> = texts.iter().map(|text| text.as_str()).collect(alloc)?;
+    Ok(run_program(alloc, words.as_slice(), reader, writer, errors))
+}
+
+/// Does what the words ask, which are those after the program's name, and answers the exit status.
+/// A fault is one line on `errors`; of wrong words it is the text of `clap`.
+pub fn run_program<R: Read, W: Write, E: Write>(
+    alloc: Global,
+    words: &[&str],
+    reader: &mut R,
+    writer: &mut W,
+    errors: &mut E,
+) -> u8
+    ensures told { words_fault (texts words.now) ≡ [] → IsRunStatus result }
+    ensures wrong_words { AreWrong (texts words.now)
+        → (result ≡ COMMAND_LINE) ⊎ (result ≡ MEMORY) }
+    ensures wrong_words_print_nothing { AreWrong (texts words.now) → writer.new ≡ writer.old }
+    ensures no_command { words_fault (texts words.now) ≢ [] → IsWordsStatus result }
+    ensures no_command_reads_nothing { words_fault (texts words.now) ≢ []
+        → reader.new ≡ reader.old }
+{
+    match read_words(alloc, words) {
+        Ok(Command::Replay) => match replay(alloc, reader, writer) {
+            Ok(()) => DONE,
+            Err(fault) => end_replay(fault, errors),
+        },
+        Err(error) => answer_words(&error, writer, errors),
+    }
+}
+
+/// Says why the words name no command: help on the output, anything else on `errors`.
+fn answer_words<W: Write, E: Write>(error: &Error, writer: &mut W, errors: &mut E) -> u8
+    ensures memory { kind_of error.now ≡ kind.OutOfMemory → result ≡ MEMORY }
+    ensures wrong { kind_of error.now ≢ kind.OutOfMemory → kind_of error.now ≢ kind.DisplayHelp
+        → kind_of error.now ≢ kind.DisplayVersion → result ≡ COMMAND_LINE }
+    ensures quiet { kind_of error.now ≢ kind.DisplayHelp → kind_of error.now ≢ kind.DisplayVersion
+        → writer.new ≡ writer.old }
+    ensures status { IsWordsStatus result }
+{
+    if error.kind() == ErrorKind::OutOfMemory {
+        return end_by("memory", MEMORY, errors);
+    }
+    if error.use_stderr() {
+        // A standard error that is closed leaves the status alone to tell.
+        let _ = write!(errors, "{error}");
+        return COMMAND_LINE;
+    }
+    match write!(writer, "{error}") {
+        Ok(()) => DONE,
+        Err(_) => end_by("write", STREAM, errors),
+    }
+}
+
+/// Writes the line of a fault, and answers its status.
+fn end_replay<E: Write>(fault: ReplayFault, errors: &mut E) -> u8
+    ensures { result ≡ status_of fault }
+{
+    match fault {
+        ReplayFault::Memory
+        | ReplayFault::Open(OpenError::OutOfMemory)
+        | ReplayFault::Scene {
+            line: _,
+            cause: SceneError::OutOfMemory,
+        }
+        | ReplayFault::Step {
+            at: _,
+            cause: StepError::OutOfMemory,
+        } => { end_by("memory", MEMORY, errors) }
+        ReplayFault::Read => end_by("read", STREAM, errors),
+        ReplayFault::Write => end_by("write", STREAM, errors),
+        ReplayFault::Scene { line, cause } => {
+            let number = cause.number();
+            let _ = writeln!(errors, "line {line}: {number} {cause}");
+            SCENARIO
+        }
+        ReplayFault::Step { at, cause } => {
+            let number = cause.number();
+            let _ = writeln!(errors, "step {at}: {number} {cause}");
+            status_of_refusal(cause)
+        }
+    }
+}
+
+/// The status of a step that was refused for another reason than memory.
+fn status_of_refusal(cause: StepError) -> u8
+    ensures { cause ≢ step.OutOfMemory → result ≡ step_status cause }
+{
+    match cause {
+        StepError::StepLimit => STEP_LIMIT,
+        _ => STEP,
+    }
+}
+
+/// Writes a fault that is one word, and answers `status`.
+fn end_by<E: Write>(word: &str, status: u8, errors: &mut E) -> u8
+    ensures { result ≡ status }
+{
+    let _ = writeln!(errors, "{word}");
+    status
+}

@@ -1,0 +1,208 @@
+//! The program from its words to its output, its line on the errors and its status.
+use crate::program::run_program;
+use std::alloc::{AllocError, Global};
+use std::io;
+use std::io::{ErrorKind, Read, Write};
+use std::process::Abort;
+use std::test::Fail;
+
+const PUT_AND_TAKE: &str =
+    "linda-kt 1\nshards 1\nworker\nout (\"a\", 1)\nin (\"a\", ?int x)\nsteps\n\
+issue w1\ndeliver w1 s1\nserve s1 w1 0\ndeliver s1 w1\n\
+issue w1\ndeliver w1 s1\nserve s1 w1 0\nend\n";
+
+const PUT_AND_TAKE_REPORT: &str = "survivors 2\nw1.1 out (\"a\", 1) done\n\
+w1.2 in (\"a\", ?int) got (\"a\", 1)\nlost 0\nspace 0\npermanent 0\n";
+
+const NO_STEPS: &str = "linda-kt 1\nshards 1\nworker\nout (\"a\", 1)\nsteps\nend\n";
+
+const TWO_TAKERS: &str = "linda-kt 1\nshards 1\nworker\nin (\"t\")\nworker\nin (\"t\")\nworker\n\
+out (\"t\")\nsteps\nissue w1\ndeliver w1 s1\nissue w2\ndeliver w2 s1\nissue w3\ndeliver w3 s1\n\
+serve s1 w3 0\nserve s1 w2 0\n";
+
+const CUT_SHORT: &str = "linda-kt 1\nshards 1\nworker\nout (\"a\", 1)\nsteps\nissue w1\nissue w";
+
+/// What a run left.
+#[derive(Debug, Drop, PartialEq)]
+struct Ended {
+    output: String,
+    errors: String,
+    status: u8,
+}
+
+fn text_of(bytes: Vec<u8>) -> Result<String, Fail> {
+    String::from_utf8(bytes).map_err(|_| Fail::from("no text"))
+}
+
+fn run(alloc: Global, words: &[&str], input: &str) -> Result<Ended, Fail> {
+    let (mut output, mut errors) = (Vec::new(alloc), Vec::new(alloc));
+    let status = run_program(
+        alloc,
+        words,
+        &mut input.as_bytes(),
+        &mut output,
+        &mut errors,
+    );
+    Ok(Ended {
+        output: text_of(output)?,
+        errors: text_of(errors)?,
+        status,
+    })
+}
+
+fn expect(rt: &impl Abort, ended: &Ended, output: &str, errors: &str, status: u8) {
+    assert_eq!(rt; ended.output.as_str(), output);
+    assert_eq!(rt; ended.errors.as_str(), errors);
+    assert_eq!(rt; ended.status, status);
+}
+
+#[test]
+fn worked_scenarios(rt: HostRuntime) -> Result<(), Fail> {
+    let alloc = rt.alloc();
+    let replay = ["replay"];
+    let ended = run(alloc, &replay, PUT_AND_TAKE)?;
+    expect(&rt, &ended, PUT_AND_TAKE_REPORT, "", 0);
+    let ended = run(alloc, &replay, NO_STEPS)?;
+    expect(
+        &rt,
+        &ended,
+        "survivors 0\nlost 0\nspace 0\npermanent 0\n",
+        "",
+        0,
+    );
+    let report =
+        "survivors 2\nw3.1 out (\"t\") done\nw2.1 in (\"t\") got (\"t\")\nlost 0\nspace 0\npermanent 0\n";
+    let input = format!(in alloc; "{TWO_TAKERS}end\n")?;
+    let ended = run(alloc, &replay, input.as_str())?;
+    expect(&rt, &ended, report, "", 0);
+    let input = format!(in alloc; "{TWO_TAKERS}serve s1 w1 0\nend\n")?;
+    let ended = run(alloc, &replay, input.as_str())?;
+    expect(&rt, &ended, "", "step 9: 4 NoSuchMatch\n", 4);
+    let ended = run(alloc, &replay, CUT_SHORT)?;
+    expect(&rt, &ended, "", "line 7: 7 End\n", 3);
+    Ok(())
+}
+
+#[test]
+fn words(rt: HostRuntime) -> Result<(), Fail> {
+    let alloc = rt.alloc();
+    let help = run(alloc, &["--help"], "")?;
+    assert!(rt;
+        help.output
+            .as_str()
+            .starts_with("A Linda tuple space that survives failures\n")
+    );
+    assert!(rt; help.errors.is_empty() && help.status == 0);
+    let none = run(alloc, &[], NO_STEPS)?;
+    assert!(rt;
+        none.errors
+            .as_str()
+            .starts_with("error: 'linda_kt' requires a subcommand")
+    );
+    assert!(rt; none.output.is_empty() && none.status == 2);
+    for word in ["run", "--store", "help", ""] {
+        let ended = run(alloc, &[word], NO_STEPS)?;
+        assert!(rt; ended.errors.as_str().starts_with("error: un"), "{word}");
+        assert!(rt; ended.output.is_empty() && ended.status == 2, "{word}");
+    }
+    let more = run(alloc, &["replay", "more"], NO_STEPS)?;
+    assert!(rt; more.output.is_empty() && more.status == 2);
+    Ok(())
+}
+
+/// A reader that fails once its bytes are read.
+#[derive(Drop)]
+struct Broken<'a>(&'a [u8]);
+
+impl Read for Broken<'_> {
+    fn read(&mut self, buf: &mut [u8]) -> io::Result<usize> {
+        if self.0.is_empty() {
+            return Err(io::Error::from(ErrorKind::IsADirectory));
+        }
+        self.0.read(buf)
+    }
+}
+
+/// A writer with room for so many bytes, each in a write of its own.
+#[derive(Drop)]
+struct Narrow {
+    room: usize,
+    held: Vec<u8>,
+}
+
+impl Write for Narrow {
+    fn write(&mut self, buf: &[u8]) -> io::Result<usize> {
+        match buf.first() {
+            Some(byte) if self.room > 0 => {
+                self.room -= 1;
+                self.held.push(*byte)?;
+                Ok(1)
+            }
+            _ => Err(io::Error::from(ErrorKind::StorageFull)),
+        }
+    }
+
+    fn flush(&mut self) -> io::Result<()> {
+        Ok(())
+    }
+}
+
+#[test]
+fn streams_that_fail(rt: HostRuntime) -> Result<(), Fail> {
+    let alloc = rt.alloc();
+    let (mut output, mut errors) = (Vec::new(alloc), Vec::new(alloc));
+    let mut reader = Broken(&NO_STEPS.as_bytes()[..20]);
+    let status = run_program(alloc, &["replay"], &mut reader, &mut output, &mut errors);
+    assert!(rt; output.is_empty() && errors.as_slice() == b"read\n".as_slice() && status == 7);
+    let mut errors = Vec::new(alloc);
+    let mut writer = Narrow {
+        room: 20,
+        held: Vec::new(alloc),
+    };
+    let mut reader = PUT_AND_TAKE.as_bytes();
+    let status = run_program(alloc, &["replay"], &mut reader, &mut writer, &mut errors);
+    assert!(rt; errors.as_slice() == b"write\n".as_slice() && status == 7);
+    assert!(rt; writer.held.as_slice() == &PUT_AND_TAKE_REPORT.as_bytes()[..20]);
+    Ok(())
+}
+
+/// All the memory that is left, in blocks that nothing touches.
+fn all_memory(alloc: Global) -> Result<Vec<Vec<u8>>, AllocError> {
+    let mut blocks = Vec::with_capacity(alloc, 100_000)?;
+    let mut size = 1usize << 45;
+    for _ in 0..42usize {
+        for _ in 0..100_000usize {
+            let Ok(block) = Vec::with_capacity(alloc, size) else {
+                break;
+            };
+            blocks.push(block)?;
+        }
+        size /= 2;
+    }
+    Ok(blocks)
+}
+
+/// With ever more memory a run ends for want of memory, with nothing written, until it is done.
+#[test]
+fn little_memory(rt: HostRuntime) -> Result<(), Fail> {
+    let alloc = rt.alloc();
+    for round in 0..2000usize {
+        let mut output = Vec::with_capacity(alloc, 1000)?;
+        let mut errors = Vec::with_capacity(alloc, 1000)?;
+        let spare: Vec<u8> = Vec::with_capacity(alloc, 512 * round)?;
+        let hoard = all_memory(alloc)?;
+        drop(spare);
+        let mut reader = PUT_AND_TAKE.as_bytes();
+        let status = run_program(alloc, &["replay"], &mut reader, &mut output, &mut errors);
+        drop(hoard);
+        if status == 0 {
+            assert!(rt; output.as_slice() == PUT_AND_TAKE_REPORT.as_bytes());
+            assert!(rt; errors.is_empty() && round > 10);
+            return Ok(());
+        }
+        assert!(rt;
+            output.is_empty() && errors.as_slice() == b"memory\n".as_slice() && status == 6
+        );
+    }
+    Err(Fail::new("never done"))
+}
