@@ -31,7 +31,7 @@ use Rattle.kt_core.specs.Effect.{changed, applied, step_result}
 use Rattle.kt_core.specs.Asks.{setting_of}
 use Rattle.kt_core.specs.ShardLine.{shard_of_acts, new_shard}
 use Rattle.kt_core.specs.Headline.{IsNothingLost, bag_of, all_bags, Headline}
-use Rattle.kt_core.specs.Reached.{ok_or_same, after_steps}
+use Rattle.kt_core.specs.Reached.{or_as_it_was, next_state, after}
 use Rattle.kt_core.proofs.Bags.{Contains-none}
 use Rattle.kt_core.proofs.Growth.{AreLegal-empty, acts_in_line-empty}
 use Rattle.kt_core.proofs.Homes.{is_home}
@@ -118,39 +118,34 @@ applied-bounds s step plan b some = record {
   few_shards = b.few_shards;
 }
 
--- what the headline stands on
-pub record IsKept (s : State) : Type 0 where
+-- what the headline stands on, and each step keeps
+pub record HasGrounds (s : State) : Type 0 where
   pub sound : IsSound s
   pub bounds : HasBounds s
   pub shards : HasShards s
   pub no_cut : HasNoCut s.history
 
-pub step-kept : (s : State) → IsKept s → (step : Step) (after : State) → step_result s step ≡ Ok after → IsKept after
-step-kept s k step after e =
-    let r = step_result-ok s step after e in record {
-      sound = step-sound s k.sound k.bounds step after e;
+pub step-kept : (s : State) → HasGrounds s → (step : Step) (new : State) → step_result s step ≡ Ok new → HasGrounds new
+step-kept s k step new e =
+    let r = step_result-ok s step new e in record {
+      sound = step-sound s k.sound k.bounds step new e;
       bounds = subst HasBounds (sym r.2) (applied-bounds s step r.0 k.bounds (planned-some s step r.0 r.1));
       shards = subst HasShards (sym r.2) (applied-shards s step r.0 k.shards);
       no_cut = subst (λ t. HasNoCut t.history) (sym r.2) (HasNoCut-act s.history r.0.note k.no_cut);
     }
 
-result-kept : (s : State) → IsKept s → (step : Step) (o : Result State StepError) → step_result s step ≡ o → IsKept (ok_or_same s o)
-result-kept s k step (Ok after) e = step-kept s k step after e
+result-kept : (s : State) → HasGrounds s → (step : Step) (o : Result State StepError) → step_result s step ≡ o → HasGrounds (or_as_it_was o s)
+result-kept s k step (Ok new) e = step-kept s k step new e
 result-kept s k step (Err refusal) e = k
 
-pub steps-kept : (s : State) → IsKept s → (steps : List Step) → IsKept (after_steps s steps)
+pub steps-kept : (s : State) → HasGrounds s → (steps : List Step) → HasGrounds (after s steps)
+unfolding after
 steps-kept s k [] = k
-steps-kept s k (step ∷ later) = steps-kept (ok_or_same s (step_result s step)) (result-kept s k step (step_result s step) refl) later
+steps-kept s k (step ∷ later) = steps-kept (next_state s step) (result-kept s k step (step_result s step) refl) later
 
 -- without a cut nothing is lost
-pub nothing_lost : (s : State) → IsKept s → IsNothingLost s.history
+pub nothing_lost : (s : State) → HasGrounds s → IsNothingLost s.history
 nothing_lost s k n act = (act.0.node, stands_without_cut s.history k.no_cut n act.0 act.1)
-
--- after every list of steps, refused ones among them
-pub headline-always : (s : State) → IsKept s → (steps : List Step) → Headline (after_steps s steps) × IsNothingLost (after_steps s steps).history
-headline-always s k steps =
-    let later = steps-kept s k steps in
-    (headline (after_steps s steps) later.sound later.bounds later.shards, nothing_lost (after_steps s steps) later)
 
 -- ---- how it begins
 
@@ -170,7 +165,7 @@ new-like (ids.Shard r) (IsWorker x) new = new
 new-like (ids.Shard r) (IsStore y) new = record { bag = subst (IsPermutation []) (sym new.0) (IsPermutation-refl []); desks = new.1 }
 
 -- a state with no notes, no messages and new parts
-pub new-kept : (s : State) → s.history ≡ [] → ((k : ℕ) → at [] s.links k ≡ []) → ((p : NodeId) → IsNewPart p (node s p)) → HasBounds s → HasShards s → IsKept s
+pub new-kept : (s : State) → s.history ≡ [] → ((k : ℕ) → at [] s.links k ≡ []) → ((p : NodeId) → IsNewPart p (node s p)) → HasBounds s → HasShards s → HasGrounds s
 new-kept s no_notes no_messages parts b staff = record {
   sound = record {
     legal = subst (AreLegal (setting_of s.shards s.scripts)) (sym no_notes) (AreLegal-empty (setting_of s.shards s.scripts));

@@ -1,3 +1,4 @@
+pub mod Opened
 pub mod Bags
 pub mod Homes
 pub mod Numbered
