@@ -75,9 +75,9 @@ place_of-none t (v ∷ bag) e u c m = by (matches t v) refl e (place_of-none t b
     by : (r : Bool) → matches t v ≡ r → cond r (Some 0) (option_map suc (place_of t zero bag)) ≡ None → (place_of t 0 bag ≡ None → (u : Tuple) → Contains bag u → ¬ Matches t u) → ⊥
     by true k e rest = cc
     by false k e rest = elim (Contains-cases v u bag c) [
-        inl same ↦ false≢true (sym k ∙ matches-from_Matches t v (subst (Matches t) (sym same) m))
+      | inl same ↦ false≢true (sym k ∙ matches-from_Matches t v (subst (Matches t) (sym same) m))
       | inr there ↦ rest (nothing_on (place_of t zero bag) e) u there m
-      ]
+    ]
 
 -- the tuple at the place of a match is taken, or read
 takes_match : (t : Template) (bag : List Tuple) (place : ℕ) → IsMatchAt t bag place → Matches t (tuple_at bag place) × IsPermutation bag (tuple_at bag place ∷ remove bag place)

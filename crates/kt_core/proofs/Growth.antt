@@ -29,7 +29,7 @@ acts_in_line-cut h q keep p = by (same_node q p) refl
     by false e = ([], sym (acts_in_line-other_cut h q keep p e) ∙ sym (append-nil (acts_in_line (h ++ notes.Cut q keep ∷ []) p)))
     by true e =
         let kept : acts_in_line (h ++ notes.Cut q keep ∷ []) p ≡ take keep (acts_in_line h p) =
-          subst (λ n. acts_in_line (h ++ notes.Cut n keep ∷ []) p ≡ take keep (acts_in_line h p)) (sym (same_node-true q p e)) (acts_in_line-own_cut h p keep) in
+        subst (λ n. acts_in_line (h ++ notes.Cut n keep ∷ []) p ≡ take keep (acts_in_line h p)) (sym (same_node-true q p e)) (acts_in_line-own_cut h p keep) in
         (drop keep (acts_in_line h p), sym (take-append-drop keep (acts_in_line h p)) ∙ ap (λ l. l ++ drop keep (acts_in_line h p)) (sym kept))
 
 -- one more act at the end of a line
@@ -70,7 +70,7 @@ AreLegal-act setting h a legal m p = by (same_node a.node p) refl
   where
     by : (r : Bool) → same_node a.node p ≡ r → IsLine setting p (acts_in_line (h ++ notes.Act a ∷ []) p)
     by true e = subst (λ q. IsLine setting q (acts_in_line (h ++ notes.Act a ∷ []) q)) (same_node-true a.node p e)
-                  (subst (IsLine setting a.node) (sym (acts_in_line-own_act h a)) (IsLine-push setting a.node (acts_in_line h a.node) a (legal a.node) m))
+        (subst (IsLine setting a.node) (sym (acts_in_line-own_act h a)) (IsLine-push setting a.node (acts_in_line h a.node) a (legal a.node) m))
     by false e = subst (IsLine setting p) (sym (acts_in_line-other_act h a p e)) (legal p)
 
 -- a cut keeps lines legal

@@ -31,4 +31,5 @@ pub mod CanApplies
 pub mod StaysReady
 pub mod Openings
 pub mod Keeping
+pub mod OneNote
 pub mod Outcomes

@@ -74,11 +74,12 @@ one_act : (setting : Setting) (x : World) (all : List Tuple) (a : Act) (p : Node
 one_act setting x all a (nodes.Worker w) shares h =
     let k = worker_steps all (setting.asks w) (x.worker w) a a.what h.1 in
     (k.0, λ s. ap (filter (is_home setting.shards s)) k.1 ∙ shares s)
-one_act setting x all a (nodes.Shard s) shares h =
-    (shard_steps setting.shards s all (x.shard s).bag ((x.shard s).desk a.worker) ((x.shard s).cause a.worker) a a.what h.0 (shares s) h.1,
-     put_row_holds (λ i y. filter (is_home setting.shards i) (bag_after all a a.what) ≡ y.bag) s (shard_after (x.shard s) a) x.shard
-       (share_here setting.shards s all (x.shard s).bag ((x.shard s).desk a.worker) ((x.shard s).cause a.worker) a a.what h.0 (shares s) h.1)
-       (λ i off. share_there setting.shards s i all (x.shard s).bag ((x.shard s).desk a.worker) ((x.shard s).cause a.worker) a a.what h.0 off h.1 ∙ shares i))
+one_act setting x all a (nodes.Shard s) shares h = (
+  shard_steps setting.shards s all (x.shard s).bag ((x.shard s).desk a.worker) ((x.shard s).cause a.worker) a a.what h.0 (shares s) h.1,
+  put_row_holds (λ i y. filter (is_home setting.shards i) (bag_after all a a.what) ≡ y.bag) s (shard_after (x.shard s) a) x.shard
+      (share_here setting.shards s all (x.shard s).bag ((x.shard s).desk a.worker) ((x.shard s).cause a.worker) a a.what h.0 (shares s) h.1)
+      (λ i off. share_there setting.shards s i all (x.shard s).bag ((x.shard s).desk a.worker) ((x.shard s).cause a.worker) a a.what h.0 off h.1 ∙ shares i),
+)
 
 -- the tuples that the acts lead to
 abbrev pub tuples_after : List Tuple → List Act → List Tuple

@@ -43,11 +43,11 @@ pub place_of : (asks : List Answer → Option Op) (before : List Answer) (servic
     (front : List Answer) × (more : List Answer) × (answers_in services ≡ front ++ s.answer ∷ more) × (s.number ≡ suc (length before + length front))
 place_of asks before [] s h c = absurd (Contains-none s c)
 place_of asks before (r ∷ later) s h c = elim (Contains-cases r s later c) [
-    inl e ↦ ([], answers_in later, ap (λ (z : Service). z.answer ∷ answers_in later) e, sym (ap (λ (z : Service). z.number) e) ∙ h.0 ∙ omega arith)
+  | inl e ↦ ([], answers_in later, ap (λ (z : Service). z.answer ∷ answers_in later) e, sym (ap (λ (z : Service). z.number) e) ∙ h.0 ∙ omega arith)
   | inr there ↦
       let p = place_of asks (before ++ r.answer ∷ []) later s h.2 there in
       (r.answer ∷ p.0, p.1, ap (λ l. r.answer ∷ l) p.2, omega (arith, p.3, length-append before (r.answer ∷ [])))
-  ]
+]
 
 -- one more service at the end
 pub OrderFrom-push : (asks : List Answer → Option Op) (before : List Answer) (services : List Service) (s : Service) → OrderFrom asks before services →
@@ -70,9 +70,9 @@ of_worker-push_other w services s d =
 pub of_worker_holds : (P : ℕ → List Service → Type 0) (services : List Service) (s : Service) → P s.worker (of_worker s.worker services ++ s ∷ []) →
     ((w : ℕ) → P w (of_worker w services)) → (w : ℕ) → P w (of_worker w (services ++ s ∷ []))
 of_worker_holds P services s new old w = elim (cases_eq s.worker w) [
-    inl e ↦ subst (λ v. P v (of_worker v (services ++ s ∷ []))) e (subst (P s.worker) (sym (of_worker-push_same s.worker services s refl)) new)
+  | inl e ↦ subst (λ v. P v (of_worker v (services ++ s ∷ []))) e (subst (P s.worker) (sym (of_worker-push_same s.worker services s refl)) new)
   | inr d ↦ subst (P w) (sym (of_worker-push_other w services s d)) (old w)
-  ]
+]
 
 pub Contains-of_worker : (w : ℕ) (services : List Service) (s : Service) → s.worker ≡ w → Contains services s → Contains (of_worker w services) s
 Contains-of_worker w services s e c = Contains-filter (λ (r : Service). eqb r.worker w) s services (eq-eqb s.worker w e) c

@@ -51,7 +51,7 @@ desks_like : (desks : List Desk) (made : ℕ → Desk) (w : ℕ) (desk new : Des
     (v : ℕ) → at empty_desk (put empty_desk desks w desk) v ≡ put_row w new made v
 desks_like desks made w desk new like same =
     put_row_holds (λ v z. at empty_desk (put empty_desk desks w desk) v ≡ z) w new made (at-put_same empty_desk desks w desk ∙ same)
-      (λ v d. at-put_other empty_desk desks w v desk (λ e. d (sym e)) ∙ like v)
+    (λ v d. at-put_other empty_desk desks w v desk (λ e. d (sym e)) ∙ like v)
 
 -- a desk that stays leaves the table as it was
 desks_stay : (desks : List Desk) (made : ℕ → Desk) (w : ℕ) → ((v : ℕ) → at empty_desk desks v ≡ made v) → (v : ℕ) → at empty_desk desks v ≡ put_row w (made w) made v
@@ -72,6 +72,7 @@ kept_answer-is d request answer = by d.waiting d.kept
             let a : kept.answer ≡ answer = cc (given) in
             λ i. Some (record { request = record { number = n i; op = o i }; answer = a i })
         at' false e given = absurd cc
+
     by : (waiting : Option Request) (kept : Option Kept) → answer_unless_waiting waiting kept request ≡ Some answer → (waiting ≡ None) × (kept ≡ Some (record { request = request; answer = answer }))
     by None None e = absurd cc
     by None (Some kept) e = (refl, same kept e)
@@ -82,6 +83,7 @@ kept_answer-none d request none answer h = absurd (by d.waiting d.kept h.0 h.1 n
   where
     itself : same_request request request ≡ true
     itself = and_from (request.number == request.number) (op_eq request.op request.op) (eq-eqb request.number request.number refl) ((op_eq_decides request.op request.op).1 refl)
+
     by : (waiting : Option Request) (kept : Option Kept) → waiting ≡ None → kept ≡ Some (record { request = request; answer = answer }) → answer_unless_waiting waiting kept request ≡ None → ⊥
     by None None w k e = cc (k)
     by None (Some kept) w k e =
@@ -158,9 +160,11 @@ request_keeps setting h w s y request by like m row = hears (nat_lt (newest d) r
   where
     d : Desk
     d = at empty_desk y.desks w
+
     old : (o : Option Answer) → kept_answer d request ≡ o → request.number ≤ newest d → Keeps setting h (ids.Shard s) (IsStore y) (old_request_plan (ids.Shard s) w request by (length h + 1) o)
     old None e seen = ignored_keeps setting h w s y request by like m (seen, kept_answer-none d request e)
     old (Some answer) e seen = again_keeps setting h w s y request answer by like m row (kept_answer-is d request answer e)
+
     hears : (r : Bool) → nat_lt (newest d) request.number ≡ r →
         Keeps setting h (ids.Shard s) (IsStore y) (if r then heard_plan (ids.Shard s) w request by else old_request_plan (ids.Shard s) w request by (length h + 1) (kept_answer d request))
     hears true e = heard_keeps setting h w s y request by like m (ltb-true (newest d) request.number e)

@@ -5,6 +5,7 @@ mod change;
 mod choice;
 mod desk;
 mod judge;
+mod laws;
 mod machine;
 mod node;
 mod opening;
@@ -14,6 +15,7 @@ mod step;
 mod tables;
 mod world;
 
+pub use laws::{nothing_is_lost_without_failures, survivors_are_one_run};
 pub use scene::{MAX_COMMANDS, MAX_SHARDS, MAX_WORKERS, Scene, Script};
 pub use step::{MAX_STEPS, Mode, Step, StepError};
 pub use world::{OpenError, OpenRefused, World};

@@ -51,6 +51,8 @@ impl Model for World {
 impl World {
     ghost use Rattle.kt_core.specs.Effect.{step_result};
     ghost use Rattle.kt_core.specs.Machine.{Refuses};
+    ghost use Rattle.kt_core.specs.Headline.{Headline, AppendsActOf};
+    ghost use Rattle.kt_core.specs.Step.{owner};
     ghost use Rattle.kt_core.specs.Reached.{opening, mode_of};
     ghost use Rattle.kt_core.specs.State.{at, node};
     ghost use Rattle.kt_tuple.specs.Node.{node_index};
@@ -59,6 +61,7 @@ impl World {
     /// scene comes back.
     pub fn open(alloc: Global, scene: Scene) -> Result<World, OpenRefused>
         ensures opened { IfOk result (λ w. w ≡ opening scene) }
+        ensures headline { IfOk result (λ w. Headline w) }
         ensures back { IfErr result (λ refused. refused.scene ≡ scene) }
     {
         match Machine::open(alloc, scene) {
@@ -70,18 +73,24 @@ impl World {
         }
     }
 
-    /// Makes the step. A refused step changes nothing.
+    /// Makes the step. A refused step changes nothing; of several refusals the first that stands comes,
+    /// and `OutOfMemory` only where memory ran out.
     pub fn step(&mut self, alloc: Global, step: Step) -> Result<(), StepError>
         ensures effect { OnOk result (step_result self.old step ≡ Ok self.new) }
         ensures refusal { IfErr result (λ e. Refuses e (step_result self.old step)) }
         ensures same { OnErr result (self.new ≡ self.old) }
+
+        // What a step notes is one act of its owner.
+        ensures one_note { OnOk result (AppendsActOf (owner step) self.old.history self.new.history) }
+        ensures headline { Headline self.new }
     {
         self.machine.step(alloc, step)
     }
 
     /// What happened so far.
     pub fn history(&self) -> &History
-        ensures { result.now ≡ self.now.history }
+        ensures value { result.now ≡ self.now.history }
+        ensures headline { Headline self.now }
     {
         &self.machine.history
     }

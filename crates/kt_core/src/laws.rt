@@ -1,0 +1,24 @@
+//! Laws about the definitions, each the contract of a function with nothing to do.
+
+ghost use Rattle.std.specs.Prelude.{◌≡◌, List, Ok};
+ghost use Rattle.kt_tuple.specs.declared.op.Answer.{Answer};
+ghost use Rattle.kt_history.specs.declared.note.Act.{Act};
+ghost use Rattle.kt_history.specs.declared.note.What.TheVariants.{Served};
+ghost use Rattle.kt_core.specs.declared.step.Step.{Step};
+ghost use Rattle.kt_core.specs.Cast.{Cast, IsCast};
+ghost use Rattle.kt_core.specs.State.{State};
+ghost use Rattle.kt_core.specs.Effect.{step_result};
+ghost use Rattle.kt_core.specs.Reached.{opening, after, IsReached};
+ghost use Rattle.kt_core.specs.Headline.{Headline, IsNothingLost};
+
+/// After every list of steps from the opening of every scene, refused steps among them, the surviving
+/// services in the order made are one run of a sequential tuple space, each worker's requests being its
+/// script's in order; while nothing is lost, every act survives and the shards hold just that run's tuples.
+pub fn survivors_are_one_run()
+    ensures { (cast : Cast) → IsCast cast → (steps : List Step) → Headline (after (opening cast) steps) }
+{}
+
+/// Where no node fails nothing is lost: as yet no step is a failure, so after every list of steps.
+pub fn nothing_is_lost_without_failures()
+    ensures { (cast : Cast) → IsCast cast → (steps : List Step) → IsNothingLost (after (opening cast) steps).history }
+{}
