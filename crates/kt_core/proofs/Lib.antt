@@ -32,4 +32,5 @@ pub mod StaysReady
 pub mod Openings
 pub mod Keeping
 pub mod OneNote
+pub mod ServiceCauses
 pub mod Outcomes

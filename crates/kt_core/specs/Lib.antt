@@ -5,6 +5,7 @@ pub mod WorkerLine
 pub mod Order
 pub mod Legal
 pub mod Headline
+pub mod Hearing
 pub mod Cast
 pub mod Step
 pub mod Choice

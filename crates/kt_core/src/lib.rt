@@ -15,7 +15,10 @@ mod step;
 mod tables;
 mod world;
 
-pub use laws::{nothing_is_lost_without_failures, survivors_are_one_run};
+pub use laws::{
+    nothing_is_lost_without_failures, services_have_the_cause_of_their_hearing,
+    survivors_are_one_run,
+};
 pub use scene::{MAX_COMMANDS, MAX_SHARDS, MAX_WORKERS, Scene, Script};
 pub use step::{MAX_STEPS, Mode, Step, StepError};
 pub use world::{OpenError, OpenRefused, World};
