@@ -1,23 +1,23 @@
 -- What one more note changes of survival.
-use Rattle.std.proofs.Common.{◌≡◌, ◌≢◌, ℕ, zero, suc, ◌+◌, ◌-◌, ◌<◌, ◌≤◌, ◌==◌, ◌&&◌, ◌||◌, not, Bool, true, false, cond, List, [], ◌∷◌, ◌++◌, take, drop, length, get_or, Option, None, Some, refl, sym, ap, ◌∙◌, subst, ◌⊎◌, inl, inr, arith, Contains, Decides}
+use Rattle.std.proofs.Common.{◌≡◌, ◌≢◌, ℕ, suc, ◌+◌, ◌-◌, ◌<◌, ◌≤◌, ◌==◌, ◌&&◌, ◌||◌, not, Bool, true, false, List, [], ◌∷◌, ◌++◌, take, drop, length, Option, Some, refl, sym, ap, ◌∙◌, subst, ◌⊎◌, inl, inr, arith, Contains}
 use Rattle.std.specs.List.{slice_get, list_any}
-use Rattle.std.proofs.lemmas.List.{take-append-drop, take_all}
-use Rattle.std.proofs.lemmas.List.Elements.{Contains-append_left, Contains-append_right, Contains-append_cases, Contains-push, Contains-push_cases}
-use Rattle.std.proofs.lemmas.Bool.{and_parts, and_from, or_cases, or_left, or_right, cases_Bool, cases_eq, cases_lt, cases_order, eqb-true, eq-eqb, ne_eqb, false≢true, not-true, not_from_false}
-use Rattle.std.proofs.lemmas.Option.{slice_get_within, slice_get-get_or, none-some, same_Some}
+use Rattle.std.proofs.lemmas.List.{take-append-drop}
+use Rattle.std.proofs.lemmas.List.Elements.{Contains-append_left, Contains-append_cases, Contains-push, Contains-push_cases}
+use Rattle.std.proofs.lemmas.Bool.{and_parts, and_from, or_cases, or_left, or_right, cases_Bool, cases_eq, cases_lt, eqb-true, eq-eqb, false≢true, not-true, not_from_false}
+use Rattle.std.proofs.lemmas.Option.{slice_get_within, slice_get-get_or, same_Some}
 use Rattle.kt_tuple.specs.declared.node.NodeId.{NodeId}
 use Rattle.kt_history.specs.declared.note.Act.{Act}
 use Rattle.kt_history.specs.declared.note.Note.{Note}
 use Rattle.kt_history.specs.declared.note.Note.TheVariants as notes
 use Rattle.kt_history.specs.Line.{note_at, before, IsAct, same_node, line}
-use Rattle.kt_history.specs.Past.{StoodBefore, IsCauseOf, InPast, itself, in_line, by_cause}
+use Rattle.kt_history.specs.Past.{StoodBefore, itself, in_line, by_cause}
 use Rattle.kt_history.specs.WellFormed.{MayFollow, CausesComeFirst}
-use Rattle.kt_history.specs.Survival.{Stands, IsLost, Survives, note_stands, survives}
+use Rattle.kt_history.specs.Survival.{Stands, Survives, note_stands, survives}
 use Rattle.kt_history.specs.Marks.{last_of, lasts}
 use Rattle.kt_history.proofs.Lists.{slice_get-take, slice_get-take_below, slice_get-drop, slice_get-from_Contains, Contains-from_slice_get, Contains-from_take, list_any-from_Contains, Contains-from_list_any}
-use Rattle.kt_history.proofs.Lines.{same_node-true, same_node-refl, line-own, line-stack, line-rises, line-own_act, line-own_cut, line-other_act, line-other_cut, note_at-old, note_at-new, note_at-within, note_before, before-old, before-new, before-before}
-use Rattle.kt_history.proofs.Pasts.{StoodBefore-act, IsCauseOf-act, InPast-back, InPast-old, InPast-was}
-use Rattle.kt_history.proofs.Survivors.{Stands-own, Stands-act, note_stands-true, Stands-from_test, survives-decides, Survives-stands, Survives-past, Survives-step, Survives-act}
+use Rattle.kt_history.proofs.Lines.{same_node-true, line-own, line-stack, line-rises, line-own_act, line-own_cut, line-other_act, line-other_cut, note_at-old, note_at-new, note_at-within, note_before, before-old, before-new, before-before}
+use Rattle.kt_history.proofs.Pasts.{StoodBefore-act, InPast-back, InPast-old, InPast-was}
+use Rattle.kt_history.proofs.Survivors.{Stands-own, note_stands-true, Stands-from_test, survives-decides, Survives-stands, Survives-past, Survives-step, Survives-act}
 
 -- two tests that are true together are one
 pub same_tests : (a b : Bool) → (a ≡ true → b ≡ true) → (b ≡ true → a ≡ true) → a ≡ b

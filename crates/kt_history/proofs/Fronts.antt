@@ -1,22 +1,22 @@
 -- A closed choice of acts is, of each node's acts, a front of its line.
-use Rattle.std.proofs.Common.{◌≡◌, ◌≢◌, ℕ, zero, suc, ◌+◌, ◌<◌, ◌≤◌, Bool, true, false, cond, List, [], ◌∷◌, ◌++◌, take, drop, length, filter, Option, None, Some, refl, sym, ap, ◌∙◌, subst, ◌⊎◌, inl, inr, arith, Contains, add-zero, IsTrue}
-use Rattle.std.specs.List.{slice_get, filter_map, cons_option}
-use Rattle.std.proofs.lemmas.List.{append-nil, append_assoc, length_push}
-use Rattle.std.proofs.lemmas.List.Elements.{filter_map-append, filter-append, Contains-append_left, Contains-append_right, Contains-append_cases, Contains-push, Contains-push_cases}
-use Rattle.std.proofs.lemmas.Bool.{cases_Bool, cases_eq, cond-true, cond-false, false≢true}
-use Rattle.std.proofs.lemmas.Option.{slice_get_within, none-some, same_Some}
+use Rattle.std.proofs.Common.{◌≡◌, ℕ, zero, suc, ◌+◌, ◌<◌, ◌≤◌, Bool, true, false, cond, List, [], ◌∷◌, ◌++◌, take, length, Some, refl, sym, ap, ◌∙◌, subst, inl, inr, arith, Contains, add-zero}
+use Rattle.std.specs.List.{slice_get, cons_option}
+use Rattle.std.proofs.lemmas.List.{append-nil, length_push}
+use Rattle.std.proofs.lemmas.List.Elements.{filter_map-append, filter-append, Contains-append_right, Contains-append_cases, Contains-push_cases}
+use Rattle.std.proofs.lemmas.Bool.{cases_Bool, cases_eq, false≢true}
+use Rattle.std.proofs.lemmas.Option.{none-some, same_Some}
 use Rattle.std.proofs.Math.Seq.{append_snoc}
 use Rattle.kt_tuple.specs.declared.node.NodeId.{NodeId}
 use Rattle.kt_history.specs.declared.note.Act.{Act}
 use Rattle.kt_history.specs.declared.note.Note.{Note}
 use Rattle.kt_history.specs.declared.note.Note.TheVariants as notes
 use Rattle.kt_history.specs.Line.{note_at, before, IsAct, same_node, line}
-use Rattle.kt_history.specs.Past.{StoodBefore, IsCauseOf}
-use Rattle.kt_history.specs.Survival.{Stands, marked_from, marked_acts}
+use Rattle.kt_history.specs.Past.{StoodBefore}
+use Rattle.kt_history.specs.Survival.{marked_from, marked_acts}
 use Rattle.kt_history.specs.Closed.{IsClosed, IsFront, act_of, acts_at, acts_in_line, own}
-use Rattle.kt_history.proofs.Lists.{snoc_ind, slice_get-append_left, slice_get-append_right, slice_get-from_Contains, Contains-from_slice_get, Contains-none, Contains-here, Contains-there, Contains-cons_cases}
+use Rattle.kt_history.proofs.Lists.{snoc_ind, slice_get-append_right, slice_get-from_Contains, Contains-from_slice_get, Contains-none, Contains-here, Contains-there}
 use Rattle.kt_history.proofs.Lines.{same_node-true, same_node-refl, line-own, line-stack, line-rises, line-own_act, line-own_cut, line-other_act, line-other_cut, note_at-old, note_at-new, note_at-within}
-use Rattle.kt_history.proofs.Survivors.{Stands-own, Stands-act}
+use Rattle.kt_history.proofs.Survivors.{Stands-own}
 use Rattle.kt_history.proofs.Lists.{slice_get-take_below}
 
 -- the marked acts of two histories one after the other

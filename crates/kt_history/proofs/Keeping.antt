@@ -1,13 +1,12 @@
 -- What a history keeps goes on agreeing with its notes.
-use Rattle.std.proofs.Common.{◌≡◌, ◌≢◌, ℕ, zero, suc, ◌+◌, ◌-◌, ◌<◌, ◌≤◌, ◌==◌, ◌&&◌, ◌||◌, not, Bool, true, false, cond, List, [], ◌∷◌, ◌++◌, take, drop, set, map, length, get_or, Option, None, Some, refl, sym, ap, ◌∙◌, subst, ◌⊎◌, inl, inr, arith, Contains, Decides, ◌↔◌, IsTrue, add-zero, append_assoc}
-use Rattle.std.specs.List.{slice_get, list_any, filter_map, cons_option}
+use Rattle.std.proofs.Common.{◌≡◌, ℕ, zero, suc, ◌+◌, ◌-◌, ◌<◌, ◌≤◌, ◌==◌, ◌&&◌, ◌||◌, not, Bool, true, false, cond, List, [], ◌∷◌, ◌++◌, take, drop, set, length, get_or, Option, None, Some, refl, sym, ap, ◌∙◌, subst, inl, inr, arith, Contains, ◌↔◌, IsTrue, add-zero}
+use Rattle.std.specs.List.{slice_get, list_any, cons_option}
 use Rattle.std.specs.Option.{option_to_list}
-use Rattle.std.proofs.lemmas.List.{append-nil, length-append, length_push, length-set, length-map, length-take-le, get_or_append_left, get_or_push, get_or-set_same, get_or-set_other, take_all, take_more, take-append-drop, set_past, get_or_past, get_or-take}
+use Rattle.std.proofs.lemmas.List.{length_push, length-map, length-take-le, get_or_append_left, get_or_push, get_or-set_same, get_or-set_other, take_all, take_more, set_past, get_or_past}
 use Rattle.std.proofs.lemmas.List.Elements.{filter_map-append, Contains-get_or}
-use Rattle.std.proofs.lemmas.Bool.{cases_Bool, cases_eq, cases_lt, ne_eqb, eq-eqb, eqb-false, false≢true, both_ways, not_from_true, not_from_false}
-use Rattle.std.proofs.lemmas.Option.{slice_get_within, slice_get_read, slice_get-get_or, get_or_from_slice_get, none-some, same_Some}
+use Rattle.std.proofs.lemmas.Bool.{cases_Bool, cases_eq, cases_lt, ne_eqb, eqb-false}
+use Rattle.std.proofs.lemmas.Option.{slice_get-get_or, none-some}
 use Rattle.kt_tuple.specs.declared.node.NodeId.{NodeId}
-use Rattle.kt_tuple.specs.declared.op.Answer.{Answer}
 use Rattle.kt_tuple.specs.declared.service.Service.{Service}
 use Rattle.kt_tuple.specs.Node.{node_index}
 use Rattle.kt_history.specs.declared.note.What.{What}
@@ -16,18 +15,18 @@ use Rattle.kt_history.specs.declared.note.Act.{Act}
 use Rattle.kt_history.specs.declared.note.Note.{Note}
 use Rattle.kt_history.specs.declared.note.Note.TheVariants as notes
 use Rattle.kt_history.specs.declared.mark.Mark.{Mark}
-use Rattle.kt_history.specs.Line.{note_at, before, IsAct, same_node, line}
-use Rattle.kt_history.specs.Survival.{Survives, survives, service_of, services_of, marked_from, marked_acts, services, lost_count}
+use Rattle.kt_history.specs.Line.{note_at, before, same_node, line}
+use Rattle.kt_history.specs.Survival.{Survives, survives, service_of, services_of, marked_from, marked_acts, lost_count}
 use Rattle.kt_history.specs.WellFormed.{MayFollow, CausesComeFirst}
 use Rattle.std.specs.declared.vec.Vec.{Vec}
 use Rattle.std.specs.declared.alloc.Global.{Global}
 use Rattle.kt_history.proofs.RowSteps.{row_at-rows_of}
-use Rattle.kt_history.specs.Marks.{rows_of, last_of, lasts, note_service, is_served, is_service, no_mark, mark_at, lasts_in, unmarked, renewed, LooksBack, AreMarksOf, AreLost, HasLost, act_mark, is_lost, lost_among, kept_service, row_at, Agrees}
-use Rattle.kt_history.proofs.Lists.{slice_get-append_left, slice_get-push, slice_get-push_cases, slice_get-drop, slice_get-from_Contains, Contains-from_slice_get, Contains-from_list_any}
-use Rattle.kt_history.proofs.Lines.{same_node-true, same_node-refl, line-empty, line-own, line-rises, line-own_act, line-own_cut, line-other_act, line-other_cut, note_at-old, note_at-new, note_at-within, note_at-push_cases, before-old, before-new, length-before_note}
+use Rattle.kt_history.specs.Marks.{rows_of, last_of, lasts, note_service, is_served, no_mark, mark_at, lasts_in, unmarked, renewed, LooksBack, AreMarksOf, AreLost, HasLost, act_mark, is_lost, lost_among, row_at, Agrees}
+use Rattle.kt_history.proofs.Lists.{slice_get-drop, slice_get-from_Contains, Contains-from_slice_get}
+use Rattle.kt_history.proofs.Lines.{same_node-true, line-empty, line-own, line-own_act, line-own_cut, line-other_act, line-other_cut, note_at-old, note_at-new, note_at-within, note_at-push_cases, before-old, before-new, length-before_note}
 use Rattle.kt_history.proofs.Pasts.{CausesComeFirst-empty, CausesComeFirst-push}
 use Rattle.kt_history.proofs.Survivors.{survives-decides, Survives-act}
-use Rattle.kt_history.proofs.Changes.{last_of-within, cause_within, survives-act_old, survives-act_new, survives-cut, survives-cut_before, drop-line-from_first, lasts-act_old}
+use Rattle.kt_history.proofs.Changes.{last_of-within, cause_within, survives-act_old, survives-act_new, survives-cut, survives-cut_before, drop-line-from_first}
 use Rattle.kt_history.proofs.Fronts.{marked_from-append}
 use Rattle.kt_history.proofs.MarkSteps.{lost_among-push, lost_among-at_most, renewed-previous}
 

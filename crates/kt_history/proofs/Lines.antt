@@ -1,9 +1,9 @@
 -- How a line grows, and what stands in it.
-use Rattle.std.proofs.Common.{◌≡◌, ℕ, zero, suc, ◌+◌, ◌-◌, ◌*◌, ◌<◌, ◌≤◌, ◌==◌, Bool, true, false, cond, eqb, List, [], ◌∷◌, ◌++◌, take, drop, length, get_or, Option, None, Some, refl, sym, ap, ◌∙◌, subst, ◌⊎◌, inl, inr, arith, Contains, add-zero, add-one}
+use Rattle.std.proofs.Common.{◌≡◌, ℕ, zero, suc, ◌+◌, ◌<◌, ◌≤◌, true, false, List, [], ◌∷◌, ◌++◌, take, length, Some, refl, sym, ap, ◌∙◌, subst, ◌⊎◌, inl, inr, arith, Contains, add-zero}
 use Rattle.std.specs.List.{slice_get}
-use Rattle.std.proofs.lemmas.List.{append-nil, take-append-le, take_at, take_all, take-take, length-take-le, length-append}
-use Rattle.std.proofs.lemmas.List.Elements.{Contains-append_left, Contains-push, Contains-push_cases}
-use Rattle.std.proofs.lemmas.Option.{slice_get_within, none-some, same_Some}
+use Rattle.std.proofs.lemmas.List.{take-append-le, take_at, take-take, length-take-le}
+use Rattle.std.proofs.lemmas.List.Elements.{Contains-push_cases}
+use Rattle.std.proofs.lemmas.Option.{slice_get_within, none-some}
 use Rattle.std.proofs.lemmas.Bool.{eqb-true, eq-eqb, cases_Bool, cond-true, cond-false}
 use Rattle.kt_tuple.specs.declared.node.NodeId.{NodeId}
 use Rattle.kt_tuple.specs.declared.node.NodeId.TheVariants.{Worker, Shard}
@@ -11,8 +11,8 @@ use Rattle.kt_tuple.specs.Node.{node_index}
 use Rattle.kt_history.specs.declared.note.Act.{Act}
 use Rattle.kt_history.specs.declared.note.Note.{Note}
 use Rattle.kt_history.specs.declared.note.Note.TheVariants as notes
-use Rattle.kt_history.specs.Line.{note_at, before, IsAct, same_node, line_step, line_from, line}
-use Rattle.kt_history.proofs.Lists.{snoc_ind, slice_get-append_left, slice_get-push, slice_get-push_cases, slice_get-take, slice_get-take_below, slice_get-from_Contains, Contains-from_slice_get, Contains-from_take, Contains-none}
+use Rattle.kt_history.specs.Line.{note_at, before, same_node, line_step, line_from, line}
+use Rattle.kt_history.proofs.Lists.{snoc_ind, slice_get-append_left, slice_get-push, slice_get-push_cases, slice_get-take, slice_get-take_below, Contains-from_slice_get, Contains-from_take, Contains-none}
 
 -- nodes with one number are one node
 pub node_index-injective : (p q : NodeId) → node_index p ≡ node_index q → p ≡ q

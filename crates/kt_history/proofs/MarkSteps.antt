@@ -1,16 +1,15 @@
 -- How marks change, one at a time.
-use Rattle.std.proofs.Common.{◌≡◌, ◌≢◌, ℕ, zero, suc, ◌+◌, ◌-◌, ◌<◌, ◌≤◌, ◌==◌, ◌&&◌, ◌||◌, not, Bool, true, false, cond, List, [], ◌∷◌, ◌++◌, take, drop, set, length, get_or, Option, None, Some, refl, sym, ap, ◌∙◌, subst, ◌⊎◌, inl, inr, arith, Contains, add-zero}
+use Rattle.std.proofs.Common.{◌≡◌, ◌≢◌, ℕ, zero, suc, ◌+◌, ◌-◌, ◌<◌, ◌≤◌, ◌==◌, ◌&&◌, ◌||◌, not, Bool, true, false, cond, List, [], ◌∷◌, ◌++◌, take, drop, set, length, get_or, Option, None, Some, refl, sym, ap, ◌∙◌, subst, inl, inr, arith, add-zero}
 use Rattle.std.specs.List.{slice_get, list_any}
-use Rattle.std.proofs.lemmas.List.{get_or-set_same, get_or-set_other, get_or-take, length-set, length-take-le, length_push, ext_get_or, take_more, take_rest}
+use Rattle.std.proofs.lemmas.List.{get_or-set_same, get_or-set_other, get_or-take, length-set, length-take-le, ext_get_or, take_more, take_rest}
 use Rattle.kt_history.proofs.Lists.{Contains-from_list_any}
 use Rattle.std.proofs.lemmas.List.Folds.{list_any-append}
-use Rattle.std.proofs.lemmas.Bool.{cases_Bool, cases_eq, cases_lt, eq-eqb, ne_eqb}
+use Rattle.std.proofs.lemmas.Bool.{cases_Bool, cases_eq, eq-eqb, ne_eqb}
 use Rattle.std.proofs.Math.Bool.{and-true}
-use Rattle.kt_history.specs.declared.note.Act.{Act}
 use Rattle.kt_history.specs.declared.note.Note.{Note}
 use Rattle.kt_history.specs.declared.note.Note.TheVariants as notes
 use Rattle.kt_history.specs.declared.mark.Mark.{Mark}
-use Rattle.kt_history.specs.Marks.{mark_at, no_mark, lasts_in, unmarked, renewed, LooksBack, AreMarksOf, IsRenewed, IsUnmarked, AreLost, HasLost, lost_among, is_lost, is_service}
+use Rattle.kt_history.specs.Marks.{mark_at, no_mark, lasts_in, unmarked, renewed, LooksBack, AreMarksOf, IsRenewed, IsUnmarked, AreLost, HasLost, lost_among, is_lost}
 
 pub unmarked-none : (k : ℕ) (m : Mark) → unmarked [] k m ≡ m
 unmarked-none k m = ap (λ b. let n : Mark = record { previous = m.previous; survives = b } in n) (and-true m.survives)

@@ -1,17 +1,11 @@
 -- What happened before what.
-use Rattle.std.proofs.Common.{◌≡◌, ◌≢◌, ℕ, zero, suc, ◌+◌, ◌-◌, ◌<◌, ◌≤◌, Bool, true, false, List, [], ◌∷◌, ◌++◌, take, length, Option, None, Some, refl, sym, ap, ◌∙◌, subst, ◌⊎◌, inl, inr, arith, Contains}
-use Rattle.std.specs.List.{slice_get}
-use Rattle.std.proofs.lemmas.Bool.{cases_lt}
-use Rattle.std.proofs.lemmas.Option.{slice_get_within, slice_get-get_or, none-some, same_Some}
-use Rattle.kt_tuple.specs.declared.node.NodeId.{NodeId}
-use Rattle.kt_history.specs.declared.note.Act.{Act}
+use Rattle.std.proofs.Common.{◌≡◌, ℕ, ◌<◌, ◌≤◌, List, [], ◌∷◌, ◌++◌, length, Some, sym, ◌∙◌, subst, inl, inr, arith, Contains}
 use Rattle.kt_history.specs.declared.note.Note.{Note}
 use Rattle.kt_history.specs.declared.note.Note.TheVariants as notes
 use Rattle.kt_history.specs.Line.{note_at, before, IsAct, line}
 use Rattle.kt_history.specs.Past.{StoodBefore, IsCauseOf, InPast, itself, in_line, by_cause}
 use Rattle.kt_history.specs.WellFormed.{MayFollow, CausesComeFirst}
-use Rattle.kt_history.proofs.Lists.{slice_get-append_left, slice_get-push, slice_get-take_below, slice_get-from_Contains, Contains-from_slice_get}
-use Rattle.kt_history.proofs.Lines.{note_at-old, note_at-new, note_at-within, note_at-push_cases, note_before, before-old, before-new, before-before, length-before_note, line-own, line-stack}
+use Rattle.kt_history.proofs.Lines.{note_at-old, note_at-within, note_at-push_cases, note_before, before-old, before-new, line-own}
 
 -- happened-before is transitive
 pub InPast-trans : (h : List Note) (d : ℕ) {e f : ℕ} → InPast h d e → InPast h e f → InPast h d f

@@ -1,5 +1,5 @@
 -- Runs of the space, whose tuples are known up to their order.
-use Rattle.std.proofs.Common.{◌≡◌, ℕ, zero, suc, ◌+◌, ◌<◌, ◌≤◌, Bool, true, false, cond, List, [], ◌∷◌, ◌++◌, take, drop, length, get_or, sum_by, Contains, IsPermutation, ◌⊎◌, inl, inr, sym, refl, ap, ◌∙◌, subst, arith}
+use Rattle.std.proofs.Common.{◌≡◌, ℕ, ◌+◌, ◌<◌, ◌≤◌, Bool, true, false, cond, List, [], ◌∷◌, ◌++◌, take, drop, length, get_or, sum_by, Contains, IsPermutation, sym, refl, ap, ◌∙◌, subst, arith}
 use Rattle.std.proofs.lemmas.List.{take_more, drop_more}
 use Rattle.std.proofs.lemmas.List.Sums.{sum_by-cons}
 use Rattle.std.proofs.lemmas.List.Sorted.{IsPermutation-refl, IsPermutation-sym, IsPermutation-trans, IsPermutation-cons, IsPermutation-remove, Contains-permutation, sum_by-IsPermutation}
@@ -12,9 +12,9 @@ use Rattle.kt_tuple.specs.declared.op.Answer.TheVariants as answers
 use Rattle.kt_tuple.specs.declared.service.Service.{Service}
 use Rattle.kt_tuple.specs.Op.{tuple_eq, tuple_eq_decides}
 use Rattle.kt_tuple.specs.Matching.{Matches}
-use Rattle.kt_tuple.specs.Space.{SpaceStep, RunsFrom, IsSpaceRun}
-use Rattle.kt_history.specs.Run.{IsRun, CanStep, IsThere, TakesOut}
-use Rattle.kt_history.proofs.Lists.{Contains-none, Contains-here, Contains-there}
+use Rattle.kt_tuple.specs.Space.{SpaceStep, RunsFrom}
+use Rattle.kt_history.specs.Run.{CanStep, IsThere, TakesOut}
+use Rattle.kt_history.proofs.Lists.{Contains-here, Contains-there}
 
 -- how often a tuple is among tuples
 abbrev one : Tuple → Tuple → ℕ

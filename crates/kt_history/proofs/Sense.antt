@@ -1,8 +1,6 @@
 -- Histories that make sense: how they grow, and that without a cut nothing is lost.
-use Rattle.std.proofs.Common.{◌≡◌, ◌≢◌, ℕ, zero, suc, ◌+◌, ◌<◌, ◌≤◌, List, [], ◌∷◌, ◌++◌, length, Option, None, Some, refl, sym, ap, ◌∙◌, subst, ◌⊎◌, inl, inr, arith, Contains}
-use Rattle.std.proofs.lemmas.Bool.{cases_eq}
+use Rattle.std.proofs.Common.{◌≡◌, ◌≢◌, ℕ, suc, List, [], ◌∷◌, ◌++◌, length, Option, None, Some, refl, sym, ap, ◌∙◌, subst, ◌⊎◌, inl, inr, arith, Contains}
 use Rattle.std.proofs.lemmas.List.Elements.{Contains-push}
-use Rattle.std.proofs.lemmas.Option.{none-some, same_Some}
 use Rattle.kt_tuple.specs.declared.node.NodeId.{NodeId}
 use Rattle.kt_tuple.specs.declared.node.NodeId.TheVariants.{Worker, Shard}
 use Rattle.kt_tuple.specs.declared.op.Answer.{Answer}
@@ -12,14 +10,13 @@ use Rattle.kt_history.specs.declared.note.Act.{Act}
 use Rattle.kt_history.specs.declared.note.Note.{Note}
 use Rattle.kt_history.specs.declared.note.Note.TheVariants as notes
 use Rattle.kt_history.specs.Line.{note_at, before, IsAct, line}
-use Rattle.kt_history.specs.Past.{StoodBefore, IsCauseOf, InPast, itself, in_line, by_cause}
+use Rattle.kt_history.specs.Past.{InPast, itself, in_line, by_cause}
 use Rattle.kt_history.specs.WellFormed.{MayFollow, CausesComeFirst, HeardRequest, HeardReply, IgnoredFits, ActFits, Fits, IsWellFormed, HasNoCut}
 use Rattle.kt_history.specs.Survival.{Stands, Survives}
 use Rattle.kt_history.specs.Marks.{last_of}
 use Rattle.kt_history.proofs.Lists.{snoc_ind}
 use Rattle.kt_history.proofs.Lines.{line-own_act, note_at-old, note_at-new, note_at-within, note_at-push_cases, before-old, before-new}
-use Rattle.kt_history.proofs.Pasts.{InPast-back, StoodBefore-act}
-use Rattle.kt_history.proofs.Survivors.{Survives-act}
+use Rattle.kt_history.proofs.Pasts.{InPast-back}
 use Rattle.kt_history.proofs.Changes.{Stands-act_old, StoodBefore-last, StoodBefore-from_last}
 
 pub IsWellFormed-empty : IsWellFormed []

@@ -1,15 +1,13 @@
 -- The test of survival is survival, and what survives has its whole past surviving.
-use Rattle.std.proofs.Common.{◌≡◌, ◌≢◌, ℕ, zero, suc, ◌+◌, ◌<◌, ◌≤◌, ◌==◌, ◌&&◌, Bool, true, false, cond, List, [], ◌∷◌, ◌++◌, length, Option, None, Some, refl, sym, ap, ◌∙◌, subst, ◌⊎◌, inl, inr, arith, Contains, Decides}
-use Rattle.std.specs.List.{slice_get, list_all, list_any}
-use Rattle.std.proofs.lemmas.Bool.{and_parts, and_from, cases_Bool, eqb-true, eq-eqb, false≢true, cases_eq, cond-true, cond-false, ne_eqb}
-use Rattle.std.proofs.lemmas.Option.{none-some, same_Some}
+use Rattle.std.proofs.Common.{◌≡◌, ℕ, zero, suc, ◌<◌, true, List, ◌∷◌, Option, None, Some, refl, sym, ap, ◌∙◌, subst, ◌⊎◌, inl, inr, arith, Contains, Decides}
+use Rattle.std.proofs.lemmas.Bool.{and_parts, and_from, cases_Bool, eq-eqb, false≢true, cases_eq, cond-true, cond-false, ne_eqb}
 use Rattle.kt_tuple.specs.declared.node.NodeId.{NodeId}
 use Rattle.kt_history.specs.declared.note.Act.{Act}
 use Rattle.kt_history.specs.declared.note.Note.{Note}
 use Rattle.kt_history.specs.declared.note.Note.TheVariants as notes
 use Rattle.kt_history.specs.Line.{note_at, before, IsAct, line}
 use Rattle.kt_history.specs.Past.{StoodBefore, IsCauseOf, InPast, itself, in_line, by_cause}
-use Rattle.kt_history.specs.WellFormed.{MayFollow, CausesComeFirst}
+use Rattle.kt_history.specs.WellFormed.{CausesComeFirst}
 use Rattle.kt_history.specs.Survival.{Stands, IsLost, Survives, note_stands, note_causes, stands_back, survives}
 use Rattle.kt_history.specs.Closed.{IsClosed}
 use Rattle.kt_history.proofs.Lists.{Contains-none, Contains-here, Contains-there, Contains-cons_cases, list_all-at, list_all-from, list_any-from_Contains, Contains-from_list_any}

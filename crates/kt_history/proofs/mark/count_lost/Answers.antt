@@ -1,5 +1,4 @@
-use Rattle.std.proofs.Common.{◌≡◌, ap, sym, ◌∙◌, arith, cond, Bool, ℕ, true, false}
-use Rattle.kt_history.specs.Marks.{is_lost, mark_at}
+use Rattle.std.proofs.Common.{ap, sym, ◌∙◌, arith, cond, Bool, ℕ}
 use Rattle.kt_history.proofs.MarkSteps.{lost_among-more}
 use Rattle.kt_history.proofs.mark.count_lost.Goals as goal
 use Rattle.kt_history.proofs.mark.count_lost.Goals.{then-is_lost, else-is_lost}

@@ -1,4 +1,4 @@
-use Rattle.std.proofs.Common.{◌-◌, get_or, ap, sym, ◌∙◌, arith}
+use Rattle.std.proofs.Common.{◌-◌, get_or, ◌∙◌, arith}
 use Rattle.kt_history.proofs.MarkSteps.{HasLost-from, HasLost-counted, lost_among-split, lost_among-part, lost_among-at_most}
 use Rattle.kt_history.proofs.mark.lose_some.Goals as goal
 

@@ -1,4 +1,4 @@
-use Rattle.std.proofs.Common.{ℕ, ◌+◌, ◌-◌, vec_len}
+use Rattle.std.proofs.Common.{◌+◌, ◌-◌, vec_len}
 use Rattle.kt_history.specs.Marks.{SameRows}
 use Rattle.kt_history.proofs.rows.reserve_row.Given as goal
 

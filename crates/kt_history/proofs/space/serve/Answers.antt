@@ -1,4 +1,4 @@
-use Rattle.std.proofs.Common.{sym, subst}
+use Rattle.std.proofs.Common.{subst}
 use Rattle.kt_tuple.specs.declared.op.Op.{Op}
 use Rattle.kt_history.specs.Run.{CanStep}
 use Rattle.kt_history.proofs.Runs.{IsThere-in, IsThere-inp}

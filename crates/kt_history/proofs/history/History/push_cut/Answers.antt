@@ -1,7 +1,6 @@
-use Rattle.std.proofs.Common.{◌≡◌, ◌++◌, ◌∷◌, [], ap, sym, ◌∙◌, length, suc, arith, ℕ, refl, drop}
+use Rattle.std.proofs.Common.{◌≡◌, ◌++◌, ◌∷◌, [], ap, ◌∙◌, length, arith, refl}
 use Rattle.std.proofs.lemmas.List.{take_at}
 use Rattle.kt_history.specs.declared.note.Note.TheVariants as notes
-use Rattle.kt_history.specs.Line.{line}
 use Rattle.kt_history.specs.Marks.{no_mark}
 use Rattle.kt_history.proofs.Keeping.{Agrees-at, Agrees-marks_of, AreMarksOf-at, AreLost-at, behind-is, Agrees-pushed_cut, MayFollow-at}
 use Rattle.kt_history.proofs.history.History.push_cut.Goals as goal

@@ -1,4 +1,4 @@
-use Rattle.std.proofs.Common.{◌≡◌, ℕ, ◌-◌, ◌≤◌, ◌<◌, Bool, true, false, length, sym, ap, ◌∙◌, ◌↔◌, IsTrue, arith, subst, List}
+use Rattle.std.proofs.Common.{◌-◌, ◌≤◌, ◌<◌, length, sym, ap, ◌∙◌, ◌↔◌, IsTrue, arith, subst, List}
 use Rattle.std.proofs.lemmas.Bool.{leb-true, leb-false, false≢true}
 use Rattle.std.proofs.lemmas.List.{get_or_default}
 use Rattle.kt_history.specs.declared.mark.Mark.{Mark}

@@ -1,8 +1,7 @@
-use Rattle.std.proofs.Common.{◌≡◌, ◌+◌, ap, sym, ◌∙◌, [], refl, arith, take, cond, ◌++◌, length, get_or, subst, ℕ, suc, ◌≤◌, ◌<◌}
+use Rattle.std.proofs.Common.{ap, sym, ◌∙◌, [], arith, take, cond, ◌++◌, length, get_or, suc, ◌≤◌, ◌<◌}
 use Rattle.std.specs.Option.{option_to_list}
 use Rattle.std.proofs.lemmas.List.{take_all, get_or_default}
 use Rattle.kt_history.specs.declared.mark.Mark.{Mark}
-use Rattle.kt_history.specs.declared.note.Note.{Note}
 use Rattle.kt_history.specs.Survival.{services, survives, services_of, marked_acts, marked_from}
 use Rattle.kt_history.specs.Marks.{note_service, no_mark}
 use Rattle.kt_history.proofs.Keeping.{services-more}
