@@ -1,5 +1,6 @@
 //! What ends a replay.
 
+use kt_core::{OpenError, StepError};
 use thiserror::Error;
 
 /// What is wrong with a line of a scenario. Of several faults of one line it is the one with the
@@ -54,4 +55,27 @@ impl SceneError {
 pub struct SceneFault {
     pub line: usize,
     pub cause: SceneError,
+}
+
+/// Why a replay ended early. All but `Write` leave nothing written.
+#[derive(Clone, Copy, Debug, PartialEq, Eq, Error)]
+pub enum ReplayFault {
+    /// The text is no scenario: its first line that has a fault, counted from 1.
+    #[error("line {line}: {cause}")]
+    Scene { line: usize, cause: SceneError },
+    /// A step was refused: its number, counted from 1.
+    #[error("step {at}: {cause}")]
+    Step { at: usize, cause: StepError },
+    /// The world could not be opened.
+    #[error("open: {0}")]
+    Open(OpenError),
+    /// Memory ran out for the text or for the report.
+    #[error("memory")]
+    Memory,
+    /// The reader failed, or 2,000,000 calls did not bring the end of the text.
+    #[error("read")]
+    Read,
+    /// The writer failed. A front of the report is written.
+    #[error("write")]
+    Write,
 }

@@ -7,3 +7,4 @@ pub mod Strings
 pub mod Places
 pub mod Made
 pub mod IntLaws
+pub mod StrLaws

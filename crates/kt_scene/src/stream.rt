@@ -1,0 +1,55 @@
+//! All bytes of a reader, and all bytes to a writer.
+
+use crate::draft::MAX_TEXT;
+use crate::fault::{ReplayFault, SceneError};
+use std::alloc::Global;
+use std::io::{ErrorKind, Read, Write};
+
+/// The most calls of a reader.
+pub const MAX_READS: u32 = 2_000_000;
+
+/// How many bytes are asked for at once.
+const CHUNK: usize = 8192;
+
+/// All bytes of the reader. Refused by a fault of line 1 where there are more than 1,048,576, by want
+/// of memory, or by the reader, which has 2,000,000 calls to come to its end. A call that was
+/// interrupted is made again.
+pub fn read_text<R: Read>(alloc: Global, reader: &mut R) -> Result<Vec<u8>, ReplayFault> {
+    let mut text = Vec::new(alloc);
+    let mut chunk = [0u8; CHUNK];
+    for _ in 0..MAX_READS {
+        match reader.read(&mut chunk) {
+            Ok(0) => return Ok(text),
+            Ok(count) => {
+                if count > MAX_TEXT - text.len() {
+                    return Err(ReplayFault::Scene {
+                        line: 1,
+                        cause: SceneError::Limit,
+                    });
+                }
+                text.extend_from_slice(&chunk[..count])
+                    .map_err(|_| ReplayFault::Memory)?;
+            }
+            Err(error) if error.kind() == ErrorKind::Interrupted => {}
+            Err(_) => return Err(ReplayFault::Read),
+        }
+    }
+    Err(ReplayFault::Read)
+}
+
+/// Writes all bytes. A call that was interrupted is made again.
+pub fn put<W: Write>(writer: &mut W, bytes: &[u8]) -> Result<(), ReplayFault> {
+    let mut rest = bytes;
+    for _ in 0..u64::MAX {
+        if rest.is_empty() {
+            return writer.flush().map_err(|_| ReplayFault::Write);
+        }
+        match writer.write(rest) {
+            Ok(0) => return Err(ReplayFault::Write),
+            Ok(count) => rest = &rest[count..],
+            Err(error) if error.kind() == ErrorKind::Interrupted => {}
+            Err(_) => return Err(ReplayFault::Write),
+        }
+    }
+    Err(ReplayFault::Write)
+}
