@@ -1,5 +1,5 @@
 -- Where causes come first, each worker's services are its script's, in order.
-use Rattle.std.proofs.Common.{◌≡◌, ℕ, suc, ◌+◌, ◌<◌, ◌≤◌, ◌==◌, max, Bool, true, false, cond, Option, Some, None, List, [], ◌∷◌, ◌++◌, length, Contains, ◌⊎◌, inl, inr, sym, refl, ap, ◌∙◌, subst, append_assoc, append-nil, length-append, le_refl, le_trans, le_of_lt, le_of_eq, arith}
+use Rattle.std.proofs.Common.{◌≡◌, ℕ, suc, ◌<◌, ◌≤◌, ◌==◌, Option, Some, None, List, [], ◌∷◌, ◌++◌, length, Contains, inl, inr, sym, refl, ap, ◌∙◌, subst, append_assoc, append-nil, le_refl, le_trans, le_of_lt, le_of_eq, arith}
 use Rattle.std.specs.List.{cons_option}
 use Rattle.std.proofs.lemmas.List.{map-append}
 use Rattle.std.proofs.lemmas.List.Elements.{Contains-append_left, Contains-push, Contains-push_cases}
@@ -97,8 +97,8 @@ asked_for : (setting : Setting) (past : List Act) (done : List Service) (x : Wor
     HasAsked setting a.worker (x.worker a.worker) a.number a.op
 asked_for setting past done x i a r =
     subst (λ n. HasAsked setting a.worker (x.worker a.worker) n a.op) r.same.number
-      (subst (λ o. HasAsked setting a.worker (x.worker a.worker) r.request.number o) r.same.op
-        (subst (λ w. HasAsked setting w (x.worker w) r.request.number r.request.op) r.same.worker (i.requests r.request r.earlier r.asking)))
+    (subst (λ o. HasAsked setting a.worker (x.worker a.worker) r.request.number o) r.same.op
+    (subst (λ w. HasAsked setting w (x.worker w) r.request.number r.request.op) r.same.worker (i.requests r.request r.earlier r.asking)))
 
 -- a request that waits at its home was not served before
 not_served : (setting : Setting) (past : List Act) (done : List Service) (x : World) → InOrder setting past done x → (a : Act) (s : ℕ) →
@@ -107,7 +107,7 @@ not_served : (setting : Setting) (past : List Act) (done : List Service) (x : Wo
 not_served setting past done x i a s home waits v c worker number op =
     let old : v.number ≤ kept_at_home setting x v = i.keeps v (Contains-unfilter (λ (r : Service). r.worker == a.worker) v done c) in
     let there : kept_at_home setting x v ≡ kept_number ((x.shard s).desk a.worker).kept =
-      ap (λ o. kept_number ((x.shard (shard_of setting.shards (kinds_of_op o))).desk v.worker).kept) op ∙ ap (λ k. kept_number ((x.shard k).desk v.worker).kept) home ∙ ap (λ w. kept_number ((x.shard s).desk w).kept) worker in
+    ap (λ o. kept_number ((x.shard (shard_of setting.shards (kinds_of_op o))).desk v.worker).kept) op ∙ ap (λ k. kept_number ((x.shard k).desk v.worker).kept) home ∙ ap (λ w. kept_number ((x.shard s).desk w).kept) worker in
     let newer : kept_number ((x.shard s).desk a.worker).kept < a.number = i.newer s a.worker (request_of a) waits in
     omega (arith, old, there, newer, number)
 
@@ -150,7 +150,7 @@ accepts : (setting : Setting) (past : List Act) (done : List Service) (x : World
     (more : List Answer) × (answers_in (of_worker w done) ≡ ((x.worker w).answers ++ answer ∷ []) ++ more)
 accepts setting past done x i a w answer worker number r =
     let there : Contains (of_worker w done) (the_service r.service answer) =
-      Contains-of_worker w done (the_service r.service answer) (r.same.worker ∙ worker) (i.recorded r.service answer r.earlier r.served) in
+    Contains-of_worker w done (the_service r.service answer) (r.same.worker ∙ worker) (i.recorded r.service answer r.earlier r.served) in
     let p = place_of (setting.asks w) [] (of_worker w done) (the_service r.service answer) (i.follows w) there in
     let long : length (x.worker w).answers ≡ length p.0 = omega (arith, number, r.same.number, p.3) in
     let split : ((x.worker w).answers ≡ p.0) × ((i.ahead w).0 ≡ answer ∷ p.1) = split_same (x.worker w).answers (i.ahead w).0 p.0 (answer ∷ p.1) (sym (i.ahead w).1 ∙ p.2) long in
@@ -177,16 +177,16 @@ worker_moves setting past done x i a w own whats.Repeat h c = record {
   serves_not = λ answer e. cc;
 }
 worker_moves setting past done x i a w own (whats.Accepted answer) h c =
-  let k = accepts setting past done x i a w answer own h.0 c in
-  record {
-  asks_next = λ op e. absurd cc;
-  added = answer ∷ [];
-  grows = refl;
-  extra = k.0;
-  ahead = k.1;
-  asking = λ e. absurd e;
-  serves_not = λ answer e. cc;
-}
+    let k = accepts setting past done x i a w answer own h.0 c in
+    record {
+      asks_next = λ op e. absurd cc;
+      added = answer ∷ [];
+      grows = refl;
+      extra = k.0;
+      ahead = k.1;
+      asking = λ e. absurd e;
+      serves_not = λ answer e. cc;
+    }
 worker_moves setting past done x i a w own (whats.Ignored (Some answer)) h c = record {
   asks_next = i.asks_next w;
   added = [];
@@ -211,11 +211,12 @@ worker_keeps setting past done x i a w y own m = record {
 } where
   newest : IsAsking a.what → HasAsked setting a.worker (put_row w y x.worker a.worker) a.number a.op
   newest asking = put_row_holds (λ v z. a.worker ≡ v → HasAsked setting v z a.number a.op) w y x.worker (λ _. m.asking asking) (λ v d e. absurd (d (sym own ∙ e))) a.worker refl
+
   older : (r : Act) → Contains past r → IsAsking r.what → HasAsked setting r.worker (put_row w y x.worker r.worker) r.number r.op
   older r old asking =
       put_row_holds (λ v z. r.worker ≡ v → HasAsked setting v z r.number r.op) w y x.worker
-        (λ e. HasAsked-grows setting w (x.worker w) y r.number r.op m.added m.grows (subst (λ v. HasAsked setting v (x.worker v) r.number r.op) e (i.requests r old asking)))
-        (λ v d e. subst (λ v. HasAsked setting v (x.worker v) r.number r.op) e (i.requests r old asking)) r.worker refl
+      (λ e. HasAsked-grows setting w (x.worker w) y r.number r.op m.added m.grows (subst (λ v. HasAsked setting v (x.worker v) r.number r.op) e (i.requests r old asking)))
+      (λ v d e. subst (λ v. HasAsked setting v (x.worker v) r.number r.op) e (i.requests r old asking)) r.worker refl
 
 -- what a shard's act does to the desk of its worker
 desk_newer : (bag : List Tuple) (d : Desk) (cause : ℕ) (a : Act) (what : What) → IsNewer d → ShardMay bag d cause a what → IsNewer (desk_after d a what)
@@ -240,14 +241,14 @@ advances : (shards s : ℕ) (x : MadeShard) (a : Act) → ((w : ℕ) → IsNewer
 advances shards s x a n h = record {
   newer = put_row_holds (λ w d. IsNewer d) a.worker (desk_after (x.desk a.worker) a a.what) x.desk (desk_newer x.bag (x.desk a.worker) (x.cause a.worker) a a.what (n a.worker) h.1) (λ w _. n w);
   grows = put_row_holds (λ w d. kept_number (x.desk w).kept ≤ kept_number d.kept) a.worker (desk_after (x.desk a.worker) a a.what) x.desk
-            (desk_grows x.bag (x.desk a.worker) (x.cause a.worker) a a.what (n a.worker) h.1) (λ w _. le_refl (kept_number (x.desk w).kept));
+      (desk_grows x.bag (x.desk a.worker) (x.cause a.worker) a a.what (n a.worker) h.1) (λ w _. le_refl (kept_number (x.desk w).kept));
 }
 
 kept-grows : (setting : Setting) (x : World) (s : ℕ) (y : MadeShard) → Advances (x.shard s) y → (v : Service) →
     kept_at_home setting x v ≤ kept_at_home setting (record { shard = put_row s y x.shard; worker = x.worker }) v
 kept-grows setting x s y m v =
     put_row_holds (λ i (z : MadeShard). kept_number ((x.shard i).desk v.worker).kept ≤ kept_number (z.desk v.worker).kept) s y x.shard (m.grows v.worker)
-      (λ i _. le_refl (kept_number ((x.shard i).desk v.worker).kept)) (shard_of setting.shards (kinds_of_op v.op))
+    (λ i _. le_refl (kept_number ((x.shard i).desk v.worker).kept)) (shard_of setting.shards (kinds_of_op v.op))
 
 -- an act of a shard that is no service
 shard_rests : (setting : Setting) (past : List Act) (done : List Service) (x : World) → InOrder setting past done x → (a : Act) (s : ℕ) (y : MadeShard) → Advances (x.shard s) y →
@@ -270,8 +271,8 @@ shard_serves : (setting : Setting) (past : List Act) (done : List Service) (x : 
 shard_serves setting past done x i a s y m answer serves home now number asked = record {
   asks_next = i.asks_next;
   ahead = of_worker_holds (λ w l. (extra : List Answer) × (answers_in l ≡ (x.worker w).answers ++ extra)) done the
-    ((i.ahead a.worker).0 ++ answer ∷ [], map-append (λ (v : Service). v.answer) (of_worker a.worker done) (the ∷ []) ∙ ap (λ l. l ++ answer ∷ []) (i.ahead a.worker).1 ∙ append_assoc (x.worker a.worker).answers (i.ahead a.worker).0 (answer ∷ []))
-    i.ahead;
+      ((i.ahead a.worker).0 ++ answer ∷ [], map-append (λ (v : Service). v.answer) (of_worker a.worker done) (the ∷ []) ∙ ap (λ l. l ++ answer ∷ []) (i.ahead a.worker).1 ∙ append_assoc (x.worker a.worker).answers (i.ahead a.worker).0 (answer ∷ []))
+      i.ahead;
   follows = of_worker_holds (λ w l. OrderFrom (setting.asks w) [] l) done the (OrderFrom-push (setting.asks a.worker) [] (of_worker a.worker done) the (i.follows a.worker) number asked) i.follows;
   requests = λ r c asking. elim (Contains-cases a r past c) [ inl e ↦ absurd (subst IsAsking (ap (λ (b : Act). b.what) (sym e) ∙ serves) asking) | inr old ↦ i.requests r old asking ];
   recorded = λ v given c served. elim (Contains-cases a v past c) [ inl e ↦ newest v given e served | inr old ↦ Contains-append_left done (the ∷ []) (the_service v given) (i.recorded v given old served) ];
@@ -280,12 +281,15 @@ shard_serves setting past done x i a s y m answer serves home now number asked =
 } where
   the : Service
   the = the_service a answer
+
   after : World
   after = record { shard = put_row s y x.shard; worker = x.worker }
+
   newest : (v : Act) (given : Answer) → a ≡ v → v.what ≡ whats.Served given → Contains (done ++ the ∷ []) (the_service v given)
   newest v given e served =
       let same : answer ≡ given = cc (ap (λ (b : Act). b.what) e, serves, served) in
       subst (λ b. Contains (done ++ the ∷ []) (the_service b given)) e (subst (λ z. Contains (done ++ the ∷ []) (the_service a z)) same (Contains-push done the))
+
   kept : the.number ≤ kept_at_home setting after the
   kept = subst (λ k. a.number ≤ kept_number ((put_row s y x.shard k).desk a.worker).kept) (sym home) (subst (λ (z : MadeShard). a.number ≤ kept_number (z.desk a.worker).kept) (sym (put_row-same s y x.shard)) now)
 
@@ -322,7 +326,7 @@ act_keeps : (setting : Setting) (past : List Act) (done : List Service) (x : Wor
     InOrder setting (a ∷ past) (done_after done a a.what) (after_at x a p)
 act_keeps setting past done x i a (nodes.Worker w) h c =
     subst (λ l. InOrder setting (a ∷ past) l (after_at x a (nodes.Worker w))) (sym (done-worker done (setting.asks w) (x.worker w) a a.what h.1))
-      (worker_keeps setting past done x i a w (worker_after (x.worker w) a) h.0 (worker_moves setting past done x i a w h.0 a.what h.1 c))
+    (worker_keeps setting past done x i a w (worker_after (x.worker w) a) h.0 (worker_moves setting past done x i a w h.0 a.what h.1 c))
 act_keeps setting past done x i a (nodes.Shard s) h c = shard_keeps setting past done x i a s h a.what refl h.1 c
 
 services_on : (done : List Service) (a : Act) (what : What) (later : List Service) → done_after done a what ++ later ≡ done ++ cons_option (service_of a what) later
@@ -335,7 +339,7 @@ follows_from : (setting : Setting) (past : List Act) (done : List Service) (x : 
 follows_from setting past done x [] i h c = subst (FollowsScripts setting) (sym (append-nil done)) i.follows
 follows_from setting past done x (a ∷ later) i h c =
     subst (FollowsScripts setting) (services_on done a a.what (services_of later))
-      (follows_from setting (a ∷ past) (done_after done a a.what) (world_after x a) later (act_keeps setting past done x i a a.node h.0 c.0) h.1 c.1)
+    (follows_from setting (a ∷ past) (done_after done a a.what) (world_after x a) later (act_keeps setting past done x i a a.node h.0 c.0) h.1 c.1)
 
 at_first : (setting : Setting) → InOrder setting [] [] new_world
 at_first setting = record {

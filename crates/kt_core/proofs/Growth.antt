@@ -1,5 +1,5 @@
 -- One more note keeps lines legal: an act that its node may make, and any cut.
-use Rattle.std.proofs.Common.{◌≡◌, ◌≢◌, ℕ, zero, suc, ◌<◌, ◌≤◌, Bool, true, false, cond, Option, Some, None, List, [], ◌∷◌, ◌++◌, length, take, drop, take-append-drop, Contains, ◌⊎◌, inl, inr, sym, refl, ap, ◌∙◌, subst, append-nil}
+use Rattle.std.proofs.Common.{◌≡◌, ℕ, Bool, true, false, Option, List, [], ◌∷◌, ◌++◌, take, drop, take-append-drop, sym, refl, ap, ◌∙◌, subst, append-nil}
 use Rattle.kt_tuple.specs.declared.node.NodeId.{NodeId}
 use Rattle.kt_tuple.specs.declared.node.NodeId.TheVariants as nodes
 use Rattle.kt_tuple.specs.declared.op.Op.{Op}
@@ -7,8 +7,8 @@ use Rattle.kt_tuple.specs.declared.op.Answer.{Answer}
 use Rattle.kt_history.specs.declared.note.Act.{Act}
 use Rattle.kt_history.specs.declared.note.Note.{Note}
 use Rattle.kt_history.specs.declared.note.Note.TheVariants as notes
-use Rattle.kt_history.specs.Line.{note_at, line, same_node}
-use Rattle.kt_history.specs.Closed.{act_of, acts_at, acts_in_line}
+use Rattle.kt_history.specs.Line.{same_node}
+use Rattle.kt_history.specs.Closed.{acts_at, acts_in_line}
 use Rattle.kt_history.proofs.Lines.{line-empty, same_node-true}
 use Rattle.kt_history.proofs.Fronts.{acts_in_line-own_act, acts_in_line-other_act, acts_in_line-own_cut, acts_in_line-other_cut}
 use Rattle.kt_core.specs.Order.{Setting}
@@ -29,7 +29,7 @@ acts_in_line-cut h q keep p = by (same_node q p) refl
     by false e = ([], sym (acts_in_line-other_cut h q keep p e) ∙ sym (append-nil (acts_in_line (h ++ notes.Cut q keep ∷ []) p)))
     by true e =
         let kept : acts_in_line (h ++ notes.Cut q keep ∷ []) p ≡ take keep (acts_in_line h p) =
-          subst (λ n. acts_in_line (h ++ notes.Cut n keep ∷ []) p ≡ take keep (acts_in_line h p)) (sym (same_node-true q p e)) (acts_in_line-own_cut h p keep) in
+        subst (λ n. acts_in_line (h ++ notes.Cut n keep ∷ []) p ≡ take keep (acts_in_line h p)) (sym (same_node-true q p e)) (acts_in_line-own_cut h p keep) in
         (drop keep (acts_in_line h p), sym (take-append-drop keep (acts_in_line h p)) ∙ ap (λ l. l ++ drop keep (acts_in_line h p)) (sym kept))
 
 -- one more act at the end of a line
@@ -70,7 +70,7 @@ AreLegal-act setting h a legal m p = by (same_node a.node p) refl
   where
     by : (r : Bool) → same_node a.node p ≡ r → IsLine setting p (acts_in_line (h ++ notes.Act a ∷ []) p)
     by true e = subst (λ q. IsLine setting q (acts_in_line (h ++ notes.Act a ∷ []) q)) (same_node-true a.node p e)
-                  (subst (IsLine setting a.node) (sym (acts_in_line-own_act h a)) (IsLine-push setting a.node (acts_in_line h a.node) a (legal a.node) m))
+        (subst (IsLine setting a.node) (sym (acts_in_line-own_act h a)) (IsLine-push setting a.node (acts_in_line h a.node) a (legal a.node) m))
     by false e = subst (IsLine setting p) (sym (acts_in_line-other_act h a p e)) (legal p)
 
 -- a cut keeps lines legal

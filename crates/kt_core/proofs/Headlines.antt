@@ -1,18 +1,15 @@
 -- The headline of a sound state, and that each step keeps what it stands on.
-use Rattle.std.proofs.Common.{◌≡◌, ◌≢◌, ℕ, zero, suc, ◌+◌, ◌<◌, ◌≤◌, Bool, true, false, List, [], ◌∷◌, ◌++◌, length, filter, Contains, IsPermutation, Option, Some, None, Result, Ok, Err, ◌⊎◌, inl, inr, IsTrue, refl, sym, ap, ◌∙◌, subst, arith}
-use Rattle.std.specs.List.{flat_map, range_with_len}
+use Rattle.std.proofs.Common.{◌≡◌, ◌≢◌, ℕ, ◌≤◌, List, [], ◌∷◌, length, filter, Contains, IsPermutation, None, Result, Ok, Err, inl, inr, IsTrue, refl, sym, ap, ◌∙◌, subst, arith}
+use Rattle.std.specs.List.{range_with_len}
 use Rattle.std.proofs.lemmas.Bool.{cases_eq, cases_lt}
 use Rattle.std.proofs.lemmas.List.{get_or_past}
 use Rattle.std.proofs.lemmas.List.Sorted.{IsPermutation-refl, IsPermutation-sym, IsPermutation-trans}
 use Rattle.kt_tuple.specs.declared.node.NodeId.{NodeId}
 use Rattle.kt_tuple.specs.declared.node.NodeId.TheVariants as ids
-use Rattle.kt_tuple.specs.declared.tuple.Tuple.{Tuple}
 use Rattle.kt_tuple.specs.Node.{node_index}
-use Rattle.kt_history.specs.declared.note.Act.{Act}
 use Rattle.kt_history.specs.declared.note.Note.{Note}
-use Rattle.kt_history.specs.declared.note.Note.TheVariants as notes
-use Rattle.kt_history.specs.Line.{note_at, line, IsAct}
-use Rattle.kt_history.specs.Survival.{Stands, Survives, survives, services}
+use Rattle.kt_history.specs.Line.{line, IsAct}
+use Rattle.kt_history.specs.Survival.{Survives, survives}
 use Rattle.kt_history.specs.Closed.{acts_in_line}
 use Rattle.kt_history.specs.WellFormed.{CausesComeFirst, IsWellFormed}
 use Rattle.kt_history.proofs.Lines.{line-own}
@@ -39,7 +36,7 @@ use Rattle.kt_core.proofs.Rows.{at-put_same, at-put_other, length-put}
 use Rattle.kt_core.proofs.Shares.{shares, shares-whole, flat_map-like, range_within}
 use Rattle.kt_core.proofs.Survive.{surviving_tuples, survivors_run, survivors_order, survivors_bags}
 use Rattle.kt_core.proofs.WellFormed.{causes_come_first, IsWellFormed-empty, HasNoCut, HasNoCut-empty, HasNoCut-act, stands_without_cut}
-use Rattle.kt_core.proofs.Sound.{rows, IsPartLike, IsStoreLike, IsSound}
+use Rattle.kt_core.proofs.Sound.{IsPartLike, IsStoreLike, IsSound}
 use Rattle.kt_core.proofs.StepSound.{HasBounds, step_result-ok, planned-some, step-sound}
 
 -- each shard has a state
@@ -60,16 +57,17 @@ marked-nothing_lost h causes all p n c =
 bags-held : (s : State) → IsSound s → HasBounds s → HasShards s → IsNothingLost s.history → IsPermutation (surviving_tuples s.history) (all_bags s)
 bags-held s sound b staff all =
     IsPermutation-trans (surviving_tuples s.history) (shares s.shards (surviving_tuples s.history)) (all_bags s)
-      (IsPermutation-sym (shares s.shards (surviving_tuples s.history)) (surviving_tuples s.history) (shares-whole s.shards b.some_shards (surviving_tuples s.history)))
-      (flat_map-like (range_with_len 1 s.shards) (λ r. filter (is_home s.shards r) (surviving_tuples s.history)) (λ r. bag_of (node s (ids.Shard r))) (λ r c. let w = range_within 1 s.shards r c in one r w.0 (omega (arith, w.1))))
+    (IsPermutation-sym (shares s.shards (surviving_tuples s.history)) (surviving_tuples s.history) (shares-whole s.shards b.some_shards (surviving_tuples s.history)))
+    (flat_map-like (range_with_len 1 s.shards) (λ r. filter (is_home s.shards r) (surviving_tuples s.history)) (λ r. bag_of (node s (ids.Shard r))) (λ r c. let w = range_within 1 s.shards r c in one r w.0 (omega (arith, w.1))))
   where
     causes : CausesComeFirst s.history
     causes = causes_come_first s.history sound.well_formed
+
     one : (r : ℕ) → 1 ≤ r → r ≤ s.shards → IsPermutation (filter (is_home s.shards r) (surviving_tuples s.history)) (bag_of (node s (ids.Shard r)))
     one r from below =
         let there : node s (ids.Shard r) ≡ IsStore (staff.store r from below) = staff.is r from below in
         let like : IsStoreLike (shard_of_acts new_shard (acts_in_line s.history (ids.Shard r))) (staff.store r from below) =
-          subst (IsPartLike (ids.Shard r) (acts_in_line s.history (ids.Shard r))) there (sound.like (ids.Shard r)) in
+        subst (IsPartLike (ids.Shard r) (acts_in_line s.history (ids.Shard r))) there (sound.like (ids.Shard r)) in
         let share = survivors_bags (setting_of s.shards s.scripts) s.history causes sound.legal (marked-nothing_lost s.history causes all) r in
         subst (λ l. IsPermutation l (bag_of (node s (ids.Shard r)))) (sym share) (subst (λ part. IsPermutation (shard_of_acts new_shard (acts_in_line s.history (ids.Shard r))).bag (bag_of part)) (sym there) like.bag)
 
@@ -99,21 +97,22 @@ applied-shards s step plan staff = record { store = λ r from below. (each r fro
   where
     p : NodeId
     p = owner step
+
     each : (r : ℕ) → 1 ≤ r → r ≤ s.shards → (y : Store) × (node (applied s step plan) (ids.Shard r) ≡ IsStore y)
     each r from below = elim (cases_eq (node_index (ids.Shard r)) (node_index p)) [
-        inl e ↦
+      | inl e ↦
           let here : node s p ≡ IsStore (staff.store r from below) = ap (at Nobody s.nodes) (sym e) ∙ staff.is r from below in
           let k = changed-store (staff.store r from below) plan.change in
           (k.0, ap (at Nobody (put Nobody s.nodes (node_index p) (changed (node s p) plan.change))) e ∙ at-put_same Nobody s.nodes (node_index p) (changed (node s p) plan.change) ∙ ap (λ part. changed part plan.change) here ∙ k.1)
       | inr d ↦ (staff.store r from below, at-put_other Nobody s.nodes (node_index p) (node_index (ids.Shard r)) (changed (node s p) plan.change) d ∙ staff.is r from below)
-      ]
+    ]
 
 applied-bounds : (s : State) (step : Step) (plan : Plan) → HasBounds s → node s (owner step) ≢ Nobody → HasBounds (applied s step plan)
 applied-bounds s step plan b some = record {
   rows_within = elim (cases_lt (node_index (owner step)) (length s.nodes)) [
-      inl below ↦ omega (arith, length-put Nobody s.nodes (node_index (owner step)) (changed (node s (owner step)) plan.change) below, b.rows_within)
+    | inl below ↦ omega (arith, length-put Nobody s.nodes (node_index (owner step)) (changed (node s (owner step)) plan.change) below, b.rows_within)
     | inr past ↦ absurd (some (get_or_past s.nodes (node_index (owner step)) Nobody past))
-    ];
+  ];
   some_shards = b.some_shards;
   few_shards = b.few_shards;
 }

@@ -1,5 +1,5 @@
 -- A list of acts in which each node's own are a line that it may make is a run of all nodes together.
-use Rattle.std.proofs.Common.{◌≡◌, ◌≢◌, ℕ, Bool, true, false, cond, List, [], ◌∷◌, filter, sym, refl, ap, ◌∙◌, subst}
+use Rattle.std.proofs.Common.{◌≡◌, ◌≢◌, ℕ, Bool, true, false, cond, List, [], ◌∷◌, sym, refl, ap, ◌∙◌, subst}
 use Rattle.kt_tuple.specs.declared.node.NodeId.{NodeId}
 use Rattle.kt_tuple.specs.declared.node.NodeId.TheVariants as nodes
 use Rattle.kt_history.specs.declared.note.Act.{Act}
@@ -72,9 +72,11 @@ merge_from setting x (a ∷ later) h = (here.0, merge_from setting (world_after 
   where
     here : Makes setting x a a.node × IsLineFrom setting (world_after x a) a.node (own a.node later)
     here = line_split setting x a (own a.node later) a.node (subst (IsLineFrom setting x a.node) (own-same a later a.node (same_node-refl a.node)) (h a.node))
+
     at : (p : NodeId) (r : Bool) → same_node a.node p ≡ r → IsLineFrom setting (world_after x a) p (own p later)
     at p true e = subst (λ q. IsLineFrom setting (world_after x a) q (own q later)) (same_node-true a.node p e) here.1
     at p false e = line_kept setting x a (own p later) a.node p (same_node-false a.node p e) (subst (IsLineFrom setting x p) (own-other a later p e) (h p))
+
     rest : (p : NodeId) → IsLineFrom setting (world_after x a) p (own p later)
     rest p = at p (same_node a.node p) refl
 
@@ -92,6 +94,7 @@ shard_in_world x (a ∷ later) s = shard_in_world (world_after x a) later s ∙ 
   where
     l : List Act
     l = own (nodes.Shard s) later
+
     by : (q : NodeId) (r : Bool) → same_node q (nodes.Shard s) ≡ r → shard_of_acts ((after_at x a q).shard s) l ≡ shard_of_acts (x.shard s) (cond r (a ∷ l) l)
     by q true e = subst (λ p. shard_of_acts ((after_at x a p).shard s) l ≡ shard_of_acts (shard_after (x.shard s) a) l) (sym (same_node-true q (nodes.Shard s) e)) (ap (λ y. shard_of_acts y l) (put_row-same s (shard_after (x.shard s) a) x.shard))
     by (nodes.Worker v) false e = refl
@@ -103,6 +106,7 @@ worker_in_world x (a ∷ later) w = worker_in_world (world_after x a) later w �
   where
     l : List Act
     l = own (nodes.Worker w) later
+
     by : (q : NodeId) (r : Bool) → same_node q (nodes.Worker w) ≡ r → worker_of_acts ((after_at x a q).worker w) l ≡ worker_of_acts (x.worker w) (cond r (a ∷ l) l)
     by q true e = subst (λ p. worker_of_acts ((after_at x a p).worker w) l ≡ worker_of_acts (worker_after (x.worker w) a) l) (sym (same_node-true q (nodes.Worker w) e)) (ap (λ y. worker_of_acts y l) (put_row-same w (worker_after (x.worker w) a) x.worker))
     by (nodes.Shard r) false e = refl

@@ -1,6 +1,6 @@
 -- The services of all nodes together are one run of the sequential space, and each shard's bag is its share of the tuples.
-use Rattle.std.proofs.Common.{◌≡◌, ◌≢◌, ℕ, Option, Some, None, List, [], ◌∷◌, filter, IsPermutation, sym, refl, ap, ◌∙◌, subst}
-use Rattle.std.specs.List.{filter_map, cons_option}
+use Rattle.std.proofs.Common.{◌≡◌, ◌≢◌, ℕ, Option, List, [], ◌∷◌, filter, sym, refl, ap, ◌∙◌, subst}
+use Rattle.std.specs.List.{cons_option}
 use Rattle.std.proofs.lemmas.List.Sorted.{IsPermutation-refl}
 use Rattle.kt_tuple.specs.declared.node.NodeId.{NodeId}
 use Rattle.kt_tuple.specs.declared.node.NodeId.TheVariants as nodes
@@ -18,7 +18,7 @@ use Rattle.kt_history.specs.Closed.{own}
 use Rattle.kt_core.specs.declared.node.Desk.{Desk}
 use Rattle.kt_core.specs.Bag.{served_bag}
 use Rattle.kt_core.specs.Order.{Setting}
-use Rattle.kt_core.specs.ShardLine.{MadeShard, ShardMay, ShardMakes, bag_after, shard_after, shard_of_acts, put_row, new_shard}
+use Rattle.kt_core.specs.ShardLine.{MadeShard, ShardMay, bag_after, shard_after, shard_of_acts, new_shard}
 use Rattle.kt_core.specs.WorkerLine.{MadeWorker, WorkerMay}
 use Rattle.kt_core.specs.Legal.{IsLine}
 use Rattle.kt_core.proofs.Homes.{is_home, step_of_all, share_at_home, share_elsewhere}
@@ -74,11 +74,12 @@ one_act : (setting : Setting) (x : World) (all : List Tuple) (a : Act) (p : Node
 one_act setting x all a (nodes.Worker w) shares h =
     let k = worker_steps all (setting.asks w) (x.worker w) a a.what h.1 in
     (k.0, λ s. ap (filter (is_home setting.shards s)) k.1 ∙ shares s)
-one_act setting x all a (nodes.Shard s) shares h =
-    (shard_steps setting.shards s all (x.shard s).bag ((x.shard s).desk a.worker) ((x.shard s).cause a.worker) a a.what h.0 (shares s) h.1,
-     put_row_holds (λ i y. filter (is_home setting.shards i) (bag_after all a a.what) ≡ y.bag) s (shard_after (x.shard s) a) x.shard
-       (share_here setting.shards s all (x.shard s).bag ((x.shard s).desk a.worker) ((x.shard s).cause a.worker) a a.what h.0 (shares s) h.1)
-       (λ i off. share_there setting.shards s i all (x.shard s).bag ((x.shard s).desk a.worker) ((x.shard s).cause a.worker) a a.what h.0 off h.1 ∙ shares i))
+one_act setting x all a (nodes.Shard s) shares h = (
+  shard_steps setting.shards s all (x.shard s).bag ((x.shard s).desk a.worker) ((x.shard s).cause a.worker) a a.what h.0 (shares s) h.1,
+  put_row_holds (λ i y. filter (is_home setting.shards i) (bag_after all a a.what) ≡ y.bag) s (shard_after (x.shard s) a) x.shard
+      (share_here setting.shards s all (x.shard s).bag ((x.shard s).desk a.worker) ((x.shard s).cause a.worker) a a.what h.0 (shares s) h.1)
+      (λ i off. share_there setting.shards s i all (x.shard s).bag ((x.shard s).desk a.worker) ((x.shard s).cause a.worker) a a.what h.0 off h.1 ∙ shares i),
+)
 
 -- the tuples that the acts lead to
 abbrev pub tuples_after : List Tuple → List Act → List Tuple

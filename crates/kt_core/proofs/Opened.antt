@@ -1,18 +1,15 @@
 -- The headline holds of every state that steps lead to from an opening.
-use Rattle.std.proofs.Common.{if◌then◌else◌, ◌≡◌, ◌≢◌, ℕ, zero, suc, ◌+◌, ◌*◌, ◌<◌, ◌≤◌, ◌&&◌, Bool, true, false, List, [], ◌∷◌, ◌++◌, length, replicate, nat_le, Contains, Option, Some, None, ◌⊎◌, inl, inr, refl, sym, ap, ◌∙◌, subst, length-append, le-leb, le_of_eq, arith}
+use Rattle.std.proofs.Common.{if◌then◌else◌, ◌≡◌, ℕ, zero, suc, ◌+◌, ◌*◌, ◌<◌, ◌≤◌, Bool, true, false, List, [], ◌∷◌, ◌++◌, length, replicate, nat_le, ◌⊎◌, inl, inr, refl, sym, ap, ◌∙◌, subst, length-append, le-leb, le_of_eq, arith}
 use Rattle.std.proofs.lemmas.Bool.{cases_lt, and_from}
 use Rattle.std.proofs.lemmas.List.{get_or_past, get_or_append_left, get_or-append-add}
 use Rattle.kt_tuple.specs.declared.node.NodeId.{NodeId}
 use Rattle.kt_tuple.specs.declared.node.NodeId.TheVariants as ids
-use Rattle.kt_tuple.specs.Node.{node_index}
-use Rattle.kt_core.specs.declared.step.Step.{Step}
 use Rattle.kt_core.specs.Cast.{Cast, IsCast}
-use Rattle.kt_core.specs.State.{State, Part, Nobody, IsStore, Store, at, node}
+use Rattle.kt_core.specs.State.{State, Part, Nobody, at, node}
 use Rattle.kt_core.specs.Desk.{empty_desk}
-use Rattle.kt_core.specs.Reached.{is_among, new_worker, new_store, opening_worker, opening_store, opening_rows, opening, after, IsReached}
+use Rattle.kt_core.specs.Reached.{is_among, new_worker, new_store, opening_worker, opening_store, opening_rows, opening, IsReached}
 use Rattle.kt_core.specs.Headline.{IsNothingLost, Headline}
-use Rattle.kt_core.proofs.StepSound.{HasBounds}
-use Rattle.kt_core.proofs.Headlines.{HasShards, HasGrounds, IsNewPart, new-kept, steps-kept, headline, nothing_lost}
+use Rattle.kt_core.proofs.Headlines.{HasGrounds, IsNewPart, new-kept, steps-kept, headline, nothing_lost}
 
 -- a table of one value has it everywhere
 at-replicate : {A : Type 0} (d : A) (n k : ℕ) → at d (replicate n d) k ≡ d
@@ -34,8 +31,10 @@ worker_row workers shards (suc n) k below = by (cases_lt k n) (λ less. worker_r
   where
     two : List Part
     two = opening_worker workers n ∷ opening_store shards n ∷ []
+
     long : length (opening_rows workers shards n) ≡ 2 * n
     long = length-opening_rows workers shards n
+
     by : (k < n) ⊎ (n ≤ k) → (k < n → at Nobody (opening_rows workers shards n) (2 * k) ≡ opening_worker workers k) → at Nobody (opening_rows workers shards n ++ two) (2 * k) ≡ opening_worker workers k
     by (inl less) before = get_or_append_left (opening_rows workers shards n) two Nobody (2 * k) (omega (arith, less, long)) ∙ before less
     by (inr more) before =
@@ -50,8 +49,10 @@ store_row workers shards (suc n) k below = by (cases_lt k n) (λ less. store_row
   where
     two : List Part
     two = opening_worker workers n ∷ opening_store shards n ∷ []
+
     long : length (opening_rows workers shards n) ≡ 2 * n
     long = length-opening_rows workers shards n
+
     by : (k < n) ⊎ (n ≤ k) → (k < n → at Nobody (opening_rows workers shards n) (2 * k + 1) ≡ opening_store shards k) → at Nobody (opening_rows workers shards n ++ two) (2 * k + 1) ≡ opening_store shards k
     by (inl less) before = get_or_append_left (opening_rows workers shards n) two Nobody (2 * k + 1) (omega (arith, less, long)) ∙ before less
     by (inr more) before =
@@ -79,24 +80,24 @@ new_store-part count r = by (is_among count r)
 
 new_parts : (cast : Cast) (p : NodeId) → IsNewPart p (node (opening cast) p)
 new_parts cast (ids.Worker w) = elim (cases_lt w 9) [
-    inl below ↦ subst (IsNewPart (ids.Worker w)) (sym (worker_row (length cast.scripts) cast.shards 9 w below)) (new_worker-part (length cast.scripts) w)
+  | inl below ↦ subst (IsNewPart (ids.Worker w)) (sym (worker_row (length cast.scripts) cast.shards 9 w below)) (new_worker-part (length cast.scripts) w)
   | inr past ↦ subst (IsNewPart (ids.Worker w)) (sym (past_rows (length cast.scripts) cast.shards 9 (2 * w) (omega (arith, past)))) tt
-  ]
+]
 new_parts cast (ids.Shard r) = elim (cases_lt r 9) [
-    inl below ↦ subst (IsNewPart (ids.Shard r)) (sym (store_row (length cast.scripts) cast.shards 9 r below)) (new_store-part cast.shards r)
+  | inl below ↦ subst (IsNewPart (ids.Shard r)) (sym (store_row (length cast.scripts) cast.shards 9 r below)) (new_store-part cast.shards r)
   | inr past ↦ subst (IsNewPart (ids.Shard r)) (sym (past_rows (length cast.scripts) cast.shards 9 (2 * r + 1) (omega (arith, past)))) tt
-  ]
+]
 
 pub opening-kept : (cast : Cast) → IsCast cast → HasGrounds (opening cast)
 opening-kept cast is =
     new-kept (opening cast) refl (λ k. at-replicate [] 324 k) (new_parts cast)
-      (record { rows_within = le_of_eq (length-opening_rows (length cast.scripts) cast.shards 9); some_shards = is.some_shards; few_shards = is.few_shards })
-      (record {
-        store = λ r from below. record { bag = []; desks = replicate 9 empty_desk };
-        is = λ r from below.
+    (record { rows_within = le_of_eq (length-opening_rows (length cast.scripts) cast.shards 9); some_shards = is.some_shards; few_shards = is.few_shards })
+    (record {
+      store = λ r from below. record { bag = []; desks = replicate 9 empty_desk };
+      is = λ r from below.
           store_row (length cast.scripts) cast.shards 9 r (omega (arith, below, is.few_shards))
           ∙ ap (λ b. if b then new_store else Nobody) (and_from (nat_le 1 r) (nat_le r cast.shards) (le-leb 1 r from) (le-leb r cast.shards below));
-      })
+    })
 
 pub reached-kept : (s : State) → IsReached s → HasGrounds s
 reached-kept s r = subst HasGrounds r.leads (steps-kept (opening r.cast) (opening-kept r.cast r.is_cast) r.steps)

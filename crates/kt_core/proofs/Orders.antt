@@ -1,13 +1,12 @@
 -- Services in a worker's order: what stands where, and one more at the end.
-use Rattle.std.proofs.Common.{◌≡◌, ℕ, suc, ◌+◌, ◌<◌, ◌≤◌, Bool, true, false, cond, Option, Some, None, List, [], ◌∷◌, ◌++◌, map, length, filter, Contains, ◌⊎◌, inl, inr, sym, refl, ap, ◌∙◌, subst, append_assoc, append-nil, length-append, eqb, eq-eqb, ne_eqb, eqb-true, arith}
+use Rattle.std.proofs.Common.{◌≡◌, ℕ, suc, ◌+◌, true, cond, Option, Some, List, [], ◌∷◌, ◌++◌, map, length, Contains, inl, inr, sym, refl, ap, ◌∙◌, subst, append_assoc, append-nil, length-append, eqb, eq-eqb, ne_eqb, eqb-true, arith}
 use Rattle.std.proofs.lemmas.Bool.{cases_eq}
-use Rattle.std.proofs.lemmas.List.{map-append}
 use Rattle.std.proofs.lemmas.List.Elements.{filter-append, filter_passes, All-contains}
 use Rattle.kt_tuple.specs.declared.op.Op.{Op}
 use Rattle.kt_tuple.specs.declared.op.Answer.{Answer}
 use Rattle.kt_tuple.specs.declared.service.Service.{Service}
 use Rattle.kt_core.specs.Order.{of_worker, OrderFrom}
-use Rattle.kt_core.proofs.Bags.{Contains-here, Contains-there, Contains-cases, Contains-none, Contains-filter, Contains-unfilter}
+use Rattle.kt_core.proofs.Bags.{Contains-here, Contains-there, Contains-cases, Contains-none, Contains-filter}
 
 abbrev pub answers_in : List Service → List Answer
 answers_in services = map (λ (s : Service). s.answer) services
@@ -43,11 +42,11 @@ pub place_of : (asks : List Answer → Option Op) (before : List Answer) (servic
     (front : List Answer) × (more : List Answer) × (answers_in services ≡ front ++ s.answer ∷ more) × (s.number ≡ suc (length before + length front))
 place_of asks before [] s h c = absurd (Contains-none s c)
 place_of asks before (r ∷ later) s h c = elim (Contains-cases r s later c) [
-    inl e ↦ ([], answers_in later, ap (λ (z : Service). z.answer ∷ answers_in later) e, sym (ap (λ (z : Service). z.number) e) ∙ h.0 ∙ omega arith)
+  | inl e ↦ ([], answers_in later, ap (λ (z : Service). z.answer ∷ answers_in later) e, sym (ap (λ (z : Service). z.number) e) ∙ h.0 ∙ omega arith)
   | inr there ↦
       let p = place_of asks (before ++ r.answer ∷ []) later s h.2 there in
       (r.answer ∷ p.0, p.1, ap (λ l. r.answer ∷ l) p.2, omega (arith, p.3, length-append before (r.answer ∷ [])))
-  ]
+]
 
 -- one more service at the end
 pub OrderFrom-push : (asks : List Answer → Option Op) (before : List Answer) (services : List Service) (s : Service) → OrderFrom asks before services →
@@ -70,9 +69,9 @@ of_worker-push_other w services s d =
 pub of_worker_holds : (P : ℕ → List Service → Type 0) (services : List Service) (s : Service) → P s.worker (of_worker s.worker services ++ s ∷ []) →
     ((w : ℕ) → P w (of_worker w services)) → (w : ℕ) → P w (of_worker w (services ++ s ∷ []))
 of_worker_holds P services s new old w = elim (cases_eq s.worker w) [
-    inl e ↦ subst (λ v. P v (of_worker v (services ++ s ∷ []))) e (subst (P s.worker) (sym (of_worker-push_same s.worker services s refl)) new)
+  | inl e ↦ subst (λ v. P v (of_worker v (services ++ s ∷ []))) e (subst (P s.worker) (sym (of_worker-push_same s.worker services s refl)) new)
   | inr d ↦ subst (P w) (sym (of_worker-push_other w services s d)) (old w)
-  ]
+]
 
 pub Contains-of_worker : (w : ℕ) (services : List Service) (s : Service) → s.worker ≡ w → Contains services s → Contains (of_worker w services) s
 Contains-of_worker w services s e c = Contains-filter (λ (r : Service). eqb r.worker w) s services (eq-eqb s.worker w e) c

@@ -1,15 +1,12 @@
 -- The plans of a shard keep a state sound: it hears what is new, answers again what it keeps, ignores the rest, and serves what waits.
-use Rattle.std.proofs.Common.{if◌then◌else◌, ◌≡◌, ◌≢◌, ℕ, zero, suc, ◌+◌, ◌<◌, ◌≤◌, ◌==◌, ◌&&◌, Bool, true, false, List, [], ◌∷◌, ◌++◌, length, Contains, Option, Some, None, nat_lt, IsPermutation, refl, sym, ap, ◌∙◌, subst, eq-eqb, eqb-true, ltb-true, ltb-false, arith}
-use Rattle.std.proofs.lemmas.Bool.{and_parts, and_from, false≢true}
-use Rattle.kt_tuple.specs.declared.node.NodeId.{NodeId}
+use Rattle.std.proofs.Common.{if◌then◌else◌, ◌≡◌, ℕ, ◌+◌, ◌<◌, ◌≤◌, ◌==◌, Bool, true, false, List, [], ◌∷◌, ◌++◌, length, Contains, Option, Some, None, nat_lt, refl, sym, ap, ◌∙◌, subst, eq-eqb, eqb-true, ltb-true, ltb-false}
+use Rattle.std.proofs.lemmas.Bool.{and_parts, and_from}
 use Rattle.kt_tuple.specs.declared.node.NodeId.TheVariants as ids
 use Rattle.kt_tuple.specs.declared.tuple.Tuple.{Tuple}
-use Rattle.kt_tuple.specs.declared.op.Op.{Op}
 use Rattle.kt_tuple.specs.declared.op.Answer.{Answer}
 use Rattle.kt_tuple.specs.Node.{node_index}
 use Rattle.kt_tuple.specs.Op.{op_eq, op_eq_decides}
 use Rattle.kt_tuple.specs.Signature.{kinds_of_op, shard_of}
-use Rattle.kt_tuple.specs.Space.{SpaceStep}
 use Rattle.kt_history.specs.declared.note.What.TheVariants as whats
 use Rattle.kt_history.specs.declared.note.Act.{Act}
 use Rattle.kt_history.specs.declared.note.Note.{Note}
@@ -25,11 +22,10 @@ use Rattle.kt_core.specs.State.{Store, IsStore, at, put}
 use Rattle.kt_core.specs.Desk.{empty_desk, newest, same_request, answer_if_kept, answer_unless_waiting, kept_answer}
 use Rattle.kt_core.specs.Choice.{choice_of, answer_of, bag_change_of}
 use Rattle.kt_core.specs.Plan.{act_of, heard_plan, again_plan, ignored_plan, old_request_plan, request_plan, service_plan}
-use Rattle.kt_core.specs.Effect.{bag_after, cause_of_waiting, with_desk, waiting_store, served_store}
-use Rattle.kt_core.specs.Bag.{served_bag}
+use Rattle.kt_core.specs.Effect.{bag_after, cause_of_waiting, waiting_store, served_store}
 use Rattle.kt_core.specs.Order.{Setting}
 use Rattle.kt_core.specs.Legal.{AreLegal}
-use Rattle.kt_core.specs.ShardLine.{MadeShard, request_of, Hears, AnswersAgain, Ignores, shard_after, shard_of_acts, new_shard, put_row}
+use Rattle.kt_core.specs.ShardLine.{MadeShard, Hears, AnswersAgain, Ignores, shard_after, shard_of_acts, new_shard, put_row}
 use Rattle.kt_core.proofs.Rows.{at-put_same, at-put_other}
 use Rattle.kt_core.proofs.Numbered.{put_row_holds}
 use Rattle.kt_core.proofs.Permutations.{step_like}
@@ -37,7 +33,7 @@ use Rattle.kt_core.proofs.Choices.{choice_step}
 use Rattle.kt_core.proofs.Traces.{WasHeard, waits_heard, ServedIn, keeps_served, ShardLine-home, Contains-acts_at, cause_found}
 use Rattle.kt_core.proofs.Causes.{before_at}
 use Rattle.kt_core.proofs.Growth.{shard_of_acts-push}
-use Rattle.kt_core.proofs.Sound.{rows, IsStoreLike, IsAskOf, IsReplyOf, Keeps, note_at-next}
+use Rattle.kt_core.proofs.Sound.{rows, IsStoreLike, IsAskOf, Keeps, note_at-next}
 
 -- what the shard's acts make of it
 abbrev made_of : List Note → ℕ → MadeShard
@@ -51,7 +47,7 @@ desks_like : (desks : List Desk) (made : ℕ → Desk) (w : ℕ) (desk new : Des
     (v : ℕ) → at empty_desk (put empty_desk desks w desk) v ≡ put_row w new made v
 desks_like desks made w desk new like same =
     put_row_holds (λ v z. at empty_desk (put empty_desk desks w desk) v ≡ z) w new made (at-put_same empty_desk desks w desk ∙ same)
-      (λ v d. at-put_other empty_desk desks w v desk (λ e. d (sym e)) ∙ like v)
+    (λ v d. at-put_other empty_desk desks w v desk (λ e. d (sym e)) ∙ like v)
 
 -- a desk that stays leaves the table as it was
 desks_stay : (desks : List Desk) (made : ℕ → Desk) (w : ℕ) → ((v : ℕ) → at empty_desk desks v ≡ made v) → (v : ℕ) → at empty_desk desks v ≡ put_row w (made w) made v
@@ -72,6 +68,7 @@ kept_answer-is d request answer = by d.waiting d.kept
             let a : kept.answer ≡ answer = cc (given) in
             λ i. Some (record { request = record { number = n i; op = o i }; answer = a i })
         at' false e given = absurd cc
+
     by : (waiting : Option Request) (kept : Option Kept) → answer_unless_waiting waiting kept request ≡ Some answer → (waiting ≡ None) × (kept ≡ Some (record { request = request; answer = answer }))
     by None None e = absurd cc
     by None (Some kept) e = (refl, same kept e)
@@ -82,6 +79,7 @@ kept_answer-none d request none answer h = absurd (by d.waiting d.kept h.0 h.1 n
   where
     itself : same_request request request ≡ true
     itself = and_from (request.number == request.number) (op_eq request.op request.op) (eq-eqb request.number request.number refl) ((op_eq_decides request.op request.op).1 refl)
+
     by : (waiting : Option Request) (kept : Option Kept) → waiting ≡ None → kept ≡ Some (record { request = request; answer = answer }) → answer_unless_waiting waiting kept request ≡ None → ⊥
     by None None w k e = cc (k)
     by None (Some kept) w k e =
@@ -158,9 +156,11 @@ request_keeps setting h w s y request by like m row = hears (nat_lt (newest d) r
   where
     d : Desk
     d = at empty_desk y.desks w
+
     old : (o : Option Answer) → kept_answer d request ≡ o → request.number ≤ newest d → Keeps setting h (ids.Shard s) (IsStore y) (old_request_plan (ids.Shard s) w request by (length h + 1) o)
     old None e seen = ignored_keeps setting h w s y request by like m (seen, kept_answer-none d request e)
     old (Some answer) e seen = again_keeps setting h w s y request answer by like m row (kept_answer-is d request answer e)
+
     hears : (r : Bool) → nat_lt (newest d) request.number ≡ r →
         Keeps setting h (ids.Shard s) (IsStore y) (if r then heard_plan (ids.Shard s) w request by else old_request_plan (ids.Shard s) w request by (length h + 1) (kept_answer d request))
     hears true e = heard_keeps setting h w s y request by like m (ltb-true (newest d) request.number e)

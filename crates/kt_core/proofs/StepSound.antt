@@ -1,5 +1,5 @@
 -- Each step keeps a sound state sound.
-use Rattle.std.proofs.Common.{if◌then◌else◌, ◌≡◌, ◌≢◌, ℕ, zero, suc, ◌+◌, ◌<◌, ◌≤◌, Bool, true, false, List, [], ◌∷◌, ◌++◌, length, Contains, nat_lt, Option, Some, None, Result, Ok, Err, ◌⊎◌, inl, inr, refl, sym, ap, ◌∙◌, subst, arith}
+use Rattle.std.proofs.Common.{if◌then◌else◌, ◌≡◌, ◌≢◌, ℕ, ◌+◌, ◌<◌, ◌≤◌, Bool, true, false, List, [], ◌∷◌, length, Contains, nat_lt, Option, Some, None, Result, Ok, Err, inl, inr, refl, sym, ap, ◌∙◌, subst, arith}
 use Rattle.std.proofs.lemmas.Bool.{cases_lt}
 use Rattle.std.proofs.lemmas.List.{get_or_past}
 use Rattle.kt_tuple.specs.declared.node.NodeId.{NodeId}
@@ -18,7 +18,7 @@ use Rattle.kt_core.specs.declared.step.Step.TheVariants.{Issue, Deliver, Serve}
 use Rattle.kt_core.specs.declared.step.StepError.{StepError}
 use Rattle.kt_core.specs.declared.step.StepError.TheVariants as refusals
 use Rattle.kt_core.specs.Step.{owner}
-use Rattle.kt_core.specs.State.{State, Part, Nobody, IsWorker, IsStore, Store, at, node, link, node_number, worker_of}
+use Rattle.kt_core.specs.State.{State, Part, Nobody, IsWorker, IsStore, Store, at, node, link, worker_of}
 use Rattle.kt_core.specs.Desk.{empty_desk}
 use Rattle.kt_core.specs.Choice.{choice_of}
 use Rattle.kt_core.specs.Plan.{issue_plan}
@@ -39,9 +39,9 @@ pub record HasBounds (s : State) : Type 0 where
 -- a node with a state has a row
 has_row : (s : State) → HasBounds s → (p : NodeId) (part : Part) → node s p ≡ part → part ≢ Nobody → node_index p < rows
 has_row s b p part e some = elim (cases_lt (node_index p) (length s.nodes)) [
-    inl below ↦ omega (arith, below, b.rows_within)
+  | inl below ↦ omega (arith, below, b.rows_within)
   | inr past ↦ absurd (some (sym e ∙ get_or_past s.nodes (node_index p) Nobody past))
-  ]
+]
 
 -- a plan that is not refused is the one that was made
 limited-is : (s : State) (made plan : Plan) → limited s made ≡ Ok plan → made ≡ plan
@@ -65,8 +65,8 @@ issue-kept s b (ids.Worker w) (IsWorker x) like plan e = by (next_op x (script_o
     by None next e = absurd cc
     by (Some op) next e =
         subst (IsKept s (ids.Worker w) (IsWorker x))
-          (limited-is s (issue_plan (ids.Worker w) w (record { number = x.number + 1; op = op }) (home s.shards op) (next_note s)) plan e)
-          (issue_keeps s.shards s.scripts s.history w x op b.some_shards b.few_shards like next)
+        (limited-is s (issue_plan (ids.Worker w) w (record { number = x.number + 1; op = op }) (home s.shards op) (next_note s)) plan e)
+        (issue_keeps s.shards s.scripts s.history w x op b.some_shards b.few_shards like next)
 
 -- the front of a link carries what its act says
 front-carries : (s : State) → IsSound s → (p q : NodeId) (m : Message) (later : List Message) → node_index q < rows → link s p q ≡ m ∷ later → Carries s.shards s.history p q m
@@ -92,7 +92,7 @@ delivery-kept s sound (ids.Worker w) (ids.Shard r) (IsWorker x) (IsStore y) like
     by [] at e = absurd cc
     by (m ∷ later) at e =
         subst (IsKept s (ids.Shard r) (IsStore y)) (limited-is s (heard_by_store s (ids.Worker w) (ids.Shard r) y m) plan e)
-          (to_store-kept s sound w r y like_q (row_p (λ k. cc)) m (front-carries s sound (ids.Worker w) (ids.Shard r) m later (row_q (λ k. cc)) at))
+        (to_store-kept s sound w r y like_q (row_p (λ k. cc)) m (front-carries s sound (ids.Worker w) (ids.Shard r) m later (row_q (λ k. cc)) at))
 delivery-kept s sound (ids.Worker w) q (IsStore y) (IsWorker x) like_p like_q row_p row_q plan e = absurd like_p
 delivery-kept s sound (ids.Shard r) (ids.Shard v) (IsStore y) (IsWorker x) like_p like_q row_p row_q plan e = absurd like_q
 delivery-kept s sound (ids.Shard r) (ids.Worker w) (IsStore y) (IsWorker x) like_p like_q row_p row_q plan e = by (link s (ids.Shard r) (ids.Worker w)) refl e
@@ -101,7 +101,7 @@ delivery-kept s sound (ids.Shard r) (ids.Worker w) (IsStore y) (IsWorker x) like
     by [] at e = absurd cc
     by (m ∷ later) at e =
         subst (IsKept s (ids.Worker w) (IsWorker x)) (limited-is s (heard_by_worker (ids.Worker w) x m) plan e)
-          (to_worker-kept s sound r w x like_q m (front-carries s sound (ids.Shard r) (ids.Worker w) m later (row_q (λ k. cc)) at))
+        (to_worker-kept s sound r w x like_q m (front-carries s sound (ids.Shard r) (ids.Worker w) m later (row_q (λ k. cc)) at))
 delivery-kept s sound p q _ _ like_p like_q row_p row_q plan e = absurd cc
 
 service-kept : (s : State) → IsSound s → (p v : NodeId) (place : ℕ) (at_p at_v : Part) → IsPartLike p (acts_in_line s.history p) at_p → IsPartLike v (acts_in_line s.history v) at_v →
@@ -115,7 +115,8 @@ service-kept s sound (ids.Shard r) (ids.Worker w) place (IsStore y) (IsWorker x)
     chosen request waits None at e = absurd cc
     chosen request waits (Some choice) at e =
         subst (IsKept s (ids.Shard r) (IsStore y)) (limited-is s _ plan e)
-          (service_keeps (setting_of s.shards s.scripts) s.history w r y request place choice sound.legal sound.well_formed like_p (row (λ k. cc)) waits at)
+        (service_keeps (setting_of s.shards s.scripts) s.history w r y request place choice sound.legal sound.well_formed like_p (row (λ k. cc)) waits at)
+
     by : (o : Option Request) → (at empty_desk y.desks w).waiting ≡ o → service_at s (ids.Shard r) w place y o ≡ Ok plan → IsKept s (ids.Shard r) (IsStore y) plan
     by None waits e = absurd cc
     by (Some request) waits e = chosen request waits (choice_of y.bag request.op place) refl e

@@ -1,11 +1,10 @@
 -- What waits at a shard was heard in its line, what it keeps was served there, and the last hearing has the cause.
-use Rattle.std.proofs.Common.{if◌then◌else◌, ◌==◌, ◌≡◌, ◌≢◌, ℕ, zero, suc, Bool, true, false, cond, ◌&&◌, List, [], ◌∷◌, ◌++◌, reverse, Contains, Option, Some, None, ◌⊎◌, inl, inr, sym, refl, ap, ◌∙◌, subst, eq-eqb, ne_eqb}
+use Rattle.std.proofs.Common.{if◌then◌else◌, ◌==◌, ◌≡◌, ℕ, Bool, true, false, ◌&&◌, List, [], ◌∷◌, reverse, Contains, Option, Some, None, ◌⊎◌, inl, inr, sym, refl, ap, ◌∙◌, subst, eq-eqb, ne_eqb}
 use Rattle.std.specs.List.{find, cons_option}
 use Rattle.std.specs.Option.{option_or}
 use Rattle.std.proofs.lemmas.Bool.{cases_eq, and_right}
 use Rattle.std.proofs.lemmas.List.{reverse-append}
 use Rattle.std.proofs.lemmas.List.Folds.{find-append}
-use Rattle.kt_tuple.specs.declared.op.Answer.{Answer}
 use Rattle.kt_tuple.specs.Signature.{kinds_of_op, shard_of}
 use Rattle.kt_history.specs.declared.note.What.{What}
 use Rattle.kt_history.specs.declared.note.What.TheVariants as whats
@@ -17,7 +16,7 @@ use Rattle.kt_history.specs.Closed.{act_of, acts_at}
 use Rattle.kt_core.specs.declared.node.Request.{Request}
 use Rattle.kt_core.specs.declared.node.Kept.{Kept}
 use Rattle.kt_core.specs.declared.node.Desk.{Desk}
-use Rattle.kt_core.specs.ShardLine.{MadeShard, request_of, desk_after, cause_after, shard_after, shard_of_acts, ShardLine, new_shard, put_row}
+use Rattle.kt_core.specs.ShardLine.{MadeShard, request_of, desk_after, cause_after, shard_after, shard_of_acts, ShardLine, new_shard}
 use Rattle.kt_core.specs.Effect.{is_hearing, hears_worker, cause_of}
 use Rattle.kt_core.proofs.Bags.{Contains-here, Contains-there, Contains-cases, Contains-none}
 use Rattle.kt_core.proofs.Numbered.{put_row-same, put_row-other}
@@ -46,12 +45,13 @@ waits_from : (x : MadeShard) (acts : List Act) (w : ℕ) (request : Request) →
     WasHeard acts w request ((shard_of_acts x acts).cause w) ⊎ (((x.desk w).waiting ≡ Some request) × (x.cause w ≡ (shard_of_acts x acts).cause w))
 waits_from x [] w request e = inr (e, refl)
 waits_from x (a ∷ later) w request e = elim (waits_from (shard_after x a) later w request e) [
-    inl h ↦ inl (WasHeard-later a later w request ((shard_of_acts (shard_after x a) later).cause w) h)
+  | inl h ↦ inl (WasHeard-later a later w request ((shard_of_acts (shard_after x a) later).cause w) h)
   | inr h ↦ by (cases_eq a.worker w) h.0 h.1
-  ]
+]
   where
     last : ℕ
     last = (shard_of_acts (shard_after x a) later).cause w
+
     by : (a.worker ≡ w) ⊎ (a.worker ≡ w → ⊥) → ((shard_after x a).desk w).waiting ≡ Some request → (shard_after x a).cause w ≡ last →
         WasHeard (a ∷ later) w request last ⊎ (((x.desk w).waiting ≡ Some request) × (x.cause w ≡ last))
     by (inr d) waits same =
@@ -60,8 +60,8 @@ waits_from x (a ∷ later) w request e = elim (waits_from (shard_after x a) late
         let desk : (shard_after x a).desk w ≡ desk_after (x.desk a.worker) a a.what = ap (shard_after x a).desk (sym own) ∙ put_row-same a.worker (desk_after (x.desk a.worker) a a.what) x.desk in
         let cause : (shard_after x a).cause w ≡ cause_after (x.cause a.worker) a a.what = ap (shard_after x a).cause (sym own) ∙ put_row-same a.worker (cause_after (x.cause a.worker) a a.what) x.cause in
         elim (waits_after (x.desk a.worker) (x.cause a.worker) a a.what request (ap (λ (k : Desk). k.waiting) (sym desk) ∙ waits)) [
-          inl h ↦ inl (record { act = a; among = Contains-here a later; hears = h.0; worker = own; about = h.1; by = h.2 ∙ sym cause ∙ same })
-        | inr h ↦ inr (ap (λ k. (x.desk k).waiting) (sym own) ∙ h.0, ap x.cause (sym own) ∙ h.1 ∙ sym cause ∙ same)
+          | inl h ↦ inl (record { act = a; among = Contains-here a later; hears = h.0; worker = own; about = h.1; by = h.2 ∙ sym cause ∙ same })
+          | inr h ↦ inr (ap (λ k. (x.desk k).waiting) (sym own) ∙ h.0, ap x.cause (sym own) ∙ h.1 ∙ sym cause ∙ same)
         ]
 
 -- what waits at a shard was heard in its line, and its last hearing has the cause
@@ -91,17 +91,17 @@ keeps_after d a _ kept e = inr e
 keeps_from : (x : MadeShard) (acts : List Act) (w : ℕ) (kept : Kept) → ((shard_of_acts x acts).desk w).kept ≡ Some kept → ServedIn acts w kept ⊎ ((x.desk w).kept ≡ Some kept)
 keeps_from x [] w kept e = inr e
 keeps_from x (a ∷ later) w kept e = elim (keeps_from (shard_after x a) later w kept e) [
-    inl h ↦ inl (ServedIn-later a later w kept h)
+  | inl h ↦ inl (ServedIn-later a later w kept h)
   | inr h ↦ by (cases_eq a.worker w) h
-  ]
+]
   where
     by : (a.worker ≡ w) ⊎ (a.worker ≡ w → ⊥) → ((shard_after x a).desk w).kept ≡ Some kept → ServedIn (a ∷ later) w kept ⊎ ((x.desk w).kept ≡ Some kept)
     by (inr d) keeps = inr (ap (λ (k : Desk). k.kept) (sym (put_row-other a.worker w (desk_after (x.desk a.worker) a a.what) x.desk d)) ∙ keeps)
     by (inl own) keeps =
         let desk : (shard_after x a).desk w ≡ desk_after (x.desk a.worker) a a.what = ap (shard_after x a).desk (sym own) ∙ put_row-same a.worker (desk_after (x.desk a.worker) a a.what) x.desk in
         elim (keeps_after (x.desk a.worker) a a.what kept (ap (λ (k : Desk). k.kept) (sym desk) ∙ keeps)) [
-          inl h ↦ inl (record { act = a; among = Contains-here a later; serves = h.0; worker = own; about = h.1 })
-        | inr h ↦ inr (ap (λ k. (x.desk k).kept) (sym own) ∙ h)
+          | inl h ↦ inl (record { act = a; among = Contains-here a later; serves = h.0; worker = own; about = h.1 })
+          | inr h ↦ inr (ap (λ k. (x.desk k).kept) (sym own) ∙ h)
         ]
 
 -- what a shard keeps was served in its line
@@ -112,9 +112,9 @@ keeps_served acts w kept e = elim (keeps_from new_shard acts w kept e) [ inl h �
 pub ShardLine-home : (shards s : ℕ) (x : MadeShard) (acts : List Act) (a : Act) → ShardLine shards s x acts → Contains acts a → shard_of shards (kinds_of_op a.op) ≡ s
 ShardLine-home shards s x [] a h c = absurd (Contains-none a c)
 ShardLine-home shards s x (b ∷ later) a h c = elim (Contains-cases b a later c) [
-    inl e ↦ subst (λ (z : Act). shard_of shards (kinds_of_op z.op) ≡ s) e h.0.0
+  | inl e ↦ subst (λ (z : Act). shard_of shards (kinds_of_op z.op) ≡ s) e h.0.0
   | inr there ↦ ShardLine-home shards s (shard_after x b) later a h.1 there
-  ]
+]
 
 -- an act at one of these numbers
 pub Contains-acts_at : (h : List Note) (numbers : List ℕ) (a : Act) → Contains (acts_at h numbers) a → (n : ℕ) × Contains numbers n × (note_at h n ≡ Some (notes.Act a))
@@ -123,14 +123,15 @@ Contains-acts_at h (k ∷ later) a c = by (note_at h k) refl c (Contains-acts_at
   where
     there : ((n : ℕ) × Contains later n × (note_at h n ≡ Some (notes.Act a))) → (n : ℕ) × Contains (k ∷ later) n × (note_at h n ≡ Some (notes.Act a))
     there r = (r.0, Contains-there k r.0 later r.1, r.2)
+
     by : (o : Option Note) → note_at h k ≡ o → Contains (cons_option (act_of o) (acts_at h later)) a → (Contains (acts_at h later) a → (n : ℕ) × Contains later n × (note_at h n ≡ Some (notes.Act a))) →
         (n : ℕ) × Contains (k ∷ later) n × (note_at h n ≡ Some (notes.Act a))
     by None e c rest = there (rest c)
     by (Some (notes.Cut p keep)) e c rest = there (rest c)
     by (Some (notes.Act b)) e c rest = elim (Contains-cases b a (acts_at h later) c) [
-        inl same ↦ (k, Contains-here k later, e ∙ ap (λ z. Some (notes.Act z)) same)
+      | inl same ↦ (k, Contains-here k later, e ∙ ap (λ z. Some (notes.Act z)) same)
       | inr old ↦ there (rest old)
-      ]
+    ]
 
 -- the cause of the last hearing is that which a search from the end of the line finds
 cause_or : ℕ → Option Act → ℕ
@@ -161,16 +162,17 @@ cause_from x (a ∷ later) w =
     and_true : (b : Bool) → (b && true) ≡ b
     and_true true = refl
     and_true false = refl
+
     first : (shard_after x a).cause w ≡ cause_or (x.cause w) (find (hears_worker w) (a ∷ []))
     first = elim (cases_eq a.worker w) [
-        inl own ↦
+      | inl own ↦
           ap (shard_after x a).cause (sym own) ∙ put_row-same a.worker (cause_after (x.cause a.worker) a a.what) x.cause ∙ cause_step (x.cause a.worker) a a.what
           ∙ ap (λ k. cause_or (x.cause k) (if is_hearing a.what then Some a else None)) own
           ∙ ap (λ b. cause_or (x.cause w) (if b then Some a else None)) (sym (and_true (is_hearing a.what)) ∙ ap (λ b. is_hearing a.what && b) (sym (eq-eqb a.worker w own)))
       | inr d ↦
           put_row-other a.worker w (cause_after (x.cause a.worker) a a.what) x.cause d
           ∙ ap (λ b. cause_or (x.cause w) (if b then Some a else None)) (sym (and_right (is_hearing a.what) (a.worker == w) (ne_eqb a.worker w d)))
-      ]
+    ]
 
 pub cause_found : (acts : List Act) (w : ℕ) → cause_of (find (hears_worker w) (reverse acts)) ≡ (shard_of_acts new_shard acts).cause w
 unfolding cause_or

@@ -1,5 +1,5 @@
 -- Well-formed histories: they grow by notes that fit, their causes come first, and without a cut all of them survives.
-use Rattle.std.proofs.Common.{◌≡◌, ◌≢◌, ℕ, zero, suc, ◌<◌, ◌≤◌, Bool, true, false, cond, Option, Some, None, List, [], ◌∷◌, ◌++◌, length, Contains, ◌⊎◌, inl, inr, sym, refl, ap, ◌∙◌, subst, IsTrue, arith}
+use Rattle.std.proofs.Common.{◌≡◌, ◌≢◌, ℕ, suc, Bool, true, false, Option, Some, None, List, [], ◌∷◌, ◌++◌, length, Contains, inl, inr, sym, refl, ◌∙◌, subst, IsTrue, arith}
 use Rattle.std.proofs.lemmas.List.Elements.{Contains-append_left, Contains-push}
 use Rattle.kt_tuple.specs.declared.node.NodeId.{NodeId}
 use Rattle.kt_tuple.specs.declared.node.NodeId.TheVariants as nodes
@@ -10,9 +10,8 @@ use Rattle.kt_history.specs.declared.note.Act.{Act}
 use Rattle.kt_history.specs.declared.note.Note.{Note}
 use Rattle.kt_history.specs.declared.note.Note.TheVariants as notes
 use Rattle.kt_history.specs.Line.{note_at, before, line, same_node, IsAct}
-use Rattle.kt_history.specs.Past.{InPast}
-use Rattle.kt_history.specs.Survival.{Stands, Survives, survives}
-use Rattle.kt_history.specs.WellFormed.{MayFollow, CausesComeFirst, HeardRequest, HeardReply, IgnoredFits, ActFits, Fits, IsWellFormed}
+use Rattle.kt_history.specs.Survival.{survives}
+use Rattle.kt_history.specs.WellFormed.{MayFollow, CausesComeFirst, IgnoredFits, ActFits, Fits, IsWellFormed}
 use Rattle.kt_history.proofs.Lists.{snoc_ind}
 use Rattle.kt_history.proofs.Lines.{line-own_act, line-other_act, note_at-old, note_at-new, note_at-within, note_at-push_cases, before-old, before-new, line-own, same_node-true}
 use Rattle.kt_history.proofs.Pasts.{InPast-back}
@@ -51,9 +50,9 @@ IsWellFormed-empty = record { fits = λ n note e. absurd (none n note e) }
 pub IsWellFormed-push : (h : List Note) (note : Note) → IsWellFormed h → Fits h note → IsWellFormed (h ++ note ∷ [])
 IsWellFormed-push h note wf fits = record {
   fits = λ n x e. elim (note_at-push_cases h note n x e) [
-      inl old ↦ subst (λ g. Fits g x) (sym (before-old h (note ∷ []) n (omega (arith, old.0)))) (wf.fits n x old.1)
+    | inl old ↦ subst (λ g. Fits g x) (sym (before-old h (note ∷ []) n (omega (arith, old.0)))) (wf.fits n x old.1)
     | inr new ↦ subst (λ k. Fits (before (h ++ note ∷ []) k) x) (sym new.0) (subst (λ g. Fits g x) (sym (before-new h note)) (subst (Fits h) new.1 fits))
-    ];
+  ];
 }
 
 -- no note is a cut
@@ -78,19 +77,20 @@ stands_without_cut h = snoc_ind (λ h. HasNoCut h → (n : ℕ) (a : Act) → no
         HasNoCut (h ++ x ∷ []) → (n : ℕ) (a : Act) → note_at (h ++ x ∷ []) n ≡ Some (notes.Act a) → Contains (line (h ++ x ∷ []) a.node) n
     step h (notes.Cut p keep) before none n a e = absurd (none (suc (length h)) p keep (note_at-new h (notes.Cut p keep)))
     step h (notes.Act b) before none n a e = elim (note_at-push_cases h (notes.Act b) n (notes.Act a) e) [
-        inl old ↦ kept (same_node b.node a.node) refl (before (HasNoCut-was h (notes.Act b) none) n a old.1)
+      | inl old ↦ kept (same_node b.node a.node) refl (before (HasNoCut-was h (notes.Act b) none) n a old.1)
       | inr new ↦ let same : b ≡ a = cc (new.1) in newest n new.0 same
-      ]
+    ]
       where
         newest : (n : ℕ) → n ≡ suc (length h) → b ≡ a → Contains (line (h ++ notes.Act b ∷ []) a.node) n
         newest n e same =
             subst (λ (z : Act). Contains (line (h ++ notes.Act b ∷ []) z.node) n) same
-              (subst (λ l. Contains l n) (sym (line-own_act h b)) (subst (Contains (line h b.node ++ suc (length h) ∷ [])) (sym e) (Contains-push (line h b.node) (suc (length h)))))
+            (subst (λ l. Contains l n) (sym (line-own_act h b)) (subst (Contains (line h b.node ++ suc (length h) ∷ [])) (sym e) (Contains-push (line h b.node) (suc (length h)))))
+
         kept : (r : Bool) → same_node b.node a.node ≡ r → Contains (line h a.node) n → Contains (line (h ++ notes.Act b ∷ []) a.node) n
         kept true s c =
             let p = same_node-true b.node a.node s in
             subst (λ q. Contains (line (h ++ notes.Act b ∷ []) q) n) p
-              (subst (λ l. Contains l n) (sym (line-own_act h b)) (Contains-append_left (line h b.node) (suc (length h) ∷ []) n (subst (λ q. Contains (line h q) n) (sym p) c)))
+            (subst (λ l. Contains l n) (sym (line-own_act h b)) (Contains-append_left (line h b.node) (suc (length h) ∷ []) n (subst (λ q. Contains (line h q) n) (sym p) c)))
         kept false s c = subst (λ l. Contains l n) (sym (line-other_act h b a.node s)) c
 
 -- and each act of a history whose causes come first survives
