@@ -1,21 +1,19 @@
 -- In a well-formed history the causes of a closed choice of acts come first among them.
-use Rattle.std.proofs.Common.{◌≡◌, ◌≢◌, ℕ, zero, suc, ◌+◌, ◌<◌, ◌≤◌, Bool, true, false, cond, Option, Some, None, List, [], ◌∷◌, ◌++◌, length, Contains, ◌⊎◌, inl, inr, sym, refl, ap, ◌∙◌, subst, append_assoc, length-append, IsTrue, slice_get, arith}
+use Rattle.std.proofs.Common.{◌≡◌, ◌≢◌, ℕ, zero, suc, ◌<◌, Bool, true, false, cond, Some, List, [], ◌∷◌, ◌++◌, length, Contains, inl, inr, sym, refl, ap, ◌∙◌, subst, append_assoc, length-append, IsTrue, slice_get, arith}
 use Rattle.std.proofs.lemmas.Bool.{cases_eq}
-use Rattle.kt_tuple.specs.declared.op.Answer.{Answer}
 use Rattle.kt_history.specs.declared.note.What.{What}
 use Rattle.kt_history.specs.declared.note.What.TheVariants as whats
 use Rattle.kt_history.specs.declared.note.Act.{Act}
 use Rattle.kt_history.specs.declared.note.Note.{Note}
 use Rattle.kt_history.specs.declared.note.Note.TheVariants as notes
-use Rattle.kt_history.specs.Line.{note_at, before, line}
-use Rattle.kt_history.specs.Past.{StoodBefore, IsCauseOf}
+use Rattle.kt_history.specs.Line.{note_at, before}
 use Rattle.kt_history.specs.Survival.{marked_acts, marked_from}
 use Rattle.kt_history.specs.Closed.{IsClosed}
-use Rattle.kt_history.specs.WellFormed.{IsAsking, IsAnswering, SameRequest, HeardRequest, HeardReply, WasServed, ActFits, IsWellFormed}
+use Rattle.kt_history.specs.WellFormed.{IsAnswering, SameRequest, WasServed, ActFits, IsWellFormed}
 use Rattle.kt_history.proofs.Lists.{slice_get-take}
 use Rattle.kt_history.proofs.Lines.{note_at-within}
-use Rattle.kt_core.proofs.Bags.{Contains-here, Contains-there, Contains-none}
-use Rattle.kt_core.proofs.Follows.{IsRequested, IsServed, IsCaused, CausedFrom}
+use Rattle.kt_core.proofs.Bags.{Contains-here, Contains-there}
+use Rattle.kt_core.proofs.Follows.{IsServed, IsCaused, CausedFrom}
 
 slice_get-at : {X : Type 0} (us : List X) (x : X) (vs : List X) → slice_get (us ++ x ∷ vs) (length us) ≡ Some x
 slice_get-at [] x vs = refl

@@ -1,19 +1,14 @@
 -- An operation that is served with the match of a number takes a step of the sequential space.
-use Rattle.std.proofs.Common.{if◌then◌else◌, ◌≡◌, ℕ, zero, suc, ◌<◌, ◌==◌, Bool, true, false, cond, List, [], ◌∷◌, ◌++◌, length, get_or, remove, Contains, Option, Some, None, IsPermutation, ◌⊎◌, inl, inr, sym, refl, ap, ◌∙◌, subst, eqb-true, arith}
+use Rattle.std.proofs.Common.{if◌then◌else◌, ◌≡◌, ℕ, zero, suc, ◌<◌, ◌==◌, Bool, true, false, cond, List, [], ◌∷◌, ◌++◌, length, remove, Contains, Option, Some, None, IsPermutation, inl, inr, sym, refl, ◌∙◌, subst, eqb-true, arith}
 use Rattle.std.specs.Option.{option_map}
 use Rattle.std.proofs.lemmas.Bool.{false≢true, and_parts, and_from}
 use Rattle.std.proofs.lemmas.List.{get_or_default}
 use Rattle.std.proofs.lemmas.List.Elements.{Contains-get_or}
 use Rattle.std.proofs.lemmas.List.Sorted.{IsPermutation-refl, IsPermutation-sym, IsPermutation-to_front, IsPermutation-remove}
-use Rattle.std.specs.Cmp.Lexicographic.{pointwise}
-use Rattle.kt_tuple.specs.declared.value.Value.{Value}
-use Rattle.kt_tuple.specs.declared.template.Place.{Place}
 use Rattle.kt_tuple.specs.declared.tuple.Tuple.{Tuple}
 use Rattle.kt_tuple.specs.declared.template.Template.{Template}
 use Rattle.kt_tuple.specs.declared.op.Op.{Op}
 use Rattle.kt_tuple.specs.declared.op.Op.TheVariants.{Out, In, Rd, Inp, Rdp}
-use Rattle.kt_tuple.specs.declared.op.Answer.{Answer}
-use Rattle.kt_tuple.specs.declared.op.Answer.TheVariants as answers
 use Rattle.kt_tuple.specs.Matching.{Matches, matches, admits, admits_decides}
 use Rattle.kt_tuple.specs.Space.{SpaceStep}
 use Rattle.kt_core.specs.declared.choice.Choice.{Choice}

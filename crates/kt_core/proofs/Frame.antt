@@ -1,10 +1,9 @@
 -- To carry out a plan changes its owner, the links of the owner and the history alone; so a plan that keeps its owner sound keeps the state sound.
-use Rattle.std.proofs.Common.{◌≡◌, ◌≢◌, ℕ, zero, suc, ◌+◌, ◌*◌, ◌<◌, ◌≤◌, Bool, true, false, List, [], ◌∷◌, ◌++◌, length, drop, Contains, Option, Some, None, ◌⊎◌, inl, inr, refl, sym, ap, ◌∙◌, subst, ne_eqb, arith}
+use Rattle.std.proofs.Common.{◌≡◌, ℕ, ◌<◌, List, [], ◌∷◌, ◌++◌, drop, Contains, Option, Some, None, ◌⊎◌, inl, inr, refl, sym, ap, ◌∙◌, subst, ne_eqb, arith}
 use Rattle.std.proofs.lemmas.Bool.{cases_eq}
 use Rattle.std.proofs.lemmas.List.Elements.{Contains-push_cases}
 use Rattle.kt_tuple.specs.declared.node.NodeId.{NodeId}
 use Rattle.kt_tuple.specs.Node.{node_index}
-use Rattle.kt_history.specs.declared.note.Act.{Act}
 use Rattle.kt_history.specs.declared.note.Note.{Note}
 use Rattle.kt_history.specs.declared.note.Note.TheVariants as notes
 use Rattle.kt_history.specs.Closed.{acts_in_line}
@@ -15,11 +14,10 @@ use Rattle.kt_core.specs.declared.plan.Plan.{Plan}
 use Rattle.kt_core.specs.declared.step.Step.{Step}
 use Rattle.kt_core.specs.declared.step.Step.TheVariants.{Issue, Deliver, Serve}
 use Rattle.kt_core.specs.Step.{owner}
-use Rattle.kt_core.specs.State.{State, Part, Nobody, at, put, node, link_index}
+use Rattle.kt_core.specs.State.{State, Nobody, at, put, node, link_index}
 use Rattle.kt_core.specs.Effect.{changed, sent, taken_off, applied}
 use Rattle.kt_core.specs.Asks.{setting_of}
-use Rattle.kt_core.specs.Order.{Setting}
-use Rattle.kt_core.proofs.Bags.{Contains-there, Contains-none}
+use Rattle.kt_core.proofs.Bags.{Contains-there}
 use Rattle.kt_core.proofs.Rows.{at-put_same, at-put_other}
 use Rattle.kt_core.proofs.Growth.{MayMake, AreLegal-act}
 use Rattle.kt_core.proofs.WellFormed.{IsWellFormed-push}

@@ -1,5 +1,5 @@
 -- One more note keeps lines legal: an act that its node may make, and any cut.
-use Rattle.std.proofs.Common.{◌≡◌, ◌≢◌, ℕ, zero, suc, ◌<◌, ◌≤◌, Bool, true, false, cond, Option, Some, None, List, [], ◌∷◌, ◌++◌, length, take, drop, take-append-drop, Contains, ◌⊎◌, inl, inr, sym, refl, ap, ◌∙◌, subst, append-nil}
+use Rattle.std.proofs.Common.{◌≡◌, ℕ, Bool, true, false, Option, List, [], ◌∷◌, ◌++◌, take, drop, take-append-drop, sym, refl, ap, ◌∙◌, subst, append-nil}
 use Rattle.kt_tuple.specs.declared.node.NodeId.{NodeId}
 use Rattle.kt_tuple.specs.declared.node.NodeId.TheVariants as nodes
 use Rattle.kt_tuple.specs.declared.op.Op.{Op}
@@ -7,8 +7,8 @@ use Rattle.kt_tuple.specs.declared.op.Answer.{Answer}
 use Rattle.kt_history.specs.declared.note.Act.{Act}
 use Rattle.kt_history.specs.declared.note.Note.{Note}
 use Rattle.kt_history.specs.declared.note.Note.TheVariants as notes
-use Rattle.kt_history.specs.Line.{note_at, line, same_node}
-use Rattle.kt_history.specs.Closed.{act_of, acts_at, acts_in_line}
+use Rattle.kt_history.specs.Line.{same_node}
+use Rattle.kt_history.specs.Closed.{acts_at, acts_in_line}
 use Rattle.kt_history.proofs.Lines.{line-empty, same_node-true}
 use Rattle.kt_history.proofs.Fronts.{acts_in_line-own_act, acts_in_line-other_act, acts_in_line-own_cut, acts_in_line-other_cut}
 use Rattle.kt_core.specs.Order.{Setting}

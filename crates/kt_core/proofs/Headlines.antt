@@ -1,18 +1,15 @@
 -- The headline of a sound state, and that each step keeps what it stands on.
-use Rattle.std.proofs.Common.{◌≡◌, ◌≢◌, ℕ, zero, suc, ◌+◌, ◌<◌, ◌≤◌, Bool, true, false, List, [], ◌∷◌, ◌++◌, length, filter, Contains, IsPermutation, Option, Some, None, Result, Ok, Err, ◌⊎◌, inl, inr, IsTrue, refl, sym, ap, ◌∙◌, subst, arith}
-use Rattle.std.specs.List.{flat_map, range_with_len}
+use Rattle.std.proofs.Common.{◌≡◌, ◌≢◌, ℕ, ◌≤◌, List, [], ◌∷◌, length, filter, Contains, IsPermutation, None, Result, Ok, Err, inl, inr, IsTrue, refl, sym, ap, ◌∙◌, subst, arith}
+use Rattle.std.specs.List.{range_with_len}
 use Rattle.std.proofs.lemmas.Bool.{cases_eq, cases_lt}
 use Rattle.std.proofs.lemmas.List.{get_or_past}
 use Rattle.std.proofs.lemmas.List.Sorted.{IsPermutation-refl, IsPermutation-sym, IsPermutation-trans}
 use Rattle.kt_tuple.specs.declared.node.NodeId.{NodeId}
 use Rattle.kt_tuple.specs.declared.node.NodeId.TheVariants as ids
-use Rattle.kt_tuple.specs.declared.tuple.Tuple.{Tuple}
 use Rattle.kt_tuple.specs.Node.{node_index}
-use Rattle.kt_history.specs.declared.note.Act.{Act}
 use Rattle.kt_history.specs.declared.note.Note.{Note}
-use Rattle.kt_history.specs.declared.note.Note.TheVariants as notes
-use Rattle.kt_history.specs.Line.{note_at, line, IsAct}
-use Rattle.kt_history.specs.Survival.{Stands, Survives, survives, services}
+use Rattle.kt_history.specs.Line.{line, IsAct}
+use Rattle.kt_history.specs.Survival.{Survives, survives}
 use Rattle.kt_history.specs.Closed.{acts_in_line}
 use Rattle.kt_history.specs.WellFormed.{CausesComeFirst, IsWellFormed}
 use Rattle.kt_history.proofs.Lines.{line-own}
@@ -39,7 +36,7 @@ use Rattle.kt_core.proofs.Rows.{at-put_same, at-put_other, length-put}
 use Rattle.kt_core.proofs.Shares.{shares, shares-whole, flat_map-like, range_within}
 use Rattle.kt_core.proofs.Survive.{surviving_tuples, survivors_run, survivors_order, survivors_bags}
 use Rattle.kt_core.proofs.WellFormed.{causes_come_first, IsWellFormed-empty, HasNoCut, HasNoCut-empty, HasNoCut-act, stands_without_cut}
-use Rattle.kt_core.proofs.Sound.{rows, IsPartLike, IsStoreLike, IsSound}
+use Rattle.kt_core.proofs.Sound.{IsPartLike, IsStoreLike, IsSound}
 use Rattle.kt_core.proofs.StepSound.{HasBounds, step_result-ok, planned-some, step-sound}
 
 -- each shard has a state

@@ -1,6 +1,5 @@
 -- Homes: what matches has one signature, so one home shard; a step on the home's share of the space is a step on the space.
-use Rattle.std.proofs.Common.{◌≡◌, ◌≢◌, ℕ, Bool, true, false, cond, List, [], ◌∷◌, ◌++◌, map, filter, Contains, IsPermutation, ◌⊎◌, inl, inr, sym, refl, ap, ap₂, ◌∙◌, subst, eqb, eq-eqb, ne_eqb, eqb-true}
-use Rattle.std.specs.List.{AllZip}
+use Rattle.std.proofs.Common.{◌≡◌, ◌≢◌, ℕ, Bool, true, false, List, [], ◌∷◌, filter, Contains, IsPermutation, sym, refl, ap, ap₂, ◌∙◌, eqb, eq-eqb, ne_eqb}
 use Rattle.std.proofs.lemmas.List.Sorted.{IsPermutation-refl, IsPermutation-sym, Contains-permutation}
 use Rattle.kt_tuple.specs.declared.value.Value.{Value}
 use Rattle.kt_tuple.specs.declared.tuple.Tuple.{Tuple}

@@ -1,6 +1,6 @@
 -- The services of all nodes together are one run of the sequential space, and each shard's bag is its share of the tuples.
-use Rattle.std.proofs.Common.{◌≡◌, ◌≢◌, ℕ, Option, Some, None, List, [], ◌∷◌, filter, IsPermutation, sym, refl, ap, ◌∙◌, subst}
-use Rattle.std.specs.List.{filter_map, cons_option}
+use Rattle.std.proofs.Common.{◌≡◌, ◌≢◌, ℕ, Option, List, [], ◌∷◌, filter, sym, refl, ap, ◌∙◌, subst}
+use Rattle.std.specs.List.{cons_option}
 use Rattle.std.proofs.lemmas.List.Sorted.{IsPermutation-refl}
 use Rattle.kt_tuple.specs.declared.node.NodeId.{NodeId}
 use Rattle.kt_tuple.specs.declared.node.NodeId.TheVariants as nodes
@@ -18,7 +18,7 @@ use Rattle.kt_history.specs.Closed.{own}
 use Rattle.kt_core.specs.declared.node.Desk.{Desk}
 use Rattle.kt_core.specs.Bag.{served_bag}
 use Rattle.kt_core.specs.Order.{Setting}
-use Rattle.kt_core.specs.ShardLine.{MadeShard, ShardMay, ShardMakes, bag_after, shard_after, shard_of_acts, put_row, new_shard}
+use Rattle.kt_core.specs.ShardLine.{MadeShard, ShardMay, bag_after, shard_after, shard_of_acts, new_shard}
 use Rattle.kt_core.specs.WorkerLine.{MadeWorker, WorkerMay}
 use Rattle.kt_core.specs.Legal.{IsLine}
 use Rattle.kt_core.proofs.Homes.{is_home, step_of_all, share_at_home, share_elsewhere}

@@ -1,18 +1,15 @@
 -- The headline holds of every state that steps lead to from an opening.
-use Rattle.std.proofs.Common.{if◌then◌else◌, ◌≡◌, ◌≢◌, ℕ, zero, suc, ◌+◌, ◌*◌, ◌<◌, ◌≤◌, ◌&&◌, Bool, true, false, List, [], ◌∷◌, ◌++◌, length, replicate, nat_le, Contains, Option, Some, None, ◌⊎◌, inl, inr, refl, sym, ap, ◌∙◌, subst, length-append, le-leb, le_of_eq, arith}
+use Rattle.std.proofs.Common.{if◌then◌else◌, ◌≡◌, ℕ, zero, suc, ◌+◌, ◌*◌, ◌<◌, ◌≤◌, Bool, true, false, List, [], ◌∷◌, ◌++◌, length, replicate, nat_le, ◌⊎◌, inl, inr, refl, sym, ap, ◌∙◌, subst, length-append, le-leb, le_of_eq, arith}
 use Rattle.std.proofs.lemmas.Bool.{cases_lt, and_from}
 use Rattle.std.proofs.lemmas.List.{get_or_past, get_or_append_left, get_or-append-add}
 use Rattle.kt_tuple.specs.declared.node.NodeId.{NodeId}
 use Rattle.kt_tuple.specs.declared.node.NodeId.TheVariants as ids
-use Rattle.kt_tuple.specs.Node.{node_index}
-use Rattle.kt_core.specs.declared.step.Step.{Step}
 use Rattle.kt_core.specs.Cast.{Cast, IsCast}
-use Rattle.kt_core.specs.State.{State, Part, Nobody, IsStore, Store, at, node}
+use Rattle.kt_core.specs.State.{State, Part, Nobody, at, node}
 use Rattle.kt_core.specs.Desk.{empty_desk}
-use Rattle.kt_core.specs.Reached.{is_among, new_worker, new_store, opening_worker, opening_store, opening_rows, opening, after, IsReached}
+use Rattle.kt_core.specs.Reached.{is_among, new_worker, new_store, opening_worker, opening_store, opening_rows, opening, IsReached}
 use Rattle.kt_core.specs.Headline.{IsNothingLost, Headline}
-use Rattle.kt_core.proofs.StepSound.{HasBounds}
-use Rattle.kt_core.proofs.Headlines.{HasShards, HasGrounds, IsNewPart, new-kept, steps-kept, headline, nothing_lost}
+use Rattle.kt_core.proofs.Headlines.{HasGrounds, IsNewPart, new-kept, steps-kept, headline, nothing_lost}
 
 -- a table of one value has it everywhere
 at-replicate : {A : Type 0} (d : A) (n k : ℕ) → at d (replicate n d) k ≡ d

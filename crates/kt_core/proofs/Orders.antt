@@ -1,13 +1,12 @@
 -- Services in a worker's order: what stands where, and one more at the end.
-use Rattle.std.proofs.Common.{◌≡◌, ℕ, suc, ◌+◌, ◌<◌, ◌≤◌, Bool, true, false, cond, Option, Some, None, List, [], ◌∷◌, ◌++◌, map, length, filter, Contains, ◌⊎◌, inl, inr, sym, refl, ap, ◌∙◌, subst, append_assoc, append-nil, length-append, eqb, eq-eqb, ne_eqb, eqb-true, arith}
+use Rattle.std.proofs.Common.{◌≡◌, ℕ, suc, ◌+◌, true, cond, Option, Some, List, [], ◌∷◌, ◌++◌, map, length, Contains, inl, inr, sym, refl, ap, ◌∙◌, subst, append_assoc, append-nil, length-append, eqb, eq-eqb, ne_eqb, eqb-true, arith}
 use Rattle.std.proofs.lemmas.Bool.{cases_eq}
-use Rattle.std.proofs.lemmas.List.{map-append}
 use Rattle.std.proofs.lemmas.List.Elements.{filter-append, filter_passes, All-contains}
 use Rattle.kt_tuple.specs.declared.op.Op.{Op}
 use Rattle.kt_tuple.specs.declared.op.Answer.{Answer}
 use Rattle.kt_tuple.specs.declared.service.Service.{Service}
 use Rattle.kt_core.specs.Order.{of_worker, OrderFrom}
-use Rattle.kt_core.proofs.Bags.{Contains-here, Contains-there, Contains-cases, Contains-none, Contains-filter, Contains-unfilter}
+use Rattle.kt_core.proofs.Bags.{Contains-here, Contains-there, Contains-cases, Contains-none, Contains-filter}
 
 abbrev pub answers_in : List Service → List Answer
 answers_in services = map (λ (s : Service). s.answer) services

@@ -1,15 +1,12 @@
 -- The plans of a shard keep a state sound: it hears what is new, answers again what it keeps, ignores the rest, and serves what waits.
-use Rattle.std.proofs.Common.{if◌then◌else◌, ◌≡◌, ◌≢◌, ℕ, zero, suc, ◌+◌, ◌<◌, ◌≤◌, ◌==◌, ◌&&◌, Bool, true, false, List, [], ◌∷◌, ◌++◌, length, Contains, Option, Some, None, nat_lt, IsPermutation, refl, sym, ap, ◌∙◌, subst, eq-eqb, eqb-true, ltb-true, ltb-false, arith}
-use Rattle.std.proofs.lemmas.Bool.{and_parts, and_from, false≢true}
-use Rattle.kt_tuple.specs.declared.node.NodeId.{NodeId}
+use Rattle.std.proofs.Common.{if◌then◌else◌, ◌≡◌, ℕ, ◌+◌, ◌<◌, ◌≤◌, ◌==◌, Bool, true, false, List, [], ◌∷◌, ◌++◌, length, Contains, Option, Some, None, nat_lt, refl, sym, ap, ◌∙◌, subst, eq-eqb, eqb-true, ltb-true, ltb-false}
+use Rattle.std.proofs.lemmas.Bool.{and_parts, and_from}
 use Rattle.kt_tuple.specs.declared.node.NodeId.TheVariants as ids
 use Rattle.kt_tuple.specs.declared.tuple.Tuple.{Tuple}
-use Rattle.kt_tuple.specs.declared.op.Op.{Op}
 use Rattle.kt_tuple.specs.declared.op.Answer.{Answer}
 use Rattle.kt_tuple.specs.Node.{node_index}
 use Rattle.kt_tuple.specs.Op.{op_eq, op_eq_decides}
 use Rattle.kt_tuple.specs.Signature.{kinds_of_op, shard_of}
-use Rattle.kt_tuple.specs.Space.{SpaceStep}
 use Rattle.kt_history.specs.declared.note.What.TheVariants as whats
 use Rattle.kt_history.specs.declared.note.Act.{Act}
 use Rattle.kt_history.specs.declared.note.Note.{Note}
@@ -25,11 +22,10 @@ use Rattle.kt_core.specs.State.{Store, IsStore, at, put}
 use Rattle.kt_core.specs.Desk.{empty_desk, newest, same_request, answer_if_kept, answer_unless_waiting, kept_answer}
 use Rattle.kt_core.specs.Choice.{choice_of, answer_of, bag_change_of}
 use Rattle.kt_core.specs.Plan.{act_of, heard_plan, again_plan, ignored_plan, old_request_plan, request_plan, service_plan}
-use Rattle.kt_core.specs.Effect.{bag_after, cause_of_waiting, with_desk, waiting_store, served_store}
-use Rattle.kt_core.specs.Bag.{served_bag}
+use Rattle.kt_core.specs.Effect.{bag_after, cause_of_waiting, waiting_store, served_store}
 use Rattle.kt_core.specs.Order.{Setting}
 use Rattle.kt_core.specs.Legal.{AreLegal}
-use Rattle.kt_core.specs.ShardLine.{MadeShard, request_of, Hears, AnswersAgain, Ignores, shard_after, shard_of_acts, new_shard, put_row}
+use Rattle.kt_core.specs.ShardLine.{MadeShard, Hears, AnswersAgain, Ignores, shard_after, shard_of_acts, new_shard, put_row}
 use Rattle.kt_core.proofs.Rows.{at-put_same, at-put_other}
 use Rattle.kt_core.proofs.Numbered.{put_row_holds}
 use Rattle.kt_core.proofs.Permutations.{step_like}
@@ -37,7 +33,7 @@ use Rattle.kt_core.proofs.Choices.{choice_step}
 use Rattle.kt_core.proofs.Traces.{WasHeard, waits_heard, ServedIn, keeps_served, ShardLine-home, Contains-acts_at, cause_found}
 use Rattle.kt_core.proofs.Causes.{before_at}
 use Rattle.kt_core.proofs.Growth.{shard_of_acts-push}
-use Rattle.kt_core.proofs.Sound.{rows, IsStoreLike, IsAskOf, IsReplyOf, Keeps, note_at-next}
+use Rattle.kt_core.proofs.Sound.{rows, IsStoreLike, IsAskOf, Keeps, note_at-next}
 
 -- what the shard's acts make of it
 abbrev made_of : List Note → ℕ → MadeShard

@@ -1,12 +1,12 @@
 -- The shares of all shards together are the whole space, and two runs of the same services lead to the same tuples.
-use Rattle.std.proofs.Common.{if◌then◌else◌, ◌≡◌, ℕ, zero, suc, ◌+◌, ◌<◌, ◌≤◌, ◌==◌, Bool, true, false, cond, List, [], ◌∷◌, ◌++◌, filter, Contains, IsPermutation, ◌⊎◌, inl, inr, refl, sym, ap, ◌∙◌, subst, eqb, eq-eqb, ne_eqb, mod-lt, arith}
+use Rattle.std.proofs.Common.{◌≡◌, ℕ, zero, suc, ◌+◌, ◌<◌, ◌≤◌, true, cond, List, [], ◌∷◌, ◌++◌, filter, Contains, IsPermutation, inl, inr, refl, sym, ap, ◌∙◌, subst, eqb, eq-eqb, ne_eqb, mod-lt, arith}
 use Rattle.std.specs.List.{flat_map, range_with_len}
 use Rattle.std.proofs.lemmas.Bool.{cases_eq}
 use Rattle.std.proofs.lemmas.List.Sorted.{IsPermutation-refl, IsPermutation-sym, IsPermutation-trans, IsPermutation-cons, IsPermutation-append, IsPermutation-append_right, IsPermutation-middle}
 use Rattle.kt_tuple.specs.declared.tuple.Tuple.{Tuple}
 use Rattle.kt_tuple.specs.declared.service.Service.{Service}
 use Rattle.kt_tuple.specs.Signature.{kinds_of, signature_of}
-use Rattle.kt_tuple.specs.Space.{RunsFrom, IsSpaceRun}
+use Rattle.kt_tuple.specs.Space.{RunsFrom}
 use Rattle.kt_core.specs.Bag.{served_bag}
 use Rattle.kt_core.proofs.Bags.{Contains-here, Contains-there, Contains-cases, Contains-none}
 use Rattle.kt_core.proofs.Homes.{home_of, is_home}

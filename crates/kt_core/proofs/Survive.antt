@@ -1,6 +1,6 @@
 -- The acts of a closed choice, and so the survivors, are one run of the sequential space and follow the scripts.
-use Rattle.std.proofs.Common.{◌≡◌, ◌≢◌, ℕ, zero, suc, ◌<◌, ◌≤◌, Bool, true, false, Option, Some, None, List, [], ◌∷◌, ◌++◌, length, filter, Contains, sym, refl, ap, ◌∙◌, subst, append-nil, IsTrue}
-use Rattle.std.proofs.lemmas.List.Elements.{filter_map-append, Contains-append_right}
+use Rattle.std.proofs.Common.{◌≡◌, ℕ, Bool, Option, List, [], ◌∷◌, ◌++◌, filter, Contains, sym, refl, ap, ◌∙◌, subst, append-nil, IsTrue}
+use Rattle.std.proofs.lemmas.List.Elements.{Contains-append_right}
 use Rattle.kt_tuple.specs.declared.node.NodeId.{NodeId}
 use Rattle.kt_tuple.specs.declared.node.NodeId.TheVariants as nodes
 use Rattle.kt_tuple.specs.declared.tuple.Tuple.{Tuple}
@@ -9,12 +9,12 @@ use Rattle.kt_tuple.specs.declared.op.Answer.{Answer}
 use Rattle.kt_tuple.specs.Space.{IsSpaceRun}
 use Rattle.kt_history.specs.declared.note.Act.{Act}
 use Rattle.kt_history.specs.declared.note.Note.{Note}
-use Rattle.kt_history.specs.Line.{note_at, line}
+use Rattle.kt_history.specs.Line.{line}
 use Rattle.kt_history.specs.Survival.{services_of, marked_acts, survives, services}
-use Rattle.kt_history.specs.Closed.{IsClosed, act_of, acts_at, acts_in_line, own}
+use Rattle.kt_history.specs.Closed.{IsClosed, acts_at, acts_in_line, own}
 use Rattle.kt_history.specs.WellFormed.{CausesComeFirst, IsWellFormed}
 use Rattle.kt_history.proofs.Survivors.{survives-closed}
-use Rattle.kt_history.proofs.Fronts.{MarkedFront, marked_front, acts_at-append}
+use Rattle.kt_history.proofs.Fronts.{marked_front, acts_at-append}
 use Rattle.kt_core.specs.Order.{Setting, FollowsScripts}
 use Rattle.kt_core.specs.ShardLine.{MadeShard, ShardLine, shard_after, shard_of_acts, new_shard}
 use Rattle.kt_core.specs.WorkerLine.{MadeWorker, WorkerLine, worker_after}

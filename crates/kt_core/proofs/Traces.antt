@@ -1,11 +1,10 @@
 -- What waits at a shard was heard in its line, what it keeps was served there, and the last hearing has the cause.
-use Rattle.std.proofs.Common.{if◌then◌else◌, ◌==◌, ◌≡◌, ◌≢◌, ℕ, zero, suc, Bool, true, false, cond, ◌&&◌, List, [], ◌∷◌, ◌++◌, reverse, Contains, Option, Some, None, ◌⊎◌, inl, inr, sym, refl, ap, ◌∙◌, subst, eq-eqb, ne_eqb}
+use Rattle.std.proofs.Common.{if◌then◌else◌, ◌==◌, ◌≡◌, ℕ, Bool, true, false, ◌&&◌, List, [], ◌∷◌, reverse, Contains, Option, Some, None, ◌⊎◌, inl, inr, sym, refl, ap, ◌∙◌, subst, eq-eqb, ne_eqb}
 use Rattle.std.specs.List.{find, cons_option}
 use Rattle.std.specs.Option.{option_or}
 use Rattle.std.proofs.lemmas.Bool.{cases_eq, and_right}
 use Rattle.std.proofs.lemmas.List.{reverse-append}
 use Rattle.std.proofs.lemmas.List.Folds.{find-append}
-use Rattle.kt_tuple.specs.declared.op.Answer.{Answer}
 use Rattle.kt_tuple.specs.Signature.{kinds_of_op, shard_of}
 use Rattle.kt_history.specs.declared.note.What.{What}
 use Rattle.kt_history.specs.declared.note.What.TheVariants as whats
@@ -17,7 +16,7 @@ use Rattle.kt_history.specs.Closed.{act_of, acts_at}
 use Rattle.kt_core.specs.declared.node.Request.{Request}
 use Rattle.kt_core.specs.declared.node.Kept.{Kept}
 use Rattle.kt_core.specs.declared.node.Desk.{Desk}
-use Rattle.kt_core.specs.ShardLine.{MadeShard, request_of, desk_after, cause_after, shard_after, shard_of_acts, ShardLine, new_shard, put_row}
+use Rattle.kt_core.specs.ShardLine.{MadeShard, request_of, desk_after, cause_after, shard_after, shard_of_acts, ShardLine, new_shard}
 use Rattle.kt_core.specs.Effect.{is_hearing, hears_worker, cause_of}
 use Rattle.kt_core.proofs.Bags.{Contains-here, Contains-there, Contains-cases, Contains-none}
 use Rattle.kt_core.proofs.Numbered.{put_row-same, put_row-other}

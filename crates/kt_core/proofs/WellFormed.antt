@@ -1,5 +1,5 @@
 -- Well-formed histories: they grow by notes that fit, their causes come first, and without a cut all of them survives.
-use Rattle.std.proofs.Common.{◌≡◌, ◌≢◌, ℕ, zero, suc, ◌<◌, ◌≤◌, Bool, true, false, cond, Option, Some, None, List, [], ◌∷◌, ◌++◌, length, Contains, ◌⊎◌, inl, inr, sym, refl, ap, ◌∙◌, subst, IsTrue, arith}
+use Rattle.std.proofs.Common.{◌≡◌, ◌≢◌, ℕ, suc, Bool, true, false, Option, Some, None, List, [], ◌∷◌, ◌++◌, length, Contains, inl, inr, sym, refl, ◌∙◌, subst, IsTrue, arith}
 use Rattle.std.proofs.lemmas.List.Elements.{Contains-append_left, Contains-push}
 use Rattle.kt_tuple.specs.declared.node.NodeId.{NodeId}
 use Rattle.kt_tuple.specs.declared.node.NodeId.TheVariants as nodes
@@ -10,9 +10,8 @@ use Rattle.kt_history.specs.declared.note.Act.{Act}
 use Rattle.kt_history.specs.declared.note.Note.{Note}
 use Rattle.kt_history.specs.declared.note.Note.TheVariants as notes
 use Rattle.kt_history.specs.Line.{note_at, before, line, same_node, IsAct}
-use Rattle.kt_history.specs.Past.{InPast}
-use Rattle.kt_history.specs.Survival.{Stands, Survives, survives}
-use Rattle.kt_history.specs.WellFormed.{MayFollow, CausesComeFirst, HeardRequest, HeardReply, IgnoredFits, ActFits, Fits, IsWellFormed}
+use Rattle.kt_history.specs.Survival.{survives}
+use Rattle.kt_history.specs.WellFormed.{MayFollow, CausesComeFirst, IgnoredFits, ActFits, Fits, IsWellFormed}
 use Rattle.kt_history.proofs.Lists.{snoc_ind}
 use Rattle.kt_history.proofs.Lines.{line-own_act, line-other_act, note_at-old, note_at-new, note_at-within, note_at-push_cases, before-old, before-new, line-own, same_node-true}
 use Rattle.kt_history.proofs.Pasts.{InPast-back}

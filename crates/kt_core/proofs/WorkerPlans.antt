@@ -1,13 +1,12 @@
 -- The plans of a worker keep a state sound: it issues what its script asks, accepts what it waits for, and ignores the rest.
-use Rattle.std.proofs.Common.{if◌then◌else◌, ◌≡◌, ℕ, zero, suc, ◌+◌, ◌<◌, ◌≤◌, ◌==◌, ◌&&◌, ◌%◌, Bool, true, false, List, [], ◌∷◌, ◌++◌, length, Option, Some, None, slice_get, refl, sym, ap, ◌∙◌, subst, eq-eqb, eqb-true, length-append, add-one, mod-lt, arith}
+use Rattle.std.proofs.Common.{if◌then◌else◌, ◌≡◌, ℕ, suc, ◌+◌, ◌<◌, ◌≤◌, ◌==◌, Bool, true, false, List, [], ◌∷◌, ◌++◌, length, Option, Some, None, slice_get, refl, sym, ap, ◌∙◌, subst, eq-eqb, eqb-true, length-append, mod-lt, arith}
 use Rattle.std.proofs.lemmas.Bool.{and_parts, and_from, false≢true}
-use Rattle.kt_tuple.specs.declared.node.NodeId.{NodeId}
 use Rattle.kt_tuple.specs.declared.node.NodeId.TheVariants as ids
 use Rattle.kt_tuple.specs.declared.op.Op.{Op}
 use Rattle.kt_tuple.specs.declared.op.Answer.{Answer}
 use Rattle.kt_tuple.specs.Node.{node_index}
 use Rattle.kt_tuple.specs.Op.{op_eq, op_eq_decides}
-use Rattle.kt_tuple.specs.Signature.{kinds_of_op, shard_of, signature_of}
+use Rattle.kt_tuple.specs.Signature.{kinds_of_op, signature_of}
 use Rattle.kt_history.specs.declared.note.What.TheVariants as whats
 use Rattle.kt_history.specs.declared.note.Act.{Act}
 use Rattle.kt_history.specs.declared.note.Note.{Note}
@@ -25,7 +24,7 @@ use Rattle.kt_core.specs.Asks.{asks, setting_of}
 use Rattle.kt_core.specs.Order.{Setting}
 use Rattle.kt_core.specs.WorkerLine.{MadeWorker, Awaits, worker_after, worker_of_acts, new_worker}
 use Rattle.kt_core.proofs.Growth.{worker_of_acts-push}
-use Rattle.kt_core.proofs.Sound.{last_number, rows, IsWorkerLike, IsPartLike, IsAskOf, IsReplyOf, Keeps, note_at-next}
+use Rattle.kt_core.proofs.Sound.{last_number, rows, IsWorkerLike, IsReplyOf, Keeps, note_at-next}
 
 -- what the worker's acts make of it
 abbrev made_of : List Note → ℕ → MadeWorker

@@ -1,5 +1,5 @@
 -- When each node's line is one that the node may make.
-use Rattle.std.specs.Prelude.{ℕ, List}
+use Rattle.std.specs.Prelude.{List}
 use Rattle.kt_tuple.specs.declared.node.NodeId.{NodeId}
 use Rattle.kt_tuple.specs.declared.node.NodeId.TheVariants as nodes
 use Rattle.kt_history.specs.declared.note.Act.{Act}
