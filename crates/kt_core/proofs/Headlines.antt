@@ -113,6 +113,10 @@ applied-bounds s step plan b some = record {
     | inl below ↦ omega (arith, length-put Nobody s.nodes (node_index (owner step)) (changed (node s (owner step)) plan.change) below, b.rows_within)
     | inr past ↦ absurd (some (get_or_past s.nodes (node_index (owner step)) Nobody past))
   ];
+  first_row = elim (cases_eq (node_index (ids.Worker 0)) (node_index (owner step))) [
+    | inl e ↦ absurd (some (ap (at Nobody s.nodes) (sym e) ∙ b.first_row))
+    | inr d ↦ at-put_other Nobody s.nodes (node_index (owner step)) (node_index (ids.Worker 0)) (changed (node s (owner step)) plan.change) d ∙ b.first_row
+  ];
   some_shards = b.some_shards;
   few_shards = b.few_shards;
 }

@@ -91,7 +91,7 @@ new_parts cast (ids.Shard r) = elim (cases_lt r 9) [
 pub opening-kept : (cast : Cast) → IsCast cast → HasGrounds (opening cast)
 opening-kept cast is =
     new-kept (opening cast) refl (λ k. at-replicate [] 324 k) (new_parts cast)
-    (record { rows_within = le_of_eq (length-opening_rows (length cast.scripts) cast.shards 9); some_shards = is.some_shards; few_shards = is.few_shards })
+    (record { rows_within = le_of_eq (length-opening_rows (length cast.scripts) cast.shards 9); first_row = worker_row (length cast.scripts) cast.shards 9 0 (omega arith); some_shards = is.some_shards; few_shards = is.few_shards })
     (record {
       store = λ r from below. record { bag = []; desks = replicate 9 empty_desk };
       is = λ r from below.

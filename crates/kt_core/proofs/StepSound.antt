@@ -33,6 +33,7 @@ use Rattle.kt_core.proofs.Frame.{applied-sound}
 -- what the tables and the numbers of shards must be for that
 pub record HasBounds (s : State) : Type 0 where
   pub rows_within : length s.nodes ≤ rows
+  pub first_row : node s (ids.Worker 0) ≡ Nobody
   pub some_shards : 1 ≤ s.shards
   pub few_shards : s.shards ≤ 8
 
@@ -55,18 +56,24 @@ limited-is s made plan = by (nat_lt s.made 100000)
 abbrev IsKept : State → NodeId → Part → Plan → Type 0
 IsKept s p part plan = Keeps (setting_of s.shards s.scripts) s.history p part plan
 
-issue-kept : (s : State) → HasBounds s → (p : NodeId) (part : Part) → IsPartLike p (acts_in_line s.history p) part → (plan : Plan) → issue_of s p (worker_of part) ≡ Ok plan → IsKept s p part plan
-issue-kept s b p Nobody like plan e = absurd cc
-issue-kept s b p (IsStore y) like plan e = absurd cc
-issue-kept s b (ids.Shard r) (IsWorker x) like plan e = absurd like
-issue-kept s b (ids.Worker w) (IsWorker x) like plan e = by (next_op x (script_of s.scripts (ids.Worker w))) refl e
+issue-kept : (s : State) → HasBounds s → (p : NodeId) (part : Part) → node s p ≡ part → IsPartLike p (acts_in_line s.history p) part → (plan : Plan) → issue_of s p (worker_of part) ≡ Ok plan → IsKept s p part plan
+issue-kept s b p Nobody at_p like plan e = absurd cc
+issue-kept s b p (IsStore y) at_p like plan e = absurd cc
+issue-kept s b (ids.Shard r) (IsWorker x) at_p like plan e = absurd like
+issue-kept s b (ids.Worker w) (IsWorker x) at_p like plan e = by (next_op x (script_of s.scripts (ids.Worker w))) refl e
   where
+    numbered : w ≢ 0
+    numbered zero_is =
+        let first : node s (ids.Worker 0) ≡ IsWorker x = subst (λ k. node s (ids.Worker k) ≡ IsWorker x) zero_is at_p in
+        let none : node s (ids.Worker 0) ≡ Nobody = b.first_row in
+        cc (first, none)
+
     by : (o : Option Op) → next_op x (script_of s.scripts (ids.Worker w)) ≡ o → issue_op s (ids.Worker w) x o ≡ Ok plan → IsKept s (ids.Worker w) (IsWorker x) plan
     by None next e = absurd cc
     by (Some op) next e =
         subst (IsKept s (ids.Worker w) (IsWorker x))
         (limited-is s (issue_plan (ids.Worker w) w (record { number = x.number + 1; op = op }) (home s.shards op) (next_note s)) plan e)
-        (issue_keeps s.shards s.scripts s.history w x op b.some_shards b.few_shards like next)
+        (issue_keeps s.shards s.scripts s.history w x op numbered b.some_shards b.few_shards like next)
 
 -- the front of a link carries what its act says
 front-carries : (s : State) → IsSound s → (p q : NodeId) (m : Message) (later : List Message) → node_index q < rows → link s p q ≡ m ∷ later → Carries s.shards s.history p q m
@@ -123,7 +130,7 @@ service-kept s sound (ids.Shard r) (ids.Worker w) place (IsStore y) (IsWorker x)
 service-kept s sound p v place _ _ like_p like_v row plan e = absurd cc
 
 planned-kept : (s : State) → IsSound s → HasBounds s → (step : Step) (plan : Plan) → planned s step ≡ Ok plan → IsKept s (owner step) (node s (owner step)) plan
-planned-kept s sound b (Issue p) plan e = issue-kept s b p (node s p) (sound.like p) plan e
+planned-kept s sound b (Issue p) plan e = issue-kept s b p (node s p) refl (sound.like p) plan e
 planned-kept s sound b (Deliver p q) plan e =
     delivery-kept s sound p q (node s p) (node s q) (sound.like p) (sound.like q) (has_row s b p (node s p) refl) (has_row s b q (node s q) refl) plan e
 planned-kept s sound b (Serve p v place) plan e = service-kept s sound p v place (node s p) (node s v) (sound.like p) (sound.like v) (has_row s b v (node s v) refl) plan e

@@ -1,5 +1,5 @@
 -- The plans of a worker keep a state sound: it issues what its script asks, accepts what it waits for, and ignores the rest.
-use Rattle.std.proofs.Common.{if◌then◌else◌, ◌≡◌, ℕ, suc, ◌+◌, ◌<◌, ◌≤◌, ◌==◌, Bool, true, false, List, [], ◌∷◌, ◌++◌, length, Option, Some, None, slice_get, refl, sym, ap, ◌∙◌, subst, eq-eqb, eqb-true, length-append, mod-lt, arith}
+use Rattle.std.proofs.Common.{if◌then◌else◌, ◌≡◌, ◌≢◌, ℕ, zero, suc, ◌+◌, ◌<◌, ◌≤◌, ◌==◌, Bool, true, false, List, [], ◌∷◌, ◌++◌, length, Option, Some, None, slice_get, refl, sym, ap, ◌∙◌, subst, eq-eqb, eqb-true, length-append, mod-lt, arith}
 use Rattle.std.proofs.lemmas.Bool.{and_parts, and_from, false≢true}
 use Rattle.kt_tuple.specs.declared.node.NodeId.TheVariants as ids
 use Rattle.kt_tuple.specs.declared.op.Op.{Op}
@@ -16,11 +16,11 @@ use Rattle.kt_history.specs.Closed.{acts_in_line}
 use Rattle.kt_history.specs.WellFormed.{IsShard, HeardReply}
 use Rattle.kt_core.specs.declared.node.Request.{Request}
 use Rattle.kt_core.specs.declared.node.Worker.{Worker}
-use Rattle.kt_core.specs.State.{IsWorker}
+use Rattle.kt_core.specs.State.{IsWorker, at}
 use Rattle.kt_core.specs.Desk.{awaits, awaits_op}
 use Rattle.kt_core.specs.Plan.{act_of, issue_plan, accepted_plan, ignored_plan, reply_plan}
 use Rattle.kt_core.specs.Effect.{script_of, home, op_after, next_op}
-use Rattle.kt_core.specs.Asks.{asks, setting_of}
+use Rattle.kt_core.specs.Asks.{asks, script_numbered, setting_of}
 use Rattle.kt_core.specs.Order.{Setting}
 use Rattle.kt_core.specs.WorkerLine.{MadeWorker, Awaits, worker_after, worker_of_acts, new_worker}
 use Rattle.kt_core.proofs.Growth.{worker_of_acts-push}
@@ -39,6 +39,11 @@ asks-place [] answers = refl
 asks-place (op ∷ later) [] = refl
 asks-place (op ∷ later) (answer ∷ more) = asks-place later more
 
+-- a worker's script is the one of its number
+script_numbered-is : (scripts : List (List Op)) (w : ℕ) → w ≢ 0 → script_numbered scripts w ≡ script_of scripts (ids.Worker w)
+script_numbered-is scripts zero some = absurd (some refl)
+script_numbered-is scripts (suc n) some = ap (at [] scripts) (omega arith)
+
 -- a worker that asks waits for nothing
 op_after-is : (asked : Option Op) (number : ℕ) (script : List Op) (op : Op) → op_after asked number script ≡ Some op → (asked ≡ None) × (slice_get script number ≡ Some op)
 op_after-is None number script op e = (refl, e)
@@ -48,10 +53,10 @@ op_after-is (Some other) number script op e = absurd cc
 shard_has_row : (shards : ℕ) (op : Op) → 1 ≤ shards → shards ≤ 8 → node_index (home shards op) < rows
 shard_has_row shards op some few = let below = mod-lt (signature_of (kinds_of_op op)) some in omega (arith, below)
 
-pub issue_keeps : (shards : ℕ) (scripts : List (List Op)) (h : List Note) (w : ℕ) (x : Worker) (op : Op) → 1 ≤ shards → shards ≤ 8 → IsWorkerLike (made_of h w) x →
+pub issue_keeps : (shards : ℕ) (scripts : List (List Op)) (h : List Note) (w : ℕ) (x : Worker) (op : Op) → w ≢ 0 → 1 ≤ shards → shards ≤ 8 → IsWorkerLike (made_of h w) x →
     next_op x (script_of scripts (ids.Worker w)) ≡ Some op →
     Keeps (setting_of shards scripts) h (ids.Worker w) (IsWorker x) (issue_plan (ids.Worker w) w (record { number = x.number + 1; op = op }) (home shards op) (length h + 1))
-issue_keeps shards scripts h w x op some few like next =
+issue_keeps shards scripts h w x op numbered some few like next =
     let made : MadeWorker = made_of h w in
     let i = op_after-is x.asked x.number (script_of scripts (ids.Worker w)) op next in
     let free : made.asked ≡ None = sym like.asked ∙ i.0 in
@@ -59,7 +64,7 @@ issue_keeps shards scripts h w x op some few like next =
     let more : x.number + 1 ≡ suc (length made.answers) = omega (arith, number) in
     let a : Act = act_of (ids.Worker w) 0 w (record { number = x.number + 1; op = op }) whats.Issue in record {
       own = refl;
-      may = (refl, (free, more, asks-place (script_of scripts (ids.Worker w)) made.answers ∙ ap (slice_get (script_of scripts (ids.Worker w))) (sym number) ∙ i.1));
+      may = (refl, (free, more, asks-place (script_numbered scripts w) made.answers ∙ ap (slice_get (script_numbered scripts w)) (sym number) ∙ ap (λ (l : List Op). slice_get l x.number) (script_numbered-is scripts w numbered) ∙ i.1));
       fits = refl;
       like = like-push (acts_in_line h (ids.Worker w)) a (record { number = x.number + 1; asked = Some op }) (record { asked = refl; number = more });
       sends = (record { act = a; is_act = note_at-next h (notes.Act a); own = refl; asking = tt; worker = refl; number = refl; op = refl; home = refl }, shard_has_row shards op some few);
