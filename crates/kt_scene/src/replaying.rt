@@ -1,5 +1,9 @@
 //! From the bytes of a scenario to the bytes of its report.
 
+ghost use Rattle.std.specs.Prelude.{◌≡◌, List, ℕ, IfErr};
+ghost use Rattle.std.specs.Io.KnownBytes.{Keeps};
+ghost use Rattle.kt_scene.specs.Stream.{UnlessWrite};
+
 use crate::draft::read_scene;
 use crate::fault::ReplayFault;
 use crate::report::write_report;
@@ -15,7 +19,10 @@ pub fn replay<R: Read, W: Write>(
     alloc: Global,
     reader: &mut R,
     writer: &mut W,
-) -> Result<(), ReplayFault> {
+) -> Result<(), ReplayFault>
+    // Before any fault but the writer's nothing is written.
+    ensures nothing { IfErr result (λ fault. UnlessWrite fault (Keeps (W.contents writer.old) (W.contents writer.new))) }
+{
     let mut world = world_of(alloc, reader)?;
     write_report(alloc, &mut world, writer)
 }

@@ -1,5 +1,9 @@
 //! The report of a world: what survives, what is lost, and the tuples.
 
+ghost use Rattle.std.specs.Prelude.{◌≡◌, List, ℕ, IfErr, OnErr, OnOk};
+ghost use Rattle.std.specs.Io.KnownBytes.{Keeps};
+ghost use Rattle.kt_scene.specs.Stream.{UnlessWrite, IsReportFault};
+
 use crate::fault::ReplayFault;
 use crate::space::tuples_after;
 use crate::stream::put;
@@ -15,7 +19,12 @@ pub fn write_report<W: Write>(
     alloc: Global,
     world: &mut World,
     writer: &mut W,
-) -> Result<(), ReplayFault> {
+) -> Result<(), ReplayFault>
+    ensures same { world.new ≡ world.old }
+    // Before any fault but the writer's nothing is written.
+    ensures nothing { IfErr result (λ fault. UnlessWrite fault (Keeps (W.contents writer.old) (W.contents writer.new))) }
+    ensures only { IfErr result IsReportFault }
+{
     let report = report_of(alloc, world).map_err(|_| ReplayFault::Memory)?;
     put(writer, &report)
 }

@@ -1,5 +1,9 @@
 //! All bytes of a reader, and all bytes to a writer.
 
+ghost use Rattle.std.specs.Prelude.{◌≡◌, ◌≤◌, ◌<◌, ℕ, List, length, take, IfOk, IfErr, OnOk, OnErr, Err};
+ghost use Rattle.std.specs.Io.KnownBytes.{Keeps, Appends, Consumes, IsAtEnd};
+ghost use Rattle.kt_scene.specs.Stream.{AppendsFront, IsTooLong, IsReadFault};
+
 use crate::draft::MAX_TEXT;
 use crate::fault::{ReplayFault, SceneError};
 use std::alloc::Global;
@@ -14,7 +18,13 @@ const CHUNK: usize = 8192;
 /// All bytes of the reader. Refused by a fault of line 1 where there are more than 1,048,576, by want
 /// of memory, or by the reader, which has 2,000,000 calls to come to its end. A call that was
 /// interrupted is made again.
-pub fn read_text<R: Read>(alloc: Global, reader: &mut R) -> Result<Vec<u8>, ReplayFault> {
+pub fn read_text<R: Read>(alloc: Global, reader: &mut R) -> Result<Vec<u8>, ReplayFault>
+    ensures read { IfOk result (λ text. Consumes (R.remaining reader.old) (R.remaining reader.new) text.items) }
+    ensures all { OnOk result (IsAtEnd (R.remaining reader.new)) }
+    ensures short { IfOk result (λ text. length text.items ≤ MAX_TEXT) }
+    ensures limit { result ≡ Err (ReplayFault.Scene 1 SceneError.Limit) → IsTooLong (R.remaining reader.old) }
+    ensures only { IfErr result IsReadFault }
+{
     let mut text = Vec::new(alloc);
     let mut chunk = [0u8; CHUNK];
     for _ in 0..MAX_READS {
@@ -38,7 +48,11 @@ pub fn read_text<R: Read>(alloc: Global, reader: &mut R) -> Result<Vec<u8>, Repl
 }
 
 /// Writes all bytes. A call that was interrupted is made again.
-pub fn put<W: Write>(writer: &mut W, bytes: &[u8]) -> Result<(), ReplayFault> {
+pub fn put<W: Write>(writer: &mut W, bytes: &[u8]) -> Result<(), ReplayFault>
+    ensures whole { OnOk result (Appends (W.contents writer.old) (W.contents writer.new) bytes.now) }
+    ensures front { OnErr result (AppendsFront (W.contents writer.old) (W.contents writer.new) bytes.now) }
+    ensures only { IfErr result (λ fault. fault ≡ ReplayFault.Write) }
+{
     let mut rest = bytes;
     for _ in 0..u64::MAX {
         if rest.is_empty() {
@@ -46,7 +60,10 @@ pub fn put<W: Write>(writer: &mut W, bytes: &[u8]) -> Result<(), ReplayFault> {
         }
         match writer.write(rest) {
             Ok(0) => return Err(ReplayFault::Write),
-            Ok(count) => rest = &rest[count..],
+            Ok(count) => {
+                let (_, left) = rest.split_at(count);
+                rest = left;
+            }
             Err(error) if error.kind() == ErrorKind::Interrupted => {}
             Err(_) => return Err(ReplayFault::Write),
         }

@@ -1,5 +1,9 @@
 use Rattle.std.proofs.Common.{◌≤◌, vec_len}
+use Rattle.std.specs.Io.KnownBytes.{Consumes}
 use Rattle.kt_scene.proofs.stream.read_text.Given as goal
 
 abbrev pub invariant-loop : goal.invariant-loop
-invariant-loop g l = vec_len l.text ≤ 1048576
+invariant-loop g l = record {
+  short : vec_len l.text ≤ 1048576;
+  read : Consumes (g.R.Read.remaining l.fn.reader) (g.R.Read.remaining l.reader) l.text.items;
+}

@@ -1,0 +1,41 @@
+-- What is known of bytes after one write and another.
+use Rattle.std.proofs.Common.{◌≡◌, ℕ, ◌+◌, List, [], ◌++◌, take, drop, Option, Some, None, refl, sym, ap, ◌∙◌, subst, append_assoc}
+use Rattle.std.proofs.Math.Seq.{take-add}
+use Rattle.std.specs.Io.KnownBytes.{Keeps, Appends}
+use Rattle.std.proofs.lemmas.List.{drop-drop, append-nil}
+
+pub appends_then : (a b c : Option (List ℕ)) (x y : List ℕ) → Appends a b x → Appends b c y → Appends a c (x ++ y)
+appends_then None b c x y p q = tt
+appends_then (Some xs) None c x y p q = absurd p
+appends_then (Some xs) (Some ys) None x y p q = absurd q
+appends_then (Some xs) (Some ys) (Some zs) x y p q = q ∙ ap (λ (t : List ℕ). t ++ y) p ∙ append_assoc xs x y
+
+pub appends_keeps : (a b c : Option (List ℕ)) (x : List ℕ) → Appends a b x → Keeps b c → Appends a c x
+appends_keeps None b c x p q = tt
+appends_keeps (Some xs) None c x p q = absurd p
+appends_keeps (Some xs) (Some ys) None x p q = absurd q
+appends_keeps (Some xs) (Some ys) (Some zs) x p q = q ∙ p
+
+pub appends_nothing : (a : Option (List ℕ)) → Appends a a []
+appends_nothing None = tt
+appends_nothing (Some xs) = sym (append-nil xs)
+
+-- n bytes were written, and these are left
+abbrev pub IsWritten : Option (List ℕ) → Option (List ℕ) → List ℕ → List ℕ → Type 0
+IsWritten old new bytes rest = (n : ℕ) × Appends old new (take n bytes) × (rest ≡ drop n bytes)
+
+-- the writer took a front of what is left
+pub written_more : (a b c : Option (List ℕ)) (bytes rest left : List ℕ) (m : ℕ) → IsWritten a b bytes rest → Appends b c (take m rest) → left ≡ drop m rest → IsWritten a c bytes left
+written_more a b c bytes rest left m (n, so_far, is) more later = (
+  n + m,
+  subst (Appends a c) (sym (take-add n m bytes ∙ ap (λ (t : List ℕ). take n bytes ++ take m t) (sym is))) (appends_then a b c (take n bytes) (take m rest) so_far more),
+  later ∙ ap (drop m) is ∙ drop-drop m n bytes,
+)
+
+-- the writer took nothing
+pub written_same : (a b c : Option (List ℕ)) (bytes rest left : List ℕ) → IsWritten a b bytes rest → Keeps b c → left ≡ rest → IsWritten a c bytes left
+written_same a b c bytes rest left (n, so_far, is) kept same = (n, appends_keeps a b c (take n bytes) so_far kept, same ∙ is)
+
+pub keeps_same : (a : Option (List ℕ)) → Keeps a a
+keeps_same None = tt
+keeps_same (Some xs) = refl
