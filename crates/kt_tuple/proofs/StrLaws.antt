@@ -1,14 +1,10 @@
 -- A str that is read is spelled as its characters are.
-use Rattle.std.proofs.Common.{◌≡◌, ℕ, suc, ◌+◌, ◌-◌, ◌<◌, ◌≤◌, Bool, true, false, cond, ◌&&◌, ◌||◌, eqb, leb, List, [], ◌∷◌, ◌++◌, length, take, Option, Some, None, Result, Ok, Err, refl, sym, ap, subst, ◌∙◌, append_assoc, arith, length-append}
-use Rattle.std.proofs.lemmas.List.{take_at}
+use Rattle.std.proofs.Common.{◌≡◌, ℕ, Bool, true, false, cond, ◌||◌, eqb, List, [], ◌∷◌, ◌++◌, Ok, Err, refl, sym, ap, ◌∙◌, arith}
 use Rattle.std.proofs.lemmas.Bool.{eqb-true, le-leb}
 use Rattle.std.specs.Cmp.Derive.{both_true}
 use Rattle.std.specs.List.{flat_map, list_all}
-use Rattle.kt_tuple.specs.declared.value.Value.{Value}
-use Rattle.kt_tuple.specs.declared.value.Value.TheVariants.{Int, Str}
-use Rattle.kt_tuple.specs.Spelling.{character_text, string_text, value_text}
-use Rattle.kt_tuple.specs.Reading.{◌>>=◌, word_at, is_printable, is_escaped, is_escape, after_characters, split_before, str_at, unescaped, between_quotes, characters_of, str_of}
-use Rattle.kt_tuple.proofs.IntLaws.{parts_of}
+use Rattle.kt_tuple.specs.Spelling.{character_text}
+use Rattle.kt_tuple.specs.Reading.{is_printable, is_escaped, after_characters, unescaped}
 
 -- what stands in front of the characters: the backslash of an escaped one
 abbrev escape : Bool → List ℕ
@@ -32,31 +28,40 @@ escaped_printable c false false e f h = absurd cc
 escaped_taken : (b : Bool) (c : ℕ) (cs rest : List ℕ) → is_escaped c ≡ b → ((r : List ℕ) → after_characters false cs ≡ Ok r → Taken false cs r)
     → cond b (after_characters false cs) (Err (c ∷ cs)) ≡ Ok rest → Taken true (c ∷ cs) rest
 escaped_taken true c cs rest e behind read =
-    let more = behind rest read in
-    (c ∷ more.0, ap (λ (t : List ℕ). c ∷ t) more.1, record {
-      text = rw e (ap (λ (t : List ℕ). 92 ∷ c ∷ t) more.2.text);
-      printable = rw (escaped_printable c (eqb c 34) (eqb c 92) refl refl e) more.2.printable;
-    })
+    let more = behind rest read in (
+      c ∷ more.0,
+      ap (λ (t : List ℕ). c ∷ t) more.1,
+      record {
+        text = rw e (ap (λ (t : List ℕ). 92 ∷ c ∷ t) more.2.text);
+        printable = rw (escaped_printable c (eqb c 34) (eqb c 92) refl refl e) more.2.printable;
+      },
+    )
 escaped_taken false c cs rest e behind read = absurd cc
 
 plain_taken : (b : Bool) (c : ℕ) (cs rest : List ℕ) → eqb c 34 ≡ false → eqb c 92 ≡ false → is_printable c ≡ b → ((r : List ℕ) → after_characters false cs ≡ Ok r → Taken false cs r)
     → cond b (after_characters false cs) (Err (c ∷ cs)) ≡ Ok rest → Taken false (c ∷ cs) rest
 plain_taken true c cs rest no_quote no_backslash e behind read =
-    let more = behind rest read in
-    (c ∷ more.0, ap (λ (t : List ℕ). c ∷ t) more.1, record {
-      text = rw (no_backslash, no_quote, no_backslash) (ap (λ (t : List ℕ). c ∷ t) more.2.text);
-      printable = rw (no_backslash, e) more.2.printable;
-    })
+    let more = behind rest read in (
+      c ∷ more.0,
+      ap (λ (t : List ℕ). c ∷ t) more.1,
+      record {
+        text = rw (no_backslash, no_quote, no_backslash) (ap (λ (t : List ℕ). c ∷ t) more.2.text);
+        printable = rw (no_backslash, e) more.2.printable;
+      },
+    )
 plain_taken false c cs rest no_quote no_backslash e behind read = absurd cc
 
 backslash_taken : (b : Bool) (c : ℕ) (cs rest : List ℕ) → eqb c 34 ≡ false → eqb c 92 ≡ b → ((d : Bool) (r : List ℕ) → after_characters d cs ≡ Ok r → Taken d cs r)
     → cond b (after_characters true cs) (cond (is_printable c) (after_characters false cs) (Err (c ∷ cs))) ≡ Ok rest → Taken false (c ∷ cs) rest
 backslash_taken true c cs rest no_quote e behind read =
-    let more = behind true rest read in
-    (c ∷ more.0, ap (λ (t : List ℕ). c ∷ t) more.1, record {
-      text = rw e (more.2.text ∙ ap (λ k. k ∷ more.0) (sym (eqb-true c 92 e)));
-      printable = rw e more.2.printable;
-    })
+    let more = behind true rest read in (
+      c ∷ more.0,
+      ap (λ (t : List ℕ). c ∷ t) more.1,
+      record {
+        text = rw e (more.2.text ∙ ap (λ k. k ∷ more.0) (sym (eqb-true c 92 e)));
+        printable = rw e more.2.printable;
+      },
+    )
 backslash_taken false c cs rest no_quote e behind read = plain_taken (is_printable c) c cs rest no_quote e refl (behind false) read
 
 quote_taken : (b : Bool) (c : ℕ) (cs rest : List ℕ) → eqb c 34 ≡ b → ((d : Bool) (r : List ℕ) → after_characters d cs ≡ Ok r → Taken d cs r)

@@ -1,11 +1,13 @@
 -- What is read of the text of a tuple or a template, and the lowest fault of the text.
 use Rattle.std.specs.Prelude.{ℕ, zero, suc, ◌+◌, ◌-◌, ◌||◌, not, nat_le, Bool, true, false, if◌then◌else◌, List, [], ◌∷◌, ◌++◌, length, Option, Some, None, option_to_list, Result, Ok, Err}
+use Rattle.kt_tuple.specs.declared.value.Value.{Value}
+use Rattle.kt_tuple.specs.declared.template.Place.{Place}
 use Rattle.kt_tuple.specs.declared.parse_error.ParseError.{ParseError}
 use Rattle.kt_tuple.specs.declared.parse_error.ParseError.TheVariants as faults
 use Rattle.kt_tuple.specs.declared.parsing.Findings.{Findings}
 use Rattle.kt_tuple.specs.declared.parsing.Form.{Form}
 use Rattle.kt_tuple.specs.declared.parsing.Form.TheVariants as forms
-use Rattle.kt_tuple.specs.Reading.{◌>>=◌, word_at, value_at, place_at, after_place, has_range, is_short}
+use Rattle.kt_tuple.specs.Reading.{◌>>=◌, word_at, value_at, place_at, after_place, has_range, is_short, value_of, place_of}
 
 -- a function that reads one place
 abbrev pub Reader : Type 0
@@ -90,3 +92,16 @@ made_from read make (suc n) text = made_with (read text) make (made_from read ma
 abbrev pub made_in : {A : Type 0} → Reader → (List ℕ → Option A) → Result (List ℕ) (List ℕ) → List A
 made_in read make (Err rest) = []
 made_in read make (Ok start) = made_from read make 8 start
+
+-- the lowest fault of the text of a tuple, and what its places are; the same of a template
+abbrev pub tuple_fault : List ℕ → Option ParseError
+tuple_fault text = fault_of forms.Tuple text
+
+abbrev pub tuple_values : List ℕ → List Value
+tuple_values text = made_in value_at value_of (word_at text (40 ∷ []))
+
+abbrev pub template_fault : List ℕ → Option ParseError
+template_fault text = fault_of forms.Template text
+
+abbrev pub template_places : List ℕ → List Place
+template_places text = made_in place_at place_of (word_at text (40 ∷ []))

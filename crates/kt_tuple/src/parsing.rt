@@ -1,8 +1,8 @@
 //! Tuples and templates from their text: first judged without memory, then built.
 
-ghost use Rattle.std.specs.Prelude.{◌≡◌, ◌-◌, ◌+◌, ℕ, Bool, List, [], ◌∷◌, ◌++◌, length, IfOk, OnOk, option_to_list};
+ghost use Rattle.std.specs.Prelude.{◌≡◌, ◌-◌, ◌+◌, ℕ, Bool, List, [], ◌∷◌, ◌++◌, length, IfOk, OnOk, option_to_list, IfSome, Err};
 ghost use Rattle.kt_tuple.specs.Reading.{Gives, word_at, value_at, place_at, value_of, place_of};
-ghost use Rattle.kt_tuple.specs.Parsing.{reader_of, nothing_found, with_place, fault_found, found_in, fault_of, made_in};
+ghost use Rattle.kt_tuple.specs.Parsing.{reader_of, nothing_found, with_place, fault_found, found_in, fault_of, made_in, tuple_fault, tuple_values, template_fault, template_places};
 
 use crate::parse_error::ParseError;
 use crate::reading::{
@@ -31,7 +31,11 @@ struct Findings {
 
 impl Tuple {
     /// The tuple that the text spells, all of the text.
-    pub fn parse(alloc: Global, text: &[u8]) -> Result<Tuple, ParseError> {
+    pub fn parse(alloc: Global, text: &[u8]) -> Result<Tuple, ParseError>
+        // A text with a fault is answered by its lowest one.
+        ensures fault { IfSome (tuple_fault text.now) (λ fault. result ≡ Err fault) }
+        ensures value { IfOk result (λ tuple. tuple ≡ tuple_values text.now) }
+    {
         if let Some(fault) = fault_of(Form::Tuple, text) {
             return Err(fault);
         }
@@ -42,7 +46,11 @@ impl Tuple {
 
 impl Template {
     /// The template that the text spells, all of the text.
-    pub fn parse(alloc: Global, text: &[u8]) -> Result<Template, ParseError> {
+    pub fn parse(alloc: Global, text: &[u8]) -> Result<Template, ParseError>
+        // A text with a fault is answered by its lowest one.
+        ensures fault { IfSome (template_fault text.now) (λ fault. result ≡ Err fault) }
+        ensures value { IfOk result (λ template. template ≡ template_places text.now) }
+    {
         if let Some(fault) = fault_of(Form::Template, text) {
             return Err(fault);
         }
