@@ -9,7 +9,6 @@ mod names;
 mod replaying;
 mod report;
 mod scenario;
-mod space;
 mod stream;
 
 pub use draft::{MAX_TEXT, read_scene};

@@ -1,14 +1,17 @@
 //! The report of a world: what survives, what is lost, and the tuples.
 
-ghost use Rattle.std.specs.Prelude.{◌≡◌, List, ℕ, IfErr, OnErr, OnOk};
+ghost use Rattle.std.specs.Prelude.{◌≡◌, ◌++◌, List, [], ℕ, map, IfOk, IfErr, OnErr, OnOk, Err};
+ghost use Rattle.std.specs.List.{flat_map};
 ghost use Rattle.std.specs.Io.KnownBytes.{Keeps};
+ghost use Rattle.kt_tuple.specs.Spelling.{tuple_text};
+ghost use Rattle.kt_scene.specs.Report.{IsReport, WritesReport, WritesReportFront, AppendsTuples, count_line, service_line, text_line, items_of};
 ghost use Rattle.kt_scene.specs.Stream.{UnlessWrite, IsReportFault};
 
 use crate::fault::ReplayFault;
-use crate::space::tuples_after;
 use crate::stream::put;
 use itoa::Buffer;
 use kt_core::World;
+use kt_history::space_of;
 use kt_tuple::{Service, Tuple};
 use std::alloc::{AllocError, Global};
 use std::io::Write;
@@ -21,6 +24,8 @@ pub fn write_report<W: Write>(
     writer: &mut W,
 ) -> Result<(), ReplayFault>
     ensures same { world.new ≡ world.old }
+    ensures written { OnOk result (WritesReport world.old.history [] (W.contents writer.old) (W.contents writer.new)) }
+    ensures front { result ≡ Err ReplayFault.Write → WritesReportFront world.old.history [] (W.contents writer.old) (W.contents writer.new) }
     // Before any fault but the writer's nothing is written.
     ensures nothing { IfErr result (λ fault. UnlessWrite fault (Keeps (W.contents writer.old) (W.contents writer.new))) }
     ensures only { IfErr result IsReportFault }
@@ -30,16 +35,16 @@ pub fn write_report<W: Write>(
 }
 
 /// The report's text.
-fn report_of(alloc: Global, world: &World) -> Result<Vec<u8>, AllocError> {
+fn report_of(alloc: Global, world: &World) -> Result<Vec<u8>, AllocError>
+    ensures { IfOk result (λ text. IsReport world.now.history [] text.items) }
+{
     let history = world.history();
     let survivors = history.survivors(alloc)?;
-    let space = tuples_after(alloc, &survivors)?;
+    let space = space_of(alloc, &survivors)?;
     let mut out = Vec::new(alloc);
-    push_count(&mut out, b"survivors ", survivors.len() as u64)?;
-    for service in &survivors {
-        push_service(&mut out, service)?;
-    }
-    push_count(&mut out, b"lost ", history.lost_count())?;
+    push_count(&mut out, b"survivors ", survivors.len())?;
+    push_services(&mut out, &survivors)?;
+    push_count(&mut out, b"lost ", history.lost_count() as usize)?;
     push_tuples(alloc, &mut out, b"space ", &space)?;
     // Until checkpoints are taken the initial ones stand, which are empty.
     push_tuples(alloc, &mut out, b"permanent ", &[])?;
@@ -47,29 +52,40 @@ fn report_of(alloc: Global, world: &World) -> Result<Vec<u8>, AllocError> {
 }
 
 /// The word, a number and the end of the line.
-fn push_count(out: &mut Vec<u8>, word: &[u8], count: u64) -> Result<(), AllocError> {
+fn push_count(out: &mut Vec<u8>, word: &[u8], count: usize) -> Result<(), AllocError>
+    ensures { OnOk result (out.new.items ≡ out.old.items ++ count_line word.now count) }
+{
+    let mut buffer = Buffer::new();
     out.extend_from_slice(word)?;
-    push_number(out, count)?;
+    out.extend_from_slice(buffer.format(count).as_bytes())?;
     out.push(b'\n')?;
     Ok(())
 }
 
-fn push_number(out: &mut Vec<u8>, number: u64) -> Result<(), AllocError> {
-    let mut buffer = Buffer::new();
-    out.extend_from_slice(buffer.format(number).as_bytes())
-}
-
 /// A line as `w1.2 in ("a", ?int) got ("a", 1)`.
-fn push_service(out: &mut Vec<u8>, service: &Service) -> Result<(), AllocError> {
+fn push_service(out: &mut Vec<u8>, service: &Service) -> Result<(), AllocError>
+    ensures { OnOk result (out.new.items ≡ out.old.items ++ service_line service.now) }
+{
+    let mut worker = Buffer::new();
+    let mut number = Buffer::new();
     out.push(b'w')?;
-    push_number(out, u64::from(service.worker))?;
+    out.extend_from_slice(worker.format(service.worker).as_bytes())?;
     out.push(b'.')?;
-    push_number(out, service.number)?;
+    out.extend_from_slice(number.format(service.number).as_bytes())?;
     out.push(b' ')?;
     service.op.write_to(out)?;
     out.push(b' ')?;
     service.answer.write_to(out)?;
     out.push(b'\n')?;
+    Ok(())
+}
+
+fn push_services(out: &mut Vec<u8>, services: &[Service]) -> Result<(), AllocError>
+    ensures { OnOk result (out.new.items ≡ out.old.items ++ flat_map service_line services.now) }
+{
+    for service in services {
+        push_service(out, service)?;
+    }
     Ok(())
 }
 
@@ -79,18 +95,29 @@ fn push_tuples(
     out: &mut Vec<u8>,
     word: &[u8],
     tuples: &[Tuple],
-) -> Result<(), AllocError> {
+) -> Result<(), AllocError>
+    ensures { OnOk result (AppendsTuples word.now tuples.now out.old.items out.new.items) }
+{
     let mut texts = texts_of(alloc, tuples)?;
     texts.sort()?;
-    push_count(out, word, texts.len() as u64)?;
-    for text in &texts {
+    push_count(out, word, texts.len())?;
+    push_texts(out, &texts)
+}
+
+fn push_texts(out: &mut Vec<u8>, texts: &[Vec<u8>]) -> Result<(), AllocError>
+    ensures { OnOk result (out.new.items ≡ out.old.items ++ flat_map text_line (items_of texts.now)) }
+{
+    for text in texts {
         out.extend_from_slice(text)?;
         out.push(b'\n')?;
     }
     Ok(())
 }
 
-fn texts_of(alloc: Global, tuples: &[Tuple]) -> Result<Vec<Vec<u8>>, AllocError> {
+/// The text of each tuple.
+fn texts_of(alloc: Global, tuples: &[Tuple]) -> Result<Vec<Vec<u8>>, AllocError>
+    ensures { IfOk result (λ texts. items_of texts.items ≡ map tuple_text tuples.now) }
+{
     let mut texts = Vec::with_capacity(alloc, tuples.len())?;
     for tuple in tuples {
         let mut text = Vec::new(alloc);

@@ -1,0 +1,51 @@
+-- The texts of tuples, sorted, are the list that the report has of them.
+use Rattle.std.proofs.Common.{◌≡◌, ℕ, zero, suc, ◌+◌, ◌<◌, ◌≤◌, false, List, [], ◌∷◌, ◌++◌, length, map, get_or, refl, sym, ap, subst, ◌∙◌, append_assoc, arith}
+use Rattle.std.specs.Prelude.{IsPermutation, OnOk, Result, Ok, Err}
+use Rattle.std.specs.List.{flat_map}
+use Rattle.std.specs.List.Sorted.{IsSorted}
+use Rattle.std.specs.Ordering.{nat_cmp, is_lt}
+use Rattle.std.specs.Cmp.Lexicographic.{slice_cmp}
+use Rattle.std.specs.Global.{Vec}
+use Rattle.std.proofs.lemmas.List.{length-map, get_or_default}
+use Rattle.std.proofs.lemmas.List.Sorted.{IsPermutation-map}
+use Rattle.kt_tuple.specs.declared.tuple.Tuple.{Tuple}
+use Rattle.kt_tuple.specs.Spelling.{tuple_text}
+use Rattle.kt_scene.specs.Report.{IsTupleList, AppendsTuples, count_line, text_line, items_of}
+
+get_or-items : (texts : List (Vec ℕ)) (k : ℕ) (v : Vec ℕ) (d : List ℕ) → k < length texts → get_or (items_of texts) k d ≡ (get_or texts k v).items
+get_or-items [] k v d h = absurd (omega arith)
+get_or-items (t ∷ ts) zero v d h = refl
+get_or-items (t ∷ ts) (suc k) v d h = get_or-items ts k v d (omega arith)
+
+-- texts that rise by their items rise
+rising : (texts : List (Vec ℕ)) → IsSorted (λ (a b : Vec ℕ). slice_cmp nat_cmp a.items b.items) texts → IsSorted (slice_cmp nat_cmp) (items_of texts)
+rising [] sorted = λ k d low high. absurd (omega arith)
+rising (t ∷ ts) sorted = λ k d low high.
+    let within : k + 1 < length (t ∷ ts) = omega (arith, length-map (t ∷ ts) (λ (v : Vec ℕ). v.items)) in
+    let before : k < length (t ∷ ts) = omega (arith, within) in
+    ap (λ (x : List ℕ). is_lt (slice_cmp nat_cmp x (get_or (items_of (t ∷ ts)) k d))) (get_or-items (t ∷ ts) (k + 1) t d within)
+    ∙ ap (λ (x : List ℕ). is_lt (slice_cmp nat_cmp (get_or (t ∷ ts) (k + 1) t).items x)) (get_or-items (t ∷ ts) k t d before)
+    ∙ sorted k t low within
+
+pub tuples_listed : (word old once new : List ℕ) (tuples : List Tuple) (texts sorted : List (Vec ℕ)) (count : ℕ) → items_of texts ≡ map tuple_text tuples → IsPermutation texts sorted
+    → IsSorted (λ (a b : Vec ℕ). slice_cmp nat_cmp a.items b.items) sorted → count ≡ length sorted → once ≡ old ++ count_line word count → new ≡ once ++ flat_map text_line (items_of sorted)
+    → AppendsTuples word tuples old new
+tuples_listed word old once new tuples texts sorted count are same rise many first second =
+    let P : List (List ℕ) → Type 0 = λ l. IsPermutation l (items_of sorted) in
+    record {
+      text = count_line word (length (items_of sorted)) ++ flat_map text_line (items_of sorted);
+      listed = record {
+        texts = items_of sorted;
+        same = subst P are (IsPermutation-map (λ (v : Vec ℕ). v.items) texts sorted same);
+        rising = rising sorted rise;
+        is = refl;
+      };
+      appended =
+          second ∙ ap (λ (l : List ℕ). l ++ flat_map text_line (items_of sorted)) (first ∙ ap (λ (n : ℕ). old ++ count_line word n) (many ∙ sym (length-map sorted (λ (v : Vec ℕ). v.items))))
+          ∙ append_assoc old (count_line word (length (items_of sorted))) (flat_map text_line (items_of sorted));
+    }
+
+-- what follows at Ok
+pub ok_then : {X E : Type 0} {P Q : Type 0} (r : Result X E) → (P → Q) → OnOk r P → OnOk r Q
+ok_then (Ok x) f p = f p
+ok_then (Err e) f p = tt
