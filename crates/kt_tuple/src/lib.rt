@@ -30,4 +30,6 @@ pub use tuple::{MAX_PLACES, Tuple};
 pub use value::{Kind, Value};
 
 #[cfg(test)]
+mod tests;
+#[cfg(test)]
 mod text_tests;

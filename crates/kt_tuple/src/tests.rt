@@ -1,0 +1,185 @@
+//! Each public call on its happy path, the makers at their limits, and examples worked out by hand.
+
+use super::*;
+use std::alloc::Global;
+use std::process::Abort;
+use std::test::Fail;
+
+/// A string is made of 0 to 64 characters from the space to the tilde.
+#[test]
+fn strings(rt: HostRuntime) -> Result<(), Fail> {
+    for (character, count, is_made) in [
+        (b'a', 0, true),
+        (b'a', 64, true),
+        (b'a', 65, false),
+        (b' ', 1, true),
+        (b'~', 1, true),
+        (31, 1, false),
+        (127, 1, false),
+    ] {
+        match Str::new(vec![in rt.alloc(); character; count]?) {
+            Some(string) => {
+                assert!(rt; is_made, "{count} times {character} is made");
+                assert_eq!(rt; string.as_bytes().len(), count);
+                assert!(rt; string.copy(rt.alloc())? == string);
+            }
+            None => assert!(rt; !is_made, "{count} times {character} is not made"),
+        }
+    }
+    Ok(())
+}
+
+/// A tuple and a template are made of 1 to 8 places.
+#[test]
+fn places(rt: HostRuntime) -> Result<(), Fail> {
+    for (count, is_made) in [(0, false), (1, true), (8, true), (9, false)] {
+        let mut values = Vec::new(rt.alloc());
+        let mut places = Vec::new(rt.alloc());
+        for _ in 0..count {
+            values.push(Value::Int(7))?;
+            places.push(Place::Formal(Kind::Int))?;
+        }
+        let tuple = Tuple::new(values);
+        let template = Template::new(places);
+        assert_eq!(rt; tuple.is_some(), is_made, "a tuple of {count}");
+        assert_eq!(rt; template.is_some(), is_made, "a template of {count}");
+        if let (Some(tuple), Some(template)) = (tuple, template) {
+            assert_eq!(rt; tuple.values().len(), count);
+            assert_eq!(rt; template.places().len(), count);
+            assert!(rt; template.matches(&tuple));
+        }
+    }
+    Ok(())
+}
+
+/// Which values a place admits.
+#[test]
+fn admitted_values(rt: HostRuntime) -> Result<(), Fail> {
+    let template = Template::parse(rt.alloc(), b"(?int, ?str, 1, \"1\")")?;
+    let tuple = Tuple::parse(rt.alloc(), b"(1, -1, \"1\", \"2\")")?;
+    let expected = [
+        (Kind::Int, [true, true, false, false]),
+        (Kind::Str, [false, false, true, true]),
+        (Kind::Int, [true, false, false, false]),
+        (Kind::Str, [false, false, true, false]),
+    ];
+    for (place, (kind, admitted)) in template.places().iter().zip(expected) {
+        assert_eq!(rt; place.kind(), kind);
+        for (value, is_admitted) in tuple.values().iter().zip(admitted) {
+            assert!(rt; value.copy(rt.alloc())?.equals(value));
+            assert_eq!(rt; place.admits(value), is_admitted, "{place:?} and {value:?}");
+        }
+    }
+    Ok(())
+}
+
+/// Templates, tuples, and whether they match.
+const PAIRS: [(&[u8], &[u8], bool); 10] = [
+    (b"(\"a\", ?int)", b"(\"a\", 1)", true),
+    (b"(\"a\", ?int)", b"(\"b\", 1)", false),
+    (b"(\"a\", ?int)", b"(\"a\", \"1\")", false),
+    (b"(\"a\", ?int)", b"(\"a\", 1, 2)", false),
+    (b"(\"a\", ?int)", b"(\"a\")", false),
+    (b"(?str, ?int)", b"(\"\", -1)", true),
+    (b"(?int, ?str)", b"(\"\", -1)", false),
+    (b"(1)", b"(1)", true),
+    (b"(1)", b"(2)", false),
+    (b"(1)", b"(\"1\")", false),
+];
+
+#[test]
+fn matching(rt: HostRuntime) -> Result<(), Fail> {
+    for (template, tuple, do_match) in PAIRS {
+        let template = Template::parse(rt.alloc(), template)?;
+        let tuple = Tuple::parse(rt.alloc(), tuple)?;
+        assert!(rt; template.copy(rt.alloc())?.equals(&template));
+        assert!(rt; tuple.copy(rt.alloc())?.equals(&tuple));
+        assert_eq!(rt;
+            template.matches(&tuple),
+            do_match,
+            "{template:?} and {tuple:?}"
+        );
+        if do_match {
+            assert_eq!(rt; template.signature(), tuple.signature());
+        }
+    }
+    Ok(())
+}
+
+/// The number of a signature, and its shard where there are two.
+#[test]
+fn shard_of_signature(rt: HostRuntime) -> Result<(), Fail> {
+    for (text, number, shard) in [
+        (b"(\"a\", 1)".as_slice(), 11, 2),
+        (b"(\"a\")", 2, 1),
+        (b"(1, 2)", 6, 1),
+    ] {
+        let op = Op::Out(Tuple::parse(rt.alloc(), text)?);
+        assert_eq!(rt; op.signature().number(), number, "of {op:?}");
+        assert_eq!(rt; op.signature().shard_of(2), shard, "of {op:?}");
+    }
+    Ok(())
+}
+
+/// Operations, no two of them equal.
+fn ops(alloc: Global) -> Result<[Op; 7], ParseError> {
+    let template = || Template::parse(alloc, b"(1)");
+    Ok([
+        Op::Out(Tuple::parse(alloc, b"(1)")?),
+        Op::Out(Tuple::parse(alloc, b"(1, 1)")?),
+        Op::In(template()?),
+        Op::Rd(template()?),
+        Op::Inp(template()?),
+        Op::Rdp(template()?),
+        Op::Rdp(Template::parse(alloc, b"(?int)")?),
+    ])
+}
+
+/// Answers, no two of them equal.
+fn answers(alloc: Global) -> Result<[Answer; 4], ParseError> {
+    Ok([
+        Answer::Done,
+        Answer::None,
+        Answer::Got(Tuple::parse(alloc, b"(1)")?),
+        Answer::Got(Tuple::parse(alloc, b"(2)")?),
+    ])
+}
+
+/// A copy equals what was copied and nothing else.
+#[test]
+fn copies(rt: HostRuntime) -> Result<(), Fail> {
+    let ops = ops(rt.alloc())?;
+    for (i, op) in ops.iter().enumerate() {
+        for (j, other) in ops.iter().enumerate() {
+            assert_eq!(rt;
+                op.copy(rt.alloc())?.equals(other),
+                i == j,
+                "{op:?} and {other:?}"
+            );
+        }
+    }
+    let answers = answers(rt.alloc())?;
+    for (i, answer) in answers.iter().enumerate() {
+        for (j, other) in answers.iter().enumerate() {
+            assert_eq!(rt;
+                answer.copy(rt.alloc())?.equals(other),
+                i == j,
+                "{answer:?} and {other:?}"
+            );
+        }
+    }
+    Ok(())
+}
+
+/// Each node has a place of its own in a table of all nodes.
+#[test]
+fn node_numbers(rt: HostRuntime) {
+    for (node, number) in [
+        (NodeId::Worker(0), 0),
+        (NodeId::Shard(0), 1),
+        (NodeId::Worker(1), 2),
+        (NodeId::Shard(255), NODES - 1),
+    ] {
+        assert_eq!(rt; node.index(), number, "of {node:?}");
+    }
+}
