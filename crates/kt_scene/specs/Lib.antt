@@ -1,2 +1,3 @@
 pub mod Stream
 pub mod Report
+pub mod Run

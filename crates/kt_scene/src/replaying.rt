@@ -1,7 +1,8 @@
 //! From the bytes of a scenario to the bytes of its report.
 
-ghost use Rattle.std.specs.Prelude.{◌≡◌, List, ℕ, IfErr};
+ghost use Rattle.std.specs.Prelude.{◌≡◌, List, ℕ, IfErr, OnOk};
 ghost use Rattle.std.specs.Io.KnownBytes.{Keeps};
+ghost use Rattle.kt_scene.specs.Run.{RunsTo, IsStepFault};
 ghost use Rattle.kt_scene.specs.Stream.{UnlessWrite};
 
 use crate::draft::read_scene;
@@ -41,11 +42,14 @@ fn world_of<R: Read>(alloc: Global, reader: &mut R) -> Result<World, ReplayFault
 }
 
 /// Makes the steps one after the other, up to the first that is refused.
-fn make_steps(alloc: Global, world: &mut World, steps: &[Step]) -> Result<(), ReplayFault> {
+fn make_steps(alloc: Global, world: &mut World, steps: &[Step]) -> Result<(), ReplayFault>
+    ensures made { OnOk result (RunsTo world.old steps.now world.new) }
+    ensures refused { IfErr result (IsStepFault world.old steps.now) }
+{
     for (i, step) in steps.iter().enumerate() {
-        world
-            .step(alloc, *step)
-            .map_err(|cause| ReplayFault::Step { at: i + 1, cause })?;
+        if let Err(cause) = world.step(alloc, *step) {
+            return Err(ReplayFault::Step { at: i + 1, cause });
+        }
     }
     Ok(())
 }
