@@ -8,3 +8,4 @@ pub mod Places
 pub mod Made
 pub mod IntLaws
 pub mod StrLaws
+pub mod ValueLaws
