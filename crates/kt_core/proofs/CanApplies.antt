@@ -1,7 +1,7 @@
 -- Where the state is ready, the plan of a step that is allowed can be carried out.
-use Rattle.std.proofs.Common.{◌≡◌, ◌≢◌, ℕ, zero, suc, ◌+◌, ◌*◌, ◌%◌, ◌^◌, ◌<◌, ◌≤◌, Bool, true, false, cond, List, [], ◌∷◌, ◌++◌, length, reverse, Option, Some, None, refl, sym, ap, subst, ◌∙◌, arith, mod-lt}
-use Rattle.std.specs.Prelude.{slice_get, find, Contains, IfSome}
-use Rattle.std.specs.List.{filter_map, cons_option, AllByRecursion}
+use Rattle.std.proofs.Common.{◌≡◌, ◌≢◌, ℕ, zero, suc, ◌%◌, ◌<◌, ◌≤◌, Bool, true, false, cond, List, [], ◌∷◌, ◌++◌, length, reverse, Option, Some, None, refl, sym, subst, ◌∙◌, arith, mod-lt}
+use Rattle.std.specs.Prelude.{find, Contains}
+use Rattle.std.specs.List.{cons_option, AllByRecursion}
 use Rattle.std.proofs.lemmas.List.{reverse-append}
 use Rattle.std.specs.Option.{option_map}
 use Rattle.kt_tuple.specs.declared.node.NodeId.{NodeId}
@@ -11,36 +11,32 @@ use Rattle.kt_tuple.specs.declared.op.Op.TheVariants.{Out, In, Rd, Inp, Rdp}
 use Rattle.kt_tuple.specs.declared.tuple.Tuple.{Tuple}
 use Rattle.kt_tuple.specs.declared.template.Template.{Template}
 use Rattle.kt_tuple.specs.Node.{node_index}
-use Rattle.kt_tuple.specs.Signature.{kinds_of_op, signature_of, shard_of}
+use Rattle.kt_tuple.specs.Signature.{kinds_of_op, signature_of}
 use Rattle.kt_tuple.specs.Matching.{matches}
-use Rattle.kt_history.specs.declared.note.What.{What}
 use Rattle.kt_history.specs.declared.note.Act.{Act}
 use Rattle.kt_history.specs.declared.note.Note.{Note}
 use Rattle.kt_history.specs.declared.note.Note.TheVariants as notes
 use Rattle.kt_history.specs.Line.{note_at, line, IsAct}
-use Rattle.kt_history.specs.WellFormed.{MayFollow, CausesComeFirst}
+use Rattle.kt_history.specs.WellFormed.{CausesComeFirst}
 use Rattle.kt_history.specs.Closed.{act_of, acts_at}
 use Rattle.kt_history.proofs.Lines.{note_before}
 use Rattle.kt_history.proofs.Lists.{Contains-here}
-use Rattle.kt_core.specs.declared.node.Request.{Request}
 use Rattle.kt_core.specs.declared.node.Worker.{Worker}
 use Rattle.kt_core.specs.declared.node.Message.{Message}
 use Rattle.kt_core.specs.declared.node.Message.TheVariants.{Ask, Reply}
 use Rattle.kt_core.specs.declared.choice.Choice.{Choice}
 use Rattle.kt_core.specs.declared.choice.Choice.TheVariants as choices
-use Rattle.kt_core.specs.declared.node.BagChange.TheVariants as bags
 use Rattle.kt_core.specs.declared.node.Change.{Change}
 use Rattle.kt_core.specs.declared.node.Change.TheVariants as changes
 use Rattle.kt_core.specs.declared.plan.Plan.{Plan}
 use Rattle.kt_core.specs.declared.step.Step.{Step}
 use Rattle.kt_core.specs.declared.step.Step.TheVariants.{Issue, Deliver, Serve}
-use Rattle.kt_core.specs.Step.{owner}
 use Rattle.kt_core.specs.State.{State, Part, Nobody, IsWorker, IsStore, Store, at, node, link, link_index, node_number}
-use Rattle.kt_core.specs.Choice.{one_later, place_of, found_nothing, taken_or_nothing, read_or_nothing, choice_of, bag_change_of, put_of, IsInBag}
-use Rattle.kt_core.specs.Effect.{hears_worker, cause_of, cause_among, cause_of_waiting, home}
-use Rattle.kt_core.specs.Ready.{HasDesks, HasAskedFew, NamesAct, IsReady, FitsBag, CanChange, HasLink}
+use Rattle.kt_core.specs.Choice.{one_later, place_of, taken_or_nothing, read_or_nothing, choice_of, bag_change_of, put_of, IsInBag}
+use Rattle.kt_core.specs.Effect.{hears_worker, cause_of, cause_of_waiting, home}
+use Rattle.kt_core.specs.Ready.{HasDesks, HasAskedFew, NamesAct, IsReady, FitsBag, CanChange}
 use Rattle.kt_core.specs.Machine.{CanApply}
-use Rattle.kt_core.proofs.PlanCases.{PlanOf, issues, hears, answers_again, ignores_request, misses_reply, accepts, ignores_reply, misses_request, serves, desk_of}
+use Rattle.kt_core.proofs.PlanCases.{PlanOf, issues, hears, answers_again, ignores_request, misses_reply, accepts, ignores_reply, misses_request, serves}
 use Rattle.kt_core.proofs.Readiness.{number_small}
 
 -- ---- rows and links

@@ -1,5 +1,5 @@
 -- A world that was opened, and each that a step leads to, is ready and was reached by steps.
-use Rattle.std.proofs.Common.{◌≡◌, ◌≢◌, ℕ, zero, suc, ◌+◌, ◌<◌, ◌≤◌, Bool, true, false, cond, List, [], ◌∷◌, ◌++◌, length, Option, Some, None, Result, Ok, Err, refl, sym, ap, subst, ◌∙◌, arith, length-append}
+use Rattle.std.proofs.Common.{◌≡◌, ℕ, zero, suc, ◌+◌, Bool, true, false, cond, List, [], ◌∷◌, ◌++◌, length, Result, Ok, Err, refl, sym, ap, subst, ◌∙◌, arith, length-append}
 use Rattle.std.specs.Prelude.{Contains, OnOk, OnErr, replicate}
 use Rattle.std.specs.List.{AllByRecursion}
 use Rattle.kt_history.proofs.Lists.{Contains-none}
@@ -11,10 +11,10 @@ use Rattle.kt_core.specs.declared.step.StepError.{StepError}
 use Rattle.kt_core.specs.declared.node.Desk.{Desk}
 use Rattle.kt_core.specs.Desk.{empty_desk}
 use Rattle.kt_core.specs.Cast.{Cast, IsCast}
-use Rattle.kt_core.specs.State.{State, Part, Nobody, IsWorker, IsStore, at}
+use Rattle.kt_core.specs.State.{State, Part, Nobody, at}
 use Rattle.kt_core.specs.Effect.{planned, applied, applied_if_planned, step_result}
-use Rattle.kt_core.specs.Ready.{HasDesks, HasAskedFew, NamesAct, IsReady}
-use Rattle.kt_core.specs.Reached.{is_among, new_worker, new_store, opening_worker, opening_store, opening_rows, opening, next_state, or_as_it_was, after, IsReached, IsKept}
+use Rattle.kt_core.specs.Ready.{HasDesks, HasAskedFew, IsReady}
+use Rattle.kt_core.specs.Reached.{is_among, new_worker, new_store, opening_worker, opening_store, opening_rows, opening, next_state, or_as_it_was, after, IsKept}
 use Rattle.kt_core.proofs.PlanCases.{PlanOf, planned-cases}
 use Rattle.kt_core.proofs.StaysReady.{stays_ready}
 

@@ -1,5 +1,5 @@
 -- The table of nodes of a world that was just opened, row by row.
-use Rattle.std.proofs.Common.{◌≡◌, ℕ, zero, suc, ◌+◌, List, [], ◌∷◌, ◌++◌, map, refl, sym, ap, ◌∙◌, append_assoc, add-one}
+use Rattle.std.proofs.Common.{◌≡◌, ℕ, ◌+◌, List, [], ◌∷◌, ◌++◌, map, sym, ap, ◌∙◌, append_assoc, add-one}
 use Rattle.std.proofs.lemmas.List.{map-append}
 use Rattle.kt_core.specs.declared.node.Node.{Node}
 use Rattle.kt_core.specs.State.{Part, part_of}

@@ -1,6 +1,6 @@
 -- The ways in which a step can be allowed, each with its conditions and its plan.
-use Rattle.std.proofs.Common.{◌≡◌, ◌≢◌, ℕ, ◌+◌, ◌<◌, ◌≤◌, Bool, true, false, cond, List, [], ◌∷◌, length, Option, Some, None, Result, Ok, Err, refl, sym, ap, subst, ◌∙◌, ltb}
-use Rattle.std.specs.Prelude.{slice_get, nat_lt}
+use Rattle.std.proofs.Common.{◌≡◌, ℕ, ◌+◌, ◌<◌, ◌≤◌, Bool, true, false, cond, List, [], ◌∷◌, Option, Some, None, Ok, Err, refl, subst, ltb}
+use Rattle.std.specs.Prelude.{slice_get}
 use Rattle.std.proofs.lemmas.Bool.{ltb-true, ltb-false}
 use Rattle.kt_tuple.specs.declared.node.NodeId.{NodeId}
 use Rattle.kt_tuple.specs.declared.op.Op.{Op}
@@ -14,13 +14,12 @@ use Rattle.kt_core.specs.declared.choice.Choice.{Choice}
 use Rattle.kt_core.specs.declared.plan.Plan.{Plan}
 use Rattle.kt_core.specs.declared.step.Step.{Step}
 use Rattle.kt_core.specs.declared.step.Step.TheVariants.{Issue, Deliver, Serve}
-use Rattle.kt_core.specs.declared.step.StepError.{StepError}
 use Rattle.kt_core.specs.declared.step.StepError.TheVariants as refusals
 use Rattle.kt_core.specs.State.{State, Part, Nobody, IsWorker, IsStore, Store, at, node, link, node_number, worker_of}
 use Rattle.kt_core.specs.Desk.{empty_desk, newest, kept_answer, awaits}
 use Rattle.kt_core.specs.Choice.{choice_of, answer_of, bag_change_of}
 use Rattle.kt_core.specs.Plan.{issue_plan, heard_plan, again_plan, ignored_plan, accepted_plan, service_plan, request_plan, old_request_plan, reply_plan}
-use Rattle.kt_core.specs.Effect.{limited, next_note, script_of, home, next_op, op_after, issue_op, issue_of, heard_by_store, heard_by_worker, delivery_to_store, delivery_to_worker, delivery_of, cause_of_waiting, service_choice, service_at, service_of, planned}
+use Rattle.kt_core.specs.Effect.{limited, next_note, script_of, home, next_op, op_after, issue_op, issue_of, delivery_to_store, delivery_to_worker, delivery_of, cause_of_waiting, service_choice, service_at, service_of, planned}
 
 -- what the shard has for the worker
 abbrev pub desk_of : Store → NodeId → Desk

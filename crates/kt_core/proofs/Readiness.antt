@@ -1,20 +1,17 @@
 -- What a state that is ready gives to the code that reads it.
-use Rattle.std.proofs.Common.{◌≡◌, ℕ, ◌+◌, ◌*◌, ◌<◌, List, length, map, get_or, refl, sym, ap, subst, ◌∙◌, arith}
+use Rattle.std.proofs.Common.{◌≡◌, ℕ, ◌<◌, List, length, map, arith}
 use Rattle.kt_tuple.specs.declared.node.NodeId.{NodeId}
 use Rattle.kt_tuple.specs.declared.node.NodeId.TheVariants as ids
 use Rattle.kt_tuple.specs.Node.{node_index}
 use Rattle.kt_core.specs.declared.node.Node.{Node}
-use Rattle.kt_core.specs.declared.node.Node.TheVariants as nodes
 use Rattle.std.specs.declared.collections.VecDeque.{VecDeque}
 use Rattle.std.specs.declared.alloc.Global.{Global}
 use Rattle.kt_core.specs.declared.node.Message.{Message}
 use Rattle.kt_core.specs.declared.step.Step.{Step}
 use Rattle.kt_core.specs.declared.step.Step.TheVariants.{Issue, Deliver, Serve}
-use Rattle.kt_core.specs.declared.node.Shard.{Shard}
-use Rattle.kt_core.specs.State.{Part, Nobody, at, part_of, node_number, link_index, queues_of}
-use Rattle.kt_core.specs.Ready.{HasDesks, HasLink}
+use Rattle.kt_core.specs.State.{part_of, node_number, queues_of}
+use Rattle.kt_core.specs.Ready.{HasLink}
 use Rattle.std.proofs.lemmas.List.{length-map}
-use Rattle.kt_core.proofs.Rows.{at-map}
 
 -- a node with a row of the table has a number below 9
 pub number_small : (p : NodeId) → node_index p < 18 → node_number p < 9

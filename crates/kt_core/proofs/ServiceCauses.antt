@@ -1,6 +1,5 @@
 -- A service in a shard's line has the cause of the hearing that put its request in waiting.
 use Rattle.std.proofs.Common.{◌≡◌, ℕ, List, [], ◌∷◌, ◌++◌, sym, ap, subst, ◌∙◌}
-use Rattle.std.specs.Prelude.{Some}
 use Rattle.kt_tuple.specs.declared.node.NodeId.TheVariants.{Shard}
 use Rattle.kt_tuple.specs.declared.op.Answer.{Answer}
 use Rattle.kt_history.specs.declared.note.What.{What}
@@ -8,7 +7,6 @@ use Rattle.kt_history.specs.declared.note.What.TheVariants.{Served}
 use Rattle.kt_history.specs.declared.note.Act.{Act}
 use Rattle.kt_history.specs.Closed.{acts_in_line}
 use Rattle.kt_core.specs.declared.node.Request.{Request}
-use Rattle.kt_core.specs.declared.node.Desk.{Desk}
 use Rattle.kt_core.specs.State.{State}
 use Rattle.kt_core.specs.Reached.{IsReached}
 use Rattle.kt_core.specs.Hearing.{WasHeardFor}

@@ -1,5 +1,5 @@
 -- A step that is carried out leaves the state ready for the next.
-use Rattle.std.proofs.Common.{◌≡◌, ◌≢◌, ℕ, zero, suc, ◌+◌, ◌<◌, ◌≤◌, Bool, true, false, List, [], ◌∷◌, ◌++◌, length, drop, Option, Some, None, ◌⊎◌, inl, inr, refl, sym, ap, subst, ◌∙◌, arith, length-append}
+use Rattle.std.proofs.Common.{◌≡◌, ℕ, suc, ◌+◌, ◌<◌, ◌≤◌, List, [], ◌∷◌, ◌++◌, length, drop, Option, Some, None, ◌⊎◌, inl, inr, refl, sym, ap, subst, ◌∙◌, arith, length-append}
 use Rattle.std.specs.Prelude.{Contains, IfSome}
 use Rattle.std.proofs.lemmas.Bool.{cases_eq}
 use Rattle.kt_tuple.specs.declared.node.NodeId.{NodeId}
@@ -19,11 +19,10 @@ use Rattle.kt_core.specs.declared.plan.Plan.{Plan}
 use Rattle.kt_core.specs.declared.step.Step.{Step}
 use Rattle.kt_core.specs.declared.step.Step.TheVariants.{Issue, Deliver, Serve}
 use Rattle.kt_core.specs.Step.{owner}
-use Rattle.kt_core.specs.State.{State, Part, Nobody, IsWorker, IsStore, Store, at, put, node, link_index}
+use Rattle.kt_core.specs.State.{State, Part, Nobody, IsWorker, IsStore, at, put, node, link_index}
 use Rattle.kt_core.specs.Desk.{empty_desk}
 use Rattle.kt_core.specs.Effect.{changed, sent, taken_off, applied, next_note}
 use Rattle.kt_core.specs.Ready.{HasDesks, HasAskedFew, NamesAct, IsReady, CanChange, HasLink}
-use Rattle.kt_core.specs.Machine.{CanApply}
 use Rattle.kt_core.proofs.Rows.{at-put_same, at-put_other, length-put}
 use Rattle.kt_core.proofs.PlanCases.{PlanOf, issues, hears, answers_again, ignores_request, misses_reply, accepts, ignores_reply, misses_request, serves}
 use Rattle.kt_core.proofs.CanApplies.{can_apply}

@@ -1,6 +1,6 @@
 -- What a step does to the state of a world: the table of steps, and of what is made of each message that
 -- arrives. Of several refusals the first that stands is given.
-use Rattle.std.specs.Prelude.{◌≡◌, ℕ, ◌+◌, ◌-◌, ◌==◌, nat_lt, Bool, true, false, ◌&&◌, if◌then◌else◌, find, reverse, List, [], ◌∷◌, ◌++◌, length, drop, Option, None, Some, Result, Ok, Err, slice_get, remove}
+use Rattle.std.specs.Prelude.{ℕ, ◌+◌, ◌-◌, ◌==◌, nat_lt, Bool, true, false, ◌&&◌, if◌then◌else◌, find, reverse, List, [], ◌∷◌, ◌++◌, length, drop, Option, None, Some, Result, Ok, Err, slice_get, remove}
 use Rattle.kt_tuple.specs.declared.node.NodeId.{NodeId}
 use Rattle.kt_tuple.specs.declared.node.NodeId.TheVariants as ids
 use Rattle.kt_tuple.specs.declared.op.Op.{Op}
@@ -31,7 +31,7 @@ use Rattle.kt_core.specs.declared.step.Step.TheVariants.{Issue, Deliver, Serve}
 use Rattle.kt_core.specs.declared.step.StepError.{StepError}
 use Rattle.kt_core.specs.declared.step.StepError.TheVariants as refusals
 use Rattle.kt_core.specs.Step.{owner}
-use Rattle.kt_core.specs.State.{State, Part, Nobody, IsWorker, IsStore, Store, at, put, node, link, link_index, node_number, worker_of, store_of}
+use Rattle.kt_core.specs.State.{State, Part, Nobody, IsWorker, IsStore, Store, at, put, node, link, link_index, node_number, worker_of}
 use Rattle.kt_core.specs.Desk.{empty_desk}
 use Rattle.kt_core.specs.Choice.{choice_of, answer_of, bag_change_of}
 use Rattle.kt_core.specs.Plan.{issue_plan, request_plan, ignored_plan, reply_plan, service_plan}

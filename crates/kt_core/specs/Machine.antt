@@ -1,5 +1,5 @@
 -- The code's state as plain data, and what its calls answer.
-use Rattle.std.specs.Prelude.{◌≡◌, ℕ, ◌<◌, List, map, Option, None, Some, Result, Ok, Err, IfSome}
+use Rattle.std.specs.Prelude.{◌≡◌, ◌<◌, map, Result, Ok, Err, IfSome}
 use Rattle.kt_tuple.specs.Node.{node_index}
 use Rattle.kt_history.specs.declared.note.Note.TheVariants as notes
 use Rattle.kt_history.specs.WellFormed.{MayFollow}
@@ -10,7 +10,6 @@ use Rattle.kt_core.specs.declared.step.StepError.{StepError}
 use Rattle.kt_core.specs.declared.step.StepError.TheVariants as refusals
 use Rattle.kt_core.specs.Step.{owner}
 use Rattle.kt_core.specs.State.{State, part_of, node, link_index, queues_of}
-use Rattle.kt_core.specs.Effect.{applied, step_result}
 use Rattle.kt_core.specs.Ready.{CanChange, HasLink}
 
 abbrev pub state_of : Machine → State

@@ -1,4 +1,4 @@
-use Rattle.std.proofs.Common.{◌≡◌, ℕ, suc, ◌+◌, ◌-◌, ◌<◌, length, drop, sym, subst, arith}
+use Rattle.std.proofs.Common.{◌≡◌, ℕ, ◌+◌, ◌<◌, length, drop, sym, subst, arith}
 use Rattle.kt_core.specs.Choice.{place_of}
 use Rattle.kt_core.proofs.Places.{shifted, found, passed, skipped, ended}
 use Rattle.kt_core.proofs.choice.place_of.Goals as goal
