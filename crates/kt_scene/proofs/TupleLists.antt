@@ -1,16 +1,16 @@
 -- The texts of tuples, sorted, are the list that the report has of them.
-use Rattle.std.proofs.Common.{◌≡◌, ℕ, zero, suc, ◌+◌, ◌<◌, ◌≤◌, false, List, [], ◌∷◌, ◌++◌, length, map, get_or, refl, sym, ap, subst, ◌∙◌, append_assoc, arith}
+use Rattle.std.proofs.Common.{◌≡◌, ℕ, zero, suc, ◌+◌, ◌<◌, List, [], ◌∷◌, ◌++◌, length, map, get_or, refl, sym, ap, subst, ◌∙◌, append_assoc, arith}
 use Rattle.std.specs.Prelude.{IsPermutation, OnOk, Result, Ok, Err}
 use Rattle.std.specs.List.{flat_map}
 use Rattle.std.specs.List.Sorted.{IsSorted}
 use Rattle.std.specs.Ordering.{nat_cmp, is_lt}
 use Rattle.std.specs.Cmp.Lexicographic.{slice_cmp}
 use Rattle.std.specs.Global.{Vec}
-use Rattle.std.proofs.lemmas.List.{length-map, get_or_default}
+use Rattle.std.proofs.lemmas.List.{length-map}
 use Rattle.std.proofs.lemmas.List.Sorted.{IsPermutation-map}
 use Rattle.kt_tuple.specs.declared.tuple.Tuple.{Tuple}
 use Rattle.kt_tuple.specs.Spelling.{tuple_text}
-use Rattle.kt_scene.specs.Report.{IsTupleList, AppendsTuples, count_line, text_line, items_of}
+use Rattle.kt_scene.specs.Report.{AppendsTuples, count_line, text_line, items_of}
 
 get_or-items : (texts : List (Vec ℕ)) (k : ℕ) (v : Vec ℕ) (d : List ℕ) → k < length texts → get_or (items_of texts) k d ≡ (get_or texts k v).items
 get_or-items [] k v d h = absurd (omega arith)

@@ -1,3 +1,4 @@
+pub mod Fault
 pub mod Stream
 pub mod Report
 pub mod Run

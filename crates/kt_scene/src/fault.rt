@@ -1,5 +1,7 @@
 //! What ends a replay.
 
+ghost use Rattle.std.specs.Prelude.{◌≡◌};
+
 use kt_core::{OpenError, StepError};
 use thiserror::Error;
 
@@ -34,8 +36,12 @@ pub enum SceneError {
 }
 
 impl SceneError {
+    ghost use Rattle.kt_scene.specs.Fault.{fault_number};
+
     /// The fault's number.
-    pub fn number(self) -> u8 {
+    pub fn number(self) -> u8
+        ensures { result ≡ fault_number self }
+    {
         match self {
             SceneError::Header => 1,
             SceneError::Word => 2,

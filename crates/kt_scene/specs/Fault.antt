@@ -1,0 +1,14 @@
+-- The numbers of what can be wrong with a line of a scenario.
+use Rattle.std.specs.Prelude.{ℕ}
+use Rattle.kt_scene.specs.declared.fault.SceneError.{SceneError}
+use Rattle.kt_scene.specs.declared.fault.SceneError.TheVariants.{Header, Word, Tuple, Variable, Limit, Node, End, OutOfMemory}
+
+abbrev pub fault_number : SceneError → ℕ
+fault_number Header = 1
+fault_number Word = 2
+fault_number Tuple = 3
+fault_number Variable = 4
+fault_number Limit = 5
+fault_number Node = 6
+fault_number End = 7
+fault_number OutOfMemory = 8
