@@ -1,3 +1,4 @@
 pub mod Known
 pub mod TupleLists
 pub mod Runs
+pub mod Replays

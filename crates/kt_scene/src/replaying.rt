@@ -1,8 +1,9 @@
 //! From the bytes of a scenario to the bytes of its report.
 
-ghost use Rattle.std.specs.Prelude.{◌≡◌, List, ℕ, IfErr, OnOk};
+ghost use Rattle.std.specs.Prelude.{◌≡◌, List, ℕ, Err, IfOk, IfErr, OnOk};
 ghost use Rattle.std.specs.Io.KnownBytes.{Keeps};
-ghost use Rattle.kt_scene.specs.Run.{RunsTo, IsStepFault};
+ghost use Rattle.kt_core.specs.Reached.{opening};
+ghost use Rattle.kt_scene.specs.Run.{IsRunFault, RunsTo, IsStepFault, IsReplayed, WritesReplayed, WritesReplayedFront, IsFaultBeforeReport, IsReplayFault};
 ghost use Rattle.kt_scene.specs.Stream.{UnlessWrite};
 
 use crate::draft::read_scene;
@@ -10,7 +11,7 @@ use crate::fault::ReplayFault;
 use crate::report::write_report;
 use crate::scenario::{Scenario, Work};
 use crate::stream::read_text;
-use kt_core::{OpenError, Step, World};
+use kt_core::{Scene, Step, World};
 use std::alloc::Global;
 use std::io::{Read, Write};
 
@@ -21,6 +22,9 @@ pub fn replay<R: Read, W: Write>(
     reader: &mut R,
     writer: &mut W,
 ) -> Result<(), ReplayFault>
+    ensures written { OnOk result (WritesReplayed (W.contents writer.old) (W.contents writer.new)) }
+    ensures front { result ≡ Err ReplayFault.Write → WritesReplayedFront (W.contents writer.old) (W.contents writer.new) }
+    ensures step { IfErr result IsReplayFault }
     // Before any fault but the writer's nothing is written.
     ensures nothing { IfErr result (λ fault. UnlessWrite fault (Keeps (W.contents writer.old) (W.contents writer.new))) }
 {
@@ -29,16 +33,34 @@ pub fn replay<R: Read, W: Write>(
 }
 
 /// The world after the steps of the scenario that is read.
-fn world_of<R: Read>(alloc: Global, reader: &mut R) -> Result<World, ReplayFault> {
+fn world_of<R: Read>(alloc: Global, reader: &mut R) -> Result<World, ReplayFault>
+    ensures replayed { IfOk result (λ world. IsReplayed world) }
+    ensures fault { IfErr result IsFaultBeforeReport }
+{
     let text = read_text(alloc, reader)?;
-    let Scenario { scene, work } = read_scene(alloc, &text).map_err(|fault| ReplayFault::Scene {
-        line: fault.line,
-        cause: fault.cause,
-    })?;
-    let Work::Steps(steps) = work;
-    let mut world = World::open(alloc, scene).map_err(|refused| ReplayFault::Open(refused.cause))?;
-    make_steps(alloc, &mut world, &steps)?;
-    Ok(world)
+    match read_scene(alloc, &text) {
+        Ok(Scenario { scene, work }) => match work {
+            Work::Steps(steps) => run(alloc, scene, &steps),
+        },
+        Err(fault) => Err(ReplayFault::Scene {
+            line: fault.line,
+            cause: fault.cause,
+        }),
+    }
+}
+
+/// The world of the scene after these steps.
+fn run(alloc: Global, scene: Scene, steps: &[Step]) -> Result<World, ReplayFault>
+    ensures replayed { IfOk result (λ world. RunsTo (opening scene) steps.now world) }
+    ensures fault { IfErr result (IsRunFault scene steps.now) }
+{
+    match World::open(alloc, scene) {
+        Ok(mut world) => match make_steps(alloc, &mut world, steps) {
+            Ok(()) => Ok(world),
+            Err(fault) => Err(fault),
+        },
+        Err(refused) => Err(ReplayFault::Open(refused.cause)),
+    }
 }
 
 /// Makes the steps one after the other, up to the first that is refused.
