@@ -1,11 +1,15 @@
 //! The text of tuples and templates, against texts worked out by hand from the grammar.
 
 use super::*;
+use std::alloc::Global;
 use std::process::Abort;
 use std::test::Fail;
 
-/// Texts of tuples and what `Tuple::parse` answers.
-const TUPLES: [(&[u8], Result<(), ParseError>); 71] = [
+/// A text and what its parser answers.
+type Row = (&'static [u8], Result<(), ParseError>);
+
+/// Ints of tuples.
+const INTS: [Row; 16] = [
     (b"(-9223372036854775808, \"\")", Ok(())),
     (b"(9223372036854775807)", Ok(())),
     (b"(9223372036854775808)", Err(ParseError::Range { at: 1 })),
@@ -27,6 +31,44 @@ const TUPLES: [(&[u8], Result<(), ParseError>); 71] = [
     (b"(1.5)", Err(ParseError::Syntax { at: 2 })),
     (b"(1a)", Err(ParseError::Syntax { at: 2 })),
     (b"(-)", Err(ParseError::Syntax { at: 2 })),
+    (b"(0, -1, 10, -10)", Ok(())),
+];
+
+/// Strings of tuples.
+const STRINGS: [Row; 18] = [
+    (b"(\"\")", Ok(())),
+    (b"(\"a\", 1)", Ok(())),
+    (b"(\" ~\")", Ok(())),
+    (b"(\"(1, 2)\")", Ok(())),
+    (b"(\"\\\"\")", Ok(())),
+    (b"(\"\\\\\")", Ok(())),
+    (b"(\"\\\\\\\"\", 0)", Ok(())),
+    (b"(\"", Err(ParseError::Syntax { at: 2 })),
+    (b"(\"\"", Err(ParseError::Syntax { at: 3 })),
+    (b"(\"a)", Err(ParseError::Syntax { at: 4 })),
+    (b"(\"\\)", Err(ParseError::Syntax { at: 3 })),
+    (b"(\"\\\"", Err(ParseError::Syntax { at: 4 })),
+    (b"(\"\\n\")", Err(ParseError::Syntax { at: 3 })),
+    (b"(\"a\tb\")", Err(ParseError::Syntax { at: 3 })),
+    (b"(\"a\nb\")", Err(ParseError::Syntax { at: 3 })),
+    (b"(\"\x7f\")", Err(ParseError::Syntax { at: 2 })),
+    (b"(\"\xc3\xa9\")", Err(ParseError::Syntax { at: 2 })),
+    (b"(\"\x1f\")", Err(ParseError::Syntax { at: 2 })),
+];
+
+/// What is no value.
+const NO_VALUES: [Row; 7] = [
+    (b"('a')", Err(ParseError::Syntax { at: 1 })),
+    (b"(\"a\"\"b\")", Err(ParseError::Syntax { at: 4 })),
+    (b"(\"a\" )", Err(ParseError::Syntax { at: 4 })),
+    (b"(?int)", Err(ParseError::Syntax { at: 1 })),
+    (b"(1, ?int)", Err(ParseError::Syntax { at: 4 })),
+    (b"(x)", Err(ParseError::Syntax { at: 1 })),
+    (b"(true)", Err(ParseError::Syntax { at: 1 })),
+];
+
+/// Parentheses, commas and spaces.
+const SHAPES: [Row; 20] = [
     (b"()", Err(ParseError::Syntax { at: 1 })),
     (b"", Err(ParseError::Syntax { at: 0 })),
     (b"(", Err(ParseError::Syntax { at: 1 })),
@@ -47,6 +89,10 @@ const TUPLES: [(&[u8], Result<(), ParseError>); 71] = [
     (b"(1 , 2)", Err(ParseError::Syntax { at: 2 })),
     (b"(1, 2]", Err(ParseError::Syntax { at: 5 })),
     (b"((1))", Err(ParseError::Syntax { at: 1 })),
+];
+
+/// Too many places, too many characters, and the faults that come before.
+const LIMITS: [Row; 10] = [
     (b"(9223372036854775808", Err(ParseError::Syntax { at: 20 })),
     (
         b"(9223372036854775808, x)",
@@ -62,32 +108,6 @@ const TUPLES: [(&[u8], Result<(), ParseError>); 71] = [
         b"(1, 1, 1, 1, 1, 1, 1, 1, 9223372036854775808)",
         Err(ParseError::Range { at: 25 }),
     ),
-    (b"(\"\")", Ok(())),
-    (b"(\"a\", 1)", Ok(())),
-    (b"(\" ~\")", Ok(())),
-    (b"(\"(1, 2)\")", Ok(())),
-    (b"(\"\\\"\")", Ok(())),
-    (b"(\"\\\\\")", Ok(())),
-    (b"(\"\\\\\\\"\", 0)", Ok(())),
-    (b"(\"", Err(ParseError::Syntax { at: 2 })),
-    (b"(\"\"", Err(ParseError::Syntax { at: 3 })),
-    (b"(\"a)", Err(ParseError::Syntax { at: 4 })),
-    (b"(\"\\)", Err(ParseError::Syntax { at: 3 })),
-    (b"(\"\\\"", Err(ParseError::Syntax { at: 4 })),
-    (b"(\"\\n\")", Err(ParseError::Syntax { at: 3 })),
-    (b"(\"a\tb\")", Err(ParseError::Syntax { at: 3 })),
-    (b"(\"a\nb\")", Err(ParseError::Syntax { at: 3 })),
-    (b"(\"\x7f\")", Err(ParseError::Syntax { at: 2 })),
-    (b"(\"\xc3\xa9\")", Err(ParseError::Syntax { at: 2 })),
-    (b"(\"\x1f\")", Err(ParseError::Syntax { at: 2 })),
-    (b"('a')", Err(ParseError::Syntax { at: 1 })),
-    (b"(\"a\"\"b\")", Err(ParseError::Syntax { at: 4 })),
-    (b"(\"a\" )", Err(ParseError::Syntax { at: 4 })),
-    (b"(?int)", Err(ParseError::Syntax { at: 1 })),
-    (b"(1, ?int)", Err(ParseError::Syntax { at: 4 })),
-    (b"(x)", Err(ParseError::Syntax { at: 1 })),
-    (b"(true)", Err(ParseError::Syntax { at: 1 })),
-    (b"(0, -1, 10, -10)", Ok(())),
     // 64 and 65 characters
     (
         b"(\"0123456789012345678901234567890123456789012345678901234567890123\")",
@@ -109,7 +129,7 @@ const TUPLES: [(&[u8], Result<(), ParseError>); 71] = [
 ];
 
 /// Texts of templates and what `Template::parse` answers.
-const TEMPLATES: [(&[u8], Result<(), ParseError>); 21] = [
+const TEMPLATES: [Row; 21] = [
     (b"(?int)", Ok(())),
     (b"(?str)", Ok(())),
     (b"(\"a\", ?int)", Ok(())),
@@ -140,21 +160,45 @@ const TEMPLATES: [(&[u8], Result<(), ParseError>); 21] = [
 ];
 
 /// Each text is answered as the grammar says, and one that is read is written back.
-#[test]
-fn tuple_texts(rt: HostRuntime) -> Result<(), Fail> {
-    for (text, expected) in TUPLES {
-        match Tuple::parse(rt.alloc(), text) {
+fn assert_answers(rt: &impl Abort, alloc: Global, rows: &[Row]) -> Result<(), Fail> {
+    for (text, expected) in rows {
+        match Tuple::parse(alloc, text) {
             Ok(tuple) => {
                 assert!(rt; expected.is_ok(), "{text:?} is read");
-                let mut written = Vec::from_slice(rt.alloc(), b"# ")?;
+                let mut written = Vec::from_slice(alloc, b"# ")?;
                 tuple.write_to(&mut written)?;
                 assert_eq!(rt; written.get(..2).ok_or("front")?, b"# ".as_slice());
-                assert_eq!(rt; written.get(2..).ok_or("text")?, text);
+                assert_eq!(rt; written.get(2..).ok_or("text")?, *text);
             }
-            Err(error) => assert_eq!(rt; Err(error), expected, "at {text:?}"),
+            Err(error) => assert_eq!(rt; Err(error), *expected, "at {text:?}"),
         }
     }
     Ok(())
+}
+
+#[test]
+fn ints(rt: HostRuntime) -> Result<(), Fail> {
+    assert_answers(&rt, rt.alloc(), &INTS)
+}
+
+#[test]
+fn strings(rt: HostRuntime) -> Result<(), Fail> {
+    assert_answers(&rt, rt.alloc(), &STRINGS)
+}
+
+#[test]
+fn no_values(rt: HostRuntime) -> Result<(), Fail> {
+    assert_answers(&rt, rt.alloc(), &NO_VALUES)
+}
+
+#[test]
+fn shapes(rt: HostRuntime) -> Result<(), Fail> {
+    assert_answers(&rt, rt.alloc(), &SHAPES)
+}
+
+#[test]
+fn limits(rt: HostRuntime) -> Result<(), Fail> {
+    assert_answers(&rt, rt.alloc(), &LIMITS)
 }
 
 #[test]
