@@ -22,3 +22,8 @@ pub use laws::{
 pub use scene::{MAX_COMMANDS, MAX_SHARDS, MAX_WORKERS, Scene, Script};
 pub use step::{MAX_STEPS, Mode, Step, StepError};
 pub use world::{OpenError, OpenRefused, World};
+
+#[cfg(test)]
+mod order_tests;
+#[cfg(test)]
+mod world_tests;
