@@ -1,6 +1,8 @@
 //! Many orders of the steps of three requests, against the definitions of what survives and of the space,
 //! worked out plainly and slowly.
 
+ghost use Rattle.std.specs.Prelude.{◌<◌};
+
 use crate::world_tests::{S1, opened, outcome, put, script, sorted_texts, take};
 use crate::{Step, StepError, World};
 use kt_history::{Act, Note, Service, What};
@@ -129,13 +131,16 @@ fn space_after(alloc: Global, services: &[Service]) -> Result<Option<Vec<Tuple>>
 struct Draws(u64);
 
 impl Draws {
-    /// The next number, which is below `count`.
-    fn below(&mut self, count: u64) -> u64 {
+    /// The next number below `count`.
+    fn below(&mut self, count: u64) -> u64
+        requires { 0 < count }
+        ensures { result < count }
+    {
         self.0 = self
             .0
             .wrapping_mul(6_364_136_223_846_793_005)
             .wrapping_add(1_442_695_040_888_963_407);
-        (self.0 >> 33).checked_rem(count).unwrap_or(0)
+        (self.0 >> 33) % count
     }
 }
 
@@ -172,10 +177,11 @@ fn step_of(number: u64) -> Step {
 
 /// Makes a step that is allowed, and answers whether there was one. All are tried, in an order that is drawn.
 fn make_one(alloc: Global, world: &mut World, draws: &mut Draws) -> Result<bool, Fail> {
-    let (first, stride) = (draws.below(STEPS), 1 + draws.below(STEPS - 1) % STEPS);
+    let first = draws.below(STEPS);
+    let stride = 1 + draws.below(STEPS - 1);
     for turn in 0..STEPS {
-        let number = first.wrapping_add(turn.wrapping_mul(stride)) % STEPS;
-        match world.step(alloc, step_of(number)) {
+        let step = step_of((first + turn * stride) % STEPS);
+        match world.step(alloc, step) {
             Ok(()) => return Ok(true),
             Err(StepError::OutOfMemory) => return Err(Fail::from("memory")),
             Err(_) => {}

@@ -279,6 +279,34 @@ fn no_steps(rt: HostRuntime) -> Result<(), Fail> {
     made(&rt, &world, &[(W1, 0), (S1, 0)]);
     assert_eq!(rt; world.scene().shards(), 1);
     assert_eq!(rt; world.scene().scripts().len(), 1);
+    for script in world.scene().scripts() {
+        assert_eq!(rt; script.commands().len(), 2);
+    }
+    Ok(())
+}
+
+/// The refusals by their numbers and names. What a store refuses has the number 8.
+#[test]
+fn refusals(rt: HostRuntime) -> Result<(), Fail> {
+    let alloc = rt.alloc();
+    let refusals = [
+        (StepError::NoNode, 1, "NoNode"),
+        (StepError::WrongMode, 2, "WrongMode"),
+        (StepError::NothingThere, 3, "NothingThere"),
+        (StepError::NoSuchMatch, 4, "NoSuchMatch"),
+        (StepError::NotDecided, 5, "NotDecided"),
+        (StepError::Unresolved, 6, "Unresolved"),
+        (StepError::StepLimit, 7, "StepLimit"),
+        (StepError::OutOfMemory, 9, "OutOfMemory"),
+    ];
+    for (refusal, number, name) in refusals {
+        assert_eq!(rt; refusal.number(), number);
+        assert_eq!(rt; refusal.to_string(alloc)?.as_str(), name);
+    }
+    assert_eq!(rt;
+        OpenError::OutOfMemory.to_string(alloc)?.as_str(),
+        "OutOfMemory"
+    );
     Ok(())
 }
 
