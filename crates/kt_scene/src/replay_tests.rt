@@ -241,7 +241,7 @@ fn readers_without_end(rt: HostRuntime) -> Result<(), Fail> {
         replay(rt.alloc(), &mut source, &mut sink),
         Err(ReplayFault::Read)
     );
-    assert_eq!(rt; u32::MAX - source.interrupted, MAX_READS);
+    assert_eq!(rt; u32::MAX.saturating_sub(source.interrupted), MAX_READS);
     let long = Vec::from_elem(rt.alloc(), b'#', MAX_TEXT + 1)?;
     let limit = ReplayFault::Scene {
         line: 1,
