@@ -1,0 +1,6 @@
+pub mod Places
+pub mod Held
+pub mod Known
+pub mod Reaches
+pub mod Count
+pub mod Pushed
