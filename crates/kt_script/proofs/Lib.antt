@@ -4,3 +4,5 @@ pub mod Known
 pub mod Reaches
 pub mod Count
 pub mod Pushed
+pub mod Unbound
+pub mod Remains

@@ -7,3 +7,4 @@ pub mod Meaning
 pub mod Asks
 pub mod Memory
 pub mod Next
+pub mod Left

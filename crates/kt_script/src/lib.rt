@@ -14,8 +14,11 @@ mod variables;
 
 pub use command::{Actual, Actuals, Command, Operation, Pattern, Slot};
 pub use env::Env;
-pub use laws::next_and_bind_reach_what_is_asked;
+pub use laws::{bind_changes_only_formals, next_and_bind_reach_what_is_asked};
 pub use name::{MAX_NAME, Name, is_name};
 pub use next::Next;
 pub use script::{MAX_COMMANDS, MAX_VARIABLES, Script};
 pub use script_error::ScriptError;
+
+#[cfg(test)]
+mod tests;

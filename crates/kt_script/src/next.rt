@@ -1,4 +1,5 @@
 ghost use Rattle.std.specs.Prelude.{◌≡◌, ◌+◌, ◌<◌, ◌^◌, IfOk, length};
+ghost use Rattle.kt_script.specs.Left.{has_next_from};
 ghost use Rattle.kt_script.specs.Meaning.{op_of};
 ghost use Rattle.kt_script.specs.Memory.{held};
 ghost use Rattle.kt_script.specs.Next.{next_from, assigned};
@@ -90,5 +91,21 @@ pub(crate) fn next_from(
             pc: pc + 1,
             env,
         })),
+    }
+}
+
+/// Whether an operation stands among the commands, of which the first so many are skipped.
+pub(crate) fn has_next_from(was_none: bool, skipped: u8, commands: &[Command]) -> bool
+    ensures { result ≡ has_next_from was_none skipped commands.now }
+{
+    match commands.split_first() {
+        None => false,
+        Some((_, later)) if skipped > 0 => has_next_from(was_none, skipped - 1, later),
+        Some((Command::Set { .. }, later)) => has_next_from(was_none, 0, later),
+        Some((Command::Unless(count), later)) => {
+            let skipped = if was_none { *count } else { 0 };
+            has_next_from(was_none, skipped, later)
+        }
+        Some((Command::Ask(_), _)) => true,
     }
 }

@@ -1,9 +1,9 @@
-ghost use Rattle.std.specs.Prelude.{◌≡◌, ◌↔◌, [], ◌∷◌, ◌++◌, IfOk, OnOk, OnErr, None, Some, Err};
+ghost use Rattle.std.specs.Prelude.{◌≡◌, ◌↔◌, [], ◌∷◌, ◌++◌, IfOk, OnOk, OnErr, None, Some, Err, is_some, ◌+◌, ◌<◌, ◌^◌, length, drop};
 
 use crate::command::{Command, Slot};
 use crate::env::Env;
 use crate::name::Name;
-use crate::next::{Next, next_from};
+use crate::next::{Next, has_next_from, next_from};
 use crate::rules::{count_new, has_count, keeps_rules};
 use crate::script_error::ScriptError;
 use crate::variables::{Variables, bind_all, kind_in};
@@ -118,9 +118,26 @@ impl Script {
     pub fn next(&self, alloc: Global, pc: usize, env: &Env) -> Result<Option<Next>, AllocError>
         ensures { IfOk result (λ next. next ≡ next_at self.now (record { pc = pc; memory = env.now })) }
     {
+        let env = env.copy(alloc)?;
+        next_from(alloc, &self.variables, env, 0, pc, self.commands_from(pc))
+    }
+
+    /// Whether an operation is left from the command of this number on. It takes no memory.
+    pub fn has_next(&self, pc: usize, env: &Env) -> bool
+        ensures { result ≡ is_some (next_at self.now (record { pc = pc; memory = env.now })) }
+    {
+        let none = env.was_none();
+        has_next_from(none, 0, self.commands_from(pc))
+    }
+
+    /// The commands from the one of this number on.
+    fn commands_from(&self, pc: usize) -> &[Command]
+        ensures value { result.now ≡ drop pc self.now }
+        ensures room { pc + length result.now < 2 ^ 64 }
+    {
         match self.commands.get(pc..) {
-            Some(commands) => next_from(alloc, &self.variables, env.copy(alloc)?, 0, pc, commands),
-            None => Ok(None),
+            Some(commands) => commands,
+            None => &[],
         }
     }
 
