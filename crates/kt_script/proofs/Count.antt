@@ -4,7 +4,7 @@ use Rattle.std.specs.Prelude.{if◌then◌else◌, is_some, ◌||◌}
 use Rattle.kt_tuple.specs.declared.value.Kind.{Kind}
 use Rattle.kt_script.specs.declared.name.Name.{Name}
 use Rattle.kt_script.specs.Name.{same_name}
-use Rattle.kt_script.specs.Variables.{kind_in, with_binding, with_bindings}
+use Rattle.kt_script.specs.Variables.{kind_in, with_bindings}
 use Rattle.kt_script.specs.Counting.{count_new}
 use Rattle.kt_script.proofs.Held.{same_is, same_refl}
 

@@ -1,5 +1,5 @@
 -- The value of a name stands at the name's number.
-use Rattle.std.proofs.Common.{◌≡◌, ℕ, ◌≤◌, length, arith, zero, suc, Bool, true, false, pos, List, [], ◌∷◌, slice_get, slice_set, position, Option, None, Some, refl, ap, ◌∙◌}
+use Rattle.std.proofs.Common.{◌≡◌, ℕ, ◌≤◌, length, arith, zero, suc, true, false, pos, List, [], ◌∷◌, slice_set, position, None, Some, refl, ap, ◌∙◌}
 use Rattle.std.specs.Prelude.{slice_index_or, if◌then◌else◌}
 use Rattle.std.specs.Map.{keys_of}
 use Rattle.std.specs.List.{AllByRecursion}

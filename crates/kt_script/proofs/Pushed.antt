@@ -1,5 +1,5 @@
 -- A script with one command more.
-use Rattle.std.proofs.Common.{◌≡◌, Bool, true, false, true≢false, cond, List, [], ◌∷◌, ◌++◌, fold, flat_map, None, Some, Result, Ok, Err, IsOk, OnOk, append_assoc, refl, sym, ap, subst, ◌∙◌}
+use Rattle.std.proofs.Common.{◌≡◌, Bool, true, false, cond, List, [], ◌∷◌, ◌++◌, flat_map, None, Some, Result, Ok, Err, IsOk, OnOk, append_assoc, refl, sym, ap, subst, ◌∙◌}
 use Rattle.std.specs.Prelude.{if◌then◌else◌, is_some}
 use Rattle.indexmap.specs.IndexMap.{insert_entry}
 use Rattle.kt_tuple.specs.declared.value.Kind.{Kind}

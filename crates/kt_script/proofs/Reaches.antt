@@ -1,5 +1,5 @@
 -- The position and the values that are kept reach the operation that is asked next.
-use Rattle.std.proofs.Common.{◌≡◌, ℕ, zero, suc, ◌+◌, ℤ, Bool, true, false, List, [], ◌∷◌, ◌++◌, length, drop, fold, Option, None, Some, slice_get, flat_map, refl, sym, ap, subst, ◌∙◌, add-one}
+use Rattle.std.proofs.Common.{◌≡◌, ℕ, zero, suc, ◌+◌, ℤ, List, [], ◌∷◌, length, drop, fold, Option, None, Some, slice_get, flat_map, refl, sym, ap, subst, ◌∙◌, add-one}
 use Rattle.std.specs.Prelude.{if◌then◌else◌}
 use Rattle.kt_tuple.specs.declared.op.Op.{Op}
 use Rattle.kt_tuple.specs.declared.op.Answer.{Answer}
@@ -11,8 +11,8 @@ use Rattle.kt_script.specs.declared.command.Command.TheVariants.{Ask, Set, Unles
 use Rattle.kt_script.specs.Command.{slots_of, bindings}
 use Rattle.kt_script.specs.Variables.{variables_of}
 use Rattle.kt_script.specs.Meaning.{op_of, plus, with_value, after_answer}
-use Rattle.kt_script.specs.Asks.{Deed, Answered, Assigned, meaning_after, was_none, is_none_answer, asks_after, asks}
-use Rattle.kt_script.specs.Memory.{Memory, opening_memory, held, with_held, zeros_of, values_after}
+use Rattle.kt_script.specs.Asks.{Deed, Answered, Assigned, meaning_after, was_none, asks_after, asks}
+use Rattle.kt_script.specs.Memory.{Memory, opening_memory, held, with_held, values_after}
 use Rattle.kt_script.specs.Next.{Position, assigned, next_from, next_at, slots_of_command, slots_before, bound, opening_position, answered, after_one, position_after, op_of_next}
 use Rattle.kt_script.proofs.Held.{AreKnown, AreKnown-left, AreKnown-right, held-zeros, length-zeros, length-with_held, held-with_held, length-values_after, held-values_after}
 use Rattle.kt_script.proofs.Known.{AreKnown-script, AreKnown-drop}

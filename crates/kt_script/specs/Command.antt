@@ -1,10 +1,8 @@
 -- What the commands of a script bind and use.
-use Rattle.std.specs.Prelude.{List, [], ◌∷◌, ◌++◌, Option, None, Some, flat_map}
+use Rattle.std.specs.Prelude.{List, [], ◌∷◌, None, Some, flat_map}
 use Rattle.kt_tuple.specs.declared.value.Kind.{Kind}
 use Rattle.kt_tuple.specs.declared.value.Kind.TheVariants as kinds
 use Rattle.kt_script.specs.declared.name.Name.{Name}
-use Rattle.kt_script.specs.declared.command.Actual.{Actual}
-use Rattle.kt_script.specs.declared.command.Actual.TheVariants.{Literal, Variable}
 use Rattle.kt_script.specs.declared.command.Slot.{Slot}
 use Rattle.kt_script.specs.declared.command.Slot.TheVariants as slots
 use Rattle.kt_script.specs.declared.command.Operation.{Operation}

@@ -1,5 +1,5 @@
 -- What a command means where the variables have values: what it asks for, and what it binds.
-use Rattle.std.specs.Prelude.{◌≡◌, ℤ, pos, Bool, if◌then◌else◌, List, [], ◌∷◌, map, Option, None, Some}
+use Rattle.std.specs.Prelude.{ℤ, pos, Bool, if◌then◌else◌, List, [], ◌∷◌, map, Option, None, Some}
 use Rattle.std.specs.Int.{saturate_signed, w64}
 use Rattle.std.specs.Prelude.{◌+ℤ◌}
 use Rattle.std.specs.Cmp.Lexicographic.{pointwise}

@@ -1,8 +1,8 @@
 -- What a worker keeps between two operations of its script: a value for each variable, and whether the last
 -- answer was none.
-use Rattle.std.specs.Prelude.{ℤ, pos, Bool, true, false, if◌then◌else◌, List, [], ◌∷◌, map, Option, None, Some}
+use Rattle.std.specs.Prelude.{pos, Bool, false, if◌then◌else◌, List, [], ◌∷◌, map, None, Some}
 use Rattle.kt_tuple.specs.declared.value.Value.{Value}
-use Rattle.kt_tuple.specs.declared.value.Value.TheVariants.{Int, Str}
+use Rattle.kt_tuple.specs.declared.value.Value.TheVariants.{Int}
 use Rattle.kt_tuple.specs.declared.value.Kind.{Kind}
 use Rattle.kt_tuple.specs.declared.op.Answer.{Answer}
 use Rattle.kt_tuple.specs.declared.op.Answer.TheVariants as answers
@@ -12,8 +12,7 @@ use Rattle.kt_script.specs.declared.command.Slot.TheVariants as slots
 use Rattle.kt_script.specs.declared.command.Command.{Command}
 use Rattle.kt_script.specs.Name.{same_name}
 use Rattle.kt_script.specs.Variables.{variables_of}
-use Rattle.kt_script.specs.Meaning.{zero_of, plus, has_kinds}
-use Rattle.kt_script.specs.Asks.{is_none_answer}
+use Rattle.kt_script.specs.Meaning.{zero_of, has_kinds}
 
 -- the values, in the order of the variables
 pub record Memory : Type 0 where

@@ -1,4 +1,3 @@
-use Rattle.std.proofs.Common.{refl}
 use Rattle.kt_script.proofs.Unbound.{bound-no_template, bound-other_kinds}
 use Rattle.kt_script.proofs.laws.bind_changes_only_formals.Goals as goal
 

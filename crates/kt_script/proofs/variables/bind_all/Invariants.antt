@@ -1,4 +1,4 @@
-use Rattle.std.proofs.Common.{◌≡◌, ◌+◌, ◌≤◌, length, map}
+use Rattle.std.proofs.Common.{◌≡◌, ◌+◌, ◌≤◌, length}
 use Rattle.indexmap.specs.IndexMap.{spare}
 use Rattle.kt_script.specs.Variables.{with_bindings}
 use Rattle.kt_script.proofs.variables.bind_all.Given as goal
