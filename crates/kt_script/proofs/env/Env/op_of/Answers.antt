@@ -1,0 +1,5 @@
+use Rattle.std.proofs.Common.{sym}
+use Rattle.kt_script.proofs.env.Env.op_of.Goals as goal
+
+pub returns : goal.returns
+returns c = rw (sym c.values.ensures) c.op_of.ensures

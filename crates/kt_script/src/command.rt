@@ -1,0 +1,185 @@
+ghost use Rattle.std.specs.Prelude.{◌≡◌, ◌↔◌, IsSome, IfSome, IfOk, flat_map};
+ghost use Rattle.kt_script.specs.Command.{slot_bindings};
+ghost use Rattle.kt_tuple.specs.Matching.{HasArity};
+
+use crate::name::Name;
+use kt_tuple::{Kind, MAX_PLACES, Value};
+use std::alloc::{AllocError, Global};
+use std::marker::Model;
+
+/// A value of an operation: written out, or that of a variable.
+#[derive(Debug, PartialEq, Eq, Drop)]
+pub enum Actual {
+    /// This value.
+    Literal(Value),
+    /// The value of the variable with this name.
+    Variable(Name),
+}
+
+/// One place of a command's template.
+#[derive(Debug, PartialEq, Eq, Drop)]
+pub enum Slot {
+    /// Only this value is admitted.
+    Actual(Actual),
+    /// Any value of this kind is admitted. Where there is a name, the value that was got is bound to it.
+    Formal(Kind, Option<Name>),
+}
+
+/// The values of a command's tuple: 1 to 8.
+#[derive(Debug, Drop)]
+pub struct Actuals {
+    actuals: Vec<Actual>,
+}
+
+/// The places of a command's template: 1 to 8.
+#[derive(Debug, Drop)]
+pub struct Pattern {
+    slots: Vec<Slot>,
+}
+
+/// An operation on the space as a script has it.
+#[derive(Debug, Drop)]
+pub enum Operation {
+    /// Adds the tuple.
+    Out(Actuals),
+    /// Withdraws a tuple that matches, and waits while there is none.
+    In(Pattern),
+    /// Reads a tuple that matches, and waits while there is none.
+    Rd(Pattern),
+    /// Withdraws a tuple that matches, or answers that there is none.
+    Inp(Pattern),
+    /// Reads a tuple that matches, or answers that there is none.
+    Rdp(Pattern),
+}
+
+/// One command of a script.
+#[derive(Debug, Drop)]
+pub enum Command {
+    /// Asks the space for this operation.
+    Ask(Operation),
+    /// Binds the variable to the source's value plus a number, held at the ends of 64 bits.
+    Set {
+        variable: Name,
+        source: Name,
+        plus: i64,
+    },
+    /// Skips so many commands, 1 to 200, where the last answer was none.
+    Unless(u8),
+}
+
+impl Model for Actuals {
+    ghost use Rattle.std.specs.Prelude.{List};
+    ghost use Rattle.kt_tuple.specs.Matching.{HasArity};
+    ghost use Rattle.kt_script.specs.declared.command.Actual.{Actual};
+
+    ghost Value = { List Actual };
+
+    ghost view = { λ a. a.actuals.items };
+
+    ghost invariant = { λ a. HasArity a.actuals.items };
+}
+
+impl Actuals {
+    /// The actuals of a tuple, or `None` where there are none or more than 8.
+    pub fn new(actuals: Vec<Actual>) -> Option<Actuals>
+        ensures within { IsSome result ↔ HasArity actuals.items }
+        ensures value { IfSome result (λ a. a ≡ actuals.items) }
+    {
+        if 1 <= actuals.len() && actuals.len() <= MAX_PLACES {
+            Some(Actuals { actuals })
+        } else {
+            None
+        }
+    }
+
+    /// The actuals, from left to right.
+    pub fn actuals(&self) -> &[Actual]
+        ensures value { result.now ≡ self.now }
+        ensures arity { HasArity self.now }
+    {
+        &self.actuals
+    }
+}
+
+impl Model for Pattern {
+    ghost use Rattle.std.specs.Prelude.{List};
+    ghost use Rattle.kt_tuple.specs.Matching.{HasArity};
+    ghost use Rattle.kt_script.specs.declared.command.Slot.{Slot};
+
+    ghost Value = { List Slot };
+
+    ghost view = { λ p. p.slots.items };
+
+    ghost invariant = { λ p. HasArity p.slots.items };
+}
+
+impl Pattern {
+    /// The template of these places, or `None` where there are none or more than 8.
+    pub fn new(slots: Vec<Slot>) -> Option<Pattern>
+        ensures within { IsSome result ↔ HasArity slots.items }
+        ensures value { IfSome result (λ p. p ≡ slots.items) }
+    {
+        if 1 <= slots.len() && slots.len() <= MAX_PLACES {
+            Some(Pattern { slots })
+        } else {
+            None
+        }
+    }
+
+    /// The places, from left to right.
+    pub fn slots(&self) -> &[Slot]
+        ensures value { result.now ≡ self.now }
+        ensures arity { HasArity self.now }
+    {
+        &self.slots
+    }
+}
+
+impl Operation {
+    ghost use Rattle.kt_script.specs.Command.{slots_of};
+
+    /// The places that may bind a name, from left to right: `out` has none.
+    pub fn slots(&self) -> &[Slot]
+        ensures { result.now ≡ slots_of self.now }
+    {
+        match self {
+            Operation::Out(_) => &[],
+            Operation::In(pattern)
+            | Operation::Rd(pattern)
+            | Operation::Inp(pattern)
+            | Operation::Rdp(pattern) => pattern.slots(),
+        }
+    }
+}
+
+impl Command {
+    ghost use Rattle.std.specs.Prelude.{◌≡◌, IfOk};
+    ghost use Rattle.kt_script.specs.Command.{bindings};
+
+    /// The names that the command binds, from left to right, each with its kind.
+    pub(crate) fn bindings(&self, alloc: Global) -> Result<Vec<(Name, Kind)>, AllocError>
+        ensures { IfOk result (λ b. b.items ≡ bindings self.now) }
+    {
+        match self {
+            Command::Ask(operation) => slot_bindings(alloc, operation.slots()),
+            Command::Set { variable, .. } => {
+                let mut bindings = Vec::with_capacity(alloc, 1)?;
+                bindings.push((variable.copy(alloc)?, Kind::Int))?;
+                Ok(bindings)
+            }
+            Command::Unless(_) => Ok(Vec::new(alloc)),
+        }
+    }
+}
+
+fn slot_bindings(alloc: Global, slots: &[Slot]) -> Result<Vec<(Name, Kind)>, AllocError>
+    ensures { IfOk result (λ b. b.items ≡ flat_map slot_bindings slots.now) }
+{
+    let mut bindings = Vec::with_capacity(alloc, slots.len())?;
+    for slot in slots {
+        if let Slot::Formal(kind, Some(name)) = slot {
+            bindings.push((name.copy(alloc)?, *kind))?;
+        }
+    }
+    Ok(bindings)
+}

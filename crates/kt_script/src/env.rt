@@ -1,0 +1,121 @@
+ghost use Rattle.std.specs.Prelude.{◌≡◌, IfOk, Some, map};
+ghost use Rattle.kt_script.specs.Asks.{is_none_answer};
+ghost use Rattle.kt_script.specs.Meaning.{zero_of};
+ghost use Rattle.kt_script.specs.Memory.{opening_memory, values_after};
+ghost use Rattle.kt_script.specs.Next.{bound};
+
+use crate::command::Slot;
+use crate::meaning::{bind_tuple, has_kinds};
+use crate::script::Script;
+use crate::variables::{Variables, zeros_of};
+use kt_tuple::{Answer, Value};
+use std::alloc::{AllocError, Global};
+use std::marker::Model;
+
+/// What a worker keeps between two operations of its script: the values of the variables, in the order of
+/// the script's names, and whether the last answer was none.
+#[derive(Debug, Drop)]
+pub struct Env {
+    pub(crate) values: Vec<Value>,
+    pub(crate) was_none: bool,
+}
+
+impl Model for Env {
+    ghost use Rattle.kt_script.specs.Memory.{Memory};
+
+    ghost Value = { Memory };
+
+    ghost view = { λ e. record { values = e.values.items; was_none = e.was_none } };
+}
+
+impl Env {
+    /// The variables of the script before any answer: each is 0 or the empty string.
+    pub fn new(alloc: Global, script: &Script) -> Result<Env, AllocError>
+        ensures { IfOk result (λ e. e ≡ opening_memory script.now) }
+    {
+        Ok(Env {
+            values: zeros_of(alloc, &script.variables)?,
+            was_none: false,
+        })
+    }
+
+    /// The variables after an answer to the command just before `pc`: a tuple that was got binds its
+    /// formals, unless no operation stands there or the tuple has another signature.
+    pub fn bind(
+        &self,
+        alloc: Global,
+        script: &Script,
+        pc: usize,
+        answer: &Answer,
+    ) -> Result<Env, AllocError>
+        ensures { IfOk result (λ e. e ≡ bound script.now pc answer.now self.now) }
+    {
+        let slots = script.slots_before(pc);
+        Ok(Env {
+            values: values_after(alloc, &script.variables, &self.values, slots, answer)?,
+            was_none: is_none_answer(answer),
+        })
+    }
+
+    /// The values, in the order of the script's names.
+    pub fn values(&self) -> &[Value]
+        ensures { result.now ≡ self.now.values }
+    {
+        &self.values
+    }
+
+    /// Whether the last answer was none; not so before any answer.
+    pub fn was_none(&self) -> bool
+        ensures { result ≡ self.now.was_none }
+    {
+        self.was_none
+    }
+
+    /// An equal environment.
+    pub fn copy(&self, alloc: Global) -> Result<Env, AllocError>
+        ensures { IfOk result (λ e. e ≡ self.now) }
+    {
+        Ok(Env {
+            values: copy_values(alloc, &self.values)?,
+            was_none: self.was_none,
+        })
+    }
+}
+
+fn is_none_answer(answer: &Answer) -> bool
+    ensures { result ≡ is_none_answer answer.now }
+{
+    match answer {
+        Answer::None => true,
+        Answer::Done | Answer::Got(_) => false,
+    }
+}
+
+/// The values after an answer to a template.
+fn values_after(
+    alloc: Global,
+    variables: &Variables,
+    values: &[Value],
+    slots: &[Slot],
+    answer: &Answer,
+) -> Result<Vec<Value>, AllocError>
+    ensures { IfOk result (λ v. v.items ≡ values_after variables.now.entries values.now slots.now answer.now) }
+{
+    let mut copies = copy_values(alloc, values)?;
+    if let Answer::Got(tuple) = answer {
+        if has_kinds(variables, values, slots, tuple.values()) {
+            bind_tuple(alloc, variables, &mut copies, slots, tuple.values())?;
+        }
+    }
+    Ok(copies)
+}
+
+pub(crate) fn copy_values(alloc: Global, values: &[Value]) -> Result<Vec<Value>, AllocError>
+    ensures { IfOk result (λ v. v.items ≡ values.now) }
+{
+    let mut copies = Vec::with_capacity(alloc, values.len())?;
+    for value in values {
+        copies.push(value.copy(alloc)?)?;
+    }
+    Ok(copies)
+}

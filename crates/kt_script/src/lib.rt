@@ -1,0 +1,24 @@
+//! Scripts of Linda operations with variables: what a worker asks next.
+#![tactic(auto)]
+
+mod command;
+mod env;
+mod laws;
+mod meaning;
+mod name;
+mod next;
+mod rules;
+mod script;
+mod script_error;
+mod variables;
+
+pub use command::{Actual, Actuals, Command, Operation, Pattern, Slot};
+pub use env::Env;
+pub use laws::{bind_changes_only_formals, next_and_bind_reach_what_is_asked};
+pub use name::{MAX_NAME, Name, is_name};
+pub use next::Next;
+pub use script::{MAX_COMMANDS, MAX_VARIABLES, Script};
+pub use script_error::ScriptError;
+
+#[cfg(test)]
+mod tests;

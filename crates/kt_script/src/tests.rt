@@ -1,0 +1,129 @@
+use super::*;
+use kt_tuple::{Answer, Kind, Op, Tuple, Value};
+use std::alloc::Global;
+use std::test::Fail;
+
+fn name(alloc: Global, text: &str) -> Result<Name, Fail> {
+    let name = Name::new(Vec::from_slice(alloc, text.as_bytes())?);
+    Ok(name.ok_or("no name")?)
+}
+
+fn string(alloc: Global, text: &str) -> Result<Actual, Fail> {
+    let text = kt_tuple::Str::new(Vec::from_slice(alloc, text.as_bytes())?);
+    Ok(Actual::Literal(Value::Str(text.ok_or("no string")?)))
+}
+
+fn out(alloc: Global, actual: Actual) -> Result<Command, Fail> {
+    let actuals = Actuals::new(vec![in alloc; actual]?);
+    Ok(Command::Ask(Operation::Out(actuals.ok_or("no tuple")?)))
+}
+
+fn out_variable(alloc: Global, text: &str) -> Result<Command, Fail> {
+    out(alloc, Actual::Variable(name(alloc, text)?))
+}
+
+fn formal(alloc: Global, text: &str) -> Result<Slot, Fail> {
+    Ok(Slot::Formal(Kind::Int, Some(name(alloc, text)?)))
+}
+
+fn pattern(slots: Vec<Slot>) -> Result<Pattern, Fail> {
+    Ok(Pattern::new(slots).ok_or("no template")?)
+}
+
+fn add_one(alloc: Global, to: &str, from: &str) -> Result<Command, Fail> {
+    Ok(Command::Set {
+        variable: name(alloc, to)?,
+        source: name(alloc, from)?,
+        plus: 1,
+    })
+}
+
+fn got(alloc: Global, text: &str) -> Result<Answer, Fail> {
+    Ok(Answer::Got(Tuple::parse(alloc, text.as_bytes())?))
+}
+
+/// What the script asks after the answers.
+fn asked(alloc: Global, script: &Script, answers: &[Answer]) -> Result<Option<Op>, Fail> {
+    let mut pc = 0;
+    let mut env = Env::new(alloc, script)?;
+    for answer in answers {
+        let Some(next) = script.next(alloc, pc, &env)? else {
+            return Ok(None);
+        };
+        pc = next.pc;
+        env = next.env.bind(alloc, script, pc, answer)?;
+    }
+    Ok(script.next(alloc, pc, &env)?.map(|next| next.op))
+}
+
+/// Whether the script asks for `out` of this tuple after one answer.
+fn puts(alloc: Global, script: &Script, answer: Answer, text: &str) -> Result<bool, Fail> {
+    let op = asked(alloc, script, &[answer])?;
+    Ok(op == Some(Op::Out(Tuple::parse(alloc, text.as_bytes())?)))
+}
+
+/// `inp ("a")`, `unless 2`, `out ("b")`, `out ("c")`, `out ("d")`.
+fn unless_script(alloc: Global) -> Result<Script, Fail> {
+    let mut script = Script::new(alloc);
+    let a = pattern(vec![in alloc; Slot::Actual(string(alloc, "a")?)]?)?;
+    script.push(Command::Ask(Operation::Inp(a)))?;
+    script.push(Command::Unless(2))?;
+    for text in ["b", "c", "d"] {
+        script.push(out(alloc, string(alloc, text)?)?)?;
+    }
+    Ok(script)
+}
+
+#[test]
+fn unless_skips(rt: HostRuntime) -> Result<(), Fail> {
+    let script = unless_script(rt.alloc())?;
+    assert!(rt; puts(rt.alloc(), &script, Answer::None, "(\"d\")")?);
+    let found = got(rt.alloc(), "(\"a\")")?;
+    assert!(rt; puts(rt.alloc(), &script, found, "(\"b\")")?);
+    Ok(())
+}
+
+/// `in (?int x)`, `set y = x + 1`, `out (y)`.
+fn set_script(alloc: Global) -> Result<Script, Fail> {
+    let mut script = Script::new(alloc);
+    let x = pattern(vec![in alloc; formal(alloc, "x")?]?)?;
+    script.push(Command::Ask(Operation::In(x)))?;
+    script.push(add_one(alloc, "y", "x")?)?;
+    script.push(out_variable(alloc, "y")?)?;
+    Ok(script)
+}
+
+#[test]
+fn saturating_set(rt: HostRuntime) -> Result<(), Fail> {
+    let script = set_script(rt.alloc())?;
+    let greatest = got(rt.alloc(), "(9223372036854775807)")?;
+    assert!(rt; puts(rt.alloc(), &script, greatest, "(9223372036854775807)")?);
+    Ok(())
+}
+
+/// `in (?int x, ?int x)`, `out (x)`.
+fn twice_script(alloc: Global) -> Result<Script, Fail> {
+    let mut script = Script::new(alloc);
+    let twice = pattern(vec![in alloc; formal(alloc, "x")?, formal(alloc, "x")?]?)?;
+    script.push(Command::Ask(Operation::In(twice)))?;
+    script.push(out_variable(alloc, "x")?)?;
+    Ok(script)
+}
+
+#[test]
+fn binds_from_left_to_right(rt: HostRuntime) -> Result<(), Fail> {
+    let script = twice_script(rt.alloc())?;
+    assert_eq!(rt; script.names().len(), 1);
+    assert!(rt; puts(rt.alloc(), &script, got(rt.alloc(), "(1, 2)")?, "(2)")?);
+    assert!(rt; puts(rt.alloc(), &script, got(rt.alloc(), "(1)")?, "(0)")?);
+    Ok(())
+}
+
+#[test]
+fn refuses_use_before_binding(rt: HostRuntime) -> Result<(), Fail> {
+    let mut script = Script::new(rt.alloc());
+    let refused = script.push(add_one(rt.alloc(), "x", "x")?);
+    assert_eq!(rt; refused, Err(ScriptError::Variable));
+    assert_eq!(rt; script.push(Command::Unless(0)), Err(ScriptError::Limit));
+    Ok(())
+}
