@@ -21,7 +21,7 @@ use Rattle.kt_history.specs.WellFormed.{CausesComeFirst}
 use Rattle.kt_history.specs.Closed.{act_of, acts_at}
 use Rattle.kt_history.proofs.Lines.{note_before}
 use Rattle.kt_history.proofs.Lists.{Contains-here}
-use Rattle.kt_core.specs.declared.node.Worker.{Worker}
+use Rattle.kt_worker.specs.declared.worker.Worker.{Worker}
 use Rattle.kt_core.specs.declared.node.Message.{Message}
 use Rattle.kt_core.specs.declared.node.Message.TheVariants.{Ask, Reply}
 use Rattle.kt_core.specs.declared.choice.Choice.{Choice}
@@ -34,7 +34,7 @@ use Rattle.kt_core.specs.declared.step.Step.TheVariants.{Issue, Deliver, Serve}
 use Rattle.kt_core.specs.State.{State, Part, Nobody, IsWorker, IsStore, Store, at, node, link, link_index, node_number}
 use Rattle.kt_core.specs.Choice.{one_later, place_of, taken_or_nothing, read_or_nothing, choice_of, bag_change_of, put_of, IsInBag}
 use Rattle.kt_core.specs.Effect.{hears_worker, cause_of, cause_of_waiting, home}
-use Rattle.kt_core.specs.Ready.{HasDesks, HasAskedFew, NamesAct, IsReady, FitsBag, CanChange}
+use Rattle.kt_core.specs.Ready.{HasDesks, NamesAct, IsReady, FitsBag, CanChange}
 use Rattle.kt_core.specs.Machine.{CanApply}
 use Rattle.kt_core.proofs.PlanCases.{PlanOf, issues, hears, answers_again, ignores_request, misses_reply, accepts, ignores_reply, misses_request, serves}
 use Rattle.kt_core.proofs.Readiness.{number_small}
@@ -68,9 +68,6 @@ home_link p shards op hp some few =
 
 nine_desks : (s : State) → IsReady s → (p : NodeId) (y : Store) → node s p ≡ IsStore y → length y.desks ≡ 9
 nine_desks s ready p y e = let P : Part → Type 0 = HasDesks in subst P e (ready.desks (node_index p))
-
-asked_few : (s : State) → IsReady s → (p : NodeId) (x : Worker) → node s p ≡ IsWorker x → x.number ≤ s.made
-asked_few s ready p x e = let P : Part → Type 0 = HasAskedFew s.made in subst P e (ready.requests (node_index p))
 
 one_later-within : (o : Option ℕ) (n place : ℕ) → ((p : ℕ) → o ≡ Some p → p < n) → one_later o ≡ Some place → place < suc n
 one_later-within None n place h e = absurd cc
@@ -195,12 +192,12 @@ change_at part change is e h = let P : Part → Type 0 = λ x. CanChange x chang
 -- ---- the law
 
 pub can_apply : (s : State) → IsReady s → (step : Step) (plan : Plan) → PlanOf s step plan → CanApply s step plan
-can_apply s ready (Issue p) plan (issues {x = x} {op = op} at_p free next few) =
+can_apply s ready (Issue p) plan (issues {x = x} {r = r} at_p next few) =
     let row = worker_row s ready p x at_p in record {
       row = row;
       link = tt;
-      send = home_link p s.shards op row ready.some_shards ready.few_shards;
-      change = change_at (node s p) (changes.Ask op) (IsWorker x) at_p (let asked = asked_few s ready p x at_p in omega (arith, asked, few));
+      send = home_link p s.shards r.1 row ready.some_shards ready.few_shards;
+      change = change_at (node s p) _ (IsWorker x) at_p tt;
       note = λ some. absurd (some refl);
     }
 can_apply s ready (Deliver p q) plan (hears {x = x} {y = y} {request = request} {by = by} {later = later} at_p at_q on new few) =
@@ -242,7 +239,7 @@ can_apply s ready (Deliver p q) plan (accepts {x = x} {y = y} {request = request
       row = row;
       link = link_within p q (store_row s ready p y at_p) row;
       send = tt;
-      change = change_at (node s q) changes.Accept (IsWorker x) at_q tt;
+      change = change_at (node s q) _ (IsWorker x) at_q tt;
       note = on_link s ready p q (Reply request answer by) later on;
     }
 can_apply s ready (Deliver p q) plan (ignores_reply {x = x} {y = y} {request = request} {answer = answer} {by = by} {later = later} at_p at_q on other few) =

@@ -66,14 +66,14 @@ link_index-injective p q p' q' row row' e =
     (node_index-injective p p' (omega (arith, e, row, row')), node_index-injective q q' (omega (arith, e, row, row')))
 
 -- the owner is like its line, and so are the others as before
-applied-like : (s : State) (step : Step) (plan : Plan) → IsSound s → Keeps (setting_of s.shards s.scripts) s.history (owner step) (node s (owner step)) plan →
-    (q : NodeId) → IsPartLike q (acts_in_line (s.history ++ notes.Act plan.note ∷ []) q) (node (applied s step plan) q)
+applied-like : (s : State) (step : Step) (plan : Plan) → IsSound s → Keeps (record { shards = s.shards; scripts = s.scripts }) s.history (owner step) (node s (owner step)) plan →
+    (q : NodeId) → IsPartLike s.scripts q (acts_in_line (s.history ++ notes.Act plan.note ∷ []) q) (node (applied s step plan) q)
 applied-like s step plan sound keeps q = elim (cases_eq (node_index q) (node_index p)) [
-  | inl e ↦ subst (λ r. IsPartLike r (acts_in_line later r) (node (applied s step plan) r)) (sym (node_index-injective q p e)) own
+  | inl e ↦ subst (λ r. IsPartLike s.scripts r (acts_in_line later r) (node (applied s step plan) r)) (sym (node_index-injective q p e)) own
   | inr d ↦
       let off : ¬ (node_index plan.note.node ≡ node_index q) = λ k. d (sym k ∙ ap node_index keeps.own) in
-      subst (λ l. IsPartLike q l (node (applied s step plan) q)) (sym (acts_in_line-other_act s.history plan.note q (ne_eqb (node_index plan.note.node) (node_index q) off)))
-      (subst (IsPartLike q (acts_in_line s.history q)) (sym (at-put_other Nobody s.nodes (node_index p) (node_index q) (changed (node s p) plan.change) d)) (sound.like q))
+      subst (λ l. IsPartLike s.scripts q l (node (applied s step plan) q)) (sym (acts_in_line-other_act s.history plan.note q (ne_eqb (node_index plan.note.node) (node_index q) off)))
+      (subst (IsPartLike s.scripts q (acts_in_line s.history q)) (sym (at-put_other Nobody s.nodes (node_index p) (node_index q) (changed (node s p) plan.change) d)) (sound.like q))
 ]
   where
     p : NodeId
@@ -82,15 +82,15 @@ applied-like s step plan sound keeps q = elim (cases_eq (node_index q) (node_ind
     later : List Note
     later = s.history ++ notes.Act plan.note ∷ []
 
-    own : IsPartLike p (acts_in_line later p) (node (applied s step plan) p)
+    own : IsPartLike s.scripts p (acts_in_line later p) (node (applied s step plan) p)
     own =
         let line : acts_in_line later p ≡ acts_in_line s.history p ++ plan.note ∷ [] =
         subst (λ r. acts_in_line later r ≡ acts_in_line s.history r ++ plan.note ∷ []) keeps.own (acts_in_line-own_act s.history plan.note) in
-        subst (λ l. IsPartLike p l (node (applied s step plan) p)) (sym line)
-        (subst (IsPartLike p (acts_in_line s.history p ++ plan.note ∷ [])) (sym (at-put_same Nobody s.nodes (node_index p) (changed (node s p) plan.change))) keeps.like)
+        subst (λ l. IsPartLike s.scripts p l (node (applied s step plan) p)) (sym line)
+        (subst (IsPartLike s.scripts p (acts_in_line s.history p ++ plan.note ∷ [])) (sym (at-put_same Nobody s.nodes (node_index p) (changed (node s p) plan.change))) keeps.like)
 
 -- each message on a link carries what its act says
-applied-carries : (s : State) (step : Step) (plan : Plan) → IsSound s → Keeps (setting_of s.shards s.scripts) s.history (owner step) (node s (owner step)) plan →
+applied-carries : (s : State) (step : Step) (plan : Plan) → IsSound s → Keeps (record { shards = s.shards; scripts = s.scripts }) s.history (owner step) (node s (owner step)) plan →
     (p q : NodeId) (m : Message) → node_index q < rows → Contains (at [] (taken_off (sent s.links (owner step) plan.send) step) (link_index p q)) m → Carries s.shards (s.history ++ notes.Act plan.note ∷ []) p q m
 applied-carries s step plan sound keeps p q m row c =
     elim (sent-cases s.links (owner step) plan.send (link_index p q) m (taken_off-was (sent s.links (owner step) plan.send) step (link_index p q) m c)) [
@@ -107,7 +107,7 @@ applied-carries s step plan sound keeps p q m row c =
         let ends = link_index-injective p q (owner step) new.to row well.1 new.by in
         subst (λ x. Carries s.shards later p q x) new.same (subst (λ x. Carries s.shards later p x new.message) (sym ends.1) (subst (λ x. Carries s.shards later x new.to new.message) (sym ends.0) well.0))
 
-pub applied-sound : (s : State) (step : Step) (plan : Plan) → IsSound s → Keeps (setting_of s.shards s.scripts) s.history (owner step) (node s (owner step)) plan → IsSound (applied s step plan)
+pub applied-sound : (s : State) (step : Step) (plan : Plan) → IsSound s → Keeps (record { shards = s.shards; scripts = s.scripts }) s.history (owner step) (node s (owner step)) plan → IsSound (applied s step plan)
 applied-sound s step plan sound keeps = record {
   legal = AreLegal-act (setting_of s.shards s.scripts) s.history plan.note sound.legal (subst (λ p. MayMake (setting_of s.shards s.scripts) p (acts_in_line s.history p) plan.note) (sym keeps.own) keeps.may);
   well_formed = IsWellFormed-push s.history (notes.Act plan.note) sound.well_formed keeps.fits;

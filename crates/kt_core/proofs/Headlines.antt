@@ -1,5 +1,5 @@
 -- The headline of a sound state, and that each step keeps what it stands on.
-use Rattle.std.proofs.Common.{◌≡◌, ◌≢◌, ℕ, ◌≤◌, List, [], ◌∷◌, length, filter, Contains, IsPermutation, None, Result, Ok, Err, inl, inr, IsTrue, refl, sym, ap, ◌∙◌, subst, arith}
+use Rattle.std.proofs.Common.{◌≡◌, ◌≢◌, ℕ, ◌≤◌, List, [], ◌∷◌, length, filter, Contains, IsPermutation, Result, Ok, Err, inl, inr, IsTrue, refl, sym, ap, ◌∙◌, subst, arith}
 use Rattle.std.specs.List.{range_with_len}
 use Rattle.std.proofs.lemmas.Bool.{cases_eq, cases_lt}
 use Rattle.std.proofs.lemmas.List.{get_or_past}
@@ -25,7 +25,7 @@ use Rattle.kt_core.specs.State.{State, Part, Nobody, IsWorker, IsStore, Store, a
 use Rattle.kt_core.specs.Desk.{empty_desk}
 use Rattle.kt_core.specs.Legal.{AreLegal}
 use Rattle.kt_core.specs.Effect.{changed, applied, step_result}
-use Rattle.kt_core.specs.Asks.{setting_of}
+use Rattle.kt_core.specs.Asks.{script_numbered, setting_of}
 use Rattle.kt_core.specs.ShardLine.{shard_of_acts, new_shard}
 use Rattle.kt_core.specs.Headline.{IsNothingLost, bag_of, all_bags, Headline}
 use Rattle.kt_core.specs.Reached.{or_as_it_was, next_state, after}
@@ -36,7 +36,11 @@ use Rattle.kt_core.proofs.Rows.{at-put_same, at-put_other, length-put}
 use Rattle.kt_core.proofs.Shares.{shares, shares-whole, flat_map-like, range_within}
 use Rattle.kt_core.proofs.Survive.{surviving_tuples, survivors_run, survivors_order, survivors_bags}
 use Rattle.kt_core.proofs.WellFormed.{causes_come_first, IsWellFormed-empty, HasNoCut, HasNoCut-empty, HasNoCut-act, stands_without_cut}
-use Rattle.kt_core.proofs.Sound.{IsPartLike, IsStoreLike, IsSound}
+use Rattle.kt_script.specs.declared.command.Command.{Command}
+use Rattle.kt_worker.specs.Standing.{opening_standing}
+use Rattle.kt_worker.proofs.Requests.{opening-after}
+use Rattle.kt_core.specs.WorkerLine.{new_worker}
+use Rattle.kt_core.proofs.Sound.{IsPartLike, IsWorkerLike, IsStoreLike, IsSound}
 use Rattle.kt_core.proofs.StepSound.{HasBounds, step_result-ok, planned-some, step-sound}
 
 -- each shard has a state
@@ -67,7 +71,7 @@ bags-held s sound b staff all =
     one r from below =
         let there : node s (ids.Shard r) ≡ IsStore (staff.store r from below) = staff.is r from below in
         let like : IsStoreLike (shard_of_acts new_shard (acts_in_line s.history (ids.Shard r))) (staff.store r from below) =
-        subst (IsPartLike (ids.Shard r) (acts_in_line s.history (ids.Shard r))) there (sound.like (ids.Shard r)) in
+        subst (IsPartLike s.scripts (ids.Shard r) (acts_in_line s.history (ids.Shard r))) there (sound.like (ids.Shard r)) in
         let share = survivors_bags (setting_of s.shards s.scripts) s.history causes sound.legal (marked-nothing_lost s.history causes all) r in
         subst (λ l. IsPermutation l (bag_of (node s (ids.Shard r)))) (sym share) (subst (λ part. IsPermutation (shard_of_acts new_shard (acts_in_line s.history (ids.Shard r))).bag (bag_of part)) (sym there) like.bag)
 
@@ -88,8 +92,7 @@ headline s sound b staff =
 changed-store : (y : Store) (change : Change) → (after : Store) × (changed (IsStore y) change ≡ IsStore after)
 changed-store y (changes.Wait worker request) = (_, refl)
 changed-store y (changes.Serve worker bag kept) = (_, refl)
-changed-store y (changes.Ask op) = (y, refl)
-changed-store y changes.Accept = (y, refl)
+changed-store y (changes.Work becomes) = (y, refl)
 changed-store y changes.Stay = (y, refl)
 
 applied-shards : (s : State) (step : Step) (plan : Plan) → HasShards s → HasShards (applied s step plan)
@@ -153,27 +156,28 @@ nothing_lost s k n act = (act.0.node, stands_without_cut s.history k.no_cut n ac
 -- ---- how it begins
 
 -- a part that no act has changed: a worker that asked nothing, a shard with no tuples and empty desks
-abbrev pub IsNewPart : NodeId → Part → Type 0
-IsNewPart p Nobody = Unit {0}
-IsNewPart (ids.Worker w) (IsWorker x) = (x.number ≡ 0) × (x.asked ≡ None)
-IsNewPart (ids.Worker w) (IsStore y) = ⊥
-IsNewPart (ids.Shard r) (IsWorker x) = ⊥
-IsNewPart (ids.Shard r) (IsStore y) = (y.bag ≡ []) × ((w : ℕ) → at empty_desk y.desks w ≡ empty_desk)
+abbrev pub IsNewPart : List (List Command) → NodeId → Part → Type 0
+IsNewPart scripts p Nobody = Unit {0}
+IsNewPart scripts (ids.Worker w) (IsWorker x) = opening_standing (script_numbered scripts w) ≡ x
+IsNewPart scripts (ids.Worker w) (IsStore y) = ⊥
+IsNewPart scripts (ids.Shard r) (IsWorker x) = ⊥
+IsNewPart scripts (ids.Shard r) (IsStore y) = (y.bag ≡ []) × ((w : ℕ) → at empty_desk y.desks w ≡ empty_desk)
 
-new-like : (p : NodeId) (part : Part) → IsNewPart p part → IsPartLike p [] part
-new-like p Nobody new = tt
-new-like (ids.Worker w) (IsWorker x) new = record { asked = new.1; number = new.0 }
-new-like (ids.Worker w) (IsStore y) new = new
-new-like (ids.Shard r) (IsWorker x) new = new
-new-like (ids.Shard r) (IsStore y) new = record { bag = subst (IsPermutation []) (sym new.0) (IsPermutation-refl []); desks = new.1 }
+new-like : (scripts : List (List Command)) (p : NodeId) (part : Part) → IsNewPart scripts p part → IsPartLike scripts p [] part
+new-like scripts p Nobody new = tt
+new-like scripts (ids.Worker w) (IsWorker x) new =
+    subst (IsWorkerLike (script_numbered scripts w) new_worker) new (record { asked = refl; after = opening-after (script_numbered scripts w) })
+new-like scripts (ids.Worker w) (IsStore y) new = new
+new-like scripts (ids.Shard r) (IsWorker x) new = new
+new-like scripts (ids.Shard r) (IsStore y) new = record { bag = subst (IsPermutation []) (sym new.0) (IsPermutation-refl []); desks = new.1 }
 
 -- a state with no notes, no messages and new parts
-pub new-kept : (s : State) → s.history ≡ [] → ((k : ℕ) → at [] s.links k ≡ []) → ((p : NodeId) → IsNewPart p (node s p)) → HasBounds s → HasShards s → HasGrounds s
+pub new-kept : (s : State) → s.history ≡ [] → ((k : ℕ) → at [] s.links k ≡ []) → ((p : NodeId) → IsNewPart s.scripts p (node s p)) → HasBounds s → HasShards s → HasGrounds s
 new-kept s no_notes no_messages parts b staff = record {
   sound = record {
     legal = subst (AreLegal (setting_of s.shards s.scripts)) (sym no_notes) (AreLegal-empty (setting_of s.shards s.scripts));
     well_formed = subst IsWellFormed (sym no_notes) IsWellFormed-empty;
-    like = λ p. subst (λ l. IsPartLike p l (node s p)) (sym (ap (λ h. acts_in_line h p) no_notes ∙ acts_in_line-empty p)) (new-like p (node s p) (parts p));
+    like = λ p. subst (λ l. IsPartLike s.scripts p l (node s p)) (sym (ap (λ h. acts_in_line h p) no_notes ∙ acts_in_line-empty p)) (new-like s.scripts p (node s p) (parts p));
     carries = λ p q m row c. absurd (Contains-none m (subst (λ l. Contains l m) (no_messages (link_index p q)) c));
   };
   bounds = b;

@@ -1,9 +1,10 @@
 -- A world that was opened, and each that a step leads to, is ready and was reached by steps.
-use Rattle.std.proofs.Common.{◌≡◌, ℕ, zero, suc, ◌+◌, Bool, true, false, cond, List, [], ◌∷◌, ◌++◌, length, Result, Ok, Err, refl, sym, ap, subst, ◌∙◌, arith, length-append}
+use Rattle.std.proofs.Common.{◌≡◌, ℕ, zero, suc, ◌+◌, Bool, true, false, cond, List, [], ◌∷◌, ◌++◌, length, Option, None, Some, Result, Ok, Err, refl, sym, ap, subst, ◌∙◌, arith, length-append}
 use Rattle.std.specs.Prelude.{Contains, OnOk, OnErr, replicate}
 use Rattle.std.specs.List.{AllByRecursion}
 use Rattle.kt_history.proofs.Lists.{Contains-none}
 use Rattle.kt_history.proofs.Pasts.{CausesComeFirst-empty}
+use Rattle.kt_script.specs.declared.command.Command.{Command}
 use Rattle.kt_core.specs.declared.node.Message.{Message}
 use Rattle.kt_core.specs.declared.plan.Plan.{Plan}
 use Rattle.kt_core.specs.declared.step.Step.{Step}
@@ -13,8 +14,9 @@ use Rattle.kt_core.specs.Desk.{empty_desk}
 use Rattle.kt_core.specs.Cast.{Cast, IsCast}
 use Rattle.kt_core.specs.State.{State, Part, Nobody, at}
 use Rattle.kt_core.specs.Effect.{planned, applied, applied_if_planned, step_result}
-use Rattle.kt_core.specs.Ready.{HasDesks, HasAskedFew, IsReady}
-use Rattle.kt_core.specs.Reached.{is_among, new_worker, new_store, opening_worker, opening_store, opening_rows, opening, next_state, or_as_it_was, after, IsKept}
+use Rattle.kt_core.specs.Ready.{HasDesks, IsReady}
+use Rattle.kt_core.specs.Asks.{script_at}
+use Rattle.kt_core.specs.Reached.{is_among, new_worker, worker_if, new_store, opening_worker, opening_store, opening_rows, opening, next_state, or_as_it_was, after, IsKept}
 use Rattle.kt_core.proofs.PlanCases.{PlanOf, planned-cases}
 use Rattle.kt_core.proofs.StaysReady.{stays_ready}
 
@@ -33,21 +35,25 @@ chosen : (P : Part → Type 0) (b : Bool) (x : Part) → P x → P Nobody → P 
 chosen P true x h n = h
 chosen P false x h n = n
 
-rows-hold : (P : Part → Type 0) → P Nobody → P new_worker → P new_store → (workers shards n : ℕ) → AllByRecursion P (opening_rows workers shards n)
+rows-hold : (P : Part → Type 0) → P Nobody → ((script : List Command) → P (new_worker script)) → P new_store → (scripts : List (List Command)) (shards n : ℕ) → AllByRecursion P (opening_rows scripts shards n)
 unfolding opening_rows
-rows-hold P none w s workers shards zero = tt
-rows-hold P none w s workers shards (suc n) =
-    all-rows P (opening_rows workers shards n) _ _ (rows-hold P none w s workers shards n) (chosen P (is_among workers n) new_worker w none) (chosen P (is_among shards n) new_store s none)
+rows-hold P none w s scripts shards zero = tt
+rows-hold P none w s scripts shards (suc n) =
+    all-rows P (opening_rows scripts shards n) _ _ (rows-hold P none w s scripts shards n) (worker_holds (script_at scripts n)) (chosen P (is_among shards n) new_store s none)
+  where
+    worker_holds : (o : Option (List Command)) → P (worker_if o)
+    worker_holds None = none
+    worker_holds (Some script) = w script
 
 -- what holds of each row of a new world
-pub opening_row : (P : Part → Type 0) → P Nobody → P new_worker → P new_store → (workers shards n k : ℕ) → P (at Nobody (opening_rows workers shards n) k)
-opening_row P none w s workers shards n k = at-all P Nobody (opening_rows workers shards n) none (rows-hold P none w s workers shards n) k
+pub opening_row : (P : Part → Type 0) → P Nobody → ((script : List Command) → P (new_worker script)) → P new_store → (scripts : List (List Command)) (shards n k : ℕ) → P (at Nobody (opening_rows scripts shards n) k)
+opening_row P none w s scripts shards n k = at-all P Nobody (opening_rows scripts shards n) none (rows-hold P none w s scripts shards n) k
 
-length-rows : (workers shards n : ℕ) → length (opening_rows workers shards n) ≡ n + n
+length-rows : (scripts : List (List Command)) (shards n : ℕ) → length (opening_rows scripts shards n) ≡ n + n
 unfolding opening_rows
-length-rows workers shards zero = refl
-length-rows workers shards (suc n) =
-    length-append (opening_rows workers shards n) (opening_worker workers n ∷ opening_store shards n ∷ []) ∙ (let h = length-rows workers shards n in omega (arith, h))
+length-rows scripts shards zero = refl
+length-rows scripts shards (suc n) =
+    length-append (opening_rows scripts shards n) (opening_worker scripts n ∷ opening_store shards n ∷ []) ∙ (let h = length-rows scripts shards n in omega (arith, h))
 
 at-replicate : {A : Type 0} (d : A) (n k : ℕ) → at d (replicate n d) k ≡ d
 at-replicate d zero k = refl
@@ -66,11 +72,10 @@ ready_opening : (cast : Cast) → IsCast cast → IsReady (opening cast)
 ready_opening cast is = record {
   some_shards = is.some_shards;
   few_shards = is.few_shards;
-  rows = length-rows (length cast.scripts) cast.shards 9;
+  rows = length-rows cast.scripts cast.shards 9;
   links = length-replicate {A = List Message} 324 [];
   counts = length-replicate {A = ℕ} 18 0;
-  desks = opening_row HasDesks tt tt (length-replicate {A = Desk} 9 empty_desk) (length cast.scripts) cast.shards 9;
-  requests = opening_row (HasAskedFew 0) tt (omega arith) tt (length cast.scripts) cast.shards 9;
+  desks = opening_row HasDesks tt (λ _. tt) (length-replicate {A = Desk} 9 empty_desk) cast.scripts cast.shards 9;
   few_steps = omega arith;
   few_own = λ k. let h = at-replicate {A = ℕ} 0 18 k in omega (arith, h);
   few_notes = omega arith;

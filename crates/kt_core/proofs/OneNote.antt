@@ -13,7 +13,7 @@ use Rattle.kt_core.proofs.PlanCases.{PlanOf, issues, hears, answers_again, ignor
 use Rattle.kt_core.proofs.Keeping.{step-plan}
 
 own_note : (s : State) (step : Step) (plan : Plan) → PlanOf s step plan → plan.note.node ≡ owner step
-own_note s (Issue p) plan (issues at_p free next few) = refl
+own_note s (Issue p) plan (issues at_p next few) = refl
 own_note s (Deliver p q) plan (hears at_p at_q on new few) = refl
 own_note s (Deliver p q) plan (answers_again at_p at_q on old kept few) = refl
 own_note s (Deliver p q) plan (ignores_request at_p at_q on old none few) = refl

@@ -1,13 +1,13 @@
 -- The ways in which a step can be allowed, each with its conditions and its plan.
-use Rattle.std.proofs.Common.{◌≡◌, ℕ, ◌+◌, ◌<◌, ◌≤◌, Bool, true, false, cond, List, [], ◌∷◌, Option, Some, None, Ok, Err, refl, subst, ltb}
-use Rattle.std.specs.Prelude.{slice_get}
+use Rattle.std.proofs.Common.{◌≡◌, ℕ, ◌<◌, ◌≤◌, Bool, true, false, cond, List, [], ◌∷◌, Option, Some, None, Ok, Err, refl, subst, ltb}
 use Rattle.std.proofs.lemmas.Bool.{ltb-true, ltb-false}
 use Rattle.kt_tuple.specs.declared.node.NodeId.{NodeId}
 use Rattle.kt_tuple.specs.declared.op.Op.{Op}
 use Rattle.kt_tuple.specs.declared.op.Answer.{Answer}
+use Rattle.kt_worker.specs.declared.worker.Worker.{Worker}
+use Rattle.kt_worker.specs.Standing.{next_request, issued, awaits, heard}
 use Rattle.kt_core.specs.declared.node.Request.{Request}
 use Rattle.kt_core.specs.declared.node.Desk.{Desk}
-use Rattle.kt_core.specs.declared.node.Worker.{Worker}
 use Rattle.kt_core.specs.declared.node.Message.{Message}
 use Rattle.kt_core.specs.declared.node.Message.TheVariants.{Ask, Reply}
 use Rattle.kt_core.specs.declared.choice.Choice.{Choice}
@@ -16,18 +16,18 @@ use Rattle.kt_core.specs.declared.step.Step.{Step}
 use Rattle.kt_core.specs.declared.step.Step.TheVariants.{Issue, Deliver, Serve}
 use Rattle.kt_core.specs.declared.step.StepError.TheVariants as refusals
 use Rattle.kt_core.specs.State.{State, Part, Nobody, IsWorker, IsStore, Store, at, node, link, node_number, worker_of}
-use Rattle.kt_core.specs.Desk.{empty_desk, newest, kept_answer, awaits}
+use Rattle.kt_core.specs.Desk.{empty_desk, newest, kept_answer}
 use Rattle.kt_core.specs.Choice.{choice_of, answer_of, bag_change_of}
 use Rattle.kt_core.specs.Plan.{issue_plan, heard_plan, again_plan, ignored_plan, accepted_plan, service_plan, request_plan, old_request_plan, reply_plan}
-use Rattle.kt_core.specs.Effect.{limited, next_note, script_of, home, next_op, op_after, issue_op, issue_of, delivery_to_store, delivery_to_worker, delivery_of, cause_of_waiting, service_choice, service_at, service_of, planned}
+use Rattle.kt_core.specs.Effect.{limited, next_note, script_of, home, issue_request, issue_of, delivery_to_store, delivery_to_worker, delivery_of, cause_of_waiting, service_choice, service_at, service_of, planned}
 
 -- what the shard has for the worker
 abbrev pub desk_of : Store → NodeId → Desk
 desk_of y w = at empty_desk y.desks (node_number w)
 
 pub data PlanOf (s : State) : Step → Plan → Type 0 where
-  issues : {p : NodeId} {x : Worker} {op : Op} → node s p ≡ IsWorker x → x.asked ≡ None → slice_get (script_of s.scripts p) x.number ≡ Some op → s.made < 100000
-      → PlanOf s (Issue p) (issue_plan p (node_number p) (record { number = x.number + 1; op = op }) (home s.shards op) (next_note s))
+  issues : {p : NodeId} {x : Worker} {r : ℕ × Op} → node s p ≡ IsWorker x → next_request (script_of s p) x ≡ Some r → s.made < 100000
+      → PlanOf s (Issue p) (issue_plan p (node_number p) (record { number = r.0; op = r.1 }) (home s.shards r.1) (next_note s) (issued (script_of s p) x))
   hears : {p q : NodeId} {x : Worker} {y : Store} {request : Request} {by : ℕ} {later : List Message}
       → node s p ≡ IsWorker x → node s q ≡ IsStore y → link s p q ≡ Ask request by ∷ later → newest (desk_of y p) < request.number → s.made < 100000
       → PlanOf s (Deliver p q) (heard_plan q (node_number p) request by)
@@ -41,10 +41,10 @@ pub data PlanOf (s : State) : Step → Plan → Type 0 where
       → node s p ≡ IsWorker x → node s q ≡ IsStore y → link s p q ≡ Reply request answer by ∷ later → s.made < 100000
       → PlanOf s (Deliver p q) (ignored_plan q (node_number p) request by (Some answer))
   accepts : {p q : NodeId} {x : Worker} {y : Store} {request : Request} {answer : Answer} {by : ℕ} {later : List Message}
-      → node s p ≡ IsStore y → node s q ≡ IsWorker x → link s p q ≡ Reply request answer by ∷ later → awaits x request ≡ true → s.made < 100000
-      → PlanOf s (Deliver p q) (accepted_plan q (node_number q) request answer by)
+      → node s p ≡ IsStore y → node s q ≡ IsWorker x → link s p q ≡ Reply request answer by ∷ later → awaits x request.number request.op ≡ true → s.made < 100000
+      → PlanOf s (Deliver p q) (accepted_plan q (node_number q) request answer by (heard (script_of s q) x answer))
   ignores_reply : {p q : NodeId} {x : Worker} {y : Store} {request : Request} {answer : Answer} {by : ℕ} {later : List Message}
-      → node s p ≡ IsStore y → node s q ≡ IsWorker x → link s p q ≡ Reply request answer by ∷ later → awaits x request ≡ false → s.made < 100000
+      → node s p ≡ IsStore y → node s q ≡ IsWorker x → link s p q ≡ Reply request answer by ∷ later → awaits x request.number request.op ≡ false → s.made < 100000
       → PlanOf s (Deliver p q) (ignored_plan q (node_number q) request by (Some answer))
   misses_request : {p q : NodeId} {x : Worker} {y : Store} {request : Request} {by : ℕ} {later : List Message}
       → node s p ≡ IsStore y → node s q ≡ IsWorker x → link s p q ≡ Ask request by ∷ later → s.made < 100000
@@ -61,22 +61,18 @@ within false plan made e = absurd cc
 limited-cases : (s : State) (plan made : Plan) → limited s plan ≡ Ok made → (s.made < 100000) × (plan ≡ made)
 limited-cases s plan made e = let w = within (ltb s.made 100000) plan made e in (ltb-true s.made 100000 w.0, w.1)
 
-issue_op-cases : (s : State) (p : NodeId) (x : Worker) (o : Option Op) (plan : Plan) → node s p ≡ IsWorker x → next_op x (script_of s.scripts p) ≡ o → issue_op s p x o ≡ Ok plan → PlanOf s (Issue p) plan
-issue_op-cases s p x None plan at_p next e = absurd cc
-issue_op-cases s p x (Some op) plan at_p next e =
+issue_request-cases : (s : State) (p : NodeId) (x : Worker) (o : Option (ℕ × Op)) (plan : Plan) → node s p ≡ IsWorker x → next_request (script_of s p) x ≡ o →
+    issue_request s p (issued (script_of s p) x) o ≡ Ok plan → PlanOf s (Issue p) plan
+issue_request-cases s p x None plan at_p next e = absurd cc
+issue_request-cases s p x (Some r) plan at_p next e =
     let l = limited-cases s _ plan e in
-    let free = asked-none x.asked x.number (script_of s.scripts p) op next in
     let P : Plan → Type 0 = λ made. PlanOf s (Issue p) made in
-    subst P l.1 (issues at_p free.0 free.1 l.0)
-  where
-    asked-none : (asked : Option Op) (n : ℕ) (script : List Op) (op : Op) → op_after asked n script ≡ Some op → (asked ≡ None) × (slice_get script n ≡ Some op)
-    asked-none None n script op e = (refl, e)
-    asked-none (Some o) n script op e = absurd cc
+    subst P l.1 (issues at_p next l.0)
 
 issue_of-cases : (s : State) (p : NodeId) (part : Part) (plan : Plan) → node s p ≡ part → issue_of s p (worker_of part) ≡ Ok plan → PlanOf s (Issue p) plan
 issue_of-cases s p Nobody plan at_p e = absurd cc
 issue_of-cases s p (IsStore y) plan at_p e = absurd cc
-issue_of-cases s p (IsWorker x) plan at_p e = issue_op-cases s p x (next_op x (script_of s.scripts p)) plan at_p refl e
+issue_of-cases s p (IsWorker x) plan at_p e = issue_request-cases s p x (next_request (script_of s p) x) plan at_p refl e
 
 request-cases : (s : State) (p q : NodeId) (x : Worker) (y : Store) (request : Request) (by : ℕ) (later : List Message)
     → node s p ≡ IsWorker x → node s q ≡ IsStore y → link s p q ≡ Ask request by ∷ later → s.made < 100000
@@ -94,11 +90,11 @@ request-cases s p q x y request by later at_p at_q on_link few = decide (ltb (ne
 
 reply-cases : (s : State) (p q : NodeId) (x : Worker) (y : Store) (request : Request) (answer : Answer) (by : ℕ) (later : List Message)
     → node s p ≡ IsStore y → node s q ≡ IsWorker x → link s p q ≡ Reply request answer by ∷ later → s.made < 100000
-    → PlanOf s (Deliver p q) (reply_plan q x (node_number q) request answer by)
-reply-cases s p q x y request answer by later at_p at_q on_link few = decide (awaits x request) refl
+    → PlanOf s (Deliver p q) (reply_plan q (script_of s q) x (node_number q) request answer by)
+reply-cases s p q x y request answer by later at_p at_q on_link few = decide (awaits x request.number request.op) refl
   where
-    decide : (b : Bool) → awaits x request ≡ b
-        → PlanOf s (Deliver p q) (cond b (accepted_plan q (node_number q) request answer by) (ignored_plan q (node_number q) request by (Some answer)))
+    decide : (b : Bool) → awaits x request.number request.op ≡ b
+        → PlanOf s (Deliver p q) (cond b (accepted_plan q (node_number q) request answer by (heard (script_of s q) x answer)) (ignored_plan q (node_number q) request by (Some answer)))
     decide true e = accepts at_p at_q on_link e few
     decide false e = ignores_reply at_p at_q on_link e few
 

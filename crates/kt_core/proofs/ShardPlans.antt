@@ -23,7 +23,8 @@ use Rattle.kt_core.specs.Desk.{empty_desk, newest, same_request, answer_if_kept,
 use Rattle.kt_core.specs.Choice.{choice_of, answer_of, bag_change_of}
 use Rattle.kt_core.specs.Plan.{act_of, heard_plan, again_plan, ignored_plan, old_request_plan, request_plan, service_plan}
 use Rattle.kt_core.specs.Effect.{bag_after, cause_of_waiting, waiting_store, served_store}
-use Rattle.kt_core.specs.Order.{Setting}
+use Rattle.kt_core.specs.Cast.{Cast}
+use Rattle.kt_core.specs.Asks.{setting_of}
 use Rattle.kt_core.specs.Legal.{AreLegal}
 use Rattle.kt_core.specs.ShardLine.{MadeShard, Hears, AnswersAgain, Ignores, shard_after, shard_of_acts, new_shard, put_row}
 use Rattle.kt_core.proofs.Rows.{at-put_same, at-put_other}
@@ -97,14 +98,14 @@ heard_request shards h w s request by a m cause worker number op = record {
   same = record { worker = m.worker ∙ sym worker; number = m.number ∙ sym number; op = m.op ∙ sym op };
 }
 
-heard_keeps : (setting : Setting) (h : List Note) (w s : ℕ) (y : Store) (request : Request) (by : ℕ) → IsStoreLike (made_of h s) y → IsAskOf setting.shards h w s request by →
-    newest (at empty_desk y.desks w) < request.number → Keeps setting h (ids.Shard s) (IsStore y) (heard_plan (ids.Shard s) w request by)
-heard_keeps setting h w s y request by like m new =
+heard_keeps : (cast : Cast) (h : List Note) (w s : ℕ) (y : Store) (request : Request) (by : ℕ) → IsStoreLike (made_of h s) y → IsAskOf cast.shards h w s request by →
+    newest (at empty_desk y.desks w) < request.number → Keeps cast h (ids.Shard s) (IsStore y) (heard_plan (ids.Shard s) w request by)
+heard_keeps cast h w s y request by like m new =
     let made : MadeShard = made_of h s in
     let a : Act = act_of (ids.Shard s) by w request whats.Heard in record {
       own = refl;
       may = (m.home, subst (Hears request.number) (like.desks w) new);
-      fits = heard_request setting.shards h w s request by a m refl refl refl refl;
+      fits = heard_request cast.shards h w s request by a m refl refl refl refl;
       like = like-push (acts_in_line h (ids.Shard s)) a (waiting_store y w request) (record {
         bag = like.bag;
         desks = desks_like y.desks made.desk w (record { waiting = Some request; kept = (at empty_desk y.desks w).kept }) (record { waiting = Some request; kept = (made.desk w).kept }) like.desks (ap (λ (d : Desk). record { waiting = Some request; kept = d.kept }) (like.desks w));
@@ -125,50 +126,50 @@ was_served h w s request answer a again node worker number op =
       same = record { worker = kept.worker ∙ sym worker; number = ap (λ (r : Request). r.number) kept.about ∙ sym number; op = ap (λ (r : Request). r.op) kept.about ∙ sym op };
     }
 
-again_keeps : (setting : Setting) (h : List Note) (w s : ℕ) (y : Store) (request : Request) (answer : Answer) (by : ℕ) → IsStoreLike (made_of h s) y → IsAskOf setting.shards h w s request by → node_index (ids.Worker w) < rows →
-    AnswersAgain request answer (at empty_desk y.desks w) → Keeps setting h (ids.Shard s) (IsStore y) (again_plan (ids.Shard s) w request by answer (length h + 1))
-again_keeps setting h w s y request answer by like m row again =
+again_keeps : (cast : Cast) (h : List Note) (w s : ℕ) (y : Store) (request : Request) (answer : Answer) (by : ℕ) → IsStoreLike (made_of h s) y → IsAskOf cast.shards h w s request by → node_index (ids.Worker w) < rows →
+    AnswersAgain request answer (at empty_desk y.desks w) → Keeps cast h (ids.Shard s) (IsStore y) (again_plan (ids.Shard s) w request by answer (length h + 1))
+again_keeps cast h w s y request answer by like m row again =
     let made : MadeShard = made_of h s in
     let known : AnswersAgain request answer (made.desk w) = subst (AnswersAgain request answer) (like.desks w) again in
     let a : Act = act_of (ids.Shard s) by w request (whats.Again answer) in record {
       own = refl;
       may = (m.home, known);
-      fits = (heard_request setting.shards h w s request by a m refl refl refl refl, was_served h w s request answer a known refl refl refl refl);
+      fits = (heard_request cast.shards h w s request by a m refl refl refl refl, was_served h w s request answer a known refl refl refl refl);
       like = like-push (acts_in_line h (ids.Shard s)) a y (record { bag = like.bag; desks = desks_stay y.desks made.desk w like.desks });
       sends = (record { act = a; is_act = note_at-next h (notes.Act a); own = refl; answering = refl; worker = refl; number = refl; op = refl }, row);
     }
 
-ignored_keeps : (setting : Setting) (h : List Note) (w s : ℕ) (y : Store) (request : Request) (by : ℕ) → IsStoreLike (made_of h s) y → IsAskOf setting.shards h w s request by →
-    Ignores request (at empty_desk y.desks w) → Keeps setting h (ids.Shard s) (IsStore y) (ignored_plan (ids.Shard s) w request by None)
-ignored_keeps setting h w s y request by like m ignores =
+ignored_keeps : (cast : Cast) (h : List Note) (w s : ℕ) (y : Store) (request : Request) (by : ℕ) → IsStoreLike (made_of h s) y → IsAskOf cast.shards h w s request by →
+    Ignores request (at empty_desk y.desks w) → Keeps cast h (ids.Shard s) (IsStore y) (ignored_plan (ids.Shard s) w request by None)
+ignored_keeps cast h w s y request by like m ignores =
     let made : MadeShard = made_of h s in
     let a : Act = act_of (ids.Shard s) by w request (whats.Ignored None) in record {
       own = refl;
       may = (m.home, subst (Ignores request) (like.desks w) ignores);
-      fits = heard_request setting.shards h w s request by a m refl refl refl refl;
+      fits = heard_request cast.shards h w s request by a m refl refl refl refl;
       like = like-push (acts_in_line h (ids.Shard s)) a y (record { bag = like.bag; desks = desks_stay y.desks made.desk w like.desks });
       sends = tt;
     }
 
-pub request_keeps : (setting : Setting) (h : List Note) (w s : ℕ) (y : Store) (request : Request) (by : ℕ) → IsStoreLike (made_of h s) y → IsAskOf setting.shards h w s request by → node_index (ids.Worker w) < rows →
-    Keeps setting h (ids.Shard s) (IsStore y) (request_plan (ids.Shard s) (at empty_desk y.desks w) w request by (length h + 1))
-request_keeps setting h w s y request by like m row = hears (nat_lt (newest d) request.number) refl
+pub request_keeps : (cast : Cast) (h : List Note) (w s : ℕ) (y : Store) (request : Request) (by : ℕ) → IsStoreLike (made_of h s) y → IsAskOf cast.shards h w s request by → node_index (ids.Worker w) < rows →
+    Keeps cast h (ids.Shard s) (IsStore y) (request_plan (ids.Shard s) (at empty_desk y.desks w) w request by (length h + 1))
+request_keeps cast h w s y request by like m row = hears (nat_lt (newest d) request.number) refl
   where
     d : Desk
     d = at empty_desk y.desks w
 
-    old : (o : Option Answer) → kept_answer d request ≡ o → request.number ≤ newest d → Keeps setting h (ids.Shard s) (IsStore y) (old_request_plan (ids.Shard s) w request by (length h + 1) o)
-    old None e seen = ignored_keeps setting h w s y request by like m (seen, kept_answer-none d request e)
-    old (Some answer) e seen = again_keeps setting h w s y request answer by like m row (kept_answer-is d request answer e)
+    old : (o : Option Answer) → kept_answer d request ≡ o → request.number ≤ newest d → Keeps cast h (ids.Shard s) (IsStore y) (old_request_plan (ids.Shard s) w request by (length h + 1) o)
+    old None e seen = ignored_keeps cast h w s y request by like m (seen, kept_answer-none d request e)
+    old (Some answer) e seen = again_keeps cast h w s y request answer by like m row (kept_answer-is d request answer e)
 
     hears : (r : Bool) → nat_lt (newest d) request.number ≡ r →
-        Keeps setting h (ids.Shard s) (IsStore y) (if r then heard_plan (ids.Shard s) w request by else old_request_plan (ids.Shard s) w request by (length h + 1) (kept_answer d request))
-    hears true e = heard_keeps setting h w s y request by like m (ltb-true (newest d) request.number e)
+        Keeps cast h (ids.Shard s) (IsStore y) (if r then heard_plan (ids.Shard s) w request by else old_request_plan (ids.Shard s) w request by (length h + 1) (kept_answer d request))
+    hears true e = heard_keeps cast h w s y request by like m (ltb-true (newest d) request.number e)
     hears false e = old (kept_answer d request) refl (ltb-false (newest d) request.number e)
 
 -- what waits at a shard was asked for, by the act that its last hearing names
-waiting_request : (setting : Setting) (h : List Note) (w s : ℕ) (request : Request) (a : Act) → IsWellFormed h → ((made_of h s).desk w).waiting ≡ Some request → a.by ≡ (made_of h s).cause w → a.worker ≡ w → a.number ≡ request.number → a.op ≡ request.op → HeardRequest h a
-waiting_request setting h w s request a wf waits cause worker number op =
+waiting_request : (cast : Cast) (h : List Note) (w s : ℕ) (request : Request) (a : Act) → IsWellFormed h → ((made_of h s).desk w).waiting ≡ Some request → a.by ≡ (made_of h s).cause w → a.worker ≡ w → a.number ≡ request.number → a.op ≡ request.op → HeardRequest h a
+waiting_request cast h w s request a wf waits cause worker number op =
     let heard : WasHeard (acts_in_line h (ids.Shard s)) w request ((made_of h s).cause w) = waits_heard (acts_in_line h (ids.Shard s)) w request waits in
     let n = Contains-acts_at h (line h (ids.Shard s)) heard.act heard.among in
     let fits : HeardRequest (before h n.0) heard.act = subst (ActFits (before h n.0) heard.act) heard.hears (wf.fits n.0 (notes.Act heard.act) n.2) in record {
@@ -183,15 +184,15 @@ waiting_request setting h w s request a wf waits cause worker number op =
     }
 
 -- and is at home there
-waiting_home : (setting : Setting) (h : List Note) (w s : ℕ) (request : Request) → AreLegal setting h → ((made_of h s).desk w).waiting ≡ Some request → shard_of setting.shards (kinds_of_op request.op) ≡ s
-waiting_home setting h w s request legal waits =
+waiting_home : (cast : Cast) (h : List Note) (w s : ℕ) (request : Request) → AreLegal (setting_of cast.shards cast.scripts) h → ((made_of h s).desk w).waiting ≡ Some request → shard_of cast.shards (kinds_of_op request.op) ≡ s
+waiting_home cast h w s request legal waits =
     let heard : WasHeard (acts_in_line h (ids.Shard s)) w request ((made_of h s).cause w) = waits_heard (acts_in_line h (ids.Shard s)) w request waits in
-    ap (λ (r : Request). shard_of setting.shards (kinds_of_op r.op)) (sym heard.about) ∙ ShardLine-home setting.shards s new_shard (acts_in_line h (ids.Shard s)) heard.act (legal (ids.Shard s)) heard.among
+    ap (λ (r : Request). shard_of cast.shards (kinds_of_op r.op)) (sym heard.about) ∙ ShardLine-home cast.shards s new_shard (acts_in_line h (ids.Shard s)) heard.act (legal (ids.Shard s)) heard.among
 
-pub service_keeps : (setting : Setting) (h : List Note) (w s : ℕ) (y : Store) (request : Request) (place : ℕ) (choice : Choice) → AreLegal setting h → IsWellFormed h → IsStoreLike (made_of h s) y → node_index (ids.Worker w) < rows →
+pub service_keeps : (cast : Cast) (h : List Note) (w s : ℕ) (y : Store) (request : Request) (place : ℕ) (choice : Choice) → AreLegal (setting_of cast.shards cast.scripts) h → IsWellFormed h → IsStoreLike (made_of h s) y → node_index (ids.Worker w) < rows →
     (at empty_desk y.desks w).waiting ≡ Some request → choice_of y.bag request.op place ≡ Some choice →
-    Keeps setting h (ids.Shard s) (IsStore y) (service_plan (ids.Shard s) w request (answer_of y.bag choice) (bag_change_of request.op choice) (cause_of_waiting h (ids.Shard s) w) (length h + 1))
-service_keeps setting h w s y request place choice legal wf like row waiting chosen =
+    Keeps cast h (ids.Shard s) (IsStore y) (service_plan (ids.Shard s) w request (answer_of y.bag choice) (bag_change_of request.op choice) (cause_of_waiting h (ids.Shard s) w) (length h + 1))
+service_keeps cast h w s y request place choice legal wf like row waiting chosen =
     let made : MadeShard = made_of h s in
     let answer : Answer = answer_of y.bag choice in
     let new : List Tuple = bag_after y.bag (bag_change_of request.op choice) in
@@ -200,8 +201,8 @@ service_keeps setting h w s y request place choice legal wf like row waiting cho
     let step = step_like made.bag y.bag request.op answer new like.bag (choice_step y.bag request.op place choice chosen) in
     let a : Act = act_of (ids.Shard s) (cause_of_waiting h (ids.Shard s) w) w request (whats.Served answer) in record {
       own = refl;
-      may = (waiting_home setting h w s request legal waits, (waits, cause, step.0));
-      fits = waiting_request setting h w s request a wf waits cause refl refl refl;
+      may = (waiting_home cast h w s request legal waits, (waits, cause, step.0));
+      fits = waiting_request cast h w s request a wf waits cause refl refl refl;
       like = like-push (acts_in_line h (ids.Shard s)) a (served_store y w (bag_change_of request.op choice) (record { request = request; answer = answer })) (record {
         bag = step.1;
         desks = desks_like y.desks made.desk w (record { waiting = None; kept = Some (record { request = request; answer = answer }) }) (record { waiting = None; kept = Some (record { request = request; answer = answer }) }) like.desks refl;

@@ -1,8 +1,7 @@
 -- Sound states: the history is legal and well-formed, each node is like what its line makes of it, and each message carries what its act says.
-use Rattle.std.proofs.Common.{◌≡◌, ℕ, suc, ◌+◌, ◌<◌, List, ◌∷◌, [], ◌++◌, length, Contains, Option, Some, None, IsPermutation, ap, ◌∙◌, add-one}
+use Rattle.std.proofs.Common.{◌≡◌, ℕ, ◌+◌, ◌<◌, List, ◌∷◌, [], ◌++◌, length, Contains, Option, Some, None, IsPermutation, ap, ◌∙◌, add-one}
 use Rattle.kt_tuple.specs.declared.node.NodeId.{NodeId}
 use Rattle.kt_tuple.specs.declared.node.NodeId.TheVariants as ids
-use Rattle.kt_tuple.specs.declared.op.Op.{Op}
 use Rattle.kt_tuple.specs.declared.op.Answer.{Answer}
 use Rattle.kt_tuple.specs.Node.{node_index}
 use Rattle.kt_tuple.specs.Signature.{kinds_of_op, shard_of}
@@ -13,30 +12,27 @@ use Rattle.kt_history.specs.Line.{note_at}
 use Rattle.kt_history.specs.Closed.{acts_in_line}
 use Rattle.kt_history.specs.WellFormed.{IsAsking, IsAnswering, Fits, IsWellFormed}
 use Rattle.kt_history.proofs.Lines.{note_at-old, note_at-new, note_at-within}
+use Rattle.kt_script.specs.declared.command.Command.{Command}
+use Rattle.kt_worker.specs.declared.worker.Worker.{Worker}
+use Rattle.kt_worker.specs.After.{IsAfter}
 use Rattle.kt_core.specs.declared.node.Request.{Request}
-use Rattle.kt_core.specs.declared.node.Worker.{Worker}
 use Rattle.kt_core.specs.declared.node.Message.{Message}
 use Rattle.kt_core.specs.declared.node.Message.TheVariants.{Ask, Reply}
 use Rattle.kt_core.specs.declared.plan.Plan.{Plan}
 use Rattle.kt_core.specs.State.{State, Part, Nobody, IsWorker, IsStore, Store, at, node, link}
 use Rattle.kt_core.specs.Desk.{empty_desk}
 use Rattle.kt_core.specs.Effect.{changed}
-use Rattle.kt_core.specs.Asks.{setting_of}
-use Rattle.kt_core.specs.Order.{Setting}
+use Rattle.kt_core.specs.Cast.{Cast}
+use Rattle.kt_core.specs.Asks.{script_numbered, setting_of}
 use Rattle.kt_core.specs.ShardLine.{MadeShard, shard_of_acts, new_shard}
 use Rattle.kt_core.specs.WorkerLine.{MadeWorker, worker_of_acts, new_worker}
 use Rattle.kt_core.specs.Legal.{AreLegal}
 use Rattle.kt_core.proofs.Growth.{MayMake}
 
--- the number of the last request, where so many are answered
-abbrev pub last_number : Option Op → ℕ → ℕ
-last_number None answered = answered
-last_number (Some op) answered = suc answered
-
--- a worker is like what its acts make of it
-pub record IsWorkerLike (made : MadeWorker) (x : Worker) : Type 0 where
+-- a worker of this script is like what its acts make of it
+pub record IsWorkerLike (script : List Command) (made : MadeWorker) (x : Worker) : Type 0 where
   pub asked : x.asked ≡ made.asked
-  pub number : x.number ≡ last_number made.asked (length made.answers)
+  pub after : IsAfter script made.answers x
 
 -- a shard is like what its acts make of it: the same tuples in some order, and the same desks
 pub record IsStoreLike (made : MadeShard) (y : Store) : Type 0 where
@@ -44,12 +40,12 @@ pub record IsStoreLike (made : MadeShard) (y : Store) : Type 0 where
   pub desks : (w : ℕ) → at empty_desk y.desks w ≡ made.desk w
 
 -- so is the node p, whose acts these are, if it has a state
-abbrev pub IsPartLike : NodeId → List Act → Part → Type 0
-IsPartLike p acts Nobody = Unit {0}
-IsPartLike (ids.Worker w) acts (IsWorker x) = IsWorkerLike (worker_of_acts new_worker acts) x
-IsPartLike (ids.Worker w) acts (IsStore y) = ⊥
-IsPartLike (ids.Shard s) acts (IsWorker x) = ⊥
-IsPartLike (ids.Shard s) acts (IsStore y) = IsStoreLike (shard_of_acts new_shard acts) y
+abbrev pub IsPartLike : List (List Command) → NodeId → List Act → Part → Type 0
+IsPartLike scripts p acts Nobody = Unit {0}
+IsPartLike scripts (ids.Worker w) acts (IsWorker x) = IsWorkerLike (script_numbered scripts w) (worker_of_acts new_worker acts) x
+IsPartLike scripts (ids.Worker w) acts (IsStore y) = ⊥
+IsPartLike scripts (ids.Shard s) acts (IsWorker x) = ⊥
+IsPartLike scripts (ids.Shard s) acts (IsStore y) = IsStoreLike (shard_of_acts new_shard acts) y
 
 -- by names an act of the worker w that asks for the request, and s is the home of the request's tuples
 pub record IsAskOf (shards : ℕ) (h : List Note) (w s : ℕ) (request : Request) (by : ℕ) : Type 0 where
@@ -88,7 +84,7 @@ rows = 18
 pub record IsSound (s : State) : Type 0 where
   pub legal : AreLegal (setting_of s.shards s.scripts) s.history
   pub well_formed : IsWellFormed s.history
-  pub like : (p : NodeId) → IsPartLike p (acts_in_line s.history p) (node s p)
+  pub like : (p : NodeId) → IsPartLike s.scripts p (acts_in_line s.history p) (node s p)
   pub carries : (p q : NodeId) (m : Message) → node_index q < rows → Contains (link s p q) m → Carries s.shards s.history p q m
 
 -- what is sent carries what the new history says, and goes to a node with a row
@@ -97,12 +93,12 @@ SendsWell shards h p None = Unit {0}
 SendsWell shards h p (Some message) = Carries shards h p message.0 message.1 × (node_index message.0 < rows)
 
 -- a plan of the node p that keeps a state sound: all of it speaks of p's own part, of the history and of what is sent
-pub record Keeps (setting : Setting) (h : List Note) (p : NodeId) (part : Part) (plan : Plan) : Type 0 where
+pub record Keeps (cast : Cast) (h : List Note) (p : NodeId) (part : Part) (plan : Plan) : Type 0 where
   pub own : plan.note.node ≡ p
-  pub may : MayMake setting p (acts_in_line h p) plan.note
+  pub may : MayMake (setting_of cast.shards cast.scripts) p (acts_in_line h p) plan.note
   pub fits : Fits h (notes.Act plan.note)
-  pub like : IsPartLike p (acts_in_line h p ++ plan.note ∷ []) (changed part plan.change)
-  pub sends : SendsWell setting.shards (h ++ notes.Act plan.note ∷ []) p plan.send
+  pub like : IsPartLike cast.scripts p (acts_in_line h p ++ plan.note ∷ []) (changed part plan.change)
+  pub sends : SendsWell cast.shards (h ++ notes.Act plan.note ∷ []) p plan.send
 
 -- what a message carries stays as the history grows
 IsAskOf-old : (shards : ℕ) (h g : List Note) (w s : ℕ) (request : Request) (by : ℕ) → IsAskOf shards h w s request by → IsAskOf shards (h ++ g) w s request by

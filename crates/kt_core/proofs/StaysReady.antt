@@ -22,7 +22,7 @@ use Rattle.kt_core.specs.Step.{owner}
 use Rattle.kt_core.specs.State.{State, Part, Nobody, IsWorker, IsStore, at, put, node, link_index}
 use Rattle.kt_core.specs.Desk.{empty_desk}
 use Rattle.kt_core.specs.Effect.{changed, sent, taken_off, applied, next_note}
-use Rattle.kt_core.specs.Ready.{HasDesks, HasAskedFew, NamesAct, IsReady, CanChange, HasLink}
+use Rattle.kt_core.specs.Ready.{HasDesks, NamesAct, IsReady, CanChange, HasLink}
 use Rattle.kt_core.proofs.Rows.{at-put_same, at-put_other, length-put}
 use Rattle.kt_core.proofs.PlanCases.{PlanOf, issues, hears, answers_again, ignores_request, misses_reply, accepts, ignores_reply, misses_request, serves}
 use Rattle.kt_core.proofs.CanApplies.{can_apply}
@@ -39,33 +39,13 @@ put-holds P d xs i y new old k = elim (cases_eq k i) [
 changed-desks : (part : Part) (change : Change) → HasDesks part → CanChange part change → HasDesks (changed part change)
 changed-desks (IsStore y) (changes.Wait worker request) h can = length-put empty_desk y.desks worker _ can ∙ h
 changed-desks (IsStore y) (changes.Serve worker bag kept) h can = length-put empty_desk y.desks worker _ can.0 ∙ h
-changed-desks (IsStore y) (changes.Ask op) h can = h
-changed-desks (IsStore y) changes.Accept h can = h
+changed-desks (IsStore y) (changes.Work becomes) h can = h
 changed-desks (IsStore y) changes.Stay h can = h
-changed-desks (IsWorker x) (changes.Ask op) h can = tt
-changed-desks (IsWorker x) changes.Accept h can = tt
+changed-desks (IsWorker x) (changes.Work becomes) h can = tt
 changed-desks (IsWorker x) (changes.Wait worker request) h can = tt
 changed-desks (IsWorker x) (changes.Serve worker bag kept) h can = tt
 changed-desks (IsWorker x) changes.Stay h can = tt
 changed-desks Nobody change h can = tt
-
-later-few : (n : ℕ) (part : Part) → HasAskedFew n part → HasAskedFew (n + 1) part
-later-few n Nobody h = tt
-later-few n (IsWorker x) h = omega (arith, h)
-later-few n (IsStore y) h = tt
-
-changed-few : (n : ℕ) (part : Part) (change : Change) → HasAskedFew n part → HasAskedFew (n + 1) (changed part change)
-changed-few n (IsWorker x) (changes.Ask op) h = omega (arith, h)
-changed-few n (IsWorker x) changes.Accept h = omega (arith, h)
-changed-few n (IsWorker x) (changes.Wait worker request) h = omega (arith, h)
-changed-few n (IsWorker x) (changes.Serve worker bag kept) h = omega (arith, h)
-changed-few n (IsWorker x) changes.Stay h = omega (arith, h)
-changed-few n (IsStore y) (changes.Wait worker request) h = tt
-changed-few n (IsStore y) (changes.Serve worker bag kept) h = tt
-changed-few n (IsStore y) (changes.Ask op) h = tt
-changed-few n (IsStore y) changes.Accept h = tt
-changed-few n (IsStore y) changes.Stay h = tt
-changed-few n Nobody change h = tt
 
 -- ---- links
 
@@ -151,7 +131,7 @@ abbrev SendsNext : State → Option (NodeId × Message) → Type 0
 SendsNext s send = IfSome send (λ m. cause_in m.1 ≡ next_note s)
 
 sends_next : (s : State) (step : Step) (plan : Plan) → PlanOf s step plan → SendsNext s plan.send
-sends_next s (Issue p) plan (issues at_p free next few) = refl
+sends_next s (Issue p) plan (issues at_p next few) = refl
 sends_next s (Deliver p q) plan (hears at_p at_q on new few) = tt
 sends_next s (Deliver p q) plan (answers_again at_p at_q on old kept few) = refl
 sends_next s (Deliver p q) plan (ignores_request at_p at_q on old none few) = tt
@@ -162,7 +142,7 @@ sends_next s (Deliver p q) plan (misses_request at_p at_q on few) = tt
 sends_next s (Serve p w place) plan (serves at_p at_w waits chosen few) = refl
 
 pub within_limit : (s : State) (step : Step) (plan : Plan) → PlanOf s step plan → s.made < 100000
-within_limit s (Issue p) plan (issues at_p free next few) = few
+within_limit s (Issue p) plan (issues at_p next few) = few
 within_limit s (Deliver p q) plan (hears at_p at_q on new few) = few
 within_limit s (Deliver p q) plan (answers_again at_p at_q on old kept few) = few
 within_limit s (Deliver p q) plan (ignores_request at_p at_q on old none few) = few
@@ -197,7 +177,6 @@ stays_ready s ready step plan of =
       links = length-taken_off (sent s.links p plan.send) step (has_room _ step sent_all can.link) ∙ sent_all;
       counts = length-put 0 s.own (node_index p) _ own_room ∙ ready.counts;
       desks = put-holds HasDesks Nobody s.nodes (node_index p) _ (changed-desks (node s p) plan.change (ready.desks (node_index p)) can.change) ready.desks;
-      requests = put-holds (HasAskedFew (s.made + 1)) Nobody s.nodes (node_index p) _ (changed-few s.made (node s p) plan.change (ready.requests (node_index p))) (λ k. later-few s.made (at Nobody s.nodes k) (ready.requests k));
       few_steps = omega (arith, few);
       few_own = put-holds (λ (n : ℕ). n ≤ s.made + 1) 0 s.own (node_index p) _ (let h = ready.few_own (node_index p) in omega (arith, h)) (λ k. let h = ready.few_own k in omega (arith, h));
       few_notes = let h = ready.few_notes in omega (arith, h, length-append s.history (notes.Act plan.note ∷ []));

@@ -1,5 +1,5 @@
 -- Each step keeps a sound state sound.
-use Rattle.std.proofs.Common.{if◌then◌else◌, ◌≡◌, ◌≢◌, ℕ, ◌+◌, ◌<◌, ◌≤◌, Bool, true, false, List, [], ◌∷◌, length, Contains, nat_lt, Option, Some, None, Result, Ok, Err, inl, inr, refl, sym, ap, ◌∙◌, subst, arith}
+use Rattle.std.proofs.Common.{if◌then◌else◌, ◌≡◌, ◌≢◌, ℕ, ◌<◌, ◌≤◌, Bool, true, false, List, [], ◌∷◌, length, Contains, nat_lt, Option, Some, None, Result, Ok, Err, inl, inr, refl, sym, ap, ◌∙◌, subst, arith}
 use Rattle.std.proofs.lemmas.Bool.{cases_lt}
 use Rattle.std.proofs.lemmas.List.{get_or_past}
 use Rattle.kt_tuple.specs.declared.node.NodeId.{NodeId}
@@ -8,8 +8,9 @@ use Rattle.kt_tuple.specs.declared.op.Op.{Op}
 use Rattle.kt_tuple.specs.Node.{node_index}
 use Rattle.kt_history.specs.Closed.{acts_in_line}
 use Rattle.kt_core.specs.declared.choice.Choice.{Choice}
+use Rattle.kt_worker.specs.declared.worker.Worker.{Worker}
+use Rattle.kt_worker.specs.Standing.{next_request, issued}
 use Rattle.kt_core.specs.declared.node.Request.{Request}
-use Rattle.kt_core.specs.declared.node.Worker.{Worker}
 use Rattle.kt_core.specs.declared.node.Message.{Message}
 use Rattle.kt_core.specs.declared.node.Message.TheVariants.{Ask, Reply}
 use Rattle.kt_core.specs.declared.plan.Plan.{Plan}
@@ -22,8 +23,9 @@ use Rattle.kt_core.specs.State.{State, Part, Nobody, IsWorker, IsStore, Store, a
 use Rattle.kt_core.specs.Desk.{empty_desk}
 use Rattle.kt_core.specs.Choice.{choice_of}
 use Rattle.kt_core.specs.Plan.{issue_plan}
-use Rattle.kt_core.specs.Effect.{limited, next_note, script_of, home, next_op, issue_op, issue_of, heard_by_store, heard_by_worker, delivery_to_store, delivery_to_worker, delivery_of, service_choice, service_at, service_of, planned, applied, applied_if_planned, step_result}
-use Rattle.kt_core.specs.Asks.{setting_of}
+use Rattle.kt_core.specs.Effect.{limited, next_note, home, issue_request, issue_of, heard_by_store, heard_by_worker, delivery_to_store, delivery_to_worker, delivery_of, service_choice, service_at, service_of, planned, applied, applied_if_planned, step_result}
+use Rattle.kt_core.specs.Cast.{Cast}
+use Rattle.kt_core.specs.Asks.{script_numbered}
 use Rattle.kt_core.proofs.Bags.{Contains-here}
 use Rattle.kt_core.proofs.Sound.{rows, IsPartLike, Carries, Keeps, IsSound}
 use Rattle.kt_core.proofs.WorkerPlans.{issue_keeps, reply_keeps}
@@ -52,44 +54,41 @@ limited-is s made plan = by (nat_lt s.made 100000)
     by true e = cc
     by false e = absurd cc
 
+abbrev cast_of : State → Cast
+cast_of s = record { shards = s.shards; scripts = s.scripts }
+
 -- a plan of the step that keeps the state sound
 abbrev IsKept : State → NodeId → Part → Plan → Type 0
-IsKept s p part plan = Keeps (setting_of s.shards s.scripts) s.history p part plan
+IsKept s p part plan = Keeps (cast_of s) s.history p part plan
 
-issue-kept : (s : State) → HasBounds s → (p : NodeId) (part : Part) → node s p ≡ part → IsPartLike p (acts_in_line s.history p) part → (plan : Plan) → issue_of s p (worker_of part) ≡ Ok plan → IsKept s p part plan
+issue-kept : (s : State) → HasBounds s → (p : NodeId) (part : Part) → node s p ≡ part → IsPartLike s.scripts p (acts_in_line s.history p) part → (plan : Plan) → issue_of s p (worker_of part) ≡ Ok plan → IsKept s p part plan
 issue-kept s b p Nobody at_p like plan e = absurd cc
 issue-kept s b p (IsStore y) at_p like plan e = absurd cc
 issue-kept s b (ids.Shard r) (IsWorker x) at_p like plan e = absurd like
-issue-kept s b (ids.Worker w) (IsWorker x) at_p like plan e = by (next_op x (script_of s.scripts (ids.Worker w))) refl e
+issue-kept s b (ids.Worker w) (IsWorker x) at_p like plan e = by (next_request (script_numbered s.scripts w) x) refl e
   where
-    numbered : w ≢ 0
-    numbered zero_is =
-        let first : node s (ids.Worker 0) ≡ IsWorker x = subst (λ k. node s (ids.Worker k) ≡ IsWorker x) zero_is at_p in
-        let none : node s (ids.Worker 0) ≡ Nobody = b.first_row in
-        cc (first, none)
-
-    by : (o : Option Op) → next_op x (script_of s.scripts (ids.Worker w)) ≡ o → issue_op s (ids.Worker w) x o ≡ Ok plan → IsKept s (ids.Worker w) (IsWorker x) plan
+    by : (o : Option (ℕ × Op)) → next_request (script_numbered s.scripts w) x ≡ o → issue_request s (ids.Worker w) (issued (script_numbered s.scripts w) x) o ≡ Ok plan → IsKept s (ids.Worker w) (IsWorker x) plan
     by None next e = absurd cc
-    by (Some op) next e =
+    by (Some r) next e =
         subst (IsKept s (ids.Worker w) (IsWorker x))
-        (limited-is s (issue_plan (ids.Worker w) w (record { number = x.number + 1; op = op }) (home s.shards op) (next_note s)) plan e)
-        (issue_keeps s.shards s.scripts s.history w x op numbered b.some_shards b.few_shards like next)
+        (limited-is s (issue_plan (ids.Worker w) w (record { number = r.0; op = r.1 }) (home s.shards r.1) (next_note s) (issued (script_numbered s.scripts w) x)) plan e)
+        (issue_keeps (cast_of s) s.history w x r b.some_shards b.few_shards like next)
 
 -- the front of a link carries what its act says
 front-carries : (s : State) → IsSound s → (p q : NodeId) (m : Message) (later : List Message) → node_index q < rows → link s p q ≡ m ∷ later → Carries s.shards s.history p q m
 front-carries s sound p q m later row e = sound.carries p q m row (subst (λ l. Contains l m) (sym e) (Contains-here m later))
 
-to_store-kept : (s : State) → IsSound s → (w r : ℕ) (y : Store) → IsPartLike (ids.Shard r) (acts_in_line s.history (ids.Shard r)) (IsStore y) → node_index (ids.Worker w) < rows →
+to_store-kept : (s : State) → IsSound s → (w r : ℕ) (y : Store) → IsPartLike s.scripts (ids.Shard r) (acts_in_line s.history (ids.Shard r)) (IsStore y) → node_index (ids.Worker w) < rows →
     (m : Message) → Carries s.shards s.history (ids.Worker w) (ids.Shard r) m → IsKept s (ids.Shard r) (IsStore y) (heard_by_store s (ids.Worker w) (ids.Shard r) y m)
-to_store-kept s sound w r y like row (Ask request by) c = request_keeps (setting_of s.shards s.scripts) s.history w r y request by like c row
+to_store-kept s sound w r y like row (Ask request by) c = request_keeps (cast_of s) s.history w r y request by like c row
 to_store-kept s sound w r y like row (Reply request answer by) c = absurd c
 
-to_worker-kept : (s : State) → IsSound s → (r w : ℕ) (x : Worker) → IsPartLike (ids.Worker w) (acts_in_line s.history (ids.Worker w)) (IsWorker x) →
-    (m : Message) → Carries s.shards s.history (ids.Shard r) (ids.Worker w) m → IsKept s (ids.Worker w) (IsWorker x) (heard_by_worker (ids.Worker w) x m)
+to_worker-kept : (s : State) → IsSound s → (r w : ℕ) (x : Worker) → IsPartLike s.scripts (ids.Worker w) (acts_in_line s.history (ids.Worker w)) (IsWorker x) →
+    (m : Message) → Carries s.shards s.history (ids.Shard r) (ids.Worker w) m → IsKept s (ids.Worker w) (IsWorker x) (heard_by_worker s (ids.Worker w) x m)
 to_worker-kept s sound r w x like (Ask request by) c = absurd c
-to_worker-kept s sound r w x like (Reply request answer by) c = reply_keeps (setting_of s.shards s.scripts) s.history r w x request answer by like c
+to_worker-kept s sound r w x like (Reply request answer by) c = reply_keeps (cast_of s) s.history r w x request answer by like c
 
-delivery-kept : (s : State) → IsSound s → (p q : NodeId) (from to : Part) → IsPartLike p (acts_in_line s.history p) from → IsPartLike q (acts_in_line s.history q) to →
+delivery-kept : (s : State) → IsSound s → (p q : NodeId) (from to : Part) → IsPartLike s.scripts p (acts_in_line s.history p) from → IsPartLike s.scripts q (acts_in_line s.history q) to →
     (from ≢ Nobody → node_index p < rows) → (to ≢ Nobody → node_index q < rows) → (plan : Plan) → delivery_of s p q from to ≡ Ok plan → IsKept s q to plan
 delivery-kept s sound (ids.Shard r) q (IsWorker x) (IsStore y) like_p like_q row_p row_q plan e = absurd like_p
 delivery-kept s sound (ids.Worker w) (ids.Worker v) (IsWorker x) (IsStore y) like_p like_q row_p row_q plan e = absurd like_q
@@ -107,11 +106,11 @@ delivery-kept s sound (ids.Shard r) (ids.Worker w) (IsStore y) (IsWorker x) like
     by : (l : List Message) → link s (ids.Shard r) (ids.Worker w) ≡ l → delivery_to_worker s (ids.Worker w) x l ≡ Ok plan → IsKept s (ids.Worker w) (IsWorker x) plan
     by [] at e = absurd cc
     by (m ∷ later) at e =
-        subst (IsKept s (ids.Worker w) (IsWorker x)) (limited-is s (heard_by_worker (ids.Worker w) x m) plan e)
+        subst (IsKept s (ids.Worker w) (IsWorker x)) (limited-is s (heard_by_worker s (ids.Worker w) x m) plan e)
         (to_worker-kept s sound r w x like_q m (front-carries s sound (ids.Shard r) (ids.Worker w) m later (row_q (λ k. cc)) at))
 delivery-kept s sound p q _ _ like_p like_q row_p row_q plan e = absurd cc
 
-service-kept : (s : State) → IsSound s → (p v : NodeId) (place : ℕ) (at_p at_v : Part) → IsPartLike p (acts_in_line s.history p) at_p → IsPartLike v (acts_in_line s.history v) at_v →
+service-kept : (s : State) → IsSound s → (p v : NodeId) (place : ℕ) (at_p at_v : Part) → IsPartLike s.scripts p (acts_in_line s.history p) at_p → IsPartLike s.scripts v (acts_in_line s.history v) at_v →
     (at_v ≢ Nobody → node_index v < rows) → (plan : Plan) → service_of s p v place at_p at_v ≡ Ok plan → IsKept s p at_p plan
 service-kept s sound (ids.Worker w) v place (IsStore y) (IsWorker x) like_p like_v row plan e = absurd like_p
 service-kept s sound (ids.Shard r) (ids.Shard v) place (IsStore y) (IsWorker x) like_p like_v row plan e = absurd like_v
@@ -122,7 +121,7 @@ service-kept s sound (ids.Shard r) (ids.Worker w) place (IsStore y) (IsWorker x)
     chosen request waits None at e = absurd cc
     chosen request waits (Some choice) at e =
         subst (IsKept s (ids.Shard r) (IsStore y)) (limited-is s _ plan e)
-        (service_keeps (setting_of s.shards s.scripts) s.history w r y request place choice sound.legal sound.well_formed like_p (row (λ k. cc)) waits at)
+        (service_keeps (cast_of s) s.history w r y request place choice sound.legal sound.well_formed like_p (row (λ k. cc)) waits at)
 
     by : (o : Option Request) → (at empty_desk y.desks w).waiting ≡ o → service_at s (ids.Shard r) w place y o ≡ Ok plan → IsKept s (ids.Shard r) (IsStore y) plan
     by None waits e = absurd cc

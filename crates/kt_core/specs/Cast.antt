@@ -1,11 +1,11 @@
 -- Who takes part.
 use Rattle.std.specs.Prelude.{ℕ, ◌≤◌, List, length}
-use Rattle.kt_tuple.specs.declared.op.Op.{Op}
+use Rattle.kt_script.specs.declared.command.Command.{Command}
 
 -- how many shards there are, and each worker's script
 pub record Cast : Type 0 where
   pub shards : ℕ
-  pub scripts : List (List Op)
+  pub scripts : List (List Command)
 
 -- 1 to 8 shards and 1 to 8 workers
 pub record IsCast (cast : Cast) : Type 0 where

@@ -1,12 +1,10 @@
--- What a shard makes of a request, and a worker of a reply.
-use Rattle.std.specs.Prelude.{ℕ, ◌==◌, max, Bool, false, ◌&&◌, if◌then◌else◌, Option, None, Some}
-use Rattle.kt_tuple.specs.declared.op.Op.{Op}
+-- What a shard makes of a request.
+use Rattle.std.specs.Prelude.{ℕ, ◌==◌, max, Bool, ◌&&◌, if◌then◌else◌, Option, None, Some}
 use Rattle.kt_tuple.specs.declared.op.Answer.{Answer}
 use Rattle.kt_tuple.specs.Op.{op_eq}
 use Rattle.kt_core.specs.declared.node.Request.{Request}
 use Rattle.kt_core.specs.declared.node.Kept.{Kept}
 use Rattle.kt_core.specs.declared.node.Desk.{Desk}
-use Rattle.kt_core.specs.declared.node.Worker.{Worker}
 
 abbrev pub same_request : Request → Request → Bool
 same_request a b = (a.number == b.number) && op_eq a.op b.op
@@ -38,11 +36,3 @@ answer_unless_waiting (Some waiting) kept request = None
 -- what was answered to this request, where it is the one kept and the worker does not wait
 abbrev pub kept_answer : Desk → Request → Option Answer
 kept_answer desk request = answer_unless_waiting desk.waiting desk.kept request
-
-abbrev pub awaits_op : Option Op → ℕ → Request → Bool
-awaits_op None number request = false
-awaits_op (Some op) number request = (number == request.number) && op_eq op request.op
-
--- this is what the worker asked last and has no answer to
-abbrev pub awaits : Worker → Request → Bool
-awaits worker request = awaits_op worker.asked worker.number request

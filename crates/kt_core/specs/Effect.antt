@@ -1,12 +1,13 @@
 -- What a step does to the state of a world: the table of steps, and of what is made of each message that
 -- arrives. Of several refusals the first that stands is given.
-use Rattle.std.specs.Prelude.{ℕ, ◌+◌, ◌-◌, ◌==◌, nat_lt, Bool, true, false, ◌&&◌, if◌then◌else◌, find, reverse, List, [], ◌∷◌, ◌++◌, length, drop, Option, None, Some, Result, Ok, Err, slice_get, remove}
+use Rattle.std.specs.Prelude.{ℕ, ◌+◌, ◌==◌, nat_lt, Bool, true, false, ◌&&◌, if◌then◌else◌, find, reverse, List, [], ◌∷◌, ◌++◌, length, drop, Option, None, Some, Result, Ok, Err, remove}
 use Rattle.kt_tuple.specs.declared.node.NodeId.{NodeId}
 use Rattle.kt_tuple.specs.declared.node.NodeId.TheVariants as ids
 use Rattle.kt_tuple.specs.declared.op.Op.{Op}
 use Rattle.kt_tuple.specs.declared.tuple.Tuple.{Tuple}
 use Rattle.kt_tuple.specs.Node.{node_index}
 use Rattle.kt_tuple.specs.Signature.{kinds_of_op, shard_of}
+use Rattle.kt_script.specs.declared.command.Command.{Command}
 use Rattle.kt_history.specs.declared.note.What.{What}
 use Rattle.kt_history.specs.declared.note.What.TheVariants as whats
 use Rattle.kt_history.specs.declared.note.Act.{Act}
@@ -14,10 +15,11 @@ use Rattle.kt_history.specs.declared.note.Note.{Note}
 use Rattle.kt_history.specs.declared.note.Note.TheVariants as notes
 use Rattle.kt_history.specs.Line.{line}
 use Rattle.kt_history.specs.Closed.{acts_at}
+use Rattle.kt_worker.specs.declared.worker.Worker.{Worker}
+use Rattle.kt_worker.specs.Standing.{next_request, issued}
 use Rattle.kt_core.specs.declared.node.Request.{Request}
 use Rattle.kt_core.specs.declared.node.Kept.{Kept}
 use Rattle.kt_core.specs.declared.node.Desk.{Desk}
-use Rattle.kt_core.specs.declared.node.Worker.{Worker}
 use Rattle.kt_core.specs.declared.node.Message.{Message}
 use Rattle.kt_core.specs.declared.node.Message.TheVariants.{Ask, Reply}
 use Rattle.kt_core.specs.declared.node.BagChange.{BagChange}
@@ -32,6 +34,7 @@ use Rattle.kt_core.specs.declared.step.StepError.{StepError}
 use Rattle.kt_core.specs.declared.step.StepError.TheVariants as refusals
 use Rattle.kt_core.specs.Step.{owner}
 use Rattle.kt_core.specs.State.{State, Part, Nobody, IsWorker, IsStore, Store, at, put, node, link, link_index, node_number, worker_of}
+use Rattle.kt_core.specs.Asks.{script_numbered}
 use Rattle.kt_core.specs.Desk.{empty_desk}
 use Rattle.kt_core.specs.Choice.{choice_of, answer_of, bag_change_of}
 use Rattle.kt_core.specs.Plan.{issue_plan, request_plan, ignored_plan, reply_plan, service_plan}
@@ -46,30 +49,24 @@ limited s plan = if nat_lt s.made 100000 then Ok plan else Err refusals.StepLimi
 abbrev pub next_note : State → ℕ
 next_note s = length s.history + 1
 
--- the script of a worker
-abbrev pub script_of : List (List Op) → NodeId → List Op
-script_of scripts p = at [] scripts (node_number p - 1)
-
 -- the shard that is the home of the operation's tuples
 abbrev pub home : ℕ → Op → NodeId
 home shards op = ids.Shard (shard_of shards (kinds_of_op op))
 
--- what a worker asks next: nothing while it waits for an answer
-abbrev pub op_after : Option Op → ℕ → List Op → Option Op
-op_after None number script = slice_get script number
-op_after (Some op) number script = None
+-- the script of a worker
+abbrev pub script_of : State → NodeId → List Command
+script_of s p = script_numbered s.scripts (node_number p)
 
-abbrev pub next_op : Worker → List Op → Option Op
-next_op x script = op_after x.asked x.number script
-
-abbrev pub issue_op : State → NodeId → Worker → Option Op → Result Plan StepError
-issue_op s p x None = Err refusals.NothingThere
-issue_op s p x (Some op) = limited s (issue_plan p (node_number p) (record { number = x.number + 1; op = op }) (home s.shards op) (next_note s))
+-- the worker makes this request, and becomes the asker
+abbrev pub issue_request : State → NodeId → Worker → Option (ℕ × Op) → Result Plan StepError
+issue_request s p asker None = Err refusals.NothingThere
+issue_request s p asker (Some r) =
+    limited s (issue_plan p (node_number p) (record { number = r.0; op = r.1 }) (home s.shards r.1) (next_note s) asker)
 
 -- a worker that waits for nothing asks for its script's next operation
 abbrev pub issue_of : State → NodeId → Option Worker → Result Plan StepError
 issue_of s p None = Err refusals.NoNode
-issue_of s p (Some x) = issue_op s p x (next_op x (script_of s.scripts p))
+issue_of s p (Some x) = issue_request s p (issued (script_of s p) x) (next_request (script_of s p) x)
 
 -- a shard hears a request by its desk for the sender, and ignores a reply
 abbrev pub heard_by_store : State → NodeId → NodeId → Store → Message → Plan
@@ -78,9 +75,9 @@ heard_by_store s p q y (Ask request by) =
 heard_by_store s p q y (Reply request answer by) = ignored_plan q (node_number p) request by (Some answer)
 
 -- a worker hears a reply, and ignores a request
-abbrev pub heard_by_worker : NodeId → Worker → Message → Plan
-heard_by_worker q x (Ask request by) = ignored_plan q (node_number q) request by None
-heard_by_worker q x (Reply request answer by) = reply_plan q x (node_number q) request answer by
+abbrev pub heard_by_worker : State → NodeId → Worker → Message → Plan
+heard_by_worker s q x (Ask request by) = ignored_plan q (node_number q) request by None
+heard_by_worker s q x (Reply request answer by) = reply_plan q (script_of s q) x (node_number q) request answer by
 
 abbrev pub delivery_to_store : State → NodeId → NodeId → Store → List Message → Result Plan StepError
 delivery_to_store s p q y [] = Err refusals.NothingThere
@@ -88,7 +85,7 @@ delivery_to_store s p q y (message ∷ later) = limited s (heard_by_store s p q 
 
 abbrev pub delivery_to_worker : State → NodeId → Worker → List Message → Result Plan StepError
 delivery_to_worker s q x [] = Err refusals.NothingThere
-delivery_to_worker s q x (message ∷ later) = limited s (heard_by_worker q x message)
+delivery_to_worker s q x (message ∷ later) = limited s (heard_by_worker s q x message)
 
 -- the first message of a link between a worker and a shard is heard
 abbrev pub delivery_of : State → NodeId → NodeId → Part → Part → Result Plan StepError
@@ -159,8 +156,7 @@ served_store y worker bag kept =
     with_desk (record y { bag = bag_after y.bag bag }) worker (record { waiting = None; kept = Some kept })
 
 abbrev pub changed : Part → Change → Part
-changed (IsWorker x) (changes.Ask op) = IsWorker (record { number = x.number + 1; asked = Some op })
-changed (IsWorker x) changes.Accept = IsWorker (record { number = x.number; asked = None })
+changed (IsWorker x) (changes.Work becomes) = IsWorker becomes
 changed (IsStore y) (changes.Wait worker request) = IsStore (waiting_store y worker request)
 changed (IsStore y) (changes.Serve worker bag kept) = IsStore (served_store y worker bag kept)
 changed part _ = part

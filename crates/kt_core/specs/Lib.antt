@@ -2,6 +2,7 @@ pub mod Asks
 pub mod Bag
 pub mod ShardLine
 pub mod WorkerLine
+pub mod Workers
 pub mod Order
 pub mod Legal
 pub mod Headline

@@ -1,5 +1,5 @@
 -- The code's state as plain data, and what its calls answer.
-use Rattle.std.specs.Prelude.{◌≡◌, ◌<◌, map, Result, Ok, Err, IfSome}
+use Rattle.std.specs.Prelude.{◌≡◌, ◌<◌, map, Result, Ok, Err, IsOk, IfSome}
 use Rattle.kt_tuple.specs.Node.{node_index}
 use Rattle.kt_history.specs.declared.note.Note.TheVariants as notes
 use Rattle.kt_history.specs.WellFormed.{MayFollow}
@@ -23,9 +23,9 @@ state_of m = record {
   made = m.made;
 }
 
--- the refusal is the one that is due, or memory ran out
+-- the refusal is the one that is due; where none is, memory ran out
 abbrev pub Refuses : {Y : Type 0} → StepError → Result Y StepError → Type 0
-Refuses refusals.OutOfMemory due = Unit {0}
+Refuses refusals.OutOfMemory due = IsOk due
 Refuses refusal due = due ≡ Err refusal
 
 -- what was answered is what is due, unless memory ran out

@@ -1,30 +1,32 @@
 -- What a step does, as a function of what its owner sees: its own state, the message that it hears, and the
 -- number of the next note.
-use Rattle.std.specs.Prelude.{ℕ, nat_lt, if◌then◌else◌, Option, None, Some}
+use Rattle.std.specs.Prelude.{ℕ, nat_lt, if◌then◌else◌, List, Option, None, Some}
 use Rattle.kt_tuple.specs.declared.node.NodeId.{NodeId}
 use Rattle.kt_tuple.specs.declared.node.NodeId.TheVariants.{Worker as worker_named}
 use Rattle.kt_tuple.specs.declared.op.Answer.{Answer}
 use Rattle.kt_history.specs.declared.note.What.{What}
 use Rattle.kt_history.specs.declared.note.What.TheVariants as whats
 use Rattle.kt_history.specs.declared.note.Act.{Act}
+use Rattle.kt_script.specs.declared.command.Command.{Command}
+use Rattle.kt_worker.specs.declared.worker.Worker.{Worker}
+use Rattle.kt_worker.specs.Standing.{awaits, heard}
 use Rattle.kt_core.specs.declared.node.Request.{Request}
 use Rattle.kt_core.specs.declared.node.Desk.{Desk}
-use Rattle.kt_core.specs.declared.node.Worker.{Worker}
 use Rattle.kt_core.specs.declared.node.BagChange.{BagChange}
 use Rattle.kt_core.specs.declared.node.Message.TheVariants.{Ask, Reply}
 use Rattle.kt_core.specs.declared.node.Change.TheVariants as changes
 use Rattle.kt_core.specs.declared.plan.Plan.{Plan}
-use Rattle.kt_core.specs.Desk.{newest, kept_answer, awaits}
+use Rattle.kt_core.specs.Desk.{newest, kept_answer}
 
 -- an act of p about a request of the worker of this number
 abbrev pub act_of : NodeId → ℕ → ℕ → Request → What → Act
 act_of p by worker request what =
     record { node = p; by = by; worker = worker; number = request.number; op = request.op; what = what }
 
--- the worker asks the shard
-abbrev pub issue_plan : NodeId → ℕ → Request → NodeId → ℕ → Plan
-issue_plan p worker request shard next = record {
-  change = changes.Ask request.op;
+-- the worker asks the shard, and becomes the asker
+abbrev pub issue_plan : NodeId → ℕ → Request → NodeId → ℕ → Worker → Plan
+issue_plan p worker request shard next asker = record {
+  change = changes.Work asker;
   send = Some (shard, Ask request next);
   note = act_of p 0 worker request whats.Issue;
 }
@@ -65,19 +67,19 @@ request_plan p desk worker request by next =
     then heard_plan p worker request by
     else old_request_plan p worker request by next (kept_answer desk request)
 
--- the worker has its answer
-abbrev pub accepted_plan : NodeId → ℕ → Request → Answer → ℕ → Plan
-accepted_plan p number request answer by = record {
-  change = changes.Accept;
+-- the worker has its answer, and becomes the hearer
+abbrev pub accepted_plan : NodeId → ℕ → Request → Answer → ℕ → Worker → Plan
+accepted_plan p number request answer by hearer = record {
+  change = changes.Work hearer;
   send = None;
   note = act_of p by number request (whats.Accepted answer);
 }
 
--- the worker of this number hears a reply: it accepts the one that it waits for, and ignores all else
-abbrev pub reply_plan : NodeId → Worker → ℕ → Request → Answer → ℕ → Plan
-reply_plan p worker number request answer by =
-    if awaits worker request
-    then accepted_plan p number request answer by
+-- the worker of this number and script hears a reply: it accepts the one that it waits for, and ignores all else
+abbrev pub reply_plan : NodeId → List Command → Worker → ℕ → Request → Answer → ℕ → Plan
+reply_plan p script worker number request answer by =
+    if awaits worker request.number request.op
+    then accepted_plan p number request answer by (heard script worker answer)
     else ignored_plan p number request by (Some answer)
 
 -- the shard serves the request with which the worker waits

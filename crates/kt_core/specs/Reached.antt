@@ -1,7 +1,10 @@
 -- The states that a world can be in: those that steps lead to from the opening of a scene.
-use Rattle.std.specs.Prelude.{◌≡◌, ℕ, zero, suc, nat_le, ◌&&◌, Bool, if◌then◌else◌, List, [], ◌∷◌, ◌++◌, length, replicate, Option, None, Some, Result, Ok, Err}
+use Rattle.std.specs.Prelude.{◌≡◌, ℕ, zero, suc, nat_le, ◌&&◌, Bool, if◌then◌else◌, List, [], ◌∷◌, ◌++◌, replicate, Option, None, Some, Result, Ok, Err}
+use Rattle.kt_script.specs.declared.command.Command.{Command}
+use Rattle.kt_worker.specs.Standing.{opening_standing}
 use Rattle.kt_core.specs.declared.step.Step.{Step}
 use Rattle.kt_core.specs.declared.step.StepError.{StepError}
+use Rattle.kt_core.specs.Asks.{script_at}
 use Rattle.kt_core.specs.Cast.{Cast, IsCast}
 use Rattle.kt_core.specs.State.{State, Part, Nobody, IsWorker, IsStore}
 use Rattle.kt_core.specs.Desk.{empty_desk}
@@ -15,30 +18,34 @@ abbrev pub is_among : ℕ → ℕ → Bool
 is_among count n = nat_le 1 n && nat_le n count
 
 -- a worker that has asked nothing, and a shard that holds nothing
-abbrev pub new_worker : Part
-new_worker = IsWorker (record { number = 0; asked = None })
+abbrev pub new_worker : List Command → Part
+new_worker script = IsWorker (opening_standing script)
 
 abbrev pub new_store : Part
 new_store = IsStore (record { bag = []; desks = replicate 9 empty_desk })
 
-abbrev pub opening_worker : ℕ → ℕ → Part
-opening_worker workers n = if is_among workers n then new_worker else Nobody
+abbrev pub worker_if : Option (List Command) → Part
+worker_if None = Nobody
+worker_if (Some script) = new_worker script
+
+abbrev pub opening_worker : List (List Command) → ℕ → Part
+opening_worker scripts n = worker_if (script_at scripts n)
 
 abbrev pub opening_store : ℕ → ℕ → Part
 opening_store shards n = if is_among shards n then new_store else Nobody
 
 -- the rows of the workers and shards with a number below this one
-unfoldable pub opening_rows : ℕ → ℕ → ℕ → List Part
-opening_rows workers shards zero = []
-opening_rows workers shards (suc n) =
-    opening_rows workers shards n ++ opening_worker workers n ∷ opening_store shards n ∷ []
+unfoldable pub opening_rows : List (List Command) → ℕ → ℕ → List Part
+opening_rows scripts shards zero = []
+opening_rows scripts shards (suc n) =
+    opening_rows scripts shards n ++ opening_worker scripts n ∷ opening_store shards n ∷ []
 
 -- nothing was done yet
 abbrev pub opening : Cast → State
 opening cast = record {
   shards = cast.shards;
   scripts = cast.scripts;
-  nodes = opening_rows (length cast.scripts) cast.shards 9;
+  nodes = opening_rows cast.scripts cast.shards 9;
   links = replicate 324 [];
   history = [];
   own = replicate 18 0;

@@ -1,6 +1,6 @@
 -- What the state of a world keeps so that each step can be made: the tables have their rows, the counts are
 -- small, and each cause that is named is an earlier act.
-use Rattle.std.specs.Prelude.{◌≡◌, ◌≢◌, ℕ, ◌+◌, ◌<◌, ◌≤◌, ◌^◌, List, [], length, Contains, vec_len, vec_capacity}
+use Rattle.std.specs.Prelude.{◌≡◌, ◌≢◌, ℕ, ◌<◌, ◌≤◌, List, [], length, Contains, vec_len, vec_capacity}
 use Rattle.kt_tuple.specs.declared.tuple.Tuple.{Tuple}
 use Rattle.kt_history.specs.declared.note.Note.{Note}
 use Rattle.kt_history.specs.Line.{IsAct}
@@ -23,12 +23,6 @@ HasDesks Nobody = Unit {0}
 HasDesks (IsWorker x) = Unit {0}
 HasDesks (IsStore y) = length y.desks ≡ 9
 
--- a worker has made fewer requests than there were steps
-abbrev pub HasAskedFew : ℕ → Part → Type 0
-HasAskedFew steps Nobody = Unit {0}
-HasAskedFew steps (IsWorker x) = x.number ≤ steps
-HasAskedFew steps (IsStore y) = Unit {0}
-
 -- the message names the act that sent it, if it names one
 abbrev pub NamesAct : List Note → Message → Type 0
 NamesAct h (Ask request by) = by ≢ 0 → IsAct h by
@@ -41,7 +35,6 @@ pub record IsReady (s : State) : Type 0 where
   pub links : length s.links ≡ 324
   pub counts : length s.own ≡ 18
   pub desks : (k : ℕ) → HasDesks (at Nobody s.nodes k)
-  pub requests : (k : ℕ) → HasAskedFew s.made (at Nobody s.nodes k)
   pub few_steps : s.made ≤ 100000
   pub few_own : (k : ℕ) → at 0 s.own k ≤ s.made
   pub few_notes : length s.history ≤ s.made
@@ -56,7 +49,6 @@ FitsBag bag bags.Stay = Unit {0}
 
 -- the change can be made
 abbrev pub CanChange : Part → Change → Type 0
-CanChange (IsWorker x) (changes.Ask op) = x.number + 1 < 2 ^ 64
 CanChange (IsStore y) (changes.Wait worker request) = worker < length y.desks
 CanChange (IsStore y) (changes.Serve worker bag kept) = (worker < length y.desks) × FitsBag y.bag bag
 CanChange _ _ = Unit {0}

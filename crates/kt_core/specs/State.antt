@@ -4,12 +4,12 @@ use Rattle.std.specs.declared.collections.VecDeque.{VecDeque}
 use Rattle.std.specs.declared.alloc.Global.{Global}
 use Rattle.kt_tuple.specs.declared.node.NodeId.{NodeId}
 use Rattle.kt_tuple.specs.declared.node.NodeId.TheVariants as ids
-use Rattle.kt_tuple.specs.declared.op.Op.{Op}
 use Rattle.kt_tuple.specs.declared.tuple.Tuple.{Tuple}
 use Rattle.kt_tuple.specs.Node.{node_index}
 use Rattle.kt_history.specs.declared.note.Note.{Note}
+use Rattle.kt_script.specs.declared.command.Command.{Command}
+use Rattle.kt_worker.specs.declared.worker.Worker.{Worker}
 use Rattle.kt_core.specs.declared.node.Desk.{Desk}
-use Rattle.kt_core.specs.declared.node.Worker.{Worker}
 use Rattle.kt_core.specs.declared.node.Shard.{Shard}
 use Rattle.kt_core.specs.declared.node.Node.{Node}
 use Rattle.kt_core.specs.declared.node.Node.TheVariants as nodes
@@ -53,7 +53,7 @@ queues_of queues = map (λ q. q.items) queues
 -- way, first sent first; what happened; the steps that each node made, by the nodes' numbers; all steps made
 pub record State : Type 0 where
   pub shards : ℕ
-  pub scripts : List (List Op)
+  pub scripts : List (List Command)
   pub nodes : List Part
   pub links : List (List Message)
   pub history : List Note

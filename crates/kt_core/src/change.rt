@@ -1,13 +1,13 @@
 //! Changing a node, once nothing can be refused any more.
 
-ghost use Rattle.std.specs.Prelude.{◌≡◌, ◌+◌, ◌<◌, ◌^◌, Some, None, length, OnOk, vec_len, vec_capacity};
+ghost use Rattle.std.specs.Prelude.{◌≡◌, ◌<◌, Some, None, length, OnOk, vec_len, vec_capacity};
 ghost use Rattle.kt_core.specs.State.{part_of, store_view, at, put};
 ghost use Rattle.kt_core.specs.Desk.{empty_desk};
 ghost use Rattle.kt_core.specs.Effect.{changed, bag_after, waiting_store, served_store};
 ghost use Rattle.kt_core.specs.Ready.{CanChange, FitsBag, HasRoom};
 
-use crate::node::{BagChange, Change, Desk, Kept, Node, Request, Shard, Worker};
-use kt_tuple::{Op, Tuple};
+use crate::node::{BagChange, Change, Desk, Kept, Node, Request, Shard};
+use kt_tuple::Tuple;
 use std::alloc::AllocError;
 
 impl Node {
@@ -32,30 +32,13 @@ impl Node {
         ensures { part_of self.new ≡ changed (part_of self.old) change }
     {
         match (self, change) {
-            (Node::Worker(worker), Change::Ask(op)) => worker.ask(op),
-            (Node::Worker(worker), Change::Accept) => worker.accept(),
+            (Node::Worker(worker), Change::Work(changed)) => *worker = changed,
             (Node::Shard(shard), Change::Wait { worker, request }) => shard.wait(worker, request),
             (Node::Shard(shard), Change::Serve { worker, bag, kept }) => {
                 shard.serve(worker, bag, kept);
             }
             _ => {}
         }
-    }
-}
-
-impl Worker {
-    fn ask(&mut self, op: Op)
-        requires { self.old.number + 1 < 2 ^ 64 }
-        ensures { self.new ≡ record { number = self.old.number + 1; asked = Some op } }
-    {
-        self.number += 1;
-        self.asked = Some(op);
-    }
-
-    fn accept(&mut self)
-        ensures { self.new ≡ record { number = self.old.number; asked = None } }
-    {
-        self.asked = None;
     }
 }
 

@@ -1,10 +1,10 @@
-//! What a shard makes of a request, and a worker of a reply.
+//! What a shard makes of a request.
 
 ghost use Rattle.std.specs.Prelude.{◌≡◌};
 ghost use Rattle.std.specs.Option.{option_copied};
-ghost use Rattle.kt_core.specs.Desk.{newest, kept_answer, awaits, same_request};
+ghost use Rattle.kt_core.specs.Desk.{newest, kept_answer, same_request};
 
-use crate::node::{Desk, Request, Worker};
+use crate::node::{Desk, Request};
 use kt_tuple::Answer;
 
 impl Request {
@@ -45,18 +45,6 @@ impl Desk {
                 }
             }
             _ => None,
-        }
-    }
-}
-
-impl Worker {
-    /// Whether this is what the worker asked last and has no answer to.
-    pub(crate) fn awaits(&self, request: &Request) -> bool
-        ensures { result ≡ awaits self.now request.now }
-    {
-        match &self.asked {
-            Some(op) => self.number == request.number && *op == request.op,
-            None => false,
         }
     }
 }

@@ -1,41 +1,26 @@
 //! Whether a step is allowed, and its plan: the table of steps.
 
-ghost use Rattle.std.specs.Prelude.{◌≡◌, ◌<◌, length};
-ghost use Rattle.std.specs.Option.{option_copied};
-ghost use Rattle.kt_core.specs.Effect.{script_of, next_op, hears_worker, cause_of_waiting};
+ghost use Rattle.std.specs.Prelude.{◌≡◌, ◌<◌, length, is_some};
+ghost use Rattle.kt_worker.specs.Standing.{next_request};
+ghost use Rattle.kt_core.specs.Effect.{hears_worker, cause_of_waiting};
 
 use crate::choice::{answer_of, bag_change_of, choice_of};
 use crate::machine::{Machine, front_of};
-use crate::node::{Message, Request, Shard, Worker};
+use crate::node::{Message, Request, Shard};
 use crate::plan::{Plan, ignored_plan, issue_plan, reply_plan, request_plan, service_plan};
-use crate::scene::Scene;
 use crate::step::{MAX_STEPS, Step, StepError};
-use crate::tables::{number_of, store_at, worker_at};
+use crate::tables::{number_of, script_numbered, store_at, worker_at};
 use kt_history::{Act, History, What};
-use kt_tuple::{NodeId, Op};
+use kt_script::Script;
+use kt_tuple::NodeId;
+use kt_worker::Worker;
 use std::alloc::Global;
 
-/// The script of a worker.
-fn script_of(scene: &Scene, worker: NodeId) -> &[Op]
-    ensures value { result.now ≡ script_of scene.now.scripts worker }
+/// Whether the worker waits for nothing and has an operation left.
+fn can_issue(worker: &Worker, script: &Script) -> bool
+    ensures { result ≡ is_some (next_request script.now worker.now) }
 {
-    match scene
-        .scripts()
-        .get(usize::from(number_of(worker)).saturating_sub(1))
-    {
-        Some(script) => script.commands(),
-        None => &[],
-    }
-}
-
-/// What the worker asks next: nothing while it waits for an answer.
-fn next_op<'a>(worker: &Worker, script: &'a [Op]) -> Option<&'a Op>
-    ensures { option_copied result ≡ next_op worker.now script.now }
-{
-    match worker.asked {
-        None => script.get(worker.number as usize),
-        Some(_) => None,
-    }
+    worker.asked().is_none() && worker.has_next(script)
 }
 
 /// Whether the act is the hearing of a request of the worker of this number.
@@ -85,19 +70,22 @@ impl Machine {
         let Some(worker) = worker_at(&self.nodes, id) else {
             return Err(StepError::NoNode);
         };
-        let Some(op) = next_op(worker, script_of(&self.scene, id)) else {
+        let empty = Script::new(alloc);
+        let script = script_numbered(self.scene.scripts(), number_of(id), &empty);
+        if !can_issue(worker, script) {
             return Err(StepError::NothingThere);
-        };
+        }
         if self.made >= MAX_STEPS {
             return Err(StepError::StepLimit);
         }
-        let request = Request {
-            number: worker.number + 1,
-            op: op.copy(alloc)?,
+        let mut asker = worker.copy(alloc)?;
+        let Some((number, op)) = asker.issue(alloc, script)? else {
+            return Err(StepError::NothingThere);
         };
-        let shard = NodeId::Shard(op.signature().shard_of(self.scene.shards()));
+        let request = Request { number, op };
+        let shard = NodeId::Shard(request.op.signature().shard_of(self.scene.shards()));
         let next = self.next_note();
-        Ok(issue_plan(alloc, id, number_of(id), &request, shard, next)?)
+        Ok(issue_plan(alloc, id, number_of(id), &request, shard, next, asker)?)
     }
 
     /// What the shard makes of the first message on its way.
@@ -153,6 +141,8 @@ impl Machine {
             return Err(StepError::StepLimit);
         }
         let number = number_of(to);
+        let empty = Script::new(alloc);
+        let script = script_numbered(self.scene.scripts(), number, &empty);
         match message {
             Message::Ask { request, by } => {
                 Ok(ignored_plan(alloc, to, number, request, *by, None)?)
@@ -161,7 +151,7 @@ impl Machine {
                 request,
                 answer,
                 by,
-            } => Ok(reply_plan(alloc, to, worker, number, request, answer, *by)?),
+            } => Ok(reply_plan(alloc, to, script, worker, number, request, answer, *by)?),
         }
     }
 

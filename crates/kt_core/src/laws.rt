@@ -11,6 +11,7 @@ ghost use Rattle.kt_core.specs.Cast.{Cast, IsCast};
 ghost use Rattle.kt_core.specs.Reached.{opening, after};
 ghost use Rattle.kt_core.specs.Headline.{Headline, IsNothingLost};
 ghost use Rattle.kt_core.specs.Hearing.{WasHeardFor};
+ghost use Rattle.kt_core.specs.Workers.{WorkersFollowLines};
 
 /// After every list of steps from the opening of every scene, refused steps among them, the surviving
 /// services in the order made are one run of a sequential tuple space, each worker's requests being its
@@ -22,6 +23,12 @@ pub fn survivors_are_one_run()
 /// Where no node fails nothing is lost: as yet no step is a failure, so after every list of steps.
 pub fn nothing_is_lost_without_failures()
     ensures { (cast : Cast) → IsCast cast → (steps : List Step) → IsNothingLost (after (opening cast) steps).history }
+{}
+
+/// After every list of steps each worker has unanswered what its line says, and stands in its script as after
+/// the answers in its line: so its next operation is what the script asks after them.
+pub fn workers_stand_as_their_answers_say()
+    ensures { (cast : Cast) → IsCast cast → (steps : List Step) → WorkersFollowLines (after (opening cast) steps) }
 {}
 
 /// A service in a shard's line has before it in that line the hearing of its request, with the same cause.

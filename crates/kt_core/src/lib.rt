@@ -15,11 +15,14 @@ mod step;
 mod tables;
 mod world;
 
+pub use kt_script::{
+    Actual, Actuals, Command, MAX_COMMANDS, Name, Operation, Pattern, Script, ScriptError, Slot,
+};
 pub use laws::{
     nothing_is_lost_without_failures, services_have_the_cause_of_their_hearing,
-    survivors_are_one_run,
+    survivors_are_one_run, workers_stand_as_their_answers_say,
 };
-pub use scene::{MAX_COMMANDS, MAX_SHARDS, MAX_WORKERS, Scene, Script};
+pub use scene::{MAX_SHARDS, MAX_WORKERS, Scene};
 pub use step::{MAX_STEPS, Mode, Step, StepError};
 pub use world::{OpenError, OpenRefused, World};
 

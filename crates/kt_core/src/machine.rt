@@ -114,12 +114,11 @@ type Tables = (Vec<Node>, Vec<VecDeque<Message>>, Vec<u64>);
 
 fn opening_tables(alloc: Global, scene: &Scene) -> Result<Tables, AllocError>
     ensures cast { IsCast scene.now }
-    ensures nodes { IfOk result (λ t. map part_of t.0.items ≡ opening_rows (length scene.now.scripts) scene.now.shards 9) }
+    ensures nodes { IfOk result (λ t. map part_of t.0.items ≡ opening_rows scene.now.scripts scene.now.shards 9) }
     ensures links { IfOk result (λ t. queues_of t.1.items ≡ replicate 324 []) }
     ensures own { IfOk result (λ t. t.2.items ≡ replicate 18 0) }
 {
-    let workers = scene.scripts().len() as u8;
-    let nodes = opening_nodes(alloc, workers, scene.shards())?;
+    let nodes = opening_nodes(alloc, scene.scripts(), scene.shards())?;
     let links = empty_links(alloc)?;
     let own = no_counts(alloc)?;
     Ok((nodes, links, own))

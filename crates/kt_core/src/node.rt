@@ -3,6 +3,7 @@
 ghost use Rattle.std.specs.Prelude.{◌≡◌, IfOk};
 
 use kt_tuple::{Answer, Op, Tuple};
+use kt_worker::Worker;
 use std::alloc::{AllocError, Global};
 
 /// A request of a worker.
@@ -38,13 +39,6 @@ pub(crate) struct Desk {
     /// What the worker waits with.
     pub(crate) waiting: Option<Request>,
     pub(crate) kept: Option<Kept>,
-}
-
-/// A worker: the number of its last request, and what it asked where that is unanswered.
-#[derive(Debug, Drop)]
-pub(crate) struct Worker {
-    pub(crate) number: u64,
-    pub(crate) asked: Option<Op>,
 }
 
 /// A shard: its tuples in order of arrival, and a desk for each worker, by the worker's number.
@@ -93,10 +87,8 @@ pub(crate) enum BagChange {
 /// What becomes of a node.
 #[derive(Debug, Drop)]
 pub(crate) enum Change {
-    /// The worker asks this with its next number.
-    Ask(Op),
-    /// The worker has its answer.
-    Accept,
+    /// The worker becomes this one.
+    Work(Worker),
     /// The worker of this number waits with this.
     Wait {
         worker: u8,

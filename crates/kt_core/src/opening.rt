@@ -5,8 +5,10 @@ ghost use Rattle.kt_core.specs.State.{part_of, queues_of, store_view};
 ghost use Rattle.kt_core.specs.Desk.{empty_desk};
 ghost use Rattle.kt_core.specs.Reached.{is_among, opening_rows, opening_worker, opening_store};
 
-use crate::node::{Desk, Message, Node, Shard, Worker};
-use crate::tables::{LINKS, ROWS};
+use crate::node::{Desk, Message, Node, Shard};
+use crate::tables::{LINKS, ROWS, script_at};
+use kt_script::Script;
+use kt_worker::Worker;
 use std::alloc::{AllocError, Global};
 use std::collections::VecDeque;
 
@@ -28,16 +30,12 @@ fn empty_desks(alloc: Global) -> Result<Vec<Desk>, AllocError>
 }
 
 /// The row of the worker of this number.
-fn worker_row(workers: u8, number: u8) -> Node
-    ensures { part_of result ≡ opening_worker workers number }
+fn worker_row(alloc: Global, scripts: &[Script], number: u8) -> Result<Node, AllocError>
+    ensures { IfOk result (λ node. part_of node ≡ opening_worker scripts.now number) }
 {
-    if 1 <= number && number <= workers {
-        Node::Worker(Worker {
-            number: 0,
-            asked: None,
-        })
-    } else {
-        Node::Nobody
+    match script_at(scripts, number) {
+        Some(script) => Ok(Node::Worker(Worker::new(alloc, script)?)),
+        None => Ok(Node::Nobody),
     }
 }
 
@@ -56,12 +54,16 @@ fn store_row(alloc: Global, shards: u8, number: u8) -> Result<Node, AllocError>
 }
 
 /// The table of nodes.
-pub(crate) fn opening_nodes(alloc: Global, workers: u8, shards: u8) -> Result<Vec<Node>, AllocError>
-    ensures { IfOk result (λ nodes. map part_of nodes.items ≡ opening_rows workers shards 9) }
+pub(crate) fn opening_nodes(
+    alloc: Global,
+    scripts: &[Script],
+    shards: u8,
+) -> Result<Vec<Node>, AllocError>
+    ensures { IfOk result (λ nodes. map part_of nodes.items ≡ opening_rows scripts.now shards 9) }
 {
     let mut nodes = Vec::with_capacity(alloc, ROWS)?;
     for number in 0..NUMBERS {
-        let worker = worker_row(workers, number);
+        let worker = worker_row(alloc, scripts, number)?;
         let store = store_row(alloc, shards, number)?;
         nodes.push(worker)?;
         nodes.push(store)?;

@@ -210,9 +210,9 @@ fn orders(rt: HostRuntime) -> Result<(), Fail> {
     let mut draws = Draws(20_250_101);
     let mut taken = [0u32; 2];
     for order in 0..500u32 {
-        let taker = script(vec![in alloc; take(alloc, b"(?str)")?]?)?;
-        let first = script(vec![in alloc; put(alloc, b"(\"a\")")?]?)?;
-        let second = script(vec![in alloc; put(alloc, b"(\"b\")")?]?)?;
+        let taker = script(alloc, vec![in alloc; take(alloc, b"(?str)")?]?)?;
+        let first = script(alloc, vec![in alloc; put(alloc, b"(\"a\")")?]?)?;
+        let second = script(alloc, vec![in alloc; put(alloc, b"(\"b\")")?]?)?;
         let mut world = opened(alloc, vec![in alloc; taker, first, second]?)?;
         let most = if order % 2 == 0 { 100 } else { draws.below(12) };
         for _ in 0..most {

@@ -4,9 +4,11 @@
 ghost use Rattle.std.specs.Prelude.{◌≡◌, IfOk};
 ghost use Rattle.kt_core.specs.Plan.{issue_plan, request_plan, heard_plan, again_plan, ignored_plan, reply_plan, accepted_plan, service_plan, act_of};
 
-use crate::node::{BagChange, Change, Desk, Kept, Message, Request, Worker};
+use crate::node::{BagChange, Change, Desk, Kept, Message, Request};
 use kt_history::{Act, What};
+use kt_script::Script;
 use kt_tuple::{Answer, NodeId};
+use kt_worker::Worker;
 use std::alloc::{AllocError, Global};
 
 /// What a step does to its owner, what it sends to another node, and its note.
@@ -38,7 +40,7 @@ fn act_of(
     })
 }
 
-/// The worker asks the shard.
+/// The worker asks the shard, and becomes the asker.
 pub(crate) fn issue_plan(
     alloc: Global,
     node: NodeId,
@@ -46,15 +48,16 @@ pub(crate) fn issue_plan(
     request: &Request,
     shard: NodeId,
     next: u64,
+    asker: Worker,
 ) -> Result<Plan, AllocError>
-    ensures { IfOk result (λ plan. plan ≡ issue_plan node worker request.now shard next) }
+    ensures { IfOk result (λ plan. plan ≡ issue_plan node worker request.now shard next asker) }
 {
     let message = Message::Ask {
         request: request.copy(alloc)?,
         by: next,
     };
     Ok(Plan {
-        change: Change::Ask(request.op.copy(alloc)?),
+        change: Change::Work(asker),
         send: Some((shard, message)),
         note: act_of(alloc, node, 0, worker, request, What::Issue)?,
     })
@@ -144,7 +147,7 @@ pub(crate) fn request_plan(
     }
 }
 
-/// The worker has its answer.
+/// The worker has its answer, and becomes the hearer.
 fn accepted_plan(
     alloc: Global,
     node: NodeId,
@@ -152,12 +155,13 @@ fn accepted_plan(
     request: &Request,
     answer: &Answer,
     by: u64,
+    hearer: Worker,
 ) -> Result<Plan, AllocError>
-    ensures { IfOk result (λ plan. plan ≡ accepted_plan node number request.now answer.now by) }
+    ensures { IfOk result (λ plan. plan ≡ accepted_plan node number request.now answer.now by hearer) }
 {
     let what = What::Accepted(answer.copy(alloc)?);
     Ok(Plan {
-        change: Change::Accept,
+        change: Change::Work(hearer),
         send: None,
         note: act_of(alloc, node, by, number, request, what)?,
     })
@@ -167,16 +171,18 @@ fn accepted_plan(
 pub(crate) fn reply_plan(
     alloc: Global,
     node: NodeId,
+    script: &Script,
     worker: &Worker,
     number: u8,
     request: &Request,
     answer: &Answer,
     by: u64,
 ) -> Result<Plan, AllocError>
-    ensures { IfOk result (λ plan. plan ≡ reply_plan node worker.now number request.now answer.now by) }
+    ensures { IfOk result (λ plan. plan ≡ reply_plan node script.now worker.now number request.now answer.now by) }
 {
-    if worker.awaits(request) {
-        accepted_plan(alloc, node, number, request, answer, by)
+    let mut hearer = worker.copy(alloc)?;
+    if hearer.hear(alloc, script, request.number, &request.op, answer)? {
+        accepted_plan(alloc, node, number, request, answer, by, hearer)
     } else {
         ignored_plan(alloc, node, number, request, by, Some(answer.copy(alloc)?))
     }

@@ -1,56 +1,13 @@
-ghost use Rattle.std.specs.Prelude.{◌≡◌, ◌↔◌, ◌≤◌, ℕ, List, length, IsSome, IfSome, IfOk, All};
+ghost use Rattle.std.specs.Prelude.{◌≡◌, ◌↔◌, ◌≤◌, length, IsSome, IfSome};
 
-use kt_tuple::Op;
-use std::alloc::{AllocError, Global};
+use kt_script::Script;
 use std::marker::Model;
-
-/// The most commands that a script has.
-pub const MAX_COMMANDS: usize = 200;
 
 /// The most workers of a scene.
 pub const MAX_WORKERS: usize = 8;
 
 /// The most shards of a scene.
 pub const MAX_SHARDS: u8 = 8;
-
-/// What a worker asks for, from first to last: 0 to 200 operations.
-#[derive(Debug, Drop)]
-pub struct Script {
-    commands: Vec<Op>,
-}
-
-impl Model for Script {
-    ghost use Rattle.std.specs.Prelude.{List, ◌≤◌, length};
-    ghost use Rattle.kt_tuple.specs.declared.op.Op.{Op};
-
-    ghost Value = { List Op };
-
-    ghost view = { λ s. s.commands.items };
-
-    ghost invariant = { λ s. length s.commands.items ≤ 200 };
-}
-
-impl Script {
-    /// The script of these commands, or `None` where they are more than 200.
-    pub fn new(commands: Vec<Op>) -> Option<Script>
-        ensures within { IsSome result ↔ (length commands.items ≤ 200) }
-        ensures value { IfSome result (λ s. s ≡ commands.items) }
-    {
-        if commands.len() <= MAX_COMMANDS {
-            Some(Script { commands })
-        } else {
-            None
-        }
-    }
-
-    /// The commands, from first to last.
-    pub fn commands(&self) -> &[Op]
-        ensures value { result.now ≡ self.now }
-        ensures few { length self.now ≤ 200 }
-    {
-        &self.commands
-    }
-}
 
 /// Who takes part: 1 to 8 workers, each with its script, and 1 to 8 shards.
 #[derive(Debug, Drop)]

@@ -1,12 +1,15 @@
-//! Reading the tables of nodes and links.
+//! Reading the scripts, and the tables of nodes and links.
 
-ghost use Rattle.std.specs.Prelude.{◌≡◌, ◌<◌, length, map, OnSome};
+ghost use Rattle.std.specs.Prelude.{◌≡◌, ◌<◌, length, map, [], OnSome};
 ghost use Rattle.std.specs.Option.{option_copied, option_map};
+ghost use Rattle.kt_core.specs.Asks.{script_at, script_numbered};
 ghost use Rattle.kt_core.specs.State.{Nobody, at, part_of, worker_of, store_of, store_view, node_number, link_index};
 ghost use Rattle.kt_tuple.specs.Node.{node_index};
 
-use crate::node::{Node, Shard, Worker};
+use crate::node::{Node, Shard};
+use kt_script::Script;
 use kt_tuple::NodeId;
+use kt_worker::Worker;
 
 /// How many rows the table of nodes has: workers and shards are numbered from 1 to 8.
 pub(crate) const ROWS: usize = 18;
@@ -28,6 +31,31 @@ pub(crate) fn link_index(from: NodeId, to: NodeId) -> usize
     ensures { result ≡ link_index from to }
 {
     ROWS * from.index() + to.index()
+}
+
+/// The script of the worker with this number, where there is such a worker.
+pub(crate) fn script_at(scripts: &[Script], number: u8) -> Option<&Script>
+    ensures { option_copied result ≡ script_at scripts.now number }
+{
+    if number == 0 {
+        return None;
+    }
+    scripts.get(usize::from(number - 1))
+}
+
+/// The script of the worker with this number, and the empty one where there is no such worker.
+pub(crate) fn script_numbered<'a>(
+    scripts: &'a [Script],
+    number: u8,
+    empty: &'a Script,
+) -> &'a Script
+    requires { empty.now ≡ [] }
+    ensures { result.now ≡ script_numbered scripts.now number }
+{
+    match script_at(scripts, number) {
+        Some(script) => script,
+        None => empty,
+    }
 }
 
 /// The worker of this name, where there is one.

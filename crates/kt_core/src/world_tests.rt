@@ -1,8 +1,10 @@
 //! Worked scenarios, step by step, and what a world makes of want of memory.
 
-use crate::{Mode, OpenError, Scene, Script, Step, StepError, World};
+use crate::{Mode, OpenError, Scene, Step, StepError, World};
+use arrayvec::ArrayVec;
 use kt_history::{Note, Service, What, space_of};
-use kt_tuple::{Answer, NodeId, Op, Template, Tuple};
+use kt_script::{Actual, Actuals, Command, Name, Operation, Pattern, Script, Slot};
+use kt_tuple::{Kind, NodeId, Place, Template, Tuple, Value};
 use std::alloc::{AllocError, Global};
 use std::process::Abort;
 use std::test::Fail;
@@ -17,17 +19,41 @@ pub(crate) const S1: NodeId = NodeId::Shard(1);
 
 const S2: NodeId = NodeId::Shard(2);
 
-pub(crate) fn put(alloc: Global, text: &[u8]) -> Result<Op, Fail> {
-    Ok(Op::Out(Tuple::parse(alloc, text)?))
+/// The command that puts this tuple.
+pub(crate) fn put(alloc: Global, text: &[u8]) -> Result<Command, Fail> {
+    let mut actuals = ArrayVec::new();
+    for value in Tuple::parse(alloc, text)?.values() {
+        let actual = Actual::Literal(value.copy());
+        actuals.try_push(actual).map_err(|_| "room")?;
+    }
+    let actuals = Actuals::new(actuals).ok_or("a tuple")?;
+    Ok(Command::Ask(Operation::Out(actuals)))
 }
 
-pub(crate) fn take(alloc: Global, text: &[u8]) -> Result<Op, Fail> {
-    Ok(Op::In(Template::parse(alloc, text)?))
+fn pattern(alloc: Global, text: &[u8]) -> Result<Pattern, Fail> {
+    let mut slots = ArrayVec::new();
+    for place in Template::parse(alloc, text)?.places() {
+        let slot = match place {
+            Place::Actual(value) => Slot::Actual(Actual::Literal(value.copy())),
+            Place::Formal(kind) => Slot::Formal(*kind, None),
+        };
+        slots.try_push(slot).map_err(|_| "room")?;
+    }
+    Ok(Pattern::new(slots).ok_or("a template")?)
+}
+
+/// The command that takes what matches this template.
+pub(crate) fn take(alloc: Global, text: &[u8]) -> Result<Command, Fail> {
+    Ok(Command::Ask(Operation::In(pattern(alloc, text)?)))
 }
 
 /// The script of these commands.
-pub(crate) fn script(commands: Vec<Op>) -> Result<Script, Fail> {
-    Ok(Script::new(commands).ok_or("a script")?)
+pub(crate) fn script(alloc: Global, commands: Vec<Command>) -> Result<Script, Fail> {
+    let mut script = Script::new(alloc);
+    for command in commands {
+        script.push(command)?;
+    }
+    Ok(script)
 }
 
 /// A world with one shard and a worker for each script.
@@ -180,7 +206,7 @@ fn made(rt: &impl Abort, world: &World, counts: &[(NodeId, u64)]) {
 /// The world of one worker that puts a tuple and takes it.
 fn putter_and_taker(alloc: Global) -> Result<Vec<Script>, Fail> {
     let commands = vec![in alloc; put(alloc, b"(\"a\", 1)")?, take(alloc, b"(\"a\", ?int)")?]?;
-    Ok(vec![in alloc; script(commands)?]?)
+    Ok(vec![in alloc; script(alloc, commands)?]?)
 }
 
 #[test]
@@ -313,9 +339,9 @@ fn refusals(rt: HostRuntime) -> Result<(), Fail> {
 #[test]
 fn two_takers(rt: HostRuntime) -> Result<(), Fail> {
     let alloc = rt.alloc();
-    let first = script(vec![in alloc; take(alloc, b"(\"t\")")?]?)?;
-    let second = script(vec![in alloc; take(alloc, b"(\"t\")")?]?)?;
-    let third = script(vec![in alloc; put(alloc, b"(\"t\")")?]?)?;
+    let first = script(alloc, vec![in alloc; take(alloc, b"(\"t\")")?]?)?;
+    let second = script(alloc, vec![in alloc; take(alloc, b"(\"t\")")?]?)?;
+    let third = script(alloc, vec![in alloc; put(alloc, b"(\"t\")")?]?)?;
     let mut world = opened(alloc, vec![in alloc; first, second, third]?)?;
     let no_match = Err(StepError::NoSuchMatch);
     let rows: [Row; 8] = [
@@ -350,6 +376,104 @@ fn two_takers(rt: HostRuntime) -> Result<(), Fail> {
     leaves(&rt, alloc, &world, &survivors, &[])?;
     made(&rt, &world, &[(W1, 1), (W2, 1), (W3, 1), (S1, 5)]);
     Ok(())
+}
+
+fn name() -> Result<Name, Fail> {
+    Ok(Name::new(b"x").ok_or("a name")?)
+}
+
+/// `inp ("a")`
+fn look(alloc: Global) -> Result<Command, Fail> {
+    Ok(Command::Ask(Operation::Inp(pattern(alloc, b"(\"a\")")?)))
+}
+
+/// `rd (5, ?int x)`
+fn read() -> Result<Command, Fail> {
+    let five = Slot::Actual(Actual::Literal(Value::Int(5)));
+    let mut slots = ArrayVec::new();
+    slots.try_push(five).map_err(|_| "room")?;
+    let x = Slot::Formal(Kind::Int, Some(name()?));
+    slots.try_push(x).map_err(|_| "room")?;
+    let found = Pattern::new(slots).ok_or("a template")?;
+    Ok(Command::Ask(Operation::Rd(found)))
+}
+
+/// `out (x)`
+fn put_found() -> Result<Command, Fail> {
+    let mut found = ArrayVec::new();
+    let x = Actual::Variable(name()?);
+    found.try_push(x).map_err(|_| "room")?;
+    let found = Actuals::new(found).ok_or("a tuple")?;
+    Ok(Command::Ask(Operation::Out(found)))
+}
+
+/// `inp ("a")`, `unless 1`, `out ("b")`, `rd (5, ?int x)`, `out (x)`.
+fn reader(alloc: Global) -> Result<Script, Fail> {
+    let mut script = Script::new(alloc);
+    script.push(look(alloc)?)?;
+    script.push(Command::Unless(1))?;
+    script.push(put(alloc, b"(\"b\")")?)?;
+    script.push(read()?)?;
+    script.push(put_found()?)?;
+    Ok(script)
+}
+
+#[test]
+fn inp_finds_nothing_and_rd_leaves_the_tuple(rt: HostRuntime) -> Result<(), Fail> {
+    let alloc = rt.alloc();
+    let putter = script(alloc, vec![in alloc; put(alloc, b"(5, 7)")?]?)?;
+    let mut world = opened(alloc, vec![in alloc; reader(alloc)?, putter]?)?;
+    let no_match = Err(StepError::NoSuchMatch);
+    let rows: [Row; 16] = [
+        (issue(W1), Ok(()), "w1 by 0: w1.1 inp (\"a\") issue"),
+        (deliver(W1, S1), Ok(()), "s1 by 1: w1.1 inp (\"a\") heard"),
+        (serve(S1, W1, 1), no_match, ""),
+        (
+            serve(S1, W1, 0),
+            Ok(()),
+            "s1 by 1: w1.1 inp (\"a\") served none",
+        ),
+        (
+            deliver(S1, W1),
+            Ok(()),
+            "w1 by 3: w1.1 inp (\"a\") accepted none",
+        ),
+        (issue(W1), Ok(()), "w1 by 0: w1.2 rd (5, ?int) issue"),
+        (deliver(W1, S1), Ok(()), "s1 by 5: w1.2 rd (5, ?int) heard"),
+        (serve(S1, W1, 0), no_match, ""),
+        (issue(W2), Ok(()), "w2 by 0: w2.1 out (5, 7) issue"),
+        (deliver(W2, S1), Ok(()), "s1 by 7: w2.1 out (5, 7) heard"),
+        (
+            serve(S1, W2, 0),
+            Ok(()),
+            "s1 by 7: w2.1 out (5, 7) served done",
+        ),
+        (
+            serve(S1, W1, 0),
+            Ok(()),
+            "s1 by 5: w1.2 rd (5, ?int) served got (5, 7)",
+        ),
+        (
+            deliver(S1, W1),
+            Ok(()),
+            "w1 by 10: w1.2 rd (5, ?int) accepted got (5, 7)",
+        ),
+        (issue(W1), Ok(()), "w1 by 0: w1.3 out (7) issue"),
+        (deliver(W1, S1), Ok(()), "s1 by 12: w1.3 out (7) heard"),
+        (
+            serve(S1, W1, 0),
+            Ok(()),
+            "s1 by 12: w1.3 out (7) served done",
+        ),
+    ];
+    play(&rt, alloc, &mut world, &rows)?;
+    let survivors = [
+        "w1.1 inp (\"a\") none",
+        "w2.1 out (5, 7) done",
+        "w1.2 rd (5, ?int) got (5, 7)",
+        "w1.3 out (7) done",
+    ];
+    leaves(&rt, alloc, &world, &survivors, &["(5, 7)", "(7)"])
 }
 
 /// How many blocks the hoard may have.
@@ -396,21 +520,19 @@ fn open_with_little(
 }
 
 /// Makes the step with a little more memory each time. Until it is made nothing changes.
+/// Whether it was refused before it was made.
 fn step_with_little(
     rt: &impl Abort,
     alloc: Global,
     world: &mut World,
     step: Step,
     spare: &mut Vec<Vec<u8>>,
-) -> Result<(), Fail> {
+) -> Result<bool, Fail> {
     let owner = step.owner();
     let before = (world.history().notes().len(), world.steps_of(owner));
     for round in 0..2000usize {
         match world.step(alloc, step) {
-            Ok(()) => {
-                assert!(rt; round > 0, "{step:?} takes no memory");
-                return Ok(());
-            }
+            Ok(()) => return Ok(round > 0),
             Err(error) => assert_eq!(rt; error, StepError::OutOfMemory, "{step:?}"),
         }
         let after = (world.history().notes().len(), world.steps_of(owner));
@@ -441,11 +563,15 @@ fn little_memory(rt: HostRuntime) -> Result<(), Fail> {
     let mut hoard = Vec::with_capacity(alloc, BLOCKS)?;
     hoard_all(alloc, &mut hoard)?;
     let mut world = open_with_little(&rt, alloc, scene, &mut spare)?;
+    let mut refused = 0u8;
     for step in steps {
         hoard_all(alloc, &mut hoard)?;
-        step_with_little(&rt, alloc, &mut world, step, &mut spare)?;
+        if step_with_little(&rt, alloc, &mut world, step, &mut spare)? {
+            refused = refused.saturating_add(1);
+        }
     }
     drop(hoard);
+    assert!(rt; refused >= 3, "{refused} of the steps were refused first");
     let survivors = [
         "w1.1 out (\"a\", 1) done",
         "w1.2 in (\"a\", ?int) got (\"a\", 1)",

@@ -23,7 +23,7 @@ fn numbers(alloc: Global, first: i64, second: Option<i64>) -> Result<Tuple, Fail
 
 fn text(alloc: Global, bytes: &[u8]) -> Result<Tuple, Fail> {
     let mut values = Vec::new(alloc);
-    let text = Str::new(Vec::from_slice(alloc, bytes)?).ok_or("text")?;
+    let text = Str::new(bytes).ok_or("text")?;
     values.push(Value::Str(text))?;
     Ok(Tuple::new(values).ok_or("arity")?)
 }

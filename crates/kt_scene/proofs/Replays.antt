@@ -1,5 +1,5 @@
 -- What the steps of a scenario answer is what its replay answers.
-use Rattle.std.proofs.Common.{◌≡◌, List, Result, Ok, Err, subst}
+use Rattle.std.proofs.Common.{◌≡◌, List, ℕ, Option, Result, Ok, Err, subst}
 use Rattle.std.specs.Prelude.{IfOk, IfErr}
 use Rattle.kt_core.specs.declared.step.Step.{Step}
 use Rattle.kt_core.specs.Cast.{Cast}
@@ -7,7 +7,9 @@ use Rattle.kt_core.specs.State.{State}
 use Rattle.kt_core.specs.Reached.{opening}
 use Rattle.kt_scene.specs.declared.fault.ReplayFault.{ReplayFault}
 use Rattle.kt_scene.specs.declared.fault.ReplayFault.TheVariants as faults
-use Rattle.kt_scene.specs.Run.{RunsTo, IsRefusedAt, IsStepFault, IsRunFault, IsReplayed, IsFaultBeforeReport}
+use Rattle.kt_scene.specs.Reading.{Play}
+use Rattle.kt_scene.specs.Scenario.{IsScenario}
+use Rattle.kt_scene.specs.Run.{RunsTo, IsRefusedAt, IsStepFault, IsRunFault, LeadsTo, IsTextFault, IsAllRead, IsFaultBefore, of_text}
 
 pub run_fault : (cast : Cast) (steps : List Step) (s : State) (fault : ReplayFault) → s ≡ opening cast → IsStepFault s steps fault → IsRunFault cast steps fault
 run_fault cast steps s (faults.Scene line cause) e f = f
@@ -17,18 +19,26 @@ run_fault cast steps s faults.Memory e f = f
 run_fault cast steps s faults.Read e f = f
 run_fault cast steps s faults.Write e f = f
 
-before_report : (cast : Cast) (steps : List Step) (fault : ReplayFault) → IsRunFault cast steps fault → IsFaultBeforeReport fault
-before_report cast steps (faults.Scene line cause) f = tt
-before_report cast steps (faults.Step at cause) f = (cast, steps, f)
-before_report cast steps (faults.Open cause) f = tt
-before_report cast steps faults.Memory f = tt
-before_report cast steps faults.Read f = tt
-before_report cast steps faults.Write f = f
+text_fault : (text : List ℕ) (play : Play) (fault : ReplayFault) → IsScenario text play → IsRunFault play.cast play.steps fault → IsTextFault text fault
+text_fault text play (faults.Scene line cause) e f = absurd f
+text_fault text play (faults.Step at cause) e f = (play, e, f)
+text_fault text play (faults.Open cause) e f = (play, e)
+text_fault text play faults.Memory e f = f
+text_fault text play faults.Read e f = f
+text_fault text play faults.Write e f = f
 
-pub replayed : (cast : Cast) (steps : List Step) (r : Result State ReplayFault) → IfOk r (λ s. RunsTo (opening cast) steps s) → IfOk r IsReplayed
-replayed cast steps (Ok s) runs = record { cast = cast; steps = steps; runs = runs }
-replayed cast steps (Err fault) runs = tt
+pub told_leads : (text : List ℕ) (play : Play) (r : Result State ReplayFault) → IsScenario text play → IfOk r (λ s. RunsTo (opening play.cast) play.steps s) → IfOk r (LeadsTo text)
+told_leads text play (Ok s) e runs = record { play = play; scenario = e; runs = runs }
+told_leads text play (Err fault) e runs = tt
 
-pub faulted : (cast : Cast) (steps : List Step) (r : Result State ReplayFault) → IfErr r (IsRunFault cast steps) → IfErr r IsFaultBeforeReport
-faulted cast steps (Ok s) f = tt
-faulted cast steps (Err fault) f = before_report cast steps fault f
+pub told_fault : (text : List ℕ) (play : Play) (r : Result State ReplayFault) → IsScenario text play → IfErr r (IsRunFault play.cast play.steps) → IfErr r (IsTextFault text)
+told_fault text play (Ok s) e f = tt
+told_fault text play (Err fault) e f = text_fault text play fault e f
+
+-- what the text that was read answers comes before the report
+pub told_before : (before after : Option (List ℕ)) (text held : List ℕ) (r : Result State ReplayFault) → IsAllRead before after text → held ≡ text → IfErr r (IsTextFault held)
+    → IfErr r (IsFaultBefore before after)
+told_before before after text held (Ok s) read same f = tt
+told_before before after text held (Err fault) read same f =
+    let P : List ℕ → Type 0 = λ t. IsTextFault t fault in
+    of_text text read (subst P same f)

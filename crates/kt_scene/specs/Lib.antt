@@ -1,4 +1,11 @@
 pub mod Fault
+pub mod Number
+pub mod Steps
+pub mod Commands
+pub mod Lines
+pub mod Reading
 pub mod Stream
 pub mod Report
+pub mod Text
+pub mod Scenario
 pub mod Run

@@ -5,7 +5,14 @@ use Rattle.kt_core.specs.declared.step.StepError.{StepError}
 use Rattle.kt_core.specs.Cast.{Cast}
 use Rattle.kt_core.specs.State.{State}
 use Rattle.kt_core.specs.Reached.{opening}
+use Rattle.std.specs.Io.KnownBytes.{Consumes, IsAtEnd}
+use Rattle.kt_scene.specs.declared.scenario.Scenario.{Scenario}
+use Rattle.kt_scene.specs.declared.scenario.Work.{Work}
+use Rattle.kt_scene.specs.declared.scenario.Work.TheVariants.{Steps}
+use Rattle.kt_scene.specs.Reading.{Play, play_of, IsFirstFault}
+use Rattle.kt_scene.specs.Scenario.{IsScenario}
 use Rattle.kt_scene.specs.Report.{WritesReport, WritesReportFront}
+use Rattle.kt_scene.specs.Stream.{IsReadFault, IsReportFault}
 use Rattle.kt_core.specs.Effect.{step_result}
 use Rattle.kt_core.specs.Machine.{Refuses}
 use Rattle.kt_scene.specs.declared.fault.ReplayFault.{ReplayFault}
@@ -36,32 +43,12 @@ IsStepFault old steps faults.Memory = ⊥
 IsStepFault old steps faults.Read = ⊥
 IsStepFault old steps faults.Write = ⊥
 
--- the steps of a scenario that was read led to this state from the opening of its scene
-pub record IsReplayed (s : State) : Type 0 where
-  pub cast : Cast
-  pub steps : List Step
-  pub runs : RunsTo (opening cast) steps s
+-- what a scenario as the code has it stands for
+abbrev pub steps_in : Work → List Step
+steps_in (Steps steps) = steps.items
 
--- what is written is the report of the state that the steps of a scenario led to, and nothing else
-pub record WritesReplayed (old new : Option (List ℕ)) : Type 0 where
-  pub state : State
-  pub replayed : IsReplayed state
-  pub report : WritesReport state.history [] old new
-
--- a front of that report is written
-pub record WritesReplayedFront (old new : Option (List ℕ)) : Type 0 where
-  pub state : State
-  pub replayed : IsReplayed state
-  pub report : WritesReportFront state.history [] old new
-
--- what comes before the report answers: not that the writer failed; and of a step the first that was refused
-abbrev pub IsFaultBeforeReport : ReplayFault → Type 0
-IsFaultBeforeReport (faults.Scene line cause) = Unit {0}
-IsFaultBeforeReport (faults.Step at cause) = (cast : Cast) × (steps : List Step) × IsRefusedAt (opening cast) steps at cause
-IsFaultBeforeReport (faults.Open cause) = Unit {0}
-IsFaultBeforeReport faults.Memory = Unit {0}
-IsFaultBeforeReport faults.Read = Unit {0}
-IsFaultBeforeReport faults.Write = ⊥
+abbrev pub play_in : Scenario → Play
+play_in scenario = record { cast = scenario.scene; steps = steps_in scenario.work }
 
 -- what making the steps of a scenario answers: that the world could not be opened, or the first step refused
 abbrev pub IsRunFault : Cast → List Step → ReplayFault → Type 0
@@ -72,11 +59,51 @@ IsRunFault cast steps faults.Memory = ⊥
 IsRunFault cast steps faults.Read = ⊥
 IsRunFault cast steps faults.Write = ⊥
 
--- a refused step of a replay was the first of some scenario's
-abbrev pub IsReplayFault : ReplayFault → Type 0
-IsReplayFault (faults.Scene line cause) = Unit {0}
-IsReplayFault (faults.Step at cause) = (cast : Cast) × (steps : List Step) × IsRefusedAt (opening cast) steps at cause
-IsReplayFault (faults.Open cause) = Unit {0}
-IsReplayFault faults.Memory = Unit {0}
-IsReplayFault faults.Read = Unit {0}
-IsReplayFault faults.Write = Unit {0}
+-- the text is a scenario's, and its steps led to this state from the opening of its scene
+pub record LeadsTo (text : List ℕ) (s : State) : Type 0 where
+  pub play : Play
+  pub scenario : IsScenario text play
+  pub runs : RunsTo (opening play.cast) play.steps s
+
+-- what a text answers: its first fault; or it is a scenario's, whose world could not be opened or whose first refused
+-- step this is
+abbrev pub IsTextFault : List ℕ → ReplayFault → Type 0
+IsTextFault text (faults.Scene line cause) = IsFirstFault line cause (play_of text)
+IsTextFault text (faults.Step at cause) = (play : Play) × IsScenario text play × IsRefusedAt (opening play.cast) play.steps at cause
+IsTextFault text (faults.Open cause) = (play : Play) × IsScenario text play
+IsTextFault text faults.Memory = ⊥
+IsTextFault text faults.Read = ⊥
+IsTextFault text faults.Write = ⊥
+
+-- the text is all that was read, to the end
+pub record IsAllRead (before after : Option (List ℕ)) (text : List ℕ) : Type 0 where
+  pub bytes : Consumes before after text
+  pub all : IsAtEnd after
+
+-- what was read is the text of a scenario whose steps led to this state
+pub record IsReplayed (before after : Option (List ℕ)) (s : State) : Type 0 where
+  pub text : List ℕ
+  pub read : IsAllRead before after text
+  pub leads : LeadsTo text s
+
+-- what comes before the report answers: what reading alone answers, or what the text that was read answers
+pub data IsFaultBefore (before after : Option (List ℕ)) (fault : ReplayFault) : Type 0 where
+  of_reading : IsReadFault before fault → IsFaultBefore before after fault
+  of_text : (text : List ℕ) → IsAllRead before after text → IsTextFault text fault → IsFaultBefore before after fault
+
+-- what is written is the report of the state that the steps of the scenario that was read led to, and nothing else
+pub record WritesReplayed (before after old new : Option (List ℕ)) : Type 0 where
+  pub state : State
+  pub replayed : IsReplayed before after state
+  pub report : WritesReport state.history [] old new
+
+-- a front of that report is written
+pub record WritesReplayedFront (before after old new : Option (List ℕ)) : Type 0 where
+  pub state : State
+  pub replayed : IsReplayed before after state
+  pub report : WritesReportFront state.history [] old new
+
+-- what a replay answers before it writes; while it writes, want of memory or a failure of the writer
+pub data IsReplayFault (before after : Option (List ℕ)) (fault : ReplayFault) : Type 0 where
+  before_report : IsFaultBefore before after fault → IsReplayFault before after fault
+  in_report : IsReportFault fault → IsReplayFault before after fault

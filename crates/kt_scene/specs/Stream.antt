@@ -14,14 +14,15 @@ abbrev pub IsTooLong : Option (List ℕ) → Type 0
 IsTooLong None = Unit {0}
 IsTooLong (Some bytes) = 1048576 < length bytes
 
--- what reading alone answers: more bytes than a scenario has, want of memory, or a failure of the reader
-abbrev pub IsReadFault : ReplayFault → Type 0
-IsReadFault (faults.Scene line cause) = (line ≡ 1) × (cause ≡ Limit)
-IsReadFault (faults.Step at cause) = ⊥
-IsReadFault (faults.Open cause) = ⊥
-IsReadFault faults.Memory = Unit {0}
-IsReadFault faults.Read = Unit {0}
-IsReadFault faults.Write = ⊥
+-- what reading alone answers where these bytes were left: that they are more than a scenario has, want of memory,
+-- or a failure of the reader
+abbrev pub IsReadFault : Option (List ℕ) → ReplayFault → Type 0
+IsReadFault bytes (faults.Scene line cause) = (line ≡ 1) × (cause ≡ Limit) × IsTooLong bytes
+IsReadFault bytes (faults.Step at cause) = ⊥
+IsReadFault bytes (faults.Open cause) = ⊥
+IsReadFault bytes faults.Memory = Unit {0}
+IsReadFault bytes faults.Read = Unit {0}
+IsReadFault bytes faults.Write = ⊥
 
 -- P, unless the fault is the writer's
 abbrev pub UnlessWrite : ReplayFault → Type 0 → Type 0

@@ -1,170 +1,298 @@
-//! A command's tuple or template: places that may have names.
+//! The lines of commands, read without memory.
 
+ghost use Rattle.std.specs.Prelude.{◌≡◌, ◌≤◌, ℕ, List, [], ◌∷◌, length, IfSome, IfOk, Some, None, not, position};
+ghost use Rattle.std.specs.Option.{option_map};
+ghost use Rattle.kt_tuple.specs.Matching.{HasArity};
+ghost use Rattle.kt_script.specs.Name.{begins_with_letter, is_name_character};
+ghost use Rattle.kt_scene.specs.Commands.{name_length, name_at, actual_at, kind_at, named, slot_at, slots_in, actuals_of, operation_of, verb_at, set_with, set_of, unless_with, unless_of, asked, spelled_of, fault_behind};
+
+use crate::fault::SceneError;
+use crate::line::{behind, ended, number_at};
 use arrayvec::ArrayVec;
-use kt_tuple::{
-    Kind, MAX_PLACES, Op, Place, Template, Tuple, Value, after_place, is_in_range, is_short,
-    place_at, place_of, value_at, value_of, word_at,
+use kt_script::{
+    Actual, Actuals, Command, Name, Operation, Pattern, Script, ScriptError, Slot,
+    is_name_character,
 };
-use std::alloc::{AllocError, Global};
+use kt_tuple::{Kind, MAX_PLACES, after_place, int_at, int_of, value_at, value_of};
 
-/// The longest name.
-const MAX_NAME: usize = 16;
-
-/// The words that are no names.
-const RESERVED: [&[u8]; 5] = [b"int", b"str", b"bool", b"true", b"false"];
-
-/// What a command does.
+/// What an operation does.
 #[derive(Clone, Copy, Debug, PartialEq, Eq)]
-pub enum Verb {
+pub(crate) enum Verb {
     Out,
     In,
+    Rd,
+    Inp,
+    Rdp,
 }
 
-/// A place of a command as it is spelled.
-#[derive(Clone, Copy, Debug)]
-pub struct CommandPlace<'a> {
-    /// A value, `?int` or `?str`.
-    pub spelling: &'a [u8],
-    /// The name behind a formal.
-    pub name: Option<&'a [u8]>,
+/// A command as its line spells it.
+#[derive(Debug, Drop)]
+pub(crate) struct Spelled {
+    pub(crate) command: Command,
+    /// The number in it is not too large; otherwise 0 stands in its place.
+    pub(crate) fits: bool,
 }
 
-impl Default for CommandPlace<'_> {
-    fn default() -> Self {
-        CommandPlace {
-            spelling: &[],
-            name: None,
-        }
-    }
-}
-
-impl CommandPlace<'_> {
-    /// The kind of a formal.
-    pub fn kind(self) -> Kind {
-        if self.spelling == b"?int".as_slice() {
-            Kind::Int
-        } else {
-            Kind::Str
-        }
-    }
-}
-
-/// The places of a command.
-pub type CommandPlaces<'a> = ArrayVec<CommandPlace<'a>, MAX_PLACES>;
-
-impl Verb {
-    /// The command's verb and what follows it, where the line begins with one.
-    pub fn read(line: &[u8]) -> Option<(Verb, &[u8])> {
-        if let Ok(spelling) = word_at(line, b"out ") {
-            Some((Verb::Out, spelling))
-        } else if let Ok(spelling) = word_at(line, b"in ") {
-            Some((Verb::In, spelling))
-        } else {
-            None
-        }
-    }
-
-    /// The places of the verb's tuple or template, or `None` where the text is none. It takes no memory.
-    pub fn places(self, text: &[u8]) -> Option<CommandPlaces<'_>> {
-        let mut places = CommandPlaces::new();
-        let mut rest = word_at(text, b"(").ok()?;
-        for _ in 0..MAX_PLACES {
-            let (place, after) = self.place_at(rest)?;
-            if !is_in_range(place.spelling) || !is_short(place.spelling) {
-                return None;
-            }
-            places.try_push(place).ok()?;
-            match after_place(after).ok()? {
-                None => return Some(places),
-                Some(next) => rest = next,
-            }
-        }
-        None
-    }
-
-    fn place_at(self, text: &[u8]) -> Option<(CommandPlace<'_>, &[u8])> {
-        match self {
-            Verb::Out => {
-                let (spelling, rest) = value_at(text).ok()?;
-                Some((
-                    CommandPlace {
-                        spelling,
-                        name: None,
-                    },
-                    rest,
-                ))
-            }
-            Verb::In => {
-                let (spelling, rest) = place_at(text).ok()?;
-                let (name, rest) = name_behind(spelling, rest)?;
-                Some((CommandPlace { spelling, name }, rest))
-            }
-        }
-    }
-
-    /// The operation at these places; the names are gone.
-    pub fn op(self, alloc: Global, places: &[CommandPlace<'_>]) -> Result<Option<Op>, AllocError> {
-        match self {
-            Verb::Out => Ok(Tuple::new(values_of(alloc, places)?).map(Op::Out)),
-            Verb::In => Ok(Template::new(templates_of(alloc, places)?).map(Op::In)),
-        }
-    }
-}
-
-/// The name behind a formal, where one stands there. `None` where a space stands there and no name.
-fn name_behind<'a>(spelling: &[u8], text: &'a [u8]) -> Option<(Option<&'a [u8]>, &'a [u8])> {
-    match text.split_first() {
-        Some((b' ', rest)) if spelling.first() == Some(&b'?') => {
-            let (name, rest) = name_at(rest)?;
-            Some((Some(name), rest))
-        }
-        _ => Some((None, text)),
-    }
-}
-
-/// Reads a name: a small letter and up to 15 of small letters, digits and `_`, and none of the reserved words.
-fn name_at(text: &[u8]) -> Option<(&[u8], &[u8])> {
-    let length = match text.iter().position(|c| !is_name_character(*c)) {
+/// How many characters of a name stand in front.
+fn name_length(text: &[u8]) -> usize
+    ensures value { result ≡ name_length text.now }
+    ensures within { result ≤ length text.now }
+{
+    match name_end(text) {
         Some(length) => length,
         None => text.len(),
-    };
-    let (name, rest) = text.split_at(length);
-    if is_name(name) {
-        Some((name, rest))
+    }
+}
+
+/// Where the first byte stands that no name has.
+fn name_end(text: &[u8]) -> Option<usize>
+    ensures value { result ≡ position (λ c. not (is_name_character c)) text.now }
+    ensures within { IfSome result (λ n. n ≤ length text.now) }
+{
+    text.iter().position(|c| !is_name_character(*c))
+}
+
+/// A name, up to the first byte that none has.
+#[tactic(auto, unfolding(crate::specs::Commands::name_at))]
+fn name_at(text: &[u8]) -> Option<(Name, &[u8])>
+    ensures { option_map (λ x. (x.0, x.1.now)) result ≡ name_at text.now }
+{
+    let (word, rest) = text.split_at(name_length(text));
+    match Name::new(word) {
+        Some(name) => Some((name, rest)),
+        None => None,
+    }
+}
+
+/// A variable's name or a value.
+#[tactic(auto, unfolding(crate::specs::Commands::actual_at))]
+fn actual_at(text: &[u8]) -> Option<(Actual, &[u8])>
+    ensures { option_map (λ x. (x.0, x.1.now)) result ≡ actual_at text.now }
+{
+    if begins_with_letter(text) {
+        let (name, rest) = name_at(text)?;
+        return Some((Actual::Variable(name), rest));
+    }
+    match value_at(text) {
+        Ok((spelling, rest)) => {
+            let value = value_of(spelling)?;
+            Some((Actual::Literal(value), rest))
+        }
+        Err(_) => None,
+    }
+}
+
+/// `?int` or `?str`.
+fn kind_at(text: &[u8]) -> Option<(Kind, &[u8])>
+    ensures { option_map (λ x. (x.0, x.1.now)) result ≡ kind_at text.now }
+{
+    if let Some(rest) = behind(text, b"?int") {
+        Some((Kind::Int, rest))
+    } else if let Some(rest) = behind(text, b"?str") {
+        Some((Kind::Str, rest))
     } else {
         None
     }
 }
 
-fn is_name(name: &[u8]) -> bool {
-    match name.first() {
-        Some(b'a'..=b'z') => {
-            name.len() <= MAX_NAME && RESERVED.iter().all(|reserved| name != *reserved)
-        }
-        _ => false,
+/// A space and a name behind a kind, or neither.
+fn named(kind: Kind, rest: &[u8]) -> Option<(Slot, &[u8])>
+    ensures { option_map (λ x. (x.0, x.1.now)) result ≡ named kind rest.now }
+{
+    if let Some(words) = behind(rest, b" ") {
+        let (name, rest) = name_at(words)?;
+        Some((Slot::Formal(kind, Some(name)), rest))
+    } else {
+        Some((Slot::Formal(kind, None), rest))
     }
 }
 
-fn is_name_character(c: u8) -> bool {
-    matches!(c, b'a'..=b'z' | b'0'..=b'9' | b'_')
-}
-
-fn values_of(alloc: Global, places: &[CommandPlace<'_>]) -> Result<Vec<Value>, AllocError> {
-    let mut values = Vec::with_capacity(alloc, places.len())?;
-    for place in places {
-        if let Some(value) = value_of(alloc, place.spelling)? {
-            values.push(value)?;
+/// A place of a command.
+#[tactic(auto, unfolding(crate::specs::Commands::slot_at))]
+fn slot_at(text: &[u8]) -> Option<(Slot, &[u8])>
+    ensures { option_map (λ x. (x.0, x.1.now)) result ≡ slot_at text.now }
+{
+    match text.first() {
+        None => None,
+        Some(b'?') => {
+            let (kind, rest) = kind_at(text)?;
+            named(kind, rest)
+        }
+        Some(_) => {
+            let (actual, rest) = actual_at(text)?;
+            Some((Slot::Actual(actual), rest))
         }
     }
-    Ok(values)
 }
 
-fn templates_of(alloc: Global, places: &[CommandPlace<'_>]) -> Result<Vec<Place>, AllocError> {
-    let mut templates = Vec::with_capacity(alloc, places.len())?;
-    for place in places {
-        if let Some(template) = place_of(alloc, place.spelling)? {
-            templates.push(template)?;
+/// The 1 to 8 places of a text in parentheses.
+fn slots_in(text: &[u8]) -> Option<ArrayVec<Slot, MAX_PLACES>>
+    ensures value { option_map (λ s. s.items) result ≡ slots_in text.now }
+    ensures arity { IfSome result (λ s. HasArity s.items) }
+{
+    let mut slots = ArrayVec::new();
+    let mut rest = behind(text, b"(")?;
+    for _ in 0..MAX_PLACES {
+        let Some((slot, after)) = slot_at(rest) else {
+            return None;
+        };
+        slots.push(slot);
+        match after_place(after) {
+            Ok(None) => return Some(slots),
+            Ok(Some(next)) => rest = next,
+            Err(_) => return None,
         }
     }
-    Ok(templates)
+    None
+}
+
+/// The places as those of a tuple: none of them is a formal.
+fn actuals_of(slots: &[Slot]) -> Option<ArrayVec<Actual, MAX_PLACES>>
+    requires { length slots.now ≤ 8 }
+    ensures { option_map (λ a. a.items) result ≡ actuals_of slots.now }
+{
+    let mut actuals = ArrayVec::new();
+    for slot in slots {
+        match slot {
+            Slot::Actual(actual) => actuals.push(actual.copy()),
+            Slot::Formal(..) => return None,
+        }
+    }
+    Some(actuals)
+}
+
+impl Verb {
+    /// The operation with these places.
+    fn operation(self, slots: ArrayVec<Slot, MAX_PLACES>) -> Option<Operation>
+        requires { HasArity slots.items }
+        ensures { result ≡ operation_of self slots.items }
+    {
+        match self {
+            Verb::Out => Some(Operation::Out(Actuals::new(actuals_of(&slots)?)?)),
+            Verb::In => Some(Operation::In(Pattern::new(slots)?)),
+            Verb::Rd => Some(Operation::Rd(Pattern::new(slots)?)),
+            Verb::Inp => Some(Operation::Inp(Pattern::new(slots)?)),
+            Verb::Rdp => Some(Operation::Rdp(Pattern::new(slots)?)),
+        }
+    }
+}
+
+/// The verb of a line, and what stands behind it and a space.
+fn verb_at(line: &[u8]) -> Option<(Verb, &[u8])>
+    ensures { option_map (λ x. (x.0, x.1.now)) result ≡ verb_at line.now }
+{
+    if let Some(rest) = behind(line, b"out ") {
+        Some((Verb::Out, rest))
+    } else if let Some(rest) = behind(line, b"in ") {
+        Some((Verb::In, rest))
+    } else if let Some(rest) = behind(line, b"rd ") {
+        Some((Verb::Rd, rest))
+    } else if let Some(rest) = behind(line, b"inp ") {
+        Some((Verb::Inp, rest))
+    } else if let Some(rest) = behind(line, b"rdp ") {
+        Some((Verb::Rdp, rest))
+    } else {
+        None
+    }
+}
+
+fn asked(verb: Verb, text: &[u8]) -> Option<Spelled>
+    ensures { result ≡ asked verb text.now }
+{
+    let slots = slots_in(text)?;
+    let operation = verb.operation(slots)?;
+    Some(Spelled {
+        command: Command::Ask(operation),
+        fits: true,
+    })
+}
+
+fn set_with(variable: Name, source: Name, number: Option<i64>) -> Spelled
+    ensures { result ≡ set_with variable source number }
+{
+    let (plus, fits) = match number {
+        Some(number) => (number, true),
+        None => (0, false),
+    };
+    Spelled {
+        command: Command::Set {
+            variable,
+            source,
+            plus,
+        },
+        fits,
+    }
+}
+
+/// `x = y + K`.
+fn set_of(words: &[u8]) -> Option<Spelled>
+    ensures { result ≡ set_of words.now }
+{
+    let (variable, rest) = name_at(words)?;
+    let (source, rest) = name_at(behind(rest, b" = ")?)?;
+    match int_at(behind(rest, b" + ")?) {
+        Ok((digits, rest)) => {
+            let number = ended(int_of(digits), rest)?;
+            Some(set_with(variable, source, number))
+        }
+        Err(_) => None,
+    }
+}
+
+fn unless_with(count: Option<u64>) -> Spelled
+    ensures { result ≡ unless_with count }
+{
+    match count {
+        Some(count) if count <= 255 => Spelled {
+            command: Command::Unless(count as u8),
+            fits: true,
+        },
+        _ => Spelled {
+            command: Command::Unless(0),
+            fits: false,
+        },
+    }
+}
+
+fn unless_of(words: &[u8]) -> Option<Spelled>
+    ensures { result ≡ unless_of words.now }
+{
+    let (count, rest) = number_at(words)?;
+    ended(unless_with(count), rest)
+}
+
+/// The command that the line spells, or what is wrong with the line by itself.
+pub(crate) fn spelled_of(line: &[u8]) -> Result<Spelled, SceneError>
+    ensures { result ≡ spelled_of line.now }
+{
+    if let Some((verb, text)) = verb_at(line) {
+        asked(verb, text).ok_or(SceneError::Tuple)
+    } else if let Some(words) = behind(line, b"set ") {
+        set_of(words).ok_or(SceneError::Word)
+    } else if let Some(words) = behind(line, b"unless ") {
+        unless_of(words).ok_or(SceneError::Word)
+    } else {
+        Err(SceneError::Word)
+    }
+}
+
+/// Why the command may not follow the script, want of memory aside.
+pub(crate) fn fault_behind(script: &Script, spelled: &Spelled) -> Option<SceneError>
+    ensures { result ≡ fault_behind script.now spelled.now }
+{
+    match script.refusal_of(&spelled.command) {
+        Some(ScriptError::Variable) => Some(SceneError::Variable),
+        Some(ScriptError::Limit) => Some(SceneError::Limit),
+        Some(ScriptError::OutOfMemory) | None if spelled.fits => None,
+        Some(ScriptError::OutOfMemory) | None => Some(SceneError::Limit),
+    }
+}
+
+fn begins_with_letter(text: &[u8]) -> bool
+    ensures { result ≡ begins_with_letter text.now }
+{
+    match text.first() {
+        Some(c) => (b'a'..=b'z').contains(c),
+        None => false,
+    }
 }

@@ -1,21 +1,24 @@
 //! A scenario, read line by line. Each line is judged without memory, and then kept.
 
-use crate::command::Verb;
-use crate::fault::{SceneError, SceneFault};
-use crate::line::{is_ignored, line_at, shards_of, step_of};
-use crate::names::Names;
-use crate::scenario::{Scenario, Work};
-use kt_core::{MAX_COMMANDS, MAX_WORKERS, Scene, Script, Step};
-use kt_tuple::Op;
-use std::alloc::Global;
-use std::mem;
+ghost use Rattle.std.specs.Prelude.{◌≡◌, ◌&&◌, ◌+◌, ◌<◌, ◌≤◌, ℕ, List, length, Ok, Err, OnOk, IfErr, IfOk, IsTrue, None};
+ghost use Rattle.std.specs.Option.{option_map};
+ghost use Rattle.kt_scene.specs.Reading.{is_empty, play_with};
+ghost use Rattle.kt_scene.specs.Run.{play_in};
+ghost use Rattle.kt_scene.specs.Lines.{nothing_read, is_word, is_ignored, count_of, shards_of, titled, with_shards, with_worker, in_script, with_command, in_steps, with_step, line_read, is_ended, closed, HasScripts, IsFaultOf};
 
-/// The most bytes that a scenario has.
-pub const MAX_TEXT: usize = 1_048_576;
+use crate::command::{Spelled, fault_behind, spelled_of};
+use crate::fault::SceneError;
+use crate::line::{behind, ended, number_at, step_of};
+use crate::scenario::{Scenario, Work};
+use kt_core::{MAX_WORKERS, Scene, Step};
+use kt_script::Script;
+use std::alloc::Global;
+use std::marker::Model;
+use std::mem;
 
 /// What the next line is to be.
 #[derive(Clone, Copy, Debug, PartialEq, Eq)]
-enum Stage {
+pub(crate) enum Stage {
     Title,
     Shards,
     /// The first worker.
@@ -28,147 +31,215 @@ enum Stage {
 
 /// What was read so far.
 #[derive(Debug, Drop)]
-struct Draft<'a> {
+pub(crate) struct Draft {
     alloc: Global,
     stage: Stage,
     shards: u8,
-    /// The workers before this one.
+    /// The scripts of the workers before this one.
     scripts: Vec<Script>,
-    /// This worker's commands.
-    commands: Vec<Op>,
-    /// This worker's names.
-    names: Names<'a>,
+    /// This worker's script.
+    script: Script,
     steps: Vec<Step>,
 }
 
-/// The scenario that the text spells, or the first line that has a fault.
-pub fn read_scene(alloc: Global, text: &[u8]) -> Result<Scenario, SceneFault> {
-    if text.len() > MAX_TEXT {
-        return Err(SceneFault {
-            line: 1,
-            cause: SceneError::Limit,
-        });
-    }
-    let mut draft = Draft::new(alloc);
-    let mut rest = text;
-    // A text has no more lines than bytes; behind the last one something is still asked for.
-    for line in 1..=text.len() + 1 {
-        let fault = |cause| SceneFault { line, cause };
-        if draft.stage == Stage::Ended && rest.is_empty() {
-            return draft.scenario().map_err(|cause| SceneFault { line, cause });
-        }
-        let Some((words, after)) = line_at(rest) else {
-            return Err(fault(SceneError::End));
-        };
-        draft.read(words).map_err(fault)?;
-        rest = after;
-    }
-    Err(SceneFault {
-        line: 1,
-        cause: SceneError::End,
-    })
+impl Model for Draft {
+    ghost use Rattle.kt_scene.specs.Lines.{Sketch, IsSketch};
+
+    ghost Value = { Sketch };
+
+    ghost view = { λ d. record { stage = d.stage; shards = d.shards; scripts = d.scripts.items; commands = d.script; steps = d.steps.items } };
+
+    ghost invariant = { λ d. IsSketch (record { stage = d.stage; shards = d.shards; scripts = d.scripts.items; commands = d.script; steps = d.steps.items }) };
 }
 
-impl<'a> Draft<'a> {
-    fn new(alloc: Global) -> Self {
+/// Whether the line begins with `#`.
+fn is_ignored(line: &[u8]) -> bool
+    ensures { result ≡ is_ignored line.now }
+{
+    line.first() == Some(&b'#')
+}
+
+/// How many shards the line `shards N` asks for.
+fn shards_of(line: &[u8]) -> Result<u8, SceneError>
+    ensures { result ≡ shards_of line.now }
+{
+    match count_of(line) {
+        None => Err(SceneError::Header),
+        Some(Some(1)) => Ok(1),
+        Some(_) => Err(SceneError::Limit),
+    }
+}
+
+fn count_of(line: &[u8]) -> Option<Option<u64>>
+    ensures { result ≡ count_of line.now }
+{
+    let (count, rest) = number_at(behind(line, b"shards ")?)?;
+    ended(count, rest)
+}
+
+impl Draft {
+    /// Nothing was read yet.
+    pub(crate) fn new(alloc: Global) -> Draft
+        ensures { result ≡ nothing_read }
+    {
         Draft {
             alloc,
             stage: Stage::Title,
             shards: 1,
             scripts: Vec::new(alloc),
-            commands: Vec::new(alloc),
-            names: Names::new(),
+            script: Script::new(alloc),
             steps: Vec::new(alloc),
         }
     }
 
-    /// Takes a line.
-    fn read(&mut self, line: &'a [u8]) -> Result<(), SceneError> {
-        match self.stage {
-            Stage::Ended => Err(SceneError::End),
-            _ if is_ignored(line) => Ok(()),
-            Stage::Title if line == b"linda-kt 1".as_slice() => {
-                self.stage = Stage::Shards;
-                Ok(())
-            }
-            Stage::Title => Err(SceneError::Header),
-            Stage::Shards => {
-                self.shards = shards_of(line)?;
-                self.stage = Stage::Workers;
-                Ok(())
-            }
-            Stage::Workers if line == b"worker".as_slice() => {
-                self.stage = Stage::Commands;
-                Ok(())
-            }
-            Stage::Workers => Err(SceneError::Word),
-            Stage::Commands => self.read_in_script(line),
-            Stage::Steps => self.read_in_steps(line),
-        }
+    /// Whether the last line was read.
+    fn is_ended(&self) -> bool
+        ensures { result ≡ is_ended self.now.stage }
+    {
+        self.stage == Stage::Ended
     }
 
-    fn read_in_script(&mut self, line: &'a [u8]) -> Result<(), SceneError> {
-        if line == b"worker".as_slice() {
-            if self.scripts.len() + 1 >= MAX_WORKERS {
-                return Err(SceneError::Limit);
-            }
-            self.close_script()
-        } else if line == b"steps".as_slice() {
-            self.close_script()?;
-            self.stage = Stage::Steps;
-            Ok(())
-        } else {
-            let (verb, spelling) = Verb::read(line).ok_or(SceneError::Word)?;
-            self.command(verb, spelling)
-        }
-    }
-
-    fn command(&mut self, verb: Verb, spelling: &'a [u8]) -> Result<(), SceneError> {
-        let places = verb.places(spelling).ok_or(SceneError::Tuple)?;
-        if !self.names.bind(&places) {
-            return Err(SceneError::Variable);
-        }
-        if self.names.are_too_many() || self.commands.len() >= MAX_COMMANDS {
-            return Err(SceneError::Limit);
-        }
-        let op = verb
-            .op(self.alloc, &places)
-            .map_err(|_| SceneError::OutOfMemory)?
-            .ok_or(SceneError::Tuple)?;
-        self.commands.push(op).map_err(|_| SceneError::OutOfMemory)
-    }
-
-    /// Ends this worker's script, and begins another.
-    fn close_script(&mut self) -> Result<(), SceneError> {
-        let commands = mem::replace(&mut self.commands, Vec::new(self.alloc));
-        let script = Script::new(commands).ok_or(SceneError::Limit)?;
-        self.names = Names::new();
-        self.scripts
-            .push(script)
-            .map_err(|_| SceneError::OutOfMemory)
-    }
-
-    fn read_in_steps(&mut self, line: &[u8]) -> Result<(), SceneError> {
-        if line == b"end".as_slice() {
-            self.stage = Stage::Ended;
-            return Ok(());
-        }
-        let step = step_of(line).ok_or(SceneError::Word)?;
-        self.steps.push(step).map_err(|_| SceneError::OutOfMemory)
-    }
-
-    /// The scenario, where all of it was read.
-    fn scenario(self) -> Result<Scenario, SceneError> {
+    /// The scenario, once the last line was read.
+    pub(crate) fn scenario(self) -> Scenario
+        requires { self.stage ≡ Stage.Ended }
+        ensures { play_in result ≡ play_with self }
+    {
         let Draft {
             shards,
             scripts,
             steps,
             ..
         } = self;
-        let scene = Scene::new(shards, scripts).ok_or(SceneError::Limit)?;
-        Ok(Scenario {
+        let scene = Scene::new(shards, scripts).unwrap();
+        Scenario {
             scene,
             work: Work::Steps(steps),
-        })
+        }
+    }
+
+    /// Whether the last line was read, and nothing stands behind it.
+    pub(crate) fn ends_before(&self, rest: &[u8]) -> bool
+        ensures { result ≡ (is_ended self.now.stage && is_empty rest.now) }
+    {
+        self.is_ended() && rest.is_empty()
+    }
+
+    /// Reads one line more.
+    pub(crate) fn read(&mut self, line: &[u8]) -> Result<(), SceneError>
+        ensures read { OnOk result (line_read self.old line.now ≡ Ok self.new) }
+        ensures fault { IfErr result (λ fault. IsFaultOf fault (line_read self.old line.now)) }
+    {
+        if self.is_ended() {
+            return Err(SceneError::End);
+        }
+        if is_ignored(line) {
+            return Ok(());
+        }
+        match self.stage {
+            Stage::Title => self.read_title(line),
+            Stage::Shards => self.read_shards(line),
+            Stage::Workers => self.read_worker(line),
+            Stage::Commands => self.read_in_script(line),
+            Stage::Steps => self.read_in_steps(line),
+            Stage::Ended => Err(SceneError::End),
+        }
+    }
+
+    fn read_title(&mut self, line: &[u8]) -> Result<(), SceneError>
+        requires { self.old.stage ≡ Stage.Title }
+        ensures read { OnOk result (titled self.old line.now ≡ Ok self.new) }
+        ensures fault { IfErr result (λ fault. IsFaultOf fault (titled self.old line.now)) }
+    {
+        if line != b"linda-kt 1".as_slice() {
+            return Err(SceneError::Header);
+        }
+        self.stage = Stage::Shards;
+        Ok(())
+    }
+
+    fn read_shards(&mut self, line: &[u8]) -> Result<(), SceneError>
+        requires { self.old.stage ≡ Stage.Shards }
+        ensures read { OnOk result (with_shards self.old (shards_of line.now) ≡ Ok self.new) }
+        ensures fault { IfErr result (λ fault. IsFaultOf fault (with_shards self.old (shards_of line.now))) }
+    {
+        self.shards = shards_of(line)?;
+        self.stage = Stage::Workers;
+        Ok(())
+    }
+
+    fn read_worker(&mut self, line: &[u8]) -> Result<(), SceneError>
+        requires { self.old.stage ≡ Stage.Workers }
+        ensures read { OnOk result (with_worker self.old line.now ≡ Ok self.new) }
+        ensures fault { IfErr result (λ fault. IsFaultOf fault (with_worker self.old line.now)) }
+    {
+        if line != b"worker".as_slice() {
+            return Err(SceneError::Word);
+        }
+        self.stage = Stage::Commands;
+        Ok(())
+    }
+
+    /// Reads another worker, the beginning of the steps or a command.
+    fn read_in_script(&mut self, line: &[u8]) -> Result<(), SceneError>
+        requires { self.old.stage ≡ Stage.Commands }
+        ensures read { OnOk result (in_script self.old line.now ≡ Ok self.new) }
+        ensures fault { IfErr result (λ fault. IsFaultOf fault (in_script self.old line.now)) }
+    {
+        let workers = self.scripts.len() + 1;
+        if line == b"worker".as_slice() {
+            if workers >= MAX_WORKERS {
+                return Err(SceneError::Limit);
+            }
+            self.close_script(Stage::Commands)
+        } else if line == b"steps".as_slice() {
+            self.close_script(Stage::Steps)
+        } else {
+            self.add_command(spelled_of(line)?)
+        }
+    }
+
+    /// Ends this worker's script.
+    fn close_script(&mut self, stage: Stage) -> Result<(), SceneError>
+        requires { HasScripts stage (length self.old.scripts + 1) }
+        ensures closed { OnOk result (self.new ≡ closed stage self.old) }
+        ensures memory { IfErr result (λ fault. fault ≡ SceneError.OutOfMemory) }
+    {
+        self.scripts
+            .reserve(1)
+            .map_err(|_| SceneError::OutOfMemory)?;
+        let script = mem::replace(&mut self.script, Script::new(self.alloc));
+        self.scripts.push_reserved(script);
+        self.stage = stage;
+        Ok(())
+    }
+
+    fn add_command(&mut self, spelled: Spelled) -> Result<(), SceneError>
+        requires { self.old.stage ≡ Stage.Commands }
+        ensures read { OnOk result (with_command self.old (Ok spelled) ≡ Ok self.new) }
+        ensures fault { IfErr result (λ fault. IsFaultOf fault (with_command self.old (Ok spelled))) }
+    {
+        if let Some(fault) = fault_behind(&self.script, &spelled) {
+            return Err(fault);
+        }
+        let Spelled { command, .. } = spelled;
+        self.script
+            .push(command)
+            .map_err(|_| SceneError::OutOfMemory)
+    }
+
+    /// Reads a step or the end.
+    fn read_in_steps(&mut self, line: &[u8]) -> Result<(), SceneError>
+        requires { self.old.stage ≡ Stage.Steps }
+        ensures read { OnOk result (in_steps self.old line.now ≡ Ok self.new) }
+        ensures fault { IfErr result (λ fault. IsFaultOf fault (in_steps self.old line.now)) }
+    {
+        if line == b"end".as_slice() {
+            self.stage = Stage::Ended;
+            return Ok(());
+        }
+        let Some(step) = step_of(line) else {
+            return Err(SceneError::Word);
+        };
+        self.steps.push(step).map_err(|_| SceneError::OutOfMemory)
     }
 }

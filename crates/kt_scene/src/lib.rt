@@ -4,21 +4,24 @@
 mod command;
 mod draft;
 mod fault;
+mod laws;
 mod line;
-mod names;
+mod reading;
 mod replaying;
 mod report;
 mod scenario;
 mod stream;
+mod writing;
 
-pub use draft::{MAX_TEXT, read_scene};
 pub use fault::{ReplayFault, SceneError, SceneFault};
 pub use kt_core::{OpenError, StepError};
-pub use names::MAX_VARIABLES;
+pub use laws::{what_is_read_is_spelled_so, what_is_spelled_so_is_read, what_was_read_is_written};
+pub use reading::{MAX_TEXT, read_scene};
 pub use replaying::replay;
 pub use report::write_report;
 pub use scenario::{Scenario, Work};
 pub use stream::{MAX_READS, read_text};
+pub use writing::write_scene;
 
 #[cfg(test)]
 mod replay_tests;

@@ -1,106 +1,128 @@
-//! Lines, and those of them that are not commands.
+//! Numbers, words and lines, and the lines of steps. Nothing here takes memory.
+//!
+//! A reader is given the bytes that are left. It answers what it read and the bytes behind it, or `None`.
 
-use crate::fault::SceneError;
+ghost use Rattle.std.specs.Prelude.{◌≡◌, ◌+◌, ◌<◌, length, List, ℕ};
+ghost use Rattle.std.specs.Option.{option_map};
+ghost use Rattle.kt_scene.specs.Number.{behind, ended, number_at, number_within};
+ghost use Rattle.kt_scene.specs.Steps.{node_at, node_before_space, issue_of, deliver_of, serve_of, step_of};
+
 use kt_core::Step;
-use kt_tuple::{NodeId, word_at};
+use kt_tuple::{NodeId, int_at, int_of, word_at};
 
-/// The line in front without its line feed, and the bytes after it; `None` where no line feed comes.
-pub fn line_at(text: &[u8]) -> Option<(&[u8], &[u8])> {
-    let length = text.iter().position(|c| *c == b'\n')?;
-    let (line, rest) = text.split_at(length);
-    let (_, after) = rest.split_first()?;
-    Some((line, after))
-}
-
-/// Whether the line is ignored.
-pub fn is_ignored(line: &[u8]) -> bool {
-    line.first() == Some(&b'#')
-}
-
-/// How many shards the line `shards N` asks for.
-pub fn shards_of(line: &[u8]) -> Result<u8, SceneError> {
-    let Ok(digits) = word_at(line, b"shards ") else {
-        return Err(SceneError::Header)
-    };
-    let (digits, rest) = digits_at(digits).ok_or(SceneError::Header)?;
-    if !rest.is_empty() {
-        return Err(SceneError::Header);
-    }
-    if digits == b"1".as_slice() {
-        Ok(1)
-    } else {
-        Err(SceneError::Limit)
+/// The bytes behind the word, where it stands in front.
+pub(crate) fn behind<'a>(text: &'a [u8], word: &[u8]) -> Option<&'a [u8]>
+    ensures { option_map (λ rest. rest.now) result ≡ behind text.now word.now }
+{
+    match word_at(text, word) {
+        Ok(rest) => Some(rest),
+        Err(_) => None,
     }
 }
 
-/// The step that the line says.
-pub fn step_of(line: &[u8]) -> Option<Step> {
-    if let Ok(words) = word_at(line, b"issue ") {
-        let node = last(node_at(words)?)?;
-        Some(Step::Issue { node })
-    } else if let Ok(words) = word_at(line, b"deliver ") {
-        let (from, words) = before_space(node_at(words)?)?;
-        let to = last(node_at(words)?)?;
-        Some(Step::Deliver { from, to })
-    } else if let Ok(words) = word_at(line, b"serve ") {
-        let (shard, words) = before_space(node_at(words)?)?;
-        let (worker, words) = before_space(node_at(words)?)?;
-        let place = last(number_at(words)?)?;
-        Some(Step::Serve {
-            shard,
-            worker,
-            place,
-        })
+/// What was read, where nothing stands behind it.
+pub(crate) fn ended<T: Drop>(read: T, rest: &[u8]) -> Option<T>
+    ensures { result ≡ ended (read, rest.now) }
+{
+    if rest.is_empty() { Some(read) } else { None }
+}
+
+/// A number without a sign: its value, `None` where that is above the greatest int.
+#[tactic(auto, unfolding(crate::specs::Number::number_at))]
+pub(crate) fn number_at(text: &[u8]) -> Option<(Option<u64>, &[u8])>
+    ensures { option_map (λ x. (x.0, x.1.now)) result ≡ number_at text.now }
+{
+    if !text.first()?.is_ascii_digit() {
+        return None;
+    }
+    match int_at(text) {
+        Ok((digits, rest)) => Some((int_of(digits).map(i64::unsigned_abs), rest)),
+        Err(_) => None,
+    }
+}
+
+/// A number from `low` to `high`.
+pub(crate) fn number_within(low: u64, high: u64, text: &[u8]) -> Option<(u64, &[u8])>
+    ensures { option_map (λ x. (x.0, x.1.now)) result ≡ number_within low high text.now }
+{
+    let (number, rest) = number_at(text)?;
+    let number = number?;
+    if low <= number && number <= high {
+        Some((number, rest))
     } else {
         None
     }
 }
 
-/// What was read, where a space comes next, and the bytes after the space.
-fn before_space<T: Drop>((word, rest): (T, &[u8])) -> Option<(T, &[u8])> {
-    Some((word, word_at(rest, b" ").ok()?))
-}
-
-/// What was read, where nothing comes next.
-fn last<T: Drop>((word, rest): (T, &[u8])) -> Option<T> {
-    if rest.is_empty() { Some(word) } else { None }
-}
-
-/// Reads `w` or `s` and a number from 1 to 99.
-fn node_at(text: &[u8]) -> Option<(NodeId, &[u8])> {
-    let (letter, digits) = text.split_first()?;
-    let (number, rest) = number_at(digits)?;
-    let number = u8::try_from(number).ok()?;
-    if !(1 <= number && number <= 99) {
-        return None;
-    }
-    match letter {
-        b'w' => Some((NodeId::Worker(number), rest)),
-        b's' => Some((NodeId::Shard(number), rest)),
+/// `w` or `s`, and a number from 1 to 99.
+#[tactic(auto, unfolding(crate::specs::Steps::node_at))]
+fn node_at(text: &[u8]) -> Option<(NodeId, &[u8])>
+    ensures { option_map (λ x. (x.0, x.1.now)) result ≡ node_at text.now }
+{
+    match text.split_first() {
+        Some((b'w', digits)) => {
+            let (number, rest) = number_within(1, 99, digits)?;
+            Some((NodeId::Worker(number as u8), rest))
+        }
+        Some((b's', digits)) => {
+            let (number, rest) = number_within(1, 99, digits)?;
+            Some((NodeId::Shard(number as u8), rest))
+        }
         _ => None,
     }
 }
 
-/// Reads a number of at most 5 digits.
-fn number_at(text: &[u8]) -> Option<(u64, &[u8])> {
-    let (digits, rest) = digits_at(text)?;
-    if digits.len() > 5 {
-        return None;
-    }
-    let number = str::from_utf8(digits).ok()?.parse::<u64>().ok()?;
-    Some((number, rest))
+/// A node, and a space behind it.
+fn node_before_space(text: &[u8]) -> Option<(NodeId, &[u8])>
+    ensures { option_map (λ x. (x.0, x.1.now)) result ≡ node_before_space text.now }
+{
+    let (node, rest) = node_at(text)?;
+    let rest = behind(rest, b" ")?;
+    Some((node, rest))
 }
 
-/// Reads digits without leading zeros.
-fn digits_at(text: &[u8]) -> Option<(&[u8], &[u8])> {
-    let length = match text.iter().position(|c| !c.is_ascii_digit()) {
-        Some(length) => length,
-        None => text.len(),
-    };
-    let (digits, rest) = text.split_at(length);
-    match digits.first() {
-        None => None,
-        Some(b'0') if digits.len() > 1 => None,
-        Some(_) => Some((digits, rest)),
+fn issue_of(words: &[u8]) -> Option<Step>
+    ensures { result ≡ issue_of words.now }
+{
+    let (node, rest) = node_at(words)?;
+    ended(Step::Issue { node }, rest)
+}
+
+fn deliver_of(words: &[u8]) -> Option<Step>
+    ensures { result ≡ deliver_of words.now }
+{
+    let (from, words) = node_before_space(words)?;
+    let (to, rest) = node_at(words)?;
+    ended(Step::Deliver { from, to }, rest)
+}
+
+fn serve_of(words: &[u8]) -> Option<Step>
+    ensures { result ≡ serve_of words.now }
+{
+    let (shard, words) = node_before_space(words)?;
+    let (worker, words) = node_before_space(words)?;
+    let (place, rest) = number_within(0, 99_999, words)?;
+    ended(
+        Step::Serve {
+            shard,
+            worker,
+            place,
+        },
+        rest,
+    )
+}
+
+/// The step that the line says.
+pub(crate) fn step_of(line: &[u8]) -> Option<Step>
+    ensures { result ≡ step_of line.now }
+{
+    if let Some(words) = behind(line, b"issue ") {
+        issue_of(words)
+    } else if let Some(words) = behind(line, b"deliver ") {
+        deliver_of(words)
+    } else if let Some(words) = behind(line, b"serve ") {
+        serve_of(words)
+    } else {
+        None
     }
 }

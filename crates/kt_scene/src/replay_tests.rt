@@ -84,7 +84,7 @@ fn empty(alloc: Global) -> Sink {
 }
 
 /// A scenario, its report, and the fault with which it ends.
-const ROWS: [(&[u8], &[u8], Result<(), ReplayFault>); 9] = [
+const ROWS: [(&[u8], &[u8], Result<(), ReplayFault>); 12] = [
     // put_and_take
     (
         b"linda-kt 1\nshards 1\nworker\nout (\"a\", 1)\nin (\"a\", ?int x)\nsteps\nissue w1\ndeliver w1 s1\nserve s1 w1 0\ndeliver s1 w1\nissue w1\ndeliver w1 s1\nserve s1 w1 0\nend\n",
@@ -117,6 +117,27 @@ const ROWS: [(&[u8], &[u8], Result<(), ReplayFault>); 9] = [
         b"linda-kt 1\nshards 1\nworker\nout (\"b\")\nworker\nout (10)\nworker\nout (\"b\")\nworker\nout (2)\nworker\nout (\"\\\"\")\nsteps\nissue w1\nissue w2\nissue w3\nissue w4\nissue w5\ndeliver w1 s1\ndeliver w2 s1\ndeliver w3 s1\ndeliver w4 s1\ndeliver w5 s1\nserve s1 w4 0\nserve s1 w1 0\nserve s1 w5 0\nserve s1 w2 0\nserve s1 w3 0\nend\n",
         b"survivors 5\nw4.1 out (2) done\nw1.1 out (\"b\") done\nw5.1 out (\"\\\"\") done\nw2.1 out (10) done\nw3.1 out (\"b\") done\nlost 0\nspace 5\n(\"\\\"\")\n(\"b\")\n(\"b\")\n(10)\n(2)\npermanent 0\n",
         Ok(()),
+    ),
+    // unless_skips
+    (
+        b"linda-kt 1\nshards 1\nworker\ninp (\"a\")\nunless 2\nout (\"b\")\nout (\"c\")\nout (\"d\")\nworker\nout (\"a\")\nout (\"a\")\nout (\"a\")\nrdp (\"a\")\nsteps\nissue w1\ndeliver w1 s1\nserve s1 w1 0\ndeliver s1 w1\nissue w1\ndeliver w1 s1\nserve s1 w1 0\nissue w2\ndeliver w2 s1\nserve s1 w2 0\ndeliver s1 w2\nissue w2\ndeliver w2 s1\nserve s1 w2 0\ndeliver s1 w2\nissue w2\ndeliver w2 s1\nserve s1 w2 0\ndeliver s1 w2\nissue w2\ndeliver w2 s1\nserve s1 w2 2\nend\n",
+        b"survivors 6\nw1.1 inp (\"a\") none\nw1.2 out (\"d\") done\nw2.1 out (\"a\") done\nw2.2 out (\"a\") done\nw2.3 out (\"a\") done\nw2.4 rdp (\"a\") got (\"a\")\nlost 0\nspace 4\n(\"a\")\n(\"a\")\n(\"a\")\n(\"d\")\npermanent 0\n",
+        Ok(()),
+    ),
+    // saturating_set
+    (
+        b"linda-kt 1\nshards 1\nworker\nout (9223372036854775807)\nin (?int x)\nset y = x + 1\nout (y)\nsteps\nissue w1\ndeliver w1 s1\nserve s1 w1 0\ndeliver s1 w1\nissue w1\ndeliver w1 s1\nserve s1 w1 0\ndeliver s1 w1\nissue w1\ndeliver w1 s1\nserve s1 w1 0\nend\n",
+        b"survivors 3\nw1.1 out (9223372036854775807) done\nw1.2 in (?int) got (9223372036854775807)\nw1.3 out (9223372036854775807) done\nlost 0\nspace 1\n(9223372036854775807)\npermanent 0\n",
+        Ok(()),
+    ),
+    // saturating_set, with a use before the binding
+    (
+        b"linda-kt 1\nshards 1\nworker\nset x = x + 1\nout (9223372036854775807)\nsteps\nissue w1\nend\n",
+        b"",
+        Err(ReplayFault::Scene {
+            line: 4,
+            cause: SceneError::Variable,
+        }),
     ),
     // a node that is not in the scene
     (
@@ -197,34 +218,35 @@ fn one_byte_a_call(rt: HostRuntime) -> Result<(), Fail> {
 /// A reader that fails at any call leaves nothing written, a writer a front of the report.
 #[test]
 fn failures(rt: HostRuntime) -> Result<(), Fail> {
-    let (text, report, _) = ROWS[0];
-    for good in 0..text.len() as u32 + 1 {
-        let mut source = Source {
-            at_once: 1,
-            good,
-            ..whole(text)
-        };
-        let mut sink = empty(rt.alloc());
-        assert_eq!(rt;
-            replay(rt.alloc(), &mut source, &mut sink),
-            Err(ReplayFault::Read)
-        );
-        assert_eq!(rt; sink.bytes.len(), 0);
-    }
-    for good in 0..report.len() as u32 {
-        let mut sink = Sink {
-            at_once: 1,
-            good,
-            ..empty(rt.alloc())
-        };
-        assert_eq!(rt;
-            replay(rt.alloc(), &mut whole(text), &mut sink),
-            Err(ReplayFault::Write)
-        );
-        assert_eq!(rt;
-            sink.bytes.as_slice(),
-            report.get(..good as usize).ok_or("a front")?
-        );
+    for (text, report, _) in ROWS {
+        for good in 0..text.len() as u32 + 1 {
+            let mut source = Source {
+                at_once: 1,
+                good,
+                ..whole(text)
+            };
+            let mut sink = empty(rt.alloc());
+            assert_eq!(rt;
+                replay(rt.alloc(), &mut source, &mut sink),
+                Err(ReplayFault::Read)
+            );
+            assert_eq!(rt; sink.bytes.len(), 0);
+        }
+        for good in 0..report.len() as u32 {
+            let mut sink = Sink {
+                at_once: 1,
+                good,
+                ..empty(rt.alloc())
+            };
+            assert_eq!(rt;
+                replay(rt.alloc(), &mut whole(text), &mut sink),
+                Err(ReplayFault::Write)
+            );
+            assert_eq!(rt;
+                sink.bytes.as_slice(),
+                report.get(..good as usize).ok_or("a front")?
+            );
+        }
     }
     Ok(())
 }

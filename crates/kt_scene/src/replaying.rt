@@ -3,13 +3,13 @@
 ghost use Rattle.std.specs.Prelude.{◌≡◌, List, ℕ, Err, IfOk, IfErr, OnOk};
 ghost use Rattle.std.specs.Io.KnownBytes.{Keeps};
 ghost use Rattle.kt_core.specs.Reached.{opening};
-ghost use Rattle.kt_scene.specs.Run.{IsRunFault, RunsTo, IsStepFault, IsReplayed, WritesReplayed, WritesReplayedFront, IsFaultBeforeReport, IsReplayFault};
+ghost use Rattle.kt_scene.specs.Run.{IsRunFault, RunsTo, IsStepFault, play_in, LeadsTo, IsTextFault, IsReplayed, WritesReplayed, WritesReplayedFront, IsFaultBefore, IsReplayFault};
 ghost use Rattle.kt_scene.specs.Stream.{UnlessWrite};
 
-use crate::draft::read_scene;
-use crate::fault::ReplayFault;
+use crate::fault::{ReplayFault, SceneFault};
+use crate::reading::read_scene;
 use crate::report::write_report;
-use crate::scenario::{Scenario, Work};
+use crate::scenario::Scenario;
 use crate::stream::read_text;
 use kt_core::{Scene, Step, World};
 use std::alloc::Global;
@@ -22,31 +22,44 @@ pub fn replay<R: Read, W: Write>(
     reader: &mut R,
     writer: &mut W,
 ) -> Result<(), ReplayFault>
-    ensures written { OnOk result (WritesReplayed (W.contents writer.old) (W.contents writer.new)) }
-    ensures front { result ≡ Err ReplayFault.Write → WritesReplayedFront (W.contents writer.old) (W.contents writer.new) }
-    ensures step { IfErr result IsReplayFault }
+    ensures written { OnOk result (WritesReplayed (R.remaining reader.old) (R.remaining reader.new) (W.contents writer.old) (W.contents writer.new)) }
+    ensures front { result ≡ Err ReplayFault.Write → WritesReplayedFront (R.remaining reader.old) (R.remaining reader.new) (W.contents writer.old) (W.contents writer.new) }
+    ensures fault { IfErr result (IsReplayFault (R.remaining reader.old) (R.remaining reader.new)) }
     // Before any fault but the writer's nothing is written.
     ensures nothing { IfErr result (λ fault. UnlessWrite fault (Keeps (W.contents writer.old) (W.contents writer.new))) }
 {
-    let mut world = world_of(alloc, reader)?;
-    write_report(alloc, &mut world, writer)
+    match world_of(alloc, reader) {
+        Ok(mut world) => write_report(alloc, &mut world, writer),
+        Err(fault) => Err(fault),
+    }
 }
 
 /// The world after the steps of the scenario that is read.
 fn world_of<R: Read>(alloc: Global, reader: &mut R) -> Result<World, ReplayFault>
-    ensures replayed { IfOk result (λ world. IsReplayed world) }
-    ensures fault { IfErr result IsFaultBeforeReport }
+    ensures replayed { IfOk result (λ world. IsReplayed (R.remaining reader.old) (R.remaining reader.new) world) }
+    ensures fault { IfErr result (IsFaultBefore (R.remaining reader.old) (R.remaining reader.new)) }
 {
     let text = read_text(alloc, reader)?;
-    match read_scene(alloc, &text) {
-        Ok(Scenario { scene, work }) => match work {
-            Work::Steps(steps) => run(alloc, scene, &steps),
-        },
-        Err(fault) => Err(ReplayFault::Scene {
-            line: fault.line,
-            cause: fault.cause,
-        }),
+    world_told(alloc, &text)
+}
+
+/// The world after the steps of the scenario that the text spells.
+fn world_told(alloc: Global, text: &[u8]) -> Result<World, ReplayFault>
+    ensures leads { IfOk result (λ world. LeadsTo text.now world) }
+    ensures fault { IfErr result (IsTextFault text.now) }
+{
+    match read_scene(alloc, text) {
+        Ok(scenario) => run_scenario(alloc, scenario),
+        Err(SceneFault { line, cause }) => Err(ReplayFault::Scene { line, cause }),
     }
+}
+
+fn run_scenario(alloc: Global, scenario: Scenario) -> Result<World, ReplayFault>
+    ensures replayed { IfOk result (λ world. RunsTo (opening (play_in scenario).cast) (play_in scenario).steps world) }
+    ensures fault { IfErr result (IsRunFault (play_in scenario).cast (play_in scenario).steps) }
+{
+    let Scenario { scene, work } = scenario;
+    run(alloc, scene, work.steps())
 }
 
 /// The world of the scene after these steps.

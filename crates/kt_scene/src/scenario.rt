@@ -15,3 +15,17 @@ pub enum Work {
     /// These steps, one after the other.
     Steps(Vec<Step>),
 }
+
+impl Work {
+    ghost use Rattle.std.specs.Prelude.{◌≡◌};
+    ghost use Rattle.kt_scene.specs.Run.{steps_in};
+
+    /// The steps, one after the other.
+    pub fn steps(&self) -> &[Step]
+        ensures { result.now ≡ steps_in self.now }
+    {
+        match self {
+            Work::Steps(steps) => steps,
+        }
+    }
+}

@@ -2,12 +2,13 @@
 
 use super::*;
 use kt_core::Step;
-use kt_tuple::NodeId;
+use kt_script::{Actual, Command, Operation, Slot};
+use kt_tuple::{Kind, NodeId, Value};
 use std::alloc::{AllocError, Global};
 use std::test::Fail;
 
 /// Lines behind a worker, and the number of their fault; 0 is none.
-const COMMANDS: [(&[u8], u8); 94] = [
+const COMMANDS: [(&[u8], u8); 121] = [
     (b"out (1)", 0),
     (b"out (\"a\", 1)", 0),
     (b"in (\"a\", ?int)", 0),
@@ -31,11 +32,23 @@ const COMMANDS: [(&[u8], u8); 94] = [
     (b"OUT (1)", 2),
     (b"output (1)", 2),
     (b"in(1)", 2),
-    (b"rd (1)", 2),
-    (b"inp (1)", 2),
-    (b"rdp (1)", 2),
-    (b"set x = x + 1", 2),
-    (b"unless 1", 2),
+    (b"rd (1)", 0),
+    (b"inp (?str x)", 0),
+    (b"rdp (1, ?int)", 0),
+    (b"rd(1)", 2),
+    (b"rdp", 2),
+    (b"inpp (1)", 2),
+    (b"unless 1", 0),
+    (b"unless 200", 0),
+    (b"unless", 2),
+    (b"unless ", 2),
+    (b"unless 01", 2),
+    (b"unless 00", 2),
+    (b"unless -1", 2),
+    (b"unless +1", 2),
+    (b"unless 1 ", 2),
+    (b"unless  1", 2),
+    (b"unless x", 2),
     (b"faults", 2),
     (b"end", 2),
     (b"issue w1", 2),
@@ -49,7 +62,14 @@ const COMMANDS: [(&[u8], u8); 94] = [
     (b"\r", 2),
     (b" #", 2),
     (b"eval (1)", 2),
-    (b"unless 0", 2),
+    (b"unless 0", 5),
+    (b"unless 201", 5),
+    (b"unless 256", 5),
+    (b"unless 257", 5),
+    (b"unless 99999999999999999999", 5),
+    (b"rd ", 3),
+    (b"inp (1", 3),
+    (b"rdp (?int x, )", 3),
     (b"out ", 3),
     (b"out  (1)", 3),
     (b"out ()", 3),
@@ -66,7 +86,13 @@ const COMMANDS: [(&[u8], u8); 94] = [
     (b"out (?int)", 3),
     (b"out (1, ?str)", 3),
     (b"out (?int x)", 3),
-    (b"out (x)", 3),
+    (b"out (x)", 4),
+    (b"out (int)", 3),
+    (b"out (true)", 3),
+    (b"out (aaaaaaaaaaaaaaaaa)", 3),
+    (b"out (aaaaaaaaaaaaaaaa)", 4),
+    (b"out (x y)", 3),
+    (b"out (X)", 3),
     (b"out (9223372036854775808)", 3),
     (b"out (-9223372036854775809)", 3),
     (b"out (1, 1, 1, 1, 1, 1, 1, 1, 1)", 3),
@@ -76,7 +102,9 @@ const COMMANDS: [(&[u8], u8); 94] = [
     ),
     (b"in ", 3),
     (b"in ()", 3),
-    (b"in (x)", 3),
+    (b"in (x)", 4),
+    (b"in (bool)", 3),
+    (b"in (?int x, x)", 4),
     (b"in (?)", 3),
     (b"in (?bool)", 3),
     (b"in (?intx)", 3),
@@ -103,11 +131,63 @@ const COMMANDS: [(&[u8], u8); 94] = [
     (b"in (?int x y)", 3),
     (b"in (?int x\xe9)", 3),
     (b"in (?int x, ?str x, )", 3),
-    (b"in (?int x, ?str x, y)", 3),
+    (b"in (?int x, ?str x, y)", 4),
     (b"in (?int x, ?str x)", 4),
     (b"in (?str x, ?int x)", 4),
     (b"in (?int x, 1, ?int y, ?str x)", 4),
     (b"in (?int x, ?int x, ?str x)", 4),
+];
+
+/// Lines behind `in (?int x, ?str s)`, and the number of the last one's fault; 0 is none.
+const SCRIPTS: [(&[u8], u8); 48] = [
+    (b"out (x, s)", 0),
+    (b"in (x, ?int x)", 0),
+    (b"in (?int x, x)", 0),
+    (b"rdp (s, ?str s)", 0),
+    (b"set x = x + 1", 0),
+    (b"set y = x + 9223372036854775807", 0),
+    (b"set y = x + -9223372036854775808", 0),
+    (b"set y = x + 0", 0),
+    (b"set y = x + -1\nout (y)", 0),
+    (b"set y = x + 1\nset z = y + 1", 0),
+    (b"set aaaaaaaaaaaaaaaa = x + 1", 0),
+    (b"set", 2),
+    (b"set ", 2),
+    (b"set y", 2),
+    (b"set y = x", 2),
+    (b"set y = 1", 2),
+    (b"set y = x + ", 2),
+    (b"set y = x - 1", 2),
+    (b"set y = x + +1", 2),
+    (b"set y = x + 01", 2),
+    (b"set y = x + -0", 2),
+    (b"set y = x + 1 ", 2),
+    (b"set y = x + 1 + 1", 2),
+    (b"set y = x + \"a\"", 2),
+    (b"set y = x + x", 2),
+    (b"set y = x +1", 2),
+    (b"set y=x + 1", 2),
+    (b"set  y = x + 1", 2),
+    (b"set y  = x + 1", 2),
+    (b"set Y = x + 1", 2),
+    (b"set int = x + 1", 2),
+    (b"set y = str + 1", 2),
+    (b"set aaaaaaaaaaaaaaaaa = x + 1", 2),
+    (b"set (y) = x + 1", 2),
+    (b"out (x, y, 01)", 3),
+    (b"out (y)", 4),
+    (b"out (x, y)", 4),
+    (b"in (?int y, y)", 4),
+    (b"in (?int y, ?str y)", 4),
+    (b"in (?int s)", 4),
+    (b"set y = y + 1", 4),
+    (b"set y = s + 1", 4),
+    (b"set s = x + 1", 4),
+    (b"set y = z + 9223372036854775808", 4),
+    (b"set s = x + 9223372036854775808", 4),
+    (b"set y = x + 9223372036854775808", 5),
+    (b"set y = x + -9223372036854775809", 5),
+    (b"set y = x + 99999999999999999999999999", 5),
 ];
 
 /// Lines among the steps, and the number of their fault; 0 is none.
@@ -187,7 +267,12 @@ const STEPS: [(&[u8], u8); 72] = [
 ];
 
 /// Whole texts, and the line and the number of their fault.
-const SCENARIOS: [(&[u8], usize, u8); 71] = [
+const SCENARIOS: [(&[u8], usize, u8); 72] = [
+    (
+        b"linda-kt 1\nshards 1\nworker\ninp (\"counter\", ?int n)\nunless 1\nset n = n + 1\nout (\"counter\", n)\nsteps\nend\n",
+        0,
+        0,
+    ),
     (b"linda-kt\n", 1, 1),
     (b"linda-kt 2\n", 1, 1),
     (b"linda-kt 1 \n", 1, 1),
@@ -344,6 +429,24 @@ fn commands(rt: HostRuntime) -> Result<(), Fail> {
 }
 
 #[test]
+fn scripts(rt: HostRuntime) -> Result<(), Fail> {
+    for (lines, number) in SCRIPTS {
+        let parts = [
+            (
+                b"linda-kt 1\nshards 1\nworker\nin (?int x, ?str s)\n".as_slice(),
+                1,
+            ),
+            (lines, 1),
+            (b"\nsteps\nend\n", 1),
+        ];
+        let text = text_of(rt.alloc(), &parts)?;
+        let expected = if number == 0 { (0, 0) } else { (5, number) };
+        assert_eq!(rt; fault_of(rt.alloc(), &text), expected, "{lines:?}");
+    }
+    Ok(())
+}
+
+#[test]
 fn steps(rt: HostRuntime) -> Result<(), Fail> {
     for (line, number) in STEPS {
         let parts = [
@@ -392,7 +495,9 @@ fn limits(rt: HostRuntime) -> Result<(), Fail> {
         (b"in (?int w, ?str w)\n", 4),
         (b"in (?str v0)\n", 4),
         (b"in (?int w, ?str v0)\n", 4),
-        (b"in (?int w, x)\n", 3),
+        (b"in (?int w, x)\n", 4),
+        (b"set w = v0 + 1\n", 5),
+        (b"set v1 = v0 + 1\nsteps\nend\n", 0),
         (b"in (?int v0, ?int v63)\nsteps\nend\n", 0),
         (b"worker\nin (?str v0)\nsteps\nend\n", 0),
     ] {
@@ -432,6 +537,25 @@ fn long_texts(rt: HostRuntime) -> Result<(), Fail> {
     Ok(())
 }
 
+/// What was read is written without its ignored lines, and read again.
+#[test]
+fn written_again(rt: HostRuntime) -> Result<(), Fail> {
+    let text =
+        b"# a\nlinda-kt 1\n#\nshards 1\nworker\nout (-1, \"\\\"\\\\\")\nin (?int x, ?str)\nrd (x, ?str s)\n\
+        inp (s)\nrdp (\"\", ?int x)\nset y = x + -9223372036854775808\nunless 200\nout (y, s)\nworker\n# b\n\
+        steps\nissue w1\ndeliver w99 s1\n#\nserve s10 w1 99999\nend\n";
+    let told =
+        b"linda-kt 1\nshards 1\nworker\nout (-1, \"\\\"\\\\\")\nin (?int x, ?str)\nrd (x, ?str s)\n\
+        inp (s)\nrdp (\"\", ?int x)\nset y = x + -9223372036854775808\nunless 200\nout (y, s)\nworker\n\
+        steps\nissue w1\ndeliver w99 s1\nserve s10 w1 99999\nend\n";
+    for given in [text.as_slice(), told.as_slice()] {
+        let scenario = read_scene(rt.alloc(), given)?;
+        let written = write_scene(rt.alloc(), &scenario.scene, &scenario.work)?;
+        assert_eq!(rt; written.as_slice(), told.as_slice());
+    }
+    Ok(())
+}
+
 /// What a text stands for.
 #[test]
 fn a_scenario(rt: HostRuntime) -> Result<(), Fail> {
@@ -461,10 +585,23 @@ fn a_scenario(rt: HostRuntime) -> Result<(), Fail> {
         return Ok(());
     };
     assert_eq!(rt; second.commands().len(), 0);
-    let mut written = Vec::new(rt.alloc());
-    for op in first.commands() {
-        op.write_to(&mut written)?;
-    }
-    assert_eq!(rt; written.as_slice(), b"out (\"a\", 1)in (?int)".as_slice());
+    let [
+        Command::Ask(Operation::Out(put)),
+        Command::Ask(Operation::In(taken)),
+    ] = first.commands()
+    else {
+        assert!(rt; false, "two commands");
+        return Ok(());
+    };
+    let one = Actual::Literal(Value::Int(1));
+    assert_eq!(rt; put.actuals().len(), 2);
+    assert!(rt; put.actuals().get(1) == Some(&one));
+    let [x] = first.names() else {
+        assert!(rt; false, "one variable");
+        return Ok(());
+    };
+    assert_eq!(rt; x.as_bytes(), b"x".as_slice());
+    let formal = Slot::Formal(Kind::Int, Some(x.copy()));
+    assert!(rt; taken.slots() == [formal].as_slice());
     Ok(())
 }

@@ -2,10 +2,10 @@
 
 ghost use Rattle.std.specs.Prelude.{◌≡◌, ◌≤◌, ◌<◌, ℕ, List, length, take, IfOk, IfErr, OnOk, OnErr, Err};
 ghost use Rattle.std.specs.Io.KnownBytes.{Keeps, Appends, Consumes, IsAtEnd};
-ghost use Rattle.kt_scene.specs.Stream.{AppendsFront, IsTooLong, IsReadFault};
+ghost use Rattle.kt_scene.specs.Stream.{AppendsFront, IsReadFault};
 
-use crate::draft::MAX_TEXT;
 use crate::fault::{ReplayFault, SceneError};
+use crate::reading::MAX_TEXT;
 use std::alloc::Global;
 use std::io::{ErrorKind, Read, Write};
 
@@ -22,8 +22,8 @@ pub fn read_text<R: Read>(alloc: Global, reader: &mut R) -> Result<Vec<u8>, Repl
     ensures read { IfOk result (λ text. Consumes (R.remaining reader.old) (R.remaining reader.new) text.items) }
     ensures all { OnOk result (IsAtEnd (R.remaining reader.new)) }
     ensures short { IfOk result (λ text. length text.items ≤ MAX_TEXT) }
-    ensures limit { result ≡ Err (ReplayFault.Scene 1 SceneError.Limit) → IsTooLong (R.remaining reader.old) }
-    ensures only { IfErr result IsReadFault }
+    // More bytes than that are the fault of line 1.
+    ensures only { IfErr result (IsReadFault (R.remaining reader.old)) }
 {
     let mut text = Vec::new(alloc);
     let mut chunk = [0u8; CHUNK];

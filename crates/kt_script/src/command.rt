@@ -3,6 +3,7 @@ ghost use Rattle.kt_script.specs.Command.{slot_bindings};
 ghost use Rattle.kt_tuple.specs.Matching.{HasArity};
 
 use crate::name::Name;
+use arrayvec::ArrayVec;
 use kt_tuple::{Kind, MAX_PLACES, Value};
 use std::alloc::{AllocError, Global};
 use std::marker::Model;
@@ -28,13 +29,13 @@ pub enum Slot {
 /// The values of a command's tuple: 1 to 8.
 #[derive(Debug, Drop)]
 pub struct Actuals {
-    actuals: Vec<Actual>,
+    actuals: ArrayVec<Actual, MAX_PLACES>,
 }
 
 /// The places of a command's template: 1 to 8.
 #[derive(Debug, Drop)]
 pub struct Pattern {
-    slots: Vec<Slot>,
+    slots: ArrayVec<Slot, MAX_PLACES>,
 }
 
 /// An operation on the space as a script has it.
@@ -67,6 +68,32 @@ pub enum Command {
     Unless(u8),
 }
 
+impl Actual {
+    /// An equal actual.
+    pub fn copy(&self) -> Actual
+        ensures { result ≡ self.now }
+    {
+        match self {
+            Actual::Literal(value) => Actual::Literal(value.copy()),
+            Actual::Variable(name) => Actual::Variable(name.copy()),
+        }
+    }
+}
+
+/// What a fixed room for actuals holds where none was put.
+impl Default for Actual {
+    fn default() -> Self {
+        Actual::Literal(Value::Int(0))
+    }
+}
+
+/// What a fixed room for places holds where none was put.
+impl Default for Slot {
+    fn default() -> Self {
+        Slot::Actual(Actual::default())
+    }
+}
+
 impl Model for Actuals {
     ghost use Rattle.std.specs.Prelude.{List};
     ghost use Rattle.kt_tuple.specs.Matching.{HasArity};
@@ -80,15 +107,15 @@ impl Model for Actuals {
 }
 
 impl Actuals {
-    /// The actuals of a tuple, or `None` where there are none or more than 8.
-    pub fn new(actuals: Vec<Actual>) -> Option<Actuals>
+    /// The actuals of a tuple, or `None` where there are none.
+    pub fn new(actuals: ArrayVec<Actual, MAX_PLACES>) -> Option<Actuals>
         ensures within { IsSome result ↔ HasArity actuals.items }
         ensures value { IfSome result (λ a. a ≡ actuals.items) }
     {
-        if 1 <= actuals.len() && actuals.len() <= MAX_PLACES {
-            Some(Actuals { actuals })
-        } else {
+        if actuals.is_empty() {
             None
+        } else {
+            Some(Actuals { actuals })
         }
     }
 
@@ -114,15 +141,15 @@ impl Model for Pattern {
 }
 
 impl Pattern {
-    /// The template of these places, or `None` where there are none or more than 8.
-    pub fn new(slots: Vec<Slot>) -> Option<Pattern>
+    /// The template of these places, or `None` where there are none.
+    pub fn new(slots: ArrayVec<Slot, MAX_PLACES>) -> Option<Pattern>
         ensures within { IsSome result ↔ HasArity slots.items }
         ensures value { IfSome result (λ p. p ≡ slots.items) }
     {
-        if 1 <= slots.len() && slots.len() <= MAX_PLACES {
-            Some(Pattern { slots })
-        } else {
+        if slots.is_empty() {
             None
+        } else {
+            Some(Pattern { slots })
         }
     }
 
@@ -164,7 +191,7 @@ impl Command {
             Command::Ask(operation) => slot_bindings(alloc, operation.slots()),
             Command::Set { variable, .. } => {
                 let mut bindings = Vec::with_capacity(alloc, 1)?;
-                bindings.push((variable.copy(alloc)?, Kind::Int))?;
+                bindings.push((variable.copy(), Kind::Int))?;
                 Ok(bindings)
             }
             Command::Unless(_) => Ok(Vec::new(alloc)),
@@ -178,7 +205,7 @@ fn slot_bindings(alloc: Global, slots: &[Slot]) -> Result<Vec<(Name, Kind)>, All
     let mut bindings = Vec::with_capacity(alloc, slots.len())?;
     for slot in slots {
         if let Slot::Formal(kind, Some(name)) = slot {
-            bindings.push((name.copy(alloc)?, *kind))?;
+            bindings.push((name.copy(), *kind))?;
         }
     }
     Ok(bindings)

@@ -104,7 +104,7 @@ fn values_after(
     let mut copies = copy_values(alloc, values)?;
     if let Answer::Got(tuple) = answer {
         if has_kinds(variables, values, slots, tuple.values()) {
-            bind_tuple(alloc, variables, &mut copies, slots, tuple.values())?;
+            bind_tuple(variables, &mut copies, slots, tuple.values());
         }
     }
     Ok(copies)
@@ -115,7 +115,7 @@ pub(crate) fn copy_values(alloc: Global, values: &[Value]) -> Result<Vec<Value>,
 {
     let mut copies = Vec::with_capacity(alloc, values.len())?;
     for value in values {
-        copies.push(value.copy(alloc)?)?;
+        copies.push(value.copy())?;
     }
     Ok(copies)
 }

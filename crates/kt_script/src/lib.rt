@@ -15,10 +15,12 @@ mod variables;
 pub use command::{Actual, Actuals, Command, Operation, Pattern, Slot};
 pub use env::Env;
 pub use laws::{bind_changes_only_formals, next_and_bind_reach_what_is_asked};
-pub use name::{MAX_NAME, Name, is_name};
+pub use name::{MAX_NAME, Name, is_name, is_name_character};
 pub use next::Next;
 pub use script::{MAX_COMMANDS, MAX_VARIABLES, Script};
 pub use script_error::ScriptError;
 
+#[cfg(test)]
+mod random_tests;
 #[cfg(test)]
 mod tests;

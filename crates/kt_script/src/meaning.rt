@@ -13,17 +13,12 @@ use kt_tuple::{Kind, Op, Place, Template, Tuple, Value};
 use std::alloc::{AllocError, Global};
 
 /// The value of the name.
-fn value_of(
-    alloc: Global,
-    variables: &Variables,
-    values: &[Value],
-    name: &Name,
-) -> Result<Value, AllocError>
-    ensures { IfOk result (λ v. v ≡ held variables.now.entries values.now name.now) }
+fn value_of(variables: &Variables, values: &[Value], name: &Name) -> Value
+    ensures { result ≡ held variables.now.entries values.now name.now }
 {
     match held(variables, values, name) {
-        Some(value) => value.copy(alloc),
-        None => Ok(Value::Int(0)),
+        Some(value) => value.copy(),
+        None => Value::Int(0),
     }
 }
 
@@ -48,33 +43,21 @@ pub(crate) fn sum_of(variables: &Variables, values: &[Value], name: &Name, numbe
     }
 }
 
-fn value_of_actual(
-    alloc: Global,
-    variables: &Variables,
-    values: &[Value],
-    actual: &Actual,
-) -> Result<Value, AllocError>
-    ensures { IfOk result (λ v. v ≡ value_of_actual (held variables.now.entries values.now) actual.now) }
+fn value_of_actual(variables: &Variables, values: &[Value], actual: &Actual) -> Value
+    ensures { result ≡ value_of_actual (held variables.now.entries values.now) actual.now }
 {
     match actual {
-        Actual::Literal(value) => value.copy(alloc),
-        Actual::Variable(name) => value_of(alloc, variables, values, name),
+        Actual::Literal(value) => value.copy(),
+        Actual::Variable(name) => value_of(variables, values, name),
     }
 }
 
-fn place_of_slot(
-    alloc: Global,
-    variables: &Variables,
-    values: &[Value],
-    slot: &Slot,
-) -> Result<Place, AllocError>
-    ensures { IfOk result (λ p. p ≡ place_of_slot (held variables.now.entries values.now) slot.now) }
+fn place_of_slot(variables: &Variables, values: &[Value], slot: &Slot) -> Place
+    ensures { result ≡ place_of_slot (held variables.now.entries values.now) slot.now }
 {
     match slot {
-        Slot::Actual(actual) => Ok(Place::Actual(value_of_actual(
-            alloc, variables, values, actual,
-        )?)),
-        Slot::Formal(kind, _) => Ok(Place::Formal(*kind)),
+        Slot::Actual(actual) => Place::Actual(value_of_actual(variables, values, actual)),
+        Slot::Formal(kind, _) => Place::Formal(*kind),
     }
 }
 
@@ -88,7 +71,7 @@ fn values_of(
 {
     let mut copies = Vec::with_capacity(alloc, actuals.len())?;
     for actual in actuals {
-        copies.push(value_of_actual(alloc, variables, values, actual)?)?;
+        copies.push(value_of_actual(variables, values, actual))?;
     }
     Ok(copies)
 }
@@ -103,7 +86,7 @@ fn places_of(
 {
     let mut places = Vec::with_capacity(alloc, slots.len())?;
     for slot in slots {
-        places.push(place_of_slot(alloc, variables, values, slot)?)?;
+        places.push(place_of_slot(variables, values, slot))?;
     }
     Ok(places)
 }
@@ -181,36 +164,21 @@ pub(crate) fn has_kinds(
 }
 
 /// Binds the formal's name, where it has one, to the value.
-fn bind_slot(
-    alloc: Global,
-    variables: &Variables,
-    values: &mut [Value],
-    slot: &Slot,
-    value: &Value,
-) -> Result<(), AllocError>
-    ensures { OnOk result (values.new ≡ with_slot_held variables.now.entries values.old slot.now value.now) }
+fn bind_slot(variables: &Variables, values: &mut [Value], slot: &Slot, value: &Value)
+    ensures { values.new ≡ with_slot_held variables.now.entries values.old slot.now value.now }
 {
     if let Slot::Formal(_, Some(name)) = slot {
-        hold(variables, values, name, value.copy(alloc)?);
+        hold(variables, values, name, value.copy());
     }
-    Ok(())
 }
 
-/// Binds the formals, from left to right.
-pub(crate) fn bind_tuple(
-    alloc: Global,
-    variables: &Variables,
-    values: &mut [Value],
-    slots: &[Slot],
-    tuple: &[Value],
-) -> Result<(), AllocError>
-    ensures { OnOk result (values.new ≡ with_tuple_held variables.now.entries values.old slots.now tuple.now) }
+/// Binds the formals to the values got, from left to right.
+pub(crate) fn bind_tuple(variables: &Variables, values: &mut [Value], slots: &[Slot], got: &[Value])
+    ensures { values.new ≡ with_tuple_held variables.now.entries values.old slots.now got.now }
 {
-    match (slots.split_first(), tuple.split_first()) {
-        (Some((slot, slots)), Some((value, tuple))) => {
-            bind_slot(alloc, variables, values, slot, value)?;
-            bind_tuple(alloc, variables, values, slots, tuple)
-        }
-        _ => Ok(()),
+    let both = (slots.split_first(), got.split_first());
+    if let (Some((slot, slots)), Some((value, got))) = both {
+        bind_slot(variables, values, slot, value);
+        bind_tuple(variables, values, slots, got);
     }
 }

@@ -1,8 +1,8 @@
-ghost use Rattle.std.specs.Prelude.{◌≡◌, ◌↔◌, IsTrue, IsSome, IfSome, IfOk};
+ghost use Rattle.std.specs.Prelude.{◌≡◌, ◌↔◌, IsTrue, IsSome, IfSome};
 ghost use Rattle.std.specs.List.{list_all};
 ghost use Rattle.kt_script.specs.Name.{IsName, begins_with_letter, is_name, is_name_character, is_reserved};
 
-use std::alloc::{AllocError, Global};
+use arrayvec::ArrayVec;
 use std::hash::{Hash, Hasher};
 use std::marker::Model;
 
@@ -13,7 +13,7 @@ pub const MAX_NAME: usize = 16;
 /// words `int`, `str`, `bool`, `true` and `false`.
 #[derive(Debug, Drop)]
 pub struct Name {
-    characters: Vec<u8>,
+    characters: ArrayVec<u8, MAX_NAME>,
 }
 
 impl Model for Name {
@@ -29,14 +29,17 @@ impl Model for Name {
 
 impl Name {
     /// The name with these characters, or `None` where they are no name.
-    pub fn new(characters: Vec<u8>) -> Option<Name>
-        ensures within { IsSome result ↔ IsName characters.items }
-        ensures value { IfSome result (λ n. n ≡ characters.items) }
+    pub fn new(characters: &[u8]) -> Option<Name>
+        ensures within { IsSome result ↔ IsName characters.now }
+        ensures value { IfSome result (λ n. n ≡ characters.now) }
     {
-        if is_name(&characters) {
-            Some(Name { characters })
-        } else {
-            None
+        if !is_name(characters) {
+            return None;
+        }
+        let mut held = ArrayVec::new();
+        match held.try_extend_from_slice(characters) {
+            Ok(()) => Some(Name { characters: held }),
+            Err(_) => None,
         }
     }
 
@@ -49,12 +52,12 @@ impl Name {
     }
 
     /// An equal name.
-    pub fn copy(&self, alloc: Global) -> Result<Name, AllocError>
-        ensures { IfOk result (λ n. n ≡ self.now) }
+    pub fn copy(&self) -> Name
+        ensures { result ≡ self.now }
     {
-        Ok(Name {
-            characters: Vec::from_slice(alloc, &self.characters)?,
-        })
+        let mut characters = ArrayVec::new();
+        let _ = characters.try_extend_from_slice(&self.characters);
+        Name { characters }
     }
 }
 
@@ -83,7 +86,8 @@ fn are_name_characters(word: &[u8]) -> bool
     word.iter().all(|c| is_name_character(*c))
 }
 
-fn is_name_character(c: u8) -> bool
+/// Whether a name may have this character.
+pub fn is_name_character(c: u8) -> bool
     ensures { result ≡ is_name_character c }
 {
     (b'a' <= c && c <= b'z') || c.is_ascii_digit() || c == b'_'

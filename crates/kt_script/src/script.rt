@@ -75,8 +75,8 @@ impl Script {
         }
     }
 
-    /// Why the command may not follow, want of memory aside.
-    fn refusal_of(&self, command: &Command) -> Option<ScriptError>
+    /// Why the command may not follow, want of memory aside. It takes no memory.
+    pub fn refusal_of(&self, command: &Command) -> Option<ScriptError>
         ensures { result ≡ refusal_of self.now command.now }
     {
         if !keeps_rules(&self.variables, command) {

@@ -1,39 +1,46 @@
 use super::*;
+use arrayvec::ArrayVec;
 use kt_tuple::{Answer, Kind, Op, Tuple, Value};
 use std::alloc::Global;
 use std::test::Fail;
 
-fn name(alloc: Global, text: &str) -> Result<Name, Fail> {
-    let name = Name::new(Vec::from_slice(alloc, text.as_bytes())?);
-    Ok(name.ok_or("no name")?)
+fn name(text: &str) -> Result<Name, Fail> {
+    Ok(Name::new(text.as_bytes()).ok_or("no name")?)
 }
 
-fn string(alloc: Global, text: &str) -> Result<Actual, Fail> {
-    let text = kt_tuple::Str::new(Vec::from_slice(alloc, text.as_bytes())?);
+fn string(text: &str) -> Result<Actual, Fail> {
+    let text = kt_tuple::Str::new(text.as_bytes());
     Ok(Actual::Literal(Value::Str(text.ok_or("no string")?)))
 }
 
-fn out(alloc: Global, actual: Actual) -> Result<Command, Fail> {
-    let actuals = Actuals::new(vec![in alloc; actual]?);
+fn out(actual: Actual) -> Result<Command, Fail> {
+    let mut actuals = ArrayVec::new();
+    actuals.try_push(actual).map_err(|_| "no room")?;
+    let actuals = Actuals::new(actuals);
     Ok(Command::Ask(Operation::Out(actuals.ok_or("no tuple")?)))
 }
 
-fn out_variable(alloc: Global, text: &str) -> Result<Command, Fail> {
-    out(alloc, Actual::Variable(name(alloc, text)?))
+fn out_variable(text: &str) -> Result<Command, Fail> {
+    out(Actual::Variable(name(text)?))
 }
 
-fn formal(alloc: Global, text: &str) -> Result<Slot, Fail> {
-    Ok(Slot::Formal(Kind::Int, Some(name(alloc, text)?)))
+fn formal(text: &str) -> Result<Slot, Fail> {
+    Ok(Slot::Formal(Kind::Int, Some(name(text)?)))
 }
 
-fn pattern(slots: Vec<Slot>) -> Result<Pattern, Fail> {
+fn pattern(first: Slot, second: Option<Slot>) -> Result<Pattern, Fail> {
+    let mut slots = ArrayVec::new();
+    slots.try_push(first).map_err(|_| "no room")?;
+    if let Some(second) = second {
+        slots.try_push(second).map_err(|_| "no room")?;
+    }
     Ok(Pattern::new(slots).ok_or("no template")?)
 }
 
-fn add_one(alloc: Global, to: &str, from: &str) -> Result<Command, Fail> {
+fn add_one(to: &str, from: &str) -> Result<Command, Fail> {
     Ok(Command::Set {
-        variable: name(alloc, to)?,
-        source: name(alloc, from)?,
+        variable: name(to)?,
+        source: name(from)?,
         plus: 1,
     })
 }
@@ -65,11 +72,11 @@ fn puts(alloc: Global, script: &Script, answer: Answer, text: &str) -> Result<bo
 /// `inp ("a")`, `unless 2`, `out ("b")`, `out ("c")`, `out ("d")`.
 fn unless_script(alloc: Global) -> Result<Script, Fail> {
     let mut script = Script::new(alloc);
-    let a = pattern(vec![in alloc; Slot::Actual(string(alloc, "a")?)]?)?;
+    let a = pattern(Slot::Actual(string("a")?), None)?;
     script.push(Command::Ask(Operation::Inp(a)))?;
     script.push(Command::Unless(2))?;
     for text in ["b", "c", "d"] {
-        script.push(out(alloc, string(alloc, text)?)?)?;
+        script.push(out(string(text)?)?)?;
     }
     Ok(script)
 }
@@ -86,10 +93,10 @@ fn unless_skips(rt: HostRuntime) -> Result<(), Fail> {
 /// `in (?int x)`, `set y = x + 1`, `out (y)`.
 fn set_script(alloc: Global) -> Result<Script, Fail> {
     let mut script = Script::new(alloc);
-    let x = pattern(vec![in alloc; formal(alloc, "x")?]?)?;
+    let x = pattern(formal("x")?, None)?;
     script.push(Command::Ask(Operation::In(x)))?;
-    script.push(add_one(alloc, "y", "x")?)?;
-    script.push(out_variable(alloc, "y")?)?;
+    script.push(add_one("y", "x")?)?;
+    script.push(out_variable("y")?)?;
     Ok(script)
 }
 
@@ -104,9 +111,9 @@ fn saturating_set(rt: HostRuntime) -> Result<(), Fail> {
 /// `in (?int x, ?int x)`, `out (x)`.
 fn twice_script(alloc: Global) -> Result<Script, Fail> {
     let mut script = Script::new(alloc);
-    let twice = pattern(vec![in alloc; formal(alloc, "x")?, formal(alloc, "x")?]?)?;
+    let twice = pattern(formal("x")?, Some(formal("x")?))?;
     script.push(Command::Ask(Operation::In(twice)))?;
-    script.push(out_variable(alloc, "x")?)?;
+    script.push(out_variable("x")?)?;
     Ok(script)
 }
 
@@ -122,7 +129,7 @@ fn binds_from_left_to_right(rt: HostRuntime) -> Result<(), Fail> {
 #[test]
 fn refuses_use_before_binding(rt: HostRuntime) -> Result<(), Fail> {
     let mut script = Script::new(rt.alloc());
-    let refused = script.push(add_one(rt.alloc(), "x", "x")?);
+    let refused = script.push(add_one("x", "x")?);
     assert_eq!(rt; refused, Err(ScriptError::Variable));
     assert_eq!(rt; script.push(Command::Unless(0)), Err(ScriptError::Limit));
     Ok(())

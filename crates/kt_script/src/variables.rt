@@ -55,12 +55,12 @@ pub(crate) fn hold(variables: &Variables, values: &mut [Value], name: &Name, val
     }
 }
 
-fn zero_of(alloc: Global, kind: Kind) -> Value
+fn zero_of(kind: Kind) -> Value
     ensures { result ≡ zero_of (Some kind) }
 {
     match kind {
         Kind::Int => Value::Int(0),
-        Kind::Str => Value::Str(Str::new(Vec::new(alloc)).unwrap()),
+        Kind::Str => Value::Str(Str::new(&[]).unwrap()),
     }
 }
 
@@ -70,7 +70,7 @@ pub(crate) fn zeros_of(alloc: Global, variables: &Variables) -> Result<Vec<Value
 {
     let mut zeros = Vec::with_capacity(alloc, variables.len())?;
     for (_, kind) in variables {
-        zeros.push(zero_of(alloc, *kind))?;
+        zeros.push(zero_of(*kind))?;
     }
     Ok(zeros)
 }

@@ -106,7 +106,20 @@ unfolding int_at
 int_taken [] p rest e = absurd cc
 int_taken (c ∷ cs) p rest e = int_by_zero (eqb c 48) c cs p rest refl e
 
-own : IsNumeralModel (λ ds. all_ascii_digits ds ≡ true) (digits_value 10)
+-- the first byte of an int is a digit or a minus sign
+positive_first : (ds : List ℕ) → IsPositive ds → (c : ℕ) × (cs : List ℕ) × (ds ≡ c ∷ cs) × (eqb c 34 ≡ false) × (eqb c 63 ≡ false)
+positive_first [] h = absurd (omega (arith, h.some))
+positive_first (c ∷ cs) h =
+    let parts = both (is_ascii_digit c) (all_ascii_digits cs) h.digits in
+    let high = leb-true c 57 (both (leb 48 c) (leb c 57) parts.0).1 in
+    (c, cs, refl, ne_eqb c 34 (λ e. omega (arith, h.first, e)), ne_eqb c 63 (λ e. omega (arith, high, e)))
+
+pub int_first : (p : List ℕ) → IsInt p → (c : ℕ) × (cs : List ℕ) × (p ≡ c ∷ cs) × (eqb c 34 ≡ false) × (eqb c 63 ≡ false)
+int_first p just_zero = (48, [], refl, refl, refl)
+int_first p (positive h) = positive_first p h
+int_first p (negative {ds} h) = (45, ds, refl, refl, refl)
+
+pub own : IsNumeralModel (λ ds. all_ascii_digits ds ≡ true) (digits_value 10)
 own = numerals_by_value _ tells_all_ascii_digits
 
 -- digits that don't begin with 0 are the decimal of their value
@@ -128,14 +141,14 @@ some_chosen true y z e = (refl, cc)
 some_chosen false y z e = absurd cc
 
 -- the number of a spelling with 64 bits
-int_of_some : (p : List ℕ) (z : ℤ) → int_of p ≡ Some z → (signed_digits_value 10 p ≡ z) × (mag (signed_digits_value 10 p) < 2 ^ 63)
+pub int_of_some : (p : List ℕ) (z : ℤ) → int_of p ≡ Some z → (signed_digits_value 10 p ≡ z) × (mag (signed_digits_value 10 p) < 2 ^ 63)
 unfolding int_of
 int_of_some p z e =
     let parts = some_chosen (is_numeral (without_leading_sign p) && is_i64 (signed_digits_value 10 p)) (signed_digits_value 10 p) z e in
     let tests = both (is_numeral (without_leading_sign p)) (is_i64 (signed_digits_value 10 p)) parts.0 in
     (parts.1, ltb-true (mag (signed_digits_value 10 p)) (2 ^ 63) tests.1)
 
-no_sign : (ds : List ℕ) → 49 ≤ get_or ds 0 0 → signed_digits_value 10 ds ≡ pos (digits_value 10 ds)
+pub no_sign : (ds : List ℕ) → 49 ≤ get_or ds 0 0 → signed_digits_value 10 ds ≡ pos (digits_value 10 ds)
 no_sign ds first =
     let no_minus : eqb (get_or ds 0 0) 45 ≡ false = ne_eqb (get_or ds 0 0) 45 (λ e. omega (arith, first, e)) in
     let no_plus : eqb (get_or ds 0 0) 43 ≡ false = ne_eqb (get_or ds 0 0) 43 (λ e. omega (arith, first, e)) in

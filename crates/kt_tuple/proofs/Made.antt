@@ -5,7 +5,7 @@ use Rattle.std.proofs.lemmas.List.{append-nil}
 use Rattle.kt_tuple.specs.Reading.{after_place}
 use Rattle.kt_tuple.specs.Parsing.{Reader, made_with, made_from}
 
-made_step : {A : Type 0} (read : Reader) (make : List ℕ → Option A) (i : ℕ) (text : List ℕ) → i < 8
+pub made_step : {A : Type 0} (read : Reader) (make : List ℕ → Option A) (i : ℕ) (text : List ℕ) → i < 8
     → made_from read make (8 - i) text ≡ made_with (read text) make (made_from read make (8 - (i + 1)))
 unfolding made_from
 made_step read make i text lt =

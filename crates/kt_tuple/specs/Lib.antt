@@ -1,5 +1,6 @@
 pub mod Text
 pub mod Value
+pub mod Valid
 pub mod Equality
 pub mod Matching
 pub mod Signature
@@ -9,3 +10,4 @@ pub mod Space
 pub mod Spelling
 pub mod Reading
 pub mod Parsing
+pub mod Grammar

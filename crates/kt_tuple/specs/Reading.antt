@@ -34,6 +34,10 @@ word_at (c ∷ text) (w ∷ word) = if w == c then word_at text word else Err (c
 abbrev pub is_no_digit : ℕ → Bool
 is_no_digit c = not (is_ascii_digit c)
 
+abbrev pub begins_with_digit : List ℕ → Bool
+begins_with_digit [] = false
+begins_with_digit (c ∷ cs) = is_ascii_digit c
+
 -- the bytes after the digits in front
 abbrev pub after_digits : List ℕ → List ℕ
 after_digits [] = []

@@ -15,12 +15,18 @@ mod tuple;
 mod value;
 mod writing;
 
-pub use laws::{matching_has_one_home, node_numbers_differ};
+pub use laws::{
+    a_place_read_is_spelled_so, a_place_spelled_is_read, a_template_read_is_spelled_so,
+    a_template_spelled_is_read, a_tuple_read_is_spelled_so, a_tuple_spelled_is_read,
+    a_value_read_is_spelled_so, a_value_spelled_is_read, matching_has_one_home,
+    node_numbers_differ,
+};
 pub use node::{NODES, NodeId};
 pub use op::{Answer, Op};
 pub use parse_error::ParseError;
 pub use reading::{
-    after_place, formal_at, is_in_range, is_short, place_at, place_of, value_at, value_of, word_at,
+    after_place, formal_at, int_at, int_of, is_in_range, is_short, place_at, place_of, value_at,
+    value_of, word_at,
 };
 pub use service::Service;
 pub use signature::Signature;

@@ -1,8 +1,10 @@
 //! Tuples and templates from their text: first judged without memory, then built.
 
-ghost use Rattle.std.specs.Prelude.{◌≡◌, ◌-◌, ◌+◌, ℕ, Bool, List, [], ◌∷◌, ◌++◌, length, IfOk, OnOk, option_to_list, IfSome, Err};
+ghost use Rattle.std.specs.Prelude.{◌≡◌, ◌-◌, ◌+◌, ℕ, Bool, List, [], ◌∷◌, ◌++◌, length, IfOk, IfErr, OnOk, option_to_list, IfSome, Option, None, Err};
+ghost use Rattle.kt_tuple.specs.Grammar.{IsValueText, IsPlaceText, Explains, IsAccepted};
 ghost use Rattle.kt_tuple.specs.Reading.{Gives, word_at, value_at, place_at, value_of, place_of};
 ghost use Rattle.kt_tuple.specs.Parsing.{reader_of, nothing_found, with_place, fault_found, found_in, fault_of, made_in, tuple_fault, tuple_values, template_fault, template_places};
+ghost use Rattle.kt_tuple.specs.Spelling.{tuple_text, template_text};
 
 use crate::parse_error::ParseError;
 use crate::reading::{
@@ -31,30 +33,46 @@ struct Findings {
 
 impl Tuple {
     /// The tuple that the text spells, all of the text.
+    #[tactic(auto, using(crate::proofs::Texts::tuple_arity, crate::proofs::Texts::tuple_spelled, crate::proofs::Explained::tuple_explained, crate::proofs::Explained::tuple_accepted))]
     pub fn parse(alloc: Global, text: &[u8]) -> Result<Tuple, ParseError>
         // A text with a fault is answered by its lowest one.
         ensures fault { IfSome (tuple_fault text.now) (λ fault. result ≡ Err fault) }
         ensures value { IfOk result (λ tuple. tuple ≡ tuple_values text.now) }
+        // What is accepted is the one text of it.
+        ensures spelling { IfOk result (λ tuple. tuple_text tuple ≡ text.now) }
+        // What is accepted, and each error, is as the grammar says, which knows no reader.
+        ensures accepted { IfOk result (λ _. IsAccepted IsValueText text.now) }
+        ensures explained { IfErr result (λ e. Explains IsValueText text.now e) }
+        // A text without a fault is refused for want of memory alone.
+        ensures memory { tuple_fault text.now ≡ None → IfErr result (λ e. e ≡ ParseError.OutOfMemory) }
     {
         if let Some(fault) = fault_of(Form::Tuple, text) {
             return Err(fault);
         }
-        let values = values_in(alloc, text).map_err(|_| ParseError::OutOfMemory)?;
+        let values = items_in(alloc, Form::Tuple, text).map_err(|_| ParseError::OutOfMemory)?;
         Tuple::new(values).ok_or(ParseError::TooLong)
     }
 }
 
 impl Template {
     /// The template that the text spells, all of the text.
+    #[tactic(auto, using(crate::proofs::Texts::template_arity, crate::proofs::Texts::template_spelled, crate::proofs::Explained::template_explained, crate::proofs::Explained::template_accepted))]
     pub fn parse(alloc: Global, text: &[u8]) -> Result<Template, ParseError>
         // A text with a fault is answered by its lowest one.
         ensures fault { IfSome (template_fault text.now) (λ fault. result ≡ Err fault) }
         ensures value { IfOk result (λ template. template ≡ template_places text.now) }
+        // What is accepted is the one text of it.
+        ensures spelling { IfOk result (λ template. template_text template ≡ text.now) }
+        // What is accepted, and each error, is as the grammar says, which knows no reader.
+        ensures accepted { IfOk result (λ _. IsAccepted IsPlaceText text.now) }
+        ensures explained { IfErr result (λ e. Explains IsPlaceText text.now e) }
+        // A text without a fault is refused for want of memory alone.
+        ensures memory { template_fault text.now ≡ None → IfErr result (λ e. e ≡ ParseError.OutOfMemory) }
     {
         if let Some(fault) = fault_of(Form::Template, text) {
             return Err(fault);
         }
-        let places = places_in(alloc, text).map_err(|_| ParseError::OutOfMemory)?;
+        let places = items_in(alloc, Form::Template, text).map_err(|_| ParseError::OutOfMemory)?;
         Template::new(places).ok_or(ParseError::TooLong)
     }
 }
@@ -136,68 +154,60 @@ fn found_in(form: Form, text: &[u8]) -> Result<Findings, &[u8]>
     Err(rest)
 }
 
-/// The values of a text in which no fault was found.
-fn values_in(alloc: Global, text: &[u8]) -> Result<Vec<Value>, AllocError>
-    ensures { IfOk result (λ values. values.items ≡ made_in value_at value_of (word_at text.now (40 ∷ []))) }
+/// What stands in a text: values in a tuple, places in a template.
+trait Item: Sized + Drop {
+    ghost of_spelling: { List ℕ → Option Self };
+
+    /// The item with this spelling, where there is one.
+    fn of_spelling(spelling: &[u8]) -> Option<Self>
+        ensures { result ≡ of_spelling spelling.now };
+}
+
+impl Item for Value {
+    ghost of_spelling = { value_of };
+
+    fn of_spelling(spelling: &[u8]) -> Option<Value> {
+        value_of(spelling)
+    }
+}
+
+impl Item for Place {
+    ghost of_spelling = { place_of };
+
+    fn of_spelling(spelling: &[u8]) -> Option<Place> {
+        place_of(spelling)
+    }
+}
+
+/// The items of a text in which no fault was found.
+fn items_in<I: Item>(alloc: Global, form: Form, text: &[u8]) -> Result<Vec<I>, AllocError>
+    ensures { IfOk result (λ items. items.items ≡ made_in (reader_of form) I.of_spelling (word_at text.now (40 ∷ []))) }
 {
-    let mut values = Vec::new(alloc);
+    let mut items = Vec::new(alloc);
     let Ok(mut rest) = word_at(text, b"(") else {
-        return Ok(values);
+        return Ok(items);
     };
     for _ in 0..MAX_PLACES {
-        let (spelling, after) = match value_at(rest) {
+        let (spelling, after) = match form.place_at(rest) {
             Ok(found) => found,
-            Err(_) => return Ok(values),
+            Err(_) => return Ok(items),
         };
-        push_value(alloc, &mut values, spelling)?;
+        push_item(&mut items, spelling)?;
         match after_place(after) {
             Ok(Some(next)) => rest = next,
-            Ok(None) => return Ok(values),
-            Err(_) => return Ok(values),
+            Ok(None) => return Ok(items),
+            Err(_) => return Ok(items),
         }
     }
-    Ok(values)
+    Ok(items)
 }
 
-/// The places of a text in which no fault was found.
-fn places_in(alloc: Global, text: &[u8]) -> Result<Vec<Place>, AllocError>
-    ensures { IfOk result (λ places. places.items ≡ made_in place_at place_of (word_at text.now (40 ∷ []))) }
+/// Appends the item with this spelling, where there is one.
+fn push_item<I: Item>(items: &mut Vec<I>, spelling: &[u8]) -> Result<(), AllocError>
+    ensures { OnOk result (items.new.items ≡ items.old.items ++ option_to_list (I.of_spelling spelling.now)) }
 {
-    let mut places = Vec::new(alloc);
-    let Ok(mut rest) = word_at(text, b"(") else {
-        return Ok(places);
-    };
-    for _ in 0..MAX_PLACES {
-        let (spelling, after) = match place_at(rest) {
-            Ok(found) => found,
-            Err(_) => return Ok(places),
-        };
-        push_place(alloc, &mut places, spelling)?;
-        match after_place(after) {
-            Ok(Some(next)) => rest = next,
-            Ok(None) => return Ok(places),
-            Err(_) => return Ok(places),
-        }
-    }
-    Ok(places)
-}
-
-/// Appends the value with this spelling, where there is one.
-fn push_value(alloc: Global, values: &mut Vec<Value>, spelling: &[u8]) -> Result<(), AllocError>
-    ensures { OnOk result (values.new.items ≡ values.old.items ++ option_to_list (value_of spelling.now)) }
-{
-    if let Some(value) = value_of(alloc, spelling)? {
-        values.push(value)?;
-    }
-    Ok(())
-}
-
-/// Appends the place with this spelling, where there is one.
-fn push_place(alloc: Global, places: &mut Vec<Place>, spelling: &[u8]) -> Result<(), AllocError>
-    ensures { OnOk result (places.new.items ≡ places.old.items ++ option_to_list (place_of spelling.now)) }
-{
-    if let Some(place) = place_of(alloc, spelling)? {
-        places.push(place)?;
+    if let Some(item) = I::of_spelling(spelling) {
+        items.push(item)?;
     }
     Ok(())
 }

@@ -3,14 +3,14 @@
 //! A reader is given the bytes that are left. It answers the spelling that it read and the bytes after
 //! it, or the bytes from the first one that no text of its kind goes on with.
 
-ghost use Rattle.std.specs.Prelude.{◌≡◌, ◌≤◌, ℕ, List, length, take, drop, false, position, IfSome, IfOk};
+ghost use Rattle.std.specs.Prelude.{◌≡◌, ◌≤◌, ℕ, List, length, take, drop, false, position, IfSome};
 ghost use Rattle.std.specs.Option.{option_map};
 ghost use Rattle.kt_tuple.specs.Reading.{Gives, word_at, after_digits, after_positive, split_before, int_at, after_characters, str_at, value_at, formal_at, place_at, after_place, is_no_digit, is_printable, int_of, has_range, is_short, value_of, place_of, between_quotes, characters_of, str_of, is_escape};
 
 use crate::string::{MAX_CHARACTERS, Str};
 use crate::template::Place;
 use crate::value::{Kind, Value};
-use std::alloc::{AllocError, Global};
+use arrayvec::ArrayVec;
 
 /// Reads a value.
 #[tactic(auto, unfolding(crate::specs::Reading::value_at))]
@@ -80,7 +80,7 @@ fn split_before<'a>(text: &'a [u8], rest: &'a [u8]) -> (&'a [u8], &'a [u8])
 
 /// Reads `0`, or a minus sign or none and digits of which the first is not 0.
 #[tactic(auto, unfolding(crate::specs::Reading::int_at))]
-fn int_at(text: &[u8]) -> Result<(&[u8], &[u8]), &[u8]>
+pub fn int_at(text: &[u8]) -> Result<(&[u8], &[u8]), &[u8]>
     ensures { Gives (λ x. (x.0.now, x.1.now)) (λ e. e.now) result (int_at text.now) }
 {
     match text.split_first() {
@@ -182,34 +182,31 @@ pub fn is_short(spelling: &[u8]) -> bool
 
 /// The value with this spelling, or `None` where it is out of range or too long.
 #[tactic(auto, unfolding(crate::specs::Reading::value_of))]
-pub fn value_of(alloc: Global, spelling: &[u8]) -> Result<Option<Value>, AllocError>
-    ensures { IfOk result (λ value. value ≡ value_of spelling.now) }
+pub fn value_of(spelling: &[u8]) -> Option<Value>
+    ensures { result ≡ value_of spelling.now }
 {
     match spelling.first() {
-        Some(b'"') => {
-            let characters = characters_of(alloc, spelling)?;
-            Ok(str_of(characters))
-        }
-        _ => Ok(int_of(spelling).map(Value::Int)),
+        Some(b'"') => str_of(spelling),
+        _ => int_of(spelling).map(Value::Int),
     }
 }
 
 /// The place with this spelling, or `None` where it is out of range or too long.
 #[tactic(auto, unfolding(crate::specs::Reading::place_of))]
-pub fn place_of(alloc: Global, spelling: &[u8]) -> Result<Option<Place>, AllocError>
-    ensures { IfOk result (λ place. place ≡ place_of spelling.now) }
+pub fn place_of(spelling: &[u8]) -> Option<Place>
+    ensures { result ≡ place_of spelling.now }
 {
     if spelling == b"?int".as_slice() {
-        Ok(Some(Place::Formal(Kind::Int)))
+        Some(Place::Formal(Kind::Int))
     } else if spelling == b"?str".as_slice() {
-        Ok(Some(Place::Formal(Kind::Str)))
+        Some(Place::Formal(Kind::Str))
     } else {
-        Ok(value_of(alloc, spelling)?.map(Place::Actual))
+        value_of(spelling).map(Place::Actual)
     }
 }
 
 /// The number with this spelling, where it has 64 bits.
-fn int_of(spelling: &[u8]) -> Option<i64>
+pub fn int_of(spelling: &[u8]) -> Option<i64>
     ensures { result ≡ int_of spelling.now }
 {
     match str::from_utf8(spelling) {
@@ -231,9 +228,24 @@ fn between_quotes(spelling: &[u8]) -> &[u8]
     }
 }
 
+/// The str with this spelling, where it has at most 64 characters, all printable.
+fn str_of(spelling: &[u8]) -> Option<Value>
+    ensures { result ≡ str_of (characters_of spelling.now) }
+{
+    let mut characters: ArrayVec<u8, MAX_CHARACTERS> = ArrayVec::new();
+    let mut behind_backslash = false;
+    for c in between_quotes(spelling) {
+        behind_backslash = is_escape(behind_backslash, *c);
+        if !behind_backslash && characters.try_push(*c).is_err() {
+            return None;
+        }
+    }
+    str_with(&characters)
+}
+
 /// The str of these characters, where they are at most 64 and printable.
-fn str_of(characters: Vec<u8>) -> Option<Value>
-    ensures { result ≡ str_of characters.items }
+fn str_with(characters: &[u8]) -> Option<Value>
+    ensures { result ≡ str_of characters.now }
 {
     match Str::new(characters) {
         Some(string) => Some(Value::Str(string)),
@@ -261,19 +273,4 @@ fn character_count(spelling: &[u8]) -> usize
         }
     }
     count
-}
-
-/// The characters of the str.
-fn characters_of(alloc: Global, spelling: &[u8]) -> Result<Vec<u8>, AllocError>
-    ensures { IfOk result (λ characters. characters.items ≡ characters_of spelling.now) }
-{
-    let mut characters = Vec::with_capacity(alloc, spelling.len())?;
-    let mut behind_backslash = false;
-    for c in between_quotes(spelling) {
-        behind_backslash = is_escape(behind_backslash, *c);
-        if !behind_backslash {
-            characters.push(*c)?;
-        }
-    }
-    Ok(characters)
 }

@@ -1,7 +1,7 @@
-ghost use Rattle.std.specs.Prelude.{◌≡◌, ◌↔◌, ℕ, List, ◌≤◌, length, IsSome, IfSome, IfOk, IsTrue};
+ghost use Rattle.std.specs.Prelude.{◌≡◌, ◌↔◌, ℕ, List, ◌≤◌, length, IsSome, IfSome, IsTrue};
 ghost use Rattle.kt_tuple.specs.Text.{IsText, ArePrintable};
 
-use std::alloc::{AllocError, Global};
+use arrayvec::ArrayVec;
 use std::marker::Model;
 
 /// The most characters that a string has.
@@ -10,7 +10,7 @@ pub const MAX_CHARACTERS: usize = 64;
 /// A string: 0 to 64 printable ASCII characters, each a byte from 32 to 126.
 #[derive(Debug, Drop)]
 pub struct Str {
-    characters: Vec<u8>,
+    characters: ArrayVec<u8, MAX_CHARACTERS>,
 }
 
 impl Model for Str {
@@ -23,14 +23,17 @@ impl Model for Str {
 
 impl Str {
     /// The string of these characters, or `None` where they are more than 64 or one is not printable.
-    pub fn new(characters: Vec<u8>) -> Option<Str>
-        ensures within { IsSome result ↔ IsText characters.items }
-        ensures value { IfSome result (λ s. s ≡ characters.items) }
+    pub fn new(characters: &[u8]) -> Option<Str>
+        ensures within { IsSome result ↔ IsText characters.now }
+        ensures value { IfSome result (λ s. s ≡ characters.now) }
     {
-        if characters.len() <= MAX_CHARACTERS && are_printable(&characters) {
-            Some(Str { characters })
-        } else {
-            None
+        if !are_printable(characters) {
+            return None;
+        }
+        let mut held = ArrayVec::new();
+        match held.try_extend_from_slice(characters) {
+            Ok(()) => Some(Str { characters: held }),
+            Err(_) => None,
         }
     }
 
@@ -43,12 +46,12 @@ impl Str {
     }
 
     /// An equal string.
-    pub fn copy(&self, alloc: Global) -> Result<Str, AllocError>
-        ensures { IfOk result (λ s. s ≡ self.now) }
+    pub fn copy(&self) -> Str
+        ensures { result ≡ self.now }
     {
-        Ok(Str {
-            characters: Vec::from_slice(alloc, &self.characters)?,
-        })
+        let mut characters = ArrayVec::new();
+        let _ = characters.try_extend_from_slice(&self.characters);
+        Str { characters }
     }
 }
 

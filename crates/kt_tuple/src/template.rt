@@ -41,12 +41,12 @@ impl Place {
     }
 
     /// An equal place.
-    pub fn copy(&self, alloc: Global) -> Result<Place, AllocError>
-        ensures { IfOk result (λ p. p ≡ self.now) }
+    pub fn copy(&self) -> Place
+        ensures { result ≡ self.now }
     {
         match self {
-            Place::Actual(value) => Ok(Place::Actual(value.copy(alloc)?)),
-            Place::Formal(kind) => Ok(Place::Formal(*kind)),
+            Place::Actual(value) => Place::Actual(value.copy()),
+            Place::Formal(kind) => Place::Formal(*kind),
         }
     }
 }
@@ -146,7 +146,7 @@ fn copy_places(alloc: Global, places: &[Place]) -> Result<Vec<Place>, AllocError
 {
     let mut copies = Vec::with_capacity(alloc, places.len())?;
     for place in places {
-        copies.push(place.copy(alloc)?)?;
+        copies.push(place.copy())?;
     }
     Ok(copies)
 }

@@ -17,11 +17,11 @@ fn strings(rt: HostRuntime) -> Result<(), Fail> {
         (31, 1, false),
         (127, 1, false),
     ] {
-        match Str::new(vec![in rt.alloc(); character; count]?) {
+        match Str::new(&vec![in rt.alloc(); character; count]?) {
             Some(string) => {
                 assert!(rt; is_made, "{count} times {character} is made");
                 assert_eq!(rt; string.as_bytes().len(), count);
-                assert!(rt; string.copy(rt.alloc())? == string);
+                assert!(rt; string.copy() == string);
             }
             None => assert!(rt; !is_made, "{count} times {character} is not made"),
         }
@@ -66,7 +66,7 @@ fn admitted_values(rt: HostRuntime) -> Result<(), Fail> {
     for (place, (kind, admitted)) in template.places().iter().zip(expected) {
         assert_eq!(rt; place.kind(), kind);
         for (value, is_admitted) in tuple.values().iter().zip(admitted) {
-            assert!(rt; value.copy(rt.alloc())?.equals(value));
+            assert!(rt; value.copy().equals(value));
             assert_eq!(rt; place.admits(value), is_admitted, "{place:?} and {value:?}");
         }
     }

@@ -83,7 +83,7 @@ fn copy_values(alloc: Global, values: &[Value]) -> Result<Vec<Value>, AllocError
 {
     let mut copies = Vec::with_capacity(alloc, values.len())?;
     for value in values {
-        copies.push(value.copy(alloc)?)?;
+        copies.push(value.copy())?;
     }
     Ok(copies)
 }

@@ -1,9 +1,8 @@
-ghost use Rattle.std.specs.Prelude.{◌≡◌, ◌↔◌, IsTrue, IfOk};
+ghost use Rattle.std.specs.Prelude.{◌≡◌, ◌↔◌, IsTrue};
 ghost use Rattle.kt_tuple.specs.Equality.{value_eq};
 ghost use Rattle.kt_tuple.specs.Value.{kind_of};
 
 use crate::string::Str;
-use std::alloc::{AllocError, Global};
 
 /// One value of a tuple.
 #[derive(Debug, PartialEq, Eq, Drop)]
@@ -33,12 +32,12 @@ impl Value {
     }
 
     /// An equal value.
-    pub fn copy(&self, alloc: Global) -> Result<Value, AllocError>
-        ensures { IfOk result (λ v. v ≡ self.now) }
+    pub fn copy(&self) -> Value
+        ensures { result ≡ self.now }
     {
         match self {
-            Value::Int(n) => Ok(Value::Int(*n)),
-            Value::Str(s) => Ok(Value::Str(s.copy(alloc)?)),
+            Value::Int(n) => Value::Int(*n),
+            Value::Str(s) => Value::Str(s.copy()),
         }
     }
 

@@ -1,9 +1,14 @@
 //! The one text of each value, tuple, template, operation and answer, written at the end of bytes.
 
-ghost use Rattle.std.specs.Prelude.{◌≡◌, ◌≤◌, ◌++◌, List, ℕ, [], ◌∷◌, length, take, vec_len, OnOk, OnErr, codes};
+ghost use Rattle.std.specs.Prelude.{◌≡◌, ◌≤◌, ◌++◌, List, ℕ, [], ◌∷◌, length, take, vec_len, OnOk, OnErr, codes, None, All};
 ghost use Rattle.std.specs.Fmt.{signed_decimal};
+ghost use Rattle.std.specs.Int.{w64};
+ghost use Rattle.std.specs.Int.RustNames.{FitsSigned};
 ghost use Rattle.std.specs.Io.{StartsWith};
+ghost use Rattle.kt_tuple.specs.Matching.{HasArity};
+ghost use Rattle.kt_tuple.specs.Parsing.{tuple_fault, tuple_values, template_fault, template_places};
 ghost use Rattle.kt_tuple.specs.Spelling.{character_text, string_text, value_text, place_text, tuple_text, template_text, op_text, answer_text};
+ghost use Rattle.kt_tuple.specs.Valid.{IsValue, IsPlace};
 
 use crate::op::{Answer, Op};
 use crate::template::{Place, Template};
@@ -12,11 +17,26 @@ use crate::value::{Kind, Value};
 use itoa::Buffer;
 use std::alloc::AllocError;
 
+impl Value {
+    /// Appends its text, as `"a"`. A refused call leaves the bytes as they were.
+    pub fn write_to(&self, out: &mut Vec<u8>) -> Result<(), AllocError>
+        ensures ok { OnOk result (out.new.items ≡ out.old.items ++ value_text self.now) }
+        ensures err { OnErr result (out.new.items ≡ out.old.items) }
+    {
+        let start = out.len();
+        let written = push_value(out, self);
+        cut_back(out, start, written)
+    }
+}
+
 impl Tuple {
     /// Appends its text, as `("a", 1)`. A refused call leaves the bytes as they were.
     pub fn write_to(&self, out: &mut Vec<u8>) -> Result<(), AllocError>
         ensures ok { OnOk result (out.new.items ≡ out.old.items ++ tuple_text self.now) }
         ensures err { OnErr result (out.new.items ≡ out.old.items) }
+        // What is written has no fault and is read as this tuple.
+        ensures faultless { OnOk result (tuple_fault (tuple_text self.now) ≡ None) }
+        ensures read_back { OnOk result (tuple_values (tuple_text self.now) ≡ self.now) }
     {
         let start = out.len();
         let written = push_tuple(out, self);
@@ -29,6 +49,9 @@ impl Template {
     pub fn write_to(&self, out: &mut Vec<u8>) -> Result<(), AllocError>
         ensures ok { OnOk result (out.new.items ≡ out.old.items ++ template_text self.now) }
         ensures err { OnErr result (out.new.items ≡ out.old.items) }
+        // What is written has no fault and is read as this template.
+        ensures faultless { OnOk result (template_fault (template_text self.now) ≡ None) }
+        ensures read_back { OnOk result (template_places (template_text self.now) ≡ self.now) }
     {
         let start = out.len();
         let written = push_template(out, self);
@@ -121,6 +144,8 @@ fn push_answer(out: &mut Vec<u8>, answer: &Answer) -> Result<(), AllocError>
 fn push_tuple(out: &mut Vec<u8>, tuple: &Tuple) -> Result<(), AllocError>
     ensures ok { OnOk result (out.new.items ≡ out.old.items ++ tuple_text tuple.now) }
     ensures front { StartsWith out.new.items out.old.items }
+    ensures arity { OnOk result (HasArity tuple.now) }
+    ensures held { OnOk result (All IsValue tuple.now) }
 {
     out.push(b'(')?;
     let mut separator: &[u8] = b"";
@@ -136,6 +161,8 @@ fn push_tuple(out: &mut Vec<u8>, tuple: &Tuple) -> Result<(), AllocError>
 fn push_template(out: &mut Vec<u8>, template: &Template) -> Result<(), AllocError>
     ensures ok { OnOk result (out.new.items ≡ out.old.items ++ template_text template.now) }
     ensures front { StartsWith out.new.items out.old.items }
+    ensures arity { OnOk result (HasArity template.now) }
+    ensures held { OnOk result (All IsPlace template.now) }
 {
     out.push(b'(')?;
     let mut separator: &[u8] = b"";
@@ -151,6 +178,7 @@ fn push_template(out: &mut Vec<u8>, template: &Template) -> Result<(), AllocErro
 fn push_place(out: &mut Vec<u8>, place: &Place) -> Result<(), AllocError>
     ensures ok { OnOk result (out.new.items ≡ out.old.items ++ place_text place.now) }
     ensures front { StartsWith out.new.items out.old.items }
+    ensures held { IsPlace place.now }
 {
     match place {
         Place::Actual(value) => push_value(out, value),
@@ -162,6 +190,7 @@ fn push_place(out: &mut Vec<u8>, place: &Place) -> Result<(), AllocError>
 fn push_value(out: &mut Vec<u8>, value: &Value) -> Result<(), AllocError>
     ensures ok { OnOk result (out.new.items ≡ out.old.items ++ value_text value.now) }
     ensures front { StartsWith out.new.items out.old.items }
+    ensures held { IsValue value.now }
 {
     match value {
         Value::Int(number) => push_int(out, *number),
@@ -172,6 +201,7 @@ fn push_value(out: &mut Vec<u8>, value: &Value) -> Result<(), AllocError>
 fn push_int(out: &mut Vec<u8>, number: i64) -> Result<(), AllocError>
     ensures ok { OnOk result (out.new.items ≡ out.old.items ++ signed_decimal number) }
     ensures front { StartsWith out.new.items out.old.items }
+    ensures held { FitsSigned w64 number }
 {
     let mut buffer = Buffer::new();
     out.extend_from_slice(buffer.format(number).as_bytes())

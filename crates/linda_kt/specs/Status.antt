@@ -1,9 +1,10 @@
 -- How a run ends.
-use Rattle.std.specs.Prelude.{◌≡◌, ◌⊎◌, ℕ}
+use Rattle.std.specs.Prelude.{◌≡◌, ◌⊎◌, ℕ, List, Option}
 use Rattle.kt_core.specs.declared.step.StepError.{StepError}
 use Rattle.kt_core.specs.declared.step.StepError.TheVariants as step
 use Rattle.kt_scene.specs.declared.fault.SceneError.{SceneError}
 use Rattle.kt_scene.specs.declared.fault.SceneError.TheVariants as scene
+use Rattle.kt_scene.specs.Run.{WritesReplayed, IsReplayFault}
 use Rattle.kt_scene.specs.declared.fault.ReplayFault.{ReplayFault}
 use Rattle.kt_scene.specs.declared.fault.ReplayFault.TheVariants.{Scene, Step, Open, Memory, Read, Write}
 
@@ -32,6 +33,7 @@ status_of Write = 7
 abbrev pub IsWordsStatus : ℕ → Type 0
 IsWordsStatus n = (n ≡ 0) ⊎ ((n ≡ 2) ⊎ ((n ≡ 6) ⊎ (n ≡ 7)))
 
--- the exit status of a command: 0 where it was done, else that of a fault
-abbrev pub IsRunStatus : ℕ → Type 0
-IsRunStatus n = (n ≡ 0) ⊎ ((fault : ReplayFault) × (n ≡ status_of fault))
+-- the exit status of a command: 0 where what was read was replayed and its report written, else that of the fault
+pub data IsRunStatus (before after old new : Option (List ℕ)) (n : ℕ) : Type 0 where
+  done : n ≡ 0 → WritesReplayed before after old new → IsRunStatus before after old new n
+  refused : (fault : ReplayFault) → IsReplayFault before after fault → n ≡ status_of fault → IsRunStatus before after old new n

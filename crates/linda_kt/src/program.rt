@@ -77,7 +77,8 @@ pub fn run_program<R: Read, W: Write, E: Write>(
     writer: &mut W,
     errors: &mut E,
 ) -> u8
-    ensures told { words_fault (texts words.now) ≡ [] → IsRunStatus result }
+    ensures told { words_fault (texts words.now) ≡ []
+        → IsRunStatus (R.remaining reader.old) (R.remaining reader.new) (W.contents writer.old) (W.contents writer.new) result }
     ensures wrong_words { AreWrong (texts words.now)
         → (result ≡ COMMAND_LINE) ⊎ (result ≡ MEMORY) }
     ensures wrong_words_print_nothing { AreWrong (texts words.now) → writer.new ≡ writer.old }

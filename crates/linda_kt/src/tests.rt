@@ -22,6 +22,30 @@ serve s1 w3 0\nserve s1 w2 0\n";
 
 const CUT_SHORT: &str = "linda-kt 1\nshards 1\nworker\nout (\"a\", 1)\nsteps\nissue w1\nissue w";
 
+const UNLESS_SKIPS: &str = "linda-kt 1\nshards 1\nworker\ninp (\"a\")\nunless 2\n\
+out (\"b\")\nout (\"c\")\nout (\"d\")\nworker\nout (\"a\")\nout (\"a\")\nout (\"a\")\n\
+rdp (\"a\")\nsteps\n\
+issue w1\ndeliver w1 s1\nserve s1 w1 0\ndeliver s1 w1\n\
+issue w1\ndeliver w1 s1\nserve s1 w1 0\n\
+issue w2\ndeliver w2 s1\nserve s1 w2 0\ndeliver s1 w2\n\
+issue w2\ndeliver w2 s1\nserve s1 w2 0\ndeliver s1 w2\n\
+issue w2\ndeliver w2 s1\nserve s1 w2 0\ndeliver s1 w2\n\
+issue w2\ndeliver w2 s1\nserve s1 w2 2\nend\n";
+
+const UNLESS_SKIPS_REPORT: &str = "survivors 6\nw1.1 inp (\"a\") none\nw1.2 out (\"d\") done\n\
+w2.1 out (\"a\") done\nw2.2 out (\"a\") done\nw2.3 out (\"a\") done\n\
+w2.4 rdp (\"a\") got (\"a\")\nlost 0\nspace 4\n(\"a\")\n(\"a\")\n(\"a\")\n(\"d\")\npermanent 0\n";
+
+/// Behind the script's first lines.
+const SATURATING_SET: &str = "out (9223372036854775807)\nin (?int x)\nset y = x + 1\nout (y)\n\
+steps\nissue w1\ndeliver w1 s1\nserve s1 w1 0\ndeliver s1 w1\n\
+issue w1\ndeliver w1 s1\nserve s1 w1 0\ndeliver s1 w1\n\
+issue w1\ndeliver w1 s1\nserve s1 w1 0\nend\n";
+
+const SATURATING_SET_REPORT: &str = "survivors 3\nw1.1 out (9223372036854775807) done\n\
+w1.2 in (?int) got (9223372036854775807)\nw1.3 out (9223372036854775807) done\nlost 0\nspace 1\n\
+(9223372036854775807)\npermanent 0\n";
+
 /// What a run left.
 #[derive(Debug, Drop, PartialEq)]
 struct Ended {
@@ -80,6 +104,22 @@ fn worked_scenarios(rt: HostRuntime) -> Result<(), Fail> {
     expect(&rt, &ended, "", "step 9: 4 NoSuchMatch\n", 4);
     let ended = run(alloc, &replay, CUT_SHORT)?;
     expect(&rt, &ended, "", "line 7: 7 End\n", 3);
+    Ok(())
+}
+
+#[test]
+fn worked_scripts(rt: HostRuntime) -> Result<(), Fail> {
+    let alloc = rt.alloc();
+    let replay = ["replay"];
+    let ended = run(alloc, &replay, UNLESS_SKIPS)?;
+    expect(&rt, &ended, UNLESS_SKIPS_REPORT, "", 0);
+    let front = "linda-kt 1\nshards 1\nworker\n";
+    let input = format!(in alloc; "{front}{SATURATING_SET}")?;
+    let ended = run(alloc, &replay, input.as_str())?;
+    expect(&rt, &ended, SATURATING_SET_REPORT, "", 0);
+    let input = format!(in alloc; "{front}set x = x + 1\n{SATURATING_SET}")?;
+    let ended = run(alloc, &replay, input.as_str())?;
+    expect(&rt, &ended, "", "line 4: 4 Variable\n", 3);
     Ok(())
 }
 

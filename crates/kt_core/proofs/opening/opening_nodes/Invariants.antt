@@ -4,4 +4,4 @@ use Rattle.kt_core.specs.Reached.{opening_rows}
 use Rattle.kt_core.proofs.opening.opening_nodes.Given as goal
 
 abbrev pub invariant-loop-number : goal.invariant-loop-number
-invariant-loop-number l = map part_of l.nodes.items ≡ opening_rows l.workers l.shards l.number
+invariant-loop-number l = map part_of l.nodes.items ≡ opening_rows l.scripts l.shards l.number

@@ -1,8 +1,6 @@
-use Rattle.kt_scene.proofs.Replays.{replayed, faulted}
+use Rattle.kt_scene.proofs.Replays.{told_before}
 use Rattle.kt_scene.proofs.replaying.world_of.Goals as goal
 
-pub returns-in-Ok-clause-replayed : goal.returns-in-Ok-clause-replayed
-returns-in-Ok-clause-replayed g c = replayed c.in-Ok.field-0.scene c.deref-in-Ok.result.now c.run.result c.run.ensures.replayed
-
-pub returns-in-Ok-clause-fault : goal.returns-in-Ok-clause-fault
-returns-in-Ok-clause-fault g c = faulted c.in-Ok.field-0.scene c.deref-in-Ok.result.now c.run.result c.run.ensures.fault
+pub returns-clause-fault : goal.returns-clause-fault
+returns-clause-fault g c =
+    told_before _ _ c.in_ok-text.text.items c.deref.result.now c.world_told.result (record { bytes = c.in_ok-text.ensures.read; all = c.in_ok-text.ensures.all }) c.deref.ensures.value c.world_told.ensures.fault

@@ -1,0 +1,163 @@
+-- What a text is read as is the scenario that it spells.
+use Rattle.std.proofs.Common.{◌≡◌, ℕ, ◌≤◌, Bool, true, false, cond, ltb, List, [], ◌∷◌, ◌++◌, length, Result, Ok, Err, refl, sym, ap, subst, ◌∙◌, append_assoc, append-nil, arith}
+use Rattle.std.proofs.lemmas.Bool.{ltb-false}
+use Rattle.std.proofs.lemmas.List.Elements.{All-nil, All-cons, All-head, All-tail, filter-append}
+use Rattle.std.specs.Prelude.{codes, All, filter}
+use Rattle.std.specs.List.{flat_map}
+use Rattle.kt_script.specs.Rules.{IsScript}
+use Rattle.kt_scene.specs.declared.fault.SceneError.TheVariants as faults
+use Rattle.kt_scene.specs.declared.draft.Stage.{Stage}
+use Rattle.kt_scene.specs.declared.draft.Stage.TheVariants as stages
+use Rattle.kt_scene.specs.Steps.{step_of}
+use Rattle.kt_scene.specs.Lines.{Sketch, nothing_read, is_word, is_ignored, is_ended, with_step, told, line_read}
+use Rattle.kt_scene.specs.Reading.{Play, Fault, lines_of, read_from, sketch_of, play_with, played, play_of}
+use Rattle.kt_scene.specs.Report.{text_line}
+use Rattle.kt_scene.specs.Text.{told_lines}
+use Rattle.kt_scene.specs.Scenario.{IsCommand, IsStep, IsPlay, IsLine, IsScenario, is_told}
+use Rattle.kt_scene.proofs.Feeding.{LeadOn, read_leads, text_has_lines}
+use Rattle.kt_scene.proofs.Words.{word_is}
+use Rattle.kt_scene.proofs.Told.{told_at, IsGood, Adds, place_at}
+use Rattle.kt_scene.proofs.ToldLaws.{title_told, shards_told, worker_told, script_told, step_told}
+
+-- the line is told behind the others, or ignored; or it is the end of a scenario
+data GoesOn (s : Sketch) (line : List ℕ) (u : Sketch) : Type 0 where
+  adds : IsGood u → is_ended u.stage ≡ false → told_at u.stage u ≡ told_at s.stage s ++ filter is_told (line ∷ []) → GoesOn s line u
+  ends : line ≡ codes "end" → is_ended u.stage ≡ true → IsPlay (play_with u) → told_at s.stage s ≡ told_lines (play_with u) → GoesOn s line u
+
+told_is_kept : (line : List ℕ) → is_ignored line ≡ false → line ∷ [] ≡ filter is_told (line ∷ [])
+told_is_kept line other = rw other refl
+
+from_adds : (s : Sketch) (line : List ℕ) (u : Sketch) → is_ignored line ≡ false → Adds s line u → GoesOn s line u
+from_adds s line u other h = adds h.good h.goes_on (h.told ∙ ap (λ (l : List (List ℕ)). told_at s.stage s ++ l) (told_is_kept line other))
+
+play_kept : (s : Sketch) → s.stage ≡ stages.Steps → IsGood s → IsPlay (play_with s)
+play_kept s is h =
+    let at = place_at stages.Steps s is h in
+    record {
+      cast = record { some_shards = omega (arith, at.0); few_shards = omega (arith, at.0); some_workers = at.1; few_workers = at.2 };
+      shards = at.0;
+      scripts = h.scripts;
+      commands = h.held;
+      steps = h.steps;
+    }
+
+end_by_test : (b : Bool) (s : Sketch) (line : List ℕ) (u : Sketch) → IsGood s → is_ignored line ≡ false → s.stage ≡ stages.Steps → is_word line (codes "end") ≡ b
+    → cond b (Ok (record s { stage = stages.Ended })) (with_step s (step_of line)) ≡ Ok u → GoesOn s line u
+end_by_test false s line u h other is test e = from_adds s line u other (step_told s line u h is e)
+end_by_test true s line u h other is test e =
+    let made : record s { stage = stages.Ended } ≡ u = cc in
+    let P : Sketch → Type 0 = λ x. GoesOn s line x in
+    subst P made (ends (word_is line (codes "end") test) refl (play_kept s is h) (ap (λ (g : Stage). told_at g s) is))
+
+by_stage : (stage : Stage) (s : Sketch) (line : List ℕ) (u : Sketch) → IsGood s → is_ignored line ≡ false → s.stage ≡ stage → told stage s line ≡ Ok u → GoesOn s line u
+by_stage stages.Title s line u h other is e = from_adds s line u other (title_told s line u h is e)
+by_stage stages.Shards s line u h other is e = from_adds s line u other (shards_told s line u h is e)
+by_stage stages.Workers s line u h other is e = from_adds s line u other (worker_told s line u h is e)
+by_stage stages.Commands s line u h other is e = from_adds s line u other (script_told s line u h is e)
+by_stage stages.Steps s line u h other is e = end_by_test (is_word line (codes "end")) s line u h other is refl e
+by_stage stages.Ended s line u h other is e = absurd cc
+
+by_ignored : (b : Bool) (s : Sketch) (line : List ℕ) (u : Sketch) → IsGood s → is_ended s.stage ≡ false → is_ignored line ≡ b → cond b (Ok s) (told s.stage s line) ≡ Ok u → GoesOn s line u
+by_ignored false s line u h on other e = by_stage s.stage s line u h other refl e
+by_ignored true s line u h on ignored e =
+    let made : s ≡ u = cc in
+    let P : Sketch → Type 0 = λ x. GoesOn s line x in
+    let nothing : [] ≡ filter is_told (line ∷ []) = rw ignored refl in
+    subst P made (adds h on (sym (append-nil (told_at s.stage s)) ∙ ap (λ (l : List (List ℕ)). told_at s.stage s ++ l) nothing))
+
+line_goes : (s : Sketch) (line : List ℕ) (u : Sketch) → IsGood s → is_ended s.stage ≡ false → line_read s line ≡ Ok u → GoesOn s line u
+line_goes s line u h on e = by_ignored (is_ignored line) s line u h on refl (rw on at e)
+
+-- no line is read behind the end
+nothing_more : (s : Sketch) (lines : List (List ℕ)) (t : Sketch) → is_ended s.stage ≡ true → LeadOn s lines t → (lines ≡ []) × (t ≡ s)
+nothing_more s [] t over h = (refl, h)
+nothing_more s (line ∷ later) t over h =
+    let never = rw over at h.1 in
+    absurd cc
+
+-- the lines are those of a scenario and the end
+record IsWhole (s : Sketch) (lines : List (List ℕ)) (t : Sketch) : Type 0 where
+  before : List (List ℕ)
+  split : lines ≡ before ++ codes "end" ∷ []
+  told : told_at s.stage s ++ filter is_told before ≡ told_lines (play_with t)
+  rules : IsPlay (play_with t)
+
+whole_more : (s u t : Sketch) (line : List ℕ) (later : List (List ℕ)) → told_at u.stage u ≡ told_at s.stage s ++ filter is_told (line ∷ []) → IsWhole u later t → IsWhole s (line ∷ later) t
+whole_more s u t line later more h = record {
+  before = line ∷ h.before;
+  split = ap (λ (l : List (List ℕ)). line ∷ l) h.split;
+  told =
+      ap (λ (l : List (List ℕ)). told_at s.stage s ++ l) (filter-append is_told (line ∷ []) h.before)
+      ∙ sym (append_assoc (told_at s.stage s) (filter is_told (line ∷ [])) (filter is_told h.before))
+      ∙ ap (λ (l : List (List ℕ)). l ++ filter is_told h.before) (sym more) ∙ h.told;
+  rules = h.rules;
+}
+
+whole_end : (s u t : Sketch) (line : List ℕ) (later : List (List ℕ)) → line ≡ codes "end" → IsPlay (play_with u) → told_at s.stage s ≡ told_lines (play_with u) → later ≡ [] → t ≡ u → IsWhole s (line ∷ later) t
+whole_end s u t line later is rules all nothing same =
+    let P : Sketch → Type 0 = λ x. IsWhole s (line ∷ later) x in
+    subst P (sym same) (record {
+      before = [];
+      split = ap (λ (l : List ℕ). l ∷ later) is ∙ ap (λ (l : List (List ℕ)). codes "end" ∷ l) nothing;
+      told = append-nil (told_at s.stage s) ∙ all;
+      rules = rules;
+    })
+
+lines_whole : (s : Sketch) (lines : List (List ℕ)) (t : Sketch) → IsGood s → is_ended s.stage ≡ false → LeadOn s lines t → is_ended t.stage ≡ true → IsWhole s lines t
+lines_whole s [] t h on leads over =
+    let never : true ≡ false = sym over ∙ ap (λ (x : Sketch). is_ended x.stage) leads ∙ on in
+    absurd cc
+lines_whole s (line ∷ later) t h on leads over =
+    by (line_goes s line leads.0 h on leads.1) (λ good goes. lines_whole leads.0 later t good goes leads.2 over)
+  where
+    by : GoesOn s line leads.0 → (IsGood leads.0 → is_ended leads.0.stage ≡ false → IsWhole leads.0 later t) → IsWhole s (line ∷ later) t
+    by (adds good goes more) behind = whole_more s leads.0 t line later more (behind good goes)
+    by (ends is ended rules all) behind =
+        let end = nothing_more leads.0 later t ended leads.2 in
+        whole_end s leads.0 t line later is rules all end.0 end.1
+
+good_at_first : IsGood nothing_read
+good_at_first = record {
+  scripts = All-nil IsScript;
+  held = All-nil (All IsCommand);
+  script = tt;
+  commands = All-nil IsCommand;
+  steps = All-nil IsStep;
+  place = record { scripts = refl; commands = refl; steps = refl };
+}
+
+all_in_front : {A : Type 0} (P : A → Type 0) (xs ys : List A) → All P (xs ++ ys) → All P xs
+all_in_front P [] ys h = All-nil P
+all_in_front P (x ∷ xs) ys h = All-cons P x xs (All-head P x (xs ++ ys) h) (all_in_front P xs ys (All-tail P x (xs ++ ys) h))
+
+spelled_whole : (text : List ℕ) (t : Sketch) → length text ≤ 1048576 → read_from nothing_read 1 (lines_of text).0 (lines_of text).1 ≡ Ok t → IsScenario text (play_with t)
+spelled_whole text t short e =
+    let leads = read_leads nothing_read 1 (lines_of text).0 (lines_of text).1 t e in
+    let whole = lines_whole nothing_read (lines_of text).0 t good_at_first refl leads.0 leads.1 in
+    let parts = text_has_lines text in
+    let Each : List (List ℕ) → Type 0 = λ l. All IsLine l in
+    record {
+      rules = whole.rules;
+      lines = whole.before;
+      each = all_in_front IsLine whole.before (codes "end" ∷ []) (subst Each whole.split parts.1);
+      told = whole.told;
+      is =
+          parts.0 ∙ ap (λ (r : List ℕ). flat_map text_line (lines_of text).0 ++ r) leads.2 ∙ append-nil (flat_map text_line (lines_of text).0)
+          ∙ ap (flat_map text_line) whole.split;
+      short = short;
+    }
+
+by_length : (b : Bool) (text : List ℕ) (t : Sketch) → ltb 1048576 (length text) ≡ b → cond b (Err (1, faults.Limit)) (read_from nothing_read 1 (lines_of text).0 (lines_of text).1) ≡ Ok t → IsScenario text (play_with t)
+by_length true text t long e = absurd cc
+by_length false text t short e = spelled_whole text t (ltb-false 1048576 (length text) short) e
+
+by_sketch : (r : Result Sketch Fault) (text : List ℕ) (play : Play) → sketch_of text ≡ r → played r ≡ Ok play → IsScenario text play
+by_sketch (Err fault) text play is e = absurd cc
+by_sketch (Ok t) text play is e =
+    let same : play_with t ≡ play = cc in
+    let P : Play → Type 0 = λ p. IsScenario text p in
+    subst P same (by_length (ltb 1048576 (length text)) text t refl is)
+
+-- what a text is read as is the scenario that it spells
+pub read_is_spelled : (text : List ℕ) (play : Play) → play_of text ≡ Ok play → IsScenario text play
+read_is_spelled text play e = by_sketch (sketch_of text) text play refl e

@@ -1,0 +1,67 @@
+-- The text of a scenario is read as that scenario.
+use Rattle.std.proofs.Common.{◌≡◌, ℕ, Bool, true, false, not, cond, ltb, List, [], ◌∷◌, ◌++◌, length, map, Ok, refl, sym, ap, subst, ◌∙◌, arith}
+use Rattle.std.proofs.lemmas.Bool.{le-ltb}
+use Rattle.std.proofs.lemmas.List.Elements.{All-nil, All-cons, All-push}
+use Rattle.std.specs.Prelude.{◌≢◌, codes, decimal, filter}
+use Rattle.std.specs.List.{flat_map}
+use Rattle.kt_scene.specs.declared.draft.Stage.TheVariants as stages
+use Rattle.kt_scene.specs.Lines.{Sketch, nothing_read, is_ignored, is_ended, line_read}
+use Rattle.kt_scene.specs.Reading.{Play, lines_of, read_from, play_with, play_of}
+use Rattle.kt_scene.specs.Text.{script_lines, step_text, told_lines}
+use Rattle.kt_scene.specs.Scenario.{IsLine, IsPlay, IsScenario, is_told}
+use Rattle.kt_scene.proofs.Feeding.{LeadOn, leads_append, leads_read, lines_read_back}
+use Rattle.kt_scene.proofs.LinesRead.{among_steps, all_lead}
+
+-- nothing is read behind the end
+goes_on_before : (s : Sketch) (lines : List (List ℕ)) (t : Sketch) → LeadOn s lines t → is_ended t.stage ≡ false → is_ended s.stage ≡ false
+goes_on_before s [] t h on = ap (λ (x : Sketch). is_ended x.stage) (sym h) ∙ on
+goes_on_before s (line ∷ later) t h on = by (is_ended s.stage) refl h.1
+  where
+    by : (b : Bool) → is_ended s.stage ≡ b → line_read s line ≡ Ok h.0 → is_ended s.stage ≡ false
+    by false e read = e
+    by true e read =
+        let never = rw e at read in
+        absurd cc
+
+ignored_by_test : (b : Bool) (s t : Sketch) (line : List ℕ) (later : List (List ℕ)) → is_ignored line ≡ b → is_ended t.stage ≡ false
+    → ((u : Sketch) → LeadOn u (filter is_told later) t → LeadOn u later t) → LeadOn s (cond (not b) (line ∷ filter is_told later) (filter is_told later)) t → LeadOn s (line ∷ later) t
+ignored_by_test true s t line later e on behind h =
+    let before : is_ended s.stage ≡ false = goes_on_before s (filter is_told later) t h on in
+    let read : line_read s line ≡ Ok s = rw (before, e) refl in
+    (s, read, behind s h)
+ignored_by_test false s t line later e on behind h = (h.0, h.1, behind h.0 h.2)
+
+-- lines that are ignored change nothing
+with_ignored : (lines : List (List ℕ)) (s t : Sketch) → is_ended t.stage ≡ false → LeadOn s (filter is_told lines) t → LeadOn s lines t
+with_ignored [] s t on h = h
+with_ignored (line ∷ later) s t on h = ignored_by_test (is_ignored line) s t line later refl on (λ u. with_ignored later u t on) h
+
+-- the end of a scenario was read
+abbrev at_end : Play → Sketch
+at_end play = record { stage = stages.Ended; shards = 1; scripts = play.cast.scripts; commands = []; steps = play.steps }
+
+told_lead : (play : Play) → IsPlay play → LeadOn nothing_read (told_lines play) (among_steps play.cast.scripts play.steps)
+told_lead play rules =
+    let Of : ℕ → Type 0 = λ n. LeadOn nothing_read (codes "linda-kt 1" ∷ (codes "shards " ++ decimal n) ∷ (flat_map script_lines play.cast.scripts ++ codes "steps" ∷ map step_text play.steps)) (among_steps play.cast.scripts play.steps) in
+    subst Of (sym rules.shards) (all_lead play.cast.scripts play.steps rules.cast.some_workers rules.cast.few_workers rules.scripts rules.commands rules.steps)
+
+end_is_line : IsLine (codes "end")
+end_is_line =
+    let P : ℕ → Type 0 = λ c. c ≢ 10 in
+    All-cons P 101 (110 ∷ 100 ∷ []) (λ e. absurd (omega (arith, e))) (All-cons P 110 (100 ∷ []) (λ e. absurd (omega (arith, e))) (All-cons P 100 [] (λ e. absurd (omega (arith, e))) (All-nil P)))
+
+lines_read : (text : List ℕ) (play : Play) (h : IsScenario text play) → read_from nothing_read 1 (lines_of text).0 (lines_of text).1 ≡ Ok (at_end play)
+lines_read text play h =
+    let s = among_steps play.cast.scripts play.steps in
+    let Of : List (List ℕ) → Type 0 = λ l. LeadOn nothing_read l s in
+    let before = with_ignored h.lines nothing_read s refl (subst Of (sym h.told) (told_lead play h.rules)) in
+    let all = leads_append nothing_read h.lines (codes "end" ∷ []) s (at_end play) before (at_end play, refl, refl) in
+    let back : lines_of text ≡ (h.lines ++ codes "end" ∷ [], []) = ap lines_of h.is ∙ lines_read_back (h.lines ++ codes "end" ∷ []) (All-push IsLine h.lines (codes "end") h.each end_is_line) in
+    ap (λ (p : List (List ℕ) × List ℕ). read_from nothing_read 1 p.0 p.1) back ∙ leads_read nothing_read 1 (h.lines ++ codes "end" ∷ []) (at_end play) all refl
+
+-- the text of a scenario is read as it
+pub spelled_is_read : (text : List ℕ) (play : Play) → IsScenario text play → play_of text ≡ Ok play
+spelled_is_read text play h =
+    let fits : ltb 1048576 (length text) ≡ false = le-ltb 1048576 (length text) h.short in
+    let same : play_with (at_end play) ≡ play = ap (λ (n : ℕ). record { cast = record { shards = n; scripts = play.cast.scripts }; steps = play.steps }) (sym h.rules.shards) in
+    rw (fits, lines_read text play h) (ap (λ (p : Play). Ok p) same)

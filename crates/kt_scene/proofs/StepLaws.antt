@@ -1,0 +1,126 @@
+-- A step that is read is spelled so.
+use Rattle.std.proofs.Common.{◌≡◌, ℕ, ◌≤◌, Bool, true, false, cond, eqb, List, [], ◌∷◌, ◌++◌, Some, None, refl, sym, ap, subst, ◌∙◌, append_assoc, append-nil}
+use Rattle.std.proofs.lemmas.Bool.{eqb-true}
+use Rattle.std.specs.Prelude.{codes, decimal}
+use Rattle.std.specs.Option.{option_map}
+use Rattle.kt_tuple.specs.declared.node.NodeId.{NodeId}
+use Rattle.kt_tuple.specs.declared.node.NodeId.TheVariants as nodes
+use Rattle.kt_core.specs.declared.step.Step.{Step}
+use Rattle.kt_core.specs.declared.step.Step.TheVariants.{Issue, Deliver, Serve}
+use Rattle.kt_scene.specs.Number.{◌>>=◌, behind, ended, number_within}
+use Rattle.kt_scene.specs.Steps.{node_at, node_before_space, issue_of, deliver_of, serve_of, step_of}
+use Rattle.kt_scene.specs.Text.{node_text, step_text}
+use Rattle.kt_scene.specs.Scenario.{IsStepNode, IsStep}
+use Rattle.kt_scene.proofs.NumberLaws.{both_read, mapped, ended_read, behind_taken, by_word, number_within_taken}
+
+-- the text is the node's, and the rest behind it
+abbrev IsNodeRead : List ℕ → NodeId × List ℕ → Type 0
+IsNodeRead text read = (text ≡ node_text read.0 ++ read.1) × IsStepNode read.0
+
+worker_taken : (c : ℕ) (cs : List ℕ) (read : NodeId × List ℕ) → c ≡ 119 → option_map (λ (n : ℕ × List ℕ). (nodes.Worker n.0, n.1)) (number_within 1 99 cs) ≡ Some read → IsNodeRead (c ∷ cs) read
+worker_taken c cs read is e =
+    let n = mapped (λ (n : ℕ × List ℕ). (nodes.Worker n.0, n.1)) (number_within 1 99 cs) read e in
+    let h = number_within_taken 1 99 cs n.0.1 n.0.0 n.1 in
+    subst (IsNodeRead (c ∷ cs)) n.2 (ap (λ (k : ℕ). k ∷ cs) is ∙ ap (λ (t : List ℕ). 119 ∷ t) h.0, (h.1, h.2))
+
+shard_taken : (c : ℕ) (cs : List ℕ) (read : NodeId × List ℕ) → c ≡ 115 → option_map (λ (n : ℕ × List ℕ). (nodes.Shard n.0, n.1)) (number_within 1 99 cs) ≡ Some read → IsNodeRead (c ∷ cs) read
+shard_taken c cs read is e =
+    let n = mapped (λ (n : ℕ × List ℕ). (nodes.Shard n.0, n.1)) (number_within 1 99 cs) read e in
+    let h = number_within_taken 1 99 cs n.0.1 n.0.0 n.1 in
+    subst (IsNodeRead (c ∷ cs)) n.2 (ap (λ (k : ℕ). k ∷ cs) is ∙ ap (λ (t : List ℕ). 115 ∷ t) h.0, (h.1, h.2))
+
+by_shard : (b : Bool) (c : ℕ) (cs : List ℕ) (read : NodeId × List ℕ) → eqb c 115 ≡ b
+    → cond b (option_map (λ (n : ℕ × List ℕ). (nodes.Shard n.0, n.1)) (number_within 1 99 cs)) None ≡ Some read → IsNodeRead (c ∷ cs) read
+by_shard true c cs read is e = shard_taken c cs read (eqb-true c 115 is) e
+by_shard false c cs read is e = absurd cc
+
+by_worker : (b : Bool) (c : ℕ) (cs : List ℕ) (read : NodeId × List ℕ) → eqb c 119 ≡ b
+    → cond b (option_map (λ (n : ℕ × List ℕ). (nodes.Worker n.0, n.1)) (number_within 1 99 cs)) (cond (eqb c 115) (option_map (λ (n : ℕ × List ℕ). (nodes.Shard n.0, n.1)) (number_within 1 99 cs)) None) ≡ Some read
+    → IsNodeRead (c ∷ cs) read
+by_worker true c cs read is e = worker_taken c cs read (eqb-true c 119 is) e
+by_worker false c cs read is e = by_shard (eqb c 115) c cs read refl e
+
+-- a node that is read is spelled so
+pub node_taken : (text rest : List ℕ) (node : NodeId) → node_at text ≡ Some (node, rest) → (text ≡ node_text node ++ rest) × IsStepNode node
+unfolding node_at
+node_taken [] rest node e = absurd cc
+node_taken (c ∷ cs) rest node e = by_worker (eqb c 119) c cs (node, rest) refl e
+
+-- a node and the space behind it
+before_space_taken : (text rest : List ℕ) (node : NodeId) → node_before_space text ≡ Some (node, rest) → (text ≡ node_text node ++ 32 ∷ rest) × IsStepNode node
+before_space_taken text rest node e =
+    let p = both_read (node_at text) (λ (p : NodeId × List ℕ). option_map (λ (rest : List ℕ). (p.0, rest)) (behind p.1 (32 ∷ []))) (node, rest) e in
+    let r = mapped (λ (rest : List ℕ). (p.0.0, rest)) (behind p.0.1 (32 ∷ [])) (node, rest) p.2 in
+    let h = node_taken text p.0.1 p.0.0 p.1 in
+    let Is : NodeId × List ℕ → Type 0 = λ x. (text ≡ node_text x.0 ++ 32 ∷ x.1) × IsStepNode x.0 in
+    subst Is r.2 (h.0 ∙ ap (λ (t : List ℕ). node_text p.0.0 ++ t) (behind_taken p.0.1 (32 ∷ []) r.0 r.1), h.1)
+
+-- the line is the step's
+abbrev IsStepLine : List ℕ → Step → Type 0
+IsStepLine line step = (line ≡ step_text step) × IsStep step
+
+node_alone : (text rest : List ℕ) (node : NodeId) → text ≡ node_text node ++ rest → rest ≡ [] → text ≡ node_text node
+node_alone text rest node parts nothing = parts ∙ ap (λ (t : List ℕ). node_text node ++ t) nothing ∙ append-nil (node_text node)
+
+issue_taken : (words : List ℕ) (step : Step) → issue_of words ≡ Some step → IsStepLine (codes "issue " ++ words) step
+issue_taken words step e =
+    let p = both_read (node_at words) (λ (p : NodeId × List ℕ). ended (Issue p.0, p.1)) step e in
+    let h = node_taken words p.0.1 p.0.0 p.1 in
+    let end = ended_read (Issue p.0.0) p.0.1 step p.2 in
+    let text : words ≡ node_text p.0.0 = node_alone words p.0.1 p.0.0 h.0 end.0 in
+    subst (IsStepLine (codes "issue " ++ words)) end.1 (ap (λ (t : List ℕ). codes "issue " ++ t) text, h.1)
+
+deliver_line : (from to : NodeId) (words second : List ℕ) → words ≡ node_text from ++ 32 ∷ second → second ≡ node_text to → codes "deliver " ++ words ≡ step_text (Deliver from to)
+deliver_line from to words second first last =
+    ap (λ (t : List ℕ). codes "deliver " ++ t) (first ∙ ap (λ (t : List ℕ). node_text from ++ 32 ∷ t) last) ∙ sym (append_assoc (codes "deliver ") (node_text from) (32 ∷ node_text to))
+
+deliver_taken : (words : List ℕ) (step : Step) → deliver_of words ≡ Some step → IsStepLine (codes "deliver " ++ words) step
+deliver_taken words step e =
+    let p = both_read (node_before_space words) (λ (p : NodeId × List ℕ). node_at p.1 >>= λ q. ended (Deliver p.0 q.0, q.1)) step e in
+    let q = both_read (node_at p.0.1) (λ (q : NodeId × List ℕ). ended (Deliver p.0.0 q.0, q.1)) step p.2 in
+    let from = before_space_taken words p.0.1 p.0.0 p.1 in
+    let to = node_taken p.0.1 q.0.1 q.0.0 q.1 in
+    let end = ended_read (Deliver p.0.0 q.0.0) q.0.1 step q.2 in
+    let second : p.0.1 ≡ node_text q.0.0 = node_alone p.0.1 q.0.1 q.0.0 to.0 end.0 in
+    let text : codes "deliver " ++ words ≡ step_text (Deliver p.0.0 q.0.0) = deliver_line p.0.0 q.0.0 words p.0.1 from.0 second in
+    subst (IsStepLine (codes "deliver " ++ words)) end.1 (text, (from.1, to.1))
+
+pub serve_text : (shard worker : NodeId) (place : ℕ) → step_text (Serve shard worker place) ≡ codes "serve " ++ (node_text shard ++ 32 ∷ (node_text worker ++ 32 ∷ decimal place))
+serve_text shard worker place =
+    append_assoc (codes "serve " ++ node_text shard) (32 ∷ node_text worker) (32 ∷ decimal place)
+    ∙ append_assoc (codes "serve ") (node_text shard) (32 ∷ (node_text worker ++ 32 ∷ decimal place))
+
+serve_line : (shard worker : NodeId) (place : ℕ) (words second third : List ℕ) → words ≡ node_text shard ++ 32 ∷ second → second ≡ node_text worker ++ 32 ∷ third → third ≡ decimal place
+    → codes "serve " ++ words ≡ step_text (Serve shard worker place)
+serve_line shard worker place words second third first more last =
+    ap (λ (t : List ℕ). codes "serve " ++ t) (first ∙ ap (λ (t : List ℕ). node_text shard ++ 32 ∷ t) (more ∙ ap (λ (t : List ℕ). node_text worker ++ 32 ∷ t) last)) ∙ sym (serve_text shard worker place)
+
+serve_held : (shard worker : NodeId) (place : ℕ) (words second third : List ℕ) (step : Step) → (words ≡ node_text shard ++ 32 ∷ second) × IsStepNode shard → (second ≡ node_text worker ++ 32 ∷ third) × IsStepNode worker
+    → third ≡ decimal place → place ≤ 99999 → Serve shard worker place ≡ step → IsStepLine (codes "serve " ++ words) step
+serve_held shard worker place words second third step first more last most is =
+    subst (IsStepLine (codes "serve " ++ words)) is (serve_line shard worker place words second third first.0 more.0 last, (first.1, more.1, most))
+
+number_alone : (text rest : List ℕ) (n : ℕ) → text ≡ decimal n ++ rest → rest ≡ [] → text ≡ decimal n
+number_alone text rest n parts nothing = parts ∙ ap (λ (t : List ℕ). decimal n ++ t) nothing ∙ append-nil (decimal n)
+
+serve_taken : (words : List ℕ) (step : Step) → serve_of words ≡ Some step → IsStepLine (codes "serve " ++ words) step
+serve_taken words step e =
+    let s = both_read (node_before_space words) (λ (s : NodeId × List ℕ). node_before_space s.1 >>= λ w. number_within 0 99999 w.1 >>= λ k. ended (Serve s.0 w.0 k.0, k.1)) step e in
+    let w = both_read (node_before_space s.0.1) (λ (w : NodeId × List ℕ). number_within 0 99999 w.1 >>= λ k. ended (Serve s.0.0 w.0 k.0, k.1)) step s.2 in
+    let k = both_read (number_within 0 99999 w.0.1) (λ (k : ℕ × List ℕ). ended (Serve s.0.0 w.0.0 k.0, k.1)) step w.2 in
+    let shard = before_space_taken words s.0.1 s.0.0 s.1 in
+    let worker = before_space_taken s.0.1 w.0.1 w.0.0 w.1 in
+    let place = number_within_taken 0 99999 w.0.1 k.0.1 k.0.0 k.1 in
+    let end = ended_read (Serve s.0.0 w.0.0 k.0.0) k.0.1 step k.2 in
+    let third : w.0.1 ≡ decimal k.0.0 = number_alone w.0.1 k.0.1 k.0.0 place.0 end.0 in
+    serve_held s.0.0 w.0.0 k.0.0 words s.0.1 w.0.1 step shard worker third place.2 end.1
+
+named_line : (line word words : List ℕ) (step : Step) → line ≡ word ++ words → IsStepLine (word ++ words) step → IsStepLine line step
+named_line line word words step parts h = (parts ∙ h.0, h.1)
+
+-- a step that is read is spelled so
+pub step_taken : (line : List ℕ) (step : Step) → step_of line ≡ Some step → IsStepLine line step
+step_taken line step e =
+    by_word (IsStepLine line step) line (codes "issue ") issue_of _ (Some step) e (λ words parts is. named_line line (codes "issue ") words step parts (issue_taken words step is)) (λ e2.
+    by_word (IsStepLine line step) line (codes "deliver ") deliver_of _ (Some step) e2 (λ words parts is. named_line line (codes "deliver ") words step parts (deliver_taken words step is)) (λ e3.
+    by_word (IsStepLine line step) line (codes "serve ") serve_of None (Some step) e3 (λ words parts is. named_line line (codes "serve ") words step parts (serve_taken words step is)) (λ e4. absurd cc)))

@@ -1,0 +1,246 @@
+-- Each line that is read is told behind those before it.
+use Rattle.std.proofs.Common.{◌≡◌, ℕ, ◌+◌, ◌<◌, Bool, true, false, not, cond, ◌&&◌, eqb, ltb, List, [], ◌∷◌, ◌++◌, length, map, Option, Some, None, Result, Ok, Err, refl, sym, ap, subst, ◌∙◌, append_assoc, append-nil, arith, length-append}
+use Rattle.std.proofs.lemmas.Bool.{eqb-true, ltb-true, and_parts}
+use Rattle.std.proofs.lemmas.List.Elements.{All-nil, All-push}
+use Rattle.std.specs.Prelude.{codes, decimal, All, nat_lt, nat_le}
+use Rattle.std.specs.List.{flat_map}
+use Rattle.kt_script.specs.declared.command.Command.{Command}
+use Rattle.kt_script.specs.declared.script_error.ScriptError.TheVariants as refusals
+use Rattle.kt_script.specs.Command.{bindings}
+use Rattle.kt_script.specs.Variables.{variables_of, with_bindings}
+use Rattle.kt_script.specs.Rules.{has_count, keeps_rules, is_within, refusal_of, IsScript}
+use Rattle.kt_core.specs.declared.step.Step.{Step}
+use Rattle.kt_scene.specs.declared.command.Spelled.{Spelled}
+use Rattle.kt_scene.specs.declared.fault.SceneError.{SceneError}
+use Rattle.kt_scene.specs.declared.fault.SceneError.TheVariants as faults
+use Rattle.kt_scene.specs.declared.draft.Stage.{Stage}
+use Rattle.kt_scene.specs.declared.draft.Stage.TheVariants as stages
+use Rattle.kt_scene.specs.Number.{◌>>=◌, behind, ended, number_at}
+use Rattle.kt_scene.specs.Commands.{spelled_of, fault_from, fault_behind}
+use Rattle.kt_scene.specs.Steps.{step_of}
+use Rattle.kt_scene.specs.Lines.{Sketch, is_word, shards_from, count_of, shards_of, titled, with_shards, with_worker, is_ended, closed, added, with_command, in_script, with_step}
+use Rattle.kt_scene.specs.Text.{command_text, step_text, script_lines}
+use Rattle.kt_scene.specs.Scenario.{IsCommand, IsStep}
+use Rattle.kt_scene.proofs.NumberLaws.{both_read, ended_read, behind_taken, number_taken}
+use Rattle.kt_scene.proofs.CommandLaws.{command_taken}
+use Rattle.kt_scene.proofs.StepLaws.{step_taken}
+use Rattle.kt_scene.proofs.Words.{word_is}
+use Rattle.kt_scene.proofs.Told.{head_lines, told_at, IsAt, IsGood, Adds, place_at, told_from, scripts_push, commands_push, steps_push, FollowOn-push}
+
+module _ (s : Sketch) (line : List ℕ) (u : Sketch) (h : IsGood s) where
+  title_by_test : (b : Bool) → s.stage ≡ stages.Title → is_word line (codes "linda-kt 1") ≡ b → cond b (Ok (record s { stage = stages.Shards })) (Err faults.Header) ≡ Ok u → Adds s line u
+  title_by_test false is test e = absurd cc
+  title_by_test true is test e =
+      let made : record s { stage = stages.Shards } ≡ u = cc in
+      let at = place_at stages.Title s is h in
+      let P : Sketch → Type 0 = λ x. Adds s line x in
+      subst P made (record {
+        good = record { scripts = h.scripts; held = h.held; script = h.script; commands = h.commands; steps = h.steps; place = record { scripts = at.scripts; commands = at.commands; steps = at.steps } };
+        goes_on = refl;
+        told = told_from stages.Title s line _ is (ap (λ (l : List ℕ). l ∷ []) (sym (word_is line (codes "linda-kt 1") test)));
+      })
+
+  pub title_told : s.stage ≡ stages.Title → titled s line ≡ Ok u → Adds s line u
+  title_told is e = title_by_test (is_word line (codes "linda-kt 1")) is refl e
+
+  one_by_test : (b : Bool) (n m : ℕ) → eqb n 1 ≡ b → cond b (Ok 1) (Err faults.Limit) ≡ Ok m → (n ≡ 1) × (m ≡ 1)
+  one_by_test true n m is e = (eqb-true n 1 is, cc)
+  one_by_test false n m is e = absurd cc
+
+  one_shard : (c : Option (Option ℕ)) (m : ℕ) → shards_from c ≡ Ok m → (c ≡ Some (Some 1)) × (m ≡ 1)
+  one_shard None m e = absurd cc
+  one_shard (Some None) m e = absurd cc
+  one_shard (Some (Some n)) m e =
+      let one = one_by_test (eqb n 1) n m refl e in
+      (ap (λ (k : ℕ). Some (Some k)) one.0, one.1)
+
+  count_taken : (n : ℕ) → count_of line ≡ Some (Some n) → line ≡ codes "shards " ++ decimal n
+  count_taken n e =
+      let words = both_read (behind line (codes "shards ")) (λ (words : List ℕ). number_at words >>= ended) (Some n) e in
+      let p = both_read (number_at words.0) ended (Some n) words.2 in
+      let end = ended_read p.0.0 p.0.1 (Some n) p.2 in
+      let number : number_at words.0 ≡ Some (Some n, p.0.1) = p.1 ∙ ap (λ (k : Option ℕ). Some (k, p.0.1)) end.1 in
+      let text : words.0 ≡ decimal n = number_taken words.0 p.0.1 n number ∙ ap (λ (t : List ℕ). decimal n ++ t) end.0 ∙ append-nil (decimal n) in
+      behind_taken line (codes "shards ") words.0 words.1 ∙ ap (λ (t : List ℕ). codes "shards " ++ t) text
+
+  shards_by_count : (r : Result ℕ SceneError) → s.stage ≡ stages.Shards → shards_of line ≡ r → with_shards s r ≡ Ok u → Adds s line u
+  shards_by_count (Err fault) is count e = absurd cc
+  shards_by_count (Ok n) is count e =
+      let one = one_shard (count_of line) n count in
+      let made : record s { stage = stages.Workers; shards = n } ≡ u = cc in
+      let at = place_at stages.Shards s is h in
+      let P : Sketch → Type 0 = λ x. Adds s line x in
+      let text : line ≡ codes "shards " ++ decimal n = count_taken 1 one.0 ∙ ap (λ (k : ℕ). codes "shards " ++ decimal k) (sym one.1) in
+      subst P made (record {
+        good = record { scripts = h.scripts; held = h.held; script = h.script; commands = h.commands; steps = h.steps; place = (record { scripts = at.scripts; commands = at.commands; steps = at.steps }, one.1) };
+        goes_on = refl;
+        told = told_from stages.Shards s line _ is (ap (λ (l : List ℕ). codes "linda-kt 1" ∷ l ∷ []) (sym text));
+      })
+
+  pub shards_told : s.stage ≡ stages.Shards → with_shards s (shards_of line) ≡ Ok u → Adds s line u
+  shards_told is e = shards_by_count (shards_of line) is refl e
+
+  worker_by_test : (b : Bool) → s.stage ≡ stages.Workers → is_word line (codes "worker") ≡ b → cond b (Ok (record s { stage = stages.Commands })) (Err faults.Word) ≡ Ok u → Adds s line u
+  worker_by_test false is test e = absurd cc
+  worker_by_test true is test e =
+      let made : record s { stage = stages.Commands } ≡ u = cc in
+      let at = place_at stages.Workers s is h in
+      let P : Sketch → Type 0 = λ x. Adds s line x in
+      let word : codes "worker" ≡ line = sym (word_is line (codes "worker") test) in
+      let few : length s.scripts < 8 = omega (arith, ap length at.0.scripts) in
+      let lines : flat_map script_lines s.scripts ++ script_lines s.commands ≡ line ∷ [] =
+      ap (λ (l : List (List Command)). flat_map script_lines l ++ script_lines s.commands) at.0.scripts
+      ∙ ap script_lines at.0.commands ∙ ap (λ (l : List ℕ). l ∷ []) word in
+      subst P made (record {
+        good = record { scripts = h.scripts; held = h.held; script = h.script; commands = h.commands; steps = h.steps; place = (at.0.steps, at.1, few) };
+        goes_on = refl;
+        told = told_from stages.Workers s line _ is (ap (λ (l : List (List ℕ)). head_lines s.shards ++ l) lines);
+      })
+
+  pub worker_told : s.stage ≡ stages.Workers → with_worker s line ≡ Ok u → Adds s line u
+  worker_told is e = worker_by_test (is_word line (codes "worker")) is refl e
+
+  -- behind the head and the scripts, a line more
+  more_told : (lines : List (List ℕ)) → lines ≡ (flat_map script_lines s.scripts ++ script_lines s.commands) ++ line ∷ []
+      → head_lines s.shards ++ lines ≡ (head_lines s.shards ++ (flat_map script_lines s.scripts ++ script_lines s.commands)) ++ line ∷ []
+  more_told lines e = ap (λ (l : List (List ℕ)). head_lines s.shards ++ l) e ∙ sym (append_assoc (head_lines s.shards) (flat_map script_lines s.scripts ++ script_lines s.commands) (line ∷ []))
+
+  another_worker : s.stage ≡ stages.Commands → line ≡ codes "worker" → length s.scripts + 1 < 8 → closed stages.Commands s ≡ u → Adds s line u
+  another_worker is word few made =
+      let at = place_at stages.Commands s is h in
+      let P : Sketch → Type 0 = λ x. Adds s line x in
+      let fewer : length (s.scripts ++ s.commands ∷ []) < 8 = omega (arith, few, length-append s.scripts (s.commands ∷ [])) in
+      let lines : flat_map script_lines (s.scripts ++ s.commands ∷ []) ++ script_lines [] ≡ (flat_map script_lines s.scripts ++ script_lines s.commands) ++ line ∷ [] =
+      ap (λ (l : List (List ℕ)). l ++ script_lines []) (scripts_push s.scripts s.commands)
+      ∙ ap (λ (l : List ℕ). (flat_map script_lines s.scripts ++ script_lines s.commands) ++ l ∷ []) (sym word) in
+      subst P made (record {
+        good = record {
+          scripts = All-push IsScript s.scripts s.commands h.scripts h.script;
+          held = All-push (All IsCommand) s.scripts s.commands h.held h.commands;
+          script = tt;
+          commands = All-nil IsCommand;
+          steps = h.steps;
+          place = (at.0, at.1, fewer);
+        };
+        goes_on = refl;
+        told = told_from stages.Commands s line _ is (more_told _ lines);
+      })
+
+  steps_begin : s.stage ≡ stages.Commands → line ≡ codes "steps" → closed stages.Steps s ≡ u → Adds s line u
+  steps_begin is word made =
+      let at = place_at stages.Commands s is h in
+      let P : Sketch → Type 0 = λ x. Adds s line x in
+      let count : length (s.scripts ++ s.commands ∷ []) ≡ length s.scripts + 1 = length-append s.scripts (s.commands ∷ []) in
+      let lines : flat_map script_lines (s.scripts ++ s.commands ∷ []) ++ codes "steps" ∷ map step_text s.steps ≡ (flat_map script_lines s.scripts ++ script_lines s.commands) ++ line ∷ [] =
+      ap (λ (l : List (List ℕ)). l ++ codes "steps" ∷ map step_text s.steps) (scripts_push s.scripts s.commands)
+      ∙ ap (λ (l : List Step). (flat_map script_lines s.scripts ++ script_lines s.commands) ++ codes "steps" ∷ map step_text l) at.0
+      ∙ ap (λ (l : List ℕ). (flat_map script_lines s.scripts ++ script_lines s.commands) ++ l ∷ []) (sym word) in
+      subst P made (record {
+        good = record {
+          scripts = All-push IsScript s.scripts s.commands h.scripts h.script;
+          held = All-push (All IsCommand) s.scripts s.commands h.held h.commands;
+          script = tt;
+          commands = All-nil IsCommand;
+          steps = h.steps;
+          place = (at.1, omega (arith, count), omega (arith, count, at.2));
+        };
+        goes_on = refl;
+        told = told_from stages.Commands s line _ is (more_told _ lines);
+      })
+
+  -- a command that may follow is not refused, and its number is not too large
+  unrefused : (rules within fits : Bool) → fault_from (cond (not rules) (Some refusals.Variable) (cond (not within) (Some refusals.Limit) None)) fits ≡ None → (rules ≡ true) × (within ≡ true) × (fits ≡ true)
+  unrefused true true true e = (refl, refl, refl)
+  unrefused true true false e = absurd cc
+  unrefused true false true e = absurd cc
+  unrefused true false false e = absurd cc
+  unrefused false within true e = absurd cc
+  unrefused false within false e = absurd cc
+
+  command_added : (spelled : Spelled) → s.stage ≡ stages.Commands → spelled_of line ≡ Ok spelled → fault_behind s.commands spelled ≡ None → record s { commands = s.commands ++ spelled.command ∷ [] } ≡ u → Adds s line u
+  command_added spelled is read may made =
+      let at = place_at stages.Commands s is h in
+      let P : Sketch → Type 0 = λ x. Adds s line x in
+      let tests = unrefused (keeps_rules (variables_of s.commands) spelled.command) (is_within s.commands spelled.command) spelled.fits may in
+      let count = and_parts (has_count spelled.command && nat_lt (length s.commands) 200) (nat_le (length (with_bindings (variables_of s.commands) (bindings spelled.command))) 64) tests.1 in
+      let counts = and_parts (has_count spelled.command) (nat_lt (length s.commands) 200) count.0 in
+      let free : refusal_of s.commands spelled.command ≡ None = rw (tests.0, tests.1) refl in
+      let is_line = command_taken line spelled tests.2 counts.0 read in
+      let lines : flat_map script_lines s.scripts ++ script_lines (s.commands ++ spelled.command ∷ []) ≡ (flat_map script_lines s.scripts ++ script_lines s.commands) ++ line ∷ [] =
+      ap (λ (l : List (List ℕ)). flat_map script_lines s.scripts ++ l) (commands_push s.commands spelled.command)
+      ∙ sym (append_assoc (flat_map script_lines s.scripts) (script_lines s.commands) (command_text spelled.command ∷ []))
+      ∙ ap (λ (l : List ℕ). (flat_map script_lines s.scripts ++ script_lines s.commands) ++ l ∷ []) (sym is_line.0) in
+      let same : told_at s.stage (record s { commands = s.commands ++ spelled.command ∷ [] }) ≡ told_at s.stage s ++ line ∷ [] =
+      ap (λ (g : Stage). told_at g (record s { commands = s.commands ++ spelled.command ∷ [] })) is
+      ∙ told_from stages.Commands s line _ is (more_told _ lines) in
+      let place : IsAt s.stage (record s { commands = s.commands ++ spelled.command ∷ [] }) =
+      subst (λ (g : Stage). IsAt g (record s { commands = s.commands ++ spelled.command ∷ [] })) (sym is) at in
+      subst P made (record {
+        good = record {
+          scripts = h.scripts;
+          held = h.held;
+          script = FollowOn-push [] s.commands spelled.command h.script free;
+          commands = All-push IsCommand s.commands spelled.command h.commands is_line.1;
+          steps = h.steps;
+          place = place;
+        };
+        goes_on = ap is_ended is;
+        told = same;
+      })
+
+  command_by_fault : (spelled : Spelled) (fault : Option SceneError) → s.stage ≡ stages.Commands → spelled_of line ≡ Ok spelled → fault_behind s.commands spelled ≡ fault → added s spelled fault ≡ Ok u → Adds s line u
+  command_by_fault spelled (Some fault) is read may e = absurd cc
+  command_by_fault spelled None is read may e =
+      let made : record s { commands = s.commands ++ spelled.command ∷ [] } ≡ u = cc in
+      command_added spelled is read may made
+
+  command_by_read : (r : Result Spelled SceneError) → s.stage ≡ stages.Commands → spelled_of line ≡ r → with_command s r ≡ Ok u → Adds s line u
+  command_by_read (Err fault) is read e = absurd cc
+  command_by_read (Ok spelled) is read e = command_by_fault spelled (fault_behind s.commands spelled) is read refl e
+
+  worker_by_count : (b : Bool) → s.stage ≡ stages.Commands → line ≡ codes "worker" → ltb (length s.scripts + 1) 8 ≡ b → cond b (Ok (closed stages.Commands s)) (Err faults.Limit) ≡ Ok u → Adds s line u
+  worker_by_count false is word test e = absurd cc
+  worker_by_count true is word test e =
+      let made : closed stages.Commands s ≡ u = cc in
+      another_worker is word (ltb-true (length s.scripts + 1) 8 test) made
+
+  script_by_tests : (is_worker are_steps : Bool) → s.stage ≡ stages.Commands → is_word line (codes "worker") ≡ is_worker → is_word line (codes "steps") ≡ are_steps
+      → cond is_worker (cond (ltb (length s.scripts + 1) 8) (Ok (closed stages.Commands s)) (Err faults.Limit)) (cond are_steps (Ok (closed stages.Steps s)) (with_command s (spelled_of line))) ≡ Ok u → Adds s line u
+  script_by_tests true are_steps is worker steps e = worker_by_count (ltb (length s.scripts + 1) 8) is (word_is line (codes "worker") worker) refl e
+  script_by_tests false true is worker steps e =
+      let made : closed stages.Steps s ≡ u = cc in
+      steps_begin is (word_is line (codes "steps") steps) made
+  script_by_tests false false is worker steps e = command_by_read (spelled_of line) is refl e
+
+  pub script_told : s.stage ≡ stages.Commands → in_script s line ≡ Ok u → Adds s line u
+  script_told is e = script_by_tests (is_word line (codes "worker")) (is_word line (codes "steps")) is refl refl e
+
+  step_by_read : (r : Option Step) → s.stage ≡ stages.Steps → step_of line ≡ r → with_step s r ≡ Ok u → Adds s line u
+  step_by_read None is read e = absurd cc
+  step_by_read (Some step) is read e =
+      let at = place_at stages.Steps s is h in
+      let made : record s { steps = s.steps ++ step ∷ [] } ≡ u = cc in
+      let P : Sketch → Type 0 = λ x. Adds s line x in
+      let is_line = step_taken line step read in
+      let before = flat_map script_lines s.scripts ++ codes "steps" ∷ map step_text s.steps in
+      let lines : flat_map script_lines s.scripts ++ codes "steps" ∷ map step_text (s.steps ++ step ∷ []) ≡ (flat_map script_lines s.scripts ++ codes "steps" ∷ map step_text s.steps) ++ line ∷ [] =
+      ap (λ (l : List (List ℕ)). flat_map script_lines s.scripts ++ codes "steps" ∷ l) (steps_push s.steps step)
+      ∙ sym (append_assoc (flat_map script_lines s.scripts) (codes "steps" ∷ map step_text s.steps) (step_text step ∷ []))
+      ∙ ap (λ (l : List ℕ). (flat_map script_lines s.scripts ++ codes "steps" ∷ map step_text s.steps) ++ l ∷ []) (sym is_line.0) in
+      let all : told_at stages.Steps (record s { steps = s.steps ++ step ∷ [] }) ≡ told_at stages.Steps s ++ line ∷ [] =
+      ap (λ (l : List (List ℕ)). head_lines s.shards ++ l) lines ∙ sym (append_assoc (head_lines s.shards) before (line ∷ [])) in
+      subst P made (record {
+        good = record {
+          scripts = h.scripts;
+          held = h.held;
+          script = h.script;
+          commands = h.commands;
+          steps = All-push IsStep s.steps step h.steps is_line.1;
+          place = subst (λ (g : Stage). IsAt g (record s { steps = s.steps ++ step ∷ [] })) (sym is) at;
+        };
+        goes_on = ap is_ended is;
+        told = ap (λ (g : Stage). told_at g (record s { steps = s.steps ++ step ∷ [] })) is ∙ told_from stages.Steps s line _ is all;
+      })
+
+  pub step_told : s.stage ≡ stages.Steps → with_step s (step_of line) ≡ Ok u → Adds s line u
+  step_told is e = step_by_read (step_of line) is refl e

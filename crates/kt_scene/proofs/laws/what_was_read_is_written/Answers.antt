@@ -1,0 +1,16 @@
+use Rattle.std.proofs.Common.{List, ℕ, [], ◌∷◌, ◌++◌, sym, ap}
+use Rattle.std.specs.Prelude.{codes}
+use Rattle.std.specs.List.{flat_map}
+use Rattle.kt_scene.specs.Report.{text_line}
+use Rattle.kt_scene.proofs.ReadLaws.{read_is_spelled}
+use Rattle.kt_scene.proofs.laws.what_was_read_is_written.Goals as goal
+
+pub returns : goal.returns
+returns c = λ text play read.
+    let scenario = read_is_spelled text play read in
+    record {
+      lines = scenario.lines;
+      each = scenario.each;
+      text_lines = scenario.is;
+      other_lines = ap (λ (told : List (List ℕ)). flat_map text_line (told ++ codes "end" ∷ [])) (sym scenario.told);
+    }

@@ -1,0 +1,71 @@
+-- What a text is read as: the scenario that it spells, or its first line that has a fault.
+use Rattle.std.specs.Prelude.{◌≡◌, ℕ, ◌+◌, ◌<◌, nat_lt, ◌==◌, ◌&&◌, Bool, true, false, if◌then◌else◌, List, [], ◌∷◌, length, Option, Some, None, Result, Ok, Err}
+use Rattle.kt_core.specs.declared.step.Step.{Step}
+use Rattle.kt_core.specs.Cast.{Cast}
+use Rattle.kt_scene.specs.declared.fault.SceneError.{SceneError}
+use Rattle.kt_scene.specs.declared.fault.SceneError.TheVariants as faults
+use Rattle.kt_scene.specs.Lines.{Sketch, nothing_read, line_read, is_ended}
+
+-- a byte before the lines
+abbrev pub with_byte : ℕ → List (List ℕ) × List ℕ → List (List ℕ) × List ℕ
+with_byte c ([], rest) = ([], c ∷ rest)
+with_byte c (line ∷ lines, rest) = ((c ∷ line) ∷ lines, rest)
+
+-- the lines of a text, each without the line feed that ends it, and what stands behind the last line feed
+unfoldable pub lines_of : List ℕ → List (List ℕ) × List ℕ
+lines_of [] = ([], [])
+lines_of (c ∷ text) = if c == 10 then ([] ∷ (lines_of text).0, (lines_of text).1) else with_byte c (lines_of text)
+
+-- the number of a line, counted from 1, and its lowest fault
+abbrev pub Fault : Type 0
+Fault = ℕ × SceneError
+
+abbrev pub went_on : {A : Type 0} → ℕ → Result Sketch SceneError → (Sketch → Result A Fault) → Result A Fault
+went_on n (Err fault) more = Err (n, fault)
+went_on n (Ok s) more = more s
+
+abbrev pub is_empty : List ℕ → Bool
+is_empty [] = true
+is_empty (c ∷ rest) = false
+
+-- these lines, of which the first has this number, and then what stands behind them
+unfoldable pub read_from : Sketch → ℕ → List (List ℕ) → List ℕ → Result Sketch Fault
+read_from s n [] rest = if is_ended s.stage && is_empty rest then Ok s else Err (n, faults.End)
+read_from s n (line ∷ lines) rest = went_on n (line_read s line) (λ t. read_from t (n + 1) lines rest)
+
+-- what is read of the text, or its first line that has a fault, with the lowest one
+abbrev pub sketch_of : List ℕ → Result Sketch Fault
+sketch_of text =
+    if nat_lt 1048576 (length text) then Err (1, faults.Limit)
+    else read_from nothing_read 1 (lines_of text).0 (lines_of text).1
+
+-- what a scenario's text stands for: who takes part, and the steps
+pub record Play : Type 0 where
+  pub cast : Cast
+  pub steps : List Step
+
+abbrev pub play_with : Sketch → Play
+play_with s = record { cast = record { shards = s.shards; scripts = s.scripts }; steps = s.steps }
+
+abbrev pub played : Result Sketch Fault → Result Play Fault
+played (Ok s) = Ok (play_with s)
+played (Err fault) = Err fault
+
+-- what the text stands for, or its first line that has a fault, with the lowest one
+abbrev pub play_of : List ℕ → Result Play Fault
+play_of text = played (sketch_of text)
+
+-- the first fault, if there is one, stands on a later line
+abbrev pub IsBeforeFault : {A : Type 0} → ℕ → Result A Fault → Type 0
+IsBeforeFault n (Ok x) = Unit {0}
+IsBeforeFault n (Err fault) = n < fault.0
+
+-- the fault on this line is the text's first; want of memory comes only before that
+abbrev pub IsFirstFault : {A : Type 0} → ℕ → SceneError → Result A Fault → Type 0
+IsFirstFault n faults.OutOfMemory due = IsBeforeFault n due
+IsFirstFault n fault due = due ≡ Err (n, fault)
+
+-- the first of these lines, and what stands behind it; where there is none, no line feed stands in the text
+abbrev pub HasLine : List ℕ → Option (List ℕ × List ℕ) → Type 0
+HasLine text None = lines_of text ≡ ([], text)
+HasLine text (Some (line, rest)) = lines_of text ≡ (line ∷ (lines_of rest).0, (lines_of rest).1)

@@ -1,0 +1,99 @@
+-- When a text is a scenario's.
+use Rattle.std.specs.Prelude.{◌≡◌, ℕ, ◌≤◌, ◌≢◌, Bool, not, List, [], ◌∷◌, ◌++◌, length, filter, codes, All, Some, None}
+use Rattle.std.specs.Int.{w64}
+use Rattle.std.specs.Int.RustNames.{FitsSigned}
+use Rattle.std.specs.List.{flat_map}
+use Rattle.kt_tuple.specs.declared.node.NodeId.{NodeId}
+use Rattle.kt_tuple.specs.declared.node.NodeId.TheVariants as nodes
+use Rattle.kt_tuple.specs.Valid.{IsValue}
+use Rattle.kt_tuple.specs.Matching.{HasArity}
+use Rattle.kt_script.specs.declared.command.Actual.{Actual}
+use Rattle.kt_script.specs.declared.command.Actual.TheVariants.{Literal, Variable}
+use Rattle.kt_script.specs.declared.command.Slot.{Slot}
+use Rattle.kt_script.specs.declared.command.Slot.TheVariants as slots
+use Rattle.kt_script.specs.declared.command.Operation.{Operation}
+use Rattle.kt_script.specs.declared.command.Operation.TheVariants.{Out, In, Rd, Inp, Rdp}
+use Rattle.kt_script.specs.declared.command.Command.{Command}
+use Rattle.kt_script.specs.declared.command.Command.TheVariants.{Ask, Set, Unless}
+use Rattle.kt_script.specs.Name.{IsName}
+use Rattle.kt_script.specs.Rules.{IsScript}
+use Rattle.kt_core.specs.declared.step.Step.{Step}
+use Rattle.kt_core.specs.declared.step.Step.TheVariants.{Issue, Deliver, Serve}
+use Rattle.kt_core.specs.Cast.{IsCast}
+use Rattle.kt_scene.specs.Lines.{is_ignored}
+use Rattle.kt_scene.specs.Reading.{Play}
+use Rattle.kt_scene.specs.Text.{told_lines}
+use Rattle.kt_scene.specs.Report.{text_line}
+
+-- an int of 64 bits, a string of at most 64 printable characters; a name
+abbrev pub IsActual : Actual → Type 0
+IsActual (Literal value) = IsValue value
+IsActual (Variable name) = IsName name
+
+abbrev pub IsSlot : Slot → Type 0
+IsSlot (slots.Actual actual) = IsActual actual
+IsSlot (slots.Formal kind None) = Unit {0}
+IsSlot (slots.Formal kind (Some name)) = IsName name
+
+-- 1 to 8 places
+abbrev pub IsPattern : List Slot → Type 0
+IsPattern pattern = HasArity pattern × All IsSlot pattern
+
+abbrev pub IsOperation : Operation → Type 0
+IsOperation (Out actuals) = HasArity actuals × All IsActual actuals
+IsOperation (In pattern) = IsPattern pattern
+IsOperation (Rd pattern) = IsPattern pattern
+IsOperation (Inp pattern) = IsPattern pattern
+IsOperation (Rdp pattern) = IsPattern pattern
+
+abbrev pub IsCommand : Command → Type 0
+IsCommand (Ask operation) = IsOperation operation
+IsCommand (Set variable source plus) = IsName variable × IsName source × FitsSigned w64 plus
+IsCommand (Unless count) = count ≤ 200
+
+-- a node's number is from 1 to 99
+abbrev pub IsNodeNumber : ℕ → Type 0
+IsNodeNumber n = (1 ≤ n) × (n ≤ 99)
+
+abbrev pub IsStepNode : NodeId → Type 0
+IsStepNode (nodes.Worker n) = IsNodeNumber n
+IsStepNode (nodes.Shard n) = IsNodeNumber n
+
+-- a step that a line can say: a match's place is from 0 to 99999
+abbrev pub IsStep : Step → Type 0
+IsStep (Issue node) = IsStepNode node
+IsStep (Deliver from to) = IsStepNode from × IsStepNode to
+IsStep (Serve shard worker place) = IsStepNode shard × IsStepNode worker × (place ≤ 99999)
+
+-- one shard, 1 to 8 workers, and scripts that keep the rules of variables and the limits
+pub record IsPlay (play : Play) : Type 0 where
+  pub cast : IsCast play.cast
+  pub shards : play.cast.shards ≡ 1
+  pub scripts : All IsScript play.cast.scripts
+  pub commands : All (All IsCommand) play.cast.scripts
+  pub steps : All IsStep play.steps
+
+-- a line that is not ignored
+abbrev pub is_told : List ℕ → Bool
+is_told line = not (is_ignored line)
+
+-- a line has no line feed within
+abbrev pub IsLine : List ℕ → Type 0
+IsLine line = All (λ c. c ≢ 10) line
+
+-- the text's lines, each ended by a line feed, are some lines and then `end`; without those of them that are
+-- ignored they are the scenario's
+pub record IsScenario (text : List ℕ) (play : Play) : Type 0 where
+  pub rules : IsPlay play
+  pub lines : List (List ℕ)
+  pub each : All IsLine lines
+  pub told : filter is_told lines ≡ told_lines play
+  pub is : text ≡ flat_map text_line (lines ++ codes "end" ∷ [])
+  pub short : length text ≤ 1048576
+
+-- the other text has the lines of the text but those that are ignored
+pub record IsTextOf (text other : List ℕ) : Type 0 where
+  pub lines : List (List ℕ)
+  pub each : All IsLine lines
+  pub text_lines : text ≡ flat_map text_line (lines ++ codes "end" ∷ [])
+  pub other_lines : other ≡ flat_map text_line (filter is_told lines ++ codes "end" ∷ [])

@@ -1,0 +1,37 @@
+-- The line of a step.
+use Rattle.std.specs.Prelude.{ℕ, ◌==◌, if◌then◌else◌, List, [], ◌∷◌, codes, Option, None}
+use Rattle.std.specs.Option.{option_map}
+use Rattle.kt_tuple.specs.declared.node.NodeId.{NodeId}
+use Rattle.kt_tuple.specs.declared.node.NodeId.TheVariants as nodes
+use Rattle.kt_core.specs.declared.step.Step.{Step}
+use Rattle.kt_core.specs.declared.step.Step.TheVariants.{Issue, Deliver, Serve}
+use Rattle.kt_scene.specs.Number.{◌>>=◌, behind, behind_or, ended, number_within}
+
+-- `w` or `s`, and a number from 1 to 99
+unfoldable pub node_at : List ℕ → Option (NodeId × List ℕ)
+node_at [] = None
+node_at (c ∷ rest) =
+    if c == 119 then option_map (λ n. (nodes.Worker n.0, n.1)) (number_within 1 99 rest)
+    else if c == 115 then option_map (λ n. (nodes.Shard n.0, n.1)) (number_within 1 99 rest)
+    else None
+
+-- a node, and a space behind it
+abbrev pub node_before_space : List ℕ → Option (NodeId × List ℕ)
+node_before_space text = node_at text >>= λ p. option_map (λ rest. (p.0, rest)) (behind p.1 (32 ∷ []))
+
+abbrev pub issue_of : List ℕ → Option Step
+issue_of words = node_at words >>= λ p. ended (Issue p.0, p.1)
+
+abbrev pub deliver_of : List ℕ → Option Step
+deliver_of words = node_before_space words >>= λ p. node_at p.1 >>= λ q. ended (Deliver p.0 q.0, q.1)
+
+abbrev pub serve_of : List ℕ → Option Step
+serve_of words =
+    node_before_space words >>= λ s. node_before_space s.1 >>= λ w. number_within 0 99999 w.1 >>= λ k. ended (Serve s.0 w.0 k.0, k.1)
+
+-- the step that the line says
+abbrev pub step_of : List ℕ → Option Step
+step_of line =
+    behind_or (behind line (codes "issue ")) issue_of
+    (behind_or (behind line (codes "deliver ")) deliver_of
+    (behind_or (behind line (codes "serve ")) serve_of None))

@@ -1,0 +1,21 @@
+//! Laws about the definitions, each the contract of a function with nothing to do.
+
+ghost use Rattle.std.specs.Prelude.{◌≡◌, ℕ, List, Ok};
+ghost use Rattle.kt_scene.specs.Reading.{Play, play_of};
+ghost use Rattle.kt_scene.specs.Scenario.{IsScenario, IsTextOf};
+ghost use Rattle.kt_scene.specs.Text.{scenario_text};
+
+/// What a text is read as is the scenario that it spells.
+pub fn what_is_read_is_spelled_so()
+    ensures { (text : List ℕ) (play : Play) → play_of text ≡ Ok play → IsScenario text play }
+{}
+
+/// The text of each scenario is read as it.
+pub fn what_is_spelled_so_is_read()
+    ensures { (text : List ℕ) (play : Play) → IsScenario text play → play_of text ≡ Ok play }
+{}
+
+/// Writing what was read gives the text without its ignored lines.
+pub fn what_was_read_is_written()
+    ensures { (text : List ℕ) (play : Play) → play_of text ≡ Ok play → IsTextOf text (scenario_text play) }
+{}

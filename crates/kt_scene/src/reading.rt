@@ -1,0 +1,88 @@
+//! A scenario from its text.
+
+ghost use Rattle.std.specs.Prelude.{◌≡◌, ◌≤◌, ◌<◌, ◌+◌, ◌==◌, ℕ, List, length, position, IfSome, IfOk, IfErr, Ok, Err};
+ghost use Rattle.std.specs.Option.{option_map};
+ghost use Rattle.kt_scene.specs.Lines.{nothing_read};
+ghost use Rattle.kt_scene.specs.Reading.{lines_of, read_from, sketch_of, play_of, IsFirstFault, HasLine, is_empty};
+ghost use Rattle.kt_scene.specs.Run.{play_in};
+ghost use Rattle.kt_scene.specs.Scenario.{IsScenario};
+
+use crate::draft::{Draft, Stage};
+use crate::fault::{SceneError, SceneFault};
+use crate::scenario::Scenario;
+use std::alloc::Global;
+
+/// The most bytes that a scenario has.
+pub const MAX_TEXT: usize = 1_048_576;
+
+/// The first line without its line feed, and the bytes behind it; `None` where no line feed comes.
+fn line_at(text: &[u8]) -> Option<(&[u8], &[u8])>
+    ensures line { HasLine text.now (option_map (λ x. (x.0.now, x.1.now)) result) }
+    ensures shorter { IfSome result (λ x. length x.1.now < length text.now) }
+{
+    match line_end(text) {
+        Some(length) => Some((&text[..length], &text[length + 1..])),
+        None => None,
+    }
+}
+
+/// Where the first line feed stands.
+fn line_end(text: &[u8]) -> Option<usize>
+    ensures value { result ≡ position (λ c. c == 10) text.now }
+    ensures within { IfSome result (λ n. n < length text.now) }
+{
+    text.iter().position(|c| *c == b'\n')
+}
+
+/// The scenario that the text spells, or its first line that has a fault: of several faults of that line the
+/// one with the lowest number. Want of memory is answered only on a line that has no other fault, and before
+/// the first that has one.
+pub fn read_scene(alloc: Global, text: &[u8]) -> Result<Scenario, SceneFault>
+    ensures read { IfOk result (λ scenario. play_of text.now ≡ Ok (play_in scenario)) }
+    ensures spelled { IfOk result (λ scenario. IsScenario text.now (play_in scenario)) }
+    ensures fault { IfErr result (λ fault. IsFirstFault fault.line fault.cause (play_of text.now)) }
+{
+    let draft = draft_of(alloc, text)?;
+    Ok(draft.scenario())
+}
+
+/// All lines of the text, or the first that has a fault.
+fn read_lines(alloc: Global, text: &[u8]) -> Result<Draft, SceneFault>
+    ensures read { IfOk result (λ draft. read_from nothing_read 1 (lines_of text.now).0 (lines_of text.now).1 ≡ Ok draft) }
+    ensures ended { IfOk result (λ draft. draft.stage ≡ Stage.Ended) }
+    ensures fault { IfErr result (λ fault. IsFirstFault fault.line fault.cause (read_from nothing_read 1 (lines_of text.now).0 (lines_of text.now).1)) }
+{
+    let mut draft = Draft::new(alloc);
+    let mut rest = text;
+    let mut line = 1;
+    while let Some((words, after)) = line_at(rest) {
+        if let Err(cause) = draft.read(words) {
+            return Err(SceneFault { line, cause });
+        }
+        line += 1;
+        rest = after;
+    }
+    if draft.ends_before(rest) {
+        Ok(draft)
+    } else {
+        Err(SceneFault {
+            line,
+            cause: SceneError::End,
+        })
+    }
+}
+
+/// What is read of the text, or the first line that has a fault.
+fn draft_of(alloc: Global, text: &[u8]) -> Result<Draft, SceneFault>
+    ensures read { IfOk result (λ draft. sketch_of text.now ≡ Ok draft) }
+    ensures ended { IfOk result (λ draft. draft.stage ≡ Stage.Ended) }
+    ensures fault { IfErr result (λ fault. IsFirstFault fault.line fault.cause (sketch_of text.now)) }
+{
+    if text.len() > MAX_TEXT {
+        return Err(SceneFault {
+            line: 1,
+            cause: SceneError::Limit,
+        });
+    }
+    read_lines(alloc, text)
+}

@@ -1,0 +1,168 @@
+ghost use Rattle.std.specs.Prelude.{◌≡◌, ◌↔◌, List, suc, length, [], ◌∷◌, ◌++◌, if◌then◌else◌, ◌+◌, ◌<◌, Some, None, not, is_some, IsTrue, IfOk, OnErr};
+ghost use Rattle.std.specs.Option.{option_copied};
+
+use kt_script::{Env, Next, Script};
+use kt_tuple::{Answer, Op};
+use std::alloc::{AllocError, Global};
+use std::marker::Model;
+
+/// A worker. It numbers its requests 1, 2, .., and has at most one unanswered.
+#[derive(Debug, Drop)]
+pub struct Worker {
+    /// The number of the last request, 0 before the first.
+    number: u64,
+    /// What the last request asks for, where it is unanswered.
+    asked: Option<Op>,
+    /// The number of the command behind the last operation that was asked for, counted from 0.
+    pc: usize,
+    /// The variables as they were when it was asked for, or as its answer left them.
+    env: Env,
+}
+
+impl Model for Worker {
+    ghost use Rattle.std.specs.Prelude.{◌≤◌};
+    ghost use Rattle.kt_worker.specs.Standing.{Standing};
+
+    ghost Value = { Standing };
+
+    ghost view = { λ w. record { number = w.number; asked = w.asked; position = record { pc = w.pc; memory = w.env } } };
+
+    ghost invariant = { λ w. w.number ≤ w.pc };
+}
+
+impl Worker {
+    ghost use Rattle.kt_tuple.specs.declared.op.Op.{Op};
+    ghost use Rattle.kt_tuple.specs.declared.op.Answer.{Answer};
+    ghost use Rattle.kt_script.specs.Asks.{asks};
+    ghost use Rattle.kt_worker.specs.Standing.{opening_standing, next_request, numbered, issued, awaits, heard, is_left};
+    ghost use Rattle.kt_worker.specs.After.{IsAfter};
+
+    /// A worker that made no request yet.
+    pub fn new(alloc: Global, script: &Script) -> Result<Worker, AllocError>
+        ensures value { IfOk result (λ w. w ≡ opening_standing script.now) }
+        ensures after { IfOk result (λ w. IsAfter script.now [] w) }
+    {
+        Ok(Worker {
+            number: 0,
+            asked: None,
+            pc: 0,
+            env: Env::new(alloc, script)?,
+        })
+    }
+
+    /// An equal worker.
+    pub fn copy(&self, alloc: Global) -> Result<Worker, AllocError>
+        ensures { IfOk result (λ w. w ≡ self.now) }
+    {
+        let asked = match &self.asked {
+            Some(op) => Some(op.copy(alloc)?),
+            None => None,
+        };
+        Ok(Worker {
+            number: self.number,
+            asked,
+            pc: self.pc,
+            env: self.env.copy(alloc)?,
+        })
+    }
+
+    /// The number of the last request, 0 before the first.
+    pub fn number(&self) -> u64
+        ensures { result ≡ self.now.number }
+    {
+        self.number
+    }
+
+    /// What the last request asks for, where it is unanswered.
+    pub fn asked(&self) -> Option<&Op>
+        ensures { option_copied result ≡ self.now.asked }
+    {
+        self.asked.as_ref()
+    }
+
+    /// Makes the next request, and gives its number and operation. There is none while one is unanswered,
+    /// nor where no operation is left; then nothing changes, and nor does it where memory runs out.
+    pub fn issue(&mut self, alloc: Global, script: &Script) -> Result<Option<(u64, Op)>, AllocError>
+        ensures request { IfOk result (λ r. r ≡ next_request script.now self.old) }
+        ensures issued { IfOk result (λ r. self.new ≡ issued script.now self.old) }
+        ensures unchanged { OnErr result (self.new ≡ self.old) }
+
+        // After any answers it is what the script asks next, with the next number.
+        ensures asks { (answers : List Answer) → IsAfter script.now answers self.old → self.old.asked ≡ None → IfOk result (λ r. r ≡ numbered (suc (length answers)) (asks script.now answers)) }
+        ensures after { (answers : List Answer) → IsAfter script.now answers self.old → IsAfter script.now answers self.new }
+    {
+        if self.asked.is_some() {
+            return Ok(None);
+        }
+        let Some(Next { op, pc, env }) = script.next(alloc, self.pc, &self.env)? else {
+            return Ok(None);
+        };
+        let asked = op.copy(alloc)?;
+        self.ask(asked, pc, env);
+        Ok(Some((self.number, op)))
+    }
+
+    /// The operation is asked for, with the next number. Behind it stand this command and these variables.
+    fn ask(&mut self, op: Op, pc: usize, env: Env)
+        requires { self.old.number < pc }
+        ensures { self.new ≡ record { number = self.old.number + 1; asked = Some op; position = record { pc = pc; memory = env } } }
+    {
+        self.number += 1;
+        self.asked = Some(op);
+        self.pc = pc;
+        self.env = env;
+    }
+
+    /// Whether this is the request that is unanswered.
+    fn awaits(&self, number: u64, op: &Op) -> bool
+        ensures { result ≡ awaits self.now number op.now }
+    {
+        match &self.asked {
+            Some(asked) => self.number == number && *asked == *op,
+            None => false,
+        }
+    }
+
+    /// Hears an answer, and says whether it was accepted: just that to the unanswered request is. Any
+    /// other changes nothing, and nor does it where memory runs out.
+    pub fn hear(
+        &mut self,
+        alloc: Global,
+        script: &Script,
+        number: u64,
+        op: &Op,
+        answer: &Answer,
+    ) -> Result<bool, AllocError>
+        ensures accepts { IfOk result (λ accepted. IsTrue accepted ↔ ((self.old.number ≡ number) × (self.old.asked ≡ Some op.now))) }
+        ensures exact { IfOk result (λ accepted. accepted ≡ awaits self.old number op.now) }
+        ensures heard { IfOk result (λ accepted. self.new ≡ (if accepted then heard script.now self.old answer.now else self.old)) }
+        ensures unchanged { OnErr result (self.new ≡ self.old) }
+
+        // What is accepted is the answer after those so far.
+        ensures after { (answers : List Answer) → IsAfter script.now answers self.old → IfOk result (λ accepted. IsTrue accepted → IsAfter script.now (answers ++ answer.now ∷ []) self.new) }
+    {
+        if !self.awaits(number, op) {
+            return Ok(false);
+        }
+        self.env = self.env.bind(alloc, script, self.pc, answer)?;
+        self.asked = None;
+        Ok(true)
+    }
+
+    /// Whether an operation is left after the answers so far: the unanswered one, or the next.
+    pub fn has_next(&self, script: &Script) -> bool
+        ensures exact { result ≡ is_left script.now self.now }
+        ensures asks { (answers : List Answer) → IsAfter script.now answers self.now → result ≡ is_some (asks script.now answers) }
+    {
+        self.asked.is_some() || script.has_next(self.pc, &self.env)
+    }
+
+    /// Whether no operation is left, and none is unanswered.
+    pub fn is_done(&self, script: &Script) -> bool
+        ensures unanswered { IsTrue result → self.now.asked ≡ None }
+        ensures exact { result ≡ not (is_left script.now self.now) }
+        ensures asks { (answers : List Answer) → IsAfter script.now answers self.now → IsTrue result ↔ (asks script.now answers ≡ None) }
+    {
+        self.asked.is_none() && !script.has_next(self.pc, &self.env)
+    }
+}
