@@ -22,3 +22,5 @@ pub mod SlotsRead
 pub mod CommandsRead
 pub mod LinesRead
 pub mod ScenarioRead
+pub mod Shown
+pub mod WrittenRead

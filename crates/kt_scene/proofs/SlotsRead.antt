@@ -34,11 +34,11 @@ goes_on_as_name [] = false
 goes_on_as_name (c ∷ cs) = is_name_character c
 
 -- a letter and more, each of them a character of names
-record IsNamed (name : List ℕ) : Type 0 where
-  first : begins_with_letter name ≡ true
-  all : list_all is_name_character name ≡ true
+pub record IsNamed (name : List ℕ) : Type 0 where
+  pub first : begins_with_letter name ≡ true
+  pub all : list_all is_name_character name ≡ true
 
-name_is : (name : List ℕ) → IsName name → IsNamed name
+pub name_is : (name : List ℕ) → IsName name → IsNamed name
 name_is name h =
     let a = and_parts (begins_with_letter name && nat_le (length name) 16 && list_all is_name_character name) (not (is_reserved name)) h in
     let b = and_parts (begins_with_letter name && nat_le (length name) 16) (list_all is_name_character name) a.0 in

@@ -1,8 +1,8 @@
 //! Laws about the definitions, each the contract of a function with nothing to do.
 
-ghost use Rattle.std.specs.Prelude.{◌≡◌, ℕ, List, Ok};
+ghost use Rattle.std.specs.Prelude.{◌≡◌, ℕ, ◌≤◌, List, length, Ok};
 ghost use Rattle.kt_scene.specs.Reading.{Play, play_of};
-ghost use Rattle.kt_scene.specs.Scenario.{IsScenario, IsTextOf};
+ghost use Rattle.kt_scene.specs.Scenario.{IsPlay, IsScenario, IsTextOf};
 ghost use Rattle.kt_scene.specs.Text.{scenario_text};
 
 /// What a text is read as is the scenario that it spells.
@@ -18,4 +18,11 @@ pub fn what_is_spelled_so_is_read()
 /// Writing what was read gives the text without its ignored lines.
 pub fn what_was_read_is_written()
     ensures { (text : List ℕ) (play : Play) → play_of text ≡ Ok play → IsTextOf text (scenario_text play) }
+{}
+
+/// The text that is written of a scenario is read as it, where it is not too long. So what `read_scene` gives of
+/// the text that `write_scene` wrote is the scenario that was written. This holds of each scenario that has a
+/// text: one shard, node numbers from 1 to 99, places of matches up to 99,999, and at most 1,048,576 bytes.
+pub fn what_is_written_is_read()
+    ensures { (play : Play) → IsPlay play → length (scenario_text play) ≤ 1048576 → play_of (scenario_text play) ≡ Ok play }
 {}
