@@ -28,18 +28,11 @@ use Rattle.kt_scene.specs.declared.fault.SceneError.TheVariants as faults
 use Rattle.kt_scene.specs.Number.{◌>>=◌, behind, ended, number_at}
 use Rattle.kt_scene.specs.Commands.{name_at, slots_in, actuals_of, operation_of, verb_at, fitting, set_with, int_in, set_of, unless_with, unless_of, or_fault, asked, spelled_with, spelled_of}
 use Rattle.kt_scene.specs.Text.{actual_text, pattern_text, command_text}
+use Rattle.kt_scene.specs.Faults.{verb_word}
 use Rattle.kt_scene.specs.Scenario.{IsPattern, IsCommand}
 use Rattle.kt_scene.proofs.NumberLaws.{both_read, mapped, ended_read, behind_taken, by_word, number_taken}
 use Rattle.kt_scene.proofs.SlotLaws.{name_taken}
 use Rattle.kt_scene.proofs.PatternLaws.{slots_taken, only_actuals, actuals_text, length-actuals, actuals_held}
-
--- the word of each verb, and the space behind it
-abbrev pub verb_word : Verb → List ℕ
-verb_word verbs.Out = codes "out "
-verb_word verbs.In = codes "in "
-verb_word verbs.Rd = codes "rd "
-verb_word verbs.Inp = codes "inp "
-verb_word verbs.Rdp = codes "rdp "
 
 -- the line is the command's
 abbrev pub IsCommandLine : List ℕ → Command → Type 0
@@ -58,7 +51,7 @@ out_taken text places operation parts held e =
     let P : Operation → Type 0 = λ o. IsCommandLine (codes "out " ++ text) (Ask o) in
     subst P a.2 (text_is, (arity, actuals_held a.0 is.1))
 
-operation_taken : (verb : Verb) (text : List ℕ) (places : List Slot) (operation : Operation) → text ≡ pattern_text places → IsPattern places → operation_of verb places ≡ Some operation
+pub operation_taken : (verb : Verb) (text : List ℕ) (places : List Slot) (operation : Operation) → text ≡ pattern_text places → IsPattern places → operation_of verb places ≡ Some operation
     → IsCommandLine (verb_word verb ++ text) (Ask operation)
 operation_taken verbs.Out text places operation parts held e = out_taken text places operation parts held e
 operation_taken verbs.In text places operation parts held e =
@@ -82,7 +75,7 @@ asked_taken verb text spelled e =
     let P : Spelled → Type 0 = λ s. IsCommandLine (verb_word verb ++ text) s.command in
     subst P operation.2 (operation_taken verb text places.0 operation.0 h.0 h.1 operation.1)
 
-verb_taken : (line : List ℕ) (read : Verb × List ℕ) → verb_at line ≡ Some read → line ≡ verb_word read.0 ++ read.1
+pub verb_taken : (line : List ℕ) (read : Verb × List ℕ) → verb_at line ≡ Some read → line ≡ verb_word read.0 ++ read.1
 verb_taken line read e =
     let P : Verb × List ℕ → Type 0 = λ x. line ≡ verb_word x.0 ++ x.1 in
     by_word (P read) line (codes "out ") (λ rest. Some (verbs.Out, rest)) _ (Some read) e (λ words parts is. let same : (verbs.Out, words) ≡ read = cc in subst P same parts) (λ e2.
@@ -101,12 +94,16 @@ int_in_taken (Ok (p, rest)) text k is e =
     let fits : FitsSigned w64 k = subst (FitsSigned w64) number.0 (record { sfits = number.1 }) in
     (taken.0 ∙ ap (λ (t : List ℕ). p ++ t) end.0 ∙ append-nil p ∙ sym (int_spelled p k taken.1 end.1), fits)
 
+-- the parts of a line that sets a variable
+pub set_parts : (x y number : List ℕ) → codes "set " ++ x ++ codes " = " ++ y ++ codes " + " ++ number ≡ codes "set " ++ (x ++ (codes " = " ++ (y ++ (codes " + " ++ number))))
+set_parts x y number =
+    append_assoc (codes "set " ++ x ++ codes " = " ++ y) (codes " + ") number
+    ∙ append_assoc (codes "set " ++ x ++ codes " = ") y (codes " + " ++ number)
+    ∙ append_assoc (codes "set " ++ x) (codes " = ") (y ++ (codes " + " ++ number))
+    ∙ append_assoc (codes "set ") x (codes " = " ++ (y ++ (codes " + " ++ number)))
+
 pub set_text : (x y : List ℕ) (k : ℤ) → command_text (Set x y k) ≡ codes "set " ++ (x ++ (codes " = " ++ (y ++ (codes " + " ++ signed_decimal k))))
-set_text x y k =
-    append_assoc (codes "set " ++ x ++ codes " = " ++ y) (codes " + ") (signed_decimal k)
-    ∙ append_assoc (codes "set " ++ x ++ codes " = ") y (codes " + " ++ signed_decimal k)
-    ∙ append_assoc (codes "set " ++ x) (codes " = ") (y ++ (codes " + " ++ signed_decimal k))
-    ∙ append_assoc (codes "set ") x (codes " = " ++ (y ++ (codes " + " ++ signed_decimal k)))
+set_text x y k = set_parts x y (signed_decimal k)
 
 set_by_number : (number : Option ℤ) (x y : Name) (words third : List ℕ) (spelled : Spelled) → spelled.fits ≡ true → words ≡ x ++ (codes " = " ++ (y ++ (codes " + " ++ third))) → IsName x → IsName y
     → int_in (int_at third) ≡ Some number → set_with x y number ≡ spelled → IsCommandLine (codes "set " ++ words) spelled.command
@@ -120,7 +117,7 @@ set_by_number (Some k) x y words third spelled fits parts x_is y_is e is =
     ap (λ (t : List ℕ). codes "set " ++ t) (parts ∙ ap (λ (t : List ℕ). x ++ (codes " = " ++ (y ++ (codes " + " ++ t)))) number.0) ∙ sym (set_text x y k) in
     subst P is (text, (x_is, y_is, number.1))
 
-set_words : (x y words after_x second after_y third : List ℕ) → words ≡ x ++ after_x → after_x ≡ codes " = " ++ second → second ≡ y ++ after_y → after_y ≡ codes " + " ++ third
+pub set_words : (x y words after_x second after_y third : List ℕ) → words ≡ x ++ after_x → after_x ≡ codes " = " ++ second → second ≡ y ++ after_y → after_y ≡ codes " + " ++ third
     → words ≡ x ++ (codes " = " ++ (y ++ (codes " + " ++ third)))
 set_words x y words after_x second after_y third a b c d =
     a ∙ ap (λ (t : List ℕ). x ++ t) (b ∙ ap (λ (t : List ℕ). codes " = " ++ t) (c ∙ ap (λ (t : List ℕ). y ++ t) d))
@@ -163,7 +160,7 @@ unless_taken words spelled fits counts e =
     let end = ended_read (unless_with n.0.0) n.0.1 spelled n.2 in
     unless_by_number n.0.0 words n.0.1 spelled fits counts n.1 end.0 end.1
 
-faultless : {A : Type 0} (fault : SceneError) (read : Option A) (x : A) → or_fault fault read ≡ Ok x → read ≡ Some x
+pub faultless : {A : Type 0} (fault : SceneError) (read : Option A) (x : A) → or_fault fault read ≡ Ok x → read ≡ Some x
 faultless fault None x e = absurd cc
 faultless fault (Some y) x e = cc
 

@@ -81,7 +81,7 @@ actuals_read actuals arity h =
     let few : length (map (λ a. slots.Actual a) actuals) ≤ 8 = omega (arith, arity.1, count) in
     ap (λ (l : List (List ℕ)). slots_in (in_parentheses l)) (sym (actuals_text actuals)) ∙ slots_read places ((some, few), All-map IsSlot (λ a. slots.Actual a) actuals h)
 
-operation_read : (operation : Operation) → IsOperation operation → spelled_of (command_text (Ask operation)) ≡ Ok (fitting (Ask operation))
+pub operation_read : (operation : Operation) → IsOperation operation → spelled_of (command_text (Ask operation)) ≡ Ok (fitting (Ask operation))
 operation_read (Out actuals) h = rw (actuals_read actuals h.0 h.1, actuals_back actuals) refl
 operation_read (In pattern) h = rw (slots_read pattern h) refl
 operation_read (Rd pattern) h = rw (slots_read pattern h) refl

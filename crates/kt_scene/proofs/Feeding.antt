@@ -14,7 +14,7 @@ use Rattle.kt_scene.specs.Scenario.{IsLine}
 abbrev pub AreLines : List ℕ → List (List ℕ) × List ℕ → Type 0
 AreLines text parts = (text ≡ flat_map text_line parts.0 ++ parts.1) × All IsLine parts.0
 
-is_no_feed : (c : ℕ) → eqb c 10 ≡ false → c ≢ 10
+pub is_no_feed : (c : ℕ) → eqb c 10 ≡ false → c ≢ 10
 is_no_feed c e = λ is. eqb-false c 10 e is
 
 with_byte_lines : (c : ℕ) (cs : List ℕ) (parts : List (List ℕ) × List ℕ) → eqb c 10 ≡ false → AreLines cs parts → AreLines (c ∷ cs) (with_byte c parts)
@@ -36,7 +36,7 @@ unfolding lines_of
 text_has_lines [] = (refl, All-nil IsLine)
 text_has_lines (c ∷ cs) = lines_by_test (eqb c 10) c cs (lines_of cs) refl (text_has_lines cs)
 
-line_in_front : (line rest : List ℕ) → IsLine line → lines_of (line ++ 10 ∷ rest) ≡ (line ∷ (lines_of rest).0, (lines_of rest).1)
+pub line_in_front : (line rest : List ℕ) → IsLine line → lines_of (line ++ 10 ∷ rest) ≡ (line ∷ (lines_of rest).0, (lines_of rest).1)
 unfolding lines_of
 line_in_front [] rest h = refl
 line_in_front (c ∷ line) rest h =

@@ -22,5 +22,14 @@ pub mod SlotsRead
 pub mod CommandsRead
 pub mod LinesRead
 pub mod ScenarioRead
+pub mod NumberShapes
+pub mod VerbShapes
+pub mod CommandShapes
+pub mod Reached
+pub mod Begins
+pub mod Positions
+pub mod Lowest
+pub mod LineFaults
 pub mod Shown
 pub mod WrittenRead
+pub mod FirstFault

@@ -105,10 +105,10 @@ steps_lead scripts (step ∷ later) before h =
     (among_steps scripts (before ++ step ∷ []), step_line scripts before step (All-head IsStep step later h), subst To (append_assoc before (step ∷ []) later) behind)
 
 -- the title was read, and the number of shards
-abbrev at_shards : Sketch
+abbrev pub at_shards : Sketch
 at_shards = record nothing_read { stage = stages.Shards }
 
-abbrev at_workers : Sketch
+abbrev pub at_workers : Sketch
 at_workers = record nothing_read { stage = stages.Workers }
 
 count_read : count_of (codes "shards " ++ decimal 1) ≡ Some (Some 1)
@@ -116,7 +116,7 @@ count_read =
     let one = ap (λ (t : List ℕ). count_of (codes "shards " ++ t)) (sym (append-nil (decimal 1))) in
     one ∙ rw (number_read 1 [] (omega arith) refl) refl
 
-shards_line : line_read at_shards (codes "shards " ++ decimal 1) ≡ Ok at_workers
+pub shards_line : line_read at_shards (codes "shards " ++ decimal 1) ≡ Ok at_workers
 shards_line = rw count_read refl
 
 -- the title, one shard and the first worker

@@ -18,7 +18,7 @@ digit_first : (p : List ℕ) → 0 < length p → all_ascii_digits p ≡ true �
 digit_first [] some digits = absurd (omega (arith, some))
 digit_first (c ∷ cs) some digits = (c, cs, refl, (and_parts (is_ascii_digit c) (all_ascii_digits cs) digits).0)
 
-number_at_digit : (p cs rest : List ℕ) (c : ℕ) → p ≡ c ∷ cs → is_ascii_digit c ≡ true → number_at (p ++ rest) ≡ number_of (int_at (p ++ rest))
+pub number_at_digit : (p cs rest : List ℕ) (c : ℕ) → p ≡ c ∷ cs → is_ascii_digit c ≡ true → number_at (p ++ rest) ≡ number_of (int_at (p ++ rest))
 unfolding number_at
 number_at_digit p cs rest c is digit = rw (is, digit) refl
 

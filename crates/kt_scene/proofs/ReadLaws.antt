@@ -20,7 +20,7 @@ use Rattle.kt_scene.proofs.Told.{told_at, IsGood, Adds, place_at}
 use Rattle.kt_scene.proofs.ToldLaws.{title_told, shards_told, worker_told, script_told, step_told}
 
 -- the line is told behind the others, or ignored; or it is the end of a scenario
-data GoesOn (s : Sketch) (line : List ℕ) (u : Sketch) : Type 0 where
+pub data GoesOn (s : Sketch) (line : List ℕ) (u : Sketch) : Type 0 where
   adds : IsGood u → is_ended u.stage ≡ false → told_at u.stage u ≡ told_at s.stage s ++ filter is_told (line ∷ []) → GoesOn s line u
   ends : line ≡ codes "end" → is_ended u.stage ≡ true → IsPlay (play_with u) → told_at s.stage s ≡ told_lines (play_with u) → GoesOn s line u
 
@@ -30,7 +30,7 @@ told_is_kept line other = rw other refl
 from_adds : (s : Sketch) (line : List ℕ) (u : Sketch) → is_ignored line ≡ false → Adds s line u → GoesOn s line u
 from_adds s line u other h = adds h.good h.goes_on (h.told ∙ ap (λ (l : List (List ℕ)). told_at s.stage s ++ l) (told_is_kept line other))
 
-play_kept : (s : Sketch) → s.stage ≡ stages.Steps → IsGood s → IsPlay (play_with s)
+pub play_kept : (s : Sketch) → s.stage ≡ stages.Steps → IsGood s → IsPlay (play_with s)
 play_kept s is h =
     let at = place_at stages.Steps s is h in
     record {
@@ -65,7 +65,7 @@ by_ignored true s line u h on ignored e =
     let nothing : [] ≡ filter is_told (line ∷ []) = rw ignored refl in
     subst P made (adds h on (sym (append-nil (told_at s.stage s)) ∙ ap (λ (l : List (List ℕ)). told_at s.stage s ++ l) nothing))
 
-line_goes : (s : Sketch) (line : List ℕ) (u : Sketch) → IsGood s → is_ended s.stage ≡ false → line_read s line ≡ Ok u → GoesOn s line u
+pub line_goes : (s : Sketch) (line : List ℕ) (u : Sketch) → IsGood s → is_ended s.stage ≡ false → line_read s line ≡ Ok u → GoesOn s line u
 line_goes s line u h on e = by_ignored (is_ignored line) s line u h on refl (rw on at e)
 
 -- no line is read behind the end
@@ -116,7 +116,7 @@ lines_whole s (line ∷ later) t h on leads over =
         let end = nothing_more leads.0 later t ended leads.2 in
         whole_end s leads.0 t line later is rules all end.0 end.1
 
-good_at_first : IsGood nothing_read
+pub good_at_first : IsGood nothing_read
 good_at_first = record {
   scripts = All-nil IsScript;
   held = All-nil (All IsCommand);
@@ -126,7 +126,7 @@ good_at_first = record {
   place = record { scripts = refl; commands = refl; steps = refl };
 }
 
-all_in_front : {A : Type 0} (P : A → Type 0) (xs ys : List A) → All P (xs ++ ys) → All P xs
+pub all_in_front : {A : Type 0} (P : A → Type 0) (xs ys : List A) → All P (xs ++ ys) → All P xs
 all_in_front P [] ys h = All-nil P
 all_in_front P (x ∷ xs) ys h = All-cons P x xs (All-head P x (xs ++ ys) h) (all_in_front P xs ys (All-tail P x (xs ++ ys) h))
 

@@ -13,7 +13,7 @@ use Rattle.kt_scene.proofs.Feeding.{LeadOn, leads_append, leads_read, lines_read
 use Rattle.kt_scene.proofs.LinesRead.{among_steps, all_lead}
 
 -- nothing is read behind the end
-goes_on_before : (s : Sketch) (lines : List (List ℕ)) (t : Sketch) → LeadOn s lines t → is_ended t.stage ≡ false → is_ended s.stage ≡ false
+pub goes_on_before : (s : Sketch) (lines : List (List ℕ)) (t : Sketch) → LeadOn s lines t → is_ended t.stage ≡ false → is_ended s.stage ≡ false
 goes_on_before s [] t h on = ap (λ (x : Sketch). is_ended x.stage) (sym h) ∙ on
 goes_on_before s (line ∷ later) t h on = by (is_ended s.stage) refl h.1
   where
@@ -32,20 +32,20 @@ ignored_by_test true s t line later e on behind h =
 ignored_by_test false s t line later e on behind h = (h.0, h.1, behind h.0 h.2)
 
 -- lines that are ignored change nothing
-with_ignored : (lines : List (List ℕ)) (s t : Sketch) → is_ended t.stage ≡ false → LeadOn s (filter is_told lines) t → LeadOn s lines t
+pub with_ignored : (lines : List (List ℕ)) (s t : Sketch) → is_ended t.stage ≡ false → LeadOn s (filter is_told lines) t → LeadOn s lines t
 with_ignored [] s t on h = h
 with_ignored (line ∷ later) s t on h = ignored_by_test (is_ignored line) s t line later refl on (λ u. with_ignored later u t on) h
 
 -- the end of a scenario was read
-abbrev at_end : Play → Sketch
+abbrev pub at_end : Play → Sketch
 at_end play = record { stage = stages.Ended; shards = 1; scripts = play.cast.scripts; commands = []; steps = play.steps }
 
-told_lead : (play : Play) → IsPlay play → LeadOn nothing_read (told_lines play) (among_steps play.cast.scripts play.steps)
+pub told_lead : (play : Play) → IsPlay play → LeadOn nothing_read (told_lines play) (among_steps play.cast.scripts play.steps)
 told_lead play rules =
     let Of : ℕ → Type 0 = λ n. LeadOn nothing_read (codes "linda-kt 1" ∷ (codes "shards " ++ decimal n) ∷ (flat_map script_lines play.cast.scripts ++ codes "steps" ∷ map step_text play.steps)) (among_steps play.cast.scripts play.steps) in
     subst Of (sym rules.shards) (all_lead play.cast.scripts play.steps rules.cast.some_workers rules.cast.few_workers rules.scripts rules.commands rules.steps)
 
-end_is_line : IsLine (codes "end")
+pub end_is_line : IsLine (codes "end")
 end_is_line =
     let P : ℕ → Type 0 = λ c. c ≢ 10 in
     All-cons P 101 (110 ∷ 100 ∷ []) (λ e. absurd (omega (arith, e))) (All-cons P 110 (100 ∷ []) (λ e. absurd (omega (arith, e))) (All-cons P 100 [] (λ e. absurd (omega (arith, e))) (All-nil P)))

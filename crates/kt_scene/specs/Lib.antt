@@ -8,4 +8,5 @@ pub mod Stream
 pub mod Report
 pub mod Text
 pub mod Scenario
+pub mod Faults
 pub mod Run

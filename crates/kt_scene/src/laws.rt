@@ -1,6 +1,8 @@
 //! Laws about the definitions, each the contract of a function with nothing to do.
 
-ghost use Rattle.std.specs.Prelude.{◌≡◌, ℕ, ◌≤◌, List, length, Ok};
+ghost use Rattle.std.specs.Prelude.{◌≡◌, ℕ, ◌≤◌, List, length, Ok, Err};
+ghost use Rattle.kt_scene.specs.declared.fault.SceneError.{SceneError};
+ghost use Rattle.kt_scene.specs.Faults.{HasFirstFault};
 ghost use Rattle.kt_scene.specs.Reading.{Play, play_of};
 ghost use Rattle.kt_scene.specs.Scenario.{IsPlay, IsScenario, IsTextOf};
 ghost use Rattle.kt_scene.specs.Text.{scenario_text};
@@ -25,4 +27,15 @@ pub fn what_was_read_is_written()
 /// text: one shard, node numbers from 1 to 99, places of matches up to 99,999, and at most 1,048,576 bytes.
 pub fn what_is_written_is_read()
     ensures { (play : Play) → IsPlay play → length (scenario_text play) ≤ 1048576 → play_of (scenario_text play) ≡ Ok play }
+{}
+
+/// The fault that a text is refused for is its first: the lines before it are the first of some scenario, with this
+/// one they are not, and of its faults it is the lowest.
+pub fn what_is_refused_has_this_fault_first()
+    ensures { (text : List ℕ) (n : ℕ) (fault : SceneError) → play_of text ≡ Err (n, fault) → HasFirstFault text n fault }
+{}
+
+/// A text's first fault is what it is refused for; so it has no other first fault.
+pub fn what_has_a_fault_is_refused()
+    ensures { (text : List ℕ) (n : ℕ) (fault : SceneError) → HasFirstFault text n fault → play_of text ≡ Err (n, fault) }
 {}

@@ -16,8 +16,8 @@ mod writing;
 pub use fault::{ReplayFault, SceneError, SceneFault};
 pub use kt_core::{OpenError, StepError};
 pub use laws::{
-    what_is_read_is_spelled_so, what_is_spelled_so_is_read, what_is_written_is_read,
-    what_was_read_is_written,
+    what_has_a_fault_is_refused, what_is_read_is_spelled_so, what_is_refused_has_this_fault_first,
+    what_is_spelled_so_is_read, what_is_written_is_read, what_was_read_is_written,
 };
 pub use reading::{MAX_TEXT, read_scene};
 pub use replaying::replay;

@@ -2,6 +2,7 @@
 
 ghost use Rattle.std.specs.Prelude.{◌≡◌, ◌≤◌, ◌<◌, ◌+◌, ◌==◌, ℕ, List, length, position, IfSome, IfOk, IfErr, Ok, Err};
 ghost use Rattle.std.specs.Option.{option_map};
+ghost use Rattle.kt_scene.specs.Faults.{Explains};
 ghost use Rattle.kt_scene.specs.Lines.{nothing_read};
 ghost use Rattle.kt_scene.specs.Reading.{lines_of, read_from, sketch_of, play_of, IsFirstFault, HasLine, is_empty};
 ghost use Rattle.kt_scene.specs.Run.{play_in};
@@ -41,6 +42,7 @@ pub fn read_scene(alloc: Global, text: &[u8]) -> Result<Scenario, SceneFault>
     ensures read { IfOk result (λ scenario. play_of text.now ≡ Ok (play_in scenario)) }
     ensures spelled { IfOk result (λ scenario. IsScenario text.now (play_in scenario)) }
     ensures fault { IfErr result (λ fault. IsFirstFault fault.line fault.cause (play_of text.now)) }
+    ensures explained { IfErr result (λ fault. Explains text.now fault.line fault.cause) }
 {
     let draft = draft_of(alloc, text)?;
     Ok(draft.scenario())
@@ -77,6 +79,7 @@ fn draft_of(alloc: Global, text: &[u8]) -> Result<Draft, SceneFault>
     ensures read { IfOk result (λ draft. sketch_of text.now ≡ Ok draft) }
     ensures ended { IfOk result (λ draft. draft.stage ≡ Stage.Ended) }
     ensures fault { IfErr result (λ fault. IsFirstFault fault.line fault.cause (sketch_of text.now)) }
+    ensures explained { IfErr result (λ fault. Explains text.now fault.line fault.cause) }
 {
     if text.len() > MAX_TEXT {
         return Err(SceneFault {

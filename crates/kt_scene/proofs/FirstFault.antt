@@ -1,0 +1,267 @@
+-- A text that is refused has the fault that is answered, on its first line that has one; and it has no other.
+use Rattle.std.proofs.Common.{◌≡◌, ℕ, ◌+◌, ◌≤◌, Bool, true, false, cond, eqb, ltb, List, [], ◌∷◌, ◌++◌, length, Result, Ok, Err, refl, sym, ap, subst, ◌∙◌, append_assoc, append-nil, arith}
+use Rattle.std.proofs.lemmas.Bool.{ltb-true, ltb-false, le-ltb, ne_eqb}
+use Rattle.std.proofs.lemmas.Grind.{flat_map-append}
+use Rattle.std.proofs.lemmas.List.Elements.{All-nil, All-cons, All-head, All-tail, All-push}
+use Rattle.std.specs.Prelude.{◌≢◌, All, codes, filter, IfErr}
+use Rattle.std.specs.List.{flat_map}
+use Rattle.kt_scene.specs.declared.fault.SceneFault.{SceneFault}
+use Rattle.kt_scene.specs.declared.fault.SceneError.{SceneError}
+use Rattle.kt_scene.specs.declared.fault.SceneError.TheVariants as faults
+use Rattle.kt_scene.specs.Fault.{fault_number}
+use Rattle.kt_scene.specs.Lines.{Sketch, nothing_read}
+use Rattle.kt_scene.specs.Reading.{Play, Fault, with_byte, lines_of, read_from, sketch_of, played, play_of, IsBeforeFault, IsFirstFault}
+use Rattle.kt_scene.specs.Report.{text_line}
+use Rattle.kt_scene.specs.Scenario.{IsLine, IsScenario, is_told}
+use Rattle.kt_scene.specs.Faults.{Begin, HasFault, IsFaultAt, IsCutShort, HasFirstFault, too_long, at_line, cut_short, Explains}
+use Rattle.kt_scene.proofs.Feeding.{text_has_lines, line_in_front, is_no_feed}
+use Rattle.kt_scene.proofs.ReadLaws.{all_in_front, read_is_spelled}
+use Rattle.kt_scene.proofs.ScenarioRead.{end_is_line, spelled_is_read}
+use Rattle.kt_scene.proofs.Reached.{Failed, on_line, at_end, reached_nothing, read_fails}
+use Rattle.kt_scene.proofs.Begins.{never_begin, reached_begin}
+use Rattle.kt_scene.proofs.Positions.{told_leads}
+use Rattle.kt_scene.proofs.LineFaults.{line_fault}
+
+-- behind the last line feed there is none
+behind_byte : (c : ℕ) (parts : List (List ℕ) × List ℕ) → eqb c 10 ≡ false → IsLine parts.1 → IsLine (with_byte c parts).1
+behind_byte c ([], rest) other h =
+    let P : ℕ → Type 0 = λ x. x ≢ 10 in
+    All-cons P c rest (is_no_feed c other) h
+behind_byte c (line ∷ lines, rest) other h = h
+
+behind_by_test : (b : Bool) (c : ℕ) (parts : List (List ℕ) × List ℕ) → eqb c 10 ≡ b → IsLine parts.1 → IsLine (cond b ([] ∷ parts.0, parts.1) (with_byte c parts)).1
+behind_by_test true c parts test h = h
+behind_by_test false c parts test h = behind_byte c parts test h
+
+behind_is_line : (text : List ℕ) → IsLine (lines_of text).1
+unfolding lines_of
+behind_is_line [] =
+    let P : ℕ → Type 0 = λ x. x ≢ 10 in
+    All-nil P
+behind_is_line (c ∷ text) = behind_by_test (eqb c 10) c (lines_of text) refl (behind_is_line text)
+
+-- the first lines of a text
+lines_front : (xs : List (List ℕ)) (rest : List ℕ) → All IsLine xs → (lines_of (flat_map text_line xs ++ rest)).0 ≡ xs ++ (lines_of rest).0
+lines_front [] rest h = refl
+lines_front (line ∷ later) rest h =
+    let parts : flat_map text_line (line ∷ later) ++ rest ≡ line ++ 10 ∷ (flat_map text_line later ++ rest) =
+    append_assoc (text_line line) (flat_map text_line later) rest ∙ append_assoc line (10 ∷ []) (flat_map text_line later ++ rest) in
+    ap (λ (t : List ℕ). (lines_of t).0) parts
+    ∙ ap (λ (p : List (List ℕ) × List ℕ). p.0) (line_in_front line (flat_map text_line later ++ rest) (All-head IsLine line later h))
+    ∙ ap (λ (l : List (List ℕ)). line ∷ l) (lines_front later rest (All-tail IsLine line later h))
+
+alone_by_parts : (c : ℕ) (parts : List (List ℕ) × List ℕ) → parts.0 ≡ [] → (with_byte c parts).0 ≡ []
+alone_by_parts c ([], rest) e = refl
+alone_by_parts c (line ∷ lines, rest) e = absurd cc
+
+no_line : (rest : List ℕ) → IsLine rest → (lines_of rest).0 ≡ []
+unfolding lines_of
+no_line [] h = refl
+no_line (c ∷ rest) h =
+    let P : ℕ → Type 0 = λ x. x ≢ 10 in
+    let other : eqb c 10 ≡ false = ne_eqb c 10 (All-head P c rest h) in
+    rw other (alone_by_parts c (lines_of rest) (no_line rest (All-tail P c rest h)))
+
+found_on_line : (text : List ℕ) (n : ℕ) (fault : SceneError) (before : List (List ℕ)) (line : List ℕ) (later : List (List ℕ)) → (lines_of text).0 ≡ before ++ line ∷ later
+    → (text ≡ flat_map text_line (before ++ line ∷ []) ++ (flat_map text_line later ++ (lines_of text).1)) × All IsLine (before ++ line ∷ [])
+found_on_line text n fault before line later all =
+    let parts = text_has_lines text in
+    let lines : (lines_of text).0 ≡ (before ++ line ∷ []) ++ later = all ∙ sym (append_assoc before (line ∷ []) later) in
+    let Each : List (List ℕ) → Type 0 = λ l. All IsLine l in (
+      parts.0 ∙ ap (λ (l : List (List ℕ)). flat_map text_line l ++ (lines_of text).1) lines
+          ∙ ap (λ (t : List ℕ). t ++ (lines_of text).1) (flat_map-append text_line (before ++ line ∷ []) later)
+          ∙ append_assoc (flat_map text_line (before ++ line ∷ [])) (flat_map text_line later) (lines_of text).1,
+      all_in_front IsLine (before ++ line ∷ []) later (subst Each lines parts.1),
+    )
+
+by_failed : (text : List ℕ) (n : ℕ) (fault : SceneError) → play_of text ≡ Err (n, fault) → length text ≤ 1048576 → Failed (lines_of text).0 (lines_of text).1 n fault → HasFirstFault text n fault
+by_failed text n fault answer short (on_line before line later u all h read count) =
+    let parts = found_on_line text n fault before line later all in
+    at_line short (record {
+      before = before;
+      line = line;
+      rest = flat_map text_line later ++ (lines_of text).1;
+      each = parts.1;
+      parts = parts.0;
+      number = count;
+      begins = reached_begin before u h;
+      stops = never_begin before line u fault h.leads read;
+      lowest = line_fault before line u fault (told_leads before nothing_read u h.leads) h.told read;
+    })
+by_failed text n fault answer short (at_end u h test count is) =
+    let parts = text_has_lines text in
+    let none : (play : Play) → ¬ IsScenario text play = λ play scenario. (let read = spelled_is_read text play scenario in absurd cc) in
+    subst (HasFirstFault text n) (sym is) (cut_short short (record {
+      before = (lines_of text).0;
+      rest = (lines_of text).1;
+      each = parts.1;
+      unended = behind_is_line text;
+      parts = parts.0;
+      number = count;
+      begins = reached_begin (lines_of text).0 u h;
+      none = none;
+    }))
+
+by_length : (b : Bool) (text : List ℕ) (n : ℕ) (fault : SceneError) (long : Fault) → long ≡ (1, faults.Limit) → play_of text ≡ Err (n, fault) → ltb 1048576 (length text) ≡ b
+    → cond b (Err long) (read_from nothing_read 1 (lines_of text).0 (lines_of text).1) ≡ Err (n, fault) → HasFirstFault text n fault
+by_length true text n fault long there answer test e =
+    let same : (1, faults.Limit) ≡ (n, fault) = cc in
+    let P : Fault → Type 0 = λ x. HasFirstFault text x.0 x.1 in
+    subst P same (too_long (ltb-true 1048576 (length text) test))
+by_length false text n fault long there answer test e =
+    by_failed text n fault answer (ltb-false 1048576 (length text) test) (read_fails (lines_of text).0 [] nothing_read (lines_of text).1 1 n fault refl reached_nothing e)
+
+by_sketch : (r : Result Sketch Fault) (text : List ℕ) (n : ℕ) (fault : SceneError) → play_of text ≡ Err (n, fault) → sketch_of text ≡ r → played r ≡ Err (n, fault) → HasFirstFault text n fault
+by_sketch (Ok t) text n fault answer is e = absurd cc
+by_sketch (Err first) text n fault answer is e =
+    let same : first ≡ (n, fault) = cc in
+    by_length (ltb 1048576 (length text)) text n fault (1, faults.Limit) refl answer refl (is ∙ ap (λ (x : Fault). Err x) same)
+
+-- the fault that is answered is the text's first
+pub answered_is_first : (text : List ℕ) (n : ℕ) (fault : SceneError) → play_of text ≡ Err (n, fault) → HasFirstFault text n fault
+answered_is_first text n fault e = by_sketch (sketch_of text) text n fault e refl e
+
+-- the fault of a number
+abbrev of_number : ℕ → SceneError
+of_number n =
+    cond (eqb n 1) faults.Header (cond (eqb n 2) faults.Word (cond (eqb n 3) faults.Tuple (cond (eqb n 4) faults.Variable (cond (eqb n 5) faults.Limit (cond (eqb n 6) faults.Node (cond (eqb n 7) faults.End faults.OutOfMemory))))))
+
+of_its_number : (fault : SceneError) → of_number (fault_number fault) ≡ fault
+of_its_number faults.Header = refl
+of_its_number faults.Word = refl
+of_its_number faults.Tuple = refl
+of_its_number faults.Variable = refl
+of_its_number faults.Limit = refl
+of_its_number faults.Node = refl
+of_its_number faults.End = refl
+of_its_number faults.OutOfMemory = refl
+
+one_fault : (f g : SceneError) → fault_number f ≤ fault_number g → fault_number g ≤ fault_number f → f ≡ g
+one_fault f g a b =
+    let same : fault_number f ≡ fault_number g = omega (arith, a, b) in
+    sym (of_its_number f) ∙ ap of_number same ∙ of_its_number g
+
+-- of two lines of a list, they are one, or one stands before the other
+data Apart {A : Type 0} (xs : List A) (x : A) (ys : List A) (y : A) : Type 0 where
+  one : xs ≡ ys → x ≡ y → Apart xs x ys y
+  first_before : (mid : List A) → ys ≡ xs ++ x ∷ mid → Apart xs x ys y
+  first_behind : (mid : List A) → xs ≡ ys ++ y ∷ mid → Apart xs x ys y
+
+apart_more : {A : Type 0} (a b : A) (xs : List A) (x : A) (ys : List A) (y : A) → a ≡ b → Apart xs x ys y → Apart (a ∷ xs) x (b ∷ ys) y
+apart_more a b xs x ys y same (one e f) =
+    let lists : a ∷ xs ≡ b ∷ ys = cc in
+    one lists f
+apart_more a b xs x ys y same (first_before mid e) =
+    let lists : b ∷ ys ≡ a ∷ xs ++ x ∷ mid = cc in
+    first_before mid lists
+apart_more a b xs x ys y same (first_behind mid e) =
+    let lists : a ∷ xs ≡ b ∷ ys ++ y ∷ mid = cc in
+    first_behind mid lists
+
+apart : {A : Type 0} (xs : List A) (x : A) (l : List A) (ys : List A) (y : A) (k : List A) → xs ++ x ∷ l ≡ ys ++ y ∷ k → Apart xs x ys y
+apart [] x l [] y k e =
+    let same : x ≡ y = cc in
+    one refl same
+apart [] x l (b ∷ ys) y k e =
+    let first : b ≡ x = cc in
+    first_before ys (ap (λ c. c ∷ ys) first)
+apart (a ∷ xs) x l [] y k e =
+    let first : a ≡ y = cc in
+    first_behind xs (ap (λ c. c ∷ xs) first)
+apart (a ∷ xs) x l (b ∷ ys) y k e =
+    let first : a ≡ b = cc in
+    let others : xs ++ x ∷ l ≡ ys ++ y ∷ k = cc in
+    apart_more a b xs x ys y first (apart xs x l ys y k others)
+
+begin_front : (xs ys : List (List ℕ)) → Begin (xs ++ ys) → Begin xs
+begin_front xs ys h = record { play = h.play; rules = h.rules; body = h.body; told = h.told; others = ys ++ h.others; are = h.are ∙ append_assoc xs ys h.others }
+
+front_of : (before : List (List ℕ)) (line : List ℕ) (mid lines : List (List ℕ)) → lines ≡ before ++ line ∷ mid → Begin lines → Begin (before ++ line ∷ [])
+front_of before line mid lines is h = begin_front (before ++ line ∷ []) mid (subst Begin (is ∙ sym (append_assoc before (line ∷ []) mid)) h)
+
+module _ (text : List ℕ) where
+  fault_lines : {n : ℕ} {fault : SceneError} (h : IsFaultAt text n fault) → (lines_of text).0 ≡ h.before ++ h.line ∷ (lines_of h.rest).0
+  fault_lines h =
+      ap (λ (t : List ℕ). (lines_of t).0) h.parts ∙ lines_front (h.before ++ h.line ∷ []) h.rest h.each ∙ append_assoc h.before (h.line ∷ []) (lines_of h.rest).0
+
+  cut_lines : {n : ℕ} (h : IsCutShort text n) → (lines_of text).0 ≡ h.before
+  cut_lines h =
+      ap (λ (t : List ℕ). (lines_of t).0) h.parts ∙ lines_front h.before h.rest h.each ∙ ap (λ (l : List (List ℕ)). h.before ++ l) (no_line h.rest h.unended) ∙ append-nil h.before
+
+  by_place : {n m : ℕ} {f g : SceneError} (h : IsFaultAt text n f) (k : IsFaultAt text m g) → Apart h.before h.line k.before k.line → (n ≡ m) × (f ≡ g)
+  by_place {f} {g} h k (one e i) =
+      let count = sym h.number ∙ ap (λ (l : List (List ℕ)). length l + 1) e ∙ k.number in
+      let Of : SceneError → List (List ℕ) → Type 0 = λ x l. HasFault (filter is_told l) k.line x in
+      let To : SceneError → List ℕ → Type 0 = λ x l. HasFault (filter is_told h.before) l x in
+      let here : HasFault (filter is_told h.before) h.line g = subst (To g) (sym i) (subst (Of g) (sym e) k.lowest.has) in
+      let there : HasFault (filter is_told k.before) k.line f = subst (Of f) e (subst (To f) i h.lowest.has) in
+      (count, one_fault f g (h.lowest.lowest g here) (k.lowest.lowest f there))
+  by_place h k (first_before mid e) = absurd (h.stops (front_of h.before h.line mid k.before e k.begins))
+  by_place h k (first_behind mid e) = absurd (k.stops (front_of k.before k.line mid h.before e h.begins))
+
+  -- the first fault is one
+  first_is_one : {n m : ℕ} {f g : SceneError} → HasFirstFault text n f → HasFirstFault text m g → (n ≡ m) × (f ≡ g)
+  first_is_one (too_long long) (too_long longer) = (refl, refl)
+  first_is_one (too_long long) (at_line short k) = absurd (omega (arith, long, short))
+  first_is_one (too_long long) (cut_short short k) = absurd (omega (arith, long, short))
+  first_is_one (at_line short h) (too_long long) = absurd (omega (arith, long, short))
+  first_is_one (at_line short h) (at_line shorter k) =
+      by_place h k (apart h.before h.line (lines_of h.rest).0 k.before k.line (lines_of k.rest).0 (sym (fault_lines h) ∙ fault_lines k))
+  first_is_one (at_line short h) (cut_short shorter k) =
+      absurd (h.stops (front_of h.before h.line (lines_of h.rest).0 k.before (sym (cut_lines k) ∙ fault_lines h) k.begins))
+  first_is_one (cut_short short h) (too_long long) = absurd (omega (arith, long, short))
+  first_is_one (cut_short short h) (at_line shorter k) =
+      absurd (k.stops (front_of k.before k.line (lines_of k.rest).0 h.before (sym (cut_lines h) ∙ fault_lines k) h.begins))
+  first_is_one (cut_short short h) (cut_short shorter k) =
+      (sym h.number ∙ ap (λ (l : List (List ℕ)). length l + 1) (sym (cut_lines h) ∙ cut_lines k) ∙ k.number, refl)
+
+  -- a scenario's text has no fault
+  faultless : {n : ℕ} {fault : SceneError} (play : Play) → IsScenario text play → HasFirstFault text n fault → ⊥
+  faultless play h (too_long long) = omega (arith, long, h.short)
+  faultless play h (cut_short short k) = k.none play h
+  faultless play h (at_line short k) =
+      let Each : All IsLine (h.lines ++ codes "end" ∷ []) = All-push IsLine h.lines (codes "end") h.each end_is_line in
+      let P : ℕ → Type 0 = λ x. x ≢ 10 in
+      let nothing : (lines_of []).0 ≡ [] = no_line [] (All-nil P) in
+      let whole : (lines_of text).0 ≡ h.lines ++ codes "end" ∷ [] =
+      ap (λ (t : List ℕ). (lines_of t).0) (h.is ∙ sym (append-nil (flat_map text_line (h.lines ++ codes "end" ∷ []))))
+      ∙ lines_front (h.lines ++ codes "end" ∷ []) [] Each ∙ ap (λ (l : List (List ℕ)). (h.lines ++ codes "end" ∷ []) ++ l) nothing ∙ append-nil (h.lines ++ codes "end" ∷ []) in
+      let lines : h.lines ++ codes "end" ∷ [] ≡ (k.before ++ k.line ∷ []) ++ (lines_of k.rest).0 = sym whole ∙ fault_lines k ∙ sym (append_assoc k.before (k.line ∷ []) (lines_of k.rest).0) in
+      k.stops (record { play = play; rules = h.rules; body = h.lines; told = h.told; others = (lines_of k.rest).0; are = lines })
+
+  by_answer : {n : ℕ} {fault : SceneError} (r : Result Play Fault) → play_of text ≡ r → HasFirstFault text n fault → play_of text ≡ Err (n, fault)
+  by_answer (Ok play) is h = absurd (faultless play (read_is_spelled text play is) h)
+  by_answer {n} {fault} (Err first) is h =
+      let same = first_is_one h (answered_is_first text first.0 first.1 is) in
+      let pair : first ≡ (n, fault) = ap (λ (k : ℕ). (k, first.1)) (sym same.0) ∙ ap (λ (x : SceneError). (n, x)) (sym same.1) in
+      is ∙ ap (λ (x : Fault). Err x) pair
+
+  -- the text's first fault is answered
+  pub first_is_answered : (n : ℕ) (fault : SceneError) → HasFirstFault text n fault → play_of text ≡ Err (n, fault)
+  first_is_answered n fault h = by_answer (play_of text) refl h
+
+-- a fault of a sketch is one of what is played
+before_fault : (n : ℕ) (r : Result Sketch Fault) → IsBeforeFault n r → IsBeforeFault n (played r)
+before_fault n (Ok s) h = tt
+before_fault n (Err fault) h = h
+
+-- what is answered explains itself
+explains : (text : List ℕ) (n : ℕ) (fault : SceneError) → IsFirstFault n fault (sketch_of text) → Explains text n fault
+explains text n faults.Header h = answered_is_first text n faults.Header (ap played h)
+explains text n faults.Word h = answered_is_first text n faults.Word (ap played h)
+explains text n faults.Tuple h = answered_is_first text n faults.Tuple (ap played h)
+explains text n faults.Variable h = answered_is_first text n faults.Variable (ap played h)
+explains text n faults.Limit h = answered_is_first text n faults.Limit (ap played h)
+explains text n faults.Node h = answered_is_first text n faults.Node (ap played h)
+explains text n faults.End h = answered_is_first text n faults.End (ap played h)
+explains text n faults.OutOfMemory h = λ m fault first. subst (IsBeforeFault n) (first_is_answered text m fault first) (before_fault n (sketch_of text) h)
+
+read_is_sketch : (text : List ℕ) → length text ≤ 1048576 → read_from nothing_read 1 (lines_of text).0 (lines_of text).1 ≡ sketch_of text
+read_is_sketch text short =
+    let fits : ltb 1048576 (length text) ≡ false = le-ltb 1048576 (length text) short in
+    rw fits refl
+
+pub answer_explains : {A : Type 0} (text : List ℕ) (r : Result A SceneFault) → length text ≤ 1048576
+    → IfErr r (λ f. IsFirstFault f.line f.cause (read_from nothing_read 1 (lines_of text).0 (lines_of text).1)) → IfErr r (λ f. Explains text f.line f.cause)
+answer_explains text (Ok x) short h = tt
+answer_explains text (Err f) short h = explains text f.line f.cause (subst (IsFirstFault f.line f.cause) (read_is_sketch text short) h)

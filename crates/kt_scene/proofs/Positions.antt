@@ -1,0 +1,103 @@
+-- Where the lines that were told end is told by the sketch that they lead to.
+use Rattle.std.proofs.Common.{◌≡◌, ℕ, Bool, true, false, not, cond, List, [], ◌∷◌, ◌++◌, length, Ok, refl, sym, ap, subst, ◌∙◌, arith, length-append}
+use Rattle.std.proofs.lemmas.Fmt.{decimal_digit}
+use Rattle.std.specs.Prelude.{codes, decimal, filter}
+use Rattle.kt_script.specs.declared.command.Command.{Command}
+use Rattle.kt_scene.specs.declared.draft.Stage.{Stage}
+use Rattle.kt_scene.specs.declared.draft.Stage.TheVariants as stages
+use Rattle.kt_scene.specs.Lines.{Sketch, nothing_read, is_ignored, is_ended, closed, line_read}
+use Rattle.kt_scene.specs.Text.{told_lines}
+use Rattle.kt_scene.specs.Scenario.{is_told}
+use Rattle.kt_scene.specs.Faults.{play_of_scripts, IsInScript, IsInSteps, IsWhole, title_line, one_shard}
+use Rattle.kt_scene.proofs.Feeding.{LeadOn, leads_append}
+use Rattle.kt_scene.proofs.LinesRead.{among_steps, at_shards, at_workers, shards_line}
+use Rattle.kt_scene.proofs.ScenarioRead.{at_end, told_lead}
+use Rattle.kt_scene.proofs.Begins.{leads_once, leads_split}
+
+-- a line that is ignored changes nothing
+ignored_by_test : (b : Bool) (s u : Sketch) (line : List ℕ) → is_ignored line ≡ true → is_ended s.stage ≡ b → line_read s line ≡ Ok u → u ≡ s
+ignored_by_test true s u line ignored ended e =
+    let never = rw ended at e in
+    absurd cc
+ignored_by_test false s u line ignored ended e =
+    let same = rw (ended, ignored) at e in
+    cc
+
+told_by_test : (b : Bool) (s t u : Sketch) (line : List ℕ) (later : List (List ℕ)) → is_ignored line ≡ b → line_read s line ≡ Ok u → LeadOn u (filter is_told later) t
+    → LeadOn s (cond (not b) (line ∷ filter is_told later) (filter is_told later)) t
+told_by_test true s t u line later test e h = subst (λ (x : Sketch). LeadOn x (filter is_told later) t) (ignored_by_test (is_ended s.stage) s u line test refl e) h
+told_by_test false s t u line later test e h = (u, e, h)
+
+-- without the lines that are ignored, lines lead to the same
+pub told_leads : (lines : List (List ℕ)) (s t : Sketch) → LeadOn s lines t → LeadOn s (filter is_told lines) t
+told_leads [] s t h = h
+told_leads (line ∷ later) s t h = told_by_test (is_ignored line) s t h.0 line later refl h.1 (told_leads later h.0 t h.2)
+
+push_parts : {A : Type 0} (xs ys : List A) (x y : A) → xs ++ x ∷ [] ≡ ys ++ y ∷ [] → (xs ≡ ys) × (x ≡ y)
+push_parts [] [] x y e = (refl, cc)
+push_parts [] (b ∷ ys) x y e = absurd (omega (arith, ap length e, length-append ys (y ∷ [])))
+push_parts (a ∷ xs) [] x y e = absurd (omega (arith, ap length e, length-append xs (x ∷ [])))
+push_parts {A} (a ∷ xs) (b ∷ ys) x y e =
+    let first : a ≡ b = cc in
+    let others : xs ++ x ∷ [] ≡ ys ++ y ∷ [] = cc in
+    let more = push_parts xs ys x y others in
+    (cc, more.1)
+
+-- only within a script may the line before the steps follow
+steps_follow : (stage : Stage) (s : Sketch) (scripts : List (List Command)) → s.stage ≡ stage → line_read s (codes "steps") ≡ Ok (among_steps scripts []) → (s.stage ≡ stages.Commands) × (s.scripts ++ s.commands ∷ [] ≡ scripts)
+steps_follow stages.Title s scripts is e =
+    let never = rw is at e in
+    absurd cc
+steps_follow stages.Shards s scripts is e =
+    let never = rw is at e in
+    absurd cc
+steps_follow stages.Workers s scripts is e =
+    let never = rw is at e in
+    absurd cc
+steps_follow stages.Commands s scripts is e =
+    let read = rw is at e in
+    let same : closed stages.Steps s ≡ among_steps scripts [] = cc in
+    (is, ap (λ (x : Sketch). x.scripts) same)
+steps_follow stages.Steps s scripts is e =
+    let never = rw is at e in
+    absurd cc
+steps_follow stages.Ended s scripts is e =
+    let never = rw is at e in
+    absurd cc
+
+pub head_is : codes "shards " ++ decimal 1 ≡ one_shard
+head_is = ap (λ (t : List ℕ). codes "shards " ++ t) (decimal_digit 1 (omega arith))
+
+module _ (told : List (List ℕ)) (s : Sketch) (leads : LeadOn nothing_read told s) where
+  leads_to : (lines : List (List ℕ)) (t : Sketch) → told ≡ lines → LeadOn nothing_read lines t → s ≡ t
+  leads_to lines t is h = leads_once lines nothing_read s t (subst (λ (l : List (List ℕ)). LeadOn nothing_read l s) is leads) h
+
+  pub at_title : told ≡ [] → s.stage ≡ stages.Title
+  at_title is = ap (λ (x : Sketch). x.stage) (leads_to [] nothing_read is refl)
+
+  pub behind_title : told ≡ title_line ∷ [] → s.stage ≡ stages.Shards
+  behind_title is = ap (λ (x : Sketch). x.stage) (leads_to (title_line ∷ []) at_shards is (at_shards, refl, refl))
+
+  pub behind_head : told ≡ title_line ∷ one_shard ∷ [] → s.stage ≡ stages.Workers
+  behind_head is =
+      let read : line_read at_shards one_shard ≡ Ok at_workers = ap (line_read at_shards) (sym head_is) ∙ shards_line in
+      ap (λ (x : Sketch). x.stage) (leads_to (title_line ∷ one_shard ∷ []) at_workers is (at_shards, refl, (at_workers, read, refl)))
+
+  pub in_steps : IsInSteps told → s.stage ≡ stages.Steps
+  in_steps h = ap (λ (x : Sketch). x.stage) (leads_to (told_lines h.play) (among_steps h.play.cast.scripts h.play.steps) (sym h.are) (told_lead h.play h.rules))
+
+  pub at_whole : IsWhole told → s.stage ≡ stages.Ended
+  at_whole h =
+      let all = leads_append nothing_read (told_lines h.play) (codes "end" ∷ []) (among_steps h.play.cast.scripts h.play.steps) (at_end h.play) (told_lead h.play h.rules) (at_end h.play, refl, refl) in
+      ap (λ (x : Sketch). x.stage) (leads_to (told_lines h.play ++ codes "end" ∷ []) (at_end h.play) (sym h.are) all)
+
+  pub in_script : (scripts : List (List Command)) (commands : List Command) → IsInScript told scripts commands → (s.stage ≡ stages.Commands) × (s.scripts ≡ scripts) × (s.commands ≡ commands)
+  in_script scripts commands h =
+      let t = among_steps (scripts ++ commands ∷ []) [] in
+      let To : List (List ℕ) → Type 0 = λ l. LeadOn nothing_read l t in
+      let parts = leads_split told (codes "steps" ∷ []) nothing_read t (subst To h.are (told_lead (play_of_scripts (scripts ++ commands ∷ []) []) h.rules)) in
+      let same = leads_once told nothing_read parts.0 s parts.1 leads in
+      let read : line_read parts.0 (codes "steps") ≡ Ok t = parts.2.1 ∙ ap (λ (x : Sketch). Ok x) (sym parts.2.2) in
+      let follow = steps_follow s.stage s (scripts ++ commands ∷ []) refl (subst (λ (x : Sketch). line_read x (codes "steps") ≡ Ok t) same read) in
+      let both = push_parts s.scripts scripts s.commands commands follow.1 in
+      (follow.0, both.0, both.1)
