@@ -30,122 +30,91 @@ pub fn node_numbers_differ()
     ensures { (p q : NodeId) → node_index p ≡ node_index q → p ≡ q }
 {}
 
-/// What is read as a value stands in front of the text and is the one text of its value. It has one
+/// What is read as a value, or as a place, stands in front of the text and is the one text of it. It has one
 /// where it is in range and short, and that is one that a program can hold.
-pub fn a_value_read_is_spelled_so()
-    ensures front { (text p rest : List ℕ) → value_at text ≡ Ok (p, rest) → text ≡ p ++ rest }
-    ensures spelling { (text p rest : List ℕ) (v : Value) → value_at text ≡ Ok (p, rest) → value_of p ≡ Some v → value_text v ≡ p }
-    ensures value { (text p rest : List ℕ) → value_at text ≡ Ok (p, rest) → IsTrue (has_range p) → IsTrue (is_short p) → IsSome (value_of p) }
-    ensures held { (p : List ℕ) (v : Value) → value_of p ≡ Some v → IsValue v }
+pub fn a_front_read_is_spelled_so()
+    ensures value_front { (text p rest : List ℕ) → value_at text ≡ Ok (p, rest) → text ≡ p ++ rest }
+    ensures value_spelling { (text p rest : List ℕ) (v : Value) → value_at text ≡ Ok (p, rest) → value_of p ≡ Some v → value_text v ≡ p }
+    ensures value_made { (text p rest : List ℕ) → value_at text ≡ Ok (p, rest) → IsTrue (has_range p) → IsTrue (is_short p) → IsSome (value_of p) }
+    ensures value_held { (p : List ℕ) (v : Value) → value_of p ≡ Some v → IsValue v }
+    ensures place_front { (text p rest : List ℕ) → place_at text ≡ Ok (p, rest) → text ≡ p ++ rest }
+    ensures place_spelling { (text p rest : List ℕ) (q : Place) → place_at text ≡ Ok (p, rest) → place_of p ≡ Some q → place_text q ≡ p }
+    ensures place_made { (text p rest : List ℕ) → place_at text ≡ Ok (p, rest) → IsTrue (has_range p) → IsTrue (is_short p) → IsSome (place_of p) }
+    ensures place_held { (p : List ℕ) (q : Place) → place_of p ≡ Some q → IsPlace q }
 {}
 
-/// The text of a value is read up to its end as that value. A digit behind an int would belong to it.
-pub fn a_value_spelled_is_read()
-    ensures front { (v : Value) (rest : List ℕ) → IsValue v → begins_with_digit rest ≡ false
+/// The text of a value, or of a place, is read up to its end as it. A digit behind an int would belong to it.
+pub fn a_front_spelled_is_read()
+    ensures value_front { (v : Value) (rest : List ℕ) → IsValue v → begins_with_digit rest ≡ false
         → value_at (value_text v ++ rest) ≡ Ok (value_text v, rest) }
-    ensures value { (v : Value) → IsValue v → value_of (value_text v) ≡ Some v }
-    ensures in_range { (v : Value) → IsValue v → IsTrue (has_range (value_text v)) }
-    ensures short { (v : Value) → IsValue v → IsTrue (is_short (value_text v)) }
-{}
-
-/// The same of a place that is read.
-pub fn a_place_read_is_spelled_so()
-    ensures front { (text p rest : List ℕ) → place_at text ≡ Ok (p, rest) → text ≡ p ++ rest }
-    ensures spelling { (text p rest : List ℕ) (q : Place) → place_at text ≡ Ok (p, rest) → place_of p ≡ Some q → place_text q ≡ p }
-    ensures place { (text p rest : List ℕ) → place_at text ≡ Ok (p, rest) → IsTrue (has_range p) → IsTrue (is_short p) → IsSome (place_of p) }
-    ensures held { (p : List ℕ) (q : Place) → place_of p ≡ Some q → IsPlace q }
-{}
-
-/// The same of the text of a place.
-pub fn a_place_spelled_is_read()
-    ensures front { (q : Place) (rest : List ℕ) → IsPlace q → begins_with_digit rest ≡ false
+    ensures value_made { (v : Value) → IsValue v → value_of (value_text v) ≡ Some v }
+    ensures value_in_range { (v : Value) → IsValue v → IsTrue (has_range (value_text v)) }
+    ensures value_short { (v : Value) → IsValue v → IsTrue (is_short (value_text v)) }
+    ensures place_front { (q : Place) (rest : List ℕ) → IsPlace q → begins_with_digit rest ≡ false
         → place_at (place_text q ++ rest) ≡ Ok (place_text q, rest) }
-    ensures place { (q : Place) → IsPlace q → place_of (place_text q) ≡ Some q }
-    ensures in_range { (q : Place) → IsPlace q → IsTrue (has_range (place_text q)) }
-    ensures short { (q : Place) → IsPlace q → IsTrue (is_short (place_text q)) }
+    ensures place_made { (q : Place) → IsPlace q → place_of (place_text q) ≡ Some q }
+    ensures place_in_range { (q : Place) → IsPlace q → IsTrue (has_range (place_text q)) }
+    ensures place_short { (q : Place) → IsPlace q → IsTrue (is_short (place_text q)) }
 {}
 
-/// A text without a fault is the one text of what is read of it: 1 to 8 values that a program can hold.
-pub fn a_tuple_read_is_spelled_so()
-    ensures spelling { (text : List ℕ) → tuple_fault text ≡ None → tuple_text (tuple_values text) ≡ text }
-    ensures arity { (text : List ℕ) → tuple_fault text ≡ None → HasArity (tuple_values text) }
-    ensures held { (text : List ℕ) → tuple_fault text ≡ None → All IsValue (tuple_values text) }
+/// A text without a fault is the one text of what is read of it: 1 to 8 values, or places, that a program can hold.
+pub fn a_text_read_is_spelled_so()
+    ensures tuple_spelling { (text : List ℕ) → tuple_fault text ≡ None → tuple_text (tuple_values text) ≡ text }
+    ensures tuple_arity { (text : List ℕ) → tuple_fault text ≡ None → HasArity (tuple_values text) }
+    ensures tuple_held { (text : List ℕ) → tuple_fault text ≡ None → All IsValue (tuple_values text) }
+    ensures template_spelling { (text : List ℕ) → template_fault text ≡ None → template_text (template_places text) ≡ text }
+    ensures template_arity { (text : List ℕ) → template_fault text ≡ None → HasArity (template_places text) }
+    ensures template_held { (text : List ℕ) → template_fault text ≡ None → All IsPlace (template_places text) }
 {}
 
-/// The text of 1 to 8 values has no fault, and is read as these values.
-pub fn a_tuple_spelled_is_read()
-    ensures fault { (us : List Value) → HasArity us → All IsValue us → tuple_fault (tuple_text us) ≡ None }
-    ensures values { (us : List Value) → HasArity us → All IsValue us → tuple_values (tuple_text us) ≡ us }
+/// The text of 1 to 8 values, or places, has no fault, and is read as these.
+pub fn a_text_spelled_is_read()
+    ensures tuple_faultless { (us : List Value) → HasArity us → All IsValue us → tuple_fault (tuple_text us) ≡ None }
+    ensures tuple_values { (us : List Value) → HasArity us → All IsValue us → tuple_values (tuple_text us) ≡ us }
+    ensures template_faultless { (ts : List Place) → HasArity ts → All IsPlace ts → template_fault (template_text ts) ≡ None }
+    ensures template_places { (ts : List Place) → HasArity ts → All IsPlace ts → template_places (template_text ts) ≡ ts }
 {}
 
-/// The same of the text of a template.
-pub fn a_template_read_is_spelled_so()
-    ensures spelling { (text : List ℕ) → template_fault text ≡ None → template_text (template_places text) ≡ text }
-    ensures arity { (text : List ℕ) → template_fault text ≡ None → HasArity (template_places text) }
-    ensures held { (text : List ℕ) → template_fault text ≡ None → All IsPlace (template_places text) }
-{}
-
-/// The same of the text of 1 to 8 places.
-pub fn a_template_spelled_is_read()
-    ensures fault { (ts : List Place) → HasArity ts → All IsPlace ts → template_fault (template_text ts) ≡ None }
-    ensures places { (ts : List Place) → HasArity ts → All IsPlace ts → template_places (template_text ts) ≡ ts }
-{}
-
-/// A text has the shape of a tuple exactly where it has no syntax fault. It has one row of places.
-pub fn a_tuple_has_the_shape_or_a_syntax_fault()
-    ensures shape { (text : List ℕ) (at : ℕ) → IsTupleText text → tuple_fault text ≡ Some (faults.Syntax at) → ⊥ }
-    ensures others { (text : List ℕ) → ((at : ℕ) → tuple_fault text ≡ Some (faults.Syntax at) → ⊥)
+/// A text has the shape of a tuple, or of a template, exactly where it has no syntax fault; then it has one row of
+/// places. A syntax fault is at the length of the longest front that begins some text of the shape.
+pub fn a_syntax_fault_is_at_the_longest_front()
+    ensures tuple_shape { (text : List ℕ) (at : ℕ) → IsTupleText text → tuple_fault text ≡ Some (faults.Syntax at) → ⊥ }
+    ensures tuple_others { (text : List ℕ) → ((at : ℕ) → tuple_fault text ≡ Some (faults.Syntax at) → ⊥)
         → IsTupleText text }
-    ensures places { (ps qs : List (List ℕ)) (text : List ℕ) → Consists IsValueText ps text
+    ensures tuple_places { (ps qs : List (List ℕ)) (text : List ℕ) → Consists IsValueText ps text
         → Consists IsValueText qs text → ps ≡ qs }
-{}
-
-/// A syntax fault is at the length of the longest front that begins some text of the shape.
-pub fn a_syntax_fault_of_a_tuple_is_at_the_longest_front()
-    ensures within { (text : List ℕ) (at : ℕ) → tuple_fault text ≡ Some (faults.Syntax at) → at ≤ length text }
-    ensures begins { (text : List ℕ) (at : ℕ) → tuple_fault text ≡ Some (faults.Syntax at)
+    ensures tuple_within { (text : List ℕ) (at : ℕ) → tuple_fault text ≡ Some (faults.Syntax at) → at ≤ length text }
+    ensures tuple_begins { (text : List ℕ) (at : ℕ) → tuple_fault text ≡ Some (faults.Syntax at)
         → Begins IsTupleText (take at text) }
-    ensures longest { (text : List ℕ) (at n : ℕ) → tuple_fault text ≡ Some (faults.Syntax at)
+    ensures tuple_longest { (text : List ℕ) (at n : ℕ) → tuple_fault text ≡ Some (faults.Syntax at)
         → at < n → n ≤ length text → Begins IsTupleText (take n text) → ⊥ }
-    ensures only { (text : List ℕ) (at : ℕ) → ¬ IsTupleText text → IsLongestFront IsTupleText text at
+    ensures tuple_only { (text : List ℕ) (at : ℕ) → ¬ IsTupleText text → IsLongestFront IsTupleText text at
         → tuple_fault text ≡ Some (faults.Syntax at) }
+    ensures template_shape { (text : List ℕ) (at : ℕ) → IsTemplateText text → template_fault text ≡ Some (faults.Syntax at) → ⊥ }
+    ensures template_others { (text : List ℕ) → ((at : ℕ) → template_fault text ≡ Some (faults.Syntax at) → ⊥)
+        → IsTemplateText text }
+    ensures template_places { (ps qs : List (List ℕ)) (text : List ℕ) → Consists IsPlaceText ps text
+        → Consists IsPlaceText qs text → ps ≡ qs }
+    ensures template_within { (text : List ℕ) (at : ℕ) → template_fault text ≡ Some (faults.Syntax at) → at ≤ length text }
+    ensures template_begins { (text : List ℕ) (at : ℕ) → template_fault text ≡ Some (faults.Syntax at)
+        → Begins IsTemplateText (take at text) }
+    ensures template_longest { (text : List ℕ) (at n : ℕ) → template_fault text ≡ Some (faults.Syntax at)
+        → at < n → n ≤ length text → Begins IsTemplateText (take n text) → ⊥ }
+    ensures template_only { (text : List ℕ) (at : ℕ) → ¬ IsTemplateText text → IsLongestFront IsTemplateText text at
+        → template_fault text ≡ Some (faults.Syntax at) }
 {}
 
 /// A text of the shape has a range fault exactly at its first int outside 64 bits. It is too long exactly where
 /// its ints are in range and it has more than 8 places or a str too long, and else it is accepted.
-pub fn a_tuple_of_the_shape_has_these_faults()
-    ensures range { (text : List ℕ) (at : ℕ)
+pub fn a_text_of_the_shape_has_these_faults()
+    ensures tuple_range { (text : List ℕ) (at : ℕ)
         → (tuple_fault text ≡ Some (faults.Range at)) ↔ IsFirstOutside IsValueText text at }
-    ensures too_long { (text : List ℕ) → (tuple_fault text ≡ Some faults.TooLong) ↔ IsTooLong IsValueText text }
-    ensures accepted { (text : List ℕ) → (tuple_fault text ≡ None) ↔ IsAccepted IsValueText text }
-{}
-
-/// The same of the text of a template.
-pub fn a_template_has_the_shape_or_a_syntax_fault()
-    ensures shape { (text : List ℕ) (at : ℕ) → IsTemplateText text → template_fault text ≡ Some (faults.Syntax at) → ⊥ }
-    ensures others { (text : List ℕ) → ((at : ℕ) → template_fault text ≡ Some (faults.Syntax at) → ⊥)
-        → IsTemplateText text }
-    ensures places { (ps qs : List (List ℕ)) (text : List ℕ) → Consists IsPlaceText ps text
-        → Consists IsPlaceText qs text → ps ≡ qs }
-{}
-
-/// The same of the text of a template.
-pub fn a_syntax_fault_of_a_template_is_at_the_longest_front()
-    ensures within { (text : List ℕ) (at : ℕ) → template_fault text ≡ Some (faults.Syntax at) → at ≤ length text }
-    ensures begins { (text : List ℕ) (at : ℕ) → template_fault text ≡ Some (faults.Syntax at)
-        → Begins IsTemplateText (take at text) }
-    ensures longest { (text : List ℕ) (at n : ℕ) → template_fault text ≡ Some (faults.Syntax at)
-        → at < n → n ≤ length text → Begins IsTemplateText (take n text) → ⊥ }
-    ensures only { (text : List ℕ) (at : ℕ) → ¬ IsTemplateText text → IsLongestFront IsTemplateText text at
-        → template_fault text ≡ Some (faults.Syntax at) }
-{}
-
-/// The same of the text of a template.
-pub fn a_template_of_the_shape_has_these_faults()
-    ensures range { (text : List ℕ) (at : ℕ)
+    ensures tuple_too_long { (text : List ℕ) → (tuple_fault text ≡ Some faults.TooLong) ↔ IsTooLong IsValueText text }
+    ensures tuple_accepted { (text : List ℕ) → (tuple_fault text ≡ None) ↔ IsAccepted IsValueText text }
+    ensures template_range { (text : List ℕ) (at : ℕ)
         → (template_fault text ≡ Some (faults.Range at)) ↔ IsFirstOutside IsPlaceText text at }
-    ensures too_long { (text : List ℕ) → (template_fault text ≡ Some faults.TooLong) ↔ IsTooLong IsPlaceText text }
-    ensures accepted { (text : List ℕ) → (template_fault text ≡ None) ↔ IsAccepted IsPlaceText text }
+    ensures template_too_long { (text : List ℕ) → (template_fault text ≡ Some faults.TooLong) ↔ IsTooLong IsPlaceText text }
+    ensures template_accepted { (text : List ℕ) → (template_fault text ≡ None) ↔ IsAccepted IsPlaceText text }
 {}
 
 /// The places out of range are the ints outside 64 bits, and those too long the strs of more than 64

@@ -16,10 +16,8 @@ mod value;
 mod writing;
 
 pub use laws::{
-    a_place_read_is_spelled_so, a_place_spelled_is_read, a_template_read_is_spelled_so,
-    a_template_spelled_is_read, a_tuple_read_is_spelled_so, a_tuple_spelled_is_read,
-    a_value_read_is_spelled_so, a_value_spelled_is_read, matching_has_one_home,
-    node_numbers_differ,
+    a_front_read_is_spelled_so, a_front_spelled_is_read, a_text_read_is_spelled_so,
+    a_text_spelled_is_read, matching_has_one_home, node_numbers_differ,
 };
 pub use node::{NODES, NodeId};
 pub use op::{Answer, Op};
