@@ -45,6 +45,7 @@ fn act(
     request: &Request,
     what: What,
 ) -> Result<(), Fail> {
+    let serves = matches!(what, What::Served(_));
     let note = Note::Act(Act {
         node,
         by,
@@ -53,6 +54,7 @@ fn act(
         op: request.op.copy(alloc)?,
         what,
     });
+    assert_eq!(rt; note.is_service(), serves);
     assert!(rt; history.may_follow(&note));
     history.push(note)?;
     Ok(())

@@ -87,6 +87,10 @@ fn unless_skips(rt: HostRuntime) -> Result<(), Fail> {
     assert!(rt; puts(rt.alloc(), &script, Answer::None, "(\"d\")")?);
     let found = got(rt.alloc(), "(\"a\")")?;
     assert!(rt; puts(rt.alloc(), &script, found, "(\"b\")")?);
+    let before = Env::new(rt.alloc(), &script)?;
+    assert!(rt; !before.was_none());
+    let after = before.bind(rt.alloc(), &script, 1, &Answer::None)?;
+    assert!(rt; after.was_none());
     Ok(())
 }
 
@@ -132,5 +136,36 @@ fn refuses_use_before_binding(rt: HostRuntime) -> Result<(), Fail> {
     let refused = script.push(add_one("x", "x")?);
     assert_eq!(rt; refused, Err(ScriptError::Variable));
     assert_eq!(rt; script.push(Command::Unless(0)), Err(ScriptError::Limit));
+    Ok(())
+}
+
+/// What may name a variable.
+#[test]
+fn names(rt: HostRuntime) -> Result<(), Fail> {
+    assert!(rt; is_name(b"task_1"));
+    assert!(rt; is_name(b"aaaaaaaaaaaaaaaa"));
+    assert!(rt; !is_name(b"aaaaaaaaaaaaaaaaa"));
+    assert!(rt; !is_name(b"1x"));
+    assert!(rt; !is_name(b"bool"));
+    assert!(rt; is_name_character(b'_'));
+    assert!(rt; !is_name_character(b'-'));
+    Ok(())
+}
+
+/// A command is judged without being put in.
+#[test]
+fn judges(rt: HostRuntime) -> Result<(), Fail> {
+    let mut script = Script::new(rt.alloc());
+    assert_eq!(rt;
+        script.refusal_of(&out_variable("x")?),
+        Some(ScriptError::Variable)
+    );
+    script.push(Command::Ask(Operation::In(pattern(formal("x")?, None)?)))?;
+    assert_eq!(rt; script.refusal_of(&out_variable("x")?), None);
+    assert_eq!(rt;
+        script.refusal_of(&Command::Unless(201)),
+        Some(ScriptError::Limit)
+    );
+    assert_eq!(rt; script.commands().len(), 1);
     Ok(())
 }

@@ -263,3 +263,69 @@ fn operations_and_answers(rt: HostRuntime) -> Result<(), Fail> {
     }
     Ok(())
 }
+
+/// What stands in front of a text and what is behind it; where nothing does, what could not be read.
+#[test]
+fn fronts(rt: HostRuntime) -> Result<(), Fail> {
+    let (int, behind) = int_at(b"-12, 3)").ok().ok_or("an int")?;
+    assert_eq!(rt; (int, behind), (b"-12".as_slice(), b", 3)".as_slice()));
+    let (string, behind) = value_at(b"\"a\\\"b\")").ok().ok_or("a str")?;
+    assert_eq!(rt;
+        (string, behind),
+        (b"\"a\\\"b\"".as_slice(), b")".as_slice())
+    );
+    let (formal, behind) = formal_at(b"?str x").ok().ok_or("a formal")?;
+    assert_eq!(rt; (formal, behind), (b"?str".as_slice(), b" x".as_slice()));
+    let (place, behind) = place_at(b"?int)").ok().ok_or("a place")?;
+    assert_eq!(rt; (place, behind), (b"?int".as_slice(), b")".as_slice()));
+    assert_eq!(rt; int_at(b"--1").err().ok_or("no int")?, b"-1".as_slice());
+    assert_eq!(rt;
+        formal_at(b"?inx").err().ok_or("no formal")?,
+        b"x".as_slice()
+    );
+    assert_eq!(rt;
+        word_at(b"unless 3", b"unless ").ok().ok_or("a word")?,
+        b"3".as_slice()
+    );
+    assert_eq!(rt;
+        word_at(b"unlit", b"unless ").err().ok_or("no word")?,
+        b"it".as_slice()
+    );
+    Ok(())
+}
+
+/// What may stand behind a place: the end, or a comma, a space and another place.
+#[test]
+fn behind_places(rt: HostRuntime) -> Result<(), Fail> {
+    let next = after_place(b", 3)").ok().ok_or("a comma")?;
+    assert_eq!(rt; next.ok_or("a place")?, b"3)".as_slice());
+    assert!(rt; after_place(b")").ok().ok_or("the end")?.is_none());
+    assert_eq!(rt; after_place(b") ").err().ok_or("no end")?, b" ".as_slice());
+    assert_eq!(rt;
+        after_place(b",3").err().ok_or("no space")?,
+        b"3".as_slice()
+    );
+    Ok(())
+}
+
+/// Spellings in range and short, and what they spell.
+#[test]
+fn spellings(rt: HostRuntime) -> Result<(), Fail> {
+    assert_eq!(rt; int_of(b"-9223372036854775808"), Some(i64::MIN));
+    assert_eq!(rt; int_of(b"9223372036854775808"), None);
+    assert!(rt; is_in_range(b"9223372036854775807"));
+    assert!(rt; !is_in_range(b"9223372036854775808"));
+    assert!(rt; is_in_range(b"?int"));
+    assert!(rt; is_short(b"\"a\""));
+    assert!(rt; value_of(b"7") == Some(Value::Int(7)));
+    assert!(rt; value_of(b"\"a\"") == Str::new(b"a").map(Value::Str));
+    assert!(rt; place_of(b"?str") == Some(Place::Formal(Kind::Str)));
+    assert!(rt; place_of(b"7") == Some(Place::Actual(Value::Int(7))));
+    let mut string = Vec::from_slice(rt.alloc(), b"\"")?;
+    for _ in 0..65 {
+        string.push(b'a')?;
+    }
+    string.push(b'"')?;
+    assert!(rt; !is_short(&string));
+    Ok(())
+}
