@@ -27,6 +27,12 @@ pub use stream::{MAX_READS, read_text};
 pub use writing::write_scene;
 
 #[cfg(test)]
+mod fault_tables;
+#[cfg(test)]
+mod memory_tests;
+#[cfg(test)]
+mod mutation_tests;
+#[cfg(test)]
 mod replay_tests;
 #[cfg(test)]
 mod scene_tests;

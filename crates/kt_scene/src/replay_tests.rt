@@ -8,14 +8,14 @@ use std::test::Fail;
 
 /// Gives the bytes some at a time, and may be interrupted or fail.
 #[derive(Drop)]
-struct Source<'a> {
-    bytes: &'a [u8],
+pub(crate) struct Source<'a> {
+    pub(crate) bytes: &'a [u8],
     /// How many bytes a call gives at most.
-    at_once: usize,
+    pub(crate) at_once: usize,
     /// How many of the next calls are interrupted.
-    interrupted: u32,
+    pub(crate) interrupted: u32,
     /// How many calls go well before one fails.
-    good: u32,
+    pub(crate) good: u32,
 }
 
 impl Read for Source<'_> {
@@ -38,8 +38,8 @@ impl Read for Source<'_> {
 
 /// Takes the bytes some at a time, and may be interrupted or fail.
 #[derive(Drop)]
-struct Sink {
-    bytes: Vec<u8>,
+pub(crate) struct Sink {
+    pub(crate) bytes: Vec<u8>,
     at_once: usize,
     interrupted: u32,
     good: u32,
@@ -65,7 +65,7 @@ impl Write for Sink {
     }
 }
 
-fn whole(bytes: &[u8]) -> Source<'_> {
+pub(crate) fn whole(bytes: &[u8]) -> Source<'_> {
     Source {
         bytes,
         at_once: 1_000_000,
@@ -74,7 +74,7 @@ fn whole(bytes: &[u8]) -> Source<'_> {
     }
 }
 
-fn empty(alloc: Global) -> Sink {
+pub(crate) fn empty(alloc: Global) -> Sink {
     Sink {
         bytes: Vec::new(alloc),
         at_once: 1_000_000,

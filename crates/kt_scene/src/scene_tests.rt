@@ -1,377 +1,16 @@
 //! Scenarios against faults worked out by hand from the rules.
 
 use super::*;
+use crate::fault_tables::*;
 use kt_core::Step;
 use kt_script::{Actual, Command, Operation, Slot};
 use kt_tuple::{Kind, NodeId, Value};
 use std::alloc::{AllocError, Global};
+use std::process::Abort;
 use std::test::Fail;
 
-/// Lines behind a worker, and the number of their fault; 0 is none.
-const COMMANDS: [(&[u8], u8); 121] = [
-    (b"out (1)", 0),
-    (b"out (\"a\", 1)", 0),
-    (b"in (\"a\", ?int)", 0),
-    (b"in (?str)", 0),
-    (b"in (?int x)", 0),
-    (b"in (?str word_1)", 0),
-    (b"in (?int a, ?str b, 1, \"c\")", 0),
-    (b"in (?int x, ?int x)", 0),
-    (b"in (?int aaaaaaaaaaaaaaaa)", 0),
-    (b"in (?int strx, ?int int1, ?str truex)", 0),
-    (b"# out", 0),
-    (b"#", 0),
-    (b"#worker", 0),
-    (b"out", 2),
-    (b"in", 2),
-    (b"", 2),
-    (b" ", 2),
-    (b"out\t(1)", 2),
-    (b" out (1)", 2),
-    (b"Out (1)", 2),
-    (b"OUT (1)", 2),
-    (b"output (1)", 2),
-    (b"in(1)", 2),
-    (b"rd (1)", 0),
-    (b"inp (?str x)", 0),
-    (b"rdp (1, ?int)", 0),
-    (b"rd(1)", 2),
-    (b"rdp", 2),
-    (b"inpp (1)", 2),
-    (b"unless 1", 0),
-    (b"unless 200", 0),
-    (b"unless", 2),
-    (b"unless ", 2),
-    (b"unless 01", 2),
-    (b"unless 00", 2),
-    (b"unless -1", 2),
-    (b"unless +1", 2),
-    (b"unless 1 ", 2),
-    (b"unless  1", 2),
-    (b"unless x", 2),
-    (b"faults", 2),
-    (b"end", 2),
-    (b"issue w1", 2),
-    (b"shards 1", 2),
-    (b"linda-kt 1", 2),
-    (b"worker ", 2),
-    (b" worker", 2),
-    (b"worker 2", 2),
-    (b"steps ", 2),
-    (b"Steps", 2),
-    (b"\r", 2),
-    (b" #", 2),
-    (b"eval (1)", 2),
-    (b"unless 0", 5),
-    (b"unless 201", 5),
-    (b"unless 256", 5),
-    (b"unless 257", 5),
-    (b"unless 99999999999999999999", 5),
-    (b"rd ", 3),
-    (b"inp (1", 3),
-    (b"rdp (?int x, )", 3),
-    (b"out ", 3),
-    (b"out  (1)", 3),
-    (b"out ()", 3),
-    (b"out (1) ", 3),
-    (b"out (1)\r", 3),
-    (b"out (1,2)", 3),
-    (b"out (01)", 3),
-    (b"out (-0)", 3),
-    (b"out (1", 3),
-    (b"out 1", 3),
-    (b"out (\"a)", 3),
-    (b"out ('a')", 3),
-    (b"out (\"\\n\")", 3),
-    (b"out (?int)", 3),
-    (b"out (1, ?str)", 3),
-    (b"out (?int x)", 3),
-    (b"out (x)", 4),
-    (b"out (int)", 3),
-    (b"out (true)", 3),
-    (b"out (aaaaaaaaaaaaaaaaa)", 3),
-    (b"out (aaaaaaaaaaaaaaaa)", 4),
-    (b"out (x y)", 3),
-    (b"out (X)", 3),
-    (b"out (9223372036854775808)", 3),
-    (b"out (-9223372036854775809)", 3),
-    (b"out (1, 1, 1, 1, 1, 1, 1, 1, 1)", 3),
-    (
-        b"out (\"aaaaaaaaaaaaaaaaaaaaaaaaaaaaaaaaaaaaaaaaaaaaaaaaaaaaaaaaaaaaaaaaa\")",
-        3,
-    ),
-    (b"in ", 3),
-    (b"in ()", 3),
-    (b"in (x)", 4),
-    (b"in (bool)", 3),
-    (b"in (?int x, x)", 4),
-    (b"in (?)", 3),
-    (b"in (?bool)", 3),
-    (b"in (?intx)", 3),
-    (b"in (?int  x)", 3),
-    (b"in (?int )", 3),
-    (b"in (?int x )", 3),
-    (b"in (?int X)", 3),
-    (b"in (?int 1x)", 3),
-    (b"in (?int _x)", 3),
-    (b"in (?int x-y)", 3),
-    (b"in (?int aaaaaaaaaaaaaaaaa)", 3),
-    (b"in (?int int)", 3),
-    (b"in (?int str)", 3),
-    (b"in (?int bool)", 3),
-    (b"in (?str true)", 3),
-    (b"in (?str false)", 3),
-    (
-        b"in (?int x, ?int x, ?int x, ?int x, ?int x, ?int x, ?int x, ?int x, ?int x)",
-        3,
-    ),
-    (b"in (1 x)", 3),
-    (b"in (\"a\" x)", 3),
-    (b"in (9223372036854775808)", 3),
-    (b"in (?int x y)", 3),
-    (b"in (?int x\xe9)", 3),
-    (b"in (?int x, ?str x, )", 3),
-    (b"in (?int x, ?str x, y)", 4),
-    (b"in (?int x, ?str x)", 4),
-    (b"in (?str x, ?int x)", 4),
-    (b"in (?int x, 1, ?int y, ?str x)", 4),
-    (b"in (?int x, ?int x, ?str x)", 4),
-];
-
-/// Lines behind `in (?int x, ?str s)`, and the number of the last one's fault; 0 is none.
-const SCRIPTS: [(&[u8], u8); 48] = [
-    (b"out (x, s)", 0),
-    (b"in (x, ?int x)", 0),
-    (b"in (?int x, x)", 0),
-    (b"rdp (s, ?str s)", 0),
-    (b"set x = x + 1", 0),
-    (b"set y = x + 9223372036854775807", 0),
-    (b"set y = x + -9223372036854775808", 0),
-    (b"set y = x + 0", 0),
-    (b"set y = x + -1\nout (y)", 0),
-    (b"set y = x + 1\nset z = y + 1", 0),
-    (b"set aaaaaaaaaaaaaaaa = x + 1", 0),
-    (b"set", 2),
-    (b"set ", 2),
-    (b"set y", 2),
-    (b"set y = x", 2),
-    (b"set y = 1", 2),
-    (b"set y = x + ", 2),
-    (b"set y = x - 1", 2),
-    (b"set y = x + +1", 2),
-    (b"set y = x + 01", 2),
-    (b"set y = x + -0", 2),
-    (b"set y = x + 1 ", 2),
-    (b"set y = x + 1 + 1", 2),
-    (b"set y = x + \"a\"", 2),
-    (b"set y = x + x", 2),
-    (b"set y = x +1", 2),
-    (b"set y=x + 1", 2),
-    (b"set  y = x + 1", 2),
-    (b"set y  = x + 1", 2),
-    (b"set Y = x + 1", 2),
-    (b"set int = x + 1", 2),
-    (b"set y = str + 1", 2),
-    (b"set aaaaaaaaaaaaaaaaa = x + 1", 2),
-    (b"set (y) = x + 1", 2),
-    (b"out (x, y, 01)", 3),
-    (b"out (y)", 4),
-    (b"out (x, y)", 4),
-    (b"in (?int y, y)", 4),
-    (b"in (?int y, ?str y)", 4),
-    (b"in (?int s)", 4),
-    (b"set y = y + 1", 4),
-    (b"set y = s + 1", 4),
-    (b"set s = x + 1", 4),
-    (b"set y = z + 9223372036854775808", 4),
-    (b"set s = x + 9223372036854775808", 4),
-    (b"set y = x + 9223372036854775808", 5),
-    (b"set y = x + -9223372036854775809", 5),
-    (b"set y = x + 99999999999999999999999999", 5),
-];
-
-/// Lines among the steps, and the number of their fault; 0 is none.
-const STEPS: [(&[u8], u8); 72] = [
-    (b"issue w1", 0),
-    (b"issue s1", 0),
-    (b"issue w99", 0),
-    (b"issue w9", 0),
-    (b"deliver w1 s1", 0),
-    (b"deliver s99 w10", 0),
-    (b"deliver w1 w1", 0),
-    (b"serve s1 w1 0", 0),
-    (b"serve w1 s1 99999", 0),
-    (b"serve s1 w1 10", 0),
-    (b"# end", 0),
-    (b"#", 0),
-    (b"", 2),
-    (b" ", 2),
-    (b"issue", 2),
-    (b"issue ", 2),
-    (b"issue w", 2),
-    (b"issue w0", 2),
-    (b"issue w01", 2),
-    (b"issue w100", 2),
-    (b"issue w1 ", 2),
-    (b"issue  w1", 2),
-    (b"issue x1", 2),
-    (b"issue W1", 2),
-    (b"issue 1", 2),
-    (b"issue w-1", 2),
-    (b"issue w1 s1", 2),
-    (b"issue w1\r", 2),
-    (b"Issue w1", 2),
-    (b"issue w00", 2),
-    (b"issue w256", 2),
-    (b"issue w257", 2),
-    (b"issue w65537", 2),
-    (b"issue w18446744073709551617", 2),
-    (b"deliver w1", 2),
-    (b"deliver w1 ", 2),
-    (b"deliver w1  s1", 2),
-    (b"deliver w1,s1", 2),
-    (b"deliver w1 s1 ", 2),
-    (b"deliver w1 s1 0", 2),
-    (b"deliver w1 s0", 2),
-    (b"deliver w100 s1", 2),
-    (b"deliver", 2),
-    (b"deliver w1s1", 2),
-    (b"serve s1 w1", 2),
-    (b"serve s1 w1 ", 2),
-    (b"serve s1 w1 00", 2),
-    (b"serve s1 w1 01", 2),
-    (b"serve s1 w1 100000", 2),
-    (b"serve s1 w1 -1", 2),
-    (b"serve s1 w1 x", 2),
-    (b"serve s1 w1 0 ", 2),
-    (b"serve s1  w1 0", 2),
-    (b"serve s1 0", 2),
-    (b"serve s1 w1 99999999999999999999999", 2),
-    (b"serve", 2),
-    (b"repeat w1", 2),
-    (b"take w1", 2),
-    (b"check w1", 2),
-    (b"decide w1", 2),
-    (b"abandon w1", 2),
-    (b"learn w1", 2),
-    (b"fail w1", 2),
-    (b"restart w1", 2),
-    (b"fail w1 after 3", 2),
-    (b"worker", 2),
-    (b"steps", 2),
-    (b"out (1)", 2),
-    (b"faults", 2),
-    (b"end ", 2),
-    (b" end", 2),
-    (b"End", 2),
-];
-
-/// Whole texts, and the line and the number of their fault.
-const SCENARIOS: [(&[u8], usize, u8); 72] = [
-    (
-        b"linda-kt 1\nshards 1\nworker\ninp (\"counter\", ?int n)\nunless 1\nset n = n + 1\nout (\"counter\", n)\nsteps\nend\n",
-        0,
-        0,
-    ),
-    (b"linda-kt\n", 1, 1),
-    (b"linda-kt 2\n", 1, 1),
-    (b"linda-kt 1 \n", 1, 1),
-    (b" linda-kt 1\n", 1, 1),
-    (b"Linda-kt 1\n", 1, 1),
-    (b"\n", 1, 1),
-    (b"linda-kt 1\r\n", 1, 1),
-    (b"end\n", 1, 1),
-    (b"shards 1\n", 1, 1),
-    (b"linda-kt 01\n", 1, 1),
-    (b"#\n#\nworker\n", 3, 1),
-    (b"linda-kt 1\n\n", 2, 1),
-    (b"linda-kt 1\nshards\n", 2, 1),
-    (b"linda-kt 1\nshards \n", 2, 1),
-    (b"linda-kt 1\nshards x\n", 2, 1),
-    (b"linda-kt 1\nshards 01\n", 2, 1),
-    (b"linda-kt 1\nshards 1 \n", 2, 1),
-    (b"linda-kt 1\nshards -1\n", 2, 1),
-    (b"linda-kt 1\nshards  1\n", 2, 1),
-    (b"linda-kt 1\nshards 1 1\n", 2, 1),
-    (b"linda-kt 1\nworker\n", 2, 1),
-    (b"linda-kt 1\nshard 1\n", 2, 1),
-    (b"linda-kt 1\nshards 00\n", 2, 1),
-    (b"linda-kt 1\nlinda-kt 1\n", 2, 1),
-    (b"linda-kt 1\n#\nshards +1\n", 3, 1),
-    (b"linda-kt 1\nshards 0\n", 2, 5),
-    (b"linda-kt 1\nshards 2\n", 2, 5),
-    (b"linda-kt 1\nshards 8\n", 2, 5),
-    (b"linda-kt 1\nshards 9\n", 2, 5),
-    (b"linda-kt 1\nshards 10\n", 2, 5),
-    (b"linda-kt 1\nshards 99999999999999999999\n", 2, 5),
-    (b"linda-kt 1\n# a\n# b\nshards 0\n", 4, 5),
-    (
-        b"linda-kt 1\nshards 1\nworker\nworker\nworker\nworker\nworker\nworker\nworker\nworker\nworker\nsteps\nend\n",
-        11,
-        5,
-    ),
-    (
-        b"linda-kt 1\nshards 1\nworker\nin (?int x)\nin (?str x)\n",
-        5,
-        4,
-    ),
-    (
-        b"linda-kt 1\nshards 1\nworker\nin (?int x)\n# x\nin (?int y, ?str x)\n",
-        6,
-        4,
-    ),
-    (b"linda-kt 1\nshards 1\nsteps\nend\n", 3, 2),
-    (b"linda-kt 1\nshards 1\nend\n", 3, 2),
-    (b"linda-kt 1\nshards 1\nout (1)\n", 3, 2),
-    (b"linda-kt 1\nshards 1\n\n", 3, 2),
-    (b"linda-kt 1\nshards 1\nshards 1\n", 3, 2),
-    (b"linda-kt 1\nshards 1\nfaults\n", 3, 2),
-    (b"", 1, 7),
-    (b"linda-kt 1", 1, 7),
-    (b"#", 1, 7),
-    (b"x", 1, 7),
-    (b"linda-kt 1\n", 2, 7),
-    (b"linda-kt 1\nshards 1", 2, 7),
-    (b"linda-kt 1\nshards x", 2, 7),
-    (b"linda-kt 1\nshards 1\n", 3, 7),
-    (b"linda-kt 1\nshards 1\nworker\n", 4, 7),
-    (b"linda-kt 1\nshards 1\nworker\nout (1)", 4, 7),
-    (b"linda-kt 1\nshards 1\nworker\nout (01)", 4, 7),
-    (b"linda-kt 1\nshards 1\nworker\nsteps", 4, 7),
-    (b"linda-kt 1\nshards 1\nworker\nsteps\n", 5, 7),
-    (b"linda-kt 1\nshards 1\nworker\nsteps\nend", 5, 7),
-    (b"linda-kt 1\nshards 1\nworker\nsteps\n#", 5, 7),
-    (b"linda-kt 1\nshards 1\nworker\nsteps\nissue w", 5, 7),
-    (
-        b"linda-kt 1\nshards 1\nworker\nout (\"a\", 1)\nin (\"a\", ?int x)\nsteps\nissue w",
-        7,
-        7,
-    ),
-    (b"linda-kt 1\nshards 1\nworker\nsteps\nend\n\n", 6, 7),
-    (b"linda-kt 1\nshards 1\nworker\nsteps\nend\n#\n", 6, 7),
-    (b"linda-kt 1\nshards 1\nworker\nsteps\nend\nend\n", 6, 7),
-    (b"linda-kt 1\nshards 1\nworker\nsteps\nend\nx", 6, 7),
-    (b"linda-kt 1\nshards 1\nworker\nsteps\nend\n ", 6, 7),
-    (b"linda-kt 1\nshards 1\nworker\nsteps\nend\n#", 6, 7),
-    (
-        b"linda-kt 1\nshards 1\nworker\nsteps\nissue w1\nend\nissue w1\n",
-        7,
-        7,
-    ),
-    (b"#\n#\n", 3, 7),
-    (b"linda-kt 1\nshards 1\nworker\n# a\n", 5, 7),
-    (b"linda-kt 1\nshards 9\nfoo\n", 2, 5),
-    (
-        b"linda-kt 1\nshards 1\nworker\nin (?int x, ?str x)\nout\n",
-        4,
-        4,
-    ),
-    (b"linda-kt 1\nshards 01\nshards 9", 2, 1),
-    (b"linda-kt 1\nshards 1\nworker\nout (01)\nend", 4, 3),
-];
-
 /// Texts joined, each so many times.
-fn text_of(alloc: Global, parts: &[(&[u8], usize)]) -> Result<Vec<u8>, AllocError> {
+pub(crate) fn text_of(alloc: Global, parts: &[(&[u8], usize)]) -> Result<Vec<u8>, AllocError> {
     let mut text = Vec::new(alloc);
     for (part, times) in parts {
         for _ in 0..*times {
@@ -406,106 +45,95 @@ fn with_names(
 }
 
 /// The fault of the text as line and number; 0 and 0 is none.
-fn fault_of(alloc: Global, text: &[u8]) -> (usize, u8) {
+pub(crate) fn fault_of(alloc: Global, text: &[u8]) -> (usize, u8) {
     match read_scene(alloc, text) {
         Ok(_) => (0, 0),
         Err(fault) => (fault.line, fault.cause.number()),
     }
 }
 
-#[test]
-fn commands(rt: HostRuntime) -> Result<(), Fail> {
-    for (line, number) in COMMANDS {
-        let parts = [
-            (b"linda-kt 1\nshards 1\nworker\n".as_slice(), 1),
-            (line, 1),
-            (b"\nsteps\nend\n", 1),
-        ];
-        let text = text_of(rt.alloc(), &parts)?;
-        let expected = if number == 0 { (0, 0) } else { (4, number) };
-        assert_eq!(rt; fault_of(rt.alloc(), &text), expected, "{line:?}");
+/// Each line, put between these, has its fault on this line of the text.
+fn assert_faults(
+    rt: &impl Abort,
+    alloc: Global,
+    front: &[u8],
+    line: usize,
+    rows: &[Lines],
+    back: &[u8],
+) -> Result<(), Fail> {
+    for (lines, number) in rows {
+        let text = text_of(alloc, &[(front, 1), (lines, 1), (back, 1)])?;
+        let expected = if *number == 0 {
+            (0, 0)
+        } else {
+            (line, *number)
+        };
+        assert_eq!(rt; fault_of(alloc, &text), expected, "{lines:?}");
     }
     Ok(())
+}
+
+/// Each text has its fault.
+fn assert_texts(rt: &impl Abort, alloc: Global, rows: &[Text]) {
+    for (text, line, number) in rows {
+        assert_eq!(rt; fault_of(alloc, text), (*line, *number), "{text:?}");
+    }
+}
+
+const WORKER: &[u8] = b"linda-kt 1\nshards 1\nworker\n";
+
+#[test]
+fn operations(rt: HostRuntime) -> Result<(), Fail> {
+    assert_faults(&rt, rt.alloc(), WORKER, 4, &OPERATIONS, b"\nsteps\nend\n")
+}
+
+#[test]
+fn other_commands(rt: HostRuntime) -> Result<(), Fail> {
+    assert_faults(
+        &rt,
+        rt.alloc(),
+        WORKER,
+        4,
+        &OTHER_COMMANDS,
+        b"\nsteps\nend\n",
+    )
 }
 
 #[test]
 fn scripts(rt: HostRuntime) -> Result<(), Fail> {
-    for (lines, number) in SCRIPTS {
-        let parts = [
-            (
-                b"linda-kt 1\nshards 1\nworker\nin (?int x, ?str s)\n".as_slice(),
-                1,
-            ),
-            (lines, 1),
-            (b"\nsteps\nend\n", 1),
-        ];
-        let text = text_of(rt.alloc(), &parts)?;
-        let expected = if number == 0 { (0, 0) } else { (5, number) };
-        assert_eq!(rt; fault_of(rt.alloc(), &text), expected, "{lines:?}");
-    }
-    Ok(())
+    let front = b"linda-kt 1\nshards 1\nworker\nin (?int x, ?str s)\n";
+    assert_faults(&rt, rt.alloc(), front, 5, &SCRIPTS, b"\nsteps\nend\n")
 }
 
 #[test]
 fn steps(rt: HostRuntime) -> Result<(), Fail> {
-    for (line, number) in STEPS {
-        let parts = [
-            (b"linda-kt 1\nshards 1\nworker\nsteps\n".as_slice(), 1),
-            (line, 1),
-            (b"\nend\n", 1),
-        ];
-        let text = text_of(rt.alloc(), &parts)?;
-        let expected = if number == 0 { (0, 0) } else { (5, number) };
-        assert_eq!(rt; fault_of(rt.alloc(), &text), expected, "{line:?}");
-    }
-    Ok(())
+    let front = b"linda-kt 1\nshards 1\nworker\nsteps\n";
+    assert_faults(&rt, rt.alloc(), front, 5, &STEPS, b"\nend\n")
 }
 
 #[test]
-fn scenarios(rt: HostRuntime) -> Result<(), Fail> {
-    for (text, line, number) in SCENARIOS {
-        assert_eq!(rt; fault_of(rt.alloc(), text), (line, number), "{text:?}");
-    }
-    Ok(())
+fn headers(rt: HostRuntime) {
+    assert_texts(&rt, rt.alloc(), &HEADERS);
 }
 
-/// Limits, and which of two faults of one line is named.
+#[test]
+fn ends(rt: HostRuntime) {
+    assert_texts(&rt, rt.alloc(), &ENDS);
+}
+
+#[test]
+fn scenarios(rt: HostRuntime) {
+    assert_texts(&rt, rt.alloc(), &SCENARIOS);
+}
+
+/// How many commands and names there may be, and which of several faults of one line is named.
 #[test]
 fn limits(rt: HostRuntime) -> Result<(), Fail> {
-    let worker = b"linda-kt 1\nshards 1\nworker\n".as_slice();
-    for (line, number) in [
-        (b"in (1)\n".as_slice(), 5),
-        (b"out (1)\n", 5),
-        (b"out (01)\n", 3),
-        (b"out\n", 2),
-        (b"in (?int x, ?str x)\n", 4),
-        (b"steps\nend\n", 0),
-        (b"worker\nout (1)\nsteps\nend\n", 0),
-    ] {
-        let text = text_of(rt.alloc(), &[(worker, 1), (b"out (1)\n", 200), (line, 1)])?;
-        let expected = if number == 0 { (0, 0) } else { (204, number) };
-        assert_eq!(rt;
-            fault_of(rt.alloc(), &text),
-            expected,
-            "command 201: {line:?}"
-        );
-    }
-    for (line, number) in [
-        (b"in (?int w)\n".as_slice(), 5),
-        (b"in (?int w, ?str w)\n", 4),
-        (b"in (?str v0)\n", 4),
-        (b"in (?int w, ?str v0)\n", 4),
-        (b"in (?int w, x)\n", 4),
-        (b"set w = v0 + 1\n", 5),
-        (b"set v1 = v0 + 1\nsteps\nend\n", 0),
-        (b"in (?int v0, ?int v63)\nsteps\nend\n", 0),
-        (b"worker\nin (?str v0)\nsteps\nend\n", 0),
-    ] {
-        let text = with_names(rt.alloc(), worker, 64, line)?;
-        let expected = if number == 0 { (0, 0) } else { (12, number) };
-        assert_eq!(rt; fault_of(rt.alloc(), &text), expected, "name 65: {line:?}");
-    }
-    let text = with_names(rt.alloc(), worker, 63, b"in (?int a, ?int b)\n")?;
+    let front = text_of(rt.alloc(), &[(WORKER, 1), (b"out (1)\n", 200)])?;
+    assert_faults(&rt, rt.alloc(), &front, 204, &BEHIND_COMMANDS, b"")?;
+    let front = with_names(rt.alloc(), WORKER, 64, b"")?;
+    assert_faults(&rt, rt.alloc(), &front, 12, &BEHIND_NAMES, b"")?;
+    let text = with_names(rt.alloc(), WORKER, 63, b"in (?int a, ?int b)\n")?;
     assert_eq!(rt; fault_of(rt.alloc(), &text), (12, 5));
     Ok(())
 }
@@ -534,6 +162,11 @@ fn long_texts(rt: HostRuntime) -> Result<(), Fail> {
         ],
     )?;
     assert_eq!(rt; fault_of(rt.alloc(), &text), (1, 5));
+    // The first of so many empty lines is no header.
+    for (lines, number) in [(MAX_TEXT, 1), (MAX_TEXT + 1, 5)] {
+        let text = text_of(rt.alloc(), &[(b"\n", lines)])?;
+        assert_eq!(rt; fault_of(rt.alloc(), &text), (1, number));
+    }
     Ok(())
 }
 

@@ -1,0 +1,228 @@
+//! Scenarios with a byte dropped, changed or doubled, two lines swapped or a number enlarged. What is accepted
+//! is written as it stood and read again; what is not has its fault on a line of the text or just behind it.
+
+use super::*;
+use crate::replay_tests::{Source, empty, whole};
+use std::alloc::Global;
+use std::process::Abort;
+use std::test::Fail;
+
+/// How many mutants are read.
+const MUTANTS: usize = 20_000;
+
+/// Of so many mutants one is replayed too.
+const REPLAYED: usize = 10;
+
+/// Scenarios with all kinds of lines.
+const SEEDS: [&[u8]; 6] = [
+    b"linda-kt 1\nshards 1\nworker\nout (\"a\", 1)\nin (\"a\", ?int x)\nsteps\nissue w1\ndeliver w1 s1\nserve s1 w1 0\ndeliver s1 w1\nissue w1\ndeliver w1 s1\nserve s1 w1 0\nend\n",
+    b"# a counter\nlinda-kt 1\nshards 1\n# begins at 0\nworker\ninp (\"counter\", ?int n)\nunless 1\nset n = n + 1\nout (\"counter\", n)\nsteps\nissue w1\ndeliver w1 s1\nserve s1 w1 0\ndeliver s1 w1\nissue w1\ndeliver w1 s1\n# one is put\nserve s1 w1 0\nend\n",
+    b"linda-kt 1\nshards 1\nworker\nin (?int x, ?str s)\nrd (x, ?str t)\nout (s, x, -7)\nset y = x + 9223372036854775807\nset x = y + -9223372036854775808\nrdp (\"\", ?int, s)\nunless 200\nout (y, t)\nworker\nout (\"\\\"\\\\ ~\", 0)\nsteps\nend\n",
+    b"linda-kt 1\nshards 1\n# the results\nworker\nin (\"result\", 10, ?int ten)\nout (\"all\", ten)\n# the work\nworker\nin (\"task\", ?int n)\nset r = n + 1\nout (\"result\", n, r)\nworker\nout (\"task\", 10)\nsteps\nissue w3\ndeliver w3 s1\nserve s1 w3 0\nissue w2\ndeliver w2 s1\nserve s1 w2 0\nend\n",
+    b"linda-kt 1\nshards 1\nworker\nout (1)\nworker\nout (2)\nworker\nout (3)\nworker\ninp (?int)\nworker\nrdp (?int)\nworker\nrd (?int)\nworker\nworker\n# none is left\nin (?int, ?str)\nsteps\nissue w1\nissue w2\ndeliver w2 s1\ndeliver w1 s1\nserve s1 w1 0\nserve s1 w2 0\nissue w4\ndeliver w4 s1\nserve s1 w4 1\nend\n",
+    b"linda-kt 1\nshards 1\nworker\nunless 3\nin (?int v)\nset abcdefghijklmn_1 = v + 1\nout (abcdefghijklmn_1)\nsteps\nend\n",
+];
+
+/// Bytes that a mutant gets.
+const BYTES: &[u8] = b"\0\t\n\r !\"#()+,-/0123456789:=?AZ\\_`abceilnoprstuwxyz{~\x7f\xff";
+
+/// Numbers that look random and are the same in each run.
+#[derive(Drop)]
+struct Dice {
+    state: u64,
+}
+
+impl Dice {
+    /// A number below this one, or 0.
+    fn below(&mut self, end: usize) -> usize {
+        self.state = self
+            .state
+            .wrapping_mul(6_364_136_223_846_793_005)
+            .wrapping_add(1_442_695_040_888_963_407);
+        match ((self.state >> 33) as usize).checked_rem(end) {
+            Some(number) => number,
+            None => 0,
+        }
+    }
+
+    /// One of these.
+    fn one_of<'a, T>(&mut self, things: &'a [T]) -> Result<&'a T, Fail> {
+        Ok(things.get(self.below(things.len())).ok_or("none")?)
+    }
+}
+
+/// The lines of the text, each with its line feed; what stands behind the last one is left out.
+fn lines_of(alloc: Global, text: &[u8]) -> Result<Vec<&[u8]>, Fail> {
+    let mut lines = Vec::new(alloc);
+    let mut begin = 0;
+    for (i, c) in text.iter().enumerate() {
+        if *c == b'\n' {
+            let end = i.saturating_add(1);
+            lines.push(text.get(begin..end).ok_or("a line")?)?;
+            begin = end;
+        }
+    }
+    Ok(lines)
+}
+
+/// The text with these bytes in the stead of those from one place up to another.
+fn spliced(
+    alloc: Global,
+    text: &[u8],
+    from: usize,
+    to: usize,
+    bytes: &[u8],
+) -> Result<Vec<u8>, Fail> {
+    let mut mutant = Vec::from_slice(alloc, text.get(..from).ok_or("a front")?)?;
+    mutant.extend_from_slice(bytes)?;
+    mutant.extend_from_slice(text.get(to..).ok_or("a rest")?)?;
+    Ok(mutant)
+}
+
+/// The text with two of its lines swapped, each with its line feed.
+fn swapped(alloc: Global, dice: &mut Dice, text: &[u8]) -> Result<Vec<u8>, Fail> {
+    let lines = lines_of(alloc, text)?;
+    let first = dice.below(lines.len());
+    let second = dice.below(lines.len());
+    let mut mutant = Vec::new(alloc);
+    for i in 0..lines.len() {
+        let from = if i == first {
+            second
+        } else if i == second {
+            first
+        } else {
+            i
+        };
+        mutant.extend_from_slice(lines.get(from).ok_or("a line")?)?;
+    }
+    Ok(mutant)
+}
+
+/// The text with nines before one of its digits.
+fn enlarged(alloc: Global, dice: &mut Dice, text: &[u8]) -> Result<Vec<u8>, Fail> {
+    let mut digits = Vec::new(alloc);
+    for (i, c) in text.iter().enumerate() {
+        if c.is_ascii_digit() {
+            digits.push(i)?;
+        }
+    }
+    let at = *dice.one_of(&digits)?;
+    let nines = [b"9".as_slice(), b"99", b"9999", b"99999999999999999999"];
+    let more = dice.one_of(&nines)?;
+    spliced(alloc, text, at, at, more)
+}
+
+/// The text with one change.
+fn mutant_of(alloc: Global, dice: &mut Dice, text: &[u8]) -> Result<Vec<u8>, Fail> {
+    let at = dice.below(text.len());
+    let behind = at.saturating_add(1);
+    match dice.below(5) {
+        0 => spliced(alloc, text, at, behind, b""),
+        1 => spliced(alloc, text, at, behind, &[*dice.one_of(BYTES)?]),
+        2 => spliced(alloc, text, at, at, &[*text.get(at).ok_or("a byte")?]),
+        3 => swapped(alloc, dice, text),
+        _ => enlarged(alloc, dice, text),
+    }
+}
+
+/// The scenario that these lines spell is written as they stand, without those that are ignored, and what is
+/// written is read as the same scenario.
+fn is_written_again(
+    rt: &impl Abort,
+    alloc: Global,
+    lines: &[&[u8]],
+    scenario: &Scenario,
+) -> Result<(), Fail> {
+    let mut told = Vec::new(alloc);
+    for line in lines {
+        if line.first() != Some(&b'#') {
+            told.extend_from_slice(line)?;
+        }
+    }
+    let written = write_scene(alloc, &scenario.scene, &scenario.work)?;
+    assert_eq!(rt; written.as_slice(), told.as_slice());
+    let again = read_scene(alloc, &written)?;
+    assert_eq!(rt; again.work.steps(), scenario.work.steps());
+    let parts = format!(in alloc; "{scenario:?}")?;
+    assert_eq!(rt; format!(in alloc; "{again:?}")?.as_str(), parts.as_str());
+    Ok(())
+}
+
+/// The number of the text's fault, 0 where it is accepted. What is answered is as it should be.
+fn judged(rt: &impl Abort, alloc: Global, text: &[u8]) -> Result<u8, Fail> {
+    let lines = lines_of(alloc, text)?;
+    match read_scene(alloc, text) {
+        Ok(scenario) => {
+            is_written_again(rt, alloc, &lines, &scenario)?;
+            Ok(0)
+        }
+        Err(fault) => {
+            let last = lines.len().saturating_add(1);
+            assert!(rt;
+                1 <= fault.line && fault.line <= last,
+                "{fault:?} of {text:?}"
+            );
+            Ok(fault.cause.number())
+        }
+    }
+}
+
+/// A replay is the same where the bytes come one at a time. Whether it ended with a report.
+fn replayed_alike(rt: &impl Abort, alloc: Global, text: &[u8]) -> bool {
+    let mut report = empty(alloc);
+    let expected = replay(alloc, &mut whole(text), &mut report);
+    let mut source = Source {
+        at_once: 1,
+        ..whole(text)
+    };
+    let mut sink = empty(alloc);
+    let ended = replay(alloc, &mut source, &mut sink);
+    assert_eq!(rt; ended, expected, "{text:?}");
+    assert_eq!(rt; sink.bytes.as_slice(), report.bytes.as_slice(), "{text:?}");
+    expected.is_ok()
+}
+
+/// How often the number stands there.
+fn count_of(numbers: &[u8], number: u8) -> usize {
+    numbers.iter().filter(|other| **other == number).count()
+}
+
+#[test]
+fn mutants(rt: HostRuntime) -> Result<(), Fail> {
+    let alloc = rt.alloc();
+    for seed in SEEDS {
+        assert_eq!(rt; judged(&rt, alloc, seed)?, 0, "{seed:?}");
+    }
+    let mut dice = Dice { state: 1 };
+    let mut numbers = Vec::new(alloc);
+    let mut reports = Vec::new(alloc);
+    for i in 0..MUTANTS {
+        let seed = dice.one_of(&SEEDS)?;
+        let text = mutant_of(alloc, &mut dice, seed)?;
+        numbers.push(judged(&rt, alloc, &text)?)?;
+        if i % REPLAYED == 0 {
+            reports.push(u8::from(replayed_alike(&rt, alloc, &text)))?;
+        }
+    }
+    let mut counted = 0usize;
+    for (number, least) in [
+        (0, 1_000),
+        (1, 100),
+        (2, 100),
+        (3, 100),
+        (4, 100),
+        (5, 100),
+        (7, 100),
+    ] {
+        let count = count_of(&numbers, number);
+        assert!(rt; count >= least, "{count} mutants of number {number}");
+        counted = counted.saturating_add(count);
+    }
+    assert_eq!(rt; counted, MUTANTS);
+    let (ended, refused) = (count_of(&reports, 1), count_of(&reports, 0));
+    assert!(rt;
+        ended >= 100 && refused >= 500,
+        "{ended} reports, {refused} faults"
+    );
+    Ok(())
+}
