@@ -4,21 +4,16 @@ use Rattle.std.proofs.lemmas.Bool.{false≢true}
 use Rattle.std.proofs.lemmas.List.Sorted.{IsPermutation-refl, IsPermutation-cons, IsPermutation-trans, IsPermutation-middle}
 use Rattle.kt_tuple.specs.declared.tuple.Tuple.{Tuple}
 use Rattle.kt_tuple.specs.Op.{tuple_eq, tuple_eq_decides}
+use Rattle.kt_history.proofs.Lists.{Contains-here, Contains-none}
 use Rattle.kt_core.specs.Bag.{without}
 
 -- membership, one element at a time
-pub Contains-here : {X : Type 0} (x : X) (xs : List X) → Contains (x ∷ xs) x
-Contains-here x xs = (0, omega arith, refl)
-
 pub Contains-there : {X : Type 0} (y x : X) (xs : List X) → Contains xs x → Contains (y ∷ xs) x
 Contains-there y x xs h = (suc h.0, omega arith, h.2)
 
 pub Contains-cases : {X : Type 0} (y x : X) (xs : List X) → Contains (y ∷ xs) x → (y ≡ x) ⊎ Contains xs x
 Contains-cases y x xs (zero, below, e) = inl e
 Contains-cases y x xs (suc k, below, e) = inr (k, omega arith, e)
-
-pub Contains-none : {X : Type 0} (x : X) → ¬ Contains [] x
-Contains-none x h = omega (arith, h.1)
 
 -- what is in a bag can be taken out of it
 pub takes : (u : Tuple) (bag : List Tuple) → Contains bag u → IsPermutation bag (u ∷ without u bag)

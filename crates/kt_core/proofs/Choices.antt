@@ -15,7 +15,8 @@ use Rattle.kt_core.specs.declared.choice.Choice.{Choice}
 use Rattle.kt_core.specs.declared.choice.Choice.TheVariants as choices
 use Rattle.kt_core.specs.Choice.{place_of, choice_of, taken_or_nothing, read_or_nothing, answer_of, bag_change_of, tuple_at}
 use Rattle.kt_core.specs.Effect.{bag_after}
-use Rattle.kt_core.proofs.Bags.{Contains-cases, Contains-none}
+use Rattle.kt_history.proofs.Lists.{Contains-none}
+use Rattle.kt_core.proofs.Bags.{Contains-cases}
 
 -- the test of matching is matching
 pub Matches-from_test : (t : Template) (u : Tuple) → matches t u ≡ true → Matches t u

@@ -7,7 +7,7 @@ use Rattle.kt_tuple.specs.Node.{node_index}
 use Rattle.kt_history.specs.declared.note.Note.{Note}
 use Rattle.kt_history.specs.declared.note.Note.TheVariants as notes
 use Rattle.kt_history.specs.Closed.{acts_in_line}
-use Rattle.kt_history.proofs.Lines.{node_index-injective}
+use Rattle.kt_tuple.proofs.Nodes.{node_index-injective}
 use Rattle.kt_history.proofs.Fronts.{acts_in_line-own_act, acts_in_line-other_act}
 use Rattle.kt_core.specs.declared.node.Message.{Message}
 use Rattle.kt_core.specs.declared.plan.Plan.{Plan}

@@ -29,7 +29,7 @@ use Rattle.kt_core.specs.Asks.{script_numbered, setting_of}
 use Rattle.kt_core.specs.ShardLine.{shard_of_acts, new_shard}
 use Rattle.kt_core.specs.Headline.{IsNothingLost, bag_of, all_bags, Headline}
 use Rattle.kt_core.specs.Reached.{or_as_it_was, next_state, after}
-use Rattle.kt_core.proofs.Bags.{Contains-none}
+use Rattle.kt_history.proofs.Lists.{Contains-none}
 use Rattle.kt_core.proofs.Growth.{AreLegal-empty, acts_in_line-empty}
 use Rattle.kt_core.proofs.Homes.{is_home}
 use Rattle.kt_core.proofs.Rows.{at-put_same, at-put_other, length-put}

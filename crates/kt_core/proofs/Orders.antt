@@ -6,7 +6,8 @@ use Rattle.kt_tuple.specs.declared.op.Op.{Op}
 use Rattle.kt_tuple.specs.declared.op.Answer.{Answer}
 use Rattle.kt_tuple.specs.declared.service.Service.{Service}
 use Rattle.kt_core.specs.Order.{of_worker, OrderFrom}
-use Rattle.kt_core.proofs.Bags.{Contains-here, Contains-there, Contains-cases, Contains-none, Contains-filter}
+use Rattle.kt_history.proofs.Lists.{Contains-here, Contains-none}
+use Rattle.kt_core.proofs.Bags.{Contains-there, Contains-cases, Contains-filter}
 
 abbrev pub answers_in : List Service → List Answer
 answers_in services = map (λ (s : Service). s.answer) services

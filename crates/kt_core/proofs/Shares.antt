@@ -8,7 +8,8 @@ use Rattle.kt_tuple.specs.declared.service.Service.{Service}
 use Rattle.kt_tuple.specs.Signature.{kinds_of, signature_of}
 use Rattle.kt_tuple.specs.Space.{RunsFrom}
 use Rattle.kt_core.specs.Bag.{served_bag}
-use Rattle.kt_core.proofs.Bags.{Contains-here, Contains-there, Contains-cases, Contains-none}
+use Rattle.kt_history.proofs.Lists.{Contains-here, Contains-none}
+use Rattle.kt_core.proofs.Bags.{Contains-there, Contains-cases}
 use Rattle.kt_core.proofs.Homes.{home_of, is_home}
 use Rattle.kt_core.proofs.Permutations.{step_like}
 

@@ -26,7 +26,7 @@ use Rattle.kt_core.specs.Plan.{issue_plan}
 use Rattle.kt_core.specs.Effect.{limited, next_note, home, issue_request, issue_of, heard_by_store, heard_by_worker, delivery_to_store, delivery_to_worker, delivery_of, service_choice, service_at, service_of, planned, applied, applied_if_planned, step_result}
 use Rattle.kt_core.specs.Cast.{Cast}
 use Rattle.kt_core.specs.Asks.{script_numbered}
-use Rattle.kt_core.proofs.Bags.{Contains-here}
+use Rattle.kt_history.proofs.Lists.{Contains-here}
 use Rattle.kt_core.proofs.Sound.{rows, IsPartLike, Carries, Keeps, IsSound}
 use Rattle.kt_core.proofs.WorkerPlans.{issue_keeps, reply_keeps}
 use Rattle.kt_core.proofs.ShardPlans.{request_keeps, service_keeps}

@@ -19,7 +19,7 @@ use Rattle.kt_core.specs.Order.{Setting, FollowsScripts}
 use Rattle.kt_core.specs.ShardLine.{MadeShard, ShardLine, shard_after, shard_of_acts, new_shard}
 use Rattle.kt_core.specs.WorkerLine.{MadeWorker, WorkerLine, worker_after}
 use Rattle.kt_core.specs.Legal.{IsLine, AreLegal}
-use Rattle.kt_core.proofs.Bags.{Contains-here}
+use Rattle.kt_history.proofs.Lists.{Contains-here}
 use Rattle.kt_core.proofs.Homes.{is_home}
 use Rattle.kt_core.proofs.OneRun.{tuples_after, one_run}
 use Rattle.kt_core.proofs.Follows.{follows_scripts}

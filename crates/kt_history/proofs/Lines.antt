@@ -6,20 +6,13 @@ use Rattle.std.proofs.lemmas.List.Elements.{Contains-push_cases}
 use Rattle.std.proofs.lemmas.Option.{slice_get_within, none-some}
 use Rattle.std.proofs.lemmas.Bool.{eqb-true, eq-eqb, cases_Bool, cond-true, cond-false}
 use Rattle.kt_tuple.specs.declared.node.NodeId.{NodeId}
-use Rattle.kt_tuple.specs.declared.node.NodeId.TheVariants.{Worker, Shard}
 use Rattle.kt_tuple.specs.Node.{node_index}
 use Rattle.kt_history.specs.declared.note.Act.{Act}
 use Rattle.kt_history.specs.declared.note.Note.{Note}
 use Rattle.kt_history.specs.declared.note.Note.TheVariants as notes
 use Rattle.kt_history.specs.Line.{note_at, before, same_node, line_step, line_from, line}
+use Rattle.kt_tuple.proofs.Nodes.{node_index-injective}
 use Rattle.kt_history.proofs.Lists.{snoc_ind, slice_get-append_left, slice_get-push, slice_get-push_cases, slice_get-take, slice_get-take_below, Contains-from_slice_get, Contains-from_take, Contains-none}
-
--- nodes with one number are one node
-pub node_index-injective : (p q : NodeId) → node_index p ≡ node_index q → p ≡ q
-node_index-injective (Worker m) (Worker n) e = let same : m ≡ n = omega (arith, e) in ap Worker same
-node_index-injective (Worker m) (Shard n) e = absurd (omega (arith, e))
-node_index-injective (Shard m) (Worker n) e = absurd (omega (arith, e))
-node_index-injective (Shard m) (Shard n) e = let same : m ≡ n = omega (arith, e) in ap Shard same
 
 pub same_node-true : (p q : NodeId) → same_node p q ≡ true → p ≡ q
 same_node-true p q e = node_index-injective p q (eqb-true (node_index p) (node_index q) e)

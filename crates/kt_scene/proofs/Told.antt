@@ -1,11 +1,11 @@
 -- The lines that were told so far, by what was read of them.
-use Rattle.std.proofs.Common.{◌≡◌, ℕ, ◌<◌, ◌≤◌, false, List, [], ◌∷◌, ◌++◌, length, map, None, sym, ap, subst, ◌∙◌, append_assoc, append-nil}
+use Rattle.std.proofs.Common.{◌≡◌, ℕ, ◌<◌, ◌≤◌, false, List, [], ◌∷◌, ◌++◌, length, map, sym, ap, subst, ◌∙◌, append-nil}
 use Rattle.std.proofs.lemmas.Grind.{flat_map-append}
 use Rattle.std.proofs.lemmas.List.{map-append}
 use Rattle.std.specs.Prelude.{codes, decimal, All}
 use Rattle.std.specs.List.{flat_map}
 use Rattle.kt_script.specs.declared.command.Command.{Command}
-use Rattle.kt_script.specs.Rules.{refusal_of, FollowOn, IsScript}
+use Rattle.kt_script.specs.Rules.{IsScript}
 use Rattle.kt_core.specs.declared.step.Step.{Step}
 use Rattle.kt_scene.specs.declared.draft.Stage.{Stage}
 use Rattle.kt_scene.specs.declared.draft.Stage.TheVariants as stages
@@ -72,9 +72,3 @@ commands_push commands command = ap (λ (l : List (List ℕ)). codes "worker" �
 
 pub steps_push : (steps : List Step) (step : Step) → map step_text (steps ++ step ∷ []) ≡ map step_text steps ++ step_text step ∷ []
 steps_push steps step = map-append step_text steps (step ∷ [])
-
--- a script and a command that may follow it
-pub FollowOn-push : (before commands : List Command) (command : Command) → FollowOn before commands → refusal_of (before ++ commands) command ≡ None → FollowOn before (commands ++ command ∷ [])
-FollowOn-push before [] command h e = (ap (λ (l : List Command). refusal_of l command) (sym (append-nil before)) ∙ e, tt)
-FollowOn-push before (first ∷ later) command h e =
-    (h.0, FollowOn-push (before ++ first ∷ []) later command h.1 (ap (λ (l : List Command). refusal_of l command) (append_assoc before (first ∷ []) later) ∙ e))

@@ -25,7 +25,8 @@ use Rattle.kt_scene.proofs.NumberLaws.{both_read, ended_read, behind_taken, numb
 use Rattle.kt_scene.proofs.CommandLaws.{command_taken}
 use Rattle.kt_scene.proofs.StepLaws.{step_taken}
 use Rattle.kt_scene.proofs.Words.{word_is}
-use Rattle.kt_scene.proofs.Told.{head_lines, told_at, IsAt, IsGood, Adds, place_at, told_from, scripts_push, commands_push, steps_push, FollowOn-push}
+use Rattle.kt_script.proofs.Pushed.{FollowOn-push}
+use Rattle.kt_scene.proofs.Told.{head_lines, told_at, IsAt, IsGood, Adds, place_at, told_from, scripts_push, commands_push, steps_push}
 
 module _ (s : Sketch) (line : List ℕ) (u : Sketch) (h : IsGood s) where
   title_by_test : (b : Bool) → s.stage ≡ stages.Title → is_word line (codes "linda-kt 1") ≡ b → cond b (Ok (record s { stage = stages.Shards })) (Err faults.Header) ≡ Ok u → Adds s line u
