@@ -16,10 +16,14 @@ mod value;
 mod writing;
 
 pub use laws::{
-    a_place_read_is_spelled_so, a_place_spelled_is_read, a_template_read_is_spelled_so,
-    a_template_spelled_is_read, a_tuple_read_is_spelled_so, a_tuple_spelled_is_read,
+    a_place_is_outside_or_too_long_by_its_shape, a_place_read_is_spelled_so,
+    a_place_spelled_is_read, a_syntax_fault_of_a_template_is_at_the_longest_front,
+    a_syntax_fault_of_a_tuple_is_at_the_longest_front, a_template_has_the_shape_or_a_syntax_fault,
+    a_template_of_the_shape_has_these_faults, a_template_read_is_spelled_so,
+    a_template_spelled_is_read, a_tuple_has_the_shape_or_a_syntax_fault,
+    a_tuple_of_the_shape_has_these_faults, a_tuple_read_is_spelled_so, a_tuple_spelled_is_read,
     a_value_read_is_spelled_so, a_value_spelled_is_read, matching_has_one_home,
-    node_numbers_differ,
+    node_numbers_differ, signatures_differ,
 };
 pub use node::{NODES, NodeId};
 pub use op::{Answer, Op};
