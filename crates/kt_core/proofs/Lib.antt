@@ -34,3 +34,4 @@ pub mod Keeping
 pub mod OneNote
 pub mod ServiceCauses
 pub mod Outcomes
+pub mod InScene

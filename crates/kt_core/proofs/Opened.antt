@@ -19,7 +19,7 @@ use Rattle.kt_core.proofs.Sound.{IsPartLike}
 use Rattle.kt_core.proofs.Headlines.{HasGrounds, IsNewPart, new-kept, steps-kept, headline, nothing_lost}
 
 -- a table of one value has it everywhere
-at-replicate : {A : Type 0} (d : A) (n k : ℕ) → at d (replicate n d) k ≡ d
+pub at-replicate : {A : Type 0} (d : A) (n k : ℕ) → at d (replicate n d) k ≡ d
 at-replicate d zero k = refl
 at-replicate d (suc n) zero = refl
 at-replicate d (suc n) (suc k) = at-replicate d n k
@@ -31,7 +31,7 @@ length-opening_rows scripts shards (suc n) =
     omega (arith, length-append (opening_rows scripts shards n) (opening_worker scripts n ∷ opening_store shards n ∷ []), length-opening_rows scripts shards n)
 
 -- the rows of the worker and of the shard with the number k
-worker_row : (scripts : List (List Command)) (shards n k : ℕ) → k < n → at Nobody (opening_rows scripts shards n) (2 * k) ≡ opening_worker scripts k
+pub worker_row : (scripts : List (List Command)) (shards n k : ℕ) → k < n → at Nobody (opening_rows scripts shards n) (2 * k) ≡ opening_worker scripts k
 unfolding opening_rows
 worker_row scripts shards zero k below = absurd (omega (arith, below))
 worker_row scripts shards (suc n) k below = by (cases_lt k n) (λ less. worker_row scripts shards n k less)
@@ -49,7 +49,7 @@ worker_row scripts shards (suc n) k below = by (cases_lt k n) (λ less. worker_r
         let place : 2 * k ≡ length (opening_rows scripts shards n) + 0 = omega (arith, long, same) in
         ap (at Nobody (opening_rows scripts shards n ++ two)) place ∙ get_or-append-add (opening_rows scripts shards n) two 0 Nobody ∙ ap (opening_worker scripts) same
 
-store_row : (scripts : List (List Command)) (shards n k : ℕ) → k < n → at Nobody (opening_rows scripts shards n) (2 * k + 1) ≡ opening_store shards k
+pub store_row : (scripts : List (List Command)) (shards n k : ℕ) → k < n → at Nobody (opening_rows scripts shards n) (2 * k + 1) ≡ opening_store shards k
 unfolding opening_rows
 store_row scripts shards zero k below = absurd (omega (arith, below))
 store_row scripts shards (suc n) k below = by (cases_lt k n) (λ less. store_row scripts shards n k less)
@@ -68,7 +68,7 @@ store_row scripts shards (suc n) k below = by (cases_lt k n) (λ less. store_row
         ap (at Nobody (opening_rows scripts shards n ++ two)) place ∙ get_or-append-add (opening_rows scripts shards n) two 1 Nobody ∙ ap (opening_store shards) same
 
 -- rows past the table are empty
-past_rows : (scripts : List (List Command)) (shards n k : ℕ) → 2 * n ≤ k → at Nobody (opening_rows scripts shards n) k ≡ Nobody
+pub past_rows : (scripts : List (List Command)) (shards n k : ℕ) → 2 * n ≤ k → at Nobody (opening_rows scripts shards n) k ≡ Nobody
 past_rows scripts shards n k past = get_or_past (opening_rows scripts shards n) k Nobody (omega (arith, past, length-opening_rows scripts shards n))
 
 new_worker-part : (scripts : List (List Command)) (w : ℕ) → IsNewPart scripts (ids.Worker w) (opening_worker scripts w)

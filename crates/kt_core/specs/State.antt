@@ -1,5 +1,5 @@
 -- The state of a world, as plain data.
-use Rattle.std.specs.Prelude.{ℕ, zero, suc, ◌+◌, ◌*◌, List, [], ◌∷◌, map, Option, None, Some, slice_index_or}
+use Rattle.std.specs.Prelude.{ℕ, zero, suc, ◌+◌, ◌*◌, ◌≤◌, List, [], ◌∷◌, length, map, Option, None, Some, slice_index_or}
 use Rattle.std.specs.declared.collections.VecDeque.{VecDeque}
 use Rattle.std.specs.declared.alloc.Global.{Global}
 use Rattle.kt_tuple.specs.declared.node.NodeId.{NodeId}
@@ -75,6 +75,11 @@ node s p = at Nobody s.nodes (node_index p)
 -- what is on its way from p to q
 abbrev pub link : State → NodeId → NodeId → List Message
 link s p q = at [] s.links (link_index p q)
+
+-- the scene has this node: workers and shards are numbered from 1
+abbrev pub IsInScene : State → NodeId → Type 0
+IsInScene s (ids.Worker n) = (1 ≤ n) × (n ≤ length s.scripts)
+IsInScene s (ids.Shard n) = (1 ≤ n) × (n ≤ s.shards)
 
 abbrev pub worker_of : Part → Option Worker
 worker_of Nobody = None

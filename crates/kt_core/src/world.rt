@@ -1,4 +1,7 @@
-ghost use Rattle.std.specs.Prelude.{◌≡◌, ◌≤◌, IfOk, IfErr, OnOk, OnErr, Ok};
+ghost use Rattle.std.specs.Prelude.{◌≡◌, ◌↔◌, IsSome, IfOk, IfErr, OnOk, OnErr, Ok, map};
+ghost use Rattle.kt_core.specs.Reached.{mode_of};
+ghost use Rattle.kt_core.specs.State.{Nobody, at, part_of};
+ghost use Rattle.kt_tuple.specs.Node.{node_index};
 
 use crate::machine::Machine;
 use crate::node::Node;
@@ -53,9 +56,8 @@ impl World {
     ghost use Rattle.kt_core.specs.Machine.{Refuses};
     ghost use Rattle.kt_core.specs.Headline.{Headline, AppendsActOf};
     ghost use Rattle.kt_core.specs.Step.{owner};
-    ghost use Rattle.kt_core.specs.Reached.{opening, mode_of};
-    ghost use Rattle.kt_core.specs.State.{at, node};
-    ghost use Rattle.kt_tuple.specs.Node.{node_index};
+    ghost use Rattle.kt_core.specs.Reached.{opening};
+    ghost use Rattle.kt_core.specs.State.{IsInScene, node};
 
     /// The world of the scene, in which nothing was done yet. Only want of memory refuses it, and then the
     /// scene comes back.
@@ -105,7 +107,8 @@ impl World {
 
     /// How many steps of its own the node made, 0 for a node that is not in the scene.
     pub fn steps_of(&self, id: NodeId) -> u64
-        ensures { result ≡ at 0 self.now.own (node_index id) }
+        ensures value { result ≡ at 0 self.now.own (node_index id) }
+        ensures absent { ¬ IsInScene self.now id → result ≡ 0 }
     {
         match self.machine.own.get(id.index()) {
             Some(count) => *count,
@@ -115,11 +118,19 @@ impl World {
 
     /// What state the node is in, `None` for a node that is not in the scene.
     pub fn mode(&self, id: NodeId) -> Option<Mode>
-        ensures { result ≡ mode_of (node self.now id) }
+        ensures value { result ≡ mode_of (node self.now id) }
+        ensures there { IsSome result ↔ IsInScene self.now id }
     {
-        match self.machine.nodes.get(id.index()) {
-            Some(Node::Worker(_) | Node::Shard(_)) => Some(Mode::Up),
-            _ => None,
-        }
+        mode_at(&self.machine.nodes, id)
+    }
+}
+
+/// What state the node is in, by the table of nodes.
+fn mode_at(nodes: &[Node], id: NodeId) -> Option<Mode>
+    ensures { result ≡ mode_of (at Nobody (map part_of nodes.now) (node_index id)) }
+{
+    match nodes.get(id.index()) {
+        Some(Node::Worker(_) | Node::Shard(_)) => Some(Mode::Up),
+        _ => None,
     }
 }

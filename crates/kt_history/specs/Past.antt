@@ -1,4 +1,5 @@
--- What happened before an act (Lamport, "Time, Clocks, and the Ordering of Events in a Distributed System").
+-- What happened before an act (Lamport, "Time, Clocks, and the Ordering of Events in a Distributed System",
+-- section "The Partial Ordering").
 use Rattle.std.specs.Prelude.{◌≡◌, ◌≢◌, ℕ, List, Some, Contains}
 use Rattle.kt_history.specs.declared.note.Act.{Act}
 use Rattle.kt_history.specs.declared.note.Note.{Note}

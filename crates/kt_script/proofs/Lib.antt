@@ -6,3 +6,4 @@ pub mod Count
 pub mod Pushed
 pub mod Unbound
 pub mod Remains
+pub mod OneKind

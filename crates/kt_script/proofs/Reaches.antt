@@ -138,3 +138,7 @@ module _ (script : List Command) where
 
 pub reaches : (script : List Command) (answers : List Answer) → asks script answers ≡ op_of_next (next_at script (position_after script answers))
 reaches script answers = reaches-from script answers [] (opening_position script) (Agrees-opening script)
+
+-- where answers lead to a position, the operation next there is the one that is asked
+pub asked-there : (script : List Command) (answers : List Answer) (position : Position) → position_after script answers ≡ position → op_of_next (next_at script position) ≡ asks script answers
+asked-there script answers position e = sym (reaches script answers ∙ ap (λ p. op_of_next (next_at script p)) e)

@@ -1,8 +1,8 @@
-ghost use Rattle.std.specs.Prelude.{◌≡◌, IfOk, Some, map};
+ghost use Rattle.std.specs.Prelude.{◌≡◌, ◌++◌, ◌∷◌, [], List, IfOk, Some, map};
 ghost use Rattle.kt_script.specs.Asks.{is_none_answer};
 ghost use Rattle.kt_script.specs.Meaning.{zero_of};
 ghost use Rattle.kt_script.specs.Memory.{opening_memory, values_after};
-ghost use Rattle.kt_script.specs.Next.{bound};
+ghost use Rattle.kt_script.specs.Next.{bound, next_at, position_after};
 
 use crate::command::Slot;
 use crate::meaning::{bind_tuple, has_kinds};
@@ -29,9 +29,13 @@ impl Model for Env {
 }
 
 impl Env {
+    ghost use Rattle.kt_tuple.specs.declared.op.Answer.{Answer};
+    ghost use Rattle.kt_script.specs.declared.next.Next.{Next};
+
     /// The variables of the script before any answer: each is 0 or the empty string.
     pub fn new(alloc: Global, script: &Script) -> Result<Env, AllocError>
-        ensures { IfOk result (λ e. e ≡ opening_memory script.now) }
+        ensures value { IfOk result (λ e. e ≡ opening_memory script.now) }
+        ensures first { IfOk result (λ e. position_after script.now [] ≡ record { pc = 0; memory = e }) }
     {
         Ok(Env {
             values: zeros_of(alloc, &script.variables)?,
@@ -48,7 +52,13 @@ impl Env {
         pc: usize,
         answer: &Answer,
     ) -> Result<Env, AllocError>
-        ensures { IfOk result (λ e. e ≡ bound script.now pc answer.now self.now) }
+        ensures value { IfOk result (λ e. e ≡ bound script.now pc answer.now self.now) }
+        // Where answers lead to an operation, behind which the script stands so, one answer more leads here.
+        ensures later { (answers : List Answer) (next : Next)
+            → next_at script.now (position_after script.now answers) ≡ Some next
+            → next.pc ≡ pc → next.env ≡ self.now
+            → IfOk result (λ e. position_after script.now (answers ++ answer.now ∷ [])
+            ≡ record { pc = pc; memory = e }) }
     {
         let slots = script.slots_before(pc);
         Ok(Env {

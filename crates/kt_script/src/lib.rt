@@ -14,7 +14,7 @@ mod variables;
 
 pub use command::{Actual, Actuals, Command, Operation, Pattern, Slot};
 pub use env::Env;
-pub use laws::{bind_changes_only_formals, next_and_bind_reach_what_is_asked};
+pub use laws::{bind_changes_only_formals, names_have_one_kind, next_and_bind_reach_what_is_asked};
 pub use name::{MAX_NAME, Name, is_name, is_name_character};
 pub use next::Next;
 pub use script::{MAX_COMMANDS, MAX_VARIABLES, Script};

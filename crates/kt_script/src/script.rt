@@ -1,4 +1,4 @@
-ghost use Rattle.std.specs.Prelude.{◌≡◌, ◌↔◌, [], ◌∷◌, ◌++◌, IfOk, OnOk, OnErr, None, Some, Err, is_some, ◌+◌, ◌<◌, ◌^◌, length, drop};
+ghost use Rattle.std.specs.Prelude.{◌≡◌, ◌↔◌, [], ◌∷◌, ◌++◌, List, IfOk, OnOk, OnErr, None, Some, Err, is_some, ◌+◌, ◌<◌, ◌^◌, length, drop};
 
 use crate::command::{Command, Slot};
 use crate::env::Env;
@@ -40,7 +40,9 @@ impl Model for Script {
 }
 
 impl Script {
-    ghost use Rattle.kt_script.specs.Next.{next_at, slots_before};
+    ghost use Rattle.kt_tuple.specs.declared.op.Answer.{Answer};
+    ghost use Rattle.kt_script.specs.Asks.{asks};
+    ghost use Rattle.kt_script.specs.Next.{next_at, op_of_next, position_after, slots_before};
     ghost use Rattle.kt_script.specs.Rules.{refusal_of, is_within, IsScript};
     ghost use Rattle.kt_script.specs.Variables.{variables_of, kind_in};
     ghost use Rattle.std.specs.Map.{keys_of};
@@ -116,7 +118,11 @@ impl Script {
     /// The operation that the script makes next from the command of this number on, counted from 0, with
     /// the position behind it; `None` at the end of the script.
     pub fn next(&self, alloc: Global, pc: usize, env: &Env) -> Result<Option<Next>, AllocError>
-        ensures { IfOk result (λ next. next ≡ next_at self.now (record { pc = pc; memory = env.now })) }
+        ensures value { IfOk result (λ next. next ≡ next_at self.now (record { pc = pc; memory = env.now })) }
+        // Where answers lead to this position, it is what the script asks after them.
+        ensures asks { (answers : List Answer)
+            → position_after self.now answers ≡ record { pc = pc; memory = env.now }
+            → IfOk result (λ next. op_of_next next ≡ asks self.now answers) }
     {
         let env = env.copy(alloc)?;
         next_from(alloc, &self.variables, env, 0, pc, self.commands_from(pc))
@@ -124,7 +130,10 @@ impl Script {
 
     /// Whether an operation is left from the command of this number on. It takes no memory.
     pub fn has_next(&self, pc: usize, env: &Env) -> bool
-        ensures { result ≡ is_some (next_at self.now (record { pc = pc; memory = env.now })) }
+        ensures value { result ≡ is_some (next_at self.now (record { pc = pc; memory = env.now })) }
+        ensures asks { (answers : List Answer)
+            → position_after self.now answers ≡ record { pc = pc; memory = env.now }
+            → result ≡ is_some (asks self.now answers) }
     {
         let none = env.was_none();
         has_next_from(none, 0, self.commands_from(pc))

@@ -3,7 +3,8 @@ use thiserror::Error;
 /// Why a command may not follow a script: of all that stand, the lowest.
 #[derive(Clone, Copy, Debug, PartialEq, Eq, Error)]
 pub enum ScriptError {
-    /// A variable is used that no earlier command binds, or a name has values of two kinds.
+    /// A variable is used that no earlier command binds, `set` adds to one that is no int, or a name is bound
+    /// to values of two kinds.
     #[error("a name breaks the rules of variables")]
     Variable,
     /// More than 200 commands or 64 variables, or `unless` with a number that is not 1 to 200.

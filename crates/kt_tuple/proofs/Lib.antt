@@ -1,5 +1,6 @@
 pub mod Homes
 pub mod Nodes
+pub mod Signatures
 pub mod Separated
 pub mod Readers
 pub mod Ints

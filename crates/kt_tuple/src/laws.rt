@@ -9,6 +9,7 @@ ghost use Rattle.kt_tuple.specs.declared.parse_error.ParseError.TheVariants as f
 ghost use Rattle.kt_tuple.specs.declared.template.Template.{Template};
 ghost use Rattle.kt_tuple.specs.declared.template.Place.{Place};
 ghost use Rattle.kt_tuple.specs.declared.tuple.Tuple.{Tuple};
+ghost use Rattle.kt_tuple.specs.declared.value.Kind.{Kind};
 ghost use Rattle.kt_tuple.specs.declared.value.Value.{Value};
 ghost use Rattle.kt_tuple.specs.Grammar.{IsValueText, IsPlaceText, Consists, IsTupleText, IsTemplateText, Begins, IsLongestFront, IsFirstOutside, IsTooLong, IsAccepted, IsInt, IsCharacters, IsStr, character_count};
 ghost use Rattle.kt_tuple.specs.Matching.{HasArity, Matches};
@@ -23,6 +24,11 @@ ghost use Rattle.kt_tuple.specs.Valid.{IsValue, IsPlace};
 pub fn matching_has_one_home()
     ensures signature { (t : Template) (u : Tuple) → Matches t u → signature_of (kinds_of_places t) ≡ signature_of (kinds_of u) }
     ensures home { (shards : ℕ) (t : Template) (u : Tuple) → Matches t u → shard_of shards (kinds_of_places t) ≡ shard_of shards (kinds_of u) }
+{}
+
+/// Lists of kinds with one signature are one list.
+pub fn signatures_differ()
+    ensures { (a b : List Kind) → signature_of a ≡ signature_of b → a ≡ b }
 {}
 
 /// Nodes with one number are one node.

@@ -6,7 +6,7 @@ use crate::template::Template;
 use crate::tuple::Tuple;
 use std::alloc::{AllocError, Global};
 
-/// An operation on the space (Gelernter, "Generative Communication in Linda").
+/// An operation on the space (Gelernter, "Generative Communication in Linda", section 2).
 #[derive(Debug, Drop)]
 pub enum Op {
     /// Adds the tuple.

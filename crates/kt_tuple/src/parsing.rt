@@ -32,7 +32,8 @@ struct Findings {
 }
 
 impl Tuple {
-    /// The tuple that the text spells, all of the text.
+    /// The tuple that the text spells, all of the text. Of several faults the lowest is given, and want of
+    /// memory only of a text that has none.
     #[tactic(auto, using(crate::proofs::Texts::tuple_arity, crate::proofs::Texts::tuple_spelled, crate::proofs::Explained::tuple_explained, crate::proofs::Explained::tuple_accepted))]
     pub fn parse(alloc: Global, text: &[u8]) -> Result<Tuple, ParseError>
         // A text with a fault is answered by its lowest one.
@@ -55,7 +56,8 @@ impl Tuple {
 }
 
 impl Template {
-    /// The template that the text spells, all of the text.
+    /// The template that the text spells, all of the text. Of several faults the lowest is given, and want
+    /// of memory only of a text that has none.
     #[tactic(auto, using(crate::proofs::Texts::template_arity, crate::proofs::Texts::template_spelled, crate::proofs::Explained::template_explained, crate::proofs::Explained::template_accepted))]
     pub fn parse(alloc: Global, text: &[u8]) -> Result<Template, ParseError>
         // A text with a fault is answered by its lowest one.

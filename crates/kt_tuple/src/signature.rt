@@ -4,8 +4,8 @@ ghost use Rattle.kt_tuple.specs.Signature.{code_of};
 use crate::value::Kind;
 use std::marker::Model;
 
-/// The kinds of a list of places, as one number: two lists of at most 8 kinds have one number only
-/// where they are one list.
+/// The kinds of a list of at most 8 places, as one number: two such lists have one number only where
+/// they are one list (`signatures_differ`).
 #[derive(Clone, Copy, Debug, PartialEq, Eq, Hash)]
 pub struct Signature {
     number: u64,

@@ -16,7 +16,9 @@ pub enum Value {
 /// What kind of value a place holds.
 #[derive(Clone, Copy, Debug, PartialEq, Eq, Hash)]
 pub enum Kind {
+    /// A whole number of 64 bits with a sign.
     Int,
+    /// A string.
     Str,
 }
 
