@@ -79,6 +79,7 @@ pub fn run_program<R: Read, W: Write, E: Write>(
 ) -> u8
     ensures told { words_fault (texts words.now) ≡ []
         → IsRunStatus (R.remaining reader.old) (R.remaining reader.new) (W.contents writer.old) (W.contents writer.new) result }
+    ensures done_without_a_word { words_fault (texts words.now) ≡ [] → result ≡ DONE → errors.new ≡ errors.old }
     ensures wrong_words { AreWrong (texts words.now)
         → (result ≡ COMMAND_LINE) ⊎ (result ≡ MEMORY) }
     ensures wrong_words_print_nothing { AreWrong (texts words.now) → writer.new ≡ writer.old }
