@@ -43,6 +43,7 @@ pub fn run_arguments<R: Read, W: Write, E: Write>(
     ensures no_text { IsErr arguments → (result ≡ COMMAND_LINE) ⊎ (result ≡ MEMORY) }
     ensures no_text_reads_nothing { IsErr arguments → reader.new ≡ reader.old }
     ensures no_text_prints_nothing { IsErr arguments → writer.new ≡ writer.old }
+    ensures done_without_a_word { result ≡ DONE → errors.new ≡ errors.old }
 {
     let texts: Result<Vec<String>, AllocError> = match arguments {
         Ok(arguments) => arguments.collect(alloc),
@@ -68,6 +69,7 @@ fn run_texts<R: Read, W: Write, E: Write>(
     ensures told { words_fault (words_behind arguments.now) ≡ []
         → IsRunStatus (R.remaining reader.old) (R.remaining reader.new) (W.contents writer.old) (W.contents writer.new) result }
     ensures wrong_words { AreWrong (words_behind arguments.now) → (result ≡ COMMAND_LINE) ⊎ (result ≡ MEMORY) }
+    ensures done_without_a_word { result ≡ DONE → errors.new ≡ errors.old }
 {
     match words_behind(alloc, arguments) {
         Ok(words) => run_program(alloc, words.as_slice(), reader, writer, errors),
@@ -99,7 +101,7 @@ pub fn run_program<R: Read, W: Write, E: Write>(
 ) -> u8
     ensures told { words_fault (texts words.now) ≡ []
         → IsRunStatus (R.remaining reader.old) (R.remaining reader.new) (W.contents writer.old) (W.contents writer.new) result }
-    ensures done_without_a_word { words_fault (texts words.now) ≡ [] → result ≡ DONE → errors.new ≡ errors.old }
+    ensures done_without_a_word { result ≡ DONE → errors.new ≡ errors.old }
     ensures wrong_words { AreWrong (texts words.now)
         → (result ≡ COMMAND_LINE) ⊎ (result ≡ MEMORY) }
     ensures wrong_words_print_nothing { AreWrong (texts words.now) → writer.new ≡ writer.old }
@@ -124,6 +126,7 @@ fn answer_words<W: Write, E: Write>(error: &Error, writer: &mut W, errors: &mut 
     ensures quiet { kind_of error.now ≢ kind.DisplayHelp → kind_of error.now ≢ kind.DisplayVersion
         → writer.new ≡ writer.old }
     ensures status { IsWordsStatus result }
+    ensures done { result ≡ DONE → errors.new ≡ errors.old }
 {
     if error.kind() == ErrorKind::OutOfMemory {
         return end_by("memory", MEMORY, errors);
