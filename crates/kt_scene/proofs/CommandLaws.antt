@@ -117,13 +117,25 @@ set_by_number (Some k) x y words third spelled fits parts x_is y_is e is =
     ap (λ (t : List ℕ). codes "set " ++ t) (parts ∙ ap (λ (t : List ℕ). x ++ (codes " = " ++ (y ++ (codes " + " ++ t)))) number.0) ∙ sym (set_text x y k) in
     subst P is (text, (x_is, y_is, number.1))
 
-pub set_words : (x y words after_x second after_y third : List ℕ) → words ≡ x ++ after_x → after_x ≡ codes " = " ++ second → second ≡ y ++ after_y → after_y ≡ codes " + " ++ third
+set_words : (x y words after_x second after_y third : List ℕ) → words ≡ x ++ after_x → after_x ≡ codes " = " ++ second → second ≡ y ++ after_y → after_y ≡ codes " + " ++ third
     → words ≡ x ++ (codes " = " ++ (y ++ (codes " + " ++ third)))
 set_words x y words after_x second after_y third a b c d =
     a ∙ ap (λ (t : List ℕ). x ++ t) (b ∙ ap (λ (t : List ℕ). codes " = " ++ t) (c ∙ ap (λ (t : List ℕ). y ++ t) d))
 
-set_taken : (words : List ℕ) (spelled : Spelled) → spelled.fits ≡ true → set_of words ≡ Some spelled → IsCommandLine (codes "set " ++ words) spelled.command
-set_taken words spelled fits e =
+-- what stands behind `set `, taken apart as it is read
+pub record SetParts (words : List ℕ) (spelled : Spelled) : Type 0 where
+  pub variable : Name
+  pub source : Name
+  pub digits : List ℕ
+  pub number : Option ℤ
+  pub parts : words ≡ variable ++ (codes " = " ++ (source ++ (codes " + " ++ digits)))
+  pub variable_is : IsName variable
+  pub source_is : IsName source
+  pub taken : int_in (int_at digits) ≡ Some number
+  pub is : set_with variable source number ≡ spelled
+
+pub set_apart : (words : List ℕ) (spelled : Spelled) → set_of words ≡ Some spelled → SetParts words spelled
+set_apart words spelled e =
     let x = both_read (name_at words) (λ (x : Name × List ℕ). behind x.1 (codes " = ") >>= λ second. name_at second >>= λ y. behind y.1 (codes " + ") >>= λ third. option_map (set_with x.0 y.0) (int_in (int_at third))) spelled e in
     let second = both_read (behind x.0.1 (codes " = ")) (λ (second : List ℕ). name_at second >>= λ y. behind y.1 (codes " + ") >>= λ third. option_map (set_with x.0.0 y.0) (int_in (int_at third))) spelled x.2 in
     let y = both_read (name_at second.0) (λ (y : Name × List ℕ). behind y.1 (codes " + ") >>= λ third. option_map (set_with x.0.0 y.0) (int_in (int_at third))) spelled second.2 in
@@ -131,9 +143,22 @@ set_taken words spelled fits e =
     let number = mapped (set_with x.0.0 y.0.0) (int_in (int_at third.0)) spelled third.2 in
     let x_is = name_taken words x.0.1 x.0.0 x.1 in
     let y_is = name_taken second.0 y.0.1 y.0.0 y.1 in
-    let parts : words ≡ x.0.0 ++ (codes " = " ++ (y.0.0 ++ (codes " + " ++ third.0))) =
-    set_words x.0.0 y.0.0 words x.0.1 second.0 y.0.1 third.0 x_is.0 (behind_taken x.0.1 (codes " = ") second.0 second.1) y_is.0 (behind_taken y.0.1 (codes " + ") third.0 third.1) in
-    set_by_number number.0 x.0.0 y.0.0 words third.0 spelled fits parts x_is.1 y_is.1 number.1 number.2
+    record {
+      variable = x.0.0;
+      source = y.0.0;
+      digits = third.0;
+      number = number.0;
+      parts = set_words x.0.0 y.0.0 words x.0.1 second.0 y.0.1 third.0 x_is.0 (behind_taken x.0.1 (codes " = ") second.0 second.1) y_is.0 (behind_taken y.0.1 (codes " + ") third.0 third.1);
+      variable_is = x_is.1;
+      source_is = y_is.1;
+      taken = number.1;
+      is = number.2;
+    }
+
+set_taken : (words : List ℕ) (spelled : Spelled) → spelled.fits ≡ true → set_of words ≡ Some spelled → IsCommandLine (codes "set " ++ words) spelled.command
+set_taken words spelled fits e =
+    let h = set_apart words spelled e in
+    set_by_number h.number h.variable h.source words h.digits spelled fits h.parts h.variable_is h.source_is h.taken h.is
 
 unless_fits : (b : Bool) (n : ℕ) (spelled : Spelled) → cond b (fitting (Unless n)) (record { command = Unless 0; fits = false }) ≡ spelled → spelled.fits ≡ true → fitting (Unless n) ≡ spelled
 unless_fits true n spelled e fits = e

@@ -22,13 +22,12 @@ use Rattle.kt_scene.specs.declared.command.Verb.{Verb}
 use Rattle.kt_scene.specs.declared.command.Spelled.{Spelled}
 use Rattle.kt_scene.specs.declared.fault.SceneError.{SceneError}
 use Rattle.kt_scene.specs.declared.fault.SceneError.TheVariants as faults
-use Rattle.kt_scene.specs.Number.{◌>>=◌, behind, ended, number_at}
-use Rattle.kt_scene.specs.Commands.{name_at, slots_in, operation_of, verb_at, fitting, set_with, int_in, set_of, unless_with, unless_of, or_fault, asked, spelled_with, spelled_of}
+use Rattle.kt_scene.specs.Number.{ended, number_at}
+use Rattle.kt_scene.specs.Commands.{slots_in, operation_of, verb_at, fitting, set_with, int_in, set_of, unless_with, unless_of, or_fault, asked, spelled_with, spelled_of}
 use Rattle.kt_scene.specs.Faults.{verb_word, HasVerb, IsNumber, Spells, IsOutside}
-use Rattle.kt_scene.proofs.NumberLaws.{both_read, mapped, ended_read, behind_taken, by_word}
-use Rattle.kt_scene.proofs.SlotLaws.{name_taken}
+use Rattle.kt_scene.proofs.NumberLaws.{both_read, mapped, ended_read, by_word}
 use Rattle.kt_scene.proofs.PatternLaws.{slots_taken}
-use Rattle.kt_scene.proofs.CommandLaws.{operation_taken, verb_taken, set_parts, set_words, faultless}
+use Rattle.kt_scene.proofs.CommandLaws.{operation_taken, verb_taken, set_parts, set_apart, faultless}
 use Rattle.kt_scene.proofs.SlotsRead.{name_read}
 use Rattle.kt_scene.proofs.CommandsRead.{operation_read}
 use Rattle.kt_scene.proofs.NumberShapes.{int_inside, int_outside, number_known, number_huge, shape_number_alone, number_shape}
@@ -151,16 +150,8 @@ set_spelled line words x y p parts inner x_is y_is is =
 
 set_shape : (line words : List ℕ) (spelled : Spelled) → line ≡ codes "set " ++ words → set_of words ≡ Some spelled → SpellsSome line
 set_shape line words spelled parts e =
-    let x = both_read (name_at words) (λ (x : Name × List ℕ). behind x.1 (codes " = ") >>= λ second. name_at second >>= λ y. behind y.1 (codes " + ") >>= λ third. option_map (set_with x.0 y.0) (int_in (int_at third))) spelled e in
-    let second = both_read (behind x.0.1 (codes " = ")) (λ (second : List ℕ). name_at second >>= λ y. behind y.1 (codes " + ") >>= λ third. option_map (set_with x.0.0 y.0) (int_in (int_at third))) spelled x.2 in
-    let y = both_read (name_at second.0) (λ (y : Name × List ℕ). behind y.1 (codes " + ") >>= λ third. option_map (set_with x.0.0 y.0) (int_in (int_at third))) spelled second.2 in
-    let third = both_read (behind y.0.1 (codes " + ")) (λ (third : List ℕ). option_map (set_with x.0.0 y.0.0) (int_in (int_at third))) spelled y.2 in
-    let number = mapped (set_with x.0.0 y.0.0) (int_in (int_at third.0)) spelled third.2 in
-    let x_is = name_taken words x.0.1 x.0.0 x.1 in
-    let y_is = name_taken second.0 y.0.1 y.0.0 y.1 in
-    let inner : words ≡ x.0.0 ++ (codes " = " ++ (y.0.0 ++ (codes " + " ++ third.0))) =
-    set_words x.0.0 y.0.0 words x.0.1 second.0 y.0.1 third.0 x_is.0 (behind_taken x.0.1 (codes " = ") second.0 second.1) y_is.0 (behind_taken y.0.1 (codes " + ") third.0 third.1) in
-    set_spelled line words x.0.0 y.0.0 third.0 parts inner x_is.1 y_is.1 (int_in_shape third.0 number.0 number.1)
+    let h = set_apart words spelled e in
+    set_spelled line words h.variable h.source h.digits parts h.parts h.variable_is h.source_is (int_in_shape h.digits h.number h.taken)
 
 unless_shape : (line words : List ℕ) (spelled : Spelled) → line ≡ codes "unless " ++ words → unless_of words ≡ Some spelled → SpellsSome line
 unless_shape line words spelled parts e =

@@ -1,5 +1,5 @@
 -- A text that is refused has the fault that is answered, on its first line that has one; and it has no other.
-use Rattle.std.proofs.Common.{◌≡◌, ℕ, ◌+◌, ◌≤◌, Bool, true, false, cond, eqb, ltb, List, [], ◌∷◌, ◌++◌, length, Result, Ok, Err, refl, sym, ap, subst, ◌∙◌, append_assoc, append-nil, arith}
+use Rattle.std.proofs.Common.{◌≡◌, ℕ, zero, suc, ◌+◌, ◌<◌, ◌≤◌, Bool, true, false, cond, eqb, ltb, List, [], ◌∷◌, ◌++◌, length, Result, Ok, Err, refl, sym, ap, subst, ◌∙◌, append_assoc, append-nil, arith}
 use Rattle.std.proofs.lemmas.Bool.{ltb-true, ltb-false, le-ltb, ne_eqb}
 use Rattle.std.proofs.lemmas.Grind.{flat_map-append}
 use Rattle.std.proofs.lemmas.List.Elements.{All-nil, All-cons, All-head, All-tail, All-push}
@@ -10,10 +10,10 @@ use Rattle.kt_scene.specs.declared.fault.SceneError.{SceneError}
 use Rattle.kt_scene.specs.declared.fault.SceneError.TheVariants as faults
 use Rattle.kt_scene.specs.Fault.{fault_number}
 use Rattle.kt_scene.specs.Lines.{Sketch, nothing_read}
-use Rattle.kt_scene.specs.Reading.{Play, Fault, with_byte, lines_of, read_from, sketch_of, played, play_of, IsBeforeFault, IsFirstFault}
+use Rattle.kt_scene.specs.Reading.{Play, Fault, with_byte, lines_of, read_from, sketch_of, played, play_of, IsBeforeFault, IsFirstFault, IsPlaceOf}
 use Rattle.kt_scene.specs.Report.{text_line}
 use Rattle.kt_scene.specs.Scenario.{IsLine, IsScenario, is_told}
-use Rattle.kt_scene.specs.Faults.{Begin, HasFault, IsFaultAt, IsCutShort, HasFirstFault, too_long, at_line, cut_short, Explains}
+use Rattle.kt_scene.specs.Faults.{Begin, HasFault, IsFaultAt, IsCutShort, HasFirstFault, too_long, at_line, cut_short, HasLineAt, Explains}
 use Rattle.kt_scene.proofs.Feeding.{text_has_lines, line_in_front, is_no_feed}
 use Rattle.kt_scene.proofs.ReadLaws.{all_in_front, read_is_spelled}
 use Rattle.kt_scene.proofs.ScenarioRead.{end_is_line, spelled_is_read}
@@ -62,9 +62,9 @@ no_line (c ∷ rest) h =
     let other : eqb c 10 ≡ false = ne_eqb c 10 (All-head P c rest h) in
     rw other (alone_by_parts c (lines_of rest) (no_line rest (All-tail P c rest h)))
 
-found_on_line : (text : List ℕ) (n : ℕ) (fault : SceneError) (before : List (List ℕ)) (line : List ℕ) (later : List (List ℕ)) → (lines_of text).0 ≡ before ++ line ∷ later
+found_on_line : (text : List ℕ) (before : List (List ℕ)) (line : List ℕ) (later : List (List ℕ)) → (lines_of text).0 ≡ before ++ line ∷ later
     → (text ≡ flat_map text_line (before ++ line ∷ []) ++ (flat_map text_line later ++ (lines_of text).1)) × All IsLine (before ++ line ∷ [])
-found_on_line text n fault before line later all =
+found_on_line text before line later all =
     let parts = text_has_lines text in
     let lines : (lines_of text).0 ≡ (before ++ line ∷ []) ++ later = all ∙ sym (append_assoc before (line ∷ []) later) in
     let Each : List (List ℕ) → Type 0 = λ l. All IsLine l in (
@@ -76,14 +76,16 @@ found_on_line text n fault before line later all =
 
 by_failed : (text : List ℕ) (n : ℕ) (fault : SceneError) → play_of text ≡ Err (n, fault) → length text ≤ 1048576 → Failed (lines_of text).0 (lines_of text).1 n fault → HasFirstFault text n fault
 by_failed text n fault answer short (on_line before line later u all h read count) =
-    let parts = found_on_line text n fault before line later all in
+    let parts = found_on_line text before line later all in
     at_line short (record {
-      before = before;
-      line = line;
-      rest = flat_map text_line later ++ (lines_of text).1;
-      each = parts.1;
-      parts = parts.0;
-      number = count;
+      place = record {
+        before = before;
+        line = line;
+        rest = flat_map text_line later ++ (lines_of text).1;
+        each = parts.1;
+        parts = parts.0;
+        number = count;
+      };
       begins = reached_begin before u h;
       stops = never_begin before line u fault h.leads read;
       lowest = line_fault before line u fault (told_leads before nothing_read u h.leads) h.told read;
@@ -180,7 +182,7 @@ front_of : (before : List (List ℕ)) (line : List ℕ) (mid lines : List (List 
 front_of before line mid lines is h = begin_front (before ++ line ∷ []) mid (subst Begin (is ∙ sym (append_assoc before (line ∷ []) mid)) h)
 
 module _ (text : List ℕ) where
-  fault_lines : {n : ℕ} {fault : SceneError} (h : IsFaultAt text n fault) → (lines_of text).0 ≡ h.before ++ h.line ∷ (lines_of h.rest).0
+  fault_lines : {n : ℕ} (h : HasLineAt text n) → (lines_of text).0 ≡ h.before ++ h.line ∷ (lines_of h.rest).0
   fault_lines h =
       ap (λ (t : List ℕ). (lines_of t).0) h.parts ∙ lines_front (h.before ++ h.line ∷ []) h.rest h.each ∙ append_assoc h.before (h.line ∷ []) (lines_of h.rest).0
 
@@ -188,16 +190,16 @@ module _ (text : List ℕ) where
   cut_lines h =
       ap (λ (t : List ℕ). (lines_of t).0) h.parts ∙ lines_front h.before h.rest h.each ∙ ap (λ (l : List (List ℕ)). h.before ++ l) (no_line h.rest h.unended) ∙ append-nil h.before
 
-  by_place : {n m : ℕ} {f g : SceneError} (h : IsFaultAt text n f) (k : IsFaultAt text m g) → Apart h.before h.line k.before k.line → (n ≡ m) × (f ≡ g)
+  by_place : {n m : ℕ} {f g : SceneError} (h : IsFaultAt text n f) (k : IsFaultAt text m g) → Apart h.place.before h.place.line k.place.before k.place.line → (n ≡ m) × (f ≡ g)
   by_place {f} {g} h k (one e i) =
-      let count = sym h.number ∙ ap (λ (l : List (List ℕ)). length l + 1) e ∙ k.number in
-      let Of : SceneError → List (List ℕ) → Type 0 = λ x l. HasFault (filter is_told l) k.line x in
-      let To : SceneError → List ℕ → Type 0 = λ x l. HasFault (filter is_told h.before) l x in
-      let here : HasFault (filter is_told h.before) h.line g = subst (To g) (sym i) (subst (Of g) (sym e) k.lowest.has) in
-      let there : HasFault (filter is_told k.before) k.line f = subst (Of f) e (subst (To f) i h.lowest.has) in
+      let count = sym h.place.number ∙ ap (λ (l : List (List ℕ)). length l + 1) e ∙ k.place.number in
+      let Of : SceneError → List (List ℕ) → Type 0 = λ x l. HasFault (filter is_told l) k.place.line x in
+      let To : SceneError → List ℕ → Type 0 = λ x l. HasFault (filter is_told h.place.before) l x in
+      let here : HasFault (filter is_told h.place.before) h.place.line g = subst (To g) (sym i) (subst (Of g) (sym e) k.lowest.has) in
+      let there : HasFault (filter is_told k.place.before) k.place.line f = subst (Of f) e (subst (To f) i h.lowest.has) in
       (count, one_fault f g (h.lowest.lowest g here) (k.lowest.lowest f there))
-  by_place h k (first_before mid e) = absurd (h.stops (front_of h.before h.line mid k.before e k.begins))
-  by_place h k (first_behind mid e) = absurd (k.stops (front_of k.before k.line mid h.before e h.begins))
+  by_place h k (first_before mid e) = absurd (h.stops (front_of h.place.before h.place.line mid k.place.before e k.begins))
+  by_place h k (first_behind mid e) = absurd (k.stops (front_of k.place.before k.place.line mid h.place.before e h.begins))
 
   -- the first fault is one
   first_is_one : {n m : ℕ} {f g : SceneError} → HasFirstFault text n f → HasFirstFault text m g → (n ≡ m) × (f ≡ g)
@@ -206,12 +208,12 @@ module _ (text : List ℕ) where
   first_is_one (too_long long) (cut_short short k) = absurd (omega (arith, long, short))
   first_is_one (at_line short h) (too_long long) = absurd (omega (arith, long, short))
   first_is_one (at_line short h) (at_line shorter k) =
-      by_place h k (apart h.before h.line (lines_of h.rest).0 k.before k.line (lines_of k.rest).0 (sym (fault_lines h) ∙ fault_lines k))
+      by_place h k (apart h.place.before h.place.line (lines_of h.place.rest).0 k.place.before k.place.line (lines_of k.place.rest).0 (sym (fault_lines h.place) ∙ fault_lines k.place))
   first_is_one (at_line short h) (cut_short shorter k) =
-      absurd (h.stops (front_of h.before h.line (lines_of h.rest).0 k.before (sym (cut_lines k) ∙ fault_lines h) k.begins))
+      absurd (h.stops (front_of h.place.before h.place.line (lines_of h.place.rest).0 k.before (sym (cut_lines k) ∙ fault_lines h.place) k.begins))
   first_is_one (cut_short short h) (too_long long) = absurd (omega (arith, long, short))
   first_is_one (cut_short short h) (at_line shorter k) =
-      absurd (k.stops (front_of k.before k.line (lines_of k.rest).0 h.before (sym (cut_lines h) ∙ fault_lines k) h.begins))
+      absurd (k.stops (front_of k.place.before k.place.line (lines_of k.place.rest).0 h.before (sym (cut_lines h) ∙ fault_lines k.place) h.begins))
   first_is_one (cut_short short h) (cut_short shorter k) =
       (sym h.number ∙ ap (λ (l : List (List ℕ)). length l + 1) (sym (cut_lines h) ∙ cut_lines k) ∙ k.number, refl)
 
@@ -226,8 +228,8 @@ module _ (text : List ℕ) where
       let whole : (lines_of text).0 ≡ h.lines ++ codes "end" ∷ [] =
       ap (λ (t : List ℕ). (lines_of t).0) (h.is ∙ sym (append-nil (flat_map text_line (h.lines ++ codes "end" ∷ []))))
       ∙ lines_front (h.lines ++ codes "end" ∷ []) [] Each ∙ ap (λ (l : List (List ℕ)). (h.lines ++ codes "end" ∷ []) ++ l) nothing ∙ append-nil (h.lines ++ codes "end" ∷ []) in
-      let lines : h.lines ++ codes "end" ∷ [] ≡ (k.before ++ k.line ∷ []) ++ (lines_of k.rest).0 = sym whole ∙ fault_lines k ∙ sym (append_assoc k.before (k.line ∷ []) (lines_of k.rest).0) in
-      k.stops (record { play = play; rules = h.rules; body = h.lines; told = h.told; others = (lines_of k.rest).0; are = lines })
+      let lines : h.lines ++ codes "end" ∷ [] ≡ (k.place.before ++ k.place.line ∷ []) ++ (lines_of k.place.rest).0 = sym whole ∙ fault_lines k.place ∙ sym (append_assoc k.place.before (k.place.line ∷ []) (lines_of k.place.rest).0) in
+      k.stops (record { play = play; rules = h.rules; body = h.lines; told = h.told; others = (lines_of k.place.rest).0; are = lines })
 
   by_answer : {n : ℕ} {fault : SceneError} (r : Result Play Fault) → play_of text ≡ r → HasFirstFault text n fault → play_of text ≡ Err (n, fault)
   by_answer (Ok play) is h = absurd (faultless play (read_is_spelled text play is) h)
@@ -245,16 +247,46 @@ before_fault : (n : ℕ) (r : Result Sketch Fault) → IsBeforeFault n r → IsB
 before_fault n (Ok s) h = tt
 before_fault n (Err fault) h = h
 
+-- an element of a list, with what stands before it
+record Placed {A : Type 0} (xs : List A) (n : ℕ) : Type 0 where
+  pub before : List A
+  pub here : A
+  pub later : List A
+  pub split : xs ≡ before ++ here ∷ later
+  pub count : length before ≡ n
+
+placed : {A : Type 0} (xs : List A) (n : ℕ) → n < length xs → Placed xs n
+placed [] n lt = absurd (omega (arith, lt))
+placed (x ∷ xs) zero lt = record { before = []; here = x; later = xs; split = refl; count = refl }
+placed (x ∷ xs) (suc n) lt =
+    let p = placed xs n (omega (arith, lt)) in
+    record { before = x ∷ p.before; here = p.here; later = p.later; split = ap (λ l. x ∷ l) p.split; count = ap suc p.count }
+
+has_line : (text : List ℕ) (n : ℕ) → (1 ≤ n) × (n ≤ length (lines_of text).0) → HasLineAt text n
+has_line text zero h = absurd (omega (arith, h.0))
+has_line text (suc n) h =
+    let p = placed (lines_of text).0 n (omega (arith, h.1)) in
+    let parts = found_on_line text p.before p.here p.later p.split in
+    record {
+      before = p.before;
+      line = p.here;
+      rest = flat_map text_line p.later ++ (lines_of text).1;
+      each = parts.1;
+      parts = parts.0;
+      number = omega (arith, p.count);
+    }
+
 -- what is answered explains itself
-explains : (text : List ℕ) (n : ℕ) (fault : SceneError) → IsFirstFault n fault (sketch_of text) → Explains text n fault
-explains text n faults.Header h = answered_is_first text n faults.Header (ap played h)
-explains text n faults.Word h = answered_is_first text n faults.Word (ap played h)
-explains text n faults.Tuple h = answered_is_first text n faults.Tuple (ap played h)
-explains text n faults.Variable h = answered_is_first text n faults.Variable (ap played h)
-explains text n faults.Limit h = answered_is_first text n faults.Limit (ap played h)
-explains text n faults.Node h = answered_is_first text n faults.Node (ap played h)
-explains text n faults.End h = answered_is_first text n faults.End (ap played h)
-explains text n faults.OutOfMemory h = λ m fault first. subst (IsBeforeFault n) (first_is_answered text m fault first) (before_fault n (sketch_of text) h)
+explains : (text : List ℕ) (n : ℕ) (fault : SceneError) → IsFirstFault n fault (sketch_of text) → IsPlaceOf text n fault → Explains text n fault
+explains text n faults.Header h place = answered_is_first text n faults.Header (ap played h)
+explains text n faults.Word h place = answered_is_first text n faults.Word (ap played h)
+explains text n faults.Tuple h place = answered_is_first text n faults.Tuple (ap played h)
+explains text n faults.Variable h place = answered_is_first text n faults.Variable (ap played h)
+explains text n faults.Limit h place = answered_is_first text n faults.Limit (ap played h)
+explains text n faults.Node h place = answered_is_first text n faults.Node (ap played h)
+explains text n faults.End h place = answered_is_first text n faults.End (ap played h)
+explains text n faults.OutOfMemory h place =
+    (has_line text n (place refl), λ m fault first. subst (IsBeforeFault n) (first_is_answered text m fault first) (before_fault n (sketch_of text) h))
 
 read_is_sketch : (text : List ℕ) → length text ≤ 1048576 → read_from nothing_read 1 (lines_of text).0 (lines_of text).1 ≡ sketch_of text
 read_is_sketch text short =
@@ -262,6 +294,7 @@ read_is_sketch text short =
     rw fits refl
 
 pub answer_explains : {A : Type 0} (text : List ℕ) (r : Result A SceneFault) → length text ≤ 1048576
-    → IfErr r (λ f. IsFirstFault f.line f.cause (read_from nothing_read 1 (lines_of text).0 (lines_of text).1)) → IfErr r (λ f. Explains text f.line f.cause)
-answer_explains text (Ok x) short h = tt
-answer_explains text (Err f) short h = explains text f.line f.cause (subst (IsFirstFault f.line f.cause) (read_is_sketch text short) h)
+    → IfErr r (λ f. IsFirstFault f.line f.cause (read_from nothing_read 1 (lines_of text).0 (lines_of text).1)) → IfErr r (λ f. IsPlaceOf text f.line f.cause)
+    → IfErr r (λ f. Explains text f.line f.cause)
+answer_explains text (Ok x) short h place = tt
+answer_explains text (Err f) short h place = explains text f.line f.cause (subst (IsFirstFault f.line f.cause) (read_is_sketch text short) h) place

@@ -1,10 +1,10 @@
 -- Reading line after line: where the first fault stands.
-use Rattle.std.proofs.Common.{◌≡◌, ℕ, ◌+◌, ◌<◌, Bool, true, false, ◌&&◌, cond, List, [], ◌∷◌, Result, Ok, Err, sym, ap, subst, ◌∙◌, arith}
+use Rattle.std.proofs.Common.{◌≡◌, ℕ, ◌+◌, ◌<◌, ◌≤◌, Bool, true, false, ◌&&◌, cond, List, [], ◌∷◌, length, Result, Ok, Err, sym, ap, subst, ◌∙◌, arith}
 use Rattle.std.specs.Prelude.{IsOk}
 use Rattle.kt_scene.specs.declared.fault.SceneError.{SceneError}
 use Rattle.kt_scene.specs.declared.fault.SceneError.TheVariants as faults
 use Rattle.kt_scene.specs.Lines.{Sketch, line_read, is_ended, IsFaultOf}
-use Rattle.kt_scene.specs.Reading.{lines_of, Fault, went_on, is_empty, read_from, IsBeforeFault, IsFirstFault}
+use Rattle.kt_scene.specs.Reading.{lines_of, Fault, went_on, is_empty, read_from, IsBeforeFault, IsFirstFault, IsPlaceOf}
 
 end_by_test : (b : Bool) (s : Sketch) (m n : ℕ) → m < n → IsBeforeFault m (cond b (Ok s) (Err (n, faults.End)))
 end_by_test true s m n lt = tt
@@ -67,3 +67,15 @@ due_at_end s n text e = ap (λ (ls : List (List ℕ) × List ℕ). read_from s n
 pub ends_with : (b : Bool) (s : Sketch) (n : ℕ) (text : List ℕ) (total : Result Sketch Fault) → lines_of text ≡ ([], text) → (is_ended s.stage && is_empty text) ≡ b
     → read_from s n (lines_of text).0 (lines_of text).1 ≡ total → total ≡ cond b (Ok s) (Err (n, faults.End))
 ends_with b s n text total none test due = sym due ∙ due_at_end s n text none ∙ ap (λ (x : Bool). cond x (Ok s) (Err (n, faults.End))) test
+
+-- a line that was found is one of the text's
+module _ (n : ℕ) (text rest line later : List ℕ) (split : lines_of rest ≡ (line ∷ (lines_of later).0, (lines_of later).1))
+    (left : n + length (lines_of rest).0 ≡ length (lines_of text).0 + 1) where
+  one_more : length (lines_of rest).0 ≡ length (lines_of later).0 + 1
+  one_more = ap (λ (p : List (List ℕ) × List ℕ). length p.0) split ∙ omega arith
+
+  pub left_behind : (n + 1) + length (lines_of later).0 ≡ length (lines_of text).0 + 1
+  left_behind = omega (arith, one_more, left)
+
+  pub line_is_there : (fault : SceneError) → 1 ≤ n → IsPlaceOf text n fault
+  line_is_there fault counted _ = (counted, omega (arith, one_more, left))

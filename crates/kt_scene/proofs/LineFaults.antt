@@ -21,7 +21,7 @@ use Rattle.kt_scene.specs.Lines.{Sketch, nothing_read, is_word, is_ignored, is_e
 use Rattle.kt_scene.specs.Reading.{play_with}
 use Rattle.kt_scene.specs.Text.{step_text, told_lines}
 use Rattle.kt_scene.specs.Scenario.{IsStep, IsPlay, is_told}
-use Rattle.kt_scene.specs.Faults.{HasVerb, Spells, SpellsShards, IsInScript, IsInSteps, IsWhole, title_line, one_shard, IsNoHeader, no_title, no_shards, no_worker, no_command, no_step, no_tuple, no_variable, IsTooMuch, many_shards, many_workers, many_commands, many_variables, outside, HasLowest}
+use Rattle.kt_scene.specs.Faults.{HasVerb, Spells, SpellsShards, IsInScript, IsInSteps, IsWhole, title_line, one_shard, IsNoHeader, no_title, no_shards, no_worker, no_command, no_step, no_tuple, breaks_rules, PassesLimit, many_shards, many_workers, many_commands, many_variables, outside, HasLowest}
 use Rattle.kt_scene.proofs.Feeding.{LeadOn}
 use Rattle.kt_scene.proofs.Words.{word_is}
 use Rattle.kt_scene.proofs.StepsRead.{step_read}
@@ -32,7 +32,7 @@ use Rattle.kt_scene.proofs.CommandShapes.{ReadsAs, read_shape, unread_shape}
 use Rattle.kt_scene.proofs.Reached.{IsTold, unended, whole}
 use Rattle.kt_scene.proofs.Begins.{script_rules, script_told}
 use Rattle.kt_scene.proofs.Positions.{head_is}
-use Rattle.kt_scene.proofs.Lowest.{from_header, from_word, from_tuple, from_variable, from_limit, from_end, no_header, no_word, no_tuple_there, no_variable_there, at_shards_low, behind_low, at_end_low}
+use Rattle.kt_scene.proofs.Lowest.{from_header, from_word, from_tuple, from_variable, from_limit, from_end, no_header, no_word, no_tuple_there, breaks_rules_there, at_shards_low, behind_low, at_end_low}
 
 -- a word is read as itself
 other_word : (line word : List ℕ) → is_word word word ≡ true → is_word line word ≡ false → line ≢ word
@@ -124,21 +124,21 @@ module _ (before : List (List ℕ)) (line : List ℕ) (s : Sketch) (leads : Lead
   module _ (is : s.stage ≡ stages.Commands) (spelled : Spelled) (read : spelled_of line ≡ Ok spelled) (command : Command) (is_line : Spells line command) (reads : ReadsAs command spelled) where
     broken_rules : keeps_rules (variables_of s.commands) spelled.command ≡ false → HasLowest before line faults.Variable
     broken_rules broken = record {
-      has = no_variable s.scripts s.commands command (there is) is_line (sym (reads.rules (variables_of s.commands)) ∙ broken);
+      has = breaks_rules s.scripts s.commands command (there is) is_line (sym (reads.rules (variables_of s.commands)) ∙ broken);
       lowest = from_variable before line (no_header before line s leads is) (no_word before line s leads is (λ scripts commands worker steps verb never. never command is_line))
           (no_tuple_there before line s leads is (inr (command, is_line)));
     }
 
-    passed_limit : keeps_rules (variables_of s.commands) spelled.command ≡ true → IsTooMuch before line → HasLowest before line faults.Limit
+    passed_limit : keeps_rules (variables_of s.commands) spelled.command ≡ true → PassesLimit before line → HasLowest before line faults.Limit
     passed_limit kept much = record {
       has = much;
       lowest = from_limit before line (no_header before line s leads is) (no_word before line s leads is (λ scripts commands worker steps verb never. never command is_line))
           (no_tuple_there before line s leads is (inr (command, is_line)))
-          (no_variable_there before line s leads is (λ other again. let same : spelled ≡ other = cc in subst (λ (x : Spelled). keeps_rules (variables_of s.commands) x.command ≡ true) same kept));
+          (breaks_rules_there before line s leads is (λ other again. let same : spelled ≡ other = cc in subst (λ (x : Spelled). keeps_rules (variables_of s.commands) x.command ≡ true) same kept));
     }
 
     too_many : (counts few small : Bool) → has_count spelled.command ≡ counts → ltb (length s.commands) 200 ≡ few → leb (length (with_bindings (variables_of s.commands) (bindings spelled.command))) 64 ≡ small
-        → (counts && few && small) ≡ false → IsTooMuch before line
+        → (counts && few && small) ≡ false → PassesLimit before line
     too_many true true true count room variables e = absurd cc
     too_many true true false count room variables e =
         let all : variables_of (s.commands ++ command ∷ []) ≡ with_bindings (variables_of s.commands) (bindings spelled.command) =
@@ -210,7 +210,7 @@ module _ (before : List (List ℕ)) (line : List ℕ) (s : Sketch) (leads : Lead
         has = many_workers s.scripts s.commands (there is) word (omega (arith, few, many));
         lowest = from_limit before line (no_header before line s leads is) (no_word before line s leads is (λ scripts commands worker steps verb never. worker word))
             (no_tuple_there before line s leads is (inl verb))
-            (no_variable_there before line s leads is (λ other again. absurd (none_read word again)));
+            (breaks_rules_there before line s leads is (λ other again. absurd (none_read word again)));
       }
     where
       none_read : line ≡ codes "worker" → {other : Spelled} → spelled_of line ≡ Ok other → ⊥

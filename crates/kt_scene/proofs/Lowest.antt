@@ -11,7 +11,7 @@ use Rattle.kt_scene.specs.declared.draft.Stage.TheVariants as stages
 use Rattle.kt_scene.specs.Fault.{fault_number}
 use Rattle.kt_scene.specs.Commands.{spelled_of}
 use Rattle.kt_scene.specs.Lines.{Sketch, nothing_read}
-use Rattle.kt_scene.specs.Faults.{HasVerb, Spells, IsNoHeader, no_title, no_shards, IsNoWord, no_worker, no_command, no_step, IsNoTuple, no_tuple, IsNoVariable, no_variable, IsTooMuch, many_shards, many_workers, many_commands, many_variables, outside, HasFault}
+use Rattle.kt_scene.specs.Faults.{HasVerb, Spells, IsNoHeader, no_title, no_shards, IsNoWord, no_worker, no_command, no_step, IsNoTuple, no_tuple, BreaksVariableRules, breaks_rules, PassesLimit, many_shards, many_workers, many_commands, many_variables, outside, HasFault}
 use Rattle.kt_scene.proofs.Feeding.{LeadOn}
 use Rattle.kt_scene.proofs.CommandShapes.{shape_read}
 use Rattle.kt_scene.proofs.Positions.{at_title, behind_title, behind_head, in_steps, in_script}
@@ -57,7 +57,7 @@ module _ (told : List (List ℕ)) (line : List ℕ) where
   from_variable header word tuple faults.End h = omega arith
   from_variable header word tuple faults.OutOfMemory h = omega arith
 
-  pub from_limit : ¬ IsNoHeader told line → ¬ IsNoWord told line → ¬ IsNoTuple told line → ¬ IsNoVariable told line → (other : SceneError) → HasFault told line other → 5 ≤ fault_number other
+  pub from_limit : ¬ IsNoHeader told line → ¬ IsNoWord told line → ¬ IsNoTuple told line → ¬ BreaksVariableRules told line → (other : SceneError) → HasFault told line other → 5 ≤ fault_number other
   from_limit header word tuple variable faults.Header h = absurd (header h)
   from_limit header word tuple variable faults.Word h = absurd (word h)
   from_limit header word tuple variable faults.Tuple h = absurd (tuple h)
@@ -67,7 +67,7 @@ module _ (told : List (List ℕ)) (line : List ℕ) where
   from_limit header word tuple variable faults.End h = omega arith
   from_limit header word tuple variable faults.OutOfMemory h = omega arith
 
-  pub from_end : ¬ IsNoHeader told line → ¬ IsNoWord told line → ¬ IsNoTuple told line → ¬ IsNoVariable told line → ¬ IsTooMuch told line
+  pub from_end : ¬ IsNoHeader told line → ¬ IsNoWord told line → ¬ IsNoTuple told line → ¬ BreaksVariableRules told line → ¬ PassesLimit told line
       → (other : SceneError) → HasFault told line other → 7 ≤ fault_number other
   from_end header word tuple variable limit faults.Header h = absurd (header h)
   from_end header word tuple variable limit faults.Word h = absurd (word h)
@@ -92,10 +92,10 @@ module _ (told : List (List ℕ)) (line : List ℕ) (s : Sketch) (leads : LeadOn
   pub tuple_stage : IsNoTuple told line → s.stage ≡ stages.Commands
   tuple_stage (no_tuple scripts commands is verb spelled) = (in_script told s leads scripts commands is).0
 
-  pub variable_stage : IsNoVariable told line → s.stage ≡ stages.Commands
-  variable_stage (no_variable scripts commands command is spelled broken) = (in_script told s leads scripts commands is).0
+  pub variable_stage : BreaksVariableRules told line → s.stage ≡ stages.Commands
+  variable_stage (breaks_rules scripts commands command is spelled broken) = (in_script told s leads scripts commands is).0
 
-  pub limit_stage : IsTooMuch told line → (s.stage ≡ stages.Shards) ⊎ (s.stage ≡ stages.Commands)
+  pub limit_stage : PassesLimit told line → (s.stage ≡ stages.Shards) ⊎ (s.stage ≡ stages.Commands)
   limit_stage (many_shards n is spelled other) = inl (behind_title told s leads is)
   limit_stage (many_workers scripts commands is word many) = inr (in_script told s leads scripts commands is).0
   limit_stage (many_commands scripts commands command is spelled many) = inr (in_script told s leads scripts commands is).0
@@ -126,8 +126,8 @@ module _ (told : List (List ℕ)) (line : List ℕ) (s : Sketch) (leads : LeadOn
     no_tuple_there (inr command) (no_tuple scripts commands at verb spelled) = spelled command.0 command.1
 
     -- of what the line spells the rules of variables are asked
-    pub no_variable_there : ((spelled : Spelled) → spelled_of line ≡ Ok spelled → keeps_rules (variables_of s.commands) spelled.command ≡ true) → ¬ IsNoVariable told line
-    no_variable_there keeps (no_variable scripts commands command at spelled broken) =
+    pub breaks_rules_there : ((spelled : Spelled) → spelled_of line ≡ Ok spelled → keeps_rules (variables_of s.commands) spelled.command ≡ true) → ¬ BreaksVariableRules told line
+    breaks_rules_there keeps (breaks_rules scripts commands command at spelled broken) =
         let read = shape_read line command spelled in
         let same = (in_script told s leads scripts commands at).2 in
         let kept = keeps read.0 read.1 in
@@ -136,7 +136,7 @@ module _ (told : List (List ℕ)) (line : List ℕ) (s : Sketch) (leads : LeadOn
         absurd cc
 
   -- elsewhere
-  pub at_shards_low : s.stage ≡ stages.Shards → (¬ IsNoWord told line) × (¬ IsNoTuple told line) × (¬ IsNoVariable told line)
+  pub at_shards_low : s.stage ≡ stages.Shards → (¬ IsNoWord told line) × (¬ IsNoTuple told line) × (¬ BreaksVariableRules told line)
   at_shards_low is = (
     λ h. by (word_stage h),
     λ h. (let stage = tuple_stage h in absurd cc),
@@ -159,7 +159,7 @@ module _ (told : List (List ℕ)) (line : List ℕ) (s : Sketch) (leads : LeadOn
       by (inr (inr a)) (inl b) = absurd cc
       by (inr (inr a)) (inr b) = absurd cc
 
-  pub at_end_low : s.stage ≡ stages.Ended → (¬ IsNoWord told line) × (¬ IsNoTuple told line) × (¬ IsNoVariable told line) × (¬ IsTooMuch told line)
+  pub at_end_low : s.stage ≡ stages.Ended → (¬ IsNoWord told line) × (¬ IsNoTuple told line) × (¬ BreaksVariableRules told line) × (¬ PassesLimit told line)
   at_end_low is = (
     λ h. by (word_stage h),
     λ h. (let stage = tuple_stage h in absurd cc),

@@ -1,5 +1,5 @@
 -- The first fault of a scenario's text, told by the lines before it and by what scenarios are spelled as; no reader is
--- asked.
+-- asked. Told lines are those that are not ignored.
 use Rattle.std.specs.Prelude.{◌≡◌, ◌≢◌, ◌<◌, ◌≤◌, ◌+◌, ℕ, false, List, [], ◌∷◌, ◌++◌, length, filter, codes, All}
 use Rattle.std.specs.Int.{w64}
 use Rattle.std.specs.Int.RustNames.{FitsSigned}
@@ -56,7 +56,7 @@ IsOutside (Ask operation) = ⊥
 IsOutside (Set variable source plus) = ¬ FitsSigned w64 plus
 IsOutside (Unless count) = ¬ ((1 ≤ count) × (count ≤ 200))
 
--- these are the first lines of some scenario, ignored ones among them
+-- these are the first lines of some scenario, however long, ignored ones among them
 pub record Begin (lines : List (List ℕ)) : Type 0 where
   pub play : Play
   pub rules : IsPlay play
@@ -69,18 +69,19 @@ pub record Begin (lines : List (List ℕ)) : Type 0 where
 abbrev pub play_of_scripts : List (List Command) → List Step → Play
 play_of_scripts scripts steps = record { cast = record { shards = 1; scripts = scripts }; steps = steps }
 
--- the lines end within a script: the scripts before it, and its commands so far
+-- the told lines end within a script: with the line `steps` behind them they would be all of a scenario without steps, with these
+-- scripts and then the one that has these commands so far
 pub record IsInScript (told : List (List ℕ)) (scripts : List (List Command)) (commands : List Command) : Type 0 where
   pub rules : IsPlay (play_of_scripts (scripts ++ commands ∷ []) [])
   pub are : told_lines (play_of_scripts (scripts ++ commands ∷ []) []) ≡ told ++ codes "steps" ∷ []
 
--- the lines end among the steps, before the end
+-- the told lines end among the steps: they are all of a scenario but its line `end`
 pub record IsInSteps (told : List (List ℕ)) : Type 0 where
   pub play : Play
   pub rules : IsPlay play
   pub are : told_lines play ≡ told
 
--- the lines are all of a scenario
+-- the told lines are all of a scenario, with its line `end`
 pub record IsWhole (told : List (List ℕ)) : Type 0 where
   pub play : Play
   pub rules : IsPlay play
@@ -93,44 +94,45 @@ title_line = codes "linda-kt 1"
 abbrev pub one_shard : List ℕ
 one_shard = codes "shards 1"
 
--- a line other than the two of the head where one of these must stand
+-- a line other than the two of the head where one of these must stand; `shards` with whatever number is the second
 pub data IsNoHeader (told : List (List ℕ)) (line : List ℕ) : Type 0 where
   no_title : told ≡ [] → line ≢ title_line → IsNoHeader told line
   no_shards : told ≡ title_line ∷ [] → ((n : ℕ) → ¬ SpellsShards line n) → IsNoHeader told line
 
--- a line that no rule allows there
+-- a line that no rule allows there: in the place of the first `worker`; in a script, where it begins with no operation's word and
+-- is neither `worker` nor `steps` nor a command's; or among the steps, where it is no step's and not `end`
 pub data IsNoWord (told : List (List ℕ)) (line : List ℕ) : Type 0 where
   no_worker : told ≡ title_line ∷ one_shard ∷ [] → line ≢ codes "worker" → IsNoWord told line
   no_command : (scripts : List (List Command)) (commands : List Command) → IsInScript told scripts commands → line ≢ codes "worker" → line ≢ codes "steps" → ¬ HasVerb line
       → ((command : Command) → ¬ Spells line command) → IsNoWord told line
   no_step : IsInSteps told → line ≢ codes "end" → ((step : Step) → IsStep step → line ≢ step_text step) → IsNoWord told line
 
--- behind an operation's word stands nothing that may be its tuple or template
+-- behind an operation's word and its space stands no tuple or template that it may have
 pub data IsNoTuple (told : List (List ℕ)) (line : List ℕ) : Type 0 where
   no_tuple : (scripts : List (List Command)) (commands : List Command) → IsInScript told scripts commands → HasVerb line
       → ((command : Command) → ¬ Spells line command) → IsNoTuple told line
 
 -- a command that breaks the rules of variables
-pub data IsNoVariable (told : List (List ℕ)) (line : List ℕ) : Type 0 where
-  no_variable : (scripts : List (List Command)) (commands : List Command) (command : Command) → IsInScript told scripts commands → Spells line command
-      → keeps_rules (variables_of commands) command ≡ false → IsNoVariable told line
+pub data BreaksVariableRules (told : List (List ℕ)) (line : List ℕ) : Type 0 where
+  breaks_rules : (scripts : List (List Command)) (commands : List Command) (command : Command) → IsInScript told scripts commands → Spells line command
+      → keeps_rules (variables_of commands) command ≡ false → BreaksVariableRules told line
 
--- a limit is passed
-pub data IsTooMuch (told : List (List ℕ)) (line : List ℕ) : Type 0 where
-  many_shards : (n : ℕ) → told ≡ title_line ∷ [] → SpellsShards line n → n ≢ 1 → IsTooMuch told line
-  many_workers : (scripts : List (List Command)) (commands : List Command) → IsInScript told scripts commands → line ≡ codes "worker" → length scripts ≡ 7 → IsTooMuch told line
-  many_commands : (scripts : List (List Command)) (commands : List Command) (command : Command) → IsInScript told scripts commands → Spells line command → 200 ≤ length commands → IsTooMuch told line
+-- a limit is passed: shards, of which one is built; a ninth worker; a 201st command; a 65th variable; the number of a command
+pub data PassesLimit (told : List (List ℕ)) (line : List ℕ) : Type 0 where
+  many_shards : (n : ℕ) → told ≡ title_line ∷ [] → SpellsShards line n → n ≢ 1 → PassesLimit told line
+  many_workers : (scripts : List (List Command)) (commands : List Command) → IsInScript told scripts commands → line ≡ codes "worker" → length scripts ≡ 7 → PassesLimit told line
+  many_commands : (scripts : List (List Command)) (commands : List Command) (command : Command) → IsInScript told scripts commands → Spells line command → 200 ≤ length commands → PassesLimit told line
   many_variables : (scripts : List (List Command)) (commands : List Command) (command : Command) → IsInScript told scripts commands → Spells line command
-      → 64 < length (variables_of (commands ++ command ∷ [])) → IsTooMuch told line
-  outside : (scripts : List (List Command)) (commands : List Command) (command : Command) → IsInScript told scripts commands → Spells line command → IsOutside command → IsTooMuch told line
+      → 64 < length (variables_of (commands ++ command ∷ [])) → PassesLimit told line
+  outside : (scripts : List (List Command)) (commands : List Command) (command : Command) → IsInScript told scripts commands → Spells line command → IsOutside command → PassesLimit told line
 
--- the faults of a line behind those that were told
+-- the faults of a line behind these told lines; that the line is not itself an ignored one is for `IsFaultAt` to say
 abbrev pub HasFault : List (List ℕ) → List ℕ → SceneError → Type 0
 HasFault told line faults.Header = IsNoHeader told line
 HasFault told line faults.Word = IsNoWord told line
 HasFault told line faults.Tuple = IsNoTuple told line
-HasFault told line faults.Variable = IsNoVariable told line
-HasFault told line faults.Limit = IsTooMuch told line
+HasFault told line faults.Variable = BreaksVariableRules told line
+HasFault told line faults.Limit = PassesLimit told line
 HasFault told line faults.Node = ⊥
 HasFault told line faults.End = IsWhole told
 HasFault told line faults.OutOfMemory = ⊥
@@ -140,17 +142,21 @@ pub record HasLowest (told : List (List ℕ)) (line : List ℕ) (fault : SceneEr
   pub has : HasFault told line fault
   pub lowest : (other : SceneError) → HasFault told line other → fault_number fault ≤ fault_number other
 
--- the lines before this one are the first of some scenario, and with this one they are not; it has the fault
-pub record IsFaultAt (text : List ℕ) (n : ℕ) (fault : SceneError) : Type 0 where
+-- the text has a line of this number, ended by its line feed
+pub record HasLineAt (text : List ℕ) (n : ℕ) : Type 0 where
   pub before : List (List ℕ)
   pub line : List ℕ
   pub rest : List ℕ
   pub each : All IsLine (before ++ line ∷ [])
   pub parts : text ≡ flat_map text_line (before ++ line ∷ []) ++ rest
   pub number : length before + 1 ≡ n
-  pub begins : Begin before
-  pub stops : ¬ Begin (before ++ line ∷ [])
-  pub lowest : HasLowest (filter is_told before) line fault
+
+-- the lines before this one are the first of some scenario, and with this one they are not; it has the fault
+pub record IsFaultAt (text : List ℕ) (n : ℕ) (fault : SceneError) : Type 0 where
+  pub place : HasLineAt text n
+  pub begins : Begin place.before
+  pub stops : ¬ Begin (place.before ++ place.line ∷ [])
+  pub lowest : HasLowest (filter is_told place.before) place.line fault
 
 -- all its lines are the first of some scenario, but the text is none: bytes stand behind the last line feed, or there is no
 -- `end` yet
@@ -170,8 +176,8 @@ pub data HasFirstFault (text : List ℕ) : ℕ → SceneError → Type 0 where
   at_line : {n : ℕ} {fault : SceneError} → length text ≤ 1048576 → IsFaultAt text n fault → HasFirstFault text n fault
   cut_short : {n : ℕ} → length text ≤ 1048576 → IsCutShort text n → HasFirstFault text n faults.End
 
--- what a fault that is answered says of the text; want of memory says that the first line with a fault, if there is one, is a
--- later one
+-- what a fault that is answered says of the text; want of memory says that the text has this line, and that the first line with
+-- a fault, if there is one, is a later one
 abbrev pub Explains : List ℕ → ℕ → SceneError → Type 0
-Explains text n faults.OutOfMemory = (m : ℕ) (fault : SceneError) → HasFirstFault text m fault → n < m
+Explains text n faults.OutOfMemory = HasLineAt text n × ((m : ℕ) (fault : SceneError) → HasFirstFault text m fault → n < m)
 Explains text n fault = HasFirstFault text n fault

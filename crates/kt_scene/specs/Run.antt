@@ -5,11 +5,12 @@ use Rattle.kt_core.specs.declared.step.StepError.{StepError}
 use Rattle.kt_core.specs.Cast.{Cast}
 use Rattle.kt_core.specs.State.{State}
 use Rattle.kt_core.specs.Reached.{opening}
-use Rattle.std.specs.Io.KnownBytes.{Consumes, IsAtEnd}
+use Rattle.std.specs.Io.KnownBytes.{Consumes, IsAtEnd, Keeps}
 use Rattle.kt_scene.specs.declared.scenario.Scenario.{Scenario}
 use Rattle.kt_scene.specs.declared.scenario.Work.{Work}
 use Rattle.kt_scene.specs.declared.scenario.Work.TheVariants.{Steps}
-use Rattle.kt_scene.specs.Reading.{Play, play_of, IsFirstFault}
+use Rattle.kt_scene.specs.Faults.{Explains}
+use Rattle.kt_scene.specs.Reading.{Play}
 use Rattle.kt_scene.specs.Scenario.{IsScenario}
 use Rattle.kt_scene.specs.Report.{WritesReport, WritesReportFront}
 use Rattle.kt_scene.specs.Stream.{IsReadFault, IsReportFault}
@@ -65,10 +66,10 @@ pub record LeadsTo (text : List ℕ) (s : State) : Type 0 where
   pub scenario : IsScenario text play
   pub runs : RunsTo (opening play.cast) play.steps s
 
--- what a text answers: its first fault; or it is a scenario's, whose world could not be opened or whose first refused
+-- what a text answers: its first fault, or want of memory before that; or it is a scenario's, whose world could not be opened or whose first refused
 -- step this is
 abbrev pub IsTextFault : List ℕ → ReplayFault → Type 0
-IsTextFault text (faults.Scene line cause) = IsFirstFault line cause (play_of text)
+IsTextFault text (faults.Scene line cause) = Explains text line cause
 IsTextFault text (faults.Step at cause) = (play : Play) × IsScenario text play × IsRefusedAt (opening play.cast) play.steps at cause
 IsTextFault text (faults.Open cause) = (play : Play) × IsScenario text play
 IsTextFault text faults.Memory = ⊥
@@ -102,6 +103,15 @@ pub record WritesReplayedFront (before after old new : Option (List ℕ)) : Type
   pub state : State
   pub replayed : IsReplayed before after state
   pub report : WritesReportFront state.history [] old new
+
+-- what is written where a replay ends with this fault: a front of the report where the writer failed, and else nothing
+abbrev pub LeavesWritten : (before after old new : Option (List ℕ)) → ReplayFault → Type 0
+LeavesWritten before after old new (faults.Scene line cause) = Keeps old new
+LeavesWritten before after old new (faults.Step at cause) = Keeps old new
+LeavesWritten before after old new (faults.Open cause) = Keeps old new
+LeavesWritten before after old new faults.Memory = Keeps old new
+LeavesWritten before after old new faults.Read = Keeps old new
+LeavesWritten before after old new faults.Write = WritesReplayedFront before after old new
 
 -- what a replay answers before it writes; while it writes, want of memory or a failure of the writer
 pub data IsReplayFault (before after : Option (List ℕ)) (fault : ReplayFault) : Type 0 where

@@ -16,7 +16,8 @@ use std::alloc::Global;
 use std::io::{Read, Write};
 
 /// Reads a scenario, makes its steps and writes the report. It reads all, then makes all steps, then
-/// writes; so a fault other than `Write` leaves nothing written.
+/// writes; so a fault other than `Write` leaves nothing written. What was read before a fault is gone from
+/// the reader.
 pub fn replay<R: Read, W: Write>(
     alloc: Global,
     reader: &mut R,

@@ -1,3 +1,5 @@
+//! What a scenario's text stands for.
+
 use kt_core::{Scene, Step};
 
 /// What a scenario's text stands for.

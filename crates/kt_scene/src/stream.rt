@@ -17,7 +17,7 @@ const CHUNK: usize = 8192;
 
 /// All bytes of the reader. Refused by a fault of line 1 where there are more than 1,048,576, by want
 /// of memory, or by the reader, which has 2,000,000 calls to come to its end. A call that was
-/// interrupted is made again.
+/// interrupted is made again. What was taken from the reader before that is gone.
 pub fn read_text<R: Read>(alloc: Global, reader: &mut R) -> Result<Vec<u8>, ReplayFault>
     ensures read { IfOk result (λ text. Consumes (R.remaining reader.old) (R.remaining reader.new) text.items) }
     ensures all { OnOk result (IsAtEnd (R.remaining reader.new)) }
@@ -48,7 +48,7 @@ pub fn read_text<R: Read>(alloc: Global, reader: &mut R) -> Result<Vec<u8>, Repl
 }
 
 /// Writes all bytes. A call that was interrupted is made again.
-pub fn put<W: Write>(writer: &mut W, bytes: &[u8]) -> Result<(), ReplayFault>
+pub(crate) fn put<W: Write>(writer: &mut W, bytes: &[u8]) -> Result<(), ReplayFault>
     ensures whole { OnOk result (Appends (W.contents writer.old) (W.contents writer.new) bytes.now) }
     ensures front { OnErr result (AppendsFront (W.contents writer.old) (W.contents writer.new) bytes.now) }
     ensures only { IfErr result (λ fault. fault ≡ ReplayFault.Write) }

@@ -4,7 +4,7 @@ use Rattle.kt_core.specs.declared.step.StepError.{StepError}
 use Rattle.kt_core.specs.declared.step.StepError.TheVariants as step
 use Rattle.kt_scene.specs.declared.fault.SceneError.{SceneError}
 use Rattle.kt_scene.specs.declared.fault.SceneError.TheVariants as scene
-use Rattle.kt_scene.specs.Run.{WritesReplayed, IsReplayFault}
+use Rattle.kt_scene.specs.Run.{WritesReplayed, IsReplayFault, LeavesWritten}
 use Rattle.kt_scene.specs.declared.fault.ReplayFault.{ReplayFault}
 use Rattle.kt_scene.specs.declared.fault.ReplayFault.TheVariants.{Scene, Step, Open, Memory, Read, Write}
 
@@ -33,7 +33,8 @@ status_of Write = 7
 abbrev pub IsWordsStatus : ℕ → Type 0
 IsWordsStatus n = (n ≡ 0) ⊎ ((n ≡ 2) ⊎ ((n ≡ 6) ⊎ (n ≡ 7)))
 
--- the exit status of a command: 0 where what was read was replayed and its report written, else that of the fault
+-- the exit status of a command: 0 where what was read was replayed and its report written; else that of the fault, before
+-- which nothing is written, or of the writer's a front of the report
 pub data IsRunStatus (before after old new : Option (List ℕ)) (n : ℕ) : Type 0 where
   done : n ≡ 0 → WritesReplayed before after old new → IsRunStatus before after old new n
-  refused : (fault : ReplayFault) → IsReplayFault before after fault → n ≡ status_of fault → IsRunStatus before after old new n
+  refused : (fault : ReplayFault) → IsReplayFault before after fault → LeavesWritten before after old new fault → n ≡ status_of fault → IsRunStatus before after old new n

@@ -1,6 +1,7 @@
 -- The words of the command line.
-use Rattle.std.specs.Prelude.{◌≡◌, ◌≢◌, ◌⊎◌, List, [], ◌∷◌, Some, refl, Option, codes, map, option_map, true}
+use Rattle.std.specs.Prelude.{◌≡◌, ◌≢◌, ◌⊎◌, List, [], ◌∷◌, Some, refl, Option, codes, map, option_map, true, drop, String, string_bytes}
 use Rattle.std.specs.Borrow.{Bor}
+use Rattle.std.specs.Global.{Global}
 use Rattle.clap.specs.Words.{App, IsAmong, Kinds, Text, fault_of, new_app, subcommand_of, with_subcommand}
 use Rattle.clap.specs.Simple.{new_shape, on_top}
 use Rattle.clap.specs.declared.error.kind.ErrorKind.TheVariants.{DisplayHelp, DisplayVersion, InvalidSubcommand, MissingSubcommand, UnknownArgument}
@@ -24,6 +25,10 @@ command_line_app =
 -- the texts behind references
 abbrev pub texts : List (Bor Text) → List Text
 texts = map (λ w. w.now)
+
+-- the words behind the first text, which is the program's name
+abbrev pub words_behind : List (String Global) → List Text
+words_behind arguments = map string_bytes (drop 1 arguments)
 
 -- the name of the command that the words name, by the rules of `clap`
 abbrev pub named_command : List Text → Option Text

@@ -1,10 +1,10 @@
 //! What the program does with its words and its three streams.
-ghost use Rattle.std.specs.Prelude.{◌≡◌, ◌≢◌, ◌⊎◌, [], IsErr};
+ghost use Rattle.std.specs.Prelude.{◌≡◌, ◌≢◌, ◌⊎◌, [], IsErr, IfOk};
 ghost use Rattle.clap.specs.Words.{kind_of};
 ghost use Rattle.clap.specs.declared.error.kind.ErrorKind.TheVariants as kind;
 ghost use Rattle.linda_kt.specs.Status.{IsRunStatus, IsWordsStatus, status_of, step_status};
 ghost use Rattle.kt_core.specs.declared.step.StepError.TheVariants as step;
-ghost use Rattle.linda_kt.specs.Words.{AreWrong, texts, words_fault};
+ghost use Rattle.linda_kt.specs.Words.{AreWrong, texts, words_behind, words_fault};
 
 use crate::words::{Command, read_words, refuse_bytes};
 use clap::Error;
@@ -42,30 +42,52 @@ pub fn run_arguments<R: Read, W: Write, E: Write>(
 ) -> u8
     ensures no_text { IsErr arguments → (result ≡ COMMAND_LINE) ⊎ (result ≡ MEMORY) }
     ensures no_text_reads_nothing { IsErr arguments → reader.new ≡ reader.old }
+    ensures no_text_prints_nothing { IsErr arguments → writer.new ≡ writer.old }
+    ensures done_without_a_word { result ≡ DONE → errors.new ≡ errors.old }
 {
-    let arguments = match arguments {
-        Ok(arguments) => arguments,
+    let texts: Result<Vec<String>, AllocError> = match arguments {
+        Ok(arguments) => arguments.collect(alloc),
         Err(error) if error.kind() == io::ErrorKind::OutOfMemory => {
             return end_by("memory", MEMORY, errors);
         }
         Err(_) => return answer_words(&refuse_bytes(alloc), writer, errors),
     };
-    match run_texts(alloc, arguments, reader, writer, errors) {
-        Ok(status) => status,
+    match texts {
+        Ok(texts) => run_texts(alloc, &texts, reader, writer, errors),
         Err(AllocError) => end_by("memory", MEMORY, errors),
     }
 }
 
+/// Runs the program on these texts, of which the first is its name.
 fn run_texts<R: Read, W: Write, E: Write>(
     alloc: Global,
-    arguments: Args,
+    arguments: &[String],
     reader: &mut R,
     writer: &mut W,
     errors: &mut E,
-) -> Result<u8, AllocError> {
-    let texts: Vec<String> = arguments.skip(1).collect(alloc)?;
-    let words: Vec<&str> = texts.iter().map(|text| text.as_str()).collect(alloc)?;
-    Ok(run_program(alloc, words.as_slice(), reader, writer, errors))
+) -> u8
+    ensures told { words_fault (words_behind arguments.now) ≡ []
+        → IsRunStatus (R.remaining reader.old) (R.remaining reader.new) (W.contents writer.old) (W.contents writer.new) result }
+    ensures wrong_words { AreWrong (words_behind arguments.now) → (result ≡ COMMAND_LINE) ⊎ (result ≡ MEMORY) }
+    ensures done_without_a_word { result ≡ DONE → errors.new ≡ errors.old }
+{
+    match words_behind(alloc, arguments) {
+        Ok(words) => run_program(alloc, words.as_slice(), reader, writer, errors),
+        Err(AllocError) => end_by("memory", MEMORY, errors),
+    }
+}
+
+/// The words behind the program's name.
+fn words_behind<'a>(alloc: Global, arguments: &'a [String]) -> Result<Vec<&'a str>, AllocError>
+    ensures { IfOk result (λ words. texts words.items ≡ words_behind arguments.entry.now) }
+{
+    let mut words = Vec::new(alloc);
+    if let Some((_, behind)) = arguments.split_first() {
+        for word in behind {
+            words.push(word.as_str())?;
+        }
+    }
+    Ok(words)
 }
 
 /// Does what the words ask, which are those after the program's name, and answers the exit status.
@@ -79,6 +101,7 @@ pub fn run_program<R: Read, W: Write, E: Write>(
 ) -> u8
     ensures told { words_fault (texts words.now) ≡ []
         → IsRunStatus (R.remaining reader.old) (R.remaining reader.new) (W.contents writer.old) (W.contents writer.new) result }
+    ensures done_without_a_word { result ≡ DONE → errors.new ≡ errors.old }
     ensures wrong_words { AreWrong (texts words.now)
         → (result ≡ COMMAND_LINE) ⊎ (result ≡ MEMORY) }
     ensures wrong_words_print_nothing { AreWrong (texts words.now) → writer.new ≡ writer.old }
@@ -103,6 +126,7 @@ fn answer_words<W: Write, E: Write>(error: &Error, writer: &mut W, errors: &mut 
     ensures quiet { kind_of error.now ≢ kind.DisplayHelp → kind_of error.now ≢ kind.DisplayVersion
         → writer.new ≡ writer.old }
     ensures status { IsWordsStatus result }
+    ensures done { result ≡ DONE → errors.new ≡ errors.old }
 {
     if error.kind() == ErrorKind::OutOfMemory {
         return end_by("memory", MEMORY, errors);

@@ -1,0 +1,12 @@
+use Rattle.std.proofs.Common.{◌≡◌, ◌∙◌, refl, ap}
+use Rattle.linda_kt.specs.Words.{texts, words_behind, words_fault}
+use Rattle.linda_kt.proofs.Statuses.{ends_for_memory}
+use Rattle.linda_kt.proofs.program.run_texts.Goals as goal
+
+pub returns-in-Ok-clause-told : goal.returns-in-Ok-clause-told
+returns-in-Ok-clause-told g c = λ none.
+    let same : texts c.as_slice.result.now ≡ words_behind c.args.arguments.now = ap texts c.as_slice.ensures.value ∙ c.in-Ok.ensures in
+    c.run_program.ensures.told (ap words_fault same ∙ none)
+
+pub returns-in-Err-clause-told : goal.returns-in-Err-clause-told
+returns-in-Err-clause-told g c = λ none. ends_for_memory _ _ _ _ c.end_by.result refl c.end_by.ensures
