@@ -1,5 +1,5 @@
 -- The nodes as numbers, for tables that have a row for each.
-use Rattle.std.specs.Prelude.{ℕ, ◌+◌, ◌*◌, ◌<◌}
+use Rattle.std.specs.Prelude.{ℕ, ◌+◌, ◌*◌}
 use Rattle.kt_tuple.specs.declared.node.NodeId.{NodeId}
 use Rattle.kt_tuple.specs.declared.node.NodeId.TheVariants.{Worker, Shard}
 
@@ -7,8 +7,3 @@ use Rattle.kt_tuple.specs.declared.node.NodeId.TheVariants.{Worker, Shard}
 abbrev pub node_index : NodeId → ℕ
 node_index (Worker n) = 2 * n
 node_index (Shard n) = 2 * n + 1
-
--- a name as a program can write it: the number fits one byte
-abbrev pub IsNode : NodeId → Type 0
-IsNode (Worker n) = n < 256
-IsNode (Shard n) = n < 256
