@@ -26,14 +26,10 @@ pub fn matching_has_one_home()
     ensures home { (shards : ℕ) (t : Template) (u : Tuple) → Matches t u → shard_of shards (kinds_of_places t) ≡ shard_of shards (kinds_of u) }
 {}
 
-/// Lists of kinds with one signature are one list.
-pub fn signatures_differ()
-    ensures { (a b : List Kind) → signature_of a ≡ signature_of b → a ≡ b }
-{}
-
-/// Nodes with one number are one node.
-pub fn node_numbers_differ()
-    ensures { (p q : NodeId) → node_index p ≡ node_index q → p ≡ q }
+/// Nodes with one number are one node, and lists of kinds with one signature are one list.
+pub fn numbers_tell_apart()
+    ensures nodes { (p q : NodeId) → node_index p ≡ node_index q → p ≡ q }
+    ensures kinds { (a b : List Kind) → signature_of a ≡ signature_of b → a ≡ b }
 {}
 
 /// What is read as a value, or as a place, stands in front of the text and is the one text of it. It has one

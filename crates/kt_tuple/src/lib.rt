@@ -19,7 +19,7 @@ pub use laws::{
     a_front_read_is_spelled_so, a_front_spelled_is_read,
     a_place_is_outside_or_too_long_by_its_shape, a_syntax_fault_is_at_the_longest_front,
     a_text_of_the_shape_has_these_faults, a_text_read_is_spelled_so, a_text_spelled_is_read,
-    matching_has_one_home, node_numbers_differ, signatures_differ,
+    matching_has_one_home, numbers_tell_apart,
 };
 pub use node::{NODES, NodeId};
 pub use op::{Answer, Op};

@@ -5,7 +5,7 @@ use crate::value::Kind;
 use std::marker::Model;
 
 /// The kinds of a list of at most 8 places, as one number: two such lists have one number only where
-/// they are one list (`signatures_differ`).
+/// they are one list (`numbers_tell_apart`).
 #[derive(Clone, Copy, Debug, PartialEq, Eq, Hash)]
 pub struct Signature {
     number: u64,

@@ -1,5 +1,6 @@
 //! What the program does with its words and its three streams.
 ghost use Rattle.std.specs.Prelude.{◌≡◌, ◌≢◌, ◌⊎◌, [], IsErr, IfOk};
+ghost use Rattle.std.specs.Vec.Iter.{into_iter_items};
 ghost use Rattle.clap.specs.Words.{kind_of};
 ghost use Rattle.clap.specs.declared.error.kind.ErrorKind.TheVariants as kind;
 ghost use Rattle.linda_kt.specs.Status.{IsRunStatus, IsWordsStatus, status_of, step_status};
@@ -43,10 +44,14 @@ pub fn run_arguments<R: Read, W: Write, E: Write>(
     ensures no_text { IsErr arguments → (result ≡ COMMAND_LINE) ⊎ (result ≡ MEMORY) }
     ensures no_text_reads_nothing { IsErr arguments → reader.new ≡ reader.old }
     ensures no_text_prints_nothing { IsErr arguments → writer.new ≡ writer.old }
+    ensures told { IfOk arguments (λ a. words_fault (words_behind (into_iter_items a)) ≡ []
+        → IsRunStatus (R.remaining reader.old) (R.remaining reader.new) (W.contents writer.old) (W.contents writer.new) result) }
+    ensures wrong_words { IfOk arguments (λ a. AreWrong (words_behind (into_iter_items a))
+        → (result ≡ COMMAND_LINE) ⊎ (result ≡ MEMORY)) }
     ensures done_without_a_word { result ≡ DONE → errors.new ≡ errors.old }
 {
-    let texts: Result<Vec<String>, AllocError> = match arguments {
-        Ok(arguments) => arguments.collect(alloc),
+    let texts = match arguments {
+        Ok(arguments) => texts_of(alloc, arguments),
         Err(error) if error.kind() == io::ErrorKind::OutOfMemory => {
             return end_by("memory", MEMORY, errors);
         }
@@ -56,6 +61,13 @@ pub fn run_arguments<R: Read, W: Write, E: Write>(
         Ok(texts) => run_texts(alloc, &texts, reader, writer, errors),
         Err(AllocError) => end_by("memory", MEMORY, errors),
     }
+}
+
+/// All arguments, in order.
+fn texts_of(alloc: Global, arguments: Args) -> Result<Vec<String>, AllocError>
+    ensures { IfOk result (λ all. all.items ≡ into_iter_items arguments) }
+{
+    arguments.collect(alloc)
 }
 
 /// Runs the program on these texts, of which the first is its name.
