@@ -1,5 +1,5 @@
 -- The text of a command is read as that command.
-use Rattle.std.proofs.Common.{◌≡◌, ℕ, zero, suc, ◌≤◌, true, leb, List, [], ◌∷◌, ◌++◌, length, map, None, Some, Ok, refl, sym, ap, ◌∙◌, append_assoc, append-nil, arith}
+use Rattle.std.proofs.Common.{◌≡◌, ℕ, zero, suc, ◌≤◌, true, leb, List, [], ◌∷◌, ◌++◌, length, map, Some, Ok, refl, sym, ap, ◌∙◌, append_assoc, append-nil, arith}
 use Rattle.std.proofs.lemmas.Bool.{le-leb}
 use Rattle.std.proofs.lemmas.List.Elements.{All-head, All-tail, All-map}
 use Rattle.std.specs.Prelude.{ℤ, codes, decimal, All}
@@ -8,8 +8,9 @@ use Rattle.std.specs.Int.RustNames.{FitsSigned}
 use Rattle.std.specs.Fmt.{signed_decimal}
 use Rattle.kt_tuple.specs.Spelling.{separated, in_parentheses}
 use Rattle.kt_tuple.specs.Matching.{HasArity}
-use Rattle.kt_tuple.specs.Reading.{after_place, int_at}
+use Rattle.kt_tuple.specs.Reading.{int_at}
 use Rattle.kt_tuple.proofs.IntsRead.{signed_decimal_is_int, int_at_int, int_of_decimal}
+use Rattle.kt_tuple.proofs.WholesRead.{after_last, after_other}
 use Rattle.kt_tuple.proofs.Wholes.{separated-cons, length-map_same}
 use Rattle.kt_script.specs.declared.command.Actual.{Actual}
 use Rattle.kt_script.specs.declared.command.Slot.{Slot}
@@ -27,14 +28,6 @@ use Rattle.kt_scene.proofs.PatternLaws.{actuals_text, length-actuals}
 use Rattle.kt_scene.proofs.CommandLaws.{set_text}
 use Rattle.kt_scene.proofs.NumbersRead.{number_read}
 use Rattle.kt_scene.proofs.SlotsRead.{name_read, slot_read, IsApart}
-
-after_last : after_place (41 ∷ []) ≡ Ok None
-unfolding after_place
-after_last = refl
-
-after_other : (next : List ℕ) → after_place (44 ∷ 32 ∷ next) ≡ Ok (Some next)
-unfolding after_place
-after_other next = refl
 
 last_apart : IsApart (41 ∷ [])
 last_apart = record { first = 41; more = []; is = refl; no_name = refl; no_space = refl }

@@ -21,7 +21,7 @@ some_chosen : (b : Bool) (m n : ℕ) → cond b (Some m) None ≡ Some n → m �
 some_chosen true m n e = cc
 some_chosen false m n e = absurd cc
 
-none_chosen : (b : Bool) (m : ℕ) → cond b (Some m) None ≡ None → b ≡ false
+pub none_chosen : (b : Bool) (m : ℕ) → cond b (Some m) None ≡ None → b ≡ false
 none_chosen true m e = absurd cc
 none_chosen false m e = refl
 

@@ -28,11 +28,11 @@ record IsRead {A : Type 0} (read : Reader) (make : List ℕ → Option A) (n i :
   fine : AreFine i places
   made : made_from read make (8 - i) text ≡ xs
 
-after_last : after_place (41 ∷ []) ≡ Ok None
+pub after_last : after_place (41 ∷ []) ≡ Ok None
 unfolding after_place
 after_last = refl
 
-after_other : (next : List ℕ) → after_place (44 ∷ 32 ∷ next) ≡ Ok (Some next)
+pub after_other : (next : List ℕ) → after_place (44 ∷ 32 ∷ next) ≡ Ok (Some next)
 unfolding after_place
 after_other next = refl
 
