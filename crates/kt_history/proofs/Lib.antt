@@ -9,3 +9,4 @@ pub mod RowSteps
 pub mod Keeping
 pub mod Runs
 pub mod Sense
+pub mod Room

@@ -5,3 +5,4 @@ pub mod WellFormed
 pub mod Closed
 pub mod Marks
 pub mod Run
+pub mod Chronicle

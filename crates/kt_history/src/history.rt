@@ -1,10 +1,11 @@
-ghost use Rattle.std.specs.Prelude.{◌≡◌, ◌↔◌, ◌∷◌, ◌++◌, [], IsTrue, IfOk, OnOk, OnErr};
+ghost use Rattle.std.specs.Prelude.{◌≡◌, ◌≤◌, ◌↔◌, ◌∷◌, ◌++◌, [], IsTrue, IfOk, OnOk, OnErr};
 ghost use Rattle.std.specs.Option.{option_copied};
 ghost use Rattle.kt_history.specs.Closed.{act_of};
 ghost use Rattle.kt_history.specs.Line.{IsAct, line, note_at};
 ghost use Rattle.kt_history.specs.Survival.{Survives, services, lost_count};
 ghost use Rattle.kt_history.specs.Marks.{kept_service};
-ghost use Rattle.kt_history.specs.WellFormed.{MayFollow};
+ghost use Rattle.kt_history.specs.Chronicle.{node_of, room_of};
+ghost use Rattle.kt_history.specs.WellFormed.{CausesComeFirst, MayFollow};
 
 use crate::mark::{Mark, act_mark, lose, lost_with};
 use crate::note::{Act, Note};
@@ -24,13 +25,12 @@ pub struct History {
 }
 
 impl Model for History {
-    ghost use Rattle.std.specs.Prelude.{List};
-    ghost use Rattle.kt_history.specs.declared.note.Note.{Note as Entry};
+    ghost use Rattle.kt_history.specs.Chronicle.{Chronicle, chronicle};
     ghost use Rattle.kt_history.specs.Marks.{rows_of, Agrees};
 
-    ghost Value = { List Entry };
+    ghost Value = { Chronicle };
 
-    ghost view = { λ h. h.notes.items };
+    ghost view = { λ h. chronicle h.notes h.marks h.lines.items };
 
     ghost invariant = { λ h. Agrees h.notes.items (rows_of h.lines.items) h.marks.items h.lost };
 }
@@ -40,7 +40,7 @@ impl History {
 
     /// The history of nothing.
     pub fn new(alloc: Global) -> History
-        ensures { result ≡ [] }
+        ensures { result.notes ≡ [] }
     {
         History {
             notes: Vec::new(alloc),
@@ -50,16 +50,17 @@ impl History {
         }
     }
 
-    /// All notes, oldest first.
+    /// All notes, oldest first: each might follow those before it.
     pub fn notes(&self) -> &[Note]
-        ensures { result.now ≡ self.now }
+        ensures notes { result.now ≡ self.now.notes }
+        ensures causes { CausesComeFirst self.now.notes }
     {
         &self.notes
     }
 
     /// The act of this number, if it names one.
     pub fn act(&self, number: u64) -> Option<&Act>
-        ensures { option_copied result ≡ act_of (note_at self.now number) }
+        ensures { option_copied result ≡ act_of (note_at self.now.notes number) }
     {
         if number == 0 {
             return None;
@@ -72,7 +73,7 @@ impl History {
 
     /// The numbers of the node's acts that were not cut off, oldest first.
     pub fn line(&self, node: NodeId) -> &[u64]
-        ensures { result.now ≡ line self.now node }
+        ensures { result.now ≡ line self.now.notes node }
     {
         match self.lines.get(node.index()) {
             Some(line) => line,
@@ -82,7 +83,7 @@ impl History {
 
     /// Whether the number names an act.
     pub fn is_act(&self, number: u64) -> bool
-        ensures { IsTrue result ↔ IsAct self.now number }
+        ensures { IsTrue result ↔ IsAct self.now.notes number }
     {
         1 <= number
             && number <= self.notes.len() as u64
@@ -92,7 +93,7 @@ impl History {
     /// Whether the note may come next: an act's cause is an act of the history, and a cut keeps no more
     /// than the line has.
     pub fn may_follow(&self, note: &Note) -> bool
-        ensures { IsTrue result ↔ MayFollow self.now note.now }
+        ensures { IsTrue result ↔ MayFollow self.now.notes note.now }
     {
         match note {
             Note::Act(act) => act.by == 0 || self.is_act(act.by),
@@ -100,27 +101,46 @@ impl History {
         }
     }
 
-    /// Appends the note. Where memory is wanting the history stays as it was.
+    /// Appends the note, which must be one that may follow, as `may_follow` tells. Where memory is wanting
+    /// the notes stay as they were.
     pub fn push(&mut self, note: Note) -> Result<(), AllocError>
-        requires { MayFollow self.old note }
-        ensures ok { OnOk result (self.new ≡ self.old ++ note ∷ []) }
-        ensures err { OnErr result (self.new ≡ self.old) }
+        requires { MayFollow self.old.notes note }
+        ensures ok { OnOk result (self.new.notes ≡ self.old.notes ++ note ∷ []) }
+        ensures err { OnErr result (self.new.notes ≡ self.old.notes) }
+    {
+        self.make_room(note.node())?;
+        self.add(note);
+        Ok(())
+    }
+
+    /// Makes room for one more note of the node, and leaves the notes as they are.
+    pub fn make_room(&mut self, node: NodeId) -> Result<(), AllocError>
+        ensures same { self.new.notes ≡ self.old.notes }
+        ensures ok { OnOk result (1 ≤ room_of self.new node) }
+    {
+        self.notes.reserve(1)?;
+        self.marks.reserve(1)?;
+        reserve_row(&mut self.lines, node.index())
+    }
+
+    /// Appends a note that may follow and that there is room for, as `make_room` makes it. It takes no memory.
+    pub fn add(&mut self, note: Note)
+        requires follows { MayFollow self.old.notes note }
+        requires room { 1 ≤ room_of self.old (node_of note) }
+        ensures { self.new.notes ≡ self.old.notes ++ note ∷ [] }
     {
         match note {
-            Note::Act(act) => self.push_act(act),
-            Note::Cut { node, keep } => self.push_cut(node, keep),
+            Note::Act(act) => self.add_act(act),
+            Note::Cut { node, keep } => self.add_cut(node, keep),
         }
     }
 
-    fn push_act(&mut self, act: Act) -> Result<(), AllocError>
-        requires { MayFollow self.old (notes.Act act) }
-        ensures ok { OnOk result (self.new ≡ self.old ++ notes.Act act ∷ []) }
-        ensures err { OnErr result (self.new ≡ self.old) }
+    fn add_act(&mut self, act: Act)
+        requires follows { MayFollow self.old.notes (notes.Act act) }
+        requires room { 1 ≤ room_of self.old act.node }
+        ensures { self.new.notes ≡ self.old.notes ++ notes.Act act ∷ [] }
     {
         let place = act.node.index();
-        self.notes.reserve(1)?;
-        self.marks.reserve(1)?;
-        reserve_row(&mut self.lines, place)?;
         let number = self.notes.len() as u64 + 1;
         let mark = act_mark(&self.marks, last_number(&self.lines[place]), act.by);
         let note = Note::Act(act);
@@ -128,36 +148,32 @@ impl History {
         append(&mut self.lines, place, number);
         self.marks.push_reserved(mark);
         self.notes.push_reserved(note);
-        Ok(())
     }
 
-    fn push_cut(&mut self, node: NodeId, keep: u64) -> Result<(), AllocError>
-        requires { MayFollow self.old (notes.Cut node keep) }
-        ensures ok { OnOk result (self.new ≡ self.old ++ notes.Cut node keep ∷ []) }
-        ensures err { OnErr result (self.new ≡ self.old) }
+    fn add_cut(&mut self, node: NodeId, keep: u64)
+        requires follows { MayFollow self.old.notes (notes.Cut node keep) }
+        requires room { 1 ≤ room_of self.old node }
+        ensures { self.new.notes ≡ self.old.notes ++ notes.Cut node keep ∷ [] }
     {
         let place = node.index();
         let kept = keep as usize;
-        self.notes.reserve(1)?;
-        self.marks.reserve(1)?;
         let lost = behind(&self.lines, place, kept);
         self.lost = lose(&self.notes, &mut self.marks, lost, self.lost);
         shorten(&mut self.lines, place, kept);
         self.marks.push_reserved(Mark::NONE);
         self.notes.push_reserved(Note::Cut { node, keep });
-        Ok(())
     }
 
     /// Whether the number names an act with nothing lost in its past.
     pub fn survives(&self, number: u64) -> bool
-        ensures { IsTrue result ↔ Survives self.now number }
+        ensures { IsTrue result ↔ Survives self.now.notes number }
     {
         1 <= number && number <= self.marks.len() as u64 && self.marks[number as usize - 1].survives
     }
 
     /// The surviving services, oldest first.
     pub fn survivors(&self, alloc: Global) -> Result<Vec<Service>, AllocError>
-        ensures { IfOk result (λ survivors. survivors.items ≡ services self.now) }
+        ensures { IfOk result (λ survivors. survivors.items ≡ services self.now.notes) }
     {
         let mut services = Vec::new(alloc);
         for (place, note) in self.notes.iter().enumerate() {
@@ -168,7 +184,7 @@ impl History {
 
     /// How many services do not survive.
     pub fn lost_count(&self) -> u64
-        ensures { result ≡ lost_count self.now }
+        ensures { result ≡ lost_count self.now.notes }
     {
         self.lost
     }

@@ -50,7 +50,18 @@ pub enum Note {
 }
 
 impl Note {
+    ghost use Rattle.kt_history.specs.Chronicle.{node_of};
     ghost use Rattle.kt_history.specs.Marks.{is_service, note_service};
+
+    /// The node that it is of.
+    pub fn node(&self) -> NodeId
+        ensures { result ≡ node_of self.now }
+    {
+        match self {
+            Note::Act(act) => act.node,
+            Note::Cut { node, .. } => *node,
+        }
+    }
 
     /// Whether it is the service of a request.
     pub fn is_service(&self) -> bool

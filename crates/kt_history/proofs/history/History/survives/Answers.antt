@@ -5,6 +5,7 @@ use Rattle.kt_history.specs.declared.mark.Mark.{Mark}
 use Rattle.kt_history.specs.declared.note.Note.{Note}
 use Rattle.kt_history.specs.Survival.{Survives}
 use Rattle.kt_history.specs.Marks.{no_mark}
+use Rattle.kt_history.proofs.Room.{shown_notes}
 use Rattle.kt_history.proofs.Keeping.{survives-answer, survives-none}
 use Rattle.kt_history.proofs.history.History.survives.Goals as goal
 use Rattle.kt_history.proofs.history.History.survives.Goals.{then-number-ge1, else-number-ge1}
@@ -20,7 +21,7 @@ returns-then-number-len c =
     let here : c.args.number - 1 < length c.self.inside.marks.items = omega (arith, within) in
     let mark = c.index.ensures ∙ get_or_default c.self.inside.marks.items (c.args.number - 1) c.index.result.now no_mark here in
     let P : List Note → Type 0 = λ h. IsTrue c.index.result.now.survives ↔ Survives h c.args.number in
-    subst P c.self.view_is (survives-answer _ _ _ _ c.self.invariant c.args.number c.index.result.now.survives within.0 (omega (arith, within.1, c.self.invariant.lengths)) (ap (λ (m : Mark). m.survives) mark))
+    subst P (shown_notes c.self.view_is) (survives-answer _ _ _ _ c.self.invariant c.args.number c.index.result.now.survives within.0 (omega (arith, within.1, c.self.invariant.lengths)) (ap (λ (m : Mark). m.survives) mark))
 
 pub returns-else-number-len : goal.returns-else-number-len
 returns-else-number-len c =
@@ -30,5 +31,5 @@ returns-else-number-len c =
       | else-number-ge1 w ↦ omega (arith, w.if-number-ge1.false, within.0)
     ] in
     let P : List Note → Type 0 = λ h. Survives h c.args.number → ⊥ in
-    let none = subst P c.self.view_is (survives-none _ _ _ _ c.self.invariant c.args.number out) in
+    let none = subst P (shown_notes c.self.view_is) (survives-none _ _ _ _ c.self.invariant c.args.number out) in
     (λ t. absurd (false≢true (sym c.if-number-len.false ∙ t)), λ s. absurd (none s))

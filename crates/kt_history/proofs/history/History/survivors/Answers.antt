@@ -4,6 +4,7 @@ use Rattle.std.proofs.lemmas.List.{take_all, get_or_default}
 use Rattle.kt_history.specs.declared.mark.Mark.{Mark}
 use Rattle.kt_history.specs.Survival.{services, survives, services_of, marked_acts, marked_from}
 use Rattle.kt_history.specs.Marks.{note_service, no_mark}
+use Rattle.kt_history.proofs.Room.{shown_notes}
 use Rattle.kt_history.proofs.Keeping.{services-more}
 use Rattle.kt_history.proofs.history.History.survivors.Goals as goal
 
@@ -20,15 +21,15 @@ loop-place-preserved c =
     let at = c.note-item.is ∙ ap (λ xs. get_or xs i c.note-item.result) items in
     let here : i < length c.self.inside.marks.items = omega (arith, lt, c.self.invariant.lengths) in
     let mark = c.index.ensures ∙ get_or_default c.self.inside.marks.items i c.index.result.now no_mark here in
-    let lives = ap (λ (m : Mark). m.survives) mark ∙ c.self.invariant.survive i lt ∙ ap (λ g. survives g (suc i)) c.self.view_is in
+    let lives = ap (λ (m : Mark). m.survives) mark ∙ c.self.invariant.survive i lt ∙ ap (λ g. survives g (suc i)) (shown_notes c.self.view_is) in
     c.in_ok-keep_service.ensures
     ∙ ap (λ xs. xs ++ cond c.index.result.now.survives (option_to_list (note_service c.note-item.result)) []) c.loop-place.invariant
-    ∙ ap (λ b. services_of (marked_acts (survives c.args.self.now) (take i h)) ++ cond b (option_to_list (note_service c.note-item.result)) []) lives
-    ∙ sym (services-more (survives c.args.self.now) h i c.note-item.result lt at)
+    ∙ ap (λ b. services_of (marked_acts (survives c.args.self.now.notes) (take i h)) ++ cond b (option_to_list (note_service c.note-item.result)) []) lives
+    ∙ sym (services-more (survives c.args.self.now.notes) h i c.note-item.result lt at)
 
 pub returns : goal.returns
 unfolding services
 returns c =
     let h = c.self.inside.notes.items in
     let le : length h ≤ c.loop-place.place = omega (arith, c.loop-place-test.false, ap length c.deref-note-items.ensures.value) in
-    c.loop-place.invariant ∙ ap (λ g. services_of (marked_acts (survives c.args.self.now) g)) (take_all c.loop-place.place h le ∙ c.self.view_is)
+    c.loop-place.invariant ∙ ap (λ g. services_of (marked_acts (survives c.args.self.now.notes) g)) (take_all c.loop-place.place h le ∙ (shown_notes c.self.view_is))
