@@ -2,13 +2,14 @@
 use Rattle.std.proofs.Common.{◌≡◌, ℕ, zero, suc, ◌<◌, true, List, ◌∷◌, Option, None, Some, refl, sym, ap, ◌∙◌, subst, ◌⊎◌, inl, inr, arith, Contains, Decides}
 use Rattle.std.proofs.lemmas.Bool.{and_parts, and_from, cases_Bool, eq-eqb, false≢true, cases_eq, cond-true, cond-false, ne_eqb}
 use Rattle.kt_tuple.specs.declared.node.NodeId.{NodeId}
+use Rattle.kt_tuple.specs.declared.service.Service.{Service}
 use Rattle.kt_history.specs.declared.note.Act.{Act}
 use Rattle.kt_history.specs.declared.note.Note.{Note}
 use Rattle.kt_history.specs.declared.note.Note.TheVariants as notes
 use Rattle.kt_history.specs.Line.{note_at, before, IsAct, line}
 use Rattle.kt_history.specs.Past.{StoodBefore, IsCauseOf, InPast, itself, in_line, by_cause}
 use Rattle.kt_history.specs.WellFormed.{CausesComeFirst}
-use Rattle.kt_history.specs.Survival.{Stands, IsLost, Survives, note_stands, note_causes, stands_back, survives}
+use Rattle.kt_history.specs.Survival.{Stands, IsLost, Survives, note_stands, note_causes, stands_back, survives, services, lost_count, AreSurvivors, IsLostCount}
 use Rattle.kt_history.specs.Closed.{IsClosed}
 use Rattle.kt_history.proofs.Lists.{Contains-none, Contains-here, Contains-there, Contains-cons_cases, list_all-at, list_all-from, list_any-from_Contains, Contains-from_list_any}
 use Rattle.kt_history.proofs.Lines.{line-own}
@@ -135,3 +136,17 @@ survives-closed h w = record {
   below = λ g n t s. (survives-decides h w g).1 (Survives-past h g n ((survives-decides h w n).0 t) (in_line s itself));
   cause = λ g n t s. (survives-decides h w g).1 (Survives-past h g n ((survives-decides h w n).0 t) (by_cause s itself));
 }
+
+-- what the test picks are the services of what survives
+pub AreSurvivors-from : (h k : List Note) (found : List Service) → h ≡ k → CausesComeFirst h → found ≡ services k → AreSurvivors k found
+unfolding services
+AreSurvivors-from h k found same w is =
+    let P : List Note → Type 0 = λ g. CausesComeFirst g in
+    record { marks = survives k; marked = λ n. survives-decides k (subst P same w) n; are = is }
+
+-- what the test leaves is what does not survive
+pub IsLostCount-from : (h k : List Note) (count : ℕ) → h ≡ k → CausesComeFirst h → count ≡ lost_count k → IsLostCount k count
+unfolding lost_count
+IsLostCount-from h k count same w is =
+    let P : List Note → Type 0 = λ g. CausesComeFirst g in
+    record { marks = survives k; marked = λ n. survives-decides k (subst P same w) n; is = is }

@@ -1,5 +1,5 @@
 -- What of a history lasts: the acts with nothing lost in their past, and the services among them.
-use Rattle.std.specs.Prelude.{ℕ, zero, suc, ◌==◌, Bool, true, false, not, ◌&&◌, if◌then◌else◌, List, [], ◌∷◌, Option, None, Some, length, Contains}
+use Rattle.std.specs.Prelude.{◌≡◌, ◌↔◌, IsTrue, ℕ, zero, suc, ◌==◌, Bool, true, false, not, ◌&&◌, if◌then◌else◌, List, [], ◌∷◌, Option, None, Some, length, Contains}
 use Rattle.std.specs.List.{filter_map, list_any, list_all}
 use Rattle.kt_tuple.specs.declared.node.NodeId.{NodeId}
 use Rattle.kt_tuple.specs.declared.service.Service.{Service}
@@ -68,6 +68,18 @@ marked_acts marks h = marked_from marks 1 h
 -- the surviving services by rising number
 unfoldable pub services : List Note → List Service
 services h = services_of (marked_acts (survives h) h)
+
+-- these are the services of the acts that survive, by rising number
+pub record AreSurvivors (h : List Note) (found : List Service) : Type 0 where
+  pub marks : ℕ → Bool
+  pub marked : (n : ℕ) → IsTrue (marks n) ↔ Survives h n
+  pub are : found ≡ services_of (marked_acts marks h)
+
+-- so many services are of acts that do not survive
+pub record IsLostCount (h : List Note) (count : ℕ) : Type 0 where
+  pub marks : ℕ → Bool
+  pub marked : (n : ℕ) → IsTrue (marks n) ↔ Survives h n
+  pub is : count ≡ length (services_of (marked_acts (λ n. not (marks n)) h))
 
 -- how many services do not survive
 unfoldable pub lost_count : List Note → ℕ

@@ -2,7 +2,7 @@ ghost use Rattle.std.specs.Prelude.{◌≡◌, ◌≤◌, ◌↔◌, ◌∷◌, 
 ghost use Rattle.std.specs.Option.{option_copied};
 ghost use Rattle.kt_history.specs.Closed.{act_of};
 ghost use Rattle.kt_history.specs.Line.{IsAct, line, note_at};
-ghost use Rattle.kt_history.specs.Survival.{Survives, services, lost_count};
+ghost use Rattle.kt_history.specs.Survival.{AreSurvivors, IsLostCount, Survives, services, lost_count};
 ghost use Rattle.kt_history.specs.Marks.{kept_service};
 ghost use Rattle.kt_history.specs.Chronicle.{node_of, room_of};
 ghost use Rattle.kt_history.specs.WellFormed.{CausesComeFirst, MayFollow};
@@ -173,7 +173,8 @@ impl History {
 
     /// The surviving services, oldest first.
     pub fn survivors(&self, alloc: Global) -> Result<Vec<Service>, AllocError>
-        ensures { IfOk result (λ survivors. survivors.items ≡ services self.now.notes) }
+        ensures services { IfOk result (λ found. found.items ≡ services self.now.notes) }
+        ensures survive { IfOk result (λ found. AreSurvivors self.now.notes found.items) }
     {
         let mut services = Vec::new(alloc);
         for (place, note) in self.notes.iter().enumerate() {
@@ -184,7 +185,8 @@ impl History {
 
     /// How many services do not survive.
     pub fn lost_count(&self) -> u64
-        ensures { result ≡ lost_count self.now.notes }
+        ensures count { result ≡ lost_count self.now.notes }
+        ensures lost { IsLostCount self.now.notes result }
     {
         self.lost
     }

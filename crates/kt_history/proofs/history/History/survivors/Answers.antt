@@ -1,10 +1,11 @@
-use Rattle.std.proofs.Common.{ap, sym, ◌∙◌, [], arith, take, cond, ◌++◌, length, get_or, suc, ◌≤◌, ◌<◌}
+use Rattle.std.proofs.Common.{◌≡◌, ap, sym, ◌∙◌, [], arith, take, cond, ◌++◌, length, get_or, suc, ◌≤◌, ◌<◌}
 use Rattle.std.specs.Option.{option_to_list}
 use Rattle.std.proofs.lemmas.List.{take_all, get_or_default}
 use Rattle.kt_history.specs.declared.mark.Mark.{Mark}
 use Rattle.kt_history.specs.Survival.{services, survives, services_of, marked_acts, marked_from}
 use Rattle.kt_history.specs.Marks.{note_service, no_mark}
 use Rattle.kt_history.proofs.Room.{shown_notes}
+use Rattle.kt_history.proofs.Survivors.{AreSurvivors-from}
 use Rattle.kt_history.proofs.Keeping.{services-more}
 use Rattle.kt_history.proofs.history.History.survivors.Goals as goal
 
@@ -27,9 +28,16 @@ loop-place-preserved c =
     ∙ ap (λ b. services_of (marked_acts (survives c.args.self.now.notes) (take i h)) ++ cond b (option_to_list (note_service c.note-item.result)) []) lives
     ∙ sym (services-more (survives c.args.self.now.notes) h i c.note-item.result lt at)
 
-pub returns : goal.returns
+found_is : (c : goal.After-loop-place) → c.loop-place.services.items ≡ services c.args.self.now.notes
 unfolding services
-returns c =
+found_is c =
     let h = c.self.inside.notes.items in
     let le : length h ≤ c.loop-place.place = omega (arith, c.loop-place-test.false, ap length c.deref-note-items.ensures.value) in
-    c.loop-place.invariant ∙ ap (λ g. services_of (marked_acts (survives c.args.self.now.notes) g)) (take_all c.loop-place.place h le ∙ (shown_notes c.self.view_is))
+    c.loop-place.invariant ∙ ap (λ g. services_of (marked_acts (survives c.args.self.now.notes) g)) (take_all c.loop-place.place h le ∙ shown_notes c.self.view_is)
+
+pub returns-clause-services : goal.returns-clause-services
+returns-clause-services c = found_is c
+
+pub returns-clause-survive : goal.returns-clause-survive
+returns-clause-survive c =
+    AreSurvivors-from c.self.inside.notes.items c.args.self.now.notes c.loop-place.services.items (shown_notes c.self.view_is) c.self.invariant.causes (found_is c)
