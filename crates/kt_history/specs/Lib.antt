@@ -6,3 +6,4 @@ pub mod Closed
 pub mod Marks
 pub mod Run
 pub mod Chronicle
+pub mod Equality

@@ -1,6 +1,7 @@
 //! What happened, and what of it lasts.
 #![tactic(auto)]
 
+mod equality;
 mod history;
 mod laws;
 mod mark;

@@ -71,7 +71,7 @@ fn place_of(tuples: &[Tuple], tuple: &Tuple) -> Option<usize>
     ensures none { IfNone result (¬ Contains tuples.now tuple.now) }
 {
     for (place, other) in tuples.iter().enumerate() {
-        if other.equals(tuple) {
+        if other == tuple {
             return Some(place);
         }
     }

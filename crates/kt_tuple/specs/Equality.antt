@@ -1,10 +1,10 @@
 -- When two values or places are one, as tests that compute, and that these tests decide equality.
-use Rattle.std.specs.Prelude.{◌≡◌, Bool, true, false, nat_eq, refl}
+use Rattle.std.specs.Prelude.{◌≡◌, ℕ, List, Bool, true, false, nat_eq, refl}
 use Rattle.std.specs.Bool.{Decides}
 use Rattle.std.specs.Cmp.{IsEquivalence, unsigned_Decides, signed_Decides}
 use Rattle.std.specs.Cmp.Lexicographic.{pointwise, pointwise_decides}
 use Rattle.std.specs.Ordering.{int_eq}
-use Rattle.std.proofs.Common.{sym, ap}
+use Rattle.std.proofs.Common.{sym, ap, ◌∙◌}
 use Rattle.kt_tuple.specs.declared.value.Value.{Value}
 use Rattle.kt_tuple.specs.declared.value.Value.TheVariants.{Int, Str}
 use Rattle.kt_tuple.specs.declared.value.Kind.{Kind}
@@ -21,6 +21,10 @@ value_eq (Int m) (Int n) = int_eq m n
 value_eq (Int m) (Str t) = false
 value_eq (Str s) (Int n) = false
 value_eq (Str s) (Str t) = pointwise nat_eq s t
+
+-- two texts are equal exactly where they are one
+pub text_eq_decides : (a b : List ℕ) → Decides (pointwise nat_eq a b) (a ≡ b)
+text_eq_decides a b = pointwise_decides unsigned_Decides a b
 
 pub kind_eq_decides : (a b : Kind) → Decides (kind_eq a b) (a ≡ b)
 kind_eq_decides kinds.Int kinds.Int = (λ _. refl, λ _. refl)
@@ -47,3 +51,7 @@ equivalence_from_decides E d = record {
   same true b f g = sym (f refl)
   same false true f g = g refl
   same false false f g = refl
+
+-- a test that answers as one that decides equality decides it too
+pub decides_as : {K : Type 0} {E F : K → K → Bool} → ((a b : K) → Decides (E a b) (a ≡ b)) → ((a b : K) → F a b ≡ E a b) → (a b : K) → Decides (F a b) (a ≡ b)
+decides_as d same a b = (λ e. (d a b).0 (sym (same a b) ∙ e), λ e. same a b ∙ (d a b).1 e)

@@ -1,6 +1,7 @@
 //! Linda's values, tuples, templates and operations, their text, and the sequential space.
 #![tactic(auto)]
 
+mod equality;
 mod laws;
 mod node;
 mod op;
@@ -15,6 +16,7 @@ mod tuple;
 mod value;
 mod writing;
 
+pub use equality::Equality;
 pub use laws::{
     a_front_read_is_spelled_so, a_front_spelled_is_read,
     a_place_is_outside_or_too_long_by_its_shape, a_syntax_fault_is_at_the_longest_front,

@@ -57,13 +57,6 @@ impl Op {
             Op::Rdp(template) => Op::Rdp(template.copy(alloc)?),
         })
     }
-
-    /// Whether both are one operation on one tuple or template.
-    pub fn equals(&self, other: &Op) -> bool
-        ensures { IsTrue result ↔ (self.now ≡ other.now) }
-    {
-        self == other
-    }
 }
 
 impl Answer {
@@ -76,13 +69,6 @@ impl Answer {
             Answer::Got(tuple) => Ok(Answer::Got(tuple.copy(alloc)?)),
             Answer::None => Ok(Answer::None),
         }
-    }
-
-    /// Whether both are one answer with one tuple.
-    pub fn equals(&self, other: &Answer) -> bool
-        ensures { IsTrue result ↔ (self.now ≡ other.now) }
-    {
-        self == other
     }
 }
 

@@ -35,7 +35,7 @@ impl Place {
         ensures decided { result ≡ admits self.now value.now }
     {
         match self {
-            Place::Actual(actual) => actual.equals(value),
+            Place::Actual(actual) => actual == value,
             Place::Formal(kind) => *kind == value.kind(),
         }
     }
@@ -118,13 +118,6 @@ impl Template {
             signature = signature.then(place.kind());
         }
         signature
-    }
-
-    /// Whether both have the same places in the same order.
-    pub fn equals(&self, other: &Template) -> bool
-        ensures { IsTrue result ↔ (self.now ≡ other.now) }
-    {
-        self == other
     }
 }
 

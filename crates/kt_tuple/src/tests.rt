@@ -66,7 +66,7 @@ fn admitted_values(rt: HostRuntime) -> Result<(), Fail> {
     for (place, (kind, admitted)) in template.places().iter().zip(expected) {
         assert_eq!(rt; place.kind(), kind);
         for (value, is_admitted) in tuple.values().iter().zip(admitted) {
-            assert!(rt; value.copy().equals(value));
+            assert!(rt; value.copy() == *value);
             assert_eq!(rt; place.admits(value), is_admitted, "{place:?} and {value:?}");
         }
     }
@@ -92,8 +92,8 @@ fn matching(rt: HostRuntime) -> Result<(), Fail> {
     for (template, tuple, do_match) in PAIRS {
         let template = Template::parse(rt.alloc(), template)?;
         let tuple = Tuple::parse(rt.alloc(), tuple)?;
-        assert!(rt; template.copy(rt.alloc())?.equals(&template));
-        assert!(rt; tuple.copy(rt.alloc())?.equals(&tuple));
+        assert_eq!(rt; template.copy(rt.alloc())?, template);
+        assert_eq!(rt; tuple.copy(rt.alloc())?, tuple);
         assert_eq!(rt;
             template.matches(&tuple),
             do_match,
@@ -152,7 +152,7 @@ fn copies(rt: HostRuntime) -> Result<(), Fail> {
     for (i, op) in ops.iter().enumerate() {
         for (j, other) in ops.iter().enumerate() {
             assert_eq!(rt;
-                op.copy(rt.alloc())?.equals(other),
+                op.copy(rt.alloc())? == *other,
                 i == j,
                 "{op:?} and {other:?}"
             );
@@ -162,7 +162,7 @@ fn copies(rt: HostRuntime) -> Result<(), Fail> {
     for (i, answer) in answers.iter().enumerate() {
         for (j, other) in answers.iter().enumerate() {
             assert_eq!(rt;
-                answer.copy(rt.alloc())?.equals(other),
+                answer.copy(rt.alloc())? == *other,
                 i == j,
                 "{answer:?} and {other:?}"
             );

@@ -69,13 +69,6 @@ impl Tuple {
         }
         signature
     }
-
-    /// Whether both have the same values in the same order.
-    pub fn equals(&self, other: &Tuple) -> bool
-        ensures { IsTrue result ↔ (self.now ≡ other.now) }
-    {
-        self == other
-    }
 }
 
 fn copy_values(alloc: Global, values: &[Value]) -> Result<Vec<Value>, AllocError>

@@ -42,12 +42,4 @@ impl Value {
             Value::Str(s) => Value::Str(s.copy()),
         }
     }
-
-    /// Whether both are of one kind and have one content.
-    pub fn equals(&self, other: &Value) -> bool
-        ensures meaning { IsTrue result ↔ (self.now ≡ other.now) }
-        ensures decided { result ≡ value_eq self.now other.now }
-    {
-        self == other
-    }
 }
