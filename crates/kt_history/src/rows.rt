@@ -1,4 +1,5 @@
 ghost use Rattle.std.specs.Prelude.{◌≡◌, ◌∷◌, ◌++◌, [], ℕ, ◌<◌, take, drop, length, slice_set, vec_len, OnOk};
+ghost use Rattle.kt_tuple.specs.Node.{names};
 ghost use Rattle.kt_history.specs.Marks.{last_of, rows_of, row_at, HasRoom, SameRows};
 
 use std::alloc::AllocError;
@@ -18,7 +19,7 @@ pub(crate) fn last_number(numbers: &[u64]) -> u64
 
 /// Makes room for one more number in the row at this place.
 pub(crate) fn reserve_row(rows: &mut Rows, place: usize) -> Result<(), AllocError>
-    requires { place < 512 }
+    requires { place < names }
     ensures same { SameRows rows.old rows.new }
     ensures ok { OnOk result (HasRoom rows.new place) }
 {

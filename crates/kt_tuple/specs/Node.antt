@@ -6,6 +6,10 @@ use Rattle.std.proofs.Common.{ap}
 use Rattle.kt_tuple.specs.declared.node.NodeId.{NodeId}
 use Rattle.kt_tuple.specs.declared.node.NodeId.TheVariants.{Worker, Shard}
 
+-- how many names there are: 256 of workers and 256 of shards
+abbrev pub names : ℕ
+names = 512
+
 -- a number of its own for each node: workers have the even ones, shards the odd ones
 abbrev pub node_index : NodeId → ℕ
 node_index (Worker n) = 2 * n

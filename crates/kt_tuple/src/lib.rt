@@ -23,7 +23,7 @@ pub use laws::{
     a_text_of_the_shape_has_these_faults, a_text_read_is_spelled_so, a_text_spelled_is_read,
     matching_has_one_home, numbers_tell_apart,
 };
-pub use node::{NODES, NodeId};
+pub use node::NodeId;
 pub use op::{Answer, Op};
 pub use parse_error::ParseError;
 pub use reading::{

@@ -9,16 +9,13 @@ pub enum NodeId {
     Shard(u8),
 }
 
-/// How many names there are.
-pub const NODES: usize = 512;
-
 impl NodeId {
-    ghost use Rattle.kt_tuple.specs.Node.{node_index};
+    ghost use Rattle.kt_tuple.specs.Node.{names, node_index};
 
-    /// A number of its own for each node, below 512: a place in a table of nodes.
+    /// A number of its own for each node, below the 512 names that there are: a place in a table of nodes.
     pub fn index(self) -> usize
         ensures value { result ≡ node_index self }
-        ensures below { result < NODES }
+        ensures below { result < names }
     {
         match self {
             NodeId::Worker(n) => 2 * n as usize,

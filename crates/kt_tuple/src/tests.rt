@@ -178,7 +178,7 @@ fn node_numbers(rt: HostRuntime) {
         (NodeId::Worker(0), 0),
         (NodeId::Shard(0), 1),
         (NodeId::Worker(1), 2),
-        (NodeId::Shard(255), NODES - 1),
+        (NodeId::Shard(255), 511),
     ] {
         assert_eq!(rt; node.index(), number, "of {node:?}");
     }
