@@ -5,7 +5,7 @@ ghost use Rattle.kt_history.specs.Run.{IsRun, CanStep, IsThere, TakesOut};
 use kt_tuple::{Answer, Op, Service, Tuple};
 use std::alloc::{AllocError, Global};
 
-/// The tuples to which services that are one run of the space lead from the empty space.
+/// The tuples to which services lead from the empty space; the services must be one run of the space.
 pub fn space_of(alloc: Global, services: &[Service]) -> Result<Vec<Tuple>, AllocError>
     requires { IsRun services.now }
     ensures { IfOk result (λ tuples. IsSpaceRun services.now tuples.items) }

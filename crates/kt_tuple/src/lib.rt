@@ -37,7 +37,3 @@ pub use template::{Place, Template};
 pub use tuple::{MAX_PLACES, Tuple};
 pub use value::{Kind, Value};
 
-#[cfg(test)]
-mod tests;
-#[cfg(test)]
-mod text_tests;

@@ -50,7 +50,8 @@ impl Signature {
         self.number
     }
 
-    /// Which of the shards holds the tuples of this signature, counted from 1.
+    /// Which of the shards, of which there must be one at least, holds the tuples of this signature, counted
+    /// from 1.
     pub fn shard_of(self, shards: u8) -> u8
         requires { 1 ≤ shards }
         ensures { result ≡ self % shards + 1 }

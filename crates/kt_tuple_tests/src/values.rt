@@ -1,6 +1,6 @@
 //! Each public call on its happy path, the makers at their limits, and examples worked out by hand.
 
-use super::*;
+use kt_tuple::{Answer, Kind, NodeId, Op, ParseError, Place, Str, Template, Tuple, Value};
 use std::alloc::Global;
 use std::process::Abort;
 use std::test::Fail;
@@ -8,22 +8,29 @@ use std::test::Fail;
 /// A string is made of 0 to 64 characters from the space to the tilde.
 #[test]
 fn strings(rt: HostRuntime) -> Result<(), Fail> {
-    for (character, count, is_made) in [
-        (b'a', 0, true),
-        (b'a', 64, true),
-        (b'a', 65, false),
-        (b' ', 1, true),
-        (b'~', 1, true),
-        (31, 1, false),
-        (127, 1, false),
-    ] {
-        match Str::new(&vec![in rt.alloc(); character; count]?) {
+    assert_strings(&rt, rt.alloc(), &STRINGS)
+}
+
+/// A character, how often it stands, and whether a string is made of that.
+const STRINGS: [(u8, usize, bool); 7] = [
+    (b'a', 0, true),
+    (b'a', 64, true),
+    (b'a', 65, false),
+    (b' ', 1, true),
+    (b'~', 1, true),
+    (31, 1, false),
+    (127, 1, false),
+];
+
+fn assert_strings(rt: &impl Abort, alloc: Global, rows: &[(u8, usize, bool)]) -> Result<(), Fail> {
+    for (character, count, is_made) in rows {
+        match Str::new(&vec![in alloc; *character; *count]?) {
             Some(string) => {
-                assert!(rt; is_made, "{count} times {character} is made");
-                assert_eq!(rt; string.as_bytes().len(), count);
+                assert!(rt; *is_made, "{count} times {character} is made");
+                assert_eq!(rt; string.as_bytes().len(), *count);
                 assert!(rt; string.copy() == string);
             }
-            None => assert!(rt; !is_made, "{count} times {character} is not made"),
+            None => assert!(rt; !*is_made, "{count} times {character} is not made"),
         }
     }
     Ok(())
@@ -73,8 +80,10 @@ fn admitted_values(rt: HostRuntime) -> Result<(), Fail> {
     Ok(())
 }
 
-/// Templates, tuples, and whether they match.
-const PAIRS: [(&[u8], &[u8], bool); 10] = [
+/// A template, a tuple, and whether they match.
+type Pair = (&'static [u8], &'static [u8], bool);
+
+const PAIRS: [Pair; 10] = [
     (b"(\"a\", ?int)", b"(\"a\", 1)", true),
     (b"(\"a\", ?int)", b"(\"b\", 1)", false),
     (b"(\"a\", ?int)", b"(\"a\", \"1\")", false),
@@ -89,17 +98,21 @@ const PAIRS: [(&[u8], &[u8], bool); 10] = [
 
 #[test]
 fn matching(rt: HostRuntime) -> Result<(), Fail> {
-    for (template, tuple, do_match) in PAIRS {
-        let template = Template::parse(rt.alloc(), template)?;
-        let tuple = Tuple::parse(rt.alloc(), tuple)?;
-        assert_eq!(rt; template.copy(rt.alloc())?, template);
-        assert_eq!(rt; tuple.copy(rt.alloc())?, tuple);
+    assert_matches(&rt, rt.alloc(), &PAIRS)
+}
+
+fn assert_matches(rt: &impl Abort, alloc: Global, rows: &[Pair]) -> Result<(), Fail> {
+    for (template, tuple, do_match) in rows {
+        let template = Template::parse(alloc, template)?;
+        let tuple = Tuple::parse(alloc, tuple)?;
+        assert_eq!(rt; template.copy(alloc)?, template);
+        assert_eq!(rt; tuple.copy(alloc)?, tuple);
         assert_eq!(rt;
             template.matches(&tuple),
-            do_match,
+            *do_match,
             "{template:?} and {tuple:?}"
         );
-        if do_match {
+        if *do_match {
             assert_eq!(rt; template.signature(), tuple.signature());
         }
     }
@@ -148,21 +161,24 @@ fn answers(alloc: Global) -> Result<[Answer; 4], ParseError> {
 /// A copy equals what was copied and nothing else.
 #[test]
 fn copies(rt: HostRuntime) -> Result<(), Fail> {
-    let ops = ops(rt.alloc())?;
+    assert_ops(&rt, rt.alloc(), &ops(rt.alloc())?)?;
+    assert_given(&rt, rt.alloc(), &answers(rt.alloc())?)
+}
+
+fn assert_ops(rt: &impl Abort, alloc: Global, ops: &[Op]) -> Result<(), Fail> {
     for (i, op) in ops.iter().enumerate() {
         for (j, other) in ops.iter().enumerate() {
-            assert_eq!(rt;
-                op.copy(rt.alloc())? == *other,
-                i == j,
-                "{op:?} and {other:?}"
-            );
+            assert_eq!(rt; op.copy(alloc)? == *other, i == j, "{op:?} and {other:?}");
         }
     }
-    let answers = answers(rt.alloc())?;
+    Ok(())
+}
+
+fn assert_given(rt: &impl Abort, alloc: Global, answers: &[Answer]) -> Result<(), Fail> {
     for (i, answer) in answers.iter().enumerate() {
         for (j, other) in answers.iter().enumerate() {
             assert_eq!(rt;
-                answer.copy(rt.alloc())? == *other,
+                answer.copy(alloc)? == *other,
                 i == j,
                 "{answer:?} and {other:?}"
             );

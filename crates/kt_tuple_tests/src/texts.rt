@@ -1,6 +1,9 @@
 //! The text of tuples and templates, against texts worked out by hand from the grammar.
 
-use super::*;
+use kt_tuple::{
+    Answer, Kind, Op, ParseError, Place, Str, Template, Tuple, Value, after_place, formal_at,
+    int_at, int_of, is_in_range, is_short, place_at, place_of, value_at, value_of, word_at,
+};
 use std::alloc::Global;
 use std::process::Abort;
 use std::test::Fail;
@@ -203,15 +206,19 @@ fn limits(rt: HostRuntime) -> Result<(), Fail> {
 
 #[test]
 fn template_texts(rt: HostRuntime) -> Result<(), Fail> {
-    for (text, expected) in TEMPLATES {
-        match Template::parse(rt.alloc(), text) {
+    assert_templates(&rt, rt.alloc(), &TEMPLATES)
+}
+
+fn assert_templates(rt: &impl Abort, alloc: Global, rows: &[Row]) -> Result<(), Fail> {
+    for (text, expected) in rows {
+        match Template::parse(alloc, text) {
             Ok(template) => {
                 assert!(rt; expected.is_ok(), "{text:?} is read");
-                let mut written = Vec::new(rt.alloc());
+                let mut written = Vec::new(alloc);
                 template.write_to(&mut written)?;
-                assert_eq!(rt; written.as_slice(), text);
+                assert_eq!(rt; written.as_slice(), *text);
             }
-            Err(error) => assert_eq!(rt; Err(error), expected, "at {text:?}"),
+            Err(error) => assert_eq!(rt; Err(error), *expected, "at {text:?}"),
         }
     }
     Ok(())
@@ -237,30 +244,30 @@ fn values_are_read(rt: HostRuntime) -> Result<(), Fail> {
 /// Operations and answers as a report shows them.
 #[test]
 fn operations_and_answers(rt: HostRuntime) -> Result<(), Fail> {
-    let tuple = || Tuple::parse(rt.alloc(), b"(\"a\", 1)");
-    let template = || Template::parse(rt.alloc(), b"(\"a\", ?int)");
-    let ops = [
-        (Op::Out(tuple()?), b"out (\"a\", 1)".as_slice()),
-        (Op::In(template()?), b"in (\"a\", ?int)"),
-        (Op::Rd(template()?), b"rd (\"a\", ?int)"),
-        (Op::Inp(template()?), b"inp (\"a\", ?int)"),
-        (Op::Rdp(template()?), b"rdp (\"a\", ?int)"),
-    ];
-    for (op, text) in ops {
-        let mut written = Vec::new(rt.alloc());
-        op.write_to(&mut written)?;
-        assert_eq!(rt; written.as_slice(), text);
-    }
-    let answers = [
-        (Answer::Done, b"done".as_slice()),
-        (Answer::Got(tuple()?), b"got (\"a\", 1)"),
-        (Answer::None, b"none"),
-    ];
-    for (answer, text) in answers {
-        let mut written = Vec::new(rt.alloc());
-        answer.write_to(&mut written)?;
-        assert_eq!(rt; written.as_slice(), text);
-    }
+    let alloc = rt.alloc();
+    let tuple = || Tuple::parse(alloc, b"(\"a\", 1)");
+    let template = || Template::parse(alloc, b"(\"a\", ?int)");
+    assert_op(&rt, alloc, &Op::Out(tuple()?), b"out (\"a\", 1)")?;
+    assert_op(&rt, alloc, &Op::In(template()?), b"in (\"a\", ?int)")?;
+    assert_op(&rt, alloc, &Op::Rd(template()?), b"rd (\"a\", ?int)")?;
+    assert_op(&rt, alloc, &Op::Inp(template()?), b"inp (\"a\", ?int)")?;
+    assert_op(&rt, alloc, &Op::Rdp(template()?), b"rdp (\"a\", ?int)")?;
+    assert_answer(&rt, alloc, &Answer::Done, b"done")?;
+    assert_answer(&rt, alloc, &Answer::Got(tuple()?), b"got (\"a\", 1)")?;
+    assert_answer(&rt, alloc, &Answer::None, b"none")
+}
+
+fn assert_op(rt: &impl Abort, alloc: Global, op: &Op, text: &[u8]) -> Result<(), Fail> {
+    let mut written = Vec::new(alloc);
+    op.write_to(&mut written)?;
+    assert_eq!(rt; written.as_slice(), text);
+    Ok(())
+}
+
+fn assert_answer(rt: &impl Abort, alloc: Global, answer: &Answer, text: &[u8]) -> Result<(), Fail> {
+    let mut written = Vec::new(alloc);
+    answer.write_to(&mut written)?;
+    assert_eq!(rt; written.as_slice(), text);
     Ok(())
 }
 
