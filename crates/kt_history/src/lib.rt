@@ -8,8 +8,6 @@ mod mark;
 mod note;
 mod rows;
 mod space;
-#[cfg(test)]
-mod tests;
 
 pub use history::History;
 pub use kt_tuple::Service;

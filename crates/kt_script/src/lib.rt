@@ -19,8 +19,3 @@ pub use name::{MAX_NAME, Name, is_name, is_name_character};
 pub use next::Next;
 pub use script::{MAX_COMMANDS, MAX_VARIABLES, Script};
 pub use script_error::ScriptError;
-
-#[cfg(test)]
-mod random_tests;
-#[cfg(test)]
-mod tests;

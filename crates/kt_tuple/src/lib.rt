@@ -36,4 +36,3 @@ pub use string::{MAX_CHARACTERS, Str};
 pub use template::{Place, Template};
 pub use tuple::{MAX_PLACES, Tuple};
 pub use value::{Kind, Value};
-

@@ -168,10 +168,9 @@ fn assert_answers(rt: &impl Abort, alloc: Global, rows: &[Row]) -> Result<(), Fa
         match Tuple::parse(alloc, text) {
             Ok(tuple) => {
                 assert!(rt; expected.is_ok(), "{text:?} is read");
-                let mut written = Vec::from_slice(alloc, b"# ")?;
+                let mut written = Vec::new(alloc);
                 tuple.write_to(&mut written)?;
-                assert_eq!(rt; written.get(..2).ok_or("front")?, b"# ".as_slice());
-                assert_eq!(rt; written.get(2..).ok_or("text")?, *text);
+                assert_eq!(rt; written.as_slice(), *text);
             }
             Err(error) => assert_eq!(rt; Err(error), *expected, "at {text:?}"),
         }
@@ -241,20 +240,23 @@ fn values_are_read(rt: HostRuntime) -> Result<(), Fail> {
     Ok(())
 }
 
-/// Operations and answers as a report shows them.
+/// Operations as a report shows them.
 #[test]
-fn operations_and_answers(rt: HostRuntime) -> Result<(), Fail> {
+fn operations(rt: HostRuntime) -> Result<(), Fail> {
     let alloc = rt.alloc();
-    let tuple = || Tuple::parse(alloc, b"(\"a\", 1)");
-    let template = || Template::parse(alloc, b"(\"a\", ?int)");
-    assert_op(&rt, alloc, &Op::Out(tuple()?), b"out (\"a\", 1)")?;
-    assert_op(&rt, alloc, &Op::In(template()?), b"in (\"a\", ?int)")?;
-    assert_op(&rt, alloc, &Op::Rd(template()?), b"rd (\"a\", ?int)")?;
-    assert_op(&rt, alloc, &Op::Inp(template()?), b"inp (\"a\", ?int)")?;
-    assert_op(&rt, alloc, &Op::Rdp(template()?), b"rdp (\"a\", ?int)")?;
-    assert_answer(&rt, alloc, &Answer::Done, b"done")?;
-    assert_answer(&rt, alloc, &Answer::Got(tuple()?), b"got (\"a\", 1)")?;
-    assert_answer(&rt, alloc, &Answer::None, b"none")
+    assert_op(&rt, alloc, &Op::Out(tuple(alloc)?), b"out (\"a\", 1)")?;
+    assert_op(&rt, alloc, &Op::In(template(alloc)?), b"in (\"a\", ?int)")?;
+    assert_op(&rt, alloc, &Op::Rd(template(alloc)?), b"rd (\"a\", ?int)")?;
+    assert_op(&rt, alloc, &Op::Inp(template(alloc)?), b"inp (\"a\", ?int)")?;
+    assert_op(&rt, alloc, &Op::Rdp(template(alloc)?), b"rdp (\"a\", ?int)")
+}
+
+fn tuple(alloc: Global) -> Result<Tuple, ParseError> {
+    Tuple::parse(alloc, b"(\"a\", 1)")
+}
+
+fn template(alloc: Global) -> Result<Template, ParseError> {
+    Template::parse(alloc, b"(\"a\", ?int)")
 }
 
 fn assert_op(rt: &impl Abort, alloc: Global, op: &Op, text: &[u8]) -> Result<(), Fail> {
@@ -264,6 +266,15 @@ fn assert_op(rt: &impl Abort, alloc: Global, op: &Op, text: &[u8]) -> Result<(),
     Ok(())
 }
 
+/// Answers as a report shows them.
+#[test]
+fn answers(rt: HostRuntime) -> Result<(), Fail> {
+    let alloc = rt.alloc();
+    assert_answer(&rt, alloc, &Answer::Done, b"done")?;
+    assert_answer(&rt, alloc, &Answer::Got(tuple(alloc)?), b"got (\"a\", 1)")?;
+    assert_answer(&rt, alloc, &Answer::None, b"none")
+}
+
 fn assert_answer(rt: &impl Abort, alloc: Global, answer: &Answer, text: &[u8]) -> Result<(), Fail> {
     let mut written = Vec::new(alloc);
     answer.write_to(&mut written)?;
@@ -271,48 +282,54 @@ fn assert_answer(rt: &impl Abort, alloc: Global, answer: &Answer, text: &[u8]) -
     Ok(())
 }
 
+/// A front of a text and what is behind it, or from where on no text goes on.
+type Front = Result<(&'static [u8], &'static [u8]), &'static [u8]>;
+
 /// What stands in front of a text and what is behind it; where nothing does, what could not be read.
 #[test]
-fn fronts(rt: HostRuntime) -> Result<(), Fail> {
-    let (int, behind) = int_at(b"-12, 3)").ok().ok_or("an int")?;
-    assert_eq!(rt; (int, behind), (b"-12".as_slice(), b", 3)".as_slice()));
-    let (string, behind) = value_at(b"\"a\\\"b\")").ok().ok_or("a str")?;
-    assert_eq!(rt;
-        (string, behind),
-        (b"\"a\\\"b\"".as_slice(), b")".as_slice())
-    );
-    let (formal, behind) = formal_at(b"?str x").ok().ok_or("a formal")?;
-    assert_eq!(rt; (formal, behind), (b"?str".as_slice(), b" x".as_slice()));
-    let (place, behind) = place_at(b"?int)").ok().ok_or("a place")?;
-    assert_eq!(rt; (place, behind), (b"?int".as_slice(), b")".as_slice()));
-    assert_eq!(rt; int_at(b"--1").err().ok_or("no int")?, b"-1".as_slice());
-    assert_eq!(rt;
-        formal_at(b"?inx").err().ok_or("no formal")?,
-        b"x".as_slice()
-    );
-    assert_eq!(rt;
-        word_at(b"unless 3", b"unless ").ok().ok_or("a word")?,
-        b"3".as_slice()
-    );
-    assert_eq!(rt;
-        word_at(b"unlit", b"unless ").err().ok_or("no word")?,
-        b"it".as_slice()
-    );
-    Ok(())
+fn fronts(rt: HostRuntime) {
+    assert_front(&rt, int_at(b"-12, 3)"), Ok((b"-12", b", 3)")));
+    assert_front(&rt, value_at(b"\"a\\\"b\")"), Ok((b"\"a\\\"b\"", b")")));
+    assert_front(&rt, formal_at(b"?str x"), Ok((b"?str", b" x")));
+    assert_front(&rt, place_at(b"?int)"), Ok((b"?int", b")")));
+    assert_front(&rt, int_at(b"--1"), Err(b"-1"));
+    assert_front(&rt, formal_at(b"?inx"), Err(b"x"));
+}
+
+fn assert_front(rt: &impl Abort, read: Front, expected: Front) {
+    assert_eq!(rt; read, expected);
+}
+
+/// What stands behind a word, or from where on the text is not that word.
+#[test]
+fn words(rt: HostRuntime) {
+    assert_rest(&rt, word_at(b"unless 3", b"unless "), Ok(b"3"));
+    assert_rest(&rt, word_at(b"unlit", b"unless "), Err(b"it"));
+}
+
+fn assert_rest(
+    rt: &impl Abort,
+    read: Result<&'static [u8], &'static [u8]>,
+    expected: Result<&'static [u8], &'static [u8]>,
+) {
+    assert_eq!(rt; read, expected);
 }
 
 /// What may stand behind a place: the end, or a comma, a space and another place.
 #[test]
-fn behind_places(rt: HostRuntime) -> Result<(), Fail> {
-    let next = after_place(b", 3)").ok().ok_or("a comma")?;
-    assert_eq!(rt; next.ok_or("a place")?, b"3)".as_slice());
-    assert!(rt; after_place(b")").ok().ok_or("the end")?.is_none());
-    assert_eq!(rt; after_place(b") ").err().ok_or("no end")?, b" ".as_slice());
-    assert_eq!(rt;
-        after_place(b",3").err().ok_or("no space")?,
-        b"3".as_slice()
-    );
-    Ok(())
+fn behind_places(rt: HostRuntime) {
+    assert_next(&rt, after_place(b", 3)"), Ok(Some(b"3)")));
+    assert_next(&rt, after_place(b")"), Ok(None));
+    assert_next(&rt, after_place(b") "), Err(b" "));
+    assert_next(&rt, after_place(b",3"), Err(b"3"));
+}
+
+fn assert_next(
+    rt: &impl Abort,
+    read: Result<Option<&'static [u8]>, &'static [u8]>,
+    expected: Result<Option<&'static [u8]>, &'static [u8]>,
+) {
+    assert_eq!(rt; read, expected);
 }
 
 /// Spellings in range and short, and what they spell.

@@ -1,5 +1,5 @@
-use crate::{Act, History, Note, What};
-use kt_tuple::{Answer, Kind, NodeId, Op, Place, Str, Template, Tuple, Value};
+use kt_history::{Act, History, Note, What};
+use kt_tuple::{Answer, NodeId, Op, Template, Tuple};
 use std::alloc::Global;
 use std::process::Abort;
 use std::test::Fail;
@@ -10,29 +10,6 @@ struct Request {
     worker: u8,
     number: u64,
     op: Op,
-}
-
-fn numbers(alloc: Global, first: i64, second: Option<i64>) -> Result<Tuple, Fail> {
-    let mut values = Vec::new(alloc);
-    values.push(Value::Int(first))?;
-    if let Some(second) = second {
-        values.push(Value::Int(second))?;
-    }
-    Ok(Tuple::new(values).ok_or("arity")?)
-}
-
-fn text(alloc: Global, bytes: &[u8]) -> Result<Tuple, Fail> {
-    let mut values = Vec::new(alloc);
-    let text = Str::new(bytes).ok_or("text")?;
-    values.push(Value::Str(text))?;
-    Ok(Tuple::new(values).ok_or("arity")?)
-}
-
-fn two_numbers(alloc: Global) -> Result<Template, Fail> {
-    let mut places = Vec::new(alloc);
-    places.push(Place::Formal(Kind::Int))?;
-    places.push(Place::Formal(Kind::Int))?;
-    Ok(Template::new(places).ok_or("arity")?)
 }
 
 /// Appends an act about the request, once it is seen that it may come next.
@@ -63,7 +40,8 @@ fn act(
 fn cut(rt: &impl Abort, history: &mut History, node: NodeId, keep: u64) -> Result<(), Fail> {
     let note = Note::Cut { node, keep };
     assert!(rt; history.may_follow(&note));
-    history.push(note)?;
+    history.make_room(note.node())?;
+    history.add(note);
     Ok(())
 }
 
@@ -100,27 +78,27 @@ fn cascade(rt: HostRuntime) -> Result<(), Fail> {
     let put = Request {
         worker: 1,
         number: 1,
-        op: Op::Out(numbers(alloc, 1, Some(2))?),
+        op: Op::Out(Tuple::parse(alloc, b"(1, 2)")?),
     };
     let take = Request {
         worker: 2,
         number: 1,
-        op: Op::In(two_numbers(alloc)?),
+        op: Op::In(Template::parse(alloc, b"(?int, ?int)")?),
     };
     let five = Request {
         worker: 2,
         number: 2,
-        op: Op::Out(numbers(alloc, 5, None)?),
+        op: Op::Out(Tuple::parse(alloc, b"(5)")?),
     };
     let other = Request {
         worker: 3,
         number: 1,
-        op: Op::Out(text(alloc, b"z")?),
+        op: Op::Out(Tuple::parse(alloc, b"(\"z\")")?),
     };
     serve(&rt, alloc, &mut history, &put, s1, Answer::Done)?;
-    let got = Answer::Got(numbers(alloc, 1, Some(2))?);
+    let got = Answer::Got(Tuple::parse(alloc, b"(1, 2)")?);
     serve(&rt, alloc, &mut history, &take, s1, got)?;
-    let got = Answer::Got(numbers(alloc, 1, Some(2))?);
+    let got = Answer::Got(Tuple::parse(alloc, b"(1, 2)")?);
     act(&rt, alloc, &mut history, w2, 6, &take, What::Accepted(got))?;
     serve(&rt, alloc, &mut history, &five, s2, Answer::Done)?;
     serve(&rt, alloc, &mut history, &other, s3, Answer::Done)?;
@@ -162,7 +140,7 @@ fn answered_again(rt: HostRuntime) -> Result<(), Fail> {
     let put = Request {
         worker: 1,
         number: 1,
-        op: Op::Out(text(alloc, b"a")?),
+        op: Op::Out(Tuple::parse(alloc, b"(\"a\")")?),
     };
     serve(&rt, alloc, &mut history, &put, s1, Answer::Done)?;
     act(&rt, alloc, &mut history, w1, 0, &put, What::Repeat)?;

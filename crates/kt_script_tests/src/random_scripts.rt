@@ -1,7 +1,10 @@
 //! Random scripts and answers, each operation compared with a slow reading of the script from its beginning.
 
-use super::*;
 use arrayvec::ArrayVec;
+use kt_script::{
+    Actual, Actuals, Command, Env, MAX_COMMANDS, Name, Operation, Pattern, Script, ScriptError,
+    Slot,
+};
 use kt_tuple::{Answer, Kind, MAX_PLACES, Op, Place, Str, Template, Tuple, Value};
 use std::alloc::{AllocError, Global};
 use std::process::Abort;

@@ -1,5 +1,8 @@
-use super::*;
 use arrayvec::ArrayVec;
+use kt_script::{
+    Actual, Actuals, Command, Env, Name, Operation, Pattern, Script, ScriptError, Slot, is_name,
+    is_name_character,
+};
 use kt_tuple::{Answer, Kind, Op, Tuple, Value};
 use std::alloc::Global;
 use std::test::Fail;

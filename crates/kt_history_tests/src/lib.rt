@@ -1,0 +1,6 @@
+//! The public calls of kt_history on two histories worked out by hand. They stand in a crate of their own
+//! so that kt_history is proved once.
+#![tactic(auto)]
+
+#[cfg(test)]
+mod histories;
