@@ -1,0 +1,31 @@
+//! Laws about what a template picks, each the contract of a function with nothing to do.
+
+ghost use Rattle.std.specs.Prelude.{◌≡◌, ◌≤◌, ◌↔◌, ◌∷◌, ℕ, List, length, slice_get, Some, None, Contains, IsPermutation};
+ghost use Rattle.kt_tuple.specs.declared.template.Template.{Template};
+ghost use Rattle.kt_tuple.specs.declared.tuple.Tuple.{Tuple};
+ghost use Rattle.kt_tuple.specs.Matching.{Matches};
+ghost use Rattle.kt_space.specs.Picking.{TakesOut, matching, without_match};
+
+/// The match of a number is a tuple of the bag that matches, and as many that match stand before it as the
+/// number says. Without it the bag has just the others, in their order.
+pub fn a_match_is_taken_from_its_place()
+    ensures matches { (t : Template) (k : ℕ) (tuples : List Tuple) (u : Tuple)
+        → slice_get (matching t tuples) k ≡ Some u → Matches t u }
+    ensures contained { (t : Template) (k : ℕ) (tuples : List Tuple) (u : Tuple)
+        → slice_get (matching t tuples) k ≡ Some u → Contains tuples u }
+    ensures place { (t : Template) (k : ℕ) (tuples : List Tuple) (u : Tuple)
+        → slice_get (matching t tuples) k ≡ Some u → TakesOut t k tuples u (without_match t k tuples) }
+    ensures others { (t : Template) (k : ℕ) (tuples : List Tuple) (u : Tuple)
+        → slice_get (matching t tuples) k ≡ Some u → IsPermutation tuples (u ∷ without_match t k tuples) }
+{}
+
+/// There is no match of a number exactly where so many do not match, and then nothing is taken. Where there
+/// is no first one, nothing matches.
+pub fn no_match_is_given_where_fewer_match()
+    ensures fewer { (t : Template) (k : ℕ) (tuples : List Tuple)
+        → slice_get (matching t tuples) k ≡ None ↔ (length (matching t tuples) ≤ k) }
+    ensures all { (t : Template) (k : ℕ) (tuples : List Tuple)
+        → slice_get (matching t tuples) k ≡ None → without_match t k tuples ≡ tuples }
+    ensures nothing { (t : Template) (tuples : List Tuple)
+        → slice_get (matching t tuples) 0 ≡ None → (u : Tuple) → Contains tuples u → ¬ Matches t u }
+{}
