@@ -18,11 +18,13 @@ set_entry : {A : Type 0} (new : A) (entries : List A) (at : Option ℕ) (k : ℕ
 set_entry {A} new entries at k is = sym (ap (λ (o : Option ℕ). with_entry entries o new) is)
 
 -- the same of a list of which f is seen
-seen : {X A : Type 0} (f : X → A) (d : A) (xs : List X) (at : Option ℕ) (k : ℕ) (x : X) → at ≡ Some k → k < length xs → x ≡ get_or xs k x → entry_at d (map f xs) at ≡ f x
+seen : {X A : Type 0} (f : X → A) (d : A) (xs : List X) (at : Option ℕ) (k : ℕ) (x : X) → at ≡ Some k → k < length xs → x ≡ get_or xs k x
+    → entry_at d (map f xs) at ≡ f x
 seen {X} {A} f d xs at k x is lt was =
     ap (entry_at d (map f xs)) is ∙ get_or-map f xs k x d lt ∙ ap f (sym was)
 
-seen_set : {X A : Type 0} (f : X → A) (d : A) (xs : List X) (at : Option ℕ) (k : ℕ) (new : X) → at ≡ Some k → k < length xs → entry_at d (map f (set xs k new)) at ≡ f new
+seen_set : {X A : Type 0} (f : X → A) (d : A) (xs : List X) (at : Option ℕ) (k : ℕ) (new : X) → at ≡ Some k → k < length xs
+    → entry_at d (map f (set xs k new)) at ≡ f new
 seen_set {X} {A} f d xs at k new is lt =
     ap (λ (l : List A). entry_at d l at) (map-set f xs k new) ∙ entry_set d (f new) (map f xs) at k is (omega (arith, length-map xs f))
 
@@ -38,7 +40,8 @@ pub record IsAt {M : Type 0} (old : Network M) (workers shards : ℕ) (queues : 
   pub lt : k < length queues
 
 pub is_at : {M : Type 0} (old : Network M) (workers shards : ℕ) (queues : List (VecDeque M Global)) (p q : NodeId) (o : Option ℕ) (k : ℕ)
-    → network_of workers shards queues ≡ old → o ≡ place old.workers old.shards p q → o ≡ Some k → IfSome o (λ j. j < length old.queues) → IsAt old workers shards queues p q k
+    → network_of workers shards queues ≡ old → o ≡ place old.workers old.shards p q → o ≡ Some k → IfSome o (λ j. j < length old.queues)
+    → IsAt old workers shards queues p q k
 is_at {M} old workers shards queues p q o k view is some within =
     let below : k < length old.queues = subst (λ (x : Option ℕ). IfSome x (λ j. j < length old.queues)) some within in
     let count : length old.queues ≡ length queues = ap (λ (n : Network M). length n.queues) (sym view) ∙ length-map queues (λ x. x.items) in
@@ -61,6 +64,14 @@ room_was {M} old workers shards queues p q k was h e =
 pub queue_is : {M : Type 0} (old : Network M) (workers shards : ℕ) (queues : List (VecDeque M Global)) (p q : NodeId) (k : ℕ) (new : VecDeque M Global)
     → IsAt old workers shards queues p q k → queue (network_of workers shards (set queues k new)) p q ≡ new.items
 queue_is {M} old workers shards queues p q k new h = seen_set (λ (x : VecDeque M Global). x.items) [] queues (place workers shards p q) k new h.at h.lt
+
+-- what is done to the queue is done to what is on its way
+pub queue_becomes : {M : Type 0} (old : Network M) (workers shards : ℕ) (queues : List (VecDeque M Global)) (p q : NodeId) (k : ℕ)
+    (was new : VecDeque M Global) (f : List M → List M)
+    → IsAt old workers shards queues p q k → was ≡ get_or queues k was → new.items ≡ f was.items
+    → queue (network_of workers shards (set queues k new)) p q ≡ f (queue old p q)
+queue_becomes {M} old workers shards queues p q k was new f h e is =
+    queue_is old workers shards queues p q k new h ∙ is ∙ ap f (sym (queue_was old workers shards queues p q k was h e))
 
 pub room_is : {M : Type 0} (old : Network M) (workers shards : ℕ) (queues : List (VecDeque M Global)) (p q : NodeId) (k : ℕ) (new : VecDeque M Global)
     → IsAt old workers shards queues p q k → room (network_of workers shards (set queues k new)) p q ≡ spare new

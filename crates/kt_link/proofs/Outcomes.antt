@@ -6,10 +6,12 @@ pub on_ok : {A E P Q : Type 0} (r : Result A E) → (P → Q) → OnOk r P → O
 on_ok (Ok x) f p = f p
 on_ok (Err e) f p = tt
 
-pub appended : {A E M : Type 0} (r : Result A E) (q was new old : List M) (m : M) → q ≡ new → was ≡ old → new ≡ (if is_ok r then old ++ m ∷ [] else old) → OnOk r (q ≡ was ++ m ∷ [])
+pub appended : {A E M : Type 0} (r : Result A E) (q was new old : List M) (m : M) → q ≡ new → was ≡ old
+    → new ≡ (if is_ok r then old ++ m ∷ [] else old) → OnOk r (q ≡ was ++ m ∷ [])
 appended {A} {E} {M} (Ok x) q was new old m is at e = is ∙ e ∙ ap (λ (l : List M). l ++ m ∷ []) (sym at)
 appended (Err e) q was new old m is at _ = tt
 
-pub stayed : {A E M : Type 0} (r : Result A E) (q was new old : List M) (m : M) → q ≡ new → was ≡ old → new ≡ (if is_ok r then old ++ m ∷ [] else old) → OnErr r (q ≡ was)
+pub stayed : {A E M : Type 0} (r : Result A E) (q was new old : List M) (m : M) → q ≡ new → was ≡ old
+    → new ≡ (if is_ok r then old ++ m ∷ [] else old) → OnErr r (q ≡ was)
 stayed (Ok x) q was new old m is at e = tt
 stayed (Err y) q was new old m is at e = is ∙ e ∙ sym at

@@ -18,7 +18,8 @@ among-true count n e = let both = and_parts (nat_le 1 n) (nat_le n count) e in (
 among-is : (count n : ℕ) → 1 ≤ n → n ≤ count → is_among count n ≡ true
 among-is count n low high = and_from (nat_le 1 n) (nat_le n count) (le-leb 1 n low) (le-leb n count high)
 
-pub between-some : (workers shards w s k : ℕ) → place_between workers shards w s ≡ Some k → AreThere workers shards w s × (2 * ((w - 1) * shards + (s - 1)) ≡ k)
+pub between-some : (workers shards w s k : ℕ) → place_between workers shards w s ≡ Some k
+    → AreThere workers shards w s × (2 * ((w - 1) * shards + (s - 1)) ≡ k)
 between-some workers shards w s k e = by (is_among workers w && is_among shards s) refl e
   where
     by : (r : Bool) → (is_among workers w && is_among shards s) ≡ r → (if r then Some (2 * ((w - 1) * shards + (s - 1))) else None) ≡ Some k
@@ -28,7 +29,8 @@ between-some workers shards w s k e = by (is_among workers w && is_among shards 
 
 pub between-is : (workers shards w s : ℕ) → AreThere workers shards w s → place_between workers shards w s ≡ Some (2 * ((w - 1) * shards + (s - 1)))
 between-is workers shards w s h =
-    let t : (is_among workers w && is_among shards s) ≡ true = and_from (is_among workers w) (is_among shards s) (among-is workers w h.0.0 h.0.1) (among-is shards s h.1.0 h.1.1) in
+    let t : (is_among workers w && is_among shards s) ≡ true = and_from (is_among workers w) (is_among shards s) (among-is workers w h.0.0 h.0.1)
+    (among-is shards s h.1.0 h.1.1) in
     ap (λ (r : Bool). if r then Some (2 * ((w - 1) * shards + (s - 1))) else None) t
 
 -- whether there is a place
@@ -43,7 +45,8 @@ map-some (Some j) k e = (j, refl, cc)
 pub neighbours-from : (workers shards : ℕ) (p q : NodeId) (k : ℕ) → place workers shards p q ≡ Some k → AreNeighbours workers shards p q
 neighbours-from workers shards (Worker w) (Worker v) k e = absurd cc
 neighbours-from workers shards (Worker w) (Shard s) k e = (between-some workers shards w s k e).0
-neighbours-from workers shards (Shard s) (Worker w) k e = let h = map-some (place_between workers shards w s) k e in (between-some workers shards w s h.0 h.1).0
+neighbours-from workers shards (Shard s) (Worker w) k e = let h = map-some (place_between workers shards w s) k e in
+    (between-some workers shards w s h.0 h.1).0
 neighbours-from workers shards (Shard s) (Shard r) k e = absurd cc
 
 pub neighbours-place : (workers shards : ℕ) (p q : NodeId) → AreNeighbours workers shards p q → (k : ℕ) × (place workers shards p q ≡ Some k)
@@ -67,11 +70,32 @@ pub place-within : (workers shards : ℕ) (p q : NodeId) (k : ℕ) → place wor
 place-within workers shards (Worker w) (Worker v) k e = absurd cc
 place-within workers shards (Worker w) (Shard s) k e =
     let h = between-some workers shards w s k e in
-    omega (arith, h.0.0.0, h.0.0.1, h.0.1.0, h.0.1.1, h.1, mul-add-lt (w - 1) shards (s - 1) workers (omega (arith, h.0.0.0, h.0.0.1)) (omega (arith, h.0.1.0, h.0.1.1)), mul_comm shards workers)
+    omega (
+      arith,
+      h.0.0.0,
+      h.0.0.1,
+      h.0.1.0,
+      h.0.1.1,
+      h.1,
+      mul-add-lt (w - 1) shards (s - 1) workers (omega (arith, h.0.0.0, h.0.0.1))
+          (omega (arith, h.0.1.0, h.0.1.1)),
+      mul_comm shards workers,
+    )
 place-within workers shards (Shard s) (Worker w) k e =
     let m = map-some (place_between workers shards w s) k e in
     let h = between-some workers shards w s m.0 m.1 in
-    omega (arith, m.2, h.0.0.0, h.0.0.1, h.0.1.0, h.0.1.1, h.1, mul-add-lt (w - 1) shards (s - 1) workers (omega (arith, h.0.0.0, h.0.0.1)) (omega (arith, h.0.1.0, h.0.1.1)), mul_comm shards workers)
+    omega (
+      arith,
+      m.2,
+      h.0.0.0,
+      h.0.0.1,
+      h.0.1.0,
+      h.0.1.1,
+      h.1,
+      mul-add-lt (w - 1) shards (s - 1) workers (omega (arith, h.0.0.0, h.0.0.1))
+          (omega (arith, h.0.1.0, h.0.1.1)),
+      mul_comm shards workers,
+    )
 place-within workers shards (Shard s) (Shard r) k e = absurd cc
 
 -- row and column tell apart
@@ -81,7 +105,8 @@ same-row a b c d n lb ld e =
     let products : a * n ≡ c * n = ap (λ (x : ℕ). x * n) rows in
     (rows, omega (arith, products, e))
 
-same-pair : (workers shards w s v r : ℕ) → AreThere workers shards w s → AreThere workers shards v r → (w - 1) * shards + (s - 1) ≡ (v - 1) * shards + (r - 1) → (w ≡ v) × (s ≡ r)
+same-pair : (workers shards w s v r : ℕ) → AreThere workers shards w s → AreThere workers shards v r
+    → (w - 1) * shards + (s - 1) ≡ (v - 1) * shards + (r - 1) → (w ≡ v) × (s ≡ r)
 same-pair workers shards w s v r h g e =
     let m = same-row (w - 1) (s - 1) (v - 1) (r - 1) shards (omega (arith, h.1.0, h.1.1)) (omega (arith, g.1.0, g.1.1)) e in
     (omega (arith, m.0, h.0.0, g.0.0), omega (arith, m.1, h.1.0, g.1.0))

@@ -1,5 +1,6 @@
 -- What the links between workers and shards hold, and where the queue of a pair of nodes stands.
-use Rattle.std.specs.Prelude.{◌≡◌, ℕ, suc, ◌-◌, ◌*◌, ◌+◌, ◌≤◌, ◌&&◌, nat_le, if◌then◌else◌, Bool, List, [], Option, None, Some, slice_index_or, set}
+use Rattle.std.specs.Prelude.{◌≡◌, ℕ, suc, ◌+◌, ◌-◌, ◌*◌, ◌≤◌, ◌&&◌, nat_le, if◌then◌else◌, Bool}
+use Rattle.std.specs.Prelude.{List, [], Option, None, Some, slice_index_or, set}
 use Rattle.std.specs.Option.{option_map}
 use Rattle.kt_tuple.specs.declared.node.NodeId.{NodeId}
 use Rattle.kt_tuple.specs.declared.node.NodeId.TheVariants.{Worker, Shard}
@@ -25,7 +26,8 @@ is_among count n = nat_le 1 n && nat_le n count
 
 -- the place of the queue from a worker to a shard, if they are there; the way back has the next place
 abbrev pub place_between : ℕ → ℕ → ℕ → ℕ → Option ℕ
-place_between workers shards w s = if is_among workers w && is_among shards s then Some (2 * ((w - 1) * shards + (s - 1))) else None
+place_between workers shards w s =
+    if is_among workers w && is_among shards s then Some (2 * ((w - 1) * shards + (s - 1))) else None
 
 -- the place of the queue from p to q, if they are neighbours
 abbrev pub place : ℕ → ℕ → NodeId → NodeId → Option ℕ

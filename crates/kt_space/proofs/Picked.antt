@@ -15,7 +15,8 @@ kept t zero u later e = rw e refl
 kept t (suc k) u later e = rw e refl
 
 -- a match that is not the one is kept too
-pub kept_match : (t : Template) (k : ℕ) (u : Tuple) (later : List Tuple) → matches t u ≡ true → without_match t (suc k) (u ∷ later) ≡ u ∷ without_match t k later
+pub kept_match : (t : Template) (k : ℕ) (u : Tuple) (later : List Tuple) → matches t u ≡ true
+    → without_match t (suc k) (u ∷ later) ≡ u ∷ without_match t k later
 unfolding without_match
 kept_match t k u later e = rw e refl
 
@@ -24,7 +25,8 @@ unfolding without_match
 taken_match t u later e = rw e refl
 
 -- where the matches before a place are k, the match there is the k-th
-pub match_here : (t : Template) (xs : List Tuple) (i : ℕ) (u : Tuple) → slice_get xs i ≡ Some u → matches t u ≡ true → slice_get (matching t xs) (length (matching t (take i xs))) ≡ Some u
+pub match_here : (t : Template) (xs : List Tuple) (i : ℕ) (u : Tuple) → slice_get xs i ≡ Some u → matches t u ≡ true
+    → slice_get (matching t xs) (length (matching t (take i xs))) ≡ Some u
 match_here t [] i u at m = absurd cc
 match_here t (x ∷ xs) zero u at m = let same : x ≡ u = cc in rw (ap (matches t) same ∙ m) at
 match_here t (x ∷ xs) (suc i) u at m = by (matches t x) (match_here t xs i u at m)
@@ -34,7 +36,8 @@ match_here t (x ∷ xs) (suc i) u at m = by (matches t x) (match_here t xs i u a
     by true rest = rest
     by false rest = rest
 
-pub without_here : (t : Template) (xs : List Tuple) (i : ℕ) (u : Tuple) → slice_get xs i ≡ Some u → matches t u ≡ true → remove xs i ≡ without_match t (length (matching t (take i xs))) xs
+pub without_here : (t : Template) (xs : List Tuple) (i : ℕ) (u : Tuple) → slice_get xs i ≡ Some u → matches t u ≡ true
+    → remove xs i ≡ without_match t (length (matching t (take i xs))) xs
 without_here t [] i u at m = absurd cc
 without_here t (x ∷ xs) zero u at m = let same : x ≡ u = cc in sym (taken_match t x xs (ap (matches t) same ∙ m))
 without_here t (x ∷ xs) (suc i) u at m = by (matches t x) refl (ap (λ (l : List Tuple). x ∷ l) (without_here t xs i u at m))
@@ -57,7 +60,8 @@ without_none t (x ∷ xs) k few = by (matches t x) refl k few (λ n. without_non
     by false e n few rest = kept t n x xs e ∙ ap (λ (l : List Tuple). x ∷ l) (rest n few)
 
 -- the same, as a search from the front finds them
-pub found : (t : Template) (xs : List Tuple) (i k : ℕ) (u : Tuple) → i < length xs → u ≡ get_or xs i u → matches t u ≡ true → length (matching t (take i xs)) ≡ k
+pub found : (t : Template) (xs : List Tuple) (i k : ℕ) (u : Tuple) → i < length xs → u ≡ get_or xs i u → matches t u ≡ true
+    → length (matching t (take i xs)) ≡ k
     → (slice_get xs i ≡ slice_get (matching t xs) k) × (remove xs i ≡ without_match t k xs)
 found t xs i k u lt is m at =
     let here : slice_get xs i ≡ Some u = slice_get_read xs (length xs) i u refl lt is in (

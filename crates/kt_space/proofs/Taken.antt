@@ -13,7 +13,8 @@ use Rattle.kt_space.proofs.Matched.{Matches-from_test, matches-from_Matches}
 use Rattle.kt_space.proofs.Picked.{kept, kept_match, taken_match}
 
 -- one more tuple before all
-more : (t : Template) (n k : ℕ) (x : Tuple) (xs new : List Tuple) (u : Tuple) → ((before : List Tuple) → length (matching t before) ≡ n → length (matching t (x ∷ before)) ≡ k)
+more : (t : Template) (n k : ℕ) (x : Tuple) (xs new : List Tuple) (u : Tuple)
+    → ((before : List Tuple) → length (matching t before) ≡ n → length (matching t (x ∷ before)) ≡ k)
     → new ≡ x ∷ without_match t n xs → TakesOut t n xs u (without_match t n xs) → TakesOut t k (x ∷ xs) u new
 more t n k x xs new u counts is h = record {
   before = x ∷ h.before;
@@ -32,7 +33,15 @@ takes_out t k (x ∷ xs) u e = by (matches t x) refl k e (λ n. takes_out t n xs
         → ((m : ℕ) → slice_get (matching t xs) m ≡ Some u → TakesOut t m xs u (without_match t m xs)) → TakesOut t n (x ∷ xs) u (without_match t n (x ∷ xs))
     by true m zero e rest =
         let same : x ≡ u = cc in
-        record { before = []; later = xs; was = ap (λ (v : Tuple). v ∷ xs) same; left = taken_match t x xs m; fits = subst (Matches t) same (Matches-from_test t x m); number = refl }
+        record {
+          before = [];
+          later = xs;
+          was = ap (λ (v : Tuple). v ∷ xs) same;
+          left = taken_match t x xs m;
+          fits = subst (Matches t) same
+              (Matches-from_test t x m);
+          number = refl;
+        }
     by true m (suc n) e rest = more t n (suc n) x xs _ u (λ before at. rw m (ap suc at)) (kept_match t n x xs m) (rest n e)
     by false m n e rest = more t n n x xs _ u (λ before at. rw m at) (kept t n x xs m) (rest n e)
 
@@ -42,7 +51,8 @@ match_contained t k xs u e =
     let here : Contains (u ∷ h.later) u = (0, omega arith, refl) in
     subst (λ (l : List Tuple). Contains l u) (sym h.was) (Contains-append_right h.before (u ∷ h.later) u here)
 
-pub match_permutes : (t : Template) (k : ℕ) (xs : List Tuple) (u : Tuple) → slice_get (matching t xs) k ≡ Some u → IsPermutation xs (u ∷ without_match t k xs)
+pub match_permutes : (t : Template) (k : ℕ) (xs : List Tuple) (u : Tuple) → slice_get (matching t xs) k ≡ Some u
+    → IsPermutation xs (u ∷ without_match t k xs)
 match_permutes t k xs u e =
     let h = takes_out t k xs u e in
     subst (λ (l : List Tuple). IsPermutation l (u ∷ without_match t k xs)) (sym h.was)

@@ -1,4 +1,5 @@
-ghost use Rattle.std.specs.Prelude.{◌≡◌, ◌<◌, ◌==◌, ◌++◌, ◌∷◌, [], length, remove, slice_get, None, IsTrue, IsOk, IfOk, IfErr, IfSome, IfNone, OnOk, OnErr};
+ghost use Rattle.std.specs.Prelude.{◌≡◌, ◌<◌, ◌↔◌, ◌++◌, ◌∷◌, [], length, remove, slice_get, None};
+ghost use Rattle.std.specs.Prelude.{IsTrue, IsOk, IfOk, IfErr, IfSome, IfNone, OnOk, OnErr};
 ghost use Rattle.std.specs.Option.{option_copied};
 ghost use Rattle.kt_space.specs.Picking.{matching, without_match};
 
@@ -18,7 +19,10 @@ impl Model for Bag {
 
     ghost Value = { Holding };
 
-    ghost view = { λ b. record { tuples = b.tuples.items; has_room = nat_lt (vec_len b.tuples) (vec_capacity b.tuples) } };
+    ghost view = { λ b. record {
+      tuples = b.tuples.items;
+      has_room = nat_lt (vec_len b.tuples) (vec_capacity b.tuples);
+    } };
 }
 
 impl Bag {
@@ -40,7 +44,7 @@ impl Bag {
 
     /// Whether there is no tuple.
     pub fn is_empty(&self) -> bool
-        ensures { result ≡ (length self.now.tuples == 0) }
+        ensures { IsTrue result ↔ (self.now.tuples ≡ []) }
     {
         self.tuples.is_empty()
     }
@@ -127,7 +131,8 @@ impl Bag {
 /// Where the match of this number stands.
 fn place_of(tuples: &[Tuple], template: &Template, number: usize) -> Option<usize>
     ensures within { IfSome result (λ place. place < length tuples.now) }
-    ensures match_there { IfSome result (λ place. slice_get tuples.now place ≡ slice_get (matching template.now tuples.now) number) }
+    ensures match_there { IfSome result (λ place.
+        slice_get tuples.now place ≡ slice_get (matching template.now tuples.now) number) }
     ensures others { IfSome result (λ place. remove tuples.now place ≡ without_match template.now number tuples.now) }
     ensures fewer { IfNone result (slice_get (matching template.now tuples.now) number ≡ None) }
     ensures all { IfNone result (without_match template.now number tuples.now ≡ tuples.now) }

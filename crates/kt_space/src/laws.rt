@@ -1,6 +1,7 @@
 //! Laws about what a template picks, each the contract of a function with nothing to do.
 
-ghost use Rattle.std.specs.Prelude.{◌≡◌, ◌≤◌, ◌↔◌, ◌∷◌, ℕ, List, length, slice_get, Some, None, Contains, IsPermutation};
+ghost use Rattle.std.specs.Prelude.{◌≡◌, ◌≤◌, ◌↔◌, ◌∷◌, ℕ, List, length, slice_get, Some, None};
+ghost use Rattle.std.specs.Prelude.{Contains, IsPermutation};
 ghost use Rattle.kt_tuple.specs.declared.template.Template.{Template};
 ghost use Rattle.kt_tuple.specs.declared.tuple.Tuple.{Tuple};
 ghost use Rattle.kt_tuple.specs.Matching.{Matches};
