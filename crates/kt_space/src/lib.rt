@@ -5,7 +5,10 @@ mod bag;
 mod laws;
 
 pub use bag::Bag;
-pub use laws::{a_match_is_taken_from_its_place, no_match_is_given_where_fewer_match};
+pub use laws::{
+    a_bag_makes_steps_of_the_space, a_match_is_taken_from_its_place,
+    no_match_is_given_where_fewer_match,
+};
 
 #[cfg(test)]
 mod tests;
