@@ -1,0 +1,4 @@
+pub mod Places
+pub mod Changed
+pub mod Outcomes
+pub mod Others

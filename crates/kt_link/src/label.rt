@@ -1,0 +1,20 @@
+ghost use Rattle.std.specs.Prelude.{◌↔◌, IsTrue};
+
+/// When a message was sent: the sender's incarnation, and how many it had sent in it. Labels compare by
+/// incarnation first. No message has the label `(0, 0)`, which is the default.
+#[derive(Clone, Copy, Debug, Default, PartialEq, Eq, PartialOrd, Ord, Hash)]
+pub struct Label {
+    pub incarnation: u64,
+    pub count: u64,
+}
+
+impl Label {
+    ghost use Rattle.kt_link.specs.Label.{IsBelow};
+
+    /// Whether this label is below the other.
+    pub fn is_below(self, other: Label) -> bool
+        ensures { IsTrue result ↔ IsBelow self other }
+    {
+        self < other
+    }
+}

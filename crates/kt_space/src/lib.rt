@@ -1,0 +1,14 @@
+//! A bag: tuples in order of arrival, from which a template picks.
+#![tactic(auto)]
+
+mod bag;
+mod laws;
+
+pub use bag::Bag;
+pub use laws::{
+    a_bag_makes_steps_of_the_space, a_match_is_taken_from_its_place,
+    no_match_is_given_where_fewer_match,
+};
+
+#[cfg(test)]
+mod tests;
