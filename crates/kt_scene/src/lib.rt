@@ -10,6 +10,8 @@ mod reading;
 mod replaying;
 mod report;
 mod scenario;
+mod sink;
+mod source;
 mod stream;
 mod writing;
 
@@ -23,7 +25,9 @@ pub use reading::{MAX_TEXT, read_scene};
 pub use replaying::replay;
 pub use report::write_report;
 pub use scenario::{Scenario, Work};
-pub use stream::{MAX_READS, read_text};
+pub use sink::Sink;
+pub use source::{MAX_READS, Outcome, Source};
+pub use stream::read_text;
 pub use writing::write_scene;
 
 #[cfg(test)]
