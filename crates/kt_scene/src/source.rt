@@ -69,6 +69,18 @@ impl<R: Read> Source<R> {
         self.calls
     }
 
+    /// The reader itself.
+    pub fn into_inner(self) -> R
+        ensures { R.remaining result ≡ self.bytes }
+    {
+        let Source {
+            reader,
+            calls: _,
+            outcome: _,
+        } = self;
+        reader
+    }
+
     /// Calls the reader once: how many bytes it gave, none at its end, where it failed, and where it was
     /// interrupted and may be called again. After 2,000,000 calls it is called no more.
     pub(crate) fn read(&mut self, buf: &mut [u8]) -> usize
