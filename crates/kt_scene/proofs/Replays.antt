@@ -7,7 +7,7 @@ use Rattle.kt_core.specs.State.{State}
 use Rattle.kt_core.specs.Reached.{opening}
 use Rattle.kt_scene.specs.declared.fault.ReplayFault.{ReplayFault}
 use Rattle.kt_scene.specs.declared.fault.ReplayFault.TheVariants as faults
-use Rattle.kt_scene.specs.Reading.{Play}
+use Rattle.kt_scene.specs.Reading.{Play, steps_of}
 use Rattle.kt_scene.specs.Scenario.{IsScenario}
 use Rattle.kt_core.specs.Runs.{RunsTo, IsRefusedAt}
 use Rattle.kt_scene.specs.Outside.{Reader}
@@ -22,7 +22,7 @@ run_fault cast steps s faults.Memory e f = f
 run_fault cast steps s faults.Read e f = f
 run_fault cast steps s faults.Write e f = f
 
-text_fault : (text : List ℕ) (play : Play) (fault : ReplayFault) → IsScenario text play → IsRunFault play.cast play.steps fault → IsTextFault text fault
+text_fault : (text : List ℕ) (play : Play) (fault : ReplayFault) → IsScenario text play → IsRunFault play.cast (steps_of play.work) fault → IsTextFault text fault
 text_fault text play (faults.Scene line cause) e f = absurd f
 text_fault text play (faults.Step at cause) e f = (play, e, f)
 text_fault text play (faults.Open cause) e f = (play, e)
@@ -30,11 +30,11 @@ text_fault text play faults.Memory e f = f
 text_fault text play faults.Read e f = f
 text_fault text play faults.Write e f = f
 
-pub told_leads : (text : List ℕ) (play : Play) (r : Result State ReplayFault) → IsScenario text play → IfOk r (λ s. RunsTo (opening play.cast) play.steps s) → IfOk r (LeadsTo text)
+pub told_leads : (text : List ℕ) (play : Play) (r : Result State ReplayFault) → IsScenario text play → IfOk r (λ s. RunsTo (opening play.cast) (steps_of play.work) s) → IfOk r (LeadsTo text)
 told_leads text play (Ok s) e runs = record { play = play; scenario = e; runs = runs }
 told_leads text play (Err fault) e runs = tt
 
-pub told_fault : (text : List ℕ) (play : Play) (r : Result State ReplayFault) → IsScenario text play → IfErr r (IsRunFault play.cast play.steps) → IfErr r (IsTextFault text)
+pub told_fault : (text : List ℕ) (play : Play) (r : Result State ReplayFault) → IsScenario text play → IfErr r (IsRunFault play.cast (steps_of play.work)) → IfErr r (IsTextFault text)
 told_fault text play (Ok s) e f = tt
 told_fault text play (Err fault) e f = text_fault text play fault e f
 

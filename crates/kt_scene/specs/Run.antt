@@ -6,10 +6,10 @@ use Rattle.kt_core.specs.State.{State}
 use Rattle.kt_core.specs.Reached.{opening}
 use Rattle.kt_core.specs.Runs.{RunsTo, IsRefusedAt}
 use Rattle.kt_scene.specs.declared.scenario.Scenario.{Scenario}
-use Rattle.kt_scene.specs.declared.scenario.Work.{Work}
-use Rattle.kt_scene.specs.declared.scenario.Work.TheVariants.{Steps}
+use Rattle.kt_scene.specs.declared.scenario.Work as written
+use Rattle.kt_scene.specs.declared.scenario.Work.TheVariants as works
 use Rattle.kt_scene.specs.Faults.{Explains}
-use Rattle.kt_scene.specs.Reading.{Play}
+use Rattle.kt_scene.specs.Reading.{Play, Work, Steps, steps_of}
 use Rattle.kt_scene.specs.Scenario.{IsScenario}
 use Rattle.kt_scene.specs.Report.{WritesReport, WritesReportFront}
 use Rattle.kt_scene.specs.Outside.{Reader, Writer}
@@ -27,11 +27,11 @@ IsStepFault old steps faults.Read = ⊥
 IsStepFault old steps faults.Write = ⊥
 
 -- what a scenario as the code has it stands for
-abbrev pub steps_in : Work → List Step
-steps_in (Steps steps) = steps.items
+abbrev pub work_in : written.Work → Work
+work_in (works.Steps steps) = Steps steps.items
 
 abbrev pub play_in : Scenario → Play
-play_in scenario = record { cast = scenario.scene; steps = steps_in scenario.work }
+play_in scenario = record { cast = scenario.scene; work = work_in scenario.work }
 
 -- what making the steps of a scenario answers: that the world could not be opened, or the first step refused
 abbrev pub IsRunFault : Cast → List Step → ReplayFault → Type 0
@@ -46,13 +46,13 @@ IsRunFault cast steps faults.Write = ⊥
 pub record LeadsTo (text : List ℕ) (s : State) : Type 0 where
   pub play : Play
   pub scenario : IsScenario text play
-  pub runs : RunsTo (opening play.cast) play.steps s
+  pub runs : RunsTo (opening play.cast) (steps_of play.work) s
 
 -- what a text answers: its first fault, or want of memory before that; or it is a scenario's, whose world could not be opened or whose first refused
 -- step this is
 abbrev pub IsTextFault : List ℕ → ReplayFault → Type 0
 IsTextFault text (faults.Scene line cause) = Explains text line cause
-IsTextFault text (faults.Step at cause) = (play : Play) × IsScenario text play × IsRefusedAt (opening play.cast) play.steps at cause
+IsTextFault text (faults.Step at cause) = (play : Play) × IsScenario text play × IsRefusedAt (opening play.cast) (steps_of play.work) at cause
 IsTextFault text (faults.Open cause) = (play : Play) × IsScenario text play
 IsTextFault text faults.Memory = ⊥
 IsTextFault text faults.Read = ⊥

@@ -3,6 +3,7 @@
 ghost use Rattle.std.specs.Prelude.{◌≡◌, Err, IfOk, IfErr, OnOk};
 ghost use Rattle.kt_core.specs.Reached.{opening};
 ghost use Rattle.kt_core.specs.Runs.{RunsTo};
+ghost use Rattle.kt_scene.specs.Reading.{steps_of};
 ghost use Rattle.kt_scene.specs.Run.{IsRunFault, IsStepFault, play_in, LeadsTo, IsTextFault, IsReplayed, WritesReplayed, WritesReplayedFront, IsWorldFault, IsReplayFault};
 ghost use Rattle.kt_scene.specs.Stream.{UnlessWrite};
 
@@ -58,8 +59,8 @@ fn world_told(alloc: Global, text: &[u8]) -> Result<World, ReplayFault>
 }
 
 fn run_scenario(alloc: Global, scenario: Scenario) -> Result<World, ReplayFault>
-    ensures replayed { IfOk result (λ world. RunsTo (opening (play_in scenario).cast) (play_in scenario).steps world) }
-    ensures fault { IfErr result (IsRunFault (play_in scenario).cast (play_in scenario).steps) }
+    ensures replayed { IfOk result (λ world. RunsTo (opening (play_in scenario).cast) (steps_of (play_in scenario).work) world) }
+    ensures fault { IfErr result (IsRunFault (play_in scenario).cast (steps_of (play_in scenario).work)) }
 {
     let Scenario { scene, work } = scenario;
     run(alloc, scene, work.steps())

@@ -1,4 +1,4 @@
-use Rattle.std.proofs.Common.{◌≡◌, ◌+◌, ◌<◌, length, take, refl, sym, ◌∙◌, arith, length-take}
+use Rattle.std.proofs.Common.{◌+◌, ◌<◌, length, take, refl, sym, ◌∙◌, arith, length-take}
 use Rattle.kt_scene.proofs.Known.{too_long}
 use Rattle.kt_scene.proofs.stream.read_text.Goals as goal
 
