@@ -23,7 +23,7 @@ pub fn read_text<R: Read>(alloc: Global, reader: &mut Source<R>) -> Result<Vec<u
 {
     let mut text = Vec::new(alloc);
     let mut chunk = [0u8; CHUNK];
-    // The reader answers its last call by `Failed`.
+    // A round more than the reader has calls: in that one it has failed.
     for _ in 0..MAX_READS + 1 {
         let count = reader.read(&mut chunk);
         match reader.outcome() {
