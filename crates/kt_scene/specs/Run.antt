@@ -1,4 +1,4 @@
--- Making the steps of a scenario, one after the other.
+-- What a replay of a scenario answers, and what it leaves read and written.
 use Rattle.std.specs.Prelude.{◌≡◌, ℕ, List, []}
 use Rattle.kt_core.specs.declared.step.Step.{Step}
 use Rattle.kt_core.specs.Cast.{Cast}

@@ -88,7 +88,7 @@ impl<R: Read> Source<R> {
         ensures within { result ≤ length buf.new }
         ensures bytes { Consumes self.old.bytes self.new.bytes (take result buf.new) }
         ensures counted { self.old.calls < 2000000 → self.new.calls ≡ self.old.calls + 1 }
-        ensures given_up { self.old.calls ≡ 2000000 → (self.new.outcome ≡ Outcome.Failed) × (self.new.calls ≡ 2000000) }
+        ensures given_up { self.old.calls ≡ 2000000 → self.new.outcome ≡ Outcome.Failed }
         ensures called { self.new.outcome ≢ Outcome.Failed → self.new.calls ≡ self.old.calls + 1 }
         ensures few { self.new.calls ≤ 2000000 }
         ensures end { self.new.outcome ≡ Outcome.Done → IsAtEnd self.new.bytes × (result ≡ 0) }

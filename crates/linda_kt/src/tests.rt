@@ -209,7 +209,8 @@ impl Write for Narrow {
     }
 }
 
-/// A word, room for a front of what is printed, and the whole of it. The second has room for all, which is not passed on.
+/// A word, room for a front of what is printed, and the whole of it. The second has room for all, which is not
+/// passed on.
 const NARROW: [(&str, usize, &str); 3] = [
     ("replay", 20, PUT_AND_TAKE_REPORT),
     ("replay", 95, PUT_AND_TAKE_REPORT),
