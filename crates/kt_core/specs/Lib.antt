@@ -17,3 +17,4 @@ pub mod Effect
 pub mod Ready
 pub mod Machine
 pub mod Reached
+pub mod Runs

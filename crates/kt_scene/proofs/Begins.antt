@@ -8,7 +8,7 @@ use Rattle.kt_scene.specs.declared.fault.SceneError.{SceneError}
 use Rattle.kt_scene.specs.declared.draft.Stage.{Stage}
 use Rattle.kt_scene.specs.declared.draft.Stage.TheVariants as stages
 use Rattle.kt_scene.specs.Lines.{Sketch, nothing_read, is_ended, line_read}
-use Rattle.kt_scene.specs.Reading.{Play, play_with}
+use Rattle.kt_scene.specs.Reading.{Play, steps_of, play_with}
 use Rattle.kt_scene.specs.Text.{script_lines, told_lines}
 use Rattle.kt_scene.specs.Scenario.{IsCommand, IsStep, IsPlay, is_told}
 use Rattle.kt_scene.specs.Faults.{Begin, play_of_scripts}
@@ -37,7 +37,7 @@ leads_split (x ∷ xs) ys s t h =
 -- the first lines of a scenario are read
 pub begin_leads : (lines : List (List ℕ)) → Begin lines → (u : Sketch) × LeadOn nothing_read lines u
 begin_leads lines h =
-    let s = among_steps h.play.cast.scripts h.play.steps in
+    let s = among_steps h.play.cast.scripts (steps_of h.play.work) in
     let Of : List (List ℕ) → Type 0 = λ l. LeadOn nothing_read l s in
     let body = with_ignored h.body nothing_read s refl (subst Of (sym h.told) (told_lead h.play h.rules)) in
     let all = leads_append nothing_read h.body (codes "end" ∷ []) s (at_end h.play) body (at_end h.play, refl, refl) in
@@ -64,7 +64,7 @@ script_rules s is h =
       shards = refl;
       scripts = All-push IsScript s.scripts s.commands h.scripts h.script;
       commands = All-push (All IsCommand) s.scripts s.commands h.held h.commands;
-      steps = All-nil IsStep;
+      work = All-nil IsStep;
     }
 
 pub script_told : (s : Sketch) → s.stage ≡ stages.Commands → IsGood s → told_lines (play_of_scripts (s.scripts ++ s.commands ∷ []) []) ≡ told_at stages.Commands s ++ codes "steps" ∷ []
@@ -93,7 +93,7 @@ least_rules = record {
   shards = refl;
   scripts = All-cons IsScript [] [] tt (All-nil IsScript);
   commands = All-cons (All IsCommand) [] [] (All-nil IsCommand) (All-nil (All IsCommand));
-  steps = All-nil IsStep;
+  work = All-nil IsStep;
 }
 
 by_stage : (stage : Stage) (s : Sketch) → s.stage ≡ stage → IsGood s → is_ended stage ≡ false → Completes s (told_at stage s)

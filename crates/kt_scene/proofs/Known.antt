@@ -1,8 +1,9 @@
 -- What is known of bytes after one write and another.
-use Rattle.std.proofs.Common.{◌≡◌, ℕ, ◌+◌, List, [], ◌++◌, take, drop, Option, Some, None, refl, sym, ap, ◌∙◌, subst, append_assoc}
+use Rattle.std.proofs.Common.{◌≡◌, ℕ, ◌+◌, ◌<◌, length, arith, length-append, List, [], ◌++◌, take, drop, Option, Some, None, refl, sym, ap, ◌∙◌, subst, append_assoc}
 use Rattle.std.proofs.Math.Seq.{take-add}
-use Rattle.std.specs.Io.KnownBytes.{Keeps, Appends}
+use Rattle.std.specs.Io.KnownBytes.{Keeps, Appends, Consumes}
 use Rattle.std.proofs.lemmas.List.{drop-drop, append-nil}
+use Rattle.kt_scene.specs.Stream.{IsTooLong}
 
 pub appends_then : (a b c : Option (List ℕ)) (x y : List ℕ) → Appends a b x → Appends b c y → Appends a c (x ++ y)
 appends_then None b c x y p q = tt
@@ -39,3 +40,18 @@ written_same a b c bytes rest left (n, so_far, is) kept same = (n, appends_keeps
 pub keeps_same : (a : Option (List ℕ)) → Keeps a a
 keeps_same None = tt
 keeps_same (Some xs) = refl
+
+pub consumes_then : (a b c : Option (List ℕ)) (x y : List ℕ) → Consumes a b x → Consumes b c y → Consumes a c (x ++ y)
+consumes_then None b c x y p q = tt
+consumes_then (Some xs) None c x y p q = absurd p
+consumes_then (Some xs) (Some ys) None x y p q = absurd q
+consumes_then (Some xs) (Some ys) (Some zs) x y p q = p ∙ ap (λ (t : List ℕ). x ++ t) q ∙ sym (append_assoc x y zs)
+
+-- what was read and a read more are too much
+pub too_long : (a b c : Option (List ℕ)) (x y : List ℕ) → Consumes a b x → Consumes b c y → 1048576 < length x + length y → IsTooLong a
+too_long None b c x y p q much = tt
+too_long (Some xs) None c x y p q much = absurd p
+too_long (Some xs) (Some ys) None x y p q much = absurd q
+too_long (Some xs) (Some ys) (Some zs) x y p q much =
+    let all : xs ≡ (x ++ y) ++ zs = consumes_then (Some xs) (Some ys) (Some zs) x y p q in
+    rw all (omega (arith, much, length-append (x ++ y) zs, length-append x y))

@@ -6,6 +6,7 @@ use Rattle.kt_script.specs.declared.command.Command.{Command}
 use Rattle.kt_scene.specs.declared.draft.Stage.{Stage}
 use Rattle.kt_scene.specs.declared.draft.Stage.TheVariants as stages
 use Rattle.kt_scene.specs.Lines.{Sketch, nothing_read, is_ignored, is_ended, closed, line_read}
+use Rattle.kt_scene.specs.Reading.{steps_of}
 use Rattle.kt_scene.specs.Text.{told_lines}
 use Rattle.kt_scene.specs.Scenario.{is_told}
 use Rattle.kt_scene.specs.Faults.{play_of_scripts, IsInScript, IsInSteps, IsWhole, title_line, one_shard}
@@ -84,11 +85,11 @@ module _ (told : List (List ℕ)) (s : Sketch) (leads : LeadOn nothing_read told
       ap (λ (x : Sketch). x.stage) (leads_to (title_line ∷ one_shard ∷ []) at_workers is (at_shards, refl, (at_workers, read, refl)))
 
   pub in_steps : IsInSteps told → s.stage ≡ stages.Steps
-  in_steps h = ap (λ (x : Sketch). x.stage) (leads_to (told_lines h.play) (among_steps h.play.cast.scripts h.play.steps) (sym h.are) (told_lead h.play h.rules))
+  in_steps h = ap (λ (x : Sketch). x.stage) (leads_to (told_lines h.play) (among_steps h.play.cast.scripts (steps_of h.play.work)) (sym h.are) (told_lead h.play h.rules))
 
   pub at_whole : IsWhole told → s.stage ≡ stages.Ended
   at_whole h =
-      let all = leads_append nothing_read (told_lines h.play) (codes "end" ∷ []) (among_steps h.play.cast.scripts h.play.steps) (at_end h.play) (told_lead h.play h.rules) (at_end h.play, refl, refl) in
+      let all = leads_append nothing_read (told_lines h.play) (codes "end" ∷ []) (among_steps h.play.cast.scripts (steps_of h.play.work)) (at_end h.play) (told_lead h.play h.rules) (at_end h.play, refl, refl) in
       ap (λ (x : Sketch). x.stage) (leads_to (told_lines h.play ++ codes "end" ∷ []) (at_end h.play) (sym h.are) all)
 
   pub in_script : (scripts : List (List Command)) (commands : List Command) → IsInScript told scripts commands → (s.stage ≡ stages.Commands) × (s.scripts ≡ scripts) × (s.commands ≡ commands)

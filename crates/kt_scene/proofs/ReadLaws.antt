@@ -38,7 +38,7 @@ play_kept s is h =
       shards = at.0;
       scripts = h.scripts;
       commands = h.held;
-      steps = h.steps;
+      work = h.steps;
     }
 
 end_by_test : (b : Bool) (s : Sketch) (line : List ℕ) (u : Sketch) → IsGood s → is_ignored line ≡ false → s.stage ≡ stages.Steps → is_word line (codes "end") ≡ b

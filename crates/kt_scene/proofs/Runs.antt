@@ -6,7 +6,7 @@ use Rattle.kt_core.specs.declared.step.StepError.{StepError}
 use Rattle.kt_core.specs.State.{State}
 use Rattle.kt_core.specs.Effect.{step_result}
 use Rattle.kt_core.specs.Machine.{Refuses}
-use Rattle.kt_scene.specs.Run.{RunsTo, IsRefusedAt}
+use Rattle.kt_core.specs.Runs.{RunsTo, IsRefusedAt}
 
 pub RunsTo-push : (old : State) (steps : List Step) (between : State) (step : Step) (new : State) → RunsTo old steps between → step_result between step ≡ Ok new → RunsTo old (steps ++ step ∷ []) new
 RunsTo-push old [] between step new runs e = (new, subst (λ (s : State). step_result s step ≡ Ok new) runs e, refl)

@@ -1,14 +1,14 @@
 -- The text of a scenario is read as that scenario.
-use Rattle.std.proofs.Common.{◌≡◌, ℕ, Bool, true, false, not, cond, ltb, List, [], ◌∷◌, ◌++◌, length, map, Ok, refl, sym, ap, subst, ◌∙◌, arith}
+use Rattle.std.proofs.Common.{All, ◌≡◌, ℕ, Bool, true, false, not, cond, ltb, List, [], ◌∷◌, ◌++◌, length, Ok, refl, sym, ap, subst, ◌∙◌, arith}
 use Rattle.std.proofs.lemmas.Bool.{le-ltb}
 use Rattle.std.proofs.lemmas.List.Elements.{All-nil, All-cons, All-push}
 use Rattle.std.specs.Prelude.{◌≢◌, codes, decimal, filter}
 use Rattle.std.specs.List.{flat_map}
 use Rattle.kt_scene.specs.declared.draft.Stage.TheVariants as stages
 use Rattle.kt_scene.specs.Lines.{Sketch, nothing_read, is_ignored, is_ended, line_read}
-use Rattle.kt_scene.specs.Reading.{Play, lines_of, read_from, play_with, play_of}
-use Rattle.kt_scene.specs.Text.{script_lines, step_text, told_lines}
-use Rattle.kt_scene.specs.Scenario.{IsLine, IsPlay, IsScenario, is_told}
+use Rattle.kt_scene.specs.Reading.{Play, Work, Steps, steps_of, lines_of, read_from, play_with, play_of}
+use Rattle.kt_scene.specs.Text.{script_lines, told_lines, work_lines}
+use Rattle.kt_scene.specs.Scenario.{IsStep, IsWork, IsLine, IsPlay, IsScenario, is_told}
 use Rattle.kt_scene.proofs.Feeding.{LeadOn, leads_append, leads_read, lines_read_back}
 use Rattle.kt_scene.proofs.LinesRead.{among_steps, all_lead}
 
@@ -38,12 +38,23 @@ with_ignored (line ∷ later) s t on h = ignored_by_test (is_ignored line) s t l
 
 -- the end of a scenario was read
 abbrev pub at_end : Play → Sketch
-at_end play = record { stage = stages.Ended; shards = 1; scripts = play.cast.scripts; commands = []; steps = play.steps }
+at_end play = record { stage = stages.Ended; shards = 1; scripts = play.cast.scripts; commands = []; steps = steps_of play.work }
 
-pub told_lead : (play : Play) → IsPlay play → LeadOn nothing_read (told_lines play) (among_steps play.cast.scripts play.steps)
+-- work is its steps
+pub work_is : (work : Work) → Steps (steps_of work) ≡ work
+work_is (Steps steps) = refl
+
+pub work_steps : (work : Work) → IsWork work → All IsStep (steps_of work)
+work_steps (Steps steps) h = h
+
+pub told_lead : (play : Play) → IsPlay play → LeadOn nothing_read (told_lines play) (among_steps play.cast.scripts (steps_of play.work))
 told_lead play rules =
-    let Of : ℕ → Type 0 = λ n. LeadOn nothing_read (codes "linda-kt 1" ∷ (codes "shards " ++ decimal n) ∷ (flat_map script_lines play.cast.scripts ++ codes "steps" ∷ map step_text play.steps)) (among_steps play.cast.scripts play.steps) in
-    subst Of (sym rules.shards) (all_lead play.cast.scripts play.steps rules.cast.some_workers rules.cast.few_workers rules.scripts rules.commands rules.steps)
+    let steps = steps_of play.work in
+    let told : ℕ → Work → List (List ℕ) = λ n w. codes "linda-kt 1" ∷ (codes "shards " ++ decimal n) ∷ (flat_map script_lines play.cast.scripts ++ work_lines w) in
+    let Of : ℕ → Type 0 = λ n. LeadOn nothing_read (told n (Steps steps)) (among_steps play.cast.scripts steps) in
+    let By : Work → Type 0 = λ w. LeadOn nothing_read (told play.cast.shards w) (among_steps play.cast.scripts steps) in
+    let all = all_lead play.cast.scripts steps rules.cast.some_workers rules.cast.few_workers rules.scripts rules.commands (work_steps play.work rules.work) in
+    subst By (work_is play.work) (subst Of (sym rules.shards) all)
 
 pub end_is_line : IsLine (codes "end")
 end_is_line =
@@ -52,7 +63,7 @@ end_is_line =
 
 lines_read : (text : List ℕ) (play : Play) (h : IsScenario text play) → read_from nothing_read 1 (lines_of text).0 (lines_of text).1 ≡ Ok (at_end play)
 lines_read text play h =
-    let s = among_steps play.cast.scripts play.steps in
+    let s = among_steps play.cast.scripts (steps_of play.work) in
     let Of : List (List ℕ) → Type 0 = λ l. LeadOn nothing_read l s in
     let before = with_ignored h.lines nothing_read s refl (subst Of (sym h.told) (told_lead play h.rules)) in
     let all = leads_append nothing_read h.lines (codes "end" ∷ []) s (at_end play) before (at_end play, refl, refl) in
@@ -63,5 +74,7 @@ lines_read text play h =
 pub spelled_is_read : (text : List ℕ) (play : Play) → IsScenario text play → play_of text ≡ Ok play
 spelled_is_read text play h =
     let fits : ltb 1048576 (length text) ≡ false = le-ltb 1048576 (length text) h.short in
-    let same : play_with (at_end play) ≡ play = ap (λ (n : ℕ). record { cast = record { shards = n; scripts = play.cast.scripts }; steps = play.steps }) (sym h.rules.shards) in
+    let same : play_with (at_end play) ≡ play =
+    ap (λ (n : ℕ). record { cast = record { shards = n; scripts = play.cast.scripts }; work = Steps (steps_of play.work) }) (sym h.rules.shards)
+    ∙ ap (λ (w : Work). record { cast = play.cast; work = w }) (work_is play.work) in
     rw (fits, lines_read text play h) (ap (λ (p : Play). Ok p) same)

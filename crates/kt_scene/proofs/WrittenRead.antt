@@ -10,9 +10,9 @@ use Rattle.kt_script.specs.declared.command.Operation.TheVariants.{Out, In, Rd, 
 use Rattle.kt_core.specs.declared.step.Step.{Step}
 use Rattle.kt_core.specs.declared.step.Step.TheVariants.{Issue, Deliver, Serve}
 use Rattle.kt_scene.specs.Lines.{is_ignored}
-use Rattle.kt_scene.specs.Reading.{Play, play_of}
-use Rattle.kt_scene.specs.Text.{command_text, step_text, script_lines, told_lines, scenario_text}
-use Rattle.kt_scene.specs.Scenario.{IsCommand, IsStep, IsPlay, IsLine, IsScenario, is_told}
+use Rattle.kt_scene.specs.Reading.{Play, Work, Steps, play_of}
+use Rattle.kt_scene.specs.Text.{command_text, step_text, script_lines, told_lines, work_lines, scenario_text}
+use Rattle.kt_scene.specs.Scenario.{IsCommand, IsStep, IsWork, IsPlay, IsLine, IsScenario, is_told}
 use Rattle.kt_scene.proofs.Shown.{is_shown, AreShown, decimal_shown, command_shown, step_shown}
 use Rattle.kt_scene.proofs.ScenarioRead.{spelled_is_read}
 
@@ -74,16 +74,18 @@ shards_told shards one = record { whole = shown_is_line (codes "shards " ++ deci
 steps_word_told : IsTold (codes "steps")
 steps_word_told = record { whole = shown_is_line (codes "steps") refl; told = refl }
 
+work_told : (work : Work) → IsWork work → All IsTold (work_lines work)
+work_told (Steps steps) h = All-cons IsTold (codes "steps") (map step_text steps) steps_word_told (steps_told steps h)
+
 -- a scenario's lines have no line feed within, and none is ignored
 lines_told : (play : Play) → IsPlay play → All IsTold (told_lines play)
 lines_told play rules =
     let count = codes "shards " ++ decimal play.cast.shards in
     let scripts = flat_map script_lines play.cast.scripts in
-    let steps = map step_text play.steps in
-    let last = All-cons IsTold (codes "steps") steps steps_word_told (steps_told play.steps rules.steps) in
-    let behind = All-append IsTold scripts (codes "steps" ∷ steps) (scripts_told play.cast.scripts rules.commands) last in
-    All-cons IsTold (codes "linda-kt 1") (count ∷ (scripts ++ codes "steps" ∷ steps)) title_told
-    (All-cons IsTold count (scripts ++ codes "steps" ∷ steps) (shards_told play.cast.shards rules.shards) behind)
+    let lines = work_lines play.work in
+    let behind = All-append IsTold scripts lines (scripts_told play.cast.scripts rules.commands) (work_told play.work rules.work) in
+    All-cons IsTold (codes "linda-kt 1") (count ∷ (scripts ++ lines)) title_told
+    (All-cons IsTold count (scripts ++ lines) (shards_told play.cast.shards rules.shards) behind)
 
 each_line : (lines : List (List ℕ)) → All IsTold lines → All IsLine lines
 each_line [] h = All-nil IsLine

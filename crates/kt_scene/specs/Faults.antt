@@ -17,7 +17,7 @@ use Rattle.kt_scene.specs.declared.command.Verb.TheVariants as verbs
 use Rattle.kt_scene.specs.declared.fault.SceneError.{SceneError}
 use Rattle.kt_scene.specs.declared.fault.SceneError.TheVariants as faults
 use Rattle.kt_scene.specs.Fault.{fault_number}
-use Rattle.kt_scene.specs.Reading.{Play}
+use Rattle.kt_scene.specs.Reading.{Play, Steps}
 use Rattle.kt_scene.specs.Report.{text_line}
 use Rattle.kt_scene.specs.Text.{operation_text, step_text, told_lines}
 use Rattle.kt_scene.specs.Scenario.{IsOperation, IsStep, IsPlay, IsLine, IsScenario, is_told}
@@ -67,7 +67,7 @@ pub record Begin (lines : List (List ℕ)) : Type 0 where
 
 -- scripts and steps for one shard
 abbrev pub play_of_scripts : List (List Command) → List Step → Play
-play_of_scripts scripts steps = record { cast = record { shards = 1; scripts = scripts }; steps = steps }
+play_of_scripts scripts steps = record { cast = record { shards = 1; scripts = scripts }; work = Steps steps }
 
 -- the told lines end within a script: with the line `steps` behind them they would be all of a scenario without steps, with these
 -- scripts and then the one that has these commands so far

@@ -4,6 +4,7 @@ pub mod Steps
 pub mod Commands
 pub mod Lines
 pub mod Reading
+pub mod Outside
 pub mod Stream
 pub mod Report
 pub mod Text

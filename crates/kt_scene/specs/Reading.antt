@@ -39,13 +39,20 @@ sketch_of text =
     if nat_lt 1048576 (length text) then Err (1, faults.Limit)
     else read_from nothing_read 1 (lines_of text).0 (lines_of text).1
 
--- what a scenario's text stands for: who takes part, and the steps
+-- what is done in a scene: these steps, one after the other
+pub data Work : Type 0 where
+  Steps : List Step → Work
+
+abbrev pub steps_of : Work → List Step
+steps_of (Steps steps) = steps
+
+-- what a scenario's text stands for: who takes part, and what is done
 pub record Play : Type 0 where
   pub cast : Cast
-  pub steps : List Step
+  pub work : Work
 
 abbrev pub play_with : Sketch → Play
-play_with s = record { cast = record { shards = s.shards; scripts = s.scripts }; steps = s.steps }
+play_with s = record { cast = record { shards = s.shards; scripts = s.scripts }; work = Steps s.steps }
 
 abbrev pub played : Result Sketch Fault → Result Play Fault
 played (Ok s) = Ok (play_with s)

@@ -1,10 +1,9 @@
 -- The report of a world, as text.
-use Rattle.std.specs.Prelude.{◌≡◌, ℕ, List, [], ◌∷◌, ◌++◌, length, map, codes, decimal, IsPermutation, Option}
+use Rattle.std.specs.Prelude.{◌≡◌, ℕ, List, [], ◌∷◌, ◌++◌, length, map, codes, decimal, IsPermutation}
 use Rattle.std.specs.List.{flat_map}
 use Rattle.std.specs.List.Sorted.{IsSorted}
 use Rattle.std.specs.Ordering.{nat_cmp}
 use Rattle.std.specs.Cmp.Lexicographic.{slice_cmp}
-use Rattle.std.specs.Io.KnownBytes.{Appends}
 use Rattle.kt_tuple.specs.declared.tuple.Tuple.{Tuple}
 use Rattle.kt_tuple.specs.declared.service.Service.{Service}
 use Rattle.kt_tuple.specs.Space.{IsSpaceRun}
@@ -12,7 +11,8 @@ use Rattle.kt_tuple.specs.Spelling.{tuple_text, op_text, answer_text}
 use Rattle.kt_history.specs.declared.note.Note.{Note}
 use Rattle.kt_history.specs.Survival.{services, lost_count}
 use Rattle.std.specs.Global.{Vec}
-use Rattle.kt_scene.specs.Stream.{AppendsFront}
+use Rattle.kt_scene.specs.Outside.{Writer}
+use Rattle.kt_scene.specs.Stream.{WritesAll, WritesFront}
 
 abbrev pub line_end : List ℕ
 line_end = 10 ∷ []
@@ -57,14 +57,14 @@ pub record IsReport (h : List Note) (permanent : List Tuple) (text : List ℕ) :
   pub is : text ≡ count_line (codes "survivors ") (length (services h)) ++ flat_map service_line (services h)
       ++ count_line (codes "lost ") (lost_count h) ++ space_text ++ permanent_text
 
--- what is written is the report, and nothing else
-pub record WritesReport (h : List Note) (permanent : List Tuple) (old new : Option (List ℕ)) : Type 0 where
+-- what is written and passed on is the report, and nothing else
+pub record WritesReport (h : List Note) (permanent : List Tuple) (old new : Writer) : Type 0 where
   pub text : List ℕ
   pub report : IsReport h permanent text
-  pub written : Appends old new text
+  pub written : WritesAll old new text
 
--- a front of the report is written
-pub record WritesReportFront (h : List Note) (permanent : List Tuple) (old new : Option (List ℕ)) : Type 0 where
+-- the writer failed, and a front of the report is written
+pub record WritesReportFront (h : List Note) (permanent : List Tuple) (old new : Writer) : Type 0 where
   pub text : List ℕ
   pub report : IsReport h permanent text
-  pub written : AppendsFront old new text
+  pub written : WritesFront old new text

@@ -21,7 +21,7 @@ use Rattle.kt_core.specs.declared.step.Step.{Step}
 use Rattle.kt_core.specs.declared.step.Step.TheVariants.{Issue, Deliver, Serve}
 use Rattle.kt_core.specs.Cast.{IsCast}
 use Rattle.kt_scene.specs.Lines.{is_ignored}
-use Rattle.kt_scene.specs.Reading.{Play}
+use Rattle.kt_scene.specs.Reading.{Play, Work, Steps}
 use Rattle.kt_scene.specs.Text.{told_lines}
 use Rattle.kt_scene.specs.Report.{text_line}
 
@@ -65,13 +65,17 @@ IsStep (Issue node) = IsStepNode node
 IsStep (Deliver from to) = IsStepNode from × IsStepNode to
 IsStep (Serve shard worker place) = IsStepNode shard × IsStepNode worker × (place ≤ 99999)
 
+-- each step is one that a line can say
+abbrev pub IsWork : Work → Type 0
+IsWork (Steps steps) = All IsStep steps
+
 -- one shard, 1 to 8 workers, and scripts that keep the rules of variables and the limits
 pub record IsPlay (play : Play) : Type 0 where
   pub cast : IsCast play.cast
   pub shards : play.cast.shards ≡ 1
   pub scripts : All IsScript play.cast.scripts
   pub commands : All (All IsCommand) play.cast.scripts
-  pub steps : All IsStep play.steps
+  pub work : IsWork play.work
 
 -- a line that is not ignored
 abbrev pub is_told : List ℕ → Bool

@@ -1,28 +1,46 @@
--- What is read of a reader and written to a writer, where their bytes are known.
+-- What is read of a reader and written to a writer.
 use Rattle.std.specs.Prelude.{◌≡◌, ℕ, ◌<◌, List, length, take, Option, Some, None}
-use Rattle.std.specs.Io.KnownBytes.{Appends}
+use Rattle.std.specs.Io.KnownBytes.{Appends, Consumes, IsAtEnd}
 use Rattle.kt_scene.specs.declared.fault.SceneError.TheVariants.{Limit}
 use Rattle.kt_scene.specs.declared.fault.ReplayFault.{ReplayFault}
 use Rattle.kt_scene.specs.declared.fault.ReplayFault.TheVariants as faults
+use Rattle.kt_scene.specs.declared.source.Outcome.TheVariants as outcomes
+use Rattle.kt_scene.specs.Outside.{Reader, Writer}
 
 -- known bytes grow by a front of these
 abbrev pub AppendsFront : Option (List ℕ) → Option (List ℕ) → List ℕ → Type 0
 AppendsFront old new bytes = (n : ℕ) × Appends old new (take n bytes)
+
+-- the bytes are written, and the writer has passed them on
+pub record WritesAll (old new : Writer) (bytes : List ℕ) : Type 0 where
+  pub appended : Appends old.bytes new.bytes bytes
+  pub passed_on : new.outcome ≡ outcomes.Done
+
+-- the writer failed, and a front of the bytes is written
+pub record WritesFront (old new : Writer) (bytes : List ℕ) : Type 0 where
+  pub appended : AppendsFront old.bytes new.bytes bytes
+  pub failed : new.outcome ≡ outcomes.Failed
+
+-- the text is all that was read, and the reader came to its end
+pub record IsAllRead (before after : Reader) (text : List ℕ) : Type 0 where
+  pub bytes : Consumes before.bytes after.bytes text
+  pub all : IsAtEnd after.bytes
+  pub end : after.outcome ≡ outcomes.Done
 
 -- known bytes are more than a scenario has
 abbrev pub IsTooLong : Option (List ℕ) → Type 0
 IsTooLong None = Unit {0}
 IsTooLong (Some bytes) = 1048576 < length bytes
 
--- what reading alone answers where these bytes were left: that they are more than a scenario has, want of memory,
--- or a failure of the reader
-abbrev pub IsReadFault : Option (List ℕ) → ReplayFault → Type 0
-IsReadFault bytes (faults.Scene line cause) = (line ≡ 1) × (cause ≡ Limit) × IsTooLong bytes
-IsReadFault bytes (faults.Step at cause) = ⊥
-IsReadFault bytes (faults.Open cause) = ⊥
-IsReadFault bytes faults.Memory = Unit {0}
-IsReadFault bytes faults.Read = Unit {0}
-IsReadFault bytes faults.Write = ⊥
+-- what reading alone answers: that the bytes are more than a scenario has, or want of memory, both before the end was
+-- seen; or that the reader failed
+abbrev pub IsReadFault : (before after : Reader) → ReplayFault → Type 0
+IsReadFault before after (faults.Scene line cause) = (line ≡ 1) × (cause ≡ Limit) × IsTooLong before.bytes × (after.outcome ≡ outcomes.Open)
+IsReadFault before after (faults.Step at cause) = ⊥
+IsReadFault before after (faults.Open cause) = ⊥
+IsReadFault before after faults.Memory = after.outcome ≡ outcomes.Open
+IsReadFault before after faults.Read = after.outcome ≡ outcomes.Failed
+IsReadFault before after faults.Write = ⊥
 
 -- P, unless the fault is the writer's
 abbrev pub UnlessWrite : ReplayFault → Type 0 → Type 0

@@ -15,7 +15,7 @@ use Rattle.kt_script.specs.declared.command.Command.{Command}
 use Rattle.kt_script.specs.declared.command.Command.TheVariants.{Ask, Set, Unless}
 use Rattle.kt_core.specs.declared.step.Step.{Step}
 use Rattle.kt_core.specs.declared.step.Step.TheVariants.{Issue, Deliver, Serve}
-use Rattle.kt_scene.specs.Reading.{Play}
+use Rattle.kt_scene.specs.Reading.{Play, Work, Steps}
 use Rattle.kt_scene.specs.Report.{text_line}
 
 -- a value, or a variable's name
@@ -58,11 +58,15 @@ step_text (Serve shard worker place) = codes "serve " ++ node_text shard ++ 32 �
 abbrev pub script_lines : List Command → List (List ℕ)
 script_lines script = codes "worker" ∷ map command_text script
 
--- the lines before `end`: the title, the number of shards, the workers, the steps
+-- the word for what is done, and a line for each step
+abbrev pub work_lines : Work → List (List ℕ)
+work_lines (Steps steps) = codes "steps" ∷ map step_text steps
+
+-- the lines before `end`: the title, the number of shards, the workers, what is done
 abbrev pub told_lines : Play → List (List ℕ)
 told_lines play =
     codes "linda-kt 1" ∷ (codes "shards " ++ decimal play.cast.shards) ∷ flat_map script_lines play.cast.scripts
-    ++ codes "steps" ∷ map step_text play.steps
+    ++ work_lines play.work
 
 -- the text without ignored lines
 abbrev pub scenario_text : Play → List ℕ

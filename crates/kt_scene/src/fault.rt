@@ -3,11 +3,13 @@
 ghost use Rattle.std.specs.Prelude.{◌≡◌};
 
 use kt_core::{OpenError, StepError};
-use thiserror::Error;
+use std::error::Error;
+use std::fmt;
+use std::fmt::{Display, Formatter};
 
 /// What is wrong with a line of a scenario. Of several faults of one line it is the one with the
 /// lowest number.
-#[derive(Clone, Copy, Debug, PartialEq, Eq, Error)]
+#[derive(Clone, Copy, Debug, PartialEq, Eq, thiserror::Error)]
 pub enum SceneError {
     /// The line is not the header that must stand here.
     #[error("Header")]
@@ -56,32 +58,66 @@ impl SceneError {
 }
 
 /// Why a text is no scenario: its first line that has a fault, counted from 1, and what is wrong there.
-#[derive(Clone, Copy, Debug, PartialEq, Eq, Error)]
-#[error("line {line}: {cause}")]
+#[derive(Clone, Copy, Debug, PartialEq, Eq)]
 pub struct SceneFault {
     pub line: usize,
     pub cause: SceneError,
 }
 
+/// As `line 4: 3 Tuple`, or `memory`.
+impl Display for SceneFault {
+    fn fmt<W: fmt::Write>(&self, f: &mut Formatter<W>) -> fmt::Result {
+        match self.cause {
+            SceneError::OutOfMemory => write!(f, "memory"),
+            cause => {
+                let (line, number) = (self.line, cause.number());
+                write!(f, "line {line}: {number} {cause}")
+            }
+        }
+    }
+}
+
+impl Error for SceneFault {}
+
 /// Why a replay ended early. All but `Write` leave nothing written.
-#[derive(Clone, Copy, Debug, PartialEq, Eq, Error)]
+#[derive(Clone, Copy, Debug, PartialEq, Eq)]
 pub enum ReplayFault {
     /// The text is no scenario: its first line that has a fault, counted from 1.
-    #[error("line {line}: {cause}")]
     Scene { line: usize, cause: SceneError },
     /// A step was refused: its number, counted from 1.
-    #[error("step {at}: {cause}")]
     Step { at: usize, cause: StepError },
     /// The world could not be opened.
-    #[error("open: {0}")]
     Open(OpenError),
     /// Memory ran out for the text or for the report.
-    #[error("memory")]
     Memory,
     /// The reader failed, or 2,000,000 calls did not bring the end of the text.
-    #[error("read")]
     Read,
     /// The writer failed. A front of the report is written.
-    #[error("write")]
     Write,
 }
+
+/// The line that tells of the fault, as `line 4: 3 Tuple`, `step 9: 4 NoSuchMatch`, `memory`, `read` or `write`.
+impl Display for ReplayFault {
+    fn fmt<W: fmt::Write>(&self, f: &mut Formatter<W>) -> fmt::Result {
+        match *self {
+            ReplayFault::Scene { line, cause } => {
+                let fault = SceneFault { line, cause };
+                write!(f, "{fault}")
+            }
+            ReplayFault::Memory
+            | ReplayFault::Open(OpenError::OutOfMemory)
+            | ReplayFault::Step {
+                at: _,
+                cause: StepError::OutOfMemory,
+            } => write!(f, "memory"),
+            ReplayFault::Step { at, cause } => {
+                let number = cause.number();
+                write!(f, "step {at}: {number} {cause}")
+            }
+            ReplayFault::Read => write!(f, "read"),
+            ReplayFault::Write => write!(f, "write"),
+        }
+    }
+}
+
+impl Error for ReplayFault {}

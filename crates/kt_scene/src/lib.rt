@@ -10,6 +10,8 @@ mod reading;
 mod replaying;
 mod report;
 mod scenario;
+mod sink;
+mod source;
 mod stream;
 mod writing;
 
@@ -20,19 +22,10 @@ pub use laws::{
     what_is_spelled_so_is_read, what_is_written_is_read, what_was_read_is_written,
 };
 pub use reading::{MAX_TEXT, read_scene};
-pub use replaying::replay;
+pub use replaying::{replay, replay_world};
 pub use report::write_report;
 pub use scenario::{Scenario, Work};
-pub use stream::{MAX_READS, read_text};
+pub use sink::Sink;
+pub use source::{MAX_READS, Outcome, Source};
+pub use stream::read_text;
 pub use writing::write_scene;
-
-#[cfg(test)]
-mod fault_tables;
-#[cfg(test)]
-mod memory_tests;
-#[cfg(test)]
-mod mutation_tests;
-#[cfg(test)]
-mod replay_tests;
-#[cfg(test)]
-mod scene_tests;

@@ -1,15 +1,18 @@
 //! From the bytes of a scenario to the bytes of its report.
 
-ghost use Rattle.std.specs.Prelude.{◌≡◌, List, ℕ, Err, IfOk, IfErr, OnOk};
-ghost use Rattle.std.specs.Io.KnownBytes.{Keeps};
+ghost use Rattle.std.specs.Prelude.{◌≡◌, Err, IfOk, IfErr, OnOk};
 ghost use Rattle.kt_core.specs.Reached.{opening};
-ghost use Rattle.kt_scene.specs.Run.{IsRunFault, RunsTo, IsStepFault, play_in, LeadsTo, IsTextFault, IsReplayed, WritesReplayed, WritesReplayedFront, IsFaultBefore, IsReplayFault};
+ghost use Rattle.kt_core.specs.Runs.{RunsTo};
+ghost use Rattle.kt_scene.specs.Reading.{steps_of};
+ghost use Rattle.kt_scene.specs.Run.{IsRunFault, IsStepFault, play_in, LeadsTo, IsTextFault, IsReplayed, WritesReplayed, WritesReplayedFront, IsWorldFault, IsReplayFault};
 ghost use Rattle.kt_scene.specs.Stream.{UnlessWrite};
 
 use crate::fault::{ReplayFault, SceneFault};
 use crate::reading::read_scene;
 use crate::report::write_report;
 use crate::scenario::Scenario;
+use crate::sink::Sink;
+use crate::source::Source;
 use crate::stream::read_text;
 use kt_core::{Scene, Step, World};
 use std::alloc::Global;
@@ -20,25 +23,25 @@ use std::io::{Read, Write};
 /// the reader.
 pub fn replay<R: Read, W: Write>(
     alloc: Global,
-    reader: &mut R,
-    writer: &mut W,
+    reader: &mut Source<R>,
+    writer: &mut Sink<W>,
 ) -> Result<(), ReplayFault>
-    ensures written { OnOk result (WritesReplayed (R.remaining reader.old) (R.remaining reader.new) (W.contents writer.old) (W.contents writer.new)) }
-    ensures front { result ≡ Err ReplayFault.Write → WritesReplayedFront (R.remaining reader.old) (R.remaining reader.new) (W.contents writer.old) (W.contents writer.new) }
-    ensures fault { IfErr result (IsReplayFault (R.remaining reader.old) (R.remaining reader.new)) }
-    // Before any fault but the writer's nothing is written.
-    ensures nothing { IfErr result (λ fault. UnlessWrite fault (Keeps (W.contents writer.old) (W.contents writer.new))) }
+    ensures written { OnOk result (WritesReplayed reader.old reader.new writer.old writer.new) }
+    ensures front { result ≡ Err ReplayFault.Write → WritesReplayedFront reader.old reader.new writer.old writer.new }
+    ensures fault { IfErr result (IsReplayFault reader.old reader.new) }
+    // Before any fault but the writer's the writer is not called.
+    ensures nothing { IfErr result (λ fault. UnlessWrite fault (writer.new ≡ writer.old)) }
 {
-    match world_of(alloc, reader) {
+    match replay_world(alloc, reader) {
         Ok(mut world) => write_report(alloc, &mut world, writer),
         Err(fault) => Err(fault),
     }
 }
 
-/// The world after the steps of the scenario that is read.
-fn world_of<R: Read>(alloc: Global, reader: &mut R) -> Result<World, ReplayFault>
-    ensures replayed { IfOk result (λ world. IsReplayed (R.remaining reader.old) (R.remaining reader.new) world) }
-    ensures fault { IfErr result (IsFaultBefore (R.remaining reader.old) (R.remaining reader.new)) }
+/// Reads a scenario and makes its steps: the world then. The first half of `replay`.
+pub fn replay_world<R: Read>(alloc: Global, reader: &mut Source<R>) -> Result<World, ReplayFault>
+    ensures replayed { IfOk result (λ world. IsReplayed reader.old reader.new world) }
+    ensures fault { IfErr result (IsWorldFault reader.old reader.new) }
 {
     let text = read_text(alloc, reader)?;
     world_told(alloc, &text)
@@ -56,8 +59,8 @@ fn world_told(alloc: Global, text: &[u8]) -> Result<World, ReplayFault>
 }
 
 fn run_scenario(alloc: Global, scenario: Scenario) -> Result<World, ReplayFault>
-    ensures replayed { IfOk result (λ world. RunsTo (opening (play_in scenario).cast) (play_in scenario).steps world) }
-    ensures fault { IfErr result (IsRunFault (play_in scenario).cast (play_in scenario).steps) }
+    ensures replayed { IfOk result (λ world. RunsTo (opening (play_in scenario).cast) (steps_of (play_in scenario).work) world) }
+    ensures fault { IfErr result (IsRunFault (play_in scenario).cast (steps_of (play_in scenario).work)) }
 {
     let Scenario { scene, work } = scenario;
     run(alloc, scene, work.steps())

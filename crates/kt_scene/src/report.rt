@@ -2,12 +2,12 @@
 
 ghost use Rattle.std.specs.Prelude.{◌≡◌, ◌++◌, List, [], ℕ, map, IfOk, IfErr, OnErr, OnOk, Err};
 ghost use Rattle.std.specs.List.{flat_map};
-ghost use Rattle.std.specs.Io.KnownBytes.{Keeps};
 ghost use Rattle.kt_tuple.specs.Spelling.{tuple_text};
 ghost use Rattle.kt_scene.specs.Report.{IsReport, WritesReport, WritesReportFront, AppendsTuples, count_line, service_line, text_line, items_of};
 ghost use Rattle.kt_scene.specs.Stream.{UnlessWrite, IsReportFault};
 
 use crate::fault::ReplayFault;
+use crate::sink::Sink;
 use crate::stream::put;
 use itoa::Buffer;
 use kt_core::World;
@@ -21,13 +21,13 @@ use std::io::Write;
 pub fn write_report<W: Write>(
     alloc: Global,
     world: &mut World,
-    writer: &mut W,
+    writer: &mut Sink<W>,
 ) -> Result<(), ReplayFault>
     ensures same { world.new ≡ world.old }
-    ensures written { OnOk result (WritesReport world.old.history [] (W.contents writer.old) (W.contents writer.new)) }
-    ensures front { result ≡ Err ReplayFault.Write → WritesReportFront world.old.history [] (W.contents writer.old) (W.contents writer.new) }
-    // Before any fault but the writer's nothing is written.
-    ensures nothing { IfErr result (λ fault. UnlessWrite fault (Keeps (W.contents writer.old) (W.contents writer.new))) }
+    ensures written { OnOk result (WritesReport world.old.history [] writer.old writer.new) }
+    ensures front { result ≡ Err ReplayFault.Write → WritesReportFront world.old.history [] writer.old writer.new }
+    // Before any fault but the writer's the writer is not called.
+    ensures nothing { IfErr result (λ fault. UnlessWrite fault (writer.new ≡ writer.old)) }
     ensures only { IfErr result IsReportFault }
 {
     let report = report_of(alloc, world).map_err(|_| ReplayFault::Memory)?;

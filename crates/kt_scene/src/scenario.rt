@@ -20,11 +20,12 @@ pub enum Work {
 
 impl Work {
     ghost use Rattle.std.specs.Prelude.{◌≡◌};
-    ghost use Rattle.kt_scene.specs.Run.{steps_in};
+    ghost use Rattle.kt_scene.specs.Reading.{steps_of};
+    ghost use Rattle.kt_scene.specs.Run.{work_in};
 
     /// The steps, one after the other.
     pub fn steps(&self) -> &[Step]
-        ensures { result.now ≡ steps_in self.now }
+        ensures { result.now ≡ steps_of (work_in self.now) }
     {
         match self {
             Work::Steps(steps) => steps,

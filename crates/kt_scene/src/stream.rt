@@ -1,16 +1,14 @@
 //! All bytes of a reader, and all bytes to a writer.
 
-ghost use Rattle.std.specs.Prelude.{◌≡◌, ◌≤◌, ◌<◌, ℕ, List, length, take, IfOk, IfErr, OnOk, OnErr, Err};
-ghost use Rattle.std.specs.Io.KnownBytes.{Keeps, Appends, Consumes, IsAtEnd};
-ghost use Rattle.kt_scene.specs.Stream.{AppendsFront, IsReadFault};
+ghost use Rattle.std.specs.Prelude.{◌≡◌, ◌≤◌, length, IfOk, IfErr, OnOk, OnErr};
+ghost use Rattle.kt_scene.specs.Stream.{IsAllRead, IsReadFault, WritesAll, WritesFront};
 
 use crate::fault::{ReplayFault, SceneError};
 use crate::reading::MAX_TEXT;
+use crate::sink::Sink;
+use crate::source::{MAX_READS, Outcome, Source};
 use std::alloc::Global;
-use std::io::{ErrorKind, Read, Write};
-
-/// The most calls of a reader.
-pub const MAX_READS: u32 = 2_000_000;
+use std::io::{Read, Write};
 
 /// How many bytes are asked for at once.
 const CHUNK: usize = 8192;
@@ -18,19 +16,18 @@ const CHUNK: usize = 8192;
 /// All bytes of the reader. Refused by a fault of line 1 where there are more than 1,048,576, by want
 /// of memory, or by the reader, which has 2,000,000 calls to come to its end. A call that was
 /// interrupted is made again. What was taken from the reader before that is gone.
-pub fn read_text<R: Read>(alloc: Global, reader: &mut R) -> Result<Vec<u8>, ReplayFault>
-    ensures read { IfOk result (λ text. Consumes (R.remaining reader.old) (R.remaining reader.new) text.items) }
-    ensures all { OnOk result (IsAtEnd (R.remaining reader.new)) }
+pub fn read_text<R: Read>(alloc: Global, reader: &mut Source<R>) -> Result<Vec<u8>, ReplayFault>
+    ensures read { IfOk result (λ text. IsAllRead reader.old reader.new text.items) }
     ensures short { IfOk result (λ text. length text.items ≤ MAX_TEXT) }
-    // More bytes than that are the fault of line 1.
-    ensures only { IfErr result (IsReadFault (R.remaining reader.old)) }
+    ensures only { IfErr result (IsReadFault reader.old reader.new) }
 {
     let mut text = Vec::new(alloc);
     let mut chunk = [0u8; CHUNK];
-    for _ in 0..MAX_READS {
-        match reader.read(&mut chunk) {
-            Ok(0) => return Ok(text),
-            Ok(count) => {
+    // A round more than the reader has calls: in that one it has failed.
+    for _ in 0..MAX_READS + 1 {
+        let count = reader.read(&mut chunk);
+        match reader.outcome() {
+            Outcome::Open => {
                 if count > MAX_TEXT - text.len() {
                     return Err(ReplayFault::Scene {
                         line: 1,
@@ -40,33 +37,31 @@ pub fn read_text<R: Read>(alloc: Global, reader: &mut R) -> Result<Vec<u8>, Repl
                 text.extend_from_slice(&chunk[..count])
                     .map_err(|_| ReplayFault::Memory)?;
             }
-            Err(error) if error.kind() == ErrorKind::Interrupted => {}
-            Err(_) => return Err(ReplayFault::Read),
+            Outcome::Done => return Ok(text),
+            Outcome::Failed => return Err(ReplayFault::Read),
         }
     }
     Err(ReplayFault::Read)
 }
 
-/// Writes all bytes. A call that was interrupted is made again.
-pub(crate) fn put<W: Write>(writer: &mut W, bytes: &[u8]) -> Result<(), ReplayFault>
-    ensures whole { OnOk result (Appends (W.contents writer.old) (W.contents writer.new) bytes.now) }
-    ensures front { OnErr result (AppendsFront (W.contents writer.old) (W.contents writer.new) bytes.now) }
+/// Writes all bytes and has the writer pass them on.
+pub(crate) fn put<W: Write>(writer: &mut Sink<W>, bytes: &[u8]) -> Result<(), ReplayFault>
+    ensures whole { OnOk result (WritesAll writer.old writer.new bytes.now) }
+    ensures front { OnErr result (WritesFront writer.old writer.new bytes.now) }
     ensures only { IfErr result (λ fault. fault ≡ ReplayFault.Write) }
 {
     let mut rest = bytes;
-    for _ in 0..u64::MAX {
-        if rest.is_empty() {
-            return writer.flush().map_err(|_| ReplayFault::Write);
-        }
-        match writer.write(rest) {
-            Ok(0) => return Err(ReplayFault::Write),
-            Ok(count) => {
-                let (_, left) = rest.split_at(count);
-                rest = left;
-            }
-            Err(error) if error.kind() == ErrorKind::Interrupted => {}
-            Err(_) => return Err(ReplayFault::Write),
+    while !rest.is_empty() {
+        let count = writer.write(rest);
+        let (_, left) = rest.split_at(count);
+        rest = left;
+        if let Outcome::Failed = writer.outcome() {
+            return Err(ReplayFault::Write);
         }
     }
-    Err(ReplayFault::Write)
+    writer.flush();
+    match writer.outcome() {
+        Outcome::Done => Ok(()),
+        _ => Err(ReplayFault::Write),
+    }
 }

@@ -5,8 +5,8 @@ ghost use Rattle.std.specs.Fmt.{signed_decimal};
 ghost use Rattle.std.specs.List.{flat_map};
 ghost use Rattle.kt_tuple.specs.Spelling.{kind_text, in_parentheses};
 ghost use Rattle.kt_scene.specs.Report.{text_line};
-ghost use Rattle.kt_scene.specs.Run.{steps_in};
-ghost use Rattle.kt_scene.specs.Text.{actual_text, slot_text, pattern_text, operation_text, command_text, node_text, step_text, script_lines, scenario_text};
+ghost use Rattle.kt_scene.specs.Run.{work_in};
+ghost use Rattle.kt_scene.specs.Text.{actual_text, slot_text, pattern_text, operation_text, command_text, node_text, step_text, script_lines, scenario_text, work_lines};
 
 use crate::scenario::Work;
 use itoa::Buffer;
@@ -17,7 +17,7 @@ use std::alloc::{AllocError, Global};
 
 /// The text of the scenario: the one spelling of each line, and no ignored lines.
 pub fn write_scene(alloc: Global, scene: &Scene, work: &Work) -> Result<Vec<u8>, AllocError>
-    ensures { IfOk result (λ text. text.items ≡ scenario_text (record { cast = scene.now; steps = steps_in work.now })) }
+    ensures { IfOk result (λ text. text.items ≡ scenario_text (record { cast = scene.now; work = work_in work.now })) }
 {
     let mut out = Vec::new(alloc);
     out.extend_from_slice(b"linda-kt 1\nshards ")?;
@@ -26,8 +26,7 @@ pub fn write_scene(alloc: Global, scene: &Scene, work: &Work) -> Result<Vec<u8>,
     for script in scene.scripts() {
         push_script(&mut out, script)?;
     }
-    out.extend_from_slice(b"steps\n")?;
-    push_steps(&mut out, work.steps())?;
+    push_work(&mut out, work)?;
     out.extend_from_slice(b"end\n")?;
     Ok(out)
 }
@@ -166,6 +165,17 @@ fn push_kind(out: &mut Vec<u8>, kind: Kind) -> Result<(), AllocError>
     match kind {
         Kind::Int => out.extend_from_slice(b"?int"),
         Kind::Str => out.extend_from_slice(b"?str"),
+    }
+}
+
+fn push_work(out: &mut Vec<u8>, work: &Work) -> Result<(), AllocError>
+    ensures { OnOk result (out.new.items ≡ out.old.items ++ flat_map text_line (work_lines (work_in work.now))) }
+{
+    match work {
+        Work::Steps(steps) => {
+            out.extend_from_slice(b"steps\n")?;
+            push_steps(out, steps)
+        }
     }
 }
 

@@ -1,15 +1,15 @@
 -- How a run ends, told from what it answers.
-use Rattle.std.proofs.Common.{◌≡◌, ℕ, List, [], Option, Some, None, inl, inr, refl, sym, subst}
-use Rattle.std.specs.Prelude.{◌≢◌}
-use Rattle.std.specs.Io.KnownBytes.{Keeps}
+use Rattle.std.proofs.Common.{◌≡◌, ℕ, [], Result, Ok, Err, inl, inr, refl, ap, subst}
+use Rattle.std.specs.Prelude.{◌≢◌, OnOk, IfErr}
 use Rattle.clap.specs.Words.{kind_of, HasKind, Kinds}
 use Rattle.clap.specs.declared.error.Error.{Error}
 use Rattle.clap.specs.declared.error.kind.ErrorKind.TheVariants as kind
 use Rattle.kt_scene.specs.declared.fault.ReplayFault.{ReplayFault}
 use Rattle.kt_scene.specs.declared.fault.ReplayFault.TheVariants as faults
-use Rattle.kt_scene.specs.Run.{WritesReplayedFront, LeavesWritten, in_report}
+use Rattle.kt_scene.specs.Outside.{Reader, Writer}
+use Rattle.kt_scene.specs.Run.{WritesReplayed, WritesReplayedFront, LeavesWriter, IsReplayFault}
 use Rattle.kt_scene.specs.Stream.{UnlessWrite}
-use Rattle.linda_kt.specs.Status.{IsRunStatus, refused}
+use Rattle.linda_kt.specs.Status.{IsRunStatus, answer_status, done, refused}
 
 only_memory : (e : Error) → HasKind [] e → kind_of e ≡ kind.OutOfMemory
 only_memory e (inl memory) = memory
@@ -18,16 +18,6 @@ only_memory e (inr among) = absurd among
 -- words without a fault are refused for want of memory alone
 pub without_fault : (kinds : Kinds) (e : Error) → kinds ≡ [] → HasKind kinds e → kind_of e ≡ kind.OutOfMemory
 without_fault kinds e none has = let P : Kinds → Type 0 = λ ks. HasKind ks e in only_memory e (subst P none has)
-
-keeps_equal : (old new : Option (List ℕ)) → new ≡ old → Keeps old new
-keeps_equal None new same = tt
-keeps_equal (Some bytes) new same =
-    let P : Option (List ℕ) → Type 0 = λ known. Keeps (Some bytes) known in
-    subst P (sym same) refl
-
--- want of memory before a command is known is 6, and nothing is written
-pub ends_for_memory : (before after old new : Option (List ℕ)) (n : ℕ) → new ≡ old → n ≡ 6 → IsRunStatus before after old new n
-ends_for_memory before after old new n same six = refused faults.Memory (in_report tt) (keeps_equal old new same) six
 
 not_help : (e : Error) → kind_of e ≡ kind.OutOfMemory → kind_of e ≡ kind.DisplayHelp → ⊥
 not_help e memory help = cc
@@ -39,12 +29,19 @@ not_version e memory version = cc
 pub asks_for_no_text : (e : Error) → kind_of e ≡ kind.OutOfMemory → (kind_of e ≢ kind.DisplayHelp) × (kind_of e ≢ kind.DisplayVersion)
 asks_for_no_text e memory = (not_help e memory, not_version e memory)
 
--- what a fault leaves written, by its case
-pub leaves_written : (before after old new : Option (List ℕ)) (fault : ReplayFault) → UnlessWrite fault (Keeps old new)
-    → (fault ≡ faults.Write → WritesReplayedFront before after old new) → LeavesWritten before after old new fault
-leaves_written before after old new (faults.Scene line cause) kept front = kept
-leaves_written before after old new (faults.Step at cause) kept front = kept
-leaves_written before after old new (faults.Open cause) kept front = kept
-leaves_written before after old new faults.Memory kept front = kept
-leaves_written before after old new faults.Read kept front = kept
-leaves_written before after old new faults.Write kept front = front refl
+-- what a fault leaves of the writer, by its case
+pub leaves_writer : (before after : Reader) (old new : Writer) (fault : ReplayFault) → UnlessWrite fault (new ≡ old)
+    → (fault ≡ faults.Write → WritesReplayedFront before after old new) → LeavesWriter before after old new fault
+leaves_writer before after old new (faults.Scene line cause) kept front = kept
+leaves_writer before after old new (faults.Step at cause) kept front = kept
+leaves_writer before after old new (faults.Open cause) kept front = kept
+leaves_writer before after old new faults.Memory kept front = kept
+leaves_writer before after old new faults.Read kept front = kept
+leaves_writer before after old new faults.Write kept front = front refl
+
+-- the status of what a replay answers
+pub status_told : {X : Type 0} (before after : Reader) (old new : Writer) (answer : Result X ReplayFault) (n : ℕ) → n ≡ answer_status answer → OnOk answer (WritesReplayed before after old new)
+    → (answer ≡ Err faults.Write → WritesReplayedFront before after old new) → IfErr answer (IsReplayFault before after) → IfErr answer (λ fault. UnlessWrite fault (new ≡ old)) → IsRunStatus before after old new n
+status_told before after old new (Ok x) n is written front fault nothing = done is written
+status_told before after old new (Err why) n is written front fault nothing =
+    refused why fault (leaves_writer before after old new why nothing (λ same. front (ap (λ (f : ReplayFault). Err f) same))) is

@@ -1,10 +1,11 @@
 -- How a run ends.
-use Rattle.std.specs.Prelude.{◌≡◌, ◌⊎◌, ℕ, List, Option}
+use Rattle.std.specs.Prelude.{◌≡◌, ◌⊎◌, ℕ, Result, Ok, Err}
 use Rattle.kt_core.specs.declared.step.StepError.{StepError}
 use Rattle.kt_core.specs.declared.step.StepError.TheVariants as step
 use Rattle.kt_scene.specs.declared.fault.SceneError.{SceneError}
 use Rattle.kt_scene.specs.declared.fault.SceneError.TheVariants as scene
-use Rattle.kt_scene.specs.Run.{WritesReplayed, IsReplayFault, LeavesWritten}
+use Rattle.kt_scene.specs.Outside.{Reader, Writer}
+use Rattle.kt_scene.specs.Run.{WritesReplayed, IsReplayFault, LeavesWriter}
 use Rattle.kt_scene.specs.declared.fault.ReplayFault.{ReplayFault}
 use Rattle.kt_scene.specs.declared.fault.ReplayFault.TheVariants.{Scene, Step, Open, Memory, Read, Write}
 
@@ -28,13 +29,20 @@ status_of Memory = 6
 status_of Read = 7
 status_of Write = 7
 
+-- the exit status that tells of what a replay answers
+abbrev pub answer_status : {X : Type 0} → Result X ReplayFault → ℕ
+answer_status (Ok done) = 0
+answer_status (Err fault) = status_of fault
+
 -- the exit status of words that name no command: 0 where help was shown, 2 where they are wrong, 6 where
 -- memory ran out, 7 where help could not be written
 abbrev pub IsWordsStatus : ℕ → Type 0
 IsWordsStatus n = (n ≡ 0) ⊎ ((n ≡ 2) ⊎ ((n ≡ 6) ⊎ (n ≡ 7)))
 
--- the exit status of a command: 0 where what was read was replayed and its report written; else that of the fault, before
--- which nothing is written, or of the writer's a front of the report
-pub data IsRunStatus (before after old new : Option (List ℕ)) (n : ℕ) : Type 0 where
+-- the exit status of a command: that of what a replay answers here, which is 0 where what was read was replayed and its report
+-- written, and else that of the fault, before which nothing is written, or of the writer's a front of the report; or 6, with
+-- nothing read and nothing written, where memory ran out before the command was known
+pub data IsRunStatus (before after : Reader) (old new : Writer) (n : ℕ) : Type 0 where
   done : n ≡ 0 → WritesReplayed before after old new → IsRunStatus before after old new n
-  refused : (fault : ReplayFault) → IsReplayFault before after fault → LeavesWritten before after old new fault → n ≡ status_of fault → IsRunStatus before after old new n
+  refused : (fault : ReplayFault) → IsReplayFault before after fault → LeavesWriter before after old new fault → n ≡ status_of fault → IsRunStatus before after old new n
+  unread : n ≡ 6 → after ≡ before → new ≡ old → IsRunStatus before after old new n

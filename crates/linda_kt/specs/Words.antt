@@ -13,6 +13,10 @@ use Rattle.linda_kt.specs.declared.words.Command.TheVariants.{Replay}
 abbrev pub name_of : Command → Text
 name_of Replay = codes "replay"
 
+-- the program's name, and that it has a version
+abbrev pub program_app : App
+program_app = on_top (λ s. record s { has_version = true }) (new_app (codes "linda_kt"))
+
 -- the command line: no program's name, no command `help`, and one command, which must stand
 abbrev pub command_line_app : App
 command_line_app =
@@ -20,7 +24,7 @@ command_line_app =
       no_binary_name = true;
       subcommand_required = true;
       disable_help_subcommand = true;
-    }) (new_app (codes "linda_kt"))) (new_shape (codes "replay"))
+    }) program_app) (new_shape (codes "replay"))
 
 -- the texts behind references
 abbrev pub texts : List (Bor Text) → List Text
@@ -66,3 +70,8 @@ pub help_asks : (words_fault (codes "--help" ∷ []) ≡ DisplayHelp ∷ [])
     × (words_fault (codes "replay" ∷ codes "--help" ∷ []) ≡ DisplayHelp ∷ [])
 unfolding clap_on_literals
 help_asks = (refl, refl)
+
+-- `--version` asks for the version
+pub version_asks : words_fault (codes "--version" ∷ []) ≡ DisplayVersion ∷ []
+unfolding clap_on_literals
+version_asks = refl

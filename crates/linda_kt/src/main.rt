@@ -7,12 +7,15 @@ mod program;
 mod tests;
 mod words;
 
+use kt_scene::{Sink, Source};
 use std::env;
 use std::process::ExitCode;
 
 fn main(rt: HostRuntime) -> ExitCode {
     let arguments = env::args(&rt);
-    let (mut reader, mut writer, mut errors) = (rt.stdin(), rt.stdout(), rt.stderr());
+    let mut reader = Source::new(rt.stdin());
+    let mut writer = Sink::new(rt.stdout());
+    let mut errors = rt.stderr();
     let status = program::run_arguments(
         rt.alloc(),
         arguments,

@@ -1,17 +1,16 @@
 //! What the program does with its words and its three streams.
-ghost use Rattle.std.specs.Prelude.{◌≡◌, ◌≢◌, ◌⊎◌, [], IsErr, IfOk};
+ghost use Rattle.std.specs.Prelude.{◌≡◌, ◌≢◌, ◌⊎◌, [], IsOk, IsErr, IfOk};
 ghost use Rattle.std.specs.Vec.Iter.{into_iter_items};
 ghost use Rattle.clap.specs.Words.{kind_of};
 ghost use Rattle.clap.specs.declared.error.kind.ErrorKind.TheVariants as kind;
-ghost use Rattle.linda_kt.specs.Status.{IsRunStatus, IsWordsStatus, status_of, step_status};
-ghost use Rattle.kt_core.specs.declared.step.StepError.TheVariants as step;
+ghost use Rattle.linda_kt.specs.Status.{IsRunStatus, IsWordsStatus, answer_status, status_of};
 ghost use Rattle.linda_kt.specs.Words.{AreWrong, texts, words_behind, words_fault};
 
 use crate::words::{Command, read_words, refuse_bytes};
 use clap::Error;
 use clap::error::ErrorKind;
 use kt_core::StepError;
-use kt_scene::{OpenError, ReplayFault, SceneError, replay};
+use kt_scene::{OpenError, Outcome, ReplayFault, SceneError, Sink, Source, replay};
 use std::alloc::{AllocError, Global};
 use std::env::Args;
 use std::io;
@@ -37,15 +36,15 @@ const STEP_LIMIT: u8 = 8;
 pub fn run_arguments<R: Read, W: Write, E: Write>(
     alloc: Global,
     arguments: io::Result<Args>,
-    reader: &mut R,
-    writer: &mut W,
+    reader: &mut Source<R>,
+    writer: &mut Sink<W>,
     errors: &mut E,
 ) -> u8
     ensures no_text { IsErr arguments → (result ≡ COMMAND_LINE) ⊎ (result ≡ MEMORY) }
     ensures no_text_reads_nothing { IsErr arguments → reader.new ≡ reader.old }
     ensures no_text_prints_nothing { IsErr arguments → writer.new ≡ writer.old }
     ensures told { IfOk arguments (λ a. words_fault (words_behind (into_iter_items a)) ≡ []
-        → IsRunStatus (R.remaining reader.old) (R.remaining reader.new) (W.contents writer.old) (W.contents writer.new) result) }
+        → IsRunStatus reader.old reader.new writer.old writer.new result) }
     ensures wrong_words { IfOk arguments (λ a. AreWrong (words_behind (into_iter_items a))
         → (result ≡ COMMAND_LINE) ⊎ (result ≡ MEMORY)) }
     ensures done_without_a_word { result ≡ DONE → errors.new ≡ errors.old }
@@ -74,12 +73,12 @@ fn texts_of(alloc: Global, arguments: Args) -> Result<Vec<String>, AllocError>
 fn run_texts<R: Read, W: Write, E: Write>(
     alloc: Global,
     arguments: &[String],
-    reader: &mut R,
-    writer: &mut W,
+    reader: &mut Source<R>,
+    writer: &mut Sink<W>,
     errors: &mut E,
 ) -> u8
     ensures told { words_fault (words_behind arguments.now) ≡ []
-        → IsRunStatus (R.remaining reader.old) (R.remaining reader.new) (W.contents writer.old) (W.contents writer.new) result }
+        → IsRunStatus reader.old reader.new writer.old writer.new result }
     ensures wrong_words { AreWrong (words_behind arguments.now) → (result ≡ COMMAND_LINE) ⊎ (result ≡ MEMORY) }
     ensures done_without_a_word { result ≡ DONE → errors.new ≡ errors.old }
 {
@@ -107,12 +106,12 @@ fn words_behind<'a>(alloc: Global, arguments: &'a [String]) -> Result<Vec<&'a st
 pub fn run_program<R: Read, W: Write, E: Write>(
     alloc: Global,
     words: &[&str],
-    reader: &mut R,
-    writer: &mut W,
+    reader: &mut Source<R>,
+    writer: &mut Sink<W>,
     errors: &mut E,
 ) -> u8
     ensures told { words_fault (texts words.now) ≡ []
-        → IsRunStatus (R.remaining reader.old) (R.remaining reader.new) (W.contents writer.old) (W.contents writer.new) result }
+        → IsRunStatus reader.old reader.new writer.old writer.new result }
     ensures done_without_a_word { result ≡ DONE → errors.new ≡ errors.old }
     ensures wrong_words { AreWrong (texts words.now)
         → (result ≡ COMMAND_LINE) ⊎ (result ≡ MEMORY) }
@@ -122,16 +121,13 @@ pub fn run_program<R: Read, W: Write, E: Write>(
         → reader.new ≡ reader.old }
 {
     match read_words(alloc, words) {
-        Ok(Command::Replay) => match replay(alloc, reader, writer) {
-            Ok(()) => DONE,
-            Err(fault) => end_replay(fault, errors),
-        },
+        Ok(Command::Replay) => end_replay(replay(alloc, reader, writer), errors),
         Err(error) => answer_words(&error, writer, errors),
     }
 }
 
 /// Says why the words name no command: help on the output, anything else on `errors`.
-fn answer_words<W: Write, E: Write>(error: &Error, writer: &mut W, errors: &mut E) -> u8
+fn answer_words<W: Write, E: Write>(error: &Error, writer: &mut Sink<W>, errors: &mut E) -> u8
     ensures memory { kind_of error.now ≡ kind.OutOfMemory → result ≡ MEMORY }
     ensures wrong { kind_of error.now ≢ kind.OutOfMemory → kind_of error.now ≢ kind.DisplayHelp
         → kind_of error.now ≢ kind.DisplayVersion → result ≡ COMMAND_LINE }
@@ -148,49 +144,44 @@ fn answer_words<W: Write, E: Write>(error: &Error, writer: &mut W, errors: &mut 
         let _ = write!(errors, "{error}");
         return COMMAND_LINE;
     }
-    match write!(writer, "{error}") {
-        Ok(()) => DONE,
-        Err(_) => end_by("write", STREAM, errors),
+    writer.print(error);
+    match writer.outcome() {
+        Outcome::Done => DONE,
+        _ => end_by("write", STREAM, errors),
     }
 }
 
-/// Writes the line of a fault, and answers its status.
-fn end_replay<E: Write>(fault: ReplayFault, errors: &mut E) -> u8
+/// Says on `errors` why a replay ended early, and answers the status that tells how it ended.
+fn end_replay<E: Write>(answer: Result<(), ReplayFault>, errors: &mut E) -> u8
+    ensures status { result ≡ answer_status answer }
+    ensures quiet { IsOk answer → errors.new ≡ errors.old }
+{
+    match answer {
+        Ok(()) => DONE,
+        Err(fault) => {
+            // A standard error that is closed leaves the status alone to tell.
+            let _ = writeln!(errors, "{fault}");
+            status_of(fault)
+        }
+    }
+}
+
+/// The status that tells of a fault.
+fn status_of(fault: ReplayFault) -> u8
     ensures { result ≡ status_of fault }
 {
     match fault {
-        ReplayFault::Memory
-        | ReplayFault::Open(OpenError::OutOfMemory)
-        | ReplayFault::Scene {
-            line: _,
-            cause: SceneError::OutOfMemory,
-        }
-        | ReplayFault::Step {
-            at: _,
-            cause: StepError::OutOfMemory,
-        } => { end_by("memory", MEMORY, errors) }
-        ReplayFault::Read => end_by("read", STREAM, errors),
-        ReplayFault::Write => end_by("write", STREAM, errors),
-        ReplayFault::Scene { line, cause } => {
-            let number = cause.number();
-            let _ = writeln!(errors, "line {line}: {number} {cause}");
-            SCENARIO
-        }
-        ReplayFault::Step { at, cause } => {
-            let number = cause.number();
-            let _ = writeln!(errors, "step {at}: {number} {cause}");
-            status_of_refusal(cause)
-        }
-    }
-}
-
-/// The status of a step that was refused for another reason than memory.
-fn status_of_refusal(cause: StepError) -> u8
-    ensures { cause ≢ step.OutOfMemory → result ≡ step_status cause }
-{
-    match cause {
-        StepError::StepLimit => STEP_LIMIT,
-        _ => STEP,
+        ReplayFault::Scene { line: _, cause } => match cause {
+            SceneError::OutOfMemory => MEMORY,
+            _ => SCENARIO,
+        },
+        ReplayFault::Step { at: _, cause } => match cause {
+            StepError::OutOfMemory => MEMORY,
+            StepError::StepLimit => STEP_LIMIT,
+            _ => STEP,
+        },
+        ReplayFault::Open(OpenError::OutOfMemory) | ReplayFault::Memory => MEMORY,
+        ReplayFault::Read | ReplayFault::Write => STREAM,
     }
 }
 

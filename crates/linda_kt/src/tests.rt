@@ -1,5 +1,6 @@
 //! The program from its words to its output, its line on the errors and its status.
 use crate::program::run_program;
+use kt_scene::{Sink, Source};
 use std::alloc::{AllocError, Global};
 use std::io;
 use std::io::{ErrorKind, Read, Write};
@@ -19,6 +20,9 @@ const NO_STEPS: &str = "linda-kt 1\nshards 1\nworker\nout (\"a\", 1)\nsteps\nend
 const TWO_TAKERS: &str = "linda-kt 1\nshards 1\nworker\nin (\"t\")\nworker\nin (\"t\")\nworker\n\
 out (\"t\")\nsteps\nissue w1\ndeliver w1 s1\nissue w2\ndeliver w2 s1\nissue w3\ndeliver w3 s1\n\
 serve s1 w3 0\nserve s1 w2 0\n";
+
+const TWO_TAKERS_REPORT: &str = "survivors 2\nw3.1 out (\"t\") done\n\
+w2.1 in (\"t\") got (\"t\")\nlost 0\nspace 0\npermanent 0\n";
 
 const CUT_SHORT: &str = "linda-kt 1\nshards 1\nworker\nout (\"a\", 1)\nsteps\nissue w1\nissue w";
 
@@ -59,68 +63,81 @@ fn text_of(bytes: Vec<u8>) -> Result<String, Fail> {
 }
 
 fn run(alloc: Global, words: &[&str], input: &str) -> Result<Ended, Fail> {
-    let (mut output, mut errors) = (Vec::new(alloc), Vec::new(alloc));
-    let status = run_program(
-        alloc,
-        words,
-        &mut input.as_bytes(),
-        &mut output,
-        &mut errors,
-    );
+    let (mut reader, mut writer) = (Source::new(input.as_bytes()), Sink::new(Vec::new(alloc)));
+    let mut errors = Vec::new(alloc);
+    let status = run_program(alloc, words, &mut reader, &mut writer, &mut errors);
     Ok(Ended {
-        output: text_of(output)?,
+        output: text_of(writer.into_inner())?,
         errors: text_of(errors)?,
         status,
     })
 }
 
-fn expect(rt: &impl Abort, ended: &Ended, output: &str, errors: &str, status: u8) {
-    assert_eq!(rt; ended.output.as_str(), output);
-    assert_eq!(rt; ended.errors.as_str(), errors);
-    assert_eq!(rt; ended.status, status);
+/// An input's parts, the output, the line on the errors, and the status.
+type Row = (&'static [&'static str], &'static str, &'static str, u8);
+
+const HEAD: &str = "linda-kt 1\nshards 1\nworker\n";
+
+const ROWS: [Row; 15] = [
+    (&[PUT_AND_TAKE], PUT_AND_TAKE_REPORT, "", 0),
+    (
+        &[NO_STEPS],
+        "survivors 0\nlost 0\nspace 0\npermanent 0\n",
+        "",
+        0,
+    ),
+    (&[TWO_TAKERS, "end\n"], TWO_TAKERS_REPORT, "", 0),
+    (
+        &[TWO_TAKERS, "serve s1 w1 0\nend\n"],
+        "",
+        "step 9: 4 NoSuchMatch\n",
+        4,
+    ),
+    (&[UNLESS_SKIPS], UNLESS_SKIPS_REPORT, "", 0),
+    (&[HEAD, SATURATING_SET], SATURATING_SET_REPORT, "", 0),
+    (
+        &[HEAD, "steps\nissue w2\nend\n"],
+        "",
+        "step 1: 1 NoNode\n",
+        4,
+    ),
+    (
+        &[HEAD, "steps\nissue w1\nend\n"],
+        "",
+        "step 1: 3 NothingThere\n",
+        4,
+    ),
+    (&["linda-kt 2\n"], "", "line 1: 1 Header\n", 3),
+    (&[HEAD, "output (1)\n"], "", "line 4: 2 Word\n", 3),
+    (&[HEAD, "out (01)\n"], "", "line 4: 3 Tuple\n", 3),
+    (
+        &[HEAD, "set x = x + 1\n", SATURATING_SET],
+        "",
+        "line 4: 4 Variable\n",
+        3,
+    ),
+    (&["linda-kt 1\nshards 9\n"], "", "line 2: 5 Limit\n", 3),
+    (&[CUT_SHORT], "", "line 7: 7 End\n", 3),
+    (&[""], "", "line 1: 7 End\n", 3),
+];
+
+fn assert_rows(rt: &impl Abort, alloc: Global, rows: &[Row]) -> Result<(), Fail> {
+    for (parts, output, errors, status) in rows {
+        let mut input = String::new(alloc);
+        for part in *parts {
+            input.push_str(part)?;
+        }
+        let ended = run(alloc, &["replay"], input.as_str())?;
+        assert_eq!(rt; ended.output.as_str(), *output, "{input}");
+        assert_eq!(rt; ended.errors.as_str(), *errors, "{input}");
+        assert_eq!(rt; ended.status, *status, "{input}");
+    }
+    Ok(())
 }
 
 #[test]
 fn worked_scenarios(rt: HostRuntime) -> Result<(), Fail> {
-    let alloc = rt.alloc();
-    let replay = ["replay"];
-    let ended = run(alloc, &replay, PUT_AND_TAKE)?;
-    expect(&rt, &ended, PUT_AND_TAKE_REPORT, "", 0);
-    let ended = run(alloc, &replay, NO_STEPS)?;
-    expect(
-        &rt,
-        &ended,
-        "survivors 0\nlost 0\nspace 0\npermanent 0\n",
-        "",
-        0,
-    );
-    let report =
-        "survivors 2\nw3.1 out (\"t\") done\nw2.1 in (\"t\") got (\"t\")\nlost 0\nspace 0\npermanent 0\n";
-    let input = format!(in alloc; "{TWO_TAKERS}end\n")?;
-    let ended = run(alloc, &replay, input.as_str())?;
-    expect(&rt, &ended, report, "", 0);
-    let input = format!(in alloc; "{TWO_TAKERS}serve s1 w1 0\nend\n")?;
-    let ended = run(alloc, &replay, input.as_str())?;
-    expect(&rt, &ended, "", "step 9: 4 NoSuchMatch\n", 4);
-    let ended = run(alloc, &replay, CUT_SHORT)?;
-    expect(&rt, &ended, "", "line 7: 7 End\n", 3);
-    Ok(())
-}
-
-#[test]
-fn worked_scripts(rt: HostRuntime) -> Result<(), Fail> {
-    let alloc = rt.alloc();
-    let replay = ["replay"];
-    let ended = run(alloc, &replay, UNLESS_SKIPS)?;
-    expect(&rt, &ended, UNLESS_SKIPS_REPORT, "", 0);
-    let front = "linda-kt 1\nshards 1\nworker\n";
-    let input = format!(in alloc; "{front}{SATURATING_SET}")?;
-    let ended = run(alloc, &replay, input.as_str())?;
-    expect(&rt, &ended, SATURATING_SET_REPORT, "", 0);
-    let input = format!(in alloc; "{front}set x = x + 1\n{SATURATING_SET}")?;
-    let ended = run(alloc, &replay, input.as_str())?;
-    expect(&rt, &ended, "", "line 4: 4 Variable\n", 3);
-    Ok(())
+    assert_rows(&rt, rt.alloc(), &ROWS)
 }
 
 #[test]
@@ -133,6 +150,11 @@ fn words(rt: HostRuntime) -> Result<(), Fail> {
             .starts_with("A Linda tuple space that survives failures\n")
     );
     assert!(rt; help.errors.is_empty() && help.status == 0);
+    for word in ["--version", "-V"] {
+        let version = run(alloc, &[word], "")?;
+        assert_eq!(rt; version.output.as_str(), "linda_kt 0.1.0\n");
+        assert!(rt; version.errors.is_empty() && version.status == 0);
+    }
     let none = run(alloc, &[], NO_STEPS)?;
     assert!(rt;
         none.errors
@@ -163,7 +185,7 @@ impl Read for Broken<'_> {
     }
 }
 
-/// A writer with room for so many bytes, each in a write of its own.
+/// A writer with room for so many bytes, each in a write of its own. It passes nothing on.
 #[derive(Drop)]
 struct Narrow {
     room: usize,
@@ -183,26 +205,39 @@ impl Write for Narrow {
     }
 
     fn flush(&mut self) -> io::Result<()> {
-        Ok(())
+        Err(io::Error::from(ErrorKind::StorageFull))
     }
 }
+
+/// A word, room for a front of what is printed, and the whole of it. The second has room for all, which is not
+/// passed on.
+const NARROW: [(&str, usize, &str); 3] = [
+    ("replay", 20, PUT_AND_TAKE_REPORT),
+    ("replay", 95, PUT_AND_TAKE_REPORT),
+    ("--version", 4, "linda_kt 0.1.0\n"),
+];
 
 #[test]
 fn streams_that_fail(rt: HostRuntime) -> Result<(), Fail> {
     let alloc = rt.alloc();
-    let (mut output, mut errors) = (Vec::new(alloc), Vec::new(alloc));
-    let mut reader = Broken(&NO_STEPS.as_bytes()[..20]);
-    let status = run_program(alloc, &["replay"], &mut reader, &mut output, &mut errors);
-    assert!(rt; output.is_empty() && errors.as_slice() == b"read\n".as_slice() && status == 7);
     let mut errors = Vec::new(alloc);
-    let mut writer = Narrow {
-        room: 20,
-        held: Vec::new(alloc),
-    };
-    let mut reader = PUT_AND_TAKE.as_bytes();
+    let mut reader = Source::new(Broken(&NO_STEPS.as_bytes()[..20]));
+    let mut writer = Sink::new(Vec::new(alloc));
     let status = run_program(alloc, &["replay"], &mut reader, &mut writer, &mut errors);
-    assert!(rt; errors.as_slice() == b"write\n".as_slice() && status == 7);
-    assert!(rt; writer.held.as_slice() == &PUT_AND_TAKE_REPORT.as_bytes()[..20]);
+    assert!(rt; errors.as_slice() == b"read\n".as_slice() && status == 7);
+    assert!(rt; writer.into_inner().is_empty());
+    for (word, room, text) in &NARROW {
+        let mut errors = Vec::new(alloc);
+        let mut reader = Source::new(PUT_AND_TAKE.as_bytes());
+        let mut writer = Sink::new(Narrow {
+            room: *room,
+            held: Vec::new(alloc),
+        });
+        let status = run_program(alloc, &[*word], &mut reader, &mut writer, &mut errors);
+        assert!(rt; errors.as_slice() == b"write\n".as_slice() && status == 7);
+        let front = text.as_bytes().get(..*room).ok_or("a front")?;
+        assert_eq!(rt; writer.into_inner().held.as_slice(), front);
+    }
     Ok(())
 }
 
@@ -227,14 +262,15 @@ fn all_memory(alloc: Global) -> Result<Vec<Vec<u8>>, AllocError> {
 fn little_memory(rt: HostRuntime) -> Result<(), Fail> {
     let alloc = rt.alloc();
     for round in 0..2000usize {
-        let mut output = Vec::with_capacity(alloc, 1000)?;
+        let mut writer = Sink::new(Vec::with_capacity(alloc, 1000)?);
         let mut errors = Vec::with_capacity(alloc, 1000)?;
         let spare: Vec<u8> = Vec::with_capacity(alloc, 512 * round)?;
         let hoard = all_memory(alloc)?;
         drop(spare);
-        let mut reader = PUT_AND_TAKE.as_bytes();
-        let status = run_program(alloc, &["replay"], &mut reader, &mut output, &mut errors);
+        let mut reader = Source::new(PUT_AND_TAKE.as_bytes());
+        let status = run_program(alloc, &["replay"], &mut reader, &mut writer, &mut errors);
         drop(hoard);
+        let output = writer.into_inner();
         if status == 0 {
             assert!(rt; output.as_slice() == PUT_AND_TAKE_REPORT.as_bytes());
             assert!(rt; errors.is_empty() && round > 10);

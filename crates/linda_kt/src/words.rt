@@ -1,7 +1,7 @@
 //! The words of the command line.
 ghost use Rattle.std.specs.Prelude.{◌≡◌, ◌⊎◌, IfOk, IfSome};
 ghost use Rattle.clap.specs.Words.{app_of, FailsBy, kind_of};
-ghost use Rattle.linda_kt.specs.Words.{command_line_app, name_of, named_command, texts, words_fault};
+ghost use Rattle.linda_kt.specs.Words.{command_line_app, name_of, named_command, program_app, texts, words_fault};
 
 use clap::Error;
 use clap::error::ErrorKind;
@@ -46,13 +46,21 @@ fn command_line<'a>(alloc: Global) -> Result<clap::Command<'a>, AllocError>
     let replay = clap::Command::new(alloc, "replay").about(
         "Makes the steps of the scenario on standard input and writes the report to standard output",
     );
-    clap::Command::new(alloc, "linda_kt")
-        .about("A Linda tuple space that survives failures")
+    described(alloc)
         .bin_name("linda_kt")?
         .no_binary_name(true)
         .subcommand_required(true)
         .disable_help_subcommand(true)
         .subcommand(replay)
+}
+
+/// The program's name, what it is, and its version.
+fn described<'a>(alloc: Global) -> clap::Command<'a>
+    ensures { app_of result ≡ program_app }
+{
+    clap::Command::new(alloc, "linda_kt")
+        .about("A Linda tuple space that survives failures")
+        .version("0.1.0")
 }
 
 /// The error for words that are not text.

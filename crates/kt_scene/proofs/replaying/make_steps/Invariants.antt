@@ -1,5 +1,5 @@
 use Rattle.std.proofs.Common.{take}
-use Rattle.kt_scene.specs.Run.{RunsTo}
+use Rattle.kt_core.specs.Runs.{RunsTo}
 use Rattle.kt_scene.proofs.replaying.make_steps.Given as goal
 
 abbrev pub invariant-loop-i : goal.invariant-loop-i

@@ -1,7 +1,7 @@
 use Rattle.std.proofs.Common.{◌≡◌, ◌∙◌, refl, sym, ap, subst}
 use Rattle.std.specs.Vec.Iter.{into_iter_items}
 use Rattle.linda_kt.specs.Words.{AreWrong, words_behind, words_fault}
-use Rattle.linda_kt.proofs.Statuses.{ends_for_memory}
+use Rattle.linda_kt.specs.Status.{unread}
 use Rattle.linda_kt.proofs.program.run_arguments.Goals as goal
 
 pub returns-in-Ok-texts-clause-told : goal.returns-in-Ok-texts-clause-told
@@ -15,4 +15,4 @@ returns-in-Ok-texts-clause-wrong_words g c =
     rw c.in-Ok.is (λ wrong. c.run_texts.ensures.wrong_words (subst AreWrong (sym same) wrong))
 
 pub returns-in-Err-texts-clause-told : goal.returns-in-Err-texts-clause-told
-returns-in-Err-texts-clause-told g c = rw c.in-Ok.is (λ none. ends_for_memory _ _ _ _ c.end_by-in-Err-texts.result refl c.end_by-in-Err-texts.ensures)
+returns-in-Err-texts-clause-told g c = rw c.in-Ok.is (λ none. unread c.end_by-in-Err-texts.ensures refl refl)

@@ -1,6 +1,6 @@
 use Rattle.std.proofs.Common.{◌≡◌, ◌∙◌, refl, ap}
 use Rattle.linda_kt.specs.Words.{texts, words_behind, words_fault}
-use Rattle.linda_kt.proofs.Statuses.{ends_for_memory}
+use Rattle.linda_kt.specs.Status.{unread}
 use Rattle.linda_kt.proofs.program.run_texts.Goals as goal
 
 pub returns-in-Ok-clause-told : goal.returns-in-Ok-clause-told
@@ -9,4 +9,4 @@ returns-in-Ok-clause-told g c = λ none.
     c.run_program.ensures.told (ap words_fault same ∙ none)
 
 pub returns-in-Err-clause-told : goal.returns-in-Err-clause-told
-returns-in-Err-clause-told g c = λ none. ends_for_memory _ _ _ _ c.end_by.result refl c.end_by.ensures
+returns-in-Err-clause-told g c = λ none. unread c.end_by.ensures refl refl

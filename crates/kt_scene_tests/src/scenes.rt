@@ -1,8 +1,8 @@
 //! Scenarios against faults worked out by hand from the rules.
 
-use super::*;
-use crate::fault_tables::*;
+use crate::tables::*;
 use kt_core::Step;
+use kt_scene::{MAX_TEXT, Work, read_scene, write_scene};
 use kt_script::{Actual, Command, Operation, Slot};
 use kt_tuple::{Kind, NodeId, Value};
 use std::alloc::{AllocError, Global};
@@ -74,7 +74,7 @@ fn assert_faults(
 }
 
 /// Each text has its fault.
-fn assert_texts(rt: &impl Abort, alloc: Global, rows: &[Text]) {
+pub(crate) fn assert_texts(rt: &impl Abort, alloc: Global, rows: &[Text]) {
     for (text, line, number) in rows {
         assert_eq!(rt; fault_of(alloc, text), (*line, *number), "{text:?}");
     }

@@ -1,8 +1,9 @@
 //! Scenarios with a byte dropped, changed or doubled, two lines swapped or a number enlarged. What is accepted
 //! is written as it stood and read again; what is not has its fault on a line of the text or just behind it.
 
-use super::*;
-use crate::replay_tests::{Source, empty, whole};
+use crate::streams::{Feed, empty, replayed, whole};
+use kt_core::World;
+use kt_scene::{ReplayFault, Scenario, SceneFault, Sink, read_scene, write_report, write_scene};
 use std::alloc::Global;
 use std::process::Abort;
 use std::test::Fail;
@@ -167,20 +168,55 @@ fn judged(rt: &impl Abort, alloc: Global, text: &[u8]) -> Result<u8, Fail> {
     }
 }
 
-/// A replay is the same where the bytes come one at a time. Whether it ended with a report.
-fn replayed_alike(rt: &impl Abort, alloc: Global, text: &[u8]) -> bool {
-    let mut report = empty(alloc);
-    let expected = replay(alloc, &mut whole(text), &mut report);
-    let mut source = Source {
-        at_once: 1,
-        ..whole(text)
+/// What a replay of the text must answer and write: what `read_scene` answers, then what the steps of what was read
+/// do, then the report.
+fn told_of(alloc: Global, text: &[u8]) -> Result<(Result<(), ReplayFault>, Vec<u8>), Fail> {
+    let nothing = Vec::new(alloc);
+    let Scenario { scene, work } = match read_scene(alloc, text) {
+        Ok(scenario) => scenario,
+        Err(SceneFault { line, cause }) => {
+            return Ok((Err(ReplayFault::Scene { line, cause }), nothing));
+        }
     };
-    let mut sink = empty(alloc);
-    let ended = replay(alloc, &mut source, &mut sink);
-    assert_eq!(rt; ended, expected, "{text:?}");
-    assert_eq!(rt; sink.bytes.as_slice(), report.bytes.as_slice(), "{text:?}");
-    expected.is_ok()
+    let mut world = World::open(alloc, scene).map_err(|_| Fail::from("no world"))?;
+    let mut at = 0usize;
+    for step in work.steps() {
+        at = at.saturating_add(1);
+        if let Err(cause) = world.step(alloc, *step) {
+            return Ok((Err(ReplayFault::Step { at, cause }), nothing));
+        }
+    }
+    let mut sink = Sink::new(nothing);
+    write_report(alloc, &mut world, &mut sink)?;
+    Ok((Ok(()), sink.into_inner()))
 }
+
+/// A replay answers and writes what reading, stepping and reporting do by themselves, also where the bytes come one
+/// at a time. Whether it ended with a report.
+fn replayed_as_told(rt: &impl Abort, alloc: Global, text: &[u8]) -> Result<bool, Fail> {
+    let (expected, report) = told_of(alloc, text)?;
+    for at_once in [1, 1_000_000] {
+        let feed = Feed {
+            at_once,
+            ..whole(text)
+        };
+        let (answer, left) = replayed(alloc, feed, empty(alloc));
+        assert_eq!(rt; answer, expected, "{text:?}");
+        assert_eq!(rt; left.bytes.as_slice(), report.as_slice(), "{text:?}");
+    }
+    Ok(expected.is_ok())
+}
+
+/// How many mutants have at least which fault's number; 0 is none.
+const LEAST: [(u8, usize); 7] = [
+    (0, 1_000),
+    (1, 100),
+    (2, 100),
+    (3, 100),
+    (4, 100),
+    (5, 100),
+    (7, 100),
+];
 
 /// How often the number stands there.
 fn count_of(numbers: &[u8], number: u8) -> usize {
@@ -190,7 +226,7 @@ fn count_of(numbers: &[u8], number: u8) -> usize {
 #[test]
 fn mutants(rt: HostRuntime) -> Result<(), Fail> {
     let alloc = rt.alloc();
-    for seed in SEEDS {
+    for seed in &SEEDS {
         assert_eq!(rt; judged(&rt, alloc, seed)?, 0, "{seed:?}");
     }
     let mut dice = Dice { state: 1 };
@@ -201,21 +237,13 @@ fn mutants(rt: HostRuntime) -> Result<(), Fail> {
         let text = mutant_of(alloc, &mut dice, seed)?;
         numbers.push(judged(&rt, alloc, &text)?)?;
         if i % REPLAYED == 0 {
-            reports.push(u8::from(replayed_alike(&rt, alloc, &text)))?;
+            reports.push(u8::from(replayed_as_told(&rt, alloc, &text)?))?;
         }
     }
     let mut counted = 0usize;
-    for (number, least) in [
-        (0, 1_000),
-        (1, 100),
-        (2, 100),
-        (3, 100),
-        (4, 100),
-        (5, 100),
-        (7, 100),
-    ] {
-        let count = count_of(&numbers, number);
-        assert!(rt; count >= least, "{count} mutants of number {number}");
+    for (number, least) in &LEAST {
+        let count = count_of(&numbers, *number);
+        assert!(rt; count >= *least, "{count} mutants of number {number}");
         counted = counted.saturating_add(count);
     }
     assert_eq!(rt; counted, MUTANTS);

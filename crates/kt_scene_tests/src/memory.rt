@@ -1,7 +1,7 @@
 //! Scenarios that are read while memory is refused.
 
-use super::*;
-use crate::scene_tests::{fault_of, text_of};
+use crate::scenes::{assert_texts, fault_of, text_of};
+use crate::tables::Text;
 use std::alloc::{AllocError, Global};
 use std::process::Abort;
 use std::test::Fail;
@@ -26,7 +26,7 @@ fn hoard_all(alloc: Global, hoard: &mut Vec<Vec<u8>>) -> Result<(), AllocError> 
 
 /// Texts, and the line and the number of their fault where no memory is left. The first command and the first
 /// script that ends are the first that have to be kept.
-const WITHOUT_MEMORY: [(&[u8], usize, u8); 19] = [
+const WITHOUT_MEMORY: [Text; 19] = [
     (b"", 1, 7),
     (b"linda-kt 2\n", 1, 1),
     (b"linda-kt 1\nshards x\n", 2, 1),
@@ -58,9 +58,7 @@ fn no_memory(rt: HostRuntime) -> Result<(), Fail> {
     let alloc = rt.alloc();
     let mut hoard = Vec::with_capacity(alloc, BLOCKS)?;
     hoard_all(alloc, &mut hoard)?;
-    for (text, line, number) in WITHOUT_MEMORY {
-        assert_eq!(rt; fault_of(alloc, text), (line, number), "{text:?}");
-    }
+    assert_texts(&rt, alloc, &WITHOUT_MEMORY);
     Ok(())
 }
 

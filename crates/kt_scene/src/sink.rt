@@ -1,0 +1,98 @@
+//! A writer and what its calls came to.
+
+use crate::source::Outcome;
+use std::fmt::Display;
+use std::io::{ErrorKind, Write};
+use std::marker::Model;
+
+/// A writer, and what its calls came to.
+#[derive(Drop)]
+pub struct Sink<W: Write> {
+    writer: W,
+    outcome: Outcome,
+}
+
+impl<W: Write> Model for Sink<W> {
+    ghost use Rattle.kt_scene.specs.Outside.{Writer};
+
+    ghost Value = { Writer };
+
+    ghost view = { λ s. record { bytes = W.contents s.writer; outcome = s.outcome } };
+}
+
+impl<W: Write> Sink<W> {
+    ghost use Rattle.std.specs.Prelude.{◌≡◌, ◌≢◌, ◌<◌, ◌≤◌, length, take};
+    ghost use Rattle.std.specs.Io.KnownBytes.{Appends, Keeps};
+    ghost use Rattle.kt_scene.specs.Outside.{Writer};
+
+    /// The writer before any call.
+    pub fn new(writer: W) -> Sink<W>
+        ensures bytes { result.bytes ≡ W.contents writer }
+        ensures outcome { result.outcome ≡ Outcome.Open }
+    {
+        Sink {
+            writer,
+            outcome: Outcome::Open,
+        }
+    }
+
+    /// What the calls came to.
+    pub fn outcome(&self) -> Outcome
+        ensures { result ≡ self.now.outcome }
+    {
+        self.outcome
+    }
+
+    /// The writer itself.
+    pub fn into_inner(self) -> W
+        ensures { W.contents result ≡ self.bytes }
+    {
+        let Sink { writer, outcome: _ } = self;
+        writer
+    }
+
+    /// Writes some of the bytes, and answers how many: none only where the writer failed. A call that was
+    /// interrupted is made again.
+    pub(crate) fn write(&mut self, bytes: &[u8]) -> usize
+        requires { 0 < length bytes.now }
+        ensures within { result ≤ length bytes.now }
+        ensures bytes { Appends self.old.bytes self.new.bytes (take result bytes.now) }
+        ensures none { self.new.outcome ≢ Outcome.Failed → 0 < result }
+        ensures on_its_way { self.new.outcome ≢ Outcome.Done }
+    {
+        self.outcome = Outcome::Failed;
+        for _ in 0..u64::MAX {
+            match self.writer.write(bytes) {
+                Ok(0) => return 0,
+                Ok(count) => {
+                    self.outcome = Outcome::Open;
+                    return count;
+                }
+                Err(error) if error.kind() == ErrorKind::Interrupted => {}
+                Err(_) => return 0,
+            }
+        }
+        0
+    }
+
+    /// Has the writer pass on all that was written.
+    pub(crate) fn flush(&mut self)
+        ensures same { Keeps self.old.bytes self.new.bytes }
+        ensures settled { self.new.outcome ≢ Outcome.Open }
+    {
+        self.outcome = match self.writer.flush() {
+            Ok(()) => Outcome::Done,
+            Err(_) => Outcome::Failed,
+        };
+    }
+
+    /// Writes the text and has the writer pass it on.
+    pub fn print<D: Display + Drop>(&mut self, text: D)
+        ensures { self.new.outcome ≢ Outcome.Open }
+    {
+        match write!(self.writer, "{text}") {
+            Ok(()) => self.flush(),
+            Err(_) => self.outcome = Outcome::Failed,
+        }
+    }
+}

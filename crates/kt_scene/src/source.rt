@@ -1,0 +1,110 @@
+//! A reader and what its calls came to.
+
+use std::io::{ErrorKind, Read};
+use std::marker::Model;
+
+/// The most calls of a reader.
+pub const MAX_READS: u32 = 2_000_000;
+
+/// What the calls of a reader or a writer have come to.
+#[derive(Clone, Copy, Debug, PartialEq, Eq)]
+pub enum Outcome {
+    /// There may be more to read; what was written may still be on its way.
+    Open,
+    /// The reader came to its end; the writer has passed on all that was written.
+    Done,
+    /// A call failed; or a reader had its 2,000,000 calls and came to no end.
+    Failed,
+}
+
+/// A reader, how often it was called, and what that came to. It is called at most 2,000,000 times.
+#[derive(Drop)]
+pub struct Source<R: Read> {
+    reader: R,
+    calls: u32,
+    outcome: Outcome,
+}
+
+impl<R: Read> Model for Source<R> {
+    ghost use Rattle.std.specs.Prelude.{◌≤◌};
+    ghost use Rattle.kt_scene.specs.Outside.{Reader};
+
+    ghost Value = { Reader };
+
+    ghost view = { λ s. record { bytes = R.remaining s.reader; calls = s.calls; outcome = s.outcome } };
+
+    ghost invariant = { λ s. s.calls ≤ 2000000 };
+}
+
+impl<R: Read> Source<R> {
+    ghost use Rattle.std.specs.Prelude.{◌≡◌, ◌≢◌, ◌+◌, ◌<◌, ◌≤◌, length, take};
+    ghost use Rattle.std.specs.Io.KnownBytes.{Consumes, IsAtEnd};
+    ghost use Rattle.kt_scene.specs.Outside.{Reader};
+
+    /// The reader before any call.
+    pub fn new(reader: R) -> Source<R>
+        ensures bytes { result.bytes ≡ R.remaining reader }
+        ensures calls { result.calls ≡ 0 }
+        ensures outcome { result.outcome ≡ Outcome.Open }
+    {
+        Source {
+            reader,
+            calls: 0,
+            outcome: Outcome::Open,
+        }
+    }
+
+    /// What the calls came to.
+    pub fn outcome(&self) -> Outcome
+        ensures { result ≡ self.now.outcome }
+    {
+        self.outcome
+    }
+
+    /// How often the reader was called.
+    pub fn calls(&self) -> u32
+        ensures value { result ≡ self.now.calls }
+        ensures few { result ≤ 2000000 }
+    {
+        self.calls
+    }
+
+    /// The reader itself.
+    pub fn into_inner(self) -> R
+        ensures { R.remaining result ≡ self.bytes }
+    {
+        let Source {
+            reader,
+            calls: _,
+            outcome: _,
+        } = self;
+        reader
+    }
+
+    /// Calls the reader once: how many bytes it gave, none at its end, where it failed, and where it was
+    /// interrupted and may be called again. After 2,000,000 calls it is called no more.
+    pub(crate) fn read(&mut self, buf: &mut [u8]) -> usize
+        requires { 0 < length buf.old }
+        ensures within { result ≤ length buf.new }
+        ensures bytes { Consumes self.old.bytes self.new.bytes (take result buf.new) }
+        ensures counted { self.old.calls < 2000000 → self.new.calls ≡ self.old.calls + 1 }
+        ensures given_up { self.old.calls ≡ 2000000 → self.new.outcome ≡ Outcome.Failed }
+        ensures called { self.new.outcome ≢ Outcome.Failed → self.new.calls ≡ self.old.calls + 1 }
+        ensures few { self.new.calls ≤ 2000000 }
+        ensures end { self.new.outcome ≡ Outcome.Done → IsAtEnd self.new.bytes × (result ≡ 0) }
+    {
+        if self.calls == MAX_READS {
+            self.outcome = Outcome::Failed;
+            return 0;
+        }
+        self.calls += 1;
+        let (count, outcome) = match self.reader.read(buf) {
+            Ok(0) => (0, Outcome::Done),
+            Ok(count) => (count, Outcome::Open),
+            Err(error) if error.kind() == ErrorKind::Interrupted => (0, Outcome::Open),
+            Err(_) => (0, Outcome::Failed),
+        };
+        self.outcome = outcome;
+        count
+    }
+}
