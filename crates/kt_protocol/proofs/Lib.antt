@@ -1,1 +1,5 @@
-
+pub mod Labels
+pub mod Lines
+pub mod Streams
+pub mod Invariant
+pub mod Frames
