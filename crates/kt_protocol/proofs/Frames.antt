@@ -43,11 +43,12 @@ pub Standing-later : {B C : Board} (i : Instance) (tent : Option ℕ) → Later 
 Standing-later (Check k) tent l s = s
 Standing-later (Rollback k) tent l s = l.live (Rollback k) s
 
-pub CutSoon-later : {B C : Board} {c : Core} {p : ℕ} {l : Label} → Later B C → CutSoon B c p l → CutSoon C c p l
+pub CutSoon-later : {B C : Board} {mode : Mode} {perm : List Act} {p : ℕ} {l : Label} → Later B C → CutSoon B mode perm p l
+  → CutSoon C mode perm p l
 CutSoon-later later s = record { number = s.number; rolls = s.rolls; decided = later.decided (Rollback s.number) s.decided; above = s.above }
 
-pub Caused-later : {B C : Board} {p q : ℕ} {cp cq : Core} {by : ℕ} {l : Label} → Later B C → Caused B p q cp cq by l
-  → Caused C p q cp cq by l
+pub Caused-later : {B C : Board} {p q : ℕ} {cp : Core} {mode : Mode} {perm : List Act} {by : ℕ} {l : Label} → Later B C
+  → Caused B p q cp mode perm by l → Caused C p q cp mode perm by l
 Caused-later later (made i) = made i
 Caused-later later (lost u) = lost u
 Caused-later later (cut_soon s) = cut_soon (CutSoon-later later s)

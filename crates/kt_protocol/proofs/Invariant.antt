@@ -53,17 +53,17 @@ pub data Carried (c : Core) (q : ℕ) (m : Post) : Type 0 where
   undone : Undone c q m.label → Carried c q m
 
 -- what was heard from p under this label is about to be cut: the node rolls in an instance that has Yes
-pub record CutSoon (B : Board) (c : Core) (p : ℕ) (l : Label) : Type 0 where
+pub record CutSoon (B : Board) (mode : Mode) (perm : List Act) (p : ℕ) (l : Label) : Type 0 where
   pub number : ℕ
-  pub rolls : instance_of c.mode ≡ Some (Rollback number)
+  pub rolls : instance_of mode ≡ Some (Rollback number)
   pub decided : B.verdict (Rollback number) ≡ Yes
-  pub above : Under (top_heard c.perm p) l
+  pub above : Under (top_heard perm p) l
 
 -- an act in q's line heard the act `by` of p
-pub data Caused (B : Board) (p q : ℕ) (cp cq : Core) (by : ℕ) (l : Label) : Type 0 where
-  made : IsIn (Sends by q l) cp.line → Caused B p q cp cq by l
-  lost : Undone cp q l → Caused B p q cp cq by l
-  cut_soon : CutSoon B cq p l → Caused B p q cp cq by l
+pub data Caused (B : Board) (p q : ℕ) (cp : Core) (mode : Mode) (perm : List Act) (by : ℕ) (l : Label) : Type 0 where
+  made : IsIn (Sends by q l) cp.line → Caused B p q cp mode perm by l
+  lost : Undone cp q l → Caused B p q cp mode perm by l
+  cut_soon : CutSoon B mode perm p l → Caused B p q cp mode perm by l
 
 -- nothing underlying and no open ask of a rollback
 pub record Quiet (B : Board) (link : List Message) : Type 0 where
@@ -150,7 +150,7 @@ TokenOf B p q np nq kept link i b = Token i (a_key p np.life) (b.awaited q) b.re
 pub record Pair (B : Board) (p q : ℕ) (np nq : Node) (kept : List Post) (link : List Message) : Type 0 where
   -- what q's permanent checkpoint heard, p's has sent
   pub agree : UpTo (top_heard nq.perm p) (top_sent np.perm q)
-  pub caused : (by : ℕ) (l : Label) → IsIn (Hears by p l) nq.line → Caused B p q (core np) (core nq) by l
+  pub caused : (by : ℕ) (l : Label) → IsIn (Hears by p l) nq.line → Caused B p q (core np) nq.mode nq.perm by l
   pub chain : Rising (Carried (core np) q) (next_label np) (top_heard nq.line p) (kept ++ apps link)
   pub asks : (i : Instance) (l : Label) (c : ℕ) → IsIn (Ask i l c) link → FineAsk B np.joined np.said (core np) q i l c
   pub token : (i : Instance) (b : Ballot) → np.mode ≡ Voting i b → Standing B i np.tent → TokenOf B p q np nq kept link i b

@@ -3,3 +3,5 @@ pub mod Lines
 pub mod Streams
 pub mod Invariant
 pub mod Frames
+pub mod Cases
+pub mod Talks
