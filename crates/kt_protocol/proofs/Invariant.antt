@@ -4,7 +4,7 @@ use Rattle.std.proofs.Common.{◌≡◌, ◌≢◌, ◌⊎◌, ◌≤◌, ℕ, B
 use Rattle.kt_protocol.specs.Labels.{Label, Under, UpTo}
 use Rattle.kt_protocol.specs.Lines.{IsIn, Act, Sends, Hears, top_sent, top_heard, IsTail}
 use Rattle.kt_protocol.specs.Machine.{Instance, Check, Rollback, Verdict, Open, Yes, No, Key, Ballot, Mode, Up, Voting, Down, Post, Message, App, Ask, Vote, Member, Mark, Node, Board, State, instance_of, next_label}
-use Rattle.kt_protocol.specs.Steps.{ask_label, IsAgreed}
+use Rattle.kt_protocol.specs.Steps.{IsAgreed}
 use Rattle.kt_protocol.proofs.Lines.{Falls}
 use Rattle.kt_protocol.proofs.Streams.{apps, Rising, NoAsk, Asked}
 
@@ -140,11 +140,16 @@ pub record FineAsk (B : Board) (joined : List Member) (said : List Mark) (cp : C
   pub unsaid : B.verdict i ≡ Open → IsIn (a_mark i c) said → ⊥
   pub meant : B.verdict i ≡ Open → Meant i cp q l
 
+-- the label with which an ask is made
+abbrev pub top_of : Instance → List Act → List Act → ℕ → Label
+top_of (Check k) line perm q = top_heard line q
+top_of (Rollback k) line perm q = top_sent perm q
+
 -- the token of p's ballot towards q
 abbrev pub TokenOf : Board → ℕ → ℕ → Node → Node → List Post → List Message → Instance → Ballot → Type 0
 TokenOf B p q np nq kept link i b = Token i (a_key p np.life) (b.awaited q) b.refused
-  (Asked i np.life (ask_label i np q) (Behind B i) link) (Calm B i np.life (ask_label i np q) kept link)
-  (Cover i (core nq) p (ask_label i np q)) nq.mode nq.votes nq.joined nq.said
+  (Asked i np.life (top_of i np.line np.perm q) (Behind B i) link) (Calm B i np.life (top_of i np.line np.perm q) kept link)
+  (Cover i (core nq) p (top_of i np.line np.perm q)) nq.mode nq.votes nq.joined nq.said
 
 -- p sends to q: what q keeps from p and what stands on the link from p to q
 pub record Pair (B : Board) (p q : ℕ) (np nq : Node) (kept : List Post) (link : List Message) : Type 0 where

@@ -5,3 +5,4 @@ pub mod Invariant
 pub mod Frames
 pub mod Cases
 pub mod Talks
+pub mod Keeps

@@ -4,12 +4,12 @@ use Rattle.std.proofs.lemmas.Bool.{cases_eq, eq-eqb, ne_eqb}
 use Rattle.kt_protocol.specs.Labels.{Label, Under, UpTo, at}
 use Rattle.kt_protocol.specs.Lines.{IsIn, here, there, Act, Sends, Hears, top_sent, top_heard, IsTail, more}
 use Rattle.kt_protocol.specs.Machine.{Instance, Check, Rollback, Open, Ballot, Mode, Up, Voting, Down, Post, Message, App, Ask, Member, Mark, Node, Board, State, instance_of, next_label}
-use Rattle.kt_protocol.specs.Steps.{change, pull, push, only, sending, hearing, keeping, ask_label}
+use Rattle.kt_protocol.specs.Steps.{change, pull, push, only, sending, hearing, keeping}
 use Rattle.kt_protocol.specs.Runs.{AreNeighbours}
 use Rattle.kt_protocol.proofs.Labels.{UpTo-refl, Under-weak, UpTo-trans, Under-UpTo, at-here, at-else}
 use Rattle.kt_protocol.proofs.Lines.{sent-here, sent-else, heard-here, heard-else, heard-sent, sent-heard}
 use Rattle.kt_protocol.proofs.Streams.{in-append, in-one, in-cons, apps, apps-append, Rising, Rising-map, Rising-push, Rising-head, Rising-sub, Sub-under, Sub-right, skip, Sub-refl, Asked, Asked-app}
-use Rattle.kt_protocol.proofs.Invariant.{Core, core, a_key, Carried, sent, undone, CutSoon, Caused, made, lost, cut_soon, Behind, Calm, Cover, Token, asked, waiting, voted, Standing, Away, Meant, FineAsk, TokenOf, Pair, Way, Local, Invariant}
+use Rattle.kt_protocol.proofs.Invariant.{Core, core, a_key, Carried, sent, undone, CutSoon, Caused, made, lost, cut_soon, Behind, Calm, Cover, Token, asked, waiting, voted, Standing, Away, Meant, FineAsk, TokenOf, top_of, Pair, Way, Local, Invariant}
 use Rattle.kt_protocol.proofs.Frames.{lift, Later-refl, Trees-idle, Token-map}
 use Rattle.kt_protocol.proofs.Cases.{some-none, none-some, up-voting, up-gone, push-else, push-here, lift_pull, lift_own}
 
@@ -37,7 +37,7 @@ abbrev act_label : Act → Label
 act_label (Sends b x l) = l
 act_label (Hears b x l) = l
 
-app-ask : {m : Post} {i : Instance} {l : Label} {c : ℕ} {X : Type 0} → Ask i l c ≡ App m → X
+pub app-ask : {m : Post} {i : Instance} {l : Label} {c : ℕ} {X : Type 0} → Ask i l c ≡ App m → X
 app-ask e = absurd (subst IsAsk e tt) where
   IsAsk : Message → Type 0
   IsAsk (Ask i l c) = Unit {0}
@@ -88,7 +88,7 @@ cover-up (Rollback k) c d p top none e m f (inl u) = inl (ap instance_of (sym m)
 cover-up (Rollback k) c d p top none e m f (inr u) = inr (f u)
 
 -- p sends to o, and o acts: the last label heard from p is the same
-acts_else : {B : Board} {p q : ℕ} {np nq : Node} {kept : List Post} {link : List Message} (count : ℕ) (line : List Act)
+pub acts_else : {B : Board} {p q : ℕ} {np nq : Node} {kept : List Post} {link : List Message} (count : ℕ) (line : List Act)
   → nq.tent ≡ None → top_heard nq.line p ≡ top_heard line p
   → ((by : ℕ) (l : Label) → IsIn (Hears by p l) line → IsIn (Hears by p l) nq.line)
   → Pair B p q np nq kept link → Pair B p q np record nq { count = count; line = line } kept link
@@ -97,7 +97,7 @@ acts_else {B} {p} {q} {np} {nq} {kept} {link} count line none same old o = recor
   caused = λ b l i. o.caused b l (old b l i);
   chain = subst (λ low. Rising (Carried (core np) q) (next_label np) low (kept ++ apps link)) same o.chain;
   asks = o.asks;
-  token = λ i b e s. Token-map (λ a. a) (λ c. c) (covers i (ask_label i np q)) (o.token i b e s);
+  token = λ i b e s. Token-map (λ a. a) (λ c. c) (covers i (top_of i np.line np.perm q)) (o.token i b e s);
   votes = o.votes;
   cover = λ k e s. covers (Check k) (top_heard np.line q) (o.cover k e s);
 } where
@@ -105,10 +105,10 @@ acts_else {B} {p} {q} {np} {nq} {kept} {link} count line none same old o = recor
   covers i top = cover-up i (core nq) (core record nq { count = count; line = line }) p top none refl refl
     (λ u. subst (λ l. UpTo l top) same u)
 
-heard-one : {by p y : ℕ} {l m : Label} {b : ℕ} {line : List Act} → IsIn (Hears by p l) (Sends b y m ∷ line) → IsIn (Hears by p l) line
+pub heard-one : {by p y : ℕ} {l m : Label} {b : ℕ} {line : List Act} → IsIn (Hears by p l) (Sends b y m ∷ line) → IsIn (Hears by p l) line
 heard-one (there i) = i
 
-heard-not : {by p x : ℕ} {l m : Label} {b : ℕ} {line : List Act} → p ≢ x → IsIn (Hears by p l) (Hears b x m ∷ line) → IsIn (Hears by p l) line
+pub heard-not : {by p x : ℕ} {l m : Label} {b : ℕ} {line : List Act} → p ≢ x → IsIn (Hears by p l) (Hears b x m ∷ line) → IsIn (Hears by p l) line
 heard-not ne here = absurd (ne refl)
 heard-not ne (there i) = i
 
@@ -155,7 +155,7 @@ step_sends peer near s o y by t up w = lift peer near s o new (push o (only y m)
     room q (inr ne) = rw (sent-else by y q (next_label n) n.line ne) (Under-UpTo (was.room q) (omega arith))
 
 -- o, which is Up, acts without sending: its messages under way are as they were
-up-out : {B : Board} {p q : ℕ} {np nq : Node} {kept : List Post} {link : List Message} (line : List Act) (held : ℕ → List Post)
+pub up-out : {B : Board} {p q : ℕ} {np nq : Node} {kept : List Post} {link : List Message} (line : List Act) (held : ℕ → List Post)
   → np.mode ≡ Up → np.tent ≡ None → ((b : ℕ) (l : Label) → IsIn (Sends b q l) np.line → IsIn (Sends b q l) line)
   → Pair B p q np nq kept link → Pair B p q record np { line = line; kept = held } nq kept link
 up-out {B} {p} {q} {np} {nq} line held up none f o = record {
@@ -168,11 +168,11 @@ up-out {B} {p} {q} {np} {nq} line held up none f o = record {
   cover = λ k e s. some-none (sym e ∙ none);
 }
 
-cover-check : (k : ℕ) (c d : Core) (p : ℕ) (top : Label) → c.tent ≡ None → c.perm ≡ d.perm → Cover (Check k) c p top → Cover (Check k) d p top
+pub cover-check : (k : ℕ) (c d : Core) (p : ℕ) (top : Label) → c.tent ≡ None → c.perm ≡ d.perm → Cover (Check k) c p top → Cover (Check k) d p top
 cover-check k c d p top none e (inl u) = inl (subst (λ t. UpTo top (top_sent t p)) e u)
 cover-check k c d p top none e (inr u) = some-none (sym u.0 ∙ none)
 
-no-app : {m : Post} {ms : List Post} {X : Type 0} → m ∷ ms ≡ [] → X
+pub no-app : {m : Post} {ms : List Post} {X : Type 0} → m ∷ ms ≡ [] → X
 no-app e = absurd (subst IsFull e tt) where
   IsFull : List Post → Type 0
   IsFull [] = ⊥
@@ -180,7 +180,7 @@ no-app e = absurd (subst IsFull e tt) where
 
 -- o hears a message from p, the first that it keeps or that stands on the link: a token of p that stands is one
 -- whose ask is still on the link, or the message is one up to its label
-hears_from : {B : Board} {p q : ℕ} {np nq : Node} {kept old : List Post} {link was : List Message} (m : Post) (held : ℕ → List Post)
+pub hears_from : {B : Board} {p q : ℕ} {np nq : Node} {kept old : List Post} {link was : List Message} (m : Post) (held : ℕ → List Post)
   → nq.tent ≡ None → old ++ apps was ≡ m ∷ kept ++ apps link
   → ((i : Instance) (l : Label) (c : ℕ) → IsIn (Ask i l c) link → IsIn (Ask i l c) was)
   → ((i : Instance) (c : ℕ) (top : Label) → Asked i c top (Behind B i) was → Asked i c top (Behind B i) link)
@@ -193,10 +193,10 @@ hears_from {B} {p} {q} {np} {nq} {kept} {old} {link} {was} m held none split beh
   chain = subst (λ low. Rising (Carried (core np) q) (next_label np) low (kept ++ apps link)) (sym (heard-here m.by p m.label nq.line)) head.2;
   asks = λ i l c j. o.asks i l c (behind i l c j);
   token = λ i b e s. elim (o.token i b e s) [
-    | asked w a n c ↦ asked w (asks i np.life (ask_label i np q) a) n c
-    | waiting w c n k ↦ waiting w (calm i np.life (ask_label i np q) c).0 n k
-    | voted y c n f r v ↦ voted y (calm i np.life (ask_label i np q) c).0 n
-        (λ e. ((calm i np.life (ask_label i np q) c).1 (f e).0, (f e).1)) r v
+    | asked w a n c ↦ asked w (asks i np.life (top_of i np.line np.perm q) a) n c
+    | waiting w c n k ↦ waiting w (calm i np.life (top_of i np.line np.perm q) c).0 n k
+    | voted y c n f r v ↦ voted y (calm i np.life (top_of i np.line np.perm q) c).0 n
+        (λ e. ((calm i np.life (top_of i np.line np.perm q) c).1 (f e).0, (f e).1)) r v
   ];
   votes = o.votes;
   cover = λ k e s. cover-check k (core nq) (core record nq { line = Hears m.by p m.label ∷ nq.line }) p (top_heard np.line q) none refl (o.cover k e s);
@@ -215,7 +215,7 @@ hears_from {B} {p} {q} {np} {nq} {kept} {old} {link} {was} m held none split beh
     pick (inr j) = o.caused b l j
 
 -- p sends to o, and o hears of another
-hears_else : {B : Board} {p q : ℕ} {np nq : Node} {kept : List Post} {link : List Message} (x : ℕ) (m : Post) (held : ℕ → List Post)
+pub hears_else : {B : Board} {p q : ℕ} {np nq : Node} {kept : List Post} {link : List Message} (x : ℕ) (m : Post) (held : ℕ → List Post)
   → p ≢ x → nq.tent ≡ None → Pair B p q np nq kept link
   → Pair B p q np record nq { line = Hears m.by x m.label ∷ nq.line; kept = held } kept link
 hears_else {B} {p} {q} {np} {nq} {kept} {link} x m held ne none o = record {
@@ -223,7 +223,7 @@ hears_else {B} {p} {q} {np} {nq} {kept} {link} x m held ne none o = record {
   caused = λ b l i. o.caused b l (heard-not ne i);
   chain = subst (λ low. Rising (Carried (core np) q) (next_label np) low (kept ++ apps link)) same o.chain;
   asks = o.asks;
-  token = λ i b e s. Token-map (λ a. a) (λ c. c) (covers i (ask_label i np q)) (o.token i b e s);
+  token = λ i b e s. Token-map (λ a. a) (λ c. c) (covers i (top_of i np.line np.perm q)) (o.token i b e s);
   votes = o.votes;
   cover = λ k e s. covers (Check k) (top_heard np.line q) (o.cover k e s);
 } where
@@ -233,7 +233,7 @@ hears_else {B} {p} {q} {np} {nq} {kept} {link} x m held ne none o = record {
   covers i top = cover-up i (core nq) (core record nq { line = Hears m.by x m.label ∷ nq.line }) p top none refl refl
     (λ u. subst (λ l. UpTo l top) same u)
 
-hears-local : {peer : ℕ → ℕ → Bool} {B : Board} {o : ℕ} {n : Node} (x : ℕ) (m : Post) (held : ℕ → List Post) → n.mode ≡ Up
+pub hears-local : {peer : ℕ → ℕ → Bool} {B : Board} {o : ℕ} {n : Node} (x : ℕ) (m : Post) (held : ℕ → List Post) → n.mode ≡ Up
   → IsTrue (peer x o) → Under (top_heard n.line x) m.label → Local peer B o n
   → Local peer B o record n { line = Hears m.by x m.label ∷ n.line; kept = held }
 hears-local {peer} {B} {o} {n} x m held up t u was = record {
