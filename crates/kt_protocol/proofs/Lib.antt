@@ -6,3 +6,4 @@ pub mod Frames
 pub mod Cases
 pub mod Talks
 pub mod Keeps
+pub mod Answers
