@@ -94,6 +94,7 @@ Trees-later later back w = record {
   below = λ x i c k m e. w.below x i c k m (later.opened i e);
   every = λ x i c m e. w.every x i c m (back i e);
   root = w.root;
+  parents = w.parents;
   asker = w.asker;
 }
 

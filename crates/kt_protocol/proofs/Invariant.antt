@@ -206,6 +206,7 @@ pub record Trees (peer : ℕ → ℕ → Bool) (B : Board) (J : ℕ → List Mem
   pub every : (x : ℕ) (i : Instance) (c : ℕ) → IsMember (J x) i c → B.verdict i ≡ Yes → IsIn (a_mark i c) (S x)
   pub root : (x y : ℕ) (i : Instance) (c d : ℕ) → IsIn (a_member i c None) (J x) → IsIn (a_member i d None) (J y)
     → (x ≡ y) × (c ≡ d)
+  pub parents : (x : ℕ) (i : Instance) (c : ℕ) (k : Key) → IsIn (a_member i c (Some k)) (J x) → IsMember (J k.node) i k.life
   pub asker : (x : ℕ) (i : Instance) (c : ℕ) (k : Key) → IsIn (a_member i c (Some k)) (J x) → IsTrue (peer k.node x)
 
 -- the invariant

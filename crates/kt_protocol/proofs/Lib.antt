@@ -7,3 +7,4 @@ pub mod Cases
 pub mod Talks
 pub mod Keeps
 pub mod Answers
+pub mod Trees
