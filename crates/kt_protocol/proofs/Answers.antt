@@ -40,7 +40,7 @@ behind-ask : (B : Board) (i j : Instance) (l : Label) (z : ℕ) (rest : List Mes
 behind-ask B (Check k) j l z rest b = tt
 behind-ask B (Rollback k) j l z rest b = record { bare = b.bare; unasked = λ m n c i. b.unasked m n c (there i) }
 
-calm-ask : {B : Board} (i : Instance) {c : ℕ} {top : Label} {j : Instance} {l : Label} {z : ℕ} {rest : List Message} (kept : List Post)
+pub calm-ask : {B : Board} (i : Instance) {c : ℕ} {top : Label} {j : Instance} {l : Label} {z : ℕ} {rest : List Message} (kept : List Post)
   → Calm B i c top kept (Ask j l z ∷ rest) → Calm B i c top (sieved j l kept) rest
 calm-ask {B} i {top = top} {j} {l} {z} {rest} kept calm = record {
   none = λ m k. calm.none m (there k);
@@ -48,7 +48,7 @@ calm-ask {B} i {top = top} {j} {l} {z} {rest} kept calm = record {
   low = low-part i top (sieved-part j l kept) calm.low;
 }
 
-calm-asked : {B : Board} (i : Instance) {c : ℕ} {top : Label} {j : Instance} {l : Label} {z : ℕ} {rest : List Message} (kept : List Post)
+pub calm-asked : {B : Board} (i : Instance) {c : ℕ} {top : Label} {j : Instance} {l : Label} {z : ℕ} {rest : List Message} (kept : List Post)
   → Ask i top c ≡ Ask j l z → NoAsk i c rest → Behind B i rest → Calm B i c top (sieved j l kept) rest
 calm-asked i {top = top} kept e none b = record {
   none = none;
@@ -80,7 +80,7 @@ other-key {i} {j} {x} {c} {z} {l = l} ne e =
   ne l (subst (λ k. Ask i l c ≡ Ask k l z) same (ap (λ n. Ask i l n) life))
 
 -- the ask at the front of the link is taken off: what becomes of the token of its key
-ask_token : (B : Board) (p q : ℕ) (np nq : Node) (kept : List Post) (j : Instance) (l : Label) (z : ℕ) (rest : List Message) (held : ℕ → List Post)
+pub ask_token : (B : Board) (p q : ℕ) (np nq : Node) (kept : List Post) (j : Instance) (l : Label) (z : ℕ) (rest : List Message) (held : ℕ → List Post)
     (vs : List Vote) (i : Instance) (b : Ballot)
   → (((m : Label) → Ask i m np.life ≢ Ask j l z) → (y : Bool) → IsIn (a_vote i (a_key p np.life) y) vs → IsIn (a_vote i (a_key p np.life) y) nq.votes)
   → (b.awaited q ≡ true → Ask i (top_of i np.line np.perm q) np.life ≡ Ask j l z → Calm B i np.life (top_of i np.line np.perm q) (sieved j l kept) rest
@@ -173,7 +173,7 @@ one-vote : (x : ℕ) (j : Instance) (z : ℕ) (v : Bool) (old : List Vote) (i : 
   → (y : Bool) → IsIn (a_vote i (a_key x c) y) (a_vote j (a_key x z) v ∷ old) → y ≡ v
 one-vote x j z v old i c none y k = elim (in-cons k) [ inl e ↦ ap (λ u. u.agrees) e | inr r ↦ absurd (none y r) ]
 
-childless : {peer : ℕ → ℕ → Bool} {B : Board} {o : ℕ} {n : Node} → Local peer B o n → (i : Instance) (k : Key) → NoChild n.joined i k → HasVoted n.mode i k
+pub childless : {peer : ℕ → ℕ → Bool} {B : Board} {o : ℕ} {n : Node} → Local peer B o n → (i : Instance) (k : Key) → NoChild n.joined i k → HasVoted n.mode i k
 childless {n = n} w i k none b e par =
   absurd (none n.life (subst (λ r. IsIn (a_member i n.life r) n.joined) par (w.ballot i b e).member))
 

@@ -8,3 +8,4 @@ pub mod Talks
 pub mod Keeps
 pub mod Answers
 pub mod Trees
+pub mod Joins
