@@ -9,3 +9,4 @@ pub mod Keeps
 pub mod Answers
 pub mod Trees
 pub mod Joins
+pub mod Starts
