@@ -10,3 +10,4 @@ pub mod Answers
 pub mod Trees
 pub mod Joins
 pub mod Starts
+pub mod Votes

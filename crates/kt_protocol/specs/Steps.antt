@@ -120,9 +120,9 @@ pub record IsAgreed (peer : ℕ → ℕ → Bool) (o : ℕ) (b : Ballot) : Type 
 abbrev pub saying : Instance → Node → Node
 saying i n = record n { said = record { instance = i; life = n.life } ∷ n.said }
 
--- the node has voted on its parent's ask
-abbrev pub voting : Instance → Ballot → Key → Bool → Node → Node
-voting i b k y n = answering i k y record n { mode = Voting i record b { voted = true } }
+-- the node has voted
+abbrev pub casting : Instance → Ballot → Node → Node
+casting i b n = record n { mode = Voting i record b { voted = true } }
 
 abbrev pub rising : Node → Node
 rising n = record n { mode = Up }
@@ -215,19 +215,19 @@ pub data Step (peer : ℕ → ℕ → Bool) (s : State) : State → Type 0 where
   -- a participant votes yes
   agrees : (o : ℕ) (i : Instance) (b : Ballot) (k : Key) → (s.node o).mode ≡ Voting i b → b.parent ≡ Some k
     → b.voted ≡ false → IsAgreed peer o b
-    → Step peer s (change o (λ n. voting i b k true (saying i n)) s)
+    → Step peer s (change o (λ n. answering i k true (saying i (casting i b n))) s)
   -- a participant votes no, at any time
   declines : (o : ℕ) (i : Instance) (b : Ballot) (k : Key) → (s.node o).mode ≡ Voting i b → b.parent ≡ Some k
     → b.voted ≡ false
-    → Step peer s (change o (voting i b k false) s)
+    → Step peer s (change o (λ n. answering i k false (casting i b n)) s)
   -- the initiator of a rollback decides Yes and is up
   decides_rollback : (o k : ℕ) (b : Ballot) → (s.node o).mode ≡ Voting (Rollback k) b → b.parent ≡ None
     → s.board.verdict (Rollback k) ≡ Open → IsAgreed peer o b
-    → Step peer s (decide (Rollback k) Yes (change o rising (change o (saying (Rollback k)) s)))
+    → Step peer s (decide (Rollback k) Yes (change o rising (change o (λ n. saying (Rollback k) (casting (Rollback k) b n)) s)))
   -- the initiator of a check decides Yes
   decides_check : (o k : ℕ) (b : Ballot) → (s.node o).mode ≡ Voting (Check k) b → b.parent ≡ None
     → s.board.verdict (Check k) ≡ Open → IsAgreed peer o b
-    → Step peer s (promote k (decide (Check k) Yes (change o (saying (Check k)) s)))
+    → Step peer s (promote k (decide (Check k) Yes (change o (λ n. saying (Check k) (casting (Check k) b n)) s)))
   -- an instance that is not decided gets No
   gives_up_rollback : (k : ℕ) → s.board.begun (Rollback k) ≡ true → s.board.verdict (Rollback k) ≡ Open
     → Step peer s (decide (Rollback k) No s)
