@@ -11,3 +11,5 @@ pub mod Trees
 pub mod Joins
 pub mod Starts
 pub mod Votes
+pub mod Verdicts
+pub mod Cuts

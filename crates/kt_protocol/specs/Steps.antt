@@ -3,7 +3,7 @@
 -- be taken off a link, a no may be said at any time, and any open instance may be given up.
 use Rattle.std.specs.Prelude.{◌≡◌, ◌⊎◌, ℕ, suc, eqb, Bool, true, false, not, ◌||◌, if◌then◌else◌, IsTrue, List, [], ◌∷◌, ◌++◌, Option, Some, None, ⊤}
 use Rattle.kt_protocol.specs.Labels.{Label, Under, UpTo, up_to, at}
-use Rattle.kt_protocol.specs.Lines.{IsIn, Sends, Hears, top_sent, top_heard}
+use Rattle.kt_protocol.specs.Lines.{IsIn, Act, Sends, Hears, top_sent, top_heard}
 use Rattle.kt_protocol.specs.Machine.{Instance, Check, Rollback, Verdict, Open, Yes, No, Key, Ballot, Up, Voting, Down, Post, Message, App, Ask, Vote, Node, State, at_instance, instance_of, next_label}
 
 -- the owner's node becomes another
@@ -142,21 +142,24 @@ cutting n = record n { line = n.perm }
 abbrev pub loading : Node → Node
 loading n = record n { life = suc n.life; count = 0; line = n.perm; kept = nothing_kept }
 
--- the tentative checkpoint of this check becomes permanent, or is given up
-abbrev pub promoted : ℕ → Option ℕ → Node → Node
-promoted k None n = n
-promoted k (Some j) n = if eqb j k then record n { perm = n.line; tent = None } else n
+-- what a decided check leaves of a node's tentative checkpoint, and what its permanent one is with Yes
+abbrev pub released : ℕ → Option ℕ → Option ℕ
+released k None = None
+released k (Some j) = if eqb j k then None else Some j
 
-abbrev pub discarded : ℕ → Option ℕ → Node → Node
-discarded k None n = n
-discarded k (Some j) n = if eqb j k then record n { tent = None } else n
+abbrev pub promoted : ℕ → Option ℕ → Node → List Act
+promoted k None n = n.perm
+promoted k (Some j) n = if eqb j k then n.line else n.perm
 
--- what a verdict on a check makes of every node: by definition, before the node learns of it
+-- a verdict on a check stands for every node at once, before the node learns of it: with Yes the tentative
+-- checkpoint is the permanent one, with No it is given up
 abbrev pub promote : ℕ → State → State
-promote k s = record s { node = λ x. promoted k (s.node x).tent (s.node x) }
+promote k s = record s {
+  node = λ x. record (s.node x) { perm = promoted k (s.node x).tent (s.node x); tent = released k (s.node x).tent };
+}
 
 abbrev pub discard : ℕ → State → State
-discard k s = record s { node = λ x. discarded k (s.node x).tent (s.node x) }
+discard k s = record s { node = λ x. record (s.node x) { tent = released k (s.node x).tent } }
 
 -- one step, by the node o; `peer` says who are neighbours
 pub data Step (peer : ℕ → ℕ → Bool) (s : State) : State → Type 0 where
