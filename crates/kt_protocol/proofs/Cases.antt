@@ -126,7 +126,7 @@ pub lift_pull : (peer : ℕ → ℕ → Bool) → AreNeighbours peer → (s : St
   → ((p : ℕ) → IsTrue (peer p o) → p ≢ o → p ≢ x → Pair s.board p o (s.node p) new ((s.node o).kept p) (s.link p o))
   → Invariant peer s → Invariant peer record s { node = at o new s.node; link = (pull x o rest s).link }
 lift_pull peer near s o x rest new same_joined same_said t kept mine out hit into w =
-  lift peer near s o new (pull x o rest s).link s.board (Later-refl s.board) w.fresh
+  lift peer near s o new (pull x o rest s).link s.board (Later-refl s.board) (λ k e. e) w.fresh
     (λ p q ne nf. pull-else x o rest s p q nf) mine
     (λ q u ne. subst (λ m. Pair s.board o q new (s.node q) ((s.node q).kept o) m) (sym (pull-else x o rest s o q (λ e. ne (sym e))))
       (out q u ne))
@@ -147,5 +147,5 @@ pub lift_own : (peer : ℕ → ℕ → Bool) → AreNeighbours peer → (s : Sta
   → ((p : ℕ) → IsTrue (peer p o) → p ≢ o → Pair s.board p o (s.node p) new (new.kept p) (s.link p o))
   → Invariant peer s → Invariant peer record s { node = at o new s.node }
 lift_own peer near s o new same_joined same_said mine out into w =
-  lift peer near s o new s.link s.board (Later-refl s.board) w.fresh (λ p q ne nf. refl) mine out into
+  lift peer near s o new s.link s.board (Later-refl s.board) (λ k e. e) w.fresh (λ p q ne nf. refl) mine out into
     (Trees-idle o new s.node same_joined same_said w.trees) w

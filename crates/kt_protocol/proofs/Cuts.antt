@@ -13,7 +13,7 @@ use Rattle.kt_protocol.proofs.Frames.{Later, Later-refl, lift, Pair-later, Local
 use Rattle.kt_protocol.proofs.Cases.{some-none, none-some, some-one, up-voting, up-down, down-voting, voting-instance, voting-ballot, check-rollback, rollback-one, open-yes, open-no, yes-no, lift_own}
 use Rattle.kt_protocol.proofs.Votes.{settled}
 use Rattle.kt_protocol.proofs.Trees.{all_said}
-use Rattle.kt_protocol.proofs.Verdicts.{decide-cases, decide-at, decide-fresh, Later-decide, yes-open}
+use Rattle.kt_protocol.proofs.Verdicts.{decide-cases, decide-at, decide-fresh, decide-check, Later-decide, yes-open}
 
 -- who rolls back holds no tentative checkpoint
 pub rolling-none : (m : Mode) (tent : Option ℕ) {k : ℕ} → Way m tent → instance_of m ≡ Some (Rollback k) → tent ≡ None
@@ -367,9 +367,9 @@ pub step_rises : (peer : ℕ → ℕ → Bool) → AreNeighbours peer → (s : S
   → b.parent ≡ None → s.board.verdict (Rollback k) ≡ Open → IsIn (a_mark (Rollback k) (s.node o).life) (s.node o).said → Invariant peer s
   → Invariant peer (decide (Rollback k) Yes (change o rising s))
 step_rises peer near s o k b e par opened said w =
-  lift peer near s o (rising n) s.link C later (decide-fresh (Rollback k) Yes s w.fresh (was.members (Rollback k) n.life (b.parent, (was.ballot (Rollback k) b e).member)).1)
+  lift peer near s o (rising n) s.link C later checks (decide-fresh (Rollback k) Yes s w.fresh (was.members (Rollback k) n.life (b.parent, (was.ballot (Rollback k) b e).member)).1)
     (λ p q ne nf. refl)
-    (rise-local none idle (Local-later later was))
+    (rise-local none idle (Local-later later checks was))
     (λ q u ne. let both = said_settled o k q b e (λ f. open-no opened f) said u w in
       up-settled k n.life n.count n.line n.kept later decided none (w.local q).falls (UpTo-refl (next_label n)) (λ b l i. inl i) both.0 both.1 (w.pair o q u))
     (λ x u ne. Pair-later later (rise-into (λ y l h c. uncut x y l h c) (cover x u) (w.pair x o u)))
@@ -383,6 +383,8 @@ step_rises peer near s o k b e par opened said w =
   was = w.local o
   later : Later s.board C
   later = Later-decide k Yes s yes-open opened
+  checks : (m : ℕ) → s.board.verdict (Check m) ≡ Open → C.verdict (Check m) ≡ Open
+  checks m f = decide-check (Rollback k) Yes s m (λ g. check-rollback g) f
   decided : C.verdict (Rollback k) ≡ Yes
   decided = decide-at (Rollback k) Yes s
   none : n.tent ≡ None

@@ -14,11 +14,10 @@ pub record Later (B C : Board) : Type 0 where
   pub opened : (i : Instance) → C.verdict i ≡ Open → B.verdict i ≡ Open
   pub decided : (i : Instance) → B.verdict i ≡ Yes → C.verdict i ≡ Yes
   pub live : (i : Instance) → C.verdict i ≢ No → B.verdict i ≢ No
-  pub checks : (k : ℕ) → B.verdict (Check k) ≡ Open → C.verdict (Check k) ≡ Open
   pub begun : (i : Instance) → B.begun i ≡ true → C.begun i ≡ true
 
 pub Later-refl : (B : Board) → Later B B
-Later-refl B = record { opened = λ i e. e; decided = λ i e. e; live = λ i e. e; checks = λ k e. e; begun = λ i e. e }
+Later-refl B = record { opened = λ i e. e; decided = λ i e. e; live = λ i e. e; begun = λ i e. e }
 
 pub Token-map : {i : Instance} {k : Key} {awaits refused : Bool} {A A' C C' V V' : Type 0} {mode : Mode} {votes : List Vote}
     {joined : List Member} {said : List Mark} → (A → A') → (C → C') → (V → V')
@@ -77,13 +76,14 @@ Pair-later {p = p} {q} {np} {nq} {kept} {link} later o = record {
   cover = o.cover;
 }
 
-pub Local-later : {peer : ℕ → ℕ → Bool} {B C : Board} {o : ℕ} {n : Node} → Later B C → Local peer B o n → Local peer C o n
-Local-later {n = n} later w = record {
+pub Local-later : {peer : ℕ → ℕ → Bool} {B C : Board} {o : ℕ} {n : Node} → Later B C
+  → ((k : ℕ) → B.verdict (Check k) ≡ Open → C.verdict (Check k) ≡ Open) → Local peer B o n → Local peer C o n
+Local-later {n = n} later checks w = record {
   falls = w.falls; tail = w.tail; room = w.room; from = w.from; way = w.way; ballot = w.ballot; root = w.root;
   members = λ i c m. ((w.members i c m).0, later.begun i (w.members i c m).1);
   present = λ i m e. w.present i m (later.opened i e);
   marks = w.marks;
-  holding = λ k e. (later.checks k (w.holding k e).0, (w.holding k e).1);
+  holding = λ k e. (checks k (w.holding k e).0, (w.holding k e).1);
 }
 
 -- the trees where the same joined and said the same
@@ -127,18 +127,19 @@ Trees-idle o new f e g w = Trees-same
 
 -- the whole, from the owner's node and the pairs in which it stands
 pub lift : (peer : ℕ → ℕ → Bool) → AreNeighbours peer → (s : State) (o : ℕ) (new : Node) (link : ℕ → ℕ → List Message) (C : Board)
-  → Later s.board C → ((i : Instance) → C.begun i ≡ false → C.verdict i ≡ Open)
+  → Later s.board C → ((k : ℕ) → s.board.verdict (Check k) ≡ Open → C.verdict (Check k) ≡ Open)
+  → ((i : Instance) → C.begun i ≡ false → C.verdict i ≡ Open)
   → ((p q : ℕ) → p ≢ o → q ≢ o → link p q ≡ s.link p q)
   → Local peer C o new
   → ((q : ℕ) → IsTrue (peer o q) → o ≢ q → Pair C o q new (s.node q) ((s.node q).kept o) (link o q))
   → ((p : ℕ) → IsTrue (peer p o) → p ≢ o → Pair C p o (s.node p) new (new.kept p) (link p o))
   → Trees peer C (λ x. (at o new s.node x).joined) (λ x. (at o new s.node x).said)
   → Invariant peer s → Invariant peer record { node = at o new s.node; link = link; board = C }
-lift peer near s o new link C later fresh frame mine out into trees w = record {
+lift peer near s o new link C later checks fresh frame mine out into trees w = record {
   fresh = fresh;
   local = λ x. at-both o new s.node x (λ n. Local peer C x n)
     (λ e. subst (λ y. Local peer C y new) (sym e) mine)
-    (λ ne. Local-later later (w.local x));
+    (λ ne. Local-later later checks (w.local x));
   pair = λ p q t. at-both o new s.node p (λ np. Pair C p q np (at o new s.node q) ((at o new s.node q).kept p) (link p q))
     (λ e. subst (λ y. Pair C y q new (at o new s.node q) ((at o new s.node q).kept y) (link y q)) (sym e)
       (from_o q (subst (λ y. IsTrue (peer y q)) e t)))

@@ -13,3 +13,5 @@ pub mod Starts
 pub mod Votes
 pub mod Verdicts
 pub mod Cuts
+pub mod Checks
+pub mod Main

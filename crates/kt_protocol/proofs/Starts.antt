@@ -58,7 +58,7 @@ pub step_joins : (peer : ℕ → ℕ → Bool) → AreNeighbours peer → (s : S
   → IsCohort peer i o (s.node o) cohort → Invariant peer s
   → Invariant peer (change o (λ n. joining i (Some (a_key x z)) cohort (sifting i x l n)) (push o (asking i cohort (s.node o)) (pull x o rest s)))
 step_joins peer near s o x i l z rest cohort t first up opened asked w =
-  lift peer near s o new link s.board (Later-refl s.board) w.fresh
+  lift peer near s o new link s.board (Later-refl s.board) (λ k e. e) w.fresh
     (λ p q ne nf. push-else o send mid p q ne ∙ pull-else x o rest s p q nf)
     (join-local i par cohort free_sifted begun (λ k e none. some-none none) (idle-local held n.votes was))
     out
@@ -130,7 +130,7 @@ begin-fresh i s j e = go (same_instance j i) e where
   go false e = e
 
 Later-begin : (i : Instance) (s : State) → Later s.board (begin i s).board
-Later-begin i s = record { opened = λ j e. e; decided = λ j e. e; live = λ j e. e; checks = λ k e. e; begun = λ j e. begin-grows i s j e }
+Later-begin i s = record { opened = λ j e. e; decided = λ j e. e; live = λ j e. e; begun = λ j e. begin-grows i s j e }
 
 free-begin : (i : Instance) (s : State) {j : Instance} {b : Ballot} {n : Node} → IsFree s.board j b n → IsFree (begin i s).board j b n
 free-begin i s f = record {
@@ -148,9 +148,9 @@ step_begun : (peer : ℕ → ℕ → Bool) → AreNeighbours peer → (s : State
   → Invariant peer s
   → Invariant peer (begin i record { node = at o (joining i None cohort n) s.node; link = (push o (asking i cohort n) s).link; board = s.board })
 step_begun peer near s o i cohort n same_joined same_said free unbegun root asked mine outs ins w =
-  lift peer near s o new (push o send s).link (begin i s).board (Later-begin i s) (λ j e. w.fresh j (begin-fresh i s j e))
+  lift peer near s o new (push o send s).link (begin i s).board (Later-begin i s) (λ k e. e) (λ j e. w.fresh j (begin-fresh i s j e))
     (λ p q ne nf. push-else o send s p q ne)
-    (join-local i None cohort (free-begin i s free) (begun-now i s) (λ k e none. root k e) (Local-later (Later-begin i s) mine))
+    (join-local i None cohort (free-begin i s free) (begun-now i s) (λ k e none. root k e) (Local-later (Later-begin i s) (λ k e. e) mine))
     (λ q u ne. subst (λ m. Pair (begin i s).board o q new (s.node q) ((s.node q).kept o) m) (sym (push-here o send s q))
       (Pair-later (Later-begin i s) (join-out i None cohort free (none q) (childless (w.local q) i (a_key o n.life) (none q))
         (unasked i o q n (s.node q) cohort asked u (ins q (near.both o q u)).agree) (outs q u))))

@@ -115,7 +115,7 @@ heard-not ne (there i) = i
 pub step_sends : (peer : ℕ → ℕ → Bool) → AreNeighbours peer → (s : State) (o y by : ℕ) → IsTrue (peer o y) → (s.node o).mode ≡ Up
   → Invariant peer s
   → Invariant peer (change o (sending by y) (push o (only y (App record { by = by; label = next_label (s.node o) })) s))
-step_sends peer near s o y by t up w = lift peer near s o new (push o (only y m) s).link s.board (Later-refl s.board) w.fresh
+step_sends peer near s o y by t up w = lift peer near s o new (push o (only y m) s).link s.board (Later-refl s.board) (λ k e. e) w.fresh
     (λ p q ne nf. push-else o (only y m) s p q ne) mine
     (λ q u ne. subst (λ link. Pair s.board o q new (s.node q) ((s.node q).kept o) link) (sym (push-here o (only y m) s q)) (out q u))
     (λ p u ne. subst (λ link. Pair s.board p o (s.node p) new (new.kept p) link) (sym (push-else o (only y m) s p o ne))

@@ -55,7 +55,6 @@ Later-decide k v s ne opened = record {
   opened = decide-opened (Rollback k) v s ne;
   decided = decide-decided (Rollback k) v s opened;
   live = decide-live (Rollback k) v s opened;
-  checks = λ m e. decide-check (Rollback k) v s m (λ f. check-rollback f) e;
   begun = λ j e. e;
 }
 
@@ -79,7 +78,7 @@ pub step_gives_up_rollback : (peer : ℕ → ℕ → Bool) (s : State) (k : ℕ)
   → Invariant peer s → Invariant peer (decide (Rollback k) No s)
 step_gives_up_rollback peer s k begun opened w = record {
   fresh = decide-fresh (Rollback k) No s w.fresh begun;
-  local = λ o. Local-later later (w.local o);
+  local = λ o. Local-later later (λ m e. decide-check (Rollback k) No s m (λ f. check-rollback f) e) (w.local o);
   pair = λ p q t. Pair-later later (w.pair p q t);
   trees = Trees-later later (no-back (Rollback k) s) w.trees;
 } where

@@ -320,7 +320,7 @@ pub step_agrees : (peer : ℕ → ℕ → Bool) → AreNeighbours peer → (s : 
   → (s.node o).mode ≡ Voting i b → b.parent ≡ Some k → b.voted ≡ false → IsAgreed peer o b → Invariant peer s
   → Invariant peer (change o (λ n. answering i k true (saying i (casting i b n))) s)
 step_agrees peer near s o i b k e par unvoted agreed w =
-  lift peer near s o new s.link s.board (Later-refl s.board) w.fresh (λ p q ne nf. refl)
+  lift peer near s o new s.link s.board (Later-refl s.board) (λ k e. e) w.fresh (λ p q ne nf. refl)
     (vote-local i b (cast b) vs ms e refl (λ h. says_firm o b agreed) (says_marks o i b e w) (w.local o))
     (λ q u ne. vote-out i b (cast b) vs ms e refl (says_unsaid o i b q e agreed u w) (λ st. (w.pair o q u).token i b e st)
       (says_cover o i b q e agreed u w) (w.pair o q u))
@@ -373,7 +373,7 @@ pub step_says : (peer : ℕ → ℕ → Bool) → AreNeighbours peer → (s : St
   → (s.node o).mode ≡ Voting i b → b.parent ≡ None → IsAgreed peer o b → Invariant peer s
   → Invariant peer (change o (λ n. saying i (casting i b n)) s)
 step_says peer near s o i b e par agreed w =
-  lift peer near s o new s.link s.board (Later-refl s.board) w.fresh (λ p q ne nf. refl)
+  lift peer near s o new s.link s.board (Later-refl s.board) (λ k e. e) w.fresh (λ p q ne nf. refl)
     (vote-local i b (cast b) n.votes ms e refl (λ h. says_firm o b agreed) (says_marks o i b e w) (w.local o))
     (λ q u ne. vote-out i b (cast b) n.votes ms e refl (says_unsaid o i b q e agreed u w) (λ st. (w.pair o q u).token i b e st)
       (says_cover o i b q e agreed u w) (w.pair o q u))
