@@ -1,0 +1,17 @@
+pub mod Labels
+pub mod Lines
+pub mod Streams
+pub mod Invariant
+pub mod Frames
+pub mod Cases
+pub mod Talks
+pub mod Keeps
+pub mod Answers
+pub mod Trees
+pub mod Joins
+pub mod Starts
+pub mod Votes
+pub mod Verdicts
+pub mod Cuts
+pub mod Checks
+pub mod Main
