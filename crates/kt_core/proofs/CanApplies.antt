@@ -1,270 +1,227 @@
--- Where the state is ready, the plan of a step that is allowed can be carried out.
-use Rattle.std.proofs.Common.{◌≡◌, ◌≢◌, ℕ, zero, suc, ◌%◌, ◌<◌, ◌≤◌, Bool, true, false, cond, List, [], ◌∷◌, ◌++◌, length, reverse, Option, Some, None, refl, sym, subst, ◌∙◌, arith, mod-lt}
-use Rattle.std.specs.Prelude.{find, Contains}
-use Rattle.std.specs.List.{cons_option, AllByRecursion}
-use Rattle.std.proofs.lemmas.List.{reverse-append}
-use Rattle.std.specs.Option.{option_map}
+-- Where the state is ready, an allowed step can be planned, and its plan can be carried out.
+use Rattle.std.proofs.Common.{◌≡◌, ◌≢◌, ℕ, zero, suc, ◌+◌, ◌*◌, ◌%◌, ◌<◌, ◌≤◌, Bool, true, false, ◌&&◌, ◌||◌, List, [], ◌∷◌, length, Option, None, Some, refl, sym, subst, ◌∙◌, ap, arith, mod-lt}
+use Rattle.std.specs.Prelude.{Contains, IfSome, is_some, slice_get, nat_le}
+use Rattle.std.specs.List.{AllByRecursion}
+use Rattle.std.proofs.lemmas.Bool.{and_parts, leb-true}
 use Rattle.kt_tuple.specs.declared.node.NodeId.{NodeId}
 use Rattle.kt_tuple.specs.declared.node.NodeId.TheVariants as ids
 use Rattle.kt_tuple.specs.declared.op.Op.{Op}
-use Rattle.kt_tuple.specs.declared.op.Op.TheVariants.{Out, In, Rd, Inp, Rdp}
-use Rattle.kt_tuple.specs.declared.tuple.Tuple.{Tuple}
-use Rattle.kt_tuple.specs.declared.template.Template.{Template}
 use Rattle.kt_tuple.specs.Node.{node_index}
 use Rattle.kt_tuple.specs.Signature.{kinds_of_op, signature_of}
-use Rattle.kt_tuple.specs.Matching.{matches}
-use Rattle.kt_history.specs.declared.note.Act.{Act}
 use Rattle.kt_history.specs.declared.note.Note.{Note}
-use Rattle.kt_history.specs.declared.note.Note.TheVariants as notes
-use Rattle.kt_history.specs.Line.{note_at, line, IsAct}
-use Rattle.kt_history.specs.WellFormed.{CausesComeFirst}
-use Rattle.kt_history.specs.Closed.{act_of, acts_at}
-use Rattle.kt_history.proofs.Lines.{note_before}
-use Rattle.kt_history.proofs.Lists.{Contains-here}
+use Rattle.kt_history.specs.Chronicle.{node_of}
+use Rattle.kt_history.specs.WellFormed.{MayFollow}
+use Rattle.kt_history.proofs.Lists.{Contains-here, Contains-none}
+use Rattle.kt_link.specs.Network.{AreNeighbours, entry_at}
+use Rattle.kt_script.specs.declared.command.Command.{Command}
 use Rattle.kt_worker.specs.declared.worker.Worker.{Worker}
 use Rattle.kt_core.specs.declared.node.Message.{Message}
-use Rattle.kt_core.specs.declared.node.Message.TheVariants.{Ask, Reply}
-use Rattle.kt_core.specs.declared.choice.Choice.{Choice}
-use Rattle.kt_core.specs.declared.choice.Choice.TheVariants as choices
+use Rattle.kt_core.specs.declared.node.Message.TheVariants as messages
 use Rattle.kt_core.specs.declared.node.Change.{Change}
 use Rattle.kt_core.specs.declared.node.Change.TheVariants as changes
 use Rattle.kt_core.specs.declared.plan.Plan.{Plan}
 use Rattle.kt_core.specs.declared.step.Step.{Step}
 use Rattle.kt_core.specs.declared.step.Step.TheVariants.{Issue, Deliver, Serve}
-use Rattle.kt_core.specs.State.{State, Part, Nobody, IsWorker, IsStore, Store, at, node, link, link_index, node_number}
-use Rattle.kt_core.specs.Choice.{one_later, place_of, taken_or_nothing, read_or_nothing, choice_of, bag_change_of, put_of, IsInBag}
-use Rattle.kt_core.specs.Effect.{hears_worker, cause_of, cause_of_waiting, home}
-use Rattle.kt_core.specs.Ready.{HasDesks, NamesAct, IsReady, FitsBag, CanChange}
-use Rattle.kt_core.specs.Machine.{CanApply}
-use Rattle.kt_core.proofs.PlanCases.{PlanOf, issues, hears, answers_again, ignores_request, misses_reply, accepts, ignores_reply, misses_request, serves}
-use Rattle.kt_core.proofs.Readiness.{number_small}
+use Rattle.kt_core.specs.Step.{owner}
+use Rattle.kt_core.specs.Limits.{desks, rows}
+use Rattle.kt_core.specs.Cast.{Cast, IsCast, script_at, script_in, is_worker, is_shard, are_neighbours, is_among}
+use Rattle.kt_core.specs.State.{State, Body, IsWorker, IsShard, Node, Shard, at, node, link, link_place, body_of, node_number}
+use Rattle.kt_core.specs.Choice.{bag_change_of}
+use Rattle.kt_core.specs.Judge.{Hearer, NoHearer, ByWorker, ByShard, hearer_of, Found, Asks, Hears, Serves}
+use Rattle.kt_core.specs.Plan.{home}
+use Rattle.kt_core.specs.Ready.{IsOfKind, NamesAct, IsReady, CanChange, HearsWell, CanPlan, CanApply}
+use Rattle.kt_core.proofs.Founds.{IsFound, asks, hears, serves}
+use Rattle.kt_core.proofs.Plans as plans
+use Rattle.kt_core.proofs.Plans.{PlanOf}
+use Rattle.kt_core.proofs.StepSound.{worker_in-is, shard_in-is, hearer-worker, hearer-shard}
+use Rattle.kt_core.proofs.Peopled.{IsNode, a_worker, a_shard, owner-is_node}
+use Rattle.kt_core.proofs.Within.{choice_of-within, change_fits}
+use Rattle.kt_core.proofs.NamedCauses.{cause_of_waiting-named}
 
--- ---- rows and links
+-- ---- the scene's nodes have rows, desks and links
 
--- where something stands the table has a row
-row_there : (parts : List Part) (k : ℕ) → at Nobody parts k ≢ Nobody → k < length parts
-row_there [] k n = absurd (n refl)
-row_there (x ∷ xs) zero n = omega arith
-row_there (x ∷ xs) (suc k) n = let h = row_there xs k n in omega (arith, h)
+slice_get-some : {X : Type 0} (xs : List X) (k : ℕ) → is_some (slice_get xs k) ≡ true → k < length xs
+slice_get-some [] k e = absurd cc
+slice_get-some (x ∷ xs) zero e = omega arith
+slice_get-some (x ∷ xs) (suc k) e = let h = slice_get-some xs k e in omega (arith, h)
 
-worker_row : (s : State) → IsReady s → (p : NodeId) (x : Worker) → node s p ≡ IsWorker x → node_index p < 18
-worker_row s ready p x e = let lt : node_index p < length s.nodes = row_there s.nodes (node_index p) (λ nobody. let bad : Nobody ≡ IsWorker x = sym nobody ∙ e in absurd cc) in omega (arith, lt, ready.rows)
+pub script_at-some : (scripts : List (List Command)) (n : ℕ) → is_some (script_at scripts n) ≡ true → (1 ≤ n) × (n ≤ length scripts)
+script_at-some scripts zero e = absurd cc
+script_at-some scripts (suc n) e = let h = slice_get-some scripts n e in (omega arith, omega (arith, h))
 
-store_row : (s : State) → IsReady s → (p : NodeId) (y : Store) → node s p ≡ IsStore y → node_index p < 18
-store_row s ready p y e = let lt : node_index p < length s.nodes = row_there s.nodes (node_index p) (λ nobody. let bad : Nobody ≡ IsStore y = sym nobody ∙ e in absurd cc) in omega (arith, lt, ready.rows)
+pub among-some : (count n : ℕ) → is_among count n ≡ true → (1 ≤ n) × (n ≤ count)
+among-some count n e = let both = and_parts (nat_le 1 n) (nat_le n count) e in (leb-true 1 n both.0, leb-true n count both.1)
 
-link_within : (p q : NodeId) → node_index p < 18 → node_index q < 18 → link_index p q < 324
-link_within p q hp hq = omega (arith, hp, hq)
+-- the number of a node of the scene
+pub worker-small : (cast : Cast) → IsCast cast → (p : NodeId) → is_worker cast p ≡ true → node_number p < desks
+worker-small cast is (ids.Worker n) e = let h = script_at-some cast.scripts n e in omega (arith, h.1, is.few_workers)
+worker-small cast is (ids.Shard n) e = absurd cc
 
-worker_link : (p : NodeId) (n : ℕ) → node_index p < 18 → n < 9 → link_index p (ids.Worker n) < 324
-worker_link p n hp hn = omega (arith, hp, hn)
+shard-small : (cast : Cast) → IsCast cast → (p : NodeId) → is_shard cast p ≡ true → node_number p < desks
+shard-small cast is (ids.Worker n) e = absurd cc
+shard-small cast is (ids.Shard n) e = let h = among-some cast.shards n e in omega (arith, h.1, is.few_shards)
 
-home_link : (p : NodeId) (shards : ℕ) (op : Op) → node_index p < 18 → 1 ≤ shards → shards ≤ 8 → link_index p (home shards op) < 324
-home_link p shards op hp some few =
-    let small : signature_of (kinds_of_op op) % shards < shards = mod-lt (signature_of (kinds_of_op op)) some in
-    omega (arith, hp, small)
+row_small : (p : NodeId) → node_number p < desks → node_index p < rows
+row_small (ids.Worker n) h = omega (arith, h)
+row_small (ids.Shard n) h = omega (arith, h)
 
--- ---- desks and bags
+pub node-row : (cast : Cast) → IsCast cast → (p : NodeId) → IsNode cast p → node_index p < rows
+node-row cast is p (a_worker e) = row_small p (worker-small cast is p e)
+node-row cast is p (a_shard e) = row_small p (shard-small cast is p e)
 
-nine_desks : (s : State) → IsReady s → (p : NodeId) (y : Store) → node s p ≡ IsStore y → length y.desks ≡ 9
-nine_desks s ready p y e = let P : Part → Type 0 = HasDesks in subst P e (ready.desks (node_index p))
+-- neighbours in the scene have a link
+abbrev pub Linked : Cast → NodeId → NodeId → Type 0
+Linked cast p q = AreNeighbours (length cast.scripts) cast.shards p q
 
-one_later-within : (o : Option ℕ) (n place : ℕ) → ((p : ℕ) → o ≡ Some p → p < n) → one_later o ≡ Some place → place < suc n
-one_later-within None n place h e = absurd cc
-one_later-within (Some p) n place h e = let is : suc p ≡ place = cc in let lt = h p refl in omega (arith, lt, is)
+pub worker-linked : (cast : Cast) (w r : ℕ) → is_worker cast (ids.Worker w) ≡ true → 1 ≤ r → r ≤ cast.shards → Linked cast (ids.Worker w) (ids.Shard r)
+worker-linked cast w r e some few = (script_at-some cast.scripts w e, (some, few))
 
-first-within : (b : Bool) (o : Option ℕ) (n place : ℕ) → ((p : ℕ) → o ≡ Some p → p < n) → cond b (Some 0) (one_later o) ≡ Some place → place < suc n
-first-within true o n place h e = let is : 0 ≡ place = cc in omega (arith, is)
-first-within false o n place h e = one_later-within o n place h e
+shard-linked : (cast : Cast) (r w : ℕ) → is_shard cast (ids.Shard r) ≡ true → is_worker cast (ids.Worker w) ≡ true → Linked cast (ids.Shard r) (ids.Worker w)
+shard-linked cast r w e f = (script_at-some cast.scripts w f, among-some cast.shards r e)
 
-further-within : (b : Bool) (o l : Option ℕ) (n place : ℕ) → ((p : ℕ) → o ≡ Some p → p < n) → ((p : ℕ) → l ≡ Some p → p < n) → cond b (one_later o) (one_later l) ≡ Some place → place < suc n
-further-within true o l n place h g e = one_later-within o n place h e
-further-within false o l n place h g e = one_later-within l n place g e
+home-linked : (cast : Cast) → IsCast cast → (w : ℕ) (op : Op) → is_worker cast (ids.Worker w) ≡ true → Linked cast (ids.Worker w) (home cast.shards op)
+home-linked cast is w op e =
+    let small = mod-lt (signature_of (kinds_of_op op)) is.some_shards in
+    worker-linked cast w (signature_of (kinds_of_op op) % cast.shards + 1) e (omega arith) (omega (arith, small))
 
--- the match of a number stands in the bag
-pub place_of-within : (t : Template) (n : ℕ) (bag : List Tuple) (place : ℕ) → place_of t n bag ≡ Some place → place < length bag
-unfolding place_of
-place_of-within t n [] place e = absurd cc
-place_of-within t zero (u ∷ us) place e = first-within (matches t u) (place_of t zero us) (length us) place (λ p h. place_of-within t zero us p h) e
-place_of-within t (suc n) (u ∷ us) place e =
-    further-within (matches t u) (place_of t n us) (place_of t (suc n) us) (length us) place (λ p h. place_of-within t n us p h) (λ p h. place_of-within t (suc n) us p h) e
+-- the two ends of a link in the scene
+pub data Ends (cast : Cast) : NodeId → NodeId → Type 0 where
+  to_shard : {w r : ℕ} → is_worker cast (ids.Worker w) ≡ true → is_shard cast (ids.Shard r) ≡ true → Ends cast (ids.Worker w) (ids.Shard r)
+  to_worker : {r w : ℕ} → is_shard cast (ids.Shard r) ≡ true → is_worker cast (ids.Worker w) ≡ true → Ends cast (ids.Shard r) (ids.Worker w)
 
-nothing-within : (b : Bool) (bag : List Tuple) (c : Choice) → cond b (Some choices.Nothing) None ≡ Some c → IsInBag bag c
-nothing-within true bag c e = let P : Choice → Type 0 = IsInBag bag in let is : choices.Nothing ≡ c = cc in subst P is tt
-nothing-within false bag c e = absurd cc
-
-put-within : (b : Bool) (bag : List Tuple) (c : Choice) → cond b (Some choices.Put) None ≡ Some c → IsInBag bag c
-put-within true bag c e = let P : Choice → Type 0 = IsInBag bag in let is : choices.Put ≡ c = cc in subst P is tt
-put-within false bag c e = absurd cc
-
--- what is chosen stands in the bag
-pub choice_of-within : (bag : List Tuple) (op : Op) (n : ℕ) (c : Choice) → choice_of bag op n ≡ Some c → IsInBag bag c
-choice_of-within bag (Out u) n c e = put-within _ bag c e
-choice_of-within bag (In t) n c e = taken (place_of t n bag) (place_of-within t n bag) e
+pub ends : (cast : Cast) (p q : NodeId) → are_neighbours cast p q ≡ true → Ends cast p q
+ends cast (ids.Worker w) (ids.Shard r) e = by (is_worker cast (ids.Worker w)) (is_shard cast (ids.Shard r)) refl refl e
   where
-    taken : (o : Option ℕ) → ((p : ℕ) → o ≡ Some p → p < length bag) → option_map choices.Take o ≡ Some c → IsInBag bag c
-    taken None h e = absurd cc
-    taken (Some p) h e = let P : Choice → Type 0 = IsInBag bag in let is : choices.Take p ≡ c = cc in subst P is (h p refl)
-choice_of-within bag (Rd t) n c e = read (place_of t n bag) (place_of-within t n bag) e
+    by : (a b : Bool) → is_worker cast (ids.Worker w) ≡ a → is_shard cast (ids.Shard r) ≡ b → (a && b || false && false) ≡ true → Ends cast (ids.Worker w) (ids.Shard r)
+    by true true f g e = to_shard f g
+    by true false f g e = absurd cc
+    by false b f g e = absurd cc
+ends cast (ids.Shard r) (ids.Worker w) e = by (is_shard cast (ids.Shard r)) (is_worker cast (ids.Worker w)) refl refl e
   where
-    read : (o : Option ℕ) → ((p : ℕ) → o ≡ Some p → p < length bag) → option_map choices.Read o ≡ Some c → IsInBag bag c
-    read None h e = absurd cc
-    read (Some p) h e = let P : Choice → Type 0 = IsInBag bag in let is : choices.Read p ≡ c = cc in subst P is (h p refl)
-choice_of-within bag (Inp t) n c e = taken (place_of t n bag) (place_of-within t n bag) e
+    by : (a b : Bool) → is_shard cast (ids.Shard r) ≡ a → is_worker cast (ids.Worker w) ≡ b → (false && false || a && b) ≡ true → Ends cast (ids.Shard r) (ids.Worker w)
+    by true true f g e = to_worker f g
+    by true false f g e = absurd cc
+    by false b f g e = absurd cc
+ends cast (ids.Worker w) (ids.Worker v) e = by (is_worker cast (ids.Worker w)) e
   where
-    taken : (o : Option ℕ) → ((p : ℕ) → o ≡ Some p → p < length bag) → taken_or_nothing n o ≡ Some c → IsInBag bag c
-    taken None h e = nothing-within _ bag c e
-    taken (Some p) h e = let P : Choice → Type 0 = IsInBag bag in let is : choices.Take p ≡ c = cc in subst P is (h p refl)
-choice_of-within bag (Rdp t) n c e = read (place_of t n bag) (place_of-within t n bag) e
+    by : (a : Bool) → (a && false || false && is_worker cast (ids.Worker v)) ≡ true → Ends cast (ids.Worker w) (ids.Worker v)
+    by true e = absurd cc
+    by false e = absurd cc
+ends cast (ids.Shard r) (ids.Shard q) e = by (is_shard cast (ids.Shard r)) e
   where
-    read : (o : Option ℕ) → ((p : ℕ) → o ≡ Some p → p < length bag) → read_or_nothing n o ≡ Some c → IsInBag bag c
-    read None h e = nothing-within _ bag c e
-    read (Some p) h e = let P : Choice → Type 0 = IsInBag bag in let is : choices.Read p ≡ c = cc in subst P is (h p refl)
+    by : (a : Bool) → (false && is_shard cast (ids.Shard q) || a && false) ≡ true → Ends cast (ids.Shard r) (ids.Shard q)
+    by true e = absurd cc
+    by false e = absurd cc
 
-put_of-fits : (bag : List Tuple) (op : Op) → FitsBag bag (put_of op)
-put_of-fits bag (Out u) = tt
-put_of-fits bag (In t) = tt
-put_of-fits bag (Rd t) = tt
-put_of-fits bag (Inp t) = tt
-put_of-fits bag (Rdp t) = tt
+-- ---- desks
 
-change_fits : (bag : List Tuple) (op : Op) (c : Choice) → IsInBag bag c → FitsBag bag (bag_change_of op c)
-change_fits bag op choices.Put h = put_of-fits bag op
-change_fits bag op (choices.Take place) h = h
-change_fits bag op (choices.Read place) h = tt
-change_fits bag op choices.Nothing h = tt
+nine_desks : (s : State) → IsReady s → (p : NodeId) (y : Shard) → body_of (node s p) ≡ Some (IsShard y) → length y.desks ≡ desks
+nine_desks s ready (ids.Worker w) y e = absurd (let P : Option Body → Type 0 = IsOfKind (ids.Worker w) in subst P e (ready.bodies (ids.Worker w)))
+nine_desks s ready (ids.Shard r) y e = let P : Option Body → Type 0 = IsOfKind (ids.Shard r) in subst P e (ready.bodies (ids.Shard r))
 
--- ---- causes
+has_desk : (s : State) → IsReady s → (p w : NodeId) (y : Shard) → body_of (node s p) ≡ Some (IsShard y) → is_worker s.cast w ≡ true → node_number w < length y.desks
+has_desk s ready p w y e worker = let nine = nine_desks s ready p y e in let small = worker-small s.cast ready.cast w worker in omega (arith, nine, small)
+
+sender-small : (cast : Cast) → IsCast cast → (p q : NodeId) → Ends cast p q → node_number p < desks
+sender-small cast is p q (to_shard e f) = worker-small cast is p e
+sender-small cast is p q (to_worker e f) = shard-small cast is p e
+
+hears-well : (s : State) → IsReady s → (p q : NodeId) (hearer : Hearer) → hearer ≡ hearer_of (script_in s.cast q) (body_of (node s q)) → node_number p < desks → HearsWell (node_number p) hearer
+hears-well s ready p q NoHearer is small = tt
+hears-well s ready p q (ByWorker script x) is small = tt
+hears-well s ready p q (ByShard y) is small =
+    let nine = nine_desks s ready q y (hearer-shard (script_in s.cast q) (body_of (node s q)) y is) in omega (arith, nine, small)
+
+pub can_plan : (s : State) → IsReady s → (step : Step) (found : Found) → IsFound s step found → CanPlan found
+can_plan s ready (Issue p) found (asks there at_p left) = tt
+can_plan s ready (Deliver p q) found (hears are on) = hears-well s ready p q _ refl (sender-small s.cast ready.cast p q (ends s.cast p q are))
+can_plan s ready (Serve p w place) found (serves {y = y} {request = request} {choice = choice} there other at_p waits chosen) = choice_of-within y.bag request.op place choice chosen
+
+-- ---- carrying a plan out
 
 -- what a message on a link names is an act
 on_link : (s : State) → IsReady s → (p q : NodeId) (m : Message) (later : List Message) → link s p q ≡ m ∷ later → NamesAct s.history m
-on_link s ready p q m later e = ready.messages (link_index p q) m (let P : List Message → Type 0 = λ l. Contains l m in subst P (sym e) (Contains-here m later))
-
--- the cause of an act of the history is an act of it
-cause_named : (h : List Note) → CausesComeFirst h → (n : ℕ) (a : Act) → note_at h n ≡ Some (notes.Act a) → a.by ≢ 0 → IsAct h a.by
-cause_named h causes n a at some =
-    let earlier = causes.follows n (notes.Act a) at some in
-    (earlier.0, (note_before h n (notes.Act a) a.by (notes.Act earlier.0) at earlier.1).1)
-
-all-append : {X : Type 0} (P : X → Type 0) (xs ys : List X) → AllByRecursion P xs → AllByRecursion P ys → AllByRecursion P (xs ++ ys)
-all-append P [] ys h g = g
-all-append P (x ∷ xs) ys h g = (h.0, all-append P xs ys h.1 g)
-
-all-reverse : {X : Type 0} (P : X → Type 0) (xs : List X) → AllByRecursion P xs → AllByRecursion P (reverse xs)
-all-reverse P [] h = tt
-all-reverse P (x ∷ xs) h =
-    let Q : List _ → Type 0 = AllByRecursion P in
-    subst Q (sym (reverse-append (x ∷ []) xs)) (all-append P (reverse xs) (x ∷ []) (all-reverse P xs h.1) (h.0, tt))
-
-found-holds : {X : Type 0} (P : X → Type 0) (p : X → Bool) (b : Bool) (x y : X) (later : Option X) → cond b (Some x) later ≡ Some y → P x → (later ≡ Some y → P y) → P y
-found-holds P p true x y later e h g = let is : x ≡ y = cc in subst P is h
-found-holds P p false x y later e h g = g e
-
-find-holds : {X : Type 0} (P : X → Type 0) (p : X → Bool) (xs : List X) (y : X) → AllByRecursion P xs → find p xs ≡ Some y → P y
-find-holds P p [] y h e = absurd cc
-find-holds P p (x ∷ xs) y h e = found-holds P p (p x) x y (find p xs) e h.0 (λ g. find-holds P p xs y h.1 g)
-
--- the act's cause is an act
-abbrev HasCause : List Note → Act → Type 0
-HasCause h a = a.by ≢ 0 → IsAct h a.by
-
-all-have_causes : (h : List Note) → CausesComeFirst h → (numbers : List ℕ) → AllByRecursion (HasCause h) (acts_at h numbers)
-all-have_causes h causes [] = tt
-all-have_causes h causes (n ∷ later) = one (note_at h n) refl (all-have_causes h causes later)
+on_link s ready p q m later e = at_place (link_place s.cast p q) (subst (λ (l : List Message). Contains l m) (sym e) (Contains-here m later))
   where
-    one : (o : Option Note) → note_at h n ≡ o → AllByRecursion (HasCause h) (acts_at h later) → AllByRecursion (HasCause h) (cons_option (act_of o) (acts_at h later))
-    one None at rest = rest
-    one (Some (notes.Act a)) at rest = (cause_named h causes n a at, rest)
-    one (Some (notes.Cut p keep)) at rest = rest
+    at_place : (k : Option ℕ) → Contains (entry_at [] s.links k) m → NamesAct s.history m
+    at_place None c = absurd (Contains-none m c)
+    at_place (Some k) c = ready.messages k m c
 
--- the cause that is found for a service is an act
-pub cause_of_waiting-named : (h : List Note) → CausesComeFirst h → (p : NodeId) (worker : ℕ) → cause_of_waiting h p worker ≢ 0 → IsAct h (cause_of_waiting h p worker)
-cause_of_waiting-named h causes p worker = among (find (hears_worker worker) (reverse (acts_at h (line h p)))) refl
-  where
-    among : (o : Option Act) → find (hears_worker worker) (reverse (acts_at h (line h p))) ≡ o → cause_of o ≢ 0 → IsAct h (cause_of o)
-    among None e some = absurd (some refl)
-    among (Some a) e some = find-holds (HasCause h) (hears_worker worker) (reverse (acts_at h (line h p))) a (all-reverse (HasCause h) (acts_at h (line h p)) (all-have_causes h causes (line h p))) e some
+-- what can be done to what the node works with can be done to the node
+change_at : (body : Option Body) (change : Change) (is : Option Body) → body ≡ is → CanChange is change → CanChange body change
+change_at body change is e h = let P : Option Body → Type 0 = λ x. CanChange x change in subst P (sym e) h
 
--- what can be done to what the node is can be done to the node
-change_at : (part : Part) (change : Change) (is : Part) → part ≡ is → CanChange is change → CanChange part change
-change_at part change is e h = let P : Part → Type 0 = λ x. CanChange x change in subst P (sym e) h
+-- nothing stands in the way of what stays
+stay_fits : (o : Option Body) → CanChange o changes.Stay
+stay_fits None = tt
+stay_fits (Some (IsWorker x)) = tt
+stay_fits (Some (IsShard y)) = tt
 
--- ---- the law
+work_fits : (o : Option Body) (x : Worker) → CanChange o (changes.Work x)
+work_fits None x = tt
+work_fits (Some (IsWorker z)) x = tt
+work_fits (Some (IsShard y)) x = tt
 
-pub can_apply : (s : State) → IsReady s → (step : Step) (plan : Plan) → PlanOf s step plan → CanApply s step plan
-can_apply s ready (Issue p) plan (issues {x = x} {r = r} at_p next few) =
-    let row = worker_row s ready p x at_p in record {
+-- a shard answers to whom it heard
+back-linked : (s : State) → IsReady s → (p q : NodeId) (y : Shard) → Ends s.cast p q → body_of (node s q) ≡ Some (IsShard y) → Linked s.cast q (ids.Worker (node_number p))
+back-linked s ready p q y (to_shard {w = w} {r = r} e f) at_q = shard-linked s.cast r w f e
+back-linked s ready p q y (to_worker {r = r} {w = w} e f) at_q = absurd (let P : Option Body → Type 0 = IsOfKind (ids.Worker w) in subst P at_q (ready.bodies (ids.Worker w)))
+
+heard_by : (s : State) (q : NodeId) (y : Shard) → ByShard y ≡ hearer_of (script_in s.cast q) (body_of (node s q)) → body_of (node s q) ≡ Some (IsShard y)
+heard_by s q y is = hearer-shard (script_in s.cast q) (body_of (node s q)) y is
+
+-- a note of an act of p, whose cause is named
+abbrev Notes : State → NodeId → Option Note → Type 0
+Notes s p note = IfSome note (MayFollow s.history) × IfSome note (λ n. node_of n ≡ p)
+
+-- what is heard can be carried out
+heard_applies : (s : State) → IsReady s → (p q : NodeId) (hearer : Hearer) (message : Message) (plan : Plan) → Ends s.cast p q → NamesAct s.history message → hearer ≡ hearer_of (script_in s.cast q) (body_of (node s q))
+    → node_index q < rows → PlanOf s.cast.shards s.history q (Hears p hearer message) plan → CanApply s q plan
+heard_applies s ready p q hearer message plan e names is row plans.drops = record { row = row; send = tt; change = stay_fits (body_of (node s q)); note = tt; own = tt }
+heard_applies s ready p q hearer message plan e names is row plans.misses_request = record { row = row; send = tt; change = stay_fits (body_of (node s q)); note = names; own = refl }
+heard_applies s ready p q hearer message plan e names is row (plans.accepts awaited) = record { row = row; send = tt; change = work_fits (body_of (node s q)) _; note = names; own = refl }
+heard_applies s ready p q hearer message plan e names is row (plans.ignores_reply other) = record { row = row; send = tt; change = stay_fits (body_of (node s q)); note = names; own = refl }
+heard_applies s ready p q hearer message plan e names is row (plans.hears {y = y} {request = request} new) =
+    let at_q = heard_by s q y is in
+    let nine = nine_desks s ready q y at_q in
+    let small = sender-small s.cast ready.cast p q e in record {
       row = row;
-      link = tt;
-      send = home_link p s.shards r.1 row ready.some_shards ready.few_shards;
-      change = change_at (node s p) _ (IsWorker x) at_p tt;
+      send = tt;
+      change = change_at (body_of (node s q)) (changes.Wait (node_number p) request) (Some (IsShard y)) at_q (omega (arith, nine, small));
+      note = names;
+      own = refl;
+    }
+heard_applies s ready p q hearer message plan e names is row (plans.answers_again {y = y} old kept) =
+    record { row = row; send = (back-linked s ready p q y e (heard_by s q y is), tt); change = stay_fits (body_of (node s q)); note = names; own = refl }
+heard_applies s ready p q hearer message plan e names is row (plans.ignores_request old none) = record { row = row; send = tt; change = stay_fits (body_of (node s q)); note = names; own = refl }
+heard_applies s ready p q hearer message plan e names is row plans.misses_reply = record { row = row; send = tt; change = stay_fits (body_of (node s q)); note = names; own = refl }
+
+is_worker-from : (s : State) (p : NodeId) (script : List Command) → script_in s.cast p ≡ Some script → is_worker s.cast p ≡ true
+is_worker-from s p script e = ap is_some e
+
+-- the law
+pub can_apply : (s : State) → IsReady s → (step : Step) (found : Found) (plan : Plan) → IsFound s step found → PlanOf s.cast.shards s.history (owner step) found plan → CanApply s (owner step) plan
+can_apply s ready (Issue (ids.Shard n)) found plan (asks there at_p left) of = absurd cc
+can_apply s ready (Issue (ids.Worker w)) found plan (asks {script = script} there at_p left) (plans.issues {r = r} next) =
+    let worker = is_worker-from s (ids.Worker w) script there in record {
+      row = node-row s.cast ready.cast (ids.Worker w) (a_worker worker);
+      send = (home-linked s.cast ready.cast w r.1 worker, tt);
+      change = work_fits (body_of (node s (ids.Worker w))) _;
       note = λ some. absurd (some refl);
+      own = refl;
     }
-can_apply s ready (Deliver p q) plan (hears {x = x} {y = y} {request = request} {by = by} {later = later} at_p at_q on new few) =
-    let sender = worker_row s ready p x at_p in
-    let row = store_row s ready q y at_q in record {
-      row = row;
-      link = link_within p q sender row;
-      send = tt;
-      change = change_at (node s q) (changes.Wait (node_number p) request) (IsStore y) at_q (let nine = nine_desks s ready q y at_q in let small = number_small p sender in omega (arith, nine, small));
-      note = on_link s ready p q (Ask request by) later on;
-    }
-can_apply s ready (Deliver p q) plan (answers_again {x = x} {y = y} {request = request} {by = by} {later = later} at_p at_q on old kept few) =
-    let sender = worker_row s ready p x at_p in
-    let row = store_row s ready q y at_q in record {
-      row = row;
-      link = link_within p q sender row;
-      send = worker_link q (node_number p) row (number_small p sender);
-      change = change_at (node s q) changes.Stay (IsStore y) at_q tt;
-      note = on_link s ready p q (Ask request by) later on;
-    }
-can_apply s ready (Deliver p q) plan (ignores_request {x = x} {y = y} {request = request} {by = by} {later = later} at_p at_q on old none few) =
-    let row = store_row s ready q y at_q in record {
-      row = row;
-      link = link_within p q (worker_row s ready p x at_p) row;
-      send = tt;
-      change = change_at (node s q) changes.Stay (IsStore y) at_q tt;
-      note = on_link s ready p q (Ask request by) later on;
-    }
-can_apply s ready (Deliver p q) plan (misses_reply {x = x} {y = y} {request = request} {answer = answer} {by = by} {later = later} at_p at_q on few) =
-    let row = store_row s ready q y at_q in record {
-      row = row;
-      link = link_within p q (worker_row s ready p x at_p) row;
-      send = tt;
-      change = change_at (node s q) changes.Stay (IsStore y) at_q tt;
-      note = on_link s ready p q (Reply request answer by) later on;
-    }
-can_apply s ready (Deliver p q) plan (accepts {x = x} {y = y} {request = request} {answer = answer} {by = by} {later = later} at_p at_q on awaited few) =
-    let row = worker_row s ready q x at_q in record {
-      row = row;
-      link = link_within p q (store_row s ready p y at_p) row;
-      send = tt;
-      change = change_at (node s q) _ (IsWorker x) at_q tt;
-      note = on_link s ready p q (Reply request answer by) later on;
-    }
-can_apply s ready (Deliver p q) plan (ignores_reply {x = x} {y = y} {request = request} {answer = answer} {by = by} {later = later} at_p at_q on other few) =
-    let row = worker_row s ready q x at_q in record {
-      row = row;
-      link = link_within p q (store_row s ready p y at_p) row;
-      send = tt;
-      change = change_at (node s q) changes.Stay (IsWorker x) at_q tt;
-      note = on_link s ready p q (Reply request answer by) later on;
-    }
-can_apply s ready (Deliver p q) plan (misses_request {x = x} {y = y} {request = request} {by = by} {later = later} at_p at_q on few) =
-    let row = worker_row s ready q x at_q in record {
-      row = row;
-      link = link_within p q (store_row s ready p y at_p) row;
-      send = tt;
-      change = change_at (node s q) changes.Stay (IsWorker x) at_q tt;
-      note = on_link s ready p q (Ask request by) later on;
-    }
-can_apply s ready (Serve p w place) plan (serves {x = x} {y = y} {request = request} {choice = choice} at_p at_w waits chosen few) =
-    let row = store_row s ready p y at_p in
-    let small = number_small w (worker_row s ready w x at_w) in record {
-      row = row;
-      link = tt;
-      send = worker_link p (node_number w) row small;
-      change = change_at (node s p) _ (IsStore y) at_p (let nine = nine_desks s ready p y at_p in let lt : node_number w < length y.desks = omega (arith, nine, small) in
-          (lt, change_fits y.bag request.op choice (choice_of-within y.bag request.op place choice chosen)));
-      note = cause_of_waiting-named s.history ready.causes p (node_number w);
+can_apply s ready (Issue (ids.Worker w)) found plan (asks {script = script} there at_p left) (plans.idles none) =
+    record { row = node-row s.cast ready.cast (ids.Worker w) (a_worker (is_worker-from s (ids.Worker w) script there)); send = tt; change = stay_fits (body_of (node s (ids.Worker w))); note = tt; own = tt }
+can_apply s ready (Deliver p q) found plan (hears {message = message} {later = later} are on) of =
+    heard_applies s ready p q _ message plan (ends s.cast p q are) (on_link s ready p q message later on) refl
+    (node-row s.cast ready.cast q (owner-is_node s (Deliver p q) _ (hears are on))) of
+can_apply s ready (Serve (ids.Worker n) w place) found plan (serves there other at_p waits chosen) of = absurd cc
+can_apply s ready (Serve (ids.Shard r) (ids.Shard n) place) found plan (serves there other at_p waits chosen) of = absurd cc
+can_apply s ready (Serve (ids.Shard r) (ids.Worker w) place) found plan (serves {y = y} {request = request} {choice = choice} there other at_p waits chosen) plans.serves =
+    let at_shard = shard_in-is (body_of (node s (ids.Shard r))) y at_p in record {
+      row = node-row s.cast ready.cast (ids.Shard r) (a_shard there);
+      send = (shard-linked s.cast r w there other, tt);
+      change = change_at (body_of (node s (ids.Shard r))) _ (Some (IsShard y)) at_shard (has_desk s ready (ids.Shard r) (ids.Worker w) y at_shard other, change_fits y.bag request.op choice (choice_of-within y.bag request.op place choice chosen));
+      note = cause_of_waiting-named s.history ready.causes (ids.Shard r) w;
+      own = refl;
     }

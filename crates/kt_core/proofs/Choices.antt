@@ -13,8 +13,8 @@ use Rattle.kt_tuple.specs.Matching.{Matches, matches, admits, admits_decides}
 use Rattle.kt_tuple.specs.Space.{SpaceStep}
 use Rattle.kt_core.specs.declared.choice.Choice.{Choice}
 use Rattle.kt_core.specs.declared.choice.Choice.TheVariants as choices
-use Rattle.kt_core.specs.Choice.{place_of, choice_of, taken_or_nothing, read_or_nothing, answer_of, bag_change_of, tuple_at}
-use Rattle.kt_core.specs.Effect.{bag_after}
+use Rattle.kt_core.specs.Choice.{index_of_match, choice_of, taken_or_nothing, read_or_nothing, answer_of, bag_change_of, tuple_at}
+use Rattle.kt_core.specs.Effect.{changed_bag}
 use Rattle.kt_history.proofs.Lists.{Contains-none}
 use Rattle.kt_core.proofs.Bags.{Contains-cases}
 
@@ -43,36 +43,36 @@ one_on t u bag place (Some k) there e =
     let m = there k refl in
     subst (IsMatchAt t (u ∷ bag)) same (record { below = omega (arith, m.below); matching = m.matching })
 
-place_of-is : (t : Template) (number : ℕ) (bag : List Tuple) (place : ℕ) → place_of t number bag ≡ Some place → IsMatchAt t bag place
-unfolding place_of
-place_of-is t number [] place e = absurd cc
-place_of-is t zero (u ∷ bag) place e = by (matches t u) refl e (place_of-is t zero bag)
+index_of_match-is : (t : Template) (number : ℕ) (bag : List Tuple) (place : ℕ) → index_of_match t number bag ≡ Some place → IsMatchAt t bag place
+unfolding index_of_match
+index_of_match-is t number [] place e = absurd cc
+index_of_match-is t zero (u ∷ bag) place e = by (matches t u) refl e (index_of_match-is t zero bag)
   where
-    by : (r : Bool) → matches t u ≡ r → cond r (Some 0) (option_map suc (place_of t zero bag)) ≡ Some place → ((k : ℕ) → place_of t zero bag ≡ Some k → IsMatchAt t bag k) → IsMatchAt t (u ∷ bag) place
+    by : (r : Bool) → matches t u ≡ r → cond r (Some 0) (option_map suc (index_of_match t zero bag)) ≡ Some place → ((k : ℕ) → index_of_match t zero bag ≡ Some k → IsMatchAt t bag k) → IsMatchAt t (u ∷ bag) place
     by true m e there = let same : 0 ≡ place = cc in subst (IsMatchAt t (u ∷ bag)) same (record { below = omega arith; matching = m })
-    by false m e there = one_on t u bag place (place_of t zero bag) there e
-place_of-is t (suc number) (u ∷ bag) place e = by (matches t u) e (place_of-is t number bag) (place_of-is t (suc number) bag)
+    by false m e there = one_on t u bag place (index_of_match t zero bag) there e
+index_of_match-is t (suc number) (u ∷ bag) place e = by (matches t u) e (index_of_match-is t number bag) (index_of_match-is t (suc number) bag)
   where
-    by : (r : Bool) → cond r (option_map suc (place_of t number bag)) (option_map suc (place_of t (suc number) bag)) ≡ Some place →
-        ((k : ℕ) → place_of t number bag ≡ Some k → IsMatchAt t bag k) → ((k : ℕ) → place_of t (suc number) bag ≡ Some k → IsMatchAt t bag k) → IsMatchAt t (u ∷ bag) place
-    by true e fewer there = one_on t u bag place (place_of t number bag) fewer e
-    by false e fewer there = one_on t u bag place (place_of t (suc number) bag) there e
+    by : (r : Bool) → cond r (option_map suc (index_of_match t number bag)) (option_map suc (index_of_match t (suc number) bag)) ≡ Some place →
+        ((k : ℕ) → index_of_match t number bag ≡ Some k → IsMatchAt t bag k) → ((k : ℕ) → index_of_match t (suc number) bag ≡ Some k → IsMatchAt t bag k) → IsMatchAt t (u ∷ bag) place
+    by true e fewer there = one_on t u bag place (index_of_match t number bag) fewer e
+    by false e fewer there = one_on t u bag place (index_of_match t (suc number) bag) there e
 
 -- where there is none, nothing in the bag matches
 nothing_on : (o : Option ℕ) → option_map suc o ≡ None → o ≡ None
 nothing_on None e = refl
 nothing_on (Some k) e = absurd cc
 
-place_of-none : (t : Template) (bag : List Tuple) → place_of t 0 bag ≡ None → (u : Tuple) → Contains bag u → ¬ Matches t u
-unfolding place_of
-place_of-none t [] e u c m = Contains-none u c
-place_of-none t (v ∷ bag) e u c m = by (matches t v) refl e (place_of-none t bag)
+index_of_match-none : (t : Template) (bag : List Tuple) → index_of_match t 0 bag ≡ None → (u : Tuple) → Contains bag u → ¬ Matches t u
+unfolding index_of_match
+index_of_match-none t [] e u c m = Contains-none u c
+index_of_match-none t (v ∷ bag) e u c m = by (matches t v) refl e (index_of_match-none t bag)
   where
-    by : (r : Bool) → matches t v ≡ r → cond r (Some 0) (option_map suc (place_of t zero bag)) ≡ None → (place_of t 0 bag ≡ None → (u : Tuple) → Contains bag u → ¬ Matches t u) → ⊥
+    by : (r : Bool) → matches t v ≡ r → cond r (Some 0) (option_map suc (index_of_match t zero bag)) ≡ None → (index_of_match t 0 bag ≡ None → (u : Tuple) → Contains bag u → ¬ Matches t u) → ⊥
     by true k e rest = cc
     by false k e rest = elim (Contains-cases v u bag c) [
       | inl same ↦ false≢true (sym k ∙ matches-from_Matches t v (subst (Matches t) (sym same) m))
-      | inr there ↦ rest (nothing_on (place_of t zero bag) e) u there m
+      | inr there ↦ rest (nothing_on (index_of_match t zero bag) e) u there m
     ]
 
 -- the tuple at the place of a match is taken, or read
@@ -85,7 +85,7 @@ reads_match t bag place m = (Matches-from_test t (tuple_at bag place) m.matching
 
 -- to serve with a choice is a step of the space
 abbrev IsStepBy : List Tuple → Op → Choice → Type 0
-IsStepBy bag op choice = SpaceStep bag op (answer_of bag choice) (bag_after bag (bag_change_of op choice))
+IsStepBy bag op choice = SpaceStep bag op (answer_of bag choice) (changed_bag bag (bag_change_of op choice))
 
 take_step : (bag : List Tuple) (op : Op) (o : Option ℕ) (choice : Choice) → ((place : ℕ) → o ≡ Some place → IsStepBy bag op (choices.Take place)) → option_map choices.Take o ≡ Some choice → IsStepBy bag op choice
 take_step bag op None choice h e = absurd cc
@@ -106,21 +106,21 @@ only_zero number made choice e = by (number == 0) refl e
 nothing_step : (bag : List Tuple) (op : Op) (number : ℕ) (choice : Choice) → (number ≡ 0 → IsStepBy bag op choices.Nothing) → (if number == 0 then Some choices.Nothing else None) ≡ Some choice → IsStepBy bag op choice
 nothing_step bag op number choice h e = let r = only_zero number choices.Nothing choice e in subst (IsStepBy bag op) r.1 (h r.0)
 
-finds_none : (t : Template) (bag : List Tuple) (number : ℕ) → place_of t number bag ≡ None → number ≡ 0 → ((u : Tuple) → Contains bag u → ¬ Matches t u) × IsPermutation bag bag
-finds_none t bag number e z = (place_of-none t bag (subst (λ n. place_of t n bag ≡ None) z e), IsPermutation-refl bag)
+finds_none : (t : Template) (bag : List Tuple) (number : ℕ) → index_of_match t number bag ≡ None → number ≡ 0 → ((u : Tuple) → Contains bag u → ¬ Matches t u) × IsPermutation bag bag
+finds_none t bag number e z = (index_of_match-none t bag (subst (λ n. index_of_match t n bag ≡ None) z e), IsPermutation-refl bag)
 
-pub choice_step : (bag : List Tuple) (op : Op) (number : ℕ) (choice : Choice) → choice_of bag op number ≡ Some choice → SpaceStep bag op (answer_of bag choice) (bag_after bag (bag_change_of op choice))
+pub choice_step : (bag : List Tuple) (op : Op) (number : ℕ) (choice : Choice) → choice_of bag op number ≡ Some choice → SpaceStep bag op (answer_of bag choice) (changed_bag bag (bag_change_of op choice))
 choice_step bag (Out u) number choice e =
     let r = only_zero number choices.Put choice e in subst (IsStepBy bag (Out u)) r.1 (IsPermutation-sym (bag ++ u ∷ []) (u ∷ bag) (IsPermutation-to_front bag u))
-choice_step bag (In t) number choice e = take_step bag (In t) (place_of t number bag) choice (λ place at. takes_match t bag place (place_of-is t number bag place at)) e
-choice_step bag (Rd t) number choice e = read_step bag (Rd t) (place_of t number bag) choice (λ place at. reads_match t bag place (place_of-is t number bag place at)) e
-choice_step bag (Inp t) number choice e = by (place_of t number bag) refl e
+choice_step bag (In t) number choice e = take_step bag (In t) (index_of_match t number bag) choice (λ place at. takes_match t bag place (index_of_match-is t number bag place at)) e
+choice_step bag (Rd t) number choice e = read_step bag (Rd t) (index_of_match t number bag) choice (λ place at. reads_match t bag place (index_of_match-is t number bag place at)) e
+choice_step bag (Inp t) number choice e = by (index_of_match t number bag) refl e
   where
-    by : (o : Option ℕ) → place_of t number bag ≡ o → taken_or_nothing number o ≡ Some choice → IsStepBy bag (Inp t) choice
+    by : (o : Option ℕ) → index_of_match t number bag ≡ o → taken_or_nothing number o ≡ Some choice → IsStepBy bag (Inp t) choice
     by None at e = nothing_step bag (Inp t) number choice (finds_none t bag number at) e
-    by (Some place) at e = take_step bag (Inp t) (Some place) choice (λ k same. takes_match t bag k (place_of-is t number bag k (at ∙ same))) e
-choice_step bag (Rdp t) number choice e = by (place_of t number bag) refl e
+    by (Some place) at e = take_step bag (Inp t) (Some place) choice (λ k same. takes_match t bag k (index_of_match-is t number bag k (at ∙ same))) e
+choice_step bag (Rdp t) number choice e = by (index_of_match t number bag) refl e
   where
-    by : (o : Option ℕ) → place_of t number bag ≡ o → read_or_nothing number o ≡ Some choice → IsStepBy bag (Rdp t) choice
+    by : (o : Option ℕ) → index_of_match t number bag ≡ o → read_or_nothing number o ≡ Some choice → IsStepBy bag (Rdp t) choice
     by None at e = nothing_step bag (Rdp t) number choice (finds_none t bag number at) e
-    by (Some place) at e = read_step bag (Rdp t) (Some place) choice (λ k same. reads_match t bag k (place_of-is t number bag k (at ∙ same))) e
+    by (Some place) at e = read_step bag (Rdp t) (Some place) choice (λ k same. reads_match t bag k (index_of_match-is t number bag k (at ∙ same))) e

@@ -5,7 +5,7 @@ use Rattle.std.proofs.lemmas.List.{get_or_default}
 use Rattle.kt_core.specs.declared.node.Request.{Request}
 use Rattle.kt_core.specs.declared.node.Desk.{Desk}
 use Rattle.kt_tuple.specs.declared.tuple.Tuple.{Tuple}
-use Rattle.kt_core.specs.State.{at, put, Store}
+use Rattle.kt_core.specs.State.{at, put, Shard}
 use Rattle.kt_core.specs.Desk.{empty_desk}
 use Rattle.kt_core.proofs.Rows.{put-set}
 
@@ -19,8 +19,8 @@ put_waiting desks worker old new request lt was e =
     let same : old ≡ at empty_desk desks worker = was ∙ get_or_default desks worker old empty_desk lt in
     put_desk desks worker new _ lt (e ∙ ap (λ (d : Desk). record { waiting = Some request; kept = d.kept }) same)
 
-abbrev pub store : List Tuple → List Desk → Store
-store bag desks = record { bag = bag; desks = desks }
+abbrev pub shard_with : List Tuple → List Desk → Shard
+shard_with bag desks = record { bag = bag; desks = desks }
 
-pub same_store : (a b : List Tuple) (d e : List Desk) → a ≡ b → d ≡ e → store a d ≡ store b e
-same_store a b d e p q = ap (λ (x : List Tuple). store x d) p ∙ ap (store b) q
+pub same_shard : (a b : List Tuple) (d e : List Desk) → a ≡ b → d ≡ e → shard_with a d ≡ shard_with b e
+same_shard a b d e p q = ap (λ (x : List Tuple). shard_with x d) p ∙ ap (shard_with b) q

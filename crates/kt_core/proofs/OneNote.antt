@@ -1,33 +1,72 @@
--- A step notes one act, of the node whose step it is.
-use Rattle.std.proofs.Common.{◌≡◌, Result, Ok, Err, refl, sym, ap}
-use Rattle.std.specs.Prelude.{OnOk}
+-- A step notes one act, of the node whose step it is, as long as no node is down.
+use Rattle.std.proofs.Common.{◌≡◌, Bool, true, false, ◌&&◌, ◌||◌, List, Option, None, Some, Result, Ok, Err, refl, sym, ap, ◌∙◌, subst}
+use Rattle.std.specs.Prelude.{OnOk, is_some}
+use Rattle.kt_tuple.specs.declared.node.NodeId.{NodeId}
+use Rattle.kt_history.specs.declared.note.Act.{Act}
+use Rattle.kt_history.specs.declared.note.Note.{Note}
+use Rattle.kt_history.specs.declared.note.Note.TheVariants as notes
+use Rattle.kt_script.specs.declared.command.Command.{Command}
+use Rattle.kt_core.specs.declared.node.Message.{Message}
 use Rattle.kt_core.specs.declared.plan.Plan.{Plan}
 use Rattle.kt_core.specs.declared.step.Step.{Step}
 use Rattle.kt_core.specs.declared.step.Step.TheVariants.{Issue, Deliver, Serve}
 use Rattle.kt_core.specs.declared.step.StepError.{StepError}
 use Rattle.kt_core.specs.Step.{owner}
-use Rattle.kt_core.specs.State.{State}
-use Rattle.kt_core.specs.Effect.{step_result}
+use Rattle.kt_core.specs.Cast.{Cast, script_in, is_worker, is_shard}
+use Rattle.kt_core.specs.State.{State, Body, IsWorker, IsShard, node, body_of}
+use Rattle.kt_core.specs.Judge.{Hearer, NoHearer, worker_hearer, hearer_of, Found, Asks, Hears, Serves}
+use Rattle.kt_core.specs.Effect.{noted, step_result}
 use Rattle.kt_core.specs.Headline.{AppendsActOf}
-use Rattle.kt_core.proofs.PlanCases.{PlanOf, issues, hears, answers_again, ignores_request, misses_reply, accepts, ignores_reply, misses_request, serves}
-use Rattle.kt_core.proofs.Keeping.{step-plan}
+use Rattle.kt_core.specs.Reached.{IsReached}
+use Rattle.kt_core.proofs.Founds.{IsFound, asks, hears, serves}
+use Rattle.kt_core.proofs.Plans as plans
+use Rattle.kt_core.proofs.Plans.{PlanOf}
+use Rattle.kt_core.proofs.Peopled.{IsNode, a_worker, a_shard, IsPeopled, owner-is_node}
+use Rattle.kt_core.proofs.StepSound.{none_left}
+use Rattle.kt_core.proofs.Holding.{IsMade, step-made}
+use Rattle.kt_core.proofs.Opened.{reached-holds}
 
-own_note : (s : State) (step : Step) (plan : Plan) → PlanOf s step plan → plan.note.node ≡ owner step
-own_note s (Issue p) plan (issues at_p next few) = refl
-own_note s (Deliver p q) plan (hears at_p at_q on new few) = refl
-own_note s (Deliver p q) plan (answers_again at_p at_q on old kept few) = refl
-own_note s (Deliver p q) plan (ignores_request at_p at_q on old none few) = refl
-own_note s (Deliver p q) plan (misses_reply at_p at_q on few) = refl
-own_note s (Deliver p q) plan (accepts at_p at_q on awaited few) = refl
-own_note s (Deliver p q) plan (ignores_reply at_p at_q on other few) = refl
-own_note s (Deliver p q) plan (misses_request at_p at_q on few) = refl
-own_note s (Serve p w place) plan (serves at_p at_w waits chosen few) = refl
+-- the plan notes an act of the node
+record NotesAct (p : NodeId) (plan : Plan) : Type 0 where
+  act : Act
+  is : plan.note ≡ Some (notes.Act act)
+  own : act.node ≡ p
 
-one_note : (s new : State) (step : Step) → step_result s step ≡ Ok new → AppendsActOf (owner step) s.history new.history
-one_note s new step e =
-    let made = step-plan s new step e in
-    record { act = made.0.note; appended = ap (λ (x : State). x.history) (sym made.2); own = own_note s step made.0 made.1 }
+-- somebody hears what is sent to a node that is not down
+heard : (s : State) → IsPeopled s → (q : NodeId) → IsNode s.cast q → hearer_of (script_in s.cast q) (body_of (node s q)) ≡ NoHearer → ⊥
+heard s people q (a_worker worker) none = by (script_in s.cast q) worker (subst (λ row. hearer_of (script_in s.cast q) (body_of row) ≡ NoHearer) (people.worker q worker).1 none)
+  where
+    by : (o : Option (List Command)) → is_some o ≡ true → worker_hearer (people.worker q worker).0 o ≡ NoHearer → ⊥
+    by None there e = cc (there)
+    by (Some script) there e = cc (e)
+heard s people q (a_shard shard) none =
+    let e = subst (λ row. hearer_of (script_in s.cast q) (body_of row) ≡ NoHearer) (people.shard q shard).1 none in cc (e)
 
-pub one_note-if_made : {X : Type 0} (r : Result X StepError) (s new : State) (step : Step) → OnOk r (step_result s step ≡ Ok new) → OnOk r (AppendsActOf (owner step) s.history new.history)
-one_note-if_made (Ok x) s new step made = one_note s new step made
-one_note-if_made (Err refusal) s new step made = tt
+arrival-notes : (s : State) (p q : NodeId) (hearer : Hearer) (message : Message) (plan : Plan) → (hearer ≡ NoHearer → ⊥) → PlanOf s.cast.shards s.history q (Hears p hearer message) plan → NotesAct q plan
+arrival-notes s p q hearer message plan somebody plans.drops = absurd (somebody refl)
+arrival-notes s p q hearer message plan somebody plans.misses_request = record { act = _; is = refl; own = refl }
+arrival-notes s p q hearer message plan somebody (plans.accepts e) = record { act = _; is = refl; own = refl }
+arrival-notes s p q hearer message plan somebody (plans.ignores_reply e) = record { act = _; is = refl; own = refl }
+arrival-notes s p q hearer message plan somebody (plans.hears new) = record { act = _; is = refl; own = refl }
+arrival-notes s p q hearer message plan somebody (plans.answers_again old kept) = record { act = _; is = refl; own = refl }
+arrival-notes s p q hearer message plan somebody (plans.ignores_request old none) = record { act = _; is = refl; own = refl }
+arrival-notes s p q hearer message plan somebody plans.misses_reply = record { act = _; is = refl; own = refl }
+
+notes-act : (s : State) → IsPeopled s → (step : Step) (found : Found) (plan : Plan) → IsFound s step found → PlanOf s.cast.shards s.history (owner step) found plan → NotesAct (owner step) plan
+notes-act s people (Issue p) found plan (asks there at_p left) (plans.issues next) = record { act = _; is = refl; own = refl }
+notes-act s people (Issue p) found plan (asks there at_p left) (plans.idles none) = absurd (none_left _ none left)
+notes-act s people (Deliver p q) found plan (hears are on) of = arrival-notes s p q _ _ plan (heard s people q (owner-is_node s (Deliver p q) _ (hears are on))) of
+notes-act s people (Serve p w place) found plan (serves there other at_p waits chosen) plans.serves = record { act = _; is = refl; own = refl }
+
+one_note : (s new : State) (step : Step) → IsReached s → step_result s step ≡ Ok new → AppendsActOf (owner step) s.history new.history
+one_note s new step reached e =
+    let made = step-made s step new e in
+    let noted_act = notes-act s (reached-holds s reached).peopled step made.found made.plan made.is_found made.is_plan in record {
+      act = noted_act.act;
+      appended = ap (λ (x : State). x.history) (sym made.leads) ∙ ap (noted s.history) noted_act.is;
+      own = noted_act.own;
+    }
+
+pub one_note-if_made : {X : Type 0} (r : Result X StepError) (s new : State) (step : Step) → IsReached s → OnOk r (step_result s step ≡ Ok new) → OnOk r (AppendsActOf (owner step) s.history new.history)
+one_note-if_made (Ok x) s new step reached made = one_note s new step reached made
+one_note-if_made (Err refusal) s new step reached made = tt

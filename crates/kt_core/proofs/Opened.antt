@@ -1,124 +1,206 @@
--- The headline holds of every state that steps lead to from an opening.
-use Rattle.std.proofs.Common.{Option, None, Some, if◌then◌else◌, ◌≡◌, ℕ, zero, suc, ◌+◌, ◌*◌, ◌<◌, ◌≤◌, Bool, true, false, List, [], ◌∷◌, ◌++◌, length, replicate, nat_le, ◌⊎◌, inl, inr, refl, sym, ap, ◌∙◌, subst, length-append, le-leb, le_of_eq, arith}
-use Rattle.std.proofs.lemmas.Bool.{cases_lt, and_from}
+-- What every state keeps holds of a world that was just opened, and so of each state that steps lead to.
+use Rattle.std.proofs.Common.{Option, None, Some, if◌then◌else◌, ◌≡◌, ℕ, zero, suc, ◌+◌, ◌*◌, ◌<◌, ◌≤◌, Bool, true, false, ◌&&◌, List, [], ◌∷◌, ◌++◌, length, replicate, nat_le, Contains, ◌⊎◌, inl, inr, refl, sym, ap, ◌∙◌, subst, length-append, arith}
+use Rattle.std.proofs.lemmas.Bool.{cases_lt}
 use Rattle.std.proofs.lemmas.List.{get_or_past, get_or_append_left, get_or-append-add}
-use Rattle.std.specs.Prelude.{unwrap_or}
+use Rattle.std.proofs.lemmas.List.Sorted.{IsPermutation-refl}
+use Rattle.std.specs.Prelude.{unwrap_or, is_some, slice_get}
 use Rattle.kt_tuple.specs.declared.node.NodeId.{NodeId}
 use Rattle.kt_tuple.specs.declared.node.NodeId.TheVariants as ids
-use Rattle.kt_script.specs.declared.command.Command.{Command}
-use Rattle.kt_core.specs.Cast.{Cast, IsCast}
-use Rattle.kt_core.specs.State.{State, Part, Nobody, at, node}
-use Rattle.kt_core.specs.Desk.{empty_desk}
-use Rattle.kt_worker.specs.Standing.{opening_standing}
-use Rattle.kt_core.specs.Asks.{script_at}
-use Rattle.kt_core.specs.Reached.{is_among, worker_if, new_store, opening_worker, opening_store, opening_rows, opening, IsReached}
-use Rattle.kt_core.specs.Headline.{IsNothingLost, Headline}
+use Rattle.kt_tuple.specs.declared.tuple.Tuple.{Tuple}
+use Rattle.kt_tuple.specs.Node.{node_index}
 use Rattle.kt_history.specs.Closed.{acts_in_line}
-use Rattle.kt_core.specs.Workers.{WorkersFollowLines}
-use Rattle.kt_core.proofs.Sound.{IsPartLike}
-use Rattle.kt_core.proofs.Headlines.{HasGrounds, IsNewPart, new-kept, steps-kept, headline, nothing_lost}
+use Rattle.kt_history.proofs.Lists.{Contains-none}
+use Rattle.kt_history.proofs.Pasts.{CausesComeFirst-empty}
+use Rattle.kt_link.specs.Network.{entry_at}
+use Rattle.kt_script.specs.declared.command.Command.{Command}
+use Rattle.kt_worker.specs.declared.worker.Worker.{Worker}
+use Rattle.kt_worker.specs.Standing.{opening_standing}
+use Rattle.kt_worker.proofs.Requests.{opening-after}
+use Rattle.kt_core.specs.declared.node.Desk.{Desk}
+use Rattle.kt_core.specs.declared.node.Message.{Message}
+use Rattle.kt_core.specs.Limits.{rows, desks}
+use Rattle.kt_core.specs.Cast.{Cast, IsCast, script_at, script_in, is_among, is_worker, is_shard}
+use Rattle.kt_core.specs.Asks.{script_numbered, setting_of}
+use Rattle.kt_core.specs.State.{State, Body, IsWorker, IsShard, Node, Shard, at, node, link_place, body_of}
+use Rattle.kt_core.specs.Desk.{empty_desk}
+use Rattle.kt_core.specs.Legal.{AreLegal}
+use Rattle.kt_core.specs.ShardLine.{new_shard}
+use Rattle.kt_core.specs.WorkerLine.{new_worker}
+use Rattle.kt_core.specs.Ready.{IsOfKind, IsReady}
+use Rattle.kt_core.specs.Reached.{row_of, worker_if, empty_shard, opening_worker, opening_shard, opening_rows, opening, IsReached}
+use Rattle.kt_core.proofs.Growth.{AreLegal-empty, acts_in_line-empty}
+use Rattle.kt_core.proofs.WellFormed.{IsWellFormed-empty, HasNoCut-empty}
+use Rattle.kt_core.proofs.Sound.{IsBodyLike, IsWorkerLike, IsSound}
+use Rattle.kt_core.proofs.Peopled.{IsNode, a_worker, a_shard, IsPeopled}
+use Rattle.kt_core.proofs.CanApplies.{worker-small, node-row}
+use Rattle.kt_core.proofs.Holding.{Holds, steps-hold}
+
+-- ---- tables
 
 -- a table of one value has it everywhere
-pub at-replicate : {A : Type 0} (d : A) (n k : ℕ) → at d (replicate n d) k ≡ d
+at-replicate : {A : Type 0} (d : A) (n k : ℕ) → at d (replicate n d) k ≡ d
 at-replicate d zero k = refl
 at-replicate d (suc n) zero = refl
 at-replicate d (suc n) (suc k) = at-replicate d n k
 
-length-opening_rows : (scripts : List (List Command)) (shards n : ℕ) → length (opening_rows scripts shards n) ≡ 2 * n
+length-replicate : {A : Type 0} (n : ℕ) (x : A) → length (replicate n x) ≡ n
+length-replicate zero x = refl
+length-replicate (suc n) x = ap suc (length-replicate n x)
+
+length-opening_rows : (cast : Cast) (n : ℕ) → length (opening_rows cast n) ≡ 2 * n
 unfolding opening_rows
-length-opening_rows scripts shards zero = refl
-length-opening_rows scripts shards (suc n) =
-    omega (arith, length-append (opening_rows scripts shards n) (opening_worker scripts n ∷ opening_store shards n ∷ []), length-opening_rows scripts shards n)
+length-opening_rows cast zero = refl
+length-opening_rows cast (suc n) =
+    omega (arith, length-append (opening_rows cast n) (opening_worker cast.scripts n ∷ opening_shard cast.shards n ∷ []), length-opening_rows cast n)
 
 -- the rows of the worker and of the shard with the number k
-pub worker_row : (scripts : List (List Command)) (shards n k : ℕ) → k < n → at Nobody (opening_rows scripts shards n) (2 * k) ≡ opening_worker scripts k
+worker_row : (cast : Cast) (n k : ℕ) → k < n → at None (opening_rows cast n) (2 * k) ≡ opening_worker cast.scripts k
 unfolding opening_rows
-worker_row scripts shards zero k below = absurd (omega (arith, below))
-worker_row scripts shards (suc n) k below = by (cases_lt k n) (λ less. worker_row scripts shards n k less)
+worker_row cast zero k below = absurd (omega (arith, below))
+worker_row cast (suc n) k below = by (cases_lt k n) (λ less. worker_row cast n k less)
   where
-    two : List Part
-    two = opening_worker scripts n ∷ opening_store shards n ∷ []
+    two : List (Option Node)
+    two = opening_worker cast.scripts n ∷ opening_shard cast.shards n ∷ []
 
-    long : length (opening_rows scripts shards n) ≡ 2 * n
-    long = length-opening_rows scripts shards n
+    long : length (opening_rows cast n) ≡ 2 * n
+    long = length-opening_rows cast n
 
-    by : (k < n) ⊎ (n ≤ k) → (k < n → at Nobody (opening_rows scripts shards n) (2 * k) ≡ opening_worker scripts k) → at Nobody (opening_rows scripts shards n ++ two) (2 * k) ≡ opening_worker scripts k
-    by (inl less) before = get_or_append_left (opening_rows scripts shards n) two Nobody (2 * k) (omega (arith, less, long)) ∙ before less
+    by : (k < n) ⊎ (n ≤ k) → (k < n → at None (opening_rows cast n) (2 * k) ≡ opening_worker cast.scripts k) → at None (opening_rows cast n ++ two) (2 * k) ≡ opening_worker cast.scripts k
+    by (inl less) before = get_or_append_left (opening_rows cast n) two None (2 * k) (omega (arith, less, long)) ∙ before less
     by (inr more) before =
         let same : n ≡ k = omega (arith, below, more) in
-        let place : 2 * k ≡ length (opening_rows scripts shards n) + 0 = omega (arith, long, same) in
-        ap (at Nobody (opening_rows scripts shards n ++ two)) place ∙ get_or-append-add (opening_rows scripts shards n) two 0 Nobody ∙ ap (opening_worker scripts) same
+        let place : 2 * k ≡ length (opening_rows cast n) + 0 = omega (arith, long, same) in
+        ap (at None (opening_rows cast n ++ two)) place ∙ get_or-append-add (opening_rows cast n) two 0 None ∙ ap (opening_worker cast.scripts) same
 
-pub store_row : (scripts : List (List Command)) (shards n k : ℕ) → k < n → at Nobody (opening_rows scripts shards n) (2 * k + 1) ≡ opening_store shards k
+shard_row : (cast : Cast) (n k : ℕ) → k < n → at None (opening_rows cast n) (2 * k + 1) ≡ opening_shard cast.shards k
 unfolding opening_rows
-store_row scripts shards zero k below = absurd (omega (arith, below))
-store_row scripts shards (suc n) k below = by (cases_lt k n) (λ less. store_row scripts shards n k less)
+shard_row cast zero k below = absurd (omega (arith, below))
+shard_row cast (suc n) k below = by (cases_lt k n) (λ less. shard_row cast n k less)
   where
-    two : List Part
-    two = opening_worker scripts n ∷ opening_store shards n ∷ []
+    two : List (Option Node)
+    two = opening_worker cast.scripts n ∷ opening_shard cast.shards n ∷ []
 
-    long : length (opening_rows scripts shards n) ≡ 2 * n
-    long = length-opening_rows scripts shards n
+    long : length (opening_rows cast n) ≡ 2 * n
+    long = length-opening_rows cast n
 
-    by : (k < n) ⊎ (n ≤ k) → (k < n → at Nobody (opening_rows scripts shards n) (2 * k + 1) ≡ opening_store shards k) → at Nobody (opening_rows scripts shards n ++ two) (2 * k + 1) ≡ opening_store shards k
-    by (inl less) before = get_or_append_left (opening_rows scripts shards n) two Nobody (2 * k + 1) (omega (arith, less, long)) ∙ before less
+    by : (k < n) ⊎ (n ≤ k) → (k < n → at None (opening_rows cast n) (2 * k + 1) ≡ opening_shard cast.shards k) → at None (opening_rows cast n ++ two) (2 * k + 1) ≡ opening_shard cast.shards k
+    by (inl less) before = get_or_append_left (opening_rows cast n) two None (2 * k + 1) (omega (arith, less, long)) ∙ before less
     by (inr more) before =
         let same : n ≡ k = omega (arith, below, more) in
-        let place : 2 * k + 1 ≡ length (opening_rows scripts shards n) + 1 = omega (arith, long, same) in
-        ap (at Nobody (opening_rows scripts shards n ++ two)) place ∙ get_or-append-add (opening_rows scripts shards n) two 1 Nobody ∙ ap (opening_store shards) same
+        let place : 2 * k + 1 ≡ length (opening_rows cast n) + 1 = omega (arith, long, same) in
+        ap (at None (opening_rows cast n ++ two)) place ∙ get_or-append-add (opening_rows cast n) two 1 None ∙ ap (opening_shard cast.shards) same
 
 -- rows past the table are empty
-pub past_rows : (scripts : List (List Command)) (shards n k : ℕ) → 2 * n ≤ k → at Nobody (opening_rows scripts shards n) k ≡ Nobody
-past_rows scripts shards n k past = get_or_past (opening_rows scripts shards n) k Nobody (omega (arith, past, length-opening_rows scripts shards n))
+past_rows : (cast : Cast) (k : ℕ) → rows ≤ k → at None (opening_rows cast desks) k ≡ None
+past_rows cast k past = get_or_past (opening_rows cast desks) k None (omega (arith, past, length-opening_rows cast desks))
 
-new_worker-part : (scripts : List (List Command)) (w : ℕ) → IsNewPart scripts (ids.Worker w) (opening_worker scripts w)
-new_worker-part scripts w = by (script_at scripts w) refl
-  where
-    by : (o : Option (List Command)) → script_at scripts w ≡ o → IsNewPart scripts (ids.Worker w) (worker_if o)
-    by None e = tt
-    by (Some script) e = ap (λ o. opening_standing (unwrap_or o [])) e
+-- ---- nodes
 
-new_store-part : (scripts : List (List Command)) (count r : ℕ) → IsNewPart scripts (ids.Shard r) (opening_store count r)
-new_store-part scripts count r = by (is_among count r)
-  where
-    by : (b : Bool) → IsNewPart scripts (ids.Shard r) (if b then new_store else Nobody)
-    by true = (refl, λ w. at-replicate empty_desk 9 w)
-    by false = tt
+-- the row of a node, or of what is none
+opening-worker : (cast : Cast) (w : ℕ) → w < desks → node (opening cast) (ids.Worker w) ≡ opening_worker cast.scripts w
+opening-worker cast w below = worker_row cast desks w below
 
-new_parts : (cast : Cast) (p : NodeId) → IsNewPart cast.scripts p (node (opening cast) p)
-new_parts cast (ids.Worker w) = elim (cases_lt w 9) [
-  | inl below ↦ subst (IsNewPart cast.scripts (ids.Worker w)) (sym (worker_row cast.scripts cast.shards 9 w below)) (new_worker-part cast.scripts w)
-  | inr past ↦ subst (IsNewPart cast.scripts (ids.Worker w)) (sym (past_rows cast.scripts cast.shards 9 (2 * w) (omega (arith, past)))) tt
+opening-shard : (cast : Cast) (r : ℕ) → r < desks → node (opening cast) (ids.Shard r) ≡ opening_shard cast.shards r
+opening-shard cast r below = shard_row cast desks r below
+
+-- a worker that asked nothing, and a shard with no tuples and empty desks, are like their empty lines
+worker-new : (scripts : List (List Command)) (w : ℕ) (o : Option (List Command)) → script_at scripts w ≡ o → IsBodyLike scripts (ids.Worker w) [] (body_of (worker_if o))
+worker-new scripts w None e = tt
+worker-new scripts w (Some script) e =
+    let own : script_numbered scripts w ≡ script = ap (λ (o : Option (List Command)). unwrap_or o []) e in
+    let Like : List Command → Type 0 = λ l. IsWorkerLike l new_worker (opening_standing script) in
+    subst Like (sym own) (record { asked = refl; after = opening-after script })
+
+shard-new : (scripts : List (List Command)) (shards r : ℕ) (b : Bool) → IsBodyLike scripts (ids.Shard r) [] (body_of (if b then empty_shard else None))
+shard-new scripts shards r true = record { bag = IsPermutation-refl []; desks = λ w. at-replicate empty_desk desks w }
+shard-new scripts shards r false = tt
+
+worker-kind : (w : ℕ) (o : Option (List Command)) → IsOfKind (ids.Worker w) (body_of (worker_if o))
+worker-kind w None = tt
+worker-kind w (Some script) = tt
+
+shard-kind : (r : ℕ) (b : Bool) → IsOfKind (ids.Shard r) (body_of (if b then empty_shard else None))
+shard-kind r true = length-replicate {A = Desk} desks empty_desk
+shard-kind r false = tt
+
+-- what holds of the rows of workers and shards as they open, and of an empty row, holds of each node's
+opening-node : (cast : Cast) (P : NodeId → Option Node → Type 0) → ((w : ℕ) → P (ids.Worker w) (opening_worker cast.scripts w)) → ((r : ℕ) → P (ids.Shard r) (opening_shard cast.shards r))
+    → ((p : NodeId) → P p None) → (p : NodeId) → P p (node (opening cast) p)
+opening-node cast P worker shard none (ids.Worker w) = elim (cases_lt w desks) [
+  | inl below ↦ subst (P (ids.Worker w)) (sym (opening-worker cast w below)) (worker w)
+  | inr past ↦ subst (P (ids.Worker w)) (sym (past_rows cast (2 * w) (omega (arith, past)))) (none (ids.Worker w))
 ]
-new_parts cast (ids.Shard r) = elim (cases_lt r 9) [
-  | inl below ↦ subst (IsNewPart cast.scripts (ids.Shard r)) (sym (store_row cast.scripts cast.shards 9 r below)) (new_store-part cast.scripts cast.shards r)
-  | inr past ↦ subst (IsNewPart cast.scripts (ids.Shard r)) (sym (past_rows cast.scripts cast.shards 9 (2 * r + 1) (omega (arith, past)))) tt
+opening-node cast P worker shard none (ids.Shard r) = elim (cases_lt r desks) [
+  | inl below ↦ subst (P (ids.Shard r)) (sym (opening-shard cast r below)) (shard r)
+  | inr past ↦ subst (P (ids.Shard r)) (sym (past_rows cast (2 * r + 1) (omega (arith, past)))) (none (ids.Shard r))
 ]
 
-pub opening-kept : (cast : Cast) → IsCast cast → HasGrounds (opening cast)
-opening-kept cast is =
-    new-kept (opening cast) refl (λ k. at-replicate [] 324 k) (new_parts cast)
-    (record { rows_within = le_of_eq (length-opening_rows cast.scripts cast.shards 9); first_row = worker_row cast.scripts cast.shards 9 0 (omega arith); some_shards = is.some_shards; few_shards = is.few_shards })
-    (record {
-      store = λ r from below. record { bag = []; desks = replicate 9 empty_desk };
-      is = λ r from below.
-          store_row cast.scripts cast.shards 9 r (omega (arith, below, is.few_shards))
-          ∙ ap (λ b. if b then new_store else Nobody) (and_from (nat_le 1 r) (nat_le r cast.shards) (le-leb 1 r from) (le-leb r cast.shards below));
-    })
+opening-like : (cast : Cast) (p : NodeId) → IsBodyLike cast.scripts p [] (body_of (node (opening cast) p))
+opening-like cast = opening-node cast (λ p row. IsBodyLike cast.scripts p [] (body_of row)) (λ w. worker-new cast.scripts w (script_at cast.scripts w) refl) (λ r. shard-new cast.scripts cast.shards r (is_among cast.shards r))
+    (λ p. tt)
 
-pub reached-kept : (s : State) → IsReached s → HasGrounds s
-reached-kept s r = subst HasGrounds r.leads (steps-kept (opening r.cast) (opening-kept r.cast r.is_cast) r.steps)
+opening-kinds : (cast : Cast) (p : NodeId) → IsOfKind p (body_of (node (opening cast) p))
+opening-kinds cast = opening-node cast (λ p row. IsOfKind p (body_of row)) (λ w. worker-kind w (script_at cast.scripts w)) (λ r. shard-kind r (is_among cast.shards r)) (λ p. tt)
 
--- the headline, of each state that steps lead to
-pub headline-reached : (s : State) → IsReached s → Headline s
-headline-reached s r = let k = reached-kept s r in headline s k.sound k.bounds k.shards
+-- just the nodes of the scene have a row
+opening-others : (cast : Cast) (p : NodeId) → ¬ IsNode cast p → node (opening cast) p ≡ None
+opening-others cast = opening-node cast (λ p row. ¬ IsNode cast p → row ≡ None) (λ w none. worker w none (script_at cast.scripts w) refl) (λ r none. shard r none (is_among cast.shards r) refl) (λ p none. refl)
+  where
+    worker : (w : ℕ) → ¬ IsNode cast (ids.Worker w) → (o : Option (List Command)) → script_at cast.scripts w ≡ o → worker_if o ≡ None
+    worker w none None e = refl
+    worker w none (Some script) e = absurd (none (a_worker (ap is_some e)))
 
--- and as yet nothing is lost there
-pub nothing_lost-reached : (s : State) → IsReached s → IsNothingLost s.history
-nothing_lost-reached s r = nothing_lost s (reached-kept s r)
+    shard : (r : ℕ) → ¬ IsNode cast (ids.Shard r) → (b : Bool) → is_among cast.shards r ≡ b → (if b then empty_shard else None) ≡ None
+    shard r none true e = absurd (none (a_shard e))
+    shard r none false e = refl
 
--- each worker stands as its line says
-pub workers-reached : (s : State) → IsReached s → WorkersFollowLines s
-workers-reached s r w x e =
-    let like = subst (IsPartLike s.scripts (ids.Worker w) (acts_in_line s.history (ids.Worker w))) e ((reached-kept s r).sound.like (ids.Worker w)) in
-    (like.asked, like.after)
+opening-peopled : (cast : Cast) → IsCast cast → IsPeopled (opening cast)
+opening-peopled cast is = record { worker = worker; shard = shard; others = opening-others cast; idle = λ p none. at-replicate {A = ℕ} 0 rows (node_index p) }
+  where
+    there : (o : Option (List Command)) → is_some o ≡ true → (script : List Command) × (worker_if o ≡ row_of (IsWorker (opening_standing script)))
+    there None e = absurd cc
+    there (Some script) e = (script, refl)
+
+    worker : (p : NodeId) → is_worker cast p ≡ true → (x : Worker) × (node (opening cast) p ≡ row_of (IsWorker x))
+    worker (ids.Shard n) e = absurd cc
+    worker (ids.Worker w) e = let row = there (script_at cast.scripts w) e in (opening_standing row.0, opening-worker cast w (worker-small cast is (ids.Worker w) e) ∙ row.1)
+
+    shard : (p : NodeId) → is_shard cast p ≡ true → (y : Shard) × (node (opening cast) p ≡ row_of (IsShard y))
+    shard (ids.Worker n) e = absurd cc
+    shard (ids.Shard r) e =
+        let small = node-row cast is (ids.Shard r) (a_shard e) in
+        (record { bag = []; desks = replicate desks empty_desk }, opening-shard cast r (omega (arith, small)) ∙ ap (λ (b : Bool). if b then empty_shard else None) e)
+
+-- ---- the opening
+
+-- nothing is on its way in a new world
+no_messages : (n : ℕ) (k : Option ℕ) (m : Message) → Contains (entry_at [] (replicate n []) k) m → ⊥
+no_messages n None m c = Contains-none m c
+no_messages n (Some k) m c = Contains-none m (subst (λ (l : List Message). Contains l m) (at-replicate {A = List Message} [] n k) c)
+
+opening-ready : (cast : Cast) → IsCast cast → IsReady (opening cast)
+opening-ready cast is = record {
+  cast = is;
+  rows = length-opening_rows cast desks;
+  counts = length-replicate {A = ℕ} rows 0;
+  bodies = opening-kinds cast;
+  few_steps = omega arith;
+  few_own = λ k. let h = at-replicate {A = ℕ} 0 rows k in omega (arith, h);
+  few_notes = omega arith;
+  causes = CausesComeFirst-empty;
+  messages = λ k m on. absurd (no_messages _ (Some k) m on);
+}
+
+opening-sound : (cast : Cast) → IsSound (opening cast)
+opening-sound cast = record {
+  legal = AreLegal-empty (setting_of cast);
+  well_formed = IsWellFormed-empty;
+  like = λ p. subst (λ l. IsBodyLike cast.scripts p l (body_of (node (opening cast) p))) (sym (acts_in_line-empty p)) (opening-like cast p);
+  carries = λ p q m on. absurd (no_messages _ (link_place cast p q) m on);
+}
+
+pub opening-holds : (cast : Cast) → IsCast cast → Holds (opening cast)
+opening-holds cast is = record { ready = opening-ready cast is; sound = opening-sound cast; peopled = opening-peopled cast is; no_cut = HasNoCut-empty }
+
+pub reached-holds : (s : State) → IsReached s → Holds s
+reached-holds s r = subst Holds r.leads (steps-hold (opening r.cast) r.steps (opening-holds r.cast r.is_cast))

@@ -1,24 +1,24 @@
 -- The table of nodes of a world that was just opened, row by row.
-use Rattle.std.proofs.Common.{◌≡◌, ℕ, ◌+◌, List, [], ◌∷◌, ◌++◌, map, sym, ap, ◌∙◌, append_assoc, add-one}
+use Rattle.std.proofs.Common.{◌≡◌, ℕ, Option, ◌+◌, List, [], ◌∷◌, ◌++◌, map, sym, ap, ◌∙◌, append_assoc, add-one}
 use Rattle.std.proofs.lemmas.List.{map-append}
-use Rattle.kt_script.specs.declared.command.Command.{Command}
 use Rattle.kt_core.specs.declared.node.Node.{Node}
-use Rattle.kt_core.specs.State.{Part, part_of}
-use Rattle.kt_core.specs.Reached.{opening_rows, opening_worker, opening_store}
+use Rattle.kt_core.specs.Cast.{Cast}
+use Rattle.kt_core.specs.State.{Node as Row, row_view}
+use Rattle.kt_core.specs.Reached.{opening_rows, opening_worker, opening_shard}
 
-pub no_rows : (nodes : List Node) (scripts : List (List Command)) (shards : ℕ) → nodes ≡ [] → map part_of nodes ≡ opening_rows scripts shards 0
+pub no_rows : (nodes : List (Option Node)) (cast : Cast) → nodes ≡ [] → map row_view nodes ≡ opening_rows cast 0
 unfolding opening_rows
-no_rows nodes scripts shards e = ap (map part_of) e
+no_rows nodes cast e = ap (map row_view) e
 
 -- two rows more
-pub more_rows : (nodes once twice : List Node) (worker store : Node) (scripts : List (List Command)) (shards n : ℕ) → map part_of nodes ≡ opening_rows scripts shards n → once ≡ nodes ++ worker ∷ [] → twice ≡ once ++ store ∷ []
-    → part_of worker ≡ opening_worker scripts n → part_of store ≡ opening_store shards n → map part_of twice ≡ opening_rows scripts shards (n + 1)
+pub more_rows : (nodes once twice : List (Option Node)) (worker shard : Option Node) (cast : Cast) (n : ℕ) → map row_view nodes ≡ opening_rows cast n → once ≡ nodes ++ worker ∷ [] → twice ≡ once ++ shard ∷ []
+    → row_view worker ≡ opening_worker cast.scripts n → row_view shard ≡ opening_shard cast.shards n → map row_view twice ≡ opening_rows cast (n + 1)
 unfolding opening_rows
-more_rows nodes once twice worker store scripts shards n so_far first second w s =
-    let shown : twice ≡ nodes ++ worker ∷ store ∷ [] = second ∙ ap (λ (l : List Node). l ++ store ∷ []) first ∙ append_assoc nodes (worker ∷ []) (store ∷ []) in
-    ap (map part_of) shown
-    ∙ map-append part_of nodes (worker ∷ store ∷ [])
-    ∙ ap (λ (l : List Part). l ++ part_of worker ∷ part_of store ∷ []) so_far
-    ∙ ap (λ (p : Part). opening_rows scripts shards n ++ p ∷ part_of store ∷ []) w
-    ∙ ap (λ (p : Part). opening_rows scripts shards n ++ opening_worker scripts n ∷ p ∷ []) s
-    ∙ ap (opening_rows scripts shards) (sym (add-one n))
+more_rows nodes once twice worker shard cast n so_far first second w s =
+    let shown : twice ≡ nodes ++ worker ∷ shard ∷ [] = second ∙ ap (λ (l : List (Option Node)). l ++ shard ∷ []) first ∙ append_assoc nodes (worker ∷ []) (shard ∷ []) in
+    ap (map row_view) shown
+    ∙ map-append row_view nodes (worker ∷ shard ∷ [])
+    ∙ ap (λ (l : List (Option Row)). l ++ row_view worker ∷ row_view shard ∷ []) so_far
+    ∙ ap (λ (p : Option Row). opening_rows cast n ++ p ∷ row_view shard ∷ []) w
+    ∙ ap (λ (p : Option Row). opening_rows cast n ++ opening_worker cast.scripts n ∷ p ∷ []) s
+    ∙ ap (opening_rows cast) (sym (add-one n))

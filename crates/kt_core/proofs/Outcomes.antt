@@ -9,3 +9,7 @@ on_err (Err e) P p = p
 pub on_ok : {X E : Type 0} (r : Result X E) (P : Type 0) → P → OnOk r P
 on_ok (Ok x) P p = p
 on_ok (Err e) P p = tt
+
+pub on_ok-map : {X E P Q : Type 0} (r : Result X E) → OnOk r P → (P → Q) → OnOk r Q
+on_ok-map (Ok x) p f = f p
+on_ok-map (Err e) p f = tt

@@ -12,7 +12,7 @@ use Rattle.kt_core.specs.Reached.{IsReached}
 use Rattle.kt_core.specs.Hearing.{WasHeardFor}
 use Rattle.kt_core.specs.ShardLine.{MadeShard, ShardMay, ShardMakes, ShardLine, shard_after, shard_of_acts, new_shard, request_of}
 use Rattle.kt_core.proofs.Traces.{WasHeard, waits_heard}
-use Rattle.kt_core.proofs.Opened.{reached-kept}
+use Rattle.kt_core.proofs.Opened.{reached-holds}
 
 -- an act of a line is one that the acts before it allow
 line-act : (shards s : ℕ) (x : MadeShard) (before : List Act) (a : Act) (later : List Act) → ShardLine shards s x (before ++ a ∷ later) → ShardMakes shards s (shard_of_acts x before) a
@@ -31,10 +31,10 @@ for_request acts a cause h e = record {
 pub service_heard : (s : State) → IsReached s → (r : ℕ) (before : List Act) (a : Act) (later : List Act) (answer : Answer) → acts_in_line s.history (Shard r) ≡ before ++ a ∷ later → a.what ≡ Served answer
     → WasHeardFor before a
 service_heard s reached r before a later answer split served =
-    let grounds = reached-kept s reached in
+    let grounds = reached-holds s reached in
     let x = shard_of_acts new_shard before in
-    let Line : List Act → Type 0 = ShardLine s.shards r new_shard in
-    let makes = line-act s.shards r new_shard before a later (subst Line split (grounds.sound.legal (Shard r))) in
+    let Line : List Act → Type 0 = ShardLine s.cast.shards r new_shard in
+    let makes = line-act s.cast.shards r new_shard before a later (subst Line split (grounds.sound.legal (Shard r))) in
     let May : What → Type 0 = ShardMay x.bag (x.desk a.worker) (x.cause a.worker) a in
     let may = subst May served makes.1 in
     for_request before a (x.cause a.worker) (waits_heard before a.worker (request_of a) may.0) may.1

@@ -4,7 +4,6 @@ use Rattle.std.proofs.lemmas.Bool.{and_parts, and_from}
 use Rattle.kt_tuple.specs.declared.node.NodeId.TheVariants as ids
 use Rattle.kt_tuple.specs.declared.tuple.Tuple.{Tuple}
 use Rattle.kt_tuple.specs.declared.op.Answer.{Answer}
-use Rattle.kt_tuple.specs.Node.{node_index}
 use Rattle.kt_tuple.specs.Op.{op_eq, op_eq_decides}
 use Rattle.kt_tuple.specs.Signature.{kinds_of_op, shard_of}
 use Rattle.kt_history.specs.declared.note.What.TheVariants as whats
@@ -17,12 +16,15 @@ use Rattle.kt_history.specs.WellFormed.{HeardRequest, WasServed, ActFits, IsWell
 use Rattle.kt_core.specs.declared.node.Request.{Request}
 use Rattle.kt_core.specs.declared.node.Kept.{Kept}
 use Rattle.kt_core.specs.declared.node.Desk.{Desk}
+use Rattle.kt_core.specs.declared.node.Message.TheVariants as messages
+use Rattle.kt_core.specs.declared.node.Change.TheVariants as changes
 use Rattle.kt_core.specs.declared.choice.Choice.{Choice}
-use Rattle.kt_core.specs.State.{Store, IsStore, at, put}
+use Rattle.kt_core.specs.State.{Shard, IsShard, at, put}
 use Rattle.kt_core.specs.Desk.{empty_desk, newest, same_request, answer_if_kept, answer_unless_waiting, kept_answer}
 use Rattle.kt_core.specs.Choice.{choice_of, answer_of, bag_change_of}
-use Rattle.kt_core.specs.Plan.{act_of, heard_plan, again_plan, ignored_plan, old_request_plan, request_plan, service_plan}
-use Rattle.kt_core.specs.Effect.{bag_after, cause_of_waiting, waiting_store, served_store}
+use Rattle.kt_core.specs.Plan.{act_of, heard_plan, again_plan, ignored_plan, service_plan}
+use Rattle.kt_core.specs.Effect.{changed_bag, waiting_shard, served_shard}
+use Rattle.kt_core.specs.Cause.{cause_of_waiting}
 use Rattle.kt_core.specs.Cast.{Cast}
 use Rattle.kt_core.specs.Asks.{setting_of}
 use Rattle.kt_core.specs.Legal.{AreLegal}
@@ -34,14 +36,14 @@ use Rattle.kt_core.proofs.Choices.{choice_step}
 use Rattle.kt_core.proofs.Traces.{WasHeard, waits_heard, ServedIn, keeps_served, ShardLine-home, Contains-acts_at, cause_found}
 use Rattle.kt_core.proofs.Causes.{before_at}
 use Rattle.kt_core.proofs.Growth.{shard_of_acts-push}
-use Rattle.kt_core.proofs.Sound.{rows, IsStoreLike, IsAskOf, Keeps, note_at-next}
+use Rattle.kt_core.proofs.Sound.{IsShardLike, IsRequestOf, Keeps, act_keeps, note_at-next}
 
 -- what the shard's acts make of it
 abbrev made_of : List Note → ℕ → MadeShard
 made_of h s = shard_of_acts new_shard (acts_in_line h (ids.Shard s))
 
-like-push : (acts : List Act) (a : Act) (y : Store) → IsStoreLike (shard_after (shard_of_acts new_shard acts) a) y → IsStoreLike (shard_of_acts new_shard (acts ++ a ∷ [])) y
-like-push acts a y like = subst (λ m. IsStoreLike m y) (sym (shard_of_acts-push new_shard acts a)) like
+like-push : (acts : List Act) (a : Act) (y : Shard) → IsShardLike (shard_after (shard_of_acts new_shard acts) a) y → IsShardLike (shard_of_acts new_shard (acts ++ a ∷ [])) y
+like-push acts a y like = subst (λ m. IsShardLike m y) (sym (shard_of_acts-push new_shard acts a)) like
 
 -- a desk put into both tables leaves them alike
 desks_like : (desks : List Desk) (made : ℕ → Desk) (w : ℕ) (desk new : Desk) → ((v : ℕ) → at empty_desk desks v ≡ made v) → desk ≡ new →
@@ -55,7 +57,7 @@ desks_stay : (desks : List Desk) (made : ℕ → Desk) (w : ℕ) → ((v : ℕ) 
 desks_stay desks made w like = put_row_holds (λ v z. at empty_desk desks v ≡ z) w (made w) made (like w) (λ v d. like v)
 
 -- the test of answering again
-kept_answer-is : (d : Desk) (request : Request) (answer : Answer) → kept_answer d request ≡ Some answer → AnswersAgain request answer d
+pub kept_answer-is : (d : Desk) (request : Request) (answer : Answer) → kept_answer d request ≡ Some answer → AnswersAgain request answer d
 kept_answer-is d request answer = by d.waiting d.kept
   where
     same : (kept : Kept) → (if same_request kept.request request then Some kept.answer else None) ≡ Some answer → Some kept ≡ Some (record { request = request; answer = answer })
@@ -75,7 +77,7 @@ kept_answer-is d request answer = by d.waiting d.kept
     by None (Some kept) e = (refl, same kept e)
     by (Some other) kept e = absurd cc
 
-kept_answer-none : (d : Desk) (request : Request) → kept_answer d request ≡ None → (answer : Answer) → ¬ AnswersAgain request answer d
+pub kept_answer-none : (d : Desk) (request : Request) → kept_answer d request ≡ None → (answer : Answer) → ¬ AnswersAgain request answer d
 kept_answer-none d request none answer h = absurd (by d.waiting d.kept h.0 h.1 none)
   where
     itself : same_request request request ≡ true
@@ -90,7 +92,7 @@ kept_answer-none d request none answer h = absurd (by d.waiting d.kept h.0 h.1 n
     by (Some other) kept w k e = cc (w)
 
 -- what was heard was asked for
-heard_request : (shards : ℕ) (h : List Note) (w s : ℕ) (request : Request) (by : ℕ) (a : Act) → IsAskOf shards h w s request by → a.by ≡ by → a.worker ≡ w → a.number ≡ request.number → a.op ≡ request.op → HeardRequest h a
+heard_request : (shards : ℕ) (h : List Note) (w s : ℕ) (request : Request) (by : ℕ) (a : Act) → IsRequestOf shards h w s request by → a.by ≡ by → a.worker ≡ w → a.number ≡ request.number → a.op ≡ request.op → HeardRequest h a
 heard_request shards h w s request by a m cause worker number op = record {
   cause = m.act;
   is_cause = subst (λ n. note_at h n ≡ Some (notes.Act m.act)) (sym cause) m.is_act;
@@ -98,20 +100,20 @@ heard_request shards h w s request by a m cause worker number op = record {
   same = record { worker = m.worker ∙ sym worker; number = m.number ∙ sym number; op = m.op ∙ sym op };
 }
 
-heard_keeps : (cast : Cast) (h : List Note) (w s : ℕ) (y : Store) (request : Request) (by : ℕ) → IsStoreLike (made_of h s) y → IsAskOf cast.shards h w s request by →
-    newest (at empty_desk y.desks w) < request.number → Keeps cast h (ids.Shard s) (IsStore y) (heard_plan (ids.Shard s) w request by)
+pub heard_keeps : (cast : Cast) (h : List Note) (w s : ℕ) (y : Shard) (request : Request) (by : ℕ) → IsShardLike (made_of h s) y → IsRequestOf cast.shards h w s request by →
+    newest (at empty_desk y.desks w) < request.number → Keeps cast h (ids.Shard s) (Some (IsShard y)) (heard_plan (ids.Shard s) w request by)
 heard_keeps cast h w s y request by like m new =
     let made : MadeShard = made_of h s in
-    let a : Act = act_of (ids.Shard s) by w request whats.Heard in record {
+    let a : Act = act_of (ids.Shard s) by w request whats.Heard in act_keeps cast h (ids.Shard s) (IsShard y) (changes.Wait w request) [] a (record {
       own = refl;
       may = (m.home, subst (Hears request.number) (like.desks w) new);
       fits = heard_request cast.shards h w s request by a m refl refl refl refl;
-      like = like-push (acts_in_line h (ids.Shard s)) a (waiting_store y w request) (record {
+      like = like-push (acts_in_line h (ids.Shard s)) a (waiting_shard y w request) (record {
         bag = like.bag;
         desks = desks_like y.desks made.desk w (record { waiting = Some request; kept = (at empty_desk y.desks w).kept }) (record { waiting = Some request; kept = (made.desk w).kept }) like.desks (ap (λ (d : Desk). record { waiting = Some request; kept = d.kept }) (like.desks w));
       });
       sends = tt;
-    }
+    })
 
 -- what is kept was served, and that stands in the line
 was_served : (h : List Note) (w s : ℕ) (request : Request) (answer : Answer) (a : Act) → AnswersAgain request answer ((made_of h s).desk w) → a.node ≡ ids.Shard s → a.worker ≡ w → a.number ≡ request.number → a.op ≡ request.op → WasServed h a answer
@@ -126,46 +128,30 @@ was_served h w s request answer a again node worker number op =
       same = record { worker = kept.worker ∙ sym worker; number = ap (λ (r : Request). r.number) kept.about ∙ sym number; op = ap (λ (r : Request). r.op) kept.about ∙ sym op };
     }
 
-again_keeps : (cast : Cast) (h : List Note) (w s : ℕ) (y : Store) (request : Request) (answer : Answer) (by : ℕ) → IsStoreLike (made_of h s) y → IsAskOf cast.shards h w s request by → node_index (ids.Worker w) < rows →
-    AnswersAgain request answer (at empty_desk y.desks w) → Keeps cast h (ids.Shard s) (IsStore y) (again_plan (ids.Shard s) w request by answer (length h + 1))
-again_keeps cast h w s y request answer by like m row again =
+pub again_keeps : (cast : Cast) (h : List Note) (w s : ℕ) (y : Shard) (request : Request) (answer : Answer) (by : ℕ) → IsShardLike (made_of h s) y → IsRequestOf cast.shards h w s request by →
+    AnswersAgain request answer (at empty_desk y.desks w) → Keeps cast h (ids.Shard s) (Some (IsShard y)) (again_plan (ids.Shard s) w request by answer (length h + 1))
+again_keeps cast h w s y request answer by like m again =
     let made : MadeShard = made_of h s in
     let known : AnswersAgain request answer (made.desk w) = subst (AnswersAgain request answer) (like.desks w) again in
-    let a : Act = act_of (ids.Shard s) by w request (whats.Again answer) in record {
+    let a : Act = act_of (ids.Shard s) by w request (whats.Again answer) in act_keeps cast h (ids.Shard s) (IsShard y) changes.Stay ((ids.Worker w, messages.Reply request answer (length h + 1)) ∷ []) a (record {
       own = refl;
       may = (m.home, known);
       fits = (heard_request cast.shards h w s request by a m refl refl refl refl, was_served h w s request answer a known refl refl refl refl);
       like = like-push (acts_in_line h (ids.Shard s)) a y (record { bag = like.bag; desks = desks_stay y.desks made.desk w like.desks });
-      sends = (record { act = a; is_act = note_at-next h (notes.Act a); own = refl; answering = refl; worker = refl; number = refl; op = refl }, row);
-    }
+      sends = (record { act = a; is_act = note_at-next h (notes.Act a); own = refl; answering = refl; worker = refl; number = refl; op = refl }, tt);
+    })
 
-ignored_keeps : (cast : Cast) (h : List Note) (w s : ℕ) (y : Store) (request : Request) (by : ℕ) → IsStoreLike (made_of h s) y → IsAskOf cast.shards h w s request by →
-    Ignores request (at empty_desk y.desks w) → Keeps cast h (ids.Shard s) (IsStore y) (ignored_plan (ids.Shard s) w request by None)
+pub ignored_keeps : (cast : Cast) (h : List Note) (w s : ℕ) (y : Shard) (request : Request) (by : ℕ) → IsShardLike (made_of h s) y → IsRequestOf cast.shards h w s request by →
+    Ignores request (at empty_desk y.desks w) → Keeps cast h (ids.Shard s) (Some (IsShard y)) (ignored_plan (ids.Shard s) w request by None)
 ignored_keeps cast h w s y request by like m ignores =
     let made : MadeShard = made_of h s in
-    let a : Act = act_of (ids.Shard s) by w request (whats.Ignored None) in record {
+    let a : Act = act_of (ids.Shard s) by w request (whats.Ignored None) in act_keeps cast h (ids.Shard s) (IsShard y) changes.Stay [] a (record {
       own = refl;
       may = (m.home, subst (Ignores request) (like.desks w) ignores);
       fits = heard_request cast.shards h w s request by a m refl refl refl refl;
       like = like-push (acts_in_line h (ids.Shard s)) a y (record { bag = like.bag; desks = desks_stay y.desks made.desk w like.desks });
       sends = tt;
-    }
-
-pub request_keeps : (cast : Cast) (h : List Note) (w s : ℕ) (y : Store) (request : Request) (by : ℕ) → IsStoreLike (made_of h s) y → IsAskOf cast.shards h w s request by → node_index (ids.Worker w) < rows →
-    Keeps cast h (ids.Shard s) (IsStore y) (request_plan (ids.Shard s) (at empty_desk y.desks w) w request by (length h + 1))
-request_keeps cast h w s y request by like m row = hears (nat_lt (newest d) request.number) refl
-  where
-    d : Desk
-    d = at empty_desk y.desks w
-
-    old : (o : Option Answer) → kept_answer d request ≡ o → request.number ≤ newest d → Keeps cast h (ids.Shard s) (IsStore y) (old_request_plan (ids.Shard s) w request by (length h + 1) o)
-    old None e seen = ignored_keeps cast h w s y request by like m (seen, kept_answer-none d request e)
-    old (Some answer) e seen = again_keeps cast h w s y request answer by like m row (kept_answer-is d request answer e)
-
-    hears : (r : Bool) → nat_lt (newest d) request.number ≡ r →
-        Keeps cast h (ids.Shard s) (IsStore y) (if r then heard_plan (ids.Shard s) w request by else old_request_plan (ids.Shard s) w request by (length h + 1) (kept_answer d request))
-    hears true e = heard_keeps cast h w s y request by like m (ltb-true (newest d) request.number e)
-    hears false e = old (kept_answer d request) refl (ltb-false (newest d) request.number e)
+    })
 
 -- what waits at a shard was asked for, by the act that its last hearing names
 waiting_request : (cast : Cast) (h : List Note) (w s : ℕ) (request : Request) (a : Act) → IsWellFormed h → ((made_of h s).desk w).waiting ≡ Some request → a.by ≡ (made_of h s).cause w → a.worker ≡ w → a.number ≡ request.number → a.op ≡ request.op → HeardRequest h a
@@ -184,28 +170,28 @@ waiting_request cast h w s request a wf waits cause worker number op =
     }
 
 -- and is at home there
-waiting_home : (cast : Cast) (h : List Note) (w s : ℕ) (request : Request) → AreLegal (setting_of cast.shards cast.scripts) h → ((made_of h s).desk w).waiting ≡ Some request → shard_of cast.shards (kinds_of_op request.op) ≡ s
+waiting_home : (cast : Cast) (h : List Note) (w s : ℕ) (request : Request) → AreLegal (setting_of cast) h → ((made_of h s).desk w).waiting ≡ Some request → shard_of cast.shards (kinds_of_op request.op) ≡ s
 waiting_home cast h w s request legal waits =
     let heard : WasHeard (acts_in_line h (ids.Shard s)) w request ((made_of h s).cause w) = waits_heard (acts_in_line h (ids.Shard s)) w request waits in
     ap (λ (r : Request). shard_of cast.shards (kinds_of_op r.op)) (sym heard.about) ∙ ShardLine-home cast.shards s new_shard (acts_in_line h (ids.Shard s)) heard.act (legal (ids.Shard s)) heard.among
 
-pub service_keeps : (cast : Cast) (h : List Note) (w s : ℕ) (y : Store) (request : Request) (place : ℕ) (choice : Choice) → AreLegal (setting_of cast.shards cast.scripts) h → IsWellFormed h → IsStoreLike (made_of h s) y → node_index (ids.Worker w) < rows →
+pub service_keeps : (cast : Cast) (h : List Note) (w s : ℕ) (y : Shard) (request : Request) (place : ℕ) (choice : Choice) → AreLegal (setting_of cast) h → IsWellFormed h → IsShardLike (made_of h s) y →
     (at empty_desk y.desks w).waiting ≡ Some request → choice_of y.bag request.op place ≡ Some choice →
-    Keeps cast h (ids.Shard s) (IsStore y) (service_plan (ids.Shard s) w request (answer_of y.bag choice) (bag_change_of request.op choice) (cause_of_waiting h (ids.Shard s) w) (length h + 1))
-service_keeps cast h w s y request place choice legal wf like row waiting chosen =
+    Keeps cast h (ids.Shard s) (Some (IsShard y)) (service_plan (ids.Shard s) w request (answer_of y.bag choice) (bag_change_of request.op choice) (cause_of_waiting h (ids.Shard s) w) (length h + 1))
+service_keeps cast h w s y request place choice legal wf like waiting chosen =
     let made : MadeShard = made_of h s in
     let answer : Answer = answer_of y.bag choice in
-    let new : List Tuple = bag_after y.bag (bag_change_of request.op choice) in
+    let new : List Tuple = changed_bag y.bag (bag_change_of request.op choice) in
     let waits : (made.desk w).waiting ≡ Some request = ap (λ (d : Desk). d.waiting) (sym (like.desks w)) ∙ waiting in
     let cause : cause_of_waiting h (ids.Shard s) w ≡ made.cause w = cause_found (acts_in_line h (ids.Shard s)) w in
     let step = step_like made.bag y.bag request.op answer new like.bag (choice_step y.bag request.op place choice chosen) in
-    let a : Act = act_of (ids.Shard s) (cause_of_waiting h (ids.Shard s) w) w request (whats.Served answer) in record {
+    let a : Act = act_of (ids.Shard s) (cause_of_waiting h (ids.Shard s) w) w request (whats.Served answer) in act_keeps cast h (ids.Shard s) (IsShard y) (changes.Serve w (bag_change_of request.op choice) (record { request = request; answer = answer })) ((ids.Worker w, messages.Reply request answer (length h + 1)) ∷ []) a (record {
       own = refl;
       may = (waiting_home cast h w s request legal waits, (waits, cause, step.0));
       fits = waiting_request cast h w s request a wf waits cause refl refl refl;
-      like = like-push (acts_in_line h (ids.Shard s)) a (served_store y w (bag_change_of request.op choice) (record { request = request; answer = answer })) (record {
+      like = like-push (acts_in_line h (ids.Shard s)) a (served_shard y w (bag_change_of request.op choice) (record { request = request; answer = answer })) (record {
         bag = step.1;
         desks = desks_like y.desks made.desk w (record { waiting = None; kept = Some (record { request = request; answer = answer }) }) (record { waiting = None; kept = Some (record { request = request; answer = answer }) }) like.desks refl;
       });
-      sends = (record { act = a; is_act = note_at-next h (notes.Act a); own = refl; answering = refl; worker = refl; number = refl; op = refl }, row);
-    }
+      sends = (record { act = a; is_act = note_at-next h (notes.Act a); own = refl; answering = refl; worker = refl; number = refl; op = refl }, tt);
+    })

@@ -1,167 +1,178 @@
--- Each step keeps a sound state sound.
-use Rattle.std.proofs.Common.{if◌then◌else◌, ◌≡◌, ◌≢◌, ℕ, ◌<◌, ◌≤◌, Bool, true, false, List, [], ◌∷◌, length, Contains, nat_lt, Option, Some, None, Result, Ok, Err, inl, inr, refl, sym, ap, ◌∙◌, subst, arith}
-use Rattle.std.proofs.lemmas.Bool.{cases_lt}
-use Rattle.std.proofs.lemmas.List.{get_or_past}
+-- Each plan of an allowed step keeps a sound state sound.
+use Rattle.std.proofs.Common.{◌≡◌, ◌≢◌, ℕ, Bool, true, false, List, [], ◌∷◌, Contains, Option, Some, None, inl, inr, refl, sym, ap, ◌∙◌, subst}
+use Rattle.std.specs.Prelude.{is_some, unwrap_or}
+use Rattle.std.specs.Option.{option_map}
 use Rattle.kt_tuple.specs.declared.node.NodeId.{NodeId}
 use Rattle.kt_tuple.specs.declared.node.NodeId.TheVariants as ids
 use Rattle.kt_tuple.specs.declared.op.Op.{Op}
-use Rattle.kt_tuple.specs.Node.{node_index}
+use Rattle.kt_tuple.specs.declared.op.Answer.{Answer}
+use Rattle.kt_history.specs.declared.note.Note.{Note}
 use Rattle.kt_history.specs.Closed.{acts_in_line}
-use Rattle.kt_core.specs.declared.choice.Choice.{Choice}
+use Rattle.kt_history.proofs.Lists.{Contains-here}
+use Rattle.kt_script.specs.declared.command.Command.{Command}
 use Rattle.kt_worker.specs.declared.worker.Worker.{Worker}
-use Rattle.kt_worker.specs.Standing.{next_request, issued}
+use Rattle.kt_worker.specs.Standing.{next_request, issued, heard}
 use Rattle.kt_core.specs.declared.node.Request.{Request}
 use Rattle.kt_core.specs.declared.node.Message.{Message}
-use Rattle.kt_core.specs.declared.node.Message.TheVariants.{Ask, Reply}
+use Rattle.kt_core.specs.declared.node.Message.TheVariants as messages
+use Rattle.kt_core.specs.declared.node.Change.TheVariants as changes
 use Rattle.kt_core.specs.declared.plan.Plan.{Plan}
 use Rattle.kt_core.specs.declared.step.Step.{Step}
 use Rattle.kt_core.specs.declared.step.Step.TheVariants.{Issue, Deliver, Serve}
-use Rattle.kt_core.specs.declared.step.StepError.{StepError}
-use Rattle.kt_core.specs.declared.step.StepError.TheVariants as refusals
 use Rattle.kt_core.specs.Step.{owner}
-use Rattle.kt_core.specs.State.{State, Part, Nobody, IsWorker, IsStore, Store, at, node, link, worker_of}
-use Rattle.kt_core.specs.Desk.{empty_desk}
-use Rattle.kt_core.specs.Choice.{choice_of}
-use Rattle.kt_core.specs.Plan.{issue_plan}
-use Rattle.kt_core.specs.Effect.{limited, next_note, home, issue_request, issue_of, heard_by_store, heard_by_worker, delivery_to_store, delivery_to_worker, delivery_of, service_choice, service_at, service_of, planned, applied, applied_if_planned, step_result}
-use Rattle.kt_core.specs.Cast.{Cast}
+use Rattle.kt_core.specs.Cast.{script_in}
+use Rattle.kt_core.specs.State.{State, Body, IsWorker, IsShard, Shard, node, link, body_of, worker_in, shard_in}
 use Rattle.kt_core.specs.Asks.{script_numbered}
-use Rattle.kt_history.proofs.Lists.{Contains-here}
-use Rattle.kt_core.proofs.Sound.{rows, IsPartLike, Carries, Keeps, IsSound}
-use Rattle.kt_core.proofs.WorkerPlans.{issue_keeps, reply_keeps}
-use Rattle.kt_core.proofs.ShardPlans.{request_keeps, service_keeps}
-use Rattle.kt_core.proofs.Frame.{applied-sound}
+use Rattle.kt_core.specs.Judge.{Hearer, NoHearer, ByWorker, ByShard, worker_hearer, hearer_of, Found, Asks, Hears}
+use Rattle.kt_core.specs.Effect.{changed_body, next_note}
+use Rattle.kt_core.specs.Plan.{empty_plan, issue_plan, request_for, home, accepted_plan}
+use Rattle.kt_core.proofs.Founds.{IsFound, asks, hears, serves}
+use Rattle.kt_core.proofs.Plans as plans
+use Rattle.kt_core.proofs.Plans.{PlanOf}
+use Rattle.kt_core.proofs.Sound.{IsBodyLike, Carries, Keeps, IsSound}
+use Rattle.kt_core.proofs.ShardPlans.{heard_keeps, again_keeps, kept_answer-is, kept_answer-none, service_keeps}
+use Rattle.kt_core.proofs.ShardPlans as shard_plans
+use Rattle.kt_core.proofs.WorkerPlans.{issue_keeps, accepted_keeps}
+use Rattle.kt_core.proofs.WorkerPlans as worker_plans
+use Rattle.kt_core.proofs.Applying.{StepKeeps}
 
--- what the tables and the numbers of shards must be for that
-pub record HasBounds (s : State) : Type 0 where
-  pub rows_within : length s.nodes ≤ rows
-  pub first_row : node s (ids.Worker 0) ≡ Nobody
-  pub some_shards : 1 ≤ s.shards
-  pub few_shards : s.shards ≤ 8
+-- ---- who the nodes are
 
--- a node with a state has a row
-has_row : (s : State) → HasBounds s → (p : NodeId) (part : Part) → node s p ≡ part → part ≢ Nobody → node_index p < rows
-has_row s b p part e some = elim (cases_lt (node_index p) (length s.nodes)) [
-  | inl below ↦ omega (arith, below, b.rows_within)
-  | inr past ↦ absurd (some (sym e ∙ get_or_past s.nodes (node_index p) Nobody past))
-]
+pub worker_in-is : (o : Option Body) (x : Worker) → worker_in o ≡ Some x → o ≡ Some (IsWorker x)
+worker_in-is None x e = absurd cc
+worker_in-is (Some (IsWorker z)) x e = let same : z ≡ x = cc in ap (λ (w : Worker). Some (IsWorker w)) same
+worker_in-is (Some (IsShard y)) x e = absurd cc
 
--- a plan that is not refused is the one that was made
-limited-is : (s : State) (made plan : Plan) → limited s made ≡ Ok plan → made ≡ plan
-limited-is s made plan = by (nat_lt s.made 100000)
-  where
-    by : (r : Bool) → (if r then Ok made else Err refusals.StepLimit) ≡ Ok plan → made ≡ plan
-    by true e = cc
-    by false e = absurd cc
+pub shard_in-is : (o : Option Body) (y : Shard) → shard_in o ≡ Some y → o ≡ Some (IsShard y)
+shard_in-is None y e = absurd cc
+shard_in-is (Some (IsWorker z)) y e = absurd cc
+shard_in-is (Some (IsShard z)) y e = let same : z ≡ y = cc in ap (λ (w : Shard). Some (IsShard w)) same
 
-abbrev cast_of : State → Cast
-cast_of s = record { shards = s.shards; scripts = s.scripts }
+-- a worker that hears works with its script
+pub hearer-worker : (o : Option (List Command)) (body : Option Body) (script : List Command) (x : Worker) → ByWorker script x ≡ hearer_of o body → (o ≡ Some script) × (body ≡ Some (IsWorker x))
+hearer-worker o None script x e = absurd cc
+hearer-worker None (Some (IsWorker z)) script x e = absurd cc
+hearer-worker (Some other) (Some (IsWorker z)) script x e =
+    let same : other ≡ script = cc in
+    let worker : z ≡ x = cc in
+    (ap (λ (l : List Command). Some l) same, ap (λ (w : Worker). Some (IsWorker w)) worker)
+hearer-worker o (Some (IsShard y)) script x e = absurd cc
 
--- a plan of the step that keeps the state sound
-abbrev IsKept : State → NodeId → Part → Plan → Type 0
-IsKept s p part plan = Keeps (cast_of s) s.history p part plan
+pub hearer-shard : (o : Option (List Command)) (body : Option Body) (y : Shard) → ByShard y ≡ hearer_of o body → body ≡ Some (IsShard y)
+hearer-shard o None y e = absurd cc
+hearer-shard None (Some (IsWorker z)) y e = absurd cc
+hearer-shard (Some other) (Some (IsWorker z)) y e = absurd cc
+hearer-shard o (Some (IsShard z)) y e = let same : z ≡ y = cc in ap (λ (w : Shard). Some (IsShard w)) same
 
-issue-kept : (s : State) → HasBounds s → (p : NodeId) (part : Part) → node s p ≡ part → IsPartLike s.scripts p (acts_in_line s.history p) part → (plan : Plan) → issue_of s p (worker_of part) ≡ Ok plan → IsKept s p part plan
-issue-kept s b p Nobody at_p like plan e = absurd cc
-issue-kept s b p (IsStore y) at_p like plan e = absurd cc
-issue-kept s b (ids.Shard r) (IsWorker x) at_p like plan e = absurd like
-issue-kept s b (ids.Worker w) (IsWorker x) at_p like plan e = by (next_request (script_numbered s.scripts w) x) refl e
-  where
-    by : (o : Option (ℕ × Op)) → next_request (script_numbered s.scripts w) x ≡ o → issue_request s (ids.Worker w) (issued (script_numbered s.scripts w) x) o ≡ Ok plan → IsKept s (ids.Worker w) (IsWorker x) plan
-    by None next e = absurd cc
-    by (Some r) next e =
-        subst (IsKept s (ids.Worker w) (IsWorker x))
-        (limited-is s (issue_plan (ids.Worker w) w (record { number = r.0; op = r.1 }) (home s.shards r.1) (next_note s) (issued (script_numbered s.scripts w) x)) plan e)
-        (issue_keeps (cast_of s) s.history w x r b.some_shards b.few_shards like next)
+-- what stays as it is
+stays : (o : Option Body) → option_map (λ b. changed_body b changes.Stay) o ≡ o
+stays None = refl
+stays (Some (IsWorker x)) = refl
+stays (Some (IsShard y)) = refl
+
+-- ---- the leaves
+
+-- nothing is done
+empty-keeps : (s : State) → IsSound s → (p : NodeId) → Keeps s.cast s.history p (body_of (node s p)) empty_plan
+empty-keeps s sound p = record {
+  may = tt;
+  like = subst (IsBodyLike s.cast.scripts p (acts_in_line s.history p)) (sym (stays (body_of (node s p)))) (sound.like p);
+  sends = tt;
+}
+
+pub none_left : {X : Type 0} (o : Option X) → o ≡ None → is_some o ≡ true → ⊥
+none_left None e h = cc
+none_left (Some x) e h = cc
+
+-- the worker makes the request of its script
+by_script : (s : State) (w : ℕ) (x : Worker) (r : ℕ × Op) → IsBodyLike s.cast.scripts (ids.Worker w) (acts_in_line s.history (ids.Worker w)) (Some (IsWorker x)) → (script : List Command)
+    → script_numbered s.cast.scripts w ≡ script → next_request script x ≡ Some r
+    → Keeps s.cast s.history (ids.Worker w) (Some (IsWorker x)) (issue_plan (ids.Worker w) w (request_for r) (home s.cast.shards r.1) (next_note s.history) (issued script x))
+by_script s w x r like script own next =
+    let Made : List Command → Type 0 = λ l. next_request l x ≡ Some r →
+    Keeps s.cast s.history (ids.Worker w) (Some (IsWorker x)) (issue_plan (ids.Worker w) w (request_for r) (home s.cast.shards r.1) (next_note s.history) (issued l x)) in
+    subst Made own (λ e. issue_keeps s.cast s.history w x r like e) next
+
+issue-keeps : (s : State) → IsSound s → (p : NodeId) (script : List Command) (x : Worker) (plan : Plan) → script_in s.cast p ≡ Some script → body_of (node s p) ≡ Some (IsWorker x) → is_some (next_request script x) ≡ true
+    → PlanOf s.cast.shards s.history p (Asks script x) plan → Keeps s.cast s.history p (body_of (node s p)) plan
+issue-keeps s sound p script x plan there at_p left (plans.idles none) = absurd (none_left (next_request script x) none left)
+issue-keeps s sound (ids.Shard n) script x plan there at_p left (plans.issues next) = absurd cc
+issue-keeps s sound (ids.Worker w) script x plan there at_p left (plans.issues {r = r} next) =
+    let own : script_numbered s.cast.scripts w ≡ script = ap (λ (o : Option (List Command)). unwrap_or o []) there in
+    let like = subst (IsBodyLike s.cast.scripts (ids.Worker w) (acts_in_line s.history (ids.Worker w))) at_p (sound.like (ids.Worker w)) in
+    subst (λ (body : Option Body). Keeps s.cast s.history (ids.Worker w) body plan) (sym at_p) (by_script s w x r like script own next)
+
+-- a worker sends no reply
+no_reply : (shards : ℕ) (h : List Note) (w : ℕ) (q : NodeId) (request : Request) (answer : Answer) (by : ℕ) → Carries shards h (ids.Worker w) q (messages.Reply request answer by) → ⊥
+no_reply shards h w (ids.Worker v) request answer by c = c
+no_reply shards h w (ids.Shard r) request answer by c = c
+
+-- a delivery: the message carries what its act says, and the node hears it
+heard-keeps : (s : State) → IsSound s → (p q : NodeId) (hearer : Hearer) (message : Message) (plan : Plan) → Carries s.cast.shards s.history p q message → hearer ≡ hearer_of (script_in s.cast q) (body_of (node s q))
+    → PlanOf s.cast.shards s.history q (Hears p hearer message) plan → Keeps s.cast s.history q (body_of (node s q)) plan
+heard-keeps s sound p q hearer message plan carries is plans.drops = empty-keeps s sound q
+heard-keeps s sound p (ids.Shard r) hearer message plan carries is (plans.misses_request {script = script} {x = x}) =
+    let known = hearer-worker None (body_of (node s (ids.Shard r))) script x is in absurd (let e = known.0 in cc)
+heard-keeps s sound (ids.Worker v) (ids.Worker w) hearer message plan carries is plans.misses_request = absurd carries
+heard-keeps s sound (ids.Shard r) (ids.Worker w) hearer message plan carries is plans.misses_request = absurd carries
+heard-keeps s sound p (ids.Shard r) hearer message plan carries is (plans.accepts {script = script} {x = x} e) =
+    let known = hearer-worker None (body_of (node s (ids.Shard r))) script x is in absurd (let e = known.0 in cc)
+heard-keeps s sound (ids.Worker v) (ids.Worker w) hearer message plan carries is (plans.accepts e) = absurd carries
+heard-keeps s sound (ids.Shard r) (ids.Worker w) hearer message plan carries is (plans.accepts {script = script} {x = x} {request = request} {answer = answer} {by = by} e) =
+    let known = hearer-worker (script_in s.cast (ids.Worker w)) (body_of (node s (ids.Worker w))) script x is in
+    let own : script_numbered s.cast.scripts w ≡ script = ap (λ (o : Option (List Command)). unwrap_or o []) known.0 in
+    let like = subst (IsBodyLike s.cast.scripts (ids.Worker w) (acts_in_line s.history (ids.Worker w))) known.1 (sound.like (ids.Worker w)) in
+    let Made : List Command → Type 0 = λ l. Keeps s.cast s.history (ids.Worker w) (Some (IsWorker x)) (accepted_plan (ids.Worker w) w request answer by (heard l x answer)) in
+    subst (λ (body : Option Body). Keeps s.cast s.history (ids.Worker w) body plan) (sym known.1)
+    (subst Made own (accepted_keeps s.cast s.history r w x request answer by like carries e))
+heard-keeps s sound p (ids.Shard r) hearer message plan carries is (plans.ignores_reply {script = script} {x = x} e) =
+    let known = hearer-worker None (body_of (node s (ids.Shard r))) script x is in absurd (let e = known.0 in cc)
+heard-keeps s sound (ids.Worker v) (ids.Worker w) hearer message plan carries is (plans.ignores_reply e) = absurd carries
+heard-keeps s sound (ids.Shard r) (ids.Worker w) hearer message plan carries is (plans.ignores_reply {script = script} {x = x} {request = request} {answer = answer} {by = by} e) =
+    let known = hearer-worker (script_in s.cast (ids.Worker w)) (body_of (node s (ids.Worker w))) script x is in
+    let like = subst (IsBodyLike s.cast.scripts (ids.Worker w) (acts_in_line s.history (ids.Worker w))) known.1 (sound.like (ids.Worker w)) in
+    subst (λ (body : Option Body). Keeps s.cast s.history (ids.Worker w) body plan) (sym known.1) (worker_plans.ignored_keeps s.cast s.history r w x request answer by like carries e)
+heard-keeps s sound (ids.Worker w) (ids.Shard r) hearer message plan carries is (plans.hears {y = y} {request = request} {by = by} new) =
+    let at_q = hearer-shard None (body_of (node s (ids.Shard r))) y is in
+    let like = subst (IsBodyLike s.cast.scripts (ids.Shard r) (acts_in_line s.history (ids.Shard r))) at_q (sound.like (ids.Shard r)) in
+    subst (λ (body : Option Body). Keeps s.cast s.history (ids.Shard r) body plan) (sym at_q) (heard_keeps s.cast s.history w r y request by like carries new)
+heard-keeps s sound (ids.Worker v) (ids.Worker w) hearer message plan carries is (plans.hears new) = absurd carries
+heard-keeps s sound (ids.Shard r) (ids.Worker w) hearer message plan carries is (plans.hears new) = absurd carries
+heard-keeps s sound (ids.Shard r) (ids.Shard q) hearer message plan carries is (plans.hears new) = absurd carries
+heard-keeps s sound (ids.Worker w) (ids.Shard r) hearer message plan carries is (plans.answers_again {y = y} {request = request} {by = by} {answer = answer} old kept) =
+    let at_q = hearer-shard None (body_of (node s (ids.Shard r))) y is in
+    let like = subst (IsBodyLike s.cast.scripts (ids.Shard r) (acts_in_line s.history (ids.Shard r))) at_q (sound.like (ids.Shard r)) in
+    subst (λ (body : Option Body). Keeps s.cast s.history (ids.Shard r) body plan) (sym at_q) (again_keeps s.cast s.history w r y request answer by like carries (kept_answer-is (plans.desk_of y (ids.Worker w)) request answer kept))
+heard-keeps s sound (ids.Worker v) (ids.Worker w) hearer message plan carries is (plans.answers_again old kept) = absurd carries
+heard-keeps s sound (ids.Shard r) (ids.Worker w) hearer message plan carries is (plans.answers_again old kept) = absurd carries
+heard-keeps s sound (ids.Shard r) (ids.Shard q) hearer message plan carries is (plans.answers_again old kept) = absurd carries
+heard-keeps s sound (ids.Worker w) (ids.Shard r) hearer message plan carries is (plans.ignores_request {y = y} {request = request} {by = by} old none) =
+    let at_q = hearer-shard None (body_of (node s (ids.Shard r))) y is in
+    let like = subst (IsBodyLike s.cast.scripts (ids.Shard r) (acts_in_line s.history (ids.Shard r))) at_q (sound.like (ids.Shard r)) in
+    subst (λ (body : Option Body). Keeps s.cast s.history (ids.Shard r) body plan) (sym at_q) (shard_plans.ignored_keeps s.cast s.history w r y request by like carries (old, kept_answer-none (plans.desk_of y (ids.Worker w)) request none))
+heard-keeps s sound (ids.Worker v) (ids.Worker w) hearer message plan carries is (plans.ignores_request old none) = absurd carries
+heard-keeps s sound (ids.Shard r) (ids.Worker w) hearer message plan carries is (plans.ignores_request old none) = absurd carries
+heard-keeps s sound (ids.Shard r) (ids.Shard q) hearer message plan carries is (plans.ignores_request old none) = absurd carries
+heard-keeps s sound (ids.Worker v) q hearer message plan carries is (plans.misses_reply {y = y}) = absurd (no_reply s.cast.shards s.history v q _ _ _ carries)
+heard-keeps s sound (ids.Shard r) (ids.Shard q) hearer message plan carries is (plans.misses_reply {y = y}) = absurd carries
+heard-keeps s sound (ids.Shard r) (ids.Worker w) hearer message plan carries is (plans.misses_reply {y = y}) =
+    let at_q = hearer-shard (script_in s.cast (ids.Worker w)) (body_of (node s (ids.Worker w))) y is in
+    absurd (subst (IsBodyLike s.cast.scripts (ids.Worker w) (acts_in_line s.history (ids.Worker w))) at_q (sound.like (ids.Worker w)))
 
 -- the front of a link carries what its act says
-front-carries : (s : State) → IsSound s → (p q : NodeId) (m : Message) (later : List Message) → node_index q < rows → link s p q ≡ m ∷ later → Carries s.shards s.history p q m
-front-carries s sound p q m later row e = sound.carries p q m row (subst (λ l. Contains l m) (sym e) (Contains-here m later))
+front-carries : (s : State) → IsSound s → (p q : NodeId) (m : Message) (later : List Message) → link s p q ≡ m ∷ later → Carries s.cast.shards s.history p q m
+front-carries s sound p q m later e = sound.carries p q m (subst (λ l. Contains l m) (sym e) (Contains-here m later))
 
-to_store-kept : (s : State) → IsSound s → (w r : ℕ) (y : Store) → IsPartLike s.scripts (ids.Shard r) (acts_in_line s.history (ids.Shard r)) (IsStore y) → node_index (ids.Worker w) < rows →
-    (m : Message) → Carries s.shards s.history (ids.Worker w) (ids.Shard r) m → IsKept s (ids.Shard r) (IsStore y) (heard_by_store s (ids.Worker w) (ids.Shard r) y m)
-to_store-kept s sound w r y like row (Ask request by) c = request_keeps (cast_of s) s.history w r y request by like c row
-to_store-kept s sound w r y like row (Reply request answer by) c = absurd c
-
-to_worker-kept : (s : State) → IsSound s → (r w : ℕ) (x : Worker) → IsPartLike s.scripts (ids.Worker w) (acts_in_line s.history (ids.Worker w)) (IsWorker x) →
-    (m : Message) → Carries s.shards s.history (ids.Shard r) (ids.Worker w) m → IsKept s (ids.Worker w) (IsWorker x) (heard_by_worker s (ids.Worker w) x m)
-to_worker-kept s sound r w x like (Ask request by) c = absurd c
-to_worker-kept s sound r w x like (Reply request answer by) c = reply_keeps (cast_of s) s.history r w x request answer by like c
-
-delivery-kept : (s : State) → IsSound s → (p q : NodeId) (from to : Part) → IsPartLike s.scripts p (acts_in_line s.history p) from → IsPartLike s.scripts q (acts_in_line s.history q) to →
-    (from ≢ Nobody → node_index p < rows) → (to ≢ Nobody → node_index q < rows) → (plan : Plan) → delivery_of s p q from to ≡ Ok plan → IsKept s q to plan
-delivery-kept s sound (ids.Shard r) q (IsWorker x) (IsStore y) like_p like_q row_p row_q plan e = absurd like_p
-delivery-kept s sound (ids.Worker w) (ids.Worker v) (IsWorker x) (IsStore y) like_p like_q row_p row_q plan e = absurd like_q
-delivery-kept s sound (ids.Worker w) (ids.Shard r) (IsWorker x) (IsStore y) like_p like_q row_p row_q plan e = by (link s (ids.Worker w) (ids.Shard r)) refl e
-  where
-    by : (l : List Message) → link s (ids.Worker w) (ids.Shard r) ≡ l → delivery_to_store s (ids.Worker w) (ids.Shard r) y l ≡ Ok plan → IsKept s (ids.Shard r) (IsStore y) plan
-    by [] at e = absurd cc
-    by (m ∷ later) at e =
-        subst (IsKept s (ids.Shard r) (IsStore y)) (limited-is s (heard_by_store s (ids.Worker w) (ids.Shard r) y m) plan e)
-        (to_store-kept s sound w r y like_q (row_p (λ k. cc)) m (front-carries s sound (ids.Worker w) (ids.Shard r) m later (row_q (λ k. cc)) at))
-delivery-kept s sound (ids.Worker w) q (IsStore y) (IsWorker x) like_p like_q row_p row_q plan e = absurd like_p
-delivery-kept s sound (ids.Shard r) (ids.Shard v) (IsStore y) (IsWorker x) like_p like_q row_p row_q plan e = absurd like_q
-delivery-kept s sound (ids.Shard r) (ids.Worker w) (IsStore y) (IsWorker x) like_p like_q row_p row_q plan e = by (link s (ids.Shard r) (ids.Worker w)) refl e
-  where
-    by : (l : List Message) → link s (ids.Shard r) (ids.Worker w) ≡ l → delivery_to_worker s (ids.Worker w) x l ≡ Ok plan → IsKept s (ids.Worker w) (IsWorker x) plan
-    by [] at e = absurd cc
-    by (m ∷ later) at e =
-        subst (IsKept s (ids.Worker w) (IsWorker x)) (limited-is s (heard_by_worker s (ids.Worker w) x m) plan e)
-        (to_worker-kept s sound r w x like_q m (front-carries s sound (ids.Shard r) (ids.Worker w) m later (row_q (λ k. cc)) at))
-delivery-kept s sound p q _ _ like_p like_q row_p row_q plan e = absurd cc
-
-service-kept : (s : State) → IsSound s → (p v : NodeId) (place : ℕ) (at_p at_v : Part) → IsPartLike s.scripts p (acts_in_line s.history p) at_p → IsPartLike s.scripts v (acts_in_line s.history v) at_v →
-    (at_v ≢ Nobody → node_index v < rows) → (plan : Plan) → service_of s p v place at_p at_v ≡ Ok plan → IsKept s p at_p plan
-service-kept s sound (ids.Worker w) v place (IsStore y) (IsWorker x) like_p like_v row plan e = absurd like_p
-service-kept s sound (ids.Shard r) (ids.Shard v) place (IsStore y) (IsWorker x) like_p like_v row plan e = absurd like_v
-service-kept s sound (ids.Shard r) (ids.Worker w) place (IsStore y) (IsWorker x) like_p like_v row plan e = by (at empty_desk y.desks w).waiting refl e
-  where
-    chosen : (request : Request) → (at empty_desk y.desks w).waiting ≡ Some request → (o : Option Choice) → choice_of y.bag request.op place ≡ o → service_choice s (ids.Shard r) w y request o ≡ Ok plan →
-        IsKept s (ids.Shard r) (IsStore y) plan
-    chosen request waits None at e = absurd cc
-    chosen request waits (Some choice) at e =
-        subst (IsKept s (ids.Shard r) (IsStore y)) (limited-is s _ plan e)
-        (service_keeps (cast_of s) s.history w r y request place choice sound.legal sound.well_formed like_p (row (λ k. cc)) waits at)
-
-    by : (o : Option Request) → (at empty_desk y.desks w).waiting ≡ o → service_at s (ids.Shard r) w place y o ≡ Ok plan → IsKept s (ids.Shard r) (IsStore y) plan
-    by None waits e = absurd cc
-    by (Some request) waits e = chosen request waits (choice_of y.bag request.op place) refl e
-service-kept s sound p v place _ _ like_p like_v row plan e = absurd cc
-
-planned-kept : (s : State) → IsSound s → HasBounds s → (step : Step) (plan : Plan) → planned s step ≡ Ok plan → IsKept s (owner step) (node s (owner step)) plan
-planned-kept s sound b (Issue p) plan e = issue-kept s b p (node s p) refl (sound.like p) plan e
-planned-kept s sound b (Deliver p q) plan e =
-    delivery-kept s sound p q (node s p) (node s q) (sound.like p) (sound.like q) (has_row s b p (node s p) refl) (has_row s b q (node s q) refl) plan e
-planned-kept s sound b (Serve p v place) plan e = service-kept s sound p v place (node s p) (node s v) (sound.like p) (sound.like v) (has_row s b v (node s v) refl) plan e
-
--- a step that is not refused leads to the state that its plan leads to
-pub step_result-ok : (s : State) (step : Step) (after : State) → step_result s step ≡ Ok after → (plan : Plan) × (planned s step ≡ Ok plan) × (after ≡ applied s step plan)
-step_result-ok s step after e = by (planned s step) refl e
-  where
-    by : (o : Result Plan StepError) → planned s step ≡ o → applied_if_planned s step o ≡ Ok after → (plan : Plan) × (planned s step ≡ Ok plan) × (after ≡ applied s step plan)
-    by (Ok plan) at e = (plan, at, cc (e))
-    by (Err refusal) at e = absurd (cc (e))
-
-pub step-sound : (s : State) → IsSound s → HasBounds s → (step : Step) (after : State) → step_result s step ≡ Ok after → IsSound after
-step-sound s sound b step after e =
-    let r = step_result-ok s step after e in
-    subst IsSound (sym r.2) (applied-sound s step r.0 sound (planned-kept s sound b step r.0 r.1))
-
--- the owner of a step that is not refused has a state
-pub planned-some : (s : State) (step : Step) (plan : Plan) → planned s step ≡ Ok plan → node s (owner step) ≢ Nobody
-planned-some s (Issue p) plan e none = absurd (issue (worker_of (node s p)) (ap worker_of none) e)
-  where
-    issue : (o : Option Worker) → o ≡ None → issue_of s p o ≡ Ok plan → ⊥
-    issue None same e = cc (e)
-    issue (Some x) same e = cc (same)
-planned-some s (Deliver p q) plan e none = to (node s p) (node s q) none e
-  where
-    to : (from at_q : Part) → at_q ≡ Nobody → delivery_of s p q from at_q ≡ Ok plan → ⊥
-    to (IsWorker x) (IsStore y) same e = cc (same)
-    to (IsStore y) (IsWorker x) same e = cc (same)
-    to _ _ same e = cc
-planned-some s (Serve p v place) plan e none = of (node s p) (node s v) none e
-  where
-    of : (at_p at_v : Part) → at_p ≡ Nobody → service_of s p v place at_p at_v ≡ Ok plan → ⊥
-    of (IsStore y) (IsWorker x) same e = cc (same)
-    of _ _ same e = cc
+-- a plan of an allowed step keeps the state sound
+pub step-keeps : (s : State) → IsSound s → (step : Step) (found : Found) (plan : Plan) → IsFound s step found → PlanOf s.cast.shards s.history (owner step) found plan → StepKeeps s step plan
+step-keeps s sound (Issue p) found plan (asks {script = script} {x = x} there at_p left) of =
+    issue-keeps s sound p script x plan there (worker_in-is (body_of (node s p)) x at_p) left of
+step-keeps s sound (Deliver p q) found plan (hears {message = message} {later = later} are on) of =
+    heard-keeps s sound p q (hearer_of (script_in s.cast q) (body_of (node s q))) message plan (front-carries s sound p q message later on) refl of
+step-keeps s sound (Serve (ids.Worker n) w place) found plan (serves there other at_p waits chosen) of = absurd cc
+step-keeps s sound (Serve (ids.Shard r) (ids.Shard n) place) found plan (serves there other at_p waits chosen) of = absurd cc
+step-keeps s sound (Serve (ids.Shard r) (ids.Worker w) place) found plan (serves {y = y} {request = request} {choice = choice} there other at_p waits chosen) plans.serves =
+    let at_shard = shard_in-is (body_of (node s (ids.Shard r))) y at_p in
+    let like = subst (IsBodyLike s.cast.scripts (ids.Shard r) (acts_in_line s.history (ids.Shard r))) at_shard (sound.like (ids.Shard r)) in
+    subst (λ (body : Option Body). Keeps s.cast s.history (ids.Shard r) body plan) (sym at_shard)
+    (service_keeps s.cast s.history w r y request place choice sound.legal sound.well_formed like waits chosen)

@@ -17,7 +17,7 @@ use Rattle.kt_core.specs.declared.node.Request.{Request}
 use Rattle.kt_core.specs.declared.node.Kept.{Kept}
 use Rattle.kt_core.specs.declared.node.Desk.{Desk}
 use Rattle.kt_core.specs.ShardLine.{MadeShard, request_of, desk_after, cause_after, shard_after, shard_of_acts, ShardLine, new_shard}
-use Rattle.kt_core.specs.Effect.{is_hearing, hears_worker, cause_of}
+use Rattle.kt_core.specs.Cause.{is_hearing, hears_worker, cause_of}
 use Rattle.kt_history.proofs.Lists.{Contains-here, Contains-none}
 use Rattle.kt_core.proofs.Bags.{Contains-there, Contains-cases}
 use Rattle.kt_core.proofs.Numbered.{put_row-same, put_row-other}

@@ -1,11 +1,9 @@
 -- The plans of a worker keep a state sound: it issues what its script asks, accepts what it waits for, and ignores the rest.
-use Rattle.std.proofs.Common.{if◌then◌else◌, ◌≡◌, ℕ, ◌+◌, ◌<◌, ◌≤◌, Bool, true, false, List, [], ◌∷◌, ◌++◌, length, Some, None, refl, sym, ap, ◌∙◌, subst, mod-lt, arith}
+use Rattle.std.proofs.Common.{if◌then◌else◌, ◌≡◌, ℕ, ◌+◌, ◌<◌, ◌≤◌, Bool, true, false, List, [], ◌∷◌, ◌++◌, length, Some, None, refl, sym, ap, ◌∙◌, subst}
 use Rattle.std.proofs.lemmas.Bool.{false≢true}
 use Rattle.kt_tuple.specs.declared.node.NodeId.TheVariants as ids
 use Rattle.kt_tuple.specs.declared.op.Op.{Op}
 use Rattle.kt_tuple.specs.declared.op.Answer.{Answer}
-use Rattle.kt_tuple.specs.Node.{node_index}
-use Rattle.kt_tuple.specs.Signature.{kinds_of_op, signature_of}
 use Rattle.kt_history.specs.declared.note.What.TheVariants as whats
 use Rattle.kt_history.specs.declared.note.Act.{Act}
 use Rattle.kt_history.specs.declared.note.Note.{Note}
@@ -19,14 +17,15 @@ use Rattle.kt_worker.specs.Standing.{next_request, issued, awaits, heard}
 use Rattle.kt_worker.specs.After.{last_number}
 use Rattle.kt_worker.proofs.Requests.{Requests-next, heard-after, awaits-is, awaits-from}
 use Rattle.kt_core.specs.declared.node.Request.{Request}
+use Rattle.kt_core.specs.declared.node.Message.TheVariants as messages
+use Rattle.kt_core.specs.declared.node.Change.TheVariants as changes
 use Rattle.kt_core.specs.State.{IsWorker}
 use Rattle.kt_core.specs.Cast.{Cast}
-use Rattle.kt_core.specs.Plan.{act_of, issue_plan, accepted_plan, ignored_plan, reply_plan}
-use Rattle.kt_core.specs.Effect.{home}
+use Rattle.kt_core.specs.Plan.{act_of, home, issue_plan, accepted_plan, ignored_plan}
 use Rattle.kt_core.specs.Asks.{script_numbered}
 use Rattle.kt_core.specs.WorkerLine.{MadeWorker, Awaits, worker_after, worker_of_acts, new_worker}
 use Rattle.kt_core.proofs.Growth.{worker_of_acts-push}
-use Rattle.kt_core.proofs.Sound.{rows, IsWorkerLike, IsReplyOf, Keeps, note_at-next}
+use Rattle.kt_core.proofs.Sound.{IsWorkerLike, IsReplyOf, Keeps, act_keeps, note_at-next}
 
 -- what the worker's acts make of it
 abbrev made_of : List Note → ℕ → MadeWorker
@@ -35,26 +34,22 @@ made_of h w = worker_of_acts new_worker (acts_in_line h (ids.Worker w))
 like-push : (script : List Command) (acts : List Act) (a : Act) (x : Worker) → IsWorkerLike script (worker_after (worker_of_acts new_worker acts) a) x → IsWorkerLike script (worker_of_acts new_worker (acts ++ a ∷ [])) x
 like-push script acts a x like = subst (λ m. IsWorkerLike script m x) (sym (worker_of_acts-push new_worker acts a)) like
 
--- a shard has a row
-shard_has_row : (shards : ℕ) (op : Op) → 1 ≤ shards → shards ≤ 8 → node_index (home shards op) < rows
-shard_has_row shards op some few = let below = mod-lt (signature_of (kinds_of_op op)) some in omega (arith, below)
-
-pub issue_keeps : (cast : Cast) (h : List Note) (w : ℕ) (x : Worker) (r : ℕ × Op) → 1 ≤ cast.shards → cast.shards ≤ 8 → IsWorkerLike (script_numbered cast.scripts w) (made_of h w) x →
+pub issue_keeps : (cast : Cast) (h : List Note) (w : ℕ) (x : Worker) (r : ℕ × Op) → IsWorkerLike (script_numbered cast.scripts w) (made_of h w) x →
     next_request (script_numbered cast.scripts w) x ≡ Some r →
-    Keeps cast h (ids.Worker w) (IsWorker x)
+    Keeps cast h (ids.Worker w) (Some (IsWorker x))
     (issue_plan (ids.Worker w) w (record { number = r.0; op = r.1 }) (home cast.shards r.1) (length h + 1) (issued (script_numbered cast.scripts w) x))
-issue_keeps cast h w x r some few like next =
+issue_keeps cast h w x r like next =
     let script : List Command = script_numbered cast.scripts w in
     let made : MadeWorker = made_of h w in
     let q = Requests-next script made.answers x r like.after next in
     let free : made.asked ≡ None = sym like.asked ∙ q.free in
-    let a : Act = act_of (ids.Worker w) 0 w (record { number = r.0; op = r.1 }) whats.Issue in record {
+    let a : Act = act_of (ids.Worker w) 0 w (record { number = r.0; op = r.1 }) whats.Issue in act_keeps cast h (ids.Worker w) (IsWorker x) (changes.Work (issued script x)) ((home cast.shards r.1, messages.Request (record { number = r.0; op = r.1 }) (length h + 1)) ∷ []) a (record {
       own = refl;
       may = (refl, (free, q.number, q.asks_for));
       fits = refl;
       like = like-push script (acts_in_line h (ids.Worker w)) a (issued script x) (record { asked = q.asked; after = q.after });
-      sends = (record { act = a; is_act = note_at-next h (notes.Act a); own = refl; asking = tt; worker = refl; number = refl; op = refl; home = refl }, shard_has_row cast.shards r.1 some few);
-    }
+      sends = (record { act = a; is_act = note_at-next h (notes.Act a); own = refl; asking = tt; worker = refl; number = refl; op = refl; home = refl }, tt);
+    })
 
 -- what the worker waits for is what its acts say
 Awaits-like : (script : List Command) (made : MadeWorker) (x : Worker) (request : Request) → IsWorkerLike script made x → awaits x request.number request.op ≡ true → Awaits request.number request.op made
@@ -77,39 +72,29 @@ heard_reply h s w request answer by a m cause worker number op = record {
   same = record { worker = m.worker ∙ sym worker; number = m.number ∙ sym number; op = m.op ∙ sym op };
 }
 
-accepted_keeps : (cast : Cast) (h : List Note) (s w : ℕ) (x : Worker) (request : Request) (answer : Answer) (by : ℕ) → IsWorkerLike (script_numbered cast.scripts w) (made_of h w) x →
+pub accepted_keeps : (cast : Cast) (h : List Note) (s w : ℕ) (x : Worker) (request : Request) (answer : Answer) (by : ℕ) → IsWorkerLike (script_numbered cast.scripts w) (made_of h w) x →
     IsReplyOf h s w request answer by → awaits x request.number request.op ≡ true →
-    Keeps cast h (ids.Worker w) (IsWorker x) (accepted_plan (ids.Worker w) w request answer by (heard (script_numbered cast.scripts w) x answer))
+    Keeps cast h (ids.Worker w) (Some (IsWorker x)) (accepted_plan (ids.Worker w) w request answer by (heard (script_numbered cast.scripts w) x answer))
 accepted_keeps cast h s w x request answer by like m e =
     let script : List Command = script_numbered cast.scripts w in
     let made : MadeWorker = made_of h w in
-    let a : Act = act_of (ids.Worker w) by w request (whats.Accepted answer) in record {
+    let a : Act = act_of (ids.Worker w) by w request (whats.Accepted answer) in act_keeps cast h (ids.Worker w) (IsWorker x) (changes.Work (heard script x answer)) [] a (record {
       own = refl;
       may = (refl, Awaits-like script made x request like e);
       fits = heard_reply h s w request answer by a m refl refl refl refl;
       like = like-push script (acts_in_line h (ids.Worker w)) a (heard script x answer)
           (record { asked = refl; after = heard-after script made.answers x request.op answer like.after (awaits-is x request.number request.op e).1 });
       sends = tt;
-    }
+    })
 
-ignored_keeps : (cast : Cast) (h : List Note) (s w : ℕ) (x : Worker) (request : Request) (answer : Answer) (by : ℕ) → IsWorkerLike (script_numbered cast.scripts w) (made_of h w) x →
-    IsReplyOf h s w request answer by → awaits x request.number request.op ≡ false → Keeps cast h (ids.Worker w) (IsWorker x) (ignored_plan (ids.Worker w) w request by (Some answer))
+pub ignored_keeps : (cast : Cast) (h : List Note) (s w : ℕ) (x : Worker) (request : Request) (answer : Answer) (by : ℕ) → IsWorkerLike (script_numbered cast.scripts w) (made_of h w) x →
+    IsReplyOf h s w request answer by → awaits x request.number request.op ≡ false → Keeps cast h (ids.Worker w) (Some (IsWorker x)) (ignored_plan (ids.Worker w) w request by (Some answer))
 ignored_keeps cast h s w x request answer by like m e =
     let script : List Command = script_numbered cast.scripts w in
-    let a : Act = act_of (ids.Worker w) by w request (whats.Ignored (Some answer)) in record {
+    let a : Act = act_of (ids.Worker w) by w request (whats.Ignored (Some answer)) in act_keeps cast h (ids.Worker w) (IsWorker x) changes.Stay [] a (record {
       own = refl;
       may = (refl, λ k. false≢true (sym e ∙ awaits-from_Awaits script (made_of h w) x request like k));
       fits = heard_reply h s w request answer by a m refl refl refl refl;
       like = like-push script (acts_in_line h (ids.Worker w)) a x like;
       sends = tt;
-    }
-
-pub reply_keeps : (cast : Cast) (h : List Note) (s w : ℕ) (x : Worker) (request : Request) (answer : Answer) (by : ℕ) → IsWorkerLike (script_numbered cast.scripts w) (made_of h w) x →
-    IsReplyOf h s w request answer by → Keeps cast h (ids.Worker w) (IsWorker x) (reply_plan (ids.Worker w) (script_numbered cast.scripts w) x w request answer by)
-reply_keeps cast h s w x request answer by like m = at (awaits x request.number request.op) refl
-  where
-    at : (r : Bool) → awaits x request.number request.op ≡ r →
-        Keeps cast h (ids.Worker w) (IsWorker x)
-        (if r then accepted_plan (ids.Worker w) w request answer by (heard (script_numbered cast.scripts w) x answer) else ignored_plan (ids.Worker w) w request by (Some answer))
-    at true e = accepted_keeps cast h s w x request answer by like m e
-    at false e = ignored_keeps cast h s w x request answer by like m e
+    })

@@ -14,42 +14,43 @@ use Rattle.kt_core.specs.declared.node.BagChange.{BagChange}
 use Rattle.kt_core.specs.declared.node.BagChange.TheVariants as changes
 
 abbrev pub one_later : Option ℕ → Option ℕ
-one_later place = option_map suc place
+one_later index = option_map suc index
 
--- the place of the match with this number, both counted from 0, in order of arrival
-unfoldable pub place_of : Template → ℕ → List Tuple → Option ℕ
-place_of t number [] = None
-place_of t zero (u ∷ later) = if matches t u then Some 0 else one_later (place_of t zero later)
-place_of t (suc number) (u ∷ later) = if matches t u then one_later (place_of t number later) else one_later (place_of t (suc number) later)
+-- the index of the match with this place among the matches, both counted from 0, in order of arrival
+unfoldable pub index_of_match : Template → ℕ → List Tuple → Option ℕ
+index_of_match t place [] = None
+index_of_match t zero (u ∷ later) = if matches t u then Some 0 else one_later (index_of_match t zero later)
+index_of_match t (suc place) (u ∷ later) =
+    if matches t u then one_later (index_of_match t place later) else one_later (index_of_match t (suc place) later)
 
 -- where no tuple matches, an operation that does not wait finds nothing
 abbrev pub found_nothing : ℕ → Option Choice
-found_nothing number = if number == 0 then Some choices.Nothing else None
+found_nothing place = if place == 0 then Some choices.Nothing else None
 
 abbrev pub taken_or_nothing : ℕ → Option ℕ → Option Choice
-taken_or_nothing number None = found_nothing number
-taken_or_nothing number (Some place) = Some (choices.Take place)
+taken_or_nothing place None = found_nothing place
+taken_or_nothing place (Some index) = Some (choices.Take index)
 
 abbrev pub read_or_nothing : ℕ → Option ℕ → Option Choice
-read_or_nothing number None = found_nothing number
-read_or_nothing number (Some place) = Some (choices.Read place)
+read_or_nothing place None = found_nothing place
+read_or_nothing place (Some index) = Some (choices.Read index)
 
--- how the operation is served with the match of this number, if there is one
+-- how the operation is served with the match of this place, if there is one
 abbrev pub choice_of : List Tuple → Op → ℕ → Option Choice
-choice_of bag (Out u) number = if number == 0 then Some choices.Put else None
-choice_of bag (In t) number = option_map choices.Take (place_of t number bag)
-choice_of bag (Rd t) number = option_map choices.Read (place_of t number bag)
-choice_of bag (Inp t) number = taken_or_nothing number (place_of t number bag)
-choice_of bag (Rdp t) number = read_or_nothing number (place_of t number bag)
+choice_of bag (Out u) place = if place == 0 then Some choices.Put else None
+choice_of bag (In t) place = option_map choices.Take (index_of_match t place bag)
+choice_of bag (Rd t) place = option_map choices.Read (index_of_match t place bag)
+choice_of bag (Inp t) place = taken_or_nothing place (index_of_match t place bag)
+choice_of bag (Rdp t) place = read_or_nothing place (index_of_match t place bag)
 
--- the tuple at this place
+-- the tuple at this index
 abbrev pub tuple_at : List Tuple → ℕ → Tuple
-tuple_at bag place = slice_index_or bag place []
+tuple_at bag index = slice_index_or bag index []
 
 abbrev pub answer_of : List Tuple → Choice → Answer
 answer_of bag choices.Put = answers.Done
-answer_of bag (choices.Take place) = answers.Got (tuple_at bag place)
-answer_of bag (choices.Read place) = answers.Got (tuple_at bag place)
+answer_of bag (choices.Take index) = answers.Got (tuple_at bag index)
+answer_of bag (choices.Read index) = answers.Got (tuple_at bag index)
 answer_of bag choices.Nothing = answers.None
 
 -- what is put where the operation puts
@@ -62,13 +63,13 @@ put_of (Rdp t) = changes.Stay
 
 abbrev pub bag_change_of : Op → Choice → BagChange
 bag_change_of op choices.Put = put_of op
-bag_change_of op (choices.Take place) = changes.Take place
-bag_change_of op (choices.Read place) = changes.Stay
+bag_change_of op (choices.Take index) = changes.Take index
+bag_change_of op (choices.Read index) = changes.Stay
 bag_change_of op choices.Nothing = changes.Stay
 
 -- the choice names a tuple that is there
 abbrev pub IsInBag : List Tuple → Choice → Type 0
 IsInBag bag choices.Put = Unit {0}
-IsInBag bag (choices.Take place) = place < length bag
-IsInBag bag (choices.Read place) = place < length bag
+IsInBag bag (choices.Take index) = index < length bag
+IsInBag bag (choices.Read index) = index < length bag
 IsInBag bag choices.Nothing = Unit {0}

@@ -1,196 +1,121 @@
--- What a step does to the state of a world: the table of steps, and of what is made of each message that
--- arrives. Of several refusals the first that stands is given.
-use Rattle.std.specs.Prelude.{ℕ, ◌+◌, ◌==◌, nat_lt, Bool, true, false, ◌&&◌, if◌then◌else◌, find, reverse, List, [], ◌∷◌, ◌++◌, length, drop, Option, None, Some, Result, Ok, Err, remove}
+-- What a step does to the state of a world. A step is a refusal, or one plan of its owner that is put into effect:
+-- the owner changes, what was heard is off its link, what is sent is on its way, and at most one note is made.
+use Rattle.std.specs.Prelude.{ℕ, ◌+◌, List, [], ◌∷◌, ◌++◌, length, drop, Option, None, Some, Result, Ok, Err, remove}
+use Rattle.std.specs.Option.{option_map}
 use Rattle.kt_tuple.specs.declared.node.NodeId.{NodeId}
-use Rattle.kt_tuple.specs.declared.node.NodeId.TheVariants as ids
-use Rattle.kt_tuple.specs.declared.op.Op.{Op}
 use Rattle.kt_tuple.specs.declared.tuple.Tuple.{Tuple}
 use Rattle.kt_tuple.specs.Node.{node_index}
-use Rattle.kt_tuple.specs.Signature.{kinds_of_op, shard_of}
-use Rattle.kt_script.specs.declared.command.Command.{Command}
-use Rattle.kt_history.specs.declared.note.What.{What}
-use Rattle.kt_history.specs.declared.note.What.TheVariants as whats
-use Rattle.kt_history.specs.declared.note.Act.{Act}
 use Rattle.kt_history.specs.declared.note.Note.{Note}
-use Rattle.kt_history.specs.declared.note.Note.TheVariants as notes
-use Rattle.kt_history.specs.Line.{line}
-use Rattle.kt_history.specs.Closed.{acts_at}
-use Rattle.kt_worker.specs.declared.worker.Worker.{Worker}
 use Rattle.kt_worker.specs.Standing.{next_request, issued}
 use Rattle.kt_core.specs.declared.node.Request.{Request}
 use Rattle.kt_core.specs.declared.node.Kept.{Kept}
 use Rattle.kt_core.specs.declared.node.Desk.{Desk}
 use Rattle.kt_core.specs.declared.node.Message.{Message}
-use Rattle.kt_core.specs.declared.node.Message.TheVariants.{Ask, Reply}
 use Rattle.kt_core.specs.declared.node.BagChange.{BagChange}
 use Rattle.kt_core.specs.declared.node.BagChange.TheVariants as bags
 use Rattle.kt_core.specs.declared.node.Change.{Change}
 use Rattle.kt_core.specs.declared.node.Change.TheVariants as changes
-use Rattle.kt_core.specs.declared.choice.Choice.{Choice}
 use Rattle.kt_core.specs.declared.plan.Plan.{Plan}
 use Rattle.kt_core.specs.declared.step.Step.{Step}
 use Rattle.kt_core.specs.declared.step.Step.TheVariants.{Issue, Deliver, Serve}
 use Rattle.kt_core.specs.declared.step.StepError.{StepError}
-use Rattle.kt_core.specs.declared.step.StepError.TheVariants as refusals
 use Rattle.kt_core.specs.Step.{owner}
-use Rattle.kt_core.specs.State.{State, Part, Nobody, IsWorker, IsStore, Store, at, put, node, link, link_index, node_number, worker_of}
-use Rattle.kt_core.specs.Asks.{script_numbered}
+use Rattle.kt_link.specs.Network.{entry_at, with_entry}
+use Rattle.kt_core.specs.State.{State, Body, IsWorker, IsShard, Node, Shard, at, put, node, link_place, node_number}
+use Rattle.kt_core.specs.Cause.{cause_of_waiting}
 use Rattle.kt_core.specs.Desk.{empty_desk}
-use Rattle.kt_core.specs.Choice.{choice_of, answer_of, bag_change_of}
-use Rattle.kt_core.specs.Plan.{issue_plan, request_plan, ignored_plan, reply_plan, service_plan}
+use Rattle.kt_core.specs.Choice.{answer_of, bag_change_of}
+use Rattle.kt_core.specs.Judge.{Found, Asks, Hears, Serves, map_ok, allowed}
+use Rattle.kt_core.specs.Plan.{asks_plan, arrival_plan, service_plan}
 
--- ---- which steps are allowed, and what they do
-
--- after 100,000 steps no more is made
-abbrev pub limited : State → Plan → Result Plan StepError
-limited s plan = if nat_lt s.made 100000 then Ok plan else Err refusals.StepLimit
+-- ---- the plan
 
 -- the number of the next note
-abbrev pub next_note : State → ℕ
-next_note s = length s.history + 1
+abbrev pub next_note : List Note → ℕ
+next_note h = length h + 1
 
--- the shard that is the home of the operation's tuples
-abbrev pub home : ℕ → Op → NodeId
-home shards op = ids.Shard (shard_of shards (kinds_of_op op))
-
--- the script of a worker
-abbrev pub script_of : State → NodeId → List Command
-script_of s p = script_numbered s.scripts (node_number p)
-
--- the worker makes this request, and becomes the asker
-abbrev pub issue_request : State → NodeId → Worker → Option (ℕ × Op) → Result Plan StepError
-issue_request s p asker None = Err refusals.NothingThere
-issue_request s p asker (Some r) =
-    limited s (issue_plan p (node_number p) (record { number = r.0; op = r.1 }) (home s.shards r.1) (next_note s) asker)
-
--- a worker that waits for nothing asks for its script's next operation
-abbrev pub issue_of : State → NodeId → Option Worker → Result Plan StepError
-issue_of s p None = Err refusals.NoNode
-issue_of s p (Some x) = issue_request s p (issued (script_of s p) x) (next_request (script_of s p) x)
-
--- a shard hears a request by its desk for the sender, and ignores a reply
-abbrev pub heard_by_store : State → NodeId → NodeId → Store → Message → Plan
-heard_by_store s p q y (Ask request by) =
-    request_plan q (at empty_desk y.desks (node_number p)) (node_number p) request by (next_note s)
-heard_by_store s p q y (Reply request answer by) = ignored_plan q (node_number p) request by (Some answer)
-
--- a worker hears a reply, and ignores a request
-abbrev pub heard_by_worker : State → NodeId → Worker → Message → Plan
-heard_by_worker s q x (Ask request by) = ignored_plan q (node_number q) request by None
-heard_by_worker s q x (Reply request answer by) = reply_plan q (script_of s q) x (node_number q) request answer by
-
-abbrev pub delivery_to_store : State → NodeId → NodeId → Store → List Message → Result Plan StepError
-delivery_to_store s p q y [] = Err refusals.NothingThere
-delivery_to_store s p q y (message ∷ later) = limited s (heard_by_store s p q y message)
-
-abbrev pub delivery_to_worker : State → NodeId → Worker → List Message → Result Plan StepError
-delivery_to_worker s q x [] = Err refusals.NothingThere
-delivery_to_worker s q x (message ∷ later) = limited s (heard_by_worker s q x message)
-
--- the first message of a link between a worker and a shard is heard
-abbrev pub delivery_of : State → NodeId → NodeId → Part → Part → Result Plan StepError
-delivery_of s p q (IsWorker x) (IsStore y) = delivery_to_store s p q y (link s p q)
-delivery_of s p q (IsStore y) (IsWorker x) = delivery_to_worker s q x (link s p q)
-delivery_of s p q _ _ = Err refusals.NoNode
-
--- the act is the hearing of a request of the worker with this number
-abbrev pub is_hearing : What → Bool
-is_hearing whats.Heard = true
-is_hearing _ = false
-
-abbrev pub hears_worker : ℕ → Act → Bool
-hears_worker worker a = is_hearing a.what && (a.worker == worker)
-
-abbrev pub cause_of : Option Act → ℕ
-cause_of None = 0
-cause_of (Some a) = a.by
-
--- the cause of the last hearing of the worker among the acts of these numbers
-abbrev pub cause_among : List Note → List ℕ → ℕ → ℕ
-cause_among h numbers worker = cause_of (find (hears_worker worker) (reverse (acts_at h numbers)))
-
--- the cause of the hearing that put the worker's request in waiting: the last hearing in the shard's line
-abbrev pub cause_of_waiting : List Note → NodeId → ℕ → ℕ
-cause_of_waiting h p worker = cause_among h (line h p) worker
-
-abbrev pub service_choice : State → NodeId → ℕ → Store → Request → Option Choice → Result Plan StepError
-service_choice s p worker y request None = Err refusals.NoSuchMatch
-service_choice s p worker y request (Some choice) =
-    limited s (service_plan p worker request (answer_of y.bag choice) (bag_change_of request.op choice) (cause_of_waiting s.history p worker) (next_note s))
-
-abbrev pub service_at : State → NodeId → ℕ → ℕ → Store → Option Request → Result Plan StepError
-service_at s p worker place y None = Err refusals.NothingThere
-service_at s p worker place y (Some request) = service_choice s p worker y request (choice_of y.bag request.op place)
-
--- a shard serves a worker that waits there, with the match of this number
-abbrev pub service_of : State → NodeId → NodeId → ℕ → Part → Part → Result Plan StepError
-service_of s p w place (IsStore y) (IsWorker x) =
-    service_at s p (node_number w) place y (at empty_desk y.desks (node_number w)).waiting
-service_of s p w place _ _ = Err refusals.NoNode
+-- the plan of the node p, among so many shards and after these notes, for what was found
+abbrev pub plan_of : ℕ → List Note → NodeId → Found → Plan
+plan_of shards h p (Asks script x) = asks_plan shards p (next_note h) (issued script x) (next_request script x)
+plan_of shards h p (Hears q hearer message) = arrival_plan p (node_number q) hearer message (next_note h)
+plan_of shards h p (Serves worker y request choice) =
+    service_plan p worker request (answer_of y.bag choice) (bag_change_of request.op choice) (cause_of_waiting h p worker) (next_note h)
 
 -- the plan of a step, or its refusal
 abbrev pub planned : State → Step → Result Plan StepError
-planned s (Issue p) = issue_of s p (worker_of (node s p))
-planned s (Deliver p q) = delivery_of s p q (node s p) (node s q)
-planned s (Serve p w place) = service_of s p w place (node s p) (node s w)
+planned s step = map_ok (plan_of s.cast.shards s.history (owner step)) (allowed s step)
 
 -- ---- how a plan changes the state
 
-abbrev pub bag_after : List Tuple → BagChange → List Tuple
-bag_after bag (bags.Put u) = bag ++ u ∷ []
-bag_after bag (bags.Take place) = remove bag place
-bag_after bag bags.Stay = bag
+abbrev pub changed_bag : List Tuple → BagChange → List Tuple
+changed_bag bag (bags.Put u) = bag ++ u ∷ []
+changed_bag bag (bags.Take index) = remove bag index
+changed_bag bag bags.Stay = bag
 
 -- the desk of the worker with this number, as it becomes
-abbrev pub with_desk : Store → ℕ → Desk → Store
+abbrev pub with_desk : Shard → ℕ → Desk → Shard
 with_desk y worker desk = record y { desks = put empty_desk y.desks worker desk }
 
 -- the worker of this number waits with the request
-abbrev pub waiting_store : Store → ℕ → Request → Store
-waiting_store y worker request =
+abbrev pub waiting_shard : Shard → ℕ → Request → Shard
+waiting_shard y worker request =
     with_desk y worker (record { waiting = Some request; kept = (at empty_desk y.desks worker).kept })
 
 -- the worker of this number was served, and this is kept
-abbrev pub served_store : Store → ℕ → BagChange → Kept → Store
-served_store y worker bag kept =
-    with_desk (record y { bag = bag_after y.bag bag }) worker (record { waiting = None; kept = Some kept })
+abbrev pub served_shard : Shard → ℕ → BagChange → Kept → Shard
+served_shard y worker bag kept =
+    with_desk (record y { bag = changed_bag y.bag bag }) worker (record { waiting = None; kept = Some kept })
 
-abbrev pub changed : Part → Change → Part
-changed (IsWorker x) (changes.Work becomes) = IsWorker becomes
-changed (IsStore y) (changes.Wait worker request) = IsStore (waiting_store y worker request)
-changed (IsStore y) (changes.Serve worker bag kept) = IsStore (served_store y worker bag kept)
-changed part _ = part
+abbrev pub changed_body : Body → Change → Body
+changed_body (IsWorker x) (changes.Work becomes) = IsWorker becomes
+changed_body (IsShard y) (changes.Wait worker request) = IsShard (waiting_shard y worker request)
+changed_body (IsShard y) (changes.Serve worker bag kept) = IsShard (served_shard y worker bag kept)
+changed_body body _ = body
 
--- the links with this message at the end of the one from p
-abbrev pub sent : List (List Message) → NodeId → Option (NodeId × Message) → List (List Message)
-sent links p None = links
-sent links p (Some message) =
-    put [] links (link_index p message.0) (at [] links (link_index p message.0) ++ message.1 ∷ [])
+abbrev pub changed_node : Change → Node → Node
+changed_node change n = record n { body = option_map (λ body. changed_body body change) n.body }
+
+-- what becomes of a row
+abbrev pub changed : Option Node → Change → Option Node
+changed row change = option_map (changed_node change) row
+
+-- where the link of an ordered pair of nodes stands, if they are neighbours
+abbrev pub Way : Type 0
+Way = NodeId → NodeId → Option ℕ
+
+-- the links with one message more at the end of the one from p to its receiver
+abbrev pub sent_one : Way → List (List Message) → NodeId → NodeId × Message → List (List Message)
+sent_one way links p message = with_entry links (way p message.0) (entry_at [] links (way p message.0) ++ message.1 ∷ [])
+
+-- and with all of these
+unfoldable pub sent : Way → List (List Message) → NodeId → List (NodeId × Message) → List (List Message)
+sent way links p [] = links
+sent way links p (message ∷ later) = sent way (sent_one way links p message) p later
 
 -- the links with the first message taken off the one that a delivery comes by
-abbrev pub taken_off : List (List Message) → Step → List (List Message)
-taken_off links (Issue p) = links
-taken_off links (Deliver p q) = put [] links (link_index p q) (drop 1 (at [] links (link_index p q)))
-taken_off links (Serve p w place) = links
+abbrev pub taken_off : Way → List (List Message) → Step → List (List Message)
+taken_off way links (Issue p) = links
+taken_off way links (Deliver p q) = with_entry links (way p q) (drop 1 (entry_at [] links (way p q)))
+taken_off way links (Serve p w place) = links
+
+-- the notes with at most one more
+abbrev pub noted : List Note → Option Note → List Note
+noted h None = h
+noted h (Some note) = h ++ note ∷ []
 
 -- the state with the step's plan carried out: its owner is changed, what is sent is on its way, what was
 -- heard is off its link, and the note is made; all else stays
 abbrev pub applied : State → Step → Plan → State
 applied s step plan =
     let p = owner step in record {
-      shards = s.shards;
-      scripts = s.scripts;
-      nodes = put Nobody s.nodes (node_index p) (changed (node s p) plan.change);
-      links = taken_off (sent s.links p plan.send) step;
-      history = s.history ++ notes.Act plan.note ∷ [];
+      cast = s.cast;
+      nodes = put None s.nodes (node_index p) (changed (node s p) plan.change);
+      links = sent (link_place s.cast) (taken_off (link_place s.cast) s.links step) p plan.send;
+      history = noted s.history plan.note;
       own = put 0 s.own (node_index p) (at 0 s.own (node_index p) + 1);
       made = s.made + 1;
     }
 
-abbrev pub applied_if_planned : State → Step → Result Plan StepError → Result State StepError
-applied_if_planned s step (Ok plan) = Ok (applied s step plan)
-applied_if_planned s step (Err refusal) = Err refusal
-
 -- the state that a step leads to, or its refusal
 abbrev pub step_result : State → Step → Result State StepError
-step_result s step = applied_if_planned s step (planned s step)
+step_result s step = map_ok (applied s step) (planned s step)

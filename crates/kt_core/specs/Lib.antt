@@ -17,4 +17,9 @@ pub mod Effect
 pub mod Ready
 pub mod Machine
 pub mod Reached
+pub mod Limits
+pub mod Judge
+pub mod Cause
+pub mod Traffic
+pub mod Views
 pub mod Runs

@@ -1,42 +1,47 @@
 -- The code's state as plain data, and what its calls answer.
-use Rattle.std.specs.Prelude.{◌≡◌, ◌<◌, map, Result, Ok, Err, IsOk, IfSome}
+use Rattle.std.specs.Prelude.{◌≡◌, ◌≤◌, length, map, None, Result, Ok, Err, IsOk}
+use Rattle.std.specs.List.{AllByRecursion}
+use Rattle.kt_tuple.specs.declared.node.NodeId.{NodeId}
 use Rattle.kt_tuple.specs.Node.{node_index}
-use Rattle.kt_history.specs.declared.note.Note.TheVariants as notes
-use Rattle.kt_history.specs.WellFormed.{MayFollow}
-use Rattle.kt_core.specs.declared.machine.Machine.{Machine}
+use Rattle.kt_history.specs.Chronicle.{room_of}
+use Rattle.kt_link.specs.Network.{room}
 use Rattle.kt_core.specs.declared.plan.Plan.{Plan}
-use Rattle.kt_core.specs.declared.step.Step.{Step}
+use Rattle.kt_core.specs.Ready.{HasRoom}
+use Rattle.kt_core.specs.declared.judge.Found.{Found as FoundCode}
+use Rattle.kt_core.specs.declared.machine.Machine.{Machine}
 use Rattle.kt_core.specs.declared.step.StepError.{StepError}
 use Rattle.kt_core.specs.declared.step.StepError.TheVariants as refusals
-use Rattle.kt_core.specs.Step.{owner}
-use Rattle.kt_core.specs.State.{State, part_of, node, link_index, queues_of}
-use Rattle.kt_core.specs.Ready.{CanChange, HasLink}
+use Rattle.kt_core.specs.State.{State, at, row_view}
+use Rattle.kt_core.specs.Judge.{Found}
+use Rattle.kt_core.specs.Views.{found_view}
 
 abbrev pub state_of : Machine → State
 state_of m = record {
-  shards = m.scene.shards;
-  scripts = m.scene.scripts;
-  nodes = map part_of m.nodes.items;
-  links = queues_of m.links.items;
-  history = m.history;
+  cast = m.scene;
+  nodes = map row_view m.nodes.items;
+  links = m.links.queues;
+  history = m.history.notes;
   own = m.own.items;
   made = m.made;
 }
+
+-- what the plan of the node p brings takes no more memory
+pub record HasRoomFor (m : Machine) (p : NodeId) (plan : Plan) : Type 0 where
+  pub node : HasRoom (at None m.nodes.items (node_index p))
+  pub links : AllByRecursion (λ x. length plan.send ≤ room m.links p x.0) plan.send
+  pub history : 1 ≤ room_of m.history p
 
 -- the refusal is the one that is due; where none is, memory ran out
 abbrev pub Refuses : {Y : Type 0} → StepError → Result Y StepError → Type 0
 Refuses refusals.OutOfMemory due = IsOk due
 Refuses refusal due = due ≡ Err refusal
 
+-- what was found is what is due
+abbrev pub Finds : Result FoundCode StepError → Result Found StepError → Type 0
+Finds (Ok found) due = due ≡ Ok (found_view found)
+Finds (Err refusal) due = due ≡ Err refusal
+
 -- what was answered is what is due, unless memory ran out
 abbrev pub Gives : {Y : Type 0} → Result Y StepError → Result Y StepError → Type 0
 Gives (Ok y) due = due ≡ Ok y
 Gives (Err refusal) due = Refuses refusal due
-
--- the plan can be carried out in this state
-pub record CanApply (s : State) (step : Step) (plan : Plan) : Type 0 where
-  pub row : node_index (owner step) < 18
-  pub link : HasLink 324 step
-  pub send : IfSome plan.send (λ m. link_index (owner step) m.0 < 324)
-  pub change : CanChange (node s (owner step)) plan.change
-  pub note : MayFollow s.history (notes.Act plan.note)

@@ -1,58 +1,86 @@
 -- What a step does, as a function of what its owner sees: its own state, the message that it hears, and the
 -- number of the next note.
-use Rattle.std.specs.Prelude.{ℕ, nat_lt, if◌then◌else◌, List, Option, None, Some}
+use Rattle.std.specs.Prelude.{ℕ, nat_lt, if◌then◌else◌, List, [], ◌∷◌, Option, None, Some}
 use Rattle.kt_tuple.specs.declared.node.NodeId.{NodeId}
-use Rattle.kt_tuple.specs.declared.node.NodeId.TheVariants.{Worker as worker_named}
+use Rattle.kt_tuple.specs.declared.node.NodeId.TheVariants as ids
+use Rattle.kt_tuple.specs.declared.op.Op.{Op}
 use Rattle.kt_tuple.specs.declared.op.Answer.{Answer}
+use Rattle.kt_tuple.specs.Signature.{kinds_of_op, shard_of}
 use Rattle.kt_history.specs.declared.note.What.{What}
 use Rattle.kt_history.specs.declared.note.What.TheVariants as whats
 use Rattle.kt_history.specs.declared.note.Act.{Act}
+use Rattle.kt_history.specs.declared.note.Note.{Note}
+use Rattle.kt_history.specs.declared.note.Note.TheVariants as notes
 use Rattle.kt_script.specs.declared.command.Command.{Command}
 use Rattle.kt_worker.specs.declared.worker.Worker.{Worker}
 use Rattle.kt_worker.specs.Standing.{awaits, heard}
 use Rattle.kt_core.specs.declared.node.Request.{Request}
 use Rattle.kt_core.specs.declared.node.Desk.{Desk}
 use Rattle.kt_core.specs.declared.node.BagChange.{BagChange}
-use Rattle.kt_core.specs.declared.node.Message.TheVariants.{Ask, Reply}
+use Rattle.kt_core.specs.declared.node.Message.{Message}
+use Rattle.kt_core.specs.declared.node.Message.TheVariants as messages
 use Rattle.kt_core.specs.declared.node.Change.TheVariants as changes
 use Rattle.kt_core.specs.declared.plan.Plan.{Plan}
-use Rattle.kt_core.specs.Desk.{newest, kept_answer}
+use Rattle.kt_core.specs.State.{at, node_number}
+use Rattle.kt_core.specs.Judge.{Hearer, NoHearer, ByWorker, ByShard}
+use Rattle.kt_core.specs.Desk.{empty_desk, newest, kept_answer}
 
 -- an act of p about a request of the worker of this number
 abbrev pub act_of : NodeId → ℕ → ℕ → Request → What → Act
 act_of p by worker request what =
     record { node = p; by = by; worker = worker; number = request.number; op = request.op; what = what }
 
+-- and the note of it
+abbrev pub note_of : NodeId → ℕ → ℕ → Request → What → Option Note
+note_of p by worker request what = Some (notes.Act (act_of p by worker request what))
+
+-- the shard that is the home of the operation's tuples
+abbrev pub home : ℕ → Op → NodeId
+home shards op = ids.Shard (shard_of shards (kinds_of_op op))
+
+-- a request of this number and operation
+abbrev pub request_for : ℕ × Op → Request
+request_for r = record { number = r.0; op = r.1 }
+
+-- nothing is done, but for a message that is dropped
+abbrev pub empty_plan : Plan
+empty_plan = record { change = changes.Stay; send = []; note = None }
+
 -- the worker asks the shard, and becomes the asker
 abbrev pub issue_plan : NodeId → ℕ → Request → NodeId → ℕ → Worker → Plan
 issue_plan p worker request shard next asker = record {
   change = changes.Work asker;
-  send = Some (shard, Ask request next);
-  note = act_of p 0 worker request whats.Issue;
+  send = (shard, messages.Request request next) ∷ [];
+  note = note_of p 0 worker request whats.Issue;
 }
+
+-- the worker asks for what is next, if anything is
+abbrev pub asks_plan : ℕ → NodeId → ℕ → Worker → Option (ℕ × Op) → Plan
+asks_plan shards p next asker None = empty_plan
+asks_plan shards p next asker (Some r) = issue_plan p (node_number p) (request_for r) (home shards r.1) next asker
 
 -- the worker waits at the shard from now on
 abbrev pub heard_plan : NodeId → ℕ → Request → ℕ → Plan
 heard_plan p worker request by = record {
   change = changes.Wait worker request;
-  send = None;
-  note = act_of p by worker request whats.Heard;
+  send = [];
+  note = note_of p by worker request whats.Heard;
 }
 
 -- the shard sends the kept answer again
 abbrev pub again_plan : NodeId → ℕ → Request → ℕ → Answer → ℕ → Plan
 again_plan p worker request by answer next = record {
   change = changes.Stay;
-  send = Some (worker_named worker, Reply request answer next);
-  note = act_of p by worker request (whats.Again answer);
+  send = (ids.Worker worker, messages.Reply request answer next) ∷ [];
+  note = note_of p by worker request (whats.Again answer);
 }
 
 -- the node hears what changes nothing
 abbrev pub ignored_plan : NodeId → ℕ → Request → ℕ → Option Answer → Plan
 ignored_plan p worker request by answer = record {
   change = changes.Stay;
-  send = None;
-  note = act_of p by worker request (whats.Ignored answer);
+  send = [];
+  note = note_of p by worker request (whats.Ignored answer);
 }
 
 abbrev pub old_request_plan : NodeId → ℕ → Request → ℕ → ℕ → Option Answer → Plan
@@ -71,8 +99,8 @@ request_plan p desk worker request by next =
 abbrev pub accepted_plan : NodeId → ℕ → Request → Answer → ℕ → Worker → Plan
 accepted_plan p number request answer by hearer = record {
   change = changes.Work hearer;
-  send = None;
-  note = act_of p by number request (whats.Accepted answer);
+  send = [];
+  note = note_of p by number request (whats.Accepted answer);
 }
 
 -- the worker of this number and script hears a reply: it accepts the one that it waits for, and ignores all else
@@ -82,10 +110,19 @@ reply_plan p script worker number request answer by =
     then accepted_plan p number request answer by (heard script worker answer)
     else ignored_plan p number request by (Some answer)
 
+-- q hears a message from the node with the number n among its kind: a worker hears replies and a shard requests,
+-- each ignores the other, and a node that is down drops all
+abbrev pub arrival_plan : NodeId → ℕ → Hearer → Message → ℕ → Plan
+arrival_plan q n NoHearer message next = empty_plan
+arrival_plan q n (ByWorker script x) (messages.Request request by) next = ignored_plan q (node_number q) request by None
+arrival_plan q n (ByWorker script x) (messages.Reply request answer by) next = reply_plan q script x (node_number q) request answer by
+arrival_plan q n (ByShard y) (messages.Request request by) next = request_plan q (at empty_desk y.desks n) n request by next
+arrival_plan q n (ByShard y) (messages.Reply request answer by) next = ignored_plan q n request by (Some answer)
+
 -- the shard serves the request with which the worker waits
 abbrev pub service_plan : NodeId → ℕ → Request → Answer → BagChange → ℕ → ℕ → Plan
 service_plan p worker request answer bag by next = record {
   change = changes.Serve worker bag (record { request = request; answer = answer });
-  send = Some (worker_named worker, Reply request answer next);
-  note = act_of p by worker request (whats.Served answer);
+  send = (ids.Worker worker, messages.Reply request answer next) ∷ [];
+  note = note_of p by worker request (whats.Served answer);
 }

@@ -1,54 +1,52 @@
 -- The states that a world can be in: those that steps lead to from the opening of a scene.
-use Rattle.std.specs.Prelude.{◌≡◌, ℕ, zero, suc, nat_le, ◌&&◌, Bool, if◌then◌else◌, List, [], ◌∷◌, ◌++◌, replicate, Option, None, Some, Result, Ok, Err}
+use Rattle.std.specs.Prelude.{◌≡◌, ℕ, zero, suc, ◌*◌, if◌then◌else◌, length, List, [], ◌∷◌, ◌++◌, replicate, Option, None, Some, Result, Ok, Err}
 use Rattle.kt_script.specs.declared.command.Command.{Command}
 use Rattle.kt_worker.specs.Standing.{opening_standing}
 use Rattle.kt_core.specs.declared.step.Step.{Step}
 use Rattle.kt_core.specs.declared.step.StepError.{StepError}
-use Rattle.kt_core.specs.Asks.{script_at}
-use Rattle.kt_core.specs.Cast.{Cast, IsCast}
-use Rattle.kt_core.specs.State.{State, Part, Nobody, IsWorker, IsStore}
-use Rattle.kt_core.specs.Desk.{empty_desk}
 use Rattle.kt_core.specs.declared.step.Mode.{Mode}
-use Rattle.kt_core.specs.declared.step.Mode.TheVariants.{Up}
+use Rattle.kt_core.specs.declared.step.Mode.TheVariants.{Up, Down}
+use Rattle.kt_core.specs.Limits.{rows, desks}
+use Rattle.kt_core.specs.Cast.{Cast, IsCast, is_among, script_at}
+use Rattle.kt_core.specs.State.{State, Body, IsWorker, IsShard, Node}
+use Rattle.kt_core.specs.Desk.{empty_desk}
 use Rattle.kt_core.specs.Effect.{step_result}
 use Rattle.kt_core.specs.Ready.{IsReady}
 
--- the number names one of so many
-abbrev pub is_among : ℕ → ℕ → Bool
-is_among count n = nat_le 1 n && nat_le n count
+-- a row with a node that is up
+abbrev pub row_of : Body → Option Node
+row_of body = Some (record { body = Some body })
 
 -- a worker that has asked nothing, and a shard that holds nothing
-abbrev pub new_worker : List Command → Part
-new_worker script = IsWorker (opening_standing script)
+abbrev pub idle_worker : List Command → Option Node
+idle_worker script = row_of (IsWorker (opening_standing script))
 
-abbrev pub new_store : Part
-new_store = IsStore (record { bag = []; desks = replicate 9 empty_desk })
+abbrev pub empty_shard : Option Node
+empty_shard = row_of (IsShard (record { bag = []; desks = replicate desks empty_desk }))
 
-abbrev pub worker_if : Option (List Command) → Part
-worker_if None = Nobody
-worker_if (Some script) = new_worker script
+abbrev pub worker_if : Option (List Command) → Option Node
+worker_if None = None
+worker_if (Some script) = idle_worker script
 
-abbrev pub opening_worker : List (List Command) → ℕ → Part
+abbrev pub opening_worker : List (List Command) → ℕ → Option Node
 opening_worker scripts n = worker_if (script_at scripts n)
 
-abbrev pub opening_store : ℕ → ℕ → Part
-opening_store shards n = if is_among shards n then new_store else Nobody
+abbrev pub opening_shard : ℕ → ℕ → Option Node
+opening_shard shards n = if is_among shards n then empty_shard else None
 
 -- the rows of the workers and shards with a number below this one
-unfoldable pub opening_rows : List (List Command) → ℕ → ℕ → List Part
-opening_rows scripts shards zero = []
-opening_rows scripts shards (suc n) =
-    opening_rows scripts shards n ++ opening_worker scripts n ∷ opening_store shards n ∷ []
+unfoldable pub opening_rows : Cast → ℕ → List (Option Node)
+opening_rows cast zero = []
+opening_rows cast (suc n) = opening_rows cast n ++ opening_worker cast.scripts n ∷ opening_shard cast.shards n ∷ []
 
 -- nothing was done yet
 abbrev pub opening : Cast → State
 opening cast = record {
-  shards = cast.shards;
-  scripts = cast.scripts;
-  nodes = opening_rows cast.scripts cast.shards 9;
-  links = replicate 324 [];
+  cast = cast;
+  nodes = opening_rows cast desks;
+  links = replicate (2 * (length cast.scripts * cast.shards)) [];
   history = [];
-  own = replicate 18 0;
+  own = replicate rows 0;
   made = 0;
 }
 
@@ -72,13 +70,16 @@ pub record IsReached (s : State) : Type 0 where
   pub steps : List Step
   pub leads : after (opening cast) steps ≡ s
 
--- what every world keeps: it was reached by steps, and the next can be made
-pub record IsKept (s : State) : Type 0 where
+-- the state of a world: it was reached by steps, and the next can be made
+pub record IsWorld (s : State) : Type 0 where
   pub ready : IsReady s
   pub reached : IsReached s
 
--- a node of the scene is up
-abbrev pub mode_of : Part → Option Mode
-mode_of Nobody = None
-mode_of (IsWorker x) = Some Up
-mode_of (IsStore y) = Some Up
+abbrev pub mode_if : Option Body → Mode
+mode_if None = Down
+mode_if (Some body) = Up
+
+-- a node that works with something is up
+abbrev pub mode_of : Option Node → Option Mode
+mode_of None = None
+mode_of (Some n) = Some (mode_if n.body)

@@ -1,66 +1,96 @@
 -- What the state of a world keeps so that each step can be made: the tables have their rows, the counts are
 -- small, and each cause that is named is an earlier act.
-use Rattle.std.specs.Prelude.{◌≡◌, ◌≢◌, ℕ, ◌<◌, ◌≤◌, List, [], length, Contains, vec_len, vec_capacity}
+use Rattle.std.specs.Prelude.{◌≡◌, ◌≢◌, ℕ, ◌<◌, ◌≤◌, List, [], length, Option, None, Some, Contains, IfSome, vec_len, vec_capacity}
+use Rattle.std.specs.List.{AllByRecursion}
+use Rattle.kt_tuple.specs.declared.node.NodeId.{NodeId}
+use Rattle.kt_tuple.specs.declared.node.NodeId.TheVariants as ids
+use Rattle.kt_tuple.specs.Node.{node_index}
 use Rattle.kt_tuple.specs.declared.tuple.Tuple.{Tuple}
 use Rattle.kt_history.specs.declared.note.Note.{Note}
 use Rattle.kt_history.specs.Line.{IsAct}
-use Rattle.kt_history.specs.WellFormed.{CausesComeFirst}
-use Rattle.kt_core.specs.declared.node.Node.{Node}
-use Rattle.kt_core.specs.declared.node.Node.TheVariants as nodes
+use Rattle.kt_history.specs.WellFormed.{CausesComeFirst, MayFollow}
+use Rattle.kt_history.specs.Chronicle.{node_of}
+use Rattle.kt_link.specs.Network.{AreNeighbours}
+use Rattle.kt_core.specs.declared.node.Body.{Body as BodyCode}
+use Rattle.kt_core.specs.declared.node.Body.TheVariants as bodies
+use Rattle.kt_core.specs.declared.node.Node.{Node as NodeCode}
 use Rattle.kt_core.specs.declared.node.Message.{Message}
-use Rattle.kt_core.specs.declared.node.Message.TheVariants.{Ask, Reply}
+use Rattle.kt_core.specs.declared.node.Message.TheVariants as messages
 use Rattle.kt_core.specs.declared.node.BagChange.{BagChange}
 use Rattle.kt_core.specs.declared.node.BagChange.TheVariants as bags
 use Rattle.kt_core.specs.declared.node.Change.{Change}
 use Rattle.kt_core.specs.declared.node.Change.TheVariants as changes
-use Rattle.kt_core.specs.declared.step.Step.{Step}
-use Rattle.kt_core.specs.declared.step.Step.TheVariants.{Issue, Deliver, Serve}
-use Rattle.kt_core.specs.State.{State, Part, Nobody, IsWorker, IsStore, at, link_index}
+use Rattle.kt_core.specs.declared.plan.Plan.{Plan}
+use Rattle.kt_core.specs.Limits.{rows as row_count, desks as desk_count, most_steps}
+use Rattle.kt_core.specs.Cast.{IsCast}
+use Rattle.kt_core.specs.State.{State, Body, IsWorker, IsShard, Node, at, node, node_number, body_of}
+use Rattle.kt_core.specs.Choice.{IsInBag}
+use Rattle.kt_core.specs.Judge.{Hearer, NoHearer, ByWorker, ByShard, Found, Asks, Hears, Serves}
 
--- the shard has a desk for each number that a worker can have
-abbrev pub HasDesks : Part → Type 0
-HasDesks Nobody = Unit {0}
-HasDesks (IsWorker x) = Unit {0}
-HasDesks (IsStore y) = length y.desks ≡ 9
+-- what p works with is of its kind, and a shard has a desk for each number that a worker can have
+abbrev pub IsOfKind : NodeId → Option Body → Type 0
+IsOfKind p None = Unit {0}
+IsOfKind (ids.Worker n) (Some (IsWorker x)) = Unit {0}
+IsOfKind (ids.Worker n) (Some (IsShard y)) = ⊥
+IsOfKind (ids.Shard n) (Some (IsWorker x)) = ⊥
+IsOfKind (ids.Shard n) (Some (IsShard y)) = length y.desks ≡ desk_count
 
 -- the message names the act that sent it, if it names one
 abbrev pub NamesAct : List Note → Message → Type 0
-NamesAct h (Ask request by) = by ≢ 0 → IsAct h by
-NamesAct h (Reply request answer by) = by ≢ 0 → IsAct h by
+NamesAct h (messages.Request request by) = by ≢ 0 → IsAct h by
+NamesAct h (messages.Reply request answer by) = by ≢ 0 → IsAct h by
 
 pub record IsReady (s : State) : Type 0 where
-  pub some_shards : 1 ≤ s.shards
-  pub few_shards : s.shards ≤ 8
-  pub rows : length s.nodes ≡ 18
-  pub links : length s.links ≡ 324
-  pub counts : length s.own ≡ 18
-  pub desks : (k : ℕ) → HasDesks (at Nobody s.nodes k)
-  pub few_steps : s.made ≤ 100000
+  pub cast : IsCast s.cast
+  pub rows : length s.nodes ≡ row_count
+  pub counts : length s.own ≡ row_count
+  pub bodies : (p : NodeId) → IsOfKind p (body_of (node s p))
+  pub few_steps : s.made ≤ most_steps
   pub few_own : (k : ℕ) → at 0 s.own k ≤ s.made
   pub few_notes : length s.history ≤ s.made
   pub causes : CausesComeFirst s.history
   pub messages : (k : ℕ) (m : Message) → Contains (at [] s.links k) m → NamesAct s.history m
 
--- the place that is taken out is there
+-- the index that is taken out is there
 abbrev pub FitsBag : List Tuple → BagChange → Type 0
 FitsBag bag (bags.Put u) = Unit {0}
-FitsBag bag (bags.Take place) = place < length bag
+FitsBag bag (bags.Take index) = index < length bag
 FitsBag bag bags.Stay = Unit {0}
 
 -- the change can be made
-abbrev pub CanChange : Part → Change → Type 0
-CanChange (IsStore y) (changes.Wait worker request) = worker < length y.desks
-CanChange (IsStore y) (changes.Serve worker bag kept) = (worker < length y.desks) × FitsBag y.bag bag
+abbrev pub CanChange : Option Body → Change → Type 0
+CanChange (Some (IsShard y)) (changes.Wait worker request) = worker < length y.desks
+CanChange (Some (IsShard y)) (changes.Serve worker bag kept) = (worker < length y.desks) × FitsBag y.bag bag
 CanChange _ _ = Unit {0}
 
--- one more tuple takes no memory
-abbrev pub HasRoom : Node → Type 0
-HasRoom nodes.Nobody = Unit {0}
-HasRoom (nodes.Worker x) = Unit {0}
-HasRoom (nodes.Shard y) = vec_len y.bag < vec_capacity y.bag
+-- a shard that hears a message has a desk for its sender, and what serves is in the bag
+abbrev pub HearsWell : ℕ → Hearer → Type 0
+HearsWell n NoHearer = Unit {0}
+HearsWell n (ByWorker script x) = Unit {0}
+HearsWell n (ByShard y) = n < length y.desks
 
--- a delivery comes by a link of a table with so many
-abbrev pub HasLink : ℕ → Step → Type 0
-HasLink links (Issue p) = Unit {0}
-HasLink links (Deliver p q) = link_index p q < links
-HasLink links (Serve p w place) = Unit {0}
+abbrev pub CanPlan : Found → Type 0
+CanPlan (Asks script x) = Unit {0}
+CanPlan (Hears p hearer message) = HearsWell (node_number p) hearer
+CanPlan (Serves worker y request choice) = IsInBag y.bag choice
+
+-- the plan can be carried out: its node has a row, it sends to neighbours alone, and notes what may follow
+pub record CanApply (s : State) (p : NodeId) (plan : Plan) : Type 0 where
+  pub row : node_index p < row_count
+  pub send : AllByRecursion (λ m. AreNeighbours (length s.cast.scripts) s.cast.shards p m.0) plan.send
+  pub change : CanChange (body_of (node s p)) plan.change
+  pub note : IfSome plan.note (MayFollow s.history)
+  pub own : IfSome plan.note (λ note. node_of note ≡ p)
+
+-- one more tuple takes no memory
+abbrev pub BodyHasRoom : BodyCode → Type 0
+BodyHasRoom (bodies.Worker x) = Unit {0}
+BodyHasRoom (bodies.Shard y) = vec_len y.bag < vec_capacity y.bag
+
+abbrev pub HasRoomIn : Option BodyCode → Type 0
+HasRoomIn None = Unit {0}
+HasRoomIn (Some body) = BodyHasRoom body
+
+abbrev pub HasRoom : Option NodeCode → Type 0
+HasRoom None = Unit {0}
+HasRoom (Some n) = HasRoomIn n.body

@@ -1,19 +1,20 @@
 -- The state of a world, as plain data.
-use Rattle.std.specs.Prelude.{ℕ, zero, suc, ◌+◌, ◌*◌, ◌≤◌, List, [], ◌∷◌, length, map, Option, None, Some, slice_index_or}
-use Rattle.std.specs.declared.collections.VecDeque.{VecDeque}
-use Rattle.std.specs.declared.alloc.Global.{Global}
+use Rattle.std.specs.Prelude.{ℕ, zero, suc, ◌≤◌, List, [], ◌∷◌, length, Option, None, Some, slice_index_or}
+use Rattle.std.specs.Option.{option_map}
 use Rattle.kt_tuple.specs.declared.node.NodeId.{NodeId}
 use Rattle.kt_tuple.specs.declared.node.NodeId.TheVariants as ids
 use Rattle.kt_tuple.specs.declared.tuple.Tuple.{Tuple}
 use Rattle.kt_tuple.specs.Node.{node_index}
 use Rattle.kt_history.specs.declared.note.Note.{Note}
-use Rattle.kt_script.specs.declared.command.Command.{Command}
 use Rattle.kt_worker.specs.declared.worker.Worker.{Worker}
 use Rattle.kt_core.specs.declared.node.Desk.{Desk}
-use Rattle.kt_core.specs.declared.node.Shard.{Shard}
-use Rattle.kt_core.specs.declared.node.Node.{Node}
-use Rattle.kt_core.specs.declared.node.Node.TheVariants as nodes
+use Rattle.kt_core.specs.declared.node.Shard.{Shard as ShardCode}
+use Rattle.kt_core.specs.declared.node.Body.{Body as BodyCode}
+use Rattle.kt_core.specs.declared.node.Body.TheVariants as bodies
+use Rattle.kt_core.specs.declared.node.Node.{Node as NodeCode}
 use Rattle.kt_core.specs.declared.node.Message.{Message}
+use Rattle.kt_core.specs.Cast.{Cast}
+use Rattle.kt_link.specs.Network.{place, entry_at}
 
 -- a table has an entry for each number: d where nothing was put
 abbrev pub at : {A : Type 0} → A → List A → ℕ → A
@@ -26,35 +27,39 @@ put d (x ∷ xs) zero y = y ∷ xs
 put d (x ∷ xs) (suc k) y = x ∷ put d xs k y
 
 -- a shard: its tuples in order of arrival, and what it remembers of each worker, by the worker's number
-pub record Store : Type 0 where
+pub record Shard : Type 0 where
   pub bag : List Tuple
   pub desks : List Desk
 
--- what stands in a row of the table of nodes
-pub data Part : Type 0 where
-  Nobody : Part
-  IsWorker : Worker → Part
-  IsStore : Store → Part
+-- what a node works with
+pub data Body : Type 0 where
+  IsWorker : Worker → Body
+  IsShard : Shard → Body
 
-abbrev pub store_view : Shard → Store
-store_view y = record { bag = y.bag.items; desks = y.desks.items }
+-- a node of the scene: a node that is down has no body
+pub record Node : Type 0 where
+  pub body : Option Body
 
--- a row of the code's table, as plain data
-abbrev pub part_of : Node → Part
-part_of nodes.Nobody = Nobody
-part_of (nodes.Worker x) = IsWorker x
-part_of (nodes.Shard y) = IsStore (store_view y)
+-- what the code holds, as plain data
+abbrev pub shard_view : ShardCode → Shard
+shard_view y = record { bag = y.bag.items; desks = y.desks.items }
 
--- what each of the code's queues holds
-abbrev pub queues_of : List (VecDeque Message Global) → List (List Message)
-queues_of queues = map (λ q. q.items) queues
+abbrev pub body_view : BodyCode → Body
+body_view (bodies.Worker x) = IsWorker x
+body_view (bodies.Shard y) = IsShard (shard_view y)
 
--- the scripts and the number of shards; the nodes by their numbers; the links, each a list of what is on its
--- way, first sent first; what happened; the steps that each node made, by the nodes' numbers; all steps made
+abbrev pub node_view : NodeCode → Node
+node_view n = record { body = option_map body_view n.body }
+
+abbrev pub row_view : Option NodeCode → Option Node
+row_view row = option_map node_view row
+
+-- the cast; the nodes by their numbers, with an empty row where the scene has no such node; the links, each a
+-- list of what is on its way, first sent first; what happened; the steps that each node made, by the nodes'
+-- numbers; all steps made
 pub record State : Type 0 where
-  pub shards : ℕ
-  pub scripts : List (List Command)
-  pub nodes : List Part
+  pub cast : Cast
+  pub nodes : List (Option Node)
   pub links : List (List Message)
   pub history : List Note
   pub own : List ℕ
@@ -64,29 +69,34 @@ abbrev pub node_number : NodeId → ℕ
 node_number (ids.Worker n) = n
 node_number (ids.Shard n) = n
 
--- where the link from p to q stands
-abbrev pub link_index : NodeId → NodeId → ℕ
-link_index p q = 18 * node_index p + node_index q
+-- where the link from p to q stands, if they are neighbours
+abbrev pub link_place : Cast → NodeId → NodeId → Option ℕ
+link_place cast p q = place (length cast.scripts) cast.shards p q
 
--- what p is
-abbrev pub node : State → NodeId → Part
-node s p = at Nobody s.nodes (node_index p)
+-- what stands in the row of p
+abbrev pub node : State → NodeId → Option Node
+node s p = at None s.nodes (node_index p)
 
 -- what is on its way from p to q
 abbrev pub link : State → NodeId → NodeId → List Message
-link s p q = at [] s.links (link_index p q)
+link s p q = entry_at [] s.links (link_place s.cast p q)
 
 -- the scene has this node: workers and shards are numbered from 1
 abbrev pub IsInScene : State → NodeId → Type 0
-IsInScene s (ids.Worker n) = (1 ≤ n) × (n ≤ length s.scripts)
-IsInScene s (ids.Shard n) = (1 ≤ n) × (n ≤ s.shards)
+IsInScene s (ids.Worker n) = (1 ≤ n) × (n ≤ length s.cast.scripts)
+IsInScene s (ids.Shard n) = (1 ≤ n) × (n ≤ s.cast.shards)
 
-abbrev pub worker_of : Part → Option Worker
-worker_of Nobody = None
-worker_of (IsWorker x) = Some x
-worker_of (IsStore y) = None
+-- what the node in a row works with, if it is not down
+abbrev pub body_of : Option Node → Option Body
+body_of None = None
+body_of (Some n) = n.body
 
-abbrev pub store_of : Part → Option Store
-store_of Nobody = None
-store_of (IsWorker x) = None
-store_of (IsStore y) = Some y
+abbrev pub worker_in : Option Body → Option Worker
+worker_in None = None
+worker_in (Some (IsWorker x)) = Some x
+worker_in (Some (IsShard y)) = None
+
+abbrev pub shard_in : Option Body → Option Shard
+shard_in None = None
+shard_in (Some (IsWorker x)) = None
+shard_in (Some (IsShard y)) = Some y

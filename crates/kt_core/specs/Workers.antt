@@ -1,10 +1,10 @@
 -- Each worker stands as its line says.
-use Rattle.std.specs.Prelude.{◌≡◌, ℕ}
+use Rattle.std.specs.Prelude.{◌≡◌, ℕ, Some}
 use Rattle.kt_tuple.specs.declared.node.NodeId.TheVariants as ids
 use Rattle.kt_history.specs.Closed.{acts_in_line}
 use Rattle.kt_worker.specs.declared.worker.Worker.{Worker}
 use Rattle.kt_worker.specs.After.{IsAfter}
-use Rattle.kt_core.specs.State.{State, IsWorker, node}
+use Rattle.kt_core.specs.State.{State, IsWorker, node, body_of}
 use Rattle.kt_core.specs.Asks.{script_numbered}
 use Rattle.kt_core.specs.WorkerLine.{MadeWorker, worker_of_acts, new_worker}
 
@@ -15,5 +15,5 @@ made_in_line s w = worker_of_acts new_worker (acts_in_line s.history (ids.Worker
 -- each worker has unanswered what its line says, and stands in its script as after the answers in its line
 abbrev pub WorkersFollowLines : State → Type 0
 WorkersFollowLines s =
-    (w : ℕ) (x : Worker) → node s (ids.Worker w) ≡ IsWorker x →
-    (x.asked ≡ (made_in_line s w).asked) × IsAfter (script_numbered s.scripts w) (made_in_line s w).answers x
+    (w : ℕ) (x : Worker) → body_of (node s (ids.Worker w)) ≡ Some (IsWorker x) →
+    (x.asked ≡ (made_in_line s w).asked) × IsAfter (script_numbered s.cast.scripts w) (made_in_line s w).answers x

@@ -10,9 +10,11 @@ mod machine;
 mod node;
 mod opening;
 mod plan;
+mod planning;
 mod scene;
 mod step;
 mod tables;
+mod traffic;
 mod world;
 
 pub use kt_script::{

@@ -48,20 +48,24 @@ pub(crate) struct Shard {
     pub(crate) desks: Vec<Desk>,
 }
 
-/// A row of the table of nodes.
+/// What a node works with.
 #[derive(Debug, Drop)]
-pub(crate) enum Node {
-    /// No node of the scene has this row.
-    Nobody,
+pub(crate) enum Body {
     Worker(Worker),
     Shard(Shard),
+}
+
+/// A node of the scene. One that is down has no body.
+#[derive(Debug, Drop)]
+pub(crate) struct Node {
+    pub(crate) body: Option<Body>,
 }
 
 /// What goes from node to node. `by` is the number of the act that sent it.
 #[derive(Debug, Drop)]
 pub(crate) enum Message {
     /// A worker asks.
-    Ask {
+    Request {
         request: Request,
         by: u64,
     },
@@ -78,7 +82,7 @@ pub(crate) enum Message {
 pub(crate) enum BagChange {
     /// The tuple arrives.
     Put(Tuple),
-    /// The tuple at this place, counted from 0 in order of arrival, is taken out.
+    /// The tuple at this index, counted from 0 in order of arrival, is taken out.
     Take(usize),
     /// It stays as it is.
     Stay,

@@ -114,7 +114,7 @@ fn space_after(alloc: Global, services: &[Service]) -> Result<Option<Vec<Tuple>>
         match (&service.op, &service.answer) {
             (Op::Out(tuple), Answer::Done) => tuples.push(tuple.copy(alloc)?)?,
             (Op::In(template), Answer::Got(tuple)) => {
-                let place = tuples.iter().position(|other: &Tuple| other.equals(tuple));
+                let place = tuples.iter().position(|other: &Tuple| *other == *tuple);
                 match place {
                     Some(place) if template.matches(tuple) => drop(tuples.remove(place)),
                     _ => return Ok(None),

@@ -1,43 +1,108 @@
 //! What a step does, found out before anything is changed. A plan is made of what the step's owner sees:
 //! its own state, the message that it hears, and the number of the next note.
 
-ghost use Rattle.std.specs.Prelude.{◌≡◌, IfOk};
-ghost use Rattle.kt_core.specs.Plan.{issue_plan, request_plan, heard_plan, again_plan, ignored_plan, reply_plan, accepted_plan, service_plan, act_of};
+ghost use Rattle.std.specs.Prelude.{◌≡◌, [], ◌∷◌, IfOk};
+ghost use Rattle.kt_core.specs.Plan.{issue_plan, empty_plan, request_plan, heard_plan, again_plan, ignored_plan, reply_plan, accepted_plan, service_plan, note_of};
 
 use crate::node::{BagChange, Change, Desk, Kept, Message, Request};
-use kt_history::{Act, What};
+use kt_history::{Act, Note, What};
 use kt_script::Script;
 use kt_tuple::{Answer, NodeId};
 use kt_worker::Worker;
 use std::alloc::{AllocError, Global};
+use std::marker::Model;
 
-/// What a step does to its owner, what it sends to another node, and its note.
+/// Messages with their receivers, in the order in which they are sent.
+#[derive(Debug, Drop)]
+pub(crate) struct Outbox {
+    messages: Vec<(NodeId, Message)>,
+}
+
+impl Model for Outbox {
+    ghost use Rattle.std.specs.Prelude.{List};
+    ghost use Rattle.kt_tuple.specs.declared.node.NodeId.{NodeId as Name};
+    ghost use Rattle.kt_core.specs.declared.node.Message.{Message as Sent};
+
+    ghost Value = { List (Name × Sent) };
+
+    ghost view = { λ b. b.messages.items };
+}
+
+impl Outbox {
+    /// No message.
+    pub(crate) fn empty(alloc: Global) -> Outbox
+        ensures { result ≡ [] }
+    {
+        Outbox {
+            messages: Vec::new(alloc),
+        }
+    }
+
+    /// One message.
+    pub(crate) fn one(alloc: Global, to: NodeId, message: Message) -> Result<Outbox, AllocError>
+        ensures { IfOk result (λ b. b ≡ (to, message) ∷ []) }
+    {
+        let mut messages = Vec::with_capacity(alloc, 1)?;
+        messages.push((to, message))?;
+        Ok(Outbox { messages })
+    }
+
+    /// All messages with their receivers.
+    pub(crate) fn messages(&self) -> &[(NodeId, Message)]
+        ensures { result.now ≡ self.now }
+    {
+        &self.messages
+    }
+
+    /// Hands all messages on.
+    pub(crate) fn into_messages(self) -> Vec<(NodeId, Message)>
+        ensures { result.items ≡ self }
+    {
+        self.messages
+    }
+}
+
+/// What a step does: what becomes of its owner, what that sends, and at most one note. It is carried out when
+/// nothing can be refused any more.
 #[derive(Debug, Drop)]
 pub(crate) struct Plan {
     pub(crate) change: Change,
-    pub(crate) send: Option<(NodeId, Message)>,
-    pub(crate) note: Act,
+    pub(crate) send: Outbox,
+    pub(crate) note: Option<Note>,
 }
 
-/// An act of the node about a request of the worker of this number.
-fn act_of(
+impl Plan {
+    /// Nothing is done.
+    pub(crate) fn empty(alloc: Global) -> Plan
+        ensures { result ≡ empty_plan }
+    {
+        Plan {
+            change: Change::Stay,
+            send: Outbox::empty(alloc),
+            note: None,
+        }
+    }
+}
+
+/// The note of an act of the node about a request of the worker of this number.
+fn note_of(
     alloc: Global,
     node: NodeId,
     by: u64,
     worker: u8,
     request: &Request,
     what: What,
-) -> Result<Act, AllocError>
-    ensures { IfOk result (λ act. act ≡ act_of node by worker request.now what) }
+) -> Result<Option<Note>, AllocError>
+    ensures { IfOk result (λ note. note ≡ note_of node by worker request.now what) }
 {
-    Ok(Act {
+    Ok(Some(Note::Act(Act {
         node,
         by,
         worker,
         number: request.number,
         op: request.op.copy(alloc)?,
         what,
-    })
+    })))
 }
 
 /// The worker asks the shard, and becomes the asker.
@@ -52,14 +117,14 @@ pub(crate) fn issue_plan(
 ) -> Result<Plan, AllocError>
     ensures { IfOk result (λ plan. plan ≡ issue_plan node worker request.now shard next asker) }
 {
-    let message = Message::Ask {
+    let message = Message::Request {
         request: request.copy(alloc)?,
         by: next,
     };
     Ok(Plan {
         change: Change::Work(asker),
-        send: Some((shard, message)),
-        note: act_of(alloc, node, 0, worker, request, What::Issue)?,
+        send: Outbox::one(alloc, shard, message)?,
+        note: note_of(alloc, node, 0, worker, request, What::Issue)?,
     })
 }
 
@@ -78,8 +143,8 @@ fn heard_plan(
             worker,
             request: request.copy(alloc)?,
         },
-        send: None,
-        note: act_of(alloc, node, by, worker, request, What::Heard)?,
+        send: Outbox::empty(alloc),
+        note: note_of(alloc, node, by, worker, request, What::Heard)?,
     })
 }
 
@@ -103,8 +168,8 @@ fn again_plan(
     let what = What::Again(answer.copy(alloc)?);
     Ok(Plan {
         change: Change::Stay,
-        send: Some((NodeId::Worker(worker), message)),
-        note: act_of(alloc, node, by, worker, request, what)?,
+        send: Outbox::one(alloc, NodeId::Worker(worker), message)?,
+        note: note_of(alloc, node, by, worker, request, what)?,
     })
 }
 
@@ -121,8 +186,8 @@ pub(crate) fn ignored_plan(
 {
     Ok(Plan {
         change: Change::Stay,
-        send: None,
-        note: act_of(alloc, node, by, worker, request, What::Ignored(answer))?,
+        send: Outbox::empty(alloc),
+        note: note_of(alloc, node, by, worker, request, What::Ignored(answer))?,
     })
 }
 
@@ -162,8 +227,8 @@ fn accepted_plan(
     let what = What::Accepted(answer.copy(alloc)?);
     Ok(Plan {
         change: Change::Work(hearer),
-        send: None,
-        note: act_of(alloc, node, by, number, request, what)?,
+        send: Outbox::empty(alloc),
+        note: note_of(alloc, node, by, number, request, what)?,
     })
 }
 
@@ -213,7 +278,7 @@ pub(crate) fn service_plan(
     let what = What::Served(answer.copy(alloc)?);
     Ok(Plan {
         change: Change::Serve { worker, bag, kept },
-        send: Some((NodeId::Worker(worker), message)),
-        note: act_of(alloc, node, by, worker, request, what)?,
+        send: Outbox::one(alloc, NodeId::Worker(worker), message)?,
+        note: note_of(alloc, node, by, worker, request, what)?,
     })
 }

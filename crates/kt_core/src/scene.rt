@@ -1,6 +1,8 @@
 ghost use Rattle.std.specs.Prelude.{◌≡◌, ◌↔◌, ◌≤◌, length, IsSome, IfSome};
+ghost use Rattle.std.specs.Option.{option_copied};
 
 use kt_script::Script;
+use kt_tuple::NodeId;
 use std::marker::Model;
 
 /// The most workers of a scene.
@@ -27,7 +29,7 @@ impl Model for Scene {
 }
 
 impl Scene {
-    ghost use Rattle.kt_core.specs.Cast.{Cast, IsCast};
+    ghost use Rattle.kt_core.specs.Cast.{Cast, IsCast, script_in, is_worker, is_shard, are_neighbours};
 
     /// The scene of so many shards and of a worker for each script, or `None` where there are not
     /// 1 to 8 of each.
@@ -60,5 +62,39 @@ impl Scene {
         ensures few { length self.now.scripts ≤ 8 }
     {
         &self.scripts
+    }
+
+    /// The script of this worker, where the scene has it.
+    pub(crate) fn script_of(&self, node: NodeId) -> Option<&Script>
+        ensures { option_copied result ≡ script_in self.now node }
+    {
+        match node {
+            NodeId::Worker(0) | NodeId::Shard(_) => None,
+            NodeId::Worker(number) => self.scripts.get(usize::from(number - 1)),
+        }
+    }
+
+    /// Whether the node is a worker of the scene.
+    pub(crate) fn has_worker(&self, node: NodeId) -> bool
+        ensures { result ≡ is_worker self.now node }
+    {
+        self.script_of(node).is_some()
+    }
+
+    /// Whether the node is a shard of the scene.
+    pub(crate) fn has_shard(&self, node: NodeId) -> bool
+        ensures { result ≡ is_shard self.now node }
+    {
+        match node {
+            NodeId::Worker(_) => false,
+            NodeId::Shard(number) => 1 <= number && number <= self.shards,
+        }
+    }
+
+    /// Whether one is a worker of the scene and the other a shard: only these send each other messages.
+    pub(crate) fn are_neighbours(&self, p: NodeId, q: NodeId) -> bool
+        ensures { result ≡ are_neighbours self.now p q }
+    {
+        self.has_worker(p) && self.has_shard(q) || self.has_shard(p) && self.has_worker(q)
     }
 }

@@ -108,4 +108,6 @@ impl From<AllocError> for StepError {
 pub enum Mode {
     /// It works.
     Up,
+    /// It failed, and has not come back.
+    Down,
 }

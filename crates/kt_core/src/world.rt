@@ -1,6 +1,6 @@
-ghost use Rattle.std.specs.Prelude.{◌≡◌, ◌↔◌, IsSome, IfOk, IfErr, OnOk, OnErr, Ok, map};
+ghost use Rattle.std.specs.Prelude.{◌≡◌, ◌↔◌, IsSome, IfOk, IfErr, OnOk, OnErr, Ok, None, map};
 ghost use Rattle.kt_core.specs.Reached.{mode_of};
-ghost use Rattle.kt_core.specs.State.{Nobody, at, part_of};
+ghost use Rattle.kt_core.specs.State.{at, row_view};
 ghost use Rattle.kt_tuple.specs.Node.{node_index};
 
 use crate::machine::Machine;
@@ -44,11 +44,11 @@ impl Model for World {
     ghost Value = { State };
 
     ghost use Rattle.kt_core.specs.Machine.{state_of};
-    ghost use Rattle.kt_core.specs.Reached.{IsKept};
+    ghost use Rattle.kt_core.specs.Reached.{IsWorld};
 
     ghost view = { λ w. state_of w.machine };
 
-    ghost invariant = { λ w. IsKept (state_of w.machine) };
+    ghost invariant = { λ w. IsWorld (state_of w.machine) };
 }
 
 impl World {
@@ -91,7 +91,7 @@ impl World {
 
     /// What happened so far.
     pub fn history(&self) -> &History
-        ensures value { result.now ≡ self.now.history }
+        ensures value { result.now.notes ≡ self.now.history }
         ensures headline { Headline self.now }
     {
         &self.machine.history
@@ -99,8 +99,8 @@ impl World {
 
     /// The scene that it was opened with.
     pub fn scene(&self) -> &Scene
-        ensures shards { result.now.shards ≡ self.now.shards }
-        ensures scripts { result.now.scripts ≡ self.now.scripts }
+        ensures shards { result.now.shards ≡ self.now.cast.shards }
+        ensures scripts { result.now.scripts ≡ self.now.cast.scripts }
     {
         &self.machine.scene
     }
@@ -126,11 +126,12 @@ impl World {
 }
 
 /// What state the node is in, by the table of nodes.
-fn mode_at(nodes: &[Node], id: NodeId) -> Option<Mode>
-    ensures { result ≡ mode_of (at Nobody (map part_of nodes.now) (node_index id)) }
+fn mode_at(nodes: &[Option<Node>], id: NodeId) -> Option<Mode>
+    ensures { result ≡ mode_of (at None (map row_view nodes.now) (node_index id)) }
 {
     match nodes.get(id.index()) {
-        Some(Node::Worker(_) | Node::Shard(_)) => Some(Mode::Up),
+        Some(Some(node)) if node.body.is_some() => Some(Mode::Up),
+        Some(Some(_)) => Some(Mode::Down),
         _ => None,
     }
 }

@@ -1,5 +1,5 @@
 use Rattle.std.proofs.Common.{refl}
-use Rattle.kt_core.proofs.Opened.{nothing_lost-reached}
+use Rattle.kt_core.proofs.Headlines.{nothing_lost-reached}
 use Rattle.kt_core.proofs.laws.nothing_is_lost_without_failures.Goals as goal
 
 pub returns : goal.returns

@@ -1,5 +1,5 @@
 use Rattle.std.proofs.Common.{refl}
-use Rattle.kt_core.proofs.Opened.{headline-reached}
+use Rattle.kt_core.proofs.Headlines.{headline-reached}
 use Rattle.kt_core.proofs.laws.survivors_are_one_run.Goals as goal
 
 pub returns : goal.returns

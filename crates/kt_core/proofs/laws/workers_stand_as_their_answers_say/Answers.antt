@@ -1,5 +1,5 @@
 use Rattle.std.proofs.Common.{refl}
-use Rattle.kt_core.proofs.Opened.{workers-reached}
+use Rattle.kt_core.proofs.Headlines.{workers-reached}
 use Rattle.kt_core.proofs.laws.workers_stand_as_their_answers_say.Goals as goal
 
 pub returns : goal.returns

@@ -1,7 +1,7 @@
 use Rattle.std.proofs.Common.{◌≡◌, map}
-use Rattle.kt_core.specs.State.{part_of}
+use Rattle.kt_core.specs.State.{row_view}
 use Rattle.kt_core.specs.Reached.{opening_rows}
 use Rattle.kt_core.proofs.opening.opening_nodes.Given as goal
 
 abbrev pub invariant-loop-number : goal.invariant-loop-number
-invariant-loop-number l = map part_of l.nodes.items ≡ opening_rows l.scripts l.shards l.number
+invariant-loop-number l = map row_view l.nodes.items ≡ opening_rows l.scene l.number

@@ -1,7 +1,7 @@
 use Rattle.std.proofs.Common.{subst}
 use Rattle.kt_core.specs.State.{State}
 use Rattle.kt_core.specs.Headline.{Headline}
-use Rattle.kt_core.proofs.Opened.{headline-reached}
+use Rattle.kt_core.proofs.Headlines.{headline-reached}
 use Rattle.kt_core.proofs.world.World.history.Goals as goal
 
 pub returns-clause-headline : goal.returns-clause-headline

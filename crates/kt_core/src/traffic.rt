@@ -1,0 +1,68 @@
+//! The messages that a step sends, takes off and makes room for, and its note.
+
+ghost use Rattle.std.specs.Prelude.{◌≡◌, ◌≤◌, length, OnOk, IfSome};
+ghost use Rattle.std.specs.List.{AllByRecursion};
+ghost use Rattle.kt_history.specs.Chronicle.{node_of, room_of};
+ghost use Rattle.kt_history.specs.WellFormed.{MayFollow};
+ghost use Rattle.kt_link.specs.Network.{AreNeighbours, place, room};
+ghost use Rattle.kt_core.specs.Effect.{sent, taken_off, noted};
+ghost use Rattle.kt_core.specs.Traffic.{IsSameTraffic};
+
+use crate::node::Message;
+use crate::step::Step;
+use kt_history::{History, Note};
+use kt_link::Links;
+use kt_tuple::NodeId;
+use std::alloc::AllocError;
+
+/// Makes room on the links for these messages of the owner.
+pub(crate) fn make_room_on_links(
+    links: &mut Links<Message>,
+    owner: NodeId,
+    send: &[(NodeId, Message)],
+) -> Result<(), AllocError>
+    requires { AllByRecursion (λ m. AreNeighbours links.old.workers links.old.shards owner m.0) send.now }
+    ensures same { IsSameTraffic links.old links.new }
+    ensures room { OnOk result (AllByRecursion (λ m. length send.now ≤ room links.new owner m.0) send.now) }
+{
+    for (to, _) in send {
+        links.reserve(owner, *to, send.len())?;
+    }
+    Ok(())
+}
+
+/// Takes the first message off the link by which the step's message came.
+pub(crate) fn take_off(links: &mut Links<Message>, step: Step)
+    ensures queues { links.new.queues ≡ taken_off (place links.old.workers links.old.shards) links.old.queues step }
+    ensures workers { links.new.workers ≡ links.old.workers }
+    ensures shards { links.new.shards ≡ links.old.shards }
+    ensures room { (p q : NodeId) → room links.old p q ≤ room links.new p q }
+{
+    if let Step::Deliver { from, to } = step {
+        links.pop(from, to);
+    }
+}
+
+/// Sends the messages of the owner, for which there is room.
+pub(crate) fn send_all(links: &mut Links<Message>, owner: NodeId, send: Vec<(NodeId, Message)>)
+    requires there { AllByRecursion (λ m. AreNeighbours links.old.workers links.old.shards owner m.0) send.items }
+    requires room { AllByRecursion (λ m. length send.items ≤ room links.old owner m.0) send.items }
+    ensures queues { links.new.queues ≡ sent (place links.old.workers links.old.shards) links.old.queues owner send.items }
+    ensures workers { links.new.workers ≡ links.old.workers }
+    ensures shards { links.new.shards ≡ links.old.shards }
+{
+    for (to, message) in send {
+        links.push_reserved(owner, to, message);
+    }
+}
+
+/// Makes the note, if there is one, for which there is room.
+pub(crate) fn add_note(history: &mut History, note: Option<Note>)
+    requires follows { IfSome note (MayFollow history.old.notes) }
+    requires room { IfSome note (λ n. 1 ≤ room_of history.old (node_of n)) }
+    ensures { history.new.notes ≡ noted history.old.notes note }
+{
+    if let Some(note) = note {
+        history.add(note);
+    }
+}
