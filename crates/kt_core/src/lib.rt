@@ -27,8 +27,3 @@ pub use laws::{
 pub use scene::{MAX_SHARDS, MAX_WORKERS, Scene};
 pub use step::{MAX_STEPS, Mode, Step, StepError};
 pub use world::{OpenError, OpenRefused, World};
-
-#[cfg(test)]
-mod order_tests;
-#[cfg(test)]
-mod world_tests;

@@ -3,8 +3,8 @@
 
 ghost use Rattle.std.specs.Prelude.{◌<◌};
 
-use crate::world_tests::{S1, opened, outcome, put, script, sorted_texts, take};
-use crate::{Step, StepError, World};
+use crate::worlds::{S1, opened, outcome, put, script, sorted_texts, take};
+use kt_core::{Step, StepError, World};
 use kt_history::{Act, Note, Service, What};
 use kt_tuple::{Answer, NodeId, Op, Tuple};
 use std::alloc::{AllocError, Global};
