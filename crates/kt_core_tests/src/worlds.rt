@@ -1,7 +1,7 @@
 //! Worked scenarios, step by step, and what a world makes of want of memory.
 
-use kt_core::{Mode, OpenError, Scene, Step, StepError, World};
 use arrayvec::ArrayVec;
+use kt_core::{Mode, OpenError, Scene, Step, StepError, World};
 use kt_history::{Note, Service, What, space_of};
 use kt_script::{Actual, Actuals, Command, Name, Operation, Pattern, Script, Slot};
 use kt_tuple::{Kind, NodeId, Place, Template, Tuple, Value};
