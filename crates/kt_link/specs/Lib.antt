@@ -1,3 +1,4 @@
 pub mod Label
+pub mod Table
 pub mod Network
 pub mod Queues

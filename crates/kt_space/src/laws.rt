@@ -38,9 +38,11 @@ pub fn no_match_is_given_where_fewer_match()
 pub fn a_bag_makes_steps_of_the_space()
     ensures put { (tuples : List Tuple) (u : Tuple) → SpaceStep tuples (ops.Out u) answers.Done (tuples ++ u ∷ []) }
     ensures taken { (t : Template) (k : ℕ) (tuples : List Tuple) (u : Tuple)
-        → slice_get (matching t tuples) k ≡ Some u → SpaceStep tuples (ops.In t) (answers.Got u) (without_match t k tuples) }
+        → slice_get (matching t tuples) k ≡ Some u
+        → SpaceStep tuples (ops.In t) (answers.Got u) (without_match t k tuples) }
     ensures taken_at_once { (t : Template) (k : ℕ) (tuples : List Tuple) (u : Tuple)
-        → slice_get (matching t tuples) k ≡ Some u → SpaceStep tuples (ops.Inp t) (answers.Got u) (without_match t k tuples) }
+        → slice_get (matching t tuples) k ≡ Some u
+        → SpaceStep tuples (ops.Inp t) (answers.Got u) (without_match t k tuples) }
     ensures read { (t : Template) (k : ℕ) (tuples : List Tuple) (u : Tuple)
         → slice_get (matching t tuples) k ≡ Some u → SpaceStep tuples (ops.Rd t) (answers.Got u) tuples }
     ensures read_at_once { (t : Template) (k : ℕ) (tuples : List Tuple) (u : Tuple)
