@@ -8,3 +8,4 @@ pub mod Asks
 pub mod Memory
 pub mod Next
 pub mod Left
+pub mod Equality

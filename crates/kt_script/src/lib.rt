@@ -3,6 +3,7 @@
 
 mod command;
 mod env;
+mod equality;
 mod laws;
 mod meaning;
 mod name;

@@ -3,7 +3,6 @@ ghost use Rattle.std.specs.List.{list_all};
 ghost use Rattle.kt_script.specs.Name.{IsName, begins_with_letter, is_name, is_name_character, is_reserved};
 
 use arrayvec::ArrayVec;
-use kt_tuple::Equality;
 use std::hash::{Hash, Hasher};
 use std::marker::Model;
 
@@ -139,10 +138,4 @@ impl Hash for Name {
     fn hash<H: Hasher>(&self, state: &mut H) {
         self.characters.as_slice().hash(state);
     }
-}
-
-impl Equality for Name {
-    ghost use Rattle.kt_tuple.specs.Equality.{text_eq_decides};
-
-    ghost is_equality = { text_eq_decides };
 }

@@ -73,14 +73,11 @@ fn after_none(alloc: Global, worker: Worker, number: u64, accepted: bool) -> Res
     }
 }
 
-/// The worker, where this is whether an operation is left, and whether the worker is done.
-fn where_left(alloc: Global, worker: Worker, left: (bool, bool)) -> Result<Worker, Fail> {
+/// Whether an operation is left, and whether the worker is done.
+fn left(alloc: Global, worker: &Worker) -> Result<(bool, bool), Fail> {
     let script = script(alloc)?;
-    if (worker.has_next(&script), worker.is_done(&script)) == left {
-        Ok(worker)
-    } else {
-        Err(Fail::from("the other"))
-    }
+    let is_left = worker.has_next(&script);
+    Ok((is_left, worker.is_done(&script)))
 }
 
 #[test]
@@ -88,7 +85,8 @@ fn asks_one_after_the_other(rt: HostRuntime) -> Result<(), Fail> {
     let alloc = rt.alloc();
     let worker = Worker::new(alloc, &script(alloc)?)?;
     let worker = after_asking(alloc, worker, "1 inp (1)")?;
-    let worker = where_left(alloc, worker.copy(alloc)?, (true, false))?;
+    let worker = worker.copy(alloc)?;
+    assert_eq!(rt; left(alloc, &worker)?, (true, false));
     let worker = after_asking(alloc, worker, "")?;
     let worker = after_none(alloc, worker, 2, false)?;
     let worker = after_none(alloc, worker, 1, true)?;
