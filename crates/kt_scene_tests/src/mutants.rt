@@ -2,7 +2,7 @@
 //! is written as it stood and read again; what is not has its fault on a line of the text or just behind it.
 
 use crate::streams::{Feed, empty, replayed, whole};
-use kt_core::World;
+use kt_core::{Step, World};
 use kt_scene::{ReplayFault, Scenario, SceneFault, Sink, read_scene, write_report, write_scene};
 use std::alloc::Global;
 use std::process::Abort;
@@ -168,27 +168,41 @@ fn judged(rt: &impl Abort, alloc: Global, text: &[u8]) -> Result<u8, Fail> {
     }
 }
 
+/// What a replay answers, and what it writes.
+type Told = (Result<(), ReplayFault>, Vec<u8>);
+
 /// What a replay of the text must answer and write: what `read_scene` answers, then what the steps of what was read
 /// do, then the report.
-fn told_of(alloc: Global, text: &[u8]) -> Result<(Result<(), ReplayFault>, Vec<u8>), Fail> {
-    let nothing = Vec::new(alloc);
-    let Scenario { scene, work } = match read_scene(alloc, text) {
-        Ok(scenario) => scenario,
+fn told_of(alloc: Global, text: &[u8]) -> Result<Told, Fail> {
+    match read_scene(alloc, text) {
+        Ok(scenario) => told_by(alloc, scenario),
         Err(SceneFault { line, cause }) => {
-            return Ok((Err(ReplayFault::Scene { line, cause }), nothing));
-        }
-    };
-    let mut world = World::open(alloc, scene).map_err(|_| Fail::from("no world"))?;
-    let mut at = 0usize;
-    for step in work.steps() {
-        at = at.saturating_add(1);
-        if let Err(cause) = world.step(alloc, *step) {
-            return Ok((Err(ReplayFault::Step { at, cause }), nothing));
+            Ok((Err(ReplayFault::Scene { line, cause }), Vec::new(alloc)))
         }
     }
-    let mut sink = Sink::new(nothing);
-    write_report(alloc, &mut world, &mut sink)?;
-    Ok((Ok(()), sink.into_inner()))
+}
+
+fn told_by(alloc: Global, scenario: Scenario) -> Result<Told, Fail> {
+    let Scenario { scene, work } = scenario;
+    let mut world = World::open(alloc, scene).map_err(|_| Fail::from("no world"))?;
+    let mut sink = Sink::new(Vec::new(alloc));
+    let answer = match first_refused(alloc, &mut world, work.steps()) {
+        Some(fault) => Err(fault),
+        None => write_report(alloc, &mut world, &mut sink),
+    };
+    Ok((answer, sink.into_inner()))
+}
+
+/// Makes the steps up to the first that is refused, and says which.
+fn first_refused(alloc: Global, world: &mut World, steps: &[Step]) -> Option<ReplayFault> {
+    let mut at = 0usize;
+    for step in steps {
+        at = at.saturating_add(1);
+        if let Err(cause) = world.step(alloc, *step) {
+            return Some(ReplayFault::Step { at, cause });
+        }
+    }
+    None
 }
 
 /// A replay answers and writes what reading, stepping and reporting do by themselves, also where the bytes come one

@@ -11,4 +11,4 @@ pub returns-in-Err-clause-told : goal.returns-in-Err-clause-told
 returns-in-Err-clause-told g c = λ none.
     let memory = without_fault _ c.in-Err.error none c.in-Err.ensures.refused in
     let no_text = asks_for_no_text c.in-Err.error memory in
-    unread (c.answer_words.ensures.memory memory) refl (c.answer_words.ensures.quiet no_text.0 no_text.1)
+    unread (c.answer_words.ensures.memory memory) (refl {a = c.args.reader.now}) (c.answer_words.ensures.quiet no_text.0 no_text.1)
