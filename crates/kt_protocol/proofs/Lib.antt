@@ -15,3 +15,4 @@ pub mod Verdicts
 pub mod Cuts
 pub mod Checks
 pub mod Main
+pub mod Consequences

@@ -4,7 +4,8 @@ use Rattle.kt_protocol.specs.Labels.{Label, no_label, Under, UpTo, at}
 use Rattle.kt_protocol.specs.Lines.{IsIn, here, there, Act, Sends, Hears, IsTail, all, top_sent, top_heard}
 use Rattle.kt_protocol.specs.Machine.{Instance, Check, Rollback, Open, Yes, No, Key, Ballot, Mode, Up, Voting, Down, Post, Message, App, Ask, Vote, Member, Mark, Node, Board, State, instance_of, next_label}
 use Rattle.kt_protocol.specs.Steps.{Step, sends, hears, keeps, takes, drops, ignores, refuses, grants, joins, begins, restarts, counts, agrees, declines, decides_rollback, decides_check, gives_up_rollback, gives_up_check, learns_yes, learns_no, releases, fails, fails_holding, change, pull, casting, saying}
-use Rattle.kt_protocol.specs.Runs.{AreNeighbours, IsNew, IsBeginning, Reached, start, step}
+use Rattle.kt_protocol.specs.Runs.{AreNeighbours, IsNew, IsBeginning, Run, nothing_done, one_more}
+use Rattle.kt_protocol.specs.Laws.{IsReached}
 use Rattle.kt_protocol.proofs.Labels.{UpTo-trans, UpTo-Under, Under-not, at-here}
 use Rattle.kt_protocol.proofs.Lines.{Falls}
 use Rattle.kt_protocol.proofs.Streams.{apps, Rising, ends}
@@ -127,6 +128,9 @@ stays peer near s t w (releases o k b e none) = step_releases peer near s o k b 
 stays peer near s t w (fails o none) = step_fails peer near s o none w
 stays peer near s t w (fails_holding o k held) = step_fails_holding peer near s o k held w
 
-pub reached : (peer : ℕ → ℕ → Bool) → AreNeighbours peer → {s : State} → Reached peer s → Invariant peer s
-reached peer near (start {s} b) = beginning peer s b
-reached peer near (step {s} {t} r x) = stays peer near s t (reached peer near r) x
+pub stays_through : (peer : ℕ → ℕ → Bool) → AreNeighbours peer → {s t : State} → Invariant peer s → Run peer s t → Invariant peer t
+stays_through peer near w nothing_done = w
+stays_through peer near w (one_more {t} {u} r x) = stays peer near t u (stays_through peer near w r) x
+
+pub holds_where_reached : {peer : ℕ → ℕ → Bool} (t : State) → IsReached peer t → Invariant peer t
+holds_where_reached {peer} t r = stays_through peer r.near (beginning peer r.start r.begins) r.run

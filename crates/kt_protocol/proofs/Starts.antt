@@ -114,7 +114,7 @@ same_instance-refl : (i : Instance) → same_instance i i ≡ true
 same_instance-refl (Check k) = eq-eqb k k refl
 same_instance-refl (Rollback k) = eq-eqb k k refl
 
-begun-now : (i : Instance) (s : State) → (begin i s).board.begun i ≡ true
+pub begun-now : (i : Instance) (s : State) → (begin i s).board.begun i ≡ true
 begun-now i s = rw (same_instance-refl i) refl
 
 begin-grows : (i : Instance) (s : State) (j : Instance) → s.board.begun j ≡ true → (begin i s).board.begun j ≡ true

@@ -1,0 +1,104 @@
+-- The theorem from the invariant.
+use Rattle.std.proofs.Common.{◌≡◌, ◌≢◌, ◌⊎◌, ℕ, suc, Bool, true, false, IsTrue, List, [], ◌∷◌, ◌++◌, Option, Some, None, inl, inr, refl, sym, ap, subst, ◌∙◌}
+use Rattle.std.proofs.lemmas.Bool.{cases_eq}
+use Rattle.kt_protocol.specs.Labels.{Label, no_label, Under, UpTo, at}
+use Rattle.kt_protocol.specs.Lines.{IsIn, Sends, Hears, top_sent, top_heard}
+use Rattle.kt_protocol.specs.Machine.{Instance, Check, Rollback, Open, Yes, No, Key, Ballot, Mode, Up, Voting, Down, Post, Message, App, Ask, Node, Board, State, instance_of}
+use Rattle.kt_protocol.specs.Steps.{Step, sends, hears, keeps, takes, drops, ignores, refuses, grants, joins, begins, restarts, counts, agrees, declines, decides_rollback, decides_check, gives_up_rollback, gives_up_check, learns_yes, learns_no, releases, fails, fails_holding, MustJoin, begin, change, push, asking, joining, casting, saying}
+use Rattle.kt_protocol.specs.Laws.{IsHeld, IsRolling, IsStanding, IsSteady, MustRoll, MustHold, WhyHeld, began, forced}
+use Rattle.kt_protocol.proofs.Labels.{at-both, at-else, UpTo-trans, UpTo-Under, Under-UpTo, UpTo-eq, Under-not, UpTo-least}
+use Rattle.kt_protocol.proofs.Lines.{Falls-tail, tail-in, sent-old, sent-top, heard-top, heard-attained}
+use Rattle.kt_protocol.proofs.Invariant.{core, Gone, Undone, CutSoon, Caused, made, lost, cut_soon, Pair, Invariant}
+use Rattle.kt_protocol.proofs.Cases.{some-none, none-some, some-one, up-gone, up-voting, up-down, check-rollback}
+use Rattle.kt_protocol.proofs.Cuts.{rolling-none}
+use Rattle.kt_protocol.proofs.Starts.{begun-now}
+
+-- what a permanent checkpoint has heard, the sender's has sent
+pub agree : {peer : ℕ → ℕ → Bool} {s : State} → Invariant peer s → (p q by : ℕ) (l : Label) → IsIn (Hears by p l) (s.node q).perm
+  → IsIn (Sends by q l) (s.node p).perm
+agree {peer} {s} w p q by l h = caused (pair.caused by l line) where
+  line : IsIn (Hears by p l) (s.node q).line
+  line = tail-in (w.local q).tail h
+  pair : Pair s.board p q (s.node p) (s.node q) ((s.node q).kept p) (s.link p q)
+  pair = w.pair p q ((w.local q).from by p l line)
+  low : UpTo l (top_heard (s.node q).perm p)
+  low = heard-top (s.node q).perm (Falls-tail (w.local q).tail (w.local q).falls) h
+  caused : Caused s.board p q (core (s.node p)) (s.node q).mode (s.node q).perm by l → IsIn (Sends by q l) (s.node p).perm
+  caused (made i) = sent-old (w.local p).tail (w.local p).falls i (UpTo-trans low pair.agree)
+  caused (lost u) = absurd (Under-not u.above (UpTo-trans low pair.agree))
+  caused (cut_soon c) = absurd (Under-not c.above low)
+
+standing-gone : {X : Type 0} (m : Mode) → IsStanding m → Gone m → X
+standing-gone Up s g = absurd g
+standing-gone (Voting (Check k) b) s g = absurd g
+standing-gone (Voting (Rollback k) b) s g = absurd s
+standing-gone Down s g = absurd s
+
+standing-rolling : {X : Type 0} (m : Mode) (k : ℕ) → IsStanding m → instance_of m ≡ Some (Rollback k) → X
+standing-rolling Up k s e = none-some e
+standing-rolling (Voting (Check j) b) k s e = check-rollback (some-one e)
+standing-rolling (Voting (Rollback j) b) k s e = absurd s
+standing-rolling Down k s e = absurd s
+
+-- in a steady state each act in a line that heard an act heard one that its node remembers
+pub remembered : {peer : ℕ → ℕ → Bool} {s : State} → Invariant peer s → IsSteady s → (p q by : ℕ) (l : Label) → IsIn (Hears by p l) (s.node q).line
+  → IsIn (Sends by q l) (s.node p).line
+remembered {peer} {s} w steady p q by l h = caused ((w.pair p q ((w.local q).from by p l h)).caused by l h) where
+  caused : Caused s.board p q (core (s.node p)) (s.node q).mode (s.node q).perm by l → IsIn (Sends by q l) (s.node p).line
+  caused (made i) = i
+  caused (lost u) = standing-gone (s.node p).mode (steady p) u.gone
+  caused (cut_soon c) = standing-rolling (s.node q).mode c.number (steady q) c.rolls
+
+-- a node that is Up and another after a step: the step changed it
+changed : (P : Mode → Type 0) → (P Up → ⊥) → (o x : ℕ) (new : Node) (f : ℕ → Node) → (f o).mode ≡ Up → P (at x new f o).mode → (o ≡ x) × P new.mode
+changed P not_up o x new f up h = at-both x new f o (λ n. P n.mode → (o ≡ x) × P new.mode) (λ e g. (e, g))
+  (λ ne g. absurd (not_up (subst P up g))) h
+
+still : (P : Mode → Type 0) {X : Type 0} → (P Up → ⊥) → (o : ℕ) (f : ℕ → Node) → (f o).mode ≡ Up → P (f o).mode → X
+still P not_up o f up h = absurd (not_up (subst P up h))
+
+-- ways in which a step makes a node that is Up what it was not
+data Ways (P : Mode → Type 0) (peer : ℕ → ℕ → Bool) (s t : State) (o : ℕ) : Type 0 where
+  by_ask : (x : ℕ) (i : Instance) (l : Label) (c : ℕ) (rest : List Message) (b : Ballot) → IsTrue (peer x o) → s.link x o ≡ Ask i l c ∷ rest
+    → s.board.verdict i ≡ Open → MustJoin i (s.node o) x l → P (Voting i b) → Ways P peer s t o
+  by_itself : (k : ℕ) (b : Ballot) → s.board.begun (Check k) ≡ false → t.board.begun (Check k) ≡ true → P (Voting (Check k) b) → Ways P peer s t o
+
+same_mode : (P : Mode → Type 0) {X : Type 0} → (P Up → ⊥) → (s : State) (o x : ℕ) → (s.node o).mode ≡ Up → o ≡ x → P (s.node x).mode → X
+same_mode P not_up s o x up e g = absurd (not_up (subst P up (subst (λ y. P (s.node y).mode) (sym e) g)))
+
+busy : {X : Type 0} (s : State) (o x : ℕ) (i : Instance) (b : Ballot) → (s.node o).mode ≡ Up → (s.node x).mode ≡ Voting i b → o ≡ x → X
+busy s o x i b up e f = up-voting up (subst (λ y. (s.node y).mode ≡ Voting i b) (sym f) e)
+
+ways : (P : Mode → Type 0) → (P Up → ⊥) → (P Down → ⊥) → (peer : ℕ → ℕ → Bool) (s : State) (o : ℕ) → (s.node o).mode ≡ Up → (t : State)
+  → Step peer s t → P (t.node o).mode → Ways P peer s t o
+ways P nu nd peer s o up t (sends x y by u a) h = let g = changed P nu o x _ s.node up h in same_mode P nu s o x up g.0 g.1
+ways P nu nd peer s o up t (hears x y m rest u a bare front) h = let g = changed P nu o x _ s.node up h in same_mode P nu s o x up g.0 g.1
+ways P nu nd peer s o up t (keeps x y m rest u front) h = let g = changed P nu o x _ s.node up h in same_mode P nu s o x up g.0 g.1
+ways P nu nd peer s o up t (takes x y m ks u a front) h = let g = changed P nu o x _ s.node up h in same_mode P nu s o x up g.0 g.1
+ways P nu nd peer s o up t (drops x y m rest u front) h = still P nu o s.node up h
+ways P nu nd peer s o up t (ignores x y i l c rest u front) h = let g = changed P nu o x _ s.node up h in same_mode P nu s o x up g.0 g.1
+ways P nu nd peer s o up t (refuses x y i l c rest u front) h = let g = changed P nu o x _ s.node up h in same_mode P nu s o x up g.0 g.1
+ways P nu nd peer s o up t (grants x y i l c rest u front opened may) h = let g = changed P nu o x _ s.node up h in same_mode P nu s o x up g.0 g.1
+ways P nu nd peer s o up t (joins x y i l c rest cohort u front a opened must asked) h =
+    let g = changed P nu o x _ s.node up h in
+    subst (λ z. Ways P peer s t z) (sym g.0) (by_ask y i l c rest _ u front opened must g.1)
+ways P nu nd peer s o up t (begins x k cohort a unbegun asked) h =
+    let g = changed P nu o x _ s.node up h in by_itself k _ unbegun (begun-now (Check k) s) g.1
+ways P nu nd peer s o up t (restarts x k cohort down none cut unbegun asked) h =
+    let g = changed P nu o x _ s.node up h in up-down up (subst (λ y. (s.node y).mode ≡ Down) (sym g.0) down)
+ways P nu nd peer s o up t (counts x q i b y u e a v) h = let g = changed P nu o x _ s.node up h in busy s o x i b up e g.0
+ways P nu nd peer s o up t (agrees x i b k e par unvoted agreed) h = let g = changed P nu o x _ s.node up h in busy s o x i b up e g.0
+ways P nu nd peer s o up t (declines x i b k e par unvoted) h = let g = changed P nu o x _ s.node up h in busy s o x i b up e g.0
+ways P nu nd peer s o up t (decides_rollback x k b e par opened agreed) h = pick (cases_eq o x) where
+    pick : (o ≡ x) ⊎ (o ≢ x) → Ways P peer s t o
+    pick (inl f) = busy s o x (Rollback k) b up e f
+    pick (inr ne) = still P nu o s.node up (subst (λ (n : Node). P n.mode) (at-else x _ s.node o ne)
+      (subst (λ (n : Node). P n.mode) (at-else x _ (change x (λ n. saying (Rollback k) (casting (Rollback k) b n)) s).node o ne) h))
+ways P nu nd peer s o up t (decides_check x k b e par opened agreed) h = let g = changed P nu o x _ s.node up h in busy s o x (Check k) b up e g.0
+ways P nu nd peer s o up t (gives_up_rollback k begun opened) h = still P nu o s.node up h
+ways P nu nd peer s o up t (gives_up_check k begun opened) h = still P nu o s.node up h
+ways P nu nd peer s o up t (learns_yes x k b e decided) h = let g = changed P nu o x _ s.node up h in busy s o x (Rollback k) b up e g.0
+ways P nu nd peer s o up t (learns_no x k b p e par decided) h = let g = changed P nu o x _ s.node up h in busy s o x (Rollback k) b up e g.0
+ways P nu nd peer s o up t (releases x k b e none) h = let g = changed P nu o x _ s.node up h in busy s o x (Check k) b up e g.0
+ways P nu nd peer s o up t (fails x none) h = let g = changed P nu o x _ s.node up h in absurd (nd g.1)
+ways P nu nd peer s o up t (fails_holding x k held) h = let g = changed P nu o x _ s.node up h in absurd (nd g.1)

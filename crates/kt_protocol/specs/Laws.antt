@@ -1,0 +1,66 @@
+-- What the theorem says of the states that are reached. Nothing here names a ballot or a vote.
+use Rattle.std.specs.Prelude.{◌≡◌, ℕ, Bool, true, false, IsTrue, List, ◌∷◌, ⊤}
+use Rattle.kt_protocol.specs.Labels.{Label}
+use Rattle.kt_protocol.specs.Lines.{IsIn, Sends, Hears}
+use Rattle.kt_protocol.specs.Machine.{Check, Rollback, Mode, Up, Voting, Down, Message, Ask, State}
+use Rattle.kt_protocol.specs.Runs.{AreNeighbours, IsBeginning, Run}
+
+-- the node takes a checkpoint and waits for the verdict
+abbrev pub IsHeld : Mode → Type 0
+IsHeld (Voting (Check k) b) = ⊤
+IsHeld mode = ⊥
+
+-- the node rolls back
+abbrev pub IsRolling : Mode → Type 0
+IsRolling (Voting (Rollback k) b) = ⊤
+IsRolling mode = ⊥
+
+-- the node is up or held
+abbrev pub IsStanding : Mode → Type 0
+IsStanding Up = ⊤
+IsStanding (Voting (Check k) b) = ⊤
+IsStanding (Voting (Rollback k) b) = ⊥
+IsStanding Down = ⊥
+
+-- no node is down or rolling
+abbrev pub IsSteady : State → Type 0
+IsSteady s = (x : ℕ) → IsStanding (s.node x).mode
+
+-- t is reached by a list of steps from some beginning
+pub record IsReached (peer : ℕ → ℕ → Bool) (t : State) : Type 0 where
+  pub near : AreNeighbours peer
+  pub start : State
+  pub begins : IsBeginning start
+  pub run : Run peer start t
+
+-- an ask of a rollback waits for o, and o heard from the asker what the asker's permanent checkpoint has not sent
+pub record MustRoll (s : State) (o : ℕ) : Type 0 where
+  pub asker : ℕ
+  pub number : ℕ
+  pub label : Label
+  pub life : ℕ
+  pub rest : List Message
+  pub ask : s.link asker o ≡ Ask (Rollback number) label life ∷ rest
+  pub by : ℕ
+  pub under : Label
+  pub heard : IsIn (Hears by asker under) (s.node o).line
+  pub lacks : IsIn (Sends by o under) (s.node asker).perm → ⊥
+
+-- an ask of a check waits for o, and the asker heard what o sent and remembers, and o's permanent checkpoint lacks
+pub record MustHold (s : State) (o : ℕ) : Type 0 where
+  pub asker : ℕ
+  pub number : ℕ
+  pub label : Label
+  pub life : ℕ
+  pub rest : List Message
+  pub ask : s.link asker o ≡ Ask (Check number) label life ∷ rest
+  pub by : ℕ
+  pub under : Label
+  pub heard : IsIn (Hears by o under) (s.node asker).line
+  pub sent : IsIn (Sends by asker under) (s.node o).line
+  pub lacks : IsIn (Sends by asker under) (s.node o).perm → ⊥
+
+-- why o, which was up, is held: it began a check of its own, or an ask made it
+pub data WhyHeld (s t : State) (o : ℕ) : Type 0 where
+  began : (k : ℕ) → s.board.begun (Check k) ≡ false → t.board.begun (Check k) ≡ true → WhyHeld s t o
+  forced : MustHold s o → WhyHeld s t o
