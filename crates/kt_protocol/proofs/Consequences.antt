@@ -2,9 +2,10 @@
 use Rattle.std.proofs.Common.{◌≡◌, ◌≢◌, ◌⊎◌, ℕ, suc, Bool, true, false, IsTrue, List, [], ◌∷◌, ◌++◌, Option, Some, None, inl, inr, refl, sym, ap, subst, ◌∙◌}
 use Rattle.std.proofs.lemmas.Bool.{cases_eq}
 use Rattle.kt_protocol.specs.Labels.{Label, no_label, Under, UpTo, at}
-use Rattle.kt_protocol.specs.Lines.{IsIn, Sends, Hears, top_sent, top_heard}
+use Rattle.kt_protocol.specs.Lines.{IsIn, here, Sends, Hears, top_sent, top_heard}
 use Rattle.kt_protocol.specs.Machine.{Instance, Check, Rollback, Open, Yes, No, Key, Ballot, Mode, Up, Voting, Down, Post, Message, App, Ask, Node, Board, State, instance_of}
 use Rattle.kt_protocol.specs.Steps.{Step, sends, hears, keeps, takes, drops, ignores, refuses, grants, joins, begins, restarts, counts, agrees, declines, decides_rollback, decides_check, gives_up_rollback, gives_up_check, learns_yes, learns_no, releases, fails, fails_holding, MustJoin, begin, change, push, asking, joining, casting, saying}
+use Rattle.kt_protocol.specs.Runs.{AreNeighbours}
 use Rattle.kt_protocol.specs.Laws.{IsHeld, IsRolling, IsStanding, IsSteady, MustRoll, MustHold, WhyHeld, began, forced}
 use Rattle.kt_protocol.proofs.Labels.{at-both, at-else, UpTo-trans, UpTo-Under, Under-UpTo, UpTo-eq, Under-not, UpTo-least}
 use Rattle.kt_protocol.proofs.Lines.{Falls-tail, tail-in, sent-old, sent-top, heard-top, heard-attained}
@@ -102,3 +103,57 @@ ways P nu nd peer s o up t (learns_no x k b p e par decided) h = let g = changed
 ways P nu nd peer s o up t (releases x k b e none) h = let g = changed P nu o x _ s.node up h in busy s o x (Check k) b up e g.0
 ways P nu nd peer s o up t (fails x none) h = let g = changed P nu o x _ s.node up h in absurd (nd g.1)
 ways P nu nd peer s o up t (fails_holding x k held) h = let g = changed P nu o x _ s.node up h in absurd (nd g.1)
+
+-- an open ask of a rollback waits for a node that heard something above its label
+must_roll : {peer : ℕ → ℕ → Bool} {s : State} → Invariant peer s → (o x k : ℕ) (l : Label) (c : ℕ) (rest : List Message) → IsTrue (peer x o)
+  → s.link x o ≡ Ask (Rollback k) l c ∷ rest → s.board.verdict (Rollback k) ≡ Open → Under l (top_heard (s.node o).line x) → MustRoll s o
+must_roll {peer} {s} w o x k l c rest t front opened u =
+  let h = heard-attained x (s.node o).line l u in
+  record {
+    asker = x; number = k; label = l; life = c; rest = rest; ask = front;
+    by = h.0;
+    under = top_heard (s.node o).line x;
+    heard = h.1;
+    lacks = λ i. Under-not (UpTo-Under (UpTo-eq (sym label)) u) (sent-top (s.node x).perm (Falls-tail (w.local x).tail (w.local x).falls) i);
+  } where
+  label : l ≡ top_sent (s.node x).perm o
+  label = (((w.pair x o t).asks (Rollback k) l c (subst (λ m. IsIn (Ask (Rollback k) l c) m) (sym front) here)).meant opened).2
+
+pub forced_to_roll : {peer : ℕ → ℕ → Bool} {s t : State} → Invariant peer s → Step peer s t → (o : ℕ) → (s.node o).mode ≡ Up → IsRolling (t.node o).mode
+  → MustRoll s o
+forced_to_roll {peer} {s} {t} w x o up h = go (ways IsRolling (λ g. g) (λ g. g) peer s o up t x h) where
+  go : Ways IsRolling peer s t o → MustRoll s o
+  go (by_ask y (Rollback k) l c rest b u front opened must r) = must_roll w o y k l c rest u front opened must
+  go (by_ask y (Check k) l c rest b u front opened must r) = absurd r
+  go (by_itself k b unbegun begun r) = absurd r
+
+-- an open ask of a check waits for a node whose permanent checkpoint has not sent what the asker heard
+must_hold : {peer : ℕ → ℕ → Bool} → AreNeighbours peer → {s : State} → Invariant peer s → (o x k : ℕ) (l : Label) (c : ℕ) (rest : List Message) → IsTrue (peer x o)
+  → (s.node o).mode ≡ Up
+  → s.link x o ≡ Ask (Check k) l c ∷ rest → s.board.verdict (Check k) ≡ Open → Under (top_sent (s.node o).perm x) l → MustHold s o
+must_hold {peer} near {s} w o x k l c rest t up front opened u =
+  let h = heard-attained o (s.node x).line (top_sent (s.node o).perm x) above in
+  record {
+    asker = x; number = k; label = l; life = c; rest = rest; ask = front;
+    by = h.0;
+    under = top_heard (s.node x).line o;
+    heard = h.1;
+    sent = caused ((w.pair o x (near.both x o t)).caused h.0 (top_heard (s.node x).line o) h.1);
+    lacks = λ i. Under-not above (sent-top (s.node o).perm (Falls-tail (w.local o).tail (w.local o).falls) i);
+  } where
+  meant : ((s.node x).tent ≡ Some k) × (l ≡ top_heard (s.node x).line o)
+  meant = ((w.pair x o t).asks (Check k) l c (subst (λ m. IsIn (Ask (Check k) l c) m) (sym front) here)).meant opened
+  above : Under (top_sent (s.node o).perm x) (top_heard (s.node x).line o)
+  above = Under-UpTo u (UpTo-eq meant.1)
+  caused : {y : ℕ} {m : Label} → Caused s.board o x (core (s.node o)) (s.node x).mode (s.node x).perm y m → IsIn (Sends y x m) (s.node o).line
+  caused (made i) = i
+  caused (lost g) = up-gone up g.gone
+  caused (cut_soon g) = some-none (sym meant.0 ∙ rolling-none (s.node x).mode (s.node x).tent (w.local x).way g.rolls)
+
+pub why_held : {peer : ℕ → ℕ → Bool} → AreNeighbours peer → {s t : State} → Invariant peer s → Step peer s t → (o : ℕ) → (s.node o).mode ≡ Up
+  → IsHeld (t.node o).mode → WhyHeld s t o
+why_held {peer} near {s} {t} w x o up h = go (ways IsHeld (λ g. g) (λ g. g) peer s o up t x h) where
+  go : Ways IsHeld peer s t o → WhyHeld s t o
+  go (by_ask y (Check k) l c rest b u front opened must r) = forced (must_hold near w o y k l c rest u up front opened must)
+  go (by_ask y (Rollback k) l c rest b u front opened must r) = absurd r
+  go (by_itself k b unbegun begun r) = began k unbegun begun

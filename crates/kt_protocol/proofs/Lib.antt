@@ -16,3 +16,4 @@ pub mod Cuts
 pub mod Checks
 pub mod Main
 pub mod Consequences
+pub mod Rows
