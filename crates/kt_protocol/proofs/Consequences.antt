@@ -16,14 +16,17 @@ use Rattle.kt_protocol.proofs.Starts.{begun-now}
 
 -- what a permanent checkpoint has heard, the sender's has sent
 pub agree : {peer : ℕ → ℕ → Bool} {s : State} → Invariant peer s → (p q by : ℕ) (l : Label) → IsIn (Hears by p l) (s.node q).perm
-  → IsIn (Sends by q l) (s.node p).perm
+    → IsIn (Sends by q l) (s.node p).perm
 agree {peer} {s} w p q by l h = caused (pair.caused by l line) where
   line : IsIn (Hears by p l) (s.node q).line
   line = tail-in (w.local q).tail h
+
   pair : Pair s.board p q (s.node p) (s.node q) ((s.node q).kept p) (s.link p q)
   pair = w.pair p q ((w.local q).from by p l line)
+
   low : UpTo l (top_heard (s.node q).perm p)
   low = heard-top (s.node q).perm (Falls-tail (w.local q).tail (w.local q).falls) h
+
   caused : Caused s.board p q (core (s.node p)) (s.node q).mode (s.node q).perm by l → IsIn (Sends by q l) (s.node p).perm
   caused (made i) = sent-old (w.local p).tail (w.local p).falls i (UpTo-trans low pair.agree)
   caused (lost u) = absurd (Under-not u.above (UpTo-trans low pair.agree))
@@ -43,7 +46,7 @@ standing-rolling Down k s e = absurd s
 
 -- in a steady state each act in a line that heard an act heard one that its node remembers
 pub remembered : {peer : ℕ → ℕ → Bool} {s : State} → Invariant peer s → IsSteady s → (p q by : ℕ) (l : Label) → IsIn (Hears by p l) (s.node q).line
-  → IsIn (Sends by q l) (s.node p).line
+    → IsIn (Sends by q l) (s.node p).line
 remembered {peer} {s} w steady p q by l h = caused ((w.pair p q ((w.local q).from by p l h)).caused by l h) where
   caused : Caused s.board p q (core (s.node p)) (s.node q).mode (s.node q).perm by l → IsIn (Sends by q l) (s.node p).line
   caused (made i) = i
@@ -53,7 +56,7 @@ remembered {peer} {s} w steady p q by l h = caused ((w.pair p q ((w.local q).fro
 -- a node that is Up and another after a step: the step changed it
 changed : (P : Mode → Type 0) → (P Up → ⊥) → (o x : ℕ) (new : Node) (f : ℕ → Node) → (f o).mode ≡ Up → P (at x new f o).mode → (o ≡ x) × P new.mode
 changed P not_up o x new f up h = at-both x new f o (λ n. P n.mode → (o ≡ x) × P new.mode) (λ e g. (e, g))
-  (λ ne g. absurd (not_up (subst P up g))) h
+    (λ ne g. absurd (not_up (subst P up g))) h
 
 still : (P : Mode → Type 0) {X : Type 0} → (P Up → ⊥) → (o : ℕ) (f : ℕ → Node) → (f o).mode ≡ Up → P (f o).mode → X
 still P not_up o f up h = absurd (not_up (subst P up h))
@@ -61,7 +64,7 @@ still P not_up o f up h = absurd (not_up (subst P up h))
 -- ways in which a step makes a node that is Up what it was not
 data Ways (P : Mode → Type 0) (peer : ℕ → ℕ → Bool) (s t : State) (o : ℕ) : Type 0 where
   by_ask : (x : ℕ) (i : Instance) (l : Label) (c : ℕ) (rest : List Message) (b : Ballot) → IsTrue (peer x o) → s.link x o ≡ Ask i l c ∷ rest
-    → s.board.verdict i ≡ Open → MustJoin i (s.node o) x l → P (Voting i b) → Ways P peer s t o
+      → s.board.verdict i ≡ Open → MustJoin i (s.node o) x l → P (Voting i b) → Ways P peer s t o
   by_itself : (k : ℕ) (b : Ballot) → s.board.begun (Check k) ≡ false → t.board.begun (Check k) ≡ true → P (Voting (Check k) b) → Ways P peer s t o
 
 same_mode : (P : Mode → Type 0) {X : Type 0} → (P Up → ⊥) → (s : State) (o x : ℕ) → (s.node o).mode ≡ Up → o ≡ x → P (s.node x).mode → X
@@ -71,7 +74,7 @@ busy : {X : Type 0} (s : State) (o x : ℕ) (i : Instance) (b : Ballot) → (s.n
 busy s o x i b up e f = up-voting up (subst (λ y. (s.node y).mode ≡ Voting i b) (sym f) e)
 
 ways : (P : Mode → Type 0) → (P Up → ⊥) → (P Down → ⊥) → (peer : ℕ → ℕ → Bool) (s : State) (o : ℕ) → (s.node o).mode ≡ Up → (t : State)
-  → Step peer s t → P (t.node o).mode → Ways P peer s t o
+    → Step peer s t → P (t.node o).mode → Ways P peer s t o
 ways P nu nd peer s o up t (sends x y by u a) h = let g = changed P nu o x _ s.node up h in same_mode P nu s o x up g.0 g.1
 ways P nu nd peer s o up t (hears x y m rest u a bare front) h = let g = changed P nu o x _ s.node up h in same_mode P nu s o x up g.0 g.1
 ways P nu nd peer s o up t (keeps x y m rest u front) h = let g = changed P nu o x _ s.node up h in same_mode P nu s o x up g.0 g.1
@@ -91,9 +94,9 @@ ways P nu nd peer s o up t (counts x q i b y u e a v) h = let g = changed P nu o
 ways P nu nd peer s o up t (agrees x i b k e par unvoted agreed) h = let g = changed P nu o x _ s.node up h in busy s o x i b up e g.0
 ways P nu nd peer s o up t (declines x i b k e par unvoted) h = let g = changed P nu o x _ s.node up h in busy s o x i b up e g.0
 ways P nu nd peer s o up t (decides_rollback x k b e par opened agreed) h = pick (cases_eq o x) where
-    pick : (o ≡ x) ⊎ (o ≢ x) → Ways P peer s t o
-    pick (inl f) = busy s o x (Rollback k) b up e f
-    pick (inr ne) = still P nu o s.node up (subst (λ (n : Node). P n.mode) (at-else x _ s.node o ne)
+  pick : (o ≡ x) ⊎ (o ≢ x) → Ways P peer s t o
+  pick (inl f) = busy s o x (Rollback k) b up e f
+  pick (inr ne) = still P nu o s.node up (subst (λ (n : Node). P n.mode) (at-else x _ s.node o ne)
       (subst (λ (n : Node). P n.mode) (at-else x _ (change x (λ n. saying (Rollback k) (casting (Rollback k) b n)) s).node o ne) h))
 ways P nu nd peer s o up t (decides_check x k b e par opened agreed) h = let g = changed P nu o x _ s.node up h in busy s o x (Check k) b up e g.0
 ways P nu nd peer s o up t (gives_up_rollback k begun opened) h = still P nu o s.node up h
@@ -106,21 +109,26 @@ ways P nu nd peer s o up t (fails_holding x k held) h = let g = changed P nu o x
 
 -- an open ask of a rollback waits for a node that heard something above its label
 must_roll : {peer : ℕ → ℕ → Bool} {s : State} → Invariant peer s → (o x k : ℕ) (l : Label) (c : ℕ) (rest : List Message) → IsTrue (peer x o)
-  → s.link x o ≡ Ask (Rollback k) l c ∷ rest → s.board.verdict (Rollback k) ≡ Open → Under l (top_heard (s.node o).line x) → MustRoll s o
+    → s.link x o ≡ Ask (Rollback k) l c ∷ rest → s.board.verdict (Rollback k) ≡ Open → Under l (top_heard (s.node o).line x) → MustRoll s o
 must_roll {peer} {s} w o x k l c rest t front opened u =
-  let h = heard-attained x (s.node o).line l u in
-  record {
-    asker = x; number = k; label = l; life = c; rest = rest; ask = front;
-    by = h.0;
-    under = top_heard (s.node o).line x;
-    heard = h.1;
-    lacks = λ i. Under-not (UpTo-Under (UpTo-eq (sym label)) u) (sent-top (s.node x).perm (Falls-tail (w.local x).tail (w.local x).falls) i);
-  } where
-  label : l ≡ top_sent (s.node x).perm o
-  label = (((w.pair x o t).asks (Rollback k) l c (subst (λ m. IsIn (Ask (Rollback k) l c) m) (sym front) here)).meant opened).2
+    let h = heard-attained x (s.node o).line l u in
+    record {
+      asker = x;
+      number = k;
+      label = l;
+      life = c;
+      rest = rest;
+      ask = front;
+      by = h.0;
+      under = top_heard (s.node o).line x;
+      heard = h.1;
+      lacks = λ i. Under-not (UpTo-Under (UpTo-eq (sym label)) u) (sent-top (s.node x).perm (Falls-tail (w.local x).tail (w.local x).falls) i);
+    } where
+      label : l ≡ top_sent (s.node x).perm o
+      label = (((w.pair x o t).asks (Rollback k) l c (subst (λ m. IsIn (Ask (Rollback k) l c) m) (sym front) here)).meant opened).2
 
 pub forced_to_roll : {peer : ℕ → ℕ → Bool} {s t : State} → Invariant peer s → Step peer s t → (o : ℕ) → (s.node o).mode ≡ Up → IsRolling (t.node o).mode
-  → MustRoll s o
+    → MustRoll s o
 forced_to_roll {peer} {s} {t} w x o up h = go (ways IsRolling (λ g. g) (λ g. g) peer s o up t x h) where
   go : Ways IsRolling peer s t o → MustRoll s o
   go (by_ask y (Rollback k) l c rest b u front opened must r) = must_roll w o y k l c rest u front opened must
@@ -129,29 +137,36 @@ forced_to_roll {peer} {s} {t} w x o up h = go (ways IsRolling (λ g. g) (λ g. g
 
 -- an open ask of a check waits for a node whose permanent checkpoint has not sent what the asker heard
 must_hold : {peer : ℕ → ℕ → Bool} → AreNeighbours peer → {s : State} → Invariant peer s → (o x k : ℕ) (l : Label) (c : ℕ) (rest : List Message) → IsTrue (peer x o)
-  → (s.node o).mode ≡ Up
-  → s.link x o ≡ Ask (Check k) l c ∷ rest → s.board.verdict (Check k) ≡ Open → Under (top_sent (s.node o).perm x) l → MustHold s o
+    → (s.node o).mode ≡ Up
+    → s.link x o ≡ Ask (Check k) l c ∷ rest → s.board.verdict (Check k) ≡ Open → Under (top_sent (s.node o).perm x) l → MustHold s o
 must_hold {peer} near {s} w o x k l c rest t up front opened u =
-  let h = heard-attained o (s.node x).line (top_sent (s.node o).perm x) above in
-  record {
-    asker = x; number = k; label = l; life = c; rest = rest; ask = front;
-    by = h.0;
-    under = top_heard (s.node x).line o;
-    heard = h.1;
-    sent = caused ((w.pair o x (near.both x o t)).caused h.0 (top_heard (s.node x).line o) h.1);
-    lacks = λ i. Under-not above (sent-top (s.node o).perm (Falls-tail (w.local o).tail (w.local o).falls) i);
-  } where
-  meant : ((s.node x).tent ≡ Some k) × (l ≡ top_heard (s.node x).line o)
-  meant = ((w.pair x o t).asks (Check k) l c (subst (λ m. IsIn (Ask (Check k) l c) m) (sym front) here)).meant opened
-  above : Under (top_sent (s.node o).perm x) (top_heard (s.node x).line o)
-  above = Under-UpTo u (UpTo-eq meant.1)
-  caused : {y : ℕ} {m : Label} → Caused s.board o x (core (s.node o)) (s.node x).mode (s.node x).perm y m → IsIn (Sends y x m) (s.node o).line
-  caused (made i) = i
-  caused (lost g) = up-gone up g.gone
-  caused (cut_soon g) = some-none (sym meant.0 ∙ rolling-none (s.node x).mode (s.node x).tent (w.local x).way g.rolls)
+    let h = heard-attained o (s.node x).line (top_sent (s.node o).perm x) above in
+    record {
+      asker = x;
+      number = k;
+      label = l;
+      life = c;
+      rest = rest;
+      ask = front;
+      by = h.0;
+      under = top_heard (s.node x).line o;
+      heard = h.1;
+      sent = caused ((w.pair o x (near.both x o t)).caused h.0 (top_heard (s.node x).line o) h.1);
+      lacks = λ i. Under-not above (sent-top (s.node o).perm (Falls-tail (w.local o).tail (w.local o).falls) i);
+    } where
+      meant : ((s.node x).tent ≡ Some k) × (l ≡ top_heard (s.node x).line o)
+      meant = ((w.pair x o t).asks (Check k) l c (subst (λ m. IsIn (Ask (Check k) l c) m) (sym front) here)).meant opened
+
+      above : Under (top_sent (s.node o).perm x) (top_heard (s.node x).line o)
+      above = Under-UpTo u (UpTo-eq meant.1)
+
+      caused : {y : ℕ} {m : Label} → Caused s.board o x (core (s.node o)) (s.node x).mode (s.node x).perm y m → IsIn (Sends y x m) (s.node o).line
+      caused (made i) = i
+      caused (lost g) = up-gone up g.gone
+      caused (cut_soon g) = some-none (sym meant.0 ∙ rolling-none (s.node x).mode (s.node x).tent (w.local x).way g.rolls)
 
 pub why_held : {peer : ℕ → ℕ → Bool} → AreNeighbours peer → {s t : State} → Invariant peer s → Step peer s t → (o : ℕ) → (s.node o).mode ≡ Up
-  → IsHeld (t.node o).mode → WhyHeld s t o
+    → IsHeld (t.node o).mode → WhyHeld s t o
 why_held {peer} near {s} {t} w x o up h = go (ways IsHeld (λ g. g) (λ g. g) peer s o up t x h) where
   go : Ways IsHeld peer s t o → WhyHeld s t o
   go (by_ask y (Check k) l c rest b u front opened must r) = forced (must_hold near w o y k l c rest u up front opened must)

@@ -110,13 +110,13 @@ HasVoted mode i k = (b : Ballot) → mode ≡ Voting i b → b.parent ≡ Some k
 pub data Token (i : Instance) (k : Key) (awaits : Bool) (refused : Bool) (IsAsked IsCalm IsCovered : Type 0)
     (mode : Mode) (votes : List Vote) (joined : List Member) (said : List Mark) : Type 0 where
   asked : awaits ≡ true → IsAsked → NoVote votes i k → NoChild joined i k
-    → Token i k awaits refused IsAsked IsCalm IsCovered mode votes joined said
+      → Token i k awaits refused IsAsked IsCalm IsCovered mode votes joined said
   waiting : awaits ≡ true → IsCalm → NoVote votes i k → OneChild joined i k
-    → Token i k awaits refused IsAsked IsCalm IsCovered mode votes joined said
+      → Token i k awaits refused IsAsked IsCalm IsCovered mode votes joined said
   voted : (y : Bool) → IsCalm → ((z : Bool) → IsIn (a_vote i k z) votes → z ≡ y)
-    → (y ≡ true → IsCovered × ChildrenSaid joined said i k) → (awaits ≡ false → (refused ≡ true) ⊎ (y ≡ true))
-    → HasVoted mode i k
-    → Token i k awaits refused IsAsked IsCalm IsCovered mode votes joined said
+      → (y ≡ true → IsCovered × ChildrenSaid joined said i k) → (awaits ≡ false → (refused ≡ true) ⊎ (y ≡ true))
+      → HasVoted mode i k
+      → Token i k awaits refused IsAsked IsCalm IsCovered mode votes joined said
 
 -- the ballot still counts for the proof
 abbrev pub Standing : Board → Instance → Option ℕ → Type 0
@@ -148,8 +148,8 @@ top_of (Rollback k) line perm q = top_sent perm q
 -- the token of p's ballot towards q
 abbrev pub TokenOf : Board → ℕ → ℕ → Node → Node → List Post → List Message → Instance → Ballot → Type 0
 TokenOf B p q np nq kept link i b = Token i (a_key p np.life) (b.awaited q) b.refused
-  (Asked i np.life (top_of i np.line np.perm q) (Behind B i) link) (Calm B i np.life (top_of i np.line np.perm q) kept link)
-  (Cover i (core nq) p (top_of i np.line np.perm q)) nq.mode nq.votes nq.joined nq.said
+    (Asked i np.life (top_of i np.line np.perm q) (Behind B i) link) (Calm B i np.life (top_of i np.line np.perm q) kept link)
+    (Cover i (core nq) p (top_of i np.line np.perm q)) nq.mode nq.votes nq.joined nq.said
 
 -- p sends to q: what q keeps from p and what stands on the link from p to q
 pub record Pair (B : Board) (p q : ℕ) (np nq : Node) (kept : List Post) (link : List Message) : Type 0 where
@@ -162,7 +162,7 @@ pub record Pair (B : Board) (p q : ℕ) (np nq : Node) (kept : List Post) (link 
   pub votes : (i : Instance) (c : ℕ) (y : Bool) → IsIn (a_vote i (a_key p c) y) nq.votes → IsMember np.joined i c
   -- a tentative checkpoint whose node said yes: what it heard from q is sent
   pub cover : (k : ℕ) → np.tent ≡ Some k → IsIn (a_mark (Check k) np.life) np.said
-    → Cover (Check k) (core nq) p (top_heard np.line q)
+      → Cover (Check k) (core nq) p (top_heard np.line q)
 
 abbrev pub Way : Mode → Option ℕ → Type 0
 Way Up tent = tent ≡ None
@@ -202,10 +202,10 @@ pub data Descends (J : ℕ → List Member) (i : Instance) : ℕ → ℕ → Typ
 pub record Trees (peer : ℕ → ℕ → Bool) (B : Board) (J : ℕ → List Member) (S : ℕ → List Mark) : Type 0 where
   pub descends : (x : ℕ) (i : Instance) (c : ℕ) → IsMember (J x) i c → Descends J i x c
   pub below : (x : ℕ) (i : Instance) (c : ℕ) (k : Key) → IsIn (a_member i c (Some k)) (J x) → B.verdict i ≡ Open
-    → IsIn (a_mark i k.life) (S k.node) → IsIn (a_mark i c) (S x)
+      → IsIn (a_mark i k.life) (S k.node) → IsIn (a_mark i c) (S x)
   pub every : (x : ℕ) (i : Instance) (c : ℕ) → IsMember (J x) i c → B.verdict i ≡ Yes → IsIn (a_mark i c) (S x)
   pub root : (x y : ℕ) (i : Instance) (c d : ℕ) → IsIn (a_member i c None) (J x) → IsIn (a_member i d None) (J y)
-    → (x ≡ y) × (c ≡ d)
+      → (x ≡ y) × (c ≡ d)
   pub parents : (x : ℕ) (i : Instance) (c : ℕ) (k : Key) → IsIn (a_member i c (Some k)) (J x) → IsMember (J k.node) i k.life
   pub asker : (x : ℕ) (i : Instance) (c : ℕ) (k : Key) → IsIn (a_member i c (Some k)) (J x) → IsTrue (peer k.node x)
 

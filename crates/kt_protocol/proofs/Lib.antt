@@ -17,3 +17,4 @@ pub mod Checks
 pub mod Main
 pub mod Consequences
 pub mod Rows
+pub mod Examples

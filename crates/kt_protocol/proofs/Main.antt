@@ -39,6 +39,7 @@ new-local peer B o n w = record {
 } where
   empty : {A : Type 0} {x : A} → IsIn x [] → ⊥
   empty i = elim i [ ]
+
   first : (q : ℕ) → Under (top_sent [] q) (next_label n)
   first q = omega arith
 
@@ -48,7 +49,7 @@ new-pair B p q np nq kept link u v e f = record {
   agree = subst (λ t. UpTo (top_heard t p) (top_sent np.perm q)) (sym v.perm) (subst (λ t. UpTo (top_heard [] p) (top_sent t q)) (sym u.perm) low);
   caused = λ b l i. absurd (empty (subst (λ t. IsIn (Hears b p l) t) v.line i));
   chain = subst (λ k. Rising (Carried (core np) q) (next_label np) (top_heard nq.line p) (k ++ apps link)) (sym e)
-    (subst (λ m. Rising (Carried (core np) q) (next_label np) (top_heard nq.line p) ([] ++ apps m)) (sym f)
+      (subst (λ m. Rising (Carried (core np) q) (next_label np) (top_heard nq.line p) ([] ++ apps m)) (sym f)
       (subst (λ t. Rising (Carried (core np) q) (next_label np) (top_heard t p) []) (sym v.line) (ends first)));
   asks = λ i l c m. absurd (empty (subst (λ t. IsIn (Ask i l c) t) f m));
   token = λ i b g. up-voting u.mode g;
@@ -57,8 +58,10 @@ new-pair B p q np nq kept link u v e f = record {
 } where
   empty : {A : Type 0} {x : A} → IsIn x [] → ⊥
   empty i = elim i [ ]
+
   low : UpTo (top_heard [] p) (top_sent [] q)
   low = omega arith
+
   first : Under (top_heard [] p) (next_label np)
   first = omega arith
 
@@ -88,7 +91,7 @@ stays peer near s t w (hears o x m rest u up bare front) = step_hears peer near 
 stays peer near s t w (keeps o x m rest u front) = step_keeps peer near s o x m rest u front w
 stays peer near s t w (takes o x m ks u up front) = step_takes peer near s o x m ks u up front w
 stays peer near s t w (drops o x m rest u front) = subst (λ f. Invariant peer record (pull x o rest s) { node = f })
-  (λ i z. sym (at-same o s.node z) i) (step_drops peer near s o x m rest u front w)
+    (λ i z. sym (at-same o s.node z) i) (step_drops peer near s o x m rest u front w)
 stays peer near s t w (ignores o x i l c rest u front) = step_ignores peer near s o x i l c rest u front w
 stays peer near s t w (refuses o x i l c rest u front) = step_refuses peer near s o x i l c rest u front w
 stays peer near s t w (grants o x i l c rest u front opened may) = step_grants peer near s o x i l c rest u front may w
@@ -101,25 +104,31 @@ stays peer near s t w (declines o i b k e par unvoted) = step_declines peer near
 stays peer near s t w (decides_rollback o k b e par opened agreed) = decided where
   mid : State
   mid = change o (λ n. saying (Rollback k) (casting (Rollback k) b n)) s
+
   now : Node
   now = saying (Rollback k) (casting (Rollback k) b (s.node o))
+
   is_now : mid.node o ≡ now
   is_now = at-here o now s.node
+
   decided : Invariant peer t
   decided = step_rises peer near mid o k record b { voted = true } (ap (λ n. n.mode) is_now) par opened
-    (subst (λ (n : Node). IsIn (a_mark (Rollback k) n.life) n.said) (sym is_now) here)
-    (step_says peer near s o (Rollback k) b e par agreed w)
+      (subst (λ (n : Node). IsIn (a_mark (Rollback k) n.life) n.said) (sym is_now) here)
+      (step_says peer near s o (Rollback k) b e par agreed w)
 stays peer near s t w (decides_check o k b e par opened agreed) = decided where
   mid : State
   mid = change o (λ n. saying (Check k) (casting (Check k) b n)) s
+
   now : Node
   now = saying (Check k) (casting (Check k) b (s.node o))
+
   is_now : mid.node o ≡ now
   is_now = at-here o now s.node
+
   decided : Invariant peer t
   decided = step_promotes peer near mid o k record b { voted = true } (ap (λ n. n.mode) is_now) par opened
-    (subst (λ (n : Node). IsIn (a_mark (Check k) n.life) n.said) (sym is_now) here)
-    (step_says peer near s o (Check k) b e par agreed w)
+      (subst (λ (n : Node). IsIn (a_mark (Check k) n.life) n.said) (sym is_now) here)
+      (step_says peer near s o (Check k) b e par agreed w)
 stays peer near s t w (gives_up_rollback k begun opened) = step_gives_up_rollback peer s k begun opened w
 stays peer near s t w (gives_up_check k begun opened) = step_gives_up_check peer s k begun opened w
 stays peer near s t w (learns_yes o k b e decided) = step_learns_yes peer near s o k b e decided w

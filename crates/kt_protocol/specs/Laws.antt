@@ -1,8 +1,8 @@
 -- What the theorem says of the states that are reached. Nothing here names a ballot or a vote.
-use Rattle.std.specs.Prelude.{◌≡◌, ℕ, Bool, true, false, IsTrue, List, ◌∷◌, ⊤}
+use Rattle.std.specs.Prelude.{◌≡◌, ℕ, Bool, true, false, IsTrue, List, [], ◌∷◌, ⊤}
 use Rattle.kt_protocol.specs.Labels.{Label}
-use Rattle.kt_protocol.specs.Lines.{IsIn, Sends, Hears}
-use Rattle.kt_protocol.specs.Machine.{Check, Rollback, Mode, Up, Voting, Down, Message, Ask, State}
+use Rattle.kt_protocol.specs.Lines.{IsIn, Act, Sends, Hears}
+use Rattle.kt_protocol.specs.Machine.{Check, Rollback, Yes, Mode, Up, Voting, Down, Message, Ask, State}
 use Rattle.kt_protocol.specs.Runs.{AreNeighbours, IsBeginning, Run}
 
 -- the node takes a checkpoint and waits for the verdict
@@ -64,3 +64,32 @@ pub record MustHold (s : State) (o : ℕ) : Type 0 where
 pub data WhyHeld (s t : State) (o : ℕ) : Type 0 where
   began : (k : ℕ) → s.board.begun (Check k) ≡ false → t.board.begun (Check k) ≡ true → WhyHeld s t o
   forced : MustHold s o → WhyHeld s t o
+
+-- a run in which a rollback gets Yes and cuts a line: a node remembers an act, and at the end of the run it is up and
+-- remembers nothing
+pub record CutsALine (peer : ℕ → ℕ → Bool) : Type 0 where
+  pub before : State
+  pub after : State
+  pub reached : IsReached peer before
+  pub run : Run peer before after
+  pub node : ℕ
+  pub act : Act
+  pub remembered : IsIn act (before.node node).line
+  pub forgotten : (after.node node).line ≡ []
+  pub up : (after.node node).mode ≡ Up
+  pub number : ℕ
+  pub decided : after.board.verdict (Rollback number) ≡ Yes
+
+-- a state in which a check has Yes, one of its two nodes is down, and both permanent checkpoints hold their act
+pub record ChecksWhileDown (peer : ℕ → ℕ → Bool) : Type 0 where
+  pub state : State
+  pub reached : IsReached peer state
+  pub sender : ℕ
+  pub receiver : ℕ
+  pub by : ℕ
+  pub label : Label
+  pub down : (state.node sender).mode ≡ Down
+  pub sent : (state.node sender).perm ≡ Sends by receiver label ∷ []
+  pub heard : (state.node receiver).perm ≡ Hears by sender label ∷ []
+  pub number : ℕ
+  pub decided : state.board.verdict (Check number) ≡ Yes

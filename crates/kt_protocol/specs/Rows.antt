@@ -23,12 +23,12 @@ drop_ask i o x a s = change o (sifting i x a.label) (pull x o a.rest s)
 -- the ask is answered
 abbrev pub answer_ask : Instance → ℕ → ℕ → Asking → Bool → State → State
 answer_ask i o x a y s =
-  change o (λ n. answering i record { node = x; life = a.life } y (sifting i x a.label n)) (pull x o a.rest s)
+    change o (λ n. answering i record { node = x; life = a.life } y (sifting i x a.label n)) (pull x o a.rest s)
 
 -- o joins and asks its cohort
 abbrev pub join_by_ask : Instance → ℕ → ℕ → Asking → (ℕ → Bool) → State → State
 join_by_ask i o x a cohort s =
-  change o (λ n. joining i (Some record { node = x; life = a.life }) cohort (sifting i x a.label n))
+    change o (λ n. joining i (Some record { node = x; life = a.life }) cohort (sifting i x a.label n))
     (push o (asking i cohort (s.node o)) (pull x o a.rest s))
 
 -- the ask of a rollback, where something was heard above its label
@@ -40,9 +40,9 @@ roll_in_mode peer k o x a s mode = answer_ask (Rollback k) o x a false s
 -- the row of the ask of a rollback at a node that is not down
 abbrev pub roll_row : (ℕ → ℕ → Bool) → ℕ → ℕ → ℕ → Asking → State → State
 roll_row peer k o x a s =
-  if not (is_open (s.board.verdict (Rollback k))) then answer_ask (Rollback k) o x a false s
-  else if up_to (top_heard (s.node o).line x) a.label then answer_ask (Rollback k) o x a true s
-  else roll_in_mode peer k o x a s (s.node o).mode
+    if not (is_open (s.board.verdict (Rollback k))) then answer_ask (Rollback k) o x a false s
+    else if up_to (top_heard (s.node o).line x) a.label then answer_ask (Rollback k) o x a true s
+    else roll_in_mode peer k o x a s (s.node o).mode
 
 -- the ask of a rollback arrives
 abbrev pub hear_roll_ask : (ℕ → ℕ → Bool) → ℕ → ℕ → ℕ → Asking → State → Mode → State
@@ -66,18 +66,18 @@ holds (Some j) k = eqb j k
 -- the ask of a check, where its label is above what the permanent checkpoint sent
 abbrev pub check_in_mode : (ℕ → ℕ → Bool) → ℕ → ℕ → ℕ → Asking → Option Label → State → Mode → State
 check_in_mode peer k o x a first s Up =
-  if reaches first a.label && up_to a.label (top_sent (s.node o).line x)
-  then join_by_ask (Check k) o x a (check_cohort peer o (s.node o)) s else answer_ask (Check k) o x a false s
+    if reaches first a.label && up_to a.label (top_sent (s.node o).line x)
+    then join_by_ask (Check k) o x a (check_cohort peer o (s.node o)) s else answer_ask (Check k) o x a false s
 check_in_mode peer k o x a first s mode =
-  answer_ask (Check k) o x a (holds (s.node o).tent k && up_to a.label (top_sent (s.node o).line x)) s
+    answer_ask (Check k) o x a (holds (s.node o).tent k && up_to a.label (top_sent (s.node o).line x)) s
 
 -- the row of the ask of a check at a node that is not down; `first` is the label of its first message to x since its
 -- permanent checkpoint
 abbrev pub check_row : (ℕ → ℕ → Bool) → ℕ → ℕ → ℕ → Asking → Option Label → State → State
 check_row peer k o x a first s =
-  if not (is_open (s.board.verdict (Check k))) then answer_ask (Check k) o x a false s
-  else if up_to a.label (top_sent (s.node o).perm x) then answer_ask (Check k) o x a true s
-  else check_in_mode peer k o x a first s (s.node o).mode
+    if not (is_open (s.board.verdict (Check k))) then answer_ask (Check k) o x a false s
+    else if up_to a.label (top_sent (s.node o).perm x) then answer_ask (Check k) o x a true s
+    else check_in_mode peer k o x a first s (s.node o).mode
 
 -- the ask of a check arrives
 abbrev pub hear_check_ask : (ℕ → ℕ → Bool) → ℕ → ℕ → ℕ → Asking → Option Label → State → Mode → State

@@ -165,91 +165,91 @@ discard k s = record s { node = λ x. record (s.node x) { tent = released k (s.n
 pub data Step (peer : ℕ → ℕ → Bool) (s : State) : State → Type 0 where
   -- an act sends a message
   sends : (o y by : ℕ) → IsTrue (peer o y) → (s.node o).mode ≡ Up
-    → Step peer s (change o (sending by y)
-        (push o (only y (App record { by = by; label = next_label (s.node o) })) s))
+      → Step peer s (change o (sending by y)
+      (push o (only y (App record { by = by; label = next_label (s.node o) })) s))
   -- a message from x is heard
   hears : (o x : ℕ) (m : Post) (rest : List Message) → IsTrue (peer x o) → (s.node o).mode ≡ Up
-    → (s.node o).kept x ≡ [] → s.link x o ≡ App m ∷ rest
-    → Step peer s (change o (hearing x m) (pull x o rest s))
+      → (s.node o).kept x ≡ [] → s.link x o ≡ App m ∷ rest
+      → Step peer s (change o (hearing x m) (pull x o rest s))
   -- a message from x is put behind what is kept
   keeps : (o x : ℕ) (m : Post) (rest : List Message) → IsTrue (peer x o) → s.link x o ≡ App m ∷ rest
-    → Step peer s (change o (λ n. keeping x (n.kept x ++ m ∷ []) n) (pull x o rest s))
+      → Step peer s (change o (λ n. keeping x (n.kept x ++ m ∷ []) n) (pull x o rest s))
   -- the first kept message from x is heard
   takes : (o x : ℕ) (m : Post) (ks : List Post) → IsTrue (peer x o) → (s.node o).mode ≡ Up
-    → (s.node o).kept x ≡ m ∷ ks
-    → Step peer s (change o (λ n. hearing x m (keeping x ks n)) s)
+      → (s.node o).kept x ≡ m ∷ ks
+      → Step peer s (change o (λ n. hearing x m (keeping x ks n)) s)
   -- a message is dropped
   drops : (o x : ℕ) (m : Post) (rest : List Message) → IsTrue (peer x o) → s.link x o ≡ App m ∷ rest
-    → Step peer s (pull x o rest s)
+      → Step peer s (pull x o rest s)
   -- an ask is dropped
   ignores : (o x : ℕ) (i : Instance) (l : Label) (c : ℕ) (rest : List Message) → IsTrue (peer x o)
-    → s.link x o ≡ Ask i l c ∷ rest
-    → Step peer s (change o (sifting i x l) (pull x o rest s))
+      → s.link x o ≡ Ask i l c ∷ rest
+      → Step peer s (change o (sifting i x l) (pull x o rest s))
   -- an ask is answered no, at any time
   refuses : (o x : ℕ) (i : Instance) (l : Label) (c : ℕ) (rest : List Message) → IsTrue (peer x o)
-    → s.link x o ≡ Ask i l c ∷ rest
-    → Step peer s (change o (λ n. answering i record { node = x; life = c } false (sifting i x l n)) (pull x o rest s))
+      → s.link x o ≡ Ask i l c ∷ rest
+      → Step peer s (change o (λ n. answering i record { node = x; life = c } false (sifting i x l n)) (pull x o rest s))
   -- an ask is answered yes at once
   grants : (o x : ℕ) (i : Instance) (l : Label) (c : ℕ) (rest : List Message) → IsTrue (peer x o)
-    → s.link x o ≡ Ask i l c ∷ rest → s.board.verdict i ≡ Open → MayAgree i (s.node o) x l
-    → Step peer s (change o (λ n. answering i record { node = x; life = c } true (sifting i x l n)) (pull x o rest s))
+      → s.link x o ≡ Ask i l c ∷ rest → s.board.verdict i ≡ Open → MayAgree i (s.node o) x l
+      → Step peer s (change o (λ n. answering i record { node = x; life = c } true (sifting i x l n)) (pull x o rest s))
   -- an ask makes the node join, and ask in its turn
   joins : (o x : ℕ) (i : Instance) (l : Label) (c : ℕ) (rest : List Message) (cohort : ℕ → Bool) → IsTrue (peer x o)
-    → s.link x o ≡ Ask i l c ∷ rest → (s.node o).mode ≡ Up → s.board.verdict i ≡ Open → MustJoin i (s.node o) x l
-    → IsCohort peer i o (s.node o) cohort
-    → Step peer s (change o (λ n. joining i (Some record { node = x; life = c }) cohort (sifting i x l n))
-        (push o (asking i cohort (s.node o)) (pull x o rest s)))
+      → s.link x o ≡ Ask i l c ∷ rest → (s.node o).mode ≡ Up → s.board.verdict i ≡ Open → MustJoin i (s.node o) x l
+      → IsCohort peer i o (s.node o) cohort
+      → Step peer s (change o (λ n. joining i (Some record { node = x; life = c }) cohort (sifting i x l n))
+      (push o (asking i cohort (s.node o)) (pull x o rest s)))
   -- a check begins
   begins : (o k : ℕ) (cohort : ℕ → Bool) → (s.node o).mode ≡ Up → s.board.begun (Check k) ≡ false
-    → IsCohort peer (Check k) o (s.node o) cohort
-    → Step peer s (begin (Check k) (change o (joining (Check k) None cohort)
-        (push o (asking (Check k) cohort (s.node o)) s)))
+      → IsCohort peer (Check k) o (s.node o) cohort
+      → Step peer s (begin (Check k) (change o (joining (Check k) None cohort)
+      (push o (asking (Check k) cohort (s.node o)) s)))
   -- a node that is down begins a rollback, in a new incarnation, from its permanent checkpoint
   restarts : (o k : ℕ) (cohort : ℕ → Bool) → (s.node o).mode ≡ Down → (s.node o).tent ≡ None
-    → (s.node o).line ≡ (s.node o).perm → s.board.begun (Rollback k) ≡ false
-    → IsCohort peer (Rollback k) o (s.node o) cohort
-    → Step peer s (begin (Rollback k) (change o (λ n. joining (Rollback k) None cohort (loading n))
-        (push o (asking (Rollback k) cohort (loading (s.node o))) s)))
+      → (s.node o).line ≡ (s.node o).perm → s.board.begun (Rollback k) ≡ false
+      → IsCohort peer (Rollback k) o (s.node o) cohort
+      → Step peer s (begin (Rollback k) (change o (λ n. joining (Rollback k) None cohort (loading n))
+      (push o (asking (Rollback k) cohort (loading (s.node o))) s)))
   -- a vote of q on the node's ask is counted
   counts : (o q : ℕ) (i : Instance) (b : Ballot) (y : Bool) → IsTrue (peer o q) → (s.node o).mode ≡ Voting i b
-    → b.awaited q ≡ true
-    → IsIn record { instance = i; asker = record { node = o; life = (s.node o).life }; agrees = y } (s.node q).votes
-    → Step peer s (change o (counting i b q y) s)
+      → b.awaited q ≡ true
+      → IsIn record { instance = i; asker = record { node = o; life = (s.node o).life }; agrees = y } (s.node q).votes
+      → Step peer s (change o (counting i b q y) s)
   -- a participant votes yes
   agrees : (o : ℕ) (i : Instance) (b : Ballot) (k : Key) → (s.node o).mode ≡ Voting i b → b.parent ≡ Some k
-    → b.voted ≡ false → IsAgreed peer o b
-    → Step peer s (change o (λ n. answering i k true (saying i (casting i b n))) s)
+      → b.voted ≡ false → IsAgreed peer o b
+      → Step peer s (change o (λ n. answering i k true (saying i (casting i b n))) s)
   -- a participant votes no, at any time
   declines : (o : ℕ) (i : Instance) (b : Ballot) (k : Key) → (s.node o).mode ≡ Voting i b → b.parent ≡ Some k
-    → b.voted ≡ false
-    → Step peer s (change o (λ n. answering i k false (casting i b n)) s)
+      → b.voted ≡ false
+      → Step peer s (change o (λ n. answering i k false (casting i b n)) s)
   -- the initiator of a rollback decides Yes and is up
   decides_rollback : (o k : ℕ) (b : Ballot) → (s.node o).mode ≡ Voting (Rollback k) b → b.parent ≡ None
-    → s.board.verdict (Rollback k) ≡ Open → IsAgreed peer o b
-    → Step peer s (decide (Rollback k) Yes (change o rising (change o (λ n. saying (Rollback k) (casting (Rollback k) b n)) s)))
+      → s.board.verdict (Rollback k) ≡ Open → IsAgreed peer o b
+      → Step peer s (decide (Rollback k) Yes (change o rising (change o (λ n. saying (Rollback k) (casting (Rollback k) b n)) s)))
   -- the initiator of a check decides Yes
   decides_check : (o k : ℕ) (b : Ballot) → (s.node o).mode ≡ Voting (Check k) b → b.parent ≡ None
-    → s.board.verdict (Check k) ≡ Open → IsAgreed peer o b
-    → Step peer s (promote k (decide (Check k) Yes (change o (λ n. saying (Check k) (casting (Check k) b n)) s)))
+      → s.board.verdict (Check k) ≡ Open → IsAgreed peer o b
+      → Step peer s (promote k (decide (Check k) Yes (change o (λ n. saying (Check k) (casting (Check k) b n)) s)))
   -- an instance that is not decided gets No
   gives_up_rollback : (k : ℕ) → s.board.begun (Rollback k) ≡ true → s.board.verdict (Rollback k) ≡ Open
-    → Step peer s (decide (Rollback k) No s)
+      → Step peer s (decide (Rollback k) No s)
   gives_up_check : (k : ℕ) → s.board.begun (Check k) ≡ true → s.board.verdict (Check k) ≡ Open
-    → Step peer s (discard k (decide (Check k) No s))
+      → Step peer s (discard k (decide (Check k) No s))
   -- a participant of a rollback learns Yes: it loads its permanent checkpoint
   learns_yes : (o k : ℕ) (b : Ballot) → (s.node o).mode ≡ Voting (Rollback k) b
-    → s.board.verdict (Rollback k) ≡ Yes
-    → Step peer s (change o (λ n. rising (loading n)) s)
+      → s.board.verdict (Rollback k) ≡ Yes
+      → Step peer s (change o (λ n. rising (loading n)) s)
   -- a participant of a rollback learns No
   learns_no : (o k : ℕ) (b : Ballot) (p : Key) → (s.node o).mode ≡ Voting (Rollback k) b → b.parent ≡ Some p
-    → s.board.verdict (Rollback k) ≡ No
-    → Step peer s (change o rising s)
+      → s.board.verdict (Rollback k) ≡ No
+      → Step peer s (change o rising s)
   -- a node whose check is decided is up
   releases : (o k : ℕ) (b : Ballot) → (s.node o).mode ≡ Voting (Check k) b → (s.node o).tent ≡ None
-    → Step peer s (change o rising s)
+      → Step peer s (change o rising s)
   -- a node fails, or is down and learns that its tentative checkpoint is given up
   fails : (o : ℕ) → (s.node o).tent ≡ None
-    → Step peer s (change o (λ n. falling (cutting n)) s)
+      → Step peer s (change o (λ n. falling (cutting n)) s)
   -- a node fails with a tentative checkpoint of a check that is not decided
   fails_holding : (o k : ℕ) → (s.node o).tent ≡ Some k
-    → Step peer s (change o falling s)
+      → Step peer s (change o falling s)

@@ -2,7 +2,7 @@
 
 ghost use Rattle.std.specs.Prelude.{◌≡◌, ℕ, Bool, IsTrue, ◌∷◌, Option};
 ghost use Rattle.kt_protocol.specs.Labels.{Label};
-ghost use Rattle.kt_protocol.specs.Laws.{IsHeld, IsReached, IsRolling, IsSteady, MustRoll, WhyHeld};
+ghost use Rattle.kt_protocol.specs.Laws.{ChecksWhileDown, CutsALine, IsHeld, IsReached, IsRolling, IsSteady, MustRoll, WhyHeld};
 ghost use Rattle.kt_protocol.specs.Lines.{IsIn, Hears, Sends};
 ghost use Rattle.kt_protocol.specs.Machine.{Ask, Check, Rollback, State, Up};
 ghost use Rattle.kt_protocol.specs.Rows.{Asking, hear_check_ask, hear_roll_ask};
@@ -48,4 +48,14 @@ pub fn the_row_of_a_check_ask_is_a_step()
     ensures { (peer : ℕ → ℕ → Bool) (k o x : ℕ) (a : Asking) (first : Option Label) (s : State)
         → IsTrue (peer x o) → s.link x o ≡ Ask (Check k) a.label a.life ∷ a.rest
         → Step peer s (hear_check_ask peer k o x a first s (s.node o).mode) }
+{}
+
+/// There is a run in which a rollback gets Yes and cuts a line.
+pub fn a_rollback_can_cut_a_line()
+    ensures { (peer : ℕ → ℕ → Bool) × CutsALine peer }
+{}
+
+/// There is a run in which a check of two nodes gets Yes while one of them is down.
+pub fn a_check_can_succeed_while_a_node_is_down()
+    ensures { (peer : ℕ → ℕ → Bool) × ChecksWhileDown peer }
 {}
