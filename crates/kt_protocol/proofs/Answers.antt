@@ -1,13 +1,13 @@
 -- Asks dropped, refused and granted.
-use Rattle.std.proofs.Common.{◌≡◌, ◌≢◌, ◌⊎◌, ℕ, Bool, true, false, IsTrue, List, [], ◌∷◌, ◌++◌, Option, Some, None, inl, inr, refl, sym, ap, subst, ◌∙◌}
-use Rattle.kt_protocol.specs.Labels.{Label, UpTo, at}
-use Rattle.kt_protocol.specs.Lines.{IsIn, here, there, top_sent, top_heard}
-use Rattle.kt_protocol.specs.Machine.{Instance, Check, Rollback, Open, Key, Ballot, Mode, Up, Voting, Post, Message, App, Ask, Vote, Member, Mark, Node, Board, State, instance_of}
-use Rattle.kt_protocol.specs.Steps.{change, pull, keeping, sieved, sifting, answering, MayAgree, sieve}
+use Rattle.std.proofs.Common.{◌≡◌, ◌≢◌, ◌⊎◌, ℕ, Bool, true, false, IsTrue, List, ◌∷◌, ◌++◌, inl, inr, refl, sym, ap, subst}
+use Rattle.kt_protocol.specs.Labels.{Label}
+use Rattle.kt_protocol.specs.Lines.{IsIn, here, there}
+use Rattle.kt_protocol.specs.Machine.{Instance, Check, Rollback, Key, Ballot, Post, Message, App, Ask, Vote, Member, Node, Board, State}
+use Rattle.kt_protocol.specs.Steps.{change, pull, sieved, sifting, answering, MayAgree}
 use Rattle.kt_protocol.specs.Runs.{AreNeighbours}
 use Rattle.kt_protocol.proofs.Labels.{at-here, at-else}
 use Rattle.kt_protocol.proofs.Streams.{in-cons, apps, Sub, Sub-app, Sub-refl, Sub-in, sieve-part, sieve-in, NoAsk, Asked, front, later}
-use Rattle.kt_protocol.proofs.Invariant.{core, a_vote, a_key, a_member, IsMember, Quiet, Behind, KeptUpTo, Calm, Cover, NoVote, NoChild, HasVoted, Token, asked, waiting, voted, Standing, top_of, TokenOf, Pair, Local, Invariant}
+use Rattle.kt_protocol.proofs.Invariant.{core, a_vote, a_key, a_member, IsMember, Behind, KeptUpTo, Calm, Cover, NoVote, NoChild, HasVoted, asked, waiting, voted, top_of, TokenOf, Pair, Local, Invariant}
 use Rattle.kt_protocol.proofs.Cases.{lift_pull, true-false}
 use Rattle.kt_protocol.proofs.Keeps.{passes, idle-out, idle-local}
 

@@ -1,11 +1,11 @@
 -- Constructors told apart, links changed, and the whole from what a step changes.
-use Rattle.std.proofs.Common.{◌≡◌, ◌≢◌, ◌⊎◌, ℕ, Bool, true, false, IsTrue, List, [], ◌∷◌, ◌++◌, Option, Some, None, inl, inr, refl, sym, ap, subst, ◌∙◌, eqb, if◌then◌else◌, append-nil}
+use Rattle.std.proofs.Common.{◌≡◌, ◌≢◌, ◌⊎◌, ℕ, Bool, true, false, IsTrue, List, ◌++◌, Option, Some, None, inl, inr, refl, sym, ap, subst, ◌∙◌}
 use Rattle.std.proofs.lemmas.Bool.{cases_eq, eq-eqb, ne_eqb}
 use Rattle.kt_protocol.specs.Labels.{at}
-use Rattle.kt_protocol.specs.Machine.{Instance, Check, Rollback, Verdict, Open, Yes, No, Key, Ballot, Mode, Up, Voting, Down, Message, Node, Board, State, instance_of}
-use Rattle.kt_protocol.specs.Steps.{change, pull, push}
+use Rattle.kt_protocol.specs.Machine.{Instance, Check, Rollback, Verdict, Open, Yes, No, Ballot, Mode, Up, Voting, Down, Message, Node, State, instance_of}
+use Rattle.kt_protocol.specs.Steps.{pull, push}
 use Rattle.kt_protocol.specs.Runs.{AreNeighbours}
-use Rattle.kt_protocol.proofs.Invariant.{Gone, Pair, Local, Trees, Invariant}
+use Rattle.kt_protocol.proofs.Invariant.{Gone, Pair, Local, Invariant}
 use Rattle.kt_protocol.proofs.Frames.{lift, Later-refl, Trees-idle}
 
 abbrev or_nothing : {A : Type 0} → A → Option A → A

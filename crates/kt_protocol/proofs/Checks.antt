@@ -1,17 +1,17 @@
 -- A verdict on a check stands for all nodes at once.
-use Rattle.std.proofs.Common.{◌≡◌, ◌≢◌, ◌⊎◌, ◌≤◌, ℕ, suc, Bool, true, false, IsTrue, List, [], ◌∷◌, ◌++◌, Option, Some, None, inl, inr, refl, sym, ap, subst, ◌∙◌, eqb, if◌then◌else◌}
+use Rattle.std.proofs.Common.{◌≡◌, ◌≢◌, ◌⊎◌, ℕ, Bool, true, IsTrue, List, Option, Some, None, inl, inr, refl, sym, ap, subst, ◌∙◌}
 use Rattle.std.proofs.lemmas.Bool.{cases_eq, eq-eqb, ne_eqb}
 use Rattle.kt_protocol.specs.Labels.{Label, Under, UpTo}
-use Rattle.kt_protocol.specs.Lines.{IsIn, here, there, Act, Sends, Hears, IsTail, all, top_sent, top_heard}
-use Rattle.kt_protocol.specs.Machine.{Instance, Check, Rollback, Verdict, Open, Yes, No, Key, Ballot, Mode, Up, Voting, Down, Post, Message, App, Ask, Vote, Member, Mark, Node, Board, State, instance_of, next_label}
+use Rattle.kt_protocol.specs.Lines.{IsIn, Act, IsTail, all, top_sent, top_heard}
+use Rattle.kt_protocol.specs.Machine.{Instance, Check, Rollback, Verdict, Open, Yes, No, Ballot, Mode, Up, Voting, Down, Post, Message, Node, Board, State, instance_of, next_label}
 use Rattle.kt_protocol.specs.Steps.{decide, released, promoted, promote, discard}
 use Rattle.kt_protocol.specs.Runs.{AreNeighbours}
-use Rattle.kt_protocol.proofs.Labels.{UpTo-trans, UpTo-Under, UpTo-refl}
+use Rattle.kt_protocol.proofs.Labels.{UpTo-trans, UpTo-refl}
 use Rattle.kt_protocol.proofs.Lines.{sent-tail}
-use Rattle.kt_protocol.proofs.Streams.{apps, Rising, Rising-map, Asked, Asked-map}
-use Rattle.kt_protocol.proofs.Invariant.{Core, core, a_vote, a_key, a_member, a_mark, IsMember, Gone, Undone, Carried, sent, undone, CutSoon, Caused, made, lost, cut_soon, Behind, Calm, Cover, Token, Standing, Away, Meant, FineAsk, top_of, TokenOf, Pair, Way, Engaged, BallotFits, Local, Descends, Trees, Invariant}
+use Rattle.kt_protocol.proofs.Streams.{Rising-map, Asked, Asked-map}
+use Rattle.kt_protocol.proofs.Invariant.{core, a_key, a_member, a_mark, IsMember, Undone, sent, undone, made, lost, cut_soon, Behind, Calm, Cover, Token, Standing, Meant, top_of, TokenOf, Pair, Way, Engaged, Local, Invariant}
 use Rattle.kt_protocol.proofs.Frames.{Later, Trees-later, Token-map, Behind-later, Calm-later}
-use Rattle.kt_protocol.proofs.Cases.{some-none, none-some, some-one, check-one, check-rollback, open-yes, open-no, yes-no}
+use Rattle.kt_protocol.proofs.Cases.{some-none, none-some, some-one, check-one, check-rollback}
 use Rattle.kt_protocol.proofs.Trees.{all_said}
 use Rattle.kt_protocol.proofs.Verdicts.{decide-cases, decide-at, decide-fresh, decide-opened, decide-decided, decide-live, decide-check, no-open, yes-open, no-back}
 use Rattle.kt_protocol.proofs.Cuts.{rolling-none}

@@ -1,15 +1,15 @@
 -- The theorem from the invariant.
-use Rattle.std.proofs.Common.{◌≡◌, ◌≢◌, ◌⊎◌, ℕ, suc, Bool, true, false, IsTrue, List, [], ◌∷◌, ◌++◌, Option, Some, None, inl, inr, refl, sym, ap, subst, ◌∙◌}
+use Rattle.std.proofs.Common.{◌≡◌, ◌≢◌, ◌⊎◌, ℕ, Bool, true, false, IsTrue, List, ◌∷◌, Some, inl, inr, sym, subst, ◌∙◌}
 use Rattle.std.proofs.lemmas.Bool.{cases_eq}
-use Rattle.kt_protocol.specs.Labels.{Label, no_label, Under, UpTo, at}
+use Rattle.kt_protocol.specs.Labels.{Label, Under, UpTo, at}
 use Rattle.kt_protocol.specs.Lines.{IsIn, here, Sends, Hears, top_sent, top_heard}
-use Rattle.kt_protocol.specs.Machine.{Instance, Check, Rollback, Open, Yes, No, Key, Ballot, Mode, Up, Voting, Down, Post, Message, App, Ask, Node, Board, State, instance_of}
-use Rattle.kt_protocol.specs.Steps.{Step, sends, hears, keeps, takes, drops, ignores, refuses, grants, joins, begins, restarts, counts, agrees, declines, decides_rollback, decides_check, gives_up_rollback, gives_up_check, learns_yes, learns_no, releases, fails, fails_holding, MustJoin, begin, change, push, asking, joining, casting, saying}
+use Rattle.kt_protocol.specs.Machine.{Instance, Check, Rollback, Open, Ballot, Mode, Up, Voting, Down, Message, Ask, Node, State, instance_of}
+use Rattle.kt_protocol.specs.Steps.{Step, sends, hears, keeps, takes, drops, ignores, refuses, grants, joins, begins, restarts, counts, agrees, declines, decides_rollback, decides_check, gives_up_rollback, gives_up_check, learns_yes, learns_no, releases, fails, fails_holding, MustJoin, change, casting, saying}
 use Rattle.kt_protocol.specs.Runs.{AreNeighbours}
 use Rattle.kt_protocol.specs.Laws.{IsHeld, IsRolling, IsStanding, IsSteady, MustRoll, MustHold, WhyHeld, began, forced}
-use Rattle.kt_protocol.proofs.Labels.{at-both, at-else, UpTo-trans, UpTo-Under, Under-UpTo, UpTo-eq, Under-not, UpTo-least}
+use Rattle.kt_protocol.proofs.Labels.{at-both, at-else, UpTo-trans, UpTo-Under, Under-UpTo, UpTo-eq, Under-not}
 use Rattle.kt_protocol.proofs.Lines.{Falls-tail, tail-in, sent-old, sent-top, heard-top, heard-attained}
-use Rattle.kt_protocol.proofs.Invariant.{core, Gone, Undone, CutSoon, Caused, made, lost, cut_soon, Pair, Invariant}
+use Rattle.kt_protocol.proofs.Invariant.{core, Gone, Caused, made, lost, cut_soon, Pair, Invariant}
 use Rattle.kt_protocol.proofs.Cases.{some-none, none-some, some-one, up-gone, up-voting, up-down, check-rollback}
 use Rattle.kt_protocol.proofs.Cuts.{rolling-none}
 use Rattle.kt_protocol.proofs.Starts.{begun-now}

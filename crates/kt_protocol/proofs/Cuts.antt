@@ -1,16 +1,16 @@
 -- Failures, and lines cut to the permanent checkpoint.
-use Rattle.std.proofs.Common.{◌≡◌, ◌≢◌, ◌⊎◌, ◌≤◌, ℕ, suc, Bool, true, false, IsTrue, List, [], ◌∷◌, ◌++◌, Option, Some, None, inl, inr, refl, sym, ap, subst, ◌∙◌, arith}
-use Rattle.kt_protocol.specs.Labels.{Label, Under, UpTo, at}
-use Rattle.kt_protocol.specs.Lines.{IsIn, here, there, Act, Sends, Hears, IsTail, all, top_sent, top_heard}
-use Rattle.kt_protocol.specs.Machine.{Instance, Check, Rollback, Open, Yes, No, Key, Ballot, Mode, Up, Voting, Down, Post, Message, App, Ask, Vote, Member, Mark, Node, Board, State, instance_of, next_label}
-use Rattle.kt_protocol.specs.Steps.{change, cutting, falling, loading, rising, nothing_kept, IsAgreed, decide, saying, casting}
+use Rattle.std.proofs.Common.{◌≡◌, ◌≢◌, ◌⊎◌, ℕ, suc, Bool, IsTrue, List, [], ◌++◌, Option, Some, None, inl, inr, refl, sym, ap, subst, ◌∙◌, arith}
+use Rattle.kt_protocol.specs.Labels.{Label, Under, UpTo}
+use Rattle.kt_protocol.specs.Lines.{IsIn, Act, Sends, Hears, IsTail, all, top_sent, top_heard}
+use Rattle.kt_protocol.specs.Machine.{Instance, Check, Rollback, Open, Yes, No, Key, Ballot, Mode, Up, Voting, Down, Post, Message, Ask, Node, Board, State, instance_of, next_label}
+use Rattle.kt_protocol.specs.Steps.{change, cutting, falling, loading, rising, nothing_kept, decide}
 use Rattle.kt_protocol.specs.Runs.{AreNeighbours}
 use Rattle.kt_protocol.proofs.Labels.{UpTo-trans, UpTo-Under, Under-UpTo, Under-not, UpTo-refl}
 use Rattle.kt_protocol.proofs.Lines.{Falls, Falls-tail, sent-tail, heard-tail, heard-top, sent-split, tail-in}
-use Rattle.kt_protocol.proofs.Streams.{apps, in-append, Rising, Rising-map, Rising-low, Rising-sub, Sub-right}
-use Rattle.kt_protocol.proofs.Invariant.{Core, core, a_vote, a_key, a_member, a_mark, IsMember, Gone, Undone, Carried, sent, undone, CutSoon, Caused, made, lost, cut_soon, Quiet, Behind, Calm, Cover, HasVoted, Token, asked, waiting, voted, Standing, Away, Meant, FineAsk, top_of, TokenOf, Pair, Way, Engaged, BallotFits, Local, Descends, Trees, Invariant}
-use Rattle.kt_protocol.proofs.Frames.{Later, Later-refl, lift, Pair-later, Local-later, Trees-later, Trees-idle}
-use Rattle.kt_protocol.proofs.Cases.{some-none, none-some, some-one, up-voting, up-down, down-voting, voting-instance, voting-ballot, check-rollback, rollback-one, open-yes, open-no, yes-no, lift_own}
+use Rattle.kt_protocol.proofs.Streams.{apps, in-append, Rising-map, Rising-low, Rising-sub, Sub-right}
+use Rattle.kt_protocol.proofs.Invariant.{core, a_member, a_mark, IsMember, Gone, Undone, sent, undone, CutSoon, made, lost, cut_soon, Calm, Cover, asked, waiting, voted, Standing, Away, Meant, top_of, TokenOf, Pair, Way, Engaged, Local, Descends, Trees, Invariant}
+use Rattle.kt_protocol.proofs.Frames.{Later, Later-refl, lift, Pair-later, Local-later, Trees-idle}
+use Rattle.kt_protocol.proofs.Cases.{some-none, none-some, some-one, up-voting, down-voting, check-rollback, rollback-one, open-yes, open-no, yes-no, lift_own}
 use Rattle.kt_protocol.proofs.Votes.{settled}
 use Rattle.kt_protocol.proofs.Trees.{all_said}
 use Rattle.kt_protocol.proofs.Verdicts.{decide-cases, decide-at, decide-fresh, decide-check, Later-decide, yes-open}

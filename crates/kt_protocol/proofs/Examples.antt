@@ -1,12 +1,12 @@
 -- Two runs, step by step: a rollback that gets Yes and cuts a line, and a check that gets Yes while one of its two nodes
 -- is down.
-use Rattle.std.proofs.Common.{◌≡◌, ◌≢◌, ℕ, zero, suc, Bool, true, false, ◌||◌, ◌&&◌, not, eqb, ltb, leb, cond, if◌then◌else◌, IsTrue, List, [], ◌∷◌, ◌++◌, Option, Some, None, inl, inr, refl, sym, arith}
-use Rattle.kt_protocol.specs.Labels.{Label, no_label, Under, UpTo, at}
-use Rattle.kt_protocol.specs.Lines.{IsIn, here, there, Act, Sends, Hears, top_sent, top_heard}
-use Rattle.kt_protocol.specs.Machine.{Instance, Check, Rollback, Verdict, Open, Yes, Ballot, Mode, Up, Voting, Down, Message, App, Ask, Post, Node, Board, State}
-use Rattle.kt_protocol.specs.Steps.{Step, sends, hears, joins, begins, restarts, grants, counts, agrees, decides_rollback, decides_check, learns_yes, fails, fails_holding, change, pull, push, begin, decide, promote, sending, hearing, joining, loading, sifting, sieve, asking, only, answering, saying, casting, counting, rising, falling, cutting, counted, IsAgreed, IsCohort, MustAsk}
-use Rattle.kt_protocol.specs.Runs.{AreNeighbours, IsNew, IsBeginning, Run, nothing_done, one_more}
-use Rattle.kt_protocol.specs.Laws.{IsReached, CutsALine, ChecksWhileDown}
+use Rattle.std.proofs.Common.{◌≡◌, ◌≢◌, ℕ, zero, suc, Bool, true, false, IsTrue, [], Some, None, inl, refl, arith}
+use Rattle.kt_protocol.specs.Labels.{no_label, at}
+use Rattle.kt_protocol.specs.Lines.{here, Hears, top_sent, top_heard}
+use Rattle.kt_protocol.specs.Machine.{Check, Rollback, Open, Yes, Ballot, Up, App, Post, Node, State}
+use Rattle.kt_protocol.specs.Steps.{sends, hears, joins, begins, restarts, grants, counts, agrees, decides_rollback, decides_check, learns_yes, fails, fails_holding, change, pull, push, begin, decide, promote, sending, hearing, joining, loading, sifting, sieve, asking, only, answering, saying, casting, counting, rising, falling, cutting, counted, IsAgreed, IsCohort, MustAsk}
+use Rattle.kt_protocol.specs.Runs.{AreNeighbours, IsBeginning, Run, nothing_done, one_more}
+use Rattle.kt_protocol.specs.Laws.{CutsALine, ChecksWhileDown}
 use Rattle.kt_protocol.proofs.Cases.{true-false}
 
 -- the nodes 0 and 1 are neighbours, and no others

@@ -1,13 +1,12 @@
 -- What a step leaves as it was, once for all steps.
-use Rattle.std.proofs.Common.{◌≡◌, ◌≢◌, ◌⊎◌, ◌≤◌, ℕ, Bool, true, false, IsTrue, List, [], ◌∷◌, ◌++◌, Option, Some, None, inl, inr, refl, sym, ap, subst, ◌∙◌}
-use Rattle.std.proofs.lemmas.Bool.{cases_eq}
-use Rattle.kt_protocol.specs.Labels.{Label, Under, UpTo, at}
-use Rattle.kt_protocol.specs.Lines.{IsIn, here, there, Act, Sends, Hears, top_sent, top_heard}
-use Rattle.kt_protocol.specs.Machine.{Instance, Check, Rollback, Verdict, Open, Yes, No, Key, Ballot, Mode, Up, Voting, Down, Post, Message, App, Ask, Vote, Member, Mark, Node, Board, State, instance_of, next_label}
+use Rattle.std.proofs.Common.{◌≡◌, ◌≢◌, ℕ, Bool, true, false, IsTrue, List, Option, refl, sym, ap, subst, ◌∙◌}
+use Rattle.kt_protocol.specs.Labels.{Label, at}
+use Rattle.kt_protocol.specs.Lines.{Act}
+use Rattle.kt_protocol.specs.Machine.{Instance, Check, Rollback, Open, Yes, No, Key, Ballot, Mode, Post, Message, Vote, Member, Mark, Node, Board, State}
 use Rattle.kt_protocol.specs.Runs.{AreNeighbours}
 use Rattle.kt_protocol.proofs.Labels.{at-both, at-here, at-else}
-use Rattle.kt_protocol.proofs.Streams.{apps, Rising, NoAsk, Asked, Asked-map}
-use Rattle.kt_protocol.proofs.Invariant.{Core, core, a_vote, a_member, a_mark, a_key, IsMember, Gone, Undone, Carried, sent, undone, CutSoon, Caused, made, lost, cut_soon, Quiet, Behind, Calm, Cover, NoVote, NoChild, OneChild, ChildrenSaid, HasVoted, Token, asked, waiting, voted, Standing, FineAsk, TokenOf, top_of, Pair, BallotFits, Local, Descends, first, child, Trees, Invariant}
+use Rattle.kt_protocol.proofs.Streams.{Asked-map}
+use Rattle.kt_protocol.proofs.Invariant.{Core, CutSoon, Caused, made, lost, cut_soon, Quiet, Behind, Calm, Token, asked, waiting, voted, Standing, FineAsk, TokenOf, Pair, Local, Trees, Invariant}
 
 -- the board may change so: open ones close, nothing else
 pub record Later (B C : Board) : Type 0 where

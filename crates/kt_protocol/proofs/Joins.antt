@@ -1,13 +1,13 @@
 -- A node begins to vote in an instance: what stays as it was.
-use Rattle.std.proofs.Common.{◌≡◌, ◌≢◌, ◌⊎◌, ◌≤◌, ℕ, suc, Bool, true, false, IsTrue, List, [], ◌∷◌, ◌++◌, Option, Some, None, inl, inr, refl, sym, ap, subst, ◌∙◌, append-nil, le_of_eq, arith, if◌then◌else◌}
-use Rattle.kt_protocol.specs.Labels.{Label, Under, UpTo, at}
-use Rattle.kt_protocol.specs.Lines.{IsIn, here, there, top_sent, top_heard}
-use Rattle.kt_protocol.specs.Machine.{Instance, Check, Rollback, Open, Key, Ballot, Mode, Up, Voting, Down, Post, Message, App, Ask, Vote, Member, Mark, Node, Board, State, instance_of, next_label}
+use Rattle.std.proofs.Common.{◌≡◌, ◌≢◌, ◌⊎◌, ◌≤◌, ℕ, Bool, true, false, List, [], ◌∷◌, ◌++◌, Option, Some, None, inl, inr, refl, sym, ap, subst, ◌∙◌, append-nil, le_of_eq, if◌then◌else◌}
+use Rattle.kt_protocol.specs.Labels.{Label}
+use Rattle.kt_protocol.specs.Lines.{IsIn, here, there, top_heard}
+use Rattle.kt_protocol.specs.Machine.{Instance, Check, Rollback, Open, Key, Ballot, Voting, Post, Message, App, Ask, Node, Board, instance_of, next_label}
 use Rattle.kt_protocol.specs.Steps.{stored, sieved, joining, ask_label, asking}
 use Rattle.kt_protocol.proofs.Labels.{UpTo-refl}
-use Rattle.kt_protocol.proofs.Streams.{in-append, in-one, in-cons, apps, apps-append, Rising, Rising-map, Rising-sub, Sub, Sub-refl, Sub-app, NoAsk, Asked, Asked-push, front, later}
-use Rattle.kt_protocol.proofs.Invariant.{Core, core, a_vote, a_key, a_member, a_mark, IsMember, Gone, Undone, Carried, sent, undone, CutSoon, Caused, made, lost, cut_soon, Quiet, Behind, KeptUpTo, Calm, Cover, NoVote, NoChild, OneChild, HasVoted, Token, asked, waiting, voted, Standing, Away, Meant, FineAsk, top_of, TokenOf, Pair, Way, Engaged, BallotFits, Local}
-use Rattle.kt_protocol.proofs.Cases.{some-none, none-some, some-one, check-one, voting-instance, voting-ballot, true-false}
+use Rattle.kt_protocol.proofs.Streams.{in-append, in-one, in-cons, apps, apps-append, Rising, Rising-map, Rising-sub, Sub, Sub-refl, Sub-app, NoAsk, Asked, Asked-push}
+use Rattle.kt_protocol.proofs.Invariant.{core, a_key, a_member, a_mark, IsMember, Gone, Undone, Carried, sent, undone, made, lost, cut_soon, Behind, KeptUpTo, Cover, NoVote, NoChild, HasVoted, asked, waiting, voted, Away, Meant, FineAsk, top_of, TokenOf, Pair, Way, Engaged, BallotFits, Local}
+use Rattle.kt_protocol.proofs.Cases.{some-none, none-some, some-one, voting-instance, voting-ballot}
 use Rattle.kt_protocol.proofs.Answers.{ask-front, no-ask-front, calm-ask, calm-asked, sieved-part}
 
 -- the ballot of a node that joins

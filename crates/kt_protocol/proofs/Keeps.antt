@@ -1,15 +1,15 @@
 -- Messages kept, taken from what is kept, and dropped.
-use Rattle.std.proofs.Common.{◌≡◌, ◌≢◌, ◌⊎◌, ℕ, Bool, true, false, IsTrue, List, [], ◌∷◌, ◌++◌, Option, Some, None, inl, inr, refl, sym, ap, subst, ◌∙◌, append_assoc}
+use Rattle.std.proofs.Common.{◌≡◌, ◌≢◌, ◌⊎◌, ℕ, Bool, IsTrue, List, [], ◌∷◌, ◌++◌, None, inl, inr, refl, sym, subst, append_assoc}
 use Rattle.std.proofs.lemmas.Bool.{cases_eq}
-use Rattle.kt_protocol.specs.Labels.{Label, Under, UpTo, at}
-use Rattle.kt_protocol.specs.Lines.{IsIn, here, there, Hears, top_heard}
-use Rattle.kt_protocol.specs.Machine.{Instance, Check, Rollback, Key, Ballot, Mode, Up, Voting, Post, Message, App, Ask, Vote, Node, Board, State, instance_of, next_label}
+use Rattle.kt_protocol.specs.Labels.{Label}
+use Rattle.kt_protocol.specs.Lines.{IsIn, here, there}
+use Rattle.kt_protocol.specs.Machine.{Instance, Check, Rollback, Ballot, Up, Voting, Post, Message, App, Ask, Vote, Node, Board, State}
 use Rattle.kt_protocol.specs.Steps.{change, pull, hearing, keeping}
 use Rattle.kt_protocol.specs.Runs.{AreNeighbours}
 use Rattle.kt_protocol.proofs.Labels.{UpTo-eq, UpTo-trans, at-here, at-else}
 use Rattle.kt_protocol.proofs.Lines.{heard-here}
-use Rattle.kt_protocol.proofs.Streams.{apps, Rising, Rising-head, Rising-sub, Sub, Sub-under, skip, Sub-refl, Asked, Asked-app}
-use Rattle.kt_protocol.proofs.Invariant.{Core, core, a_vote, a_key, IsMember, Behind, Calm, Cover, Token, asked, waiting, voted, Standing, TokenOf, top_of, Pair, Local, Invariant}
+use Rattle.kt_protocol.proofs.Streams.{apps, Rising-head, Rising-sub, Sub, Sub-under, skip, Sub-refl, Asked-app}
+use Rattle.kt_protocol.proofs.Invariant.{core, a_vote, a_key, IsMember, Calm, Cover, asked, waiting, voted, Standing, TokenOf, Pair, Local, Invariant}
 use Rattle.kt_protocol.proofs.Cases.{lift_pull, lift_own}
 use Rattle.kt_protocol.proofs.Talks.{up-tent, up-out, hears_from, hears_else, hears-local, cover-check, no-app}
 

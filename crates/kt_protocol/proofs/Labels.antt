@@ -1,7 +1,7 @@
 -- The order of labels, and functions changed at a place.
-use Rattle.std.proofs.Common.{◌≡◌, ◌≢◌, ◌⊎◌, ℕ, suc, ◌<◌, ◌≤◌, Bool, true, false, eqb, if◌then◌else◌, inl, inr, refl, sym, ap, subst, arith}
+use Rattle.std.proofs.Common.{◌≡◌, ◌≢◌, ◌⊎◌, ℕ, ◌<◌, ◌≤◌, inl, inr, refl, sym, subst, arith}
 use Rattle.std.proofs.lemmas.Bool.{cases_lt, cases_eq, cases_order, eq-eqb, ne_eqb}
-use Rattle.kt_protocol.specs.Labels.{Label, no_label, Under, UpTo, at, up_to}
+use Rattle.kt_protocol.specs.Labels.{Label, no_label, Under, UpTo, at}
 
 pub Under-trans : {a b c : Label} → Under a b → Under b c → Under a c
 Under-trans u v = omega arith

@@ -1,9 +1,9 @@
 -- Stacks of acts: labels fall along a line, and what a tail of it holds.
-use Rattle.std.proofs.Common.{◌≡◌, ◌≢◌, ◌⊎◌, ℕ, eqb, if◌then◌else◌, inl, inr, refl, sym, ap, subst, arith, List, [], ◌∷◌}
+use Rattle.std.proofs.Common.{◌≡◌, ◌≢◌, ◌⊎◌, ℕ, inl, inr, refl, subst, List, [], ◌∷◌}
 use Rattle.std.proofs.lemmas.Bool.{cases_eq, eq-eqb, ne_eqb}
-use Rattle.kt_protocol.specs.Labels.{Label, no_label, Under, UpTo}
+use Rattle.kt_protocol.specs.Labels.{Label, Under, UpTo}
 use Rattle.kt_protocol.specs.Lines.{IsIn, here, there, Act, Sends, Hears, top_sent, top_heard, IsTail, all, more}
-use Rattle.kt_protocol.proofs.Labels.{Under-trans, Under-UpTo, UpTo-Under, UpTo-trans, UpTo-refl, Under-weak, Under-not, UpTo-least}
+use Rattle.kt_protocol.proofs.Labels.{UpTo-Under, UpTo-trans, UpTo-refl, Under-weak, Under-not, UpTo-least}
 
 -- the labels to each node, and those heard from each node, rise along the line
 abbrev pub Falls : List Act → Type 0

@@ -1,17 +1,17 @@
 -- The invariant holds in every state that is reached, and what follows from it.
-use Rattle.std.proofs.Common.{◌≡◌, ◌≢◌, ◌⊎◌, ◌≤◌, ℕ, suc, Bool, true, false, IsTrue, List, [], ◌∷◌, ◌++◌, Option, Some, None, inl, inr, refl, sym, ap, subst, ◌∙◌, arith}
-use Rattle.kt_protocol.specs.Labels.{Label, no_label, Under, UpTo, at}
-use Rattle.kt_protocol.specs.Lines.{IsIn, here, there, Act, Sends, Hears, IsTail, all, top_sent, top_heard}
-use Rattle.kt_protocol.specs.Machine.{Instance, Check, Rollback, Open, Yes, No, Key, Ballot, Mode, Up, Voting, Down, Post, Message, App, Ask, Vote, Member, Mark, Node, Board, State, instance_of, next_label}
+use Rattle.std.proofs.Common.{◌≡◌, ℕ, Bool, true, List, [], ◌++◌, Some, None, sym, ap, subst, ◌∙◌, arith}
+use Rattle.kt_protocol.specs.Labels.{Under, UpTo}
+use Rattle.kt_protocol.specs.Lines.{IsIn, here, Hears, IsTail, all, top_sent, top_heard}
+use Rattle.kt_protocol.specs.Machine.{Check, Rollback, Post, Message, Ask, Member, Node, Board, State, next_label}
 use Rattle.kt_protocol.specs.Steps.{Step, sends, hears, keeps, takes, drops, ignores, refuses, grants, joins, begins, restarts, counts, agrees, declines, decides_rollback, decides_check, gives_up_rollback, gives_up_check, learns_yes, learns_no, releases, fails, fails_holding, change, pull, casting, saying}
 use Rattle.kt_protocol.specs.Runs.{AreNeighbours, IsNew, IsBeginning, Run, nothing_done, one_more}
 use Rattle.kt_protocol.specs.Laws.{IsReached}
-use Rattle.kt_protocol.proofs.Labels.{UpTo-trans, UpTo-Under, Under-not, at-here}
+use Rattle.kt_protocol.proofs.Labels.{at-here}
 use Rattle.kt_protocol.proofs.Lines.{Falls}
 use Rattle.kt_protocol.proofs.Streams.{apps, Rising, ends}
-use Rattle.kt_protocol.proofs.Invariant.{Core, core, a_vote, a_key, a_member, a_mark, IsMember, Carried, Pair, Way, Local, Trees, Invariant}
+use Rattle.kt_protocol.proofs.Invariant.{core, a_vote, a_key, a_member, a_mark, Carried, Pair, Way, Local, Invariant}
 use Rattle.kt_protocol.proofs.Frames.{at-same}
-use Rattle.kt_protocol.proofs.Cases.{up-voting, none-some, some-none, up-down, true-false}
+use Rattle.kt_protocol.proofs.Cases.{up-voting, some-none}
 use Rattle.kt_protocol.proofs.Talks.{step_sends, step_hears}
 use Rattle.kt_protocol.proofs.Keeps.{step_keeps, step_takes, step_drops}
 use Rattle.kt_protocol.proofs.Answers.{step_ignores, step_refuses, step_grants}

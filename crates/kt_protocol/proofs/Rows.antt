@@ -1,12 +1,12 @@
 -- The rows of the two asks are steps.
-use Rattle.std.proofs.Common.{◌≡◌, ◌≢◌, ◌⊎◌, ℕ, Bool, true, false, not, ◌&&◌, IsTrue, List, ◌∷◌, Option, Some, None, inl, inr, refl, sym, ap, subst, ◌∙◌, eqb, ltb, leb, ◌||◌, ◌<◌, ◌≤◌, if◌then◌else◌, arith}
+use Rattle.std.proofs.Common.{◌≡◌, ◌⊎◌, ℕ, Bool, true, false, not, ◌&&◌, IsTrue, ◌∷◌, Option, Some, None, inl, inr, refl, ap, ◌∙◌, eqb, ltb, leb, ◌<◌, ◌≤◌, if◌then◌else◌, arith}
 use Rattle.std.proofs.lemmas.Bool.{cases_lt, and_parts, and_from, or_left, or_right, eqb-true, eq-eqb, lt-ltb, le-leb}
 use Rattle.kt_protocol.specs.Labels.{Label, Under, UpTo, up_to}
 use Rattle.kt_protocol.specs.Lines.{top_sent, top_heard}
-use Rattle.kt_protocol.specs.Machine.{Instance, Check, Rollback, Verdict, Open, Yes, No, Mode, Up, Voting, Down, Message, Ask, Node, State, instance_of}
+use Rattle.kt_protocol.specs.Machine.{Check, Rollback, Verdict, Open, Yes, No, Mode, Up, Voting, Down, Ask, Node, State, instance_of}
 use Rattle.kt_protocol.specs.Steps.{Step, ignores, refuses, grants, joins, IsCohort}
 use Rattle.kt_protocol.specs.Rows.{Asking, is_open, roll_in_mode, roll_row, hear_roll_ask, check_cohort, reaches, holds, check_in_mode, check_row, hear_check_ask, answer_ask, join_by_ask}
-use Rattle.kt_protocol.proofs.Labels.{Label-cases, Under-not, UpTo-refl}
+use Rattle.kt_protocol.proofs.Labels.{Label-cases, Under-not}
 use Rattle.kt_protocol.proofs.Streams.{up_to-true}
 use Rattle.kt_protocol.proofs.Cases.{true-false}
 

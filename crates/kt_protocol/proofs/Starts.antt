@@ -1,18 +1,18 @@
 -- Steps by which a node begins to vote: an ask makes it join, it begins a check, it restarts.
-use Rattle.std.proofs.Common.{◌≡◌, ◌≢◌, ◌⊎◌, ◌≤◌, ℕ, suc, Bool, true, false, IsTrue, List, [], ◌∷◌, ◌++◌, Option, Some, None, inl, inr, refl, sym, ap, subst, ◌∙◌, append-nil, le_of_eq, arith, if◌then◌else◌}
-use Rattle.std.proofs.lemmas.Bool.{cases_eq, eq-eqb, cases_Bool}
+use Rattle.std.proofs.Common.{◌≡◌, ◌≢◌, ◌⊎◌, ℕ, suc, Bool, true, false, IsTrue, List, [], ◌∷◌, ◌++◌, Option, Some, None, inl, inr, refl, sym, ap, subst, ◌∙◌, arith, if◌then◌else◌}
+use Rattle.std.proofs.lemmas.Bool.{cases_eq, eq-eqb}
 use Rattle.kt_protocol.specs.Labels.{Label, Under, UpTo, at}
-use Rattle.kt_protocol.specs.Lines.{IsIn, here, there, Sends, Hears, IsTail, all, top_sent, top_heard}
-use Rattle.kt_protocol.specs.Machine.{Instance, Check, Rollback, Open, Yes, No, Key, Ballot, Mode, Up, Voting, Down, Post, Message, App, Ask, Vote, Member, Mark, Node, Board, State, instance_of, next_label, same_instance, at_instance}
-use Rattle.kt_protocol.specs.Steps.{change, pull, push, begin, sifting, sieved, joining, loading, nothing_kept, ask_label, asking, MustJoin, IsCohort}
+use Rattle.kt_protocol.specs.Lines.{IsIn, here, Sends, Hears, all, top_sent, top_heard}
+use Rattle.kt_protocol.specs.Machine.{Instance, Check, Rollback, Open, Key, Ballot, Up, Down, Post, Message, Ask, Node, Board, State, instance_of, next_label, same_instance}
+use Rattle.kt_protocol.specs.Steps.{change, pull, push, begin, sifting, sieved, joining, loading, asking, IsCohort}
 use Rattle.kt_protocol.specs.Runs.{AreNeighbours}
-use Rattle.kt_protocol.proofs.Labels.{UpTo-trans, UpTo-refl, Label-cases, at-here, at-else, at-both, Under-UpTo}
+use Rattle.kt_protocol.proofs.Labels.{UpTo-trans, Label-cases, at-here, at-else, Under-UpTo}
 use Rattle.kt_protocol.proofs.Lines.{Falls}
 use Rattle.kt_protocol.proofs.Streams.{apps, Rising, Rising-map, Rising-sub, Sub-right}
-use Rattle.kt_protocol.proofs.Invariant.{Core, core, a_vote, a_key, a_member, a_mark, IsMember, Gone, Undone, Carried, sent, undone, Caused, made, lost, cut_soon, Cover, Calm, NoChild, HasVoted, Away, Meant, FineAsk, top_of, TokenOf, Pair, Way, Engaged, Local, Trees, Invariant}
+use Rattle.kt_protocol.proofs.Invariant.{core, a_key, a_member, a_mark, IsMember, Undone, Carried, sent, undone, made, lost, cut_soon, Cover, Calm, NoChild, Away, Meant, top_of, TokenOf, Pair, Engaged, Local, Trees, Invariant}
 use Rattle.kt_protocol.proofs.Frames.{Later, Later-refl, Token-map, lift, Pair-later, Local-later, Trees-later, Trees-same, at-map, at-same}
-use Rattle.kt_protocol.proofs.Cases.{some-none, none-some, some-one, up-voting, up-down, up-gone, down-voting, check-rollback, rollback-one, true-false, open-yes, pull-else, pull-here, pull-other, push-else, push-here}
-use Rattle.kt_protocol.proofs.Talks.{up-tent, meant-up}
+use Rattle.kt_protocol.proofs.Cases.{some-none, none-some, some-one, up-down, up-gone, down-voting, check-rollback, true-false, pull-else, pull-here, pull-other, push-else, push-here}
+use Rattle.kt_protocol.proofs.Talks.{up-tent}
 use Rattle.kt_protocol.proofs.Keeps.{idle-out, idle-local}
 use Rattle.kt_protocol.proofs.Answers.{childless}
 use Rattle.kt_protocol.proofs.Trees.{Trees-join}

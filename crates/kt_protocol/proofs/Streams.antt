@@ -1,11 +1,11 @@
 -- Messages in order: their labels rise, and an ask flushes the link.
-use Rattle.std.proofs.Common.{◌≡◌, ◌≢◌, ◌⊎◌, ℕ, Bool, true, false, if◌then◌else◌, inl, inr, refl, sym, ap, subst, arith, List, [], ◌∷◌, ◌++◌, ◌||◌, ◌&&◌, ltb, leb, eqb}
-use Rattle.std.proofs.lemmas.Bool.{cases_Bool, ltb-true, leb-true, eqb-true, or_cases, and_parts}
+use Rattle.std.proofs.Common.{◌≡◌, ◌≢◌, ◌⊎◌, ℕ, Bool, true, false, if◌then◌else◌, inl, inr, refl, sym, ap, subst, arith, List, [], ◌∷◌, ◌++◌, ◌&&◌, ltb, leb, eqb}
+use Rattle.std.proofs.lemmas.Bool.{ltb-true, leb-true, eqb-true, or_cases, and_parts}
 use Rattle.kt_protocol.specs.Labels.{Label, Under, UpTo, up_to}
 use Rattle.kt_protocol.specs.Lines.{IsIn, here, there}
-use Rattle.kt_protocol.specs.Machine.{Instance, Check, Rollback, Post, Message, App, Ask}
+use Rattle.kt_protocol.specs.Machine.{Instance, Post, Message, App, Ask}
 use Rattle.kt_protocol.specs.Steps.{sieve}
-use Rattle.kt_protocol.proofs.Labels.{Under-trans, Under-UpTo, UpTo-Under, UpTo-trans, UpTo-refl, Under-weak, UpTo-eq}
+use Rattle.kt_protocol.proofs.Labels.{Under-UpTo, UpTo-Under, Under-weak}
 
 -- where a member of two lists joined stands
 pub in-append : {A : Type 0} {x : A} (xs ys : List A) → IsIn x (xs ++ ys) → IsIn x xs ⊎ IsIn x ys

@@ -1,17 +1,17 @@
 -- Steps on underlying messages.
-use Rattle.std.proofs.Common.{◌≡◌, ◌≢◌, ◌⊎◌, ℕ, suc, Bool, true, false, IsTrue, List, [], ◌∷◌, ◌++◌, Option, Some, None, inl, inr, refl, sym, ap, subst, ◌∙◌, append_assoc, append-nil, arith}
+use Rattle.std.proofs.Common.{◌≡◌, ◌≢◌, ◌⊎◌, ℕ, suc, Bool, IsTrue, List, [], ◌∷◌, ◌++◌, Option, None, inl, inr, refl, sym, ap, subst, ◌∙◌, append_assoc, append-nil, arith}
 use Rattle.std.proofs.lemmas.Bool.{cases_eq, eq-eqb, ne_eqb}
-use Rattle.kt_protocol.specs.Labels.{Label, Under, UpTo, at}
-use Rattle.kt_protocol.specs.Lines.{IsIn, here, there, Act, Sends, Hears, top_sent, top_heard, IsTail, more}
-use Rattle.kt_protocol.specs.Machine.{Instance, Check, Rollback, Open, Ballot, Mode, Up, Voting, Down, Post, Message, App, Ask, Member, Mark, Node, Board, State, instance_of, next_label}
-use Rattle.kt_protocol.specs.Steps.{change, pull, push, only, sending, hearing, keeping}
+use Rattle.kt_protocol.specs.Labels.{Label, Under, UpTo}
+use Rattle.kt_protocol.specs.Lines.{IsIn, here, there, Act, Sends, Hears, top_sent, top_heard, more}
+use Rattle.kt_protocol.specs.Machine.{Instance, Check, Rollback, Mode, Up, Post, Message, App, Ask, Member, Mark, Node, Board, State, instance_of, next_label}
+use Rattle.kt_protocol.specs.Steps.{change, pull, push, only, sending, hearing}
 use Rattle.kt_protocol.specs.Runs.{AreNeighbours}
-use Rattle.kt_protocol.proofs.Labels.{UpTo-refl, Under-weak, UpTo-trans, Under-UpTo, at-here, at-else}
+use Rattle.kt_protocol.proofs.Labels.{UpTo-refl, Under-UpTo}
 use Rattle.kt_protocol.proofs.Lines.{sent-here, sent-else, heard-here, heard-else, heard-sent, sent-heard}
-use Rattle.kt_protocol.proofs.Streams.{in-append, in-one, in-cons, apps, apps-append, Rising, Rising-map, Rising-push, Rising-head, Rising-sub, Sub-under, Sub-right, skip, Sub-refl, Asked, Asked-app}
-use Rattle.kt_protocol.proofs.Invariant.{Core, core, a_key, Carried, sent, undone, CutSoon, Caused, made, lost, cut_soon, Behind, Calm, Cover, Token, asked, waiting, voted, Standing, Away, Meant, FineAsk, TokenOf, top_of, Pair, Way, Local, Invariant}
+use Rattle.kt_protocol.proofs.Streams.{in-append, in-one, in-cons, apps, apps-append, Rising, Rising-map, Rising-push, Rising-head, Asked, Asked-app}
+use Rattle.kt_protocol.proofs.Invariant.{Core, core, Carried, sent, undone, Caused, made, lost, cut_soon, Behind, Calm, Cover, asked, waiting, voted, Away, Meant, FineAsk, top_of, Pair, Way, Local, Invariant}
 use Rattle.kt_protocol.proofs.Frames.{lift, Later-refl, Trees-idle, Token-map}
-use Rattle.kt_protocol.proofs.Cases.{some-none, none-some, up-voting, up-gone, push-else, push-here, lift_pull, lift_own}
+use Rattle.kt_protocol.proofs.Cases.{some-none, up-voting, up-gone, push-else, push-here, lift_pull}
 
 pub up-tent : {m : Mode} {tent : Option ℕ} → m ≡ Up → Way m tent → tent ≡ None
 up-tent {tent = tent} e w = subst (λ k. Way k tent) e w

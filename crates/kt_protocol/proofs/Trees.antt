@@ -1,12 +1,12 @@
 -- The trees of those who joined an instance: they grow, and where the root said yes all said yes.
-use Rattle.std.proofs.Common.{◌≡◌, ◌≢◌, ◌⊎◌, ℕ, Bool, true, IsTrue, List, [], ◌∷◌, Option, Some, None, inl, inr, refl, sym, ap, subst, ◌∙◌}
+use Rattle.std.proofs.Common.{◌≡◌, ◌⊎◌, ℕ, Bool, IsTrue, List, ◌∷◌, Option, Some, None, inl, inr, refl, sym, ap, subst, ◌∙◌}
 use Rattle.kt_protocol.specs.Labels.{at}
 use Rattle.kt_protocol.specs.Lines.{IsIn, here, there}
-use Rattle.kt_protocol.specs.Machine.{Instance, Verdict, Open, Yes, Key, Member, Mark, Board}
+use Rattle.kt_protocol.specs.Machine.{Instance, Open, Yes, Key, Member, Mark, Board}
 use Rattle.kt_protocol.proofs.Labels.{at-both, at-here}
 use Rattle.kt_protocol.proofs.Streams.{in-cons}
 use Rattle.kt_protocol.proofs.Invariant.{a_member, a_mark, IsMember, Descends, first, child, Trees}
-use Rattle.kt_protocol.proofs.Cases.{some-none, none-some, some-one, open-yes}
+use Rattle.kt_protocol.proofs.Cases.{open-yes}
 
 -- an element more at a place
 pub at-there : {A : Type 0} {y : A} (o : ℕ) (new : A) (J : ℕ → List A) (x : ℕ) → IsIn y (J x) → IsIn y (at o (new ∷ J o) J x)

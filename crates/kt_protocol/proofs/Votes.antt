@@ -1,17 +1,17 @@
 -- Votes counted and cast.
-use Rattle.std.proofs.Common.{◌≡◌, ◌≢◌, ◌⊎◌, ◌≤◌, ℕ, suc, Bool, true, false, not, ◌||◌, IsTrue, List, [], ◌∷◌, ◌++◌, Option, Some, None, inl, inr, refl, sym, ap, subst, ◌∙◌, arith}
-use Rattle.std.proofs.lemmas.Bool.{cases_eq, cases_Bool}
+use Rattle.std.proofs.Common.{◌≡◌, ◌≢◌, ◌⊎◌, ℕ, Bool, true, false, not, ◌||◌, IsTrue, List, ◌∷◌, Some, None, inl, inr, refl, sym, ap, subst, ◌∙◌}
+use Rattle.std.proofs.lemmas.Bool.{cases_eq}
 use Rattle.kt_protocol.specs.Labels.{Label, no_label, Under, UpTo, at}
-use Rattle.kt_protocol.specs.Lines.{IsIn, here, there, Sends, Hears, top_sent, top_heard}
-use Rattle.kt_protocol.specs.Machine.{Instance, Check, Rollback, Open, Yes, No, Key, Ballot, Mode, Up, Voting, Down, Post, Message, App, Ask, Vote, Member, Mark, Node, Board, State, instance_of, next_label}
+use Rattle.kt_protocol.specs.Lines.{IsIn, here, there, top_sent, top_heard}
+use Rattle.kt_protocol.specs.Machine.{Instance, Check, Rollback, Open, Key, Ballot, Voting, Post, Message, Ask, Vote, Mark, Node, Board, State, instance_of, next_label}
 use Rattle.kt_protocol.specs.Steps.{change, counted, counting, casting, saying, answering, IsAgreed}
 use Rattle.kt_protocol.specs.Runs.{AreNeighbours}
-use Rattle.kt_protocol.proofs.Labels.{UpTo-trans, UpTo-refl, UpTo-least, Label-cases, at-here, at-else, at-both}
+use Rattle.kt_protocol.proofs.Labels.{UpTo-trans, UpTo-refl, UpTo-least, Label-cases, at-else}
 use Rattle.kt_protocol.proofs.Lines.{sent-top, heard-attained}
-use Rattle.kt_protocol.proofs.Streams.{in-cons, apps, Rising, Rising-map, Asked}
-use Rattle.kt_protocol.proofs.Invariant.{Core, core, a_vote, a_key, a_member, a_mark, IsMember, Gone, Undone, Carried, sent, undone, CutSoon, Caused, made, lost, cut_soon, Behind, Calm, Cover, NoVote, NoChild, OneChild, ChildrenSaid, HasVoted, Token, asked, waiting, voted, Standing, Away, Meant, FineAsk, top_of, TokenOf, Pair, Way, Engaged, BallotFits, Local, Trees, Invariant}
-use Rattle.kt_protocol.proofs.Frames.{Later-refl, lift, Trees-same, Trees-idle, at-map, at-same}
-use Rattle.kt_protocol.proofs.Cases.{some-none, none-some, some-one, up-voting, up-down, down-voting, voting-instance, voting-ballot, check-one, check-rollback, rollback-one, true-false, open-no, lift_own}
+use Rattle.kt_protocol.proofs.Streams.{in-cons, Rising-map}
+use Rattle.kt_protocol.proofs.Invariant.{core, a_vote, a_key, a_member, a_mark, IsMember, Gone, Undone, sent, undone, Caused, made, lost, cut_soon, Calm, Cover, NoVote, OneChild, ChildrenSaid, HasVoted, asked, waiting, voted, Standing, Away, Meant, top_of, TokenOf, Pair, Way, Engaged, BallotFits, Local, Trees, Invariant}
+use Rattle.kt_protocol.proofs.Frames.{Later-refl, lift, Trees-same, at-map, at-same}
+use Rattle.kt_protocol.proofs.Cases.{some-one, down-voting, voting-instance, voting-ballot, check-one, check-rollback, rollback-one, true-false, open-no, lift_own}
 use Rattle.kt_protocol.proofs.Trees.{Trees-say}
 
 -- the node with another ballot, of the same parent

@@ -1,5 +1,5 @@
 -- What the theorem says of the states that are reached. Nothing here names a ballot or a vote.
-use Rattle.std.specs.Prelude.{◌≡◌, ℕ, Bool, true, false, IsTrue, List, [], ◌∷◌, ⊤}
+use Rattle.std.specs.Prelude.{◌≡◌, ℕ, Bool, true, false, List, [], ◌∷◌, ⊤}
 use Rattle.kt_protocol.specs.Labels.{Label}
 use Rattle.kt_protocol.specs.Lines.{IsIn, Act, Sends, Hears}
 use Rattle.kt_protocol.specs.Machine.{Check, Rollback, Yes, Mode, Up, Voting, Down, Message, Ask, State}

@@ -1,6 +1,6 @@
 -- The state of the machine: n nodes, the links between them, and the board of verdicts.
-use Rattle.std.specs.Prelude.{◌≡◌, ℕ, suc, eqb, Bool, true, false, ◌&&◌, if◌then◌else◌, List, [], ◌∷◌, ◌++◌, Option, Some, None}
-use Rattle.kt_protocol.specs.Labels.{Label, at}
+use Rattle.std.specs.Prelude.{ℕ, suc, eqb, Bool, false, if◌then◌else◌, List, Option, Some, None}
+use Rattle.kt_protocol.specs.Labels.{Label}
 use Rattle.kt_protocol.specs.Lines.{Act}
 
 -- checks and rollbacks are numbered apart

@@ -3,7 +3,7 @@
 use Rattle.std.specs.Prelude.{ℕ, eqb, Bool, true, false, not, ◌&&◌, if◌then◌else◌, List, Option, Some, None}
 use Rattle.kt_protocol.specs.Labels.{Label, up_to}
 use Rattle.kt_protocol.specs.Lines.{top_sent, top_heard}
-use Rattle.kt_protocol.specs.Machine.{Instance, Check, Rollback, Verdict, Open, Yes, No, Mode, Up, Voting, Down, Message, Node, State}
+use Rattle.kt_protocol.specs.Machine.{Instance, Check, Rollback, Verdict, Open, Mode, Up, Voting, Down, Message, Node, State}
 use Rattle.kt_protocol.specs.Steps.{change, pull, push, sifting, answering, joining, asking}
 
 abbrev pub is_open : Verdict → Bool

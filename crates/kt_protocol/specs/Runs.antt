@@ -1,5 +1,5 @@
 -- Runs of the machine from a beginning.
-use Rattle.std.specs.Prelude.{◌≡◌, ◌≢◌, ℕ, Bool, false, IsTrue, List, [], None}
+use Rattle.std.specs.Prelude.{◌≡◌, ◌≢◌, ℕ, Bool, false, IsTrue, [], None}
 use Rattle.kt_protocol.specs.Machine.{Instance, Up, Open, Node, State}
 use Rattle.kt_protocol.specs.Steps.{Step}
 
