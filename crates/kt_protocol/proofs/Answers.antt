@@ -7,7 +7,8 @@ use Rattle.kt_protocol.specs.Steps.{change, pull, sieved, sifting, answering, Ma
 use Rattle.kt_protocol.specs.Runs.{AreNeighbours}
 use Rattle.kt_protocol.proofs.Labels.{at-here, at-else}
 use Rattle.kt_protocol.proofs.Streams.{in-cons, apps, Sub, Sub-app, Sub-refl, Sub-in, sieve-part, sieve-in, NoAsk, Asked, front, later}
-use Rattle.kt_protocol.proofs.Invariant.{core, a_vote, a_key, a_member, IsMember, Behind, KeptUpTo, Calm, Cover, NoVote, NoChild, HasVoted, asked, waiting, voted, top_of, TokenOf, Pair, Local, Invariant}
+use Rattle.kt_protocol.proofs.Invariant.{core, a_vote, a_key, a_member, IsMember, Behind, KeptUpTo, Calm, Cover, NoVote, NoChild, HasVoted, asked, waiting}
+use Rattle.kt_protocol.proofs.Invariant.{voted, top_of, TokenOf, Pair, Local, Invariant}
 use Rattle.kt_protocol.proofs.Cases.{lift_pull, true-false}
 use Rattle.kt_protocol.proofs.Keeps.{passes, idle-out, idle-local}
 

@@ -3,17 +3,20 @@ use Rattle.std.proofs.Common.{◌≡◌, ◌≢◌, ◌⊎◌, ℕ, Bool, true, 
 use Rattle.std.proofs.lemmas.Bool.{cases_eq, eq-eqb, ne_eqb}
 use Rattle.kt_protocol.specs.Labels.{Label, Under, UpTo}
 use Rattle.kt_protocol.specs.Lines.{IsIn, Act, IsTail, all, top_sent, top_heard}
-use Rattle.kt_protocol.specs.Machine.{Instance, Check, Rollback, Verdict, Open, Yes, No, Ballot, Mode, Up, Voting, Down, Post, Message, Node, Board, State, instance_of, next_label}
+use Rattle.kt_protocol.specs.Machine.{Instance, Check, Rollback, Verdict, Open, Yes, No, Ballot, Mode, Up, Voting, Down, Post, Message, Node, Board, State}
+use Rattle.kt_protocol.specs.Machine.{instance_of, next_label}
 use Rattle.kt_protocol.specs.Steps.{decide, released, promoted, promote, discard}
 use Rattle.kt_protocol.specs.Runs.{AreNeighbours}
 use Rattle.kt_protocol.proofs.Labels.{UpTo-trans, UpTo-refl}
 use Rattle.kt_protocol.proofs.Lines.{sent-tail}
 use Rattle.kt_protocol.proofs.Streams.{Rising-map, Asked, Asked-map}
-use Rattle.kt_protocol.proofs.Invariant.{core, a_key, a_member, a_mark, IsMember, Undone, sent, undone, made, lost, cut_soon, Behind, Calm, Cover, Token, Standing, Meant, top_of, TokenOf, Pair, Way, Engaged, Local, Invariant}
+use Rattle.kt_protocol.proofs.Invariant.{core, a_key, a_member, a_mark, IsMember, Undone, sent, undone, made, lost, cut_soon, Behind, Calm, Cover, Token}
+use Rattle.kt_protocol.proofs.Invariant.{Standing, Meant, top_of, TokenOf, Pair, Way, Engaged, Local, Invariant}
 use Rattle.kt_protocol.proofs.Frames.{Later, Trees-later, Token-map, Behind-later, Calm-later}
 use Rattle.kt_protocol.proofs.Cases.{some-none, none-some, some-one, check-one, check-rollback}
 use Rattle.kt_protocol.proofs.Trees.{all_said}
-use Rattle.kt_protocol.proofs.Verdicts.{decide-cases, decide-at, decide-fresh, decide-opened, decide-decided, decide-live, decide-check, no-open, yes-open, no-back}
+use Rattle.kt_protocol.proofs.Verdicts.{decide-cases, decide-at, decide-fresh, decide-opened, decide-decided, decide-live, decide-check, no-open, yes-open}
+use Rattle.kt_protocol.proofs.Verdicts.{no-back}
 use Rattle.kt_protocol.proofs.Cuts.{rolling-none}
 
 released-some : (k : ℕ) (t : Option ℕ) (j : ℕ) → released k t ≡ Some j → (t ≡ Some j) × (j ≢ k)
@@ -103,7 +106,8 @@ settle-pair {B} {C} {p} {q} {np} {nq} {kept} {link} k pp pq later past fp fq wp 
       let both = stands i s in
       subst (λ top. Token i (a_key p np.life) (b.awaited q) b.refused (Asked i np.life top (Behind C i) link) (Calm C i np.life top kept link)
       (Cover i (core (settle k pq nq)) p top) nq.mode nq.votes nq.joined nq.said) (same i b e)
-      (Token-map (λ a. Asked-map (λ rest. Behind-later i rest later) a) (Calm-later i later) (cover i both.1 (top_of i np.line np.perm q)) (o.token i b e both.0))
+      (Token-map (λ a. Asked-map (λ rest. Behind-later i rest later) a) (Calm-later i later)
+      (cover i both.1 (top_of i np.line np.perm q)) (o.token i b e both.0))
 
 settle-local : {peer : ℕ → ℕ → Bool} {B C : Board} {o : ℕ} {n : Node} (k : ℕ) (perm : List Act) → Later B C
     → ((j : ℕ) → C.verdict (Check j) ≡ Open → j ≢ k) → ((j : ℕ) → j ≢ k → B.verdict (Check j) ≡ Open → C.verdict (Check j) ≡ Open)

@@ -4,7 +4,9 @@ use Rattle.std.proofs.lemmas.Bool.{cases_eq}
 use Rattle.kt_protocol.specs.Labels.{Label, Under, UpTo, at}
 use Rattle.kt_protocol.specs.Lines.{IsIn, here, Sends, Hears, top_sent, top_heard}
 use Rattle.kt_protocol.specs.Machine.{Instance, Check, Rollback, Open, Ballot, Mode, Up, Voting, Down, Message, Ask, Node, State, instance_of}
-use Rattle.kt_protocol.specs.Steps.{Step, sends, hears, keeps, takes, drops, ignores, refuses, grants, joins, begins, restarts, counts, agrees, declines, decides_rollback, decides_check, gives_up_rollback, gives_up_check, learns_yes, learns_no, releases, fails, fails_holding, MustJoin, change, casting, saying}
+use Rattle.kt_protocol.specs.Steps.{Step, sends, hears, keeps, takes, drops, ignores, refuses, grants, joins, begins, restarts, counts, agrees, declines}
+use Rattle.kt_protocol.specs.Steps.{decides_rollback, decides_check, gives_up_rollback, gives_up_check, learns_yes, learns_no, releases, fails, fails_holding}
+use Rattle.kt_protocol.specs.Steps.{MustJoin, change, consenting}
 use Rattle.kt_protocol.specs.Runs.{AreNeighbours}
 use Rattle.kt_protocol.specs.Laws.{IsHeld, IsRolling, IsStanding, IsSteady, MustRoll, MustHold, WhyHeld, began, forced}
 use Rattle.kt_protocol.proofs.Labels.{at-both, at-else, UpTo-trans, UpTo-Under, Under-UpTo, UpTo-eq, Under-not}
@@ -97,7 +99,7 @@ ways P nu nd peer s o up t (decides_rollback x k b e par opened agreed) h = pick
   pick : (o ≡ x) ⊎ (o ≢ x) → Ways P peer s t o
   pick (inl f) = busy s o x (Rollback k) b up e f
   pick (inr ne) = still P nu o s.node up (subst (λ (n : Node). P n.mode) (at-else x _ s.node o ne)
-      (subst (λ (n : Node). P n.mode) (at-else x _ (change x (λ n. saying (Rollback k) (casting (Rollback k) b n)) s).node o ne) h))
+      (subst (λ (n : Node). P n.mode) (at-else x _ (change x (consenting (Rollback k) b) s).node o ne) h))
 ways P nu nd peer s o up t (decides_check x k b e par opened agreed) h = let g = changed P nu o x _ s.node up h in busy s o x (Check k) b up e g.0
 ways P nu nd peer s o up t (gives_up_rollback k begun opened) h = still P nu o s.node up h
 ways P nu nd peer s o up t (gives_up_check k begun opened) h = still P nu o s.node up h
@@ -108,7 +110,8 @@ ways P nu nd peer s o up t (fails x none) h = let g = changed P nu o x _ s.node 
 ways P nu nd peer s o up t (fails_holding x k held) h = let g = changed P nu o x _ s.node up h in absurd (nd g.1)
 
 -- an open ask of a rollback waits for a node that heard something above its label
-must_roll : {peer : ℕ → ℕ → Bool} {s : State} → Invariant peer s → (o x k : ℕ) (l : Label) (c : ℕ) (rest : List Message) → IsTrue (peer x o)
+must_roll : {peer : ℕ → ℕ → Bool} {s : State} → Invariant peer s
+    → (o x k : ℕ) (l : Label) (c : ℕ) (rest : List Message) → IsTrue (peer x o)
     → s.link x o ≡ Ask (Rollback k) l c ∷ rest → s.board.verdict (Rollback k) ≡ Open → Under l (top_heard (s.node o).line x) → MustRoll s o
 must_roll {peer} {s} w o x k l c rest t front opened u =
     let h = heard-attained x (s.node o).line l u in
@@ -136,7 +139,8 @@ forced_to_roll {peer} {s} {t} w x o up h = go (ways IsRolling (λ g. g) (λ g. g
   go (by_itself k b unbegun begun r) = absurd r
 
 -- an open ask of a check waits for a node whose permanent checkpoint has not sent what the asker heard
-must_hold : {peer : ℕ → ℕ → Bool} → AreNeighbours peer → {s : State} → Invariant peer s → (o x k : ℕ) (l : Label) (c : ℕ) (rest : List Message) → IsTrue (peer x o)
+must_hold : {peer : ℕ → ℕ → Bool} → AreNeighbours peer → {s : State} → Invariant peer s
+    → (o x k : ℕ) (l : Label) (c : ℕ) (rest : List Message) → IsTrue (peer x o)
     → (s.node o).mode ≡ Up
     → s.link x o ≡ Ask (Check k) l c ∷ rest → s.board.verdict (Check k) ≡ Open → Under (top_sent (s.node o).perm x) l → MustHold s o
 must_hold {peer} near {s} w o x k l c rest t up front opened u =

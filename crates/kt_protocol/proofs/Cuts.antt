@@ -2,13 +2,15 @@
 use Rattle.std.proofs.Common.{◌≡◌, ◌≢◌, ◌⊎◌, ℕ, suc, Bool, IsTrue, List, [], ◌++◌, Option, Some, None, inl, inr, refl, sym, ap, subst, ◌∙◌, arith}
 use Rattle.kt_protocol.specs.Labels.{Label, Under, UpTo}
 use Rattle.kt_protocol.specs.Lines.{IsIn, Act, Sends, Hears, IsTail, all, top_sent, top_heard}
-use Rattle.kt_protocol.specs.Machine.{Instance, Check, Rollback, Open, Yes, No, Key, Ballot, Mode, Up, Voting, Down, Post, Message, Ask, Node, Board, State, instance_of, next_label}
+use Rattle.kt_protocol.specs.Machine.{Instance, Check, Rollback, Open, Yes, No, Key, Ballot, Mode, Up, Voting, Down, Post, Message, Ask, Node, Board, State}
+use Rattle.kt_protocol.specs.Machine.{instance_of, next_label}
 use Rattle.kt_protocol.specs.Steps.{change, cutting, falling, loading, rising, nothing_kept, decide}
 use Rattle.kt_protocol.specs.Runs.{AreNeighbours}
 use Rattle.kt_protocol.proofs.Labels.{UpTo-trans, UpTo-Under, Under-UpTo, Under-not, UpTo-refl}
 use Rattle.kt_protocol.proofs.Lines.{Falls, Falls-tail, sent-tail, heard-tail, heard-top, sent-split, tail-in}
 use Rattle.kt_protocol.proofs.Streams.{apps, in-append, Rising-map, Rising-low, Rising-sub, Sub-right}
-use Rattle.kt_protocol.proofs.Invariant.{core, a_member, a_mark, IsMember, Gone, Undone, sent, undone, CutSoon, made, lost, cut_soon, Calm, Cover, asked, waiting, voted, Standing, Away, Meant, top_of, TokenOf, Pair, Way, Engaged, Local, Descends, Trees, Invariant}
+use Rattle.kt_protocol.proofs.Invariant.{core, a_member, a_mark, IsMember, Gone, Undone, sent, undone, CutSoon, made, lost, cut_soon, Calm, Cover, asked}
+use Rattle.kt_protocol.proofs.Invariant.{waiting, voted, Standing, Away, Meant, top_of, TokenOf, Pair, Way, Engaged, Local, Descends, Trees, Invariant}
 use Rattle.kt_protocol.proofs.Frames.{Later, Later-refl, lift, Pair-later, Local-later, Trees-idle}
 use Rattle.kt_protocol.proofs.Cases.{some-none, none-some, some-one, up-voting, down-voting, check-rollback, rollback-one, open-yes, open-no, yes-no, lift_own}
 use Rattle.kt_protocol.proofs.Votes.{settled}
@@ -301,7 +303,8 @@ rise-into {B} {p} {q} {np} {nq} {kept} {link} uncut cover o = record {
   votes = o.votes;
   cover = o.cover;
 } where
-  token : (i : Instance) (b : Ballot) → np.mode ≡ Voting i b → Standing B i np.tent → TokenOf B p q np nq kept link i b → TokenOf B p q np (rising nq) kept link i b
+  token : (i : Instance) (b : Ballot) → np.mode ≡ Voting i b → Standing B i np.tent → TokenOf B p q np nq kept link i b
+      → TokenOf B p q np (rising nq) kept link i b
   token i b e s (asked w a n c) = asked w a n c
   token i b e s (waiting w c n k) = waiting w c n k
   token i b e s (voted y c n f r v) = voted y c n (λ g. (cover i b e s (f g).0, (f g).1)) r (λ c e f. up-voting refl e)
@@ -348,7 +351,8 @@ step_learns_no peer near s o k b p e par decided w =
     lift_own peer near s o (rising n) refl refl
     (rise-local none (λ m opened g. idle m opened g) was)
     (λ q u ne. rise-out none (λ g. some-none (sym par ∙ subst Gone e g)) (λ m opened a. away m opened (subst (λ t. Away t m) e a)) (w.pair o q u))
-    (λ x u ne. rise-into (λ y l h c. yes-no c.decided (subst (λ m. s.board.verdict (Rollback m) ≡ No) (number c.number c.rolls) decided)) (cover x) (w.pair x o u)) w
+    (λ x u ne. rise-into
+    (λ y l h c. yes-no c.decided (subst (λ m. s.board.verdict (Rollback m) ≡ No) (number c.number c.rolls) decided)) (cover x) (w.pair x o u)) w
   where
     n : Node
     n = s.node o
@@ -408,7 +412,8 @@ pub step_rises : (peer : ℕ → ℕ → Bool) → AreNeighbours peer → (s : S
     → b.parent ≡ None → s.board.verdict (Rollback k) ≡ Open → IsIn (a_mark (Rollback k) (s.node o).life) (s.node o).said → Invariant peer s
     → Invariant peer (decide (Rollback k) Yes (change o rising s))
 step_rises peer near s o k b e par opened said w =
-    lift peer near s o (rising n) s.link C later checks (decide-fresh (Rollback k) Yes s w.fresh (was.members (Rollback k) n.life (b.parent, (was.ballot (Rollback k) b e).member)).1)
+    lift peer near s o (rising n) s.link C later checks
+    (decide-fresh (Rollback k) Yes s w.fresh (was.members (Rollback k) n.life (b.parent, (was.ballot (Rollback k) b e).member)).1)
     (λ p q ne nf. refl)
     (rise-local none idle (Local-later later checks was))
     (λ q u ne. let both = said_settled o k q b e (λ f. open-no opened f) said u w in

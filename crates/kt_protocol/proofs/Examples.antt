@@ -4,7 +4,9 @@ use Rattle.std.proofs.Common.{◌≡◌, ◌≢◌, ℕ, zero, suc, Bool, true, 
 use Rattle.kt_protocol.specs.Labels.{no_label, at}
 use Rattle.kt_protocol.specs.Lines.{here, Hears, top_sent, top_heard}
 use Rattle.kt_protocol.specs.Machine.{Check, Rollback, Open, Yes, Ballot, Up, App, Post, Node, State}
-use Rattle.kt_protocol.specs.Steps.{sends, hears, joins, begins, restarts, grants, counts, agrees, decides_rollback, decides_check, learns_yes, fails, fails_holding, change, pull, push, begin, decide, promote, sending, hearing, joining, loading, sifting, sieve, asking, only, answering, saying, casting, counting, rising, falling, cutting, counted, IsAgreed, IsCohort, MustAsk}
+use Rattle.kt_protocol.specs.Steps.{sends, hears, joins, begins, restarts, grants, counts, agrees, decides_rollback, decides_check, learns_yes, fails}
+use Rattle.kt_protocol.specs.Steps.{fails_holding, change, pull, push, begin, decide, promote, sending, hearing, joining, loading, sifting, sieve, asking, only}
+use Rattle.kt_protocol.specs.Steps.{answering, consenting, counting, rising, falling, cutting, counted, IsAgreed, IsCohort, MustAsk}
 use Rattle.kt_protocol.specs.Runs.{AreNeighbours, IsBeginning, Run, nothing_done, one_more}
 use Rattle.kt_protocol.specs.Laws.{CutsALine, ChecksWhileDown}
 use Rattle.kt_protocol.proofs.Cases.{true-false}
@@ -91,13 +93,13 @@ abbrev counted_1 : State
 counted_1 = change 1 (counting (Rollback 0) ballot_1 0 true) granted
 
 abbrev agreed_1 : State
-agreed_1 = change 1 (λ n. answering (Rollback 0) record { node = 0; life = 2 } true (saying (Rollback 0) (casting (Rollback 0) (counted 0 true ballot_1) n))) counted_1
+agreed_1 = change 1 (λ n. answering (Rollback 0) record { node = 0; life = 2 } true (consenting (Rollback 0) (counted 0 true ballot_1) n)) counted_1
 
 abbrev counted_0 : State
 counted_0 = change 0 (counting (Rollback 0) ballot_0 1 true) agreed_1
 
 abbrev decided_0 : State
-decided_0 = decide (Rollback 0) Yes (change 0 rising (change 0 (λ n. saying (Rollback 0) (casting (Rollback 0) (counted 1 true ballot_0) n)) counted_0))
+decided_0 = decide (Rollback 0) Yes (change 0 rising (change 0 (consenting (Rollback 0) (counted 1 true ballot_0)) counted_0))
 
 abbrev learnt : State
 learnt = change 1 (λ n. rising (loading n)) decided_0
@@ -179,7 +181,7 @@ held_0 = change 0 (λ n. joining (Check 0) (Some record { node = 1; life = 1 }) 
     (push 0 (asking (Check 0) (λ q. false) (begun_1.node 0)) (pull 1 0 [] begun_1))
 
 abbrev agreed_0 : State
-agreed_0 = change 0 (λ n. answering (Check 0) record { node = 1; life = 1 } true (saying (Check 0) (casting (Check 0) check_0 n))) held_0
+agreed_0 = change 0 (λ n. answering (Check 0) record { node = 1; life = 1 } true (consenting (Check 0) check_0 n)) held_0
 
 abbrev down_0 : State
 down_0 = change 0 falling agreed_0
@@ -188,7 +190,7 @@ abbrev counted_check : State
 counted_check = change 1 (counting (Check 0) check_1 0 true) down_0
 
 abbrev checked : State
-checked = promote 0 (decide (Check 0) Yes (change 1 (λ n. saying (Check 0) (casting (Check 0) (counted 0 true check_1) n)) counted_check))
+checked = promote 0 (decide (Check 0) Yes (change 1 (consenting (Check 0) (counted 0 true check_1)) counted_check))
 
 begun_cohort : IsCohort pair (Check 0) 1 (heard_one.node 1) cohort_1
 begun_cohort = record { within = within; covers = covers } where

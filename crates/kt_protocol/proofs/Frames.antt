@@ -6,7 +6,8 @@ use Rattle.kt_protocol.specs.Machine.{Instance, Check, Rollback, Open, Yes, No, 
 use Rattle.kt_protocol.specs.Runs.{AreNeighbours}
 use Rattle.kt_protocol.proofs.Labels.{at-both, at-here, at-else}
 use Rattle.kt_protocol.proofs.Streams.{Asked-map}
-use Rattle.kt_protocol.proofs.Invariant.{Core, CutSoon, Caused, made, lost, cut_soon, Quiet, Behind, Calm, Token, asked, waiting, voted, Standing, FineAsk, TokenOf, Pair, Local, Trees, Invariant}
+use Rattle.kt_protocol.proofs.Invariant.{Core, CutSoon, Caused, made, lost, cut_soon, Quiet, Behind, Calm, Token, asked, waiting, voted, Standing, FineAsk}
+use Rattle.kt_protocol.proofs.Invariant.{TokenOf, Pair, Local, Trees, Invariant}
 
 -- the board may change so: open ones close, nothing else
 pub record Later (B C : Board) : Type 0 where

@@ -3,7 +3,8 @@
 use Rattle.std.proofs.Common.{◌≡◌, ◌≢◌, ◌⊎◌, ◌≤◌, ℕ, Bool, true, false, IsTrue, List, [], ◌++◌, Option, Some, None}
 use Rattle.kt_protocol.specs.Labels.{Label, Under, UpTo}
 use Rattle.kt_protocol.specs.Lines.{IsIn, Act, Sends, Hears, top_sent, top_heard, IsTail}
-use Rattle.kt_protocol.specs.Machine.{Instance, Check, Rollback, Open, Yes, No, Key, Ballot, Mode, Up, Voting, Down, Post, Message, Ask, Vote, Member, Mark, Node, Board, State, instance_of, next_label}
+use Rattle.kt_protocol.specs.Machine.{Instance, Check, Rollback, Open, Yes, No, Key, Ballot, Mode, Up, Voting, Down, Post, Message, Ask, Vote, Member, Mark}
+use Rattle.kt_protocol.specs.Machine.{Node, Board, State, instance_of, next_label}
 use Rattle.kt_protocol.specs.Steps.{IsAgreed}
 use Rattle.kt_protocol.proofs.Lines.{Falls}
 use Rattle.kt_protocol.proofs.Streams.{apps, Rising, NoAsk, Asked}

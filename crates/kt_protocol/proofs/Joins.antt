@@ -1,12 +1,16 @@
 -- A node begins to vote in an instance: what stays as it was.
-use Rattle.std.proofs.Common.{◌≡◌, ◌≢◌, ◌⊎◌, ◌≤◌, ℕ, Bool, true, false, List, [], ◌∷◌, ◌++◌, Option, Some, None, inl, inr, refl, sym, ap, subst, ◌∙◌, append-nil, le_of_eq, if◌then◌else◌}
+use Rattle.std.proofs.Common.{◌≡◌, ◌≢◌, ◌⊎◌, ◌≤◌, ℕ, Bool, true, false, List, [], ◌∷◌, ◌++◌, Option, Some, None, inl, inr, refl, sym, ap, subst, ◌∙◌}
+use Rattle.std.proofs.Common.{append-nil, le_of_eq, if◌then◌else◌}
 use Rattle.kt_protocol.specs.Labels.{Label}
 use Rattle.kt_protocol.specs.Lines.{IsIn, here, there, top_heard}
 use Rattle.kt_protocol.specs.Machine.{Instance, Check, Rollback, Open, Key, Ballot, Voting, Post, Message, App, Ask, Node, Board, instance_of, next_label}
 use Rattle.kt_protocol.specs.Steps.{stored, sieved, joining, ask_label, asking}
 use Rattle.kt_protocol.proofs.Labels.{UpTo-refl}
-use Rattle.kt_protocol.proofs.Streams.{in-append, in-one, in-cons, apps, apps-append, Rising, Rising-map, Rising-sub, Sub, Sub-refl, Sub-app, NoAsk, Asked, Asked-push}
-use Rattle.kt_protocol.proofs.Invariant.{core, a_key, a_member, a_mark, IsMember, Gone, Undone, Carried, sent, undone, made, lost, cut_soon, Behind, KeptUpTo, Cover, NoVote, NoChild, HasVoted, asked, waiting, voted, Away, Meant, FineAsk, top_of, TokenOf, Pair, Way, Engaged, BallotFits, Local}
+use Rattle.kt_protocol.proofs.Streams.{in-append, in-one, in-cons, apps, apps-append, Rising, Rising-map, Rising-sub, Sub, Sub-refl, Sub-app, NoAsk, Asked}
+use Rattle.kt_protocol.proofs.Streams.{Asked-push}
+use Rattle.kt_protocol.proofs.Invariant.{core, a_key, a_member, a_mark, IsMember, Gone, Undone, Carried, sent, undone, made, lost, cut_soon, Behind, KeptUpTo}
+use Rattle.kt_protocol.proofs.Invariant.{Cover, NoVote, NoChild, HasVoted, asked, waiting, voted, Away, Meant, FineAsk, top_of, TokenOf, Pair, Way, Engaged}
+use Rattle.kt_protocol.proofs.Invariant.{BallotFits, Local}
 use Rattle.kt_protocol.proofs.Cases.{some-none, none-some, some-one, voting-instance, voting-ballot}
 use Rattle.kt_protocol.proofs.Answers.{ask-front, no-ask-front, calm-ask, calm-asked, sieved-part}
 
@@ -227,7 +231,8 @@ join-local {peer} {B} {o} {n} i par cohort f begun root w = record {
   way (Check k) = λ j e. sym (some-one e)
   way (Rollback k) = f.none
 
-  members : (j : Instance) (c : ℕ) (p : Option Key) → (a_member j c p ≡ a_member i n.life par) ⊎ IsIn (a_member j c p) n.joined → (c ≤ n.life) × (B.begun j ≡ true)
+  members : (j : Instance) (c : ℕ) (p : Option Key) → (a_member j c p ≡ a_member i n.life par) ⊎ IsIn (a_member j c p) n.joined
+      → (c ≤ n.life) × (B.begun j ≡ true)
   members j c p (inl e) = (le_of_eq (ap (λ m. m.life) e), subst (λ k. B.begun k ≡ true) (sym (ap (λ m. m.instance) e)) begun)
   members j c p (inr m) = w.members j c (p, m)
 

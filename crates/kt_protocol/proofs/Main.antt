@@ -3,7 +3,9 @@ use Rattle.std.proofs.Common.{◌≡◌, ℕ, Bool, true, List, [], ◌++◌, So
 use Rattle.kt_protocol.specs.Labels.{Under, UpTo}
 use Rattle.kt_protocol.specs.Lines.{IsIn, here, Hears, IsTail, all, top_sent, top_heard}
 use Rattle.kt_protocol.specs.Machine.{Check, Rollback, Post, Message, Ask, Member, Node, Board, State, next_label}
-use Rattle.kt_protocol.specs.Steps.{Step, sends, hears, keeps, takes, drops, ignores, refuses, grants, joins, begins, restarts, counts, agrees, declines, decides_rollback, decides_check, gives_up_rollback, gives_up_check, learns_yes, learns_no, releases, fails, fails_holding, change, pull, casting, saying}
+use Rattle.kt_protocol.specs.Steps.{Step, sends, hears, keeps, takes, drops, ignores, refuses, grants, joins, begins, restarts, counts, agrees, declines}
+use Rattle.kt_protocol.specs.Steps.{decides_rollback, decides_check, gives_up_rollback, gives_up_check, learns_yes, learns_no, releases, fails, fails_holding}
+use Rattle.kt_protocol.specs.Steps.{change, pull, consenting}
 use Rattle.kt_protocol.specs.Runs.{AreNeighbours, IsNew, IsBeginning, Run, nothing_done, one_more}
 use Rattle.kt_protocol.specs.Laws.{IsReached}
 use Rattle.kt_protocol.proofs.Labels.{at-here}
@@ -43,7 +45,8 @@ new-local peer B o n w = record {
   first : (q : ℕ) → Under (top_sent [] q) (next_label n)
   first q = omega arith
 
-new-pair : (B : Board) (p q : ℕ) (np nq : Node) (kept : List Post) (link : List Message) → IsNew np → IsNew nq → kept ≡ [] → link ≡ [] → Pair B p q np nq kept link
+new-pair : (B : Board) (p q : ℕ) (np nq : Node) (kept : List Post) (link : List Message) → IsNew np → IsNew nq → kept ≡ [] → link ≡ []
+    → Pair B p q np nq kept link
 unfolding top_sent top_heard
 new-pair B p q np nq kept link u v e f = record {
   agree = subst (λ t. UpTo (top_heard t p) (top_sent np.perm q)) (sym v.perm) (subst (λ t. UpTo (top_heard [] p) (top_sent t q)) (sym u.perm) low);
@@ -103,10 +106,10 @@ stays peer near s t w (agrees o i b k e par unvoted agreed) = step_agrees peer n
 stays peer near s t w (declines o i b k e par unvoted) = step_declines peer near s o i b k e par unvoted w
 stays peer near s t w (decides_rollback o k b e par opened agreed) = decided where
   mid : State
-  mid = change o (λ n. saying (Rollback k) (casting (Rollback k) b n)) s
+  mid = change o (consenting (Rollback k) b) s
 
   now : Node
-  now = saying (Rollback k) (casting (Rollback k) b (s.node o))
+  now = consenting (Rollback k) b (s.node o)
 
   is_now : mid.node o ≡ now
   is_now = at-here o now s.node
@@ -117,10 +120,10 @@ stays peer near s t w (decides_rollback o k b e par opened agreed) = decided whe
       (step_says peer near s o (Rollback k) b e par agreed w)
 stays peer near s t w (decides_check o k b e par opened agreed) = decided where
   mid : State
-  mid = change o (λ n. saying (Check k) (casting (Check k) b n)) s
+  mid = change o (consenting (Check k) b) s
 
   now : Node
-  now = saying (Check k) (casting (Check k) b (s.node o))
+  now = consenting (Check k) b (s.node o)
 
   is_now : mid.node o ≡ now
   is_now = at-here o now s.node

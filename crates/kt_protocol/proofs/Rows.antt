@@ -1,11 +1,13 @@
 -- The rows of the two asks are steps.
-use Rattle.std.proofs.Common.{◌≡◌, ◌⊎◌, ℕ, Bool, true, false, not, ◌&&◌, IsTrue, ◌∷◌, Option, Some, None, inl, inr, refl, ap, ◌∙◌, eqb, ltb, leb, ◌<◌, ◌≤◌, if◌then◌else◌, arith}
+use Rattle.std.proofs.Common.{◌≡◌, ◌⊎◌, ℕ, Bool, true, false, not, ◌&&◌, IsTrue, ◌∷◌, Option, Some, None, inl, inr, refl, ap, ◌∙◌, eqb, ltb, leb, ◌<◌, ◌≤◌}
+use Rattle.std.proofs.Common.{if◌then◌else◌, arith}
 use Rattle.std.proofs.lemmas.Bool.{cases_lt, and_parts, and_from, or_left, or_right, eqb-true, eq-eqb, lt-ltb, le-leb}
 use Rattle.kt_protocol.specs.Labels.{Label, Under, UpTo, up_to}
 use Rattle.kt_protocol.specs.Lines.{top_sent, top_heard}
 use Rattle.kt_protocol.specs.Machine.{Check, Rollback, Verdict, Open, Yes, No, Mode, Up, Voting, Down, Ask, Node, State, instance_of}
 use Rattle.kt_protocol.specs.Steps.{Step, ignores, refuses, grants, joins, IsCohort}
-use Rattle.kt_protocol.specs.Rows.{Asking, is_open, roll_in_mode, roll_row, hear_roll_ask, check_cohort, reaches, holds, check_in_mode, check_row, hear_check_ask, answer_ask, join_by_ask}
+use Rattle.kt_protocol.specs.Rows.{Asking, is_open, roll_in_mode, roll_row, hear_roll_ask, check_cohort, reaches, holds, check_in_mode, check_row}
+use Rattle.kt_protocol.specs.Rows.{hear_check_ask, answer_ask, join_by_ask}
 use Rattle.kt_protocol.proofs.Labels.{Label-cases, Under-not}
 use Rattle.kt_protocol.proofs.Streams.{up_to-true}
 use Rattle.kt_protocol.proofs.Cases.{true-false}
@@ -49,7 +51,8 @@ roll-row peer k o x a s t front = go (is_open (s.board.verdict (Rollback k))) re
   go false e h f = refuses o x (Rollback k) a.label a.life a.rest t front
   go true e true f = grants o x (Rollback k) a.label a.life a.rest t front (open-true (s.board.verdict (Rollback k)) e)
       (inr (up_to-true (top_heard (s.node o).line x) a.label f))
-  go true e false f = roll-in-mode peer k o x a s t front (open-true (s.board.verdict (Rollback k)) e) (up_to-false (top_heard (s.node o).line x) a.label f) (s.node o).mode refl
+  go true e false f = roll-in-mode peer k o x a s t front (open-true (s.board.verdict (Rollback k)) e)
+      (up_to-false (top_heard (s.node o).line x) a.label f) (s.node o).mode refl
 
 pub roll-ask-step : (peer : ℕ → ℕ → Bool) (k o x : ℕ) (a : Asking) (s : State) → IsTrue (peer x o)
     → s.link x o ≡ Ask (Rollback k) a.label a.life ∷ a.rest → Step peer s (hear_roll_ask peer k o x a s (s.node o).mode)

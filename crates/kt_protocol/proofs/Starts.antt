@@ -1,17 +1,21 @@
 -- Steps by which a node begins to vote: an ask makes it join, it begins a check, it restarts.
-use Rattle.std.proofs.Common.{◌≡◌, ◌≢◌, ◌⊎◌, ℕ, suc, Bool, true, false, IsTrue, List, [], ◌∷◌, ◌++◌, Option, Some, None, inl, inr, refl, sym, ap, subst, ◌∙◌, arith, if◌then◌else◌}
+use Rattle.std.proofs.Common.{◌≡◌, ◌≢◌, ◌⊎◌, ℕ, suc, Bool, true, false, IsTrue, List, [], ◌∷◌, ◌++◌, Option, Some, None, inl, inr, refl, sym, ap, subst, ◌∙◌}
+use Rattle.std.proofs.Common.{arith, if◌then◌else◌}
 use Rattle.std.proofs.lemmas.Bool.{cases_eq, eq-eqb}
 use Rattle.kt_protocol.specs.Labels.{Label, Under, UpTo, at}
 use Rattle.kt_protocol.specs.Lines.{IsIn, here, Sends, Hears, all, top_sent, top_heard}
-use Rattle.kt_protocol.specs.Machine.{Instance, Check, Rollback, Open, Key, Ballot, Up, Down, Post, Message, Ask, Node, Board, State, instance_of, next_label, same_instance}
+use Rattle.kt_protocol.specs.Machine.{Instance, Check, Rollback, Open, Key, Ballot, Up, Down, Post, Message, Ask, Node, Board, State, instance_of, next_label}
+use Rattle.kt_protocol.specs.Machine.{same_instance}
 use Rattle.kt_protocol.specs.Steps.{change, pull, push, begin, sifting, sieved, joining, loading, asking, IsCohort}
 use Rattle.kt_protocol.specs.Runs.{AreNeighbours}
 use Rattle.kt_protocol.proofs.Labels.{UpTo-trans, Label-cases, at-here, at-else, Under-UpTo}
 use Rattle.kt_protocol.proofs.Lines.{Falls}
 use Rattle.kt_protocol.proofs.Streams.{apps, Rising, Rising-map, Rising-sub, Sub-right}
-use Rattle.kt_protocol.proofs.Invariant.{core, a_key, a_member, a_mark, IsMember, Undone, Carried, sent, undone, made, lost, cut_soon, Cover, Calm, NoChild, Away, Meant, top_of, TokenOf, Pair, Engaged, Local, Trees, Invariant}
+use Rattle.kt_protocol.proofs.Invariant.{core, a_key, a_member, a_mark, IsMember, Undone, Carried, sent, undone, made, lost, cut_soon, Cover, Calm, NoChild}
+use Rattle.kt_protocol.proofs.Invariant.{Away, Meant, top_of, TokenOf, Pair, Engaged, Local, Trees, Invariant}
 use Rattle.kt_protocol.proofs.Frames.{Later, Later-refl, Token-map, lift, Pair-later, Local-later, Trees-later, Trees-same, at-map, at-same}
-use Rattle.kt_protocol.proofs.Cases.{some-none, none-some, some-one, up-down, up-gone, down-voting, check-rollback, true-false, pull-else, pull-here, pull-other, push-else, push-here}
+use Rattle.kt_protocol.proofs.Cases.{some-none, none-some, some-one, up-down, up-gone, down-voting, check-rollback, true-false, pull-else, pull-here}
+use Rattle.kt_protocol.proofs.Cases.{pull-other, push-else, push-here}
 use Rattle.kt_protocol.proofs.Talks.{up-tent}
 use Rattle.kt_protocol.proofs.Keeps.{idle-out, idle-local}
 use Rattle.kt_protocol.proofs.Answers.{childless}

@@ -1,5 +1,6 @@
 -- Steps on underlying messages.
-use Rattle.std.proofs.Common.{◌≡◌, ◌≢◌, ◌⊎◌, ℕ, suc, Bool, IsTrue, List, [], ◌∷◌, ◌++◌, Option, None, inl, inr, refl, sym, ap, subst, ◌∙◌, append_assoc, append-nil, arith}
+use Rattle.std.proofs.Common.{◌≡◌, ◌≢◌, ◌⊎◌, ℕ, suc, Bool, IsTrue, List, [], ◌∷◌, ◌++◌, Option, None, inl, inr, refl, sym, ap, subst, ◌∙◌, append_assoc}
+use Rattle.std.proofs.Common.{append-nil, arith}
 use Rattle.std.proofs.lemmas.Bool.{cases_eq, eq-eqb, ne_eqb}
 use Rattle.kt_protocol.specs.Labels.{Label, Under, UpTo}
 use Rattle.kt_protocol.specs.Lines.{IsIn, here, there, Act, Sends, Hears, top_sent, top_heard, more}
@@ -9,7 +10,8 @@ use Rattle.kt_protocol.specs.Runs.{AreNeighbours}
 use Rattle.kt_protocol.proofs.Labels.{UpTo-refl, Under-UpTo}
 use Rattle.kt_protocol.proofs.Lines.{sent-here, sent-else, heard-here, heard-else, heard-sent, sent-heard}
 use Rattle.kt_protocol.proofs.Streams.{in-append, in-one, in-cons, apps, apps-append, Rising, Rising-map, Rising-push, Rising-head, Asked, Asked-app}
-use Rattle.kt_protocol.proofs.Invariant.{Core, core, Carried, sent, undone, Caused, made, lost, cut_soon, Behind, Calm, Cover, asked, waiting, voted, Away, Meant, FineAsk, top_of, Pair, Way, Local, Invariant}
+use Rattle.kt_protocol.proofs.Invariant.{Core, core, Carried, sent, undone, Caused, made, lost, cut_soon, Behind, Calm, Cover, asked, waiting, voted, Away}
+use Rattle.kt_protocol.proofs.Invariant.{Meant, FineAsk, top_of, Pair, Way, Local, Invariant}
 use Rattle.kt_protocol.proofs.Frames.{lift, Later-refl, Trees-idle, Token-map}
 use Rattle.kt_protocol.proofs.Cases.{some-none, up-voting, up-gone, push-else, push-here, lift_pull}
 

@@ -3,15 +3,19 @@ use Rattle.std.proofs.Common.{◌≡◌, ◌≢◌, ◌⊎◌, ℕ, Bool, true, 
 use Rattle.std.proofs.lemmas.Bool.{cases_eq}
 use Rattle.kt_protocol.specs.Labels.{Label, no_label, Under, UpTo, at}
 use Rattle.kt_protocol.specs.Lines.{IsIn, here, there, top_sent, top_heard}
-use Rattle.kt_protocol.specs.Machine.{Instance, Check, Rollback, Open, Key, Ballot, Voting, Post, Message, Ask, Vote, Mark, Node, Board, State, instance_of, next_label}
+use Rattle.kt_protocol.specs.Machine.{Instance, Check, Rollback, Open, Key, Ballot, Voting, Post, Message, Ask, Vote, Mark, Node, Board, State, instance_of}
+use Rattle.kt_protocol.specs.Machine.{next_label}
 use Rattle.kt_protocol.specs.Steps.{change, counted, counting, casting, saying, answering, IsAgreed}
 use Rattle.kt_protocol.specs.Runs.{AreNeighbours}
 use Rattle.kt_protocol.proofs.Labels.{UpTo-trans, UpTo-refl, UpTo-least, Label-cases, at-else}
 use Rattle.kt_protocol.proofs.Lines.{sent-top, heard-attained}
 use Rattle.kt_protocol.proofs.Streams.{in-cons, Rising-map}
-use Rattle.kt_protocol.proofs.Invariant.{core, a_vote, a_key, a_member, a_mark, IsMember, Gone, Undone, sent, undone, Caused, made, lost, cut_soon, Calm, Cover, NoVote, OneChild, ChildrenSaid, HasVoted, asked, waiting, voted, Standing, Away, Meant, top_of, TokenOf, Pair, Way, Engaged, BallotFits, Local, Trees, Invariant}
+use Rattle.kt_protocol.proofs.Invariant.{core, a_vote, a_key, a_member, a_mark, IsMember, Gone, Undone, sent, undone, Caused, made, lost, cut_soon, Calm, Cover}
+use Rattle.kt_protocol.proofs.Invariant.{NoVote, OneChild, ChildrenSaid, HasVoted, asked, waiting, voted, Standing, Away, Meant, top_of, TokenOf, Pair, Way}
+use Rattle.kt_protocol.proofs.Invariant.{Engaged, BallotFits, Local, Trees, Invariant}
 use Rattle.kt_protocol.proofs.Frames.{Later-refl, lift, Trees-same, at-map, at-same}
-use Rattle.kt_protocol.proofs.Cases.{some-one, down-voting, voting-instance, voting-ballot, check-one, check-rollback, rollback-one, true-false, open-no, lift_own}
+use Rattle.kt_protocol.proofs.Cases.{some-one, down-voting, voting-instance, voting-ballot, check-one, check-rollback, rollback-one, true-false, open-no}
+use Rattle.kt_protocol.proofs.Cases.{lift_own}
 use Rattle.kt_protocol.proofs.Trees.{Trees-say}
 
 -- the node with another ballot, of the same parent

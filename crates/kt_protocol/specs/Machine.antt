@@ -18,6 +18,9 @@ pub record Key : Type 0 where
   pub node : ℕ
   pub life : ℕ
 
+abbrev pub key_of : ℕ → ℕ → Key
+key_of p c = record { node = p; life = c }
+
 -- what a node keeps of an instance in which it votes: who asked it (none: it began the instance), whose
 -- votes it awaits, whether a no came, whether it has voted itself
 pub record Ballot : Type 0 where

@@ -3,7 +3,8 @@
 use Rattle.std.specs.Prelude.{ℕ, eqb, Bool, true, false, not, ◌&&◌, if◌then◌else◌, List, Option, Some, None}
 use Rattle.kt_protocol.specs.Labels.{Label, up_to}
 use Rattle.kt_protocol.specs.Lines.{top_sent, top_heard}
-use Rattle.kt_protocol.specs.Machine.{Instance, Check, Rollback, Verdict, Open, Mode, Up, Voting, Down, Message, Node, State}
+use Rattle.kt_protocol.specs.Machine.{Instance, key_of, Check, Rollback, Verdict, Open, Mode, Up, Voting, Down, Message}
+use Rattle.kt_protocol.specs.Machine.{Node, State}
 use Rattle.kt_protocol.specs.Steps.{change, pull, push, sifting, answering, joining, asking}
 
 abbrev pub is_open : Verdict → Bool
@@ -23,12 +24,12 @@ drop_ask i o x a s = change o (sifting i x a.label) (pull x o a.rest s)
 -- the ask is answered
 abbrev pub answer_ask : Instance → ℕ → ℕ → Asking → Bool → State → State
 answer_ask i o x a y s =
-    change o (λ n. answering i record { node = x; life = a.life } y (sifting i x a.label n)) (pull x o a.rest s)
+    change o (λ n. answering i (key_of x a.life) y (sifting i x a.label n)) (pull x o a.rest s)
 
 -- o joins and asks its cohort
 abbrev pub join_by_ask : Instance → ℕ → ℕ → Asking → (ℕ → Bool) → State → State
 join_by_ask i o x a cohort s =
-    change o (λ n. joining i (Some record { node = x; life = a.life }) cohort (sifting i x a.label n))
+    change o (λ n. joining i (Some (key_of x a.life)) cohort (sifting i x a.label n))
     (push o (asking i cohort (s.node o)) (pull x o a.rest s))
 
 -- the ask of a rollback, where something was heard above its label

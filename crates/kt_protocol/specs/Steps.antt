@@ -1,10 +1,13 @@
 -- The steps of the machine: what a node may do, when, and what becomes of the state. The machine may do all
 -- that the tables of steps and arrivals allow, and more: a vote or a verdict has no message of its own that must
 -- be taken off a link, a no may be said at any time, and any open instance may be given up.
-use Rattle.std.specs.Prelude.{◌≡◌, ◌⊎◌, ℕ, suc, eqb, Bool, true, false, not, ◌||◌, if◌then◌else◌, IsTrue, List, [], ◌∷◌, ◌++◌, Option, Some, None, ⊤}
+use Rattle.std.specs.Prelude.{◌≡◌, ◌⊎◌, ℕ, suc, eqb, Bool, true, false, not, ◌||◌, if◌then◌else◌, IsTrue, List, [], ◌∷◌}
+use Rattle.std.specs.Prelude.{◌++◌, Option, Some, None, ⊤}
 use Rattle.kt_protocol.specs.Labels.{Label, Under, UpTo, up_to, at}
 use Rattle.kt_protocol.specs.Lines.{IsIn, Act, Sends, Hears, top_sent, top_heard}
-use Rattle.kt_protocol.specs.Machine.{Instance, Check, Rollback, Verdict, Open, Yes, No, Key, Ballot, Up, Voting, Down, Post, Message, App, Ask, Node, State, at_instance, instance_of, next_label}
+use Rattle.kt_protocol.specs.Machine.{Instance, Check, Rollback, Verdict, Open, Yes, No, Key, key_of, Ballot, Up}
+use Rattle.kt_protocol.specs.Machine.{Voting, Down, Post, Message, App, Ask, Node, State, at_instance, instance_of}
+use Rattle.kt_protocol.specs.Machine.{next_label}
 
 -- the owner's node becomes another
 abbrev pub change : ℕ → (Node → Node) → State → State
@@ -124,6 +127,10 @@ saying i n = record n { said = record { instance = i; life = n.life } ∷ n.said
 abbrev pub casting : Instance → Ballot → Node → Node
 casting i b n = record n { mode = Voting i record b { voted = true } }
 
+-- the node votes yes, and says so to itself
+abbrev pub consenting : Instance → Ballot → Node → Node
+consenting i b n = saying i (casting i b n)
+
 abbrev pub rising : Node → Node
 rising n = record n { mode = Up }
 
@@ -188,16 +195,16 @@ pub data Step (peer : ℕ → ℕ → Bool) (s : State) : State → Type 0 where
   -- an ask is answered no, at any time
   refuses : (o x : ℕ) (i : Instance) (l : Label) (c : ℕ) (rest : List Message) → IsTrue (peer x o)
       → s.link x o ≡ Ask i l c ∷ rest
-      → Step peer s (change o (λ n. answering i record { node = x; life = c } false (sifting i x l n)) (pull x o rest s))
+      → Step peer s (change o (λ n. answering i (key_of x c) false (sifting i x l n)) (pull x o rest s))
   -- an ask is answered yes at once
   grants : (o x : ℕ) (i : Instance) (l : Label) (c : ℕ) (rest : List Message) → IsTrue (peer x o)
       → s.link x o ≡ Ask i l c ∷ rest → s.board.verdict i ≡ Open → MayAgree i (s.node o) x l
-      → Step peer s (change o (λ n. answering i record { node = x; life = c } true (sifting i x l n)) (pull x o rest s))
+      → Step peer s (change o (λ n. answering i (key_of x c) true (sifting i x l n)) (pull x o rest s))
   -- an ask makes the node join, and ask in its turn
   joins : (o x : ℕ) (i : Instance) (l : Label) (c : ℕ) (rest : List Message) (cohort : ℕ → Bool) → IsTrue (peer x o)
       → s.link x o ≡ Ask i l c ∷ rest → (s.node o).mode ≡ Up → s.board.verdict i ≡ Open → MustJoin i (s.node o) x l
       → IsCohort peer i o (s.node o) cohort
-      → Step peer s (change o (λ n. joining i (Some record { node = x; life = c }) cohort (sifting i x l n))
+      → Step peer s (change o (λ n. joining i (Some (key_of x c)) cohort (sifting i x l n))
       (push o (asking i cohort (s.node o)) (pull x o rest s)))
   -- a check begins
   begins : (o k : ℕ) (cohort : ℕ → Bool) → (s.node o).mode ≡ Up → s.board.begun (Check k) ≡ false
@@ -213,12 +220,12 @@ pub data Step (peer : ℕ → ℕ → Bool) (s : State) : State → Type 0 where
   -- a vote of q on the node's ask is counted
   counts : (o q : ℕ) (i : Instance) (b : Ballot) (y : Bool) → IsTrue (peer o q) → (s.node o).mode ≡ Voting i b
       → b.awaited q ≡ true
-      → IsIn record { instance = i; asker = record { node = o; life = (s.node o).life }; agrees = y } (s.node q).votes
+      → IsIn record { instance = i; asker = key_of o (s.node o).life; agrees = y } (s.node q).votes
       → Step peer s (change o (counting i b q y) s)
   -- a participant votes yes
   agrees : (o : ℕ) (i : Instance) (b : Ballot) (k : Key) → (s.node o).mode ≡ Voting i b → b.parent ≡ Some k
       → b.voted ≡ false → IsAgreed peer o b
-      → Step peer s (change o (λ n. answering i k true (saying i (casting i b n))) s)
+      → Step peer s (change o (λ n. answering i k true (consenting i b n)) s)
   -- a participant votes no, at any time
   declines : (o : ℕ) (i : Instance) (b : Ballot) (k : Key) → (s.node o).mode ≡ Voting i b → b.parent ≡ Some k
       → b.voted ≡ false
@@ -226,11 +233,11 @@ pub data Step (peer : ℕ → ℕ → Bool) (s : State) : State → Type 0 where
   -- the initiator of a rollback decides Yes and is up
   decides_rollback : (o k : ℕ) (b : Ballot) → (s.node o).mode ≡ Voting (Rollback k) b → b.parent ≡ None
       → s.board.verdict (Rollback k) ≡ Open → IsAgreed peer o b
-      → Step peer s (decide (Rollback k) Yes (change o rising (change o (λ n. saying (Rollback k) (casting (Rollback k) b n)) s)))
+      → Step peer s (decide (Rollback k) Yes (change o rising (change o (consenting (Rollback k) b) s)))
   -- the initiator of a check decides Yes
   decides_check : (o k : ℕ) (b : Ballot) → (s.node o).mode ≡ Voting (Check k) b → b.parent ≡ None
       → s.board.verdict (Check k) ≡ Open → IsAgreed peer o b
-      → Step peer s (promote k (decide (Check k) Yes (change o (λ n. saying (Check k) (casting (Check k) b n)) s)))
+      → Step peer s (promote k (decide (Check k) Yes (change o (consenting (Check k) b) s)))
   -- an instance that is not decided gets No
   gives_up_rollback : (k : ℕ) → s.board.begun (Rollback k) ≡ true → s.board.verdict (Rollback k) ≡ Open
       → Step peer s (decide (Rollback k) No s)

@@ -2,7 +2,8 @@
 
 ghost use Rattle.std.specs.Prelude.{◌≡◌, ℕ, Bool, IsTrue, ◌∷◌, Option};
 ghost use Rattle.kt_protocol.specs.Labels.{Label};
-ghost use Rattle.kt_protocol.specs.Laws.{ChecksWhileDown, CutsALine, IsHeld, IsReached, IsRolling, IsSteady, MustRoll, WhyHeld};
+ghost use Rattle.kt_protocol.specs.Laws.{ChecksWhileDown, CutsALine, IsHeld, IsReached, IsRolling, IsSteady, MustRoll};
+ghost use Rattle.kt_protocol.specs.Laws.{WhyHeld};
 ghost use Rattle.kt_protocol.specs.Lines.{IsIn, Hears, Sends};
 ghost use Rattle.kt_protocol.specs.Machine.{Ask, Check, Rollback, State, Up};
 ghost use Rattle.kt_protocol.specs.Rows.{Asking, hear_check_ask, hear_roll_ask};
