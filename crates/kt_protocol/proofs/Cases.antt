@@ -2,7 +2,7 @@
 use Rattle.std.proofs.Common.{◌≡◌, ◌≢◌, ◌⊎◌, ℕ, Bool, true, false, IsTrue, List, ◌++◌, Option, Some, None, inl, inr, refl, sym, ap, subst, ◌∙◌}
 use Rattle.std.proofs.lemmas.Bool.{cases_eq, eq-eqb, ne_eqb}
 use Rattle.kt_protocol.specs.Labels.{at}
-use Rattle.kt_protocol.specs.Machine.{Instance, Check, Rollback, Verdict, Open, Yes, No, Ballot, Mode, Up, Voting, Down, Message, Node, State, instance_of}
+use Rattle.kt_protocol.specs.Machine.{Instance, Check, Rollback, Verdict, Open, Yes, No, Ballot, Mode, Up, Within, Down, Message, Node, State, instance_of}
 use Rattle.kt_protocol.specs.Steps.{pull, push}
 use Rattle.kt_protocol.specs.Runs.{AreNeighbours}
 use Rattle.kt_protocol.proofs.Invariant.{Gone, Pair, Local, Invariant}
@@ -27,13 +27,13 @@ none-some e = some-none (sym e)
 
 abbrev IsVoting : Mode → Type 0
 IsVoting Up = ⊥
-IsVoting (Voting i b) = Unit {0}
+IsVoting (Within i b) = Unit {0}
 IsVoting Down = ⊥
 
-pub up-voting : {m : Mode} {i : Instance} {b : Ballot} {X : Type 0} → m ≡ Up → m ≡ Voting i b → X
+pub up-voting : {m : Mode} {i : Instance} {b : Ballot} {X : Type 0} → m ≡ Up → m ≡ Within i b → X
 up-voting e f = absurd (subst IsVoting (sym f ∙ e) tt)
 
-pub down-voting : {m : Mode} {i : Instance} {b : Ballot} {X : Type 0} → m ≡ Down → m ≡ Voting i b → X
+pub down-voting : {m : Mode} {i : Instance} {b : Ballot} {X : Type 0} → m ≡ Down → m ≡ Within i b → X
 down-voting e f = absurd (subst IsVoting (sym f ∙ e) tt)
 
 abbrev IsDown : Mode → Type 0
@@ -45,13 +45,13 @@ up-down e f = absurd (subst IsDown (sym f ∙ e) tt)
 
 abbrev ballot_or : Ballot → Mode → Ballot
 ballot_or c Up = c
-ballot_or c (Voting i b) = b
+ballot_or c (Within i b) = b
 ballot_or c Down = c
 
-pub voting-instance : {i j : Instance} {b c : Ballot} → Voting i b ≡ Voting j c → i ≡ j
+pub voting-instance : {i j : Instance} {b c : Ballot} → Within i b ≡ Within j c → i ≡ j
 voting-instance e = some-one (ap instance_of e)
 
-pub voting-ballot : {i j : Instance} {b c : Ballot} → Voting i b ≡ Voting j c → b ≡ c
+pub voting-ballot : {i j : Instance} {b c : Ballot} → Within i b ≡ Within j c → b ≡ c
 voting-ballot {b = b} e = ap (ballot_or b) e
 
 abbrev number_of : Instance → ℕ

@@ -3,7 +3,7 @@ use Rattle.std.proofs.Common.{◌≡◌, ◌≢◌, ◌⊎◌, ℕ, Bool, true, 
 use Rattle.std.proofs.lemmas.Bool.{cases_eq, eq-eqb, ne_eqb}
 use Rattle.kt_protocol.specs.Labels.{Label, Under, UpTo}
 use Rattle.kt_protocol.specs.Lines.{IsIn, Act, IsTail, all, top_sent, top_heard}
-use Rattle.kt_protocol.specs.Machine.{Instance, Check, Rollback, Verdict, Open, Yes, No, Ballot, Mode, Up, Voting, Down, Post, Message, Node, Board, State}
+use Rattle.kt_protocol.specs.Machine.{Instance, Check, Rollback, Verdict, Open, Yes, No, Ballot, Mode, Up, Within, Down, Post, Message, Node, Board, State}
 use Rattle.kt_protocol.specs.Machine.{instance_of, next_label}
 use Rattle.kt_protocol.specs.Steps.{decide, released, promoted, promote, discard}
 use Rattle.kt_protocol.specs.Runs.{AreNeighbours}
@@ -97,11 +97,11 @@ settle-pair {B} {C} {p} {q} {np} {nq} {kept} {link} k pp pq later past fp fq wp 
   stands (Check j) s = let t = released-some k np.tent j s in (t.0, λ m f. subst (λ z. z ≢ k) (check-one f) t.1)
   stands (Rollback j) s = (later.live (Rollback j) s, λ m f. check-rollback (sym f))
 
-  same : (i : Instance) (b : Ballot) → np.mode ≡ Voting i b → top_of i np.line np.perm q ≡ top_of i np.line pp q
+  same : (i : Instance) (b : Ballot) → np.mode ≡ Within i b → top_of i np.line np.perm q ≡ top_of i np.line pp q
   same (Check j) b e = refl
   same (Rollback j) b e = ap (λ t. top_sent t q) (sym (fp.same (rolling-none np.mode np.tent wp (ap instance_of e))))
 
-  token : (i : Instance) (b : Ballot) → np.mode ≡ Voting i b → Standing C i (released k np.tent) → TokenOf C p q (settle k pp np) (settle k pq nq) kept link i b
+  token : (i : Instance) (b : Ballot) → np.mode ≡ Within i b → Standing C i (released k np.tent) → TokenOf C p q (settle k pp np) (settle k pq nq) kept link i b
   token i b e s =
       let both = stands i s in
       subst (λ top. Token i (a_key p np.life) (b.awaited q) b.refused (Asked i np.life top (Behind C i) link) (Calm C i np.life top kept link)
@@ -127,8 +127,8 @@ settle-local {peer} {B} {C} {o} {n} k perm later past back f w = record {
 } where
   way : (m : Mode) → Way m n.tent → Way m (released k n.tent)
   way Up e = released-none k n.tent e
-  way (Voting (Check j) b) g = λ i e. g i (released-some k n.tent i e).0
-  way (Voting (Rollback j) b) e = released-none k n.tent e
+  way (Within (Check j) b) g = λ i e. g i (released-some k n.tent i e).0
+  way (Within (Rollback j) b) e = released-none k n.tent e
   way Down e = e
 
   present : (i : Instance) → C.verdict i ≡ Open → Engaged i n.mode n.tent → Engaged i n.mode (released k n.tent)
@@ -186,7 +186,7 @@ fits-promoted k n w = go (promoted k n.tent n) (promoted-cases k n.tent n) where
   }
   go perm (inr e) = subst (Fits n) (sym e.1) (fits-same n w.tail)
 
-pub step_promotes : (peer : ℕ → ℕ → Bool) → AreNeighbours peer → (s : State) (o k : ℕ) (b : Ballot) → (s.node o).mode ≡ Voting (Check k) b → b.parent ≡ None
+pub step_promotes : (peer : ℕ → ℕ → Bool) → AreNeighbours peer → (s : State) (o k : ℕ) (b : Ballot) → (s.node o).mode ≡ Within (Check k) b → b.parent ≡ None
     → s.board.verdict (Check k) ≡ Open → IsIn (a_mark (Check k) (s.node o).life) (s.node o).said
     → Invariant peer s → Invariant peer (promote k (decide (Check k) Yes s))
 step_promotes peer near s o k b e par opened said w = record {

@@ -3,7 +3,7 @@ use Rattle.std.proofs.Common.{◌≡◌, ◌≢◌, ◌⊎◌, ℕ, Bool, true, 
 use Rattle.std.proofs.lemmas.Bool.{cases_eq}
 use Rattle.kt_protocol.specs.Labels.{Label, Under, UpTo, at}
 use Rattle.kt_protocol.specs.Lines.{IsIn, here, Sends, Hears, top_sent, top_heard}
-use Rattle.kt_protocol.specs.Machine.{Instance, Check, Rollback, Open, Ballot, Mode, Up, Voting, Down, Message, Ask, Node, State, instance_of}
+use Rattle.kt_protocol.specs.Machine.{Instance, Check, Rollback, Open, Ballot, Mode, Up, Within, Down, Message, Ask, Node, State, instance_of}
 use Rattle.kt_protocol.specs.Steps.{Step, sends, hears, keeps, takes, drops, ignores, refuses, grants, joins, begins, restarts, counts, agrees, declines}
 use Rattle.kt_protocol.specs.Steps.{decides_rollback, decides_check, gives_up_rollback, gives_up_check, learns_yes, learns_no, releases, fails, fails_holding}
 use Rattle.kt_protocol.specs.Steps.{MustJoin, change, consenting}
@@ -36,14 +36,14 @@ agree {peer} {s} w p q by l h = caused (pair.caused by l line) where
 
 standing-gone : {X : Type 0} (m : Mode) → IsStanding m → Gone m → X
 standing-gone Up s g = absurd g
-standing-gone (Voting (Check k) b) s g = absurd g
-standing-gone (Voting (Rollback k) b) s g = absurd s
+standing-gone (Within (Check k) b) s g = absurd g
+standing-gone (Within (Rollback k) b) s g = absurd s
 standing-gone Down s g = absurd s
 
 standing-rolling : {X : Type 0} (m : Mode) (k : ℕ) → IsStanding m → instance_of m ≡ Some (Rollback k) → X
 standing-rolling Up k s e = none-some e
-standing-rolling (Voting (Check j) b) k s e = check-rollback (some-one e)
-standing-rolling (Voting (Rollback j) b) k s e = absurd s
+standing-rolling (Within (Check j) b) k s e = check-rollback (some-one e)
+standing-rolling (Within (Rollback j) b) k s e = absurd s
 standing-rolling Down k s e = absurd s
 
 -- in a steady state each act in a line that heard an act heard one that its node remembers
@@ -66,14 +66,14 @@ still P not_up o f up h = absurd (not_up (subst P up h))
 -- ways in which a step makes a node that is Up what it was not
 data Ways (P : Mode → Type 0) (peer : ℕ → ℕ → Bool) (s t : State) (o : ℕ) : Type 0 where
   by_ask : (x : ℕ) (i : Instance) (l : Label) (c : ℕ) (rest : List Message) (b : Ballot) → IsTrue (peer x o) → s.link x o ≡ Ask i l c ∷ rest
-      → s.board.verdict i ≡ Open → MustJoin i (s.node o) x l → P (Voting i b) → Ways P peer s t o
-  by_itself : (k : ℕ) (b : Ballot) → s.board.begun (Check k) ≡ false → t.board.begun (Check k) ≡ true → P (Voting (Check k) b) → Ways P peer s t o
+      → s.board.verdict i ≡ Open → MustJoin i (s.node o) x l → P (Within i b) → Ways P peer s t o
+  by_itself : (k : ℕ) (b : Ballot) → s.board.begun (Check k) ≡ false → t.board.begun (Check k) ≡ true → P (Within (Check k) b) → Ways P peer s t o
 
 same_mode : (P : Mode → Type 0) {X : Type 0} → (P Up → ⊥) → (s : State) (o x : ℕ) → (s.node o).mode ≡ Up → o ≡ x → P (s.node x).mode → X
 same_mode P not_up s o x up e g = absurd (not_up (subst P up (subst (λ y. P (s.node y).mode) (sym e) g)))
 
-busy : {X : Type 0} (s : State) (o x : ℕ) (i : Instance) (b : Ballot) → (s.node o).mode ≡ Up → (s.node x).mode ≡ Voting i b → o ≡ x → X
-busy s o x i b up e f = up-voting up (subst (λ y. (s.node y).mode ≡ Voting i b) (sym f) e)
+busy : {X : Type 0} (s : State) (o x : ℕ) (i : Instance) (b : Ballot) → (s.node o).mode ≡ Up → (s.node x).mode ≡ Within i b → o ≡ x → X
+busy s o x i b up e f = up-voting up (subst (λ y. (s.node y).mode ≡ Within i b) (sym f) e)
 
 ways : (P : Mode → Type 0) → (P Up → ⊥) → (P Down → ⊥) → (peer : ℕ → ℕ → Bool) (s : State) (o : ℕ) → (s.node o).mode ≡ Up → (t : State)
     → Step peer s t → P (t.node o).mode → Ways P peer s t o

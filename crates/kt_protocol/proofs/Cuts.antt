@@ -2,7 +2,7 @@
 use Rattle.std.proofs.Common.{◌≡◌, ◌≢◌, ◌⊎◌, ℕ, suc, Bool, IsTrue, List, [], ◌++◌, Option, Some, None, inl, inr, refl, sym, ap, subst, ◌∙◌, arith}
 use Rattle.kt_protocol.specs.Labels.{Label, Under, UpTo}
 use Rattle.kt_protocol.specs.Lines.{IsIn, Act, Sends, Hears, IsTail, all, top_sent, top_heard}
-use Rattle.kt_protocol.specs.Machine.{Instance, Check, Rollback, Open, Yes, No, Key, Ballot, Mode, Up, Voting, Down, Post, Message, Ask, Node, Board, State}
+use Rattle.kt_protocol.specs.Machine.{Instance, Check, Rollback, Open, Yes, No, Key, Ballot, Mode, Up, Within, Down, Post, Message, Ask, Node, Board, State}
 use Rattle.kt_protocol.specs.Machine.{instance_of, next_label}
 use Rattle.kt_protocol.specs.Steps.{change, cutting, falling, loading, rising, nothing_kept, decide}
 use Rattle.kt_protocol.specs.Runs.{AreNeighbours}
@@ -20,8 +20,8 @@ use Rattle.kt_protocol.proofs.Verdicts.{decide-cases, decide-at, decide-fresh, d
 -- who rolls back holds no tentative checkpoint
 pub rolling-none : (m : Mode) (tent : Option ℕ) {k : ℕ} → Way m tent → instance_of m ≡ Some (Rollback k) → tent ≡ None
 rolling-none Up tent w e = none-some e
-rolling-none (Voting (Check j) b) tent w e = check-rollback (some-one e)
-rolling-none (Voting (Rollback j) b) tent w e = w
+rolling-none (Within (Check j) b) tent w e = check-rollback (some-one e)
+rolling-none (Within (Rollback j) b) tent w e = w
 rolling-none Down tent w e = none-some e
 
 -- the line is cut, the node is in no instance and keeps nothing
@@ -240,7 +240,7 @@ up-settled {B} {C} {p} {q} {np} {nq} {kept} {link} k life count line held later 
   meant (Rollback m) l c h e f = absurd (calm.behind.unasked m l c h e)
 
 -- all that is known of a node that said yes in a rollback that is not given up
-said_settled : {peer : ℕ → ℕ → Bool} {s : State} (o k q : ℕ) (b : Ballot) → (s.node o).mode ≡ Voting (Rollback k) b → s.board.verdict (Rollback k) ≢ No
+said_settled : {peer : ℕ → ℕ → Bool} {s : State} (o k q : ℕ) (b : Ballot) → (s.node o).mode ≡ Within (Rollback k) b → s.board.verdict (Rollback k) ≢ No
     → IsIn (a_mark (Rollback k) (s.node o).life) (s.node o).said → IsTrue (peer o q) → Invariant peer s
     → Calm s.board (Rollback k) (s.node o).life (top_sent (s.node o).perm q) ((s.node q).kept o) (s.link o q)
     × Cover (Rollback k) (core (s.node q)) o (top_sent (s.node o).perm q)
@@ -249,7 +249,7 @@ said_settled {peer} {s} o k q b e live said t w =
     let both = settled (s.node o) (s.node q) (Rollback k) b (agreed.complete q t) agreed.none ((w.pair o q t).token (Rollback k) b e live) in
     (both.0, both.1)
 
-pub step_learns_yes : (peer : ℕ → ℕ → Bool) → AreNeighbours peer → (s : State) (o k : ℕ) (b : Ballot) → (s.node o).mode ≡ Voting (Rollback k) b
+pub step_learns_yes : (peer : ℕ → ℕ → Bool) → AreNeighbours peer → (s : State) (o k : ℕ) (b : Ballot) → (s.node o).mode ≡ Within (Rollback k) b
     → s.board.verdict (Rollback k) ≡ Yes → Invariant peer s → Invariant peer (change o (λ n. rising (loading n)) s)
 step_learns_yes peer near s o k b e decided w =
     lift_own peer near s o (rising (loading n)) refl refl mine
@@ -291,7 +291,7 @@ step_learns_yes peer near s o k b e decided w =
 -- a node is up, its line as it was
 rise-into : {B : Board} {p q : ℕ} {np nq : Node} {kept : List Post} {link : List Message}
     → ((b : ℕ) (l : Label) → IsIn (Hears b p l) nq.line → CutSoon B nq.mode nq.perm p l → ⊥)
-    → ((i : Instance) (b : Ballot) → np.mode ≡ Voting i b → Standing B i np.tent → Cover i (core nq) p (top_of i np.line np.perm q)
+    → ((i : Instance) (b : Ballot) → np.mode ≡ Within i b → Standing B i np.tent → Cover i (core nq) p (top_of i np.line np.perm q)
     → Cover i (core (rising nq)) p (top_of i np.line np.perm q))
     → Pair B p q np nq kept link → Pair B p q np (rising nq) kept link
 rise-into {B} {p} {q} {np} {nq} {kept} {link} uncut cover o = record {
@@ -303,7 +303,7 @@ rise-into {B} {p} {q} {np} {nq} {kept} {link} uncut cover o = record {
   votes = o.votes;
   cover = o.cover;
 } where
-  token : (i : Instance) (b : Ballot) → np.mode ≡ Voting i b → Standing B i np.tent → TokenOf B p q np nq kept link i b
+  token : (i : Instance) (b : Ballot) → np.mode ≡ Within i b → Standing B i np.tent → TokenOf B p q np nq kept link i b
       → TokenOf B p q np (rising nq) kept link i b
   token i b e s (asked w a n c) = asked w a n c
   token i b e s (waiting w c n k) = waiting w c n k
@@ -345,7 +345,7 @@ rise-local {B = B} {n = n} none idle was = record {
   present (Check k) e g = g
   present (Rollback k) e g = absurd (idle k e g)
 
-pub step_learns_no : (peer : ℕ → ℕ → Bool) → AreNeighbours peer → (s : State) (o k : ℕ) (b : Ballot) (p : Key) → (s.node o).mode ≡ Voting (Rollback k) b
+pub step_learns_no : (peer : ℕ → ℕ → Bool) → AreNeighbours peer → (s : State) (o k : ℕ) (b : Ballot) (p : Key) → (s.node o).mode ≡ Within (Rollback k) b
     → b.parent ≡ Some p → s.board.verdict (Rollback k) ≡ No → Invariant peer s → Invariant peer (change o rising s)
 step_learns_no peer near s o k b p e par decided w =
     lift_own peer near s o (rising n) refl refl
@@ -373,17 +373,17 @@ step_learns_no peer near s o k b p e par decided w =
     idle m opened (inl g) = closed m (number m g) opened
     idle m opened (inr g) = down-voting g e
 
-    away : (m : ℕ) → s.board.verdict (Rollback m) ≡ Open → Away (Voting (Rollback k) b) m → ⊥
+    away : (m : ℕ) → s.board.verdict (Rollback m) ≡ Open → Away (Within (Rollback k) b) m → ⊥
     away m opened (inl g) = some-none (sym par ∙ g)
     away m opened (inr g) = closed m g opened
 
-    cover : (x : ℕ) (i : Instance) (d : Ballot) → (s.node x).mode ≡ Voting i d → Standing s.board i (s.node x).tent
+    cover : (x : ℕ) (i : Instance) (d : Ballot) → (s.node x).mode ≡ Within i d → Standing s.board i (s.node x).tent
         → Cover i (core n) x (top_of i (s.node x).line (s.node x).perm o) → Cover i (core (rising n)) x (top_of i (s.node x).line (s.node x).perm o)
     cover x (Check m) d f st c = c
     cover x (Rollback m) d f st (inl u) = absurd (st (subst (λ m. s.board.verdict (Rollback m) ≡ No) (number m u) decided))
     cover x (Rollback m) d f st (inr u) = inr u
 
-pub step_releases : (peer : ℕ → ℕ → Bool) → AreNeighbours peer → (s : State) (o k : ℕ) (b : Ballot) → (s.node o).mode ≡ Voting (Check k) b
+pub step_releases : (peer : ℕ → ℕ → Bool) → AreNeighbours peer → (s : State) (o k : ℕ) (b : Ballot) → (s.node o).mode ≡ Within (Check k) b
     → (s.node o).tent ≡ None → Invariant peer s → Invariant peer (change o rising s)
 step_releases peer near s o k b e none w =
     lift_own peer near s o (rising n) refl refl
@@ -401,14 +401,14 @@ step_releases peer near s o k b e none w =
     idle m (inl g) = other m g
     idle m (inr g) = down-voting g e
 
-    cover : (x : ℕ) (i : Instance) (d : Ballot) → (s.node x).mode ≡ Voting i d → Standing s.board i (s.node x).tent
+    cover : (x : ℕ) (i : Instance) (d : Ballot) → (s.node x).mode ≡ Within i d → Standing s.board i (s.node x).tent
         → Cover i (core n) x (top_of i (s.node x).line (s.node x).perm o) → Cover i (core (rising n)) x (top_of i (s.node x).line (s.node x).perm o)
     cover x (Check m) d f st c = c
     cover x (Rollback m) d f st (inl u) = other m u
     cover x (Rollback m) d f st (inr u) = inr u
 
 -- the verdict Yes on a rollback whose initiator said yes
-pub step_rises : (peer : ℕ → ℕ → Bool) → AreNeighbours peer → (s : State) (o k : ℕ) (b : Ballot) → (s.node o).mode ≡ Voting (Rollback k) b
+pub step_rises : (peer : ℕ → ℕ → Bool) → AreNeighbours peer → (s : State) (o k : ℕ) (b : Ballot) → (s.node o).mode ≡ Within (Rollback k) b
     → b.parent ≡ None → s.board.verdict (Rollback k) ≡ Open → IsIn (a_mark (Rollback k) (s.node o).life) (s.node o).said → Invariant peer s
     → Invariant peer (decide (Rollback k) Yes (change o rising s))
 step_rises peer near s o k b e par opened said w =
@@ -455,7 +455,7 @@ step_rises peer near s o k b e par opened said w =
     uncut : (x y : ℕ) (l : Label) → IsIn (Hears y x l) n.line → CutSoon s.board n.mode n.perm x l → ⊥
     uncut x y l h c = Under-not c.above (heard-top n.perm (Falls-tail was.tail was.falls) (subst (λ t. IsIn (Hears y x l) t) cut h))
 
-    cover : (x : ℕ) → IsTrue (peer x o) → (i : Instance) (d : Ballot) → (s.node x).mode ≡ Voting i d → Standing s.board i (s.node x).tent
+    cover : (x : ℕ) → IsTrue (peer x o) → (i : Instance) (d : Ballot) → (s.node x).mode ≡ Within i d → Standing s.board i (s.node x).tent
         → Cover i (core n) x (top_of i (s.node x).line (s.node x).perm o) → Cover i (core (rising n)) x (top_of i (s.node x).line (s.node x).perm o)
     cover x u (Check m) d f st c = c
     cover x u (Rollback m) d f st (inl g) = inr (subst (λ t. UpTo (top_heard t x) (top_sent (s.node x).perm o)) (sym cut) (w.pair x o u).agree)

@@ -3,7 +3,7 @@
 use Rattle.std.proofs.Common.{◌≡◌, ◌≢◌, ◌⊎◌, ◌≤◌, ℕ, Bool, true, false, IsTrue, List, [], ◌++◌, Option, Some, None}
 use Rattle.kt_protocol.specs.Labels.{Label, Under, UpTo}
 use Rattle.kt_protocol.specs.Lines.{IsIn, Act, Sends, Hears, top_sent, top_heard, IsTail}
-use Rattle.kt_protocol.specs.Machine.{Instance, Check, Rollback, Open, Yes, No, Key, Ballot, Mode, Up, Voting, Down, Post, Message, Ask, Vote, Member, Mark}
+use Rattle.kt_protocol.specs.Machine.{Instance, Check, Rollback, Open, Yes, No, Key, Ballot, Mode, Up, Within, Down, Post, Message, Ask, Vote, Member, Mark}
 use Rattle.kt_protocol.specs.Machine.{Node, Board, State, instance_of, next_label}
 use Rattle.kt_protocol.specs.Steps.{IsAgreed}
 use Rattle.kt_protocol.proofs.Lines.{Falls}
@@ -38,8 +38,8 @@ IsMember joined i c = (par : Option Key) × IsIn (a_member i c par) joined
 -- down, or the initiator of a rollback that is under way
 abbrev pub Gone : Mode → Type 0
 Gone Up = ⊥
-Gone (Voting (Check k) b) = ⊥
-Gone (Voting (Rollback k) b) = b.parent ≡ None
+Gone (Within (Check k) b) = ⊥
+Gone (Within (Rollback k) b) = b.parent ≡ None
 Gone Down = Unit {0}
 
 -- the message to q was sent by an act that is cut off for good
@@ -105,7 +105,7 @@ ChildrenSaid joined said i k = (c : ℕ) → IsIn (a_member i c (Some k)) joined
 
 -- a ballot under this key has been cast
 abbrev pub HasVoted : Mode → Instance → Key → Type 0
-HasVoted mode i k = (b : Ballot) → mode ≡ Voting i b → b.parent ≡ Some k → b.voted ≡ true
+HasVoted mode i k = (b : Ballot) → mode ≡ Within i b → b.parent ≡ Some k → b.voted ≡ true
 
 -- how far the ask of this key to q has come
 pub data Token (i : Instance) (k : Key) (awaits : Bool) (refused : Bool) (IsAsked IsCalm IsCovered : Type 0)
@@ -127,8 +127,8 @@ Standing B (Rollback k) tent = B.verdict (Rollback k) ≢ No
 -- who sent an open ask of this rollback rolls in it, began a rollback, or is down
 abbrev pub Away : Mode → ℕ → Type 0
 Away Up k = ⊥
-Away (Voting (Check m) b) k = ⊥
-Away (Voting (Rollback m) b) k = (b.parent ≡ None) ⊎ (m ≡ k)
+Away (Within (Check m) b) k = ⊥
+Away (Within (Rollback m) b) k = (b.parent ≡ None) ⊎ (m ≡ k)
 Away Down k = Unit {0}
 
 abbrev pub Meant : Instance → Core → ℕ → Label → Type 0
@@ -159,7 +159,7 @@ pub record Pair (B : Board) (p q : ℕ) (np nq : Node) (kept : List Post) (link 
   pub caused : (by : ℕ) (l : Label) → IsIn (Hears by p l) nq.line → Caused B p q (core np) nq.mode nq.perm by l
   pub chain : Rising (Carried (core np) q) (next_label np) (top_heard nq.line p) (kept ++ apps link)
   pub asks : (i : Instance) (l : Label) (c : ℕ) → IsIn (Ask i l c) link → FineAsk B np.joined np.said (core np) q i l c
-  pub token : (i : Instance) (b : Ballot) → np.mode ≡ Voting i b → Standing B i np.tent → TokenOf B p q np nq kept link i b
+  pub token : (i : Instance) (b : Ballot) → np.mode ≡ Within i b → Standing B i np.tent → TokenOf B p q np nq kept link i b
   pub votes : (i : Instance) (c : ℕ) (y : Bool) → IsIn (a_vote i (a_key p c) y) nq.votes → IsMember np.joined i c
   -- a tentative checkpoint whose node said yes: what it heard from q is sent
   pub cover : (k : ℕ) → np.tent ≡ Some k → IsIn (a_mark (Check k) np.life) np.said
@@ -167,8 +167,8 @@ pub record Pair (B : Board) (p q : ℕ) (np nq : Node) (kept : List Post) (link 
 
 abbrev pub Way : Mode → Option ℕ → Type 0
 Way Up tent = tent ≡ None
-Way (Voting (Check k) b) tent = (j : ℕ) → tent ≡ Some j → j ≡ k
-Way (Voting (Rollback k) b) tent = tent ≡ None
+Way (Within (Check k) b) tent = (j : ℕ) → tent ≡ Some j → j ≡ k
+Way (Within (Rollback k) b) tent = tent ≡ None
 Way Down tent = Unit {0}
 
 -- a member in the present incarnation of an open instance
@@ -187,8 +187,8 @@ pub record Local (peer : ℕ → ℕ → Bool) (B : Board) (o : ℕ) (n : Node) 
   pub room : (q : ℕ) → Under (top_sent n.line q) (next_label n)
   pub from : (by x : ℕ) (l : Label) → IsIn (Hears by x l) n.line → IsTrue (peer x o)
   pub way : Way n.mode n.tent
-  pub ballot : (i : Instance) (b : Ballot) → n.mode ≡ Voting i b → BallotFits peer o n i b
-  pub root : (k : ℕ) (b : Ballot) → n.mode ≡ Voting (Rollback k) b → b.parent ≡ None → n.line ≡ n.perm
+  pub ballot : (i : Instance) (b : Ballot) → n.mode ≡ Within i b → BallotFits peer o n i b
+  pub root : (k : ℕ) (b : Ballot) → n.mode ≡ Within (Rollback k) b → b.parent ≡ None → n.line ≡ n.perm
   pub members : (i : Instance) (c : ℕ) → IsMember n.joined i c → (c ≤ n.life) × (B.begun i ≡ true)
   pub present : (i : Instance) → IsMember n.joined i n.life → B.verdict i ≡ Open → Engaged i n.mode n.tent
   pub marks : (i : Instance) (c : ℕ) → IsIn (a_mark i c) n.said → IsMember n.joined i c

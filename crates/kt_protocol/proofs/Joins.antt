@@ -3,7 +3,7 @@ use Rattle.std.proofs.Common.{◌≡◌, ◌≢◌, ◌⊎◌, ◌≤◌, ℕ, B
 use Rattle.std.proofs.Common.{append-nil, le_of_eq, if◌then◌else◌}
 use Rattle.kt_protocol.specs.Labels.{Label}
 use Rattle.kt_protocol.specs.Lines.{IsIn, here, there, top_heard}
-use Rattle.kt_protocol.specs.Machine.{Instance, Check, Rollback, Open, Key, Ballot, Voting, Post, Message, App, Ask, Node, Board, instance_of, next_label}
+use Rattle.kt_protocol.specs.Machine.{Instance, Check, Rollback, Open, Key, Ballot, Within, Post, Message, App, Ask, Node, Board, instance_of, next_label}
 use Rattle.kt_protocol.specs.Steps.{stored, sieved, joining, ask_label, asking}
 use Rattle.kt_protocol.proofs.Labels.{UpTo-refl}
 use Rattle.kt_protocol.proofs.Streams.{in-append, in-one, in-cons, apps, apps-append, Rising, Rising-map, Rising-sub, Sub, Sub-refl, Sub-app, NoAsk, Asked}
@@ -25,8 +25,8 @@ pub record IsFree (B : Board) (i : Instance) (b : Ballot) (n : Node) : Type 0 wh
   pub opened : B.verdict i ≡ Open
   pub alone : (j : Instance) → IsMember n.joined j n.life → B.verdict j ≡ Open → ⊥
   pub marks : (j : Instance) (c : ℕ) → IsIn (a_mark j c) n.said → IsMember n.joined j c
-  pub gone : Gone n.mode → Gone (Voting i b)
-  pub away : (k : ℕ) → Away n.mode k → Away (Voting i b) k
+  pub gone : Gone n.mode → Gone (Within i b)
+  pub away : (k : ℕ) → Away n.mode k → Away (Within i b) k
 
 pub label-top : (i : Instance) (n : Node) (q : ℕ) → ask_label i n q ≡ top_of i n.line n.perm q
 label-top (Check k) n q = refl
@@ -227,7 +227,7 @@ join-local {peer} {B} {o} {n} i par cohort f begun root w = record {
   new : Node
   new = joining i par cohort n
 
-  way : (i : Instance) → Way (Voting i (first_ballot par cohort)) (stored i n.tent)
+  way : (i : Instance) → Way (Within i (first_ballot par cohort)) (stored i n.tent)
   way (Check k) = λ j e. sym (some-one e)
   way (Rollback k) = f.none
 
@@ -236,7 +236,7 @@ join-local {peer} {B} {o} {n} i par cohort f begun root w = record {
   members j c p (inl e) = (le_of_eq (ap (λ m. m.life) e), subst (λ k. B.begun k ≡ true) (sym (ap (λ m. m.instance) e)) begun)
   members j c p (inr m) = w.members j c (p, m)
 
-  engaged : (i : Instance) → Engaged i (Voting i (first_ballot par cohort)) (stored i n.tent)
+  engaged : (i : Instance) → Engaged i (Within i (first_ballot par cohort)) (stored i n.tent)
   engaged (Check k) = refl
   engaged (Rollback k) = inl refl
 

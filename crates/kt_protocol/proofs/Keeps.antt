@@ -3,7 +3,7 @@ use Rattle.std.proofs.Common.{◌≡◌, ◌≢◌, ◌⊎◌, ℕ, Bool, IsTrue
 use Rattle.std.proofs.lemmas.Bool.{cases_eq}
 use Rattle.kt_protocol.specs.Labels.{Label}
 use Rattle.kt_protocol.specs.Lines.{IsIn, here, there}
-use Rattle.kt_protocol.specs.Machine.{Instance, Check, Rollback, Ballot, Up, Voting, Post, Message, App, Ask, Vote, Node, Board, State}
+use Rattle.kt_protocol.specs.Machine.{Instance, Check, Rollback, Ballot, Up, Within, Post, Message, App, Ask, Vote, Node, Board, State}
 use Rattle.kt_protocol.specs.Steps.{change, pull, hearing, keeping}
 use Rattle.kt_protocol.specs.Runs.{AreNeighbours}
 use Rattle.kt_protocol.proofs.Labels.{UpTo-eq, UpTo-trans, at-here, at-else}
@@ -17,7 +17,7 @@ use Rattle.kt_protocol.proofs.Talks.{up-tent, up-out, hears_from, hears_else, he
 pub passes : {B : Board} {p q : ℕ} {np nq : Node} {kept old : List Post} {link was : List Message} (held : ℕ → List Post) (vs : List Vote)
     → Sub (kept ++ apps link) (old ++ apps was)
     → ((i : Instance) (l : Label) (c : ℕ) → IsIn (Ask i l c) link → IsIn (Ask i l c) was)
-    → ((i : Instance) (b : Ballot) → np.mode ≡ Voting i b → Standing B i np.tent → TokenOf B p q np nq old was i b
+    → ((i : Instance) (b : Ballot) → np.mode ≡ Within i b → Standing B i np.tent → TokenOf B p q np nq old was i b
     → TokenOf B p q np record nq { kept = held; votes = vs } kept link i b)
     → ((i : Instance) (c : ℕ) (y : Bool) → IsIn (a_vote i (a_key p c) y) vs → IsMember np.joined i c)
     → Pair B p q np nq old was → Pair B p q np record nq { kept = held; votes = vs } kept link

@@ -4,7 +4,7 @@ use Rattle.std.proofs.Common.{if◌then◌else◌, arith}
 use Rattle.std.proofs.lemmas.Bool.{cases_lt, and_parts, and_from, or_left, or_right, eqb-true, eq-eqb, lt-ltb, le-leb}
 use Rattle.kt_protocol.specs.Labels.{Label, Under, UpTo, up_to}
 use Rattle.kt_protocol.specs.Lines.{top_sent, top_heard}
-use Rattle.kt_protocol.specs.Machine.{Check, Rollback, Verdict, Open, Yes, No, Mode, Up, Voting, Down, Ask, Node, State, instance_of}
+use Rattle.kt_protocol.specs.Machine.{Check, Rollback, Verdict, Open, Yes, No, Mode, Up, Within, Down, Ask, Node, State, instance_of}
 use Rattle.kt_protocol.specs.Steps.{Step, ignores, refuses, grants, joins, IsCohort}
 use Rattle.kt_protocol.specs.Rows.{Asking, is_open, roll_in_mode, roll_row, hear_roll_ask, check_cohort, reaches, holds, check_in_mode, check_row}
 use Rattle.kt_protocol.specs.Rows.{hear_check_ask, answer_ask, join_by_ask}
@@ -35,11 +35,11 @@ roll-in-mode : (peer : ℕ → ℕ → Bool) (k o x : ℕ) (a : Asking) (s : Sta
     → Step peer s (roll_in_mode peer k o x a s m)
 roll-in-mode peer k o x a s t front opened u Up e =
     joins o x (Rollback k) a.label a.life a.rest (peer o) t front e opened u record { within = λ q f. f; covers = λ q f g. f }
-roll-in-mode peer k o x a s t front opened u (Voting (Rollback m) b) e = go (eqb m k) refl where
+roll-in-mode peer k o x a s t front opened u (Within (Rollback m) b) e = go (eqb m k) refl where
   go : (y : Bool) → eqb m k ≡ y → Step peer s (answer_ask (Rollback k) o x a y s)
   go true f = grants o x (Rollback k) a.label a.life a.rest t front opened (inl (ap instance_of e ∙ ap (λ n. Some (Rollback n)) (eqb-true m k f)))
   go false f = refuses o x (Rollback k) a.label a.life a.rest t front
-roll-in-mode peer k o x a s t front opened u (Voting (Check m) b) e = refuses o x (Rollback k) a.label a.life a.rest t front
+roll-in-mode peer k o x a s t front opened u (Within (Check m) b) e = refuses o x (Rollback k) a.label a.life a.rest t front
 roll-in-mode peer k o x a s t front opened u Down e = refuses o x (Rollback k) a.label a.life a.rest t front
 
 roll-row : (peer : ℕ → ℕ → Bool) (k o x : ℕ) (a : Asking) (s : State) → IsTrue (peer x o) → s.link x o ≡ Ask (Rollback k) a.label a.life ∷ a.rest
@@ -59,7 +59,7 @@ pub roll-ask-step : (peer : ℕ → ℕ → Bool) (k o x : ℕ) (a : Asking) (s 
 roll-ask-step peer k o x a s t front = go (s.node o).mode where
   go : (m : Mode) → Step peer s (hear_roll_ask peer k o x a s m)
   go Up = roll-row peer k o x a s t front
-  go (Voting i b) = roll-row peer k o x a s t front
+  go (Within i b) = roll-row peer k o x a s t front
   go Down = ignores o x (Rollback k) a.label a.life a.rest t front
 
 -- the ask of a check
@@ -94,7 +94,7 @@ check-in-mode peer k o x a first s t front opened u Up e = go (reaches first a.l
   go : (y : Bool) → Step peer s (if y then join_by_ask (Check k) o x a (check_cohort peer o (s.node o)) s else answer_ask (Check k) o x a false s)
   go true = joins o x (Check k) a.label a.life a.rest (check_cohort peer o (s.node o)) t front e opened u (check-cohort peer k o (s.node o))
   go false = refuses o x (Check k) a.label a.life a.rest t front
-check-in-mode peer k o x a first s t front opened u (Voting i b) e = check-held peer k o x a s t front opened
+check-in-mode peer k o x a first s t front opened u (Within i b) e = check-held peer k o x a s t front opened
 check-in-mode peer k o x a first s t front opened u Down e = check-held peer k o x a s t front opened
 
 check-row : (peer : ℕ → ℕ → Bool) (k o x : ℕ) (a : Asking) (first : Option Label) (s : State) → IsTrue (peer x o)
@@ -114,5 +114,5 @@ pub check-ask-step : (peer : ℕ → ℕ → Bool) (k o x : ℕ) (a : Asking) (f
 check-ask-step peer k o x a first s t front = go (s.node o).mode where
   go : (m : Mode) → Step peer s (hear_check_ask peer k o x a first s m)
   go Up = check-row peer k o x a first s t front
-  go (Voting i b) = check-row peer k o x a first s t front
+  go (Within i b) = check-row peer k o x a first s t front
   go Down = ignores o x (Check k) a.label a.life a.rest t front

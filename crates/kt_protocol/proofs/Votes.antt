@@ -3,7 +3,7 @@ use Rattle.std.proofs.Common.{◌≡◌, ◌≢◌, ◌⊎◌, ℕ, Bool, true, 
 use Rattle.std.proofs.lemmas.Bool.{cases_eq}
 use Rattle.kt_protocol.specs.Labels.{Label, no_label, Under, UpTo, at}
 use Rattle.kt_protocol.specs.Lines.{IsIn, here, there, top_sent, top_heard}
-use Rattle.kt_protocol.specs.Machine.{Instance, Check, Rollback, Open, Key, Ballot, Voting, Post, Message, Ask, Vote, Mark, Node, Board, State, instance_of}
+use Rattle.kt_protocol.specs.Machine.{Instance, Check, Rollback, Open, Key, Ballot, Within, Post, Message, Ask, Vote, Mark, Node, Board, State, instance_of}
 use Rattle.kt_protocol.specs.Machine.{next_label}
 use Rattle.kt_protocol.specs.Steps.{change, counted, counting, casting, saying, answering, IsAgreed}
 use Rattle.kt_protocol.specs.Runs.{AreNeighbours}
@@ -19,35 +19,35 @@ use Rattle.kt_protocol.proofs.Cases.{lift_own}
 use Rattle.kt_protocol.proofs.Trees.{Trees-say}
 
 -- the node with another ballot, of the same parent
-gone-vote : (i : Instance) (b c : Ballot) → b.parent ≡ c.parent → Gone (Voting i b) → Gone (Voting i c)
+gone-vote : (i : Instance) (b c : Ballot) → b.parent ≡ c.parent → Gone (Within i b) → Gone (Within i c)
 gone-vote (Check k) b c e g = g
 gone-vote (Rollback k) b c e g = sym e ∙ g
 
-away-vote : (i : Instance) (b c : Ballot) (k : ℕ) → b.parent ≡ c.parent → Away (Voting i b) k → Away (Voting i c) k
+away-vote : (i : Instance) (b c : Ballot) (k : ℕ) → b.parent ≡ c.parent → Away (Within i b) k → Away (Within i c) k
 away-vote (Check m) b c k e a = a
 away-vote (Rollback m) b c k e (inl a) = inl (sym e ∙ a)
 away-vote (Rollback m) b c k e (inr a) = inr a
 
 abbrev pub voter : Instance → Ballot → List Vote → List Mark → Node → Node
-voter i c vs ms n = record n { mode = Voting i c; votes = vs; said = ms }
+voter i c vs ms n = record n { mode = Within i c; votes = vs; said = ms }
 
-undone-vote : (i : Instance) (b c : Ballot) (n : Node) (vs : List Vote) (ms : List Mark) {q : ℕ} {l : Label} → n.mode ≡ Voting i b → b.parent ≡ c.parent
+undone-vote : (i : Instance) (b c : Ballot) (n : Node) (vs : List Vote) (ms : List Mark) {q : ℕ} {l : Label} → n.mode ≡ Within i b → b.parent ≡ c.parent
     → Undone (core n) q l → Undone (core (voter i c vs ms n)) q l
 undone-vote i b c n vs ms e p u = record { gone = gone-vote i b c p (subst Gone e u.gone); above = u.above; held = u.held }
 
-meant-vote : (i : Instance) (b c : Ballot) (n : Node) (vs : List Vote) (ms : List Mark) (j : Instance) (q : ℕ) (l : Label) → n.mode ≡ Voting i b
+meant-vote : (i : Instance) (b c : Ballot) (n : Node) (vs : List Vote) (ms : List Mark) (j : Instance) (q : ℕ) (l : Label) → n.mode ≡ Within i b
     → b.parent ≡ c.parent → Meant j (core n) q l → Meant j (core (voter i c vs ms n)) q l
 meant-vote i b c n vs ms (Check k) q l e p m = m
 meant-vote i b c n vs ms (Rollback k) q l e p m = (away-vote i b c k p (subst (λ t. Away t k) e m.0), m.1, m.2)
 
-pub cover-vote : (i : Instance) (b c : Ballot) (n : Node) (vs : List Vote) (ms : List Mark) (j : Instance) (p : ℕ) (top : Label) → n.mode ≡ Voting i b
+pub cover-vote : (i : Instance) (b c : Ballot) (n : Node) (vs : List Vote) (ms : List Mark) (j : Instance) (p : ℕ) (top : Label) → n.mode ≡ Within i b
     → Cover j (core n) p top → Cover j (core (voter i c vs ms n)) p top
 cover-vote i b c n vs ms (Check k) p top e v = v
 cover-vote i b c n vs ms (Rollback k) p top e (inl u) = inl (sym (ap instance_of e) ∙ u)
 cover-vote i b c n vs ms (Rollback k) p top e (inr u) = inr u
 
 vote-out : {B : Board} {p q : ℕ} {np nq : Node} {kept : List Post} {link : List Message} (i : Instance) (b c : Ballot) (vs : List Vote) (ms : List Mark)
-    → np.mode ≡ Voting i b → b.parent ≡ c.parent
+    → np.mode ≡ Within i b → b.parent ≡ c.parent
     → ((j : Instance) (l : Label) (z : ℕ) → IsIn (Ask j l z) link → B.verdict j ≡ Open → IsIn (a_mark j z) ms → ⊥)
     → (Standing B i np.tent → TokenOf B p q (voter i c vs ms np) nq kept link i c)
     → ((k : ℕ) → np.tent ≡ Some k → IsIn (a_mark (Check k) np.life) ms → Cover (Check k) (core nq) p (top_heard np.line q))
@@ -70,8 +70,8 @@ vote-out {B} {p} {q} {np} {nq} {kept} {link} i b c vs ms e par unsaid token cove
   new = voter i c vs ms np
 
 vote-into : {B : Board} {p q : ℕ} {np nq : Node} {kept : List Post} {link : List Message} (i : Instance) (b c : Ballot) (vs : List Vote) (ms : List Mark)
-    → nq.mode ≡ Voting i b
-    → ((j : Instance) (d : Ballot) → np.mode ≡ Voting j d → Standing B j np.tent → TokenOf B p q np nq kept link j d
+    → nq.mode ≡ Within i b
+    → ((j : Instance) (d : Ballot) → np.mode ≡ Within j d → Standing B j np.tent → TokenOf B p q np nq kept link j d
     → TokenOf B p q np (voter i c vs ms nq) kept link j d)
     → ((j : Instance) (z : ℕ) (y : Bool) → IsIn (a_vote j (a_key p z) y) vs → IsMember np.joined j z)
     → Pair B p q np nq kept link → Pair B p q np (voter i c vs ms nq) kept link
@@ -90,7 +90,7 @@ vote-into {B} {p} {q} {np} {nq} i b c vs ms e token votes o = record {
 }
 
 vote-local : {peer : ℕ → ℕ → Bool} {B : Board} {o : ℕ} {n : Node} (i : Instance) (b c : Ballot) (vs : List Vote) (ms : List Mark)
-    → n.mode ≡ Voting i b → b.parent ≡ c.parent → (IsIn (a_mark i n.life) ms → IsAgreed peer o c)
+    → n.mode ≡ Within i b → b.parent ≡ c.parent → (IsIn (a_mark i n.life) ms → IsAgreed peer o c)
     → ((j : Instance) (z : ℕ) → IsIn (a_mark j z) ms → IsMember n.joined j z)
     → Local peer B o n → Local peer B o (voter i c vs ms n)
 vote-local {peer} {B} {o} {n} i b c vs ms e par firm marks w = record {
@@ -103,7 +103,7 @@ vote-local {peer} {B} {o} {n} i b c vs ms e par firm marks w = record {
     member = subst (λ p. IsIn (a_member i n.life p) n.joined) par (w.ballot i b e).member;
     firm = firm;
   });
-  root = λ k d g none. w.root k b (subst (λ j. n.mode ≡ Voting j b) (voting-instance g) e) (par ∙ ap (λ d. d.parent) (voting-ballot g) ∙ none);
+  root = λ k d g none. w.root k b (subst (λ j. n.mode ≡ Within j b) (voting-instance g) e) (par ∙ ap (λ d. d.parent) (voting-ballot g) ∙ none);
   members = w.members;
   present = λ j m g. present j (w.present j m g);
   marks = marks;
@@ -112,11 +112,11 @@ vote-local {peer} {B} {o} {n} i b c vs ms e par firm marks w = record {
   new : Node
   new = voter i c vs ms n
 
-  way : (i : Instance) → Way (Voting i b) n.tent → Way (Voting i c) n.tent
+  way : (i : Instance) → Way (Within i b) n.tent → Way (Within i c) n.tent
   way (Check k) w = w
   way (Rollback k) w = w
 
-  present : (j : Instance) → Engaged j n.mode n.tent → Engaged j (Voting i c) n.tent
+  present : (j : Instance) → Engaged j n.mode n.tent → Engaged j (Within i c) n.tent
   present (Check k) g = g
   present (Rollback k) (inl g) = inl (sym (ap instance_of e) ∙ g)
   present (Rollback k) (inr g) = down-voting g e
@@ -134,7 +134,7 @@ or-more true x e = refl
 or-more false x e = true-false e refl
 
 pub step_counts : (peer : ℕ → ℕ → Bool) → AreNeighbours peer → (s : State) (o q : ℕ) (i : Instance) (b : Ballot) (y : Bool)
-    → (s.node o).mode ≡ Voting i b → b.awaited q ≡ true → IsTrue (peer o q)
+    → (s.node o).mode ≡ Within i b → b.awaited q ≡ true → IsTrue (peer o q)
     → IsIn (a_vote i (a_key o (s.node o).life) y) (s.node q).votes → Invariant peer s
     → Invariant peer (change o (counting i b q y) s)
 step_counts peer near s o q i b y e waits t v w =
@@ -170,11 +170,11 @@ step_counts peer near s o q i b y e waits t v w =
     into p j d (waiting a k none f) = waiting a k none f
     into p j d (voted z k only g r h) = voted z k only
         (λ f. (cover-vote i b c n n.votes n.said j p (top_of j (s.node p).line (s.node p).perm o) e (g f).0, (g f).1)) r
-        (λ x f par. ap (λ t. t.voted) (sym (voting-ballot f)) ∙ h b (e ∙ ap (λ j. Voting j b) (voting-instance f))
+        (λ x f par. ap (λ t. t.voted) (sym (voting-ballot f)) ∙ h b (e ∙ ap (λ j. Within j b) (voting-instance f))
         (ap (λ t. t.parent) (voting-ballot f) ∙ par))
 
 -- a node whose instance is open stands
-pub standing-open : {peer : ℕ → ℕ → Bool} {B : Board} {o : ℕ} {n : Node} (i : Instance) (b : Ballot) → n.mode ≡ Voting i b → B.verdict i ≡ Open
+pub standing-open : {peer : ℕ → ℕ → Bool} {B : Board} {o : ℕ} {n : Node} (i : Instance) (b : Ballot) → n.mode ≡ Within i b → B.verdict i ≡ Open
     → Local peer B o n → Standing B i n.tent
 standing-open {n = n} (Check k) b e g w = w.present (Check k) (b.parent, (w.ballot (Check k) b e).member) g
 standing-open (Rollback k) b e g w = λ f. open-no g f
@@ -209,7 +209,7 @@ cast b = record b { voted = true }
 
 -- a participant casts its vote: the token of the asker
 cast_token : (B : Board) (p o : ℕ) (np n : Node) (kept : List Post) (link : List Message) (i : Instance) (b : Ballot) (k : Key) (y : Bool) (ms : List Mark)
-    (j : Instance) (d : Ballot) → n.mode ≡ Voting i b → b.parent ≡ Some k → b.voted ≡ false → IsIn (a_member i n.life (Some k)) n.joined
+    (j : Instance) (d : Ballot) → n.mode ≡ Within i b → b.parent ≡ Some k → b.voted ≡ false → IsIn (a_member i n.life (Some k)) n.joined
     → ((m : Mark) → IsIn m n.said → IsIn m ms) → (y ≡ true → IsIn (a_mark i n.life) ms)
     → (y ≡ true → j ≡ i → k ≡ a_key p np.life → Cover j (core n) p (top_of j np.line np.perm o))
     → TokenOf B p o np n kept link j d → TokenOf B p o np (voter i (cast b) (a_vote i k y ∷ n.votes) ms n) kept link j d
@@ -252,11 +252,11 @@ cast_token B p o np n kept link i b k y ms j d e par unvoted member grows said c
       (λ g. (cover-vote i b (cast b) n new.votes ms j p (top_of j np.line np.perm o) e (f g).0, λ c m. grows (a_mark j c) ((f g).1 c m))) r has
     where
       ne : j ≡ i → k ≡ key → ⊥
-      ne f g = true-false (h b (e ∙ ap (λ j. Voting j b) (sym f)) (par ∙ ap Some g)) unvoted
+      ne f g = true-false (h b (e ∙ ap (λ j. Within j b) (sym f)) (par ∙ ap Some g)) unvoted
 
 -- what a holder heard from a node that holds in the same check, that node's tentative checkpoint has sent
 held_cover : {peer : ℕ → ℕ → Bool} {B : Board} {p o : ℕ} {np n : Node} {kept : List Post} {link : List Message} (k : ℕ) (b d : Ballot)
-    → n.mode ≡ Voting (Check k) b → np.mode ≡ Voting (Check k) d → np.tent ≡ Some k → B.verdict (Check k) ≡ Open
+    → n.mode ≡ Within (Check k) b → np.mode ≡ Within (Check k) d → np.tent ≡ Some k → B.verdict (Check k) ≡ Open
     → Local peer B o n → Pair B o p n np kept link → Cover (Check k) (core n) p (top_heard np.line o)
 held_cover {B = B} {p} {o} {np} {n} k b d e f tent opened w r = inr (
   w.present (Check k) (b.parent, (w.ballot (Check k) b e).member) opened,
@@ -272,7 +272,7 @@ held_cover {B = B} {p} {o} {np} {n} k b d e f tent opened w r = inr (
   go (inr u) = let h = heard-attained o np.line no_label u in caused h.0 (r.caused h.0 (top_heard np.line o) h.1)
 
 -- who stands behind a node whose ballot is agreed
-agreed_token : {peer : ℕ → ℕ → Bool} {s : State} (o : ℕ) (i : Instance) (b : Ballot) (q : ℕ) → (s.node o).mode ≡ Voting i b → s.board.verdict i ≡ Open
+agreed_token : {peer : ℕ → ℕ → Bool} {s : State} (o : ℕ) (i : Instance) (b : Ballot) (q : ℕ) → (s.node o).mode ≡ Within i b → s.board.verdict i ≡ Open
     → IsAgreed peer o b → IsTrue (peer o q) → Invariant peer s
     → Calm s.board i (s.node o).life (top_of i (s.node o).line (s.node o).perm q) ((s.node q).kept o) (s.link o q)
     × Cover i (core (s.node q)) o (top_of i (s.node o).line (s.node o).perm q)
@@ -281,7 +281,7 @@ agreed_token {s = s} o i b q e opened agreed t w = settled (s.node o) (s.node q)
     ((w.pair o q t).token i b e (standing-open i b e opened (w.local o)))
 
 -- a node whose ballot is agreed says yes: all but the pairs in which it is the asked
-says_unsaid : {peer : ℕ → ℕ → Bool} {s : State} (o : ℕ) (i : Instance) (b : Ballot) (q : ℕ) → (s.node o).mode ≡ Voting i b → IsAgreed peer o b
+says_unsaid : {peer : ℕ → ℕ → Bool} {s : State} (o : ℕ) (i : Instance) (b : Ballot) (q : ℕ) → (s.node o).mode ≡ Within i b → IsAgreed peer o b
     → IsTrue (peer o q) → Invariant peer s → (j : Instance) (l : Label) (z : ℕ) → IsIn (Ask j l z) (s.link o q) → s.board.verdict j ≡ Open
     → IsIn (a_mark j z) (a_mark i (s.node o).life ∷ (s.node o).said) → ⊥
 says_unsaid {s = s} o i b q e agreed t w j l z h opened m = go (in-cons m) where
@@ -290,7 +290,7 @@ says_unsaid {s = s} o i b q e agreed t w j l z h opened m = go (in-cons m) where
       (subst (λ (m : Mark). IsIn (Ask m.instance l m.life) (s.link o q)) f h)
   go (inr r) = ((w.pair o q t).asks j l z h).unsaid opened r
 
-says_cover : {peer : ℕ → ℕ → Bool} {s : State} (o : ℕ) (i : Instance) (b : Ballot) (q : ℕ) → (s.node o).mode ≡ Voting i b → IsAgreed peer o b
+says_cover : {peer : ℕ → ℕ → Bool} {s : State} (o : ℕ) (i : Instance) (b : Ballot) (q : ℕ) → (s.node o).mode ≡ Within i b → IsAgreed peer o b
     → IsTrue (peer o q) → Invariant peer s → (k : ℕ) → (s.node o).tent ≡ Some k
     → IsIn (a_mark (Check k) (s.node o).life) (a_mark i (s.node o).life ∷ (s.node o).said)
     → Cover (Check k) (core (s.node q)) o (top_heard (s.node o).line q)
@@ -305,14 +305,14 @@ says_cover {s = s} o i b q e agreed t w k tent m = go (in-cons m) where
 says_firm : {peer : ℕ → ℕ → Bool} (o : ℕ) (b : Ballot) → IsAgreed peer o b → IsAgreed peer o (cast b)
 says_firm o b agreed = record { complete = agreed.complete; none = agreed.none }
 
-says_marks : {peer : ℕ → ℕ → Bool} {s : State} (o : ℕ) (i : Instance) (b : Ballot) → (s.node o).mode ≡ Voting i b → Invariant peer s
+says_marks : {peer : ℕ → ℕ → Bool} {s : State} (o : ℕ) (i : Instance) (b : Ballot) → (s.node o).mode ≡ Within i b → Invariant peer s
     → (j : Instance) (z : ℕ) → IsIn (a_mark j z) (a_mark i (s.node o).life ∷ (s.node o).said) → IsMember (s.node o).joined j z
 says_marks {s = s} o i b e w j z m = go (in-cons m) where
   go : (a_mark j z ≡ a_mark i (s.node o).life) ⊎ IsIn (a_mark j z) (s.node o).said → IsMember (s.node o).joined j z
   go (inl f) = subst (λ (m : Mark). IsMember (s.node o).joined m.instance m.life) (sym f) (b.parent, ((w.local o).ballot i b e).member)
   go (inr r) = (w.local o).marks j z r
 
-says_trees : {peer : ℕ → ℕ → Bool} {s : State} (o : ℕ) (i : Instance) (b : Ballot) (new : Node) → (s.node o).mode ≡ Voting i b → IsAgreed peer o b
+says_trees : {peer : ℕ → ℕ → Bool} {s : State} (o : ℕ) (i : Instance) (b : Ballot) (new : Node) → (s.node o).mode ≡ Within i b → IsAgreed peer o b
     → new.joined ≡ (s.node o).joined → new.said ≡ a_mark i (s.node o).life ∷ (s.node o).said → Invariant peer s
     → Trees peer s.board (λ x. (at o new s.node x).joined) (λ x. (at o new s.node x).said)
 says_trees {peer} {s} o i b new e agreed same_joined same_said w = Trees-same
@@ -343,7 +343,7 @@ parent_member : {peer : ℕ → ℕ → Bool} {s : State} (o : ℕ) (i : Instanc
 parent_member {s = s} o i k c p m w e = subst (λ x. IsMember (s.node x).joined i k.life) e (w.trees.parents o i c k m)
 
 pub step_agrees : (peer : ℕ → ℕ → Bool) → AreNeighbours peer → (s : State) (o : ℕ) (i : Instance) (b : Ballot) (k : Key)
-    → (s.node o).mode ≡ Voting i b → b.parent ≡ Some k → b.voted ≡ false → IsAgreed peer o b → Invariant peer s
+    → (s.node o).mode ≡ Within i b → b.parent ≡ Some k → b.voted ≡ false → IsAgreed peer o b → Invariant peer s
     → Invariant peer (change o (λ n. answering i k true (saying i (casting i b n))) s)
 step_agrees peer near s o i b k e par unvoted agreed w =
     lift peer near s o new s.link s.board (Later-refl s.board) (λ k e. e) w.fresh (λ p q ne nf. refl)
@@ -371,14 +371,14 @@ step_agrees peer near s o i b k e par unvoted agreed w =
     member : IsIn (a_member i n.life (Some k)) n.joined
     member = subst (λ t. IsIn (a_member i n.life t) n.joined) par ((w.local o).ballot i b e).member
 
-    covers : (p : ℕ) → IsTrue (peer p o) → (j : Instance) (d : Ballot) → (s.node p).mode ≡ Voting j d → Standing s.board j (s.node p).tent → j ≡ i
+    covers : (p : ℕ) → IsTrue (peer p o) → (j : Instance) (d : Ballot) → (s.node p).mode ≡ Within j d → Standing s.board j (s.node p).tent → j ≡ i
         → Cover j (core n) p (top_of j (s.node p).line (s.node p).perm o)
-    covers p u (Check m) d g st same = held_cover m b d (e ∙ ap (λ j. Voting j b) (sym same)) g st ((w.local p).holding m st).0 (w.local o)
+    covers p u (Check m) d g st same = held_cover m b d (e ∙ ap (λ j. Within j b) (sym same)) g st ((w.local p).holding m st).0 (w.local o)
         (w.pair o p (near.both p o u))
     covers p u (Rollback m) d g st same = inl (ap instance_of e ∙ ap Some (sym same))
 
 pub step_declines : (peer : ℕ → ℕ → Bool) → AreNeighbours peer → (s : State) (o : ℕ) (i : Instance) (b : Ballot) (k : Key)
-    → (s.node o).mode ≡ Voting i b → b.parent ≡ Some k → b.voted ≡ false → Invariant peer s
+    → (s.node o).mode ≡ Within i b → b.parent ≡ Some k → b.voted ≡ false → Invariant peer s
     → Invariant peer (change o (λ n. answering i k false (casting i b n)) s)
 step_declines peer near s o i b k e par unvoted w =
     lift_own peer near s o new refl refl
@@ -404,7 +404,7 @@ step_declines peer near s o i b k e par unvoted w =
 
 -- the initiator says yes
 pub step_says : (peer : ℕ → ℕ → Bool) → AreNeighbours peer → (s : State) (o : ℕ) (i : Instance) (b : Ballot)
-    → (s.node o).mode ≡ Voting i b → b.parent ≡ None → IsAgreed peer o b → Invariant peer s
+    → (s.node o).mode ≡ Within i b → b.parent ≡ None → IsAgreed peer o b → Invariant peer s
     → Invariant peer (change o (λ n. saying i (casting i b n)) s)
 step_says peer near s o i b e par agreed w =
     lift peer near s o new s.link s.board (Later-refl s.board) (λ k e. e) w.fresh (λ p q ne nf. refl)

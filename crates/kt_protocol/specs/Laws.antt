@@ -2,24 +2,24 @@
 use Rattle.std.specs.Prelude.{◌≡◌, ℕ, Bool, true, false, List, [], ◌∷◌, ⊤}
 use Rattle.kt_protocol.specs.Labels.{Label}
 use Rattle.kt_protocol.specs.Lines.{IsIn, Act, Sends, Hears}
-use Rattle.kt_protocol.specs.Machine.{Check, Rollback, Yes, Mode, Up, Voting, Down, Message, Ask, State}
+use Rattle.kt_protocol.specs.Machine.{Check, Rollback, Yes, Mode, Up, Within, Down, Message, Ask, State}
 use Rattle.kt_protocol.specs.Runs.{AreNeighbours, IsBeginning, Run}
 
 -- the node takes a checkpoint and waits for the verdict
 abbrev pub IsHeld : Mode → Type 0
-IsHeld (Voting (Check k) b) = ⊤
-IsHeld mode = ⊥
+IsHeld (Within (Check k) _) = ⊤
+IsHeld _ = ⊥
 
 -- the node rolls back
 abbrev pub IsRolling : Mode → Type 0
-IsRolling (Voting (Rollback k) b) = ⊤
-IsRolling mode = ⊥
+IsRolling (Within (Rollback k) _) = ⊤
+IsRolling _ = ⊥
 
 -- the node is up or held
 abbrev pub IsStanding : Mode → Type 0
 IsStanding Up = ⊤
-IsStanding (Voting (Check k) b) = ⊤
-IsStanding (Voting (Rollback k) b) = ⊥
+IsStanding (Within (Check k) _) = ⊤
+IsStanding (Within (Rollback k) _) = ⊥
 IsStanding Down = ⊥
 
 -- no node is down or rolling

@@ -3,10 +3,11 @@
 use Rattle.std.specs.Prelude.{ℕ, eqb, Bool, true, false, not, ◌&&◌, if◌then◌else◌, List, Option, Some, None}
 use Rattle.kt_protocol.specs.Labels.{Label, up_to}
 use Rattle.kt_protocol.specs.Lines.{top_sent, top_heard}
-use Rattle.kt_protocol.specs.Machine.{Instance, key_of, Check, Rollback, Verdict, Open, Mode, Up, Voting, Down, Message}
+use Rattle.kt_protocol.specs.Machine.{Instance, key_of, Check, Rollback, Verdict, Open, Mode, Up, Within, Down, Message}
 use Rattle.kt_protocol.specs.Machine.{Node, State}
 use Rattle.kt_protocol.specs.Steps.{change, pull, push, sifting, answering, joining, asking}
 
+-- the verdict is not written: a test that computes
 abbrev pub is_open : Verdict → Bool
 is_open Open = true
 is_open v = false
@@ -35,7 +36,7 @@ join_by_ask i o x a cohort s =
 -- the ask of a rollback, where something was heard above its label
 abbrev pub roll_in_mode : (ℕ → ℕ → Bool) → ℕ → ℕ → ℕ → Asking → State → Mode → State
 roll_in_mode peer k o x a s Up = join_by_ask (Rollback k) o x a (peer o) s
-roll_in_mode peer k o x a s (Voting (Rollback m) b) = answer_ask (Rollback k) o x a (eqb m k) s
+roll_in_mode peer k o x a s (Within (Rollback m) b) = answer_ask (Rollback k) o x a (eqb m k) s
 roll_in_mode peer k o x a s mode = answer_ask (Rollback k) o x a false s
 
 -- the row of the ask of a rollback at a node that is not down
