@@ -33,27 +33,31 @@ pub record IsReached (peer : ℕ → ℕ → Bool) (t : State) : Type 0 where
   pub begins : IsBeginning start
   pub run : Run peer start t
 
--- an ask of a rollback waits for o, and o heard from the asker what the asker's permanent checkpoint has not sent
-pub record MustRoll (s : State) (o : ℕ) : Type 0 where
+-- the step from s to t takes an ask of a rollback off a link to o, and o heard from the asker what the asker's
+-- permanent checkpoint has not sent
+pub record MustRoll (s t : State) (o : ℕ) : Type 0 where
   pub asker : ℕ
   pub number : ℕ
   pub label : Label
   pub life : ℕ
   pub rest : List Message
   pub ask : s.link asker o ≡ Ask (Rollback number) label life ∷ rest
+  pub taken : t.link asker o ≡ rest
   pub by : ℕ
   pub under : Label
   pub heard : IsIn (Hears by asker under) (s.node o).line
   pub lacks : IsIn (Sends by o under) (s.node asker).perm → ⊥
 
--- an ask of a check waits for o, and the asker heard what o sent and remembers, and o's permanent checkpoint lacks
-pub record MustHold (s : State) (o : ℕ) : Type 0 where
+-- the step from s to t takes an ask of a check off a link to o, and the asker heard what o sent and remembers, and
+-- o's permanent checkpoint lacks
+pub record MustHold (s t : State) (o : ℕ) : Type 0 where
   pub asker : ℕ
   pub number : ℕ
   pub label : Label
   pub life : ℕ
   pub rest : List Message
   pub ask : s.link asker o ≡ Ask (Check number) label life ∷ rest
+  pub taken : t.link asker o ≡ rest
   pub by : ℕ
   pub under : Label
   pub heard : IsIn (Hears by o under) (s.node asker).line
@@ -63,7 +67,7 @@ pub record MustHold (s : State) (o : ℕ) : Type 0 where
 -- why o, which was up, is held: it began a check of its own, or an ask made it
 pub data WhyHeld (s t : State) (o : ℕ) : Type 0 where
   began : (k : ℕ) → s.board.begun (Check k) ≡ false → t.board.begun (Check k) ≡ true → WhyHeld s t o
-  forced : MustHold s o → WhyHeld s t o
+  forced : MustHold s t o → WhyHeld s t o
 
 -- a run in which a rollback gets Yes and cuts a line: a node remembers an act, and at the end of the run it is up and
 -- remembers nothing

@@ -26,7 +26,7 @@ pub fn nothing_remembered_is_undone()
 /// permanent checkpoint has not sent.
 pub fn rolling_is_forced()
     ensures { (peer : ℕ → ℕ → Bool) (s t : State) → IsReached peer s → Step peer s t → (o : ℕ)
-        → (s.node o).mode ≡ Up → IsRolling (t.node o).mode → MustRoll s o }
+        → (s.node o).mode ≡ Up → IsRolling (t.node o).mode → MustRoll s t o }
 {}
 
 /// A node that is up and held after a step began a check of its own, or was asked to, by a node that heard
