@@ -1,19 +1,22 @@
 -- A verdict on a check stands for all nodes at once.
-use Rattle.std.proofs.Common.{◌≡◌, ◌≢◌, ◌⊎◌, ◌≤◌, ℕ, suc, Bool, true, false, IsTrue, List, [], ◌∷◌, ◌++◌, Option, Some, None, inl, inr, refl, sym, ap, subst, ◌∙◌, eqb, if◌then◌else◌}
+use Rattle.std.proofs.Common.{◌≡◌, ◌≢◌, ◌⊎◌, ℕ, Bool, true, IsTrue, List, Option, Some, None, inl, inr, refl, sym, ap, subst, ◌∙◌}
 use Rattle.std.proofs.lemmas.Bool.{cases_eq, eq-eqb, ne_eqb}
 use Rattle.kt_protocol.specs.Labels.{Label, Under, UpTo}
-use Rattle.kt_protocol.specs.Lines.{IsIn, here, there, Act, Sends, Hears, IsTail, all, top_sent, top_heard}
-use Rattle.kt_protocol.specs.Machine.{Instance, Check, Rollback, Verdict, Open, Yes, No, Key, Ballot, Mode, Up, Voting, Down, Post, Message, App, Ask, Vote, Member, Mark, Node, Board, State, instance_of, next_label}
+use Rattle.kt_protocol.specs.Lines.{IsIn, Act, IsTail, all, top_sent, top_heard}
+use Rattle.kt_protocol.specs.Machine.{Instance, Check, Rollback, Verdict, Open, Yes, No, Ballot, Mode, Up, Within, Down, Post, Message, Node, Board, State}
+use Rattle.kt_protocol.specs.Machine.{instance_of, next_label}
 use Rattle.kt_protocol.specs.Steps.{decide, released, promoted, promote, discard}
 use Rattle.kt_protocol.specs.Runs.{AreNeighbours}
-use Rattle.kt_protocol.proofs.Labels.{UpTo-trans, UpTo-Under, UpTo-refl}
+use Rattle.kt_protocol.proofs.Labels.{UpTo-trans, UpTo-refl}
 use Rattle.kt_protocol.proofs.Lines.{sent-tail}
-use Rattle.kt_protocol.proofs.Streams.{apps, Rising, Rising-map, Asked, Asked-map}
-use Rattle.kt_protocol.proofs.Invariant.{Core, core, a_vote, a_key, a_member, a_mark, IsMember, Gone, Undone, Carried, sent, undone, CutSoon, Caused, made, lost, cut_soon, Behind, Calm, Cover, Token, Standing, Away, Meant, FineAsk, top_of, TokenOf, Pair, Way, Engaged, BallotFits, Local, Descends, Trees, Invariant}
+use Rattle.kt_protocol.proofs.Streams.{Rising-map, Asked, Asked-map}
+use Rattle.kt_protocol.proofs.Invariant.{core, a_key, a_member, a_mark, IsMember, Undone, sent, undone, made, lost, cut_soon, Behind, Calm, Cover, Token}
+use Rattle.kt_protocol.proofs.Invariant.{Standing, Meant, top_of, TokenOf, Pair, Way, Engaged, Local, Invariant}
 use Rattle.kt_protocol.proofs.Frames.{Later, Trees-later, Token-map, Behind-later, Calm-later}
-use Rattle.kt_protocol.proofs.Cases.{some-none, none-some, some-one, check-one, check-rollback, open-yes, open-no, yes-no}
+use Rattle.kt_protocol.proofs.Cases.{some-none, none-some, some-one, check-one, check-rollback}
 use Rattle.kt_protocol.proofs.Trees.{all_said}
-use Rattle.kt_protocol.proofs.Verdicts.{decide-cases, decide-at, decide-fresh, decide-opened, decide-decided, decide-live, decide-check, no-open, yes-open, no-back}
+use Rattle.kt_protocol.proofs.Verdicts.{decide-cases, decide-at, decide-fresh, decide-opened, decide-decided, decide-live, decide-check, no-open, yes-open}
+use Rattle.kt_protocol.proofs.Verdicts.{no-back}
 use Rattle.kt_protocol.proofs.Cuts.{rolling-none}
 
 released-some : (k : ℕ) (t : Option ℕ) (j : ℕ) → released k t ≡ Some j → (t ≡ Some j) × (j ≢ k)
@@ -49,21 +52,21 @@ record Fits (n : Node) (perm : List Act) : Type 0 where
   bound : (q : ℕ) (l : Label) → Under (top_sent n.perm q) l → ((j : ℕ) → n.tent ≡ Some j → Under (top_sent n.line q) l) → Under (top_sent perm q) l
 
 settle-pair : {B C : Board} {p q : ℕ} {np nq : Node} {kept : List Post} {link : List Message} (k : ℕ) (pp pq : List Act) → Later B C
-  → ((j : ℕ) → C.verdict (Check j) ≡ Open → j ≢ k) → Fits np pp → Fits nq pq → Way np.mode np.tent → Way nq.mode nq.tent
-  → UpTo (top_heard pq p) (top_sent pp q)
-  → Pair B p q np nq kept link → Pair C p q (settle k pp np) (settle k pq nq) kept link
+    → ((j : ℕ) → C.verdict (Check j) ≡ Open → j ≢ k) → Fits np pp → Fits nq pq → Way np.mode np.tent → Way nq.mode nq.tent
+    → UpTo (top_heard pq p) (top_sent pp q)
+    → Pair B p q np nq kept link → Pair C p q (settle k pp np) (settle k pq nq) kept link
 settle-pair {B} {C} {p} {q} {np} {nq} {kept} {link} k pp pq later past fp fq wp wq agree o = record {
   agree = agree;
   caused = λ b l h. elim (o.caused b l h) [
-      | made j ↦ made j
-      | lost u ↦ lost (undo u)
-      | cut_soon s ↦ cut_soon record {
-          number = s.number;
-          rolls = s.rolls;
-          decided = later.decided (Rollback s.number) s.decided;
-          above = subst (λ t. Under (top_heard t p) l) (sym (fq.same (rolling-none nq.mode nq.tent wq s.rolls))) s.above;
-        }
-    ];
+    | made j ↦ made j
+    | lost u ↦ lost (undo u)
+    | cut_soon s ↦ cut_soon record {
+      number = s.number;
+      rolls = s.rolls;
+      decided = later.decided (Rollback s.number) s.decided;
+      above = subst (λ t. Under (top_heard t p) l) (sym (fq.same (rolling-none nq.mode nq.tent wq s.rolls))) s.above;
+    }
+  ];
   chain = Rising-map (UpTo-refl (next_label np)) (λ m h c. elim c [ sent j ↦ sent j | undone u ↦ undone (undo u) ]) o.chain;
   asks = λ j l c h. let f = o.asks j l c h in record {
     member = f.member;
@@ -80,29 +83,35 @@ settle-pair {B} {C} {p} {q} {np} {nq} {kept} {link} k pp pq later past fp fq wp 
     above = fp.bound q l u.above u.held;
     held = λ j e. u.held j (released-some k np.tent j e).0;
   }
+
   meant : (j : Instance) (l : Label) → C.verdict j ≡ Open → Meant j (core np) q l → Meant j (core (settle k pp np)) q l
   meant (Check j) l e m = (released-kept k np.tent j m.0 (past j e), m.1)
   meant (Rollback j) l e m = (m.0, released-none k np.tent m.1, m.2 ∙ ap (λ t. top_sent t q) (sym (fp.same m.1)))
+
   cover : (i : Instance) → ((m : ℕ) → i ≡ Check m → m ≢ k) → (top : Label) → Cover i (core nq) p top → Cover i (core (settle k pq nq)) p top
   cover (Check j) other top (inl u) = inl (UpTo-trans u (fq.grows p))
   cover (Check j) other top (inr u) = inr (released-kept k nq.tent j u.0 (other j refl), u.1)
   cover (Rollback j) other top c = c
+
   stands : (i : Instance) → Standing C i (released k np.tent) → Standing B i np.tent × ((m : ℕ) → i ≡ Check m → m ≢ k)
   stands (Check j) s = let t = released-some k np.tent j s in (t.0, λ m f. subst (λ z. z ≢ k) (check-one f) t.1)
   stands (Rollback j) s = (later.live (Rollback j) s, λ m f. check-rollback (sym f))
-  same : (i : Instance) (b : Ballot) → np.mode ≡ Voting i b → top_of i np.line np.perm q ≡ top_of i np.line pp q
+
+  same : (i : Instance) (b : Ballot) → np.mode ≡ Within i b → top_of i np.line np.perm q ≡ top_of i np.line pp q
   same (Check j) b e = refl
   same (Rollback j) b e = ap (λ t. top_sent t q) (sym (fp.same (rolling-none np.mode np.tent wp (ap instance_of e))))
-  token : (i : Instance) (b : Ballot) → np.mode ≡ Voting i b → Standing C i (released k np.tent) → TokenOf C p q (settle k pp np) (settle k pq nq) kept link i b
+
+  token : (i : Instance) (b : Ballot) → np.mode ≡ Within i b → Standing C i (released k np.tent) → TokenOf C p q (settle k pp np) (settle k pq nq) kept link i b
   token i b e s =
-    let both = stands i s in
-    subst (λ top. Token i (a_key p np.life) (b.awaited q) b.refused (Asked i np.life top (Behind C i) link) (Calm C i np.life top kept link)
-        (Cover i (core (settle k pq nq)) p top) nq.mode nq.votes nq.joined nq.said) (same i b e)
-      (Token-map (λ a. Asked-map (λ rest. Behind-later i rest later) a) (Calm-later i later) (cover i both.1 (top_of i np.line np.perm q)) (o.token i b e both.0))
+      let both = stands i s in
+      subst (λ top. Token i (a_key p np.life) (b.awaited q) b.refused (Asked i np.life top (Behind C i) link) (Calm C i np.life top kept link)
+      (Cover i (core (settle k pq nq)) p top) nq.mode nq.votes nq.joined nq.said) (same i b e)
+      (Token-map (λ a. Asked-map (λ rest. Behind-later i rest later) a) (Calm-later i later)
+      (cover i both.1 (top_of i np.line np.perm q)) (o.token i b e both.0))
 
 settle-local : {peer : ℕ → ℕ → Bool} {B C : Board} {o : ℕ} {n : Node} (k : ℕ) (perm : List Act) → Later B C
-  → ((j : ℕ) → C.verdict (Check j) ≡ Open → j ≢ k) → ((j : ℕ) → j ≢ k → B.verdict (Check j) ≡ Open → C.verdict (Check j) ≡ Open)
-  → Fits n perm → Local peer B o n → Local peer C o (settle k perm n)
+    → ((j : ℕ) → C.verdict (Check j) ≡ Open → j ≢ k) → ((j : ℕ) → j ≢ k → B.verdict (Check j) ≡ Open → C.verdict (Check j) ≡ Open)
+    → Fits n perm → Local peer B o n → Local peer C o (settle k perm n)
 settle-local {peer} {B} {C} {o} {n} k perm later past back f w = record {
   falls = w.falls;
   tail = f.tail;
@@ -118,9 +127,10 @@ settle-local {peer} {B} {C} {o} {n} k perm later past back f w = record {
 } where
   way : (m : Mode) → Way m n.tent → Way m (released k n.tent)
   way Up e = released-none k n.tent e
-  way (Voting (Check j) b) g = λ i e. g i (released-some k n.tent i e).0
-  way (Voting (Rollback j) b) e = released-none k n.tent e
+  way (Within (Check j) b) g = λ i e. g i (released-some k n.tent i e).0
+  way (Within (Rollback j) b) e = released-none k n.tent e
   way Down e = e
+
   present : (i : Instance) → C.verdict i ≡ Open → Engaged i n.mode n.tent → Engaged i n.mode (released k n.tent)
   present (Check j) e g = released-kept k n.tent j g (past j e)
   present (Rollback j) e g = g
@@ -143,16 +153,17 @@ fits-same : (n : Node) → IsTail n.perm n.line → Fits n n.perm
 fits-same n tail = record { same = λ e. refl; grows = λ q. UpTo-refl (top_sent n.perm q); tail = tail; bound = λ q l u h. u }
 
 pub step_gives_up_check : (peer : ℕ → ℕ → Bool) → (s : State) (k : ℕ) → s.board.begun (Check k) ≡ true
-  → s.board.verdict (Check k) ≡ Open → Invariant peer s → Invariant peer (discard k (decide (Check k) No s))
+    → s.board.verdict (Check k) ≡ Open → Invariant peer s → Invariant peer (discard k (decide (Check k) No s))
 step_gives_up_check peer s k begun opened w = record {
   fresh = decide-fresh (Check k) No s w.fresh begun;
   local = λ o. settle-local k (s.node o).perm later (closed-check k No s no-open) (check-back k No s) (fits o) (w.local o);
   pair = λ p q t. settle-pair k (s.node p).perm (s.node q).perm later (closed-check k No s no-open) (fits p) (fits q) (w.local p).way (w.local q).way
-    (w.pair p q t).agree (w.pair p q t);
+      (w.pair p q t).agree (w.pair p q t);
   trees = Trees-later later (no-back (Check k) s) w.trees;
 } where
   later : Later s.board (decide (Check k) No s).board
   later = Later-check k No s no-open opened
+
   fits : (o : ℕ) → Fits (s.node o) (s.node o).perm
   fits o = fits-same (s.node o) (w.local o).tail
 
@@ -175,14 +186,14 @@ fits-promoted k n w = go (promoted k n.tent n) (promoted-cases k n.tent n) where
   }
   go perm (inr e) = subst (Fits n) (sym e.1) (fits-same n w.tail)
 
-pub step_promotes : (peer : ℕ → ℕ → Bool) → AreNeighbours peer → (s : State) (o k : ℕ) (b : Ballot) → (s.node o).mode ≡ Voting (Check k) b → b.parent ≡ None
-  → s.board.verdict (Check k) ≡ Open → IsIn (a_mark (Check k) (s.node o).life) (s.node o).said
-  → Invariant peer s → Invariant peer (promote k (decide (Check k) Yes s))
+pub step_promotes : (peer : ℕ → ℕ → Bool) → AreNeighbours peer → (s : State) (o k : ℕ) (b : Ballot) → (s.node o).mode ≡ Within (Check k) b → b.parent ≡ None
+    → s.board.verdict (Check k) ≡ Open → IsIn (a_mark (Check k) (s.node o).life) (s.node o).said
+    → Invariant peer s → Invariant peer (promote k (decide (Check k) Yes s))
 step_promotes peer near s o k b e par opened said w = record {
   fresh = decide-fresh (Check k) Yes s w.fresh ((w.local o).members (Check k) (s.node o).life (b.parent, ((w.local o).ballot (Check k) b e).member)).1;
   local = λ x. settle-local k (new x) later (closed-check k Yes s yes-open) (check-back k Yes s) (fits x) (w.local x);
   pair = λ p q t. settle-pair k (new p) (new q) later (closed-check k Yes s yes-open) (fits p) (fits q) (w.local p).way (w.local q).way
-    (agree p q t) (w.pair p q t);
+      (agree p q t) (w.pair p q t);
   trees = record {
     descends = w.trees.descends;
     below = λ x i c k m e. w.trees.below x i c k m (later.opened i e);
@@ -194,30 +205,38 @@ step_promotes peer near s o k b e par opened said w = record {
 } where
   C : Board
   C = (decide (Check k) Yes s).board
+
   later : Later s.board C
   later = Later-check k Yes s yes-open opened
+
   new : ℕ → List Act
   new x = promoted k (s.node x).tent (s.node x)
+
   fits : (x : ℕ) → Fits (s.node x) (new x)
   fits x = fits-promoted k (s.node x) (w.local x)
+
   top : IsIn (a_member (Check k) (s.node o).life None) (s.node o).joined
   top = subst (λ t. IsIn (a_member (Check k) (s.node o).life t) (s.node o).joined) par ((w.local o).ballot (Check k) b e).member
+
   all_yes : (x c : ℕ) → IsMember (s.node x).joined (Check k) c → IsIn (a_mark (Check k) c) (s.node x).said
   all_yes x c m = all_said o (Check k) (s.node o).life top opened said w.trees (w.trees.descends x (Check k) c m)
+
   every : (x : ℕ) (i : Instance) (c : ℕ) → IsMember (s.node x).joined i c
-    → ((i ≡ Check k) × (C.verdict i ≡ Yes)) ⊎ (C.verdict i ≡ s.board.verdict i) → C.verdict i ≡ Yes → IsIn (a_mark i c) (s.node x).said
+      → ((i ≡ Check k) × (C.verdict i ≡ Yes)) ⊎ (C.verdict i ≡ s.board.verdict i) → C.verdict i ≡ Yes → IsIn (a_mark i c) (s.node x).said
   every x i c m (inl f) g = subst (λ j. IsIn (a_mark j c) (s.node x).said) (sym f.0) (all_yes x c (subst (λ j. IsMember (s.node x).joined j c) f.0 m))
   every x i c m (inr f) g = w.trees.every x i c m (sym f ∙ g)
+
   agree : (p q : ℕ) → IsTrue (peer p q) → UpTo (top_heard (new q) p) (top_sent (new p) q)
   agree p q t = go (promoted-cases k (s.node q).tent (s.node q)) where
     reached : Cover (Check k) (core (s.node p)) q (top_heard (s.node q).line p) → UpTo (top_heard (s.node q).line p) (top_sent (new p) q)
     reached (inl u) = UpTo-trans u ((fits p).grows q)
     reached (inr u) = elim (promoted-cases k (s.node p).tent (s.node p)) [
-        | inl f ↦ subst (λ a. UpTo (top_heard (s.node q).line p) (top_sent a q)) (sym f.1) u.1
-        | inr f ↦ absurd (f.0 u.0)
-      ]
+      | inl f ↦ subst (λ a. UpTo (top_heard (s.node q).line p) (top_sent a q)) (sym f.1) u.1
+      | inr f ↦ absurd (f.0 u.0)
+    ]
+
     go : (((s.node q).tent ≡ Some k) × (new q ≡ (s.node q).line)) ⊎ (((s.node q).tent ≢ Some k) × (new q ≡ (s.node q).perm))
-      → UpTo (top_heard (new q) p) (top_sent (new p) q)
+        → UpTo (top_heard (new q) p) (top_sent (new p) q)
     go (inl f) = subst (λ a. UpTo (top_heard a p) (top_sent (new p) q)) (sym f.1)
-      (reached ((w.pair q p (near.both p q t)).cover k f.0 (all_yes q (s.node q).life ((w.local q).holding k f.0).1)))
+        (reached ((w.pair q p (near.both p q t)).cover k f.0 (all_yes q (s.node q).life ((w.local q).holding k f.0).1)))
     go (inr f) = subst (λ a. UpTo (top_heard a p) (top_sent (new p) q)) (sym f.1) (UpTo-trans (w.pair p q t).agree ((fits p).grows q))

@@ -1,9 +1,10 @@
 -- What holds in every state that the machine reaches: of one node, of an ordered pair of neighbours, of the trees
 -- of those who joined an instance.
-use Rattle.std.proofs.Common.{◌≡◌, ◌≢◌, ◌⊎◌, ◌≤◌, ℕ, Bool, true, false, IsTrue, List, [], ◌∷◌, ◌++◌, Option, Some, None, inl, inr}
+use Rattle.std.proofs.Common.{◌≡◌, ◌≢◌, ◌⊎◌, ◌≤◌, ℕ, Bool, true, false, IsTrue, List, [], ◌++◌, Option, Some, None}
 use Rattle.kt_protocol.specs.Labels.{Label, Under, UpTo}
 use Rattle.kt_protocol.specs.Lines.{IsIn, Act, Sends, Hears, top_sent, top_heard, IsTail}
-use Rattle.kt_protocol.specs.Machine.{Instance, Check, Rollback, Verdict, Open, Yes, No, Key, Ballot, Mode, Up, Voting, Down, Post, Message, App, Ask, Vote, Member, Mark, Node, Board, State, instance_of, next_label}
+use Rattle.kt_protocol.specs.Machine.{Instance, Check, Rollback, Open, Yes, No, Key, Ballot, Mode, Up, Within, Down, Post, Message, Ask, Vote, Member, Mark}
+use Rattle.kt_protocol.specs.Machine.{Node, Board, State, instance_of, next_label}
 use Rattle.kt_protocol.specs.Steps.{IsAgreed}
 use Rattle.kt_protocol.proofs.Lines.{Falls}
 use Rattle.kt_protocol.proofs.Streams.{apps, Rising, NoAsk, Asked}
@@ -37,8 +38,8 @@ IsMember joined i c = (par : Option Key) × IsIn (a_member i c par) joined
 -- down, or the initiator of a rollback that is under way
 abbrev pub Gone : Mode → Type 0
 Gone Up = ⊥
-Gone (Voting (Check k) b) = ⊥
-Gone (Voting (Rollback k) b) = b.parent ≡ None
+Gone (Within (Check k) b) = ⊥
+Gone (Within (Rollback k) b) = b.parent ≡ None
 Gone Down = Unit {0}
 
 -- the message to q was sent by an act that is cut off for good
@@ -104,19 +105,19 @@ ChildrenSaid joined said i k = (c : ℕ) → IsIn (a_member i c (Some k)) joined
 
 -- a ballot under this key has been cast
 abbrev pub HasVoted : Mode → Instance → Key → Type 0
-HasVoted mode i k = (b : Ballot) → mode ≡ Voting i b → b.parent ≡ Some k → b.voted ≡ true
+HasVoted mode i k = (b : Ballot) → mode ≡ Within i b → b.parent ≡ Some k → b.voted ≡ true
 
 -- how far the ask of this key to q has come
 pub data Token (i : Instance) (k : Key) (awaits : Bool) (refused : Bool) (IsAsked IsCalm IsCovered : Type 0)
     (mode : Mode) (votes : List Vote) (joined : List Member) (said : List Mark) : Type 0 where
   asked : awaits ≡ true → IsAsked → NoVote votes i k → NoChild joined i k
-    → Token i k awaits refused IsAsked IsCalm IsCovered mode votes joined said
+      → Token i k awaits refused IsAsked IsCalm IsCovered mode votes joined said
   waiting : awaits ≡ true → IsCalm → NoVote votes i k → OneChild joined i k
-    → Token i k awaits refused IsAsked IsCalm IsCovered mode votes joined said
+      → Token i k awaits refused IsAsked IsCalm IsCovered mode votes joined said
   voted : (y : Bool) → IsCalm → ((z : Bool) → IsIn (a_vote i k z) votes → z ≡ y)
-    → (y ≡ true → IsCovered × ChildrenSaid joined said i k) → (awaits ≡ false → (refused ≡ true) ⊎ (y ≡ true))
-    → HasVoted mode i k
-    → Token i k awaits refused IsAsked IsCalm IsCovered mode votes joined said
+      → (y ≡ true → IsCovered × ChildrenSaid joined said i k) → (awaits ≡ false → (refused ≡ true) ⊎ (y ≡ true))
+      → HasVoted mode i k
+      → Token i k awaits refused IsAsked IsCalm IsCovered mode votes joined said
 
 -- the ballot still counts for the proof
 abbrev pub Standing : Board → Instance → Option ℕ → Type 0
@@ -126,8 +127,8 @@ Standing B (Rollback k) tent = B.verdict (Rollback k) ≢ No
 -- who sent an open ask of this rollback rolls in it, began a rollback, or is down
 abbrev pub Away : Mode → ℕ → Type 0
 Away Up k = ⊥
-Away (Voting (Check m) b) k = ⊥
-Away (Voting (Rollback m) b) k = (b.parent ≡ None) ⊎ (m ≡ k)
+Away (Within (Check m) b) k = ⊥
+Away (Within (Rollback m) b) k = (b.parent ≡ None) ⊎ (m ≡ k)
 Away Down k = Unit {0}
 
 abbrev pub Meant : Instance → Core → ℕ → Label → Type 0
@@ -148,8 +149,8 @@ top_of (Rollback k) line perm q = top_sent perm q
 -- the token of p's ballot towards q
 abbrev pub TokenOf : Board → ℕ → ℕ → Node → Node → List Post → List Message → Instance → Ballot → Type 0
 TokenOf B p q np nq kept link i b = Token i (a_key p np.life) (b.awaited q) b.refused
-  (Asked i np.life (top_of i np.line np.perm q) (Behind B i) link) (Calm B i np.life (top_of i np.line np.perm q) kept link)
-  (Cover i (core nq) p (top_of i np.line np.perm q)) nq.mode nq.votes nq.joined nq.said
+    (Asked i np.life (top_of i np.line np.perm q) (Behind B i) link) (Calm B i np.life (top_of i np.line np.perm q) kept link)
+    (Cover i (core nq) p (top_of i np.line np.perm q)) nq.mode nq.votes nq.joined nq.said
 
 -- p sends to q: what q keeps from p and what stands on the link from p to q
 pub record Pair (B : Board) (p q : ℕ) (np nq : Node) (kept : List Post) (link : List Message) : Type 0 where
@@ -158,16 +159,16 @@ pub record Pair (B : Board) (p q : ℕ) (np nq : Node) (kept : List Post) (link 
   pub caused : (by : ℕ) (l : Label) → IsIn (Hears by p l) nq.line → Caused B p q (core np) nq.mode nq.perm by l
   pub chain : Rising (Carried (core np) q) (next_label np) (top_heard nq.line p) (kept ++ apps link)
   pub asks : (i : Instance) (l : Label) (c : ℕ) → IsIn (Ask i l c) link → FineAsk B np.joined np.said (core np) q i l c
-  pub token : (i : Instance) (b : Ballot) → np.mode ≡ Voting i b → Standing B i np.tent → TokenOf B p q np nq kept link i b
+  pub token : (i : Instance) (b : Ballot) → np.mode ≡ Within i b → Standing B i np.tent → TokenOf B p q np nq kept link i b
   pub votes : (i : Instance) (c : ℕ) (y : Bool) → IsIn (a_vote i (a_key p c) y) nq.votes → IsMember np.joined i c
   -- a tentative checkpoint whose node said yes: what it heard from q is sent
   pub cover : (k : ℕ) → np.tent ≡ Some k → IsIn (a_mark (Check k) np.life) np.said
-    → Cover (Check k) (core nq) p (top_heard np.line q)
+      → Cover (Check k) (core nq) p (top_heard np.line q)
 
 abbrev pub Way : Mode → Option ℕ → Type 0
 Way Up tent = tent ≡ None
-Way (Voting (Check k) b) tent = (j : ℕ) → tent ≡ Some j → j ≡ k
-Way (Voting (Rollback k) b) tent = tent ≡ None
+Way (Within (Check k) b) tent = (j : ℕ) → tent ≡ Some j → j ≡ k
+Way (Within (Rollback k) b) tent = tent ≡ None
 Way Down tent = Unit {0}
 
 -- a member in the present incarnation of an open instance
@@ -186,8 +187,8 @@ pub record Local (peer : ℕ → ℕ → Bool) (B : Board) (o : ℕ) (n : Node) 
   pub room : (q : ℕ) → Under (top_sent n.line q) (next_label n)
   pub from : (by x : ℕ) (l : Label) → IsIn (Hears by x l) n.line → IsTrue (peer x o)
   pub way : Way n.mode n.tent
-  pub ballot : (i : Instance) (b : Ballot) → n.mode ≡ Voting i b → BallotFits peer o n i b
-  pub root : (k : ℕ) (b : Ballot) → n.mode ≡ Voting (Rollback k) b → b.parent ≡ None → n.line ≡ n.perm
+  pub ballot : (i : Instance) (b : Ballot) → n.mode ≡ Within i b → BallotFits peer o n i b
+  pub root : (k : ℕ) (b : Ballot) → n.mode ≡ Within (Rollback k) b → b.parent ≡ None → n.line ≡ n.perm
   pub members : (i : Instance) (c : ℕ) → IsMember n.joined i c → (c ≤ n.life) × (B.begun i ≡ true)
   pub present : (i : Instance) → IsMember n.joined i n.life → B.verdict i ≡ Open → Engaged i n.mode n.tent
   pub marks : (i : Instance) (c : ℕ) → IsIn (a_mark i c) n.said → IsMember n.joined i c
@@ -202,10 +203,10 @@ pub data Descends (J : ℕ → List Member) (i : Instance) : ℕ → ℕ → Typ
 pub record Trees (peer : ℕ → ℕ → Bool) (B : Board) (J : ℕ → List Member) (S : ℕ → List Mark) : Type 0 where
   pub descends : (x : ℕ) (i : Instance) (c : ℕ) → IsMember (J x) i c → Descends J i x c
   pub below : (x : ℕ) (i : Instance) (c : ℕ) (k : Key) → IsIn (a_member i c (Some k)) (J x) → B.verdict i ≡ Open
-    → IsIn (a_mark i k.life) (S k.node) → IsIn (a_mark i c) (S x)
+      → IsIn (a_mark i k.life) (S k.node) → IsIn (a_mark i c) (S x)
   pub every : (x : ℕ) (i : Instance) (c : ℕ) → IsMember (J x) i c → B.verdict i ≡ Yes → IsIn (a_mark i c) (S x)
   pub root : (x y : ℕ) (i : Instance) (c d : ℕ) → IsIn (a_member i c None) (J x) → IsIn (a_member i d None) (J y)
-    → (x ≡ y) × (c ≡ d)
+      → (x ≡ y) × (c ≡ d)
   pub parents : (x : ℕ) (i : Instance) (c : ℕ) (k : Key) → IsIn (a_member i c (Some k)) (J x) → IsMember (J k.node) i k.life
   pub asker : (x : ℕ) (i : Instance) (c : ℕ) (k : Key) → IsIn (a_member i c (Some k)) (J x) → IsTrue (peer k.node x)
 

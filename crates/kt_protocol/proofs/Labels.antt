@@ -1,7 +1,7 @@
 -- The order of labels, and functions changed at a place.
-use Rattle.std.proofs.Common.{◌≡◌, ◌≢◌, ◌⊎◌, ℕ, suc, ◌<◌, ◌≤◌, Bool, true, false, eqb, if◌then◌else◌, inl, inr, refl, sym, ap, subst, arith}
+use Rattle.std.proofs.Common.{◌≡◌, ◌≢◌, ◌⊎◌, ℕ, ◌<◌, ◌≤◌, inl, inr, refl, sym, subst, arith}
 use Rattle.std.proofs.lemmas.Bool.{cases_lt, cases_eq, cases_order, eq-eqb, ne_eqb}
-use Rattle.kt_protocol.specs.Labels.{Label, no_label, Under, UpTo, at, up_to}
+use Rattle.kt_protocol.specs.Labels.{Label, no_label, Under, UpTo, at}
 
 pub Under-trans : {a b c : Label} → Under a b → Under b c → Under a c
 Under-trans u v = omega arith
@@ -35,6 +35,7 @@ Label-cases a b = lives (cases_order a.life b.life) where
   counts : a.life ≡ b.life → (b.count < a.count) ⊎ (a.count ≤ b.count) → UpTo a b ⊎ Under b a
   counts e (inl less) = inr (omega arith)
   counts e (inr le) = inl (omega arith)
+
   lives : (a.life ≡ b.life) ⊎ ((a.life < b.life) ⊎ (b.life < a.life)) → UpTo a b ⊎ Under b a
   lives (inl e) = counts e (cases_lt b.count a.count)
   lives (inr (inl less)) = inl (omega arith)
@@ -48,7 +49,7 @@ pub at-else : {A : Type 0} (k : ℕ) (new : A) (old : ℕ → A) (x : ℕ) → x
 at-else k new old x ne = rw (ne_eqb x k ne) refl
 
 pub at-both : {A : Type 0} (k : ℕ) (new : A) (old : ℕ → A) (x : ℕ) (P : A → Type 0)
-  → (x ≡ k → P new) → (x ≢ k → P (old x)) → P (at k new old x)
+    → (x ≡ k → P new) → (x ≢ k → P (old x)) → P (at k new old x)
 at-both k new old x P f g = go (cases_eq x k) where
   go : (x ≡ k) ⊎ (x ≢ k) → P (at k new old x)
   go (inl e) = rw (eq-eqb x k e) (f e)

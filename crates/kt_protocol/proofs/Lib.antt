@@ -15,3 +15,6 @@ pub mod Verdicts
 pub mod Cuts
 pub mod Checks
 pub mod Main
+pub mod Consequences
+pub mod Rows
+pub mod Examples

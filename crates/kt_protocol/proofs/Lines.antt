@@ -1,9 +1,9 @@
 -- Stacks of acts: labels fall along a line, and what a tail of it holds.
-use Rattle.std.proofs.Common.{◌≡◌, ◌≢◌, ◌⊎◌, ℕ, eqb, if◌then◌else◌, inl, inr, refl, sym, ap, subst, arith, List, [], ◌∷◌}
+use Rattle.std.proofs.Common.{◌≡◌, ◌≢◌, ◌⊎◌, ℕ, inl, inr, refl, subst, List, [], ◌∷◌}
 use Rattle.std.proofs.lemmas.Bool.{cases_eq, eq-eqb, ne_eqb}
-use Rattle.kt_protocol.specs.Labels.{Label, no_label, Under, UpTo}
+use Rattle.kt_protocol.specs.Labels.{Label, Under, UpTo}
 use Rattle.kt_protocol.specs.Lines.{IsIn, here, there, Act, Sends, Hears, top_sent, top_heard, IsTail, all, more}
-use Rattle.kt_protocol.proofs.Labels.{Under-trans, Under-UpTo, UpTo-Under, UpTo-trans, UpTo-refl, Under-weak, Under-not, UpTo-least}
+use Rattle.kt_protocol.proofs.Labels.{UpTo-Under, UpTo-trans, UpTo-refl, Under-weak, Under-not, UpTo-least}
 
 -- the labels to each node, and those heard from each node, rise along the line
 abbrev pub Falls : List Act → Type 0
@@ -24,7 +24,7 @@ unfolding top_sent
 sent-heard by x q l line = refl
 
 pub sent-grows : (by y q : ℕ) (l : Label) (line : List Act) → Under (top_sent line y) l
-  → UpTo (top_sent line q) (top_sent (Sends by y l ∷ line) q)
+    → UpTo (top_sent line q) (top_sent (Sends by y l ∷ line) q)
 sent-grows by y q l line u = go (cases_eq y q) where
   go : (y ≡ q) ⊎ (y ≢ q) → UpTo (top_sent line q) (top_sent (Sends by y l ∷ line) q)
   go (inl e) = subst (λ k. UpTo (top_sent line k) (top_sent (Sends by y l ∷ line) k)) e (rw (sent-here by y l line) (Under-weak u))
@@ -43,11 +43,11 @@ unfolding top_sent
 sent-attained q [] low u = absurd (Under-not u (UpTo-least low))
 sent-attained q (Sends by y l ∷ line) low u = go (sent-attained q line low) (cases_eq y q) where
   go : (Under low (top_sent line q) → (b : ℕ) × IsIn (Sends b q (top_sent line q)) line) → (y ≡ q) ⊎ (y ≢ q)
-    → (b : ℕ) × IsIn (Sends b q (top_sent (Sends by y l ∷ line) q)) (Sends by y l ∷ line)
+      → (b : ℕ) × IsIn (Sends b q (top_sent (Sends by y l ∷ line) q)) (Sends by y l ∷ line)
   go old (inl e) = subst (λ k. (b : ℕ) × IsIn (Sends b k (top_sent (Sends by y l ∷ line) k)) (Sends by y l ∷ line)) e (rw (sent-here by y l line) (by, here))
   go old (inr ne) =
-    let was = old (rw (sent-else by y q l line ne) at u) in
-    (was.0, rw (sent-else by y q l line ne) (there was.1))
+      let was = old (rw (sent-else by y q l line ne) at u) in
+      (was.0, rw (sent-else by y q l line ne) (there was.1))
 sent-attained q (Hears by x l ∷ line) low u = let old = sent-attained q line low u in (old.0, there old.1)
 
 pub Falls-tail : {old line : List Act} → IsTail old line → Falls line → Falls old
@@ -66,14 +66,14 @@ tail-in (more t) i = there (tail-in t i)
 
 -- a message of the line is one of its tail, or its label is above the tail's last
 pub sent-split : {old line : List Act} {b q : ℕ} {l : Label} → IsTail old line → Falls line → IsIn (Sends b q l) line
-  → IsIn (Sends b q l) old ⊎ Under (top_sent old q) l
+    → IsIn (Sends b q l) old ⊎ Under (top_sent old q) l
 sent-split all f i = inl i
 sent-split (more {x = Sends by y m} {xs} t) f here = inr (UpTo-Under (sent-tail y t f.1) f.0)
 sent-split (more {x = Sends by y m} {xs} t) f (there i) = sent-split t f.1 i
 sent-split (more {x = Hears by x m} {xs} t) f (there i) = sent-split t f.1 i
 
 pub sent-old : {old line : List Act} {b q : ℕ} {l : Label} → IsTail old line → Falls line → IsIn (Sends b q l) line
-  → UpTo l (top_sent old q) → IsIn (Sends b q l) old
+    → UpTo l (top_sent old q) → IsIn (Sends b q l) old
 sent-old {old} {b = b} {q} {l} t f i u = go (sent-split t f i) where
   go : IsIn (Sends b q l) old ⊎ Under (top_sent old q) l → IsIn (Sends b q l) old
   go (inl j) = j
@@ -92,7 +92,7 @@ unfolding top_heard
 heard-sent by x q l line = refl
 
 pub heard-grows : (by y q : ℕ) (l : Label) (line : List Act) → Under (top_heard line y) l
-  → UpTo (top_heard line q) (top_heard (Hears by y l ∷ line) q)
+    → UpTo (top_heard line q) (top_heard (Hears by y l ∷ line) q)
 heard-grows by y q l line u = go (cases_eq y q) where
   go : (y ≡ q) ⊎ (y ≢ q) → UpTo (top_heard line q) (top_heard (Hears by y l ∷ line) q)
   go (inl e) = subst (λ k. UpTo (top_heard line k) (top_heard (Hears by y l ∷ line) k)) e (rw (heard-here by y l line) (Under-weak u))
@@ -111,11 +111,11 @@ unfolding top_heard
 heard-attained q [] low u = absurd (Under-not u (UpTo-least low))
 heard-attained q (Hears by y l ∷ line) low u = go (heard-attained q line low) (cases_eq y q) where
   go : (Under low (top_heard line q) → (b : ℕ) × IsIn (Hears b q (top_heard line q)) line) → (y ≡ q) ⊎ (y ≢ q)
-    → (b : ℕ) × IsIn (Hears b q (top_heard (Hears by y l ∷ line) q)) (Hears by y l ∷ line)
+      → (b : ℕ) × IsIn (Hears b q (top_heard (Hears by y l ∷ line) q)) (Hears by y l ∷ line)
   go old (inl e) = subst (λ k. (b : ℕ) × IsIn (Hears b k (top_heard (Hears by y l ∷ line) k)) (Hears by y l ∷ line)) e (rw (heard-here by y l line) (by, here))
   go old (inr ne) =
-    let was = old (rw (heard-else by y q l line ne) at u) in
-    (was.0, rw (heard-else by y q l line ne) (there was.1))
+      let was = old (rw (heard-else by y q l line ne) at u) in
+      (was.0, rw (heard-else by y q l line ne) (there was.1))
 heard-attained q (Sends by x l ∷ line) low u = let old = heard-attained q line low u in (old.0, there old.1)
 
 pub heard-tail : {old line : List Act} (q : ℕ) → IsTail old line → Falls line → UpTo (top_heard old q) (top_heard line q)
@@ -125,14 +125,14 @@ heard-tail q (more {x = Sends by x l} {xs} t) f = rw (heard-sent by x q l xs) (h
 
 -- a message heard in the line is one of its tail, or its label is above the tail's last
 pub heard-split : {old line : List Act} {b q : ℕ} {l : Label} → IsTail old line → Falls line → IsIn (Hears b q l) line
-  → IsIn (Hears b q l) old ⊎ Under (top_heard old q) l
+    → IsIn (Hears b q l) old ⊎ Under (top_heard old q) l
 heard-split all f i = inl i
 heard-split (more {x = Hears by y m} {xs} t) f here = inr (UpTo-Under (heard-tail y t f.1) f.0)
 heard-split (more {x = Hears by y m} {xs} t) f (there i) = heard-split t f.1 i
 heard-split (more {x = Sends by x m} {xs} t) f (there i) = heard-split t f.1 i
 
 pub heard-old : {old line : List Act} {b q : ℕ} {l : Label} → IsTail old line → Falls line → IsIn (Hears b q l) line
-  → UpTo l (top_heard old q) → IsIn (Hears b q l) old
+    → UpTo l (top_heard old q) → IsIn (Hears b q l) old
 heard-old {old} {b = b} {q} {l} t f i u = go (heard-split t f i) where
   go : IsIn (Hears b q l) old ⊎ Under (top_heard old q) l → IsIn (Hears b q l) old
   go (inl j) = j

@@ -1,16 +1,19 @@
 -- The invariant holds in every state that is reached, and what follows from it.
-use Rattle.std.proofs.Common.{◌≡◌, ◌≢◌, ◌⊎◌, ◌≤◌, ℕ, suc, Bool, true, false, IsTrue, List, [], ◌∷◌, ◌++◌, Option, Some, None, inl, inr, refl, sym, ap, subst, ◌∙◌, arith}
-use Rattle.kt_protocol.specs.Labels.{Label, no_label, Under, UpTo, at}
-use Rattle.kt_protocol.specs.Lines.{IsIn, here, there, Act, Sends, Hears, IsTail, all, top_sent, top_heard}
-use Rattle.kt_protocol.specs.Machine.{Instance, Check, Rollback, Open, Yes, No, Key, Ballot, Mode, Up, Voting, Down, Post, Message, App, Ask, Vote, Member, Mark, Node, Board, State, instance_of, next_label}
-use Rattle.kt_protocol.specs.Steps.{Step, sends, hears, keeps, takes, drops, ignores, refuses, grants, joins, begins, restarts, counts, agrees, declines, decides_rollback, decides_check, gives_up_rollback, gives_up_check, learns_yes, learns_no, releases, fails, fails_holding, change, pull, casting, saying}
-use Rattle.kt_protocol.specs.Runs.{AreNeighbours, IsNew, IsBeginning, Reached, start, step}
-use Rattle.kt_protocol.proofs.Labels.{UpTo-trans, UpTo-Under, Under-not, at-here}
+use Rattle.std.proofs.Common.{◌≡◌, ℕ, Bool, true, List, [], ◌++◌, Some, None, sym, ap, subst, ◌∙◌, arith}
+use Rattle.kt_protocol.specs.Labels.{Under, UpTo}
+use Rattle.kt_protocol.specs.Lines.{IsIn, here, Hears, IsTail, all, top_sent, top_heard}
+use Rattle.kt_protocol.specs.Machine.{Check, Rollback, Post, Message, Ask, Member, Node, Board, State, next_label}
+use Rattle.kt_protocol.specs.Steps.{Step, sends, hears, keeps, takes, drops, ignores, refuses, grants, joins, begins, restarts, counts, agrees, declines}
+use Rattle.kt_protocol.specs.Steps.{decides_rollback, decides_check, gives_up_rollback, gives_up_check, learns_yes, learns_no, releases, fails, fails_holding}
+use Rattle.kt_protocol.specs.Steps.{change, pull, consenting}
+use Rattle.kt_protocol.specs.Runs.{AreNeighbours, IsNew, IsBeginning, Run, nothing_done, one_more}
+use Rattle.kt_protocol.specs.Laws.{IsReached}
+use Rattle.kt_protocol.proofs.Labels.{at-here}
 use Rattle.kt_protocol.proofs.Lines.{Falls}
 use Rattle.kt_protocol.proofs.Streams.{apps, Rising, ends}
-use Rattle.kt_protocol.proofs.Invariant.{Core, core, a_vote, a_key, a_member, a_mark, IsMember, Carried, Pair, Way, Local, Trees, Invariant}
+use Rattle.kt_protocol.proofs.Invariant.{core, a_vote, a_key, a_member, a_mark, Carried, Pair, Way, Local, Invariant}
 use Rattle.kt_protocol.proofs.Frames.{at-same}
-use Rattle.kt_protocol.proofs.Cases.{up-voting, none-some, some-none, up-down, true-false}
+use Rattle.kt_protocol.proofs.Cases.{up-voting, some-none}
 use Rattle.kt_protocol.proofs.Talks.{step_sends, step_hears}
 use Rattle.kt_protocol.proofs.Keeps.{step_keeps, step_takes, step_drops}
 use Rattle.kt_protocol.proofs.Answers.{step_ignores, step_refuses, step_grants}
@@ -38,16 +41,18 @@ new-local peer B o n w = record {
 } where
   empty : {A : Type 0} {x : A} → IsIn x [] → ⊥
   empty i = elim i [ ]
+
   first : (q : ℕ) → Under (top_sent [] q) (next_label n)
   first q = omega arith
 
-new-pair : (B : Board) (p q : ℕ) (np nq : Node) (kept : List Post) (link : List Message) → IsNew np → IsNew nq → kept ≡ [] → link ≡ [] → Pair B p q np nq kept link
+new-pair : (B : Board) (p q : ℕ) (np nq : Node) (kept : List Post) (link : List Message) → IsNew np → IsNew nq → kept ≡ [] → link ≡ []
+    → Pair B p q np nq kept link
 unfolding top_sent top_heard
 new-pair B p q np nq kept link u v e f = record {
   agree = subst (λ t. UpTo (top_heard t p) (top_sent np.perm q)) (sym v.perm) (subst (λ t. UpTo (top_heard [] p) (top_sent t q)) (sym u.perm) low);
   caused = λ b l i. absurd (empty (subst (λ t. IsIn (Hears b p l) t) v.line i));
   chain = subst (λ k. Rising (Carried (core np) q) (next_label np) (top_heard nq.line p) (k ++ apps link)) (sym e)
-    (subst (λ m. Rising (Carried (core np) q) (next_label np) (top_heard nq.line p) ([] ++ apps m)) (sym f)
+      (subst (λ m. Rising (Carried (core np) q) (next_label np) (top_heard nq.line p) ([] ++ apps m)) (sym f)
       (subst (λ t. Rising (Carried (core np) q) (next_label np) (top_heard t p) []) (sym v.line) (ends first)));
   asks = λ i l c m. absurd (empty (subst (λ t. IsIn (Ask i l c) t) f m));
   token = λ i b g. up-voting u.mode g;
@@ -56,8 +61,10 @@ new-pair B p q np nq kept link u v e f = record {
 } where
   empty : {A : Type 0} {x : A} → IsIn x [] → ⊥
   empty i = elim i [ ]
+
   low : UpTo (top_heard [] p) (top_sent [] q)
   low = omega arith
+
   first : Under (top_heard [] p) (next_label np)
   first = omega arith
 
@@ -87,7 +94,7 @@ stays peer near s t w (hears o x m rest u up bare front) = step_hears peer near 
 stays peer near s t w (keeps o x m rest u front) = step_keeps peer near s o x m rest u front w
 stays peer near s t w (takes o x m ks u up front) = step_takes peer near s o x m ks u up front w
 stays peer near s t w (drops o x m rest u front) = subst (λ f. Invariant peer record (pull x o rest s) { node = f })
-  (λ i z. sym (at-same o s.node z) i) (step_drops peer near s o x m rest u front w)
+    (λ i z. sym (at-same o s.node z) i) (step_drops peer near s o x m rest u front w)
 stays peer near s t w (ignores o x i l c rest u front) = step_ignores peer near s o x i l c rest u front w
 stays peer near s t w (refuses o x i l c rest u front) = step_refuses peer near s o x i l c rest u front w
 stays peer near s t w (grants o x i l c rest u front opened may) = step_grants peer near s o x i l c rest u front may w
@@ -99,26 +106,32 @@ stays peer near s t w (agrees o i b k e par unvoted agreed) = step_agrees peer n
 stays peer near s t w (declines o i b k e par unvoted) = step_declines peer near s o i b k e par unvoted w
 stays peer near s t w (decides_rollback o k b e par opened agreed) = decided where
   mid : State
-  mid = change o (λ n. saying (Rollback k) (casting (Rollback k) b n)) s
+  mid = change o (consenting (Rollback k) b) s
+
   now : Node
-  now = saying (Rollback k) (casting (Rollback k) b (s.node o))
+  now = consenting (Rollback k) b (s.node o)
+
   is_now : mid.node o ≡ now
   is_now = at-here o now s.node
+
   decided : Invariant peer t
   decided = step_rises peer near mid o k record b { voted = true } (ap (λ n. n.mode) is_now) par opened
-    (subst (λ (n : Node). IsIn (a_mark (Rollback k) n.life) n.said) (sym is_now) here)
-    (step_says peer near s o (Rollback k) b e par agreed w)
+      (subst (λ (n : Node). IsIn (a_mark (Rollback k) n.life) n.said) (sym is_now) here)
+      (step_says peer near s o (Rollback k) b e par agreed w)
 stays peer near s t w (decides_check o k b e par opened agreed) = decided where
   mid : State
-  mid = change o (λ n. saying (Check k) (casting (Check k) b n)) s
+  mid = change o (consenting (Check k) b) s
+
   now : Node
-  now = saying (Check k) (casting (Check k) b (s.node o))
+  now = consenting (Check k) b (s.node o)
+
   is_now : mid.node o ≡ now
   is_now = at-here o now s.node
+
   decided : Invariant peer t
   decided = step_promotes peer near mid o k record b { voted = true } (ap (λ n. n.mode) is_now) par opened
-    (subst (λ (n : Node). IsIn (a_mark (Check k) n.life) n.said) (sym is_now) here)
-    (step_says peer near s o (Check k) b e par agreed w)
+      (subst (λ (n : Node). IsIn (a_mark (Check k) n.life) n.said) (sym is_now) here)
+      (step_says peer near s o (Check k) b e par agreed w)
 stays peer near s t w (gives_up_rollback k begun opened) = step_gives_up_rollback peer s k begun opened w
 stays peer near s t w (gives_up_check k begun opened) = step_gives_up_check peer s k begun opened w
 stays peer near s t w (learns_yes o k b e decided) = step_learns_yes peer near s o k b e decided w
@@ -127,6 +140,9 @@ stays peer near s t w (releases o k b e none) = step_releases peer near s o k b 
 stays peer near s t w (fails o none) = step_fails peer near s o none w
 stays peer near s t w (fails_holding o k held) = step_fails_holding peer near s o k held w
 
-pub reached : (peer : ℕ → ℕ → Bool) → AreNeighbours peer → {s : State} → Reached peer s → Invariant peer s
-reached peer near (start {s} b) = beginning peer s b
-reached peer near (step {s} {t} r x) = stays peer near s t (reached peer near r) x
+pub stays_through : (peer : ℕ → ℕ → Bool) → AreNeighbours peer → {s t : State} → Invariant peer s → Run peer s t → Invariant peer t
+stays_through peer near w nothing_done = w
+stays_through peer near w (one_more {t} {u} r x) = stays peer near t u (stays_through peer near w r) x
+
+pub holds_where_reached : {peer : ℕ → ℕ → Bool} (t : State) → IsReached peer t → Invariant peer t
+holds_where_reached {peer} t r = stays_through peer r.near (beginning peer r.start r.begins) r.run

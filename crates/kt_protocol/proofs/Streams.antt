@@ -1,11 +1,12 @@
 -- Messages in order: their labels rise, and an ask flushes the link.
-use Rattle.std.proofs.Common.{◌≡◌, ◌≢◌, ◌⊎◌, ℕ, Bool, true, false, if◌then◌else◌, inl, inr, refl, sym, ap, subst, arith, List, [], ◌∷◌, ◌++◌, ◌||◌, ◌&&◌, ltb, leb, eqb}
-use Rattle.std.proofs.lemmas.Bool.{cases_Bool, ltb-true, leb-true, eqb-true, or_cases, and_parts}
+use Rattle.std.proofs.Common.{◌≡◌, ◌≢◌, ◌⊎◌, ℕ, Bool, true, false, if◌then◌else◌, inl, inr, refl, sym, ap, subst, arith, List, [], ◌∷◌, ◌++◌, ◌&&◌, ltb, leb}
+use Rattle.std.proofs.Common.{eqb}
+use Rattle.std.proofs.lemmas.Bool.{ltb-true, leb-true, eqb-true, or_cases, and_parts}
 use Rattle.kt_protocol.specs.Labels.{Label, Under, UpTo, up_to}
 use Rattle.kt_protocol.specs.Lines.{IsIn, here, there}
-use Rattle.kt_protocol.specs.Machine.{Instance, Check, Rollback, Post, Message, App, Ask}
+use Rattle.kt_protocol.specs.Machine.{Instance, Post, Message, App, Ask}
 use Rattle.kt_protocol.specs.Steps.{sieve}
-use Rattle.kt_protocol.proofs.Labels.{Under-trans, Under-UpTo, UpTo-Under, UpTo-trans, UpTo-refl, Under-weak, UpTo-eq}
+use Rattle.kt_protocol.proofs.Labels.{Under-UpTo, UpTo-Under, Under-weak}
 
 -- where a member of two lists joined stands
 pub in-append : {A : Type 0} {x : A} (xs ys : List A) → IsIn x (xs ++ ys) → IsIn x xs ⊎ IsIn x ys
@@ -78,29 +79,29 @@ pub data Rising (C : Post → Type 0) (next : Label) : Label → List Post → T
   over : {low : Label} (m : Post) {ms : List Post} → Under low m.label → C m → Rising C next m.label ms → Rising C next low (m ∷ ms)
 
 pub Rising-map : {C D : Post → Type 0} {next next' low : Label} {ms : List Post} → UpTo next next'
-  → ((m : Post) → IsIn m ms → C m → D m) → Rising C next low ms → Rising D next' low ms
+    → ((m : Post) → IsIn m ms → C m → D m) → Rising C next low ms → Rising D next' low ms
 Rising-map u f (ends v) = ends (Under-UpTo v u)
 Rising-map u f (over m v c r) = over m v (f m here c) (Rising-map u (λ k i. f k (there i)) r)
 
 pub Rising-low : {C : Post → Type 0} {next low low' : Label} {ms : List Post} → UpTo low' low → Rising C next low ms
-  → Rising C next low' ms
+    → Rising C next low' ms
 Rising-low u (ends v) = ends (UpTo-Under u v)
 Rising-low u (over m v c r) = over m (UpTo-Under u v) c r
 
 pub Rising-sub : {C : Post → Type 0} {next low : Label} {ks ms : List Post} → Sub ks ms → Rising C next low ms
-  → Rising C next low ks
+    → Rising C next low ks
 Rising-sub done r = r
 Rising-sub (skip s) (over m v c r) = Rising-sub s (Rising-low (Under-weak v) r)
 Rising-sub (keep s) (over m v c r) = over m v c (Rising-sub s r)
 
 pub Rising-push : {C : Post → Type 0} {next next' low : Label} {ms : List Post} (m : Post) → m.label ≡ next
-  → Under next next' → C m → Rising C next low ms → Rising C next' low (ms ++ m ∷ [])
+    → Under next next' → C m → Rising C next low ms → Rising C next' low (ms ++ m ∷ [])
 Rising-push {next' = next'} m e u c (ends {low} v) =
-  over m (subst (Under low) (sym e) v) c (ends (subst (λ l. Under l next') (sym e) u))
+    over m (subst (Under low) (sym e) v) c (ends (subst (λ l. Under l next') (sym e) u))
 Rising-push m e u c (over k v d r) = over k v d (Rising-push m e u c r)
 
 pub Rising-head : {C : Post → Type 0} {next low : Label} {m : Post} {ms : List Post} → Rising C next low (m ∷ ms)
-  → Under low m.label × C m × Rising C next m.label ms
+    → Under low m.label × C m × Rising C next m.label ms
 Rising-head (over m v c r) = (v, c, r)
 
 pub up_to-true : (a b : Label) → up_to a b ≡ true → UpTo a b
@@ -108,10 +109,10 @@ up_to-true a b e = go (or_cases (ltb a.life b.life) (eqb a.life b.life && leb a.
   go : (ltb a.life b.life ≡ true) ⊎ ((eqb a.life b.life && leb a.count b.count) ≡ true) → UpTo a b
   go (inl less) = let f = ltb-true a.life b.life less in omega arith
   go (inr same) =
-    let parts = and_parts (eqb a.life b.life) (leb a.count b.count) same in
-    let f = eqb-true a.life b.life parts.0 in
-    let g = leb-true a.count b.count parts.1 in
-    omega arith
+      let parts = and_parts (eqb a.life b.life) (leb a.count b.count) same in
+      let f = eqb-true a.life b.life parts.0 in
+      let g = leb-true a.count b.count parts.1 in
+      omega arith
 
 -- what a sieve leaves is part of what was there, up to the label
 pub sieve-part : (l : Label) (ks : List Post) → Sub (sieve l ks) ks
@@ -127,7 +128,7 @@ unfolding sieve
 sieve-in l [] m i = elim i [ ]
 sieve-in l (k ∷ ks) m i = go (up_to k.label l) refl (sieve-in l ks m) i where
   go : (t : Bool) → up_to k.label l ≡ t → (IsIn m (sieve l ks) → UpTo m.label l)
-    → IsIn m (if t then k ∷ sieve l ks else sieve l ks) → UpTo m.label l
+      → IsIn m (if t then k ∷ sieve l ks else sieve l ks) → UpTo m.label l
   go true e old j = pick (in-cons j) where
     pick : (m ≡ k) ⊎ IsIn m (sieve l ks) → UpTo m.label l
     pick (inl same) = subst (λ (n : Post). UpTo n.label l) (sym same) (up_to-true k.label l e)
@@ -142,19 +143,19 @@ NoAsk i c link = (l : Label) → IsIn (Ask i l c) link → ⊥
 pub data Asked (i : Instance) (c : ℕ) (top : Label) (Behind : List Message → Type 0) : List Message → Type 0 where
   front : {rest : List Message} → NoAsk i c rest → Behind rest → Asked i c top Behind (Ask i top c ∷ rest)
   later : {m : Message} {rest : List Message} → ((l : Label) → Ask i l c ≢ m) → Asked i c top Behind rest
-    → Asked i c top Behind (m ∷ rest)
+      → Asked i c top Behind (m ∷ rest)
 
 pub Asked-push : {i : Instance} {c : ℕ} {top : Label} {Behind : List Message → Type 0} (link : List Message)
-  → NoAsk i c link → Behind [] → Asked i c top Behind (link ++ Ask i top c ∷ [])
+    → NoAsk i c link → Behind [] → Asked i c top Behind (link ++ Ask i top c ∷ [])
 Asked-push [] none b = front (λ l i. elim i [ ]) b
 Asked-push {i} {c} (m ∷ link) none b =
-  later (λ l e. none l (subst (λ k. IsIn (Ask i l c) (k ∷ link)) e here)) (Asked-push link (λ l j. none l (there j)) b)
+    later (λ l e. none l (subst (λ k. IsIn (Ask i l c) (k ∷ link)) e here)) (Asked-push link (λ l j. none l (there j)) b)
 
 pub Asked-map : {i : Instance} {c : ℕ} {top : Label} {Behind Past : List Message → Type 0} {link : List Message}
-  → ((rest : List Message) → Behind rest → Past rest) → Asked i c top Behind link → Asked i c top Past link
+    → ((rest : List Message) → Behind rest → Past rest) → Asked i c top Behind link → Asked i c top Past link
 Asked-map f (front {rest} none b) = front none (f rest b)
 Asked-map f (later ne a) = later ne (Asked-map f a)
 
 pub Asked-app : {i : Instance} {c : ℕ} {top : Label} {Behind : List Message → Type 0} {m : Post} {rest : List Message}
-  → Asked i c top Behind (App m ∷ rest) → Asked i c top Behind rest
+    → Asked i c top Behind (App m ∷ rest) → Asked i c top Behind rest
 Asked-app (later ne a) = a

@@ -1,6 +1,7 @@
 -- Labels of messages: the incarnation of the sender and the count of its messages in it.
 use Rattle.std.specs.Prelude.{◌≡◌, ℕ, ◌≤◌, ◌<◌, Bool, eqb, ltb, leb, ◌&&◌, ◌||◌, if◌then◌else◌}
 
+-- a label
 pub record Label : Type 0 where
   pub life : ℕ
   pub count : ℕ

@@ -3,3 +3,5 @@ pub mod Lines
 pub mod Machine
 pub mod Steps
 pub mod Runs
+pub mod Laws
+pub mod Rows

@@ -1,5 +1,5 @@
 -- What a node remembers: its acts, newest first.
-use Rattle.std.specs.Prelude.{◌≡◌, ℕ, eqb, if◌then◌else◌, List, [], ◌∷◌}
+use Rattle.std.specs.Prelude.{ℕ, eqb, if◌then◌else◌, List, [], ◌∷◌}
 use Rattle.kt_protocol.specs.Labels.{Label, no_label}
 
 -- x stands in the list

@@ -1,6 +1,6 @@
 -- The state of the machine: n nodes, the links between them, and the board of verdicts.
-use Rattle.std.specs.Prelude.{◌≡◌, ℕ, suc, eqb, Bool, true, false, ◌&&◌, if◌then◌else◌, List, [], ◌∷◌, ◌++◌, Option, Some, None}
-use Rattle.kt_protocol.specs.Labels.{Label, at}
+use Rattle.std.specs.Prelude.{ℕ, suc, eqb, Bool, false, if◌then◌else◌, List, Option, Some, None}
+use Rattle.kt_protocol.specs.Labels.{Label}
 use Rattle.kt_protocol.specs.Lines.{Act}
 
 -- checks and rollbacks are numbered apart
@@ -8,6 +8,7 @@ pub data Instance : Type 0 where
   Check : ℕ → Instance
   Rollback : ℕ → Instance
 
+-- the verdict on an instance
 pub data Verdict : Type 0 where
   Open : Verdict
   Yes : Verdict
@@ -18,6 +19,10 @@ pub record Key : Type 0 where
   pub node : ℕ
   pub life : ℕ
 
+-- the key of p in this incarnation
+abbrev pub key_of : ℕ → ℕ → Key
+key_of p c = record { node = p; life = c }
+
 -- what a node keeps of an instance in which it votes: who asked it (none: it began the instance), whose
 -- votes it awaits, whether a no came, whether it has voted itself
 pub record Ballot : Type 0 where
@@ -26,10 +31,10 @@ pub record Ballot : Type 0 where
   pub refused : Bool
   pub voted : Bool
 
--- `Voting (Check n)` is Held, with a tentative checkpoint taken; `Voting (Rollback n)` is Rolling
+-- what a node does: `Within (Check n)` is Held, with a tentative checkpoint taken; `Within (Rollback n)` is Rolling
 pub data Mode : Type 0 where
   Up : Mode
-  Voting : Instance → Ballot → Mode
+  Within : Instance → Ballot → Mode
   Down : Mode
 
 -- an underlying message: the act that sent it, and its label
@@ -80,6 +85,7 @@ pub record Board : Type 0 where
   pub verdict : Instance → Verdict
   pub begun : Instance → Bool
 
+-- the nodes by number, the link from each node to each, the board
 pub record State : Type 0 where
   pub node : ℕ → Node
   pub link : ℕ → ℕ → List Message
@@ -97,7 +103,7 @@ at_instance i new old j = if same_instance j i then new else old j
 
 -- the instance in which a node votes
 abbrev pub instance_of : Mode → Option Instance
-instance_of (Voting i b) = Some i
+instance_of (Within i b) = Some i
 instance_of mode = None
 
 -- the label of the next message

@@ -1,10 +1,13 @@
 -- The steps of the machine: what a node may do, when, and what becomes of the state. The machine may do all
 -- that the tables of steps and arrivals allow, and more: a vote or a verdict has no message of its own that must
 -- be taken off a link, a no may be said at any time, and any open instance may be given up.
-use Rattle.std.specs.Prelude.{◌≡◌, ◌⊎◌, ℕ, suc, eqb, Bool, true, false, not, ◌||◌, if◌then◌else◌, IsTrue, List, [], ◌∷◌, ◌++◌, Option, Some, None, ⊤}
+use Rattle.std.specs.Prelude.{◌≡◌, ◌⊎◌, ℕ, suc, eqb, Bool, true, false, not, ◌||◌, if◌then◌else◌, IsTrue, List, [], ◌∷◌}
+use Rattle.std.specs.Prelude.{◌++◌, Option, Some, None, ⊤}
 use Rattle.kt_protocol.specs.Labels.{Label, Under, UpTo, up_to, at}
 use Rattle.kt_protocol.specs.Lines.{IsIn, Act, Sends, Hears, top_sent, top_heard}
-use Rattle.kt_protocol.specs.Machine.{Instance, Check, Rollback, Verdict, Open, Yes, No, Key, Ballot, Up, Voting, Down, Post, Message, App, Ask, Vote, Node, State, at_instance, instance_of, next_label}
+use Rattle.kt_protocol.specs.Machine.{Instance, Check, Rollback, Verdict, Open, Yes, No, Key, key_of, Ballot, Up}
+use Rattle.kt_protocol.specs.Machine.{Within, Down, Post, Message, App, Ask, Node, State, at_instance, instance_of}
+use Rattle.kt_protocol.specs.Machine.{next_label}
 
 -- the owner's node becomes another
 abbrev pub change : ℕ → (Node → Node) → State → State
@@ -52,6 +55,7 @@ abbrev pub sieved : Instance → Label → List Post → List Post
 sieved (Check k) l ks = ks
 sieved (Rollback k) l ks = sieve l ks
 
+-- the ask drops what it drops of what is kept from x
 abbrev pub sifting : Instance → ℕ → Label → Node → Node
 sifting i x l n = keeping x (sieved i l (n.kept x)) n
 
@@ -67,7 +71,7 @@ stored (Rollback k) old = old
 -- the node begins to vote in the instance
 abbrev pub joining : Instance → Option Key → (ℕ → Bool) → Node → Node
 joining i parent cohort n = record n {
-  mode = Voting i record { parent = parent; awaited = cohort; refused = false; voted = false };
+  mode = Within i record { parent = parent; awaited = cohort; refused = false; voted = false };
   tent = stored i n.tent;
   joined = record { instance = i; life = n.life; parent = parent } ∷ n.joined;
 }
@@ -78,6 +82,7 @@ abbrev pub ask_label : Instance → Node → ℕ → Label
 ask_label (Check k) n q = top_heard n.line q
 ask_label (Rollback k) n q = top_sent n.perm q
 
+-- the asks of the cohort
 abbrev pub asking : Instance → (ℕ → Bool) → Node → ℕ → List Message
 asking i cohort n q = if cohort q then Ask i (ask_label i n q) n.life ∷ [] else []
 
@@ -108,8 +113,9 @@ MayAgree (Rollback k) n x l = (instance_of n.mode ≡ Some (Rollback k)) ⊎ UpT
 abbrev pub counted : ℕ → Bool → Ballot → Ballot
 counted q y b = record b { awaited = at q false b.awaited; refused = b.refused || not y }
 
+-- the node counts a vote of q
 abbrev pub counting : Instance → Ballot → ℕ → Bool → Node → Node
-counting i b q y n = record n { mode = Voting i (counted q y b) }
+counting i b q y n = record n { mode = Within i (counted q y b) }
 
 -- nothing is awaited and none refused
 pub record IsAgreed (peer : ℕ → ℕ → Bool) (o : ℕ) (b : Ballot) : Type 0 where
@@ -122,15 +128,21 @@ saying i n = record n { said = record { instance = i; life = n.life } ∷ n.said
 
 -- the node has voted
 abbrev pub casting : Instance → Ballot → Node → Node
-casting i b n = record n { mode = Voting i record b { voted = true } }
+casting i b n = record n { mode = Within i record b { voted = true } }
 
+-- the node votes yes, and says so to itself
+abbrev pub consenting : Instance → Ballot → Node → Node
+consenting i b n = saying i (casting i b n)
+
+-- the node is up
 abbrev pub rising : Node → Node
 rising n = record n { mode = Up }
 
+-- no message is kept
 abbrev pub nothing_kept : ℕ → List Post
 nothing_kept x = []
 
--- the node is down, and this is its line
+-- the node is down, with the line that it has
 abbrev pub falling : Node → Node
 falling n = record n { mode = Down; kept = nothing_kept }
 
@@ -142,22 +154,24 @@ cutting n = record n { line = n.perm }
 abbrev pub loading : Node → Node
 loading n = record n { life = suc n.life; count = 0; line = n.perm; kept = nothing_kept }
 
--- what a decided check leaves of a node's tentative checkpoint, and what its permanent one is with Yes
+-- what a decided check leaves of a node's tentative checkpoint
 abbrev pub released : ℕ → Option ℕ → Option ℕ
 released k None = None
 released k (Some j) = if eqb j k then None else Some j
 
+-- the permanent checkpoint once this check has Yes
 abbrev pub promoted : ℕ → Option ℕ → Node → List Act
 promoted k None n = n.perm
 promoted k (Some j) n = if eqb j k then n.line else n.perm
 
--- a verdict on a check stands for every node at once, before the node learns of it: with Yes the tentative
--- checkpoint is the permanent one, with No it is given up
+-- Yes on a check stands for every node at once, before the node learns of it: its tentative checkpoint is the
+-- permanent one
 abbrev pub promote : ℕ → State → State
 promote k s = record s {
   node = λ x. record (s.node x) { perm = promoted k (s.node x).tent (s.node x); tent = released k (s.node x).tent };
 }
 
+-- No on a check stands for every node at once: its tentative checkpoint is given up
 abbrev pub discard : ℕ → State → State
 discard k s = record s { node = λ x. record (s.node x) { tent = released k (s.node x).tent } }
 
@@ -165,91 +179,91 @@ discard k s = record s { node = λ x. record (s.node x) { tent = released k (s.n
 pub data Step (peer : ℕ → ℕ → Bool) (s : State) : State → Type 0 where
   -- an act sends a message
   sends : (o y by : ℕ) → IsTrue (peer o y) → (s.node o).mode ≡ Up
-    → Step peer s (change o (sending by y)
-        (push o (only y (App record { by = by; label = next_label (s.node o) })) s))
+      → Step peer s (change o (sending by y)
+      (push o (only y (App record { by = by; label = next_label (s.node o) })) s))
   -- a message from x is heard
   hears : (o x : ℕ) (m : Post) (rest : List Message) → IsTrue (peer x o) → (s.node o).mode ≡ Up
-    → (s.node o).kept x ≡ [] → s.link x o ≡ App m ∷ rest
-    → Step peer s (change o (hearing x m) (pull x o rest s))
+      → (s.node o).kept x ≡ [] → s.link x o ≡ App m ∷ rest
+      → Step peer s (change o (hearing x m) (pull x o rest s))
   -- a message from x is put behind what is kept
   keeps : (o x : ℕ) (m : Post) (rest : List Message) → IsTrue (peer x o) → s.link x o ≡ App m ∷ rest
-    → Step peer s (change o (λ n. keeping x (n.kept x ++ m ∷ []) n) (pull x o rest s))
+      → Step peer s (change o (λ n. keeping x (n.kept x ++ m ∷ []) n) (pull x o rest s))
   -- the first kept message from x is heard
   takes : (o x : ℕ) (m : Post) (ks : List Post) → IsTrue (peer x o) → (s.node o).mode ≡ Up
-    → (s.node o).kept x ≡ m ∷ ks
-    → Step peer s (change o (λ n. hearing x m (keeping x ks n)) s)
+      → (s.node o).kept x ≡ m ∷ ks
+      → Step peer s (change o (λ n. hearing x m (keeping x ks n)) s)
   -- a message is dropped
   drops : (o x : ℕ) (m : Post) (rest : List Message) → IsTrue (peer x o) → s.link x o ≡ App m ∷ rest
-    → Step peer s (pull x o rest s)
+      → Step peer s (pull x o rest s)
   -- an ask is dropped
   ignores : (o x : ℕ) (i : Instance) (l : Label) (c : ℕ) (rest : List Message) → IsTrue (peer x o)
-    → s.link x o ≡ Ask i l c ∷ rest
-    → Step peer s (change o (sifting i x l) (pull x o rest s))
+      → s.link x o ≡ Ask i l c ∷ rest
+      → Step peer s (change o (sifting i x l) (pull x o rest s))
   -- an ask is answered no, at any time
   refuses : (o x : ℕ) (i : Instance) (l : Label) (c : ℕ) (rest : List Message) → IsTrue (peer x o)
-    → s.link x o ≡ Ask i l c ∷ rest
-    → Step peer s (change o (λ n. answering i record { node = x; life = c } false (sifting i x l n)) (pull x o rest s))
+      → s.link x o ≡ Ask i l c ∷ rest
+      → Step peer s (change o (λ n. answering i (key_of x c) false (sifting i x l n)) (pull x o rest s))
   -- an ask is answered yes at once
   grants : (o x : ℕ) (i : Instance) (l : Label) (c : ℕ) (rest : List Message) → IsTrue (peer x o)
-    → s.link x o ≡ Ask i l c ∷ rest → s.board.verdict i ≡ Open → MayAgree i (s.node o) x l
-    → Step peer s (change o (λ n. answering i record { node = x; life = c } true (sifting i x l n)) (pull x o rest s))
+      → s.link x o ≡ Ask i l c ∷ rest → s.board.verdict i ≡ Open → MayAgree i (s.node o) x l
+      → Step peer s (change o (λ n. answering i (key_of x c) true (sifting i x l n)) (pull x o rest s))
   -- an ask makes the node join, and ask in its turn
   joins : (o x : ℕ) (i : Instance) (l : Label) (c : ℕ) (rest : List Message) (cohort : ℕ → Bool) → IsTrue (peer x o)
-    → s.link x o ≡ Ask i l c ∷ rest → (s.node o).mode ≡ Up → s.board.verdict i ≡ Open → MustJoin i (s.node o) x l
-    → IsCohort peer i o (s.node o) cohort
-    → Step peer s (change o (λ n. joining i (Some record { node = x; life = c }) cohort (sifting i x l n))
-        (push o (asking i cohort (s.node o)) (pull x o rest s)))
+      → s.link x o ≡ Ask i l c ∷ rest → (s.node o).mode ≡ Up → s.board.verdict i ≡ Open → MustJoin i (s.node o) x l
+      → IsCohort peer i o (s.node o) cohort
+      → Step peer s (change o (λ n. joining i (Some (key_of x c)) cohort (sifting i x l n))
+      (push o (asking i cohort (s.node o)) (pull x o rest s)))
   -- a check begins
   begins : (o k : ℕ) (cohort : ℕ → Bool) → (s.node o).mode ≡ Up → s.board.begun (Check k) ≡ false
-    → IsCohort peer (Check k) o (s.node o) cohort
-    → Step peer s (begin (Check k) (change o (joining (Check k) None cohort)
-        (push o (asking (Check k) cohort (s.node o)) s)))
+      → IsCohort peer (Check k) o (s.node o) cohort
+      → Step peer s (begin (Check k) (change o (joining (Check k) None cohort)
+      (push o (asking (Check k) cohort (s.node o)) s)))
   -- a node that is down begins a rollback, in a new incarnation, from its permanent checkpoint
   restarts : (o k : ℕ) (cohort : ℕ → Bool) → (s.node o).mode ≡ Down → (s.node o).tent ≡ None
-    → (s.node o).line ≡ (s.node o).perm → s.board.begun (Rollback k) ≡ false
-    → IsCohort peer (Rollback k) o (s.node o) cohort
-    → Step peer s (begin (Rollback k) (change o (λ n. joining (Rollback k) None cohort (loading n))
-        (push o (asking (Rollback k) cohort (loading (s.node o))) s)))
+      → (s.node o).line ≡ (s.node o).perm → s.board.begun (Rollback k) ≡ false
+      → IsCohort peer (Rollback k) o (s.node o) cohort
+      → Step peer s (begin (Rollback k) (change o (λ n. joining (Rollback k) None cohort (loading n))
+      (push o (asking (Rollback k) cohort (loading (s.node o))) s)))
   -- a vote of q on the node's ask is counted
-  counts : (o q : ℕ) (i : Instance) (b : Ballot) (y : Bool) → IsTrue (peer o q) → (s.node o).mode ≡ Voting i b
-    → b.awaited q ≡ true
-    → IsIn record { instance = i; asker = record { node = o; life = (s.node o).life }; agrees = y } (s.node q).votes
-    → Step peer s (change o (counting i b q y) s)
+  counts : (o q : ℕ) (i : Instance) (b : Ballot) (y : Bool) → IsTrue (peer o q) → (s.node o).mode ≡ Within i b
+      → b.awaited q ≡ true
+      → IsIn record { instance = i; asker = key_of o (s.node o).life; agrees = y } (s.node q).votes
+      → Step peer s (change o (counting i b q y) s)
   -- a participant votes yes
-  agrees : (o : ℕ) (i : Instance) (b : Ballot) (k : Key) → (s.node o).mode ≡ Voting i b → b.parent ≡ Some k
-    → b.voted ≡ false → IsAgreed peer o b
-    → Step peer s (change o (λ n. answering i k true (saying i (casting i b n))) s)
+  agrees : (o : ℕ) (i : Instance) (b : Ballot) (k : Key) → (s.node o).mode ≡ Within i b → b.parent ≡ Some k
+      → b.voted ≡ false → IsAgreed peer o b
+      → Step peer s (change o (λ n. answering i k true (consenting i b n)) s)
   -- a participant votes no, at any time
-  declines : (o : ℕ) (i : Instance) (b : Ballot) (k : Key) → (s.node o).mode ≡ Voting i b → b.parent ≡ Some k
-    → b.voted ≡ false
-    → Step peer s (change o (λ n. answering i k false (casting i b n)) s)
+  declines : (o : ℕ) (i : Instance) (b : Ballot) (k : Key) → (s.node o).mode ≡ Within i b → b.parent ≡ Some k
+      → b.voted ≡ false
+      → Step peer s (change o (λ n. answering i k false (casting i b n)) s)
   -- the initiator of a rollback decides Yes and is up
-  decides_rollback : (o k : ℕ) (b : Ballot) → (s.node o).mode ≡ Voting (Rollback k) b → b.parent ≡ None
-    → s.board.verdict (Rollback k) ≡ Open → IsAgreed peer o b
-    → Step peer s (decide (Rollback k) Yes (change o rising (change o (λ n. saying (Rollback k) (casting (Rollback k) b n)) s)))
+  decides_rollback : (o k : ℕ) (b : Ballot) → (s.node o).mode ≡ Within (Rollback k) b → b.parent ≡ None
+      → s.board.verdict (Rollback k) ≡ Open → IsAgreed peer o b
+      → Step peer s (decide (Rollback k) Yes (change o rising (change o (consenting (Rollback k) b) s)))
   -- the initiator of a check decides Yes
-  decides_check : (o k : ℕ) (b : Ballot) → (s.node o).mode ≡ Voting (Check k) b → b.parent ≡ None
-    → s.board.verdict (Check k) ≡ Open → IsAgreed peer o b
-    → Step peer s (promote k (decide (Check k) Yes (change o (λ n. saying (Check k) (casting (Check k) b n)) s)))
+  decides_check : (o k : ℕ) (b : Ballot) → (s.node o).mode ≡ Within (Check k) b → b.parent ≡ None
+      → s.board.verdict (Check k) ≡ Open → IsAgreed peer o b
+      → Step peer s (promote k (decide (Check k) Yes (change o (consenting (Check k) b) s)))
   -- an instance that is not decided gets No
   gives_up_rollback : (k : ℕ) → s.board.begun (Rollback k) ≡ true → s.board.verdict (Rollback k) ≡ Open
-    → Step peer s (decide (Rollback k) No s)
+      → Step peer s (decide (Rollback k) No s)
   gives_up_check : (k : ℕ) → s.board.begun (Check k) ≡ true → s.board.verdict (Check k) ≡ Open
-    → Step peer s (discard k (decide (Check k) No s))
+      → Step peer s (discard k (decide (Check k) No s))
   -- a participant of a rollback learns Yes: it loads its permanent checkpoint
-  learns_yes : (o k : ℕ) (b : Ballot) → (s.node o).mode ≡ Voting (Rollback k) b
-    → s.board.verdict (Rollback k) ≡ Yes
-    → Step peer s (change o (λ n. rising (loading n)) s)
+  learns_yes : (o k : ℕ) (b : Ballot) → (s.node o).mode ≡ Within (Rollback k) b
+      → s.board.verdict (Rollback k) ≡ Yes
+      → Step peer s (change o (λ n. rising (loading n)) s)
   -- a participant of a rollback learns No
-  learns_no : (o k : ℕ) (b : Ballot) (p : Key) → (s.node o).mode ≡ Voting (Rollback k) b → b.parent ≡ Some p
-    → s.board.verdict (Rollback k) ≡ No
-    → Step peer s (change o rising s)
+  learns_no : (o k : ℕ) (b : Ballot) (p : Key) → (s.node o).mode ≡ Within (Rollback k) b → b.parent ≡ Some p
+      → s.board.verdict (Rollback k) ≡ No
+      → Step peer s (change o rising s)
   -- a node whose check is decided is up
-  releases : (o k : ℕ) (b : Ballot) → (s.node o).mode ≡ Voting (Check k) b → (s.node o).tent ≡ None
-    → Step peer s (change o rising s)
+  releases : (o k : ℕ) (b : Ballot) → (s.node o).mode ≡ Within (Check k) b → (s.node o).tent ≡ None
+      → Step peer s (change o rising s)
   -- a node fails, or is down and learns that its tentative checkpoint is given up
   fails : (o : ℕ) → (s.node o).tent ≡ None
-    → Step peer s (change o (λ n. falling (cutting n)) s)
+      → Step peer s (change o (λ n. falling (cutting n)) s)
   -- a node fails with a tentative checkpoint of a check that is not decided
   fails_holding : (o k : ℕ) → (s.node o).tent ≡ Some k
-    → Step peer s (change o falling s)
+      → Step peer s (change o falling s)
