@@ -8,16 +8,14 @@ use Rattle.std.specs.declared.alloc.Global.{Global}
 use Rattle.kt_tuple.specs.declared.node.NodeId.{NodeId}
 use Rattle.kt_link.specs.Network.{Network, ChangesOnly, place, queue, room, entry_at, with_entry}
 use Rattle.kt_link.specs.Queues.{network_of, spare}
-use Rattle.kt_link.proofs.Tables.{put-set}
 
 -- what a list of entries has at a place that was written
 entry_set : {A : Type 0} (d new : A) (entries : List A) (at : Option ℕ) (k : ℕ) → at ≡ Some k → k < length entries → entry_at d (set entries k new) at ≡ new
 entry_set {A} d new entries at k is lt =
     ap (entry_at d (set entries k new)) is ∙ get_or-set_same entries k new d lt
 
-set_entry : {A : Type 0} (d new : A) (entries : List A) (at : Option ℕ) (k : ℕ) → at ≡ Some k → k < length entries
-    → set entries k new ≡ with_entry d entries at new
-set_entry {A} d new entries at k is lt = sym (put-set d entries k new lt) ∙ sym (ap (λ (o : Option ℕ). with_entry d entries o new) is)
+set_entry : {A : Type 0} (new : A) (entries : List A) (at : Option ℕ) (k : ℕ) → at ≡ Some k → set entries k new ≡ with_entry entries at new
+set_entry {A} new entries at k is = sym (ap (λ (o : Option ℕ). with_entry entries o new) is)
 
 -- the same of a list of which f is seen
 seen : {X A : Type 0} (f : X → A) (d : A) (xs : List X) (at : Option ℕ) (k : ℕ) (x : X) → at ≡ Some k → k < length xs → x ≡ get_or xs k x
@@ -31,10 +29,9 @@ seen_set {X} {A} f d xs at k new is lt =
     ap (λ (l : List A). entry_at d l at) (map-set f xs k new) ∙ entry_set d (f new) (map f xs) at k is (omega (arith, length-map xs f))
 
 set_seen : {X A : Type 0} (f : X → A) (d : A) (xs : List X) (at : Option ℕ) (k : ℕ) (new : X) → at ≡ Some k → k < length xs
-    → map f (set xs k new) ≡ with_entry d (map f xs) at (entry_at d (map f (set xs k new)) at)
+    → map f (set xs k new) ≡ with_entry (map f xs) at (entry_at d (map f (set xs k new)) at)
 set_seen {X} {A} f d xs at k new is lt =
-    map-set f xs k new ∙ set_entry d (f new) (map f xs) at k is (omega (arith, length-map xs f))
-    ∙ ap (with_entry d (map f xs) at) (sym (seen_set f d xs at k new is lt))
+    map-set f xs k new ∙ set_entry (f new) (map f xs) at k is ∙ ap (with_entry (map f xs) at) (sym (seen_set f d xs at k new is lt))
 
 -- these queues are the network, and the link from p to q is the k-th of them
 pub record IsAt {M : Type 0} (old : Network M) (workers shards : ℕ) (queues : List (VecDeque M Global)) (p q : NodeId) (k : ℕ) : Type 0 where

@@ -1,4 +1,3 @@
 pub mod Label
-pub mod Table
 pub mod Network
 pub mod Queues

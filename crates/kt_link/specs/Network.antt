@@ -1,10 +1,9 @@
 -- What the links between workers and shards hold, and where the queue of a pair of nodes stands.
 use Rattle.std.specs.Prelude.{◌≡◌, ℕ, suc, ◌+◌, ◌-◌, ◌*◌, ◌≤◌, ◌&&◌, nat_le, if◌then◌else◌, Bool}
-use Rattle.std.specs.Prelude.{List, [], Option, None, Some}
+use Rattle.std.specs.Prelude.{List, [], Option, None, Some, slice_index_or, set}
 use Rattle.std.specs.Option.{option_map}
 use Rattle.kt_tuple.specs.declared.node.NodeId.{NodeId}
 use Rattle.kt_tuple.specs.declared.node.NodeId.TheVariants.{Worker, Shard}
-use Rattle.kt_link.specs.Table.{at, put}
 
 -- how many workers and shards there are; of each ordered pair of neighbours what is on its way, first sent
 -- first, and how many more messages take no memory
@@ -37,19 +36,18 @@ place workers shards (Worker w) (Shard s) = place_between workers shards w s
 place workers shards (Shard s) (Worker w) = option_map suc (place_between workers shards w s)
 place workers shards (Shard s) (Shard r) = None
 
--- the same in a network
 abbrev pub place_in : {M : Type 0} → Network M → NodeId → NodeId → Option ℕ
 place_in net p q = place net.workers net.shards p q
 
--- the entry at a place, or d where there is none
+-- the entry at a place, or d where there is no place
 abbrev pub entry_at : {A : Type 0} → A → List A → Option ℕ → A
 entry_at d entries None = d
-entry_at d entries (Some k) = at d entries k
+entry_at d entries (Some k) = slice_index_or entries k d
 
 -- the entries with another at the place, or the same where there is no place
-abbrev pub with_entry : {A : Type 0} → A → List A → Option ℕ → A → List A
-with_entry d entries None new = entries
-with_entry d entries (Some k) new = put d entries k new
+abbrev pub with_entry : {A : Type 0} → List A → Option ℕ → A → List A
+with_entry entries None new = entries
+with_entry entries (Some k) new = set entries k new
 
 -- what is on its way from p to q: nothing, where they are no neighbours
 abbrev pub queue : {M : Type 0} → Network M → NodeId → NodeId → List M
@@ -64,8 +62,8 @@ abbrev pub with_link : {M : Type 0} → Network M → NodeId → NodeId → List
 with_link net p q messages more = record {
   workers = net.workers;
   shards = net.shards;
-  queues = with_entry [] net.queues (place_in net p q) messages;
-  rooms = with_entry 0 net.rooms (place_in net p q) more;
+  queues = with_entry net.queues (place_in net p q) messages;
+  rooms = with_entry net.rooms (place_in net p q) more;
 }
 
 -- all but the link from p to q is as it was

@@ -1,15 +1,14 @@
--- What a list of queues is to its callers.
+-- The network that a list of queues is.
 use Rattle.std.specs.Prelude.{ℕ, ◌-◌, List, map}
 use Rattle.std.specs.VecDeque.{deque_len, deque_capacity}
 use Rattle.std.specs.declared.collections.VecDeque.{VecDeque}
 use Rattle.std.specs.declared.alloc.Global.{Global}
 use Rattle.kt_link.specs.Network.{Network}
 
--- how many more messages a queue takes without memory
+-- how many more a queue takes
 abbrev pub spare : {M : Type 0} → VecDeque M Global → ℕ
 spare q = deque_capacity q - deque_len q
 
--- the links between so many workers and shards, of which these are the queues
 abbrev pub network_of : {M : Type 0} → ℕ → ℕ → List (VecDeque M Global) → Network M
 network_of workers shards queues = record {
   workers = workers;

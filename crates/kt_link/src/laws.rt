@@ -1,10 +1,10 @@
 //! Laws about labels and links, each the contract of a function with nothing to do.
 
-ghost use Rattle.std.specs.Prelude.{◌≡◌, ◌⊎◌, ◌↔◌, ◌<◌, ◌*◌, ℕ, List, Some, IsSome};
+ghost use Rattle.std.specs.Prelude.{◌≡◌, ◌⊎◌, ◌↔◌, ◌<◌, ◌*◌, ℕ, Some, IsSome};
 ghost use Rattle.std.specs.declared.cmp.Ordering.TheVariants.{Less, Equal, Greater};
 ghost use Rattle.kt_link.specs.declared.label.Label.{Label};
 ghost use Rattle.kt_link.specs.Label.{IsBelow, label_cmp};
-ghost use Rattle.kt_link.specs.Network.{AreNeighbours, ChangesOnly, Network, place, queue, room, with_link};
+ghost use Rattle.kt_link.specs.Network.{AreNeighbours, ChangesOnly, Network, place, queue, room};
 ghost use Rattle.kt_tuple.specs.declared.node.NodeId.{NodeId};
 
 use crate::label::Label;
@@ -32,14 +32,6 @@ pub fn neighbours_have_their_own_places()
         → place workers shards p q ≡ Some k → k < 2 * (workers * shards) }
     ensures own { (workers shards : ℕ) (p q x y : NodeId) (k : ℕ)
         → place workers shards p q ≡ Some k → place workers shards x y ≡ Some k → (p ≡ x) × (q ≡ y) }
-{}
-
-/// A link is read as it was written.
-pub fn a_link_is_read_as_written<M>()
-    ensures queue { (net : Network M) (p q : NodeId) (messages : List M) (more : ℕ)
-        → AreNeighbours net.workers net.shards p q → queue (with_link net p q messages more) p q ≡ messages }
-    ensures room { (net : Network M) (p q : NodeId) (messages : List M) (more : ℕ)
-        → AreNeighbours net.workers net.shards p q → room (with_link net p q messages more) p q ≡ more }
 {}
 
 /// What changes one link alone changes no other.

@@ -7,8 +7,8 @@ mod links;
 
 pub use label::Label;
 pub use laws::{
-    a_link_is_read_as_written, labels_are_in_one_order, labels_compare_by_incarnation_first,
-    neighbours_have_their_own_places, other_links_stay,
+    labels_are_in_one_order, labels_compare_by_incarnation_first, neighbours_have_their_own_places,
+    other_links_stay,
 };
 pub use links::Links;
 
