@@ -146,3 +146,10 @@ stays_through peer near w (one_more {t} {u} r x) = stays peer near t u (stays_th
 
 pub holds_where_reached : {peer : ℕ → ℕ → Bool} (t : State) → IsReached peer t → Invariant peer t
 holds_where_reached {peer} t r = stays_through peer r.near (beginning peer r.start r.begins) r.run
+
+pub run-trans : {peer : ℕ → ℕ → Bool} {s t u : State} → Run peer s t → Run peer t u → Run peer s u
+run-trans r nothing_done = r
+run-trans r (one_more q x) = one_more (run-trans r q) x
+
+pub reached-run : {peer : ℕ → ℕ → Bool} {s t : State} → IsReached peer s → Run peer s t → IsReached peer t
+reached-run r q = record { near = r.near; start = r.start; begins = r.begins; run = run-trans r.run q }
