@@ -18,9 +18,11 @@ use Rattle.kt_protocol.proofs.Talks.{step_sends, step_hears}
 use Rattle.kt_protocol.proofs.Keeps.{step_keeps, step_takes, step_drops}
 use Rattle.kt_protocol.proofs.Answers.{step_ignores, step_refuses, step_grants}
 use Rattle.kt_protocol.proofs.Starts.{step_joins, step_begins, step_restarts}
-use Rattle.kt_protocol.proofs.Votes.{step_counts, step_agrees, step_declines, step_says}
+use Rattle.kt_protocol.proofs.Votes.{step_counts}
+use Rattle.kt_protocol.proofs.Casts.{step_agrees, step_declines, step_says}
 use Rattle.kt_protocol.proofs.Verdicts.{step_gives_up_rollback}
-use Rattle.kt_protocol.proofs.Cuts.{step_fails, step_fails_holding, step_learns_yes, step_learns_no, step_releases, step_rises}
+use Rattle.kt_protocol.proofs.Cuts.{step_fails, step_fails_holding}
+use Rattle.kt_protocol.proofs.Rises.{step_learns_yes, step_learns_no, step_releases, step_rises}
 use Rattle.kt_protocol.proofs.Checks.{step_gives_up_check, step_promotes}
 
 -- the beginning
