@@ -11,8 +11,10 @@ pub mod Trees
 pub mod Joins
 pub mod Starts
 pub mod Votes
+pub mod Casts
 pub mod Verdicts
 pub mod Cuts
+pub mod Rises
 pub mod Checks
 pub mod Main
 pub mod Consequences

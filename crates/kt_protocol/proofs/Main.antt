@@ -18,9 +18,11 @@ use Rattle.kt_protocol.proofs.Talks.{step_sends, step_hears}
 use Rattle.kt_protocol.proofs.Keeps.{step_keeps, step_takes, step_drops}
 use Rattle.kt_protocol.proofs.Answers.{step_ignores, step_refuses, step_grants}
 use Rattle.kt_protocol.proofs.Starts.{step_joins, step_begins, step_restarts}
-use Rattle.kt_protocol.proofs.Votes.{step_counts, step_agrees, step_declines, step_says}
+use Rattle.kt_protocol.proofs.Votes.{step_counts}
+use Rattle.kt_protocol.proofs.Casts.{step_agrees, step_declines, step_says}
 use Rattle.kt_protocol.proofs.Verdicts.{step_gives_up_rollback}
-use Rattle.kt_protocol.proofs.Cuts.{step_fails, step_fails_holding, step_learns_yes, step_learns_no, step_releases, step_rises}
+use Rattle.kt_protocol.proofs.Cuts.{step_fails, step_fails_holding}
+use Rattle.kt_protocol.proofs.Rises.{step_learns_yes, step_learns_no, step_releases, step_rises}
 use Rattle.kt_protocol.proofs.Checks.{step_gives_up_check, step_promotes}
 
 -- the beginning
@@ -146,3 +148,10 @@ stays_through peer near w (one_more {t} {u} r x) = stays peer near t u (stays_th
 
 pub holds_where_reached : {peer : ℕ → ℕ → Bool} (t : State) → IsReached peer t → Invariant peer t
 holds_where_reached {peer} t r = stays_through peer r.near (beginning peer r.start r.begins) r.run
+
+pub run-trans : {peer : ℕ → ℕ → Bool} {s t u : State} → Run peer s t → Run peer t u → Run peer s u
+run-trans r nothing_done = r
+run-trans r (one_more q x) = one_more (run-trans r q) x
+
+pub reached-run : {peer : ℕ → ℕ → Bool} {s t : State} → IsReached peer s → Run peer s t → IsReached peer t
+reached-run r q = record { near = r.near; start = r.start; begins = r.begins; run = run-trans r.run q }
