@@ -1,22 +1,17 @@
 -- Where the state is ready, an allowed step can be planned, and its plan can be carried out.
-use Rattle.std.proofs.Common.{◌≡◌, ◌≢◌, ℕ, zero, suc, ◌+◌, ◌*◌, ◌%◌, ◌<◌, ◌≤◌, Bool, true, false, ◌&&◌, ◌||◌, List, [], ◌∷◌, length, Option, None, Some, refl, sym, subst, ◌∙◌, ap, arith, mod-lt}
-use Rattle.std.specs.Prelude.{Contains, IfSome, is_some, slice_get, nat_le}
-use Rattle.std.specs.List.{AllByRecursion}
+use Rattle.std.proofs.Common.{◌≡◌, ℕ, zero, suc, ◌+◌, ◌%◌, ◌<◌, ◌≤◌, Bool, true, false, ◌&&◌, ◌||◌, List, [], ◌∷◌, length, Option, None, Some, refl, sym, subst, ap, arith, mod-lt}
+use Rattle.std.specs.Prelude.{Contains, is_some, slice_get, nat_le}
 use Rattle.std.proofs.lemmas.Bool.{and_parts, leb-true}
 use Rattle.kt_tuple.specs.declared.node.NodeId.{NodeId}
 use Rattle.kt_tuple.specs.declared.node.NodeId.TheVariants as ids
 use Rattle.kt_tuple.specs.declared.op.Op.{Op}
 use Rattle.kt_tuple.specs.Node.{node_index}
 use Rattle.kt_tuple.specs.Signature.{kinds_of_op, signature_of}
-use Rattle.kt_history.specs.declared.note.Note.{Note}
-use Rattle.kt_history.specs.Chronicle.{node_of}
-use Rattle.kt_history.specs.WellFormed.{MayFollow}
 use Rattle.kt_history.proofs.Lists.{Contains-here, Contains-none}
 use Rattle.kt_link.specs.Network.{AreNeighbours, entry_at}
 use Rattle.kt_script.specs.declared.command.Command.{Command}
 use Rattle.kt_worker.specs.declared.worker.Worker.{Worker}
 use Rattle.kt_core.specs.declared.node.Message.{Message}
-use Rattle.kt_core.specs.declared.node.Message.TheVariants as messages
 use Rattle.kt_core.specs.declared.node.Change.{Change}
 use Rattle.kt_core.specs.declared.node.Change.TheVariants as changes
 use Rattle.kt_core.specs.declared.plan.Plan.{Plan}
@@ -25,15 +20,14 @@ use Rattle.kt_core.specs.declared.step.Step.TheVariants.{Issue, Deliver, Serve}
 use Rattle.kt_core.specs.Step.{owner}
 use Rattle.kt_core.specs.Limits.{desks, rows}
 use Rattle.kt_core.specs.Cast.{Cast, IsCast, script_at, script_in, is_worker, is_shard, are_neighbours, is_among}
-use Rattle.kt_core.specs.State.{State, Body, IsWorker, IsShard, Node, Shard, at, node, link, link_place, body_of, node_number}
-use Rattle.kt_core.specs.Choice.{bag_change_of}
-use Rattle.kt_core.specs.Judge.{Hearer, NoHearer, ByWorker, ByShard, hearer_of, Found, Asks, Hears, Serves}
+use Rattle.kt_core.specs.State.{State, Body, IsWorker, IsShard, Shard, node, link, link_place, body_of, node_number}
+use Rattle.kt_core.specs.Judge.{Hearer, NoHearer, ByWorker, ByShard, hearer_of, Found, Hears}
 use Rattle.kt_core.specs.Plan.{home}
 use Rattle.kt_core.specs.Ready.{IsOfKind, NamesAct, IsReady, CanChange, HearsWell, CanPlan, CanApply}
 use Rattle.kt_core.proofs.Founds.{IsFound, asks, hears, serves}
 use Rattle.kt_core.proofs.Plans as plans
 use Rattle.kt_core.proofs.Plans.{PlanOf}
-use Rattle.kt_core.proofs.StepSound.{worker_in-is, shard_in-is, hearer-worker, hearer-shard}
+use Rattle.kt_core.proofs.StepSound.{shard_in-is, hearer-shard}
 use Rattle.kt_core.proofs.Peopled.{IsNode, a_worker, a_shard, owner-is_node}
 use Rattle.kt_core.proofs.Within.{choice_of-within, change_fits}
 use Rattle.kt_core.proofs.NamedCauses.{cause_of_waiting-named}
@@ -169,10 +163,6 @@ back-linked s ready p q y (to_worker {r = r} {w = w} e f) at_q = absurd (let P :
 
 heard_by : (s : State) (q : NodeId) (y : Shard) → ByShard y ≡ hearer_of (script_in s.cast q) (body_of (node s q)) → body_of (node s q) ≡ Some (IsShard y)
 heard_by s q y is = hearer-shard (script_in s.cast q) (body_of (node s q)) y is
-
--- a note of an act of p, whose cause is named
-abbrev Notes : State → NodeId → Option Note → Type 0
-Notes s p note = IfSome note (MayFollow s.history) × IfSome note (λ n. node_of n ≡ p)
 
 -- what is heard can be carried out
 heard_applies : (s : State) → IsReady s → (p q : NodeId) (hearer : Hearer) (message : Message) (plan : Plan) → Ends s.cast p q → NamesAct s.history message → hearer ≡ hearer_of (script_in s.cast q) (body_of (node s q))

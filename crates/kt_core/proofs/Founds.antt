@@ -18,7 +18,7 @@ use Rattle.kt_core.specs.Cast.{script_in, is_worker, is_shard, are_neighbours}
 use Rattle.kt_core.specs.State.{State, Shard, at, node, link, node_number, body_of, worker_in, shard_in}
 use Rattle.kt_core.specs.Desk.{empty_desk}
 use Rattle.kt_core.specs.Choice.{choice_of}
-use Rattle.kt_core.specs.Judge.{Hearer, hearer_of, Found, Asks, Hears, Serves, issue_if, issue_found, asks_if, delivery_found, serves_if, waiting_found, service_found, of_scene, judged, within_limit, allowed}
+use Rattle.kt_core.specs.Judge.{hearer_of, Found, Asks, Hears, Serves, issue_if, asks_if, delivery_found, serves_if, waiting_found, service_found, of_scene, judged, within_limit, allowed}
 
 -- the step is about this, and what it is about is there
 pub data IsFound (s : State) : Step → Found → Type 0 where

@@ -1,5 +1,5 @@
 -- The headline of each state that steps lead to.
-use Rattle.std.proofs.Common.{◌≡◌, ℕ, ◌<◌, ◌≤◌, Bool, true, List, [], ◌∷◌, length, filter, Contains, IsPermutation, Option, None, Some, IsTrue, refl, sym, ap, ◌∙◌, subst, le-leb, arith}
+use Rattle.std.proofs.Common.{◌≡◌, ℕ, ◌≤◌, true, List, filter, Contains, IsPermutation, Some, IsTrue, sym, ap, subst, le-leb, arith}
 use Rattle.std.specs.List.{range_with_len}
 use Rattle.std.specs.Prelude.{nat_le}
 use Rattle.std.proofs.lemmas.Bool.{and_from}
@@ -10,13 +10,13 @@ use Rattle.kt_history.specs.declared.note.Note.{Note}
 use Rattle.kt_history.specs.Line.{line, IsAct}
 use Rattle.kt_history.specs.Survival.{Stands, Survives, survives}
 use Rattle.kt_history.specs.Closed.{acts_in_line}
-use Rattle.kt_history.specs.WellFormed.{CausesComeFirst}
+use Rattle.kt_history.specs.WellFormed.{CausesComeFirst, HasNoCut}
 use Rattle.kt_history.proofs.Lines.{line-own}
 use Rattle.kt_history.proofs.Pasts.{InPast-back}
+use Rattle.kt_history.proofs.Sense.{Stands-no_cut}
 use Rattle.kt_history.proofs.Survivors.{survives-decides}
-use Rattle.kt_worker.specs.declared.worker.Worker.{Worker}
 use Rattle.kt_core.specs.Cast.{is_shard}
-use Rattle.kt_core.specs.State.{State, Body, IsWorker, IsShard, Node, Shard, node, body_of}
+use Rattle.kt_core.specs.State.{State, IsShard, node, body_of}
 use Rattle.kt_core.specs.Asks.{setting_of}
 use Rattle.kt_core.specs.ShardLine.{shard_of_acts, new_shard}
 use Rattle.kt_core.specs.Headline.{IsNothingLost, bag_of, all_bags, Headline}
@@ -25,14 +25,14 @@ use Rattle.kt_core.specs.Reached.{IsReached}
 use Rattle.kt_core.proofs.Homes.{is_home}
 use Rattle.kt_core.proofs.Shares.{shares, shares-whole, flat_map-like, range_within}
 use Rattle.kt_core.proofs.Survive.{surviving_tuples, survivors_run, survivors_order, survivors_bags}
-use Rattle.kt_core.proofs.WellFormed.{HasNoCut, causes_come_first, stands_without_cut}
+use Rattle.kt_core.proofs.WellFormed.{causes_come_first}
 use Rattle.kt_core.proofs.Sound.{IsBodyLike}
 use Rattle.kt_core.proofs.Holding.{Holds}
 use Rattle.kt_core.proofs.Opened.{reached-holds}
 
 -- without a cut nothing is lost, so each act that stands has all of its past
 pub nothing-lost : (h : List Note) → HasNoCut h → IsNothingLost h
-nothing-lost h none n act = (act.0.node, stands_without_cut h none n act.0 act.1)
+nothing-lost h none n act = Stands-no_cut h n none act
 
 survives-all : (h : List Note) → CausesComeFirst h → IsNothingLost h → (n : ℕ) → IsAct h n → Survives h n
 survives-all h causes all n act = λ e past lost. lost (all e (InPast-back h causes e act past).1)

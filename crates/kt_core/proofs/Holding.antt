@@ -1,9 +1,7 @@
 -- What every state keeps that steps lead to from an opening: one record, and one induction over the list of steps.
-use Rattle.std.proofs.Common.{◌≡◌, ℕ, ◌<◌, List, [], ◌∷◌, Option, Some, None, Result, Ok, Err, refl, sym, ap, ◌∙◌, subst}
+use Rattle.std.proofs.Common.{◌≡◌, ℕ, ◌<◌, List, [], ◌∷◌, Result, Ok, Err, refl, sym, subst}
 use Rattle.kt_tuple.specs.declared.node.NodeId.{NodeId}
 use Rattle.kt_history.specs.declared.note.Note.{Note}
-use Rattle.kt_history.specs.declared.note.Act.{Act}
-use Rattle.kt_history.specs.declared.note.Note.TheVariants as notes
 use Rattle.kt_core.specs.declared.plan.Plan.{Plan}
 use Rattle.kt_core.specs.declared.step.Step.{Step}
 use Rattle.kt_core.specs.declared.step.StepError.{StepError}
@@ -23,7 +21,8 @@ use Rattle.kt_core.proofs.StepSound.{step-keeps}
 use Rattle.kt_core.proofs.Peopled.{IsPeopled, owner-is_node, applied-peopled}
 use Rattle.kt_core.proofs.CanApplies.{can_apply}
 use Rattle.kt_core.proofs.StaysReady.{stays_ready, sends_next}
-use Rattle.kt_core.proofs.WellFormed.{HasNoCut, HasNoCut-act}
+use Rattle.kt_history.specs.WellFormed.{HasNoCut}
+use Rattle.kt_core.proofs.WellFormed.{HasNoCut-act}
 
 -- how a step was made
 pub record IsMade (s : State) (step : Step) (new : State) : Type 0 where

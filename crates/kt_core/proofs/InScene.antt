@@ -1,5 +1,5 @@
 -- Just the nodes of the scene have a mode, and no other node made a step.
-use Rattle.std.proofs.Common.{Option, None, Some, ◌≡◌, ℕ, zero, suc, ◌≤◌, ◌<◌, Bool, true, false, ◌&&◌, List, ◌∷◌, [], length, refl, sym, ap, ◌∙◌, subst, le-leb, arith}
+use Rattle.std.proofs.Common.{Option, None, Some, ◌≡◌, ℕ, zero, suc, ◌≤◌, ◌<◌, Bool, true, false, List, ◌∷◌, [], length, refl, sym, subst, le-leb, arith}
 use Rattle.std.specs.Prelude.{◌↔◌, IsSome, slice_get, nat_le, is_some}
 use Rattle.std.proofs.lemmas.Bool.{and_from}
 use Rattle.kt_tuple.specs.declared.node.NodeId.{NodeId}
@@ -7,7 +7,7 @@ use Rattle.kt_tuple.specs.declared.node.NodeId.TheVariants as ids
 use Rattle.kt_tuple.specs.Node.{node_index}
 use Rattle.kt_script.specs.declared.command.Command.{Command}
 use Rattle.kt_core.specs.declared.step.Mode.{Mode}
-use Rattle.kt_core.specs.Cast.{Cast, script_at, is_among, is_worker, is_shard}
+use Rattle.kt_core.specs.Cast.{script_at, is_worker, is_shard}
 use Rattle.kt_core.specs.State.{State, Node, IsInScene, at, node}
 use Rattle.kt_core.specs.Reached.{mode_of, IsReached}
 use Rattle.kt_core.proofs.Peopled.{IsNode, a_worker, a_shard, IsPeopled}

@@ -1,5 +1,5 @@
 -- What holds of each element of a list holds of one that it contains.
-use Rattle.std.proofs.Common.{◌≡◌, List, [], ◌∷◌, Contains, inl, inr, subst}
+use Rattle.std.proofs.Common.{List, [], ◌∷◌, Contains, inl, inr, subst}
 use Rattle.std.specs.List.{AllByRecursion}
 use Rattle.kt_history.proofs.Lists.{Contains-none, Contains-cons_cases}
 

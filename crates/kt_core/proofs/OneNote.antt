@@ -1,9 +1,8 @@
 -- A step notes one act, of the node whose step it is, as long as no node is down.
-use Rattle.std.proofs.Common.{◌≡◌, Bool, true, false, ◌&&◌, ◌||◌, List, Option, None, Some, Result, Ok, Err, refl, sym, ap, ◌∙◌, subst}
+use Rattle.std.proofs.Common.{◌≡◌, true, List, Option, None, Some, Result, Ok, Err, refl, sym, ap, ◌∙◌, subst}
 use Rattle.std.specs.Prelude.{OnOk, is_some}
 use Rattle.kt_tuple.specs.declared.node.NodeId.{NodeId}
 use Rattle.kt_history.specs.declared.note.Act.{Act}
-use Rattle.kt_history.specs.declared.note.Note.{Note}
 use Rattle.kt_history.specs.declared.note.Note.TheVariants as notes
 use Rattle.kt_script.specs.declared.command.Command.{Command}
 use Rattle.kt_core.specs.declared.node.Message.{Message}
@@ -12,9 +11,9 @@ use Rattle.kt_core.specs.declared.step.Step.{Step}
 use Rattle.kt_core.specs.declared.step.Step.TheVariants.{Issue, Deliver, Serve}
 use Rattle.kt_core.specs.declared.step.StepError.{StepError}
 use Rattle.kt_core.specs.Step.{owner}
-use Rattle.kt_core.specs.Cast.{Cast, script_in, is_worker, is_shard}
-use Rattle.kt_core.specs.State.{State, Body, IsWorker, IsShard, node, body_of}
-use Rattle.kt_core.specs.Judge.{Hearer, NoHearer, worker_hearer, hearer_of, Found, Asks, Hears, Serves}
+use Rattle.kt_core.specs.Cast.{script_in}
+use Rattle.kt_core.specs.State.{State, node, body_of}
+use Rattle.kt_core.specs.Judge.{Hearer, NoHearer, worker_hearer, hearer_of, Found, Hears}
 use Rattle.kt_core.specs.Effect.{noted, step_result}
 use Rattle.kt_core.specs.Headline.{AppendsActOf}
 use Rattle.kt_core.specs.Reached.{IsReached}
@@ -23,7 +22,7 @@ use Rattle.kt_core.proofs.Plans as plans
 use Rattle.kt_core.proofs.Plans.{PlanOf}
 use Rattle.kt_core.proofs.Peopled.{IsNode, a_worker, a_shard, IsPeopled, owner-is_node}
 use Rattle.kt_core.proofs.StepSound.{none_left}
-use Rattle.kt_core.proofs.Holding.{IsMade, step-made}
+use Rattle.kt_core.proofs.Holding.{step-made}
 use Rattle.kt_core.proofs.Opened.{reached-holds}
 
 -- the plan notes an act of the node

@@ -1,14 +1,12 @@
 -- What every state keeps holds of a world that was just opened, and so of each state that steps lead to.
-use Rattle.std.proofs.Common.{Option, None, Some, if◌then◌else◌, ◌≡◌, ℕ, zero, suc, ◌+◌, ◌*◌, ◌<◌, ◌≤◌, Bool, true, false, ◌&&◌, List, [], ◌∷◌, ◌++◌, length, replicate, nat_le, Contains, ◌⊎◌, inl, inr, refl, sym, ap, ◌∙◌, subst, length-append, arith}
+use Rattle.std.proofs.Common.{Option, None, Some, if◌then◌else◌, ◌≡◌, ℕ, zero, suc, ◌+◌, ◌*◌, ◌<◌, ◌≤◌, Bool, true, false, List, [], ◌∷◌, ◌++◌, length, replicate, Contains, ◌⊎◌, inl, inr, refl, sym, ap, ◌∙◌, subst, length-append, arith}
 use Rattle.std.proofs.lemmas.Bool.{cases_lt}
 use Rattle.std.proofs.lemmas.List.{get_or_past, get_or_append_left, get_or-append-add}
 use Rattle.std.proofs.lemmas.List.Sorted.{IsPermutation-refl}
-use Rattle.std.specs.Prelude.{unwrap_or, is_some, slice_get}
+use Rattle.std.specs.Prelude.{unwrap_or, is_some}
 use Rattle.kt_tuple.specs.declared.node.NodeId.{NodeId}
 use Rattle.kt_tuple.specs.declared.node.NodeId.TheVariants as ids
-use Rattle.kt_tuple.specs.declared.tuple.Tuple.{Tuple}
 use Rattle.kt_tuple.specs.Node.{node_index}
-use Rattle.kt_history.specs.Closed.{acts_in_line}
 use Rattle.kt_history.proofs.Lists.{Contains-none}
 use Rattle.kt_history.proofs.Pasts.{CausesComeFirst-empty}
 use Rattle.kt_link.specs.Network.{entry_at}
@@ -19,12 +17,10 @@ use Rattle.kt_worker.proofs.Requests.{opening-after}
 use Rattle.kt_core.specs.declared.node.Desk.{Desk}
 use Rattle.kt_core.specs.declared.node.Message.{Message}
 use Rattle.kt_core.specs.Limits.{rows, desks}
-use Rattle.kt_core.specs.Cast.{Cast, IsCast, script_at, script_in, is_among, is_worker, is_shard}
+use Rattle.kt_core.specs.Cast.{Cast, IsCast, script_at, is_among, is_worker, is_shard}
 use Rattle.kt_core.specs.Asks.{script_numbered, setting_of}
-use Rattle.kt_core.specs.State.{State, Body, IsWorker, IsShard, Node, Shard, at, node, link_place, body_of}
+use Rattle.kt_core.specs.State.{State, IsWorker, IsShard, Node, Shard, at, node, link_place, body_of}
 use Rattle.kt_core.specs.Desk.{empty_desk}
-use Rattle.kt_core.specs.Legal.{AreLegal}
-use Rattle.kt_core.specs.ShardLine.{new_shard}
 use Rattle.kt_core.specs.WorkerLine.{new_worker}
 use Rattle.kt_core.specs.Ready.{IsOfKind, IsReady}
 use Rattle.kt_core.specs.Reached.{row_of, worker_if, empty_shard, opening_worker, opening_shard, opening_rows, opening, IsReached}

@@ -1,12 +1,10 @@
 -- Just the nodes of the scene have a row, each works with what its kind works with, and no other node makes a step.
-use Rattle.std.proofs.Common.{◌≡◌, ◌≢◌, ℕ, zero, suc, ◌+◌, ◌*◌, ◌<◌, ◌≤◌, Bool, true, false, ◌&&◌, ◌||◌, List, Option, None, Some, inl, inr, refl, sym, ap, ◌∙◌, subst, ◌⊎◌}
+use Rattle.std.proofs.Common.{◌≡◌, ◌≢◌, Bool, true, false, ◌&&◌, ◌||◌, None, inl, inr, refl, sym, ap, ◌∙◌, subst, ◌⊎◌}
 use Rattle.std.specs.Prelude.{is_some}
 use Rattle.std.proofs.lemmas.Bool.{cases_eq, and_parts}
 use Rattle.kt_tuple.specs.declared.node.NodeId.{NodeId}
-use Rattle.kt_tuple.specs.declared.node.NodeId.TheVariants as ids
 use Rattle.kt_tuple.specs.Node.{node_index}
 use Rattle.kt_tuple.proofs.Nodes.{node_index-injective}
-use Rattle.kt_script.specs.declared.command.Command.{Command}
 use Rattle.kt_worker.specs.declared.worker.Worker.{Worker}
 use Rattle.kt_core.specs.declared.node.Change.{Change}
 use Rattle.kt_core.specs.declared.node.Change.TheVariants as changes
@@ -14,10 +12,10 @@ use Rattle.kt_core.specs.declared.plan.Plan.{Plan}
 use Rattle.kt_core.specs.declared.step.Step.{Step}
 use Rattle.kt_core.specs.declared.step.Step.TheVariants.{Issue, Deliver, Serve}
 use Rattle.kt_core.specs.Step.{owner}
-use Rattle.kt_core.specs.Cast.{Cast, script_in, is_worker, is_shard, are_neighbours}
-use Rattle.kt_core.specs.State.{State, Body, IsWorker, IsShard, Node, Shard, at, put, node}
+use Rattle.kt_core.specs.Cast.{Cast, is_worker, is_shard}
+use Rattle.kt_core.specs.State.{State, IsWorker, IsShard, Shard, at, node}
 use Rattle.kt_core.specs.Judge.{Found}
-use Rattle.kt_core.specs.Effect.{changed, changed_body, applied}
+use Rattle.kt_core.specs.Effect.{changed, applied}
 use Rattle.kt_core.specs.Reached.{row_of}
 use Rattle.kt_core.proofs.Rows.{at-put_other}
 use Rattle.kt_core.proofs.Founds.{IsFound, asks, hears, serves}

@@ -15,10 +15,6 @@ shifted-one_later : (i : ℕ) (o : Option ℕ) → shifted i (one_later o) ≡ s
 shifted-one_later i None = refl
 shifted-one_later i (Some p) = ap Some (omega arith)
 
-pub shifted-zero : (o : Option ℕ) → shifted 0 o ≡ o
-shifted-zero None = refl
-shifted-zero (Some p) = ap Some (omega arith)
-
 first : (t : Template) (n : ℕ) (u : Tuple) (us : List Tuple) → matches t u ≡ true → index_of_match t (suc n) (u ∷ us) ≡ one_later (index_of_match t n us)
 unfolding index_of_match
 first t n u us m = rw m refl

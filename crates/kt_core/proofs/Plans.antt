@@ -19,7 +19,7 @@ use Rattle.kt_core.specs.Cause.{cause_of_waiting}
 use Rattle.kt_core.specs.Desk.{empty_desk, newest, kept_answer}
 use Rattle.kt_core.specs.Choice.{answer_of, bag_change_of}
 use Rattle.kt_core.specs.Judge.{NoHearer, ByWorker, ByShard, Found, Asks, Hears, Serves}
-use Rattle.kt_core.specs.Plan.{home, request_for, empty_plan, issue_plan, asks_plan, heard_plan, again_plan, ignored_plan, old_request_plan, request_plan, accepted_plan, reply_plan, arrival_plan, service_plan}
+use Rattle.kt_core.specs.Plan.{home, request_for, empty_plan, issue_plan, asks_plan, heard_plan, again_plan, ignored_plan, old_request_plan, request_plan, accepted_plan, reply_plan, service_plan}
 use Rattle.kt_core.specs.Effect.{next_note, plan_of}
 
 -- what the shard has for the worker

@@ -15,9 +15,6 @@ at-put_same d [] (suc k) y = at-put_same d [] k y
 at-put_same d (x ∷ xs) zero y = refl
 at-put_same d (x ∷ xs) (suc k) y = at-put_same d xs k y
 
-at-nil : {A : Type 0} (d : A) (k : ℕ) → at d [] k ≡ d
-at-nil d k = refl
-
 pub at-put_other : {A : Type 0} (d : A) (xs : List A) (j k : ℕ) (y : A) → k ≢ j → at d (put d xs j y) k ≡ at d xs k
 unfolding put
 at-put_other d [] zero zero y n = absurd (n refl)

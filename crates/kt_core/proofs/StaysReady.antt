@@ -1,5 +1,5 @@
 -- A step that is carried out leaves the state ready for the next.
-use Rattle.std.proofs.Common.{◌≡◌, ◌≢◌, ℕ, suc, ◌+◌, ◌<◌, ◌≤◌, List, [], ◌∷◌, ◌++◌, length, Contains, Option, Some, None, inl, inr, refl, sym, ap, subst, ◌∙◌, arith, length-append}
+use Rattle.std.proofs.Common.{◌≡◌, ◌≢◌, ℕ, suc, ◌+◌, ◌<◌, ◌≤◌, List, [], ◌∷◌, ◌++◌, length, Contains, Option, Some, None, inl, inr, sym, ap, subst, ◌∙◌, arith, length-append}
 use Rattle.std.specs.Prelude.{IfSome}
 use Rattle.std.specs.List.{AllByRecursion}
 use Rattle.std.specs.Option.{option_map}
@@ -22,15 +22,15 @@ use Rattle.kt_core.specs.declared.node.Change.TheVariants as changes
 use Rattle.kt_core.specs.declared.plan.Plan.{Plan}
 use Rattle.kt_core.specs.declared.step.Step.{Step}
 use Rattle.kt_core.specs.Step.{owner}
-use Rattle.kt_core.specs.Limits.{most_steps, rows}
+use Rattle.kt_core.specs.Limits.{most_steps}
 use Rattle.kt_core.specs.State.{State, Body, IsWorker, IsShard, Node, at, put, node, link_place, body_of}
 use Rattle.kt_core.specs.Desk.{empty_desk}
 use Rattle.kt_core.specs.Judge.{Found}
-use Rattle.kt_core.specs.Effect.{changed, changed_body, taken_off, noted, applied, next_note}
+use Rattle.kt_core.specs.Effect.{changed_body, taken_off, noted, applied, next_note}
 use Rattle.kt_core.specs.Ready.{IsOfKind, NamesAct, IsReady, CanChange, CanApply}
 use Rattle.kt_core.proofs.Rows.{at-put_same, at-put_other, length-put}
 use Rattle.kt_core.proofs.Lists.{all-at}
-use Rattle.kt_core.proofs.OnLinks.{taken_off-was, IsSent, sent-cases}
+use Rattle.kt_core.proofs.OnLinks.{taken_off-was, sent-cases}
 use Rattle.kt_core.proofs.Plans as plans
 use Rattle.kt_core.proofs.Plans.{PlanOf}
 use Rattle.kt_core.proofs.Applying.{changed-body, applied-owner, applied-other}

@@ -1,5 +1,5 @@
 -- Each plan of an allowed step keeps a sound state sound.
-use Rattle.std.proofs.Common.{◌≡◌, ◌≢◌, ℕ, Bool, true, false, List, [], ◌∷◌, Contains, Option, Some, None, inl, inr, refl, sym, ap, ◌∙◌, subst}
+use Rattle.std.proofs.Common.{◌≡◌, ℕ, true, List, [], ◌∷◌, Contains, Option, Some, None, refl, sym, ap, subst}
 use Rattle.std.specs.Prelude.{is_some, unwrap_or}
 use Rattle.std.specs.Option.{option_map}
 use Rattle.kt_tuple.specs.declared.node.NodeId.{NodeId}
@@ -23,7 +23,7 @@ use Rattle.kt_core.specs.Step.{owner}
 use Rattle.kt_core.specs.Cast.{script_in}
 use Rattle.kt_core.specs.State.{State, Body, IsWorker, IsShard, Shard, node, link, body_of, worker_in, shard_in}
 use Rattle.kt_core.specs.Asks.{script_numbered}
-use Rattle.kt_core.specs.Judge.{Hearer, NoHearer, ByWorker, ByShard, worker_hearer, hearer_of, Found, Asks, Hears}
+use Rattle.kt_core.specs.Judge.{Hearer, ByWorker, ByShard, hearer_of, Found, Asks, Hears}
 use Rattle.kt_core.specs.Effect.{changed_body, next_note}
 use Rattle.kt_core.specs.Plan.{empty_plan, issue_plan, request_for, home, accepted_plan}
 use Rattle.kt_core.proofs.Founds.{IsFound, asks, hears, serves}

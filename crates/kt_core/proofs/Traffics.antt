@@ -1,9 +1,7 @@
 -- What making room, sending and taking off leave of the links.
-use Rattle.std.proofs.Common.{◌≡◌, ◌≢◌, ℕ, zero, suc, ◌+◌, ◌<◌, ◌≤◌, List, [], ◌∷◌, ◌++◌, length, set, get_or, take, drop, Contains, Option, None, Some, ◌⊎◌, inl, inr, refl, sym, ap, ◌∙◌, subst, arith}
-use Rattle.std.specs.Prelude.{slice_get}
+use Rattle.std.proofs.Common.{◌≡◌, ℕ, zero, suc, ◌+◌, ◌<◌, ◌≤◌, List, [], ◌∷◌, ◌++◌, length, set, get_or, take, Option, None, Some, ◌⊎◌, inl, inr, refl, sym, ap, ◌∙◌, subst, arith}
 use Rattle.std.specs.List.{AllByRecursion}
 use Rattle.std.proofs.lemmas.Bool.{cases_eq}
-use Rattle.std.proofs.lemmas.List.{set_past}
 use Rattle.kt_tuple.specs.declared.node.NodeId.{NodeId}
 use Rattle.kt_tuple.specs.Node.{node_index}
 use Rattle.kt_tuple.proofs.Nodes.{node_index-injective}
@@ -26,9 +24,6 @@ set-own (x ∷ xs) (suc k) = ap (λ l. x ∷ l) (set-own xs k)
 entry-own : (lists : List (List Message)) (k : Option ℕ) → with_entry lists k (entry_at [] lists k) ≡ lists
 entry-own lists None = refl
 entry-own lists (Some k) = set-own lists k
-
-pub same_traffic : (net : Net) → IsSameTraffic net net
-same_traffic net = record { workers = refl; shards = refl; queues = refl }
 
 -- room that is made leaves what is on its way
 pub reserved : (old now new : Net) (p q : NodeId) → IsSameTraffic old now → queue new p q ≡ queue now p q → ChangesOnly now new p q → IsSameTraffic old new
@@ -105,25 +100,6 @@ pub record Sending (old now : Net) (owner : NodeId) (all rest : List (NodeId × 
   pub queues : sent (place old.workers old.shards) now.queues owner rest ≡ sent (place old.workers old.shards) old.queues owner all
   pub there : AllByRecursion (λ (m : NodeId × Message). AreNeighbours old.workers old.shards owner m.0) rest
   pub room_left : AllByRecursion (λ (m : NodeId × Message). length rest ≤ room now owner m.0) rest
-
-pub sending-all : (net : Net) (owner : NodeId) (all rest : List (NodeId × Message)) → rest ≡ all → AllByRecursion (λ (m : NodeId × Message). AreNeighbours net.workers net.shards owner m.0) all
-    → AllByRecursion (λ (m : NodeId × Message). length all ≤ room net owner m.0) all → Sending net net owner all rest
-sending-all net owner all rest is there has =
-    let P : List (NodeId × Message) → Type 0 = Sending net net owner all in
-    subst P (sym is) (record { workers = refl; shards = refl; queues = refl; there = there; room_left = has })
-
--- the next message has a link, and room on it
-pub next-there : (old now : Net) (owner : NodeId) (all rest later : List (NodeId × Message)) (m : NodeId × Message) → Sending old now owner all rest → rest ≡ m ∷ later
-    → AreNeighbours now.workers now.shards owner m.0
-next-there old now owner all rest later m s is =
-    let first : AreNeighbours old.workers old.shards owner m.0 = (subst (AllByRecursion (λ (x : NodeId × Message). AreNeighbours old.workers old.shards owner x.0)) is s.there).0 in
-    subst (λ (k : ℕ). AreNeighbours k now.shards owner m.0) (sym s.workers) (subst (λ (k : ℕ). AreNeighbours old.workers k owner m.0) (sym s.shards) first)
-
-pub next-room : (old now : Net) (owner : NodeId) (all rest later : List (NodeId × Message)) (m : NodeId × Message) → Sending old now owner all rest → rest ≡ m ∷ later → 0 < room now owner m.0
-next-room old now owner all rest later m s is =
-    let Left : List (NodeId × Message) → Type 0 = λ l. AllByRecursion (λ (x : NodeId × Message). length l ≤ room now owner x.0) l in
-    let first = (subst Left is s.room_left).0 in
-    omega (arith, first)
 
 pub sent-next : (old now new : Net) (owner : NodeId) (all rest later : List (NodeId × Message)) (m : NodeId × Message) → Sending old now owner all rest → rest ≡ m ∷ later
     → queue new owner m.0 ≡ queue now owner m.0 ++ m.1 ∷ [] → room new owner m.0 + 1 ≡ room now owner m.0 → ChangesOnly now new owner m.0 → Sending old new owner all later

@@ -1,6 +1,5 @@
--- Well-formed histories: they grow by notes that fit, their causes come first, and without a cut all of them survives.
-use Rattle.std.proofs.Common.{◌≡◌, ◌≢◌, ℕ, suc, Bool, true, false, Option, Some, None, List, [], ◌∷◌, ◌++◌, length, Contains, inl, inr, sym, refl, ◌∙◌, subst, IsTrue, arith}
-use Rattle.std.proofs.lemmas.List.Elements.{Contains-append_left, Contains-push}
+-- Well-formed histories grow by notes that fit, and their causes come first; histories without a cut grow by acts.
+use Rattle.std.proofs.Common.{◌≡◌, ◌≢◌, ℕ, Option, Some, None, List, [], ◌∷◌, ◌++◌, inl, inr, sym, subst, arith}
 use Rattle.kt_tuple.specs.declared.node.NodeId.{NodeId}
 use Rattle.kt_tuple.specs.declared.node.NodeId.TheVariants as nodes
 use Rattle.kt_tuple.specs.declared.op.Answer.{Answer}
@@ -9,13 +8,9 @@ use Rattle.kt_history.specs.declared.note.What.TheVariants as whats
 use Rattle.kt_history.specs.declared.note.Act.{Act}
 use Rattle.kt_history.specs.declared.note.Note.{Note}
 use Rattle.kt_history.specs.declared.note.Note.TheVariants as notes
-use Rattle.kt_history.specs.Line.{note_at, before, line, same_node, IsAct}
-use Rattle.kt_history.specs.Survival.{survives}
-use Rattle.kt_history.specs.WellFormed.{MayFollow, CausesComeFirst, IgnoredFits, ActFits, Fits, IsWellFormed}
-use Rattle.kt_history.proofs.Lists.{snoc_ind}
-use Rattle.kt_history.proofs.Lines.{line-own_act, line-other_act, note_at-old, note_at-new, note_at-within, note_at-push_cases, before-old, before-new, line-own, same_node-true}
-use Rattle.kt_history.proofs.Pasts.{InPast-back}
-use Rattle.kt_history.proofs.Survivors.{survives-decides}
+use Rattle.kt_history.specs.Line.{note_at, before, IsAct}
+use Rattle.kt_history.specs.WellFormed.{MayFollow, CausesComeFirst, IgnoredFits, ActFits, Fits, IsWellFormed, HasNoCut}
+use Rattle.kt_history.proofs.Lines.{note_at-within, note_at-push_cases, before-old, before-new}
 
 -- a cause is an act
 cause_is_act : (h : List Note) (a : Act) (what : What) → ActFits h a what → a.by ≢ 0 → IsAct h a.by
@@ -55,47 +50,10 @@ IsWellFormed-push h note wf fits = record {
   ];
 }
 
--- no note is a cut
-abbrev pub HasNoCut : List Note → Type 0
-HasNoCut h = (n : ℕ) (p : NodeId) (keep : ℕ) → note_at h n ≡ Some (notes.Cut p keep) → ⊥
-
 pub HasNoCut-empty : HasNoCut []
-HasNoCut-empty n p keep e = let r = note_at-within [] n (notes.Cut p keep) e in omega (arith, r.0, r.1)
+HasNoCut-empty = record { none = λ n p keep e. let r = note_at-within [] n (notes.Cut p keep) e in omega (arith, r.0, r.1) }
 
 pub HasNoCut-act : (h : List Note) (a : Act) → HasNoCut h → HasNoCut (h ++ notes.Act a ∷ [])
-HasNoCut-act h a none n p keep e = elim (note_at-push_cases h (notes.Act a) n (notes.Cut p keep) e) [ inl old ↦ none n p keep old.1 | inr new ↦ cc (new.1) ]
-
-HasNoCut-was : (h : List Note) (x : Note) → HasNoCut (h ++ x ∷ []) → HasNoCut h
-HasNoCut-was h x none n p keep e = none n p keep (note_at-old h (x ∷ []) n (note_at-within h n (notes.Cut p keep) e).1 ∙ e)
-
--- without a cut each act stands in its node's line
-pub stands_without_cut : (h : List Note) → HasNoCut h → (n : ℕ) (a : Act) → note_at h n ≡ Some (notes.Act a) → Contains (line h a.node) n
-stands_without_cut h = snoc_ind (λ h. HasNoCut h → (n : ℕ) (a : Act) → note_at h n ≡ Some (notes.Act a) → Contains (line h a.node) n)
-    (λ none n a e. let r = note_at-within [] n (notes.Act a) e in absurd (omega (arith, r.0, r.1))) step h
-  where
-    step : (h : List Note) (x : Note) → (HasNoCut h → (n : ℕ) (a : Act) → note_at h n ≡ Some (notes.Act a) → Contains (line h a.node) n) →
-        HasNoCut (h ++ x ∷ []) → (n : ℕ) (a : Act) → note_at (h ++ x ∷ []) n ≡ Some (notes.Act a) → Contains (line (h ++ x ∷ []) a.node) n
-    step h (notes.Cut p keep) before none n a e = absurd (none (suc (length h)) p keep (note_at-new h (notes.Cut p keep)))
-    step h (notes.Act b) before none n a e = elim (note_at-push_cases h (notes.Act b) n (notes.Act a) e) [
-      | inl old ↦ kept (same_node b.node a.node) refl (before (HasNoCut-was h (notes.Act b) none) n a old.1)
-      | inr new ↦ let same : b ≡ a = cc (new.1) in newest n new.0 same
-    ]
-      where
-        newest : (n : ℕ) → n ≡ suc (length h) → b ≡ a → Contains (line (h ++ notes.Act b ∷ []) a.node) n
-        newest n e same =
-            subst (λ (z : Act). Contains (line (h ++ notes.Act b ∷ []) z.node) n) same
-            (subst (λ l. Contains l n) (sym (line-own_act h b)) (subst (Contains (line h b.node ++ suc (length h) ∷ [])) (sym e) (Contains-push (line h b.node) (suc (length h)))))
-
-        kept : (r : Bool) → same_node b.node a.node ≡ r → Contains (line h a.node) n → Contains (line (h ++ notes.Act b ∷ []) a.node) n
-        kept true s c =
-            let p = same_node-true b.node a.node s in
-            subst (λ q. Contains (line (h ++ notes.Act b ∷ []) q) n) p
-            (subst (λ l. Contains l n) (sym (line-own_act h b)) (Contains-append_left (line h b.node) (suc (length h) ∷ []) n (subst (λ q. Contains (line h q) n) (sym p) c)))
-        kept false s c = subst (λ l. Contains l n) (sym (line-other_act h b a.node s)) c
-
--- and each act of a history whose causes come first survives
-pub survives_without_cut : (h : List Note) → CausesComeFirst h → HasNoCut h → (n : ℕ) → IsAct h n → IsTrue (survives h n)
-survives_without_cut h causes none n is_act = (survives-decides h causes n).1 (λ e past lost. let b = (InPast-back h causes e is_act past).1 in lost (b.0.node, stands_without_cut h none e b.0 b.1))
-
-pub all_survive : (h : List Note) → CausesComeFirst h → HasNoCut h → (p : NodeId) (n : ℕ) → Contains (line h p) n → IsTrue (survives h n)
-all_survive h causes none p n c = survives_without_cut h causes none n ((line-own h p n c).act, (line-own h p n c).is_act)
+HasNoCut-act h a has = record {
+  none = λ n p keep e. elim (note_at-push_cases h (notes.Act a) n (notes.Cut p keep) e) [ inl old ↦ has.none n p keep old.1 | inr new ↦ cc (new.1) ];
+}

@@ -1,6 +1,6 @@
 -- What a step does to the state of a world. A step is a refusal, or one plan of its owner that is put into effect:
 -- the owner changes, what was heard is off its link, what is sent is on its way, and at most one note is made.
-use Rattle.std.specs.Prelude.{ℕ, ◌+◌, List, [], ◌∷◌, ◌++◌, length, drop, Option, None, Some, Result, Ok, Err, remove}
+use Rattle.std.specs.Prelude.{ℕ, ◌+◌, List, [], ◌∷◌, ◌++◌, length, drop, Option, None, Some, Result, remove}
 use Rattle.std.specs.Option.{option_map}
 use Rattle.kt_tuple.specs.declared.node.NodeId.{NodeId}
 use Rattle.kt_tuple.specs.declared.tuple.Tuple.{Tuple}

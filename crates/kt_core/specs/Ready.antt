@@ -23,7 +23,7 @@ use Rattle.kt_core.specs.declared.node.Change.TheVariants as changes
 use Rattle.kt_core.specs.declared.plan.Plan.{Plan}
 use Rattle.kt_core.specs.Limits.{rows as row_count, desks as desk_count, most_steps}
 use Rattle.kt_core.specs.Cast.{IsCast}
-use Rattle.kt_core.specs.State.{State, Body, IsWorker, IsShard, Node, at, node, node_number, body_of}
+use Rattle.kt_core.specs.State.{State, Body, IsWorker, IsShard, at, node, node_number, body_of}
 use Rattle.kt_core.specs.Choice.{IsInBag}
 use Rattle.kt_core.specs.Judge.{Hearer, NoHearer, ByWorker, ByShard, Found, Asks, Hears, Serves}
 

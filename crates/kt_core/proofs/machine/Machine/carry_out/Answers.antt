@@ -1,4 +1,4 @@
-use Rattle.std.proofs.Common.{◌≡◌, ◌≤◌, ℕ, length, subst, sym, ap, ◌∙◌, arith}
+use Rattle.std.proofs.Common.{◌≤◌, length, subst, sym, ◌∙◌, arith}
 use Rattle.std.specs.Prelude.{List}
 use Rattle.std.specs.List.{AllByRecursion}
 use Rattle.kt_tuple.specs.declared.node.NodeId.{NodeId}

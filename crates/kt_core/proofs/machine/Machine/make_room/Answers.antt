@@ -1,4 +1,4 @@
-use Rattle.std.proofs.Common.{◌≤◌, length, subst, sym, ap, ◌∙◌, arith}
+use Rattle.std.proofs.Common.{◌≤◌, length, subst, sym}
 use Rattle.std.specs.Prelude.{List, None}
 use Rattle.std.specs.List.{AllByRecursion}
 use Rattle.kt_tuple.specs.declared.node.NodeId.{NodeId}
