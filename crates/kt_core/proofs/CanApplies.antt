@@ -21,7 +21,7 @@ use Rattle.kt_core.specs.Step.{owner}
 use Rattle.kt_core.specs.Limits.{desks, rows}
 use Rattle.kt_core.specs.Cast.{Cast, IsCast, script_at, script_in, is_worker, is_shard, are_neighbours, is_among}
 use Rattle.kt_core.specs.State.{State, Body, IsWorker, IsShard, Shard, node, link, link_place, body_of, node_number}
-use Rattle.kt_core.specs.Judge.{Hearer, NoHearer, ByWorker, ByShard, hearer_of, Found, Hears}
+use Rattle.kt_core.specs.Judge.{Hearer, Nobody, ByWorker, ByShard, hearer_of, Found, Hears}
 use Rattle.kt_core.specs.Plan.{home}
 use Rattle.kt_core.specs.Ready.{IsOfKind, NamesAct, IsReady, CanChange, HearsWell, CanPlan, CanApply}
 use Rattle.kt_core.proofs.Founds.{IsFound, asks, hears, serves}
@@ -121,7 +121,7 @@ sender-small cast is p q (to_shard e f) = worker-small cast is p e
 sender-small cast is p q (to_worker e f) = shard-small cast is p e
 
 hears-well : (s : State) → IsReady s → (p q : NodeId) (hearer : Hearer) → hearer ≡ hearer_of (script_in s.cast q) (body_of (node s q)) → node_number p < desks → HearsWell (node_number p) hearer
-hears-well s ready p q NoHearer is small = tt
+hears-well s ready p q Nobody is small = tt
 hears-well s ready p q (ByWorker script x) is small = tt
 hears-well s ready p q (ByShard y) is small =
     let nine = nine_desks s ready q y (hearer-shard (script_in s.cast q) (body_of (node s q)) y is) in omega (arith, nine, small)

@@ -13,7 +13,7 @@ use Rattle.kt_core.specs.declared.step.StepError.{StepError}
 use Rattle.kt_core.specs.Step.{owner}
 use Rattle.kt_core.specs.Cast.{script_in}
 use Rattle.kt_core.specs.State.{State, node, body_of}
-use Rattle.kt_core.specs.Judge.{Hearer, NoHearer, worker_hearer, hearer_of, Found, Hears}
+use Rattle.kt_core.specs.Judge.{Hearer, Nobody, worker_hearer, hearer_of, Found, Hears}
 use Rattle.kt_core.specs.Effect.{noted, step_result}
 use Rattle.kt_core.specs.Headline.{AppendsActOf}
 use Rattle.kt_core.specs.Reached.{IsReached}
@@ -32,16 +32,16 @@ record NotesAct (p : NodeId) (plan : Plan) : Type 0 where
   own : act.node ≡ p
 
 -- somebody hears what is sent to a node that is not down
-heard : (s : State) → IsPeopled s → (q : NodeId) → IsNode s.cast q → hearer_of (script_in s.cast q) (body_of (node s q)) ≡ NoHearer → ⊥
-heard s people q (a_worker worker) none = by (script_in s.cast q) worker (subst (λ row. hearer_of (script_in s.cast q) (body_of row) ≡ NoHearer) (people.worker q worker).1 none)
+heard : (s : State) → IsPeopled s → (q : NodeId) → IsNode s.cast q → hearer_of (script_in s.cast q) (body_of (node s q)) ≡ Nobody → ⊥
+heard s people q (a_worker worker) none = by (script_in s.cast q) worker (subst (λ row. hearer_of (script_in s.cast q) (body_of row) ≡ Nobody) (people.worker q worker).1 none)
   where
-    by : (o : Option (List Command)) → is_some o ≡ true → worker_hearer (people.worker q worker).0 o ≡ NoHearer → ⊥
+    by : (o : Option (List Command)) → is_some o ≡ true → worker_hearer (people.worker q worker).0 o ≡ Nobody → ⊥
     by None there e = cc (there)
     by (Some script) there e = cc (e)
 heard s people q (a_shard shard) none =
-    let e = subst (λ row. hearer_of (script_in s.cast q) (body_of row) ≡ NoHearer) (people.shard q shard).1 none in cc (e)
+    let e = subst (λ row. hearer_of (script_in s.cast q) (body_of row) ≡ Nobody) (people.shard q shard).1 none in cc (e)
 
-arrival-notes : (s : State) (p q : NodeId) (hearer : Hearer) (message : Message) (plan : Plan) → (hearer ≡ NoHearer → ⊥) → PlanOf s.cast.shards s.history q (Hears p hearer message) plan → NotesAct q plan
+arrival-notes : (s : State) (p q : NodeId) (hearer : Hearer) (message : Message) (plan : Plan) → (hearer ≡ Nobody → ⊥) → PlanOf s.cast.shards s.history q (Hears p hearer message) plan → NotesAct q plan
 arrival-notes s p q hearer message plan somebody plans.drops = absurd (somebody refl)
 arrival-notes s p q hearer message plan somebody plans.misses_request = record { act = _; is = refl; own = refl }
 arrival-notes s p q hearer message plan somebody (plans.accepts e) = record { act = _; is = refl; own = refl }

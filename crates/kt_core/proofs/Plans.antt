@@ -18,7 +18,7 @@ use Rattle.kt_core.specs.State.{Shard, at, node_number}
 use Rattle.kt_core.specs.Cause.{cause_of_waiting}
 use Rattle.kt_core.specs.Desk.{empty_desk, newest, kept_answer}
 use Rattle.kt_core.specs.Choice.{answer_of, bag_change_of}
-use Rattle.kt_core.specs.Judge.{NoHearer, ByWorker, ByShard, Found, Asks, Hears, Serves}
+use Rattle.kt_core.specs.Judge.{Nobody, ByWorker, ByShard, Found, Asks, Hears, Serves}
 use Rattle.kt_core.specs.Plan.{home, request_for, empty_plan, issue_plan, asks_plan, heard_plan, again_plan, ignored_plan, old_request_plan, request_plan, accepted_plan, reply_plan, service_plan}
 use Rattle.kt_core.specs.Effect.{next_note, plan_of}
 
@@ -30,7 +30,7 @@ pub data PlanOf (shards : ℕ) (h : List Note) (p : NodeId) : Found → Plan →
   issues : {script : List Command} {x : Worker} {r : ℕ × Op} → next_request script x ≡ Some r
       → PlanOf shards h p (Asks script x) (issue_plan p (node_number p) (request_for r) (home shards r.1) (next_note h) (issued script x))
   idles : {script : List Command} {x : Worker} → next_request script x ≡ None → PlanOf shards h p (Asks script x) empty_plan
-  drops : {q : NodeId} {message : Message} → PlanOf shards h p (Hears q NoHearer message) empty_plan
+  drops : {q : NodeId} {message : Message} → PlanOf shards h p (Hears q Nobody message) empty_plan
   misses_request : {q : NodeId} {script : List Command} {x : Worker} {request : Request} {by : ℕ}
       → PlanOf shards h p (Hears q (ByWorker script x) (messages.Request request by)) (ignored_plan p (node_number p) request by None)
   accepts : {q : NodeId} {script : List Command} {x : Worker} {request : Request} {answer : Answer} {by : ℕ} → awaits x request.number request.op ≡ true
@@ -81,7 +81,7 @@ reply-plans shards h p q script x request answer by = decide (awaits x request.n
 -- every plan is made in one of these ways
 pub plan_of-is : (shards : ℕ) (h : List Note) (p : NodeId) (found : Found) → PlanOf shards h p found (plan_of shards h p found)
 plan_of-is shards h p (Asks script x) = asks-plans shards h p script x (next_request script x) refl
-plan_of-is shards h p (Hears q NoHearer message) = drops
+plan_of-is shards h p (Hears q Nobody message) = drops
 plan_of-is shards h p (Hears q (ByWorker script x) (messages.Request request by)) = misses_request
 plan_of-is shards h p (Hears q (ByWorker script x) (messages.Reply request answer by)) = reply-plans shards h p q script x request answer by
 plan_of-is shards h p (Hears q (ByShard y) (messages.Request request by)) = request-plans shards h p q y request by

@@ -20,16 +20,16 @@ use Rattle.kt_core.specs.Choice.{choice_of}
 
 -- who hears a message: nobody where the node is down
 pub data Hearer : Type 0 where
-  NoHearer : Hearer
+  Nobody : Hearer
   ByWorker : List Command → Worker → Hearer
   ByShard : Shard → Hearer
 
 abbrev pub worker_hearer : Worker → Option (List Command) → Hearer
-worker_hearer x None = NoHearer
+worker_hearer x None = Nobody
 worker_hearer x (Some script) = ByWorker script x
 
 abbrev pub hearer_of : Option (List Command) → Option Body → Hearer
-hearer_of script None = NoHearer
+hearer_of script None = Nobody
 hearer_of script (Some (IsWorker x)) = worker_hearer x script
 hearer_of script (Some (IsShard y)) = ByShard y
 

@@ -22,7 +22,7 @@ use Rattle.kt_core.specs.declared.node.Message.TheVariants as messages
 use Rattle.kt_core.specs.declared.node.Change.TheVariants as changes
 use Rattle.kt_core.specs.declared.plan.Plan.{Plan}
 use Rattle.kt_core.specs.State.{at, node_number}
-use Rattle.kt_core.specs.Judge.{Hearer, NoHearer, ByWorker, ByShard}
+use Rattle.kt_core.specs.Judge.{Hearer, Nobody, ByWorker, ByShard}
 use Rattle.kt_core.specs.Desk.{empty_desk, newest, kept_answer}
 
 -- an act of p about a request of the worker of this number
@@ -113,7 +113,7 @@ reply_plan p script worker number request answer by =
 -- q hears a message from the node with the number n among its kind: a worker hears replies and a shard requests,
 -- each ignores the other, and a node that is down drops all
 abbrev pub arrival_plan : NodeId → ℕ → Hearer → Message → ℕ → Plan
-arrival_plan q n NoHearer message next = empty_plan
+arrival_plan q n Nobody message next = empty_plan
 arrival_plan q n (ByWorker script x) (messages.Request request by) next = ignored_plan q (node_number q) request by None
 arrival_plan q n (ByWorker script x) (messages.Reply request answer by) next = reply_plan q script x (node_number q) request answer by
 arrival_plan q n (ByShard y) (messages.Request request by) next = request_plan q (at empty_desk y.desks n) n request by next

@@ -25,7 +25,7 @@ use Rattle.kt_core.specs.Limits.{rows as row_count, desks as desk_count, most_st
 use Rattle.kt_core.specs.Cast.{IsCast}
 use Rattle.kt_core.specs.State.{State, Body, IsWorker, IsShard, at, node, node_number, body_of}
 use Rattle.kt_core.specs.Choice.{IsInBag}
-use Rattle.kt_core.specs.Judge.{Hearer, NoHearer, ByWorker, ByShard, Found, Asks, Hears, Serves}
+use Rattle.kt_core.specs.Judge.{Hearer, Nobody, ByWorker, ByShard, Found, Asks, Hears, Serves}
 
 -- what p works with is of its kind, and a shard has a desk for each number that a worker can have
 abbrev pub IsOfKind : NodeId → Option Body → Type 0
@@ -65,7 +65,7 @@ CanChange _ _ = Unit {0}
 
 -- a shard that hears a message has a desk for its sender, and what serves is in the bag
 abbrev pub HearsWell : ℕ → Hearer → Type 0
-HearsWell n NoHearer = Unit {0}
+HearsWell n Nobody = Unit {0}
 HearsWell n (ByWorker script x) = Unit {0}
 HearsWell n (ByShard y) = n < length y.desks
 

@@ -4,10 +4,10 @@ use Rattle.kt_core.specs.declared.judge.Found.TheVariants as codes
 use Rattle.kt_core.specs.declared.judge.Hearer.{Hearer as HearerCode}
 use Rattle.kt_core.specs.declared.judge.Hearer.TheVariants as hearers
 use Rattle.kt_core.specs.State.{shard_view}
-use Rattle.kt_core.specs.Judge.{Hearer, NoHearer, ByWorker, ByShard, Found, Asks, Hears, Serves}
+use Rattle.kt_core.specs.Judge.{Hearer, Nobody, ByWorker, ByShard, Found, Asks, Hears, Serves}
 
 abbrev pub hearer_view : HearerCode → Hearer
-hearer_view hearers.Nobody = NoHearer
+hearer_view hearers.Nobody = Nobody
 hearer_view (hearers.Worker script x) = ByWorker script.now x.now
 hearer_view (hearers.Shard y) = ByShard (shard_view y.now)
 
