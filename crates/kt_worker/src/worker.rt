@@ -1,5 +1,5 @@
-ghost use Rattle.std.specs.Prelude.{◌≡◌, ◌↔◌, List, suc, length, [], ◌∷◌, ◌++◌, if◌then◌else◌, ◌+◌, ◌<◌, Some, None, not, is_some, IsTrue, IfOk, OnErr};
-ghost use Rattle.std.specs.Option.{option_copied};
+ghost use Rattle.std.specs.Prelude.{◌≡◌, ◌↔◌, List, suc, length, [], ◌∷◌, ◌++◌, if◌then◌else◌, ◌+◌, ◌<◌, Some, None, not, is_some, IsTrue, IfOk, IfSome, OnErr};
+ghost use Rattle.std.specs.Option.{option_copied, option_map};
 
 use kt_script::{Env, Next, Script};
 use kt_tuple::{Answer, Op};
@@ -33,8 +33,9 @@ impl Model for Worker {
 impl Worker {
     ghost use Rattle.kt_tuple.specs.declared.op.Op.{Op};
     ghost use Rattle.kt_tuple.specs.declared.op.Answer.{Answer};
+    ghost use Rattle.kt_script.specs.declared.command.Command.{Command};
     ghost use Rattle.kt_script.specs.Asks.{asks};
-    ghost use Rattle.kt_worker.specs.Standing.{opening_standing, next_request, numbered, issued, awaits, heard, is_left};
+    ghost use Rattle.kt_worker.specs.Standing.{opening_standing, again_request, next_request, numbered, issued, awaits, heard, is_left};
     ghost use Rattle.kt_worker.specs.After.{IsAfter};
 
     /// A worker that made no request yet.
@@ -78,6 +79,20 @@ impl Worker {
         ensures { option_copied result ≡ self.now.asked }
     {
         self.asked.as_ref()
+    }
+
+    /// The unanswered request once more: its number and operation. There is none where nothing is
+    /// unanswered.
+    pub fn again(&self) -> Option<(u64, &Op)>
+        ensures exact { option_map (λ r. (r.0, r.1.now)) result ≡ again_request self.now }
+        // After any answers it is what the script asks then, with the number of that request.
+        ensures asks { (script : List Command) (answers : List Answer) → IsAfter script answers self.now
+            → IfSome result (λ r. (r.0 ≡ suc (length answers)) × (asks script answers ≡ Some r.1.now)) }
+    {
+        match &self.asked {
+            Some(op) => Some((self.number, op)),
+            None => None,
+        }
     }
 
     /// Makes the next request, and gives its number and operation. There is none while one is unanswered,
