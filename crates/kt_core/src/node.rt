@@ -39,15 +39,9 @@ pub(crate) enum Change {
     /// The worker becomes this one.
     Work(Worker),
     /// The worker of this number waits with this.
-    Wait {
-        worker: u8,
-        request: Request,
-    },
+    Wait { worker: u8, request: Request },
     /// The worker of this number is served.
-    Serve {
-        worker: u8,
-        service: Prepared,
-    },
+    Serve { worker: u8, service: Prepared },
     /// It stays as it is.
     Stay,
 }
