@@ -60,9 +60,14 @@ refused_then : (s s' : NodeId → Option Bool) (m : NodeId → Bool) (agrees : B
 refused_then s s' m agrees e [] = refl
 refused_then s s' m agrees e (x ∷ later) = rw (e x) (no_then (s x) (m x) _ _ _ agrees (refused_then s s' m agrees e later) ∙ by (s x))
   where
-    by : (o : Option Bool)
-        → ((is_no o || list_any (λ y. is_no (s y)) later) || (cond (is_none o) (m x || list_any m (filter (λ y. is_none (s y)) later)) (list_any m (filter (λ y. is_none (s y)) later)) && not agrees))
-        ≡ ((is_no o || list_any (λ y. is_no (s y)) later) || (list_any m (cond (is_none o) (x ∷ filter (λ y. is_none (s y)) later) (filter (λ y. is_none (s y)) later)) && not agrees))
+    no : Bool
+    no = list_any (λ y. is_no (s y)) later
+
+    silent : List NodeId
+    silent = filter (λ y. is_none (s y)) later
+
+    by : (o : Option Bool) → ((is_no o || no) || (cond (is_none o) (m x || list_any m silent) (list_any m silent) && not agrees))
+        ≡ ((is_no o || no) || (list_any m (cond (is_none o) (x ∷ silent) silent) && not agrees))
     by (Some w) = refl
     by None = refl
 
