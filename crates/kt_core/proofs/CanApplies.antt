@@ -23,7 +23,7 @@ use Rattle.kt_core.specs.Limits.{rows}
 use Rattle.kt_core.specs.Cast.{Cast, IsCast, script_at, script_in, is_worker, is_shard, are_neighbours, is_among}
 use Rattle.kt_core.specs.State.{State, Body, IsWorker, IsShard, node, link, link_place, body_of, node_number}
 use Rattle.kt_shard.specs.Shard.{Shard}
-use Rattle.kt_core.specs.Judge.{Hearer, Nobody, ByWorker, ByShard, hearer_of, Found, Hears}
+use Rattle.kt_core.specs.Judge.{Hearer, ByShard, hearer_of, Found, Hears}
 use Rattle.kt_core.specs.Plan.{home}
 use Rattle.kt_core.specs.Ready.{IsOfKind, NamesAct, IsReady, CanChange, CanApply}
 use Rattle.kt_core.proofs.Founds.{IsFound, asks, repeats, hears, serves}

@@ -9,7 +9,7 @@ use Rattle.kt_script.specs.declared.command.Command.{Command}
 use Rattle.kt_worker.specs.declared.worker.Worker.{Worker}
 use Rattle.kt_worker.specs.Standing.{next_request, issued, awaits, heard}
 use Rattle.kt_shard.specs.declared.request.Request.{Request}
-use Rattle.kt_shard.specs.Arrival.{Arrival, Waits, again_or_ignored}
+use Rattle.kt_shard.specs.Arrival.{Waits, again_or_ignored}
 use Rattle.kt_shard.specs.Service.{Service}
 use Rattle.kt_core.specs.declared.node.Message.{Message}
 use Rattle.kt_core.specs.declared.node.Message.TheVariants as messages

@@ -24,7 +24,7 @@ use Rattle.kt_core.specs.Cast.{script_in}
 use Rattle.kt_core.specs.State.{node_number, State, Body, IsWorker, IsShard, node, link, body_of, worker_in, shard_in}
 use Rattle.kt_shard.specs.Shard.{Shard, desk_of}
 use Rattle.kt_core.specs.Asks.{script_numbered}
-use Rattle.kt_core.specs.Judge.{Hearer, ByWorker, ByShard, hearer_of, Found, Asks, Repeats, Hears}
+use Rattle.kt_core.specs.Judge.{Hearer, ByWorker, ByShard, hearer_of, Found, Asks, Hears}
 use Rattle.kt_core.specs.Effect.{changed_body, next_note}
 use Rattle.kt_core.specs.Plan.{empty_plan, issue_plan, repeat_plan, request_for, home, accepted_plan}
 use Rattle.kt_core.proofs.Founds.{IsFound, asks, repeats, hears, serves}
