@@ -74,7 +74,13 @@ pub(crate) fn outcome(
     world: &World,
 ) -> Result<(Vec<Service>, Vec<Tuple>), AllocError> {
     let services = world.history().survivors(alloc)?;
-    let tuples = space_of(alloc, &services)?;
+    let space = space_of(alloc, &services)?;
+    let mut tuples = Vec::new(alloc);
+    for place in 0..space.len() {
+        if let Some(tuple) = space.get(place) {
+            tuples.push(tuple.copy(alloc)?)?;
+        }
+    }
     Ok((services, tuples))
 }
 
