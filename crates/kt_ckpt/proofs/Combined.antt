@@ -2,7 +2,7 @@
 use Rattle.std.proofs.Common.{◌≡◌, ℕ, suc, Bool, true, false, cond, List, [], ◌∷◌, ◌++◌, Result, Ok, Err, refl, sym, ap, subst, ◌∙◌, append_assoc, arith}
 use Rattle.kt_ckpt.specs.declared.error.CkptError.{CkptError}
 use Rattle.kt_ckpt.specs.declared.error.CkptError.TheVariants.{Magic, Version, Cut, Field, Extra, OutOfMemory}
-use Rattle.kt_ckpt.specs.Reading.{◌>>=◌}
+use Rattle.kt_ckpt.specs.Reading.{◌>>=◌, made}
 use Rattle.kt_ckpt.proofs.Field.{IsBytes, Takes, Takes-then, Continues, IsField, Lasts, the_ok, pair_of_ok, bind_ok}
 
 -- nothing is read, and the value is known
@@ -87,3 +87,22 @@ behind_lasts {A} {X} {first} second f then = record { goes_on = λ bytes more. g
   goes (Err Field) longer more h = ap (λ (r : Result (A × List ℕ) CkptError). r >>= λ a. second a.0 a.1) h
   goes (Err Extra) longer more h = ap (λ (r : Result (A × List ℕ) CkptError). r >>= λ a. second a.0 a.1) h
   goes (Err OutOfMemory) longer more h = ap (λ (r : Result (A × List ℕ) CkptError). r >>= λ a. second a.0 a.1) h
+
+-- a value made of a field
+pub made_field : {A X : Type 0} {spelled_first : A → List ℕ} {IsFirst : A → Type 0} {first : List ℕ → Result (A × List ℕ) CkptError} → IsField spelled_first IsFirst first
+    → (make : A → X) (spelled : X → List ℕ) (IsAllowed : X → Type 0) → ((a : A) → IsFirst a → spelled_first a ≡ spelled (make a)) → ((a : A) → IsFirst a → IsAllowed (make a))
+    → ((x : X) → IsAllowed x → (a : A) × (IsFirst a × (make a ≡ x))) → IsField spelled IsAllowed (λ bytes. made make (first bytes))
+made_field {A} {X} {spelled_first} {IsFirst} {first} f make spelled IsAllowed same to from = record {
+  again = λ x rest h.
+      let w = from x h in
+      subst (λ (y : X). (made make (first (spelled y ++ rest))) ≡ Ok (y, rest)) w.1.1
+          (ap (λ (t : List ℕ). made make (first (t ++ rest))) (sym (same w.0 w.1.0)) ∙ ap (made make) (f.again w.0 rest w.1.0));
+  takes = λ bytes x rest fits e.
+      let b = bind_ok (first bytes) (λ a. the_ok {X = X × List ℕ} (make a.0, a.1)) (x, rest) e in
+      let t = f.takes bytes b.0.0 b.0.1 fits b.1 in
+      let s = pair_of_ok (make b.0.0, b.0.1) (x, rest) b.2 in
+      (subst (λ (y : X). Takes bytes (spelled y) rest) s.0 (subst (λ (r : List ℕ). Takes bytes (spelled (make b.0.0)) r) s.1 (subst (λ (text : List ℕ). Takes bytes text b.0.1) (same b.0.0 t.1) t.0)), subst IsAllowed s.0 (to b.0.0 t.1));
+}
+
+pub made_lasts : {A X : Type 0} {first : List ℕ → Result (A × List ℕ) CkptError} (make : A → X) → Lasts first → Lasts (λ bytes. made make (first bytes))
+made_lasts {A} {X} make l = behind_lasts (λ a bytes. the_ok {X = X × List ℕ} (make a, bytes)) l (λ a. known_lasts (make a))

@@ -10,7 +10,7 @@ use Rattle.std.proofs.lemmas.Nat.{be_bytes_2, be_bytes_4, be_bytes_8, from_be_by
 use Rattle.kt_ckpt.specs.declared.error.CkptError.{CkptError}
 use Rattle.kt_ckpt.specs.declared.error.CkptError.TheVariants.{Cut, Field}
 use Rattle.kt_ckpt.specs.Limits.{max_workers}
-use Rattle.kt_ckpt.specs.Reading.{◌>>=◌, byte_at, number_at, within, byte_within, list_at, rising_at, IsRising}
+use Rattle.kt_ckpt.specs.Reading.{◌>>=◌, byte_at, bytes_at, number_at, within, byte_within, list_at, rising_at, IsRising}
 use Rattle.kt_ckpt.proofs.Field.{IsBytes, IsBytes-take, IsBytes-drop, IsBytes-tail, Takes, Takes-then, Continues, IsField, Lasts, the_ok, pair_of_ok, bind_ok}
 use Rattle.kt_ckpt.proofs.Combined.{known, known_lasts, same_field, behind, behind_lasts}
 
@@ -107,11 +107,7 @@ wide64 = record {
   below = λ bytes fits. omega (arith, fits 0, fits 1, fits 2, fits 3, fits 4, fits 5, fits 6, fits 7);
 }
 
--- so many bytes from the front, or a cut
-abbrev pub front_at : ℕ → List ℕ → Result (List ℕ × List ℕ) CkptError
-front_at n bytes = cond (ltb (length bytes) n) (Err Cut) (Ok (take n bytes, drop n bytes))
-
-pub front_takes : (n : ℕ) (bytes front rest : List ℕ) → IsBytes bytes → front_at n bytes ≡ Ok (front, rest) → Takes bytes front rest × (length front ≡ n) × IsBytes front
+pub front_takes : (n : ℕ) (bytes front rest : List ℕ) → IsBytes bytes → bytes_at n bytes ≡ Ok (front, rest) → Takes bytes front rest × (length front ≡ n) × IsBytes front
 front_takes n bytes front rest fits e = by (ltb (length bytes) n) refl e where
   by : (b : Bool) → ltb (length bytes) n ≡ b → cond b (Err Cut) (the_ok {X = List ℕ × List ℕ} (take n bytes, drop n bytes)) ≡ Ok (front, rest) → Takes bytes front rest × (length front ≡ n) × IsBytes front
   by true p e = absurd cc
@@ -122,23 +118,32 @@ front_takes n bytes front rest fits e = by (ltb (length bytes) n) refl e where
       subst (λ (x : List ℕ × List ℕ). Takes bytes x.0 x.1 × (length x.0 ≡ n) × IsBytes x.0) (ap (λ (f : List ℕ). (f, drop n bytes)) s.0 ∙ ap (λ (r : List ℕ). (front, r)) s.1)
           (record { parts = sym (take-append-drop n bytes); rest_fits = IsBytes-drop n bytes fits }, len, IsBytes-take n bytes fits)
 
-pub front_again : (n : ℕ) (front rest : List ℕ) → length front ≡ n → front_at n (front ++ rest) ≡ Ok (front, rest)
+pub front_len : (n : ℕ) (bytes front rest : List ℕ) → bytes_at n bytes ≡ Ok (front, rest) → length front ≡ n
+front_len n bytes front rest e = by (ltb (length bytes) n) refl e where
+  by : (b : Bool) → ltb (length bytes) n ≡ b → cond b (Err Cut) (the_ok {X = List ℕ × List ℕ} (take n bytes, drop n bytes)) ≡ Ok (front, rest) → length front ≡ n
+  by true p e = absurd cc
+  by false p e =
+      let long : n ≤ length bytes = ltb-false _ _ p in
+      let s = pair_of_ok (take n bytes, drop n bytes) (front, rest) e in
+      omega (arith, length-take n bytes, ap length s.0)
+
+pub front_again : (n : ℕ) (front rest : List ℕ) → length front ≡ n → bytes_at n (front ++ rest) ≡ Ok (front, rest)
 front_again n front rest len =
     let long : ltb (length (front ++ rest)) n ≡ false = le-ltb _ _ (omega (arith, length-append front rest)) in
     rw (long, take_at front rest n len, drop_at front rest n len) refl
 
-pub front_lasts : (n : ℕ) → Lasts (front_at n)
+pub front_lasts : (n : ℕ) → Lasts (bytes_at n)
 front_lasts n = record { goes_on = λ bytes more. by bytes more (ltb (length bytes) n) refl } where
-  by : (bytes more : List ℕ) (b : Bool) → ltb (length bytes) n ≡ b → Continues more (cond b (Err Cut) (the_ok {X = List ℕ × List ℕ} (take n bytes, drop n bytes))) (front_at n (bytes ++ more))
+  by : (bytes more : List ℕ) (b : Bool) → ltb (length bytes) n ≡ b → Continues more (cond b (Err Cut) (the_ok {X = List ℕ × List ℕ} (take n bytes, drop n bytes))) (bytes_at n (bytes ++ more))
   by bytes more true p = tt
   by bytes more false p =
       let long : n ≤ length bytes = ltb-false _ _ p in
       let len : length (take n bytes) ≡ n = omega (arith, length-take n bytes) in
-      ap (λ (t : List ℕ). front_at n (t ++ more)) (sym (take-append-drop n bytes))
-      ∙ ap (front_at n) (append_assoc (take n bytes) (drop n bytes) more)
+      ap (λ (t : List ℕ). bytes_at n (t ++ more)) (sym (take-append-drop n bytes))
+      ∙ ap (bytes_at n) (append_assoc (take n bytes) (drop n bytes) more)
       ∙ front_again n (take n bytes) (drop n bytes ++ more) len
 
-number_is : (w : Width) (bytes : List ℕ) → number_at w bytes ≡ (front_at (byte_len w) bytes >>= λ x. the_ok (from_be_bytes w x.0, x.1))
+number_is : (w : Width) (bytes : List ℕ) → number_at w bytes ≡ (bytes_at (byte_len w) bytes >>= λ x. the_ok (from_be_bytes w x.0, x.1))
 number_is w bytes = by (ltb (length bytes) (byte_len w)) where
   by : (b : Bool) → cond b (Err Cut) (the_ok {X = ℕ × List ℕ} (from_be_bytes w (take (byte_len w) bytes), drop (byte_len w) bytes))
       ≡ (cond b (Err Cut) (the_ok {X = List ℕ × List ℕ} (take (byte_len w) bytes, drop (byte_len w) bytes)) >>= λ x. the_ok (from_be_bytes w x.0, x.1))
@@ -152,7 +157,7 @@ number_field w limit wide = record {
       ∙ ap (λ (r : Result (List ℕ × List ℕ) CkptError). r >>= λ x. the_ok {X = ℕ × List ℕ} (from_be_bytes w x.0, x.1)) (front_again (byte_len w) (to_be_bytes w n) rest (wide.len n))
       ∙ ap (λ (m : ℕ). the_ok {X = ℕ × List ℕ} (m, rest)) (wide.again n lt);
   takes = λ bytes n rest fits e.
-      let b = bind_ok (front_at (byte_len w) bytes) (λ x. the_ok {X = ℕ × List ℕ} (from_be_bytes w x.0, x.1)) (n, rest) (sym (number_is w bytes) ∙ e) in
+      let b = bind_ok (bytes_at (byte_len w) bytes) (λ x. the_ok {X = ℕ × List ℕ} (from_be_bytes w x.0, x.1)) (n, rest) (sym (number_is w bytes) ∙ e) in
       let t = front_takes (byte_len w) bytes b.0.0 b.0.1 fits b.1 in
       let s = pair_of_ok (from_be_bytes w b.0.0, b.0.1) (n, rest) b.2 in
       let text : b.0.0 ≡ to_be_bytes w n = sym (wide.back b.0.0 t.1 t.2) ∙ ap (to_be_bytes w) s.0 in
@@ -163,7 +168,7 @@ pub number_lasts : (w : Width) → Lasts (number_at w)
 number_lasts w =
     let l = behind_lasts (λ x bytes. the_ok {X = ℕ × List ℕ} (from_be_bytes w x, bytes)) (front_lasts (byte_len w)) (λ x. known_lasts (from_be_bytes w x)) in
     record { goes_on = λ bytes more. subst (λ (r : Result (ℕ × List ℕ) CkptError). Continues more r (number_at w (bytes ++ more))) (sym (number_is w bytes))
-        (subst (λ (r : Result (ℕ × List ℕ) CkptError). Continues more (front_at (byte_len w) bytes >>= λ x. the_ok {X = ℕ × List ℕ} (from_be_bytes w x.0, x.1)) r) (sym (number_is w (bytes ++ more))) (l.goes_on bytes more)) }
+        (subst (λ (r : Result (ℕ × List ℕ) CkptError). Continues more (bytes_at (byte_len w) bytes >>= λ x. the_ok {X = ℕ × List ℕ} (from_be_bytes w x.0, x.1)) r) (sym (number_is w (bytes ++ more))) (l.goes_on bytes more)) }
 
 -- ---- lists
 

@@ -1,2 +1,5 @@
 pub mod Limits
 pub mod Reading
+pub mod Value
+pub mod Tuple
+pub mod Op

@@ -16,10 +16,18 @@ abbrev pub Gives : {X Y : Type 0} → (X → Y) → Result X CkptError → Resul
 Gives view (Ok x) read = read ≡ Ok (view x)
 Gives view (Err e) read = e ≢ OutOfMemory → read ≡ Err e
 
+-- what is read is a part of a value, or all that the value is made of
+abbrev pub made : {A B : Type 0} → (A → B) → Result (A × List ℕ) CkptError → Result (B × List ℕ) CkptError
+made make read = read >>= λ a. Ok (make a.0, a.1)
+
 -- What is read is a value with the bytes behind it. A byte:
 abbrev pub byte_at : List ℕ → Result (ℕ × List ℕ) CkptError
 byte_at [] = Err Cut
 byte_at (b ∷ rest) = Ok (b, rest)
+
+-- so many bytes
+abbrev pub bytes_at : ℕ → List ℕ → Result (List ℕ × List ℕ) CkptError
+bytes_at n bytes = if nat_lt (length bytes) n then Err Cut else Ok (take n bytes, drop n bytes)
 
 -- a number, the highest byte first
 abbrev pub number_at : Width → List ℕ → Result (ℕ × List ℕ) CkptError

@@ -1,8 +1,8 @@
 //! Numbers in bytes, the highest byte first.
 
-ghost use Rattle.std.specs.Prelude.{◌≡◌};
+ghost use Rattle.std.specs.Prelude.{◌≡◌, ◌≤◌, IfOk};
 ghost use Rattle.std.specs.Int.{w16, w32, w64};
-ghost use Rattle.kt_ckpt.specs.Reading.{Gives, byte_at, byte_within, number_at};
+ghost use Rattle.kt_ckpt.specs.Reading.{Gives, byte_at, bytes_at, byte_within, number_at};
 
 use crate::error::CkptError;
 
@@ -19,7 +19,8 @@ pub(crate) fn byte_at(bytes: &[u8]) -> Result<(u8, &[u8]), CkptError>
 /// A byte from `low` to `high`.
 #[tactic(auto, unfolding(crate::specs::Reading::byte_within))]
 pub(crate) fn byte_within(low: u8, high: u8, bytes: &[u8]) -> Result<(u8, &[u8]), CkptError>
-    ensures { Gives (λ x. (x.0, x.1.now)) result (byte_within low high bytes.now) }
+    ensures value { Gives (λ x. (x.0, x.1.now)) result (byte_within low high bytes.now) }
+    ensures within { IfOk result (λ x. (low ≤ x.0) × (x.0 ≤ high)) }
 {
     let (byte, rest) = byte_at(bytes)?;
     if low <= byte && byte <= high {
@@ -65,4 +66,14 @@ pub(crate) fn u64_at(bytes: &[u8]) -> Result<(u64, &[u8]), CkptError>
         front[0], front[1], front[2], front[3], front[4], front[5], front[6], front[7],
     ]);
     Ok((number, rest))
+}
+
+/// So many bytes, and the bytes behind them.
+pub(crate) fn bytes_at(n: usize, bytes: &[u8]) -> Result<(&[u8], &[u8]), CkptError>
+    ensures { Gives (λ x. (x.0.now, x.1.now)) result (bytes_at n bytes.now) }
+{
+    if bytes.len() < n {
+        return Err(CkptError::Cut);
+    }
+    Ok(bytes.split_at(n))
 }

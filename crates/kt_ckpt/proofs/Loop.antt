@@ -1,0 +1,49 @@
+-- Values read one after the other, as a loop does.
+use Rattle.std.proofs.Common.{length, get_or, take, ◌≡◌, ◌≢◌, ℕ, suc, ◌-◌, ◌+◌, ◌≤◌, ◌<◌, List, [], ◌∷◌, ◌++◌, Result, Ok, Err, refl, sym, ap, ◌∙◌, append_assoc, arith}
+use Rattle.std.proofs.lemmas.List.{append-nil, flat_map_more, take_more}
+use Rattle.std.specs.List.{flat_map}
+use Rattle.kt_ckpt.specs.declared.error.CkptError.{CkptError}
+use Rattle.kt_ckpt.specs.declared.error.CkptError.TheVariants.{OutOfMemory}
+use Rattle.kt_ckpt.specs.Reading.{◌>>=◌, list_at}
+
+-- what was read before, and what is still read
+abbrev pub with_front : {X : Type 0} → List X → Result (List X × List ℕ) CkptError → Result (List X × List ℕ) CkptError
+with_front front read = read >>= λ x. Ok (front ++ x.0, x.1)
+
+regroup : {X : Type 0} (front : List X) (x : X) (read : Result (List X × List ℕ) CkptError) → with_front front (read >>= λ others. Ok (x ∷ others.0, others.1)) ≡ with_front (front ++ x ∷ []) read
+regroup {X} front x (Ok y) = ap (λ (xs : List X). Ok (xs, y.1)) (simp append_assoc)
+regroup front x (Err e) = refl
+
+pub begins : {X : Type 0} (read : Result (List X × List ℕ) CkptError) → with_front [] read ≡ read
+begins (Ok y) = refl
+begins (Err e) = refl
+
+pub goes_on : {X : Type 0} (read : List ℕ → Result (X × List ℕ) CkptError) (front : List X) (count i : ℕ) (bytes : List ℕ) (x : X) (after : List ℕ) (total : Result (List X × List ℕ) CkptError) → i < count → read bytes ≡ Ok (x, after)
+    → with_front front (list_at read (count - i) bytes) ≡ total → with_front (front ++ x ∷ []) (list_at read (count - (i + 1)) after) ≡ total
+unfolding list_at
+goes_on read front count i bytes x after total lt h so_far =
+    let k : count - i ≡ suc (count - (i + 1)) = omega arith in
+    let one : with_front front (list_at read (count - i) bytes) ≡ with_front (front ++ x ∷ []) (list_at read (count - (i + 1)) after) = rw (k, h) (regroup front x (list_at read (count - (i + 1)) after)) in
+    sym one ∙ so_far
+
+pub ends : {X : Type 0} (read : List ℕ → Result (X × List ℕ) CkptError) (e : CkptError) (front : List X) (count i : ℕ) (bytes : List ℕ) (total : Result (List X × List ℕ) CkptError) → i < count → (e ≢ OutOfMemory → read bytes ≡ Err e)
+    → with_front front (list_at read (count - i) bytes) ≡ total → e ≢ OutOfMemory → total ≡ Err e
+unfolding list_at
+ends read e front count i bytes total lt fails so_far ne =
+    let k : count - i ≡ suc (count - (i + 1)) = omega arith in
+    let h : read bytes ≡ Err e = fails ne in
+    let one : with_front front (list_at read (count - i) bytes) ≡ Err e = rw (k, h) refl in
+    sym so_far ∙ one
+
+pub is_done : {X : Type 0} (read : List ℕ → Result (X × List ℕ) CkptError) (front : List X) (count i : ℕ) (bytes : List ℕ) (total : Result (List X × List ℕ) CkptError) → count ≤ i → with_front front (list_at read (count - i) bytes) ≡ total → total ≡ Ok (front, bytes)
+unfolding list_at
+is_done {X} read front count i bytes total le so_far =
+    let k : count - i ≡ 0 = omega arith in
+    let one : with_front front (list_at read (count - i) bytes) ≡ Ok (front, bytes) = rw k (ap (λ (xs : List X). Ok (xs, bytes)) (append-nil front)) in
+    sym so_far ∙ one
+
+-- one more is appended
+pub appended : {X : Type 0} (spelled : X → List ℕ) (xs : List X) (i : ℕ) (x : X) (old now new : List ℕ) → i < length xs → x ≡ get_or xs i x → now ≡ old ++ flat_map spelled (take i xs) → new ≡ now ++ spelled x → new ≡ old ++ flat_map spelled (take (i + 1) xs)
+appended {X} spelled xs i x old now new lt is before e =
+    e ∙ ap (λ (t : List ℕ). t ++ spelled x) before ∙ flat_map_more spelled old (take i xs) x
+    ∙ ap (λ (y : X). old ++ flat_map spelled (take i xs ++ y ∷ [])) is ∙ ap (λ (ys : List X). old ++ flat_map spelled ys) (sym (take_more xs i x lt))
