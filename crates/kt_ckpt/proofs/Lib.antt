@@ -5,3 +5,5 @@ pub mod Values
 pub mod Tuples
 pub mod Ops
 pub mod Loop
+pub mod States
+pub mod Checkpoints

@@ -214,7 +214,7 @@ abbrev pub entry : {X : Type 0} → (X → List ℕ) → ℕ × X → List ℕ
 entry spelled x = x.0 ∷ spelled x.1
 
 abbrev after_first : {X : Type 0} → (List ℕ → Result (X × List ℕ) CkptError) → ℕ → ℕ → X × List ℕ → Result (List (ℕ × X) × List ℕ) CkptError
-after_first {X} read n w first = rising_at read w n first.1 >>= λ others. the_ok {X = List (ℕ × X) × List ℕ} ((w, first.0) ∷ others.0, others.1)
+after_first {X} read n w first = rising_at read (w + 1) n first.1 >>= λ others. the_ok {X = List (ℕ × X) × List ℕ} ((w, first.0) ∷ others.0, others.1)
 
 abbrev after_worker : {X : Type 0} → (List ℕ → Result (X × List ℕ) CkptError) → ℕ → ℕ × List ℕ → Result (List (ℕ × X) × List ℕ) CkptError
 after_worker read n worker = read worker.1 >>= after_first read n worker.0
@@ -228,12 +228,12 @@ rising_field {X} {spelled} {IsAllowed} {read} f low n = record { again = λ xs r
   again low zero (x ∷ xs) rest len rising all = absurd (omega arith)
   again low (suc n) [] rest len rising all = absurd (omega arith)
   again low (suc n) (x ∷ xs) rest len rising all =
-      let worker = byte_within_field (suc low) max_workers (omega arith) in
+      let worker = byte_within_field low max_workers (omega arith) in
       let regrouped : flat_map (entry spelled) (x ∷ xs) ++ rest ≡ (x.0 ∷ []) ++ (spelled x.1 ++ (flat_map (entry spelled) xs ++ rest)) = ap (λ (t : List ℕ). x.0 ∷ t) (append_assoc (spelled x.1) (flat_map (entry spelled) xs) rest) in
       ap (rising_at read low (suc n)) regrouped
-      ∙ ap (λ (r : Result (ℕ × List ℕ) CkptError). r >>= after_worker read n) (worker.again x.0 (spelled x.1 ++ (flat_map (entry spelled) xs ++ rest)) (omega (arith, rising.0), rising.1))
+      ∙ ap (λ (r : Result (ℕ × List ℕ) CkptError). r >>= after_worker read n) (worker.again x.0 (spelled x.1 ++ (flat_map (entry spelled) xs ++ rest)) (rising.0, rising.1))
       ∙ ap (λ (r : Result (X × List ℕ) CkptError). r >>= after_first read n x.0) (f.again x.1 (flat_map (entry spelled) xs ++ rest) (All-head (λ x. IsAllowed x.1) x xs all))
-      ∙ ap (λ (r : Result (List (ℕ × X) × List ℕ) CkptError). r >>= λ others. the_ok {X = List (ℕ × X) × List ℕ} (x ∷ others.0, others.1)) (again x.0 n xs rest (omega arith) rising.2 (All-tail (λ x. IsAllowed x.1) x xs all))
+      ∙ ap (λ (r : Result (List (ℕ × X) × List ℕ) CkptError). r >>= λ others. the_ok {X = List (ℕ × X) × List ℕ} (x ∷ others.0, others.1)) (again (x.0 + 1) n xs rest (omega arith) rising.2 (All-tail (λ x. IsAllowed x.1) x xs all))
   takes : (low n : ℕ) (bytes : List ℕ) (xs : List (ℕ × X)) (rest : List ℕ) → IsBytes bytes → rising_at read low n bytes ≡ Ok (xs, rest)
       → Takes bytes (flat_map (entry spelled) xs) rest × ((length xs ≡ n) × (IsRising low xs × All (λ x. IsAllowed x.1) xs))
   takes low zero bytes xs rest fits e =
@@ -241,22 +241,40 @@ rising_field {X} {spelled} {IsAllowed} {read} f low n = record { again = λ xs r
       subst (λ (y : List (ℕ × X) × List ℕ). Takes bytes (flat_map (entry spelled) y.0) y.1 × ((length y.0 ≡ 0) × (IsRising low y.0 × All (λ x. IsAllowed x.1) y.0))) (ap (λ (a : List (ℕ × X)). (a, bytes)) s.0 ∙ ap (λ (r : List ℕ). (xs, r)) s.1)
           (record { parts = refl; rest_fits = fits }, (refl, (tt, All-nil (λ x. IsAllowed x.1))))
   takes low (suc n) bytes xs rest fits e =
-      let worker = byte_within_field (suc low) max_workers (omega arith) in
-      let w = bind_ok (byte_within (suc low) max_workers bytes) (after_worker read n) (xs, rest) e in
+      let worker = byte_within_field low max_workers (omega arith) in
+      let w = bind_ok (byte_within low max_workers bytes) (after_worker read n) (xs, rest) e in
       let a = bind_ok (read w.0.1) (after_first read n w.0.0) (xs, rest) w.2 in
-      let b = bind_ok (rising_at read w.0.0 n a.0.1) (λ others. the_ok {X = List (ℕ × X) × List ℕ} ((w.0.0, a.0.0) ∷ others.0, others.1)) (xs, rest) a.2 in
+      let b = bind_ok (rising_at read (w.0.0 + 1) n a.0.1) (λ others. the_ok {X = List (ℕ × X) × List ℕ} ((w.0.0, a.0.0) ∷ others.0, others.1)) (xs, rest) a.2 in
       let s = pair_of_ok ((w.0.0, a.0.0) ∷ b.0.0, b.0.1) (xs, rest) b.2 in
       let v = worker.takes bytes w.0.0 w.0.1 fits w.1 in
       let t = f.takes w.0.1 a.0.0 a.0.1 v.0.rest_fits a.1 in
-      let u = takes w.0.0 n a.0.1 b.0.0 b.0.1 t.0.rest_fits b.1 in
+      let u = takes (w.0.0 + 1) n a.0.1 b.0.0 b.0.1 t.0.rest_fits b.1 in
       subst (λ (y : List (ℕ × X) × List ℕ). Takes bytes (flat_map (entry spelled) y.0) y.1 × ((length y.0 ≡ suc n) × (IsRising low y.0 × All (λ x. IsAllowed x.1) y.0))) (ap (λ (l : List (ℕ × X)). (l, b.0.1)) s.0 ∙ ap (λ (r : List ℕ). (xs, r)) s.1)
-          (Takes-then v.0 (Takes-then t.0 u.0), (ap suc u.1.0, ((omega (arith, v.1.0), v.1.1, u.1.1.0), All-cons (λ x. IsAllowed x.1) (w.0.0, a.0.0) b.0.0 t.1 u.1.1.1)))
+          (Takes-then v.0 (Takes-then t.0 u.0), (ap suc u.1.0, ((v.1.0, v.1.1, u.1.1.0), All-cons (λ x. IsAllowed x.1) (w.0.0, a.0.0) b.0.0 t.1 u.1.1.1)))
 
 pub rising_lasts : {X : Type 0} {read : List ℕ → Result (X × List ℕ) CkptError} → Lasts read → (low n : ℕ) → Lasts (rising_at read low n)
 unfolding rising_at
 rising_lasts {X} {read} l low zero = record { goes_on = λ bytes more. refl }
 rising_lasts {X} {read} l low (suc n) =
-    let m = behind_lasts (λ w bytes. after_worker read n (w, bytes)) (byte_within_lasts (suc low) max_workers)
+    let m = behind_lasts (λ w bytes. after_worker read n (w, bytes)) (byte_within_lasts low max_workers)
         (λ w. behind_lasts (λ x bytes. after_first read n w (x, bytes)) l
-        (λ x. behind_lasts (λ xs bytes. the_ok {X = List (ℕ × X) × List ℕ} ((w, x) ∷ xs, bytes)) (rising_lasts l w n) (λ xs. known_lasts ((w, x) ∷ xs)))) in
+        (λ x. behind_lasts (λ xs bytes. the_ok {X = List (ℕ × X) × List ℕ} ((w, x) ∷ xs, bytes)) (rising_lasts l (w + 1) n) (λ xs. known_lasts ((w, x) ∷ xs)))) in
     record { goes_on = m.goes_on }
+
+-- what was read has rising workers
+pub rising_of : {X : Type 0} (read : List ℕ → Result (X × List ℕ) CkptError) (low n : ℕ) (bytes : List ℕ) (xs : List (ℕ × X)) (rest : List ℕ) → rising_at read low n bytes ≡ Ok (xs, rest) → IsRising low xs
+unfolding rising_at byte_within
+rising_of {X} read low zero bytes xs rest e = let s = pair_of_ok ([], bytes) (xs, rest) e in subst (IsRising low) s.0 tt
+rising_of {X} read low (suc n) bytes xs rest e =
+    let w = bind_ok (byte_within low max_workers bytes) (after_worker read n) (xs, rest) e in
+    let a = bind_ok (read w.0.1) (after_first read n w.0.0) (xs, rest) w.2 in
+    let b = bind_ok (rising_at read (w.0.0 + 1) n a.0.1) (λ others. the_ok {X = List (ℕ × X) × List ℕ} ((w.0.0, a.0.0) ∷ others.0, others.1)) (xs, rest) a.2 in
+    let s = pair_of_ok ((w.0.0, a.0.0) ∷ b.0.0, b.0.1) (xs, rest) b.2 in
+    let c = bind_ok (byte_at bytes) (within low max_workers) w.0 w.1 in
+    let v = within_ok low max_workers c.0 w.0 c.2 in
+    subst (IsRising low) s.0 (subst (λ (m : ℕ). low ≤ m) v.2 v.0, subst (λ (m : ℕ). m ≤ max_workers) v.2 v.1, rising_of read (w.0.0 + 1) n a.0.1 b.0.0 b.0.1 b.1)
+
+-- there are no more of them than workers
+pub rising_len : {X : Type 0} (low : ℕ) (xs : List (ℕ × X)) → low ≤ max_workers + 1 → IsRising low xs → length xs + low ≤ max_workers + 1
+rising_len low [] le h = omega arith
+rising_len low (x ∷ xs) le h = let rest = rising_len (x.0 + 1) xs (omega (arith, h.1)) h.2 in omega (arith, rest, h.0)

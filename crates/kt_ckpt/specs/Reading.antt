@@ -1,5 +1,5 @@
 -- Reading bytes from left to right, up to the first fault.
-use Rattle.std.specs.Prelude.{◌≡◌, ◌≢◌, ℕ, zero, suc, ◌<◌, ◌≤◌, List, [], ◌∷◌, length, take, drop, Result, Ok, Err, nat_lt, nat_le, ◌&&◌, if◌then◌else◌}
+use Rattle.std.specs.Prelude.{◌≡◌, ◌≢◌, ℕ, zero, suc, ◌+◌, ◌≤◌, List, [], ◌∷◌, length, take, drop, Result, Ok, Err, nat_lt, nat_le, ◌&&◌, if◌then◌else◌}
 use Rattle.std.specs.Int.{Width, byte_len, from_be_bytes}
 use Rattle.kt_ckpt.specs.declared.error.CkptError.{CkptError}
 use Rattle.kt_ckpt.specs.declared.error.CkptError.TheVariants.{Cut, Field, OutOfMemory}
@@ -49,16 +49,16 @@ list_at read (suc n) bytes = do
   others ← list_at read n first.1
   Ok (first.0 ∷ others.0, others.1)
 
--- so many values, each behind its worker, which is above the one before
+-- so many values, each behind its worker, which is above the one before; the first is the least or above it
 unfoldable pub rising_at : {X : Type 0} → (List ℕ → Result (X × List ℕ) CkptError) → ℕ → ℕ → List ℕ → Result (List (ℕ × X) × List ℕ) CkptError
-rising_at read low zero bytes = Ok ([], bytes)
-rising_at read low (suc n) bytes = do
-  worker ← byte_within (suc low) max_workers bytes
+rising_at read least zero bytes = Ok ([], bytes)
+rising_at read least (suc n) bytes = do
+  worker ← byte_within least max_workers bytes
   first ← read worker.1
-  others ← rising_at read worker.0 n first.1
+  others ← rising_at read (worker.0 + 1) n first.1
   Ok ((worker.0, first.0) ∷ others.0, others.1)
 
--- each worker is above the one before, the first above low, and none is above the greatest
+-- each worker is above the one before, the first is the least or above it, and none is above the greatest
 abbrev pub IsRising : {X : Type 0} → ℕ → List (ℕ × X) → Type 0
-IsRising low [] = Unit {0}
-IsRising low (x ∷ xs) = (low < x.0) × (x.0 ≤ max_workers) × IsRising x.0 xs
+IsRising least [] = Unit {0}
+IsRising least (x ∷ xs) = (least ≤ x.0) × (x.0 ≤ max_workers) × IsRising (x.0 + 1) xs
