@@ -8,7 +8,7 @@ use Rattle.std.specs.Cmp.Lexicographic.{pointwise}
 use Rattle.std.specs.List.{flat_map, zip}
 use Rattle.std.specs.Int.{w64, to_be_bytes}
 use Rattle.std.proofs.lemmas.Bool.{eqb-true, eqb-false, eq-eqb, ne_eqb}
-use Rattle.std.proofs.lemmas.List.{append-nil, length-append, length-map, nil_from_length}
+use Rattle.std.proofs.lemmas.List.{append-nil, length-map, nil_from_length}
 use Rattle.std.proofs.lemmas.List.Elements.{All-nil, All-cons, All-head, All-tail, All-map, All-weaker}
 use Rattle.kt_tuple.specs.declared.node.NodeId.{NodeId}
 use Rattle.kt_tuple.specs.declared.node.NodeId.TheVariants.{Worker, Shard}
@@ -20,12 +20,12 @@ use Rattle.kt_ckpt.specs.declared.state.State.{State}
 use Rattle.kt_ckpt.specs.declared.state.State.TheVariants as states
 use Rattle.kt_ckpt.specs.Fields.{WorkerFields, ShardFields}
 use Rattle.kt_ckpt.specs.Limits.{magic, version, worker_code, shard_code, max_workers, max_shards, max_peers}
-use Rattle.kt_ckpt.specs.Reading.{◌>>=◌, Gives, made, byte_at, bytes_at, byte_within, number_at, list_at}
-use Rattle.kt_ckpt.specs.State.{IsWorker, IsShard, worker_at, shard_at}
+use Rattle.kt_ckpt.specs.Reading.{◌>>=◌, Gives, made, bytes_at, byte_within, number_at}
+use Rattle.kt_ckpt.specs.State.{IsWorker, IsShard}
 use Rattle.kt_ckpt.specs.Checkpoint.{Checkpoint, IsNode, Suits, ArePeers, IsLabel, IsState, IsCheckpoint, node_bytes, label_bytes, peer_bytes, peers_bytes, state_bytes, spelling}
 use Rattle.kt_ckpt.specs.Checkpoint.{magic_at, version_at, node_behind, node_at, label_at, peer_at, peers_at, state_at, checkpoint_of, checkpoint_at, read}
 use Rattle.kt_ckpt.proofs.Field.{IsBytes, Takes, IsField, Lasts, the_ok, pair_of_ok, bind_ok, front_is_cut}
-use Rattle.kt_ckpt.proofs.Combined.{known, known_lasts, fault, refused, refused_lasts, same_field, either, either_lasts, behind, behind_lasts, made_field, made_lasts}
+use Rattle.kt_ckpt.proofs.Combined.{known_lasts, fault, refused, refused_lasts, same_field, either_lasts, behind, behind_lasts, made_field, made_lasts}
 use Rattle.kt_ckpt.proofs.Primitive.{byte_field, byte_lasts, byte_within_field, byte_within_lasts, wide64, number_field, number_lasts, front_takes, front_again, front_lasts}
 use Rattle.kt_ckpt.proofs.Loop.{both_appended}
 use Rattle.kt_ckpt.proofs.Tuples.{counted_field, counted_lasts}
@@ -120,16 +120,16 @@ a_shard bytes = made Shard (byte_within 1 max_shards bytes)
 node_behind_field : (code : ℕ) → IsField index_bytes (IsNodeBehind code) (node_behind code)
 node_behind_field code =
     let f = coded IsNodeBehind a_worker (λ bytes. cond (eqb code shard_code) (a_shard bytes) (fault Field bytes)) code worker_code
-        (made_field (byte_within_field 1 max_workers (omega arith)) Worker index_bytes (IsNodeBehind worker_code) (λ i h. refl) (λ i h. (h, refl)) worker_from)
-        (λ a. coded IsNodeBehind a_shard (fault Field) code shard_code
-        (made_field (byte_within_field 1 max_shards (omega arith)) Shard index_bytes (IsNodeBehind shard_code) (λ i h. refl) (λ i h. (h, refl)) shard_from)
-        (λ b. refused index_bytes (IsNodeBehind code) Field (λ n. no_node code n a b))) in
+    (made_field (byte_within_field 1 max_workers (omega arith)) Worker index_bytes (IsNodeBehind worker_code) (λ i h. refl) (λ i h. (h, refl)) worker_from)
+    (λ a. coded IsNodeBehind a_shard (fault Field) code shard_code
+    (made_field (byte_within_field 1 max_shards (omega arith)) Shard index_bytes (IsNodeBehind shard_code) (λ i h. refl) (λ i h. (h, refl)) shard_from)
+    (λ b. refused index_bytes (IsNodeBehind code) Field (λ n. no_node code n a b))) in
     record { again = f.again; takes = f.takes }
 
 node_behind_lasts : (code : ℕ) → Lasts (node_behind code)
 node_behind_lasts code =
     let l = either_lasts a_worker (λ bytes. cond (eqb code shard_code) (a_shard bytes) (fault Field bytes)) (eqb code worker_code) (made_lasts Worker (byte_within_lasts 1 max_workers))
-        (either_lasts a_shard (fault Field) (eqb code shard_code) (made_lasts Shard (byte_within_lasts 1 max_shards)) (refused_lasts Field)) in
+    (either_lasts a_shard (fault Field) (eqb code shard_code) (made_lasts Shard (byte_within_lasts 1 max_shards)) (refused_lasts Field)) in
     record { goes_on = l.goes_on }
 
 node_code_is_byte : (n : NodeId) → node_code n < 256
@@ -162,8 +162,8 @@ label_field : IsField label_bytes IsLabel label_at
 unfolding label_at
 label_field =
     let f = behind (number_field w64 (2 ^ 64) wide64) (λ (l : Label). l.incarnation) (λ l. to_be_bytes w64 l.count) IsLabel label_with (λ l h. h.0)
-        (λ n hn. made_field (number_field w64 (2 ^ 64) wide64) (label_of n) (λ l. to_be_bytes w64 l.count) (λ l. IsLabel l × (n ≡ l.incarnation)) (λ k h. refl) (λ k h. ((hn, h), refl))
-            (λ l h. (l.count, (h.0.1, ap (λ (m : ℕ). label_of m l.count) h.1)))) in
+    (λ n hn. made_field (number_field w64 (2 ^ 64) wide64) (label_of n) (λ l. to_be_bytes w64 l.count) (λ l. IsLabel l × (n ≡ l.incarnation)) (λ k h. refl) (λ k h. ((hn, h), refl))
+    (λ l h. (l.count, (h.0.1, ap (λ (m : ℕ). label_of m l.count) h.1)))) in
     record { again = f.again; takes = f.takes }
 
 label_lasts : Lasts label_at
@@ -183,7 +183,7 @@ peer_field : IsField peer_bytes IsPeer peer_at
 unfolding peer_at
 peer_field =
     let f = behind label_field (λ (p : Label × Label). p.0) (λ p. label_bytes p.1) IsPeer peer_with (λ p h. h.0)
-        (λ s hs. made_field label_field (peer_of s) (λ p. label_bytes p.1) (λ p. IsPeer p × (s ≡ p.0)) (λ r h. refl) (λ r h. ((hs, h), refl)) (λ p h. (p.1, (h.0.1, ap (λ (m : Label). peer_of m p.1) h.1)))) in
+    (λ s hs. made_field label_field (peer_of s) (λ p. label_bytes p.1) (λ p. IsPeer p × (s ≡ p.0)) (λ r h. refl) (λ r h. ((hs, h), refl)) (λ p h. (p.1, (h.0.1, ap (λ (m : Label). peer_of m p.1) h.1)))) in
     record { again = f.again; takes = f.takes }
 
 peer_lasts : Lasts peer_at
@@ -302,24 +302,24 @@ checkpoint_field : IsField spelling IsCheckpoint checkpoint_at
 unfolding checkpoint_at
 checkpoint_field =
     let f = behind magic_field (λ (c : Checkpoint). magic) (λ c. version ∷ from_node c) IsCheckpoint with_magic (λ c h. refl)
-        (λ m hm. behind version_field (λ (c : Checkpoint). version) from_node (λ c. IsCheckpoint c × (m ≡ magic)) with_version (λ c h. refl)
-        (λ v hv. behind node_field (λ (c : Checkpoint). c.node) from_line (λ c. (IsCheckpoint c × (m ≡ magic)) × (v ≡ version)) with_node (λ c h. h.0.0.node)
-        (λ n hn. behind (number_field w64 (2 ^ 64) wide64) (λ (c : Checkpoint). c.line_len) from_peers (λ c. ((IsCheckpoint c × (m ≡ magic)) × (v ≡ version)) × (n ≡ c.node)) (with_line n) (λ c h. h.0.0.0.line_len)
-        (λ l hl. behind peers_field (λ (c : Checkpoint). zip c.sent c.received) (λ c. state_bytes c.state) (λ c. (((IsCheckpoint c × (m ≡ magic)) × (v ≡ version)) × (n ≡ c.node)) × (l ≡ c.line_len)) (with_peers n l) (λ c h. have_peers c h.0.0.0.0)
-        (λ ps hp. made_field (state_field n) (checkpoint_of n l ps) (λ c. state_bytes c.state) (λ c. ((((IsCheckpoint c × (m ≡ magic)) × (v ≡ version)) × (n ≡ c.node)) × (l ≡ c.line_len)) × (ps ≡ zip c.sent c.received)) (λ s h. refl)
-            (λ s h. (((((made_checkpoint n l ps s hn hl hp h, hm), hv), refl), refl), zipped ps))
-            (λ c h. (c.state, ((subst (λ (k : NodeId). Suits k c.state) (sym h.0.0.1) h.0.0.0.0.0.suits, h.0.0.0.0.0.state), checkpoint_is n l ps c h.0.0.1 h.0.1 h.1 h.0.0.0.0.0.peers.2)))))))) in
+    (λ m hm. behind version_field (λ (c : Checkpoint). version) from_node (λ c. IsCheckpoint c × (m ≡ magic)) with_version (λ c h. refl)
+    (λ v hv. behind node_field (λ (c : Checkpoint). c.node) from_line (λ c. (IsCheckpoint c × (m ≡ magic)) × (v ≡ version)) with_node (λ c h. h.0.0.node)
+    (λ n hn. behind (number_field w64 (2 ^ 64) wide64) (λ (c : Checkpoint). c.line_len) from_peers (λ c. ((IsCheckpoint c × (m ≡ magic)) × (v ≡ version)) × (n ≡ c.node)) (with_line n) (λ c h. h.0.0.0.line_len)
+    (λ l hl. behind peers_field (λ (c : Checkpoint). zip c.sent c.received) (λ c. state_bytes c.state) (λ c. (((IsCheckpoint c × (m ≡ magic)) × (v ≡ version)) × (n ≡ c.node)) × (l ≡ c.line_len)) (with_peers n l) (λ c h. have_peers c h.0.0.0.0)
+    (λ ps hp. made_field (state_field n) (checkpoint_of n l ps) (λ c. state_bytes c.state) (λ c. ((((IsCheckpoint c × (m ≡ magic)) × (v ≡ version)) × (n ≡ c.node)) × (l ≡ c.line_len)) × (ps ≡ zip c.sent c.received)) (λ s h. refl)
+    (λ s h. (((((made_checkpoint n l ps s hn hl hp h, hm), hv), refl), refl), zipped ps))
+    (λ c h. (c.state, ((subst (λ (k : NodeId). Suits k c.state) (sym h.0.0.1) h.0.0.0.0.0.suits, h.0.0.0.0.0.state), checkpoint_is n l ps c h.0.0.1 h.0.1 h.1 h.0.0.0.0.0.peers.2)))))))) in
     record { again = f.again; takes = f.takes }
 
 checkpoint_lasts : Lasts checkpoint_at
 unfolding checkpoint_at
 checkpoint_lasts =
     let l = behind_lasts with_magic magic_lasts
-        (λ m. behind_lasts with_version version_lasts
-        (λ v. behind_lasts with_node node_lasts
-        (λ n. behind_lasts (with_line n) (number_lasts w64)
-        (λ l. behind_lasts (with_peers n l) peers_lasts
-        (λ ps. made_lasts (checkpoint_of n l ps) (state_lasts n)))))) in
+    (λ m. behind_lasts with_version version_lasts
+    (λ v. behind_lasts with_node node_lasts
+    (λ n. behind_lasts (with_line n) (number_lasts w64)
+    (λ l. behind_lasts (with_peers n l) peers_lasts
+    (λ ps. made_lasts (checkpoint_of n l ps) (state_lasts n)))))) in
     record { goes_on = l.goes_on }
 
 -- ---- all of the bytes
@@ -338,12 +338,12 @@ read_takes bytes c fits e =
     let a = bind_ok (checkpoint_at bytes) if_ended c e in
     let t = checkpoint_field.takes bytes a.0.0 a.0.1 fits a.1 in
     by a.0.0 a.0.1 t (eqb (length a.0.1) 0) refl a.2 where
-  by : (x : Checkpoint) (rest : List ℕ) → Takes bytes (spelling x) rest × IsCheckpoint x → (b : Bool) → eqb (length rest) 0 ≡ b → cond b (the_ok x) (Err Extra) ≡ Ok c → IsCheckpoint c × (bytes ≡ spelling c)
-  by x rest t true p e =
-      let same : x ≡ c = cc in
-      let nothing : rest ≡ [] = nil_from_length rest (eqb-true _ _ p) in
-      subst (λ (y : Checkpoint). IsCheckpoint y × (bytes ≡ spelling y)) same (t.1, t.0.parts ∙ ap (λ (r : List ℕ). spelling x ++ r) nothing ∙ append-nil (spelling x))
-  by x rest t false p e = absurd cc
+      by : (x : Checkpoint) (rest : List ℕ) → Takes bytes (spelling x) rest × IsCheckpoint x → (b : Bool) → eqb (length rest) 0 ≡ b → cond b (the_ok x) (Err Extra) ≡ Ok c → IsCheckpoint c × (bytes ≡ spelling c)
+      by x rest t true p e =
+          let same : x ≡ c = cc in
+          let nothing : rest ≡ [] = nil_from_length rest (eqb-true _ _ p) in
+          subst (λ (y : Checkpoint). IsCheckpoint y × (bytes ≡ spelling y)) same (t.1, t.0.parts ∙ ap (λ (r : List ℕ). spelling x ++ r) nothing ∙ append-nil (spelling x))
+      by x rest t false p e = absurd cc
 
 pub front_cut : (c : Checkpoint) (front : List ℕ) (b : ℕ) (more : List ℕ) → IsCheckpoint c → spelling c ≡ front ++ b ∷ more → read front ≡ Err Cut
 unfolding read
@@ -393,8 +393,8 @@ spelled_out o0 o1 o2 o3 o4 o5 c e0 e1 e2 e3 e4 e5 =
     let a5 = both_appended [] o4 o5 ((((magic ++ version ∷ []) ++ node_bytes c.node) ++ to_be_bytes w64 c.line_len) ++ peers_bytes (zip c.sent c.received)) (state_bytes c.state) a4 e5 in
     a5 ∙ regrouped (magic ++ version ∷ []) (node_bytes c.node) (to_be_bytes w64 c.line_len) (peers_bytes (zip c.sent c.received)) (state_bytes c.state)
   where
-  regrouped : (a b c d e : List ℕ) → (((a ++ b) ++ c) ++ d) ++ e ≡ a ++ (b ++ (c ++ (d ++ e)))
-  regrouped a b c d e = simp append_assoc
+    regrouped : (a b c d e : List ℕ) → (((a ++ b) ++ c) ++ d) ++ e ≡ a ++ (b ++ (c ++ (d ++ e)))
+    regrouped a b c d e = simp append_assoc
 
 pub labels_out : (old o1 o2 new : List ℕ) (x y : Label) (xs ys sent received : List Label) → sent ≡ x ∷ xs → received ≡ y ∷ ys → o1 ≡ old ++ label_bytes x → o2 ≡ o1 ++ label_bytes y → new ≡ o2 ++ flat_map peer_bytes (zip xs ys)
     → new ≡ old ++ flat_map peer_bytes (zip sent received)

@@ -1,5 +1,5 @@
 -- Fields made of fields: one behind the other, one or the other, one under another name.
-use Rattle.std.proofs.Common.{◌≡◌, ℕ, suc, Bool, true, false, cond, List, [], ◌∷◌, ◌++◌, Result, Ok, Err, refl, sym, ap, subst, ◌∙◌, append_assoc, arith}
+use Rattle.std.proofs.Common.{◌≡◌, ℕ, Bool, true, false, cond, List, [], ◌++◌, Result, Ok, Err, refl, sym, ap, subst, ◌∙◌, append_assoc}
 use Rattle.kt_ckpt.specs.declared.error.CkptError.{CkptError}
 use Rattle.kt_ckpt.specs.declared.error.CkptError.TheVariants.{Magic, Version, Cut, Field, Extra, OutOfMemory}
 use Rattle.kt_ckpt.specs.Reading.{◌>>=◌, made}
@@ -96,7 +96,7 @@ made_field {A} {X} {spelled_first} {IsFirst} {first} f make spelled IsAllowed sa
   again = λ x rest h.
       let w = from x h in
       subst (λ (y : X). (made make (first (spelled y ++ rest))) ≡ Ok (y, rest)) w.1.1
-          (ap (λ (t : List ℕ). made make (first (t ++ rest))) (sym (same w.0 w.1.0)) ∙ ap (made make) (f.again w.0 rest w.1.0));
+      (ap (λ (t : List ℕ). made make (first (t ++ rest))) (sym (same w.0 w.1.0)) ∙ ap (made make) (f.again w.0 rest w.1.0));
   takes = λ bytes x rest fits e.
       let b = bind_ok (first bytes) (λ a. the_ok {X = X × List ℕ} (make a.0, a.1)) (x, rest) e in
       let t = f.takes bytes b.0.0 b.0.1 fits b.1 in

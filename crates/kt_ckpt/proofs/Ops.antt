@@ -1,5 +1,5 @@
 -- Operations and answers are fields.
-use Rattle.std.proofs.Common.{◌≡◌, ℕ, ◌<◌, Bool, true, false, cond, eqb, List, [], ◌∷◌, Result, Ok, Err, refl, sym, subst, arith}
+use Rattle.std.proofs.Common.{◌≡◌, ℕ, ◌<◌, false, cond, eqb, List, [], Result, Ok, refl, sym, subst, arith}
 use Rattle.std.proofs.lemmas.Bool.{eqb-true, eqb-false}
 use Rattle.kt_tuple.specs.declared.value.Value.{Value}
 use Rattle.kt_tuple.specs.declared.template.Place.{Place}
@@ -10,10 +10,10 @@ use Rattle.kt_tuple.specs.declared.op.Answer.TheVariants as answers
 use Rattle.kt_ckpt.specs.declared.error.CkptError.{CkptError}
 use Rattle.kt_ckpt.specs.declared.error.CkptError.TheVariants.{Field}
 use Rattle.kt_ckpt.specs.Limits.{out_code, in_code, rd_code, inp_code, rdp_code, done_code, got_code, none_code}
-use Rattle.kt_ckpt.specs.Reading.{◌>>=◌, made, byte_at}
-use Rattle.kt_ckpt.specs.Tuple.{IsTuple, IsTemplate, tuple_bytes, template_bytes, tuple_at, template_at}
+use Rattle.kt_ckpt.specs.Reading.{made}
+use Rattle.kt_ckpt.specs.Tuple.{IsTuple, IsTemplate, tuple_at, template_at}
 use Rattle.kt_ckpt.specs.Op.{IsOp, op_code, behind_op_code, op_bytes, op_behind, op_at, IsAnswer, answer_code, behind_answer_code, answer_bytes, answer_behind, answer_at}
-use Rattle.kt_ckpt.proofs.Field.{IsField, Lasts, the_ok}
+use Rattle.kt_ckpt.proofs.Field.{IsField, Lasts}
 use Rattle.kt_ckpt.proofs.Combined.{known, known_lasts, fault, refused, refused_lasts, same_field, either, either_lasts, behind, behind_lasts, made_field, made_lasts}
 use Rattle.kt_ckpt.proofs.Primitive.{byte_field, byte_lasts}
 use Rattle.kt_ckpt.proofs.Tuples.{tuple_field, tuple_lasts, template_field, template_lasts}
@@ -93,21 +93,21 @@ op_behind_field : (code : ℕ) → IsField behind_op_code (IsOpBehind code) (op_
 unfolding op_behind
 op_behind_field code =
     let f = coded IsOpBehind out_at (from_in code) code out_code (made_field tuple_field Out behind_op_code (IsOpBehind out_code) (λ u h. refl) (λ u h. (h, refl)) out_from)
-        (λ a. coded IsOpBehind (with_template In) (from_rd code) code in_code (made_field template_field In behind_op_code (IsOpBehind in_code) (λ t h. refl) (λ t h. (h, refl)) in_from)
-        (λ b. coded IsOpBehind (with_template Rd) (from_inp code) code rd_code (made_field template_field Rd behind_op_code (IsOpBehind rd_code) (λ t h. refl) (λ t h. (h, refl)) rd_from)
-        (λ c. coded IsOpBehind (with_template Inp) (from_rdp code) code inp_code (made_field template_field Inp behind_op_code (IsOpBehind inp_code) (λ t h. refl) (λ t h. (h, refl)) inp_from)
-        (λ d. coded IsOpBehind (with_template Rdp) (fault Field) code rdp_code (made_field template_field Rdp behind_op_code (IsOpBehind rdp_code) (λ t h. refl) (λ t h. (h, refl)) rdp_from)
-        (λ e. refused behind_op_code (IsOpBehind code) Field (λ op. no_op code op a b c d e)))))) in
+    (λ a. coded IsOpBehind (with_template In) (from_rd code) code in_code (made_field template_field In behind_op_code (IsOpBehind in_code) (λ t h. refl) (λ t h. (h, refl)) in_from)
+    (λ b. coded IsOpBehind (with_template Rd) (from_inp code) code rd_code (made_field template_field Rd behind_op_code (IsOpBehind rd_code) (λ t h. refl) (λ t h. (h, refl)) rd_from)
+    (λ c. coded IsOpBehind (with_template Inp) (from_rdp code) code inp_code (made_field template_field Inp behind_op_code (IsOpBehind inp_code) (λ t h. refl) (λ t h. (h, refl)) inp_from)
+    (λ d. coded IsOpBehind (with_template Rdp) (fault Field) code rdp_code (made_field template_field Rdp behind_op_code (IsOpBehind rdp_code) (λ t h. refl) (λ t h. (h, refl)) rdp_from)
+    (λ e. refused behind_op_code (IsOpBehind code) Field (λ op. no_op code op a b c d e)))))) in
     record { again = f.again; takes = f.takes }
 
 op_behind_lasts : (code : ℕ) → Lasts (op_behind code)
 unfolding op_behind
 op_behind_lasts code =
     let l = either_lasts out_at (from_in code) (eqb code out_code) (made_lasts Out tuple_lasts)
-        (either_lasts (with_template In) (from_rd code) (eqb code in_code) (made_lasts In template_lasts)
-        (either_lasts (with_template Rd) (from_inp code) (eqb code rd_code) (made_lasts Rd template_lasts)
-        (either_lasts (with_template Inp) (from_rdp code) (eqb code inp_code) (made_lasts Inp template_lasts)
-        (either_lasts (with_template Rdp) (fault Field) (eqb code rdp_code) (made_lasts Rdp template_lasts) (refused_lasts Field))))) in
+    (either_lasts (with_template In) (from_rd code) (eqb code in_code) (made_lasts In template_lasts)
+    (either_lasts (with_template Rd) (from_inp code) (eqb code rd_code) (made_lasts Rd template_lasts)
+    (either_lasts (with_template Inp) (from_rdp code) (eqb code inp_code) (made_lasts Inp template_lasts)
+    (either_lasts (with_template Rdp) (fault Field) (eqb code rdp_code) (made_lasts Rdp template_lasts) (refused_lasts Field))))) in
     record { goes_on = l.goes_on }
 
 op_code_is_byte : (op : Op) → op_code op < 256
@@ -174,17 +174,17 @@ answer_behind_field : (code : ℕ) → IsField behind_answer_code (IsAnswerBehin
 unfolding answer_behind
 answer_behind_field code =
     let f = coded IsAnswerBehind (bare_at answers.Done) (from_got code) code done_code done_field
-        (λ a. coded IsAnswerBehind got_at (from_none code) code got_code (made_field tuple_field answers.Got behind_answer_code (IsAnswerBehind got_code) (λ u h. refl) (λ u h. (h, refl)) got_from)
-        (λ b. coded IsAnswerBehind (bare_at answers.None) (fault Field) code none_code none_field
-        (λ c. refused behind_answer_code (IsAnswerBehind code) Field (λ answer. no_answer code answer a b c)))) in
+    (λ a. coded IsAnswerBehind got_at (from_none code) code got_code (made_field tuple_field answers.Got behind_answer_code (IsAnswerBehind got_code) (λ u h. refl) (λ u h. (h, refl)) got_from)
+    (λ b. coded IsAnswerBehind (bare_at answers.None) (fault Field) code none_code none_field
+    (λ c. refused behind_answer_code (IsAnswerBehind code) Field (λ answer. no_answer code answer a b c)))) in
     record { again = f.again; takes = f.takes }
 
 answer_behind_lasts : (code : ℕ) → Lasts (answer_behind code)
 unfolding answer_behind
 answer_behind_lasts code =
     let l = either_lasts (bare_at answers.Done) (from_got code) (eqb code done_code) (known_lasts answers.Done)
-        (either_lasts got_at (from_none code) (eqb code got_code) (made_lasts answers.Got tuple_lasts)
-        (either_lasts (bare_at answers.None) (fault Field) (eqb code none_code) (known_lasts answers.None) (refused_lasts Field))) in
+    (either_lasts got_at (from_none code) (eqb code got_code) (made_lasts answers.Got tuple_lasts)
+    (either_lasts (bare_at answers.None) (fault Field) (eqb code none_code) (known_lasts answers.None) (refused_lasts Field))) in
     record { goes_on = l.goes_on }
 
 answer_code_is_byte : (answer : Answer) → answer_code answer < 256

@@ -3,8 +3,8 @@ use Rattle.std.proofs.Common.{◌≡◌, ℕ, zero, suc, ◌+◌, ◌^◌, ◌<�
 use Rattle.std.specs.Prelude.{All}
 use Rattle.std.specs.List.{flat_map}
 use Rattle.std.specs.Int.{Width, w16, w32, w64, byte_len, from_be_bytes, to_be_bytes}
-use Rattle.std.proofs.lemmas.Bool.{ltb-false, ltb-true, le-ltb, lt-ltb, leb-true, le-leb, and_parts, and_from}
-use Rattle.std.proofs.lemmas.List.{take_at, drop_at, take-append-drop, length-append, length-take, length-drop}
+use Rattle.std.proofs.lemmas.Bool.{ltb-false, le-ltb, leb-true, le-leb}
+use Rattle.std.proofs.lemmas.List.{take_at, drop_at, take-append-drop, length-append, length-take}
 use Rattle.std.proofs.lemmas.List.Elements.{All-nil, All-cons, All-head, All-tail}
 use Rattle.std.proofs.lemmas.Nat.{be_bytes_2, be_bytes_4, be_bytes_8, from_be_bytes-to_be_bytes_2, from_be_bytes-to_be_bytes_4, from_be_bytes-to_be_bytes_8}
 use Rattle.kt_ckpt.specs.declared.error.CkptError.{CkptError}
@@ -12,7 +12,7 @@ use Rattle.kt_ckpt.specs.declared.error.CkptError.TheVariants.{Cut, Field}
 use Rattle.kt_ckpt.specs.Limits.{max_workers}
 use Rattle.kt_ckpt.specs.Reading.{◌>>=◌, byte_at, bytes_at, number_at, within, byte_within, list_at, rising_at, IsRising}
 use Rattle.kt_ckpt.proofs.Field.{IsBytes, IsBytes-take, IsBytes-drop, IsBytes-tail, Takes, Takes-then, Continues, IsField, Lasts, the_ok, pair_of_ok, bind_ok}
-use Rattle.kt_ckpt.proofs.Combined.{known, known_lasts, same_field, behind, behind_lasts}
+use Rattle.kt_ckpt.proofs.Combined.{known_lasts, behind_lasts}
 
 -- ---- bytes
 
@@ -116,7 +116,7 @@ front_takes n bytes front rest fits e = by (ltb (length bytes) n) refl e where
       let s = pair_of_ok (take n bytes, drop n bytes) (front, rest) e in
       let len : length (take n bytes) ≡ n = omega (arith, length-take n bytes) in
       subst (λ (x : List ℕ × List ℕ). Takes bytes x.0 x.1 × (length x.0 ≡ n) × IsBytes x.0) (ap (λ (f : List ℕ). (f, drop n bytes)) s.0 ∙ ap (λ (r : List ℕ). (front, r)) s.1)
-          (record { parts = sym (take-append-drop n bytes); rest_fits = IsBytes-drop n bytes fits }, len, IsBytes-take n bytes fits)
+      (record { parts = sym (take-append-drop n bytes); rest_fits = IsBytes-drop n bytes fits }, len, IsBytes-take n bytes fits)
 
 pub front_len : (n : ℕ) (bytes front rest : List ℕ) → bytes_at n bytes ≡ Ok (front, rest) → length front ≡ n
 front_len n bytes front rest e = by (ltb (length bytes) n) refl e where
@@ -167,8 +167,10 @@ number_field w limit wide = record {
 pub number_lasts : (w : Width) → Lasts (number_at w)
 number_lasts w =
     let l = behind_lasts (λ x bytes. the_ok {X = ℕ × List ℕ} (from_be_bytes w x, bytes)) (front_lasts (byte_len w)) (λ x. known_lasts (from_be_bytes w x)) in
-    record { goes_on = λ bytes more. subst (λ (r : Result (ℕ × List ℕ) CkptError). Continues more r (number_at w (bytes ++ more))) (sym (number_is w bytes))
-        (subst (λ (r : Result (ℕ × List ℕ) CkptError). Continues more (bytes_at (byte_len w) bytes >>= λ x. the_ok {X = ℕ × List ℕ} (from_be_bytes w x.0, x.1)) r) (sym (number_is w (bytes ++ more))) (l.goes_on bytes more)) }
+    record {
+      goes_on = λ bytes more. subst (λ (r : Result (ℕ × List ℕ) CkptError). Continues more r (number_at w (bytes ++ more))) (sym (number_is w bytes))
+          (subst (λ (r : Result (ℕ × List ℕ) CkptError). Continues more (bytes_at (byte_len w) bytes >>= λ x. the_ok {X = ℕ × List ℕ} (from_be_bytes w x.0, x.1)) r) (sym (number_is w (bytes ++ more))) (l.goes_on bytes more));
+    }
 
 -- ---- lists
 
@@ -185,11 +187,12 @@ list_field {X} {spelled} {IsAllowed} {read} f n = record { again = λ xs rest h.
       ap (list_at read (suc n)) regrouped
       ∙ ap (λ (r : Result (X × List ℕ) CkptError). r >>= λ first. list_at read n first.1 >>= λ others. the_ok {X = List X × List ℕ} (first.0 ∷ others.0, others.1)) (f.again x (flat_map spelled xs ++ rest) (All-head IsAllowed x xs all))
       ∙ ap (λ (r : Result (List X × List ℕ) CkptError). r >>= λ others. the_ok {X = List X × List ℕ} (x ∷ others.0, others.1)) (again n xs rest (omega arith) (All-tail IsAllowed x xs all))
+
   takes : (n : ℕ) (bytes : List ℕ) (xs : List X) (rest : List ℕ) → IsBytes bytes → list_at read n bytes ≡ Ok (xs, rest) → Takes bytes (flat_map spelled xs) rest × ((length xs ≡ n) × All IsAllowed xs)
   takes zero bytes xs rest fits e =
       let s = pair_of_ok ([], bytes) (xs, rest) e in
       subst (λ (y : List X × List ℕ). Takes bytes (flat_map spelled y.0) y.1 × ((length y.0 ≡ 0) × All IsAllowed y.0)) (ap (λ (a : List X). (a, bytes)) s.0 ∙ ap (λ (r : List ℕ). (xs, r)) s.1)
-          (record { parts = refl; rest_fits = fits }, (refl, All-nil IsAllowed))
+      (record { parts = refl; rest_fits = fits }, (refl, All-nil IsAllowed))
   takes (suc n) bytes xs rest fits e =
       let a = bind_ok (read bytes) (λ first. list_at read n first.1 >>= λ others. the_ok {X = List X × List ℕ} (first.0 ∷ others.0, others.1)) (xs, rest) e in
       let b = bind_ok (list_at read n a.0.1) (λ others. the_ok {X = List X × List ℕ} (a.0.0 ∷ others.0, others.1)) (xs, rest) a.2 in
@@ -197,7 +200,7 @@ list_field {X} {spelled} {IsAllowed} {read} f n = record { again = λ xs rest h.
       let t = f.takes bytes a.0.0 a.0.1 fits a.1 in
       let u = takes n a.0.1 b.0.0 b.0.1 t.0.rest_fits b.1 in
       subst (λ (y : List X × List ℕ). Takes bytes (flat_map spelled y.0) y.1 × ((length y.0 ≡ suc n) × All IsAllowed y.0)) (ap (λ (l : List X). (l, b.0.1)) s.0 ∙ ap (λ (r : List ℕ). (xs, r)) s.1)
-          (Takes-then t.0 u.0, (ap suc u.1.0, All-cons IsAllowed a.0.0 b.0.0 t.1 u.1.1))
+      (Takes-then t.0 u.0, (ap suc u.1.0, All-cons IsAllowed a.0.0 b.0.0 t.1 u.1.1))
 
 pub list_lasts : {X : Type 0} {read : List ℕ → Result (X × List ℕ) CkptError} → Lasts read → (n : ℕ) → Lasts (list_at read n)
 unfolding list_at
@@ -205,7 +208,7 @@ list_lasts {X} {read} l zero = record { goes_on = λ bytes more. refl }
 list_lasts {X} {read} l (suc n) =
     let rest = list_lasts l n in
     let m = behind_lasts (λ x bytes. list_at read n bytes >>= λ others. the_ok {X = List X × List ℕ} (x ∷ others.0, others.1)) l
-        (λ x. behind_lasts (λ xs bytes. the_ok {X = List X × List ℕ} (x ∷ xs, bytes)) rest (λ xs. known_lasts (x ∷ xs))) in
+    (λ x. behind_lasts (λ xs bytes. the_ok {X = List X × List ℕ} (x ∷ xs, bytes)) rest (λ xs. known_lasts (x ∷ xs))) in
     record { goes_on = m.goes_on }
 
 -- ---- lists with rising workers
@@ -234,12 +237,13 @@ rising_field {X} {spelled} {IsAllowed} {read} f low n = record { again = λ xs r
       ∙ ap (λ (r : Result (ℕ × List ℕ) CkptError). r >>= after_worker read n) (worker.again x.0 (spelled x.1 ++ (flat_map (entry spelled) xs ++ rest)) (rising.0, rising.1))
       ∙ ap (λ (r : Result (X × List ℕ) CkptError). r >>= after_first read n x.0) (f.again x.1 (flat_map (entry spelled) xs ++ rest) (All-head (λ x. IsAllowed x.1) x xs all))
       ∙ ap (λ (r : Result (List (ℕ × X) × List ℕ) CkptError). r >>= λ others. the_ok {X = List (ℕ × X) × List ℕ} (x ∷ others.0, others.1)) (again (x.0 + 1) n xs rest (omega arith) rising.2 (All-tail (λ x. IsAllowed x.1) x xs all))
+
   takes : (low n : ℕ) (bytes : List ℕ) (xs : List (ℕ × X)) (rest : List ℕ) → IsBytes bytes → rising_at read low n bytes ≡ Ok (xs, rest)
       → Takes bytes (flat_map (entry spelled) xs) rest × ((length xs ≡ n) × (IsRising low xs × All (λ x. IsAllowed x.1) xs))
   takes low zero bytes xs rest fits e =
       let s = pair_of_ok ([], bytes) (xs, rest) e in
       subst (λ (y : List (ℕ × X) × List ℕ). Takes bytes (flat_map (entry spelled) y.0) y.1 × ((length y.0 ≡ 0) × (IsRising low y.0 × All (λ x. IsAllowed x.1) y.0))) (ap (λ (a : List (ℕ × X)). (a, bytes)) s.0 ∙ ap (λ (r : List ℕ). (xs, r)) s.1)
-          (record { parts = refl; rest_fits = fits }, (refl, (tt, All-nil (λ x. IsAllowed x.1))))
+      (record { parts = refl; rest_fits = fits }, (refl, (tt, All-nil (λ x. IsAllowed x.1))))
   takes low (suc n) bytes xs rest fits e =
       let worker = byte_within_field low max_workers (omega arith) in
       let w = bind_ok (byte_within low max_workers bytes) (after_worker read n) (xs, rest) e in
@@ -250,15 +254,15 @@ rising_field {X} {spelled} {IsAllowed} {read} f low n = record { again = λ xs r
       let t = f.takes w.0.1 a.0.0 a.0.1 v.0.rest_fits a.1 in
       let u = takes (w.0.0 + 1) n a.0.1 b.0.0 b.0.1 t.0.rest_fits b.1 in
       subst (λ (y : List (ℕ × X) × List ℕ). Takes bytes (flat_map (entry spelled) y.0) y.1 × ((length y.0 ≡ suc n) × (IsRising low y.0 × All (λ x. IsAllowed x.1) y.0))) (ap (λ (l : List (ℕ × X)). (l, b.0.1)) s.0 ∙ ap (λ (r : List ℕ). (xs, r)) s.1)
-          (Takes-then v.0 (Takes-then t.0 u.0), (ap suc u.1.0, ((v.1.0, v.1.1, u.1.1.0), All-cons (λ x. IsAllowed x.1) (w.0.0, a.0.0) b.0.0 t.1 u.1.1.1)))
+      (Takes-then v.0 (Takes-then t.0 u.0), (ap suc u.1.0, ((v.1.0, v.1.1, u.1.1.0), All-cons (λ x. IsAllowed x.1) (w.0.0, a.0.0) b.0.0 t.1 u.1.1.1)))
 
 pub rising_lasts : {X : Type 0} {read : List ℕ → Result (X × List ℕ) CkptError} → Lasts read → (low n : ℕ) → Lasts (rising_at read low n)
 unfolding rising_at
 rising_lasts {X} {read} l low zero = record { goes_on = λ bytes more. refl }
 rising_lasts {X} {read} l low (suc n) =
     let m = behind_lasts (λ w bytes. after_worker read n (w, bytes)) (byte_within_lasts low max_workers)
-        (λ w. behind_lasts (λ x bytes. after_first read n w (x, bytes)) l
-        (λ x. behind_lasts (λ xs bytes. the_ok {X = List (ℕ × X) × List ℕ} ((w, x) ∷ xs, bytes)) (rising_lasts l (w + 1) n) (λ xs. known_lasts ((w, x) ∷ xs)))) in
+    (λ w. behind_lasts (λ x bytes. after_first read n w (x, bytes)) l
+    (λ x. behind_lasts (λ xs bytes. the_ok {X = List (ℕ × X) × List ℕ} ((w, x) ∷ xs, bytes)) (rising_lasts l (w + 1) n) (λ xs. known_lasts ((w, x) ∷ xs)))) in
     record { goes_on = m.goes_on }
 
 -- what was read has rising workers

@@ -2,14 +2,9 @@
 use Rattle.std.proofs.Common.{◌≡◌, ℕ, ◌<◌, ◌≤◌, List, ◌∷◌, length, Result, refl, sym, subst, arith}
 use Rattle.std.specs.Prelude.{All}
 use Rattle.std.specs.List.{flat_map}
-use Rattle.kt_tuple.specs.declared.value.Value.{Value}
-use Rattle.kt_tuple.specs.declared.template.Place.{Place}
-use Rattle.kt_tuple.specs.Matching.{HasArity}
-use Rattle.kt_tuple.specs.Valid.{IsValue, IsPlace}
 use Rattle.kt_ckpt.specs.declared.error.CkptError.{CkptError}
 use Rattle.kt_ckpt.specs.Limits.{max_places}
 use Rattle.kt_ckpt.specs.Reading.{◌>>=◌, byte_within, list_at}
-use Rattle.kt_ckpt.specs.Value.{value_bytes, value_at, place_bytes, place_at}
 use Rattle.kt_ckpt.specs.Tuple.{IsTuple, IsTemplate, tuple_bytes, template_bytes, tuple_at, template_at}
 use Rattle.kt_ckpt.proofs.Field.{IsField, Lasts}
 use Rattle.kt_ckpt.proofs.Combined.{same_field, behind, behind_lasts}
@@ -23,7 +18,7 @@ pub counted_field : {X : Type 0} {spelled : X → List ℕ} {IsAllowed : X → T
 counted_field {X} {spelled} {IsAllowed} {read} f low high lt =
     behind (byte_within_field low high lt) (λ (xs : List X). length xs) (λ xs. flat_map spelled xs) (λ xs. ((low ≤ length xs) × (length xs ≤ high)) × All IsAllowed xs) (λ n. list_at read n) (λ xs h. h.0)
     (λ n h. same_field (list_field f n) (λ xs. flat_map spelled xs) (λ xs. (((low ≤ length xs) × (length xs ≤ high)) × All IsAllowed xs) × (n ≡ length xs))
-        (λ xs g. ((subst (λ (k : ℕ). (low ≤ k) × (k ≤ high)) (sym g.0) h, g.1), sym g.0)) (λ xs g. (sym g.1, g.0.1)) (λ xs g. refl))
+    (λ xs g. ((subst (λ (k : ℕ). (low ≤ k) × (k ≤ high)) (sym g.0) h, g.1), sym g.0)) (λ xs g. (sym g.1, g.0.1)) (λ xs g. refl))
 
 pub counted_lasts : {X : Type 0} {read : List ℕ → Result (X × List ℕ) CkptError} → Lasts read → (low high : ℕ) → Lasts (λ bytes. byte_within low high bytes >>= λ n. list_at read n.0 n.1)
 counted_lasts {X} {read} l low high = behind_lasts (λ n. list_at read n) (byte_within_lasts low high) (list_lasts l)

@@ -1,5 +1,5 @@
 -- Values and places are fields.
-use Rattle.std.proofs.Common.{◌≡◌, ℕ, ℤ, ◌+◌, ◌^◌, ◌<◌, ◌≤◌, Bool, true, false, cond, eqb, List, [], ◌∷◌, ◌++◌, length, Result, Ok, Err, refl, sym, ap, subst, ◌∙◌, arith}
+use Rattle.std.proofs.Common.{◌≡◌, ℕ, ℤ, ◌^◌, ◌<◌, ◌≤◌, Bool, true, false, cond, eqb, List, [], ◌∷◌, ◌++◌, length, Result, Ok, Err, refl, sym, ap, subst, ◌∙◌, arith}
 use Rattle.std.specs.List.{list_all}
 use Rattle.std.specs.Int.{w64, to_be_bytes, cast_signed, cast_unsigned}
 use Rattle.std.specs.Int.RustNames.{FitsSigned}
@@ -17,9 +17,9 @@ use Rattle.kt_tuple.specs.Text.{IsText}
 use Rattle.kt_tuple.specs.Valid.{IsValue, IsPlace}
 use Rattle.kt_tuple.proofs.Strings.{are_printable, all_printable}
 use Rattle.kt_ckpt.specs.declared.error.CkptError.{CkptError}
-use Rattle.kt_ckpt.specs.declared.error.CkptError.TheVariants.{Cut, Field}
+use Rattle.kt_ckpt.specs.declared.error.CkptError.TheVariants.{Field}
 use Rattle.kt_ckpt.specs.Limits.{max_characters, int_code, str_code, int_formal_code, str_formal_code}
-use Rattle.kt_ckpt.specs.Reading.{◌>>=◌, made, byte_at, bytes_at, byte_within, number_at}
+use Rattle.kt_ckpt.specs.Reading.{◌>>=◌, made, bytes_at, byte_within}
 use Rattle.kt_ckpt.specs.Value.{value_code, behind_value_code, value_bytes, place_code, behind_place_code, place_bytes, int_at, printed, str_at, value_behind, value_at, place_behind, place_at}
 use Rattle.kt_ckpt.proofs.Field.{IsBytes, Takes, Takes-then, Continues, IsField, Lasts, the_ok, pair_of_ok, bind_ok}
 use Rattle.kt_ckpt.proofs.Combined.{known, known_lasts, fault, refused, refused_lasts, same_field, either, either_lasts, behind, behind_lasts, made_field, made_lasts}
@@ -41,7 +41,7 @@ int_field : IsField behind_value_code (IsBehind int_code) int_at
 unfolding int_at
 int_field =
     let f = made_field (number_field w64 (2 ^ 64) wide64) (λ n. Int (cast_signed w64 n)) behind_value_code (IsBehind int_code)
-        (λ n lt. ap (to_be_bytes w64) (sym (of_z-to_z w64 n lt))) (λ n lt. (sfits_to_z (Fits-of_lt lt), refl)) int_from in
+    (λ n lt. ap (to_be_bytes w64) (sym (of_z-to_z w64 n lt))) (λ n lt. (sfits_to_z (Fits-of_lt lt), refl)) int_from in
     record { again = f.again; takes = f.takes }
 
 int_lasts : Lasts int_at
@@ -75,6 +75,7 @@ str_field = record { again = λ v rest h. again v rest h; takes = λ bytes v res
       ap (λ (r : Result (ℕ × List ℕ) CkptError). r >>= after_length) (len.again (length cs) (cs ++ rest) (omega arith, h.0.0))
       ∙ ap (λ (r : Result (List ℕ × List ℕ) CkptError). r >>= λ x. printed x.0 x.1) (front_again (length cs) cs rest refl)
       ∙ ap (λ (b : Bool). cond b (the_ok {X = Value × List ℕ} (Str cs, rest)) (Err Field)) (all_printable cs h.0.1)
+
   takes : (bytes : List ℕ) (v : Value) (rest : List ℕ) → IsBytes bytes → str_at bytes ≡ Ok (v, rest) → Takes bytes (behind_value_code v) rest × IsBehind str_code v
   takes bytes v rest fits e =
       let len = byte_within_field 0 max_characters (omega arith) in
@@ -85,7 +86,7 @@ str_field = record { again = λ v rest h. again v rest h; takes = λ bytes v res
       let u = front_takes a.0.0 a.0.1 b.0.0 b.0.1 t.0.rest_fits b.1 in
       let text : Takes bytes (length b.0.0 ∷ b.0.0) b.0.1 = subst (λ (n : ℕ). Takes bytes (n ∷ b.0.0) b.0.1) (sym u.1) (Takes-then t.0 u.0) in
       subst (λ (w : Value). Takes bytes (behind_value_code w) rest × IsBehind str_code w) p.1
-          (subst (λ (r : List ℕ). Takes bytes (length b.0.0 ∷ b.0.0) r) p.2 text, ((omega (arith, u.1, t.1.1), are_printable b.0.0 p.0), refl))
+      (subst (λ (r : List ℕ). Takes bytes (length b.0.0 ∷ b.0.0) r) p.2 text, ((omega (arith, u.1, t.1.1), are_printable b.0.0 p.0), refl))
 
 str_lasts : Lasts str_at
 unfolding str_at after_length
@@ -103,17 +104,17 @@ pub value_behind_field : (code : ℕ) → IsField behind_value_code (IsBehind co
 unfolding value_behind
 value_behind_field code =
     let f = either int_at (λ bytes. cond (eqb code str_code) (str_at bytes) (fault Field bytes)) (eqb code int_code)
-        (λ p. subst (λ (k : ℕ). IsField behind_value_code (IsBehind k) int_at) (sym (eqb-true code int_code p)) int_field)
-        (λ p. either str_at (fault Field) (eqb code str_code)
-            (λ q. subst (λ (k : ℕ). IsField behind_value_code (IsBehind k) str_at) (sym (eqb-true code str_code q)) str_field)
-            (λ q. refused behind_value_code (IsBehind code) Field (λ v. no_code code v p q))) in
+    (λ p. subst (λ (k : ℕ). IsField behind_value_code (IsBehind k) int_at) (sym (eqb-true code int_code p)) int_field)
+    (λ p. either str_at (fault Field) (eqb code str_code)
+    (λ q. subst (λ (k : ℕ). IsField behind_value_code (IsBehind k) str_at) (sym (eqb-true code str_code q)) str_field)
+    (λ q. refused behind_value_code (IsBehind code) Field (λ v. no_code code v p q))) in
     record { again = f.again; takes = f.takes }
 
 pub value_behind_lasts : (code : ℕ) → Lasts (value_behind code)
 unfolding value_behind
 value_behind_lasts code =
     let l = either_lasts int_at (λ bytes. cond (eqb code str_code) (str_at bytes) (fault Field bytes)) (eqb code int_code) int_lasts
-        (either_lasts str_at (fault Field) (eqb code str_code) str_lasts (refused_lasts Field)) in
+    (either_lasts str_at (fault Field) (eqb code str_code) str_lasts (refused_lasts Field)) in
     record { goes_on = l.goes_on }
 
 value_code_is_byte : (v : Value) → value_code v < 256
@@ -169,17 +170,17 @@ place_behind_field : (code : ℕ) → IsField behind_place_code (IsPlaceBehind c
 unfolding place_behind
 place_behind_field code =
     let f = either int_formal_at (λ bytes. cond (eqb code str_formal_code) (str_formal_at bytes) (actual_behind code bytes)) (eqb code int_formal_code)
-        (λ p. subst (λ (k : ℕ). IsField behind_place_code (IsPlaceBehind k) int_formal_at) (sym (eqb-true code int_formal_code p)) (formal_field kinds.Int int_formal))
-        (λ p. either str_formal_at (actual_behind code) (eqb code str_formal_code)
-            (λ q. subst (λ (k : ℕ). IsField behind_place_code (IsPlaceBehind k) str_formal_at) (sym (eqb-true code str_formal_code q)) (formal_field kinds.Str str_formal))
-            (λ q. made_field (value_behind_field code) Actual behind_place_code (IsPlaceBehind code) (λ v h. refl) (λ v h. h) (λ x. actual_from code x p q))) in
+    (λ p. subst (λ (k : ℕ). IsField behind_place_code (IsPlaceBehind k) int_formal_at) (sym (eqb-true code int_formal_code p)) (formal_field kinds.Int int_formal))
+    (λ p. either str_formal_at (actual_behind code) (eqb code str_formal_code)
+    (λ q. subst (λ (k : ℕ). IsField behind_place_code (IsPlaceBehind k) str_formal_at) (sym (eqb-true code str_formal_code q)) (formal_field kinds.Str str_formal))
+    (λ q. made_field (value_behind_field code) Actual behind_place_code (IsPlaceBehind code) (λ v h. refl) (λ v h. h) (λ x. actual_from code x p q))) in
     record { again = f.again; takes = f.takes }
 
 place_behind_lasts : (code : ℕ) → Lasts (place_behind code)
 unfolding place_behind
 place_behind_lasts code =
     let l = either_lasts int_formal_at (λ bytes. cond (eqb code str_formal_code) (str_formal_at bytes) (actual_behind code bytes)) (eqb code int_formal_code) (known_lasts (Formal kinds.Int))
-        (either_lasts str_formal_at (actual_behind code) (eqb code str_formal_code) (known_lasts (Formal kinds.Str)) (made_lasts Actual (value_behind_lasts code))) in
+    (either_lasts str_formal_at (actual_behind code) (eqb code str_formal_code) (known_lasts (Formal kinds.Str)) (made_lasts Actual (value_behind_lasts code))) in
     record { goes_on = l.goes_on }
 
 place_code_is_byte : (p : Place) → place_code p < 256
@@ -213,6 +214,6 @@ str_refused bytes n after cs rest p q le none =
     ∙ ap (λ (r : Result (List ℕ × List ℕ) CkptError). r >>= λ cs. printed cs.0 cs.1) q
     ∙ by (list_all is_printable cs) refl
   where
-  by : (b : Bool) → list_all is_printable cs ≡ b → cond b (the_ok {X = Value × List ℕ} (Str cs, rest)) (Err Field) ≡ Err Field
-  by true e = absurd (none (omega (arith, front_len n after cs rest q), are_printable cs e))
-  by false e = refl
+    by : (b : Bool) → list_all is_printable cs ≡ b → cond b (the_ok {X = Value × List ℕ} (Str cs, rest)) (Err Field) ≡ Err Field
+    by true e = absurd (none (omega (arith, front_len n after cs rest q), are_printable cs e))
+    by false e = refl

@@ -2,7 +2,6 @@
 
 ghost use Rattle.std.specs.Prelude.{◌≡◌, ◌++◌, ◌∷◌, [], All, IfOk, OnOk, Ok, length};
 ghost use Rattle.std.specs.List.{flat_map, zip};
-
 ghost use Rattle.kt_ckpt.specs.Checkpoint.{IsCheckpoint, HasCounts, IsCountedState, IsLabel, IsState, ArePeers, spelling, read, node_bytes, label_bytes, peer_bytes, peers_bytes, state_bytes};
 ghost use Rattle.kt_ckpt.specs.Limits.{magic, version};
 

@@ -115,11 +115,7 @@ fn bag_at(alloc: Global, bytes: &[u8]) -> Result<(Vec<Tuple>, &[u8]), CkptError>
     tuples_at(alloc, count, rest)
 }
 
-fn tuples_at(
-    alloc: Global,
-    count: u32,
-    bytes: &[u8],
-) -> Result<(Vec<Tuple>, &[u8]), CkptError>
+fn tuples_at(alloc: Global, count: u32, bytes: &[u8]) -> Result<(Vec<Tuple>, &[u8]), CkptError>
     ensures value { Gives (λ x. (x.0.items, x.1.now)) result (list_at tuple_at count bytes.now) }
     ensures len { IfOk result (λ x. length x.0.items ≡ count) }
 {

@@ -172,11 +172,7 @@ impl WorkerState {
 impl ShardState {
     /// A shard with these tuples, in order of arrival, and for workers, in rising order, the requests that wait
     /// and those that were served last.
-    pub fn new(
-        bag: Vec<Tuple>,
-        waiting: Vec<(u8, Request)>,
-        kept: Vec<(u8, Kept)>,
-    ) -> ShardState
+    pub fn new(bag: Vec<Tuple>, waiting: Vec<(u8, Request)>, kept: Vec<(u8, Kept)>) -> ShardState
         ensures { result ≡ record { bag = bag.items; waiting = waiting.items; kept = kept.items } }
     {
         ShardState { bag, waiting, kept }
@@ -247,10 +243,7 @@ fn copy_tuples(alloc: Global, tuples: &[Tuple]) -> Result<Vec<Tuple>, AllocError
     Ok(copies)
 }
 
-fn copy_waiting(
-    alloc: Global,
-    entries: &[(u8, Request)],
-) -> Result<Vec<(u8, Request)>, AllocError>
+fn copy_waiting(alloc: Global, entries: &[(u8, Request)]) -> Result<Vec<(u8, Request)>, AllocError>
     ensures { IfOk result (λ v. v.items ≡ entries.now) }
 {
     let mut copies = Vec::with_capacity(alloc, entries.len())?;

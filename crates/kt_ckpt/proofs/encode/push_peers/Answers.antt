@@ -11,6 +11,6 @@ returns-clause-ok c =
     let s = c.args.sent.now in
     let r = c.args.received.now in
     on_ok_weaker c.push_labels.result
-        (λ e. both_appended _ _ _ (length s ∷ []) (flat_map peer_bytes (zip s r)) c.in_ok-push.ensures.items e
-            ∙ ap (λ (n : ℕ). c.args.out.now.items ++ (n ∷ flat_map peer_bytes (zip s r))) (sym (zip_len s r c.requires.2)))
-        c.push_labels.ensures.ok
+    (λ e. both_appended _ _ _ (length s ∷ []) (flat_map peer_bytes (zip s r)) c.in_ok-push.ensures.items e
+    ∙ ap (λ (n : ℕ). c.args.out.now.items ++ (n ∷ flat_map peer_bytes (zip s r))) (sym (zip_len s r c.requires.2)))
+    c.push_labels.ensures.ok

@@ -1,4 +1,4 @@
-use Rattle.std.proofs.Common.{subst, ℕ, ◌∷◌, [], ◌++◌}
+use Rattle.std.proofs.Common.{subst, ℕ, ◌∷◌, []}
 use Rattle.std.proofs.lemmas.List.Elements.{All-more}
 use Rattle.kt_ckpt.specs.declared.state.Kept.{Kept}
 use Rattle.kt_ckpt.specs.State.{IsKept, entry_bytes, request_bytes, kept_bytes}

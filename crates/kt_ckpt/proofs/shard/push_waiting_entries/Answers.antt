@@ -1,4 +1,4 @@
-use Rattle.std.proofs.Common.{subst, ℕ, ◌∷◌, [], ◌++◌}
+use Rattle.std.proofs.Common.{subst, ℕ, ◌∷◌, []}
 use Rattle.std.proofs.lemmas.List.Elements.{All-more}
 use Rattle.kt_ckpt.specs.declared.state.Request.{Request}
 use Rattle.kt_ckpt.specs.State.{IsRequest, entry_bytes, request_bytes}

@@ -1,4 +1,3 @@
-use Rattle.std.proofs.Common.{arith}
 use Rattle.std.proofs.lemmas.Result.{err_from_is_err_and}
 use Rattle.kt_ckpt.specs.Reading.{rising_at}
 use Rattle.kt_ckpt.specs.State.{kept_at}
