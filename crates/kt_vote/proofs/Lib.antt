@@ -1,0 +1,5 @@
+pub mod Before
+pub mod Lists
+pub mod Told
+pub mod After
+pub mod Asked

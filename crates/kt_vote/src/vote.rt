@@ -1,0 +1,8 @@
+/// A node's vote in an instance: whether it agrees.
+#[derive(Clone, Copy, Debug, PartialEq, Eq)]
+pub struct Vote {
+    pub instance: u64,
+    /// The incarnation of the asker, as its ask said.
+    pub incarnation: u64,
+    pub yes: bool,
+}
