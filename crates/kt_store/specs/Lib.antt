@@ -1,0 +1,4 @@
+pub mod Standin
+pub mod Content
+pub mod Changes
+pub mod Calls

@@ -1,0 +1,12 @@
+//! Where checkpoints and verdicts are kept: what a store promises, and a store in memory.
+#![tactic(auto)]
+
+mod ckpt;
+mod error;
+mod rows;
+mod store;
+
+pub use ckpt::Ckpt;
+pub use error::StoreError;
+pub use rows::{NodeRow, Posted, Purpose, Tentative, Verdict};
+pub use store::CkptStore;
