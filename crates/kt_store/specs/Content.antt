@@ -11,7 +11,7 @@ use Rattle.kt_store.specs.declared.rows.Tentative.{Tentative}
 use Rattle.kt_store.specs.declared.rows.Posted.{Posted}
 use Rattle.kt_store.specs.declared.rows.Purpose.{Purpose}
 use Rattle.kt_store.specs.declared.rows.Verdict.{Verdict}
-use Rattle.kt_store.specs.declared.rows.Verdict.TheVariants as verdicts
+use Rattle.kt_store.specs.Verdict.{is_open}
 
 -- rows of nodes in node order, and of instances in the order of their numbers
 pub record Content : Type 0 where
@@ -53,11 +53,6 @@ verdict_of c i = option_map (λ (row : Posted). row.verdict) (posted c i)
 
 abbrev pub initiator_of : Content → ℕ → Option NodeId
 initiator_of c i = option_map (λ (row : Posted). row.initiator) (posted c i)
-
-abbrev pub is_open : Verdict → Bool
-is_open verdicts.Open = true
-is_open verdicts.Yes = false
-is_open verdicts.No = false
 
 -- the first instance that the node began and that has no verdict
 abbrev pub open_of : Content → NodeId → Option ℕ

@@ -1,4 +1,5 @@
 pub mod Standin
+pub mod Verdict
 pub mod Content
 pub mod Changes
 pub mod Calls

@@ -3,10 +3,12 @@
 
 mod ckpt;
 mod error;
+mod memory;
 mod rows;
 mod store;
 
 pub use ckpt::Ckpt;
 pub use error::StoreError;
+pub use memory::MemStore;
 pub use rows::{NodeRow, Posted, Purpose, Tentative, Verdict};
 pub use store::CkptStore;

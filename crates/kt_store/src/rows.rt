@@ -23,6 +23,20 @@ pub enum Verdict {
     No,
 }
 
+impl Verdict {
+    ghost use Rattle.kt_store.specs.Verdict.{is_open};
+
+    /// Whether there is none yet.
+    pub fn is_open(self) -> bool
+        ensures { result ≡ is_open self }
+    {
+        match self {
+            Verdict::Open => true,
+            Verdict::Yes | Verdict::No => false,
+        }
+    }
+}
+
 /// A checkpoint that a verdict makes permanent or gives up.
 #[derive(Debug, Drop)]
 pub struct Tentative {

@@ -1,0 +1,10 @@
+-- What became of an instance.
+use Rattle.std.specs.Prelude.{Bool, true, false}
+use Rattle.kt_store.specs.declared.rows.Verdict.{Verdict}
+use Rattle.kt_store.specs.declared.rows.Verdict.TheVariants.{Open, Yes, No}
+
+-- there is no verdict yet
+abbrev pub is_open : Verdict → Bool
+is_open Open = true
+is_open Yes = false
+is_open No = false

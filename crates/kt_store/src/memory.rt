@@ -1,0 +1,142 @@
+ghost use Rattle.std.specs.Prelude.{◌≡◌, ℕ, None, IfOk, IfSome, IfNone, slice_get, length, ◌<◌, ◌==◌, ◌&&◌};
+ghost use Rattle.std.specs.Option.{option_copied};
+ghost use Rattle.std.specs.List.{find};
+ghost use Rattle.kt_tuple.specs.declared.node.NodeId.{NodeId};
+ghost use Rattle.kt_tuple.specs.Node.{node_eq};
+ghost use Rattle.kt_store.specs.declared.rows.NodeRow.{NodeRow};
+ghost use Rattle.kt_store.specs.declared.rows.Posted.{Posted};
+ghost use Rattle.kt_store.specs.Verdict.{is_open};
+ghost use Rattle.kt_store.specs.Content.{row_of, verdict_of, initiator_of, open_of, next_instance, is_fresh};
+
+use crate::ckpt::Ckpt;
+use crate::error::StoreError;
+use crate::rows::{NodeRow, Posted, Tentative, Verdict};
+use kt_tuple::NodeId;
+use std::alloc::{AllocError, Global};
+use std::marker::Model;
+
+/// A store in memory, which is always honest.
+#[derive(Debug, Drop)]
+pub struct MemStore {
+    nodes: Vec<NodeRow>,
+    board: Vec<Posted>,
+}
+
+impl Model for MemStore {
+    ghost use Rattle.kt_store.specs.Content.{Content};
+
+    ghost Value = { Content };
+
+    ghost view = { λ s. record { nodes = s.nodes.items; board = s.board.items } };
+}
+
+impl MemStore {
+    ghost use Rattle.kt_store.specs.Content.{empty_content};
+
+    /// A fresh store.
+    pub fn new(alloc: Global) -> MemStore
+        ensures { result ≡ empty_content }
+    {
+        MemStore {
+            nodes: Vec::new(alloc),
+            board: Vec::new(alloc),
+        }
+    }
+
+    fn incarnation_of(&self, node: NodeId) -> u64
+        ensures { result ≡ (row_of self.now node).incarnation }
+    {
+        match row_at(&self.nodes, node) {
+            Some(row) => row.incarnation,
+            None => 1,
+        }
+    }
+
+    fn permanent_of(&self, alloc: Global, node: NodeId) -> Result<Option<Ckpt>, AllocError>
+        ensures { IfOk result (λ c. c ≡ (row_of self.now node).permanent) }
+    {
+        match row_at(&self.nodes, node) {
+            Some(row) => copy_checkpoint(alloc, &row.permanent),
+            None => Ok(None),
+        }
+    }
+
+    fn tentative_of(&self, alloc: Global, node: NodeId) -> Result<Option<Tentative>, AllocError>
+        ensures { IfOk result (λ t. t ≡ (row_of self.now node).tentative) }
+    {
+        match row_at(&self.nodes, node) {
+            Some(row) => copy_tentative(alloc, &row.tentative),
+            None => Ok(None),
+        }
+    }
+
+    fn verdict_of(&self, instance: u64) -> Option<Verdict>
+        ensures { result ≡ verdict_of self.now instance }
+    {
+        Some(posted_at(&self.board, instance)?.verdict)
+    }
+
+    fn initiator_of(&self, instance: u64) -> Option<NodeId>
+        ensures { result ≡ initiator_of self.now instance }
+    {
+        Some(posted_at(&self.board, instance)?.initiator)
+    }
+
+    fn open_instance_of(&self, node: NodeId) -> Option<u64>
+        ensures { result ≡ open_of self.now node }
+    {
+        Some(open_at(&self.board, node)?.instance)
+    }
+
+    fn has_nothing(&self) -> bool
+        ensures { result ≡ is_fresh self.now }
+    {
+        self.nodes.is_empty() && self.board.is_empty()
+    }
+}
+
+/// The node's row, where it has one.
+fn row_at(rows: &[NodeRow], node: NodeId) -> Option<&NodeRow>
+    ensures { option_copied result ≡ find (λ (row : NodeRow). node_eq row.node node) rows.now }
+{
+    rows.iter().find(|row| row.node == node)
+}
+
+/// The instance's row, where it was begun.
+fn posted_at(rows: &[Posted], instance: u64) -> Option<&Posted>
+    ensures { option_copied result ≡ find (λ (row : Posted). row.instance == instance) rows.now }
+{
+    rows.iter().find(|row| row.instance == instance)
+}
+
+/// The first instance that the node began and that is open.
+fn open_at(rows: &[Posted], node: NodeId) -> Option<&Posted>
+    ensures { option_copied result ≡ find (λ (row : Posted). node_eq row.initiator node && is_open row.verdict) rows.now }
+{
+    rows.iter()
+        .find(|row| row.initiator == node && row.verdict.is_open())
+}
+
+fn copy_checkpoint(alloc: Global, checkpoint: &Option<Ckpt>) -> Result<Option<Ckpt>, AllocError>
+    ensures { IfOk result (λ c. c ≡ checkpoint.now) }
+{
+    match checkpoint {
+        Some(checkpoint) => Ok(Some(checkpoint.copy(alloc)?)),
+        None => Ok(None),
+    }
+}
+
+fn copy_tentative(
+    alloc: Global,
+    tentative: &Option<Tentative>,
+) -> Result<Option<Tentative>, AllocError>
+    ensures { IfOk result (λ t. t ≡ tentative.now) }
+{
+    match tentative {
+        Some(tentative) => Ok(Some(Tentative {
+            instance: tentative.instance,
+            checkpoint: tentative.checkpoint.copy(alloc)?,
+        })),
+        None => Ok(None),
+    }
+}
