@@ -8,8 +8,8 @@ use Rattle.kt_store.specs.declared.rows.Tentative.{Tentative}
 use Rattle.kt_store.specs.declared.rows.Posted.{Posted}
 use Rattle.kt_store.specs.declared.rows.Purpose.{Purpose}
 use Rattle.kt_store.specs.declared.rows.Purpose.TheVariants as purposes
-use Rattle.kt_store.specs.declared.rows.Verdict.{Verdict}
 use Rattle.kt_store.specs.declared.rows.Verdict.TheVariants as verdicts
+use Rattle.kt_store.specs.Verdict.{verdict_from}
 use Rattle.kt_store.specs.Content.{Content, next_instance, node_lt, posted, row_of}
 
 -- the rows with this one in its place, and with no other of its node
@@ -64,10 +64,6 @@ bumped p c = storing record (row_of c p) { incarnation = (row_of c p).incarnatio
 -- the node restarts: its next incarnation begins, and the next instance is its own
 abbrev pub restart_begun : NodeId → Content → Content
 restart_begun p c = opening p purposes.Rollback (bumped p c)
-
-abbrev pub verdict_from : Bool → Verdict
-verdict_from true = verdicts.Yes
-verdict_from false = verdicts.No
 
 abbrev pub deciding : Bool → Option Posted → Content → Content
 deciding agreed None c = c

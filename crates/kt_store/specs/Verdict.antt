@@ -8,3 +8,7 @@ abbrev pub is_open : Verdict → Bool
 is_open Open = true
 is_open Yes = false
 is_open No = false
+
+abbrev pub verdict_from : Bool → Verdict
+verdict_from true = Yes
+verdict_from false = No

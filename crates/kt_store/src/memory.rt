@@ -1,12 +1,13 @@
-ghost use Rattle.std.specs.Prelude.{◌≡◌, ℕ, None, IfOk, IfSome, IfNone, slice_get, length, ◌<◌, ◌==◌, ◌&&◌};
+ghost use Rattle.std.specs.Prelude.{◌≡◌, ℕ, None, IfOk, IfSome, IfNone, slice_get, length, fold, map, max, All, ◌<◌, ◌≤◌, ◌==◌, ◌&&◌};
 ghost use Rattle.std.specs.Option.{option_copied};
-ghost use Rattle.std.specs.List.{find};
+ghost use Rattle.std.specs.List.{find, position};
 ghost use Rattle.kt_tuple.specs.declared.node.NodeId.{NodeId};
 ghost use Rattle.kt_tuple.specs.Node.{node_eq};
 ghost use Rattle.kt_store.specs.declared.rows.NodeRow.{NodeRow};
 ghost use Rattle.kt_store.specs.declared.rows.Posted.{Posted};
 ghost use Rattle.kt_store.specs.Verdict.{is_open};
-ghost use Rattle.kt_store.specs.Content.{row_of, verdict_of, initiator_of, open_of, next_instance, is_fresh};
+ghost use Rattle.kt_store.specs.Content.{row_of, verdict_of, initiator_of, open_of, next_instance, is_fresh, greatest};
+ghost use Rattle.kt_store.specs.Changes.{decided};
 
 use crate::ckpt::Ckpt;
 use crate::error::StoreError;
@@ -23,11 +24,13 @@ pub struct MemStore {
 }
 
 impl Model for MemStore {
-    ghost use Rattle.kt_store.specs.Content.{Content};
+    ghost use Rattle.kt_store.specs.Content.{Content, IsBoard};
 
     ghost Value = { Content };
 
     ghost view = { λ s. record { nodes = s.nodes.items; board = s.board.items } };
+
+    ghost invariant = { λ s. IsBoard s.board.items };
 }
 
 impl MemStore {
@@ -88,6 +91,21 @@ impl MemStore {
         Some(open_at(&self.board, node)?.instance)
     }
 
+    fn next_number(&self) -> u64
+        ensures { result ≡ next_instance self.now }
+    {
+        greatest_of(&self.board) + 1
+    }
+
+    /// Gives the instance its verdict, where it was begun.
+    fn settle(&mut self, instance: u64, yes: bool)
+        ensures { self.new ≡ decided instance yes self.old }
+    {
+        if let Some(place) = place_of(&self.board, instance) {
+            self.board[place].verdict = Verdict::of(yes);
+        }
+    }
+
     fn has_nothing(&self) -> bool
         ensures { result ≡ is_fresh self.now }
     {
@@ -107,6 +125,26 @@ fn posted_at(rows: &[Posted], instance: u64) -> Option<&Posted>
     ensures { option_copied result ≡ find (λ (row : Posted). row.instance == instance) rows.now }
 {
     rows.iter().find(|row| row.instance == instance)
+}
+
+/// Where the instance's row stands.
+fn place_of(rows: &[Posted], instance: u64) -> Option<usize>
+    ensures value { result ≡ position (λ (row : Posted). row.instance == instance) rows.now }
+    ensures within { IfSome result (λ place. place < length rows.now) }
+{
+    rows.iter().position(|row| row.instance == instance)
+}
+
+/// The greatest number of an instance, 0 where there is none.
+fn greatest_of(rows: &[Posted]) -> u64
+    ensures value { result ≡ fold max 0 (map (λ (row : Posted). row.instance) rows.now) }
+    ensures within { All (λ (row : Posted). row.instance ≤ greatest) rows.now → result ≤ greatest }
+{
+    let mut greatest = 0;
+    for row in rows {
+        greatest = greatest.max(row.instance);
+    }
+    greatest
 }
 
 /// The first instance that the node began and that is open.

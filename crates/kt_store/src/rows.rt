@@ -24,7 +24,14 @@ pub enum Verdict {
 }
 
 impl Verdict {
-    ghost use Rattle.kt_store.specs.Verdict.{is_open};
+    ghost use Rattle.kt_store.specs.Verdict.{is_open, verdict_from};
+
+    /// The verdict that says so.
+    pub fn of(yes: bool) -> Verdict
+        ensures { result ≡ verdict_from yes }
+    {
+        if yes { Verdict::Yes } else { Verdict::No }
+    }
 
     /// Whether there is none yet.
     pub fn is_open(self) -> bool
