@@ -12,6 +12,7 @@ ghost use Rattle.kt_store.specs.Changes.{decided};
 use crate::ckpt::Ckpt;
 use crate::error::StoreError;
 use crate::rows::{NodeRow, Posted, Tentative, Verdict};
+use crate::store::CkptStore;
 use kt_tuple::NodeId;
 use std::alloc::{AllocError, Global};
 use std::marker::Model;
@@ -110,6 +111,87 @@ impl MemStore {
         ensures { result ≡ is_fresh self.now }
     {
         self.nodes.is_empty() && self.board.is_empty()
+    }
+}
+
+// A draft: six of the writes only refuse. Their bodies are to come.
+impl CkptStore for MemStore {
+    ghost use Rattle.std.specs.Prelude.{true};
+
+    ghost content = { λ s. s };
+
+    ghost is_honest = { λ _. true };
+
+    ghost fault_count = { λ _. 0 };
+
+    fn faults(&self) -> u64 {
+        0
+    }
+
+    fn incarnation(&mut self, node: NodeId) -> Result<u64, StoreError> {
+        Ok(self.incarnation_of(node))
+    }
+
+    fn permanent(&mut self, alloc: Global, node: NodeId) -> Result<Option<Ckpt>, StoreError> {
+        Ok(self.permanent_of(alloc, node)?)
+    }
+
+    fn tentative(&mut self, alloc: Global, node: NodeId) -> Result<Option<Tentative>, StoreError> {
+        Ok(self.tentative_of(alloc, node)?)
+    }
+
+    fn verdict(&mut self, instance: u64) -> Result<Option<Verdict>, StoreError> {
+        Ok(self.verdict_of(instance))
+    }
+
+    fn initiator(&mut self, instance: u64) -> Result<Option<NodeId>, StoreError> {
+        Ok(self.initiator_of(instance))
+    }
+
+    fn open_of(&mut self, node: NodeId) -> Result<Option<u64>, StoreError> {
+        Ok(self.open_instance_of(node))
+    }
+
+    fn next_instance(&mut self) -> Result<u64, StoreError> {
+        Ok(self.next_number())
+    }
+
+    fn is_fresh(&mut self) -> Result<bool, StoreError> {
+        Ok(self.has_nothing())
+    }
+
+    fn begin_check(&mut self, node: NodeId, ckpt: &Ckpt) -> Result<(), StoreError> {
+        Err(StoreError::Memory)
+    }
+
+    fn put_tentative(
+        &mut self,
+        node: NodeId,
+        instance: u64,
+        ckpt: &Ckpt,
+    ) -> Result<(), StoreError> {
+        Err(StoreError::Memory)
+    }
+
+    fn promote(&mut self, node: NodeId) -> Result<(), StoreError> {
+        Err(StoreError::Memory)
+    }
+
+    fn discard(&mut self, node: NodeId) -> Result<(), StoreError> {
+        Err(StoreError::Memory)
+    }
+
+    fn begin_restart(&mut self, node: NodeId) -> Result<(), StoreError> {
+        Err(StoreError::Memory)
+    }
+
+    fn bump(&mut self, node: NodeId) -> Result<(), StoreError> {
+        Err(StoreError::Memory)
+    }
+
+    fn decide(&mut self, instance: u64, yes: bool) -> Result<(), StoreError> {
+        self.settle(instance, yes);
+        Ok(())
     }
 }
 
