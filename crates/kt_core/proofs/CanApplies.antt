@@ -16,20 +16,21 @@ use Rattle.kt_core.specs.declared.node.Change.{Change}
 use Rattle.kt_core.specs.declared.node.Change.TheVariants as changes
 use Rattle.kt_core.specs.declared.plan.Plan.{Plan}
 use Rattle.kt_core.specs.declared.step.Step.{Step}
-use Rattle.kt_core.specs.declared.step.Step.TheVariants.{Issue, Deliver, Serve}
+use Rattle.kt_core.specs.declared.step.Step.TheVariants.{Issue, Repeat, Deliver, Serve}
 use Rattle.kt_core.specs.Step.{owner}
-use Rattle.kt_core.specs.Limits.{desks, rows}
+use Rattle.kt_shard.specs.Limits.{desks}
+use Rattle.kt_core.specs.Limits.{rows}
 use Rattle.kt_core.specs.Cast.{Cast, IsCast, script_at, script_in, is_worker, is_shard, are_neighbours, is_among}
-use Rattle.kt_core.specs.State.{State, Body, IsWorker, IsShard, Shard, node, link, link_place, body_of, node_number}
-use Rattle.kt_core.specs.Judge.{Hearer, Nobody, ByWorker, ByShard, hearer_of, Found, Hears}
+use Rattle.kt_core.specs.State.{State, Body, IsWorker, IsShard, node, link, link_place, body_of, node_number}
+use Rattle.kt_shard.specs.Shard.{Shard}
+use Rattle.kt_core.specs.Judge.{Hearer, ByShard, hearer_of, Found, Hears}
 use Rattle.kt_core.specs.Plan.{home}
-use Rattle.kt_core.specs.Ready.{IsOfKind, NamesAct, IsReady, CanChange, HearsWell, CanPlan, CanApply}
-use Rattle.kt_core.proofs.Founds.{IsFound, asks, hears, serves}
+use Rattle.kt_core.specs.Ready.{IsOfKind, NamesAct, IsReady, CanChange, CanApply}
+use Rattle.kt_core.proofs.Founds.{IsFound, asks, repeats, hears, serves}
 use Rattle.kt_core.proofs.Plans as plans
 use Rattle.kt_core.proofs.Plans.{PlanOf}
 use Rattle.kt_core.proofs.StepSound.{shard_in-is, hearer-shard}
 use Rattle.kt_core.proofs.Peopled.{IsNode, a_worker, a_shard, owner-is_node}
-use Rattle.kt_core.proofs.Within.{choice_of-within, change_fits}
 use Rattle.kt_core.proofs.NamedCauses.{cause_of_waiting-named}
 
 -- ---- the scene's nodes have rows, desks and links
@@ -107,29 +108,11 @@ ends cast (ids.Shard r) (ids.Shard q) e = by (is_shard cast (ids.Shard r)) e
     by true e = absurd cc
     by false e = absurd cc
 
--- ---- desks
-
-nine_desks : (s : State) → IsReady s → (p : NodeId) (y : Shard) → body_of (node s p) ≡ Some (IsShard y) → length y.desks ≡ desks
-nine_desks s ready (ids.Worker w) y e = absurd (let P : Option Body → Type 0 = IsOfKind (ids.Worker w) in subst P e (ready.bodies (ids.Worker w)))
-nine_desks s ready (ids.Shard r) y e = let P : Option Body → Type 0 = IsOfKind (ids.Shard r) in subst P e (ready.bodies (ids.Shard r))
-
-has_desk : (s : State) → IsReady s → (p w : NodeId) (y : Shard) → body_of (node s p) ≡ Some (IsShard y) → is_worker s.cast w ≡ true → node_number w < length y.desks
-has_desk s ready p w y e worker = let nine = nine_desks s ready p y e in let small = worker-small s.cast ready.cast w worker in omega (arith, nine, small)
+-- ---- the numbers of senders
 
 sender-small : (cast : Cast) → IsCast cast → (p q : NodeId) → Ends cast p q → node_number p < desks
 sender-small cast is p q (to_shard e f) = worker-small cast is p e
 sender-small cast is p q (to_worker e f) = shard-small cast is p e
-
-hears-well : (s : State) → IsReady s → (p q : NodeId) (hearer : Hearer) → hearer ≡ hearer_of (script_in s.cast q) (body_of (node s q)) → node_number p < desks → HearsWell (node_number p) hearer
-hears-well s ready p q Nobody is small = tt
-hears-well s ready p q (ByWorker script x) is small = tt
-hears-well s ready p q (ByShard y) is small =
-    let nine = nine_desks s ready q y (hearer-shard (script_in s.cast q) (body_of (node s q)) y is) in omega (arith, nine, small)
-
-pub can_plan : (s : State) → IsReady s → (step : Step) (found : Found) → IsFound s step found → CanPlan found
-can_plan s ready (Issue p) found (asks there at_p left) = tt
-can_plan s ready (Deliver p q) found (hears are on) = hears-well s ready p q _ refl (sender-small s.cast ready.cast p q (ends s.cast p q are))
-can_plan s ready (Serve p w place) found (serves {y = y} {request = request} {choice = choice} there other at_p waits chosen) = choice_of-within y.bag request.op place choice chosen
 
 -- ---- carrying a plan out
 
@@ -173,11 +156,10 @@ heard_applies s ready p q hearer message plan e names is row (plans.accepts awai
 heard_applies s ready p q hearer message plan e names is row (plans.ignores_reply other) = record { row = row; send = tt; change = stay_fits (body_of (node s q)); note = names; own = refl }
 heard_applies s ready p q hearer message plan e names is row (plans.hears {y = y} {request = request} new) =
     let at_q = heard_by s q y is in
-    let nine = nine_desks s ready q y at_q in
     let small = sender-small s.cast ready.cast p q e in record {
       row = row;
       send = tt;
-      change = change_at (body_of (node s q)) (changes.Wait (node_number p) request) (Some (IsShard y)) at_q (omega (arith, nine, small));
+      change = change_at (body_of (node s q)) (changes.Wait (node_number p) request) (Some (IsShard y)) at_q small;
       note = names;
       own = refl;
     }
@@ -202,16 +184,25 @@ can_apply s ready (Issue (ids.Worker w)) found plan (asks {script = script} ther
     }
 can_apply s ready (Issue (ids.Worker w)) found plan (asks {script = script} there at_p left) (plans.idles none) =
     record { row = node-row s.cast ready.cast (ids.Worker w) (a_worker (is_worker-from s (ids.Worker w) script there)); send = tt; change = stay_fits (body_of (node s (ids.Worker w))); note = tt; own = tt }
+can_apply s ready (Repeat (ids.Shard n)) found plan (repeats there at_p left) of = absurd cc
+can_apply s ready (Repeat (ids.Worker w)) found plan (repeats {script = script} {r = r} there at_p left) plans.repeats =
+    let worker = is_worker-from s (ids.Worker w) script there in record {
+      row = node-row s.cast ready.cast (ids.Worker w) (a_worker worker);
+      send = (home-linked s.cast ready.cast w r.1 worker, tt);
+      change = stay_fits (body_of (node s (ids.Worker w)));
+      note = λ some. absurd (some refl);
+      own = refl;
+    }
 can_apply s ready (Deliver p q) found plan (hears {message = message} {later = later} are on) of =
     heard_applies s ready p q _ message plan (ends s.cast p q are) (on_link s ready p q message later on) refl
     (node-row s.cast ready.cast q (owner-is_node s (Deliver p q) _ (hears are on))) of
-can_apply s ready (Serve (ids.Worker n) w place) found plan (serves there other at_p waits chosen) of = absurd cc
-can_apply s ready (Serve (ids.Shard r) (ids.Shard n) place) found plan (serves there other at_p waits chosen) of = absurd cc
-can_apply s ready (Serve (ids.Shard r) (ids.Worker w) place) found plan (serves {y = y} {request = request} {choice = choice} there other at_p waits chosen) plans.serves =
+can_apply s ready (Serve (ids.Worker n) w place) found plan (serves there other at_p is) of = absurd cc
+can_apply s ready (Serve (ids.Shard r) (ids.Shard n) place) found plan (serves there other at_p is) of = absurd cc
+can_apply s ready (Serve (ids.Shard r) (ids.Worker w) place) found plan (serves {y = y} there other at_p is) plans.serves =
     let at_shard = shard_in-is (body_of (node s (ids.Shard r))) y at_p in record {
       row = node-row s.cast ready.cast (ids.Shard r) (a_shard there);
       send = (shard-linked s.cast r w there other, tt);
-      change = change_at (body_of (node s (ids.Shard r))) _ (Some (IsShard y)) at_shard (has_desk s ready (ids.Shard r) (ids.Worker w) y at_shard other, change_fits y.bag request.op choice (choice_of-within y.bag request.op place choice chosen));
+      change = change_at (body_of (node s (ids.Shard r))) _ (Some (IsShard y)) at_shard (worker-small s.cast ready.cast (ids.Worker w) other);
       note = cause_of_waiting-named s.history ready.causes (ids.Shard r) w;
       own = refl;
     }

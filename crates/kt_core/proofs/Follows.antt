@@ -17,10 +17,10 @@ use Rattle.kt_history.specs.Survival.{service_of, services_of}
 use Rattle.kt_history.specs.WellFormed.{IsAsking, SameRequest}
 use Rattle.kt_history.specs.Closed.{own}
 use Rattle.kt_core.specs.Legal.{IsLine}
-use Rattle.kt_core.specs.declared.node.Request.{Request}
-use Rattle.kt_core.specs.declared.node.Kept.{Kept}
-use Rattle.kt_core.specs.declared.node.Desk.{Desk}
-use Rattle.kt_core.specs.Desk.{number_or_0, kept_request}
+use Rattle.kt_shard.specs.declared.request.Request.{Request}
+use Rattle.kt_shard.specs.declared.request.Kept.{Kept}
+use Rattle.kt_shard.specs.declared.desk.Desk.{Desk}
+use Rattle.kt_shard.specs.Desk.{number_or_0, kept_request}
 use Rattle.kt_core.specs.Order.{Setting, of_worker, OrderFrom, FollowsScripts}
 use Rattle.kt_core.specs.ShardLine.{MadeShard, request_of, ShardMay, ShardMakes, desk_after, shard_after, put_row}
 use Rattle.kt_core.specs.WorkerLine.{MadeWorker, WorkerMay, worker_after, worker_after_what}

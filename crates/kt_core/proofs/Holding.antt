@@ -67,6 +67,7 @@ made-ready s step new ready m =
 noted-no_cut : (shards : ℕ) (h : List Note) (p : NodeId) (found : Found) (plan : Plan) → PlanOf shards h p found plan → HasNoCut h → HasNoCut (noted h plan.note)
 noted-no_cut shards h p found plan (plans.issues next) none = HasNoCut-act h _ none
 noted-no_cut shards h p found plan (plans.idles left) none = none
+noted-no_cut shards h p found plan plans.repeats none = HasNoCut-act h _ none
 noted-no_cut shards h p found plan plans.drops none = none
 noted-no_cut shards h p found plan plans.misses_request none = HasNoCut-act h _ none
 noted-no_cut shards h p found plan (plans.accepts e) none = HasNoCut-act h _ none

@@ -1,5 +1,5 @@
 -- Just the nodes of the scene have a mode, and no other node made a step.
-use Rattle.std.proofs.Common.{Option, None, Some, ◌≡◌, ℕ, zero, suc, ◌≤◌, ◌<◌, Bool, true, false, List, ◌∷◌, [], length, refl, sym, subst, le-leb, arith}
+use Rattle.std.proofs.Common.{Option, None, Some, ◌≡◌, ℕ, zero, suc, ◌≤◌, ◌<◌, Bool, true, false, List, ◌∷◌, [], length, refl, sym, ap, ◌∙◌, subst, le-leb, arith}
 use Rattle.std.specs.Prelude.{◌↔◌, IsSome, slice_get, nat_le, is_some}
 use Rattle.std.proofs.lemmas.Bool.{and_from}
 use Rattle.kt_tuple.specs.declared.node.NodeId.{NodeId}
@@ -7,8 +7,10 @@ use Rattle.kt_tuple.specs.declared.node.NodeId.TheVariants as ids
 use Rattle.kt_tuple.specs.Node.{node_index}
 use Rattle.kt_script.specs.declared.command.Command.{Command}
 use Rattle.kt_core.specs.declared.step.Mode.{Mode}
+use Rattle.kt_core.specs.declared.step.Mode.TheVariants.{Up}
 use Rattle.kt_core.specs.Cast.{script_at, is_worker, is_shard}
-use Rattle.kt_core.specs.State.{State, Node, IsInScene, at, node}
+use Rattle.kt_core.specs.State.{State, Node, IsInScene, node}
+use Rattle.kt_shard.specs.Table.{at}
 use Rattle.kt_core.specs.Reached.{mode_of, IsReached}
 use Rattle.kt_core.proofs.Peopled.{IsNode, a_worker, a_shard, IsPeopled}
 use Rattle.kt_core.proofs.CanApplies.{script_at-some, among-some}
@@ -65,3 +67,11 @@ there-reached s r p mode e = subst (λ (m : Option Mode). IsSome m ↔ IsInScene
 
 pub absent-own : (s : State) → IsReached s → (p : NodeId) → ¬ IsInScene s p → at 0 s.own (node_index p) ≡ 0
 absent-own s r p absent = (reached-holds s r).peopled.idle p (λ h. absent (node-in_scene s p h))
+
+-- and as yet each of them is up
+node-up : (s : State) → IsPeopled s → (p : NodeId) → IsNode s.cast p → mode_of (node s p) ≡ Some Up
+node-up s h p (a_worker e) = ap mode_of (h.worker p e).1
+node-up s h p (a_shard e) = ap mode_of (h.shard p e).1
+
+pub up-reached : (s : State) → IsReached s → (p : NodeId) (mode : Option Mode) → mode ≡ mode_of (node s p) → IsInScene s p → mode ≡ Some Up
+up-reached s r p mode e inside = e ∙ node-up s (reached-holds s r).peopled p (in_scene-node s p inside)

@@ -1,8 +1,6 @@
 pub mod Founds
 pub mod Plans
 pub mod Rows
-pub mod Places
-pub mod Desks
 pub mod Outcomes
 pub mod Openings
 pub mod Bags
@@ -17,7 +15,6 @@ pub mod Survive
 pub mod Growth
 pub mod WellFormed
 pub mod Permutations
-pub mod Choices
 pub mod Traces
 pub mod Shares
 pub mod Hearings
@@ -30,7 +27,6 @@ pub mod NoteSound
 pub mod Applying
 pub mod StepSound
 pub mod Peopled
-pub mod Within
 pub mod NamedCauses
 pub mod CanApplies
 pub mod StaysReady

@@ -9,7 +9,7 @@ use Rattle.kt_link.specs.Network.{entry_at, with_entry}
 use Rattle.kt_link.proofs.Places.{place-own}
 use Rattle.kt_core.specs.declared.node.Message.{Message}
 use Rattle.kt_core.specs.declared.step.Step.{Step}
-use Rattle.kt_core.specs.declared.step.Step.TheVariants.{Issue, Deliver, Serve}
+use Rattle.kt_core.specs.declared.step.Step.TheVariants.{Issue, Repeat, Deliver, Serve}
 use Rattle.kt_core.specs.Cast.{Cast}
 use Rattle.kt_core.specs.State.{link_place}
 use Rattle.kt_core.specs.Effect.{Way, sent_one, sent, taken_off}
@@ -39,6 +39,7 @@ Contains-tail (x ∷ xs) m c = Contains-there x xs m c
 -- what is on a link after a delivery was on it before
 pub taken_off-was : (way : Way) (links : Links) (step : Step) (k : Option ℕ) (m : Message) → Contains (entry_at [] (taken_off way links step) k) m → Contains (entry_at [] links k) m
 taken_off-was way links (Issue p) k m c = c
+taken_off-was way links (Repeat p) k m c = c
 taken_off-was way links (Serve p w place) k m c = c
 taken_off-was way links (Deliver p q) k m c = elim (entry-cases links (way p q) k (drop 1 (entry_at [] links (way p q))) m c) [
   | inl was ↦ was

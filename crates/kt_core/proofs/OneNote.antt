@@ -8,7 +8,7 @@ use Rattle.kt_script.specs.declared.command.Command.{Command}
 use Rattle.kt_core.specs.declared.node.Message.{Message}
 use Rattle.kt_core.specs.declared.plan.Plan.{Plan}
 use Rattle.kt_core.specs.declared.step.Step.{Step}
-use Rattle.kt_core.specs.declared.step.Step.TheVariants.{Issue, Deliver, Serve}
+use Rattle.kt_core.specs.declared.step.Step.TheVariants.{Issue, Repeat, Deliver, Serve}
 use Rattle.kt_core.specs.declared.step.StepError.{StepError}
 use Rattle.kt_core.specs.Step.{owner}
 use Rattle.kt_core.specs.Cast.{script_in}
@@ -17,7 +17,7 @@ use Rattle.kt_core.specs.Judge.{Hearer, Nobody, worker_hearer, hearer_of, Found,
 use Rattle.kt_core.specs.Effect.{noted, step_result}
 use Rattle.kt_core.specs.Headline.{AppendsActOf}
 use Rattle.kt_core.specs.Reached.{IsReached}
-use Rattle.kt_core.proofs.Founds.{IsFound, asks, hears, serves}
+use Rattle.kt_core.proofs.Founds.{IsFound, asks, repeats, hears, serves}
 use Rattle.kt_core.proofs.Plans as plans
 use Rattle.kt_core.proofs.Plans.{PlanOf}
 use Rattle.kt_core.proofs.Peopled.{IsNode, a_worker, a_shard, IsPeopled, owner-is_node}
@@ -54,8 +54,9 @@ arrival-notes s p q hearer message plan somebody plans.misses_reply = record { a
 notes-act : (s : State) → IsPeopled s → (step : Step) (found : Found) (plan : Plan) → IsFound s step found → PlanOf s.cast.shards s.history (owner step) found plan → NotesAct (owner step) plan
 notes-act s people (Issue p) found plan (asks there at_p left) (plans.issues next) = record { act = _; is = refl; own = refl }
 notes-act s people (Issue p) found plan (asks there at_p left) (plans.idles none) = absurd (none_left _ none left)
+notes-act s people (Repeat p) found plan (repeats there at_p left) plans.repeats = record { act = _; is = refl; own = refl }
 notes-act s people (Deliver p q) found plan (hears are on) of = arrival-notes s p q _ _ plan (heard s people q (owner-is_node s (Deliver p q) _ (hears are on))) of
-notes-act s people (Serve p w place) found plan (serves there other at_p waits chosen) plans.serves = record { act = _; is = refl; own = refl }
+notes-act s people (Serve p w place) found plan (serves there other at_p is) plans.serves = record { act = _; is = refl; own = refl }
 
 one_note : (s new : State) (step : Step) → IsReached s → step_result s step ≡ Ok new → AppendsActOf (owner step) s.history new.history
 one_note s new step reached e =

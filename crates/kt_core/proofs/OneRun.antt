@@ -15,7 +15,7 @@ use Rattle.kt_history.specs.declared.note.What.{What}
 use Rattle.kt_history.specs.declared.note.What.TheVariants as whats
 use Rattle.kt_history.specs.Survival.{service_of, services_of}
 use Rattle.kt_history.specs.Closed.{own}
-use Rattle.kt_core.specs.declared.node.Desk.{Desk}
+use Rattle.kt_shard.specs.declared.desk.Desk.{Desk}
 use Rattle.kt_core.specs.Bag.{served_bag}
 use Rattle.kt_core.specs.Order.{Setting}
 use Rattle.kt_core.specs.ShardLine.{MadeShard, ShardMay, bag_after, shard_after, shard_of_acts, new_shard}

@@ -14,16 +14,18 @@ use Rattle.kt_script.specs.declared.command.Command.{Command}
 use Rattle.kt_worker.specs.declared.worker.Worker.{Worker}
 use Rattle.kt_worker.specs.Standing.{opening_standing}
 use Rattle.kt_worker.proofs.Requests.{opening-after}
-use Rattle.kt_core.specs.declared.node.Desk.{Desk}
 use Rattle.kt_core.specs.declared.node.Message.{Message}
-use Rattle.kt_core.specs.Limits.{rows, desks}
+use Rattle.kt_core.specs.Limits.{rows}
 use Rattle.kt_core.specs.Cast.{Cast, IsCast, script_at, is_among, is_worker, is_shard}
 use Rattle.kt_core.specs.Asks.{script_numbered, setting_of}
-use Rattle.kt_core.specs.State.{State, IsWorker, IsShard, Node, Shard, at, node, link_place, body_of}
-use Rattle.kt_core.specs.Desk.{empty_desk}
+use Rattle.kt_core.specs.State.{State, IsWorker, IsShard, Node, node, link_place, body_of}
+use Rattle.kt_shard.specs.Shard.{Shard, empty_shard}
+use Rattle.kt_shard.specs.Limits.{desks}
+use Rattle.kt_shard.specs.Table.{at}
+use Rattle.kt_shard.specs.Desk.{empty_desk}
 use Rattle.kt_core.specs.WorkerLine.{new_worker}
 use Rattle.kt_core.specs.Ready.{IsOfKind, IsReady}
-use Rattle.kt_core.specs.Reached.{row_of, worker_if, empty_shard, opening_worker, opening_shard, opening_rows, opening, IsReached}
+use Rattle.kt_core.specs.Reached.{row_of, worker_if, idle_shard, opening_worker, opening_shard, opening_rows, opening, IsReached}
 use Rattle.kt_core.proofs.Growth.{AreLegal-empty, acts_in_line-empty}
 use Rattle.kt_core.proofs.WellFormed.{IsWellFormed-empty, HasNoCut-empty}
 use Rattle.kt_core.proofs.Sound.{IsBodyLike, IsWorkerLike, IsSound}
@@ -107,7 +109,7 @@ worker-new scripts w (Some script) e =
     let Like : List Command → Type 0 = λ l. IsWorkerLike l new_worker (opening_standing script) in
     subst Like (sym own) (record { asked = refl; after = opening-after script })
 
-shard-new : (scripts : List (List Command)) (shards r : ℕ) (b : Bool) → IsBodyLike scripts (ids.Shard r) [] (body_of (if b then empty_shard else None))
+shard-new : (scripts : List (List Command)) (shards r : ℕ) (b : Bool) → IsBodyLike scripts (ids.Shard r) [] (body_of (if b then idle_shard else None))
 shard-new scripts shards r true = record { bag = IsPermutation-refl []; desks = λ w. at-replicate empty_desk desks w }
 shard-new scripts shards r false = tt
 
@@ -115,8 +117,8 @@ worker-kind : (w : ℕ) (o : Option (List Command)) → IsOfKind (ids.Worker w) 
 worker-kind w None = tt
 worker-kind w (Some script) = tt
 
-shard-kind : (r : ℕ) (b : Bool) → IsOfKind (ids.Shard r) (body_of (if b then empty_shard else None))
-shard-kind r true = length-replicate {A = Desk} desks empty_desk
+shard-kind : (r : ℕ) (b : Bool) → IsOfKind (ids.Shard r) (body_of (if b then idle_shard else None))
+shard-kind r true = tt
 shard-kind r false = tt
 
 -- what holds of the rows of workers and shards as they open, and of an empty row, holds of each node's
@@ -146,7 +148,7 @@ opening-others cast = opening-node cast (λ p row. ¬ IsNode cast p → row ≡ 
     worker w none None e = refl
     worker w none (Some script) e = absurd (none (a_worker (ap is_some e)))
 
-    shard : (r : ℕ) → ¬ IsNode cast (ids.Shard r) → (b : Bool) → is_among cast.shards r ≡ b → (if b then empty_shard else None) ≡ None
+    shard : (r : ℕ) → ¬ IsNode cast (ids.Shard r) → (b : Bool) → is_among cast.shards r ≡ b → (if b then idle_shard else None) ≡ None
     shard r none true e = absurd (none (a_shard e))
     shard r none false e = refl
 
@@ -165,7 +167,7 @@ opening-peopled cast is = record { worker = worker; shard = shard; others = open
     shard (ids.Worker n) e = absurd cc
     shard (ids.Shard r) e =
         let small = node-row cast is (ids.Shard r) (a_shard e) in
-        (record { bag = []; desks = replicate desks empty_desk }, opening-shard cast r (omega (arith, small)) ∙ ap (λ (b : Bool). if b then empty_shard else None) e)
+        (empty_shard, opening-shard cast r (omega (arith, small)) ∙ ap (λ (b : Bool). if b then idle_shard else None) e)
 
 -- ---- the opening
 

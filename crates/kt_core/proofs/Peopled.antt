@@ -10,15 +10,17 @@ use Rattle.kt_core.specs.declared.node.Change.{Change}
 use Rattle.kt_core.specs.declared.node.Change.TheVariants as changes
 use Rattle.kt_core.specs.declared.plan.Plan.{Plan}
 use Rattle.kt_core.specs.declared.step.Step.{Step}
-use Rattle.kt_core.specs.declared.step.Step.TheVariants.{Issue, Deliver, Serve}
+use Rattle.kt_core.specs.declared.step.Step.TheVariants.{Issue, Repeat, Deliver, Serve}
 use Rattle.kt_core.specs.Step.{owner}
 use Rattle.kt_core.specs.Cast.{Cast, is_worker, is_shard}
-use Rattle.kt_core.specs.State.{State, IsWorker, IsShard, Shard, at, node}
+use Rattle.kt_core.specs.State.{State, IsWorker, IsShard, node}
+use Rattle.kt_shard.specs.Shard.{Shard}
+use Rattle.kt_shard.specs.Table.{at}
 use Rattle.kt_core.specs.Judge.{Found}
 use Rattle.kt_core.specs.Effect.{changed, applied}
 use Rattle.kt_core.specs.Reached.{row_of}
 use Rattle.kt_core.proofs.Rows.{at-put_other}
-use Rattle.kt_core.proofs.Founds.{IsFound, asks, hears, serves}
+use Rattle.kt_core.proofs.Founds.{IsFound, asks, repeats, hears, serves}
 use Rattle.kt_core.proofs.Applying.{applied-owner, applied-other}
 
 -- a worker or a shard of the scene
@@ -36,24 +38,25 @@ pub record IsPeopled (s : State) : Type 0 where
 -- an allowed step is a node's
 pub owner-is_node : (s : State) (step : Step) (found : Found) → IsFound s step found → IsNode s.cast (owner step)
 owner-is_node s (Issue p) found (asks there at_p left) = a_worker (ap is_some there)
+owner-is_node s (Repeat p) found (repeats there at_p left) = a_worker (ap is_some there)
 owner-is_node s (Deliver p q) found (hears are on) = receiver (is_worker s.cast p && is_shard s.cast q) (is_shard s.cast p && is_worker s.cast q) refl refl are
   where
     receiver : (a b : Bool) → (is_worker s.cast p && is_shard s.cast q) ≡ a → (is_shard s.cast p && is_worker s.cast q) ≡ b → (a || b) ≡ true → IsNode s.cast q
     receiver true b e f or = a_shard (and_parts (is_worker s.cast p) (is_shard s.cast q) e).1
     receiver false true e f or = a_worker (and_parts (is_shard s.cast p) (is_worker s.cast q) f).1
     receiver false false e f or = absurd cc
-owner-is_node s (Serve p w place) found (serves there other at_p waits chosen) = a_shard there
+owner-is_node s (Serve p w place) found (serves there other at_p is) = a_shard there
 
 -- a changed worker is a worker, and a changed shard is a shard
 pub changed-worker : (x : Worker) (change : Change) → (z : Worker) × (changed (row_of (IsWorker x)) change ≡ row_of (IsWorker z))
 changed-worker x (changes.Work becomes) = (becomes, refl)
 changed-worker x (changes.Wait worker request) = (x, refl)
-changed-worker x (changes.Serve worker bag kept) = (x, refl)
+changed-worker x (changes.Serve worker v) = (x, refl)
 changed-worker x changes.Stay = (x, refl)
 
 pub changed-shard : (y : Shard) (change : Change) → (z : Shard) × (changed (row_of (IsShard y)) change ≡ row_of (IsShard z))
 changed-shard y (changes.Wait worker request) = (_, refl)
-changed-shard y (changes.Serve worker bag kept) = (_, refl)
+changed-shard y (changes.Serve worker v) = (_, refl)
 changed-shard y (changes.Work becomes) = (y, refl)
 changed-shard y changes.Stay = (y, refl)
 

@@ -1,7 +1,7 @@
 -- Reading a table where something was put, and elsewhere.
 use Rattle.std.proofs.Common.{◌≡◌, ◌≢◌, ℕ, zero, suc, ◌+◌, ◌<◌, List, [], ◌∷◌, length, get_or, map, set, refl, sym, ap, ◌∙◌, arith}
 use Rattle.std.proofs.lemmas.List.{get_or_default}
-use Rattle.kt_core.specs.State.{at, put}
+use Rattle.kt_shard.specs.Table.{at, put}
 
 pub at-map : {A B : Type 0} (f : A → B) (d : A) (xs : List A) (k : ℕ) → at (f d) (map f xs) k ≡ f (at d xs k)
 at-map f d [] k = refl

@@ -6,7 +6,7 @@ use Rattle.kt_history.specs.declared.note.What.{What}
 use Rattle.kt_history.specs.declared.note.What.TheVariants.{Served}
 use Rattle.kt_history.specs.declared.note.Act.{Act}
 use Rattle.kt_history.specs.Closed.{acts_in_line}
-use Rattle.kt_core.specs.declared.node.Request.{Request}
+use Rattle.kt_shard.specs.declared.request.Request.{Request}
 use Rattle.kt_core.specs.State.{State}
 use Rattle.kt_core.specs.Reached.{IsReached}
 use Rattle.kt_core.specs.Hearing.{WasHeardFor}

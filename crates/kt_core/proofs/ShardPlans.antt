@@ -1,8 +1,7 @@
 -- The plans of a shard keep a state sound: it hears what is new, answers again what it keeps, ignores the rest, and serves what waits.
-use Rattle.std.proofs.Common.{if◌then◌else◌, ◌≡◌, ℕ, ◌+◌, ◌<◌, ◌==◌, Bool, true, false, List, [], ◌∷◌, ◌++◌, length, Contains, Option, Some, None, refl, sym, ap, ◌∙◌, subst, eq-eqb, eqb-true}
+use Rattle.std.proofs.Common.{if◌then◌else◌, ◌≡◌, ℕ, ◌+◌, ◌<◌, ◌==◌, Bool, true, false, List, [], ◌∷◌, ◌++◌, length, Contains, Option, Some, None, Ok, refl, sym, ap, ◌∙◌, subst, eq-eqb, eqb-true}
 use Rattle.std.proofs.lemmas.Bool.{and_parts, and_from}
 use Rattle.kt_tuple.specs.declared.node.NodeId.TheVariants as ids
-use Rattle.kt_tuple.specs.declared.tuple.Tuple.{Tuple}
 use Rattle.kt_tuple.specs.declared.op.Answer.{Answer}
 use Rattle.kt_tuple.specs.Op.{op_eq, op_eq_decides}
 use Rattle.kt_tuple.specs.Signature.{kinds_of_op, shard_of}
@@ -13,17 +12,18 @@ use Rattle.kt_history.specs.declared.note.Note.TheVariants as notes
 use Rattle.kt_history.specs.Line.{note_at, before, line}
 use Rattle.kt_history.specs.Closed.{acts_in_line}
 use Rattle.kt_history.specs.WellFormed.{HeardRequest, WasServed, ActFits, IsWellFormed}
-use Rattle.kt_core.specs.declared.node.Request.{Request}
-use Rattle.kt_core.specs.declared.node.Kept.{Kept}
-use Rattle.kt_core.specs.declared.node.Desk.{Desk}
+use Rattle.kt_shard.specs.declared.request.Request.{Request}
+use Rattle.kt_shard.specs.declared.request.Kept.{Kept}
+use Rattle.kt_shard.specs.declared.desk.Desk.{Desk}
 use Rattle.kt_core.specs.declared.node.Message.TheVariants as messages
 use Rattle.kt_core.specs.declared.node.Change.TheVariants as changes
-use Rattle.kt_core.specs.declared.choice.Choice.{Choice}
-use Rattle.kt_core.specs.State.{Shard, IsShard, at, put}
-use Rattle.kt_core.specs.Desk.{empty_desk, newest, same_request, answer_if_kept, answer_unless_waiting, kept_answer}
-use Rattle.kt_core.specs.Choice.{choice_of, answer_of, bag_change_of}
+use Rattle.kt_shard.specs.Service.{Service, service, left_by, kept_of, served}
+use Rattle.kt_core.specs.State.{IsShard}
+use Rattle.kt_shard.specs.Shard.{Shard}
+use Rattle.kt_shard.specs.Table.{at, put}
+use Rattle.kt_shard.specs.Desk.{empty_desk, newest, same_request, answer_if_kept, answer_unless_waiting, kept_answer}
 use Rattle.kt_core.specs.Plan.{act_of, heard_plan, again_plan, ignored_plan, service_plan}
-use Rattle.kt_core.specs.Effect.{changed_bag, waiting_shard, served_shard}
+use Rattle.kt_shard.specs.Arrival.{waiting_shard}
 use Rattle.kt_core.specs.Cause.{cause_of_waiting}
 use Rattle.kt_core.specs.Cast.{Cast}
 use Rattle.kt_core.specs.Asks.{setting_of}
@@ -32,7 +32,7 @@ use Rattle.kt_core.specs.ShardLine.{MadeShard, Hears, AnswersAgain, Ignores, sha
 use Rattle.kt_core.proofs.Rows.{at-put_same, at-put_other}
 use Rattle.kt_core.proofs.Numbered.{put_row_holds}
 use Rattle.kt_core.proofs.Permutations.{step_like}
-use Rattle.kt_core.proofs.Choices.{choice_step}
+use Rattle.kt_shard.proofs.Steps.{service-due, service-step}
 use Rattle.kt_core.proofs.Traces.{WasHeard, waits_heard, ServedIn, keeps_served, ShardLine-home, Contains-acts_at, cause_found}
 use Rattle.kt_core.proofs.Causes.{before_at}
 use Rattle.kt_core.proofs.Growth.{shard_of_acts-push}
@@ -175,23 +175,20 @@ waiting_home cast h w s request legal waits =
     let heard : WasHeard (acts_in_line h (ids.Shard s)) w request ((made_of h s).cause w) = waits_heard (acts_in_line h (ids.Shard s)) w request waits in
     ap (λ (r : Request). shard_of cast.shards (kinds_of_op r.op)) (sym heard.about) ∙ ShardLine-home cast.shards s new_shard (acts_in_line h (ids.Shard s)) heard.act (legal (ids.Shard s)) heard.among
 
-pub service_keeps : (cast : Cast) (h : List Note) (w s : ℕ) (y : Shard) (request : Request) (place : ℕ) (choice : Choice) → AreLegal (setting_of cast) h → IsWellFormed h → IsShardLike (made_of h s) y →
-    (at empty_desk y.desks w).waiting ≡ Some request → choice_of y.bag request.op place ≡ Some choice →
-    Keeps cast h (ids.Shard s) (Some (IsShard y)) (service_plan (ids.Shard s) w request (answer_of y.bag choice) (bag_change_of request.op choice) (cause_of_waiting h (ids.Shard s) w) (length h + 1))
-service_keeps cast h w s y request place choice legal wf like waiting chosen =
+pub service_keeps : (cast : Cast) (h : List Note) (w s : ℕ) (y : Shard) (place : ℕ) (v : Service) → AreLegal (setting_of cast) h → IsWellFormed h → IsShardLike (made_of h s) y →
+    service y w place ≡ Ok v → Keeps cast h (ids.Shard s) (Some (IsShard y)) (service_plan (ids.Shard s) w v (cause_of_waiting h (ids.Shard s) w) (length h + 1))
+service_keeps cast h w s y place v legal wf like chosen =
     let made : MadeShard = made_of h s in
-    let answer : Answer = answer_of y.bag choice in
-    let new : List Tuple = changed_bag y.bag (bag_change_of request.op choice) in
-    let waits : (made.desk w).waiting ≡ Some request = ap (λ (d : Desk). d.waiting) (sym (like.desks w)) ∙ waiting in
+    let waits : (made.desk w).waiting ≡ Some v.request = ap (λ (d : Desk). d.waiting) (sym (like.desks w)) ∙ (service-due y w place v chosen).waited in
     let cause : cause_of_waiting h (ids.Shard s) w ≡ made.cause w = cause_found (acts_in_line h (ids.Shard s)) w in
-    let step = step_like made.bag y.bag request.op answer new like.bag (choice_step y.bag request.op place choice chosen) in
-    let a : Act = act_of (ids.Shard s) (cause_of_waiting h (ids.Shard s) w) w request (whats.Served answer) in act_keeps cast h (ids.Shard s) (IsShard y) (changes.Serve w (bag_change_of request.op choice) (record { request = request; answer = answer })) ((ids.Worker w, messages.Reply request answer (length h + 1)) ∷ []) a (record {
+    let step = step_like made.bag y.bag v.request.op v.answer (left_by y.bag v.request.op v.place) like.bag (service-step y w place v chosen) in
+    let a : Act = act_of (ids.Shard s) (cause_of_waiting h (ids.Shard s) w) w v.request (whats.Served v.answer) in act_keeps cast h (ids.Shard s) (IsShard y) (changes.Serve w v) ((ids.Worker w, messages.Reply v.request v.answer (length h + 1)) ∷ []) a (record {
       own = refl;
-      may = (waiting_home cast h w s request legal waits, (waits, cause, step.0));
-      fits = waiting_request cast h w s request a wf waits cause refl refl refl;
-      like = like-push (acts_in_line h (ids.Shard s)) a (served_shard y w (bag_change_of request.op choice) (record { request = request; answer = answer })) (record {
+      may = (waiting_home cast h w s v.request legal waits, (waits, cause, step.0));
+      fits = waiting_request cast h w s v.request a wf waits cause refl refl refl;
+      like = like-push (acts_in_line h (ids.Shard s)) a (served y w v) (record {
         bag = step.1;
-        desks = desks_like y.desks made.desk w (record { waiting = None; kept = Some (record { request = request; answer = answer }) }) (record { waiting = None; kept = Some (record { request = request; answer = answer }) }) like.desks refl;
+        desks = desks_like y.desks made.desk w (record { waiting = None; kept = Some (kept_of v) }) (record { waiting = None; kept = Some (kept_of v) }) like.desks refl;
       });
       sends = (record { act = a; is_act = note_at-next h (notes.Act a); own = refl; answering = refl; worker = refl; number = refl; op = refl }, tt);
     })

@@ -18,13 +18,15 @@ use Rattle.kt_history.proofs.Lines.{note_at-old, note_at-new, note_at-within}
 use Rattle.kt_script.specs.declared.command.Command.{Command}
 use Rattle.kt_worker.specs.declared.worker.Worker.{Worker}
 use Rattle.kt_worker.specs.After.{IsAfter}
-use Rattle.kt_core.specs.declared.node.Request.{Request}
+use Rattle.kt_shard.specs.declared.request.Request.{Request}
 use Rattle.kt_core.specs.declared.node.Message.{Message}
 use Rattle.kt_core.specs.declared.node.Message.TheVariants as messages
 use Rattle.kt_core.specs.declared.node.Change.{Change}
 use Rattle.kt_core.specs.declared.plan.Plan.{Plan}
-use Rattle.kt_core.specs.State.{State, Body, IsWorker, IsShard, Shard, at, node, link, body_of}
-use Rattle.kt_core.specs.Desk.{empty_desk}
+use Rattle.kt_core.specs.State.{State, Body, IsWorker, IsShard, node, link, body_of}
+use Rattle.kt_shard.specs.Shard.{Shard}
+use Rattle.kt_shard.specs.Table.{at}
+use Rattle.kt_shard.specs.Desk.{empty_desk}
 use Rattle.kt_core.specs.Effect.{changed_body, noted}
 use Rattle.kt_core.specs.Cast.{Cast}
 use Rattle.kt_core.specs.Asks.{script_numbered, setting_of}

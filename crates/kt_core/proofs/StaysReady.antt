@@ -23,8 +23,8 @@ use Rattle.kt_core.specs.declared.plan.Plan.{Plan}
 use Rattle.kt_core.specs.declared.step.Step.{Step}
 use Rattle.kt_core.specs.Step.{owner}
 use Rattle.kt_core.specs.Limits.{most_steps}
-use Rattle.kt_core.specs.State.{State, Body, IsWorker, IsShard, Node, at, put, node, link_place, body_of}
-use Rattle.kt_core.specs.Desk.{empty_desk}
+use Rattle.kt_core.specs.State.{State, Body, IsWorker, IsShard, Node, node, link_place, body_of}
+use Rattle.kt_shard.specs.Table.{at, put}
 use Rattle.kt_core.specs.Judge.{Found}
 use Rattle.kt_core.specs.Effect.{changed_body, taken_off, noted, applied, next_note}
 use Rattle.kt_core.specs.Ready.{IsOfKind, NamesAct, IsReady, CanChange, CanApply}
@@ -50,10 +50,10 @@ changed-kind (ids.Worker n) (Some (IsShard y)) change h can = absurd h
 changed-kind (ids.Shard n) (Some (IsWorker x)) change h can = absurd h
 changed-kind (ids.Worker n) (Some (IsWorker x)) (changes.Work becomes) h can = tt
 changed-kind (ids.Worker n) (Some (IsWorker x)) (changes.Wait worker request) h can = tt
-changed-kind (ids.Worker n) (Some (IsWorker x)) (changes.Serve worker bag kept) h can = tt
+changed-kind (ids.Worker n) (Some (IsWorker x)) (changes.Serve worker v) h can = tt
 changed-kind (ids.Worker n) (Some (IsWorker x)) changes.Stay h can = tt
-changed-kind (ids.Shard n) (Some (IsShard y)) (changes.Wait worker request) h can = length-put empty_desk y.desks worker _ can ∙ h
-changed-kind (ids.Shard n) (Some (IsShard y)) (changes.Serve worker bag kept) h can = length-put empty_desk y.desks worker _ can.0 ∙ h
+changed-kind (ids.Shard n) (Some (IsShard y)) (changes.Wait worker request) h can = tt
+changed-kind (ids.Shard n) (Some (IsShard y)) (changes.Serve worker v) h can = tt
 changed-kind (ids.Shard n) (Some (IsShard y)) (changes.Work becomes) h can = h
 changed-kind (ids.Shard n) (Some (IsShard y)) changes.Stay h can = h
 
@@ -100,6 +100,7 @@ next-act h a = let is : next_note h ≡ suc (length h) = omega arith in (a, ap (
 pub sends_next : (shards : ℕ) (h : List Note) (p : NodeId) (found : Found) (plan : Plan) → PlanOf shards h p found plan → SendsNext h plan
 sends_next shards h p found plan (plans.issues next) = ((λ some. next-act h _), tt)
 sends_next shards h p found plan (plans.idles none) = tt
+sends_next shards h p found plan plans.repeats = ((λ some. next-act h _), tt)
 sends_next shards h p found plan plans.drops = tt
 sends_next shards h p found plan plans.misses_request = tt
 sends_next shards h p found plan (plans.accepts e) = tt

@@ -11,28 +11,29 @@ use Rattle.kt_history.specs.Closed.{acts_in_line}
 use Rattle.kt_history.proofs.Lists.{Contains-here}
 use Rattle.kt_script.specs.declared.command.Command.{Command}
 use Rattle.kt_worker.specs.declared.worker.Worker.{Worker}
-use Rattle.kt_worker.specs.Standing.{next_request, issued, heard}
-use Rattle.kt_core.specs.declared.node.Request.{Request}
+use Rattle.kt_worker.specs.Standing.{next_request, again_request, issued, heard}
+use Rattle.kt_shard.specs.declared.request.Request.{Request}
 use Rattle.kt_core.specs.declared.node.Message.{Message}
 use Rattle.kt_core.specs.declared.node.Message.TheVariants as messages
 use Rattle.kt_core.specs.declared.node.Change.TheVariants as changes
 use Rattle.kt_core.specs.declared.plan.Plan.{Plan}
 use Rattle.kt_core.specs.declared.step.Step.{Step}
-use Rattle.kt_core.specs.declared.step.Step.TheVariants.{Issue, Deliver, Serve}
+use Rattle.kt_core.specs.declared.step.Step.TheVariants.{Issue, Repeat, Deliver, Serve}
 use Rattle.kt_core.specs.Step.{owner}
 use Rattle.kt_core.specs.Cast.{script_in}
-use Rattle.kt_core.specs.State.{State, Body, IsWorker, IsShard, Shard, node, link, body_of, worker_in, shard_in}
+use Rattle.kt_core.specs.State.{node_number, State, Body, IsWorker, IsShard, node, link, body_of, worker_in, shard_in}
+use Rattle.kt_shard.specs.Shard.{Shard, desk_of}
 use Rattle.kt_core.specs.Asks.{script_numbered}
 use Rattle.kt_core.specs.Judge.{Hearer, ByWorker, ByShard, hearer_of, Found, Asks, Hears}
 use Rattle.kt_core.specs.Effect.{changed_body, next_note}
-use Rattle.kt_core.specs.Plan.{empty_plan, issue_plan, request_for, home, accepted_plan}
-use Rattle.kt_core.proofs.Founds.{IsFound, asks, hears, serves}
+use Rattle.kt_core.specs.Plan.{empty_plan, issue_plan, repeat_plan, request_for, home, accepted_plan}
+use Rattle.kt_core.proofs.Founds.{IsFound, asks, repeats, hears, serves}
 use Rattle.kt_core.proofs.Plans as plans
 use Rattle.kt_core.proofs.Plans.{PlanOf}
 use Rattle.kt_core.proofs.Sound.{IsBodyLike, Carries, Keeps, IsSound}
 use Rattle.kt_core.proofs.ShardPlans.{heard_keeps, again_keeps, kept_answer-is, kept_answer-none, service_keeps}
 use Rattle.kt_core.proofs.ShardPlans as shard_plans
-use Rattle.kt_core.proofs.WorkerPlans.{issue_keeps, accepted_keeps}
+use Rattle.kt_core.proofs.WorkerPlans.{issue_keeps, repeat_keeps, accepted_keeps}
 use Rattle.kt_core.proofs.WorkerPlans as worker_plans
 use Rattle.kt_core.proofs.Applying.{StepKeeps}
 
@@ -102,6 +103,15 @@ issue-keeps s sound (ids.Worker w) script x plan there at_p left (plans.issues {
     let like = subst (IsBodyLike s.cast.scripts (ids.Worker w) (acts_in_line s.history (ids.Worker w))) at_p (sound.like (ids.Worker w)) in
     subst (λ (body : Option Body). Keeps s.cast s.history (ids.Worker w) body plan) (sym at_p) (by_script s w x r like script own next)
 
+-- and asks once more what is unanswered
+repeat-keeps : (s : State) → IsSound s → (p : NodeId) (script : List Command) (x : Worker) (r : ℕ × Op) → script_in s.cast p ≡ Some script → body_of (node s p) ≡ Some (IsWorker x) → again_request x ≡ Some r
+    → Keeps s.cast s.history p (body_of (node s p)) (repeat_plan p (node_number p) (request_for r) (home s.cast.shards r.1) (next_note s.history))
+repeat-keeps s sound (ids.Shard n) script x r there at_p left = absurd cc
+repeat-keeps s sound (ids.Worker w) script x r there at_p left =
+    let like = subst (IsBodyLike s.cast.scripts (ids.Worker w) (acts_in_line s.history (ids.Worker w))) at_p (sound.like (ids.Worker w)) in
+    subst (λ (body : Option Body). Keeps s.cast s.history (ids.Worker w) body (repeat_plan (ids.Worker w) w (request_for r) (home s.cast.shards r.1) (next_note s.history))) (sym at_p)
+    (repeat_keeps s.cast s.history w x r like left)
+
 -- a worker sends no reply
 no_reply : (shards : ℕ) (h : List Note) (w : ℕ) (q : NodeId) (request : Request) (answer : Answer) (by : ℕ) → Carries shards h (ids.Worker w) q (messages.Reply request answer by) → ⊥
 no_reply shards h w (ids.Worker v) request answer by c = c
@@ -142,14 +152,14 @@ heard-keeps s sound (ids.Shard r) (ids.Shard q) hearer message plan carries is (
 heard-keeps s sound (ids.Worker w) (ids.Shard r) hearer message plan carries is (plans.answers_again {y = y} {request = request} {by = by} {answer = answer} old kept) =
     let at_q = hearer-shard None (body_of (node s (ids.Shard r))) y is in
     let like = subst (IsBodyLike s.cast.scripts (ids.Shard r) (acts_in_line s.history (ids.Shard r))) at_q (sound.like (ids.Shard r)) in
-    subst (λ (body : Option Body). Keeps s.cast s.history (ids.Shard r) body plan) (sym at_q) (again_keeps s.cast s.history w r y request answer by like carries (kept_answer-is (plans.desk_of y (ids.Worker w)) request answer kept))
+    subst (λ (body : Option Body). Keeps s.cast s.history (ids.Shard r) body plan) (sym at_q) (again_keeps s.cast s.history w r y request answer by like carries (kept_answer-is (desk_of y w) request answer kept))
 heard-keeps s sound (ids.Worker v) (ids.Worker w) hearer message plan carries is (plans.answers_again old kept) = absurd carries
 heard-keeps s sound (ids.Shard r) (ids.Worker w) hearer message plan carries is (plans.answers_again old kept) = absurd carries
 heard-keeps s sound (ids.Shard r) (ids.Shard q) hearer message plan carries is (plans.answers_again old kept) = absurd carries
 heard-keeps s sound (ids.Worker w) (ids.Shard r) hearer message plan carries is (plans.ignores_request {y = y} {request = request} {by = by} old none) =
     let at_q = hearer-shard None (body_of (node s (ids.Shard r))) y is in
     let like = subst (IsBodyLike s.cast.scripts (ids.Shard r) (acts_in_line s.history (ids.Shard r))) at_q (sound.like (ids.Shard r)) in
-    subst (λ (body : Option Body). Keeps s.cast s.history (ids.Shard r) body plan) (sym at_q) (shard_plans.ignored_keeps s.cast s.history w r y request by like carries (old, kept_answer-none (plans.desk_of y (ids.Worker w)) request none))
+    subst (λ (body : Option Body). Keeps s.cast s.history (ids.Shard r) body plan) (sym at_q) (shard_plans.ignored_keeps s.cast s.history w r y request by like carries (old, kept_answer-none (desk_of y w) request none))
 heard-keeps s sound (ids.Worker v) (ids.Worker w) hearer message plan carries is (plans.ignores_request old none) = absurd carries
 heard-keeps s sound (ids.Shard r) (ids.Worker w) hearer message plan carries is (plans.ignores_request old none) = absurd carries
 heard-keeps s sound (ids.Shard r) (ids.Shard q) hearer message plan carries is (plans.ignores_request old none) = absurd carries
@@ -167,12 +177,14 @@ front-carries s sound p q m later e = sound.carries p q m (subst (λ l. Contains
 pub step-keeps : (s : State) → IsSound s → (step : Step) (found : Found) (plan : Plan) → IsFound s step found → PlanOf s.cast.shards s.history (owner step) found plan → StepKeeps s step plan
 step-keeps s sound (Issue p) found plan (asks {script = script} {x = x} there at_p left) of =
     issue-keeps s sound p script x plan there (worker_in-is (body_of (node s p)) x at_p) left of
+step-keeps s sound (Repeat p) found plan (repeats {script = script} {x = x} {r = r} there at_p left) plans.repeats =
+    repeat-keeps s sound p script x r there (worker_in-is (body_of (node s p)) x at_p) left
 step-keeps s sound (Deliver p q) found plan (hears {message = message} {later = later} are on) of =
     heard-keeps s sound p q (hearer_of (script_in s.cast q) (body_of (node s q))) message plan (front-carries s sound p q message later on) refl of
-step-keeps s sound (Serve (ids.Worker n) w place) found plan (serves there other at_p waits chosen) of = absurd cc
-step-keeps s sound (Serve (ids.Shard r) (ids.Shard n) place) found plan (serves there other at_p waits chosen) of = absurd cc
-step-keeps s sound (Serve (ids.Shard r) (ids.Worker w) place) found plan (serves {y = y} {request = request} {choice = choice} there other at_p waits chosen) plans.serves =
+step-keeps s sound (Serve (ids.Worker n) w place) found plan (serves there other at_p is) of = absurd cc
+step-keeps s sound (Serve (ids.Shard r) (ids.Shard n) place) found plan (serves there other at_p is) of = absurd cc
+step-keeps s sound (Serve (ids.Shard r) (ids.Worker w) place) found plan (serves {y = y} {v = v} there other at_p is) plans.serves =
     let at_shard = shard_in-is (body_of (node s (ids.Shard r))) y at_p in
     let like = subst (IsBodyLike s.cast.scripts (ids.Shard r) (acts_in_line s.history (ids.Shard r))) at_shard (sound.like (ids.Shard r)) in
     subst (λ (body : Option Body). Keeps s.cast s.history (ids.Shard r) body plan) (sym at_shard)
-    (service_keeps s.cast s.history w r y request place choice sound.legal sound.well_formed like waits chosen)
+    (service_keeps s.cast s.history w r y place v sound.legal sound.well_formed like is)

@@ -13,9 +13,9 @@ use Rattle.kt_history.specs.declared.note.Note.{Note}
 use Rattle.kt_history.specs.declared.note.Note.TheVariants as notes
 use Rattle.kt_history.specs.Line.{note_at}
 use Rattle.kt_history.specs.Closed.{act_of, acts_at}
-use Rattle.kt_core.specs.declared.node.Request.{Request}
-use Rattle.kt_core.specs.declared.node.Kept.{Kept}
-use Rattle.kt_core.specs.declared.node.Desk.{Desk}
+use Rattle.kt_shard.specs.declared.request.Request.{Request}
+use Rattle.kt_shard.specs.declared.request.Kept.{Kept}
+use Rattle.kt_shard.specs.declared.desk.Desk.{Desk}
 use Rattle.kt_core.specs.ShardLine.{MadeShard, request_of, desk_after, cause_after, shard_after, shard_of_acts, ShardLine, new_shard}
 use Rattle.kt_core.specs.Cause.{is_hearing, hears_worker, cause_of}
 use Rattle.kt_history.proofs.Lists.{Contains-here, Contains-none}

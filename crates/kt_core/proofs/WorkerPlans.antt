@@ -1,5 +1,6 @@
 -- The plans of a worker keep a state sound: it issues what its script asks, accepts what it waits for, and ignores the rest.
-use Rattle.std.proofs.Common.{◌≡◌, ℕ, ◌+◌, true, false, List, [], ◌∷◌, ◌++◌, length, Some, None, refl, sym, ap, ◌∙◌, subst}
+use Rattle.std.proofs.Common.{◌≡◌, ℕ, ◌+◌, true, false, List, [], ◌∷◌, ◌++◌, length, Option, Some, None, refl, sym, ap, ◌∙◌, subst}
+use Rattle.std.specs.Option.{option_map}
 use Rattle.std.proofs.lemmas.Bool.{false≢true}
 use Rattle.kt_tuple.specs.declared.node.NodeId.TheVariants as ids
 use Rattle.kt_tuple.specs.declared.op.Op.{Op}
@@ -13,15 +14,15 @@ use Rattle.kt_history.specs.Closed.{acts_in_line}
 use Rattle.kt_history.specs.WellFormed.{IsShard, HeardReply}
 use Rattle.kt_script.specs.declared.command.Command.{Command}
 use Rattle.kt_worker.specs.declared.worker.Worker.{Worker}
-use Rattle.kt_worker.specs.Standing.{next_request, issued, awaits, heard}
+use Rattle.kt_worker.specs.Standing.{next_request, again_request, issued, awaits, heard}
 use Rattle.kt_worker.specs.After.{last_number}
 use Rattle.kt_worker.proofs.Requests.{Requests-next, heard-after, awaits-is, awaits-from}
-use Rattle.kt_core.specs.declared.node.Request.{Request}
+use Rattle.kt_shard.specs.declared.request.Request.{Request}
 use Rattle.kt_core.specs.declared.node.Message.TheVariants as messages
 use Rattle.kt_core.specs.declared.node.Change.TheVariants as changes
 use Rattle.kt_core.specs.State.{IsWorker}
 use Rattle.kt_core.specs.Cast.{Cast}
-use Rattle.kt_core.specs.Plan.{act_of, home, issue_plan, accepted_plan, ignored_plan}
+use Rattle.kt_core.specs.Plan.{act_of, home, issue_plan, repeat_plan, accepted_plan, ignored_plan}
 use Rattle.kt_core.specs.Asks.{script_numbered}
 use Rattle.kt_core.specs.WorkerLine.{MadeWorker, Awaits, worker_after, worker_of_acts, new_worker}
 use Rattle.kt_core.proofs.Growth.{worker_of_acts-push}
@@ -48,6 +49,29 @@ issue_keeps cast h w x r like next =
       may = (refl, (free, q.number, q.asks_for));
       fits = refl;
       like = like-push script (acts_in_line h (ids.Worker w)) a (issued script x) (record { asked = q.asked; after = q.after });
+      sends = (record { act = a; is_act = note_at-next h (notes.Act a); own = refl; asking = tt; worker = refl; number = refl; op = refl; home = refl }, tt);
+    })
+
+-- what is asked again is unanswered
+pub again-is : (x : Worker) (r : ℕ × Op) → again_request x ≡ Some r → (x.number ≡ r.0) × (x.asked ≡ Some r.1)
+again-is x r e = by x.asked refl e
+  where
+    by : (o : Option Op) → x.asked ≡ o → option_map (λ (op : Op). (x.number, op)) o ≡ Some r → (x.number ≡ r.0) × (x.asked ≡ Some r.1)
+    by None is e = absurd cc
+    by (Some op) is e = let same : (x.number, op) ≡ r = cc (e) in (ap (λ (z : ℕ × Op). z.0) same, is ∙ ap (λ (z : ℕ × Op). Some z.1) same)
+
+pub repeat_keeps : (cast : Cast) (h : List Note) (w : ℕ) (x : Worker) (r : ℕ × Op) → IsWorkerLike (script_numbered cast.scripts w) (made_of h w) x → again_request x ≡ Some r →
+    Keeps cast h (ids.Worker w) (Some (IsWorker x)) (repeat_plan (ids.Worker w) w (record { number = r.0; op = r.1 }) (home cast.shards r.1) (length h + 1))
+repeat_keeps cast h w x r like e =
+    let script : List Command = script_numbered cast.scripts w in
+    let made : MadeWorker = made_of h w in
+    let i = again-is x r e in
+    let request : Request = record { number = r.0; op = r.1 } in
+    let a : Act = act_of (ids.Worker w) 0 w request whats.Repeat in act_keeps cast h (ids.Worker w) (IsWorker x) changes.Stay ((home cast.shards r.1, messages.Request request (length h + 1)) ∷ []) a (record {
+      own = refl;
+      may = (refl, (sym i.0 ∙ like.after.number ∙ ap (λ o. last_number o (length made.answers)) i.1, sym like.asked ∙ i.1));
+      fits = refl;
+      like = like-push script (acts_in_line h (ids.Worker w)) a x like;
       sends = (record { act = a; is_act = note_at-next h (notes.Act a); own = refl; asking = tt; worker = refl; number = refl; op = refl; home = refl }, tt);
     })
 

@@ -1,32 +1,27 @@
 -- What a step does to the state of a world. A step is a refusal, or one plan of its owner that is put into effect:
 -- the owner changes, what was heard is off its link, what is sent is on its way, and at most one note is made.
-use Rattle.std.specs.Prelude.{ℕ, ◌+◌, List, [], ◌∷◌, ◌++◌, length, drop, Option, None, Some, Result, remove}
+use Rattle.std.specs.Prelude.{ℕ, ◌+◌, List, [], ◌∷◌, ◌++◌, length, drop, Option, None, Some, Result}
 use Rattle.std.specs.Option.{option_map}
 use Rattle.kt_tuple.specs.declared.node.NodeId.{NodeId}
-use Rattle.kt_tuple.specs.declared.tuple.Tuple.{Tuple}
 use Rattle.kt_tuple.specs.Node.{node_index}
 use Rattle.kt_history.specs.declared.note.Note.{Note}
 use Rattle.kt_worker.specs.Standing.{next_request, issued}
-use Rattle.kt_core.specs.declared.node.Request.{Request}
-use Rattle.kt_core.specs.declared.node.Kept.{Kept}
-use Rattle.kt_core.specs.declared.node.Desk.{Desk}
+use Rattle.kt_shard.specs.Arrival.{waiting_shard}
+use Rattle.kt_shard.specs.Service.{served}
+use Rattle.kt_shard.specs.Table.{at, put}
 use Rattle.kt_core.specs.declared.node.Message.{Message}
-use Rattle.kt_core.specs.declared.node.BagChange.{BagChange}
-use Rattle.kt_core.specs.declared.node.BagChange.TheVariants as bags
 use Rattle.kt_core.specs.declared.node.Change.{Change}
 use Rattle.kt_core.specs.declared.node.Change.TheVariants as changes
 use Rattle.kt_core.specs.declared.plan.Plan.{Plan}
 use Rattle.kt_core.specs.declared.step.Step.{Step}
-use Rattle.kt_core.specs.declared.step.Step.TheVariants.{Issue, Deliver, Serve}
+use Rattle.kt_core.specs.declared.step.Step.TheVariants.{Issue, Repeat, Deliver, Serve}
 use Rattle.kt_core.specs.declared.step.StepError.{StepError}
 use Rattle.kt_core.specs.Step.{owner}
 use Rattle.kt_link.specs.Network.{entry_at, with_entry}
-use Rattle.kt_core.specs.State.{State, Body, IsWorker, IsShard, Node, Shard, at, put, node, link_place, node_number}
+use Rattle.kt_core.specs.State.{State, Body, IsWorker, IsShard, Node, node, link_place, node_number}
 use Rattle.kt_core.specs.Cause.{cause_of_waiting}
-use Rattle.kt_core.specs.Desk.{empty_desk}
-use Rattle.kt_core.specs.Choice.{answer_of, bag_change_of}
-use Rattle.kt_core.specs.Judge.{Found, Asks, Hears, Serves, map_ok, allowed}
-use Rattle.kt_core.specs.Plan.{asks_plan, arrival_plan, service_plan}
+use Rattle.kt_core.specs.Judge.{Found, Asks, Repeats, Hears, Serves, map_ok, allowed}
+use Rattle.kt_core.specs.Plan.{asks_plan, repeat_plan, request_for, home, arrival_plan, service_plan}
 
 -- ---- the plan
 
@@ -37,9 +32,9 @@ next_note h = length h + 1
 -- the plan of the node p, among so many shards and after these notes, for what was found
 abbrev pub plan_of : ℕ → List Note → NodeId → Found → Plan
 plan_of shards h p (Asks script x) = asks_plan shards p (next_note h) (issued script x) (next_request script x)
+plan_of shards h p (Repeats r) = repeat_plan p (node_number p) (request_for r) (home shards r.1) (next_note h)
 plan_of shards h p (Hears q hearer message) = arrival_plan p (node_number q) hearer message (next_note h)
-plan_of shards h p (Serves worker y request choice) =
-    service_plan p worker request (answer_of y.bag choice) (bag_change_of request.op choice) (cause_of_waiting h p worker) (next_note h)
+plan_of shards h p (Serves worker s) = service_plan p worker s (cause_of_waiting h p worker) (next_note h)
 
 -- the plan of a step, or its refusal
 abbrev pub planned : State → Step → Result Plan StepError
@@ -47,29 +42,10 @@ planned s step = map_ok (plan_of s.cast.shards s.history (owner step)) (allowed 
 
 -- ---- how a plan changes the state
 
-abbrev pub changed_bag : List Tuple → BagChange → List Tuple
-changed_bag bag (bags.Put u) = bag ++ u ∷ []
-changed_bag bag (bags.Take index) = remove bag index
-changed_bag bag bags.Stay = bag
-
--- the desk of the worker with this number, as it becomes
-abbrev pub with_desk : Shard → ℕ → Desk → Shard
-with_desk y worker desk = record y { desks = put empty_desk y.desks worker desk }
-
--- the worker of this number waits with the request
-abbrev pub waiting_shard : Shard → ℕ → Request → Shard
-waiting_shard y worker request =
-    with_desk y worker (record { waiting = Some request; kept = (at empty_desk y.desks worker).kept })
-
--- the worker of this number was served, and this is kept
-abbrev pub served_shard : Shard → ℕ → BagChange → Kept → Shard
-served_shard y worker bag kept =
-    with_desk (record y { bag = changed_bag y.bag bag }) worker (record { waiting = None; kept = Some kept })
-
 abbrev pub changed_body : Body → Change → Body
 changed_body (IsWorker x) (changes.Work becomes) = IsWorker becomes
 changed_body (IsShard y) (changes.Wait worker request) = IsShard (waiting_shard y worker request)
-changed_body (IsShard y) (changes.Serve worker bag kept) = IsShard (served_shard y worker bag kept)
+changed_body (IsShard y) (changes.Serve worker s) = IsShard (served y worker s)
 changed_body body _ = body
 
 abbrev pub changed_node : Change → Node → Node
@@ -95,6 +71,7 @@ sent way links p (message ∷ later) = sent way (sent_one way links p message) p
 -- the links with the first message taken off the one that a delivery comes by
 abbrev pub taken_off : Way → List (List Message) → Step → List (List Message)
 taken_off way links (Issue p) = links
+taken_off way links (Repeat p) = links
 taken_off way links (Deliver p q) = with_entry links (way p q) (drop 1 (entry_at [] links (way p q)))
 taken_off way links (Serve p w place) = links
 

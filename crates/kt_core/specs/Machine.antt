@@ -5,13 +5,14 @@ use Rattle.kt_tuple.specs.declared.node.NodeId.{NodeId}
 use Rattle.kt_tuple.specs.Node.{node_index}
 use Rattle.kt_history.specs.Chronicle.{room_of}
 use Rattle.kt_link.specs.Network.{room}
+use Rattle.kt_shard.specs.Table.{at}
 use Rattle.kt_core.specs.declared.plan.Plan.{Plan}
 use Rattle.kt_core.specs.Ready.{HasRoom}
 use Rattle.kt_core.specs.declared.judge.Found.{Found as FoundCode}
 use Rattle.kt_core.specs.declared.machine.Machine.{Machine}
 use Rattle.kt_core.specs.declared.step.StepError.{StepError}
 use Rattle.kt_core.specs.declared.step.StepError.TheVariants as refusals
-use Rattle.kt_core.specs.State.{State, at, row_view}
+use Rattle.kt_core.specs.State.{State, row_view}
 use Rattle.kt_core.specs.Judge.{Found}
 use Rattle.kt_core.specs.Views.{found_view}
 

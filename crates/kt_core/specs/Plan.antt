@@ -1,6 +1,6 @@
 -- What a step does, as a function of what its owner sees: its own state, the message that it hears, and the
 -- number of the next note.
-use Rattle.std.specs.Prelude.{ℕ, nat_lt, if◌then◌else◌, List, [], ◌∷◌, Option, None, Some}
+use Rattle.std.specs.Prelude.{ℕ, if◌then◌else◌, List, [], ◌∷◌, Option, None, Some}
 use Rattle.kt_tuple.specs.declared.node.NodeId.{NodeId}
 use Rattle.kt_tuple.specs.declared.node.NodeId.TheVariants as ids
 use Rattle.kt_tuple.specs.declared.op.Op.{Op}
@@ -14,16 +14,15 @@ use Rattle.kt_history.specs.declared.note.Note.TheVariants as notes
 use Rattle.kt_script.specs.declared.command.Command.{Command}
 use Rattle.kt_worker.specs.declared.worker.Worker.{Worker}
 use Rattle.kt_worker.specs.Standing.{awaits, heard}
-use Rattle.kt_core.specs.declared.node.Request.{Request}
-use Rattle.kt_core.specs.declared.node.Desk.{Desk}
-use Rattle.kt_core.specs.declared.node.BagChange.{BagChange}
+use Rattle.kt_shard.specs.declared.request.Request.{Request}
+use Rattle.kt_shard.specs.Arrival.{Arrival, Waits, Again, Ignored, arrival}
+use Rattle.kt_shard.specs.Service.{Service}
 use Rattle.kt_core.specs.declared.node.Message.{Message}
 use Rattle.kt_core.specs.declared.node.Message.TheVariants as messages
 use Rattle.kt_core.specs.declared.node.Change.TheVariants as changes
 use Rattle.kt_core.specs.declared.plan.Plan.{Plan}
-use Rattle.kt_core.specs.State.{at, node_number}
+use Rattle.kt_core.specs.State.{node_number}
 use Rattle.kt_core.specs.Judge.{Hearer, Nobody, ByWorker, ByShard}
-use Rattle.kt_core.specs.Desk.{empty_desk, newest, kept_answer}
 
 -- an act of p about a request of the worker of this number
 abbrev pub act_of : NodeId → ℕ → ℕ → Request → What → Act
@@ -59,6 +58,14 @@ abbrev pub asks_plan : ℕ → NodeId → ℕ → Worker → Option (ℕ × Op) 
 asks_plan shards p next asker None = empty_plan
 asks_plan shards p next asker (Some r) = issue_plan p (node_number p) (request_for r) (home shards r.1) next asker
 
+-- the worker asks the shard once more
+abbrev pub repeat_plan : NodeId → ℕ → Request → NodeId → ℕ → Plan
+repeat_plan p worker request shard next = record {
+  change = changes.Stay;
+  send = (shard, messages.Request request next) ∷ [];
+  note = note_of p 0 worker request whats.Repeat;
+}
+
 -- the worker waits at the shard from now on
 abbrev pub heard_plan : NodeId → ℕ → Request → ℕ → Plan
 heard_plan p worker request by = record {
@@ -83,17 +90,11 @@ ignored_plan p worker request by answer = record {
   note = note_of p by worker request (whats.Ignored answer);
 }
 
-abbrev pub old_request_plan : NodeId → ℕ → Request → ℕ → ℕ → Option Answer → Plan
-old_request_plan p worker request by next None = ignored_plan p worker request by None
-old_request_plan p worker request by next (Some answer) = again_plan p worker request by answer next
-
--- the shard p hears a request of the worker whose desk this is: a new number waits, the request that is kept
--- is answered again, and all else is ignored
-abbrev pub request_plan : NodeId → Desk → ℕ → Request → ℕ → ℕ → Plan
-request_plan p desk worker request by next =
-    if nat_lt (newest desk) request.number
-    then heard_plan p worker request by
-    else old_request_plan p worker request by next (kept_answer desk request)
+-- the shard p hears a request of the worker of this number, and this comes of it
+abbrev pub request_plan : NodeId → Arrival → ℕ → Request → ℕ → ℕ → Plan
+request_plan p Waits worker request by next = heard_plan p worker request by
+request_plan p (Again answer) worker request by next = again_plan p worker request by answer next
+request_plan p Ignored worker request by next = ignored_plan p worker request by None
 
 -- the worker has its answer, and becomes the hearer
 abbrev pub accepted_plan : NodeId → ℕ → Request → Answer → ℕ → Worker → Plan
@@ -116,13 +117,13 @@ abbrev pub arrival_plan : NodeId → ℕ → Hearer → Message → ℕ → Plan
 arrival_plan q n Nobody message next = empty_plan
 arrival_plan q n (ByWorker script x) (messages.Request request by) next = ignored_plan q (node_number q) request by None
 arrival_plan q n (ByWorker script x) (messages.Reply request answer by) next = reply_plan q script x (node_number q) request answer by
-arrival_plan q n (ByShard y) (messages.Request request by) next = request_plan q (at empty_desk y.desks n) n request by next
+arrival_plan q n (ByShard y) (messages.Request request by) next = request_plan q (arrival y n request) n request by next
 arrival_plan q n (ByShard y) (messages.Reply request answer by) next = ignored_plan q n request by (Some answer)
 
--- the shard serves the request with which the worker waits
-abbrev pub service_plan : NodeId → ℕ → Request → Answer → BagChange → ℕ → ℕ → Plan
-service_plan p worker request answer bag by next = record {
-  change = changes.Serve worker bag (record { request = request; answer = answer });
-  send = (ids.Worker worker, messages.Reply request answer next) ∷ [];
-  note = note_of p by worker request (whats.Served answer);
+-- the shard serves the worker of this number
+abbrev pub service_plan : NodeId → ℕ → Service → ℕ → ℕ → Plan
+service_plan p worker s by next = record {
+  change = changes.Serve worker s;
+  send = (ids.Worker worker, messages.Reply s.request s.answer next) ∷ [];
+  note = note_of p by worker s.request (whats.Served s.answer);
 }

@@ -6,10 +6,11 @@ use Rattle.kt_core.specs.declared.step.Step.{Step}
 use Rattle.kt_core.specs.declared.step.StepError.{StepError}
 use Rattle.kt_core.specs.declared.step.Mode.{Mode}
 use Rattle.kt_core.specs.declared.step.Mode.TheVariants.{Up, Down}
-use Rattle.kt_core.specs.Limits.{rows, desks}
+use Rattle.kt_core.specs.Limits.{rows}
 use Rattle.kt_core.specs.Cast.{Cast, IsCast, is_among, script_at}
 use Rattle.kt_core.specs.State.{State, Body, IsWorker, IsShard, Node}
-use Rattle.kt_core.specs.Desk.{empty_desk}
+use Rattle.kt_shard.specs.Limits.{desks}
+use Rattle.kt_shard.specs.Shard.{empty_shard}
 use Rattle.kt_core.specs.Effect.{step_result}
 use Rattle.kt_core.specs.Ready.{IsReady}
 
@@ -21,8 +22,8 @@ row_of body = Some (record { body = Some body })
 abbrev pub idle_worker : List Command → Option Node
 idle_worker script = row_of (IsWorker (opening_standing script))
 
-abbrev pub empty_shard : Option Node
-empty_shard = row_of (IsShard (record { bag = []; desks = replicate desks empty_desk }))
+abbrev pub idle_shard : Option Node
+idle_shard = row_of (IsShard empty_shard)
 
 abbrev pub worker_if : Option (List Command) → Option Node
 worker_if None = None
@@ -32,7 +33,7 @@ abbrev pub opening_worker : List (List Command) → ℕ → Option Node
 opening_worker scripts n = worker_if (script_at scripts n)
 
 abbrev pub opening_shard : ℕ → ℕ → Option Node
-opening_shard shards n = if is_among shards n then empty_shard else None
+opening_shard shards n = if is_among shards n then idle_shard else None
 
 -- the rows of the workers and shards with a number below this one
 unfoldable pub opening_rows : Cast → ℕ → List (Option Node)

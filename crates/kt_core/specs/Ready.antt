@@ -1,11 +1,10 @@
 -- What the state of a world keeps so that each step can be made: the tables have their rows, the counts are
 -- small, and each cause that is named is an earlier act.
-use Rattle.std.specs.Prelude.{◌≡◌, ◌≢◌, ℕ, ◌<◌, ◌≤◌, List, [], length, Option, None, Some, Contains, IfSome, vec_len, vec_capacity}
+use Rattle.std.specs.Prelude.{◌≡◌, ◌≢◌, ℕ, ◌<◌, ◌≤◌, List, [], length, Option, None, Some, Contains, IfSome, IsTrue}
 use Rattle.std.specs.List.{AllByRecursion}
 use Rattle.kt_tuple.specs.declared.node.NodeId.{NodeId}
 use Rattle.kt_tuple.specs.declared.node.NodeId.TheVariants as ids
 use Rattle.kt_tuple.specs.Node.{node_index}
-use Rattle.kt_tuple.specs.declared.tuple.Tuple.{Tuple}
 use Rattle.kt_history.specs.declared.note.Note.{Note}
 use Rattle.kt_history.specs.Line.{IsAct}
 use Rattle.kt_history.specs.WellFormed.{CausesComeFirst, MayFollow}
@@ -16,24 +15,22 @@ use Rattle.kt_core.specs.declared.node.Body.TheVariants as bodies
 use Rattle.kt_core.specs.declared.node.Node.{Node as NodeCode}
 use Rattle.kt_core.specs.declared.node.Message.{Message}
 use Rattle.kt_core.specs.declared.node.Message.TheVariants as messages
-use Rattle.kt_core.specs.declared.node.BagChange.{BagChange}
-use Rattle.kt_core.specs.declared.node.BagChange.TheVariants as bags
 use Rattle.kt_core.specs.declared.node.Change.{Change}
 use Rattle.kt_core.specs.declared.node.Change.TheVariants as changes
 use Rattle.kt_core.specs.declared.plan.Plan.{Plan}
-use Rattle.kt_core.specs.Limits.{rows as row_count, desks as desk_count, most_steps}
+use Rattle.kt_core.specs.Limits.{rows as row_count, most_steps}
 use Rattle.kt_core.specs.Cast.{IsCast}
-use Rattle.kt_core.specs.State.{State, Body, IsWorker, IsShard, at, node, node_number, body_of}
-use Rattle.kt_core.specs.Choice.{IsInBag}
-use Rattle.kt_core.specs.Judge.{Hearer, Nobody, ByWorker, ByShard, Found, Asks, Hears, Serves}
+use Rattle.kt_core.specs.State.{State, Body, IsWorker, IsShard, node, body_of}
+use Rattle.kt_shard.specs.Limits.{desks}
+use Rattle.kt_shard.specs.Table.{at}
 
--- what p works with is of its kind, and a shard has a desk for each number that a worker can have
+-- what p works with is of its kind
 abbrev pub IsOfKind : NodeId → Option Body → Type 0
 IsOfKind p None = Unit {0}
 IsOfKind (ids.Worker n) (Some (IsWorker x)) = Unit {0}
 IsOfKind (ids.Worker n) (Some (IsShard y)) = ⊥
 IsOfKind (ids.Shard n) (Some (IsWorker x)) = ⊥
-IsOfKind (ids.Shard n) (Some (IsShard y)) = length y.desks ≡ desk_count
+IsOfKind (ids.Shard n) (Some (IsShard y)) = Unit {0}
 
 -- the message names the act that sent it, if it names one
 abbrev pub NamesAct : List Note → Message → Type 0
@@ -51,28 +48,11 @@ pub record IsReady (s : State) : Type 0 where
   pub causes : CausesComeFirst s.history
   pub messages : (k : ℕ) (m : Message) → Contains (at [] s.links k) m → NamesAct s.history m
 
--- the index that is taken out is there
-abbrev pub FitsBag : List Tuple → BagChange → Type 0
-FitsBag bag (bags.Put u) = Unit {0}
-FitsBag bag (bags.Take index) = index < length bag
-FitsBag bag bags.Stay = Unit {0}
-
--- the change can be made
+-- the change can be made: a shard has a desk for the worker
 abbrev pub CanChange : Option Body → Change → Type 0
-CanChange (Some (IsShard y)) (changes.Wait worker request) = worker < length y.desks
-CanChange (Some (IsShard y)) (changes.Serve worker bag kept) = (worker < length y.desks) × FitsBag y.bag bag
+CanChange (Some (IsShard y)) (changes.Wait worker request) = worker < desks
+CanChange (Some (IsShard y)) (changes.Serve worker s) = worker < desks
 CanChange _ _ = Unit {0}
-
--- a shard that hears a message has a desk for its sender, and what serves is in the bag
-abbrev pub HearsWell : ℕ → Hearer → Type 0
-HearsWell n Nobody = Unit {0}
-HearsWell n (ByWorker script x) = Unit {0}
-HearsWell n (ByShard y) = n < length y.desks
-
-abbrev pub CanPlan : Found → Type 0
-CanPlan (Asks script x) = Unit {0}
-CanPlan (Hears p hearer message) = HearsWell (node_number p) hearer
-CanPlan (Serves worker y request choice) = IsInBag y.bag choice
 
 -- the plan can be carried out: its node has a row, it sends to neighbours alone, and notes what may follow
 pub record CanApply (s : State) (p : NodeId) (plan : Plan) : Type 0 where
@@ -85,7 +65,7 @@ pub record CanApply (s : State) (p : NodeId) (plan : Plan) : Type 0 where
 -- one more tuple takes no memory
 abbrev pub BodyHasRoom : BodyCode → Type 0
 BodyHasRoom (bodies.Worker x) = Unit {0}
-BodyHasRoom (bodies.Shard y) = vec_len y.bag < vec_capacity y.bag
+BodyHasRoom (bodies.Shard y) = IsTrue y.has_room
 
 abbrev pub HasRoomIn : Option BodyCode → Type 0
 HasRoomIn None = Unit {0}

@@ -7,9 +7,9 @@ use Rattle.kt_tuple.specs.Space.{SpaceStep}
 use Rattle.kt_history.specs.declared.note.Act.{Act}
 use Rattle.kt_history.specs.declared.note.What.{What}
 use Rattle.kt_history.specs.declared.note.What.TheVariants as whats
-use Rattle.kt_core.specs.declared.node.Request.{Request}
-use Rattle.kt_core.specs.declared.node.Desk.{Desk}
-use Rattle.kt_core.specs.Desk.{empty_desk, newest}
+use Rattle.kt_shard.specs.declared.request.Request.{Request}
+use Rattle.kt_shard.specs.declared.desk.Desk.{Desk}
+use Rattle.kt_shard.specs.Desk.{empty_desk, newest}
 use Rattle.kt_core.specs.Bag.{served_bag}
 
 -- what a shard's acts make of it: its tuples, a desk for each worker's number, and the cause of the last

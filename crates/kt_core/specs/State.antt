@@ -1,35 +1,19 @@
 -- The state of a world, as plain data.
-use Rattle.std.specs.Prelude.{ℕ, zero, suc, ◌≤◌, List, [], ◌∷◌, length, Option, None, Some, slice_index_or}
+use Rattle.std.specs.Prelude.{ℕ, ◌≤◌, List, [], length, Option, None, Some}
 use Rattle.std.specs.Option.{option_map}
 use Rattle.kt_tuple.specs.declared.node.NodeId.{NodeId}
 use Rattle.kt_tuple.specs.declared.node.NodeId.TheVariants as ids
-use Rattle.kt_tuple.specs.declared.tuple.Tuple.{Tuple}
 use Rattle.kt_tuple.specs.Node.{node_index}
 use Rattle.kt_history.specs.declared.note.Note.{Note}
 use Rattle.kt_worker.specs.declared.worker.Worker.{Worker}
-use Rattle.kt_core.specs.declared.node.Desk.{Desk}
-use Rattle.kt_core.specs.declared.node.Shard.{Shard as ShardCode}
 use Rattle.kt_core.specs.declared.node.Body.{Body as BodyCode}
 use Rattle.kt_core.specs.declared.node.Body.TheVariants as bodies
 use Rattle.kt_core.specs.declared.node.Node.{Node as NodeCode}
 use Rattle.kt_core.specs.declared.node.Message.{Message}
 use Rattle.kt_core.specs.Cast.{Cast}
 use Rattle.kt_link.specs.Network.{place, entry_at}
-
--- a table has an entry for each number: d where nothing was put
-abbrev pub at : {A : Type 0} → A → List A → ℕ → A
-at d table k = slice_index_or table k d
-
-unfoldable pub put : {A : Type 0} → A → List A → ℕ → A → List A
-put d [] zero y = y ∷ []
-put d [] (suc k) y = d ∷ put d [] k y
-put d (x ∷ xs) zero y = y ∷ xs
-put d (x ∷ xs) (suc k) y = x ∷ put d xs k y
-
--- a shard: its tuples in order of arrival, and what it remembers of each worker, by the worker's number
-pub record Shard : Type 0 where
-  pub bag : List Tuple
-  pub desks : List Desk
+use Rattle.kt_shard.specs.Shard.{Shard}
+use Rattle.kt_shard.specs.Table.{at}
 
 -- what a node works with
 pub data Body : Type 0 where
@@ -41,12 +25,9 @@ pub record Node : Type 0 where
   pub body : Option Body
 
 -- what the code holds, as plain data
-abbrev pub shard_view : ShardCode → Shard
-shard_view y = record { bag = y.bag.items; desks = y.desks.items }
-
 abbrev pub body_view : BodyCode → Body
 body_view (bodies.Worker x) = IsWorker x
-body_view (bodies.Shard y) = IsShard (shard_view y)
+body_view (bodies.Shard y) = IsShard y.state
 
 abbrev pub node_view : NodeCode → Node
 node_view n = record { body = option_map body_view n.body }

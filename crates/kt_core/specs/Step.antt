@@ -2,13 +2,14 @@
 use Rattle.std.specs.Prelude.{ℕ}
 use Rattle.kt_tuple.specs.declared.node.NodeId.{NodeId}
 use Rattle.kt_core.specs.declared.step.Step.{Step}
-use Rattle.kt_core.specs.declared.step.Step.TheVariants.{Issue, Deliver, Serve}
+use Rattle.kt_core.specs.declared.step.Step.TheVariants.{Issue, Repeat, Deliver, Serve}
 use Rattle.kt_core.specs.declared.step.StepError.{StepError}
 use Rattle.kt_core.specs.declared.step.StepError.TheVariants.{NoNode, WrongMode, NothingThere, NoSuchMatch, NotDecided, Unresolved, StepLimit, OutOfMemory}
 
 -- a delivery is the receiver's, every other step the first node's
 abbrev pub owner : Step → NodeId
 owner (Issue p) = p
+owner (Repeat p) = p
 owner (Deliver p q) = q
 owner (Serve p w k) = p
 

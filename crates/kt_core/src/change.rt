@@ -1,13 +1,12 @@
 //! Changing a node, once nothing can be refused any more.
 
-ghost use Rattle.std.specs.Prelude.{◌≡◌, ◌<◌, ◌+◌, ◌^◌, Some, None, length, map, OnOk, vec_len, vec_capacity};
-ghost use Rattle.kt_core.specs.State.{body_view, row_view, body_of, shard_view, at, put};
-ghost use Rattle.kt_core.specs.Desk.{empty_desk};
-ghost use Rattle.kt_core.specs.Effect.{changed, changed_body, changed_bag, waiting_shard, served_shard};
-ghost use Rattle.kt_core.specs.Ready.{CanChange, FitsBag, BodyHasRoom, HasRoom};
+ghost use Rattle.std.specs.Prelude.{◌≡◌, ◌<◌, ◌+◌, ◌^◌, Some, None, length, map, OnOk};
+ghost use Rattle.kt_core.specs.State.{body_view, row_view, body_of};
+ghost use Rattle.kt_shard.specs.Table.{at, put};
+ghost use Rattle.kt_core.specs.Effect.{changed, changed_body};
+ghost use Rattle.kt_core.specs.Ready.{CanChange, BodyHasRoom, HasRoom};
 
-use crate::node::{BagChange, Body, Change, Desk, Kept, Node, Request, Shard};
-use kt_tuple::Tuple;
+use crate::node::{Body, Change, Node};
 use std::alloc::AllocError;
 
 /// Makes room for one more tuple in the node of this row, where it is a shard.
@@ -29,7 +28,7 @@ fn make_room(row: &mut Option<Node>) -> Result<(), AllocError>
         },
     ) = row
     {
-        shard.bag.reserve(1)?;
+        shard.reserve()?;
     }
     Ok(())
 }
@@ -72,58 +71,10 @@ impl Body {
         match (self, change) {
             (Body::Worker(worker), Change::Work(changed)) => *worker = changed,
             (Body::Shard(shard), Change::Wait { worker, request }) => shard.wait(worker, request),
-            (Body::Shard(shard), Change::Serve { worker, bag, kept }) => {
-                shard.serve(worker, bag, kept);
+            (Body::Shard(shard), Change::Serve { worker, service }) => {
+                shard.carry_out(worker, service);
             }
             _ => {}
         }
-    }
-}
-
-impl Shard {
-    fn wait(&mut self, worker: u8, request: Request)
-        requires { worker < length self.old.desks.items }
-        ensures { shard_view self.new ≡ waiting_shard (shard_view self.old) worker request }
-    {
-        self.desks[worker as usize].wait(request);
-    }
-
-    fn serve(&mut self, worker: u8, bag: BagChange, kept: Kept)
-        requires desk { worker < length self.old.desks.items }
-        requires fits { FitsBag self.old.bag.items bag }
-        requires room { vec_len self.old.bag < vec_capacity self.old.bag }
-        ensures { shard_view self.new ≡ served_shard (shard_view self.old) worker bag kept }
-    {
-        change_bag(&mut self.bag, bag);
-        self.desks[worker as usize].keep(kept);
-    }
-}
-
-impl Desk {
-    fn wait(&mut self, request: Request)
-        ensures { self.new ≡ record { waiting = Some request; kept = self.old.kept } }
-    {
-        self.waiting = Some(request);
-    }
-
-    fn keep(&mut self, kept: Kept)
-        ensures { self.new ≡ record { waiting = None; kept = Some kept } }
-    {
-        self.waiting = None;
-        self.kept = Some(kept);
-    }
-}
-
-fn change_bag(bag: &mut Vec<Tuple>, change: BagChange)
-    requires fits { FitsBag bag.old.items change }
-    requires room { vec_len bag.old < vec_capacity bag.old }
-    ensures { bag.new.items ≡ changed_bag bag.old.items change }
-{
-    match change {
-        BagChange::Put(tuple) => bag.push_reserved(tuple),
-        BagChange::Take(index) => {
-            bag.remove(index);
-        }
-        BagChange::Stay => {}
     }
 }

@@ -2,14 +2,15 @@
 
 ghost use Rattle.std.specs.Prelude.{◌≡◌, is_some};
 ghost use Rattle.kt_worker.specs.Standing.{next_request};
+ghost use Rattle.kt_core.specs.Judge.{unserved_as};
 
-use crate::choice::{Choice, choice_of};
 use crate::machine::Machine;
-use crate::node::{Body, Message, Request, Shard};
+use crate::node::{Body, Message};
 use crate::step::{MAX_STEPS, Step, StepError};
 use crate::tables::{body_at, number_of};
 use kt_script::Script;
-use kt_tuple::NodeId;
+use kt_shard::{Choice, ServeError, Shard};
+use kt_tuple::{NodeId, Op};
 use kt_worker::Worker;
 
 /// Who hears a message.
@@ -27,10 +28,12 @@ pub(crate) enum Hearer<'a> {
 pub(crate) enum Found<'a> {
     /// The worker asks for the next operation of this script.
     Asks(&'a Script, &'a Worker),
+    /// The worker asks once more what is unanswered: the request's number and operation.
+    Repeats(u64, &'a Op),
     /// The message of this sender is heard.
     Hears(NodeId, Hearer<'a>, &'a Message),
-    /// The worker of this number waits at the shard with this request, and is served so.
-    Serves(u8, &'a Shard, &'a Request, Choice),
+    /// The worker of this number is served so.
+    Serves(u8, Choice<'a>),
 }
 
 /// Whether the worker waits for nothing and has an operation left.
@@ -40,13 +43,23 @@ fn can_issue(worker: &Worker, script: &Script) -> bool
     worker.asked().is_none() && worker.has_next(script)
 }
 
+/// Why a step is refused whose service the shard refuses.
+fn unserved_as(refusal: ServeError) -> StepError
+    ensures { result ≡ unserved_as refusal }
+{
+    match refusal {
+        ServeError::NotWaiting => StepError::NothingThere,
+        ServeError::NoSuchMatch => StepError::NoSuchMatch,
+        ServeError::OutOfMemory => StepError::OutOfMemory,
+    }
+}
+
 impl Machine {
     ghost use Rattle.kt_core.specs.Machine.{state_of, Finds};
     ghost use Rattle.kt_core.specs.Views.{hearer_view};
-    ghost use Rattle.kt_core.specs.declared.step.Step.TheVariants.{Issue, Deliver, Serve};
+    ghost use Rattle.kt_core.specs.declared.step.Step.TheVariants.{Issue, Repeat, Deliver, Serve};
     ghost use Rattle.kt_core.specs.Cast.{script_in};
     ghost use Rattle.kt_core.specs.State.{node, body_of};
-    ghost use Rattle.kt_core.specs.Ready.{IsReady};
     ghost use Rattle.kt_core.specs.Judge.{hearer_of, judged, allowed};
 
     /// A worker that waits for nothing asks for its script's next operation.
@@ -65,6 +78,22 @@ impl Machine {
                 }
             }
             _ => Err(StepError::WrongMode),
+        }
+    }
+
+    /// A worker asks once more what is unanswered.
+    fn repetition(&self, id: NodeId) -> Result<Found<'_>, StepError>
+        ensures { Finds result (judged (state_of self.now) (Repeat id)) }
+    {
+        if self.scene.script_of(id).is_none() {
+            return Err(StepError::NoNode);
+        }
+        let Some(Body::Worker(worker)) = body_at(&self.nodes, id) else {
+            return Err(StepError::WrongMode);
+        };
+        match worker.again() {
+            Some((number, op)) => Ok(Found::Repeats(number, op)),
+            None => Err(StepError::NothingThere),
         }
     }
 
@@ -97,7 +126,6 @@ impl Machine {
 
     /// A shard serves a worker that waits there, with the match of this place.
     fn service(&self, id: NodeId, worker: NodeId, place: u64) -> Result<Found<'_>, StepError>
-        requires { IsReady (state_of self.now) }
         ensures { Finds result (judged (state_of self.now) (Serve id worker place)) }
     {
         if !(self.scene.has_shard(id) && self.scene.has_worker(worker)) {
@@ -107,22 +135,19 @@ impl Machine {
             return Err(StepError::WrongMode);
         };
         let number = number_of(worker);
-        let Some(request) = &shard.desks[usize::from(number)].waiting else {
-            return Err(StepError::NothingThere);
-        };
-        match choice_of(&shard.bag, &request.op, place) {
-            Some(choice) => Ok(Found::Serves(number, shard, request, choice)),
-            None => Err(StepError::NoSuchMatch),
+        match shard.choose(number, place) {
+            Ok(choice) => Ok(Found::Serves(number, choice)),
+            Err(refusal) => Err(unserved_as(refusal)),
         }
     }
 
     /// What the step is about, or why it is not allowed; the limit is left aside.
     fn judge(&self, step: Step) -> Result<Found<'_>, StepError>
-        requires { IsReady (state_of self.now) }
         ensures { Finds result (judged (state_of self.now) step) }
     {
         match step {
             Step::Issue { node } => self.issue(node),
+            Step::Repeat { node } => self.repetition(node),
             Step::Deliver { from, to } => self.delivery(from, to),
             Step::Serve {
                 shard,
@@ -134,7 +159,6 @@ impl Machine {
 
     /// What the step is about, or its refusal.
     pub(crate) fn allowed(&self, step: Step) -> Result<Found<'_>, StepError>
-        requires { IsReady (state_of self.now) }
         ensures { Finds result (allowed (state_of self.now) step) }
     {
         let found = self.judge(step)?;

@@ -2,8 +2,6 @@
 #![tactic(auto)]
 
 mod change;
-mod choice;
-mod desk;
 mod judge;
 mod laws;
 mod machine;

@@ -1,5 +1,6 @@
 ghost use Rattle.std.specs.Prelude.{◌≡◌, length, map, IfOk, OnOk, OnErr, replicate, ◌*◌, []};
-ghost use Rattle.kt_core.specs.Limits.{rows, desks};
+ghost use Rattle.kt_core.specs.Limits.{rows};
+ghost use Rattle.kt_shard.specs.Limits.{desks};
 ghost use Rattle.kt_core.specs.Cast.{IsCast};
 ghost use Rattle.kt_core.specs.State.{row_view};
 ghost use Rattle.kt_core.specs.Reached.{opening_rows};

@@ -1,31 +1,18 @@
 //! The tables of a world that was just opened.
 
 ghost use Rattle.std.specs.Prelude.{◌≡◌, map, IfOk, replicate};
-ghost use Rattle.kt_core.specs.Limits.{rows, desks};
+ghost use Rattle.kt_core.specs.Limits.{rows};
+ghost use Rattle.kt_shard.specs.Limits.{desks};
 ghost use Rattle.kt_core.specs.State.{row_view};
-ghost use Rattle.kt_core.specs.Desk.{empty_desk};
 ghost use Rattle.kt_core.specs.Reached.{opening_rows, opening_worker, opening_shard};
 
-use crate::node::{Body, Desk, Node, Shard};
+use crate::node::{Body, Node};
 use crate::scene::Scene;
 use crate::tables::{NUMBERS, ROWS};
+use kt_shard::Shard;
 use kt_tuple::NodeId;
 use kt_worker::Worker;
 use std::alloc::{AllocError, Global};
-
-/// A desk for each number.
-fn empty_desks(alloc: Global) -> Result<Vec<Desk>, AllocError>
-    ensures { IfOk result (λ made. made.items ≡ replicate desks empty_desk) }
-{
-    let mut desks = Vec::with_capacity(alloc, usize::from(NUMBERS))?;
-    for number in 0..NUMBERS {
-        desks.push(Desk {
-            waiting: None,
-            kept: None,
-        })?;
-    }
-    Ok(desks)
-}
 
 /// The row of the worker of this number.
 fn worker_row(alloc: Global, scene: &Scene, number: u8) -> Result<Option<Node>, AllocError>
@@ -49,10 +36,7 @@ fn shard_row(alloc: Global, scene: &Scene, number: u8) -> Result<Option<Node>, A
     if !scene.has_shard(NodeId::Shard(number)) {
         return Ok(None);
     }
-    let shard = Shard {
-        bag: Vec::new(alloc),
-        desks: empty_desks(alloc)?,
-    };
+    let shard = Shard::new(alloc)?;
     Ok(Some(Node {
         body: Some(Body::Shard(shard)),
     }))

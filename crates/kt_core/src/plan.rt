@@ -2,11 +2,15 @@
 //! its own state, the message that it hears, and the number of the next note.
 
 ghost use Rattle.std.specs.Prelude.{◌≡◌, [], ◌∷◌, IfOk};
-ghost use Rattle.kt_core.specs.Plan.{issue_plan, empty_plan, request_plan, heard_plan, again_plan, ignored_plan, reply_plan, accepted_plan, service_plan, note_of};
+ghost use Rattle.kt_history.specs.declared.note.What.TheVariants.{Served};
+ghost use Rattle.kt_shard.specs.Arrival.{arrival_view};
+ghost use Rattle.kt_core.specs.declared.node.Message.TheVariants.{Reply};
+ghost use Rattle.kt_core.specs.Plan.{issue_plan, repeat_plan, empty_plan, request_plan, heard_plan, again_plan, ignored_plan, reply_plan, accepted_plan, service_plan, note_of};
 
-use crate::node::{BagChange, Change, Desk, Kept, Message, Request};
+use crate::node::{Change, Message};
 use kt_history::{Act, Note, What};
 use kt_script::Script;
+use kt_shard::{Arrival, Prepared, Request};
 use kt_tuple::{Answer, NodeId};
 use kt_worker::Worker;
 use std::alloc::{AllocError, Global};
@@ -128,6 +132,28 @@ pub(crate) fn issue_plan(
     })
 }
 
+/// The worker asks the shard once more.
+pub(crate) fn repeat_plan(
+    alloc: Global,
+    node: NodeId,
+    worker: u8,
+    request: &Request,
+    shard: NodeId,
+    next: u64,
+) -> Result<Plan, AllocError>
+    ensures { IfOk result (λ plan. plan ≡ repeat_plan node worker request.now shard next) }
+{
+    let message = Message::Request {
+        request: request.copy(alloc)?,
+        by: next,
+    };
+    Ok(Plan {
+        change: Change::Stay,
+        send: Outbox::one(alloc, shard, message)?,
+        note: note_of(alloc, node, 0, worker, request, What::Repeat)?,
+    })
+}
+
 /// The worker waits at the shard from now on.
 fn heard_plan(
     alloc: Global,
@@ -191,24 +217,22 @@ pub(crate) fn ignored_plan(
     })
 }
 
-/// The shard hears a request of the worker whose desk this is.
+/// The shard hears a request of the worker of this number, and this comes of it.
 pub(crate) fn request_plan(
     alloc: Global,
     node: NodeId,
-    desk: &Desk,
+    arrival: Arrival<'_>,
     worker: u8,
     request: &Request,
     by: u64,
     next: u64,
 ) -> Result<Plan, AllocError>
-    ensures { IfOk result (λ plan. plan ≡ request_plan node desk.now worker request.now by next) }
+    ensures { IfOk result (λ plan. plan ≡ request_plan node (arrival_view arrival.entry) worker request.now by next) }
 {
-    if desk.newest() < request.number {
-        return heard_plan(alloc, node, worker, request, by);
-    }
-    match desk.kept_answer(request) {
-        Some(answer) => again_plan(alloc, node, worker, request, by, answer, next),
-        None => ignored_plan(alloc, node, worker, request, by, None),
+    match arrival {
+        Arrival::Waits => heard_plan(alloc, node, worker, request, by),
+        Arrival::Again(answer) => again_plan(alloc, node, worker, request, by, answer, next),
+        Arrival::Ignored => ignored_plan(alloc, node, worker, request, by, None),
     }
 }
 
@@ -253,32 +277,44 @@ pub(crate) fn reply_plan(
     }
 }
 
-/// The shard serves the request with which the worker waits.
+/// The shard serves the worker of this number.
 pub(crate) fn service_plan(
     alloc: Global,
     node: NodeId,
     worker: u8,
-    request: &Request,
-    answer: &Answer,
-    bag: BagChange,
+    service: Prepared,
     by: u64,
     next: u64,
 ) -> Result<Plan, AllocError>
-    ensures { IfOk result (λ plan. plan ≡ service_plan node worker request.now answer.now bag by next) }
+    ensures { IfOk result (λ plan. plan ≡ service_plan node worker service by next) }
 {
+    let (message, note) = served(alloc, node, worker, &service, by, next)?;
+    let send = Outbox::one(alloc, NodeId::Worker(worker), message)?;
+    Ok(Plan {
+        change: Change::Serve { worker, service },
+        send,
+        note,
+    })
+}
+
+/// The reply to a service, and its note.
+fn served(
+    alloc: Global,
+    node: NodeId,
+    worker: u8,
+    service: &Prepared,
+    by: u64,
+    next: u64,
+) -> Result<(Message, Option<Note>), AllocError>
+    ensures { IfOk result (λ r. r ≡ (Reply service.now.request service.now.answer next, note_of node by worker service.now.request (Served service.now.answer))) }
+{
+    let (request, answer) = (service.request(), service.answer());
     let message = Message::Reply {
         request: request.copy(alloc)?,
         answer: answer.copy(alloc)?,
         by: next,
     };
-    let kept = Kept {
-        request: request.copy(alloc)?,
-        answer: answer.copy(alloc)?,
-    };
     let what = What::Served(answer.copy(alloc)?);
-    Ok(Plan {
-        change: Change::Serve { worker, bag, kept },
-        send: Outbox::one(alloc, NodeId::Worker(worker), message)?,
-        note: note_of(alloc, node, by, worker, request, what)?,
-    })
+    let note = note_of(alloc, node, by, worker, request, what)?;
+    Ok((message, note))
 }

@@ -3,20 +3,22 @@
 ghost use Rattle.std.specs.Prelude.{◌≡◌, ◌<◌, ◌≤◌, ◌^◌, length, IfOk};
 ghost use Rattle.kt_core.specs.Cause.{hears_worker, cause_of_waiting};
 ghost use Rattle.kt_core.specs.Effect.{next_note, plan_of};
-ghost use Rattle.kt_core.specs.Choice.{answer_of, bag_change_of, IsInBag};
+ghost use Rattle.kt_shard.specs.Views.{choice_view};
 ghost use Rattle.kt_core.specs.Views.{found_view, hearer_view};
-ghost use Rattle.kt_core.specs.Plan.{asks_plan, arrival_plan, service_plan};
-ghost use Rattle.kt_core.specs.Ready.{HearsWell, CanPlan};
+ghost use Rattle.kt_core.specs.Plan.{asks_plan, request_for, home, repeat_plan, arrival_plan, service_plan};
+ghost use Rattle.kt_core.specs.State.{node_number};
 ghost use Rattle.kt_worker.specs.Standing.{next_request, issued};
 
-use crate::choice::{Choice, answer_of, bag_change_of};
 use crate::judge::{Found, Hearer};
-use crate::node::{Message, Request, Shard};
-use crate::plan::{Plan, ignored_plan, issue_plan, reply_plan, request_plan, service_plan};
+use crate::node::Message;
+use crate::plan::{
+    Plan, ignored_plan, issue_plan, repeat_plan, reply_plan, request_plan, service_plan,
+};
 use crate::tables::number_of;
 use kt_history::{Act, History, What};
 use kt_script::Script;
-use kt_tuple::NodeId;
+use kt_shard::{Choice, Request};
+use kt_tuple::{NodeId, Op};
 use kt_worker::Worker;
 use std::alloc::{AllocError, Global};
 
@@ -67,9 +69,37 @@ fn asks_plan(
     let Some((number, op)) = asker.issue(alloc, script)? else {
         return Ok(Plan::empty(alloc));
     };
-    let home = NodeId::Shard(op.signature().shard_of(shards));
+    let home = home_of(shards, &op);
     let request = Request { number, op };
     issue_plan(alloc, node, number_of(node), &request, home, next, asker)
+}
+
+/// The shard that is the home of the operation's tuples.
+fn home_of(shards: u8, op: &Op) -> NodeId
+    requires { 1 ≤ shards }
+    ensures { result ≡ home shards op.now }
+{
+    NodeId::Shard(op.signature().shard_of(shards))
+}
+
+/// The worker asks once more for this.
+fn repetition_plan(
+    alloc: Global,
+    shards: u8,
+    node: NodeId,
+    next: u64,
+    number: u64,
+    op: &Op,
+) -> Result<Plan, AllocError>
+    requires { 1 ≤ shards }
+    ensures { IfOk result (λ plan. plan ≡ repeat_plan node (node_number node) (request_for (number, op.now)) (home shards op.now) next) }
+{
+    let home = home_of(shards, op);
+    let request = Request {
+        number,
+        op: op.copy(alloc)?,
+    };
+    repeat_plan(alloc, node, number_of(node), &request, home, next)
 }
 
 /// The node hears a message from the node with this number among its kind.
@@ -81,7 +111,6 @@ fn arrival_plan(
     message: &Message,
     next: u64,
 ) -> Result<Plan, AllocError>
-    requires { HearsWell sender (hearer_view hearer) }
     ensures { IfOk result (λ plan. plan ≡ arrival_plan node sender (hearer_view hearer.entry) message.now next) }
 {
     match (hearer, message) {
@@ -101,8 +130,8 @@ fn arrival_plan(
             reply_plan(alloc, node, script, worker, number, request, answer, *by)
         }
         (Hearer::Shard(shard), Message::Request { request, by }) => {
-            let desk = &shard.desks[usize::from(sender)];
-            request_plan(alloc, node, desk, sender, request, *by, next)
+            let arrival = shard.arrival(sender, request);
+            request_plan(alloc, node, arrival, sender, request, *by, next)
         }
         (
             Hearer::Shard(_),
@@ -124,19 +153,14 @@ fn serving_plan(
     history: &History,
     node: NodeId,
     worker: u8,
-    shard: &Shard,
-    request: &Request,
-    choice: Choice,
+    choice: Choice<'_>,
 ) -> Result<Plan, AllocError>
-    requires small { length history.now.notes < 2 ^ 63 }
-    requires there { IsInBag shard.now.bag.items choice }
-    ensures { IfOk result (λ plan. plan ≡ service_plan node worker request.now (answer_of shard.now.bag.items choice) (bag_change_of request.now.op choice) (cause_of_waiting history.now.notes node worker) (next_note history.now.notes)) }
+    requires { length history.now.notes < 2 ^ 63 }
+    ensures { IfOk result (λ plan. plan ≡ service_plan node worker (choice_view choice.entry) (cause_of_waiting history.now.notes node worker) (next_note history.now.notes)) }
 {
-    let answer = answer_of(alloc, &shard.bag, choice)?;
-    let bag = bag_change_of(alloc, &request.op, choice)?;
+    let service = choice.prepare(alloc)?;
     let by = cause_of_waiting(history, node, worker);
-    let next = next_note(history);
-    service_plan(alloc, node, worker, request, &answer, bag, by, next)
+    service_plan(alloc, node, worker, service, by, next_note(history))
 }
 
 /// The plan of the node for what was found.
@@ -149,7 +173,6 @@ pub(crate) fn plan_of(
 ) -> Result<Plan, AllocError>
     requires some { 1 ≤ shards }
     requires small { length history.now.notes < 2 ^ 63 }
-    requires can { CanPlan (found_view found) }
     ensures { IfOk result (λ plan. plan ≡ plan_of shards history.now.notes node (found_view found.entry)) }
 {
     match found {
@@ -160,8 +183,9 @@ pub(crate) fn plan_of(
             let next = next_note(history);
             arrival_plan(alloc, node, number_of(from), hearer, message, next)
         }
-        Found::Serves(worker, shard, request, choice) => {
-            serving_plan(alloc, history, node, worker, shard, request, choice)
+        Found::Repeats(number, op) => {
+            repetition_plan(alloc, shards, node, next_note(history), number, op)
         }
+        Found::Serves(worker, choice) => serving_plan(alloc, history, node, worker, choice),
     }
 }

@@ -14,6 +14,10 @@ pub enum Step {
     Issue {
         node: NodeId,
     },
+    /// The worker asks once more what is unanswered.
+    Repeat {
+        node: NodeId,
+    },
     /// The first message of the link between the two nodes is heard.
     Deliver {
         from: NodeId,
@@ -36,7 +40,7 @@ impl Step {
         ensures { result ≡ owner self }
     {
         match self {
-            Step::Issue { node } => node,
+            Step::Issue { node } | Step::Repeat { node } => node,
             Step::Deliver { to, .. } => to,
             Step::Serve { shard, .. } => shard,
         }

@@ -2,7 +2,8 @@
 
 ghost use Rattle.std.specs.Prelude.{◌≡◌, map, None};
 ghost use Rattle.std.specs.Option.{option_copied, option_map};
-ghost use Rattle.kt_core.specs.State.{at, body_of, body_view, row_view, node_number};
+ghost use Rattle.kt_core.specs.State.{body_of, body_view, row_view, node_number};
+ghost use Rattle.kt_shard.specs.Table.{at};
 ghost use Rattle.kt_tuple.specs.Node.{node_index};
 
 use crate::node::{Body, Node};

@@ -1,6 +1,8 @@
-ghost use Rattle.std.specs.Prelude.{◌≡◌, ◌↔◌, IsSome, IfOk, IfErr, OnOk, OnErr, Ok, None, map};
+ghost use Rattle.std.specs.Prelude.{◌≡◌, ◌↔◌, IsSome, IfOk, IfErr, OnOk, OnErr, Ok, Some, None, map};
+ghost use Rattle.kt_core.specs.declared.step.Mode.TheVariants.{Up};
 ghost use Rattle.kt_core.specs.Reached.{mode_of};
-ghost use Rattle.kt_core.specs.State.{at, row_view};
+ghost use Rattle.kt_core.specs.State.{row_view};
+ghost use Rattle.kt_shard.specs.Table.{at};
 ghost use Rattle.kt_tuple.specs.Node.{node_index};
 
 use crate::machine::Machine;
@@ -120,6 +122,7 @@ impl World {
     pub fn mode(&self, id: NodeId) -> Option<Mode>
         ensures value { result ≡ mode_of (node self.now id) }
         ensures there { IsSome result ↔ IsInScene self.now id }
+        ensures up { IsInScene self.now id → result ≡ Some Up }
     {
         mode_at(&self.machine.nodes, id)
     }

@@ -1,5 +1,6 @@
 -- Runs of the space, whose tuples are known up to their order.
-use Rattle.std.proofs.Common.{◌≡◌, ℕ, ◌+◌, ◌<◌, ◌≤◌, Bool, true, false, cond, List, [], ◌∷◌, ◌++◌, take, drop, length, get_or, sum_by, Contains, IsPermutation, sym, refl, ap, ◌∙◌, subst, arith}
+use Rattle.std.proofs.Common.{◌≡◌, ℕ, ◌+◌, ◌<◌, ◌≤◌, Bool, true, false, cond, List, [], ◌∷◌, ◌++◌, take, drop, length, get_or, sum_by, Contains, IsPermutation, Option, Some, None, sym, refl, ap, ◌∙◌, subst, arith}
+use Rattle.std.specs.List.{slice_get}
 use Rattle.std.proofs.lemmas.List.{take_more, drop_more}
 use Rattle.std.proofs.lemmas.List.Sums.{sum_by-cons}
 use Rattle.std.proofs.lemmas.List.Sorted.{IsPermutation-refl, IsPermutation-sym, IsPermutation-trans, IsPermutation-cons, IsPermutation-remove, Contains-permutation, sum_by-IsPermutation}
@@ -11,8 +12,10 @@ use Rattle.kt_tuple.specs.declared.op.Answer.{Answer}
 use Rattle.kt_tuple.specs.declared.op.Answer.TheVariants as answers
 use Rattle.kt_tuple.specs.declared.service.Service.{Service}
 use Rattle.kt_tuple.specs.Op.{tuple_eq, tuple_eq_decides}
-use Rattle.kt_tuple.specs.Matching.{Matches}
+use Rattle.kt_tuple.specs.Matching.{Matches, MatchesOnly}
 use Rattle.kt_tuple.specs.Space.{SpaceStep, RunsFrom}
+use Rattle.kt_space.specs.Picking.{matching, without_match}
+use Rattle.kt_space.proofs.Taken.{takes_out, match_permutes, nothing_matches}
 use Rattle.kt_history.specs.Run.{CanStep, IsThere, TakesOut}
 use Rattle.kt_history.proofs.Lists.{Contains-here, Contains-there}
 
@@ -128,6 +131,15 @@ pub SpaceStep-rdp : (old : List Tuple) (t : Template) (answer : Answer) → CanS
 SpaceStep-rdp old t answers.Done can = can.1
 SpaceStep-rdp old t (answers.Got u) can = (can.1.0, can.1.1, IsPermutation-refl old)
 SpaceStep-rdp old t answers.None can = (can.1.0, IsPermutation-refl old)
+
+-- the first match of a template that fits one tuple alone is that tuple
+pub first_match-only : (t : Template) (u : Tuple) (old : List Tuple) → MatchesOnly t u → Contains old u → IsPermutation old (u ∷ without_match t 0 old)
+first_match-only t u old only there = go (slice_get (matching t old) 0) refl where
+  go : (first : Option Tuple) → slice_get (matching t old) 0 ≡ first → IsPermutation old (u ∷ without_match t 0 old)
+  go (Some v) e =
+      let P : Tuple → Type 0 = λ w. IsPermutation old (w ∷ without_match t 0 old) in
+      subst P ((only v).0 (takes_out t 0 old v e).fits) (match_permutes t 0 old v e)
+  go None e = absurd (nothing_matches t old e u there ((only u).1 refl))
 
 withdrawn_there : (old : List Tuple) (u : Tuple) (new : List Tuple) → IsPermutation old (u ∷ new) → Contains old u
 withdrawn_there old u new p = Contains-permutation (u ∷ new) old u (IsPermutation-sym old (u ∷ new) p) (Contains-here u new)

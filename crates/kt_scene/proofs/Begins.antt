@@ -11,7 +11,7 @@ use Rattle.kt_scene.specs.Lines.{Sketch, nothing_read, is_ended, line_read}
 use Rattle.kt_scene.specs.Reading.{Play, steps_of, play_with}
 use Rattle.kt_scene.specs.Text.{script_lines, told_lines}
 use Rattle.kt_scene.specs.Scenario.{IsCommand, IsStep, IsPlay, is_told}
-use Rattle.kt_scene.specs.Faults.{Begin, play_of_scripts}
+use Rattle.kt_scene.specs.Faults.{AreShards, Begin, play_of_scripts}
 use Rattle.kt_scene.proofs.Feeding.{LeadOn, leads_append}
 use Rattle.kt_scene.proofs.Told.{head_lines, told_at, IsGood, place_at, scripts_push}
 use Rattle.kt_scene.proofs.ReadLaws.{play_kept}
@@ -37,7 +37,7 @@ leads_split (x ∷ xs) ys s t h =
 -- the first lines of a scenario are read
 pub begin_leads : (lines : List (List ℕ)) → Begin lines → (u : Sketch) × LeadOn nothing_read lines u
 begin_leads lines h =
-    let s = among_steps h.play.cast.scripts (steps_of h.play.work) in
+    let s = among_steps h.play.cast.shards h.play.cast.scripts (steps_of h.play.work) in
     let Of : List (List ℕ) → Type 0 = λ l. LeadOn nothing_read l s in
     let body = with_ignored h.body nothing_read s refl (subst Of (sym h.told) (told_lead h.play h.rules)) in
     let all = leads_append nothing_read h.body (codes "end" ∷ []) s (at_end h.play) body (at_end h.play, refl, refl) in
@@ -55,25 +55,22 @@ never_begin before line s fault leads e h =
     absurd cc
 
 -- the scenario of these scripts, the last of them open, and no steps
-pub script_rules : (s : Sketch) → s.stage ≡ stages.Commands → IsGood s → IsPlay (play_of_scripts (s.scripts ++ s.commands ∷ []) [])
+pub script_rules : (s : Sketch) → s.stage ≡ stages.Commands → IsGood s → IsPlay (play_of_scripts s.shards (s.scripts ++ s.commands ∷ []) [])
 script_rules s is h =
     let at = place_at stages.Commands s is h in
     let count : length (s.scripts ++ s.commands ∷ []) ≡ length s.scripts + 1 = length-append s.scripts (s.commands ∷ []) in
     record {
-      cast = record { some_shards = omega arith; few_shards = omega arith; some_workers = omega (arith, count); few_workers = omega (arith, count, at.2) };
-      shards = refl;
+      cast = record { some_shards = at.1.0; few_shards = at.1.1; some_workers = omega (arith, count); few_workers = omega (arith, count, at.2) };
       scripts = All-push IsScript s.scripts s.commands h.scripts h.script;
       commands = All-push (All IsCommand) s.scripts s.commands h.held h.commands;
       work = All-nil IsStep;
     }
 
-pub script_told : (s : Sketch) → s.stage ≡ stages.Commands → IsGood s → told_lines (play_of_scripts (s.scripts ++ s.commands ∷ []) []) ≡ told_at stages.Commands s ++ codes "steps" ∷ []
+pub script_told : (s : Sketch) → s.stage ≡ stages.Commands → IsGood s → told_lines (play_of_scripts s.shards (s.scripts ++ s.commands ∷ []) []) ≡ told_at stages.Commands s ++ codes "steps" ∷ []
 script_told s is h =
-    let at = place_at stages.Commands s is h in
     let tail : flat_map script_lines (s.scripts ++ s.commands ∷ []) ++ codes "steps" ∷ [] ≡ (flat_map script_lines s.scripts ++ script_lines s.commands) ++ codes "steps" ∷ [] =
     ap (λ (l : List (List ℕ)). l ++ codes "steps" ∷ []) (scripts_push s.scripts s.commands) in
-    ap (λ (l : List (List ℕ)). head_lines 1 ++ l) tail
-    ∙ ap (λ (n : ℕ). (head_lines n ++ (flat_map script_lines s.scripts ++ script_lines s.commands)) ++ codes "steps" ∷ []) (sym at.1)
+    ap (λ (l : List (List ℕ)). head_lines s.shards ++ l) tail
 
 -- a scenario that goes on as the sketch begins
 record Completes (s : Sketch) (lines : List (List ℕ)) : Type 0 where
@@ -84,27 +81,25 @@ record Completes (s : Sketch) (lines : List (List ℕ)) : Type 0 where
   are : told_lines play ≡ lines ++ more
 
 -- a worker without commands
-abbrev least : Play
-least = play_of_scripts ([] ∷ []) []
+abbrev least : ℕ → Play
+least shards = play_of_scripts shards ([] ∷ []) []
 
-least_rules : IsPlay least
-least_rules = record {
-  cast = record { some_shards = omega arith; few_shards = omega arith; some_workers = omega arith; few_workers = omega arith };
-  shards = refl;
+least_rules : (shards : ℕ) → AreShards shards → IsPlay (least shards)
+least_rules shards are = record {
+  cast = record { some_shards = are.0; few_shards = are.1; some_workers = omega arith; few_workers = omega arith };
   scripts = All-cons IsScript [] [] tt (All-nil IsScript);
   commands = All-cons (All IsCommand) [] [] (All-nil IsCommand) (All-nil (All IsCommand));
   work = All-nil IsStep;
 }
 
 by_stage : (stage : Stage) (s : Sketch) → s.stage ≡ stage → IsGood s → is_ended stage ≡ false → Completes s (told_at stage s)
-by_stage stages.Title s is h on = record { play = least; rules = least_rules; more = told_lines least; plain = refl; are = refl }
-by_stage stages.Shards s is h on = record { play = least; rules = least_rules; more = (codes "shards " ++ decimal 1) ∷ codes "worker" ∷ codes "steps" ∷ []; plain = refl; are = refl }
+by_stage stages.Title s is h on = record { play = least 1; rules = least_rules 1 (omega arith, omega arith); more = told_lines (least 1); plain = refl; are = refl }
+by_stage stages.Shards s is h on = record { play = least 1; rules = least_rules 1 (omega arith, omega arith); more = (codes "shards " ++ decimal 1) ∷ codes "worker" ∷ codes "steps" ∷ []; plain = refl; are = refl }
 by_stage stages.Workers s is h on =
     let at = place_at stages.Workers s is h in
-    let lines : head_lines 1 ++ codes "worker" ∷ codes "steps" ∷ [] ≡ head_lines s.shards ++ codes "worker" ∷ codes "steps" ∷ [] = ap (λ (n : ℕ). head_lines n ++ codes "worker" ∷ codes "steps" ∷ []) (sym at.1) in
-    record { play = least; rules = least_rules; more = codes "worker" ∷ codes "steps" ∷ []; plain = refl; are = lines }
+    record { play = least s.shards; rules = least_rules s.shards at.0; more = codes "worker" ∷ codes "steps" ∷ []; plain = refl; are = refl }
 by_stage stages.Commands s is h on = record {
-  play = play_of_scripts (s.scripts ++ s.commands ∷ []) [];
+  play = play_of_scripts s.shards (s.scripts ++ s.commands ∷ []) [];
   rules = script_rules s is h;
   more = codes "steps" ∷ [];
   plain = refl;

@@ -21,17 +21,16 @@ use Rattle.kt_scene.specs.Lines.{Sketch, nothing_read, is_word, is_ignored, is_e
 use Rattle.kt_scene.specs.Reading.{play_with}
 use Rattle.kt_scene.specs.Text.{step_text, told_lines}
 use Rattle.kt_scene.specs.Scenario.{IsStep, IsPlay, is_told}
-use Rattle.kt_scene.specs.Faults.{HasVerb, Spells, SpellsShards, IsInScript, IsInSteps, IsWhole, title_line, one_shard, IsNoHeader, no_title, no_shards, no_worker, no_command, no_step, no_tuple, breaks_rules, PassesLimit, many_shards, many_workers, many_commands, many_variables, outside, HasLowest}
+use Rattle.kt_scene.specs.Faults.{HasVerb, Spells, SpellsShards, IsInScript, IsInSteps, IsWhole, title_line, AreShards, IsHead, IsNoHeader, no_title, no_shards, no_worker, no_command, no_step, no_tuple, breaks_rules, PassesLimit, shards_outside, many_workers, many_commands, many_variables, outside, HasLowest}
 use Rattle.kt_scene.proofs.Feeding.{LeadOn}
 use Rattle.kt_scene.proofs.Words.{word_is}
 use Rattle.kt_scene.proofs.StepsRead.{step_read}
-use Rattle.kt_scene.proofs.Told.{head_lines, told_at, IsGood, place_at}
+use Rattle.kt_scene.proofs.Told.{told_at, IsGood, place_at}
 use Rattle.kt_scene.proofs.ReadLaws.{play_kept}
 use Rattle.kt_scene.proofs.NumberShapes.{shards_fault}
 use Rattle.kt_scene.proofs.CommandShapes.{ReadsAs, read_shape, unread_shape}
 use Rattle.kt_scene.proofs.Reached.{IsTold, unended, whole}
 use Rattle.kt_scene.proofs.Begins.{script_rules, script_told}
-use Rattle.kt_scene.proofs.Positions.{head_is}
 use Rattle.kt_scene.proofs.Lowest.{from_header, from_word, from_tuple, from_variable, from_limit, from_end, no_header, no_word, no_tuple_there, breaks_rules_there, at_shards_low, behind_low, at_end_low}
 
 -- a word is read as itself
@@ -68,7 +67,7 @@ module _ (before : List (List ℕ)) (line : List ℕ) (s : Sketch) (leads : Lead
   title_fault fault is e = title_by_test (is_word line title_line) fault is refl e
 
   shards_by_kind : (fault : SceneError) → s.stage ≡ stages.Shards
-      → ((fault ≡ faults.Header) × ((n : ℕ) → ¬ SpellsShards line n)) ⊎ ((fault ≡ faults.Limit) × (n : ℕ) × SpellsShards line n × (n ≢ 1)) → HasLowest before line fault
+      → ((fault ≡ faults.Header) × ((n : ℕ) → ¬ SpellsShards line n)) ⊎ ((fault ≡ faults.Limit) × (n : ℕ) × SpellsShards line n × (¬ AreShards n)) → HasLowest before line fault
   shards_by_kind fault is (inl kind) =
       let P : SceneError → Type 0 = HasLowest before line in
       subst P (sym kind.0) (record { has = no_shards (lines_at stages.Shards is) kind.1; lowest = from_header before line })
@@ -76,7 +75,7 @@ module _ (before : List (List ℕ)) (line : List ℕ) (s : Sketch) (leads : Lead
       let P : SceneError → Type 0 = HasLowest before line in
       let low = at_shards_low before line s leads is in
       subst P (sym kind.0) (record {
-        has = many_shards kind.1 (lines_at stages.Shards is) kind.2 kind.3;
+        has = shards_outside kind.1 (lines_at stages.Shards is) kind.2 kind.3;
         lowest = from_limit before line by low.0 low.1 low.2;
       })
     where
@@ -97,7 +96,7 @@ module _ (before : List (List ℕ)) (line : List ℕ) (s : Sketch) (leads : Lead
   worker_by_test false fault is test e =
       let same : faults.Word ≡ fault = cc in
       let P : SceneError → Type 0 = HasLowest before line in
-      let head : before ≡ title_line ∷ one_shard ∷ [] = lines_at stages.Workers is ∙ ap head_lines (place_at stages.Workers s is h).1 ∙ ap (λ (l : List ℕ). title_line ∷ l ∷ []) head_is in
+      let head : IsHead before = (s.shards, (place_at stages.Workers s is h).0, lines_at stages.Workers is) in
       subst P same (record { has = no_worker head (other_word line (codes "worker") refl test); lowest = from_word before line (behind_low before line s leads (inl is)) })
 
   step_by_read : (r : Option Step) (fault : SceneError) → s.stage ≡ stages.Steps → is_word line (codes "end") ≡ false → step_of line ≡ r → with_step s r ≡ Err fault → HasLowest before line fault
@@ -118,7 +117,7 @@ module _ (before : List (List ℕ)) (line : List ℕ) (s : Sketch) (leads : Lead
   steps_by_test false fault is test e = step_by_read (step_of line) fault is test refl e
 
   there : s.stage ≡ stages.Commands → IsInScript before s.scripts s.commands
-  there is = record { rules = script_rules s is h; are = script_told s is h ∙ ap (λ (l : List (List ℕ)). l ++ codes "steps" ∷ []) (sym (lines_at stages.Commands is)) }
+  there is = record { shards = s.shards; rules = script_rules s is h; are = script_told s is h ∙ ap (λ (l : List (List ℕ)). l ++ codes "steps" ∷ []) (sym (lines_at stages.Commands is)) }
 
   -- a command that no rule forbids but those of the limits
   module _ (is : s.stage ≡ stages.Commands) (spelled : Spelled) (read : spelled_of line ≡ Ok spelled) (command : Command) (is_line : Spells line command) (reads : ReadsAs command spelled) where

@@ -11,7 +11,7 @@ use Rattle.kt_scene.specs.declared.draft.Stage.TheVariants as stages
 use Rattle.kt_scene.specs.Fault.{fault_number}
 use Rattle.kt_scene.specs.Commands.{spelled_of}
 use Rattle.kt_scene.specs.Lines.{Sketch, nothing_read}
-use Rattle.kt_scene.specs.Faults.{HasVerb, Spells, IsNoHeader, no_title, no_shards, IsNoWord, no_worker, no_command, no_step, IsNoTuple, no_tuple, BreaksVariableRules, breaks_rules, PassesLimit, many_shards, many_workers, many_commands, many_variables, outside, HasFault}
+use Rattle.kt_scene.specs.Faults.{HasVerb, Spells, IsNoHeader, no_title, no_shards, IsNoWord, no_worker, no_command, no_step, IsNoTuple, no_tuple, BreaksVariableRules, breaks_rules, PassesLimit, shards_outside, many_workers, many_commands, many_variables, outside, HasFault}
 use Rattle.kt_scene.proofs.Feeding.{LeadOn}
 use Rattle.kt_scene.proofs.CommandShapes.{shape_read}
 use Rattle.kt_scene.proofs.Positions.{at_title, behind_title, behind_head, in_steps, in_script}
@@ -96,7 +96,7 @@ module _ (told : List (List ℕ)) (line : List ℕ) (s : Sketch) (leads : LeadOn
   variable_stage (breaks_rules scripts commands command is spelled broken) = (in_script told s leads scripts commands is).0
 
   pub limit_stage : PassesLimit told line → (s.stage ≡ stages.Shards) ⊎ (s.stage ≡ stages.Commands)
-  limit_stage (many_shards n is spelled other) = inl (behind_title told s leads is)
+  limit_stage (shards_outside n is spelled other) = inl (behind_title told s leads is)
   limit_stage (many_workers scripts commands is word many) = inr (in_script told s leads scripts commands is).0
   limit_stage (many_commands scripts commands command is spelled many) = inr (in_script told s leads scripts commands is).0
   limit_stage (many_variables scripts commands command is spelled many) = inr (in_script told s leads scripts commands is).0

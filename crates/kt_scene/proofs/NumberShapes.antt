@@ -1,6 +1,6 @@
 -- A number that is read has the shape of one, and each number of this shape is read, whatever its size.
-use Rattle.std.proofs.Common.{◌≡◌, ◌≢◌, ℕ, ◌^◌, ◌≤◌, ◌⊎◌, inl, inr, Bool, true, false, cond, eqb, ltb, leb, List, [], ◌∷◌, ◌++◌, Option, Some, None, Result, Ok, Err, refl, sym, ap, subst, ◌∙◌, append-nil, arith}
-use Rattle.std.proofs.lemmas.Bool.{ne_eqb, eqb-false, ltb-true, ltb-false, le-leb, and_from}
+use Rattle.std.proofs.Common.{◌≡◌, ℕ, ◌^◌, ◌≤◌, ◌⊎◌, inl, inr, Bool, true, false, cond, ◌&&◌, eqb, ltb, leb, List, [], ◌∷◌, ◌++◌, Option, Some, None, Result, Ok, Err, refl, sym, ap, subst, ◌∙◌, append-nil, arith}
+use Rattle.std.proofs.lemmas.Bool.{ne_eqb, ltb-true, ltb-false, le-leb, and_from}
 use Rattle.std.specs.Prelude.{ℤ, pos, codes, nat_abs, is_some}
 use Rattle.std.specs.Char.{is_ascii_digit}
 use Rattle.std.specs.Int.{w64}
@@ -16,7 +16,7 @@ use Rattle.kt_scene.specs.declared.fault.SceneError.{SceneError}
 use Rattle.kt_scene.specs.declared.fault.SceneError.TheVariants as faults
 use Rattle.kt_scene.specs.Number.{◌>>=◌, behind, ended, number_of, number_at}
 use Rattle.kt_scene.specs.Lines.{shards_from, count_of, shards_of}
-use Rattle.kt_scene.specs.Faults.{IsNumber, just_zero as only_zero, positive as digits, SpellsShards}
+use Rattle.kt_scene.specs.Faults.{IsNumber, just_zero as only_zero, positive as digits, SpellsShards, AreShards}
 use Rattle.kt_scene.proofs.NumberLaws.{both_read, mapped, ended_read, behind_taken}
 use Rattle.kt_scene.proofs.NumbersRead.{number_at_digit}
 
@@ -145,11 +145,19 @@ shape_count line n (p, is, value, parts) = (option_map nat_abs (int_of p), ap co
 
 -- a fault of the line of the shards
 abbrev IsShardsFault : List ℕ → SceneError → Type 0
-IsShardsFault line fault = ((fault ≡ faults.Header) × ((n : ℕ) → ¬ SpellsShards line n)) ⊎ ((fault ≡ faults.Limit) × (n : ℕ) × SpellsShards line n × (n ≢ 1))
+IsShardsFault line fault = ((fault ≡ faults.Header) × ((n : ℕ) → ¬ SpellsShards line n)) ⊎ ((fault ≡ faults.Limit) × (n : ℕ) × SpellsShards line n × (¬ AreShards n))
 
-one_by_test : (b : Bool) (line : List ℕ) (fault : SceneError) (n : ℕ) → HasCount line (Some n) → eqb n 1 ≡ b → cond {A = Result ℕ SceneError} b (Ok 1) (Err faults.Limit) ≡ Err fault → IsShardsFault line fault
-one_by_test true line fault n h test e = absurd cc
-one_by_test false line fault n h test e = inr (cc, n, (h.number, h.is, number_known h.number n h.is h.known, h.parts), eqb-false n 1 test)
+not_few : (n : ℕ) → (leb 1 n && leb n 8) ≡ false → ¬ AreShards n
+not_few n test are =
+    let fits : (leb 1 n && leb n 8) ≡ true = and_from (leb 1 n) (leb n 8) (le-leb 1 n are.0) (le-leb n 8 are.1) in
+    absurd cc
+
+not_so_many : (n : ℕ) → 2 ^ 63 ≤ n → ¬ AreShards n
+not_so_many n much are = omega (arith, much, are.1)
+
+few_by_test : (b : Bool) (line : List ℕ) (fault : SceneError) (n : ℕ) → HasCount line (Some n) → (leb 1 n && leb n 8) ≡ b → cond {A = Result ℕ SceneError} b (Ok n) (Err faults.Limit) ≡ Err fault → IsShardsFault line fault
+few_by_test true line fault n h test e = absurd cc
+few_by_test false line fault n h test e = inr (cc, n, (h.number, h.is, number_known h.number n h.is h.known, h.parts), not_few n test)
 
 fault_by_count : (count : Option (Option ℕ)) (line : List ℕ) (fault : SceneError) → count_of line ≡ count → shards_from count ≡ Err fault → IsShardsFault line fault
 fault_by_count None line fault is e = inl (
@@ -162,10 +170,10 @@ fault_by_count None line fault is e = inl (
 fault_by_count (Some None) line fault is e =
     let h = count_shape line None is in
     let much = number_huge h.number h.is h.known in
-    inr (cc, digits_value 10 h.number, (h.number, h.is, refl, h.parts), λ one. omega (arith, much, one))
-fault_by_count (Some (Some n)) line fault is e = one_by_test (eqb n 1) line fault n (count_shape line (Some n) is) refl e
+    inr (cc, digits_value 10 h.number, (h.number, h.is, refl, h.parts), not_so_many (digits_value 10 h.number) much)
+fault_by_count (Some (Some n)) line fault is e = few_by_test (leb 1 n && leb n 8) line fault n (count_shape line (Some n) is) refl e
 
--- the line of the shards is refused where it spells no number, and where the number is not 1
+-- the line of the shards is refused where it spells no number, and where the number is not from 1 to 8
 pub shards_fault : (line : List ℕ) (fault : SceneError) → shards_of line ≡ Err fault
-    → ((fault ≡ faults.Header) × ((n : ℕ) → ¬ SpellsShards line n)) ⊎ ((fault ≡ faults.Limit) × (n : ℕ) × SpellsShards line n × (n ≢ 1))
+    → ((fault ≡ faults.Header) × ((n : ℕ) → ¬ SpellsShards line n)) ⊎ ((fault ≡ faults.Limit) × (n : ℕ) × SpellsShards line n × (¬ AreShards n))
 shards_fault line fault e = fault_by_count (count_of line) line fault refl e

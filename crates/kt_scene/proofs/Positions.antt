@@ -1,6 +1,5 @@
 -- Where the lines that were told end is told by the sketch that they lead to.
 use Rattle.std.proofs.Common.{◌≡◌, ℕ, Bool, true, false, not, cond, List, [], ◌∷◌, ◌++◌, length, Ok, refl, sym, ap, subst, ◌∙◌, arith, length-append}
-use Rattle.std.proofs.lemmas.Fmt.{decimal_digit}
 use Rattle.std.specs.Prelude.{codes, decimal, filter}
 use Rattle.kt_script.specs.declared.command.Command.{Command}
 use Rattle.kt_scene.specs.declared.draft.Stage.{Stage}
@@ -9,7 +8,7 @@ use Rattle.kt_scene.specs.Lines.{Sketch, nothing_read, is_ignored, is_ended, clo
 use Rattle.kt_scene.specs.Reading.{steps_of}
 use Rattle.kt_scene.specs.Text.{told_lines}
 use Rattle.kt_scene.specs.Scenario.{is_told}
-use Rattle.kt_scene.specs.Faults.{play_of_scripts, IsInScript, IsInSteps, IsWhole, title_line, one_shard}
+use Rattle.kt_scene.specs.Faults.{play_of_scripts, IsInScript, IsInSteps, IsWhole, title_line, IsHead}
 use Rattle.kt_scene.proofs.Feeding.{LeadOn, leads_append}
 use Rattle.kt_scene.proofs.LinesRead.{among_steps, at_shards, at_workers, shards_line}
 use Rattle.kt_scene.proofs.ScenarioRead.{at_end, told_lead}
@@ -45,29 +44,26 @@ push_parts {A} (a ∷ xs) (b ∷ ys) x y e =
     (cc, more.1)
 
 -- only within a script may the line before the steps follow
-steps_follow : (stage : Stage) (s : Sketch) (scripts : List (List Command)) → s.stage ≡ stage → line_read s (codes "steps") ≡ Ok (among_steps scripts []) → (s.stage ≡ stages.Commands) × (s.scripts ++ s.commands ∷ [] ≡ scripts)
-steps_follow stages.Title s scripts is e =
+steps_follow : (stage : Stage) (s : Sketch) (shards : ℕ) (scripts : List (List Command)) → s.stage ≡ stage → line_read s (codes "steps") ≡ Ok (among_steps shards scripts []) → (s.stage ≡ stages.Commands) × (s.scripts ++ s.commands ∷ [] ≡ scripts)
+steps_follow stages.Title s shards scripts is e =
     let never = rw is at e in
     absurd cc
-steps_follow stages.Shards s scripts is e =
+steps_follow stages.Shards s shards scripts is e =
     let never = rw is at e in
     absurd cc
-steps_follow stages.Workers s scripts is e =
+steps_follow stages.Workers s shards scripts is e =
     let never = rw is at e in
     absurd cc
-steps_follow stages.Commands s scripts is e =
+steps_follow stages.Commands s shards scripts is e =
     let read = rw is at e in
-    let same : closed stages.Steps s ≡ among_steps scripts [] = cc in
+    let same : closed stages.Steps s ≡ among_steps shards scripts [] = cc in
     (is, ap (λ (x : Sketch). x.scripts) same)
-steps_follow stages.Steps s scripts is e =
+steps_follow stages.Steps s shards scripts is e =
     let never = rw is at e in
     absurd cc
-steps_follow stages.Ended s scripts is e =
+steps_follow stages.Ended s shards scripts is e =
     let never = rw is at e in
     absurd cc
-
-pub head_is : codes "shards " ++ decimal 1 ≡ one_shard
-head_is = ap (λ (t : List ℕ). codes "shards " ++ t) (decimal_digit 1 (omega arith))
 
 module _ (told : List (List ℕ)) (s : Sketch) (leads : LeadOn nothing_read told s) where
   leads_to : (lines : List (List ℕ)) (t : Sketch) → told ≡ lines → LeadOn nothing_read lines t → s ≡ t
@@ -79,26 +75,25 @@ module _ (told : List (List ℕ)) (s : Sketch) (leads : LeadOn nothing_read told
   pub behind_title : told ≡ title_line ∷ [] → s.stage ≡ stages.Shards
   behind_title is = ap (λ (x : Sketch). x.stage) (leads_to (title_line ∷ []) at_shards is (at_shards, refl, refl))
 
-  pub behind_head : told ≡ title_line ∷ one_shard ∷ [] → s.stage ≡ stages.Workers
-  behind_head is =
-      let read : line_read at_shards one_shard ≡ Ok at_workers = ap (line_read at_shards) (sym head_is) ∙ shards_line in
-      ap (λ (x : Sketch). x.stage) (leads_to (title_line ∷ one_shard ∷ []) at_workers is (at_shards, refl, (at_workers, read, refl)))
+  pub behind_head : IsHead told → s.stage ≡ stages.Workers
+  behind_head (n, are, is) =
+      ap (λ (x : Sketch). x.stage) (leads_to (title_line ∷ (codes "shards " ++ decimal n) ∷ []) (at_workers n) is (at_shards, refl, (at_workers n, shards_line n are.0 are.1, refl)))
 
   pub in_steps : IsInSteps told → s.stage ≡ stages.Steps
-  in_steps h = ap (λ (x : Sketch). x.stage) (leads_to (told_lines h.play) (among_steps h.play.cast.scripts (steps_of h.play.work)) (sym h.are) (told_lead h.play h.rules))
+  in_steps h = ap (λ (x : Sketch). x.stage) (leads_to (told_lines h.play) (among_steps h.play.cast.shards h.play.cast.scripts (steps_of h.play.work)) (sym h.are) (told_lead h.play h.rules))
 
   pub at_whole : IsWhole told → s.stage ≡ stages.Ended
   at_whole h =
-      let all = leads_append nothing_read (told_lines h.play) (codes "end" ∷ []) (among_steps h.play.cast.scripts (steps_of h.play.work)) (at_end h.play) (told_lead h.play h.rules) (at_end h.play, refl, refl) in
+      let all = leads_append nothing_read (told_lines h.play) (codes "end" ∷ []) (among_steps h.play.cast.shards h.play.cast.scripts (steps_of h.play.work)) (at_end h.play) (told_lead h.play h.rules) (at_end h.play, refl, refl) in
       ap (λ (x : Sketch). x.stage) (leads_to (told_lines h.play ++ codes "end" ∷ []) (at_end h.play) (sym h.are) all)
 
   pub in_script : (scripts : List (List Command)) (commands : List Command) → IsInScript told scripts commands → (s.stage ≡ stages.Commands) × (s.scripts ≡ scripts) × (s.commands ≡ commands)
   in_script scripts commands h =
-      let t = among_steps (scripts ++ commands ∷ []) [] in
+      let t = among_steps h.shards (scripts ++ commands ∷ []) [] in
       let To : List (List ℕ) → Type 0 = λ l. LeadOn nothing_read l t in
-      let parts = leads_split told (codes "steps" ∷ []) nothing_read t (subst To h.are (told_lead (play_of_scripts (scripts ++ commands ∷ []) []) h.rules)) in
+      let parts = leads_split told (codes "steps" ∷ []) nothing_read t (subst To h.are (told_lead (play_of_scripts h.shards (scripts ++ commands ∷ []) []) h.rules)) in
       let same = leads_once told nothing_read parts.0 s parts.1 leads in
       let read : line_read parts.0 (codes "steps") ≡ Ok t = parts.2.1 ∙ ap (λ (x : Sketch). Ok x) (sym parts.2.2) in
-      let follow = steps_follow s.stage s (scripts ++ commands ∷ []) refl (subst (λ (x : Sketch). line_read x (codes "steps") ≡ Ok t) same read) in
+      let follow = steps_follow s.stage s h.shards (scripts ++ commands ∷ []) refl (subst (λ (x : Sketch). line_read x (codes "steps") ≡ Ok t) same read) in
       let both = push_parts s.scripts scripts s.commands commands follow.1 in
       (follow.0, both.0, both.1)

@@ -1,5 +1,5 @@
 -- What a text is read as is the scenario that it spells.
-use Rattle.std.proofs.Common.{◌≡◌, ℕ, ◌≤◌, Bool, true, false, cond, ltb, List, [], ◌∷◌, ◌++◌, length, Result, Ok, Err, refl, sym, ap, subst, ◌∙◌, append_assoc, append-nil, arith}
+use Rattle.std.proofs.Common.{◌≡◌, ℕ, ◌≤◌, Bool, true, false, cond, ltb, List, [], ◌∷◌, ◌++◌, length, Result, Ok, Err, refl, sym, ap, subst, ◌∙◌, append_assoc, append-nil}
 use Rattle.std.proofs.lemmas.Bool.{ltb-false}
 use Rattle.std.proofs.lemmas.List.Elements.{All-nil, All-cons, All-head, All-tail, filter-append}
 use Rattle.std.specs.Prelude.{codes, All, filter}
@@ -34,8 +34,7 @@ pub play_kept : (s : Sketch) → s.stage ≡ stages.Steps → IsGood s → IsPla
 play_kept s is h =
     let at = place_at stages.Steps s is h in
     record {
-      cast = record { some_shards = omega (arith, at.0); few_shards = omega (arith, at.0); some_workers = at.1; few_workers = at.2 };
-      shards = at.0;
+      cast = record { some_shards = at.0.0; few_shards = at.0.1; some_workers = at.1; few_workers = at.2 };
       scripts = h.scripts;
       commands = h.held;
       work = h.steps;

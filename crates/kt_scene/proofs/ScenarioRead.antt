@@ -38,7 +38,7 @@ with_ignored (line ∷ later) s t on h = ignored_by_test (is_ignored line) s t l
 
 -- the end of a scenario was read
 abbrev pub at_end : Play → Sketch
-at_end play = record { stage = stages.Ended; shards = 1; scripts = play.cast.scripts; commands = []; steps = steps_of play.work }
+at_end play = record { stage = stages.Ended; shards = play.cast.shards; scripts = play.cast.scripts; commands = []; steps = steps_of play.work }
 
 -- work is its steps
 pub work_is : (work : Work) → Steps (steps_of work) ≡ work
@@ -47,14 +47,14 @@ work_is (Steps steps) = refl
 pub work_steps : (work : Work) → IsWork work → All IsStep (steps_of work)
 work_steps (Steps steps) h = h
 
-pub told_lead : (play : Play) → IsPlay play → LeadOn nothing_read (told_lines play) (among_steps play.cast.scripts (steps_of play.work))
+pub told_lead : (play : Play) → IsPlay play → LeadOn nothing_read (told_lines play) (among_steps play.cast.shards play.cast.scripts (steps_of play.work))
 told_lead play rules =
     let steps = steps_of play.work in
-    let told : ℕ → Work → List (List ℕ) = λ n w. codes "linda-kt 1" ∷ (codes "shards " ++ decimal n) ∷ (flat_map script_lines play.cast.scripts ++ work_lines w) in
-    let Of : ℕ → Type 0 = λ n. LeadOn nothing_read (told n (Steps steps)) (among_steps play.cast.scripts steps) in
-    let By : Work → Type 0 = λ w. LeadOn nothing_read (told play.cast.shards w) (among_steps play.cast.scripts steps) in
-    let all = all_lead play.cast.scripts steps rules.cast.some_workers rules.cast.few_workers rules.scripts rules.commands (work_steps play.work rules.work) in
-    subst By (work_is play.work) (subst Of (sym rules.shards) all)
+    let shards = play.cast.shards in
+    let told : Work → List (List ℕ) = λ w. codes "linda-kt 1" ∷ (codes "shards " ++ decimal shards) ∷ (flat_map script_lines play.cast.scripts ++ work_lines w) in
+    let By : Work → Type 0 = λ w. LeadOn nothing_read (told w) (among_steps shards play.cast.scripts steps) in
+    let cast = rules.cast in
+    subst By (work_is play.work) (all_lead shards play.cast.scripts steps cast.some_shards cast.few_shards cast.some_workers cast.few_workers rules.scripts rules.commands (work_steps play.work rules.work))
 
 pub end_is_line : IsLine (codes "end")
 end_is_line =
@@ -63,7 +63,7 @@ end_is_line =
 
 lines_read : (text : List ℕ) (play : Play) (h : IsScenario text play) → read_from nothing_read 1 (lines_of text).0 (lines_of text).1 ≡ Ok (at_end play)
 lines_read text play h =
-    let s = among_steps play.cast.scripts (steps_of play.work) in
+    let s = among_steps play.cast.shards play.cast.scripts (steps_of play.work) in
     let Of : List (List ℕ) → Type 0 = λ l. LeadOn nothing_read l s in
     let before = with_ignored h.lines nothing_read s refl (subst Of (sym h.told) (told_lead play h.rules)) in
     let all = leads_append nothing_read h.lines (codes "end" ∷ []) s (at_end play) before (at_end play, refl, refl) in
@@ -74,7 +74,5 @@ lines_read text play h =
 pub spelled_is_read : (text : List ℕ) (play : Play) → IsScenario text play → play_of text ≡ Ok play
 spelled_is_read text play h =
     let fits : ltb 1048576 (length text) ≡ false = le-ltb 1048576 (length text) h.short in
-    let same : play_with (at_end play) ≡ play =
-    ap (λ (n : ℕ). record { cast = record { shards = n; scripts = play.cast.scripts }; work = Steps (steps_of play.work) }) (sym h.rules.shards)
-    ∙ ap (λ (w : Work). record { cast = play.cast; work = w }) (work_is play.work) in
+    let same : play_with (at_end play) ≡ play = ap (λ (w : Work). record { cast = play.cast; work = w }) (work_is play.work) in
     rw (fits, lines_read text play h) (ap (λ (p : Play). Ok p) same)

@@ -6,9 +6,9 @@ use Rattle.std.specs.Option.{option_map}
 use Rattle.kt_tuple.specs.declared.node.NodeId.{NodeId}
 use Rattle.kt_tuple.specs.declared.node.NodeId.TheVariants as nodes
 use Rattle.kt_core.specs.declared.step.Step.{Step}
-use Rattle.kt_core.specs.declared.step.Step.TheVariants.{Issue, Deliver, Serve}
+use Rattle.kt_core.specs.declared.step.Step.TheVariants.{Issue, Repeat, Deliver, Serve}
 use Rattle.kt_scene.specs.Number.{◌>>=◌, behind, ended, number_within}
-use Rattle.kt_scene.specs.Steps.{node_at, node_before_space, issue_of, deliver_of, serve_of, step_of}
+use Rattle.kt_scene.specs.Steps.{node_at, node_before_space, issue_of, repeat_of, deliver_of, serve_of, step_of}
 use Rattle.kt_scene.specs.Text.{node_text, step_text}
 use Rattle.kt_scene.specs.Scenario.{IsStepNode, IsStep}
 use Rattle.kt_scene.proofs.NumberLaws.{both_read, mapped, ended_read, behind_taken, by_word, number_within_taken}
@@ -70,6 +70,14 @@ issue_taken words step e =
     let text : words ≡ node_text p.0.0 = node_alone words p.0.1 p.0.0 h.0 end.0 in
     subst (IsStepLine (codes "issue " ++ words)) end.1 (ap (λ (t : List ℕ). codes "issue " ++ t) text, h.1)
 
+repeat_taken : (words : List ℕ) (step : Step) → repeat_of words ≡ Some step → IsStepLine (codes "repeat " ++ words) step
+repeat_taken words step e =
+    let p = both_read (node_at words) (λ (p : NodeId × List ℕ). ended (Repeat p.0, p.1)) step e in
+    let h = node_taken words p.0.1 p.0.0 p.1 in
+    let end = ended_read (Repeat p.0.0) p.0.1 step p.2 in
+    let text : words ≡ node_text p.0.0 = node_alone words p.0.1 p.0.0 h.0 end.0 in
+    subst (IsStepLine (codes "repeat " ++ words)) end.1 (ap (λ (t : List ℕ). codes "repeat " ++ t) text, h.1)
+
 deliver_line : (from to : NodeId) (words second : List ℕ) → words ≡ node_text from ++ 32 ∷ second → second ≡ node_text to → codes "deliver " ++ words ≡ step_text (Deliver from to)
 deliver_line from to words second first last =
     ap (λ (t : List ℕ). codes "deliver " ++ t) (first ∙ ap (λ (t : List ℕ). node_text from ++ 32 ∷ t) last) ∙ sym (append_assoc (codes "deliver ") (node_text from) (32 ∷ node_text to))
@@ -122,5 +130,6 @@ named_line line word words step parts h = (parts ∙ h.0, h.1)
 pub step_taken : (line : List ℕ) (step : Step) → step_of line ≡ Some step → IsStepLine line step
 step_taken line step e =
     by_word (IsStepLine line step) line (codes "issue ") issue_of _ (Some step) e (λ words parts is. named_line line (codes "issue ") words step parts (issue_taken words step is)) (λ e2.
-    by_word (IsStepLine line step) line (codes "deliver ") deliver_of _ (Some step) e2 (λ words parts is. named_line line (codes "deliver ") words step parts (deliver_taken words step is)) (λ e3.
-    by_word (IsStepLine line step) line (codes "serve ") serve_of None (Some step) e3 (λ words parts is. named_line line (codes "serve ") words step parts (serve_taken words step is)) (λ e4. absurd cc)))
+    by_word (IsStepLine line step) line (codes "repeat ") repeat_of _ (Some step) e2 (λ words parts is. named_line line (codes "repeat ") words step parts (repeat_taken words step is)) (λ e3.
+    by_word (IsStepLine line step) line (codes "deliver ") deliver_of _ (Some step) e3 (λ words parts is. named_line line (codes "deliver ") words step parts (deliver_taken words step is)) (λ e4.
+    by_word (IsStepLine line step) line (codes "serve ") serve_of None (Some step) e4 (λ words parts is. named_line line (codes "serve ") words step parts (serve_taken words step is)) (λ e5. absurd cc))))

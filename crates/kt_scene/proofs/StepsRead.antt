@@ -5,9 +5,9 @@ use Rattle.kt_tuple.specs.declared.node.NodeId.{NodeId}
 use Rattle.kt_tuple.specs.declared.node.NodeId.TheVariants as nodes
 use Rattle.kt_tuple.specs.Reading.{begins_with_digit}
 use Rattle.kt_core.specs.declared.step.Step.{Step}
-use Rattle.kt_core.specs.declared.step.Step.TheVariants.{Issue, Deliver, Serve}
+use Rattle.kt_core.specs.declared.step.Step.TheVariants.{Issue, Repeat, Deliver, Serve}
 use Rattle.kt_scene.specs.Number.{number_within}
-use Rattle.kt_scene.specs.Steps.{node_at, node_before_space, issue_of, deliver_of, serve_of, step_of}
+use Rattle.kt_scene.specs.Steps.{node_at, node_before_space, issue_of, repeat_of, deliver_of, serve_of, step_of}
 use Rattle.kt_scene.specs.Text.{node_text, step_text}
 use Rattle.kt_scene.specs.Scenario.{IsStepNode, IsStep}
 use Rattle.kt_scene.proofs.NumbersRead.{number_within_read}
@@ -28,6 +28,9 @@ before_space_read node rest h = rw (node_read node (32 ∷ rest) h refl) refl
 issue_read : (node : NodeId) → IsStepNode node → issue_of (node_text node) ≡ Some (Issue node)
 issue_read node h = rw (node_read_alone node h) refl
 
+repeat_read : (node : NodeId) → IsStepNode node → repeat_of (node_text node) ≡ Some (Repeat node)
+repeat_read node h = rw (node_read_alone node h) refl
+
 deliver_read : (from to : NodeId) → IsStepNode from → IsStepNode to → deliver_of (node_text from ++ 32 ∷ node_text to) ≡ Some (Deliver from to)
 deliver_read from to h k = rw (before_space_read from (node_text to) h, node_read_alone to k) refl
 
@@ -42,5 +45,6 @@ serve_read shard worker place h k most =
 -- the text of a step is read as that step
 pub step_read : (step : Step) → IsStep step → step_of (step_text step) ≡ Some step
 step_read (Issue node) h = issue_read node h
+step_read (Repeat node) h = repeat_read node h
 step_read (Deliver from to) h = deliver_read from to h.0 h.1
 step_read (Serve shard worker place) h = ap step_of (serve_text shard worker place) ∙ serve_read shard worker place h.0 h.1 h.2

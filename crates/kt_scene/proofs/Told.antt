@@ -12,6 +12,7 @@ use Rattle.kt_scene.specs.declared.draft.Stage.TheVariants as stages
 use Rattle.kt_scene.specs.Lines.{Sketch, is_ended}
 use Rattle.kt_scene.specs.Text.{command_text, step_text, script_lines}
 use Rattle.kt_scene.specs.Scenario.{IsCommand, IsStep}
+use Rattle.kt_scene.specs.Faults.{AreShards}
 
 -- the title, and the number of shards
 abbrev pub head_lines : ℕ → List (List ℕ)
@@ -36,10 +37,10 @@ pub record IsBare (s : Sketch) : Type 0 where
 abbrev pub IsAt : Stage → Sketch → Type 0
 IsAt stages.Title s = IsBare s
 IsAt stages.Shards s = IsBare s
-IsAt stages.Workers s = IsBare s × (s.shards ≡ 1)
-IsAt stages.Commands s = (s.steps ≡ []) × (s.shards ≡ 1) × (length s.scripts < 8)
-IsAt stages.Steps s = (s.shards ≡ 1) × (1 ≤ length s.scripts) × (length s.scripts ≤ 8)
-IsAt stages.Ended s = (s.shards ≡ 1) × (1 ≤ length s.scripts) × (length s.scripts ≤ 8)
+IsAt stages.Workers s = AreShards s.shards × IsBare s
+IsAt stages.Commands s = (s.steps ≡ []) × AreShards s.shards × (length s.scripts < 8)
+IsAt stages.Steps s = AreShards s.shards × (1 ≤ length s.scripts) × (length s.scripts ≤ 8)
+IsAt stages.Ended s = AreShards s.shards × (1 ≤ length s.scripts) × (length s.scripts ≤ 8)
 
 -- what was read keeps the rules
 pub record IsGood (s : Sketch) : Type 0 where

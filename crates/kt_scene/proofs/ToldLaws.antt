@@ -1,6 +1,6 @@
 -- Each line that is read is told behind those before it.
-use Rattle.std.proofs.Common.{◌≡◌, ℕ, ◌+◌, ◌<◌, Bool, true, false, not, cond, ◌&&◌, eqb, ltb, List, [], ◌∷◌, ◌++◌, length, map, Option, Some, None, Result, Ok, Err, refl, sym, ap, subst, ◌∙◌, append_assoc, append-nil, arith, length-append}
-use Rattle.std.proofs.lemmas.Bool.{eqb-true, ltb-true, and_parts}
+use Rattle.std.proofs.Common.{◌≡◌, ℕ, ◌+◌, ◌<◌, Bool, true, false, not, cond, ◌&&◌, ltb, leb, List, [], ◌∷◌, ◌++◌, length, map, Option, Some, None, Result, Ok, Err, refl, sym, ap, subst, ◌∙◌, append_assoc, append-nil, arith, length-append}
+use Rattle.std.proofs.lemmas.Bool.{ltb-true, leb-true, and_parts}
 use Rattle.std.proofs.lemmas.List.Elements.{All-nil, All-push}
 use Rattle.std.specs.Prelude.{codes, decimal, All, nat_lt, nat_le}
 use Rattle.std.specs.List.{flat_map}
@@ -21,6 +21,7 @@ use Rattle.kt_scene.specs.Steps.{step_of}
 use Rattle.kt_scene.specs.Lines.{Sketch, is_word, shards_from, count_of, shards_of, titled, with_shards, with_worker, is_ended, closed, added, with_command, in_script, with_step}
 use Rattle.kt_scene.specs.Text.{command_text, step_text, script_lines}
 use Rattle.kt_scene.specs.Scenario.{IsCommand, IsStep}
+use Rattle.kt_scene.specs.Faults.{AreShards}
 use Rattle.kt_scene.proofs.NumberLaws.{both_read, ended_read, behind_taken, number_taken}
 use Rattle.kt_scene.proofs.CommandLaws.{command_taken}
 use Rattle.kt_scene.proofs.StepLaws.{step_taken}
@@ -44,16 +45,18 @@ module _ (s : Sketch) (line : List ℕ) (u : Sketch) (h : IsGood s) where
   pub title_told : s.stage ≡ stages.Title → titled s line ≡ Ok u → Adds s line u
   title_told is e = title_by_test (is_word line (codes "linda-kt 1")) is refl e
 
-  one_by_test : (b : Bool) (n m : ℕ) → eqb n 1 ≡ b → cond b (Ok 1) (Err faults.Limit) ≡ Ok m → (n ≡ 1) × (m ≡ 1)
-  one_by_test true n m is e = (eqb-true n 1 is, cc)
-  one_by_test false n m is e = absurd cc
+  few_by_test : (b : Bool) (n m : ℕ) → (leb 1 n && leb n 8) ≡ b → cond b (Ok n) (Err faults.Limit) ≡ Ok m → AreShards n × (n ≡ m)
+  few_by_test true n m are e =
+      let parts = and_parts (leb 1 n) (leb n 8) are in
+      ((leb-true 1 n parts.0, leb-true n 8 parts.1), cc)
+  few_by_test false n m are e = absurd cc
 
-  one_shard : (c : Option (Option ℕ)) (m : ℕ) → shards_from c ≡ Ok m → (c ≡ Some (Some 1)) × (m ≡ 1)
-  one_shard None m e = absurd cc
-  one_shard (Some None) m e = absurd cc
-  one_shard (Some (Some n)) m e =
-      let one = one_by_test (eqb n 1) n m refl e in
-      (ap (λ (k : ℕ). Some (Some k)) one.0, one.1)
+  few_shards : (c : Option (Option ℕ)) (m : ℕ) → shards_from c ≡ Ok m → AreShards m × (c ≡ Some (Some m))
+  few_shards None m e = absurd cc
+  few_shards (Some None) m e = absurd cc
+  few_shards (Some (Some n)) m e =
+      let few = few_by_test (leb 1 n && leb n 8) n m refl e in
+      (subst AreShards few.1 few.0, ap (λ (k : ℕ). Some (Some k)) few.1)
 
   count_taken : (n : ℕ) → count_of line ≡ Some (Some n) → line ≡ codes "shards " ++ decimal n
   count_taken n e =
@@ -67,13 +70,13 @@ module _ (s : Sketch) (line : List ℕ) (u : Sketch) (h : IsGood s) where
   shards_by_count : (r : Result ℕ SceneError) → s.stage ≡ stages.Shards → shards_of line ≡ r → with_shards s r ≡ Ok u → Adds s line u
   shards_by_count (Err fault) is count e = absurd cc
   shards_by_count (Ok n) is count e =
-      let one = one_shard (count_of line) n count in
+      let few = few_shards (count_of line) n count in
       let made : record s { stage = stages.Workers; shards = n } ≡ u = cc in
       let at = place_at stages.Shards s is h in
       let P : Sketch → Type 0 = λ x. Adds s line x in
-      let text : line ≡ codes "shards " ++ decimal n = count_taken 1 one.0 ∙ ap (λ (k : ℕ). codes "shards " ++ decimal k) (sym one.1) in
+      let text : line ≡ codes "shards " ++ decimal n = count_taken n few.1 in
       subst P made (record {
-        good = record { scripts = h.scripts; held = h.held; script = h.script; commands = h.commands; steps = h.steps; place = (record { scripts = at.scripts; commands = at.commands; steps = at.steps }, one.1) };
+        good = record { scripts = h.scripts; held = h.held; script = h.script; commands = h.commands; steps = h.steps; place = (few.0, record { scripts = at.scripts; commands = at.commands; steps = at.steps }) };
         goes_on = refl;
         told = told_from stages.Shards s line _ is (ap (λ (l : List ℕ). codes "linda-kt 1" ∷ l ∷ []) (sym text));
       })
@@ -88,12 +91,12 @@ module _ (s : Sketch) (line : List ℕ) (u : Sketch) (h : IsGood s) where
       let at = place_at stages.Workers s is h in
       let P : Sketch → Type 0 = λ x. Adds s line x in
       let word : codes "worker" ≡ line = sym (word_is line (codes "worker") test) in
-      let few : length s.scripts < 8 = omega (arith, ap length at.0.scripts) in
+      let few : length s.scripts < 8 = omega (arith, ap length at.1.scripts) in
       let lines : flat_map script_lines s.scripts ++ script_lines s.commands ≡ line ∷ [] =
-      ap (λ (l : List (List Command)). flat_map script_lines l ++ script_lines s.commands) at.0.scripts
-      ∙ ap script_lines at.0.commands ∙ ap (λ (l : List ℕ). l ∷ []) word in
+      ap (λ (l : List (List Command)). flat_map script_lines l ++ script_lines s.commands) at.1.scripts
+      ∙ ap script_lines at.1.commands ∙ ap (λ (l : List ℕ). l ∷ []) word in
       subst P made (record {
-        good = record { scripts = h.scripts; held = h.held; script = h.script; commands = h.commands; steps = h.steps; place = (at.0.steps, at.1, few) };
+        good = record { scripts = h.scripts; held = h.held; script = h.script; commands = h.commands; steps = h.steps; place = (at.1.steps, at.0, few) };
         goes_on = refl;
         told = told_from stages.Workers s line _ is (ap (λ (l : List (List ℕ)). head_lines s.shards ++ l) lines);
       })

@@ -8,7 +8,7 @@ use Rattle.kt_script.specs.declared.command.Command.{Command}
 use Rattle.kt_script.specs.declared.command.Command.TheVariants.{Ask, Set, Unless}
 use Rattle.kt_script.specs.declared.command.Operation.TheVariants.{Out, In, Rd, Inp, Rdp}
 use Rattle.kt_core.specs.declared.step.Step.{Step}
-use Rattle.kt_core.specs.declared.step.Step.TheVariants.{Issue, Deliver, Serve}
+use Rattle.kt_core.specs.declared.step.Step.TheVariants.{Issue, Repeat, Deliver, Serve}
 use Rattle.kt_scene.specs.Lines.{is_ignored}
 use Rattle.kt_scene.specs.Reading.{Play, Work, Steps, play_of}
 use Rattle.kt_scene.specs.Text.{command_text, step_text, script_lines, told_lines, work_lines, scenario_text}
@@ -39,6 +39,7 @@ command_told (Unless n) = refl
 
 step_told : (step : Step) → is_ignored (step_text step) ≡ false
 step_told (Issue node) = refl
+step_told (Repeat node) = refl
 step_told (Deliver from to) = refl
 step_told (Serve shard worker place) = refl
 
@@ -68,8 +69,8 @@ scripts_told (script ∷ later) h =
 title_told : IsTold (codes "linda-kt 1")
 title_told = record { whole = shown_is_line (codes "linda-kt 1") refl; told = refl }
 
-shards_told : (shards : ℕ) → shards ≡ 1 → IsTold (codes "shards " ++ decimal shards)
-shards_told shards one = record { whole = shown_is_line (codes "shards " ++ decimal shards) (decimal_shown shards (omega (arith, one))); told = refl }
+shards_told : (shards : ℕ) → shards ≤ 8 → IsTold (codes "shards " ++ decimal shards)
+shards_told shards few = record { whole = shown_is_line (codes "shards " ++ decimal shards) (decimal_shown shards (omega (arith, few))); told = refl }
 
 steps_word_told : IsTold (codes "steps")
 steps_word_told = record { whole = shown_is_line (codes "steps") refl; told = refl }
@@ -85,7 +86,7 @@ lines_told play rules =
     let lines = work_lines play.work in
     let behind = All-append IsTold scripts lines (scripts_told play.cast.scripts rules.commands) (work_told play.work rules.work) in
     All-cons IsTold (codes "linda-kt 1") (count ∷ (scripts ++ lines)) title_told
-    (All-cons IsTold count (scripts ++ lines) (shards_told play.cast.shards rules.shards) behind)
+    (All-cons IsTold count (scripts ++ lines) (shards_told play.cast.shards rules.cast.few_shards) behind)
 
 each_line : (lines : List (List ℕ)) → All IsTold lines → All IsLine lines
 each_line [] h = All-nil IsLine

@@ -1,6 +1,6 @@
 -- The first fault of a scenario's text, told by the lines before it and by what scenarios are spelled as; no reader is
 -- asked. Told lines are those that are not ignored.
-use Rattle.std.specs.Prelude.{◌≡◌, ◌≢◌, ◌<◌, ◌≤◌, ◌+◌, ℕ, false, List, [], ◌∷◌, ◌++◌, length, filter, codes, All}
+use Rattle.std.specs.Prelude.{◌≡◌, ◌≢◌, ◌<◌, ◌≤◌, ◌+◌, ℕ, false, List, [], ◌∷◌, ◌++◌, length, filter, codes, decimal, All}
 use Rattle.std.specs.Int.{w64}
 use Rattle.std.specs.Int.RustNames.{FitsSigned}
 use Rattle.std.specs.List.{flat_map}
@@ -65,15 +65,16 @@ pub record Begin (lines : List (List ℕ)) : Type 0 where
   pub others : List (List ℕ)
   pub are : body ++ codes "end" ∷ [] ≡ lines ++ others
 
--- scripts and steps for one shard
-abbrev pub play_of_scripts : List (List Command) → List Step → Play
-play_of_scripts scripts steps = record { cast = record { shards = 1; scripts = scripts }; work = Steps steps }
+-- scripts and steps among so many shards
+abbrev pub play_of_scripts : ℕ → List (List Command) → List Step → Play
+play_of_scripts shards scripts steps = record { cast = record { shards = shards; scripts = scripts }; work = Steps steps }
 
--- the told lines end within a script: with the line `steps` behind them they would be all of a scenario without steps, with these
--- scripts and then the one that has these commands so far
+-- the told lines end within a script: with the line `steps` behind them they would be all of a scenario without steps, for some
+-- number of shards, with these scripts and then the one that has these commands so far
 pub record IsInScript (told : List (List ℕ)) (scripts : List (List Command)) (commands : List Command) : Type 0 where
-  pub rules : IsPlay (play_of_scripts (scripts ++ commands ∷ []) [])
-  pub are : told_lines (play_of_scripts (scripts ++ commands ∷ []) []) ≡ told ++ codes "steps" ∷ []
+  pub shards : ℕ
+  pub rules : IsPlay (play_of_scripts shards (scripts ++ commands ∷ []) [])
+  pub are : told_lines (play_of_scripts shards (scripts ++ commands ∷ []) []) ≡ told ++ codes "steps" ∷ []
 
 -- the told lines end among the steps: they are all of a scenario but its line `end`
 pub record IsInSteps (told : List (List ℕ)) : Type 0 where
@@ -87,12 +88,17 @@ pub record IsWhole (told : List (List ℕ)) : Type 0 where
   pub rules : IsPlay play
   pub are : told_lines play ++ codes "end" ∷ [] ≡ told
 
--- the two lines of the head
+-- the first line of the head
 abbrev pub title_line : List ℕ
 title_line = codes "linda-kt 1"
 
-abbrev pub one_shard : List ℕ
-one_shard = codes "shards 1"
+-- a scenario has 1 to 8 shards
+abbrev pub AreShards : ℕ → Type 0
+AreShards n = (1 ≤ n) × (n ≤ 8)
+
+-- the told lines are the two of the head
+abbrev pub IsHead : List (List ℕ) → Type 0
+IsHead told = (n : ℕ) × AreShards n × (told ≡ title_line ∷ (codes "shards " ++ decimal n) ∷ [])
 
 -- a line other than the two of the head where one of these must stand; `shards` with whatever number is the second
 pub data IsNoHeader (told : List (List ℕ)) (line : List ℕ) : Type 0 where
@@ -102,7 +108,7 @@ pub data IsNoHeader (told : List (List ℕ)) (line : List ℕ) : Type 0 where
 -- a line that no rule allows there: in the place of the first `worker`; in a script, where it begins with no operation's word and
 -- is neither `worker` nor `steps` nor a command's; or among the steps, where it is no step's and not `end`
 pub data IsNoWord (told : List (List ℕ)) (line : List ℕ) : Type 0 where
-  no_worker : told ≡ title_line ∷ one_shard ∷ [] → line ≢ codes "worker" → IsNoWord told line
+  no_worker : IsHead told → line ≢ codes "worker" → IsNoWord told line
   no_command : (scripts : List (List Command)) (commands : List Command) → IsInScript told scripts commands → line ≢ codes "worker" → line ≢ codes "steps" → ¬ HasVerb line
       → ((command : Command) → ¬ Spells line command) → IsNoWord told line
   no_step : IsInSteps told → line ≢ codes "end" → ((step : Step) → IsStep step → line ≢ step_text step) → IsNoWord told line
@@ -117,9 +123,9 @@ pub data BreaksVariableRules (told : List (List ℕ)) (line : List ℕ) : Type 0
   breaks_rules : (scripts : List (List Command)) (commands : List Command) (command : Command) → IsInScript told scripts commands → Spells line command
       → keeps_rules (variables_of commands) command ≡ false → BreaksVariableRules told line
 
--- a limit is passed: shards, of which one is built; a ninth worker; a 201st command; a 65th variable; the number of a command
+-- a limit is passed: no shard, or more than 8; a ninth worker; a 201st command; a 65th variable; the number of a command
 pub data PassesLimit (told : List (List ℕ)) (line : List ℕ) : Type 0 where
-  many_shards : (n : ℕ) → told ≡ title_line ∷ [] → SpellsShards line n → n ≢ 1 → PassesLimit told line
+  shards_outside : (n : ℕ) → told ≡ title_line ∷ [] → SpellsShards line n → ¬ AreShards n → PassesLimit told line
   many_workers : (scripts : List (List Command)) (commands : List Command) → IsInScript told scripts commands → line ≡ codes "worker" → length scripts ≡ 7 → PassesLimit told line
   many_commands : (scripts : List (List Command)) (commands : List Command) (command : Command) → IsInScript told scripts commands → Spells line command → 200 ≤ length commands → PassesLimit told line
   many_variables : (scripts : List (List Command)) (commands : List Command) (command : Command) → IsInScript told scripts commands → Spells line command

@@ -1,5 +1,5 @@
 -- What the lines of a scenario add to what was read before them, and the first fault of a text.
-use Rattle.std.specs.Prelude.{◌≡◌, ℕ, ◌+◌, ◌<◌, ◌≤◌, nat_lt, nat_eq, ◌==◌, Bool, true, false, if◌then◌else◌, List, [], ◌∷◌, ◌++◌, length, codes, Option, Some, None, Result, Ok, Err, IsOk}
+use Rattle.std.specs.Prelude.{◌≡◌, ℕ, ◌+◌, ◌<◌, ◌≤◌, nat_lt, nat_le, nat_eq, ◌==◌, ◌&&◌, Bool, true, false, if◌then◌else◌, List, [], ◌∷◌, ◌++◌, length, codes, Option, Some, None, Result, Ok, Err, IsOk}
 use Rattle.std.specs.Cmp.Lexicographic.{pointwise}
 use Rattle.kt_script.specs.declared.command.Command.{Command}
 use Rattle.kt_core.specs.declared.step.Step.{Step}
@@ -33,10 +33,11 @@ abbrev pub is_ignored : List ℕ → Bool
 is_ignored [] = false
 is_ignored (c ∷ rest) = c == 35
 
+-- 1 to 8 shards
 abbrev pub shards_from : Option (Option ℕ) → Result ℕ SceneError
 shards_from None = Err faults.Header
 shards_from (Some None) = Err faults.Limit
-shards_from (Some (Some n)) = if n == 1 then Ok 1 else Err faults.Limit
+shards_from (Some (Some n)) = if nat_le 1 n && nat_le n 8 then Ok n else Err faults.Limit
 
 -- the N of the line `shards N`
 abbrev pub count_of : List ℕ → Option (Option ℕ)

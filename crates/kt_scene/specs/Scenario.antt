@@ -18,7 +18,7 @@ use Rattle.kt_script.specs.declared.command.Command.TheVariants.{Ask, Set, Unles
 use Rattle.kt_script.specs.Name.{IsName}
 use Rattle.kt_script.specs.Rules.{IsScript}
 use Rattle.kt_core.specs.declared.step.Step.{Step}
-use Rattle.kt_core.specs.declared.step.Step.TheVariants.{Issue, Deliver, Serve}
+use Rattle.kt_core.specs.declared.step.Step.TheVariants.{Issue, Repeat, Deliver, Serve}
 use Rattle.kt_core.specs.Cast.{IsCast}
 use Rattle.kt_scene.specs.Lines.{is_ignored}
 use Rattle.kt_scene.specs.Reading.{Play, Work, Steps}
@@ -62,6 +62,7 @@ IsStepNode (nodes.Shard n) = IsNodeNumber n
 -- a step that a line can say: a match's place is from 0 to 99999
 abbrev pub IsStep : Step → Type 0
 IsStep (Issue node) = IsStepNode node
+IsStep (Repeat node) = IsStepNode node
 IsStep (Deliver from to) = IsStepNode from × IsStepNode to
 IsStep (Serve shard worker place) = IsStepNode shard × IsStepNode worker × (place ≤ 99999)
 
@@ -69,10 +70,9 @@ IsStep (Serve shard worker place) = IsStepNode shard × IsStepNode worker × (pl
 abbrev pub IsWork : Work → Type 0
 IsWork (Steps steps) = All IsStep steps
 
--- one shard, 1 to 8 workers, and scripts that keep the rules of variables and the limits
+-- 1 to 8 shards, 1 to 8 workers, and scripts that keep the rules of variables and the limits
 pub record IsPlay (play : Play) : Type 0 where
   pub cast : IsCast play.cast
-  pub shards : play.cast.shards ≡ 1
   pub scripts : All IsScript play.cast.scripts
   pub commands : All (All IsCommand) play.cast.scripts
   pub work : IsWork play.work

@@ -4,7 +4,7 @@ use Rattle.std.specs.Option.{option_map}
 use Rattle.kt_tuple.specs.declared.node.NodeId.{NodeId}
 use Rattle.kt_tuple.specs.declared.node.NodeId.TheVariants as nodes
 use Rattle.kt_core.specs.declared.step.Step.{Step}
-use Rattle.kt_core.specs.declared.step.Step.TheVariants.{Issue, Deliver, Serve}
+use Rattle.kt_core.specs.declared.step.Step.TheVariants.{Issue, Repeat, Deliver, Serve}
 use Rattle.kt_scene.specs.Number.{◌>>=◌, behind, behind_or, ended, number_within}
 
 -- `w` or `s`, and a number from 1 to 99
@@ -22,6 +22,9 @@ node_before_space text = node_at text >>= λ p. option_map (λ rest. (p.0, rest)
 abbrev pub issue_of : List ℕ → Option Step
 issue_of words = node_at words >>= λ p. ended (Issue p.0, p.1)
 
+abbrev pub repeat_of : List ℕ → Option Step
+repeat_of words = node_at words >>= λ p. ended (Repeat p.0, p.1)
+
 abbrev pub deliver_of : List ℕ → Option Step
 deliver_of words = node_before_space words >>= λ p. node_at p.1 >>= λ q. ended (Deliver p.0 q.0, q.1)
 
@@ -33,5 +36,6 @@ serve_of words =
 abbrev pub step_of : List ℕ → Option Step
 step_of line =
     behind_or (behind line (codes "issue ")) issue_of
+    (behind_or (behind line (codes "repeat ")) repeat_of
     (behind_or (behind line (codes "deliver ")) deliver_of
-    (behind_or (behind line (codes "serve ")) serve_of None))
+    (behind_or (behind line (codes "serve ")) serve_of None)))

@@ -14,7 +14,7 @@ use Rattle.kt_script.specs.declared.command.Operation.TheVariants.{Out, In, Rd, 
 use Rattle.kt_script.specs.declared.command.Command.{Command}
 use Rattle.kt_script.specs.declared.command.Command.TheVariants.{Ask, Set, Unless}
 use Rattle.kt_core.specs.declared.step.Step.{Step}
-use Rattle.kt_core.specs.declared.step.Step.TheVariants.{Issue, Deliver, Serve}
+use Rattle.kt_core.specs.declared.step.Step.TheVariants.{Issue, Repeat, Deliver, Serve}
 use Rattle.kt_scene.specs.Reading.{Play, Work, Steps}
 use Rattle.kt_scene.specs.Report.{text_line}
 
@@ -51,6 +51,7 @@ node_text (nodes.Shard n) = 115 ∷ decimal n
 
 abbrev pub step_text : Step → List ℕ
 step_text (Issue node) = codes "issue " ++ node_text node
+step_text (Repeat node) = codes "repeat " ++ node_text node
 step_text (Deliver from to) = codes "deliver " ++ node_text from ++ 32 ∷ node_text to
 step_text (Serve shard worker place) = codes "serve " ++ node_text shard ++ 32 ∷ node_text worker ++ 32 ∷ decimal place
 

@@ -10,7 +10,7 @@ use crate::command::{Spelled, fault_behind, spelled_of};
 use crate::fault::SceneError;
 use crate::line::{behind, ended, number_at, step_of};
 use crate::scenario::{Scenario, Work};
-use kt_core::{MAX_WORKERS, Scene, Step};
+use kt_core::{MAX_SHARDS, MAX_WORKERS, Scene, Step};
 use kt_script::Script;
 use std::alloc::Global;
 use std::marker::Model;
@@ -65,7 +65,7 @@ fn shards_of(line: &[u8]) -> Result<u8, SceneError>
 {
     match count_of(line) {
         None => Err(SceneError::Header),
-        Some(Some(1)) => Ok(1),
+        Some(Some(count)) if 1 <= count && count <= u64::from(MAX_SHARDS) => Ok(count as u8),
         Some(_) => Err(SceneError::Limit),
     }
 }

@@ -24,7 +24,7 @@ pub fn what_was_read_is_written()
 
 /// The text that is written of a scenario is read as it, where it is not too long. So what `read_scene` gives of
 /// the text that `write_scene` wrote is the scenario that was written. This holds of each scenario that has a
-/// text: one shard, node numbers from 1 to 99, places of matches up to 99,999, and at most 1,048,576 bytes.
+/// text: node numbers from 1 to 99, places of matches up to 99,999, and at most 1,048,576 bytes.
 pub fn what_is_written_is_read()
     ensures { (play : Play) → IsPlay play → length (scenario_text play) ≤ 1048576 → play_of (scenario_text play) ≡ Ok play }
 {}

@@ -5,7 +5,7 @@
 ghost use Rattle.std.specs.Prelude.{◌≡◌, ◌+◌, ◌<◌, length, List, ℕ};
 ghost use Rattle.std.specs.Option.{option_map};
 ghost use Rattle.kt_scene.specs.Number.{behind, ended, number_at, number_within};
-ghost use Rattle.kt_scene.specs.Steps.{node_at, node_before_space, issue_of, deliver_of, serve_of, step_of};
+ghost use Rattle.kt_scene.specs.Steps.{node_at, node_before_space, issue_of, repeat_of, deliver_of, serve_of, step_of};
 
 use kt_core::Step;
 use kt_tuple::{NodeId, int_at, int_of, word_at};
@@ -88,6 +88,13 @@ fn issue_of(words: &[u8]) -> Option<Step>
     ended(Step::Issue { node }, rest)
 }
 
+fn repeat_of(words: &[u8]) -> Option<Step>
+    ensures { result ≡ repeat_of words.now }
+{
+    let (node, rest) = node_at(words)?;
+    ended(Step::Repeat { node }, rest)
+}
+
 fn deliver_of(words: &[u8]) -> Option<Step>
     ensures { result ≡ deliver_of words.now }
 {
@@ -118,6 +125,8 @@ pub(crate) fn step_of(line: &[u8]) -> Option<Step>
 {
     if let Some(words) = behind(line, b"issue ") {
         issue_of(words)
+    } else if let Some(words) = behind(line, b"repeat ") {
+        repeat_of(words)
     } else if let Some(words) = behind(line, b"deliver ") {
         deliver_of(words)
     } else if let Some(words) = behind(line, b"serve ") {

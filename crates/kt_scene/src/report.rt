@@ -12,7 +12,8 @@ use crate::stream::put;
 use itoa::Buffer;
 use kt_core::World;
 use kt_history::space_of;
-use kt_tuple::{Service, Tuple};
+use kt_space::Bag;
+use kt_tuple::Service;
 use std::alloc::{AllocError, Global};
 use std::io::Write;
 
@@ -47,7 +48,7 @@ fn report_of(alloc: Global, world: &World) -> Result<Vec<u8>, AllocError>
     push_count(&mut out, b"lost ", history.lost_count() as usize)?;
     push_tuples(alloc, &mut out, b"space ", &space)?;
     // Until checkpoints are taken the initial ones stand, which are empty.
-    push_tuples(alloc, &mut out, b"permanent ", &[])?;
+    push_tuples(alloc, &mut out, b"permanent ", &Bag::new(alloc))?;
     Ok(out)
 }
 
@@ -90,15 +91,10 @@ fn push_services(out: &mut Vec<u8>, services: &[Service]) -> Result<(), AllocErr
 }
 
 /// How many tuples there are, and then each on a line, in rising order of their text's bytes.
-fn push_tuples(
-    alloc: Global,
-    out: &mut Vec<u8>,
-    word: &[u8],
-    tuples: &[Tuple],
-) -> Result<(), AllocError>
-    ensures { OnOk result (AppendsTuples word.now tuples.now out.old.items out.new.items) }
+fn push_tuples(alloc: Global, out: &mut Vec<u8>, word: &[u8], bag: &Bag) -> Result<(), AllocError>
+    ensures { OnOk result (AppendsTuples word.now bag.now.tuples out.old.items out.new.items) }
 {
-    let mut texts = texts_of(alloc, tuples)?;
+    let mut texts = texts_of(alloc, bag)?;
     texts.sort()?;
     push_count(out, word, texts.len())?;
     push_texts(out, &texts)
@@ -114,15 +110,17 @@ fn push_texts(out: &mut Vec<u8>, texts: &[Vec<u8>]) -> Result<(), AllocError>
     Ok(())
 }
 
-/// The text of each tuple.
-fn texts_of(alloc: Global, tuples: &[Tuple]) -> Result<Vec<Vec<u8>>, AllocError>
-    ensures { IfOk result (λ texts. items_of texts.items ≡ map tuple_text tuples.now) }
+/// The text of each tuple, in order of arrival.
+fn texts_of(alloc: Global, bag: &Bag) -> Result<Vec<Vec<u8>>, AllocError>
+    ensures { IfOk result (λ texts. items_of texts.items ≡ map tuple_text bag.now.tuples) }
 {
-    let mut texts = Vec::with_capacity(alloc, tuples.len())?;
-    for tuple in tuples {
-        let mut text = Vec::new(alloc);
-        tuple.write_to(&mut text)?;
-        texts.push(text)?;
+    let mut texts = Vec::with_capacity(alloc, bag.len())?;
+    for place in 0..bag.len() {
+        if let Some(tuple) = bag.get(place) {
+            let mut text = Vec::new(alloc);
+            tuple.write_to(&mut text)?;
+            texts.push(text)?;
+        }
     }
     Ok(texts)
 }

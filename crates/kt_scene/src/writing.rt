@@ -197,6 +197,10 @@ fn push_step(out: &mut Vec<u8>, step: Step) -> Result<(), AllocError>
             out.extend_from_slice(b"issue ")?;
             push_node(out, node)
         }
+        Step::Repeat { node } => {
+            out.extend_from_slice(b"repeat ")?;
+            push_node(out, node)
+        }
         Step::Deliver { from, to } => {
             out.extend_from_slice(b"deliver ")?;
             push_node(out, from)?;

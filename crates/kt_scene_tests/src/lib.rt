@@ -13,3 +13,5 @@ mod scenes;
 mod streams;
 #[cfg(test)]
 mod tables;
+#[cfg(test)]
+mod texts;

@@ -15,13 +15,14 @@ const MUTANTS: usize = 20_000;
 const REPLAYED: usize = 10;
 
 /// Scenarios with all kinds of lines.
-const SEEDS: [&[u8]; 6] = [
+const SEEDS: [&[u8]; 7] = [
     b"linda-kt 1\nshards 1\nworker\nout (\"a\", 1)\nin (\"a\", ?int x)\nsteps\nissue w1\ndeliver w1 s1\nserve s1 w1 0\ndeliver s1 w1\nissue w1\ndeliver w1 s1\nserve s1 w1 0\nend\n",
     b"# a counter\nlinda-kt 1\nshards 1\n# begins at 0\nworker\ninp (\"counter\", ?int n)\nunless 1\nset n = n + 1\nout (\"counter\", n)\nsteps\nissue w1\ndeliver w1 s1\nserve s1 w1 0\ndeliver s1 w1\nissue w1\ndeliver w1 s1\n# one is put\nserve s1 w1 0\nend\n",
     b"linda-kt 1\nshards 1\nworker\nin (?int x, ?str s)\nrd (x, ?str t)\nout (s, x, -7)\nset y = x + 9223372036854775807\nset x = y + -9223372036854775808\nrdp (\"\", ?int, s)\nunless 200\nout (y, t)\nworker\nout (\"\\\"\\\\ ~\", 0)\nsteps\nend\n",
     b"linda-kt 1\nshards 1\n# the results\nworker\nin (\"result\", 10, ?int ten)\nout (\"all\", ten)\n# the work\nworker\nin (\"task\", ?int n)\nset r = n + 1\nout (\"result\", n, r)\nworker\nout (\"task\", 10)\nsteps\nissue w3\ndeliver w3 s1\nserve s1 w3 0\nissue w2\ndeliver w2 s1\nserve s1 w2 0\nend\n",
     b"linda-kt 1\nshards 1\nworker\nout (1)\nworker\nout (2)\nworker\nout (3)\nworker\ninp (?int)\nworker\nrdp (?int)\nworker\nrd (?int)\nworker\nworker\n# none is left\nin (?int, ?str)\nsteps\nissue w1\nissue w2\ndeliver w2 s1\ndeliver w1 s1\nserve s1 w1 0\nserve s1 w2 0\nissue w4\ndeliver w4 s1\nserve s1 w4 1\nend\n",
     b"linda-kt 1\nshards 1\nworker\nunless 3\nin (?int v)\nset abcdefghijklmn_1 = v + 1\nout (abcdefghijklmn_1)\nsteps\nend\n",
+    b"linda-kt 1\nshards 3\nworker\nout (\"a\", 1)\n# its answer is lost sight of\nworker\nout (7)\nsteps\nissue w1\nrepeat w1\ndeliver w1 s3\nserve s3 w1 0\ndeliver w1 s3\nissue w2\ndeliver w2 s2\nrepeat w2\nserve s2 w2 0\ndeliver s3 w1\ndeliver s3 w1\ndeliver w2 s2\nend\n",
 ];
 
 /// Bytes that a mutant gets.

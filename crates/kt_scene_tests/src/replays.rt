@@ -12,7 +12,7 @@ use std::test::Fail;
 type Row = (&'static [u8], &'static [u8], Result<(), ReplayFault>);
 
 /// A scenario, its report, and the fault with which it ends.
-const ROWS: [Row; 12] = [
+const ROWS: [Row; 16] = [
     // put_and_take
     (
         b"linda-kt 1\nshards 1\nworker\nout (\"a\", 1)\nin (\"a\", ?int x)\nsteps\nissue w1\ndeliver w1 s1\nserve s1 w1 0\ndeliver s1 w1\nissue w1\ndeliver w1 s1\nserve s1 w1 0\nend\n",
@@ -65,6 +65,36 @@ const ROWS: [Row; 12] = [
         Err(ReplayFault::Scene {
             line: 4,
             cause: SceneError::Variable,
+        }),
+    ),
+    // answered_again
+    (
+        b"linda-kt 1\nshards 1\nworker\nout (\"a\", 1)\nsteps\nissue w1\ndeliver w1 s1\nserve s1 w1 0\nrepeat w1\ndeliver w1 s1\ndeliver s1 w1\ndeliver s1 w1\nend\n",
+        b"survivors 1\nw1.1 out (\"a\", 1) done\nlost 0\nspace 1\n(\"a\", 1)\npermanent 0\n",
+        Ok(()),
+    ),
+    // answered_again, with a repeat of what is answered
+    (
+        b"linda-kt 1\nshards 1\nworker\nout (\"a\", 1)\nsteps\nissue w1\ndeliver w1 s1\nserve s1 w1 0\nrepeat w1\ndeliver w1 s1\ndeliver s1 w1\ndeliver s1 w1\nrepeat w1\nend\n",
+        b"",
+        Err(ReplayFault::Step {
+            at: 8,
+            cause: StepError::NothingThere,
+        }),
+    ),
+    // shard_of_signature
+    (
+        b"linda-kt 1\nshards 2\nworker\nout (\"a\", 1)\nworker\nout (\"a\")\nworker\nout (1, 2)\nsteps\nissue w1\nissue w2\nissue w3\ndeliver w1 s2\ndeliver w2 s1\ndeliver w3 s1\nserve s2 w1 0\nserve s1 w3 0\nserve s1 w2 0\ndeliver s2 w1\ndeliver s1 w2\ndeliver s1 w3\nend\n",
+        b"survivors 3\nw1.1 out (\"a\", 1) done\nw3.1 out (1, 2) done\nw2.1 out (\"a\") done\nlost 0\nspace 3\n(\"a\")\n(\"a\", 1)\n(1, 2)\npermanent 0\n",
+        Ok(()),
+    ),
+    // shard_of_signature, with a delivery to the other shard
+    (
+        b"linda-kt 1\nshards 2\nworker\nout (\"a\", 1)\nsteps\nissue w1\ndeliver w1 s1\nend\n",
+        b"",
+        Err(ReplayFault::Step {
+            at: 2,
+            cause: StepError::NothingThere,
         }),
     ),
     // a node that is not in the scene

@@ -1,6 +1,9 @@
 //! Scenarios against faults worked out by hand from the rules.
 
-use crate::tables::*;
+use crate::tables::{
+    BEHIND_COMMANDS, BEHIND_NAMES, Lines, OPERATIONS, OTHER_COMMANDS, SCRIPTS, Text,
+};
+use crate::texts::{ENDS, HEADERS, SCENARIOS, STEPS};
 use kt_core::Step;
 use kt_scene::{MAX_TEXT, Work, read_scene, write_scene};
 use kt_script::{Actual, Command, Operation, Slot};
@@ -174,13 +177,13 @@ fn long_texts(rt: HostRuntime) -> Result<(), Fail> {
 #[test]
 fn written_again(rt: HostRuntime) -> Result<(), Fail> {
     let text =
-        b"# a\nlinda-kt 1\n#\nshards 1\nworker\nout (-1, \"\\\"\\\\\")\nin (?int x, ?str)\nrd (x, ?str s)\n\
+        b"# a\nlinda-kt 1\n#\nshards 8\nworker\nout (-1, \"\\\"\\\\\")\nin (?int x, ?str)\nrd (x, ?str s)\n\
         inp (s)\nrdp (\"\", ?int x)\nset y = x + -9223372036854775808\nunless 200\nout (y, s)\nworker\n# b\n\
-        steps\nissue w1\ndeliver w99 s1\n#\nserve s10 w1 99999\nend\n";
+        steps\nissue w1\nrepeat w10\ndeliver w99 s1\n#\nrepeat s99\nserve s10 w1 99999\nend\n";
     let told =
-        b"linda-kt 1\nshards 1\nworker\nout (-1, \"\\\"\\\\\")\nin (?int x, ?str)\nrd (x, ?str s)\n\
+        b"linda-kt 1\nshards 8\nworker\nout (-1, \"\\\"\\\\\")\nin (?int x, ?str)\nrd (x, ?str s)\n\
         inp (s)\nrdp (\"\", ?int x)\nset y = x + -9223372036854775808\nunless 200\nout (y, s)\nworker\n\
-        steps\nissue w1\ndeliver w99 s1\nserve s10 w1 99999\nend\n";
+        steps\nissue w1\nrepeat w10\ndeliver w99 s1\nrepeat s99\nserve s10 w1 99999\nend\n";
     for given in [text.as_slice(), told.as_slice()] {
         let scenario = read_scene(rt.alloc(), given)?;
         let written = write_scene(rt.alloc(), &scenario.scene, &scenario.work)?;
@@ -193,15 +196,16 @@ fn written_again(rt: HostRuntime) -> Result<(), Fail> {
 #[test]
 fn a_scenario(rt: HostRuntime) -> Result<(), Fail> {
     let text =
-        b"# a\nlinda-kt 1\n# b\nshards 1\n#\nworker\nout (\"a\", 1)\nin (?int x)\nworker\n# c\nsteps\n\
-        issue w1\n# d\ndeliver w1 s1\nserve s1 w1 99999\nend\n";
+        b"# a\nlinda-kt 1\n# b\nshards 3\n#\nworker\nout (\"a\", 1)\nin (?int x)\nworker\n# c\nsteps\n\
+        issue w1\n# d\nrepeat w1\ndeliver w1 s2\nserve s2 w1 99999\nend\n";
     let scenario = read_scene(rt.alloc(), text)?;
-    assert_eq!(rt; scenario.scene.shards(), 1);
+    assert_eq!(rt; scenario.scene.shards(), 3);
     let Work::Steps(steps) = &scenario.work;
     let worker = NodeId::Worker(1);
-    let shard = NodeId::Shard(1);
+    let shard = NodeId::Shard(2);
     let expected = [
         Step::Issue { node: worker },
+        Step::Repeat { node: worker },
         Step::Deliver {
             from: worker,
             to: shard,

@@ -7,3 +7,5 @@ pub mod Pushed
 pub mod Unbound
 pub mod Remains
 pub mod OneKind
+pub mod InScript
+pub mod Limits

@@ -136,6 +136,10 @@ AreOfKind-follow before (c ∷ later) f h =
     subst (λ (cs : List Command). AreOfKind (variables_of cs) (flat_map bindings cs)) (append_assoc before (c ∷ []) later)
     (AreOfKind-follow (before ++ c ∷ []) later f.1 (AreOfKind-push before c f.0 h))
 
+-- each binding of a script has the kind of its variable
+pub AreOfKind-script : (script : List Command) → IsScript script → AreOfKind (variables_of script) (flat_map bindings script)
+AreOfKind-script script is = AreOfKind-follow [] script is tt
+
 -- ---- the law
 
 kind-at : (vs bs : List (Name × Kind)) (x : Name × Kind) (k : ℕ) → AreOfKind vs bs → k < length bs → get_or bs k x ≡ x → kind_in vs x.0 ≡ Some x.1
@@ -144,7 +148,7 @@ kind-at vs (b ∷ bs) x zero h below e = subst (λ (y : Name × Kind). kind_in v
 kind-at vs (b ∷ bs) x (suc k) h below e = kind-at vs bs x k h.1 (omega (arith, below)) e
 
 pub variable_kind : (script : List Command) → IsScript script → (name : Name) (kind : Kind) → Contains (flat_map bindings script) (name, kind) → kind_in (variables_of script) name ≡ Some kind
-variable_kind script is name kind c = kind-at (variables_of script) (flat_map bindings script) (name, kind) c.0 (AreOfKind-follow [] script is tt) c.1 c.2
+variable_kind script is name kind c = kind-at (variables_of script) (flat_map bindings script) (name, kind) c.0 (AreOfKind-script script is) c.1 c.2
 
 pub one_kind : (script : List Command) → IsScript script → (name : Name) (j k : Kind) → Contains (flat_map bindings script) (name, j) → Contains (flat_map bindings script) (name, k) → j ≡ k
 one_kind script is name j k first second =

@@ -1,11 +1,15 @@
 -- What a worker keeps between two operations of its script: a value for each variable, and whether the last
 -- answer was none.
-use Rattle.std.specs.Prelude.{pos, Bool, false, if◌then◌else◌, List, [], ◌∷◌, map, None, Some}
+use Rattle.std.specs.Prelude.{pos, Bool, false, if◌then◌else◌, List, [], ◌∷◌, map, Option, None, Some}
+use Rattle.std.specs.Map.{values_of}
+use Rattle.std.specs.Cmp.Lexicographic.{pointwise}
 use Rattle.kt_tuple.specs.declared.value.Value.{Value}
 use Rattle.kt_tuple.specs.declared.value.Value.TheVariants.{Int}
 use Rattle.kt_tuple.specs.declared.value.Kind.{Kind}
 use Rattle.kt_tuple.specs.declared.op.Answer.{Answer}
 use Rattle.kt_tuple.specs.declared.op.Answer.TheVariants as answers
+use Rattle.kt_tuple.specs.Equality.{kind_eq}
+use Rattle.kt_tuple.specs.Signature.{kinds_of}
 use Rattle.kt_script.specs.declared.name.Name.{Name}
 use Rattle.kt_script.specs.declared.command.Slot.{Slot}
 use Rattle.kt_script.specs.declared.command.Slot.TheVariants as slots
@@ -26,6 +30,15 @@ zeros_of variables = map (λ v. zero_of (Some v.1)) variables
 -- before any answer
 abbrev pub opening_memory : List Command → Memory
 opening_memory script = record { values = zeros_of (variables_of script); was_none = false }
+
+-- there is one value for each variable, of its kind
+abbrev pub are_values_of : List (Name × Kind) → List Value → Bool
+are_values_of variables values = pointwise kind_eq (values_of variables) (kinds_of values)
+
+-- what is kept, made of its parts, where the values are the variables'
+abbrev pub memory_of : List Command → List Value → Bool → Option Memory
+memory_of script values was_none =
+    if are_values_of (variables_of script) values then Some (record { values = values; was_none = was_none }) else None
 
 -- the value of the name
 abbrev pub held : List (Name × Kind) → List Value → Name → Value

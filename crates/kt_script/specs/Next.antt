@@ -1,5 +1,5 @@
 -- What a script does from one operation to the next.
-use Rattle.std.specs.Prelude.{ℕ, zero, suc, ◌+◌, ℤ, if◌then◌else◌, List, [], ◌∷◌, drop, fold, Option, None, Some, slice_get}
+use Rattle.std.specs.Prelude.{◌≡◌, ◌≤◌, ℕ, zero, suc, ◌+◌, ℤ, true, if◌then◌else◌, List, [], ◌∷◌, length, drop, fold, Option, None, Some, slice_get}
 use Rattle.kt_tuple.specs.declared.value.Kind.{Kind}
 use Rattle.kt_tuple.specs.declared.op.Op.{Op}
 use Rattle.kt_tuple.specs.declared.op.Answer.{Answer}
@@ -12,12 +12,17 @@ use Rattle.kt_script.specs.Command.{slots_of}
 use Rattle.kt_script.specs.Variables.{variables_of}
 use Rattle.kt_script.specs.Meaning.{op_of, plus}
 use Rattle.kt_script.specs.Asks.{is_none_answer}
-use Rattle.kt_script.specs.Memory.{Memory, opening_memory, held, with_held, values_after}
+use Rattle.kt_script.specs.Memory.{Memory, opening_memory, are_values_of, held, with_held, values_after}
 
 -- where a worker stands in its script: before the command of this number, counted from 0
 pub record Position : Type 0 where
   pub pc : ℕ
   pub memory : Memory
+
+-- the position is before a command of the script or at its end, and has a value of its kind for each variable
+pub record IsInScript (script : List Command) (position : Position) : Type 0 where
+  pub within : position.pc ≤ length script
+  pub values : are_values_of (variables_of script) position.memory.values ≡ true
 
 -- `set` is carried out
 abbrev pub assigned : List (Name × Kind) → Memory → Name → Name → ℤ → Memory

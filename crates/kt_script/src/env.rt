@@ -1,13 +1,13 @@
 ghost use Rattle.std.specs.Prelude.{◌≡◌, ◌++◌, ◌∷◌, [], List, IfOk, Some, map};
 ghost use Rattle.kt_script.specs.Asks.{is_none_answer};
 ghost use Rattle.kt_script.specs.Meaning.{zero_of};
-ghost use Rattle.kt_script.specs.Memory.{opening_memory, values_after};
+ghost use Rattle.kt_script.specs.Memory.{opening_memory, memory_of, values_after};
 ghost use Rattle.kt_script.specs.Next.{bound, next_at, position_after};
 
 use crate::command::Slot;
 use crate::meaning::{bind_tuple, has_kinds};
 use crate::script::Script;
-use crate::variables::{Variables, zeros_of};
+use crate::variables::{Variables, are_values_of, zeros_of};
 use kt_tuple::{Answer, Value};
 use std::alloc::{AllocError, Global};
 use std::marker::Model;
@@ -41,6 +41,17 @@ impl Env {
             values: zeros_of(alloc, &script.variables)?,
             was_none: false,
         })
+    }
+
+    /// The environment with these values, made of what `values` and `was_none` read. There is none unless
+    /// there is one value for each name of the script, in their order, and each of its variable's kind.
+    pub fn from_parts(script: &Script, values: Vec<Value>, was_none: bool) -> Option<Env>
+        ensures { result ≡ memory_of script.now values.items was_none }
+    {
+        if !are_values_of(&script.variables, &values) {
+            return None;
+        }
+        Some(Env { values, was_none })
     }
 
     /// The variables after an answer to the command just before `pc`: a tuple that was got binds its

@@ -1,17 +1,19 @@
 //! Laws about the definitions, each the contract of a function with nothing to do.
 
-ghost use Rattle.std.specs.Prelude.{◌≡◌, ℕ, false, List, [], ◌∷◌, ◌++◌, Some, Contains, flat_map};
+ghost use Rattle.std.specs.Prelude.{◌≡◌, ◌≤◌, ℕ, true, false, List, length, [], ◌∷◌, ◌++◌, Some, Contains, flat_map};
 ghost use Rattle.kt_tuple.specs.declared.op.Answer.{Answer};
 ghost use Rattle.kt_tuple.specs.declared.op.Answer.TheVariants.{Done, Got, None as NoMatch};
 ghost use Rattle.kt_tuple.specs.declared.tuple.Tuple.{Tuple};
 ghost use Rattle.kt_tuple.specs.declared.value.Kind.{Kind};
+ghost use Rattle.kt_tuple.specs.declared.value.Value.{Value};
 ghost use Rattle.kt_script.specs.declared.command.Command.{Command};
 ghost use Rattle.kt_script.specs.declared.name.Name.{Name};
+ghost use Rattle.kt_script.specs.declared.next.Next.{Next};
 ghost use Rattle.kt_script.specs.Asks.{asks};
 ghost use Rattle.kt_script.specs.Command.{bindings};
 ghost use Rattle.kt_script.specs.Meaning.{has_kinds};
-ghost use Rattle.kt_script.specs.Memory.{Memory, held};
-ghost use Rattle.kt_script.specs.Next.{next_at, after_one, opening_position, position_after, op_of_next, bound, slots_before};
+ghost use Rattle.kt_script.specs.Memory.{Memory, held, opening_memory, are_values_of, memory_of};
+ghost use Rattle.kt_script.specs.Next.{Position, next_at, after_one, opening_position, position_after, op_of_next, bound, slots_before, IsInScript};
 ghost use Rattle.kt_script.specs.Rules.{IsScript};
 ghost use Rattle.kt_script.specs.Variables.{kind_in, variables_of};
 
@@ -39,4 +41,38 @@ pub fn names_have_one_kind()
     ensures variable { (script : List Command) → IsScript script → (name : Name) (kind : Kind)
         → Contains (flat_map bindings script) (name, kind)
         → kind_in (variables_of script) name ≡ Some kind }
+{}
+
+/// Before any answer there is one value for each variable of the script, of the variable's kind; behind the
+/// next operation, and after its answer, there is again. So what is kept then is made again of its parts.
+pub fn variables_keep_their_kinds()
+    ensures opening { (script : List Command)
+        → are_values_of (variables_of script) (opening_memory script).values ≡ true }
+    ensures next { (script : List Command) → IsScript script → (position : Position) (next : Next)
+        → are_values_of (variables_of script) position.memory.values ≡ true
+        → next_at script position ≡ Some next
+        → are_values_of (variables_of script) next.env.values ≡ true }
+    ensures bound { (script : List Command) → IsScript script → (pc : ℕ) (answer : Answer) (memory : Memory)
+        → are_values_of (variables_of script) memory.values ≡ true
+        → are_values_of (variables_of script) (bound script pc answer memory).values ≡ true }
+    ensures again { (script : List Command) (memory : Memory)
+        → are_values_of (variables_of script) memory.values ≡ true
+        → memory_of script memory.values memory.was_none ≡ Some memory }
+{}
+
+/// The position that answers lead to is within the script, and so is the one behind the operation that is
+/// next there; both have one value for each variable, of the variable's kind.
+pub fn answers_lead_to_places_of_the_script()
+    ensures after { (script : List Command) → IsScript script → (answers : List Answer)
+        → IsInScript script (position_after script answers) }
+    ensures next { (script : List Command) → IsScript script → (position : Position) (next : Next)
+        → IsInScript script position → next_at script position ≡ Some next
+        → IsInScript script (record { pc = next.pc; memory = next.env }) }
+{}
+
+/// A script has at most 200 commands, and at most 64 values are those of its variables.
+pub fn a_script_keeps_its_limits()
+    ensures commands { (script : List Command) → IsScript script → length script ≤ 200 }
+    ensures values { (script : List Command) → IsScript script → (values : List Value)
+        → are_values_of (variables_of script) values ≡ true → length values ≤ 64 }
 {}

@@ -3,12 +3,15 @@
 ghost use Rattle.std.specs.Prelude.{◌≡◌, ◌+◌, ◌<◌, ◌≤◌, IfOk, OnOk, OnErr, Some, position, pos, unwrap_or};
 ghost use Rattle.std.specs.Option.{option_copied};
 ghost use Rattle.std.specs.Map.{keys_of};
+ghost use Rattle.std.specs.Cmp.Lexicographic.{pointwise};
 ghost use Rattle.kt_tuple.specs.declared.value.Value.TheVariants.{Int};
+ghost use Rattle.kt_tuple.specs.Equality.{kind_eq};
+ghost use Rattle.kt_tuple.specs.Signature.{kinds_of};
 ghost use Rattle.kt_script.specs.Name.{same_name};
 ghost use Rattle.indexmap.specs.IndexMap.{spare};
 ghost use Rattle.kt_script.specs.Variables.{kind_in, with_bindings, with_binding};
 ghost use Rattle.kt_script.specs.Meaning.{zero_of};
-ghost use Rattle.kt_script.specs.Memory.{held, with_held, zeros_of};
+ghost use Rattle.kt_script.specs.Memory.{are_values_of, held, with_held, zeros_of};
 
 use crate::name::Name;
 use indexmap::IndexMap;
@@ -52,6 +55,25 @@ pub(crate) fn hold(variables: &Variables, values: &mut [Value], name: &Name, val
         if place < values.len() {
             values[place] = value;
         }
+    }
+}
+
+/// Whether there is one value for each variable, of its kind.
+pub(crate) fn are_values_of(variables: &Variables, values: &[Value]) -> bool
+    ensures { result ≡ are_values_of variables.now.entries values.now }
+{
+    have_kinds(variables.values().as_slice(), values)
+}
+
+fn have_kinds(kinds: &[Kind], values: &[Value]) -> bool
+    ensures { result ≡ pointwise kind_eq kinds.now (kinds_of values.now) }
+{
+    match (kinds.split_first(), values.split_first()) {
+        (None, None) => true,
+        (Some((kind, kinds)), Some((value, values))) => {
+            *kind == value.kind() && have_kinds(kinds, values)
+        }
+        _ => false,
     }
 }
 

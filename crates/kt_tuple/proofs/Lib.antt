@@ -34,3 +34,4 @@ pub mod Exact
 pub mod ByShape
 pub mod Explained
 pub mod Only
+pub mod Actuals

@@ -1,5 +1,5 @@
 -- When a tuple fits a template (Gelernter, "Generative Communication in Linda", section 2).
-use Rattle.std.specs.Prelude.{◌≡◌, ◌≤◌, Bool, false, List, length}
+use Rattle.std.specs.Prelude.{◌≡◌, ◌≤◌, ◌↔◌, Bool, false, List, length}
 use Rattle.std.specs.Bool.{Decides}
 use Rattle.std.proofs.Common.{sym, ap}
 use Rattle.std.specs.List.{AllZip}
@@ -22,6 +22,10 @@ Admits (Formal k) u = kind_of u ≡ k
 -- as many places as values, and each place admits its value
 abbrev pub Matches : List Place → List Value → Type 0
 Matches template tuple = AllZip Admits template tuple
+
+-- the template fits this tuple and no other
+abbrev pub MatchesOnly : List Place → List Value → Type 0
+MatchesOnly template tuple = (other : List Value) → Matches template other ↔ (other ≡ tuple)
 
 -- the same as tests that compute
 abbrev pub admits : Place → Value → Bool

@@ -1,5 +1,6 @@
-ghost use Rattle.std.specs.Prelude.{◌≡◌, ◌↔◌, IsTrue, IsSome, IfSome, IfOk};
-ghost use Rattle.kt_tuple.specs.Matching.{HasArity, Admits, Matches, admits, matches};
+ghost use Rattle.std.specs.Prelude.{◌≡◌, ◌↔◌, IsTrue, IsSome, IfSome, IfOk, map};
+ghost use Rattle.kt_tuple.specs.declared.template.Place.TheVariants.{Actual};
+ghost use Rattle.kt_tuple.specs.Matching.{HasArity, Admits, Matches, MatchesOnly, admits, matches};
 
 use crate::signature::Signature;
 use crate::tuple::{MAX_PLACES, Tuple};
@@ -84,6 +85,16 @@ impl Template {
         }
     }
 
+    /// The template that this tuple alone matches: its values as actuals.
+    pub fn of(alloc: Global, tuple: &Tuple) -> Result<Template, AllocError>
+        ensures value { IfOk result (λ t. t ≡ map Actual tuple.now) }
+        ensures alone { IfOk result (λ t. MatchesOnly t tuple.now) }
+    {
+        Ok(Template {
+            places: actuals(alloc, tuple.values())?,
+        })
+    }
+
     /// The places, from left to right.
     pub fn places(&self) -> &[Place]
         ensures value { result.now ≡ self.now }
@@ -132,6 +143,16 @@ fn all_admit(places: &[Place], values: &[Value]) -> bool
         }
         _ => false,
     }
+}
+
+fn actuals(alloc: Global, values: &[Value]) -> Result<Vec<Place>, AllocError>
+    ensures { IfOk result (λ places. places.items ≡ map Actual values.now) }
+{
+    let mut places = Vec::with_capacity(alloc, values.len())?;
+    for value in values {
+        places.push(Place::Actual(value.copy()))?;
+    }
+    Ok(places)
 }
 
 fn copy_places(alloc: Global, places: &[Place]) -> Result<Vec<Place>, AllocError>

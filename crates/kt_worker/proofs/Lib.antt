@@ -1,2 +1,3 @@
 pub mod Later
 pub mod Requests
+pub mod Fits

@@ -1,2 +1,3 @@
 pub mod Standing
 pub mod After
+pub mod Parts

@@ -32,6 +32,10 @@ next_of script w = unless_asked w.asked (next_at script w.position)
 abbrev pub numbered : ℕ → Option Op → Option (ℕ × Op)
 numbered number op = option_map (λ o. (number, o)) op
 
+-- the unanswered request once more: its number and operation
+abbrev pub again_request : Standing → Option (ℕ × Op)
+again_request w = numbered w.number w.asked
+
 -- the next request: its number and operation
 abbrev pub next_request : List Command → Standing → Option (ℕ × Op)
 next_request script w = numbered (w.number + 1) (op_of_next (next_of script w))

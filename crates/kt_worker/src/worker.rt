@@ -1,8 +1,9 @@
-ghost use Rattle.std.specs.Prelude.{◌≡◌, ◌↔◌, List, suc, length, [], ◌∷◌, ◌++◌, if◌then◌else◌, ◌+◌, ◌<◌, Some, None, not, is_some, IsTrue, IfOk, OnErr};
-ghost use Rattle.std.specs.Option.{option_copied};
+ghost use Rattle.std.specs.Prelude.{◌≡◌, ◌↔◌, List, suc, length, [], ◌∷◌, ◌++◌, if◌then◌else◌, ◌+◌, ◌<◌, ◌≤◌, Some, None, not, is_some, IsTrue, IfOk, IfErr, IfSome, OnOk, OnErr};
+ghost use Rattle.std.specs.Option.{option_copied, option_map};
 
+use crate::misfit::Misfit;
 use kt_script::{Env, Next, Script};
-use kt_tuple::{Answer, Op};
+use kt_tuple::{Answer, Op, Value};
 use std::alloc::{AllocError, Global};
 use std::marker::Model;
 
@@ -33,9 +34,11 @@ impl Model for Worker {
 impl Worker {
     ghost use Rattle.kt_tuple.specs.declared.op.Op.{Op};
     ghost use Rattle.kt_tuple.specs.declared.op.Answer.{Answer};
+    ghost use Rattle.kt_script.specs.declared.command.Command.{Command};
     ghost use Rattle.kt_script.specs.Asks.{asks};
-    ghost use Rattle.kt_worker.specs.Standing.{opening_standing, next_request, numbered, issued, awaits, heard, is_left};
+    ghost use Rattle.kt_worker.specs.Standing.{opening_standing, again_request, next_request, numbered, issued, awaits, heard, is_left};
     ghost use Rattle.kt_worker.specs.After.{IsAfter};
+    ghost use Rattle.kt_worker.specs.Parts.{standing_of, misfit_of};
 
     /// A worker that made no request yet.
     pub fn new(alloc: Global, script: &Script) -> Result<Worker, AllocError>
@@ -47,6 +50,41 @@ impl Worker {
             asked: None,
             pc: 0,
             env: Env::new(alloc, script)?,
+        })
+    }
+
+    /// The worker of these parts, which `number`, `asked`, `pc`, `was_none` and `values` read: the number of
+    /// the last request, what it asks for where it is unanswered, the number of the next command, whether
+    /// the last answer was none, and the values of the variables in the order of the script's names. Parts
+    /// that are no worker's of this script are refused; it takes no memory.
+    pub fn from_parts(
+        script: &Script,
+        number: u64,
+        asked: Option<Op>,
+        pc: usize,
+        was_none: bool,
+        values: Vec<Value>,
+    ) -> Result<Worker, Misfit>
+        ensures made { IfOk result (λ w. w ≡ standing_of number asked pc was_none values.items) }
+        ensures fits { OnOk result
+            (misfit_of script.now (standing_of number asked pc was_none values.items) ≡ None) }
+        ensures refused { IfErr result (λ m.
+            misfit_of script.now (standing_of number asked pc was_none values.items) ≡ Some m) }
+    {
+        if script.commands().len() < pc {
+            return Err(Misfit::Position);
+        }
+        if (pc as u64) < number {
+            return Err(Misfit::Number);
+        }
+        let Some(env) = Env::from_parts(script, values, was_none) else {
+            return Err(Misfit::Values);
+        };
+        Ok(Worker {
+            number,
+            asked,
+            pc,
+            env,
         })
     }
 
@@ -78,6 +116,42 @@ impl Worker {
         ensures { option_copied result ≡ self.now.asked }
     {
         self.asked.as_ref()
+    }
+
+    /// The number of the next command, counted from 0: at least that of the last request.
+    pub fn pc(&self) -> usize
+        ensures value { result ≡ self.now.position.pc }
+        ensures numbered { self.now.number ≤ result }
+    {
+        self.pc
+    }
+
+    /// Whether the last answer was none; not so before any answer.
+    pub fn was_none(&self) -> bool
+        ensures { result ≡ self.now.position.memory.was_none }
+    {
+        self.env.was_none()
+    }
+
+    /// The values of the variables, in the order in which the script's text first binds their names.
+    pub fn values(&self) -> &[Value]
+        ensures { result.now ≡ self.now.position.memory.values }
+    {
+        self.env.values()
+    }
+
+    /// The unanswered request once more: its number and operation. There is none where nothing is
+    /// unanswered.
+    pub fn again(&self) -> Option<(u64, &Op)>
+        ensures exact { option_map (λ r. (r.0, r.1.now)) result ≡ again_request self.now }
+        // After any answers it is what the script asks then, with the number of that request.
+        ensures asks { (script : List Command) (answers : List Answer) → IsAfter script answers self.now
+            → IfSome result (λ r. (r.0 ≡ suc (length answers)) × (asks script answers ≡ Some r.1.now)) }
+    {
+        match &self.asked {
+            Some(op) => Some((self.number, op)),
+            None => None,
+        }
     }
 
     /// Makes the next request, and gives its number and operation. There is none while one is unanswered,

@@ -6,10 +6,10 @@ use Rattle.kt_history.proofs.space.serve.Goals as goal
 
 pub take_out-requires : goal.take_out-requires
 take_out-requires c =
-    let P : Op → Type 0 = λ op. CanStep c.args.tuples.now.items op c.args.service.now.answer in
+    let P : Op → Type 0 = λ op. CanStep c.args.bag.now.tuples op c.args.service.now.answer in
     IsThere-in _ _ _ (subst P c.in-In.is c.requires)
 
 pub take_out-requires-in-Inp : goal.take_out-requires-in-Inp
 take_out-requires-in-Inp c =
-    let P : Op → Type 0 = λ op. CanStep c.args.tuples.now.items op c.args.service.now.answer in
+    let P : Op → Type 0 = λ op. CanStep c.args.bag.now.tuples op c.args.service.now.answer in
     IsThere-inp _ _ _ (subst P c.in-Inp.is c.requires)

@@ -5,6 +5,6 @@ use Rattle.kt_history.proofs.space.space_of.Given as goal
 
 abbrev pub invariant-loop-service : goal.invariant-loop-service
 invariant-loop-service l = record {
-  done : RunsFrom [] (take l.service-index l.services) l.tuples.items;
-  left : (tuples : List Tuple) × RunsFrom l.tuples.items (drop l.service-index l.services) tuples;
+  done : RunsFrom [] (take l.service-index l.services) l.bag.tuples;
+  left : (tuples : List Tuple) × RunsFrom l.bag.tuples (drop l.service-index l.services) tuples;
 }

@@ -13,7 +13,7 @@ returns c =
     let Rises : List (Vec ℕ) → Type 0 = IsSorted (λ (a b : Vec ℕ). slice_cmp nat_cmp a.items b.items) in
     let value = c.deref.ensures.value in
     ok_then c.push_texts.result
-    (λ second. tuples_listed c.args.word.now c.args.out.now.items c.push_count.new.out.items _ c.args.tuples.now c.in_ok-texts.texts.items c.deref.result.now c.len.result
+    (λ second. tuples_listed c.args.word.now c.args.out.now.items c.push_count.new.out.items _ c.args.bag.now.tuples c.in_ok-texts.texts.items c.deref.result.now c.len.result
     c.in_ok-texts.ensures (subst Same (sym value) c.in_ok-sort.ensures.permutation) (subst Rises (sym value) c.in_ok-sort.ensures.sorted)
     (c.len.ensures ∙ sym c.deref.ensures.len) c.in_ok-push_count.ensures second)
     c.push_texts.ensures

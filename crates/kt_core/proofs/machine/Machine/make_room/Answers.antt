@@ -4,7 +4,7 @@ use Rattle.std.specs.List.{AllByRecursion}
 use Rattle.kt_tuple.specs.declared.node.NodeId.{NodeId}
 use Rattle.kt_link.specs.Network.{AreNeighbours, room}
 use Rattle.kt_core.specs.declared.node.Message.{Message}
-use Rattle.kt_core.specs.State.{at}
+use Rattle.kt_shard.specs.Table.{at}
 use Rattle.kt_core.specs.Ready.{HasRoom}
 use Rattle.kt_core.proofs.Outcomes.{on_ok-map}
 use Rattle.kt_core.proofs.Readiness.{rows_there}

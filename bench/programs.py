@@ -1,0 +1,57 @@
+"""Small programs of the benches' own: each lies in bench/NAME.txt, and its first start proves and builds it in
+out/bench, over copies of the crates that it stands on."""
+
+import os
+import re
+import shutil
+import subprocess
+import sys
+
+ROOT = os.path.dirname(os.path.dirname(os.path.realpath(__file__)))
+PLACE = f"{ROOT}/out/bench"
+
+
+def crates(stands_on):
+    """What each of these crates and those below them stands on, as crates.txt has it."""
+    with open(f"{ROOT}/crates.txt", encoding="ascii") as file:
+        lines = dict(line.strip().split(":", 1) for line in file if not line.startswith("#"))
+    found, left = {}, list(stands_on)
+    while left:
+        crate = left.pop()
+        if crate in lines and crate not in found:
+            found[crate] = lines[crate].strip()
+            left += found[crate].split()
+    return found
+
+
+def build(name, stands_on):
+    """Proves and builds the program over what the crates are now, and gives its path."""
+    below = crates(stands_on)
+    for crate in [*below, name]:
+        kept = f"{PLACE}/crates/{crate}"
+        for part in ("src", "specs", "proofs"):
+            shutil.rmtree(f"{kept}/{part}", ignore_errors=True)
+            if crate != name and os.path.isdir(f"{ROOT}/crates/{crate}/{part}"):
+                shutil.copytree(f"{ROOT}/crates/{crate}/{part}", f"{kept}/{part}")
+    os.makedirs(f"{PLACE}/crates/{name}/src")
+    shutil.copy(f"{ROOT}/bench/{name}.txt", f"{PLACE}/crates/{name}/src/main.rt")
+    shutil.copy(f"{ROOT}/HANDLES", f"{PLACE}/HANDLES")
+    with open(f"{PLACE}/crates.txt", "w", encoding="ascii") as file:
+        file.writelines(f"{crate}: {others}\n" for crate, others in below.items())
+        file.write(f"{name}: {' '.join(stands_on)}\n")
+    ran = subprocess.run(
+        ["rt", "run", "--", "0"], cwd=f"{PLACE}/crates/{name}",
+        stdin=subprocess.DEVNULL, stdout=subprocess.PIPE, stderr=subprocess.STDOUT, text=True,
+    )
+    if ran.returncode:
+        sys.exit(ran.stdout[-2000:] + "\nthe program was not built")
+    return f"{PLACE}/crates/{name}/out/{name}"
+
+
+def measured(program, *words):
+    """The instructions of a start, in millions, and what it prints."""
+    ran = subprocess.run(
+        ["valgrind", "--tool=callgrind", "--callgrind-out-file=/dev/null", program, *map(str, words)],
+        stdout=subprocess.PIPE, stderr=subprocess.PIPE, check=True,
+    )
+    return int(re.search(rb"Collected : (\d+)", ran.stderr).group(1)) / 1e6, ran.stdout.decode().strip()

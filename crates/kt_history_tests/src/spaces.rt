@@ -1,0 +1,64 @@
+//! The tuples that a run leaves.
+
+ghost use Rattle.std.specs.Prelude.{◌≡◌, ◌∷◌, [], IfOk};
+ghost use Rattle.kt_tuple.specs.declared.op.Answer.TheVariants as answers;
+ghost use Rattle.kt_tuple.specs.declared.op.Op.TheVariants as ops;
+ghost use Rattle.kt_tuple.specs.declared.template.Place.TheVariants.{Formal};
+ghost use Rattle.kt_tuple.specs.declared.value.Kind.TheVariants as kinds;
+ghost use Rattle.kt_tuple.specs.declared.value.Value.TheVariants as values;
+
+use kt_history::{Service, space_of};
+use kt_tuple::{Answer, Kind, Op, Place, Template, Tuple, Value};
+use std::alloc::Global;
+use std::test::Fail;
+
+fn tuple_of(alloc: Global, int: i64) -> Result<Tuple, Fail>
+    ensures { IfOk result (λ tuple. tuple ≡ values.Int int ∷ []) }
+{
+    Ok(Tuple::new(vec![in alloc; Value::Int(int)]?).ok_or("a tuple")?)
+}
+
+/// `out` of this int, done.
+fn put(alloc: Global, int: i64) -> Result<Service, Fail>
+    ensures op { IfOk result (λ service. service.op ≡ ops.Out (values.Int int ∷ [])) }
+    ensures answer { IfOk result (λ service. service.answer ≡ answers.Done) }
+{
+    Ok(Service {
+        worker: 1,
+        number: 1,
+        op: Op::Out(tuple_of(alloc, int)?),
+        answer: Answer::Done,
+    })
+}
+
+/// `in (?int)`, which got this int.
+fn take(alloc: Global, int: i64) -> Result<Service, Fail>
+    ensures op { IfOk result (λ service. service.op ≡ ops.In (Formal kinds.Int ∷ [])) }
+    ensures answer { IfOk result (λ service. service.answer ≡ answers.Got (values.Int int ∷ [])) }
+{
+    let places = vec![in alloc; Place::Formal(Kind::Int)]?;
+    Ok(Service {
+        worker: 2,
+        number: 1,
+        op: Op::In(Template::new(places).ok_or("a template")?),
+        answer: Answer::Got(tuple_of(alloc, int)?),
+    })
+}
+
+/// What was withdrawn is gone, though a tuple that came before it matched too.
+#[test]
+fn the_tuple_that_was_answered_is_gone(rt: HostRuntime) -> Result<(), Fail> {
+    let alloc = rt.alloc();
+    let services = [
+        put(alloc, 1)?,
+        put(alloc, 2)?,
+        put(alloc, 2)?,
+        take(alloc, 2)?,
+    ];
+    let space = space_of(alloc, &services)?;
+    assert_eq!(rt; space.len(), 2);
+    for (place, int) in [1, 2].iter().enumerate() {
+        assert_eq!(rt; space.get(place), Some(&tuple_of(alloc, *int)?));
+    }
+    Ok(())
+}

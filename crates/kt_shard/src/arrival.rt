@@ -1,0 +1,95 @@
+ghost use Rattle.std.specs.Prelude.{◌≡◌, max, IfOk};
+ghost use Rattle.std.specs.Option.{option_copied};
+ghost use Rattle.kt_shard.specs.Desk.{number_or_0, kept_request, answer_unless_waiting};
+ghost use Rattle.kt_shard.specs.Arrival.{arrival_view, heard_view, arrival_at};
+
+use crate::request::{Kept, Request};
+use kt_tuple::Answer;
+use std::alloc::{AllocError, Global};
+
+/// What hearing a request comes to.
+#[derive(Clone, Copy, Debug)]
+pub enum Arrival<'a> {
+    /// Its number is above all that were heard of the worker: the worker waits with it from now on.
+    Waits,
+    /// It is the request that was served last, and the worker does not wait: it is answered so once more.
+    Again(&'a Answer),
+    /// Nothing comes of it.
+    Ignored,
+}
+
+impl Arrival<'_> {
+    /// The same, with an answer of its own.
+    pub fn to_heard(self, alloc: Global) -> Result<Heard, AllocError>
+        ensures { IfOk result (λ h. heard_view h ≡ arrival_view self.entry) }
+    {
+        match self {
+            Arrival::Waits => Ok(Heard::Waits),
+            Arrival::Again(answer) => Ok(Heard::Again(answer.copy(alloc)?)),
+            Arrival::Ignored => Ok(Heard::Ignored),
+        }
+    }
+}
+
+/// What came of a request that was heard.
+#[derive(Debug, Drop)]
+pub enum Heard {
+    /// The worker waits with it from now on.
+    Waits,
+    /// It is answered so once more.
+    Again(Answer),
+    /// Nothing comes of it.
+    Ignored,
+}
+
+/// What hearing the request comes to at a desk with these.
+pub(crate) fn arrival_of<'a>(
+    waiting: Option<&Request>,
+    kept: Option<&'a Kept>,
+    request: &Request,
+) -> Arrival<'a>
+    ensures { arrival_view result ≡ arrival_at (record { waiting = option_copied waiting.entry; kept = option_copied kept.entry }) request.now }
+{
+    if newest(waiting, kept) < request.number {
+        return Arrival::Waits;
+    }
+    match kept_answer(waiting, kept, request) {
+        Some(answer) => Arrival::Again(answer),
+        None => Arrival::Ignored,
+    }
+}
+
+/// The greatest number that was heard of the worker, or 0.
+fn newest(waiting: Option<&Request>, kept: Option<&Kept>) -> u64
+    ensures { result ≡ max (number_or_0 (option_copied waiting.entry)) (number_or_0 (kept_request (option_copied kept.entry))) }
+{
+    let waiting = match waiting {
+        Some(request) => request.number,
+        None => 0,
+    };
+    let kept = match kept {
+        Some(kept) => kept.request.number,
+        None => 0,
+    };
+    waiting.max(kept)
+}
+
+/// What was answered to this request, where it is the one kept and the worker does not wait.
+fn kept_answer<'a>(
+    waiting: Option<&Request>,
+    kept: Option<&'a Kept>,
+    request: &Request,
+) -> Option<&'a Answer>
+    ensures { option_copied result ≡ answer_unless_waiting (option_copied waiting.entry) (option_copied kept.entry) request.now }
+{
+    match (waiting, kept) {
+        (None, Some(kept)) => {
+            if kept.request.is_same(request) {
+                Some(&kept.answer)
+            } else {
+                None
+            }
+        }
+        _ => None,
+    }
+}
