@@ -83,3 +83,8 @@ HasVerdict c p verdict = verdict_on c (row_of c p).tentative ≡ Some verdict
 pub record IsBoard (board : List Posted) : Type 0 where
   pub rising : AllPairs (λ a b. nat_lt a.instance b.instance ≡ true) board
   pub within : All (λ row. row.instance ≤ greatest) board
+
+-- the rows of nodes rise in node order, and no incarnation is above the greatest
+pub record IsNodes (nodes : List NodeRow) : Type 0 where
+  pub rising : AllPairs (λ a b. node_lt a.node b.node ≡ true) nodes
+  pub within : All (λ row. row.incarnation ≤ greatest) nodes

@@ -3,3 +3,4 @@ pub mod Verdict
 pub mod Content
 pub mod Changes
 pub mod Calls
+pub mod Row

@@ -1,6 +1,7 @@
 //! Where checkpoints and verdicts are kept: what a store promises, and a store in memory.
 #![tactic(auto)]
 
+mod change;
 mod ckpt;
 mod error;
 mod memory;

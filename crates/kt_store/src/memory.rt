@@ -1,4 +1,4 @@
-ghost use Rattle.std.specs.Prelude.{◌≡◌, ℕ, None, IfOk, IfSome, IfNone, slice_get, length, fold, map, max, All, ◌<◌, ◌≤◌, ◌==◌, ◌&&◌};
+ghost use Rattle.std.specs.Prelude.{◌≡◌, ◌+◌, ℕ, None, OnOk, OnErr, vec_len, vec_capacity, IfOk, IfSome, IfNone, slice_get, length, fold, map, max, All, ◌<◌, ◌≤◌, ◌==◌, ◌&&◌};
 ghost use Rattle.std.specs.Option.{option_copied};
 ghost use Rattle.std.specs.List.{find, position};
 ghost use Rattle.kt_tuple.specs.declared.node.NodeId.{NodeId};
@@ -6,16 +6,21 @@ ghost use Rattle.kt_tuple.specs.Node.{node_eq};
 ghost use Rattle.kt_store.specs.declared.rows.NodeRow.{NodeRow};
 ghost use Rattle.kt_store.specs.declared.rows.Posted.{Posted};
 ghost use Rattle.kt_store.specs.Verdict.{is_open};
-ghost use Rattle.kt_store.specs.Content.{row_of, verdict_of, initiator_of, open_of, next_instance, is_fresh, greatest};
-ghost use Rattle.kt_store.specs.Changes.{decided};
+ghost use Rattle.kt_store.specs.Content.{IsBoard, row_of, verdict_of, initiator_of, open_of, next_instance, is_fresh, greatest};
+ghost use Rattle.kt_store.specs.Changes.{decided, opening, storing, with_posted};
+ghost use Rattle.kt_store.specs.Row.{changed, IsWithin};
 
+use crate::change::{Change, change_row};
 use crate::ckpt::Ckpt;
 use crate::error::StoreError;
-use crate::rows::{NodeRow, Posted, Tentative, Verdict};
+use crate::rows::{NodeRow, Posted, Purpose, Tentative, Verdict};
 use crate::store::CkptStore;
 use kt_tuple::NodeId;
 use std::alloc::{AllocError, Global};
 use std::marker::Model;
+
+/// The greatest incarnation, and the greatest number of an instance.
+const GREATEST: u64 = 1 << 62;
 
 /// A store in memory, which is always honest.
 #[derive(Debug, Drop)]
@@ -25,13 +30,13 @@ pub struct MemStore {
 }
 
 impl Model for MemStore {
-    ghost use Rattle.kt_store.specs.Content.{Content, IsBoard};
+    ghost use Rattle.kt_store.specs.Content.{Content, IsBoard, IsNodes};
 
     ghost Value = { Content };
 
     ghost view = { λ s. record { nodes = s.nodes.items; board = s.board.items } };
 
-    ghost invariant = { λ s. IsBoard s.board.items };
+    ghost invariant = { λ s. IsNodes s.nodes.items × IsBoard s.board.items };
 }
 
 impl MemStore {
@@ -48,7 +53,8 @@ impl MemStore {
     }
 
     fn incarnation_of(&self, node: NodeId) -> u64
-        ensures { result ≡ (row_of self.now node).incarnation }
+        ensures value { result ≡ (row_of self.now node).incarnation }
+        ensures within { result ≤ greatest }
     {
         match row_at(&self.nodes, node) {
             Some(row) => row.incarnation,
@@ -93,7 +99,8 @@ impl MemStore {
     }
 
     fn next_number(&self) -> u64
-        ensures { result ≡ next_instance self.now }
+        ensures value { result ≡ next_instance self.now }
+        ensures within { result ≤ greatest + 1 }
     {
         greatest_of(&self.board) + 1
     }
@@ -107,6 +114,46 @@ impl MemStore {
         }
     }
 
+    /// Where the store takes its memory from.
+    fn allocator(&self) -> Global {
+        *self.nodes.allocator()
+    }
+
+    /// Makes the change of the node's row.
+    fn change(&mut self, node: NodeId, change: Change) -> Result<(), AllocError>
+        requires { IsWithin change }
+        ensures written { OnOk result (self.new ≡ storing (changed change (row_of self.old node)) self.old) }
+        ensures unchanged { OnErr result (self.new ≡ self.old) }
+    {
+        change_row(&mut self.nodes, node, change)
+    }
+
+    /// Begins the next instance, which is the node's, and makes the change of its row.
+    fn begin(
+        &mut self,
+        node: NodeId,
+        purpose: Purpose,
+        instance: u64,
+        change: Change,
+    ) -> Result<(), AllocError>
+        requires next { instance ≡ next_instance self.old }
+        requires room { instance ≤ greatest }
+        requires within { IsWithin change }
+        ensures written { OnOk result (self.new ≡ opening node purpose (storing (changed change (row_of self.old node)) self.old)) }
+        ensures unchanged { OnErr result (self.new ≡ self.old) }
+    {
+        self.board.reserve(1)?;
+        change_row(&mut self.nodes, node, change)?;
+        let new = Posted {
+            instance,
+            initiator: node,
+            purpose,
+            verdict: Verdict::Open,
+        };
+        post(&mut self.board, new);
+        Ok(())
+    }
+
     fn has_nothing(&self) -> bool
         ensures { result ≡ is_fresh self.now }
     {
@@ -114,7 +161,6 @@ impl MemStore {
     }
 }
 
-// A draft: six of the writes only refuse. Their bodies are to come.
 impl CkptStore for MemStore {
     ghost use Rattle.std.specs.Prelude.{true};
 
@@ -161,7 +207,16 @@ impl CkptStore for MemStore {
     }
 
     fn begin_check(&mut self, node: NodeId, ckpt: &Ckpt) -> Result<(), StoreError> {
-        Err(StoreError::Memory)
+        let instance = self.next_number();
+        if instance > GREATEST {
+            return Err(StoreError::Full);
+        }
+        let checkpoint = ckpt.copy(self.allocator())?;
+        let change = Change::Take(Tentative {
+            instance,
+            checkpoint,
+        });
+        Ok(self.begin(node, Purpose::Check, instance, change)?)
     }
 
     fn put_tentative(
@@ -170,23 +225,38 @@ impl CkptStore for MemStore {
         instance: u64,
         ckpt: &Ckpt,
     ) -> Result<(), StoreError> {
-        Err(StoreError::Memory)
+        let checkpoint = ckpt.copy(self.allocator())?;
+        let change = Change::Take(Tentative {
+            instance,
+            checkpoint,
+        });
+        Ok(self.change(node, change)?)
     }
 
     fn promote(&mut self, node: NodeId) -> Result<(), StoreError> {
-        Err(StoreError::Memory)
+        Ok(self.change(node, Change::Promote)?)
     }
 
     fn discard(&mut self, node: NodeId) -> Result<(), StoreError> {
-        Err(StoreError::Memory)
+        Ok(self.change(node, Change::Discard)?)
     }
 
     fn begin_restart(&mut self, node: NodeId) -> Result<(), StoreError> {
-        Err(StoreError::Memory)
+        let instance = self.next_number();
+        let incarnation = self.incarnation_of(node);
+        if instance > GREATEST || incarnation == GREATEST {
+            return Err(StoreError::Full);
+        }
+        let change = Change::Incarnation(incarnation + 1);
+        Ok(self.begin(node, Purpose::Rollback, instance, change)?)
     }
 
     fn bump(&mut self, node: NodeId) -> Result<(), StoreError> {
-        Err(StoreError::Memory)
+        let incarnation = self.incarnation_of(node);
+        if incarnation == GREATEST {
+            return Err(StoreError::Full);
+        }
+        Ok(self.change(node, Change::Incarnation(incarnation + 1))?)
     }
 
     fn decide(&mut self, instance: u64, yes: bool) -> Result<(), StoreError> {
@@ -215,6 +285,18 @@ fn place_of(rows: &[Posted], instance: u64) -> Option<usize>
     ensures within { IfSome result (λ place. place < length rows.now) }
 {
     rows.iter().position(|row| row.instance == instance)
+}
+
+/// Puts the next instance on the board, which has room for it.
+fn post(board: &mut Vec<Posted>, new: Posted)
+    requires board { IsBoard board.old.items }
+    requires next { new.instance ≡ fold max 0 (map (λ (row : Posted). row.instance) board.old.items) + 1 }
+    requires within { new.instance ≤ greatest }
+    requires room { vec_len board.old < vec_capacity board.old }
+    ensures written { board.new.items ≡ with_posted new board.old.items }
+    ensures kept { IsBoard board.new.items }
+{
+    board.push_reserved(new);
 }
 
 /// The greatest number of an instance, 0 where there is none.

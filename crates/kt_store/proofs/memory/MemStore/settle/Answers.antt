@@ -17,7 +17,7 @@ returns-in-Some c =
     slice_get_read c.self.inside.board.items (length c.self.inside.board.items) c.in-Some.place c.index_mut.result.now refl within c.index_mut.ensures.value in
     let found : posted content c.args.instance ≡ Some c.index_mut.result.now =
     sym (position_found (λ (row : Posted). row.instance == c.args.instance) c.self.inside.board.items c.in-Some.place place) ∙ at in
-    rw c.of.ensures (decided_there content c.args.instance c.args.yes c.in-Some.place c.index_mut.result.now c.self.invariant.rising found at
+    rw c.of.ensures (decided_there content c.args.instance c.args.yes c.in-Some.place c.index_mut.result.now c.self.invariant.1.rising found at
     ∙ ap (decided c.args.instance c.args.yes) c.self.view_is)
 
 pub returns-in_default : goal.returns-in_default
