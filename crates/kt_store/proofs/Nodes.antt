@@ -77,7 +77,7 @@ still_nodes change p rows h is =
     record {
       rising = placed_rising before (changed change row) rows by_node_order is.rising;
       within = placed_all (λ (row : NodeRow). row.incarnation ≤ greatest) before (changed change row) rows
-      (still_within change row h (row_within p rows is.within)) is.within;
+          (still_within change row h (row_within p rows is.within)) is.within;
     }
 
 -- a row that is changed where it stands

@@ -2,7 +2,7 @@
 use Rattle.std.specs.Prelude.{ℕ, ◌+◌, nat_lt, if◌then◌else◌, Bool, true, false, List, ◌∷◌, ◌++◌, filter, Option, None, Some}
 use Rattle.std.specs.Option.{option_map}
 use Rattle.kt_tuple.specs.declared.node.NodeId.{NodeId}
-use Rattle.kt_store.specs.declared.ckpt.Ckpt.{Ckpt}
+use Rattle.kt_ckpt.specs.declared.ckpt.Ckpt.{Ckpt}
 use Rattle.kt_store.specs.declared.rows.NodeRow.{NodeRow}
 use Rattle.kt_store.specs.declared.rows.Tentative.{Tentative}
 use Rattle.kt_store.specs.declared.rows.Posted.{Posted}

@@ -1,4 +1,3 @@
-pub mod Standin
 pub mod Verdict
 pub mod Content
 pub mod Changes

@@ -10,7 +10,7 @@ ghost use Rattle.kt_store.specs.Row.{changed, IsWithin};
 
 use crate::rows::{NodeRow, Tentative};
 use kt_tuple::NodeId;
-use std::alloc::{AllocError};
+use std::alloc::AllocError;
 
 /// What a write makes of a node's row.
 #[derive(Debug, Drop)]

@@ -2,13 +2,11 @@
 #![tactic(auto)]
 
 mod change;
-mod ckpt;
 mod error;
 mod memory;
 mod rows;
 mod store;
 
-pub use ckpt::Ckpt;
 pub use error::StoreError;
 pub use memory::MemStore;
 pub use rows::{NodeRow, Posted, Purpose, Tentative, Verdict};

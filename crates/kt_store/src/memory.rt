@@ -11,10 +11,10 @@ ghost use Rattle.kt_store.specs.Changes.{decided, opening, storing, with_posted}
 ghost use Rattle.kt_store.specs.Row.{changed, IsWithin};
 
 use crate::change::{Change, change_row};
-use crate::ckpt::Ckpt;
 use crate::error::StoreError;
 use crate::rows::{NodeRow, Posted, Purpose, Tentative, Verdict};
 use crate::store::CkptStore;
+use kt_ckpt::Ckpt;
 use kt_tuple::NodeId;
 use std::alloc::{AllocError, Global};
 use std::marker::Model;

@@ -2,7 +2,7 @@
 
 ghost use Rattle.std.specs.Prelude.{◌≡◌, IfOk};
 
-use crate::ckpt::Ckpt;
+use kt_ckpt::Ckpt;
 use kt_tuple::NodeId;
 use std::alloc::{AllocError, Global};
 

@@ -4,9 +4,9 @@ ghost use Rattle.kt_store.specs.Content.{Content, HasVerdict, greatest, initiato
 ghost use Rattle.kt_store.specs.Changes.{bumped, check_begun, decided, discarded, promoted, restart_begun, tentative_put};
 ghost use Rattle.kt_store.specs.Calls.{HasCause};
 
-use crate::ckpt::Ckpt;
 use crate::error::StoreError;
 use crate::rows::{Tentative, Verdict};
+use kt_ckpt::Ckpt;
 use kt_tuple::NodeId;
 use std::alloc::Global;
 

@@ -1,0 +1,11 @@
+use Rattle.std.proofs.Common.{◌≡◌, ◌-◌, length}
+use Rattle.kt_ckpt.specs.Reading.{list_at}
+use Rattle.kt_ckpt.specs.Value.{value_at}
+use Rattle.kt_ckpt.proofs.Loop.{with_front}
+use Rattle.kt_ckpt.proofs.tuple.values_at.Given as goal
+
+abbrev pub invariant-loop : goal.invariant-loop
+invariant-loop l = record {
+  so_far : with_front l.values.items (list_at value_at (l.count - l.counter) l.rest) ≡ list_at value_at l.count l.bytes;
+  len : length l.values.items ≡ l.counter;
+}

@@ -1,0 +1,105 @@
+//! The checkpoint of a node.
+
+ghost use Rattle.std.specs.Prelude.{◌≡◌, IfOk};
+
+use crate::state::State;
+use kt_link::Label;
+use kt_tuple::NodeId;
+use std::alloc::{AllocError, Global};
+use std::marker::Model;
+
+/// The checkpoint of a node (Koo and Toueg, "Checkpointing and Rollback-Recovery for Distributed Systems"):
+/// what the node needs to go on from a moment of its past.
+#[derive(Debug, Drop)]
+pub struct Ckpt {
+    pub(crate) node: NodeId,
+    pub(crate) line_len: u64,
+    pub(crate) sent: Vec<Label>,
+    pub(crate) received: Vec<Label>,
+    pub(crate) state: State,
+}
+
+impl Model for Ckpt {
+    ghost use Rattle.kt_ckpt.specs.Checkpoint.{Checkpoint, HasCounts};
+
+    ghost Value = { Checkpoint };
+
+    ghost view = { λ c. record { node = c.node; line_len = c.line_len; sent = c.sent.items; received = c.received.items; state = c.state } };
+
+    ghost invariant = { λ c. HasCounts (record { node = c.node; line_len = c.line_len; sent = c.sent.items; received = c.received.items; state = c.state }) };
+}
+
+impl Ckpt {
+    ghost use Rattle.kt_ckpt.specs.Checkpoint.{Checkpoint, HasCounts};
+
+    /// The checkpoint of this node, whose line has this length. For each neighbour, in node order, it has the
+    /// label of the last message sent to it and of the last heard from it, and it has the node's state. The
+    /// node is one of the workers or shards that there may be, the neighbours are 1 to 8, and the state is
+    /// one of such a node, with counts within the format.
+    pub fn new(
+        node: NodeId,
+        line_len: u64,
+        sent: Vec<Label>,
+        received: Vec<Label>,
+        state: State,
+    ) -> Ckpt
+        requires { HasCounts (record { node = node; line_len = line_len; sent = sent.items; received = received.items; state = state }) }
+        ensures { result ≡ record { node = node; line_len = line_len; sent = sent.items; received = received.items; state = state } }
+    {
+        Ckpt {
+            node,
+            line_len,
+            sent,
+            received,
+            state,
+        }
+    }
+
+    /// The node.
+    pub fn node(&self) -> NodeId
+        ensures { result ≡ self.now.node }
+    {
+        self.node
+    }
+
+    /// How many acts the node's line had.
+    pub fn line_len(&self) -> u64
+        ensures { result ≡ self.now.line_len }
+    {
+        self.line_len
+    }
+
+    /// For each neighbour, in node order, the label of the last message sent to it.
+    pub fn sent(&self) -> &[Label]
+        ensures { result.now ≡ self.now.sent }
+    {
+        &self.sent
+    }
+
+    /// For each neighbour, in node order, the label of the last message heard from it.
+    pub fn received(&self) -> &[Label]
+        ensures { result.now ≡ self.now.received }
+    {
+        &self.received
+    }
+
+    /// What the node held.
+    pub fn state(&self) -> &State
+        ensures { result.now ≡ self.now.state }
+    {
+        &self.state
+    }
+
+    /// An equal checkpoint.
+    pub fn copy(&self, alloc: Global) -> Result<Ckpt, AllocError>
+        ensures { IfOk result (λ c. c ≡ self.now) }
+    {
+        Ok(Ckpt {
+            node: self.node,
+            line_len: self.line_len,
+            sent: Vec::from_slice(alloc, &self.sent)?,
+            received: Vec::from_slice(alloc, &self.received)?,
+            state: self.state.copy(alloc)?,
+        })
+    }
+}

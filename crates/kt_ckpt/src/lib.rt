@@ -1,0 +1,20 @@
+//! A checkpoint of a node, and its one spelling in bytes.
+#![tactic(auto)]
+
+mod ckpt;
+mod decode;
+mod encode;
+mod error;
+mod limits;
+mod numbers;
+mod op;
+mod shard;
+mod state;
+mod tuple;
+mod value;
+mod worker;
+
+pub use ckpt::Ckpt;
+pub use error::CkptError;
+pub use limits::{MAX_PC, MAX_PEERS, MAX_SHARDS, MAX_VARIABLES, MAX_WORKERS};
+pub use state::{Kept, Request, ShardState, State, WorkerState};

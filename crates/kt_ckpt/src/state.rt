@@ -1,0 +1,264 @@
+//! What a checkpoint holds of its node.
+
+ghost use Rattle.std.specs.Prelude.{◌≡◌, IfOk};
+ghost use Rattle.std.specs.Option.{option_copied};
+
+use kt_tuple::{Answer, Op, Tuple, Value};
+use std::alloc::{AllocError, Global};
+use std::marker::Model;
+
+/// A request of a worker.
+#[derive(Debug, Drop)]
+pub struct Request {
+    /// The worker counts its requests from 1.
+    pub number: u64,
+    /// What it asks for.
+    pub op: Op,
+}
+
+/// A request that was served, with its answer.
+#[derive(Debug, Drop)]
+pub struct Kept {
+    /// What was asked.
+    pub request: Request,
+    /// What was answered.
+    pub answer: Answer,
+}
+
+/// Where a worker stands.
+#[derive(Debug, Drop)]
+pub struct WorkerState {
+    pub(crate) pc: u16,
+    pub(crate) number: u64,
+    pub(crate) was_none: bool,
+    pub(crate) asked: Option<Op>,
+    pub(crate) variables: Vec<Value>,
+}
+
+impl Model for WorkerState {
+    ghost use Rattle.kt_ckpt.specs.Fields.{WorkerFields};
+
+    ghost Value = { WorkerFields };
+
+    ghost view = { λ w. record { pc = w.pc; number = w.number; was_none = w.was_none; asked = w.asked; variables = w.variables.items } };
+}
+
+/// What a shard holds.
+#[derive(Debug, Drop)]
+pub struct ShardState {
+    pub(crate) bag: Vec<Tuple>,
+    pub(crate) waiting: Vec<(u8, Request)>,
+    pub(crate) kept: Vec<(u8, Kept)>,
+}
+
+impl Model for ShardState {
+    ghost use Rattle.kt_ckpt.specs.Fields.{ShardFields};
+
+    ghost Value = { ShardFields };
+
+    ghost view = { λ s. record { bag = s.bag.items; waiting = s.waiting.items; kept = s.kept.items } };
+}
+
+/// What a node holds.
+#[derive(Debug, Drop)]
+pub enum State {
+    /// A worker.
+    Worker(WorkerState),
+    /// A shard.
+    Shard(ShardState),
+}
+
+impl Request {
+    /// An equal request.
+    pub fn copy(&self, alloc: Global) -> Result<Request, AllocError>
+        ensures { IfOk result (λ r. r ≡ self.now) }
+    {
+        Ok(Request {
+            number: self.number,
+            op: self.op.copy(alloc)?,
+        })
+    }
+}
+
+impl Kept {
+    /// An equal one.
+    pub fn copy(&self, alloc: Global) -> Result<Kept, AllocError>
+        ensures { IfOk result (λ k. k ≡ self.now) }
+    {
+        Ok(Kept {
+            request: self.request.copy(alloc)?,
+            answer: self.answer.copy(alloc)?,
+        })
+    }
+}
+
+impl WorkerState {
+    ghost use Rattle.kt_tuple.specs.declared.op.Op.{Op};
+
+    /// A worker whose next command has the number `pc`, counted from 0; whose last request had this number,
+    /// 0 before the first; whose last answer was none or not; which asked for this and has no answer yet; and
+    /// whose variables have these values, in the order in which the script's text binds them first.
+    pub fn new(
+        pc: u16,
+        number: u64,
+        was_none: bool,
+        asked: Option<Op>,
+        variables: Vec<Value>,
+    ) -> WorkerState
+        ensures { result ≡ record { pc = pc; number = number; was_none = was_none; asked = asked; variables = variables.items } }
+    {
+        WorkerState {
+            pc,
+            number,
+            was_none,
+            asked,
+            variables,
+        }
+    }
+
+    /// The number of the next command, counted from 0.
+    pub fn pc(&self) -> u16
+        ensures { result ≡ self.now.pc }
+    {
+        self.pc
+    }
+
+    /// The number of the last request, 0 before the first.
+    pub fn number(&self) -> u64
+        ensures { result ≡ self.now.number }
+    {
+        self.number
+    }
+
+    /// Whether the last answer was none.
+    pub fn was_none(&self) -> bool
+        ensures { result ≡ self.now.was_none }
+    {
+        self.was_none
+    }
+
+    /// What the last request asks for, where it is unanswered.
+    pub fn asked(&self) -> Option<&Op>
+        ensures { option_copied result ≡ self.now.asked }
+    {
+        self.asked.as_ref()
+    }
+
+    /// The values of the variables, in the order in which the script's text binds them first.
+    pub fn variables(&self) -> &[Value]
+        ensures { result.now ≡ self.now.variables }
+    {
+        &self.variables
+    }
+
+    /// An equal one.
+    pub fn copy(&self, alloc: Global) -> Result<WorkerState, AllocError>
+        ensures { IfOk result (λ w. w ≡ self.now) }
+    {
+        let asked = match &self.asked {
+            Some(op) => Some(op.copy(alloc)?),
+            None => None,
+        };
+        Ok(WorkerState {
+            pc: self.pc,
+            number: self.number,
+            was_none: self.was_none,
+            asked,
+            variables: copy_values(alloc, &self.variables)?,
+        })
+    }
+}
+
+impl ShardState {
+    /// A shard with these tuples, in order of arrival, and for workers, in rising order, the requests that wait
+    /// and those that were served last.
+    pub fn new(bag: Vec<Tuple>, waiting: Vec<(u8, Request)>, kept: Vec<(u8, Kept)>) -> ShardState
+        ensures { result ≡ record { bag = bag.items; waiting = waiting.items; kept = kept.items } }
+    {
+        ShardState { bag, waiting, kept }
+    }
+
+    /// The tuples, in order of arrival.
+    pub fn bag(&self) -> &[Tuple]
+        ensures { result.now ≡ self.now.bag }
+    {
+        &self.bag
+    }
+
+    /// The requests that wait, by rising worker.
+    pub fn waiting(&self) -> &[(u8, Request)]
+        ensures { result.now ≡ self.now.waiting }
+    {
+        &self.waiting
+    }
+
+    /// The requests that were served last with their answers, by rising worker.
+    pub fn kept(&self) -> &[(u8, Kept)]
+        ensures { result.now ≡ self.now.kept }
+    {
+        &self.kept
+    }
+
+    /// An equal one.
+    pub fn copy(&self, alloc: Global) -> Result<ShardState, AllocError>
+        ensures { IfOk result (λ s. s ≡ self.now) }
+    {
+        Ok(ShardState {
+            bag: copy_tuples(alloc, &self.bag)?,
+            waiting: copy_waiting(alloc, &self.waiting)?,
+            kept: copy_kept(alloc, &self.kept)?,
+        })
+    }
+}
+
+impl State {
+    /// An equal one.
+    pub fn copy(&self, alloc: Global) -> Result<State, AllocError>
+        ensures { IfOk result (λ s. s ≡ self.now) }
+    {
+        match self {
+            State::Worker(worker) => Ok(State::Worker(worker.copy(alloc)?)),
+            State::Shard(shard) => Ok(State::Shard(shard.copy(alloc)?)),
+        }
+    }
+}
+
+fn copy_values(alloc: Global, values: &[Value]) -> Result<Vec<Value>, AllocError>
+    ensures { IfOk result (λ v. v.items ≡ values.now) }
+{
+    let mut copies = Vec::with_capacity(alloc, values.len())?;
+    for value in values {
+        copies.push(value.copy())?;
+    }
+    Ok(copies)
+}
+
+fn copy_tuples(alloc: Global, tuples: &[Tuple]) -> Result<Vec<Tuple>, AllocError>
+    ensures { IfOk result (λ v. v.items ≡ tuples.now) }
+{
+    let mut copies = Vec::with_capacity(alloc, tuples.len())?;
+    for tuple in tuples {
+        copies.push(tuple.copy(alloc)?)?;
+    }
+    Ok(copies)
+}
+
+fn copy_waiting(alloc: Global, entries: &[(u8, Request)]) -> Result<Vec<(u8, Request)>, AllocError>
+    ensures { IfOk result (λ v. v.items ≡ entries.now) }
+{
+    let mut copies = Vec::with_capacity(alloc, entries.len())?;
+    for entry in entries {
+        copies.push((entry.0, entry.1.copy(alloc)?))?;
+    }
+    Ok(copies)
+}
+
+fn copy_kept(alloc: Global, entries: &[(u8, Kept)]) -> Result<Vec<(u8, Kept)>, AllocError>
+    ensures { IfOk result (λ v. v.items ≡ entries.now) }
+{
+    let mut copies = Vec::with_capacity(alloc, entries.len())?;
+    for entry in entries {
+        copies.push((entry.0, entry.1.copy(alloc)?))?;
+    }
+    Ok(copies)
+}
