@@ -1,0 +1,90 @@
+-- What a store holds, and what its reads give.
+use Rattle.std.specs.Prelude.{◌≡◌, ℕ, ◌+◌, ◌==◌, ◌^◌, max, Bool, true, false, nat_lt, ◌&&◌, List, [], ◌∷◌, map, fold, Option, None, Some, IsTrue, All, AllPairs, ◌≤◌}
+use Rattle.std.specs.List.{find}
+use Rattle.std.specs.Option.{option_map}
+use Rattle.kt_tuple.specs.declared.node.NodeId.{NodeId}
+use Rattle.kt_tuple.specs.declared.node.NodeId.TheVariants.{Worker, Shard}
+use Rattle.kt_tuple.specs.Node.{node_eq}
+use Rattle.kt_ckpt.specs.declared.ckpt.Ckpt.{Ckpt}
+use Rattle.kt_store.specs.declared.rows.NodeRow.{NodeRow}
+use Rattle.kt_store.specs.declared.rows.Tentative.{Tentative}
+use Rattle.kt_store.specs.declared.rows.Posted.{Posted}
+use Rattle.kt_store.specs.declared.rows.Purpose.{Purpose}
+use Rattle.kt_store.specs.declared.rows.Verdict.{Verdict}
+use Rattle.kt_store.specs.Verdict.{is_open}
+
+-- rows of nodes in node order, and of instances in the order of their numbers
+pub record Content : Type 0 where
+  pub nodes : List NodeRow
+  pub board : List Posted
+
+-- nothing was ever stored, and no instance was begun
+abbrev pub empty_content : Content
+empty_content = record { nodes = []; board = [] }
+
+-- the greatest incarnation, and the greatest number of an instance
+abbrev pub greatest : ℕ
+greatest = 2 ^ 62
+
+-- a comes before b: first the workers, then the shards, each by their numbers
+abbrev pub node_lt : NodeId → NodeId → Bool
+node_lt (Worker m) (Worker n) = nat_lt m n
+node_lt (Worker m) (Shard n) = true
+node_lt (Shard m) (Worker n) = false
+node_lt (Shard m) (Shard n) = nat_lt m n
+
+-- what is stored of a node: one that has no row is in its first incarnation, and nothing is stored of it
+abbrev pub opening_row : NodeId → NodeRow
+opening_row p = record { node = p; incarnation = 1; permanent = None; tentative = None }
+
+abbrev pub row_or : NodeId → Option NodeRow → NodeRow
+row_or p None = opening_row p
+row_or p (Some row) = row
+
+abbrev pub row_of : Content → NodeId → NodeRow
+row_of c p = row_or p (find (λ (row : NodeRow). node_eq row.node p) c.nodes)
+
+-- what is posted of an instance, if it was begun
+abbrev pub posted : Content → ℕ → Option Posted
+posted c i = find (λ (row : Posted). row.instance == i) c.board
+
+abbrev pub verdict_of : Content → ℕ → Option Verdict
+verdict_of c i = option_map (λ (row : Posted). row.verdict) (posted c i)
+
+abbrev pub initiator_of : Content → ℕ → Option NodeId
+initiator_of c i = option_map (λ (row : Posted). row.initiator) (posted c i)
+
+-- the first instance that the node began and that has no verdict
+abbrev pub open_of : Content → NodeId → Option ℕ
+open_of c p = option_map (λ (row : Posted). row.instance) (find (λ (row : Posted). node_eq row.initiator p && is_open row.verdict) c.board)
+
+-- one more than the greatest number of an instance, 1 where there is none
+abbrev pub next_instance : Content → ℕ
+next_instance c = fold max 0 (map (λ (row : Posted). row.instance) c.board) + 1
+
+abbrev pub is_empty : {A : Type 0} → List A → Bool
+is_empty [] = true
+is_empty (x ∷ later) = false
+
+-- nothing is stored
+abbrev pub is_fresh : Content → Bool
+is_fresh c = is_empty c.nodes && is_empty c.board
+
+-- the verdict on the instance of a tentative checkpoint, if there is one
+abbrev pub verdict_on : Content → Option Tentative → Option Verdict
+verdict_on c None = None
+verdict_on c (Some t) = verdict_of c t.instance
+
+-- the node has a tentative checkpoint, and its instance has this verdict
+abbrev pub HasVerdict : Content → NodeId → Verdict → Type 0
+HasVerdict c p verdict = verdict_on c (row_of c p).tentative ≡ Some verdict
+
+-- the numbers of instances rise, and none is above the greatest
+pub record IsBoard (board : List Posted) : Type 0 where
+  pub rising : AllPairs (λ a b. nat_lt a.instance b.instance ≡ true) board
+  pub within : All (λ row. row.instance ≤ greatest) board
+
+-- the rows of nodes rise in node order, and no incarnation is above the greatest
+pub record IsNodes (nodes : List NodeRow) : Type 0 where
+  pub rising : AllPairs (λ a b. node_lt a.node b.node ≡ true) nodes
+  pub within : All (λ row. row.incarnation ≤ greatest) nodes

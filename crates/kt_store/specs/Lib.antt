@@ -1,0 +1,5 @@
+pub mod Verdict
+pub mod Content
+pub mod Changes
+pub mod Calls
+pub mod Row

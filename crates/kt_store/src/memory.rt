@@ -1,0 +1,344 @@
+ghost use Rattle.std.specs.Prelude.{◌≡◌, ◌+◌, ℕ, None, OnOk, OnErr, vec_len, vec_capacity, IfOk, IfSome, IfNone, slice_get, length, fold, map, max, All, ◌<◌, ◌≤◌, ◌==◌, ◌&&◌};
+ghost use Rattle.std.specs.Option.{option_copied};
+ghost use Rattle.std.specs.List.{find, position};
+ghost use Rattle.kt_tuple.specs.declared.node.NodeId.{NodeId};
+ghost use Rattle.kt_tuple.specs.Node.{node_eq};
+ghost use Rattle.kt_store.specs.declared.rows.NodeRow.{NodeRow};
+ghost use Rattle.kt_store.specs.declared.rows.Posted.{Posted};
+ghost use Rattle.kt_store.specs.Verdict.{is_open};
+ghost use Rattle.kt_store.specs.Content.{IsBoard, row_of, verdict_of, initiator_of, open_of, next_instance, is_fresh, greatest};
+ghost use Rattle.kt_store.specs.Changes.{decided, opening, storing, with_posted};
+ghost use Rattle.kt_store.specs.Row.{changed, IsWithin};
+
+use crate::change::{Change, change_row};
+use crate::error::StoreError;
+use crate::rows::{NodeRow, Posted, Purpose, Tentative, Verdict};
+use crate::store::CkptStore;
+use kt_ckpt::Ckpt;
+use kt_tuple::NodeId;
+use std::alloc::{AllocError, Global};
+use std::marker::Model;
+
+/// The greatest incarnation, and the greatest number of an instance.
+const GREATEST: u64 = 1 << 62;
+
+/// A store in memory, which is always honest.
+#[derive(Debug, Drop)]
+pub struct MemStore {
+    nodes: Vec<NodeRow>,
+    board: Vec<Posted>,
+}
+
+impl Model for MemStore {
+    ghost use Rattle.kt_store.specs.Content.{Content, IsBoard, IsNodes};
+
+    ghost Value = { Content };
+
+    ghost view = { λ s. record { nodes = s.nodes.items; board = s.board.items } };
+
+    ghost invariant = { λ s. IsNodes s.nodes.items × IsBoard s.board.items };
+}
+
+impl MemStore {
+    ghost use Rattle.kt_store.specs.Content.{empty_content};
+
+    /// A fresh store.
+    pub fn new(alloc: Global) -> MemStore
+        ensures { result ≡ empty_content }
+    {
+        MemStore {
+            nodes: Vec::new(alloc),
+            board: Vec::new(alloc),
+        }
+    }
+
+    fn incarnation_of(&self, node: NodeId) -> u64
+        ensures value { result ≡ (row_of self.now node).incarnation }
+        ensures within { result ≤ greatest }
+    {
+        match row_at(&self.nodes, node) {
+            Some(row) => row.incarnation,
+            None => 1,
+        }
+    }
+
+    fn permanent_of(&self, alloc: Global, node: NodeId) -> Result<Option<Ckpt>, AllocError>
+        ensures { IfOk result (λ c. c ≡ (row_of self.now node).permanent) }
+    {
+        match row_at(&self.nodes, node) {
+            Some(row) => copy_checkpoint(alloc, &row.permanent),
+            None => Ok(None),
+        }
+    }
+
+    fn tentative_of(&self, alloc: Global, node: NodeId) -> Result<Option<Tentative>, AllocError>
+        ensures { IfOk result (λ t. t ≡ (row_of self.now node).tentative) }
+    {
+        match row_at(&self.nodes, node) {
+            Some(row) => copy_tentative(alloc, &row.tentative),
+            None => Ok(None),
+        }
+    }
+
+    fn verdict_of(&self, instance: u64) -> Option<Verdict>
+        ensures { result ≡ verdict_of self.now instance }
+    {
+        Some(posted_at(&self.board, instance)?.verdict)
+    }
+
+    fn initiator_of(&self, instance: u64) -> Option<NodeId>
+        ensures { result ≡ initiator_of self.now instance }
+    {
+        Some(posted_at(&self.board, instance)?.initiator)
+    }
+
+    fn open_instance_of(&self, node: NodeId) -> Option<u64>
+        ensures { result ≡ open_of self.now node }
+    {
+        Some(open_at(&self.board, node)?.instance)
+    }
+
+    fn next_number(&self) -> u64
+        ensures value { result ≡ next_instance self.now }
+        ensures within { result ≤ greatest + 1 }
+    {
+        greatest_of(&self.board) + 1
+    }
+
+    /// Gives the instance its verdict, where it was begun.
+    fn settle(&mut self, instance: u64, yes: bool)
+        ensures { self.new ≡ decided instance yes self.old }
+    {
+        if let Some(place) = place_of(&self.board, instance) {
+            self.board[place].verdict = Verdict::of(yes);
+        }
+    }
+
+    /// Where the store takes its memory from.
+    fn allocator(&self) -> Global {
+        *self.nodes.allocator()
+    }
+
+    /// Makes the change of the node's row.
+    fn change(&mut self, node: NodeId, change: Change) -> Result<(), AllocError>
+        requires { IsWithin change }
+        ensures written { OnOk result (self.new ≡ storing (changed change (row_of self.old node)) self.old) }
+        ensures unchanged { OnErr result (self.new ≡ self.old) }
+    {
+        change_row(&mut self.nodes, node, change)
+    }
+
+    /// Begins the next instance, which is the node's, and makes the change of its row.
+    fn begin(
+        &mut self,
+        node: NodeId,
+        purpose: Purpose,
+        instance: u64,
+        change: Change,
+    ) -> Result<(), AllocError>
+        requires next { instance ≡ next_instance self.old }
+        requires room { instance ≤ greatest }
+        requires within { IsWithin change }
+        ensures written { OnOk result (self.new ≡ opening node purpose (storing (changed change (row_of self.old node)) self.old)) }
+        ensures unchanged { OnErr result (self.new ≡ self.old) }
+    {
+        self.board.reserve(1)?;
+        change_row(&mut self.nodes, node, change)?;
+        let new = Posted {
+            instance,
+            initiator: node,
+            purpose,
+            verdict: Verdict::Open,
+        };
+        post(&mut self.board, new);
+        Ok(())
+    }
+
+    fn has_nothing(&self) -> bool
+        ensures { result ≡ is_fresh self.now }
+    {
+        self.nodes.is_empty() && self.board.is_empty()
+    }
+}
+
+impl CkptStore for MemStore {
+    ghost use Rattle.std.specs.Prelude.{true};
+
+    ghost content = { λ s. s };
+
+    ghost is_honest = { λ _. true };
+
+    ghost fault_count = { λ _. 0 };
+
+    fn faults(&self) -> u64 {
+        0
+    }
+
+    fn incarnation(&mut self, node: NodeId) -> Result<u64, StoreError> {
+        Ok(self.incarnation_of(node))
+    }
+
+    fn permanent(&mut self, alloc: Global, node: NodeId) -> Result<Option<Ckpt>, StoreError> {
+        Ok(self.permanent_of(alloc, node)?)
+    }
+
+    fn tentative(&mut self, alloc: Global, node: NodeId) -> Result<Option<Tentative>, StoreError> {
+        Ok(self.tentative_of(alloc, node)?)
+    }
+
+    fn verdict(&mut self, instance: u64) -> Result<Option<Verdict>, StoreError> {
+        Ok(self.verdict_of(instance))
+    }
+
+    fn initiator(&mut self, instance: u64) -> Result<Option<NodeId>, StoreError> {
+        Ok(self.initiator_of(instance))
+    }
+
+    fn open_of(&mut self, node: NodeId) -> Result<Option<u64>, StoreError> {
+        Ok(self.open_instance_of(node))
+    }
+
+    fn next_instance(&mut self) -> Result<u64, StoreError> {
+        Ok(self.next_number())
+    }
+
+    fn is_fresh(&mut self) -> Result<bool, StoreError> {
+        Ok(self.has_nothing())
+    }
+
+    fn begin_check(&mut self, node: NodeId, ckpt: &Ckpt) -> Result<(), StoreError> {
+        let instance = self.next_number();
+        if instance > GREATEST {
+            return Err(StoreError::Full);
+        }
+        let checkpoint = ckpt.copy(self.allocator())?;
+        let change = Change::Take(Tentative {
+            instance,
+            checkpoint,
+        });
+        Ok(self.begin(node, Purpose::Check, instance, change)?)
+    }
+
+    fn put_tentative(
+        &mut self,
+        node: NodeId,
+        instance: u64,
+        ckpt: &Ckpt,
+    ) -> Result<(), StoreError> {
+        let checkpoint = ckpt.copy(self.allocator())?;
+        let change = Change::Take(Tentative {
+            instance,
+            checkpoint,
+        });
+        Ok(self.change(node, change)?)
+    }
+
+    fn promote(&mut self, node: NodeId) -> Result<(), StoreError> {
+        Ok(self.change(node, Change::Promote)?)
+    }
+
+    fn discard(&mut self, node: NodeId) -> Result<(), StoreError> {
+        Ok(self.change(node, Change::Discard)?)
+    }
+
+    fn begin_restart(&mut self, node: NodeId) -> Result<(), StoreError> {
+        let instance = self.next_number();
+        let incarnation = self.incarnation_of(node);
+        if instance > GREATEST || incarnation == GREATEST {
+            return Err(StoreError::Full);
+        }
+        let change = Change::Incarnation(incarnation + 1);
+        Ok(self.begin(node, Purpose::Rollback, instance, change)?)
+    }
+
+    fn bump(&mut self, node: NodeId) -> Result<(), StoreError> {
+        let incarnation = self.incarnation_of(node);
+        if incarnation == GREATEST {
+            return Err(StoreError::Full);
+        }
+        Ok(self.change(node, Change::Incarnation(incarnation + 1))?)
+    }
+
+    fn decide(&mut self, instance: u64, yes: bool) -> Result<(), StoreError> {
+        self.settle(instance, yes);
+        Ok(())
+    }
+}
+
+/// The node's row, where it has one.
+fn row_at(rows: &[NodeRow], node: NodeId) -> Option<&NodeRow>
+    ensures { option_copied result ≡ find (λ (row : NodeRow). node_eq row.node node) rows.now }
+{
+    rows.iter().find(|row| row.node == node)
+}
+
+/// The instance's row, where it was begun.
+fn posted_at(rows: &[Posted], instance: u64) -> Option<&Posted>
+    ensures { option_copied result ≡ find (λ (row : Posted). row.instance == instance) rows.now }
+{
+    rows.iter().find(|row| row.instance == instance)
+}
+
+/// Where the instance's row stands.
+fn place_of(rows: &[Posted], instance: u64) -> Option<usize>
+    ensures value { result ≡ position (λ (row : Posted). row.instance == instance) rows.now }
+    ensures within { IfSome result (λ place. place < length rows.now) }
+{
+    rows.iter().position(|row| row.instance == instance)
+}
+
+/// Puts the next instance on the board, which has room for it.
+fn post(board: &mut Vec<Posted>, new: Posted)
+    requires board { IsBoard board.old.items }
+    requires next { new.instance ≡ fold max 0 (map (λ (row : Posted). row.instance) board.old.items) + 1 }
+    requires within { new.instance ≤ greatest }
+    requires room { vec_len board.old < vec_capacity board.old }
+    ensures written { board.new.items ≡ with_posted new board.old.items }
+    ensures kept { IsBoard board.new.items }
+{
+    board.push_reserved(new);
+}
+
+/// The greatest number of an instance, 0 where there is none.
+fn greatest_of(rows: &[Posted]) -> u64
+    ensures value { result ≡ fold max 0 (map (λ (row : Posted). row.instance) rows.now) }
+    ensures within { All (λ (row : Posted). row.instance ≤ greatest) rows.now → result ≤ greatest }
+{
+    let mut greatest = 0;
+    for row in rows {
+        greatest = greatest.max(row.instance);
+    }
+    greatest
+}
+
+/// The first instance that the node began and that is open.
+fn open_at(rows: &[Posted], node: NodeId) -> Option<&Posted>
+    ensures { option_copied result ≡ find (λ (row : Posted). node_eq row.initiator node && is_open row.verdict) rows.now }
+{
+    rows.iter()
+        .find(|row| row.initiator == node && row.verdict.is_open())
+}
+
+fn copy_checkpoint(alloc: Global, checkpoint: &Option<Ckpt>) -> Result<Option<Ckpt>, AllocError>
+    ensures { IfOk result (λ c. c ≡ checkpoint.now) }
+{
+    match checkpoint {
+        Some(checkpoint) => Ok(Some(checkpoint.copy(alloc)?)),
+        None => Ok(None),
+    }
+}
+
+fn copy_tentative(
+    alloc: Global,
+    tentative: &Option<Tentative>,
+) -> Result<Option<Tentative>, AllocError>
+    ensures { IfOk result (λ t. t ≡ tentative.now) }
+{
+    match tentative {
+        Some(tentative) => Ok(Some(Tentative {
+            instance: tentative.instance,
+            checkpoint: tentative.checkpoint.copy(alloc)?,
+        })),
+        None => Ok(None),
+    }
+}

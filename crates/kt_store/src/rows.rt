@@ -1,0 +1,73 @@
+//! What a store holds, row by row.
+
+ghost use Rattle.std.specs.Prelude.{◌≡◌, IfOk};
+
+use kt_ckpt::Ckpt;
+use kt_tuple::NodeId;
+use std::alloc::{AllocError, Global};
+
+/// What an instance is for.
+#[derive(Clone, Copy, Debug, PartialEq, Eq)]
+pub enum Purpose {
+    /// Nodes take checkpoints together.
+    Check,
+    /// Nodes roll back together.
+    Rollback,
+}
+
+/// What became of an instance.
+#[derive(Clone, Copy, Debug, PartialEq, Eq)]
+pub enum Verdict {
+    Open,
+    Yes,
+    No,
+}
+
+impl Verdict {
+    ghost use Rattle.kt_store.specs.Verdict.{is_open, verdict_from};
+
+    /// The verdict that says so.
+    pub fn of(yes: bool) -> Verdict
+        ensures { result ≡ verdict_from yes }
+    {
+        if yes { Verdict::Yes } else { Verdict::No }
+    }
+
+    /// Whether there is none yet.
+    pub fn is_open(self) -> bool
+        ensures { result ≡ is_open self }
+    {
+        match self {
+            Verdict::Open => true,
+            Verdict::Yes | Verdict::No => false,
+        }
+    }
+}
+
+/// A checkpoint that a verdict makes permanent or gives up.
+#[derive(Debug, Drop)]
+pub struct Tentative {
+    /// The instance in which it was taken.
+    pub instance: u64,
+    pub checkpoint: Ckpt,
+}
+
+/// What is stored of a node.
+#[derive(Debug, Drop)]
+pub struct NodeRow {
+    pub node: NodeId,
+    /// From 1 on, at most 2^62.
+    pub incarnation: u64,
+    pub permanent: Option<Ckpt>,
+    pub tentative: Option<Tentative>,
+}
+
+/// An instance on the board.
+#[derive(Clone, Copy, Debug)]
+pub struct Posted {
+    /// Its number, from 1 on, at most 2^62.
+    pub instance: u64,
+    pub initiator: NodeId,
+    pub purpose: Purpose,
+    pub verdict: Verdict,
+}

@@ -1,0 +1,141 @@
+ghost use Rattle.std.specs.Prelude.{◌≡◌, ◌⊎◌, ◌+◌, ℕ, Bool, None, Some, IsTrue, IfOk, OnOk, OnErr};
+ghost use Rattle.kt_store.specs.declared.rows.Verdict.TheVariants as verdicts;
+ghost use Rattle.kt_store.specs.Content.{Content, HasVerdict, greatest, initiator_of, is_fresh, next_instance, open_of, row_of, verdict_of};
+ghost use Rattle.kt_store.specs.Changes.{bumped, check_begun, decided, discarded, promoted, restart_begun, tentative_put};
+ghost use Rattle.kt_store.specs.Calls.{HasCause};
+
+use crate::error::StoreError;
+use crate::rows::{Tentative, Verdict};
+use kt_ckpt::Ckpt;
+use kt_tuple::NodeId;
+use std::alloc::Global;
+
+/// Where a world keeps what outlasts the failure of a node. What is said of the content is said while the store is
+/// honest; one that is honest after a call was so before it.
+pub trait CkptStore {
+    /// What is stored.
+    ghost content: { Self → Content };
+
+    /// What it answers is what is stored.
+    ghost is_honest: { Self → Bool };
+
+    /// How often its device has failed.
+    ghost fault_count: { Self → ℕ };
+
+    /// How often the device has failed so far, counted up to 2^64 - 1.
+    fn faults(&self) -> u64
+        ensures { result ≡ fault_count self.now };
+
+    /// The incarnation of the node, 1 at first.
+    fn incarnation(&mut self, node: NodeId) -> Result<u64, StoreError>
+        ensures value { IsTrue (is_honest self.new) → IfOk result (λ n. n ≡ (row_of (content self.old) node).incarnation) }
+        ensures same { IsTrue (is_honest self.new) → content self.new ≡ content self.old }
+        ensures honest { IsTrue (is_honest self.new) → IsTrue (is_honest self.old) }
+        ensures cause { HasCause (fault_count self.old) (fault_count self.new) (is_honest self.new) ⊥ result };
+
+    /// The permanent checkpoint of the node, if one is stored.
+    fn permanent(&mut self, alloc: Global, node: NodeId) -> Result<Option<Ckpt>, StoreError>
+        ensures value { IsTrue (is_honest self.new) → IfOk result (λ c. c ≡ (row_of (content self.old) node).permanent) }
+        ensures same { IsTrue (is_honest self.new) → content self.new ≡ content self.old }
+        ensures honest { IsTrue (is_honest self.new) → IsTrue (is_honest self.old) }
+        ensures cause { HasCause (fault_count self.old) (fault_count self.new) (is_honest self.new) ⊥ result };
+
+    /// The tentative checkpoint of the node with its instance, if one is stored.
+    fn tentative(&mut self, alloc: Global, node: NodeId) -> Result<Option<Tentative>, StoreError>
+        ensures value { IsTrue (is_honest self.new) → IfOk result (λ t. t ≡ (row_of (content self.old) node).tentative) }
+        ensures same { IsTrue (is_honest self.new) → content self.new ≡ content self.old }
+        ensures honest { IsTrue (is_honest self.new) → IsTrue (is_honest self.old) }
+        ensures cause { HasCause (fault_count self.old) (fault_count self.new) (is_honest self.new) ⊥ result };
+
+    /// The verdict on the instance, if it was begun.
+    fn verdict(&mut self, instance: u64) -> Result<Option<Verdict>, StoreError>
+        ensures value { IsTrue (is_honest self.new) → IfOk result (λ v. v ≡ verdict_of (content self.old) instance) }
+        ensures same { IsTrue (is_honest self.new) → content self.new ≡ content self.old }
+        ensures honest { IsTrue (is_honest self.new) → IsTrue (is_honest self.old) }
+        ensures cause { HasCause (fault_count self.old) (fault_count self.new) (is_honest self.new) ⊥ result };
+
+    /// Who began the instance, if it was begun.
+    fn initiator(&mut self, instance: u64) -> Result<Option<NodeId>, StoreError>
+        ensures value { IsTrue (is_honest self.new) → IfOk result (λ p. p ≡ initiator_of (content self.old) instance) }
+        ensures same { IsTrue (is_honest self.new) → content self.new ≡ content self.old }
+        ensures honest { IsTrue (is_honest self.new) → IsTrue (is_honest self.old) }
+        ensures cause { HasCause (fault_count self.old) (fault_count self.new) (is_honest self.new) ⊥ result };
+
+    /// The first instance that the node began and that has no verdict, if there is one.
+    fn open_of(&mut self, node: NodeId) -> Result<Option<u64>, StoreError>
+        ensures value { IsTrue (is_honest self.new) → IfOk result (λ i. i ≡ open_of (content self.old) node) }
+        ensures same { IsTrue (is_honest self.new) → content self.new ≡ content self.old }
+        ensures honest { IsTrue (is_honest self.new) → IsTrue (is_honest self.old) }
+        ensures cause { HasCause (fault_count self.old) (fault_count self.new) (is_honest self.new) ⊥ result };
+
+    /// The number that the next instance gets.
+    fn next_instance(&mut self) -> Result<u64, StoreError>
+        ensures value { IsTrue (is_honest self.new) → IfOk result (λ i. i ≡ next_instance (content self.old)) }
+        ensures same { IsTrue (is_honest self.new) → content self.new ≡ content self.old }
+        ensures honest { IsTrue (is_honest self.new) → IsTrue (is_honest self.old) }
+        ensures cause { HasCause (fault_count self.old) (fault_count self.new) (is_honest self.new) ⊥ result };
+
+    /// Whether nothing was ever stored.
+    fn is_fresh(&mut self) -> Result<bool, StoreError>
+        ensures value { IsTrue (is_honest self.new) → IfOk result (λ fresh. fresh ≡ is_fresh (content self.old)) }
+        ensures same { IsTrue (is_honest self.new) → content self.new ≡ content self.old }
+        ensures honest { IsTrue (is_honest self.new) → IsTrue (is_honest self.old) }
+        ensures cause { HasCause (fault_count self.old) (fault_count self.new) (is_honest self.new) ⊥ result };
+
+    /// Begins a check: the next instance, of this node, and its tentative checkpoint in it. It has none.
+    fn begin_check(&mut self, node: NodeId, ckpt: &Ckpt) -> Result<(), StoreError>
+        requires { IsTrue (is_honest self.old) → (row_of (content self.old) node).tentative ≡ None }
+        ensures written { IsTrue (is_honest self.new) → OnOk result (content self.new ≡ check_begun node ckpt.now (content self.old)) }
+        ensures unchanged { IsTrue (is_honest self.new) → OnErr result (content self.new ≡ content self.old) }
+        ensures honest { IsTrue (is_honest self.new) → IsTrue (is_honest self.old) }
+        ensures cause { HasCause (fault_count self.old) (fault_count self.new) (is_honest self.new)
+            (IsTrue (is_honest self.new) → next_instance (content self.old) ≡ greatest + 1) result };
+
+    /// Stores the node's tentative checkpoint in the instance. It has none.
+    fn put_tentative(&mut self, node: NodeId, instance: u64, ckpt: &Ckpt) -> Result<(), StoreError>
+        requires { IsTrue (is_honest self.old) → (row_of (content self.old) node).tentative ≡ None }
+        ensures written { IsTrue (is_honest self.new) → OnOk result (content self.new ≡ tentative_put node instance ckpt.now (content self.old)) }
+        ensures unchanged { IsTrue (is_honest self.new) → OnErr result (content self.new ≡ content self.old) }
+        ensures honest { IsTrue (is_honest self.new) → IsTrue (is_honest self.old) }
+        ensures cause { HasCause (fault_count self.old) (fault_count self.new) (is_honest self.new) ⊥ result };
+
+    /// Makes the node's tentative checkpoint permanent. Its instance has Yes.
+    fn promote(&mut self, node: NodeId) -> Result<(), StoreError>
+        requires { IsTrue (is_honest self.old) → HasVerdict (content self.old) node verdicts.Yes }
+        ensures written { IsTrue (is_honest self.new) → OnOk result (content self.new ≡ promoted node (content self.old)) }
+        ensures unchanged { IsTrue (is_honest self.new) → OnErr result (content self.new ≡ content self.old) }
+        ensures honest { IsTrue (is_honest self.new) → IsTrue (is_honest self.old) }
+        ensures cause { HasCause (fault_count self.old) (fault_count self.new) (is_honest self.new) ⊥ result };
+
+    /// Gives the node's tentative checkpoint up. Its instance has No.
+    fn discard(&mut self, node: NodeId) -> Result<(), StoreError>
+        requires { IsTrue (is_honest self.old) → HasVerdict (content self.old) node verdicts.No }
+        ensures written { IsTrue (is_honest self.new) → OnOk result (content self.new ≡ discarded node (content self.old)) }
+        ensures unchanged { IsTrue (is_honest self.new) → OnErr result (content self.new ≡ content self.old) }
+        ensures honest { IsTrue (is_honest self.new) → IsTrue (is_honest self.old) }
+        ensures cause { HasCause (fault_count self.old) (fault_count self.new) (is_honest self.new) ⊥ result };
+
+    /// Begins a rollback: the next incarnation of the node, and the next instance, of this node.
+    fn begin_restart(&mut self, node: NodeId) -> Result<(), StoreError>
+        ensures written { IsTrue (is_honest self.new) → OnOk result (content self.new ≡ restart_begun node (content self.old)) }
+        ensures unchanged { IsTrue (is_honest self.new) → OnErr result (content self.new ≡ content self.old) }
+        ensures honest { IsTrue (is_honest self.new) → IsTrue (is_honest self.old) }
+        ensures cause { HasCause (fault_count self.old) (fault_count self.new) (is_honest self.new)
+            (IsTrue (is_honest self.new) → (next_instance (content self.old) ≡ greatest + 1) ⊎ ((row_of (content self.old) node).incarnation ≡ greatest)) result };
+
+    /// Raises the incarnation of the node.
+    fn bump(&mut self, node: NodeId) -> Result<(), StoreError>
+        ensures written { IsTrue (is_honest self.new) → OnOk result (content self.new ≡ bumped node (content self.old)) }
+        ensures unchanged { IsTrue (is_honest self.new) → OnErr result (content self.new ≡ content self.old) }
+        ensures honest { IsTrue (is_honest self.new) → IsTrue (is_honest self.old) }
+        ensures cause { HasCause (fault_count self.old) (fault_count self.new) (is_honest self.new)
+            (IsTrue (is_honest self.new) → (row_of (content self.old) node).incarnation ≡ greatest) result };
+
+    /// Gives the instance its verdict. It is open.
+    fn decide(&mut self, instance: u64, yes: bool) -> Result<(), StoreError>
+        requires { IsTrue (is_honest self.old) → verdict_of (content self.old) instance ≡ Some verdicts.Open }
+        ensures written { IsTrue (is_honest self.new) → OnOk result (content self.new ≡ decided instance yes (content self.old)) }
+        ensures unchanged { IsTrue (is_honest self.new) → OnErr result (content self.new ≡ content self.old) }
+        ensures honest { IsTrue (is_honest self.new) → IsTrue (is_honest self.old) }
+        ensures cause { HasCause (fault_count self.old) (fault_count self.new) (is_honest self.new) ⊥ result };
+}
