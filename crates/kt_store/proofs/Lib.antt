@@ -1,3 +1,4 @@
 pub mod Tables
 pub mod Board
 pub mod Nodes
+pub mod Others
