@@ -115,6 +115,27 @@ fn saturating_set(rt: HostRuntime) -> Result<(), Fail> {
     Ok(())
 }
 
+/// Whether there is an environment with these values.
+fn takes(alloc: Global, script: &Script, values: &[Value]) -> Result<bool, Fail> {
+    let mut copies = Vec::new(alloc);
+    for value in values {
+        copies.push(value.copy())?;
+    }
+    Ok(Env::from_parts(script, copies, true).is_some())
+}
+
+#[test]
+fn takes_the_values_of_its_variables(rt: HostRuntime) -> Result<(), Fail> {
+    let script = set_script(rt.alloc())?;
+    let text = kt_tuple::Str::new(b"7").ok_or("no string")?;
+    let values = [Value::Int(7), Value::Int(8), Value::Str(text)];
+    assert!(rt; takes(rt.alloc(), &script, &values[..2])?);
+    assert!(rt; !takes(rt.alloc(), &script, &values[1..])?);
+    assert!(rt; !takes(rt.alloc(), &script, &values[..1])?);
+    assert!(rt; !takes(rt.alloc(), &script, &values)?);
+    Ok(())
+}
+
 /// `in (?int x, ?int x)`, `out (x)`.
 fn twice_script(alloc: Global) -> Result<Script, Fail> {
     let mut script = Script::new(alloc);
