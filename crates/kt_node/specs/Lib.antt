@@ -1,0 +1,11 @@
+pub mod Labels
+pub mod Node
+pub mod Store
+pub mod Plan
+pub mod Turning
+pub mod State
+pub mod Talking
+pub mod Joining
+pub mod Learning
+pub mod Arrivals
+pub mod Steps

@@ -1,0 +1,124 @@
+-- What a node works with, as the plain fields of a checkpoint, and back again.
+use Rattle.std.specs.Prelude.{ℕ, ◌==◌, nat_le, Bool, true, false, not, ◌&&◌, if◌then◌else◌, List, [], ◌∷◌, map, filter, length, Option, None, Some, is_some, is_none, Result, Ok, Err}
+use Rattle.std.specs.List.{find, flat_map, list_any}
+use Rattle.std.specs.Option.{option_map}
+use Rattle.kt_tuple.specs.declared.node.NodeId.{NodeId}
+use Rattle.kt_tuple.specs.declared.node.NodeId.TheVariants as ids
+use Rattle.kt_tuple.specs.Node.{node_eq}
+use Rattle.kt_script.specs.declared.command.Command.{Command}
+use Rattle.kt_worker.specs.Standing.{Standing}
+use Rattle.kt_worker.specs.Parts.{standing_of, misfit_of}
+use Rattle.kt_shard.specs.declared.request.Request.{Request}
+use Rattle.kt_shard.specs.declared.request.Kept.{Kept}
+use Rattle.kt_shard.specs.declared.desk.Desk.{Desk}
+use Rattle.kt_shard.specs.Limits.{desks as desk_count, most_workers}
+use Rattle.kt_shard.specs.Shard.{Shard, desk_of}
+use Rattle.kt_ckpt.specs.declared.ckpt.Ckpt.{Ckpt}
+use Rattle.kt_ckpt.specs.declared.state.State.{State}
+use Rattle.kt_ckpt.specs.declared.state.State.TheVariants as states
+use Rattle.kt_ckpt.specs.declared.state.Request.{Request as RequestFields}
+use Rattle.kt_ckpt.specs.declared.state.Kept.{Kept as KeptFields}
+use Rattle.kt_ckpt.specs.Fields.{WorkerFields, ShardFields}
+use Rattle.kt_node.specs.declared.refusal.Refusal.{Refusal}
+use Rattle.kt_node.specs.declared.refusal.Refusal.TheVariants as refusals
+use Rattle.kt_node.specs.Labels.{numbers, listed, tabled}
+use Rattle.kt_node.specs.Node.{Role, Body, IsWorker, IsShard, Live, opening_body}
+
+-- ---- into a checkpoint
+
+abbrev pub worker_fields : Standing → WorkerFields
+worker_fields w = record {
+  pc = w.position.pc;
+  number = w.number;
+  was_none = w.position.memory.was_none;
+  asked = w.asked;
+  variables = w.position.memory.values;
+}
+
+abbrev pub request_fields : Request → RequestFields
+request_fields r = record { number = r.number; op = r.op }
+
+abbrev pub kept_fields : Kept → KeptFields
+kept_fields k = record { request = request_fields k.request; answer = k.answer }
+
+-- a worker's entry, where there is one
+abbrev pub entry : {A : Type 0} → ℕ → Option A → List (ℕ × A)
+entry worker None = []
+entry worker (Some x) = (worker, x) ∷ []
+
+-- the entries of all workers that there may be, by rising number
+abbrev pub entries : {A : Type 0} → (ℕ → Option A) → List (ℕ × A)
+entries of = flat_map (λ worker. entry worker (of worker)) (numbers 1 most_workers)
+
+abbrev pub shard_fields : Shard → ShardFields
+shard_fields y = record {
+  bag = y.bag;
+  waiting = entries (λ worker. option_map request_fields (desk_of y worker).waiting);
+  kept = entries (λ worker. option_map kept_fields (desk_of y worker).kept);
+}
+
+abbrev pub body_fields : Body → State
+body_fields (IsWorker x) = states.Worker (worker_fields x)
+body_fields (IsShard y) = states.Shard (shard_fields y)
+
+-- the checkpoint of a node that remembers so many acts
+abbrev pub checkpoint_of : Role → Live → ℕ → Ckpt
+checkpoint_of role n line_len = record {
+  node = role.id;
+  line_len = line_len;
+  sent = listed role.peers n.sent;
+  received = listed role.peers n.received;
+  state = body_fields n.body;
+}
+
+-- ---- and back
+
+abbrev pub request_from : RequestFields → Request
+request_from r = record { number = r.number; op = r.op }
+
+abbrev pub kept_from : KeptFields → Kept
+kept_from k = record { request = request_from k.request; answer = k.answer }
+
+-- the worker's entry, if it has one
+abbrev pub entry_of : {A : Type 0} → ℕ → List (ℕ × A) → Option A
+entry_of worker entries = option_map (λ x. x.1) (find (λ x. x.0 == worker) entries)
+
+abbrev pub desk_from : ShardFields → ℕ → Desk
+desk_from y worker = record {
+  waiting = option_map request_from (entry_of worker y.waiting);
+  kept = option_map kept_from (entry_of worker y.kept);
+}
+
+abbrev pub shard_from : ShardFields → Shard
+shard_from y = record { bag = y.bag; desks = map (desk_from y) (numbers 0 desk_count) }
+
+abbrev pub standing_from : WorkerFields → Standing
+standing_from w = standing_of w.number w.asked w.pc w.was_none w.variables
+
+-- each of these entries is of a worker of the scene
+abbrev pub are_of_scene : {A : Type 0} → ℕ → List (ℕ × A) → Bool
+are_of_scene workers entries = not (list_any (λ x. not (nat_le 1 x.0 && nat_le x.0 workers)) entries)
+
+-- the acts and labels of a checkpoint fit the node, which remembers so many acts
+abbrev pub marks_fit : Role → ℕ → Ckpt → Bool
+marks_fit role line_len c =
+    node_eq c.node role.id && length c.sent == role.peers && length c.received == role.peers && nat_le c.line_len line_len
+
+-- so do those that there are
+abbrev pub marks_fit_if : Role → ℕ → Option Ckpt → Bool
+marks_fit_if role line_len None = true
+marks_fit_if role line_len (Some c) = marks_fit role line_len c
+
+-- what a node of this kind works with, if the state is one that it can be in
+abbrev pub body_from : Role → NodeId → State → Option Body
+body_from role (ids.Worker n) (states.Worker w) =
+    if is_none (misfit_of role.script (standing_from w)) then Some (IsWorker (standing_from w)) else None
+body_from role (ids.Worker n) (states.Shard y) = None
+body_from role (ids.Shard n) (states.Worker w) = None
+body_from role (ids.Shard n) (states.Shard y) =
+    if are_of_scene role.peers y.waiting && are_of_scene role.peers y.kept then Some (IsShard (shard_from y)) else None
+
+-- the body with which the node goes on from its permanent checkpoint; nothing stored is the beginning
+abbrev pub body_at : Role → Option Ckpt → Option Body
+body_at role None = Some (opening_body role role.id)
+body_at role (Some c) = body_from role role.id c.state
