@@ -1,11 +1,10 @@
 -- The table of arrivals: what a message makes of the node that it comes to. The rules of each message are tried from
 -- the top; a node that is down drops everything.
-use Rattle.std.specs.Prelude.{ℕ, ◌==◌, Bool, true, false, not, ◌&&◌, if◌then◌else◌, List, [], ◌∷◌, Option, None, Some, Result, Ok, Err}
+use Rattle.std.specs.Prelude.{ℕ, ◌==◌, Bool, true, false, ◌&&◌, if◌then◌else◌, List, [], ◌∷◌, Option, None, Some, Ok, Err}
 use Rattle.kt_tuple.specs.declared.node.NodeId.{NodeId}
-use Rattle.kt_store.specs.declared.rows.Verdict.{Verdict}
 use Rattle.kt_store.specs.Verdict.{is_open}
 use Rattle.kt_vote.specs.declared.vote.Vote.{Vote}
-use Rattle.kt_vote.specs.Poll.{Poll, counts, counted}
+use Rattle.kt_vote.specs.Poll.{counts, counted}
 use Rattle.kt_node.specs.declared.message.Post.{Post}
 use Rattle.kt_node.specs.declared.message.Ask.{Ask}
 use Rattle.kt_node.specs.declared.message.Message.{Message}
@@ -13,7 +12,6 @@ use Rattle.kt_node.specs.declared.message.Message.TheVariants as messages
 use Rattle.kt_node.specs.declared.node.Member.{Member}
 use Rattle.kt_node.specs.declared.node.Phase.{Phase}
 use Rattle.kt_node.specs.declared.node.Phase.TheVariants as phases
-use Rattle.kt_node.specs.declared.change.KeptChange.{KeptChange}
 use Rattle.kt_node.specs.declared.change.KeptChange.TheVariants as keeps
 use Rattle.kt_node.specs.declared.refusal.Refusal.TheVariants as refusals
 use Rattle.kt_node.specs.Labels.{up_to, label_at, first_at, reaches}

@@ -1,7 +1,6 @@
 -- How a node begins to vote in an instance: whom it asks, what it stores, and when it has voted at once.
-use Rattle.std.specs.Prelude.{ℕ, ◌+◌, Bool, true, false, not, ◌&&◌, if◌then◌else◌, List, [], ◌∷◌, ◌++◌, map, filter, Option, None, Some, Result, Ok, Err}
+use Rattle.std.specs.Prelude.{ℕ, ◌+◌, Bool, true, false, not, if◌then◌else◌, List, [], ◌∷◌, ◌++◌, map, filter, Option, None, Some, Ok, Err}
 use Rattle.kt_tuple.specs.declared.node.NodeId.{NodeId}
-use Rattle.kt_link.specs.declared.label.Label.{Label}
 use Rattle.kt_ckpt.specs.declared.ckpt.Ckpt.{Ckpt}
 use Rattle.kt_vote.specs.Poll.{Poll, outcome_of}
 use Rattle.kt_node.specs.declared.message.Ask.{Ask}
@@ -13,13 +12,12 @@ use Rattle.kt_node.specs.declared.node.Phase.TheVariants as phases
 use Rattle.kt_node.specs.declared.change.KeptChange.TheVariants as keeps
 use Rattle.kt_node.specs.declared.plan.Write.{Write}
 use Rattle.kt_node.specs.declared.plan.Write.TheVariants as writes
-use Rattle.kt_node.specs.declared.refusal.Refusal.{Refusal}
 use Rattle.kt_node.specs.declared.refusal.Refusal.TheVariants as refusals
-use Rattle.kt_node.specs.Labels.{up_to, label_at, tabled}
-use Rattle.kt_node.specs.Node.{Role, Body, Live, Node, node_number, neighbours, fresh_live}
-use Rattle.kt_node.specs.Store.{View, Told, Marks, marks_of, permanent_marks}
+use Rattle.kt_node.specs.Labels.{up_to, label_at}
+use Rattle.kt_node.specs.Node.{Role, Body, Live, node_number, neighbours, fresh_live}
+use Rattle.kt_node.specs.Store.{View, Told, Marks, permanent_marks}
 use Rattle.kt_node.specs.State.{checkpoint_of, marks_fit_if, body_at}
-use Rattle.kt_node.specs.Plan.{Change, Turns, Loads, Plan, Planned, no_turn}
+use Rattle.kt_node.specs.Plan.{Turns, Loads, Plan, Planned, no_turn}
 
 -- ---- ballots and votes
 
@@ -54,7 +52,7 @@ pub record Casting : Type 0 where
 
 abbrev pub casting_to : NodeId → Option Bool → Option Casting
 casting_to parent None = None
-casting_to parent (Some agreed) = Some record { parent = parent; agreed = agreed }
+casting_to parent (Some agreed) = Some record { parent = parent; yes = agreed }
 
 abbrev pub casting_unless : Bool → NodeId → Option Bool → Option Casting
 casting_unless true parent outcome = None

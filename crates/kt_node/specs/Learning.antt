@@ -1,11 +1,10 @@
 -- What a verdict makes of a node, whether it learns it from the board or is told.
-use Rattle.std.specs.Prelude.{ℕ, Bool, true, false, List, [], ◌∷◌, map, Option, None, Some, Result, Ok, Err}
+use Rattle.std.specs.Prelude.{ℕ, Bool, true, false, List, [], map, Option, None, Some, Ok}
 use Rattle.kt_tuple.specs.declared.node.NodeId.{NodeId}
 use Rattle.kt_history.specs.declared.note.Note.{Note}
 use Rattle.kt_history.specs.declared.note.Note.TheVariants as notes
 use Rattle.kt_node.specs.declared.message.Message.{Message}
 use Rattle.kt_node.specs.declared.message.Message.TheVariants as messages
-use Rattle.kt_node.specs.declared.node.Phase.{Phase}
 use Rattle.kt_node.specs.declared.node.Phase.TheVariants as phases
 use Rattle.kt_node.specs.declared.plan.Write.TheVariants as writes
 use Rattle.kt_node.specs.Node.{Body}

@@ -2,6 +2,7 @@ pub mod Labels
 pub mod Node
 pub mod Store
 pub mod Plan
+pub mod Writing
 pub mod Turning
 pub mod State
 pub mod Talking

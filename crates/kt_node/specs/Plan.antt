@@ -1,5 +1,5 @@
 -- What a step does, as plain data.
-use Rattle.std.specs.Prelude.{Bool, false, List, [], Option, None, Some, Result, Ok, Err}
+use Rattle.std.specs.Prelude.{false, List, [], Option, None, Result}
 use Rattle.kt_tuple.specs.declared.node.NodeId.{NodeId}
 use Rattle.kt_history.specs.declared.note.Note.{Note}
 use Rattle.kt_node.specs.declared.message.Message.{Message}

@@ -1,11 +1,10 @@
 -- What a node works with, as the plain fields of a checkpoint, and back again.
-use Rattle.std.specs.Prelude.{ℕ, ◌==◌, nat_le, Bool, true, false, not, ◌&&◌, if◌then◌else◌, List, [], ◌∷◌, map, filter, length, Option, None, Some, is_some, is_none, Result, Ok, Err}
+use Rattle.std.specs.Prelude.{ℕ, ◌==◌, nat_le, Bool, true, not, ◌&&◌, if◌then◌else◌, List, [], ◌∷◌, map, length, Option, None, Some, is_none}
 use Rattle.std.specs.List.{find, flat_map, list_any}
 use Rattle.std.specs.Option.{option_map}
 use Rattle.kt_tuple.specs.declared.node.NodeId.{NodeId}
 use Rattle.kt_tuple.specs.declared.node.NodeId.TheVariants as ids
 use Rattle.kt_tuple.specs.Node.{node_eq}
-use Rattle.kt_script.specs.declared.command.Command.{Command}
 use Rattle.kt_worker.specs.Standing.{Standing}
 use Rattle.kt_worker.specs.Parts.{standing_of, misfit_of}
 use Rattle.kt_shard.specs.declared.request.Request.{Request}
@@ -19,9 +18,7 @@ use Rattle.kt_ckpt.specs.declared.state.State.TheVariants as states
 use Rattle.kt_ckpt.specs.declared.state.Request.{Request as RequestFields}
 use Rattle.kt_ckpt.specs.declared.state.Kept.{Kept as KeptFields}
 use Rattle.kt_ckpt.specs.Fields.{WorkerFields, ShardFields}
-use Rattle.kt_node.specs.declared.refusal.Refusal.{Refusal}
-use Rattle.kt_node.specs.declared.refusal.Refusal.TheVariants as refusals
-use Rattle.kt_node.specs.Labels.{numbers, listed, tabled}
+use Rattle.kt_node.specs.Labels.{numbers, listed}
 use Rattle.kt_node.specs.Node.{Role, Body, IsWorker, IsShard, Live, opening_body}
 
 -- ---- into a checkpoint

@@ -1,8 +1,7 @@
 -- The table of steps: what a node may do of itself, and why it may not. Of several refusals the lowest is given.
-use Rattle.std.specs.Prelude.{ℕ, Bool, true, false, not, if◌then◌else◌, List, [], ◌∷◌, Option, None, Some, Result, Ok, Err}
+use Rattle.std.specs.Prelude.{ℕ, Bool, true, false, if◌then◌else◌, List, [], ◌∷◌, Option, None, Some, Result, Ok, Err}
 use Rattle.kt_tuple.specs.declared.node.NodeId.{NodeId}
 use Rattle.kt_tuple.specs.declared.op.Op.{Op}
-use Rattle.kt_script.specs.declared.command.Command.{Command}
 use Rattle.kt_worker.specs.declared.worker.Worker.{Worker}
 use Rattle.kt_worker.specs.Standing.{next_request, again_request, issued}
 use Rattle.kt_shard.specs.declared.error.ServeError.{ServeError}
@@ -23,8 +22,8 @@ use Rattle.kt_node.specs.declared.change.KeptChange.TheVariants as keeps
 use Rattle.kt_node.specs.declared.plan.Write.TheVariants as writes
 use Rattle.kt_node.specs.declared.refusal.Refusal.{Refusal}
 use Rattle.kt_node.specs.declared.refusal.Refusal.TheVariants as refusals
-use Rattle.kt_node.specs.Node.{Body, Live, Node, Down, Alive, worker_in, shard_in}
-use Rattle.kt_node.specs.Store.{View, Told, Marks, permanent_marks, tentative_marks}
+use Rattle.kt_node.specs.Node.{Live, Node, Down, Alive, worker_in, shard_in}
+use Rattle.kt_node.specs.Store.{View, Marks, permanent_marks, tentative_marks}
 use Rattle.kt_node.specs.Plan.{Change, Stay, Turns, Falls, Plan, Planned, no_turn}
 use Rattle.kt_node.specs.Talking.{issue_plan, repeat_plan, service_plan, heard_plan}
 use Rattle.kt_node.specs.Joining.{voted, vote_to, begin_check_plan, restart_plan, with_marks}

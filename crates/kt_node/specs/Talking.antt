@@ -1,5 +1,5 @@
 -- What workers and shards say to each other: the acts of the underlying computation.
-use Rattle.std.specs.Prelude.{ℕ, Bool, true, false, ◌&&◌, if◌then◌else◌, List, [], ◌∷◌, Option, None, Some, Result, Ok, Err}
+use Rattle.std.specs.Prelude.{ℕ, if◌then◌else◌, [], ◌∷◌, Option, None, Some}
 use Rattle.kt_tuple.specs.declared.node.NodeId.{NodeId}
 use Rattle.kt_tuple.specs.declared.node.NodeId.TheVariants as ids
 use Rattle.kt_tuple.specs.declared.op.Op.{Op}
@@ -11,7 +11,7 @@ use Rattle.kt_history.specs.declared.note.Act.{Act}
 use Rattle.kt_history.specs.declared.note.Note.{Note}
 use Rattle.kt_history.specs.declared.note.Note.TheVariants as notes
 use Rattle.kt_worker.specs.declared.worker.Worker.{Worker}
-use Rattle.kt_worker.specs.Standing.{awaits, heard, issued}
+use Rattle.kt_worker.specs.Standing.{awaits, heard}
 use Rattle.kt_shard.specs.declared.request.Request.{Request}
 use Rattle.kt_shard.specs.Arrival.{Arrival, Waits, Again, Ignored, arrival}
 use Rattle.kt_shard.specs.Service.{Service}
@@ -23,7 +23,7 @@ use Rattle.kt_node.specs.declared.message.Message.TheVariants as messages
 use Rattle.kt_node.specs.declared.change.BodyChange.{BodyChange}
 use Rattle.kt_node.specs.declared.change.BodyChange.TheVariants as bodies
 use Rattle.kt_node.specs.declared.change.KeptChange.{KeptChange}
-use Rattle.kt_node.specs.Node.{Role, Body, IsWorker, IsShard, Live, node_number, next_label}
+use Rattle.kt_node.specs.Node.{Body, IsWorker, IsShard, Live, node_number, next_label}
 use Rattle.kt_node.specs.Store.{View}
 use Rattle.kt_node.specs.Plan.{Turns, Plan, no_turn}
 

@@ -3,7 +3,7 @@ use Rattle.std.specs.Prelude.{ℕ, ◌+◌, Bool, not, ◌&&◌, if◌then◌els
 use Rattle.kt_tuple.specs.declared.node.NodeId.{NodeId}
 use Rattle.kt_tuple.specs.Node.{node_eq}
 use Rattle.kt_link.specs.declared.label.Label.{Label}
-use Rattle.kt_shard.specs.Table.{at, put}
+use Rattle.kt_shard.specs.Table.{put}
 use Rattle.kt_shard.specs.Arrival.{waiting_shard}
 use Rattle.kt_shard.specs.Service.{served}
 use Rattle.kt_node.specs.declared.message.Post.{Post}
