@@ -2,7 +2,6 @@
 -- the top; a node that is down drops everything.
 use Rattle.std.specs.Prelude.{ℕ, ◌==◌, Bool, true, false, ◌&&◌, if◌then◌else◌, List, [], ◌∷◌, Option, None, Some, Ok, Err}
 use Rattle.kt_tuple.specs.declared.node.NodeId.{NodeId}
-use Rattle.kt_store.specs.Verdict.{is_open}
 use Rattle.kt_vote.specs.declared.vote.Vote.{Vote}
 use Rattle.kt_vote.specs.Poll.{counts, counted}
 use Rattle.kt_node.specs.declared.message.Post.{Post}
@@ -16,7 +15,7 @@ use Rattle.kt_node.specs.declared.change.KeptChange.TheVariants as keeps
 use Rattle.kt_node.specs.declared.refusal.Refusal.TheVariants as refusals
 use Rattle.kt_node.specs.Labels.{up_to, label_at, first_at, reaches}
 use Rattle.kt_node.specs.Node.{Live, Node, Down, Alive, node_number}
-use Rattle.kt_node.specs.Store.{View, permanent_marks, tentative_marks, checkpoint_in}
+use Rattle.kt_node.specs.Store.{View, is_undecided, permanent_marks, tentative_marks, checkpoint_in}
 use Rattle.kt_node.specs.State.{marks_fit_if}
 use Rattle.kt_node.specs.Plan.{Turns, Plan, Planned, empty_plan, no_turn}
 use Rattle.kt_node.specs.Talking.{heard_plan}
@@ -93,7 +92,7 @@ check_when_open v n from ask =
 -- no where the check is decided
 abbrev pub check_reaction : View → Live → NodeId → Ask → Reaction
 check_reaction v n from ask =
-    if is_open (v.told.verdict ask.instance) then check_when_open v n from ask else Says false
+    if is_undecided (v.told.verdict ask.instance) then check_when_open v n from ask else Says false
 
 -- a vote at once changes nothing of the node
 abbrev pub answer_plan : NodeId → Ask → Bool → Plan
@@ -132,7 +131,7 @@ rollback_when_open n from ask =
 -- no where the rollback is decided
 abbrev pub rollback_reaction : View → Live → NodeId → Ask → Reaction
 rollback_reaction v n from ask =
-    if is_open (v.told.verdict ask.instance) then rollback_when_open n from ask else Says false
+    if is_undecided (v.told.verdict ask.instance) then rollback_when_open n from ask else Says false
 
 -- whatever is answered, what is kept from the asker above the label is dropped
 abbrev pub sieved_answer_plan : NodeId → Ask → Bool → Plan

@@ -1,7 +1,8 @@
 -- Tables of labels, one for each neighbour, by the neighbour's number among its kind.
-use Rattle.std.specs.Prelude.{ℕ, zero, suc, ◌==◌, nat_lt, nat_le, Bool, false, ◌&&◌, ◌||◌, List, [], ◌∷◌, map, Option, None, Some}
+use Rattle.std.specs.Prelude.{ℕ, zero, suc, ◌==◌, nat_lt, nat_le, Bool, false, ◌&&◌, ◌||◌, List, [], ◌∷◌, map, replicate, Option, None, Some}
 use Rattle.kt_link.specs.declared.label.Label.{Label}
 use Rattle.kt_shard.specs.Table.{at}
+use Rattle.kt_shard.specs.Limits.{desks}
 
 -- the label of no message: below all others
 abbrev pub no_label : Label
@@ -33,6 +34,16 @@ numbers from (suc n) = from ∷ numbers (suc from) n
 abbrev pub listed : ℕ → List Label → List Label
 listed peers table = map (label_at table) (numbers 1 peers)
 
+-- a table has an entry for each number that a neighbour can have, and for 0
+abbrev pub table_size : ℕ
+table_size = desks
+
+abbrev pub no_labels : List Label
+no_labels = replicate table_size no_label
+
+abbrev pub no_firsts : List (Option Label)
+no_firsts = replicate table_size None
+
 -- the table of a checkpoint's list: neighbours are numbered from 1
 abbrev pub tabled : List Label → List Label
-tabled labels = no_label ∷ labels
+tabled labels = map (label_at (no_label ∷ labels)) (numbers 0 table_size)

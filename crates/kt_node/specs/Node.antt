@@ -13,7 +13,7 @@ use Rattle.kt_node.specs.declared.node.Phase.{Phase}
 use Rattle.kt_node.specs.declared.node.Phase.TheVariants as phases
 use Rattle.kt_node.specs.declared.node.Mode.{Mode}
 use Rattle.kt_node.specs.declared.node.Mode.TheVariants as modes
-use Rattle.kt_node.specs.Labels.{numbers}
+use Rattle.kt_node.specs.Labels.{numbers, no_labels, no_firsts}
 
 -- who a node is, which the scene says: its name, how many neighbours it has, and its script (a shard's is empty)
 pub record Role : Type 0 where
@@ -71,13 +71,13 @@ fresh_live phase incarnation body sent received = record {
   count = 0;
   sent = sent;
   received = received;
-  first = [];
+  first = no_firsts;
   kept = [];
 }
 
 -- the node with which a world opens
 abbrev pub opening_node : Role → Node
-opening_node role = Alive (fresh_live phases.Up 1 (opening_body role role.id) [] [])
+opening_node role = Alive (fresh_live phases.Up 1 (opening_body role role.id) no_labels no_labels)
 
 abbrev pub mode_in : Phase → Mode
 mode_in phases.Up = modes.Up

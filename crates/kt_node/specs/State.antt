@@ -106,16 +106,26 @@ abbrev pub marks_fit_if : Role → ℕ → Option Ckpt → Bool
 marks_fit_if role line_len None = true
 marks_fit_if role line_len (Some c) = marks_fit role line_len c
 
--- what a node of this kind works with, if the state is one that it can be in
-abbrev pub body_from : Role → NodeId → State → Option Body
-body_from role (ids.Worker n) (states.Worker w) =
-    if is_none (misfit_of role.script (standing_from w)) then Some (IsWorker (standing_from w)) else None
-body_from role (ids.Worker n) (states.Shard y) = None
-body_from role (ids.Shard n) (states.Worker w) = None
-body_from role (ids.Shard n) (states.Shard y) =
-    if are_of_scene role.peers y.waiting && are_of_scene role.peers y.kept then Some (IsShard (shard_from y)) else None
+-- a shard of the scene, with no more tuples than it remembers acts
+abbrev pub shard_fits : Role → ℕ → ShardFields → Bool
+shard_fits role line_len y =
+    are_of_scene role.peers y.waiting && are_of_scene role.peers y.kept && nat_le (length y.bag) line_len
+
+-- a worker of the script
+abbrev pub worker_fits : Role → WorkerFields → Bool
+worker_fits role w = is_none (misfit_of role.script (standing_from w))
+
+abbrev pub if_fits : Bool → Body → Option Body
+if_fits fits body = if fits then Some body else None
+
+-- what a node of this kind works with behind so many acts, if the state is one that it can be in
+abbrev pub body_from : Role → ℕ → NodeId → State → Option Body
+body_from role line_len (ids.Worker n) (states.Worker w) = if_fits (worker_fits role w) (IsWorker (standing_from w))
+body_from role line_len (ids.Worker n) (states.Shard y) = None
+body_from role line_len (ids.Shard n) (states.Worker w) = None
+body_from role line_len (ids.Shard n) (states.Shard y) = if_fits (shard_fits role line_len y) (IsShard (shard_from y))
 
 -- the body with which the node goes on from its permanent checkpoint; nothing stored is the beginning
 abbrev pub body_at : Role → Option Ckpt → Option Body
 body_at role None = Some (opening_body role role.id)
-body_at role (Some c) = body_from role role.id c.state
+body_at role (Some c) = body_from role c.line_len role.id c.state

@@ -11,7 +11,6 @@ use Rattle.kt_shard.specs.Service.{Service, service}
 use Rattle.kt_store.specs.declared.rows.Tentative.{Tentative}
 use Rattle.kt_store.specs.declared.rows.Verdict.{Verdict}
 use Rattle.kt_store.specs.declared.rows.Verdict.TheVariants as verdicts
-use Rattle.kt_store.specs.Verdict.{is_open}
 use Rattle.kt_vote.specs.Poll.{Poll, outcome_of}
 use Rattle.kt_node.specs.declared.message.Post.{Post}
 use Rattle.kt_node.specs.declared.message.Message.{Message}
@@ -23,7 +22,7 @@ use Rattle.kt_node.specs.declared.plan.Write.TheVariants as writes
 use Rattle.kt_node.specs.declared.refusal.Refusal.{Refusal}
 use Rattle.kt_node.specs.declared.refusal.Refusal.TheVariants as refusals
 use Rattle.kt_node.specs.Node.{Live, Node, Down, Alive, worker_in, shard_in}
-use Rattle.kt_node.specs.Store.{View, Marks, permanent_marks, tentative_marks}
+use Rattle.kt_node.specs.Store.{View, is_undecided, Marks, permanent_marks, tentative_marks}
 use Rattle.kt_node.specs.Plan.{Change, Stay, Turns, Falls, Plan, Planned, no_turn}
 use Rattle.kt_node.specs.Talking.{issue_plan, repeat_plan, service_plan, heard_plan}
 use Rattle.kt_node.specs.Joining.{voted, vote_to, begin_check_plan, restart_plan, with_marks}
@@ -122,8 +121,8 @@ abbrev pub decide_if : Phase → Poll → Option Bool → Planned
 decide_if phase b None = Err refusals.NotDecided
 decide_if phase b (Some agreed) = Ok (decide_plan phase b agreed)
 
-abbrev pub decide_when : Phase → Poll → Verdict → Planned
-decide_when phase b v = if is_open v then decide_if phase b (outcome_of b) else Err refusals.NothingThere
+abbrev pub decide_when : Phase → Poll → Option Verdict → Planned
+decide_when phase b v = if is_undecided v then decide_if phase b (outcome_of b) else Err refusals.NothingThere
 
 abbrev pub decide_by : View → Phase → Poll → Option NodeId → Planned
 decide_by v phase b None = decide_when phase b (v.told.verdict b.instance)
@@ -151,9 +150,9 @@ no_plan change instance send = record {
   write = Some (writes.Decide instance false);
 }
 
-abbrev pub abandon_open : Poll → Verdict → Planned
+abbrev pub abandon_open : Poll → Option Verdict → Planned
 abandon_open b v =
-    if is_open v then Ok (no_plan (Turns no_turn) b.instance (verdict_to b.instance false b.asked))
+    if is_undecided v then Ok (no_plan (Turns no_turn) b.instance (verdict_to b.instance false b.asked))
     else Err refusals.NothingThere
 
 -- the participant has voted, and its vote is no
@@ -192,10 +191,11 @@ abandon v = abandon_of v v.node
 -- ---- learn: the verdict stands on the board
 
 -- what a verdict leads to
-abbrev pub by_verdict : Verdict → (Bool → Planned) → Planned
-by_verdict verdicts.Open learns = Err refusals.NotDecided
-by_verdict verdicts.Yes learns = learns true
-by_verdict verdicts.No learns = learns false
+abbrev pub by_verdict : Option Verdict → (Bool → Planned) → Planned
+by_verdict None learns = Err refusals.NotDecided
+by_verdict (Some verdicts.Open) learns = Err refusals.NotDecided
+by_verdict (Some verdicts.Yes) learns = learns true
+by_verdict (Some verdicts.No) learns = learns false
 
 abbrev pub learn_rolling : View → Poll → Option NodeId → Planned
 learn_rolling v b None = Err refusals.WrongMode
@@ -219,10 +219,9 @@ learn v = learn_of v v.node
 
 -- ---- fail: the line is cut to the tentative checkpoint if there is one that did not get No, else to the permanent one
 
-abbrev pub line_left_by : View → Verdict → Marks
-line_left_by v verdicts.Open = tentative_marks v.told
-line_left_by v verdicts.Yes = tentative_marks v.told
-line_left_by v verdicts.No = permanent_marks v.told
+abbrev pub line_left_by : View → Option Verdict → Marks
+line_left_by v (Some verdicts.No) = permanent_marks v.told
+line_left_by v _ = tentative_marks v.told
 
 abbrev pub line_left : View → Option Tentative → Marks
 line_left v None = permanent_marks v.told
@@ -253,10 +252,9 @@ abbrev pub restart_down : View → Option Tentative → Planned
 restart_down v None = restart_unless_open v v.told.undecided
 restart_down v (Some t) = Err refusals.Unresolved
 
-abbrev pub restart_after : View → Verdict → Planned
-restart_after v verdicts.Open = Err refusals.NotDecided
-restart_after v verdicts.Yes = Err refusals.NotDecided
-restart_after v verdicts.No = restart_plan v
+abbrev pub restart_after : View → Option Verdict → Planned
+restart_after v (Some verdicts.No) = restart_plan v
+restart_after v _ = Err refusals.NotDecided
 
 abbrev pub restart_rolling : View → Poll → Option NodeId → Planned
 restart_rolling v b None = restart_after v (v.told.verdict b.instance)

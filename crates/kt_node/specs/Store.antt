@@ -1,5 +1,6 @@
 -- What the store says to a node, and what of a checkpoint a plan reads.
-use Rattle.std.specs.Prelude.{ℕ, List, [], Option, None, Some}
+use Rattle.std.specs.Prelude.{ℕ, Bool, false, List, Option, None, Some}
+use Rattle.kt_store.specs.Verdict.{is_open}
 use Rattle.kt_link.specs.declared.label.Label.{Label}
 use Rattle.kt_tuple.specs.declared.node.NodeId.{NodeId}
 use Rattle.kt_ckpt.specs.declared.ckpt.Ckpt.{Ckpt}
@@ -8,22 +9,17 @@ use Rattle.kt_store.specs.declared.rows.Verdict.{Verdict}
 use Rattle.kt_store.specs.declared.rows.Verdict.TheVariants as verdicts
 use Rattle.kt_store.specs.Content.{Content, row_of, verdict_of, open_of, next_instance}
 use Rattle.kt_node.specs.Node.{Role, Node}
-use Rattle.kt_node.specs.Labels.{tabled}
+use Rattle.kt_node.specs.Labels.{tabled, no_labels}
 
 -- of the node: its incarnation, its permanent and its tentative checkpoint, the instance that it began and that has no verdict; of each instance
--- the verdict; the number of the next instance
+-- what became of it, if it was begun; the number of the next instance
 pub record Told : Type 0 where
   pub incarnation : ℕ
   pub permanent : Option Ckpt
   pub tentative : Option Tentative
   pub undecided : Option ℕ
-  pub verdict : ℕ → Verdict
+  pub verdict : ℕ → Option Verdict
   pub next : ℕ
-
--- an instance that is not on the board has no verdict
-abbrev pub verdict_or_open : Option Verdict → Verdict
-verdict_or_open None = verdicts.Open
-verdict_or_open (Some v) = v
 
 -- what a store with this content says to p
 abbrev pub told : Content → NodeId → Told
@@ -32,9 +28,14 @@ told c p = record {
   permanent = (row_of c p).permanent;
   tentative = (row_of c p).tentative;
   undecided = open_of c p;
-  verdict = λ i. verdict_or_open (verdict_of c i);
+  verdict = verdict_of c;
   next = next_instance c;
 }
+
+-- an instance that was begun and has no verdict
+abbrev pub is_undecided : Option Verdict → Bool
+is_undecided None = false
+is_undecided (Some v) = is_open v
 
 -- all that the owner of a step sees, but for what it hears: who it is, what it is, what the store says, the number
 -- of the next note, and how many acts it remembers
@@ -52,7 +53,7 @@ pub record Marks : Type 0 where
   pub received : List Label
 
 abbrev pub marks_of : Option Ckpt → Marks
-marks_of None = record { line_len = 0; sent = []; received = [] }
+marks_of None = record { line_len = 0; sent = no_labels; received = no_labels }
 marks_of (Some c) = record { line_len = c.line_len; sent = tabled c.sent; received = tabled c.received }
 
 abbrev pub checkpoint_in : Option Tentative → Option Ckpt
@@ -65,3 +66,15 @@ permanent_marks t = marks_of t.permanent
 
 abbrev pub tentative_marks : Told → Marks
 tentative_marks t = marks_of (checkpoint_in t.tentative)
+
+-- the permanent checkpoint by definition: a tentative one counts from the moment that its instance has Yes
+abbrev pub unless_yes : Option Verdict → Option Ckpt → Option Ckpt → Option Ckpt
+unless_yes (Some verdicts.Yes) tentative permanent = tentative
+unless_yes _ tentative permanent = permanent
+
+abbrev pub permanent_over : (ℕ → Option Verdict) → Option Ckpt → Option Tentative → Option Ckpt
+permanent_over verdict permanent None = permanent
+permanent_over verdict permanent (Some t) = unless_yes (verdict t.instance) (Some t.checkpoint) permanent
+
+abbrev pub permanent_of : Told → Option Ckpt
+permanent_of t = permanent_over t.verdict t.permanent t.tentative

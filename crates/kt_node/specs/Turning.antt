@@ -13,7 +13,7 @@ use Rattle.kt_node.specs.declared.change.BodyChange.TheVariants as bodies
 use Rattle.kt_node.specs.declared.change.KeptChange.{KeptChange}
 use Rattle.kt_node.specs.declared.change.KeptChange.TheVariants as keeps
 use Rattle.kt_node.specs.declared.change.Turn.{Turn as Turning}
-use Rattle.kt_node.specs.Labels.{no_label, up_to, first_at}
+use Rattle.kt_node.specs.Labels.{no_label, no_firsts, up_to, first_at}
 use Rattle.kt_node.specs.Node.{Body, IsWorker, IsShard, Live, Node, Down, Alive, node_number, next_label}
 use Rattle.kt_node.specs.Plan.{Change, Stay, Turns, Falls, Loads}
 
@@ -59,7 +59,7 @@ first_said l first (Some q) = put None first (node_number q) (first_or l (first_
 
 -- a promoted checkpoint has nothing sent since
 abbrev pub first_in : Label → List (Option Label) → Option NodeId → Bool → List (Option Label)
-first_in l first said promoted = if promoted then [] else first_said l first said
+first_in l first said promoted = if promoted then no_firsts else first_said l first said
 
 abbrev pub phase_in : Phase → Option Phase → Phase
 phase_in phase None = phase
