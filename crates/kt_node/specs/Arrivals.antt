@@ -110,7 +110,8 @@ check_plan v n from ask Joins = join_check_plan v n from ask
 -- the tentative checkpoint fits too, where there is one
 abbrev pub with_both_marks : View → Planned → Planned
 with_both_marks v planned =
-    with_marks v (if marks_fit_if v.role v.line_len (checkpoint_in v.told.tentative) then planned else Err refusals.Damaged)
+    with_marks v
+    (if marks_fit_if v.role v.line_len (checkpoint_in v.told.tentative) then planned else Err refusals.Damaged)
 
 abbrev pub hear_check : View → NodeId → Ask → Planned
 hear_check v from ask =

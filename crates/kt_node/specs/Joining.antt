@@ -80,18 +80,22 @@ vote_after m (Some c) = vote_to c.parent m.ballot.instance m.asked_in c.yes
 
 -- x is asked where something of it was heard that the permanent checkpoint has not received
 abbrev pub is_in_cohort : Marks → Live → NodeId → Bool
-is_in_cohort permanent n x = not (up_to (label_at n.received (node_number x)) (label_at permanent.received (node_number x)))
+is_in_cohort permanent n x =
+    not (up_to (label_at n.received (node_number x)) (label_at permanent.received (node_number x)))
 
 abbrev pub cohort : Role → Marks → Live → List NodeId
 cohort role permanent n = filter (is_in_cohort permanent n) (neighbours role)
 
 -- each of these is asked with the last label received from it
 abbrev pub check_asks : ℕ → Live → List NodeId → List (NodeId × Message)
-check_asks instance n asked = map (λ x. (x, messages.CheckAsk record {
-  instance = instance;
-  label = label_at n.received (node_number x);
-  incarnation = n.incarnation;
-})) asked
+check_asks instance n asked = map (λ x. (
+  x,
+  messages.CheckAsk record {
+    instance = instance;
+    label = label_at n.received (node_number x);
+    incarnation = n.incarnation;
+  },
+)) asked
 
 -- the node is held in the instance, its tentative checkpoint is stored, its cohort is asked; a participant whose cohort
 -- is empty votes at once
@@ -111,25 +115,28 @@ checkpoint_now v n = checkpoint_of v.role n v.line_len
 abbrev pub begin_check_plan : View → Live → Plan
 begin_check_plan v n =
     held_plan v.told.next n
-        (member v.told.next n.incarnation None 0 (cohort v.role (permanent_marks v.told) n))
-        (writes.BeginCheck (checkpoint_now v n))
+    (member v.told.next n.incarnation None 0 (cohort v.role (permanent_marks v.told) n))
+    (writes.BeginCheck (checkpoint_now v n))
 
 -- the node takes part in the check of the ask
 abbrev pub join_check_plan : View → Live → NodeId → Ask → Plan
 join_check_plan v n from ask =
     held_plan ask.instance n
-        (member ask.instance n.incarnation (Some from) ask.incarnation (cohort v.role (permanent_marks v.told) n))
-        (writes.PutTentative ask.instance (checkpoint_now v n))
+    (member ask.instance n.incarnation (Some from) ask.incarnation (cohort v.role (permanent_marks v.told) n))
+    (writes.PutTentative ask.instance (checkpoint_now v n))
 
 -- ---- a rollback
 
 -- each neighbour is asked with the last label sent to it before the permanent checkpoint
 abbrev pub roll_asks : ℕ → ℕ → Marks → List NodeId → List (NodeId × Message)
-roll_asks instance incarnation permanent asked = map (λ x. (x, messages.RollAsk record {
-  instance = instance;
-  label = label_at permanent.sent (node_number x);
-  incarnation = incarnation;
-})) asked
+roll_asks instance incarnation permanent asked = map (λ x. (
+  x,
+  messages.RollAsk record {
+    instance = instance;
+    label = label_at permanent.sent (node_number x);
+    incarnation = incarnation;
+  },
+)) asked
 
 -- the node takes part in the rollback of the ask; what it keeps from the asker above the label is dropped
 abbrev pub join_rollback_plan : View → Live → NodeId → Ask → Plan
@@ -139,7 +146,8 @@ join_rollback_plan v n from ask =
         kept = keeps.Sieve from ask.label;
         phase = Some (phases.Rolling (member_after m (casting m.ballot)));
       };
-      send = roll_asks ask.instance n.incarnation (permanent_marks v.told) m.ballot.asked ++ vote_after m (casting m.ballot);
+      send = roll_asks ask.instance n.incarnation (permanent_marks v.told) m.ballot.asked
+          ++ vote_after m (casting m.ballot);
       note = None;
       write = None;
     }
@@ -163,10 +171,14 @@ with_marks v planned = if marks_fit_if v.role v.line_len v.told.permanent then p
 abbrev pub with_loaded : View → (Body → Plan) → Planned
 with_loaded v plan = with_marks v (with_body (body_at v.role v.told.permanent) plan)
 
--- the node begins a rollback from its permanent checkpoint, and asks all neighbours
+-- the part of a node that begins a rollback, and its plan: it goes on from its permanent checkpoint and asks all
+-- neighbours
+abbrev pub restarter : Told → List NodeId → Member
+restarter t asked = member t.next (t.incarnation + 1) None 0 asked
+
 abbrev pub restarting_plan : View → Body → Plan
 restarting_plan v body = record {
-  change = Loads (loaded v.told (phases.Rolling (member v.told.next (v.told.incarnation + 1) None 0 (neighbours v.role))) body);
+  change = Loads (loaded v.told (phases.Rolling (restarter v.told (neighbours v.role))) body);
   send = roll_asks v.told.next (v.told.incarnation + 1) (permanent_marks v.told) (neighbours v.role);
   note = None;
   write = Some writes.BeginRestart;

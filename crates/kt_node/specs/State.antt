@@ -99,7 +99,8 @@ are_of_scene workers entries = not (list_any (λ x. not (nat_le 1 x.0 && nat_le 
 -- the acts and labels of a checkpoint fit the node, which remembers so many acts
 abbrev pub marks_fit : Role → ℕ → Ckpt → Bool
 marks_fit role line_len c =
-    node_eq c.node role.id && length c.sent == role.peers && length c.received == role.peers && nat_le c.line_len line_len
+    node_eq c.node role.id && (length c.sent == role.peers) && (length c.received == role.peers)
+    && nat_le c.line_len line_len
 
 -- so do those that there are
 abbrev pub marks_fit_if : Role → ℕ → Option Ckpt → Bool

@@ -11,8 +11,8 @@ use Rattle.kt_store.specs.Content.{Content, row_of, verdict_of, open_of, next_in
 use Rattle.kt_node.specs.Node.{Role, Node}
 use Rattle.kt_node.specs.Labels.{tabled, no_labels}
 
--- of the node: its incarnation, its permanent and its tentative checkpoint, the instance that it began and that has no verdict; of each instance
--- what became of it, if it was begun; the number of the next instance
+-- of the node: its incarnation, its permanent and its tentative checkpoint, the instance that it began and that has
+-- no verdict; of each instance what became of it, if it was begun; the number of the next instance
 pub record Told : Type 0 where
   pub incarnation : ℕ
   pub permanent : Option Ckpt

@@ -101,7 +101,7 @@ again_plan v n kept from post request answer = record {
 abbrev pub request_plan : View → Live → KeptChange → NodeId → Post → Request → Arrival → Plan
 request_plan v n kept from post request Waits =
     hearing v kept from post (bodies.Wait (node_number from) request)
-        (note_of v.role.id post.by (node_number from) request whats.Heard)
+    (note_of v.role.id post.by (node_number from) request whats.Heard)
 request_plan v n kept from post request (Again answer) = again_plan v n kept from post request answer
 request_plan v n kept from post request Ignored =
     hearing v kept from post bodies.Stay (note_of v.role.id post.by (node_number from) request (whats.Ignored None))
@@ -111,21 +111,21 @@ abbrev pub reply_plan : View → Worker → KeptChange → NodeId → Post → R
 reply_plan v x kept from post request answer =
     if awaits x request.number request.op
     then hearing v kept from post (bodies.Work (heard v.role.script x answer))
-        (note_of v.role.id post.by (node_number v.role.id) request (whats.Accepted answer))
+    (note_of v.role.id post.by (node_number v.role.id) request (whats.Accepted answer))
     else hearing v kept from post bodies.Stay
-        (note_of v.role.id post.by (node_number v.role.id) request (whats.Ignored (Some answer)))
+    (note_of v.role.id post.by (node_number v.role.id) request (whats.Ignored (Some answer)))
 
 -- a worker hears a reply and a shard a request; what comes from its own kind each ignores
 abbrev pub talk_plan : View → Live → KeptChange → NodeId → Post → Body → Talk → Plan
 talk_plan v n kept from post (IsWorker x) (talks.Reply request answer) = reply_plan v x kept from post request answer
 talk_plan v n kept from post (IsWorker x) (talks.Request request) =
     hearing v kept from post bodies.Stay
-        (note_of v.role.id post.by (node_number v.role.id) request (whats.Ignored None))
+    (note_of v.role.id post.by (node_number v.role.id) request (whats.Ignored None))
 talk_plan v n kept from post (IsShard y) (talks.Request request) =
     request_plan v n kept from post request (arrival y (node_number from) request)
 talk_plan v n kept from post (IsShard y) (talks.Reply request answer) =
     hearing v kept from post bodies.Stay
-        (note_of v.role.id post.by (node_number from) request (whats.Ignored (Some answer)))
+    (note_of v.role.id post.by (node_number from) request (whats.Ignored (Some answer)))
 
 -- the live node hears the message
 abbrev pub heard_plan : View → Live → KeptChange → NodeId → Post → Plan
