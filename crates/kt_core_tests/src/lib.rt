@@ -3,8 +3,24 @@
 #![tactic(auto)]
 
 #[cfg(test)]
+mod draws;
+#[cfg(test)]
+mod making;
+#[cfg(test)]
+mod memory;
+#[cfg(test)]
 mod orders;
 #[cfg(test)]
+mod random_scenes;
+#[cfg(test)]
 mod repeats;
+#[cfg(test)]
+mod rows;
+#[cfg(test)]
+mod slowly;
+#[cfg(test)]
+mod tally;
+#[cfg(test)]
+mod texts;
 #[cfg(test)]
 mod worlds;

@@ -1,57 +1,119 @@
-//! A request that is asked again.
+//! Requests that are asked again.
 
-use crate::worlds::{Row, S1, W1, deliver, issue, leaves, made, opened, play, put, script, serve};
-use kt_core::{Step, StepError};
+use crate::making::{S1, W1, W2, opened, scripts};
+use crate::rows::{Stage, play};
+use crate::worlds::PUTTER_AND_TAKER;
+use kt_core::{MAX_STEPS, Step, World};
+use std::alloc::Global;
+use std::process::Abort;
 use std::test::Fail;
 
-/// It is answered again by what was kept, and its second reply is ignored.
-#[test]
-fn answered_again(rt: HostRuntime) -> Result<(), Fail> {
-    const NOTHING: Result<(), StepError> = Err(StepError::NothingThere);
-    let alloc = rt.alloc();
-    let repeat = Step::Repeat { node: W1 };
-    let putter = script(alloc, vec![in alloc; put(alloc, b"(\"a\", 1)")?]?)?;
-    let mut world = opened(alloc, vec![in alloc; putter]?)?;
-    let rows: [Row; 12] = [
-        (Step::Repeat { node: S1 }, Err(StepError::NoNode), ""),
-        (repeat, NOTHING, ""),
-        (issue(W1), Ok(()), "w1 by 0: w1.1 out (\"a\", 1) issue"),
-        (
-            deliver(W1, S1),
-            Ok(()),
-            "s1 by 1: w1.1 out (\"a\", 1) heard",
-        ),
-        (
-            serve(S1, W1, 0),
-            Ok(()),
-            "s1 by 1: w1.1 out (\"a\", 1) served done",
-        ),
-        (repeat, Ok(()), "w1 by 0: w1.1 out (\"a\", 1) repeat"),
-        (
-            deliver(W1, S1),
-            Ok(()),
-            "s1 by 4: w1.1 out (\"a\", 1) again done",
-        ),
+const ANSWERED_AGAIN: [Stage; 1] = [Stage {
+    rows: &[
+        ("repeat s1", "NoNode"),
+        ("repeat w2", "NoNode"),
+        ("repeat w1", "NothingThere"),
+        ("issue w1", "w1 by 0: w1.1 out (\"a\", 1) issue"),
+        ("deliver w1 s1", "s1 by 1: w1.1 out (\"a\", 1) heard"),
+        ("serve s1 w1 0", "s1 by 1: w1.1 out (\"a\", 1) served done"),
+        ("repeat w1", "w1 by 0: w1.1 out (\"a\", 1) repeat"),
+        ("deliver w1 s1", "s1 by 4: w1.1 out (\"a\", 1) again done"),
         // It is not served a second time.
-        (serve(S1, W1, 0), NOTHING, ""),
+        ("serve s1 w1 0", "NothingThere"),
         (
-            deliver(S1, W1),
-            Ok(()),
+            "deliver s1 w1",
             "w1 by 3: w1.1 out (\"a\", 1) accepted done",
         ),
         // It is answered: there is nothing to ask again.
-        (repeat, NOTHING, ""),
-        (
-            deliver(S1, W1),
-            Ok(()),
-            "w1 by 5: w1.1 out (\"a\", 1) ignored",
-        ),
-        (issue(W1), NOTHING, ""),
-    ];
-    play(&rt, alloc, &mut world, &rows)?;
+        ("repeat w1", "NothingThere"),
+        ("deliver s1 w1", "w1 by 5: w1.1 out (\"a\", 1) ignored done"),
+        ("issue w1", "NothingThere"),
+    ],
+    survivors: &["w1.1 out (\"a\", 1) done"],
+    tuples: &["(\"a\", 1)"],
+    made: &[(W1, 4), (S1, 3)],
+}];
+
+/// A request that is asked again is answered again by what was kept, and its second reply is ignored.
+#[test]
+fn answered_again(rt: HostRuntime) -> Result<(), Fail> {
+    let workers: [&[&str]; 1] = [&["out (\"a\", 1)"]];
+    let mut world = opened(rt.alloc(), 1, scripts(rt.alloc(), &workers)?)?;
+    play(&rt, rt.alloc(), &mut world, &ANSWERED_AGAIN)?;
     assert_eq!(rt; world.history().notes().len(), 7);
-    let survivors = ["w1.1 out (\"a\", 1) done"];
-    leaves(&rt, alloc, &world, &survivors, &["(\"a\", 1)"])?;
-    made(&rt, &world, &[(W1, 4), (S1, 3)]);
     Ok(())
+}
+
+const ASKED_WHILE_IT_WAITS: [Stage; 1] = [Stage {
+    rows: &[
+        ("issue w1", "w1 by 0: w1.1 in (?str) issue"),
+        ("repeat w1", "w1 by 0: w1.1 in (?str) repeat"),
+        ("repeat w1", "w1 by 0: w1.1 in (?str) repeat"),
+        ("deliver w1 s1", "s1 by 1: w1.1 in (?str) heard"),
+        ("deliver w1 s1", "s1 by 2: w1.1 in (?str) ignored"),
+        ("issue w2", "w2 by 0: w2.1 out (\"t\") issue"),
+        ("deliver w2 s1", "s1 by 6: w2.1 out (\"t\") heard"),
+        ("serve s1 w2 0", "s1 by 6: w2.1 out (\"t\") served done"),
+        (
+            "serve s1 w1 0",
+            "s1 by 1: w1.1 in (?str) served got (\"t\")",
+        ),
+        (
+            "deliver s1 w1",
+            "w1 by 9: w1.1 in (?str) accepted got (\"t\")",
+        ),
+        ("issue w1", "w1 by 0: w1.2 out (7) issue"),
+        // The second repeat comes before it.
+        ("deliver w1 s1", "s1 by 3: w1.1 in (?str) again got (\"t\")"),
+        ("deliver w1 s1", "s1 by 11: w1.2 out (7) heard"),
+        // The answer that comes again is not that of the second request.
+        (
+            "deliver s1 w1",
+            "w1 by 12: w1.1 in (?str) ignored got (\"t\")",
+        ),
+        ("deliver w1 s1", "NothingThere"),
+        ("repeat w1", "w1 by 0: w1.2 out (7) repeat"),
+    ],
+    survivors: &["w2.1 out (\"t\") done", "w1.1 in (?str) got (\"t\")"],
+    tuples: &[],
+    made: &[(W1, 7), (W2, 1), (S1, 7)],
+}];
+
+/// A request that waits is not heard twice; one that was served before the next is answered again behind it.
+#[test]
+fn asked_again_while_it_waits(rt: HostRuntime) -> Result<(), Fail> {
+    let workers: [&[&str]; 2] = [&["in (?str)", "out (7)"], &["out (\"t\")"]];
+    let mut world = opened(rt.alloc(), 1, scripts(rt.alloc(), &workers)?)?;
+    play(&rt, rt.alloc(), &mut world, &ASKED_WHILE_IT_WAITS)
+}
+
+const AT_THE_LIMIT: [Stage; 1] = [Stage {
+    rows: &[
+        ("repeat w1", "StepLimit"),
+        ("deliver w1 s1", "StepLimit"),
+        ("issue w1", "NothingThere"),
+        ("deliver s1 w1", "NothingThere"),
+        ("serve s1 w1 0", "NothingThere"),
+        ("repeat w2", "NoNode"),
+        ("repeat w1", "StepLimit"),
+    ],
+    survivors: &[],
+    tuples: &[],
+    made: &[(W1, 100_000), (S1, 0)],
+}];
+
+/// 100,000 steps are made and no more. A step that is not allowed is refused by its own number then too.
+#[test]
+fn step_limit(rt: HostRuntime) -> Result<(), Fail> {
+    let mut world = opened(rt.alloc(), 1, scripts(rt.alloc(), &PUTTER_AND_TAKER)?)?;
+    use_up(&rt, rt.alloc(), &mut world);
+    play(&rt, rt.alloc(), &mut world, &AT_THE_LIMIT)
+}
+
+/// Makes as many steps as there may be: the worker asks, and asks again.
+fn use_up(rt: &impl Abort, alloc: Global, world: &mut World) {
+    assert_eq!(rt; world.step(alloc, Step::Issue { node: W1 }), Ok(()));
+    for _ in 1..MAX_STEPS {
+        assert_eq!(rt; world.step(alloc, Step::Repeat { node: W1 }), Ok(()));
+    }
 }

@@ -1,401 +1,191 @@
-//! Worked scenarios, step by step, and what a world makes of want of memory.
+//! Worked scenarios, step by step.
 
+use crate::making::{S1, S2, W1, W2, W3, opened, script, scripts};
+use crate::rows::{Row, Stage, play};
 use arrayvec::ArrayVec;
-use kt_core::{Mode, OpenError, Scene, Step, StepError, World};
-use kt_history::{Note, Service, What, space_of};
+use kt_core::{OpenError, StepError, World};
 use kt_script::{Actual, Actuals, Command, Name, Operation, Pattern, Script, Slot};
-use kt_tuple::{Kind, NodeId, Place, Template, Tuple, Value};
-use std::alloc::{AllocError, Global};
+use kt_tuple::{Kind, Value};
+use std::alloc::Global;
 use std::process::Abort;
 use std::test::Fail;
 
-pub(crate) const W1: NodeId = NodeId::Worker(1);
+/// A worker that puts a tuple and takes it.
+pub(crate) const PUTTER_AND_TAKER: [&[&str]; 1] = [&["out (\"a\", 1)", "in (\"a\", ?int)"]];
 
-const W2: NodeId = NodeId::Worker(2);
+const PUT_AND_TAKE: [Stage; 2] = [
+    Stage {
+        rows: &PUT_AND_TAKE_ROWS,
+        // The last reply is still on its way, and the service counts.
+        survivors: &PUT_AND_TAKEN,
+        tuples: &[],
+        made: &[(W1, 3), (S1, 4)],
+    },
+    Stage {
+        rows: &[
+            (
+                "deliver s1 w1",
+                "w1 by 7: w1.2 in (\"a\", ?int) accepted got (\"a\", 1)",
+            ),
+            ("issue w1", "NothingThere"),
+        ],
+        survivors: &PUT_AND_TAKEN,
+        tuples: &[],
+        made: &[(W1, 4), (S1, 4)],
+    },
+];
 
-const W3: NodeId = NodeId::Worker(3);
+const PUT_AND_TAKEN: [&str; 2] = [
+    "w1.1 out (\"a\", 1) done",
+    "w1.2 in (\"a\", ?int) got (\"a\", 1)",
+];
 
-pub(crate) const S1: NodeId = NodeId::Shard(1);
-
-const S2: NodeId = NodeId::Shard(2);
-
-/// The command that puts this tuple.
-pub(crate) fn put(alloc: Global, text: &[u8]) -> Result<Command, Fail> {
-    let mut actuals = ArrayVec::new();
-    for value in Tuple::parse(alloc, text)?.values() {
-        let actual = Actual::Literal(value.copy());
-        actuals.try_push(actual).map_err(|_| "room")?;
-    }
-    let actuals = Actuals::new(actuals).ok_or("a tuple")?;
-    Ok(Command::Ask(Operation::Out(actuals)))
-}
-
-fn pattern(alloc: Global, text: &[u8]) -> Result<Pattern, Fail> {
-    let mut slots = ArrayVec::new();
-    for place in Template::parse(alloc, text)?.places() {
-        let slot = match place {
-            Place::Actual(value) => Slot::Actual(Actual::Literal(value.copy())),
-            Place::Formal(kind) => Slot::Formal(*kind, None),
-        };
-        slots.try_push(slot).map_err(|_| "room")?;
-    }
-    Ok(Pattern::new(slots).ok_or("a template")?)
-}
-
-/// The command that takes what matches this template.
-pub(crate) fn take(alloc: Global, text: &[u8]) -> Result<Command, Fail> {
-    Ok(Command::Ask(Operation::In(pattern(alloc, text)?)))
-}
-
-/// The script of these commands.
-pub(crate) fn script(alloc: Global, commands: Vec<Command>) -> Result<Script, Fail> {
-    let mut script = Script::new(alloc);
-    for command in commands {
-        script.push(command)?;
-    }
-    Ok(script)
-}
-
-/// A world with one shard and a worker for each script.
-pub(crate) fn opened(alloc: Global, scripts: Vec<Script>) -> Result<World, Fail> {
-    let scene = Scene::new(1, scripts).ok_or("a scene")?;
-    Ok(World::open(alloc, scene).ok().ok_or("a world")?)
-}
-
-/// The surviving services, and the tuples that they lead to.
-pub(crate) fn outcome(
-    alloc: Global,
-    world: &World,
-) -> Result<(Vec<Service>, Vec<Tuple>), AllocError> {
-    let services = world.history().survivors(alloc)?;
-    let space = space_of(alloc, &services)?;
-    let mut tuples = Vec::new(alloc);
-    for place in 0..space.len() {
-        if let Some(tuple) = space.get(place) {
-            tuples.push(tuple.copy(alloc)?)?;
-        }
-    }
-    Ok((services, tuples))
-}
-
-/// The texts of the tuples, in rising order.
-pub(crate) fn sorted_texts(alloc: Global, tuples: &[Tuple]) -> Result<Vec<Vec<u8>>, Fail> {
-    let mut texts = Vec::new(alloc);
-    for tuple in tuples {
-        let mut text = Vec::new(alloc);
-        tuple.write_to(&mut text)?;
-        texts.push(text)?;
-    }
-    texts.sort()?;
-    Ok(texts)
-}
-
-pub(crate) fn issue(node: NodeId) -> Step {
-    Step::Issue { node }
-}
-
-pub(crate) fn deliver(from: NodeId, to: NodeId) -> Step {
-    Step::Deliver { from, to }
-}
-
-pub(crate) fn serve(shard: NodeId, worker: NodeId, place: u64) -> Step {
-    Step::Serve {
-        shard,
-        worker,
-        place,
-    }
-}
-
-/// What the node did, as `s1 by 3: w1.2 in ("a", ?int) served got ("a", 1)`.
-fn note_text(alloc: Global, note: &Note) -> Result<String, Fail> {
-    let Note::Act(act) = note else {
-        return Err(Fail::from("a cut"));
-    };
-    let (kind, number) = match act.node {
-        NodeId::Worker(number) => ("w", number),
-        NodeId::Shard(number) => ("s", number),
-    };
-    let (by, worker, request) = (act.by, act.worker, act.number);
-    let front = format!(in alloc; "{kind}{number} by {by}: w{worker}.{request} ")?;
-    let mut text = front.into_bytes();
-    act.op.write_to(&mut text)?;
-    let (what, answer) = match &act.what {
-        What::Issue => (" issue", None),
-        What::Repeat => (" repeat", None),
-        What::Heard => (" heard", None),
-        What::Served(answer) => (" served ", Some(answer)),
-        What::Again(answer) => (" again ", Some(answer)),
-        What::Accepted(answer) => (" accepted ", Some(answer)),
-        What::Ignored(_) => (" ignored", None),
-    };
-    text.extend_from_slice(what.as_bytes())?;
-    if let Some(answer) = answer {
-        answer.write_to(&mut text)?;
-    }
-    text_of(text)
-}
-
-fn service_text(alloc: Global, service: &Service) -> Result<String, Fail> {
-    let (worker, request) = (service.worker, service.number);
-    let front = format!(in alloc; "w{worker}.{request} ")?;
-    let mut text = front.into_bytes();
-    service.op.write_to(&mut text)?;
-    text.push(b' ')?;
-    service.answer.write_to(&mut text)?;
-    text_of(text)
-}
-
-fn text_of(bytes: Vec<u8>) -> Result<String, Fail> {
-    String::from_utf8(bytes).map_err(|_| Fail::from("no text"))
-}
-
-/// A step, what it is answered, and what it notes.
-pub(crate) type Row = (Step, Result<(), StepError>, &'static str);
-
-/// Makes the steps one after the other. Each notes what it says, a refused one nothing.
-pub(crate) fn play(
-    rt: &impl Abort,
-    alloc: Global,
-    world: &mut World,
-    rows: &[Row],
-) -> Result<(), Fail> {
-    for (step, answer, text) in rows {
-        let owner = step.owner();
-        let (before, own) = (world.history().notes().len(), world.steps_of(owner));
-        assert_eq!(rt; world.step(alloc, *step), *answer, "{step:?}");
-        match world.history().notes().get(before..) {
-            Some([]) => assert!(rt; answer.is_err() && world.steps_of(owner) == own, "{step:?}"),
-            Some([note]) => {
-                assert_eq!(rt; note_text(alloc, note)?.as_str(), *text, "{step:?}");
-                assert_eq!(rt; world.steps_of(owner).checked_sub(own), Some(1), "{step:?}");
-            }
-            _ => assert!(rt; false, "{step:?} makes many notes"),
-        }
-    }
-    Ok(())
-}
-
-/// What survives, in the order made, and the tuples that are left; nothing is lost.
-pub(crate) fn leaves(
-    rt: &impl Abort,
-    alloc: Global,
-    world: &World,
-    survivors: &[&str],
-    tuples: &[&str],
-) -> Result<(), Fail> {
-    let (services, space) = outcome(alloc, world)?;
-    assert_eq!(rt; services.len(), survivors.len());
-    for (service, text) in services.iter().zip(survivors) {
-        assert_eq!(rt; service_text(alloc, service)?.as_str(), *text);
-    }
-    assert_eq!(rt; space.len(), tuples.len());
-    for (found, text) in sorted_texts(alloc, &space)?.iter().zip(tuples) {
-        assert_eq!(rt; found.as_slice(), text.as_bytes());
-    }
-    assert_eq!(rt; world.history().lost_count(), 0);
-    Ok(())
-}
-
-/// How many steps each node made, and that those and no others are there.
-pub(crate) fn made(rt: &impl Abort, world: &World, counts: &[(NodeId, u64)]) {
-    for (node, count) in counts {
-        assert_eq!(rt; world.steps_of(*node), *count, "{node:?}");
-        assert_eq!(rt; world.mode(*node), Some(Mode::Up), "{node:?}");
-    }
-    for node in [
-        NodeId::Worker(0),
-        NodeId::Shard(0),
-        NodeId::Worker(8),
-        NodeId::Worker(255),
-        S2,
-    ] {
-        assert_eq!(rt; world.steps_of(node), 0, "{node:?}");
-        assert_eq!(rt; world.mode(node), None, "{node:?}");
-    }
-}
-
-/// The world of one worker that puts a tuple and takes it.
-fn putter_and_taker(alloc: Global) -> Result<Vec<Script>, Fail> {
-    let commands = vec![in alloc; put(alloc, b"(\"a\", 1)")?, take(alloc, b"(\"a\", ?int)")?]?;
-    Ok(vec![in alloc; script(alloc, commands)?]?)
-}
+const PUT_AND_TAKE_ROWS: [Row; 33] = [
+    // Nodes that are not there, of the wrong kind, and no neighbours.
+    ("issue w2", "NoNode"),
+    ("issue w0", "NoNode"),
+    ("issue s1", "NoNode"),
+    ("deliver w1 w1", "NoNode"),
+    ("deliver s1 s1", "NoNode"),
+    ("deliver w2 s1", "NoNode"),
+    ("deliver w1 s2", "NoNode"),
+    ("deliver s2 w1", "NoNode"),
+    ("serve w1 s1 0", "NoNode"),
+    ("serve s2 w1 0", "NoNode"),
+    ("serve s1 w2 0", "NoNode"),
+    ("serve s1 s1 0", "NoNode"),
+    // Nothing is on its way, and nobody waits.
+    ("deliver w1 s1", "NothingThere"),
+    ("deliver s1 w1", "NothingThere"),
+    ("serve s1 w1 0", "NothingThere"),
+    ("issue w1", "w1 by 0: w1.1 out (\"a\", 1) issue"),
+    ("issue w1", "NothingThere"),
+    ("serve s1 w1 0", "NothingThere"),
+    ("deliver w1 s1", "s1 by 1: w1.1 out (\"a\", 1) heard"),
+    ("deliver w1 s1", "NothingThere"),
+    // There is one place where a tuple is put.
+    ("serve s1 w1 1", "NoSuchMatch"),
+    ("serve s1 w1 0", "s1 by 1: w1.1 out (\"a\", 1) served done"),
+    ("serve s1 w1 0", "NothingThere"),
+    ("issue w1", "NothingThere"),
+    (
+        "deliver s1 w1",
+        "w1 by 3: w1.1 out (\"a\", 1) accepted done",
+    ),
+    ("deliver s1 w1", "NothingThere"),
+    ("issue w1", "w1 by 0: w1.2 in (\"a\", ?int) issue"),
+    ("deliver w1 s1", "s1 by 5: w1.2 in (\"a\", ?int) heard"),
+    ("serve s1 w1 1", "NoSuchMatch"),
+    ("serve s1 w1 18446744073709551615", "NoSuchMatch"),
+    (
+        "serve s1 w1 0",
+        "s1 by 5: w1.2 in (\"a\", ?int) served got (\"a\", 1)",
+    ),
+    ("serve s1 w1 0", "NothingThere"),
+    ("deliver w1 s1", "NothingThere"),
+];
 
 #[test]
 fn put_and_take(rt: HostRuntime) -> Result<(), Fail> {
-    const NO_NODE: Result<(), StepError> = Err(StepError::NoNode);
-    const NOTHING: Result<(), StepError> = Err(StepError::NothingThere);
-    const NO_MATCH: Result<(), StepError> = Err(StepError::NoSuchMatch);
-    let alloc = rt.alloc();
-    let mut world = opened(alloc, putter_and_taker(alloc)?)?;
-    let rows: [Row; 33] = [
-        // Nodes that are not there, of the wrong kind, and no neighbours.
-        (issue(W2), NO_NODE, ""),
-        (issue(NodeId::Worker(0)), NO_NODE, ""),
-        (issue(S1), NO_NODE, ""),
-        (deliver(W1, W1), NO_NODE, ""),
-        (deliver(S1, S1), NO_NODE, ""),
-        (deliver(W2, S1), NO_NODE, ""),
-        (deliver(W1, S2), NO_NODE, ""),
-        (deliver(S2, W1), NO_NODE, ""),
-        (serve(W1, S1, 0), NO_NODE, ""),
-        (serve(S2, W1, 0), NO_NODE, ""),
-        (serve(S1, W2, 0), NO_NODE, ""),
-        (serve(S1, S1, 0), NO_NODE, ""),
-        // Nothing is on its way, and nobody waits.
-        (deliver(W1, S1), NOTHING, ""),
-        (deliver(S1, W1), NOTHING, ""),
-        (serve(S1, W1, 0), NOTHING, ""),
-        (issue(W1), Ok(()), "w1 by 0: w1.1 out (\"a\", 1) issue"),
-        (issue(W1), NOTHING, ""),
-        (serve(S1, W1, 0), NOTHING, ""),
-        (
-            deliver(W1, S1),
-            Ok(()),
-            "s1 by 1: w1.1 out (\"a\", 1) heard",
-        ),
-        (deliver(W1, S1), NOTHING, ""),
-        // There is one place where a tuple is put.
-        (serve(S1, W1, 1), NO_MATCH, ""),
-        (
-            serve(S1, W1, 0),
-            Ok(()),
-            "s1 by 1: w1.1 out (\"a\", 1) served done",
-        ),
-        (serve(S1, W1, 0), NOTHING, ""),
-        (issue(W1), NOTHING, ""),
-        (
-            deliver(S1, W1),
-            Ok(()),
-            "w1 by 3: w1.1 out (\"a\", 1) accepted done",
-        ),
-        (deliver(S1, W1), NOTHING, ""),
-        (issue(W1), Ok(()), "w1 by 0: w1.2 in (\"a\", ?int) issue"),
-        (
-            deliver(W1, S1),
-            Ok(()),
-            "s1 by 5: w1.2 in (\"a\", ?int) heard",
-        ),
-        (serve(S1, W1, 1), NO_MATCH, ""),
-        (serve(S1, W1, u64::MAX), NO_MATCH, ""),
-        (
-            serve(S1, W1, 0),
-            Ok(()),
-            "s1 by 5: w1.2 in (\"a\", ?int) served got (\"a\", 1)",
-        ),
-        (serve(S1, W1, 0), NOTHING, ""),
-        (deliver(W1, S1), NOTHING, ""),
-    ];
-    play(&rt, alloc, &mut world, &rows)?;
-    // The last reply is still on its way, and the service counts.
-    let survivors = [
-        "w1.1 out (\"a\", 1) done",
-        "w1.2 in (\"a\", ?int) got (\"a\", 1)",
-    ];
-    leaves(&rt, alloc, &world, &survivors, &[])?;
-    made(&rt, &world, &[(W1, 3), (S1, 4)]);
-    let rows: [Row; 2] = [
-        (
-            deliver(S1, W1),
-            Ok(()),
-            "w1 by 7: w1.2 in (\"a\", ?int) accepted got (\"a\", 1)",
-        ),
-        (issue(W1), NOTHING, ""),
-    ];
-    play(&rt, alloc, &mut world, &rows)?;
-    leaves(&rt, alloc, &world, &survivors, &[])?;
-    made(&rt, &world, &[(W1, 4), (S1, 4)]);
-    Ok(())
+    let mut world = opened(rt.alloc(), 1, scripts(rt.alloc(), &PUTTER_AND_TAKER)?)?;
+    play(&rt, rt.alloc(), &mut world, &PUT_AND_TAKE)
 }
+
+const NO_STEPS: [Stage; 1] = [Stage {
+    rows: &[],
+    survivors: &[],
+    tuples: &[],
+    made: &[(W1, 0), (S1, 0)],
+}];
 
 #[test]
 fn no_steps(rt: HostRuntime) -> Result<(), Fail> {
-    let alloc = rt.alloc();
-    let world = opened(alloc, putter_and_taker(alloc)?)?;
+    let mut world = opened(rt.alloc(), 1, scripts(rt.alloc(), &PUTTER_AND_TAKER)?)?;
+    play(&rt, rt.alloc(), &mut world, &NO_STEPS)?;
+    has_scene(&rt, &world);
+    Ok(())
+}
+
+/// Nothing happened in the world, and its scene is that which it was opened with.
+fn has_scene(rt: &impl Abort, world: &World) {
     assert_eq!(rt; world.history().notes().len(), 0);
-    leaves(&rt, alloc, &world, &[], &[])?;
-    made(&rt, &world, &[(W1, 0), (S1, 0)]);
     assert_eq!(rt; world.scene().shards(), 1);
     assert_eq!(rt; world.scene().scripts().len(), 1);
     for script in world.scene().scripts() {
         assert_eq!(rt; script.commands().len(), 2);
     }
-    Ok(())
 }
 
 /// The refusals by their numbers and names. What a store refuses has the number 8.
+const REFUSALS: [(StepError, u8, &str); 8] = [
+    (StepError::NoNode, 1, "NoNode"),
+    (StepError::WrongMode, 2, "WrongMode"),
+    (StepError::NothingThere, 3, "NothingThere"),
+    (StepError::NoSuchMatch, 4, "NoSuchMatch"),
+    (StepError::NotDecided, 5, "NotDecided"),
+    (StepError::Unresolved, 6, "Unresolved"),
+    (StepError::StepLimit, 7, "StepLimit"),
+    (StepError::OutOfMemory, 9, "OutOfMemory"),
+];
+
 #[test]
 fn refusals(rt: HostRuntime) -> Result<(), Fail> {
-    let alloc = rt.alloc();
-    let refusals = [
-        (StepError::NoNode, 1, "NoNode"),
-        (StepError::WrongMode, 2, "WrongMode"),
-        (StepError::NothingThere, 3, "NothingThere"),
-        (StepError::NoSuchMatch, 4, "NoSuchMatch"),
-        (StepError::NotDecided, 5, "NotDecided"),
-        (StepError::Unresolved, 6, "Unresolved"),
-        (StepError::StepLimit, 7, "StepLimit"),
-        (StepError::OutOfMemory, 9, "OutOfMemory"),
-    ];
-    for (refusal, number, name) in refusals {
-        assert_eq!(rt; refusal.number(), number);
-        assert_eq!(rt; refusal.to_string(alloc)?.as_str(), name);
-    }
-    assert_eq!(rt;
-        OpenError::OutOfMemory.to_string(alloc)?.as_str(),
-        "OutOfMemory"
-    );
+    are_told(&rt, rt.alloc(), &REFUSALS)?;
+    let text = OpenError::OutOfMemory.to_string(rt.alloc())?;
+    assert_eq!(rt; text.as_str(), "OutOfMemory");
     Ok(())
 }
 
+fn are_told(rt: &impl Abort, alloc: Global, rows: &[(StepError, u8, &str)]) -> Result<(), Fail> {
+    for (refusal, number, name) in rows {
+        assert_eq!(rt; refusal.number(), *number);
+        assert_eq!(rt; refusal.to_string(alloc)?.as_str(), *name);
+    }
+    Ok(())
+}
+
+const TWO_TAKERS: [Stage; 2] = [
+    Stage {
+        rows: &[
+            ("issue w1", "w1 by 0: w1.1 in (\"t\") issue"),
+            ("deliver w1 s1", "s1 by 1: w1.1 in (\"t\") heard"),
+            ("issue w2", "w2 by 0: w2.1 in (\"t\") issue"),
+            ("deliver w2 s1", "s1 by 3: w2.1 in (\"t\") heard"),
+            ("issue w3", "w3 by 0: w3.1 out (\"t\") issue"),
+            ("deliver w3 s1", "s1 by 5: w3.1 out (\"t\") heard"),
+            // What is not put yet is not there.
+            ("serve s1 w1 0", "NoSuchMatch"),
+            ("serve s1 w3 0", "s1 by 5: w3.1 out (\"t\") served done"),
+        ],
+        survivors: &["w3.1 out (\"t\") done"],
+        tuples: &["(\"t\")"],
+        made: &[(W1, 1), (W2, 1), (W3, 1), (S1, 4)],
+    },
+    Stage {
+        rows: &[
+            ("serve s1 w2 1", "NoSuchMatch"),
+            (
+                "serve s1 w2 0",
+                "s1 by 3: w2.1 in (\"t\") served got (\"t\")",
+            ),
+            ("serve s1 w1 0", "NoSuchMatch"),
+            ("deliver w1 w2", "NoNode"),
+        ],
+        survivors: &["w3.1 out (\"t\") done", "w2.1 in (\"t\") got (\"t\")"],
+        tuples: &[],
+        made: &[(W1, 1), (W2, 1), (W3, 1), (S1, 5)],
+    },
+];
+
 #[test]
 fn two_takers(rt: HostRuntime) -> Result<(), Fail> {
-    let alloc = rt.alloc();
-    let first = script(alloc, vec![in alloc; take(alloc, b"(\"t\")")?]?)?;
-    let second = script(alloc, vec![in alloc; take(alloc, b"(\"t\")")?]?)?;
-    let third = script(alloc, vec![in alloc; put(alloc, b"(\"t\")")?]?)?;
-    let mut world = opened(alloc, vec![in alloc; first, second, third]?)?;
-    let no_match = Err(StepError::NoSuchMatch);
-    let rows: [Row; 8] = [
-        (issue(W1), Ok(()), "w1 by 0: w1.1 in (\"t\") issue"),
-        (deliver(W1, S1), Ok(()), "s1 by 1: w1.1 in (\"t\") heard"),
-        (issue(W2), Ok(()), "w2 by 0: w2.1 in (\"t\") issue"),
-        (deliver(W2, S1), Ok(()), "s1 by 3: w2.1 in (\"t\") heard"),
-        (issue(W3), Ok(()), "w3 by 0: w3.1 out (\"t\") issue"),
-        (deliver(W3, S1), Ok(()), "s1 by 5: w3.1 out (\"t\") heard"),
-        // What is not put yet is not there.
-        (serve(S1, W1, 0), no_match, ""),
-        (
-            serve(S1, W3, 0),
-            Ok(()),
-            "s1 by 5: w3.1 out (\"t\") served done",
-        ),
-    ];
-    play(&rt, alloc, &mut world, &rows)?;
-    leaves(&rt, alloc, &world, &["w3.1 out (\"t\") done"], &["(\"t\")"])?;
-    let rows: [Row; 4] = [
-        (serve(S1, W2, 1), no_match, ""),
-        (
-            serve(S1, W2, 0),
-            Ok(()),
-            "s1 by 3: w2.1 in (\"t\") served got (\"t\")",
-        ),
-        (serve(S1, W1, 0), no_match, ""),
-        (deliver(W1, W2), Err(StepError::NoNode), ""),
-    ];
-    play(&rt, alloc, &mut world, &rows)?;
-    let survivors = ["w3.1 out (\"t\") done", "w2.1 in (\"t\") got (\"t\")"];
-    leaves(&rt, alloc, &world, &survivors, &[])?;
-    made(&rt, &world, &[(W1, 1), (W2, 1), (W3, 1), (S1, 5)]);
-    Ok(())
+    let workers: [&[&str]; 3] = [&["in (\"t\")"], &["in (\"t\")"], &["out (\"t\")"]];
+    let mut world = opened(rt.alloc(), 1, scripts(rt.alloc(), &workers)?)?;
+    play(&rt, rt.alloc(), &mut world, &TWO_TAKERS)
 }
 
 fn name() -> Result<Name, Fail> {
     Ok(Name::new(b"x").ok_or("a name")?)
-}
-
-/// `inp ("a")`
-fn look(alloc: Global) -> Result<Command, Fail> {
-    Ok(Command::Ask(Operation::Inp(pattern(alloc, b"(\"a\")")?)))
 }
 
 /// `rd (5, ?int x)`
@@ -420,174 +210,94 @@ fn put_found() -> Result<Command, Fail> {
 
 /// `inp ("a")`, `unless 1`, `out ("b")`, `rd (5, ?int x)`, `out (x)`.
 fn reader(alloc: Global) -> Result<Script, Fail> {
-    let mut script = Script::new(alloc);
-    script.push(look(alloc)?)?;
-    script.push(Command::Unless(1))?;
-    script.push(put(alloc, b"(\"b\")")?)?;
+    let mut script = script(alloc, &["inp (\"a\")", "unless 1", "out (\"b\")"])?;
     script.push(read()?)?;
     script.push(put_found()?)?;
     Ok(script)
 }
 
-#[test]
-fn inp_finds_nothing_and_rd_leaves_the_tuple(rt: HostRuntime) -> Result<(), Fail> {
-    let alloc = rt.alloc();
-    let putter = script(alloc, vec![in alloc; put(alloc, b"(5, 7)")?]?)?;
-    let mut world = opened(alloc, vec![in alloc; reader(alloc)?, putter]?)?;
-    let no_match = Err(StepError::NoSuchMatch);
-    let rows: [Row; 16] = [
-        (issue(W1), Ok(()), "w1 by 0: w1.1 inp (\"a\") issue"),
-        (deliver(W1, S1), Ok(()), "s1 by 1: w1.1 inp (\"a\") heard"),
-        (serve(S1, W1, 1), no_match, ""),
+const READER_AND_PUTTER: [Stage; 1] = [Stage {
+    rows: &[
+        ("issue w1", "w1 by 0: w1.1 inp (\"a\") issue"),
+        ("deliver w1 s1", "s1 by 1: w1.1 inp (\"a\") heard"),
+        ("serve s1 w1 1", "NoSuchMatch"),
+        ("serve s1 w1 0", "s1 by 1: w1.1 inp (\"a\") served none"),
+        ("deliver s1 w1", "w1 by 3: w1.1 inp (\"a\") accepted none"),
+        ("issue w1", "w1 by 0: w1.2 rd (5, ?int) issue"),
+        ("deliver w1 s1", "s1 by 5: w1.2 rd (5, ?int) heard"),
+        ("serve s1 w1 0", "NoSuchMatch"),
+        ("issue w2", "w2 by 0: w2.1 out (5, 7) issue"),
+        ("deliver w2 s1", "s1 by 7: w2.1 out (5, 7) heard"),
+        ("serve s1 w2 0", "s1 by 7: w2.1 out (5, 7) served done"),
         (
-            serve(S1, W1, 0),
-            Ok(()),
-            "s1 by 1: w1.1 inp (\"a\") served none",
-        ),
-        (
-            deliver(S1, W1),
-            Ok(()),
-            "w1 by 3: w1.1 inp (\"a\") accepted none",
-        ),
-        (issue(W1), Ok(()), "w1 by 0: w1.2 rd (5, ?int) issue"),
-        (deliver(W1, S1), Ok(()), "s1 by 5: w1.2 rd (5, ?int) heard"),
-        (serve(S1, W1, 0), no_match, ""),
-        (issue(W2), Ok(()), "w2 by 0: w2.1 out (5, 7) issue"),
-        (deliver(W2, S1), Ok(()), "s1 by 7: w2.1 out (5, 7) heard"),
-        (
-            serve(S1, W2, 0),
-            Ok(()),
-            "s1 by 7: w2.1 out (5, 7) served done",
-        ),
-        (
-            serve(S1, W1, 0),
-            Ok(()),
+            "serve s1 w1 0",
             "s1 by 5: w1.2 rd (5, ?int) served got (5, 7)",
         ),
         (
-            deliver(S1, W1),
-            Ok(()),
+            "deliver s1 w1",
             "w1 by 10: w1.2 rd (5, ?int) accepted got (5, 7)",
         ),
-        (issue(W1), Ok(()), "w1 by 0: w1.3 out (7) issue"),
-        (deliver(W1, S1), Ok(()), "s1 by 12: w1.3 out (7) heard"),
-        (
-            serve(S1, W1, 0),
-            Ok(()),
-            "s1 by 12: w1.3 out (7) served done",
-        ),
-    ];
-    play(&rt, alloc, &mut world, &rows)?;
-    let survivors = [
+        ("issue w1", "w1 by 0: w1.3 out (7) issue"),
+        ("deliver w1 s1", "s1 by 12: w1.3 out (7) heard"),
+        ("serve s1 w1 0", "s1 by 12: w1.3 out (7) served done"),
+    ],
+    survivors: &[
         "w1.1 inp (\"a\") none",
         "w2.1 out (5, 7) done",
         "w1.2 rd (5, ?int) got (5, 7)",
         "w1.3 out (7) done",
-    ];
-    leaves(&rt, alloc, &world, &survivors, &["(5, 7)", "(7)"])
-}
+    ],
+    tuples: &["(5, 7)", "(7)"],
+    made: &[(W1, 5), (W2, 1), (S1, 8)],
+}];
 
-/// How many blocks the hoard may have.
-const BLOCKS: usize = 200_000;
-
-/// Takes all the memory that is left, in blocks that nothing touches.
-fn hoard_all(alloc: Global, hoard: &mut Vec<Vec<u8>>) -> Result<(), AllocError> {
-    let mut size = 1usize << 45;
-    for _ in 0..42usize {
-        for _ in 0..BLOCKS {
-            let Ok(block) = Vec::with_capacity(alloc, size) else {
-                break;
-            };
-            hoard.push(block)?;
-        }
-        size /= 2;
-    }
-    Ok(())
-}
-
-/// Opens the scene with a little more memory each time. Until it is opened the scene comes back.
-fn open_with_little(
-    rt: &impl Abort,
-    alloc: Global,
-    scene: Scene,
-    spare: &mut Vec<Vec<u8>>,
-) -> Result<World, Fail> {
-    let mut scene = scene;
-    for round in 0..2000usize {
-        match World::open(alloc, scene) {
-            Ok(world) => {
-                assert!(rt; round > 10, "{round}");
-                return Ok(world);
-            }
-            Err(refused) => {
-                assert_eq!(rt; refused.cause, OpenError::OutOfMemory);
-                scene = refused.scene;
-                assert_eq!(rt; (scene.shards(), scene.scripts().len()), (1, 1));
-            }
-        }
-        drop(spare.pop());
-    }
-    Err(Fail::new("never opened"))
-}
-
-/// Makes the step with a little more memory each time. Until it is made nothing changes.
-/// Whether it was refused before it was made.
-fn step_with_little(
-    rt: &impl Abort,
-    alloc: Global,
-    world: &mut World,
-    step: Step,
-    spare: &mut Vec<Vec<u8>>,
-) -> Result<bool, Fail> {
-    let owner = step.owner();
-    let before = (world.history().notes().len(), world.steps_of(owner));
-    for round in 0..2000usize {
-        match world.step(alloc, step) {
-            Ok(()) => return Ok(round > 0),
-            Err(error) => assert_eq!(rt; error, StepError::OutOfMemory, "{step:?}"),
-        }
-        let after = (world.history().notes().len(), world.steps_of(owner));
-        assert_eq!(rt; after, before, "{step:?}");
-        drop(spare.pop());
-    }
-    Err(Fail::new("never made"))
-}
-
-/// With ever more memory a world is opened and each step made, as it would have been with much of it.
 #[test]
-fn little_memory(rt: HostRuntime) -> Result<(), Fail> {
+fn inp_finds_nothing_and_rd_leaves_the_tuple(rt: HostRuntime) -> Result<(), Fail> {
     let alloc = rt.alloc();
-    let scene = Scene::new(1, putter_and_taker(alloc)?).ok_or("a scene")?;
-    let steps = [
-        issue(W1),
-        deliver(W1, S1),
-        serve(S1, W1, 0),
-        deliver(S1, W1),
-        issue(W1),
-        deliver(W1, S1),
-        serve(S1, W1, 0),
-    ];
-    let mut spare = Vec::with_capacity(alloc, 4000)?;
-    for _ in 0..4000usize {
-        spare.push(Vec::with_capacity(alloc, 160)?)?;
-    }
-    let mut hoard = Vec::with_capacity(alloc, BLOCKS)?;
-    hoard_all(alloc, &mut hoard)?;
-    let mut world = open_with_little(&rt, alloc, scene, &mut spare)?;
-    let mut refused = 0u8;
-    for step in steps {
-        hoard_all(alloc, &mut hoard)?;
-        if step_with_little(&rt, alloc, &mut world, step, &mut spare)? {
-            refused = refused.saturating_add(1);
-        }
-    }
-    drop(hoard);
-    assert!(rt; refused >= 3, "{refused} of the steps were refused first");
-    let survivors = [
+    let putter = script(alloc, &["out (5, 7)"])?;
+    let mut world = opened(alloc, 1, vec![in alloc; reader(alloc)?, putter]?)?;
+    play(&rt, alloc, &mut world, &READER_AND_PUTTER)
+}
+
+const TWO_SHARDS: [Stage; 1] = [Stage {
+    rows: &[
+        ("issue w1", "w1 by 0: w1.1 out (\"a\", 1) issue"),
+        ("issue w2", "w2 by 0: w2.1 in (\"a\") issue"),
+        ("issue w3", "w3 by 0: w3.1 out (\"a\") issue"),
+        // What is asked goes to the shard of its kinds alone.
+        ("deliver w1 s1", "NothingThere"),
+        ("deliver w2 s2", "NothingThere"),
+        ("deliver s1 s2", "NoNode"),
+        ("deliver w1 s3", "NoNode"),
+        ("deliver w1 s2", "s2 by 1: w1.1 out (\"a\", 1) heard"),
+        ("deliver w2 s1", "s1 by 2: w2.1 in (\"a\") heard"),
+        ("deliver w3 s1", "s1 by 3: w3.1 out (\"a\") heard"),
+        ("serve s1 w1 0", "NothingThere"),
+        ("serve s2 w1 0", "s2 by 1: w1.1 out (\"a\", 1) served done"),
+        ("serve s1 w2 0", "NoSuchMatch"),
+        ("serve s1 w3 0", "s1 by 3: w3.1 out (\"a\") served done"),
+        (
+            "serve s1 w2 0",
+            "s1 by 2: w2.1 in (\"a\") served got (\"a\")",
+        ),
+        ("deliver s1 w1", "NothingThere"),
+        (
+            "deliver s2 w1",
+            "w1 by 7: w1.1 out (\"a\", 1) accepted done",
+        ),
+    ],
+    survivors: &[
         "w1.1 out (\"a\", 1) done",
-        "w1.2 in (\"a\", ?int) got (\"a\", 1)",
-    ];
-    leaves(&rt, alloc, &world, &survivors, &[])?;
-    made(&rt, &world, &[(W1, 3), (S1, 4)]);
-    Ok(())
+        "w3.1 out (\"a\") done",
+        "w2.1 in (\"a\") got (\"a\")",
+    ],
+    tuples: &["(\"a\", 1)"],
+    made: &[(W1, 2), (W2, 1), (W3, 1), (S1, 4), (S2, 2)],
+}];
+
+#[test]
+fn two_shards(rt: HostRuntime) -> Result<(), Fail> {
+    let workers: [&[&str]; 3] = [&["out (\"a\", 1)"], &["in (\"a\")"], &["out (\"a\")"]];
+    let mut world = opened(rt.alloc(), 2, scripts(rt.alloc(), &workers)?)?;
+    play(&rt, rt.alloc(), &mut world, &TWO_SHARDS)
 }

@@ -3,4 +3,6 @@
 #![tactic(auto)]
 
 #[cfg(test)]
+mod parts;
+#[cfg(test)]
 mod services;
