@@ -2,6 +2,7 @@
 
 ghost use Rattle.std.specs.Prelude.{◌≡◌, IfOk};
 
+use crate::marks::Marks;
 use crate::state::State;
 use kt_link::Label;
 use kt_tuple::NodeId;
@@ -31,6 +32,7 @@ impl Model for Ckpt {
 
 impl Ckpt {
     ghost use Rattle.kt_ckpt.specs.Checkpoint.{Checkpoint, HasCounts};
+    ghost use Rattle.kt_ckpt.specs.Marks.{marks_of};
 
     /// The checkpoint of this node, whose line has this length. For each neighbour, in node order, it has the
     /// label of the last message sent to it and of the last heard from it, and it has the node's state. The
@@ -109,15 +111,28 @@ impl Ckpt {
         (node, line_len, sent, received, state)
     }
 
-    /// An equal checkpoint.
-    pub fn copy(&self, alloc: Global) -> Result<Ckpt, AllocError>
-        ensures { IfOk result (λ c. c ≡ self.now) }
+    /// All of it but the state.
+    pub fn marks(&self, alloc: Global) -> Result<Marks, AllocError>
+        ensures { IfOk result (λ m. m ≡ marks_of self.now) }
     {
-        Ok(Ckpt {
+        Ok(Marks {
             node: self.node,
             line_len: self.line_len,
             sent: Vec::from_slice(alloc, &self.sent)?,
             received: Vec::from_slice(alloc, &self.received)?,
+        })
+    }
+
+    /// An equal checkpoint.
+    pub fn copy(&self, alloc: Global) -> Result<Ckpt, AllocError>
+        ensures { IfOk result (λ c. c ≡ self.now) }
+    {
+        let marks = self.marks(alloc)?;
+        Ok(Ckpt {
+            node: marks.node,
+            line_len: marks.line_len,
+            sent: marks.sent,
+            received: marks.received,
             state: self.state.copy(alloc)?,
         })
     }
