@@ -2,6 +2,7 @@
 
 ghost use Rattle.std.specs.Prelude.{◌≡◌, IfOk};
 
+use crate::marks::Marks;
 use crate::state::State;
 use kt_link::Label;
 use kt_tuple::NodeId;
@@ -31,6 +32,7 @@ impl Model for Ckpt {
 
 impl Ckpt {
     ghost use Rattle.kt_ckpt.specs.Checkpoint.{Checkpoint, HasCounts};
+    ghost use Rattle.kt_ckpt.specs.Marks.{marks_of};
 
     /// The checkpoint of this node, whose line has this length. For each neighbour, in node order, it has the
     /// label of the last message sent to it and of the last heard from it, and it has the node's state. The
@@ -90,15 +92,47 @@ impl Ckpt {
         &self.state
     }
 
-    /// An equal checkpoint.
-    pub fn copy(&self, alloc: Global) -> Result<Ckpt, AllocError>
-        ensures { IfOk result (λ c. c ≡ self.now) }
+    /// What `new` takes, in that order. Nothing is copied, and the parts keep the counts of the format.
+    pub fn into_parts(self) -> (NodeId, u64, Vec<Label>, Vec<Label>, State)
+        ensures node { result.0 ≡ self.node }
+        ensures line_len { result.1 ≡ self.line_len }
+        ensures sent { result.2.items ≡ self.sent }
+        ensures received { result.3.items ≡ self.received }
+        ensures state { result.4 ≡ self.state }
+        ensures counts { HasCounts self }
     {
-        Ok(Ckpt {
+        let Ckpt {
+            node,
+            line_len,
+            sent,
+            received,
+            state,
+        } = self;
+        (node, line_len, sent, received, state)
+    }
+
+    /// All of it but the state.
+    pub fn marks(&self, alloc: Global) -> Result<Marks, AllocError>
+        ensures { IfOk result (λ m. m ≡ marks_of self.now) }
+    {
+        Ok(Marks {
             node: self.node,
             line_len: self.line_len,
             sent: Vec::from_slice(alloc, &self.sent)?,
             received: Vec::from_slice(alloc, &self.received)?,
+        })
+    }
+
+    /// An equal checkpoint.
+    pub fn copy(&self, alloc: Global) -> Result<Ckpt, AllocError>
+        ensures { IfOk result (λ c. c ≡ self.now) }
+    {
+        let marks = self.marks(alloc)?;
+        Ok(Ckpt {
+            node: marks.node,
+            line_len: marks.line_len,
+            sent: marks.sent,
+            received: marks.received,
             state: self.state.copy(alloc)?,
         })
     }

@@ -1,5 +1,5 @@
 -- A verdict that is written on the board.
-use Rattle.std.proofs.Common.{◌≡◌, ℕ, ◌<◌, Bool, true, false, List, set, AllPairs, [], ◌∷◌, ◌++◌, ◌+◌, length, get_or, suc, ◌≤◌, All, map, Option, None, Some, refl, sym, ap, ◌∙◌, arith}
+use Rattle.std.proofs.Common.{◌≡◌, ℕ, Bool, true, List, set, AllPairs, [], ◌∷◌, ◌++◌, ◌+◌, get_or, suc, ◌≤◌, All, map, None, Some, refl, ap, ◌∙◌, arith}
 use Rattle.std.specs.Prelude.{nat_lt, fold, max}
 use Rattle.std.specs.List.{slice_get}
 use Rattle.std.proofs.lemmas.List.Elements.{All-cons, All-push}

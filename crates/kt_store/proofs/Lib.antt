@@ -1,3 +1,6 @@
 pub mod Tables
 pub mod Board
 pub mod Nodes
+pub mod Others
+pub mod OtherNodes
+pub mod OtherInstances

@@ -1,6 +1,5 @@
 -- The rows of nodes: one that is changed where it stands, and one that is put among the others.
-use Rattle.std.proofs.Common.{◌≡◌, ℕ, ◌<◌, ◌≤◌, Bool, true, false, cond, List, [], ◌∷◌, ◌++◌, set, insert, length, get_or, All, AllPairs, Option, None, Some, refl, sym, ap, ◌∙◌, arith, suc, le_of_lt, subst, Result, Ok, Err, OnOk, OnErr}
-use Rattle.std.specs.Prelude.{nat_lt}
+use Rattle.std.proofs.Common.{◌≡◌, ℕ, ◌<◌, ◌≤◌, Bool, true, false, cond, List, [], ◌∷◌, ◌++◌, set, insert, length, get_or, All, AllPairs, None, Some, refl, sym, ap, arith, suc, le_of_lt, subst, Result, Ok, Err, OnOk, OnErr}
 use Rattle.std.specs.List.{find, position, slice_get}
 use Rattle.std.proofs.lemmas.List.Quantifiers.{position-Some}
 use Rattle.kt_tuple.specs.declared.node.NodeId.{NodeId}
@@ -14,13 +13,13 @@ use Rattle.kt_store.specs.Changes.{with_row}
 use Rattle.kt_store.specs.Row.{changed, IsWithin}
 use Rattle.kt_store.proofs.Tables.{IsOrder, placed_all, placed_among, placed_at, placed_last, placed_rising, none_passes, position_none}
 
-one_way : (a b : NodeId) → node_lt a b ≡ true → node_lt b a ≡ false
+pub one_way : (a b : NodeId) → node_lt a b ≡ true → node_lt b a ≡ false
 one_way (Worker m) (Worker n) h = grind (arith, h)
 one_way (Worker m) (Shard n) h = refl
 one_way (Shard m) (Worker n) h = absurd cc
 one_way (Shard m) (Shard n) h = grind (arith, h)
 
-itself : (a : NodeId) → node_lt a a ≡ false
+pub itself : (a : NodeId) → node_lt a a ≡ false
 itself (Worker m) = grind arith
 itself (Shard m) = grind arith
 
@@ -34,7 +33,7 @@ through (Shard m) (Shard n) (Worker o) h g = absurd cc
 through (Shard m) (Shard n) (Shard o) h g = grind (arith, h, g)
 
 -- of two nodes one comes before the other
-apart : (a b : NodeId) → node_eq a b ≡ false → node_lt b a ≡ false → node_lt a b ≡ true
+pub apart : (a b : NodeId) → node_eq a b ≡ false → node_lt b a ≡ false → node_lt a b ≡ true
 apart (Worker m) (Worker n) h g = grind (arith, h, g)
 apart (Worker m) (Shard n) h g = refl
 apart (Shard m) (Worker n) h g = absurd cc

@@ -1,5 +1,5 @@
 -- What every call of a store keeps, and why it may be refused.
-use Rattle.std.specs.Prelude.{◌≡◌, ◌⊎◌, ◌<◌, ◌≤◌, ℕ, ◌-◌, ◌^◌, Bool, false, Result, IsErrOf, IsTrue}
+use Rattle.std.specs.Prelude.{◌≡◌, ◌⊎◌, ◌<◌, ◌≤◌, ℕ, ◌-◌, ◌^◌, Bool, false, Result, IsErrOf}
 use Rattle.kt_store.specs.declared.error.StoreError.{StoreError}
 use Rattle.kt_store.specs.declared.error.StoreError.TheVariants.{Device, Damaged, Full}
 

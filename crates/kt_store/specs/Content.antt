@@ -1,15 +1,15 @@
 -- What a store holds, and what its reads give.
-use Rattle.std.specs.Prelude.{◌≡◌, ℕ, ◌+◌, ◌==◌, ◌^◌, max, Bool, true, false, nat_lt, ◌&&◌, List, [], ◌∷◌, map, fold, Option, None, Some, IsTrue, All, AllPairs, ◌≤◌}
+use Rattle.std.specs.Prelude.{◌≡◌, ℕ, ◌+◌, ◌==◌, ◌^◌, max, Bool, true, false, nat_lt, ◌&&◌, List, [], ◌∷◌, map, fold, Option, None, Some, All, AllPairs, ◌≤◌}
 use Rattle.std.specs.List.{find}
 use Rattle.std.specs.Option.{option_map}
 use Rattle.kt_tuple.specs.declared.node.NodeId.{NodeId}
 use Rattle.kt_tuple.specs.declared.node.NodeId.TheVariants.{Worker, Shard}
 use Rattle.kt_tuple.specs.Node.{node_eq}
-use Rattle.kt_ckpt.specs.declared.ckpt.Ckpt.{Ckpt}
+use Rattle.kt_ckpt.specs.Marks.{MarkFields, marks_of}
 use Rattle.kt_store.specs.declared.rows.NodeRow.{NodeRow}
 use Rattle.kt_store.specs.declared.rows.Tentative.{Tentative}
+use Rattle.kt_store.specs.declared.rows.TentativeMarks.{TentativeMarks}
 use Rattle.kt_store.specs.declared.rows.Posted.{Posted}
-use Rattle.kt_store.specs.declared.rows.Purpose.{Purpose}
 use Rattle.kt_store.specs.declared.rows.Verdict.{Verdict}
 use Rattle.kt_store.specs.Verdict.{is_open}
 
@@ -43,6 +43,17 @@ row_or p (Some row) = row
 
 abbrev pub row_of : Content → NodeId → NodeRow
 row_of c p = row_or p (find (λ (row : NodeRow). node_eq row.node p) c.nodes)
+
+-- a tentative checkpoint without its node's state
+abbrev pub marks_in : Tentative → TentativeMarks
+marks_in t = record { instance = t.instance; marks = marks_of t.checkpoint }
+
+-- what the stored checkpoints of the node say besides its state
+abbrev pub permanent_marks : Content → NodeId → Option MarkFields
+permanent_marks c p = option_map marks_of (row_of c p).permanent
+
+abbrev pub tentative_marks : Content → NodeId → Option TentativeMarks
+tentative_marks c p = option_map marks_in (row_of c p).tentative
 
 -- what is posted of an instance, if it was begun
 abbrev pub posted : Content → ℕ → Option Posted

@@ -3,3 +3,4 @@ pub mod Content
 pub mod Changes
 pub mod Calls
 pub mod Row
+pub mod Others

@@ -6,15 +6,15 @@ ghost use Rattle.kt_tuple.specs.Node.{node_eq};
 ghost use Rattle.kt_store.specs.declared.rows.NodeRow.{NodeRow};
 ghost use Rattle.kt_store.specs.declared.rows.Posted.{Posted};
 ghost use Rattle.kt_store.specs.Verdict.{is_open};
-ghost use Rattle.kt_store.specs.Content.{IsBoard, row_of, verdict_of, initiator_of, open_of, next_instance, is_fresh, greatest};
+ghost use Rattle.kt_store.specs.Content.{IsBoard, row_of, verdict_of, initiator_of, open_of, next_instance, is_fresh, greatest, permanent_marks, tentative_marks};
 ghost use Rattle.kt_store.specs.Changes.{decided, opening, storing, with_posted};
 ghost use Rattle.kt_store.specs.Row.{changed, IsWithin};
 
 use crate::change::{Change, change_row};
 use crate::error::StoreError;
-use crate::rows::{NodeRow, Posted, Purpose, Tentative, Verdict};
+use crate::rows::{NodeRow, Posted, Purpose, Tentative, TentativeMarks, Verdict};
 use crate::store::CkptStore;
-use kt_ckpt::Ckpt;
+use kt_ckpt::{Ckpt, Marks};
 use kt_tuple::NodeId;
 use std::alloc::{AllocError, Global};
 use std::marker::Model;
@@ -62,11 +62,34 @@ impl MemStore {
         }
     }
 
+    /// The node's permanent checkpoint, where one is stored.
+    fn permanent_at(&self, node: NodeId) -> Option<&Ckpt>
+        ensures { option_copied result ≡ (row_of self.now node).permanent }
+    {
+        row_at(&self.nodes, node)?.permanent.as_ref()
+    }
+
+    /// The tentative one.
+    fn tentative_at(&self, node: NodeId) -> Option<&Tentative>
+        ensures { option_copied result ≡ (row_of self.now node).tentative }
+    {
+        row_at(&self.nodes, node)?.tentative.as_ref()
+    }
+
     fn permanent_of(&self, alloc: Global, node: NodeId) -> Result<Option<Ckpt>, AllocError>
         ensures { IfOk result (λ c. c ≡ (row_of self.now node).permanent) }
     {
-        match row_at(&self.nodes, node) {
-            Some(row) => copy_checkpoint(alloc, &row.permanent),
+        match self.permanent_at(node) {
+            Some(checkpoint) => Ok(Some(checkpoint.copy(alloc)?)),
+            None => Ok(None),
+        }
+    }
+
+    fn permanent_marks_of(&self, alloc: Global, node: NodeId) -> Result<Option<Marks>, AllocError>
+        ensures { IfOk result (λ m. m ≡ permanent_marks self.now node) }
+    {
+        match self.permanent_at(node) {
+            Some(checkpoint) => Ok(Some(checkpoint.marks(alloc)?)),
             None => Ok(None),
         }
     }
@@ -74,8 +97,21 @@ impl MemStore {
     fn tentative_of(&self, alloc: Global, node: NodeId) -> Result<Option<Tentative>, AllocError>
         ensures { IfOk result (λ t. t ≡ (row_of self.now node).tentative) }
     {
-        match row_at(&self.nodes, node) {
-            Some(row) => copy_tentative(alloc, &row.tentative),
+        match self.tentative_at(node) {
+            Some(tentative) => Ok(Some(tentative.copy(alloc)?)),
+            None => Ok(None),
+        }
+    }
+
+    fn tentative_marks_of(
+        &self,
+        alloc: Global,
+        node: NodeId,
+    ) -> Result<Option<TentativeMarks>, AllocError>
+        ensures { IfOk result (λ m. m ≡ tentative_marks self.now node) }
+    {
+        match self.tentative_at(node) {
+            Some(tentative) => Ok(Some(tentative.marks(alloc)?)),
             None => Ok(None),
         }
     }
@@ -184,6 +220,22 @@ impl CkptStore for MemStore {
 
     fn tentative(&mut self, alloc: Global, node: NodeId) -> Result<Option<Tentative>, StoreError> {
         Ok(self.tentative_of(alloc, node)?)
+    }
+
+    fn permanent_marks(
+        &mut self,
+        alloc: Global,
+        node: NodeId,
+    ) -> Result<Option<Marks>, StoreError> {
+        Ok(self.permanent_marks_of(alloc, node)?)
+    }
+
+    fn tentative_marks(
+        &mut self,
+        alloc: Global,
+        node: NodeId,
+    ) -> Result<Option<TentativeMarks>, StoreError> {
+        Ok(self.tentative_marks_of(alloc, node)?)
     }
 
     fn verdict(&mut self, instance: u64) -> Result<Option<Verdict>, StoreError> {
@@ -317,28 +369,4 @@ fn open_at(rows: &[Posted], node: NodeId) -> Option<&Posted>
 {
     rows.iter()
         .find(|row| row.initiator == node && row.verdict.is_open())
-}
-
-fn copy_checkpoint(alloc: Global, checkpoint: &Option<Ckpt>) -> Result<Option<Ckpt>, AllocError>
-    ensures { IfOk result (λ c. c ≡ checkpoint.now) }
-{
-    match checkpoint {
-        Some(checkpoint) => Ok(Some(checkpoint.copy(alloc)?)),
-        None => Ok(None),
-    }
-}
-
-fn copy_tentative(
-    alloc: Global,
-    tentative: &Option<Tentative>,
-) -> Result<Option<Tentative>, AllocError>
-    ensures { IfOk result (λ t. t ≡ tentative.now) }
-{
-    match tentative {
-        Some(tentative) => Ok(Some(Tentative {
-            instance: tentative.instance,
-            checkpoint: tentative.checkpoint.copy(alloc)?,
-        })),
-        None => Ok(None),
-    }
 }

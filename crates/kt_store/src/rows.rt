@@ -2,7 +2,7 @@
 
 ghost use Rattle.std.specs.Prelude.{◌≡◌, IfOk};
 
-use kt_ckpt::Ckpt;
+use kt_ckpt::{Ckpt, Marks};
 use kt_tuple::NodeId;
 use std::alloc::{AllocError, Global};
 
@@ -50,6 +50,38 @@ pub struct Tentative {
     /// The instance in which it was taken.
     pub instance: u64,
     pub checkpoint: Ckpt,
+}
+
+impl Tentative {
+    ghost use Rattle.kt_store.specs.Content.{marks_in};
+
+    /// An equal one.
+    pub fn copy(&self, alloc: Global) -> Result<Tentative, AllocError>
+        ensures { IfOk result (λ t. t ≡ self.now) }
+    {
+        Ok(Tentative {
+            instance: self.instance,
+            checkpoint: self.checkpoint.copy(alloc)?,
+        })
+    }
+
+    /// The same without the node's state.
+    pub fn marks(&self, alloc: Global) -> Result<TentativeMarks, AllocError>
+        ensures { IfOk result (λ m. m ≡ marks_in self.now) }
+    {
+        Ok(TentativeMarks {
+            instance: self.instance,
+            marks: self.checkpoint.marks(alloc)?,
+        })
+    }
+}
+
+/// What a tentative checkpoint says besides its node's state.
+#[derive(Debug, Drop)]
+pub struct TentativeMarks {
+    /// The instance in which it was taken.
+    pub instance: u64,
+    pub marks: Marks,
 }
 
 /// What is stored of a node.

@@ -1,12 +1,12 @@
 ghost use Rattle.std.specs.Prelude.{◌≡◌, ◌⊎◌, ◌+◌, ℕ, Bool, None, Some, IsTrue, IfOk, OnOk, OnErr};
 ghost use Rattle.kt_store.specs.declared.rows.Verdict.TheVariants as verdicts;
-ghost use Rattle.kt_store.specs.Content.{Content, HasVerdict, greatest, initiator_of, is_fresh, next_instance, open_of, row_of, verdict_of};
+ghost use Rattle.kt_store.specs.Content.{Content, HasVerdict, greatest, initiator_of, is_fresh, next_instance, open_of, permanent_marks, row_of, tentative_marks, verdict_of};
 ghost use Rattle.kt_store.specs.Changes.{bumped, check_begun, decided, discarded, promoted, restart_begun, tentative_put};
 ghost use Rattle.kt_store.specs.Calls.{HasCause};
 
 use crate::error::StoreError;
-use crate::rows::{Tentative, Verdict};
-use kt_ckpt::Ckpt;
+use crate::rows::{Tentative, TentativeMarks, Verdict};
+use kt_ckpt::{Ckpt, Marks};
 use kt_tuple::NodeId;
 use std::alloc::Global;
 
@@ -43,6 +43,25 @@ pub trait CkptStore {
     /// The tentative checkpoint of the node with its instance, if one is stored.
     fn tentative(&mut self, alloc: Global, node: NodeId) -> Result<Option<Tentative>, StoreError>
         ensures value { IsTrue (is_honest self.new) → IfOk result (λ t. t ≡ (row_of (content self.old) node).tentative) }
+        ensures same { IsTrue (is_honest self.new) → content self.new ≡ content self.old }
+        ensures honest { IsTrue (is_honest self.new) → IsTrue (is_honest self.old) }
+        ensures cause { HasCause (fault_count self.old) (fault_count self.new) (is_honest self.new) ⊥ result };
+
+    /// The permanent checkpoint of the node without the node's state, if one is stored. It costs nothing that grows
+    /// with the state.
+    fn permanent_marks(&mut self, alloc: Global, node: NodeId) -> Result<Option<Marks>, StoreError>
+        ensures value { IsTrue (is_honest self.new) → IfOk result (λ m. m ≡ permanent_marks (content self.old) node) }
+        ensures same { IsTrue (is_honest self.new) → content self.new ≡ content self.old }
+        ensures honest { IsTrue (is_honest self.new) → IsTrue (is_honest self.old) }
+        ensures cause { HasCause (fault_count self.old) (fault_count self.new) (is_honest self.new) ⊥ result };
+
+    /// The tentative checkpoint of the node with its instance and without the node's state, if one is stored.
+    fn tentative_marks(
+        &mut self,
+        alloc: Global,
+        node: NodeId,
+    ) -> Result<Option<TentativeMarks>, StoreError>
+        ensures value { IsTrue (is_honest self.new) → IfOk result (λ m. m ≡ tentative_marks (content self.old) node) }
         ensures same { IsTrue (is_honest self.new) → content self.new ≡ content self.old }
         ensures honest { IsTrue (is_honest self.new) → IsTrue (is_honest self.old) }
         ensures cause { HasCause (fault_count self.old) (fault_count self.new) (is_honest self.new) ⊥ result };

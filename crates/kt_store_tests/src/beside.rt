@@ -3,7 +3,7 @@
 use crate::calls;
 use crate::draws::Draws;
 use crate::plain::{Plain, Row};
-use kt_ckpt::Ckpt;
+use kt_ckpt::{Ckpt, Marks};
 use kt_store::{CkptStore, MemStore, StoreError};
 use kt_tuple::NodeId;
 use std::alloc::Global;
@@ -89,6 +89,29 @@ fn agrees_on_node(
     )
 }
 
+/// Whether these are the marks of such a checkpoint, whose line has this length.
+fn is_marked(marks: &Marks, line_len: u64) -> bool {
+    marks.node() == NodeId::Shard(1)
+        && marks.line_len() == line_len
+        && marks.sent().len() == 1
+        && marks.received().len() == 1
+}
+
+/// Whether the store reads of the node's checkpoints without their states what the map has.
+fn agrees_on_marks(alloc: Global, store: &mut MemStore, row: &Row) -> Result<bool, StoreError> {
+    let permanent = match (store.permanent_marks(alloc, row.node)?, row.permanent) {
+        (Some(marks), Some(line_len)) => is_marked(&marks, line_len),
+        (marks, line_len) => marks.is_none() && line_len.is_none(),
+    };
+    let tentative = match (store.tentative_marks(alloc, row.node)?, row.tentative) {
+        (Some(read), Some((instance, line_len))) => {
+            read.instance == instance && is_marked(&read.marks, line_len)
+        }
+        (read, stored) => read.is_none() && stored.is_none(),
+    };
+    Ok(permanent && tentative)
+}
+
 /// Whether it reads of the instance what the map has.
 fn agrees_on_instance(
     store: &mut MemStore,
@@ -112,7 +135,7 @@ fn agrees(
 ) -> Result<bool, StoreError> {
     for row in &plain.rows {
         let open = plain.open_of(row.node);
-        if !agrees_on_node(alloc, store, row, open)? {
+        if !agrees_on_node(alloc, store, row, open)? || !agrees_on_marks(alloc, store, row)? {
             return Ok(false);
         }
     }

@@ -3,7 +3,7 @@ use Rattle.std.specs.List.{find, position, slice_get}
 use Rattle.std.proofs.lemmas.Option.{slice_get_read}
 use Rattle.kt_tuple.specs.Node.{node_eq}
 use Rattle.kt_store.specs.declared.rows.NodeRow.{NodeRow}
-use Rattle.kt_store.specs.Content.{IsNodes, opening_row, row_or}
+use Rattle.kt_store.specs.Content.{opening_row, row_or}
 use Rattle.kt_store.specs.Changes.{with_row}
 use Rattle.kt_store.specs.Row.{changed}
 use Rattle.kt_store.proofs.Nodes.{changed_there, nodes_either, same_node, still_nodes}

@@ -1,4 +1,4 @@
-use Rattle.std.proofs.Common.{rules, ◌≡◌, None, Some, ◌∙◌, sym}
+use Rattle.std.proofs.Common.{rules, ◌≡◌, None, Some, ◌∙◌}
 use Rattle.std.specs.List.{position}
 use Rattle.kt_store.specs.declared.rows.NodeRow.{NodeRow}
 use Rattle.kt_store.specs.Content.{node_lt}

@@ -1,5 +1,5 @@
 use Rattle.std.proofs.Common.{rules, ◌≡◌, ◌==◌, ◌<◌, length, Some, None, sym, ap, refl, ◌∙◌}
-use Rattle.std.specs.List.{find, position, slice_get}
+use Rattle.std.specs.List.{position, slice_get}
 use Rattle.std.proofs.lemmas.Option.{slice_get_read}
 use Rattle.kt_store.specs.declared.rows.Posted.{Posted}
 use Rattle.kt_store.specs.Content.{Content, posted}
