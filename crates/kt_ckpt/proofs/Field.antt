@@ -1,5 +1,6 @@
 -- What it is to read a field: just its spellings are read, whatever follows, and what is known of it stays known as more bytes come.
-use Rattle.std.proofs.Common.{◌≡◌, ℕ, suc, ◌+◌, ◌<◌, List, [], ◌∷◌, ◌++◌, length, get_or, take, drop, Result, Ok, Err, refl, sym, ap, ◌∙◌, append_assoc, arith, inl, inr}
+use Rattle.std.proofs.Common.{◌≡◌, ℕ, suc, ◌+◌, ◌<◌, List, [], ◌∷◌, ◌++◌, length, get_or, take, drop, Result, Ok, Err, refl, sym, ap, ◌∙◌, append_assoc}
+use Rattle.std.proofs.Common.{arith, inl, inr}
 use Rattle.std.proofs.lemmas.Bool.{cases_lt}
 use Rattle.std.proofs.lemmas.List.{append-nil, length-append, length-take, get_or-drop, get_or-take, get_or_past}
 use Rattle.kt_ckpt.specs.declared.error.CkptError.{CkptError}
@@ -62,7 +63,8 @@ nothing_longer x y c more e =
     let rest : [] ≡ y.1 ++ c ∷ more = (pair_of_ok (x, []) (y.0, y.1 ++ c ∷ more) e).1 in
     omega (arith, ap length rest, length-append y.1 (c ∷ more))
 
-cut_by : {X : Type 0} (x : X) (c : ℕ) (more : List ℕ) (r longer : Result (X × List ℕ) CkptError) → Continues (c ∷ more) r longer → longer ≡ Ok (x, []) → r ≡ Err Cut
+cut_by : {X : Type 0} (x : X) (c : ℕ) (more : List ℕ) (r longer : Result (X × List ℕ) CkptError) → Continues (c ∷ more) r longer → longer ≡ Ok (x, [])
+    → r ≡ Err Cut
 cut_by x c more (Ok y) longer h e = absurd (nothing_longer x y c more (sym e ∙ h))
 cut_by x c more (Err Cut) longer h e = refl
 cut_by x c more (Err Magic) longer h e = absurd cc
@@ -72,7 +74,8 @@ cut_by x c more (Err Extra) longer h e = absurd cc
 cut_by x c more (Err OutOfMemory) longer h e = absurd cc
 
 -- a proper front of a spelling is cut short
-pub front_is_cut : {X : Type 0} {spelled : X → List ℕ} {IsAllowed : X → Type 0} {read : List ℕ → Result (X × List ℕ) CkptError} → IsField spelled IsAllowed read → Lasts read
+pub front_is_cut : {X : Type 0} {spelled : X → List ℕ} {IsAllowed : X → Type 0} {read : List ℕ → Result (X × List ℕ) CkptError}
+    → IsField spelled IsAllowed read → Lasts read
     → (x : X) (front : List ℕ) (c : ℕ) (more : List ℕ) → IsAllowed x → spelled x ≡ front ++ c ∷ more → read front ≡ Err Cut
 front_is_cut {spelled = spelled} {read = read} f l x front c more allowed e =
     let whole : read (front ++ c ∷ more) ≡ Ok (x, []) = ap read (sym e ∙ sym (append-nil (spelled x))) ∙ f.again x [] allowed in

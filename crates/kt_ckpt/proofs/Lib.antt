@@ -6,4 +6,7 @@ pub mod Tuples
 pub mod Ops
 pub mod Loop
 pub mod States
+pub mod Front
+pub mod Nodes
+pub mod Peers
 pub mod Checkpoints

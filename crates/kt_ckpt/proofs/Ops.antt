@@ -12,15 +12,18 @@ use Rattle.kt_ckpt.specs.declared.error.CkptError.TheVariants.{Field}
 use Rattle.kt_ckpt.specs.Limits.{out_code, in_code, rd_code, inp_code, rdp_code, done_code, got_code, none_code}
 use Rattle.kt_ckpt.specs.Reading.{made}
 use Rattle.kt_ckpt.specs.Tuple.{IsTuple, IsTemplate, tuple_at, template_at}
-use Rattle.kt_ckpt.specs.Op.{IsOp, op_code, behind_op_code, op_bytes, op_behind, op_at, IsAnswer, answer_code, behind_answer_code, answer_bytes, answer_behind, answer_at}
+use Rattle.kt_ckpt.specs.Op.{IsOp, op_code, behind_op_code, op_bytes, op_behind, op_at, IsAnswer, answer_code, behind_answer_code, answer_bytes}
+use Rattle.kt_ckpt.specs.Op.{answer_behind, answer_at}
 use Rattle.kt_ckpt.proofs.Field.{IsField, Lasts}
-use Rattle.kt_ckpt.proofs.Combined.{known, known_lasts, fault, refused, refused_lasts, same_field, either, either_lasts, behind, behind_lasts, made_field, made_lasts}
+use Rattle.kt_ckpt.proofs.Combined.{known, known_lasts, fault, refused, refused_lasts, same_field, either, either_lasts, behind, behind_lasts, made_field}
+use Rattle.kt_ckpt.proofs.Combined.{made_lasts}
 use Rattle.kt_ckpt.proofs.Primitive.{byte_field, byte_lasts}
 use Rattle.kt_ckpt.proofs.Tuples.{tuple_field, tuple_lasts, template_field, template_lasts}
 
 -- one way to read by a code, or the others
 pub coded : {X : Type 0} {spelled : X → List ℕ} (IsBehind : ℕ → X → Type 0) (first others : List ℕ → Result (X × List ℕ) CkptError) (code this : ℕ)
-    → IsField spelled (IsBehind this) first → (eqb code this ≡ false → IsField spelled (IsBehind code) others) → IsField spelled (IsBehind code) (λ bytes. cond (eqb code this) (first bytes) (others bytes))
+    → IsField spelled (IsBehind this) first → (eqb code this ≡ false → IsField spelled (IsBehind code) others)
+    → IsField spelled (IsBehind code) (λ bytes. cond (eqb code this) (first bytes) (others bytes))
 coded {X} {spelled} IsBehind first others code this f g =
     either first others (eqb code this) (λ p. subst (λ (k : ℕ). IsField spelled (IsBehind k) first) (sym (eqb-true code this p)) f) g
 
@@ -64,7 +67,8 @@ rdp_from (Rd t) h = absurd (omega (arith, h.1))
 rdp_from (Inp t) h = absurd (omega (arith, h.1))
 rdp_from (Rdp t) h = (t, (h.0, refl))
 
-no_op : (code : ℕ) (op : Op) → eqb code out_code ≡ false → eqb code in_code ≡ false → eqb code rd_code ≡ false → eqb code inp_code ≡ false → eqb code rdp_code ≡ false → (IsOpBehind code op → ⊥)
+no_op : (code : ℕ) (op : Op) → eqb code out_code ≡ false → eqb code in_code ≡ false → eqb code rd_code ≡ false → eqb code inp_code ≡ false
+    → eqb code rdp_code ≡ false → (IsOpBehind code op → ⊥)
 no_op code (Out u) a b c d e h = eqb-false code out_code a h.1
 no_op code (In t) a b c d e h = eqb-false code in_code b h.1
 no_op code (Rd t) a b c d e h = eqb-false code rd_code c h.1
@@ -92,11 +96,16 @@ from_in code bytes = cond (eqb code in_code) (with_template In bytes) (from_rd c
 op_behind_field : (code : ℕ) → IsField behind_op_code (IsOpBehind code) (op_behind code)
 unfolding op_behind
 op_behind_field code =
-    let f = coded IsOpBehind out_at (from_in code) code out_code (made_field tuple_field Out behind_op_code (IsOpBehind out_code) (λ u h. refl) (λ u h. (h, refl)) out_from)
-    (λ a. coded IsOpBehind (with_template In) (from_rd code) code in_code (made_field template_field In behind_op_code (IsOpBehind in_code) (λ t h. refl) (λ t h. (h, refl)) in_from)
-    (λ b. coded IsOpBehind (with_template Rd) (from_inp code) code rd_code (made_field template_field Rd behind_op_code (IsOpBehind rd_code) (λ t h. refl) (λ t h. (h, refl)) rd_from)
-    (λ c. coded IsOpBehind (with_template Inp) (from_rdp code) code inp_code (made_field template_field Inp behind_op_code (IsOpBehind inp_code) (λ t h. refl) (λ t h. (h, refl)) inp_from)
-    (λ d. coded IsOpBehind (with_template Rdp) (fault Field) code rdp_code (made_field template_field Rdp behind_op_code (IsOpBehind rdp_code) (λ t h. refl) (λ t h. (h, refl)) rdp_from)
+    let f = coded IsOpBehind out_at (from_in code) code out_code (made_field tuple_field Out behind_op_code (IsOpBehind out_code) (λ u h. refl)
+    (λ u h. (h, refl)) out_from)
+    (λ a. coded IsOpBehind (with_template In) (from_rd code) code in_code
+    (made_field template_field In behind_op_code (IsOpBehind in_code) (λ t h. refl) (λ t h. (h, refl)) in_from)
+    (λ b. coded IsOpBehind (with_template Rd) (from_inp code) code rd_code
+    (made_field template_field Rd behind_op_code (IsOpBehind rd_code) (λ t h. refl) (λ t h. (h, refl)) rd_from)
+    (λ c. coded IsOpBehind (with_template Inp) (from_rdp code) code inp_code
+    (made_field template_field Inp behind_op_code (IsOpBehind inp_code) (λ t h. refl) (λ t h. (h, refl)) inp_from)
+    (λ d. coded IsOpBehind (with_template Rdp) (fault Field) code rdp_code
+    (made_field template_field Rdp behind_op_code (IsOpBehind rdp_code) (λ t h. refl) (λ t h. (h, refl)) rdp_from)
     (λ e. refused behind_op_code (IsOpBehind code) Field (λ op. no_op code op a b c d e)))))) in
     record { again = f.again; takes = f.takes }
 
@@ -147,7 +156,8 @@ got_from answers.Done h = absurd (omega (arith, h.1))
 got_from (answers.Got u) h = (u, (h.0, refl))
 got_from answers.None h = absurd (omega (arith, h.1))
 
-no_answer : (code : ℕ) (answer : Answer) → eqb code done_code ≡ false → eqb code got_code ≡ false → eqb code none_code ≡ false → (IsAnswerBehind code answer → ⊥)
+no_answer : (code : ℕ) (answer : Answer) → eqb code done_code ≡ false → eqb code got_code ≡ false → eqb code none_code ≡ false
+    → (IsAnswerBehind code answer → ⊥)
 no_answer code answers.Done a b c h = eqb-false code done_code a h.1
 no_answer code (answers.Got u) a b c h = eqb-false code got_code b h.1
 no_answer code answers.None a b c h = eqb-false code none_code c h.1
@@ -165,16 +175,19 @@ abbrev from_got : ℕ → List ℕ → Result (Answer × List ℕ) CkptError
 from_got code bytes = cond (eqb code got_code) (got_at bytes) (from_none code bytes)
 
 done_field : IsField behind_answer_code (IsAnswerBehind done_code) (bare_at answers.Done)
-done_field = same_field (known answers.Done) behind_answer_code (IsAnswerBehind done_code) (λ x e. subst (IsAnswerBehind done_code) e (tt, refl)) done_is (λ x e. subst (λ (x : Answer). [] ≡ behind_answer_code x) e refl)
+done_field = same_field (known answers.Done) behind_answer_code (IsAnswerBehind done_code) (λ x e. subst (IsAnswerBehind done_code) e (tt, refl)) done_is
+    (λ x e. subst (λ (x : Answer). [] ≡ behind_answer_code x) e refl)
 
 none_field : IsField behind_answer_code (IsAnswerBehind none_code) (bare_at answers.None)
-none_field = same_field (known answers.None) behind_answer_code (IsAnswerBehind none_code) (λ x e. subst (IsAnswerBehind none_code) e (tt, refl)) none_is (λ x e. subst (λ (x : Answer). [] ≡ behind_answer_code x) e refl)
+none_field = same_field (known answers.None) behind_answer_code (IsAnswerBehind none_code) (λ x e. subst (IsAnswerBehind none_code) e (tt, refl)) none_is
+    (λ x e. subst (λ (x : Answer). [] ≡ behind_answer_code x) e refl)
 
 answer_behind_field : (code : ℕ) → IsField behind_answer_code (IsAnswerBehind code) (answer_behind code)
 unfolding answer_behind
 answer_behind_field code =
     let f = coded IsAnswerBehind (bare_at answers.Done) (from_got code) code done_code done_field
-    (λ a. coded IsAnswerBehind got_at (from_none code) code got_code (made_field tuple_field answers.Got behind_answer_code (IsAnswerBehind got_code) (λ u h. refl) (λ u h. (h, refl)) got_from)
+    (λ a. coded IsAnswerBehind got_at (from_none code) code got_code
+    (made_field tuple_field answers.Got behind_answer_code (IsAnswerBehind got_code) (λ u h. refl) (λ u h. (h, refl)) got_from)
     (λ b. coded IsAnswerBehind (bare_at answers.None) (fault Field) code none_code none_field
     (λ c. refused behind_answer_code (IsAnswerBehind code) Field (λ answer. no_answer code answer a b c)))) in
     record { again = f.again; takes = f.takes }

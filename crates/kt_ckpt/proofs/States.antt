@@ -1,5 +1,6 @@
 -- What a checkpoint holds of its node is a field.
-use Rattle.std.proofs.Common.{◌≡◌, ℕ, zero, suc, ◌^◌, ◌<◌, ◌≤◌, Bool, true, false, eqb, List, [], ◌∷◌, ◌++◌, length, Option, Some, None, Result, refl, sym, ap, subst, ◌∙◌, arith}
+use Rattle.std.proofs.Common.{◌≡◌, ℕ, zero, suc, ◌^◌, ◌<◌, ◌≤◌, Bool, true, false, eqb, List, [], ◌∷◌, ◌++◌, length, Option, Some, None, Result, refl, sym}
+use Rattle.std.proofs.Common.{ap, subst, ◌∙◌, arith}
 use Rattle.std.specs.Prelude.{All, IfSome}
 use Rattle.std.specs.List.{flat_map}
 use Rattle.std.specs.Int.{w16, w32, w64, to_be_bytes}
@@ -11,16 +12,19 @@ use Rattle.kt_tuple.specs.Valid.{IsValue}
 use Rattle.kt_ckpt.specs.declared.error.CkptError.{CkptError}
 use Rattle.kt_shard.specs.declared.request.Request.{Request}
 use Rattle.kt_shard.specs.declared.request.Kept.{Kept}
-use Rattle.kt_ckpt.specs.Fields.{WorkerFields, ShardFields}
+use Rattle.kt_ckpt.specs.Fields.{WorkerFields, worker_of, ShardFields}
 use Rattle.kt_ckpt.specs.Limits.{max_pc, max_variables, max_workers}
 use Rattle.kt_ckpt.specs.Reading.{◌>>=◌, made, number_at, list_at, rising_at, IsRising}
 use Rattle.kt_ckpt.specs.Tuple.{IsTuple, tuple_bytes, tuple_at}
 use Rattle.kt_ckpt.specs.Op.{IsOp, op_bytes, op_at, answer_bytes, answer_at}
-use Rattle.kt_ckpt.specs.State.{IsWorker, flag_bytes, asked_bytes, variables_bytes, worker_bytes, pc_at, flag_at, asked_behind, asked_at, variables_at, worker_at}
-use Rattle.kt_ckpt.specs.State.{IsRequest, IsKept, IsShard, bag_bytes, request_bytes, kept_bytes, entry_bytes, entries_bytes, shard_bytes, bag_at, request_at, kept_at, entries_at, shard_at}
+use Rattle.kt_ckpt.specs.State.{IsWorker, flag_bytes, asked_bytes, variables_bytes, worker_bytes, pc_at, flag_at, asked_behind, asked_at, variables_at}
+use Rattle.kt_ckpt.specs.State.{worker_at}
+use Rattle.kt_ckpt.specs.State.{IsRequest, IsKept, IsShard, bag_bytes, request_bytes, kept_bytes, entry_bytes, entries_bytes, shard_bytes, bag_at, request_at}
+use Rattle.kt_ckpt.specs.State.{kept_at, entries_at, shard_at}
 use Rattle.kt_ckpt.proofs.Field.{IsField, Lasts}
 use Rattle.kt_ckpt.proofs.Combined.{known, known_lasts, same_field, behind, behind_lasts, made_field, made_lasts}
-use Rattle.kt_ckpt.proofs.Primitive.{byte_within_field, byte_within_lasts, within_field, within_lasts, wide16, wide32, wide64, number_field, number_lasts, list_field, list_lasts, rising_field, rising_lasts, rising_len}
+use Rattle.kt_ckpt.proofs.Primitive.{byte_within_field, byte_within_lasts, within_field, within_lasts, wide16, wide32, wide64, number_field, number_lasts}
+use Rattle.kt_ckpt.proofs.Primitive.{list_field, list_lasts, rising_field, rising_lasts, rising_len}
 use Rattle.kt_ckpt.proofs.Values.{value_field, value_lasts}
 use Rattle.kt_ckpt.proofs.Tuples.{counted_field, counted_lasts, tuple_field, tuple_lasts}
 use Rattle.kt_ckpt.proofs.Ops.{op_field, op_lasts, answer_field, answer_lasts}
@@ -30,7 +34,8 @@ use Rattle.kt_ckpt.proofs.Ops.{op_field, op_lasts, answer_field, answer_lasts}
 pc_field : IsField (λ n. to_be_bytes w16 n) (λ n. n ≤ max_pc) pc_at
 unfolding pc_at
 pc_field =
-    let f = same_field (within_field 0 max_pc (λ n le. omega arith) (number_field w16 (2 ^ 16) wide16)) (λ n. to_be_bytes w16 n) (λ n. n ≤ max_pc) (λ n h. h.1) (λ n h. (omega arith, h)) (λ n h. refl) in
+    let f = same_field (within_field 0 max_pc (λ n le. omega arith) (number_field w16 (2 ^ 16) wide16)) (λ n. to_be_bytes w16 n) (λ n. n ≤ max_pc)
+    (λ n h. h.1) (λ n h. (omega arith, h)) (λ n h. refl) in
     record { again = f.again; takes = f.takes }
 
 pc_lasts : Lasts pc_at
@@ -86,7 +91,9 @@ some_asked (Some op) h = (op, (h.0, refl))
 
 asked_behind_field : (b : Bool) → IsField behind_flag (λ a. IsAsked a × (b ≡ has_op a)) (asked_behind b)
 asked_behind_field false =
-    let f = same_field (known None) behind_flag (λ a. IsAsked a × (false ≡ has_op a)) (λ a e. subst (λ (a : Option Op). IsAsked a × (false ≡ has_op a)) e (tt, refl)) none_asked (λ a e. subst (λ (a : Option Op). [] ≡ behind_flag a) e refl) in
+    let f = same_field (known None) behind_flag (λ a. IsAsked a × (false ≡ has_op a))
+    (λ a e. subst (λ (a : Option Op). IsAsked a × (false ≡ has_op a)) e (tt, refl)) none_asked
+    (λ a e. subst (λ (a : Option Op). [] ≡ behind_flag a) e refl) in
     record { again = f.again; takes = f.takes }
 asked_behind_field true =
     let f = made_field op_field Some behind_flag (λ a. IsAsked a × (true ≡ has_op a)) (λ op h. refl) (λ op h. (h, refl)) some_asked in
@@ -103,7 +110,8 @@ asked_same (Some op) = refl
 asked_field : IsField asked_bytes IsAsked asked_at
 unfolding asked_at
 asked_field =
-    let f = same_field (behind flag_field has_op behind_flag IsAsked asked_behind (λ a h. tt) (λ b h. asked_behind_field b)) asked_bytes IsAsked (λ a h. h) (λ a h. h) (λ a h. asked_same a) in
+    let f = same_field (behind flag_field has_op behind_flag IsAsked asked_behind (λ a h. tt) (λ b h. asked_behind_field b)) asked_bytes IsAsked (λ a h. h)
+    (λ a h. h) (λ a h. asked_same a) in
     record { again = f.again; takes = f.takes }
 
 asked_lasts : Lasts asked_at
@@ -116,7 +124,8 @@ AreVariables values = (length values ≤ max_variables) × All IsValue values
 variables_field : IsField variables_bytes AreVariables variables_at
 unfolding variables_at
 variables_field =
-    let f = same_field (counted_field value_field 0 max_variables (omega arith)) variables_bytes AreVariables (λ v h. (h.0.1, h.1)) (λ v h. ((omega arith, h.0), h.1)) (λ v h. refl) in
+    let f = same_field (counted_field value_field 0 max_variables (omega arith)) variables_bytes AreVariables (λ v h. (h.0.1, h.1))
+    (λ v h. ((omega arith, h.0), h.1)) (λ v h. refl) in
     record { again = f.again; takes = f.takes }
 
 variables_lasts : Lasts variables_at
@@ -125,10 +134,8 @@ variables_lasts = let l = counted_lasts value_lasts 0 max_variables in record { 
 
 -- ---- a worker
 
-abbrev worker_of : ℕ → ℕ → Bool → Option Op → List Value → WorkerFields
-worker_of pc number was_none asked variables = record { pc = pc; number = number; was_none = was_none; asked = asked; variables = variables }
-
-worker_is : (pc number : ℕ) (was_none : Bool) (asked : Option Op) (w : WorkerFields) → pc ≡ w.pc → number ≡ w.number → was_none ≡ w.was_none → asked ≡ w.asked → worker_of pc number was_none asked w.variables ≡ w
+worker_is : (pc number : ℕ) (was_none : Bool) (asked : Option Op) (w : WorkerFields) → pc ≡ w.pc → number ≡ w.number → was_none ≡ w.was_none
+    → asked ≡ w.asked → worker_of pc number was_none asked w.variables ≡ w
 worker_is pc number was_none asked w a b c d =
     ap (λ (p : ℕ). worker_of p number was_none asked w.variables) a ∙ ap (λ (n : ℕ). worker_of w.pc n was_none asked w.variables) b
     ∙ ap (λ (f : Bool). worker_of w.pc w.number f asked w.variables) c ∙ ap (λ (o : Option Op). worker_of w.pc w.number w.was_none o w.variables) d
@@ -148,11 +155,17 @@ with_pc pc bytes = number_at w64 bytes >>= λ number. with_number pc number.0 nu
 pub worker_field : IsField worker_bytes IsWorker worker_at
 unfolding worker_at
 worker_field =
-    let f = behind pc_field (λ (w : WorkerFields). w.pc) (λ w. to_be_bytes w64 w.number ++ (flag_bytes w.was_none ++ (asked_bytes w.asked ++ variables_bytes w.variables))) IsWorker with_pc (λ w h. h.pc)
-    (λ pc hp. behind (number_field w64 (2 ^ 64) wide64) (λ (w : WorkerFields). w.number) (λ w. flag_bytes w.was_none ++ (asked_bytes w.asked ++ variables_bytes w.variables)) (λ w. IsWorker w × (pc ≡ w.pc)) (with_number pc) (λ w h. h.0.number)
-    (λ n hn. behind flag_field (λ (w : WorkerFields). w.was_none) (λ w. asked_bytes w.asked ++ variables_bytes w.variables) (λ w. (IsWorker w × (pc ≡ w.pc)) × (n ≡ w.number)) (with_flag pc n) (λ w h. tt)
-    (λ b hb. behind asked_field (λ (w : WorkerFields). w.asked) (λ w. variables_bytes w.variables) (λ w. ((IsWorker w × (pc ≡ w.pc)) × (n ≡ w.number)) × (b ≡ w.was_none)) (with_asked pc n b) (λ w h. h.0.0.0.asked)
-    (λ a ha. made_field variables_field (worker_of pc n b a) (λ w. variables_bytes w.variables) (λ w. (((IsWorker w × (pc ≡ w.pc)) × (n ≡ w.number)) × (b ≡ w.was_none)) × (a ≡ w.asked)) (λ v hv. refl)
+    let f = behind pc_field (λ (w : WorkerFields). w.pc) (λ w. to_be_bytes w64
+    w.number ++ (flag_bytes w.was_none ++ (asked_bytes w.asked ++ variables_bytes w.variables))) IsWorker with_pc (λ w h. h.pc)
+    (λ pc hp. behind (number_field w64 (2 ^ 64) wide64) (λ (w : WorkerFields). w.number)
+    (λ w. flag_bytes w.was_none ++ (asked_bytes w.asked ++ variables_bytes w.variables)) (λ w. IsWorker w × (pc ≡ w.pc)) (with_number pc)
+    (λ w h. h.0.number)
+    (λ n hn. behind flag_field (λ (w : WorkerFields). w.was_none) (λ w. asked_bytes w.asked ++ variables_bytes w.variables)
+    (λ w. (IsWorker w × (pc ≡ w.pc)) × (n ≡ w.number)) (with_flag pc n) (λ w h. tt)
+    (λ b hb. behind asked_field (λ (w : WorkerFields). w.asked) (λ w. variables_bytes w.variables)
+    (λ w. ((IsWorker w × (pc ≡ w.pc)) × (n ≡ w.number)) × (b ≡ w.was_none)) (with_asked pc n b) (λ w h. h.0.0.0.asked)
+    (λ a ha. made_field variables_field (worker_of pc n b a) (λ w. variables_bytes w.variables)
+    (λ w. (((IsWorker w × (pc ≡ w.pc)) × (n ≡ w.number)) × (b ≡ w.was_none)) × (a ≡ w.asked)) (λ v hv. refl)
     (λ v hv. ((((record { pc = hp; number = hn; asked = ha; few = hv.0; variables = hv.1 }, refl), refl), refl), refl))
     (λ w h. (w.variables, ((h.0.0.0.0.few, h.0.0.0.0.variables), worker_is pc n b a w h.0.0.0.1 h.0.0.1 h.0.1 h.1))))))) in
     record { again = f.again; takes = f.takes }
@@ -176,7 +189,8 @@ bag_field : IsField bag_bytes IsBag bag_at
 unfolding bag_at
 bag_field =
     let f = behind (number_field w32 (2 ^ 32) wide32) (λ (ts : List Tuple). length ts) (λ ts. flat_map tuple_bytes ts) IsBag (list_at tuple_at) (λ ts h. h.0)
-    (λ n h. same_field (list_field tuple_field n) (λ ts. flat_map tuple_bytes ts) (λ ts. IsBag ts × (n ≡ length ts)) (λ ts g. ((subst (λ (k : ℕ). k < 2 ^ 32) (sym g.0) h, g.1), sym g.0)) (λ ts g. (sym g.1, g.0.1)) (λ ts g. refl)) in
+    (λ n h. same_field (list_field tuple_field n) (λ ts. flat_map tuple_bytes ts) (λ ts. IsBag ts × (n ≡ length ts))
+    (λ ts g. ((subst (λ (k : ℕ). k < 2 ^ 32) (sym g.0) h, g.1), sym g.0)) (λ ts g. (sym g.1, g.0.1)) (λ ts g. refl)) in
     record { again = f.again; takes = f.takes }
 
 bag_lasts : Lasts bag_at
@@ -193,7 +207,8 @@ request_field : IsField request_bytes IsRequest request_at
 unfolding request_at
 request_field =
     let f = behind (number_field w64 (2 ^ 64) wide64) (λ (r : Request). r.number) (λ r. op_bytes r.op) IsRequest request_with (λ r h. h.number)
-    (λ n hn. made_field op_field (request_of n) (λ r. op_bytes r.op) (λ r. IsRequest r × (n ≡ r.number)) (λ op h. refl) (λ op h. (record { number = hn; op = h }, refl))
+    (λ n hn. made_field op_field (request_of n) (λ r. op_bytes r.op) (λ r. IsRequest r × (n ≡ r.number)) (λ op h. refl)
+    (λ op h. (record { number = hn; op = h }, refl))
     (λ r h. (r.op, (h.0.op, ap (λ (m : ℕ). request_of m r.op) h.1)))) in
     record { again = f.again; takes = f.takes }
 
@@ -211,7 +226,8 @@ kept_field : IsField kept_bytes IsKept kept_at
 unfolding kept_at
 kept_field =
     let f = behind request_field (λ (k : Kept). k.request) (λ k. answer_bytes k.answer) IsKept kept_with (λ k h. h.request)
-    (λ r hr. made_field answer_field (kept_of r) (λ k. answer_bytes k.answer) (λ k. IsKept k × (r ≡ k.request)) (λ x h. refl) (λ x h. (record { request = hr; answer = h }, refl))
+    (λ r hr. made_field answer_field (kept_of r) (λ k. answer_bytes k.answer) (λ k. IsKept k × (r ≡ k.request)) (λ x h. refl)
+    (λ x h. (record { request = hr; answer = h }, refl))
     (λ k h. (k.answer, (h.0.answer, ap (λ (m : Request). kept_of m k.answer) h.1)))) in
     record { again = f.again; takes = f.takes }
 
@@ -229,8 +245,10 @@ entries_field : {X : Type 0} {spelled : X → List ℕ} {IsAllowed : X → Type 
     → IsField (entries_bytes spelled) (AreEntries IsAllowed) (entries_at read)
 unfolding entries_at
 entries_field {X} {spelled} {IsAllowed} {read} f =
-    let g = behind (byte_within_field 0 max_workers (omega arith)) (λ (xs : List (ℕ × X)). length xs) (λ xs. flat_map (entry_bytes spelled) xs) (AreEntries IsAllowed) (rising_at read 1) (λ xs h. (omega arith, few_entries xs h.0))
-    (λ n h. same_field (rising_field f 1 n) (λ xs. flat_map (entry_bytes spelled) xs) (λ xs. AreEntries IsAllowed xs × (n ≡ length xs)) (λ xs g. (g.1, sym g.0)) (λ xs g. (sym g.1, g.0)) (λ xs g. refl)) in
+    let g = behind (byte_within_field 0 max_workers (omega arith)) (λ (xs : List (ℕ × X)). length xs) (λ xs. flat_map (entry_bytes spelled) xs)
+    (AreEntries IsAllowed) (rising_at read 1) (λ xs h. (omega arith, few_entries xs h.0))
+    (λ n h. same_field (rising_field f 1 n) (λ xs. flat_map (entry_bytes spelled) xs) (λ xs. AreEntries IsAllowed xs × (n ≡ length xs))
+    (λ xs g. (g.1, sym g.0)) (λ xs g. (sym g.1, g.0)) (λ xs g. refl)) in
     record { again = g.again; takes = g.takes }
 
 entries_lasts : {X : Type 0} {read : List ℕ → Result (X × List ℕ) CkptError} → Lasts read → Lasts (entries_at read)
@@ -251,11 +269,21 @@ with_bag bag bytes = entries_at request_at bytes >>= λ waiting. with_waiting ba
 pub shard_field : IsField shard_bytes IsShard shard_at
 unfolding shard_at
 shard_field =
-    let f = behind bag_field (λ (s : ShardFields). s.bag) (λ s. entries_bytes request_bytes s.waiting ++ entries_bytes kept_bytes s.kept) IsShard with_bag (λ s h. (h.few, h.bag))
-    (λ bag hb. behind (entries_field request_field) (λ (s : ShardFields). s.waiting) (λ s. entries_bytes kept_bytes s.kept) (λ s. IsShard s × (bag ≡ s.bag)) (with_waiting bag) (λ s h. (h.0.waiting_rises, h.0.waiting))
-    (λ waiting hw. made_field (entries_field kept_field) (shard_of bag waiting) (λ s. entries_bytes kept_bytes s.kept) (λ s. (IsShard s × (bag ≡ s.bag)) × (waiting ≡ s.waiting)) (λ kept h. refl)
+    let f = behind bag_field (λ (s : ShardFields). s.bag) (λ s. entries_bytes request_bytes s.waiting ++ entries_bytes kept_bytes s.kept) IsShard with_bag
+    (λ s h. (h.few, h.bag))
+    (λ bag hb. behind (entries_field request_field) (λ (s : ShardFields). s.waiting) (λ s. entries_bytes kept_bytes s.kept) (λ s. IsShard s × (bag ≡ s.bag))
+    (with_waiting bag) (λ s h. (h.0.waiting_rises, h.0.waiting))
+    (λ waiting hw. made_field (entries_field kept_field) (shard_of bag waiting) (λ s. entries_bytes kept_bytes s.kept)
+    (λ s. (IsShard s × (bag ≡ s.bag)) × (waiting ≡ s.waiting)) (λ kept h. refl)
     (λ kept h. ((record { few = hb.0; bag = hb.1; waiting_rises = hw.0; waiting = hw.1; kept_rises = h.0; kept = h.1 }, refl), refl))
-    (λ s h. (s.kept, ((h.0.0.kept_rises, h.0.0.kept), ap (λ (b : List Tuple). shard_of b waiting s.kept) h.0.1 ∙ ap (λ (w : List (ℕ × Request)). shard_of s.bag w s.kept) h.1))))) in
+    (λ s h. (
+      s.kept,
+      (
+        (h.0.0.kept_rises, h.0.0.kept),
+        ap (λ (b : List Tuple). shard_of b waiting s.kept) h.0.1
+            ∙ ap (λ (w : List (ℕ × Request)). shard_of s.bag w s.kept) h.1,
+      ),
+    )))) in
     record { again = f.again; takes = f.takes }
 
 pub shard_lasts : Lasts shard_at

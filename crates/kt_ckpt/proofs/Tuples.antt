@@ -12,15 +12,19 @@ use Rattle.kt_ckpt.proofs.Primitive.{byte_within_field, byte_within_lasts, list_
 use Rattle.kt_ckpt.proofs.Values.{value_field, value_lasts, place_field, place_lasts}
 
 -- how many there are, from low to high, and these
-pub counted_field : {X : Type 0} {spelled : X → List ℕ} {IsAllowed : X → Type 0} {read : List ℕ → Result (X × List ℕ) CkptError} → IsField spelled IsAllowed read
+pub counted_field : {X : Type 0} {spelled : X → List ℕ} {IsAllowed : X → Type 0} {read : List ℕ → Result (X × List ℕ) CkptError}
+    → IsField spelled IsAllowed read
     → (low high : ℕ) → high < 256
-    → IsField (λ xs. length xs ∷ flat_map spelled xs) (λ xs. ((low ≤ length xs) × (length xs ≤ high)) × All IsAllowed xs) (λ bytes. byte_within low high bytes >>= λ n. list_at read n.0 n.1)
+    → IsField (λ xs. length xs ∷ flat_map spelled xs) (λ xs. ((low ≤ length xs) × (length xs ≤ high)) × All IsAllowed xs)
+    (λ bytes. byte_within low high bytes >>= λ n. list_at read n.0 n.1)
 counted_field {X} {spelled} {IsAllowed} {read} f low high lt =
-    behind (byte_within_field low high lt) (λ (xs : List X). length xs) (λ xs. flat_map spelled xs) (λ xs. ((low ≤ length xs) × (length xs ≤ high)) × All IsAllowed xs) (λ n. list_at read n) (λ xs h. h.0)
+    behind (byte_within_field low high lt) (λ (xs : List X). length xs) (λ xs. flat_map spelled xs)
+    (λ xs. ((low ≤ length xs) × (length xs ≤ high)) × All IsAllowed xs) (λ n. list_at read n) (λ xs h. h.0)
     (λ n h. same_field (list_field f n) (λ xs. flat_map spelled xs) (λ xs. (((low ≤ length xs) × (length xs ≤ high)) × All IsAllowed xs) × (n ≡ length xs))
     (λ xs g. ((subst (λ (k : ℕ). (low ≤ k) × (k ≤ high)) (sym g.0) h, g.1), sym g.0)) (λ xs g. (sym g.1, g.0.1)) (λ xs g. refl))
 
-pub counted_lasts : {X : Type 0} {read : List ℕ → Result (X × List ℕ) CkptError} → Lasts read → (low high : ℕ) → Lasts (λ bytes. byte_within low high bytes >>= λ n. list_at read n.0 n.1)
+pub counted_lasts : {X : Type 0} {read : List ℕ → Result (X × List ℕ) CkptError} → Lasts read → (low high : ℕ)
+    → Lasts (λ bytes. byte_within low high bytes >>= λ n. list_at read n.0 n.1)
 counted_lasts {X} {read} l low high = behind_lasts (λ n. list_at read n) (byte_within_lasts low high) (list_lasts l)
 
 pub tuple_field : IsField tuple_bytes IsTuple tuple_at

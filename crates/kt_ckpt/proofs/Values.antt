@@ -1,5 +1,6 @@
 -- Values and places are fields.
-use Rattle.std.proofs.Common.{◌≡◌, ℕ, ℤ, ◌^◌, ◌<◌, ◌≤◌, Bool, true, false, cond, eqb, List, [], ◌∷◌, ◌++◌, length, Result, Ok, Err, refl, sym, ap, subst, ◌∙◌, arith}
+use Rattle.std.proofs.Common.{◌≡◌, ℕ, ℤ, ◌^◌, ◌<◌, ◌≤◌, Bool, true, false, cond, eqb, List, [], ◌∷◌, ◌++◌, length, Result, Ok, Err, refl, sym, ap, subst, ◌∙◌}
+use Rattle.std.proofs.Common.{arith}
 use Rattle.std.specs.List.{list_all}
 use Rattle.std.specs.Int.{w64, to_be_bytes, cast_signed, cast_unsigned}
 use Rattle.std.specs.Int.RustNames.{FitsSigned}
@@ -20,10 +21,13 @@ use Rattle.kt_ckpt.specs.declared.error.CkptError.{CkptError}
 use Rattle.kt_ckpt.specs.declared.error.CkptError.TheVariants.{Field}
 use Rattle.kt_ckpt.specs.Limits.{max_characters, int_code, str_code, int_formal_code, str_formal_code}
 use Rattle.kt_ckpt.specs.Reading.{◌>>=◌, made, bytes_at, byte_within}
-use Rattle.kt_ckpt.specs.Value.{value_code, behind_value_code, value_bytes, place_code, behind_place_code, place_bytes, int_at, printed, str_at, value_behind, value_at, place_behind, place_at}
+use Rattle.kt_ckpt.specs.Value.{value_code, behind_value_code, value_bytes, place_code, behind_place_code, place_bytes, int_at, printed, str_at, value_behind}
+use Rattle.kt_ckpt.specs.Value.{value_at, place_behind, place_at}
 use Rattle.kt_ckpt.proofs.Field.{IsBytes, Takes, Takes-then, Continues, IsField, Lasts, the_ok, pair_of_ok, bind_ok}
-use Rattle.kt_ckpt.proofs.Combined.{known, known_lasts, fault, refused, refused_lasts, same_field, either, either_lasts, behind, behind_lasts, made_field, made_lasts}
-use Rattle.kt_ckpt.proofs.Primitive.{byte_field, byte_lasts, byte_within_field, byte_within_lasts, wide64, number_field, number_lasts, front_takes, front_again, front_lasts, front_len}
+use Rattle.kt_ckpt.proofs.Combined.{known, known_lasts, fault, refused, refused_lasts, same_field, either, either_lasts, behind, behind_lasts, made_field}
+use Rattle.kt_ckpt.proofs.Combined.{made_lasts}
+use Rattle.kt_ckpt.proofs.Primitive.{byte_field, byte_lasts, byte_within_field, byte_within_lasts, wide64, number_field, number_lasts, front_takes}
+use Rattle.kt_ckpt.proofs.Primitive.{front_again, front_lasts, front_len}
 
 -- ---- ints
 
@@ -52,13 +56,15 @@ int_lasts = let l = made_lasts (λ n. Int (cast_signed w64 n)) (number_lasts w64
 
 printed_ok : (cs : List ℕ) (rest : List ℕ) (x : Value × List ℕ) → printed cs rest ≡ Ok x → (list_all is_printable cs ≡ true) × (Str cs ≡ x.0) × (rest ≡ x.1)
 printed_ok cs rest x e = by (list_all is_printable cs) refl e where
-  by : (b : Bool) → list_all is_printable cs ≡ b → cond b (the_ok {X = Value × List ℕ} (Str cs, rest)) (Err Field) ≡ Ok x → (list_all is_printable cs ≡ true) × (Str cs ≡ x.0) × (rest ≡ x.1)
+  by : (b : Bool) → list_all is_printable cs ≡ b → cond b (the_ok {X = Value × List ℕ} (Str cs, rest)) (Err Field) ≡ Ok x
+      → (list_all is_printable cs ≡ true) × (Str cs ≡ x.0) × (rest ≡ x.1)
   by true p e = let s = pair_of_ok (Str cs, rest) x e in (p, s.0, s.1)
   by false p e = absurd cc
 
 printed_lasts : (cs : List ℕ) → Lasts (printed cs)
 printed_lasts cs = record { goes_on = λ bytes more. by bytes more (list_all is_printable cs) } where
-  by : (bytes more : List ℕ) (b : Bool) → Continues more (cond b (the_ok {X = Value × List ℕ} (Str cs, bytes)) (Err Field)) (cond b (the_ok {X = Value × List ℕ} (Str cs, bytes ++ more)) (Err Field))
+  by : (bytes more : List ℕ) (b : Bool) → Continues more (cond b (the_ok {X = Value × List ℕ} (Str cs, bytes)) (Err Field))
+      (cond b (the_ok {X = Value × List ℕ} (Str cs, bytes ++ more)) (Err Field))
   by bytes more true = refl
   by bytes more false = refl
 
@@ -76,7 +82,8 @@ str_field = record { again = λ v rest h. again v rest h; takes = λ bytes v res
       ∙ ap (λ (r : Result (List ℕ × List ℕ) CkptError). r >>= λ x. printed x.0 x.1) (front_again (length cs) cs rest refl)
       ∙ ap (λ (b : Bool). cond b (the_ok {X = Value × List ℕ} (Str cs, rest)) (Err Field)) (all_printable cs h.0.1)
 
-  takes : (bytes : List ℕ) (v : Value) (rest : List ℕ) → IsBytes bytes → str_at bytes ≡ Ok (v, rest) → Takes bytes (behind_value_code v) rest × IsBehind str_code v
+  takes : (bytes : List ℕ) (v : Value) (rest : List ℕ) → IsBytes bytes → str_at bytes ≡ Ok (v, rest)
+      → Takes bytes (behind_value_code v) rest × IsBehind str_code v
   takes bytes v rest fits e =
       let len = byte_within_field 0 max_characters (omega arith) in
       let a = bind_ok (byte_within 0 max_characters bytes) after_length (v, rest) e in
@@ -91,7 +98,8 @@ str_field = record { again = λ v rest h. again v rest h; takes = λ bytes v res
 str_lasts : Lasts str_at
 unfolding str_at after_length
 str_lasts =
-    let l = behind_lasts (λ n bytes. after_length (n, bytes)) (byte_within_lasts 0 max_characters) (λ n. behind_lasts (λ cs bytes. printed cs bytes) (front_lasts n) printed_lasts) in
+    let l = behind_lasts (λ n bytes. after_length (n, bytes)) (byte_within_lasts 0 max_characters)
+    (λ n. behind_lasts (λ cs bytes. printed cs bytes) (front_lasts n) printed_lasts) in
     record { goes_on = l.goes_on }
 
 -- ---- values
@@ -148,11 +156,13 @@ str_formal (Actual (Str cs)) h = absurd (omega (arith, h.1))
 str_formal (Formal kinds.Int) h = absurd (omega (arith, h.1))
 str_formal (Formal kinds.Str) h = refl
 
-formal_field : (k : Kind) → ((p : Place) → IsPlaceBehind (place_code (Formal k)) p → Formal k ≡ p) → IsField behind_place_code (IsPlaceBehind (place_code (Formal k))) (λ bytes. the_ok (Formal k, bytes))
+formal_field : (k : Kind) → ((p : Place) → IsPlaceBehind (place_code (Formal k)) p → Formal k ≡ p)
+    → IsField behind_place_code (IsPlaceBehind (place_code (Formal k))) (λ bytes. the_ok (Formal k, bytes))
 formal_field k is = same_field (known (Formal k)) behind_place_code (IsPlaceBehind (place_code (Formal k)))
     (λ p e. subst (IsPlaceBehind (place_code (Formal k))) e (tt, refl)) is (λ p e. subst (λ (p : Place). [] ≡ behind_place_code p) e refl)
 
-actual_from : (code : ℕ) (p : Place) → eqb code int_formal_code ≡ false → eqb code str_formal_code ≡ false → IsPlaceBehind code p → (v : Value) × (IsBehind code v × (Actual v ≡ p))
+actual_from : (code : ℕ) (p : Place) → eqb code int_formal_code ≡ false → eqb code str_formal_code ≡ false → IsPlaceBehind code p
+    → (v : Value) × (IsBehind code v × (Actual v ≡ p))
 actual_from code (Actual v) p q h = (v, (h, refl))
 actual_from code (Formal kinds.Int) p q h = absurd (eqb-false code int_formal_code p h.1)
 actual_from code (Formal kinds.Str) p q h = absurd (eqb-false code str_formal_code q h.1)
@@ -170,17 +180,21 @@ place_behind_field : (code : ℕ) → IsField behind_place_code (IsPlaceBehind c
 unfolding place_behind
 place_behind_field code =
     let f = either int_formal_at (λ bytes. cond (eqb code str_formal_code) (str_formal_at bytes) (actual_behind code bytes)) (eqb code int_formal_code)
-    (λ p. subst (λ (k : ℕ). IsField behind_place_code (IsPlaceBehind k) int_formal_at) (sym (eqb-true code int_formal_code p)) (formal_field kinds.Int int_formal))
+    (λ p. subst (λ (k : ℕ). IsField behind_place_code (IsPlaceBehind k) int_formal_at) (sym (eqb-true code int_formal_code p))
+    (formal_field kinds.Int int_formal))
     (λ p. either str_formal_at (actual_behind code) (eqb code str_formal_code)
-    (λ q. subst (λ (k : ℕ). IsField behind_place_code (IsPlaceBehind k) str_formal_at) (sym (eqb-true code str_formal_code q)) (formal_field kinds.Str str_formal))
+    (λ q. subst (λ (k : ℕ). IsField behind_place_code (IsPlaceBehind k) str_formal_at) (sym (eqb-true code str_formal_code q))
+    (formal_field kinds.Str str_formal))
     (λ q. made_field (value_behind_field code) Actual behind_place_code (IsPlaceBehind code) (λ v h. refl) (λ v h. h) (λ x. actual_from code x p q))) in
     record { again = f.again; takes = f.takes }
 
 place_behind_lasts : (code : ℕ) → Lasts (place_behind code)
 unfolding place_behind
 place_behind_lasts code =
-    let l = either_lasts int_formal_at (λ bytes. cond (eqb code str_formal_code) (str_formal_at bytes) (actual_behind code bytes)) (eqb code int_formal_code) (known_lasts (Formal kinds.Int))
-    (either_lasts str_formal_at (actual_behind code) (eqb code str_formal_code) (known_lasts (Formal kinds.Str)) (made_lasts Actual (value_behind_lasts code))) in
+    let l = either_lasts int_formal_at (λ bytes. cond (eqb code str_formal_code) (str_formal_at bytes) (actual_behind code bytes)) (eqb code int_formal_code)
+    (known_lasts (Formal kinds.Int))
+    (either_lasts str_formal_at (actual_behind code) (eqb code str_formal_code) (known_lasts (Formal kinds.Str))
+    (made_lasts Actual (value_behind_lasts code))) in
     record { goes_on = l.goes_on }
 
 place_code_is_byte : (p : Place) → place_code p < 256
@@ -200,14 +214,16 @@ place_lasts = let l = behind_lasts place_behind byte_lasts place_behind_lasts in
 
 -- ---- what the code reads of a str
 
-pub str_read : (bytes : List ℕ) (n : ℕ) (after cs rest : List ℕ) → byte_within 0 max_characters bytes ≡ Ok (n, after) → bytes_at n after ≡ Ok (cs, rest) → IsText cs → str_at bytes ≡ Ok (Str cs, rest)
+pub str_read : (bytes : List ℕ) (n : ℕ) (after cs rest : List ℕ) → byte_within 0 max_characters bytes ≡ Ok (n, after) → bytes_at n after ≡ Ok (cs, rest)
+    → IsText cs → str_at bytes ≡ Ok (Str cs, rest)
 unfolding str_at
 str_read bytes n after cs rest p q text =
     ap (λ (r : Result (ℕ × List ℕ) CkptError). r >>= λ n. bytes_at n.0 n.1 >>= λ cs. printed cs.0 cs.1) p
     ∙ ap (λ (r : Result (List ℕ × List ℕ) CkptError). r >>= λ cs. printed cs.0 cs.1) q
     ∙ ap (λ (b : Bool). cond b (the_ok {X = Value × List ℕ} (Str cs, rest)) (Err Field)) (all_printable cs text.1)
 
-pub str_refused : (bytes : List ℕ) (n : ℕ) (after cs rest : List ℕ) → byte_within 0 max_characters bytes ≡ Ok (n, after) → bytes_at n after ≡ Ok (cs, rest) → n ≤ max_characters → (IsText cs → ⊥) → str_at bytes ≡ Err Field
+pub str_refused : (bytes : List ℕ) (n : ℕ) (after cs rest : List ℕ) → byte_within 0 max_characters bytes ≡ Ok (n, after) → bytes_at n after ≡ Ok (cs, rest)
+    → n ≤ max_characters → (IsText cs → ⊥) → str_at bytes ≡ Err Field
 unfolding str_at
 str_refused bytes n after cs rest p q le none =
     ap (λ (r : Result (ℕ × List ℕ) CkptError). r >>= λ n. bytes_at n.0 n.1 >>= λ cs. printed cs.0 cs.1) p

@@ -1,5 +1,6 @@
 -- A checkpoint, its one spelling, and how it is read.
-use Rattle.std.specs.Prelude.{◌≡◌, ℕ, ◌≤◌, ◌<◌, ◌^◌, ◌==◌, nat_eq, if◌then◌else◌, List, [], ◌∷◌, ◌++◌, length, map, Result, Ok, Err, All}
+use Rattle.std.specs.Prelude.{◌≡◌, ℕ, ◌≤◌, ◌<◌, ◌^◌, ◌==◌, nat_eq, if◌then◌else◌}
+use Rattle.std.specs.Prelude.{List, [], ◌∷◌, ◌++◌, length, map, Result, Ok, Err, All}
 use Rattle.std.specs.List.{flat_map, zip}
 use Rattle.std.specs.Int.{w64, to_be_bytes}
 use Rattle.std.specs.Cmp.Lexicographic.{pointwise}
@@ -12,15 +13,26 @@ use Rattle.kt_ckpt.specs.declared.state.State.{State}
 use Rattle.kt_ckpt.specs.declared.state.State.TheVariants as states
 use Rattle.kt_ckpt.specs.Limits.{magic, version, worker_code, shard_code, max_workers, max_shards, max_peers}
 use Rattle.kt_ckpt.specs.Reading.{◌>>=◌, made, byte_at, bytes_at, byte_within, number_at, list_at}
-use Rattle.kt_ckpt.specs.State.{IsWorker, IsShard, IsCountedWorker, IsCountedShard, worker_bytes, shard_bytes, worker_at, shard_at}
+use Rattle.kt_ckpt.specs.State.{IsWorker, IsShard, IsCountedWorker, IsCountedShard}
+use Rattle.kt_ckpt.specs.State.{worker_bytes, shard_bytes, worker_at, shard_at}
 
--- a node, the length of its line, for each neighbour in node order the last label sent to it and heard from it, and its state
+-- a node, the length of its line, for each neighbour in node order the last label sent to it and heard from it, and
+-- what the node held
 pub record Checkpoint : Type 0 where
   pub node : NodeId
   pub line_len : ℕ
   pub sent : List Label
   pub received : List Label
   pub state : State
+
+abbrev pub made_of : NodeId → ℕ → List Label → List Label → State → Checkpoint
+made_of node line_len sent received state = record {
+  node = node;
+  line_len = line_len;
+  sent = sent;
+  received = received;
+  state = state;
+}
 
 -- one of the workers or shards that there may be
 abbrev pub IsNode : NodeId → Type 0
@@ -87,7 +99,9 @@ state_bytes (states.Shard s) = shard_bytes s
 
 -- the one spelling of a checkpoint
 abbrev pub spelling : Checkpoint → List ℕ
-spelling c = magic ++ (version ∷ (node_bytes c.node ++ (to_be_bytes w64 c.line_len ++ (peers_bytes (zip c.sent c.received) ++ state_bytes c.state))))
+spelling c =
+    magic ++ (version ∷ (node_bytes c.node ++ (to_be_bytes w64 c.line_len
+    ++ (peers_bytes (zip c.sent c.received) ++ state_bytes c.state))))
 
 -- the magic bytes are one field
 unfoldable pub magic_at : List ℕ → Result (List ℕ × List ℕ) CkptError
@@ -135,7 +149,7 @@ state_at (Worker i) bytes = made states.Worker (worker_at bytes)
 state_at (Shard i) bytes = made states.Shard (shard_at bytes)
 
 abbrev pub checkpoint_of : NodeId → ℕ → List (Label × Label) → State → Checkpoint
-checkpoint_of node line_len peers state = record { node = node; line_len = line_len; sent = map (λ p. p.0) peers; received = map (λ p. p.1) peers; state = state }
+checkpoint_of node line_len peers state = made_of node line_len (map (λ p. p.0) peers) (map (λ p. p.1) peers) state
 
 -- a checkpoint, and the bytes behind it
 unfoldable pub checkpoint_at : List ℕ → Result (Checkpoint × List ℕ) CkptError

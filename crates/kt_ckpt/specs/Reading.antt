@@ -1,5 +1,6 @@
 -- Reading bytes from left to right, up to the first fault.
-use Rattle.std.specs.Prelude.{◌≡◌, ◌≢◌, ℕ, zero, suc, ◌+◌, ◌≤◌, List, [], ◌∷◌, length, take, drop, Result, Ok, Err, nat_lt, nat_le, ◌&&◌, if◌then◌else◌}
+use Rattle.std.specs.Prelude.{◌≡◌, ◌≢◌, ℕ, zero, suc, ◌+◌, ◌≤◌, nat_lt, nat_le, ◌&&◌, if◌then◌else◌}
+use Rattle.std.specs.Prelude.{List, [], ◌∷◌, length, take, drop, Result, Ok, Err}
 use Rattle.std.specs.Int.{Width, byte_len, from_be_bytes}
 use Rattle.kt_ckpt.specs.declared.error.CkptError.{CkptError}
 use Rattle.kt_ckpt.specs.declared.error.CkptError.TheVariants.{Cut, Field, OutOfMemory}
@@ -31,7 +32,9 @@ bytes_at n bytes = if nat_lt (length bytes) n then Err Cut else Ok (take n bytes
 
 -- a number, the highest byte first
 abbrev pub number_at : Width → List ℕ → Result (ℕ × List ℕ) CkptError
-number_at w bytes = if nat_lt (length bytes) (byte_len w) then Err Cut else Ok (from_be_bytes w (take (byte_len w) bytes), drop (byte_len w) bytes)
+number_at w bytes =
+    if nat_lt (length bytes) (byte_len w) then Err Cut
+    else Ok (from_be_bytes w (take (byte_len w) bytes), drop (byte_len w) bytes)
 
 -- a number that was read is one from low to high
 abbrev pub within : ℕ → ℕ → ℕ × List ℕ → Result (ℕ × List ℕ) CkptError
@@ -42,7 +45,8 @@ unfoldable pub byte_within : ℕ → ℕ → List ℕ → Result (ℕ × List �
 byte_within low high bytes = byte_at bytes >>= within low high
 
 -- so many values, one behind the other
-unfoldable pub list_at : {X : Type 0} → (List ℕ → Result (X × List ℕ) CkptError) → ℕ → List ℕ → Result (List X × List ℕ) CkptError
+unfoldable pub list_at : {X : Type 0} → (List ℕ → Result (X × List ℕ) CkptError) → ℕ
+    → List ℕ → Result (List X × List ℕ) CkptError
 list_at read zero bytes = Ok ([], bytes)
 list_at read (suc n) bytes = do
   first ← read bytes
@@ -50,7 +54,8 @@ list_at read (suc n) bytes = do
   Ok (first.0 ∷ others.0, others.1)
 
 -- so many values, each behind its worker, which is above the one before; the first is the least or above it
-unfoldable pub rising_at : {X : Type 0} → (List ℕ → Result (X × List ℕ) CkptError) → ℕ → ℕ → List ℕ → Result (List (ℕ × X) × List ℕ) CkptError
+unfoldable pub rising_at : {X : Type 0} → (List ℕ → Result (X × List ℕ) CkptError) → ℕ → ℕ
+    → List ℕ → Result (List (ℕ × X) × List ℕ) CkptError
 rising_at read least zero bytes = Ok ([], bytes)
 rising_at read least (suc n) bytes = do
   worker ← byte_within least max_workers bytes

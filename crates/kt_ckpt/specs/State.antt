@@ -1,5 +1,6 @@
 -- What a checkpoint holds of its node, in bytes.
-use Rattle.std.specs.Prelude.{ℕ, ◌≤◌, ◌<◌, ◌^◌, ◌==◌, Bool, true, false, if◌then◌else◌, List, [], ◌∷◌, ◌++◌, length, Option, None, Some, IfSome, Result, Ok, All}
+use Rattle.std.specs.Prelude.{ℕ, ◌≤◌, ◌<◌, ◌^◌, ◌==◌, Bool, true, false, if◌then◌else◌}
+use Rattle.std.specs.Prelude.{List, [], ◌∷◌, ◌++◌, length, Option, None, Some, IfSome, Result, Ok, All}
 use Rattle.std.specs.List.{flat_map}
 use Rattle.std.specs.Int.{w16, w32, w64, to_be_bytes}
 use Rattle.kt_tuple.specs.declared.value.Value.{Value}
@@ -9,7 +10,7 @@ use Rattle.kt_tuple.specs.Valid.{IsValue}
 use Rattle.kt_ckpt.specs.declared.error.CkptError.{CkptError}
 use Rattle.kt_shard.specs.declared.request.Request.{Request}
 use Rattle.kt_shard.specs.declared.request.Kept.{Kept}
-use Rattle.kt_ckpt.specs.Fields.{WorkerFields, ShardFields}
+use Rattle.kt_ckpt.specs.Fields.{WorkerFields, worker_of, ShardFields}
 use Rattle.kt_ckpt.specs.Limits.{max_pc, max_variables, max_workers}
 use Rattle.kt_ckpt.specs.Reading.{◌>>=◌, made, byte_within, within, number_at, list_at, rising_at, IsRising}
 use Rattle.kt_ckpt.specs.Value.{value_bytes, value_at}
@@ -42,7 +43,9 @@ abbrev pub variables_bytes : List Value → List ℕ
 variables_bytes values = length values ∷ flat_map value_bytes values
 
 abbrev pub worker_bytes : WorkerFields → List ℕ
-worker_bytes w = to_be_bytes w16 w.pc ++ (to_be_bytes w64 w.number ++ (flag_bytes w.was_none ++ (asked_bytes w.asked ++ variables_bytes w.variables)))
+worker_bytes w =
+    to_be_bytes w16 w.pc ++ (to_be_bytes w64 w.number ++ (flag_bytes w.was_none
+    ++ (asked_bytes w.asked ++ variables_bytes w.variables)))
 
 unfoldable pub pc_at : List ℕ → Result (ℕ × List ℕ) CkptError
 pc_at bytes = number_at w16 bytes >>= within 0 max_pc
@@ -72,7 +75,7 @@ worker_at bytes = do
   was_none ← flag_at number.1
   asked ← asked_at was_none.1
   variables ← variables_at asked.1
-  Ok (record { pc = pc.0; number = number.0; was_none = was_none.0; asked = asked.0; variables = variables.0 }, variables.1)
+  Ok (worker_of pc.0 number.0 was_none.0 asked.0 variables.0, variables.1)
 
 -- ---- a shard
 
@@ -133,7 +136,8 @@ kept_at bytes = do
   Ok (record { request = request.0; answer = answer.0 }, answer.1)
 
 -- how many entries there are, and these
-unfoldable pub entries_at : {X : Type 0} → (List ℕ → Result (X × List ℕ) CkptError) → List ℕ → Result (List (ℕ × X) × List ℕ) CkptError
+unfoldable pub entries_at : {X : Type 0} → (List ℕ → Result (X × List ℕ) CkptError)
+    → List ℕ → Result (List (ℕ × X) × List ℕ) CkptError
 entries_at read bytes = do
   n ← byte_within 0 max_workers bytes
   rising_at read 1 n.0 n.1

@@ -21,17 +21,17 @@ pub struct Ckpt {
 }
 
 impl Model for Ckpt {
-    ghost use Rattle.kt_ckpt.specs.Checkpoint.{Checkpoint, HasCounts};
+    ghost use Rattle.kt_ckpt.specs.Checkpoint.{Checkpoint, HasCounts, made_of};
 
     ghost Value = { Checkpoint };
 
-    ghost view = { λ c. record { node = c.node; line_len = c.line_len; sent = c.sent.items; received = c.received.items; state = c.state } };
+    ghost view = { λ c. made_of c.node c.line_len c.sent.items c.received.items c.state };
 
-    ghost invariant = { λ c. HasCounts (record { node = c.node; line_len = c.line_len; sent = c.sent.items; received = c.received.items; state = c.state }) };
+    ghost invariant = { λ c. HasCounts (made_of c.node c.line_len c.sent.items c.received.items c.state) };
 }
 
 impl Ckpt {
-    ghost use Rattle.kt_ckpt.specs.Checkpoint.{Checkpoint, HasCounts};
+    ghost use Rattle.kt_ckpt.specs.Checkpoint.{HasCounts, made_of};
     ghost use Rattle.kt_ckpt.specs.Marks.{marks_of};
 
     /// The checkpoint of this node, whose line has this length. For each neighbour, in node order, it has the
@@ -45,8 +45,8 @@ impl Ckpt {
         received: Vec<Label>,
         state: State,
     ) -> Ckpt
-        requires { HasCounts (record { node = node; line_len = line_len; sent = sent.items; received = received.items; state = state }) }
-        ensures { result ≡ record { node = node; line_len = line_len; sent = sent.items; received = received.items; state = state } }
+        requires { HasCounts (made_of node line_len sent.items received.items state) }
+        ensures { result ≡ made_of node line_len sent.items received.items state }
     {
         Ckpt {
             node,

@@ -1,7 +1,9 @@
 //! A checkpoint, read.
 
 ghost use Rattle.std.specs.Prelude.{◌≡◌, ℕ, ◌≤◌, List, ◌∷◌, ◌++◌, IfOk, Ok, Err, length, map};
-ghost use Rattle.kt_ckpt.specs.Checkpoint.{Checkpoint, IsCheckpoint, HasCounts, IsNode, IsCountedState, Suits, spelling, read, magic_at, version_at, node_behind, node_at, label_at, peer_at, peers_at, state_at, checkpoint_of, checkpoint_at};
+ghost use Rattle.kt_ckpt.specs.Checkpoint.{Checkpoint, IsCheckpoint, HasCounts, IsNode, IsCountedState, Suits};
+ghost use Rattle.kt_ckpt.specs.Checkpoint.{spelling, read, magic_at, version_at, node_behind, node_at};
+ghost use Rattle.kt_ckpt.specs.Checkpoint.{label_at, peer_at, peers_at, state_at, checkpoint_of, checkpoint_at};
 ghost use Rattle.kt_ckpt.specs.Limits.{magic, version, max_peers};
 ghost use Rattle.kt_ckpt.specs.Reading.{Gives, list_at};
 
@@ -27,8 +29,10 @@ impl Ckpt {
         // What is spelled so is read.
         ensures only { (c : Checkpoint) → IsCheckpoint c → bytes.now ≡ spelling c → Gives (λ c. c) result (Ok c) }
         // A proper front of a spelling is cut short, and a spelling with more behind it has bytes too many.
-        ensures cut { (c : Checkpoint) (b : ℕ) (more : List ℕ) → IsCheckpoint c → spelling c ≡ bytes.now ++ b ∷ more → Gives (λ c. c) result (Err Cut) }
-        ensures extra { (c : Checkpoint) (b : ℕ) (more : List ℕ) → IsCheckpoint c → bytes.now ≡ spelling c ++ b ∷ more → Gives (λ c. c) result (Err Extra) }
+        ensures cut { (c : Checkpoint) (b : ℕ) (more : List ℕ)
+            → IsCheckpoint c → spelling c ≡ bytes.now ++ b ∷ more → Gives (λ c. c) result (Err Cut) }
+        ensures extra { (c : Checkpoint) (b : ℕ) (more : List ℕ)
+            → IsCheckpoint c → bytes.now ≡ spelling c ++ b ∷ more → Gives (λ c. c) result (Err Extra) }
         // Which fault it is.
         ensures exact { Gives (λ c. c) result (read bytes.now) }
     {
@@ -63,7 +67,7 @@ fn checkpoint_at(alloc: Global, bytes: &[u8]) -> Result<(Ckpt, &[u8]), CkptError
 }
 
 /// The checkpoint with these labels sent to its neighbours, and received from them.
-#[tactic(auto, using(crate::proofs::Checkpoints::counted_peers))]
+#[tactic(auto, using(crate::proofs::Peers::counted_peers))]
 fn ckpt_of(
     alloc: Global,
     node: NodeId,

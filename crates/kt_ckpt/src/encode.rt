@@ -2,7 +2,9 @@
 
 ghost use Rattle.std.specs.Prelude.{◌≡◌, ◌++◌, ◌∷◌, [], All, IfOk, OnOk, Ok, length};
 ghost use Rattle.std.specs.List.{flat_map, zip};
-ghost use Rattle.kt_ckpt.specs.Checkpoint.{IsCheckpoint, HasCounts, IsCountedState, IsLabel, IsState, ArePeers, spelling, read, node_bytes, label_bytes, peer_bytes, peers_bytes, state_bytes};
+ghost use Rattle.kt_ckpt.specs.Checkpoint.{IsCheckpoint, HasCounts, IsCountedState, IsLabel, IsState, ArePeers};
+ghost use Rattle.kt_ckpt.specs.Checkpoint.{spelling, read, node_bytes, label_bytes, peer_bytes, peers_bytes};
+ghost use Rattle.kt_ckpt.specs.Checkpoint.{state_bytes, made_of};
 ghost use Rattle.kt_ckpt.specs.Limits.{magic, version};
 
 use crate::ckpt::Ckpt;
@@ -42,9 +44,9 @@ fn encode_parts(
     received: &[Label],
     state: &State,
 ) -> Result<Vec<u8>, AllocError>
-    requires { HasCounts (record { node = node; line_len = line_len; sent = sent.now; received = received.now; state = state.now }) }
-    ensures value { IfOk result (λ v. v.items ≡ spelling (record { node = node; line_len = line_len; sent = sent.now; received = received.now; state = state.now })) }
-    ensures held { OnOk result (IsCheckpoint (record { node = node; line_len = line_len; sent = sent.now; received = received.now; state = state.now })) }
+    requires { HasCounts (made_of node line_len sent.now received.now state.now) }
+    ensures value { IfOk result (λ v. v.items ≡ spelling (made_of node line_len sent.now received.now state.now)) }
+    ensures held { OnOk result (IsCheckpoint (made_of node line_len sent.now received.now state.now)) }
 {
     let mut out = Vec::new(alloc);
     push_front(&mut out)?;

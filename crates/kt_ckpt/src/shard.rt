@@ -3,7 +3,9 @@
 ghost use Rattle.std.specs.Prelude.{◌≡◌, ◌<◌, ◌^◌, ◌++◌, All, IfOk, OnOk, length};
 ghost use Rattle.std.specs.List.{flat_map};
 ghost use Rattle.kt_ckpt.specs.Reading.{Gives, IsRising, list_at, rising_at};
-ghost use Rattle.kt_ckpt.specs.State.{IsShard, IsCountedShard, IsRequest, IsKept, shard_bytes, bag_bytes, entry_bytes, entries_bytes, request_bytes, kept_bytes, bag_at, request_at, kept_at, entries_at, shard_at};
+ghost use Rattle.kt_ckpt.specs.State.{IsShard, IsCountedShard, IsRequest, IsKept};
+ghost use Rattle.kt_ckpt.specs.State.{shard_bytes, bag_bytes, entry_bytes, entries_bytes, request_bytes, kept_bytes};
+ghost use Rattle.kt_ckpt.specs.State.{bag_at, request_at, kept_at, entries_at, shard_at};
 ghost use Rattle.kt_ckpt.specs.Tuple.{IsTuple, tuple_bytes, tuple_at};
 
 use crate::error::CkptError;

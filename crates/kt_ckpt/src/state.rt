@@ -19,11 +19,11 @@ pub struct WorkerState {
 }
 
 impl Model for WorkerState {
-    ghost use Rattle.kt_ckpt.specs.Fields.{WorkerFields};
+    ghost use Rattle.kt_ckpt.specs.Fields.{WorkerFields, worker_of};
 
     ghost Value = { WorkerFields };
 
-    ghost view = { λ w. record { pc = w.pc; number = w.number; was_none = w.was_none; asked = w.asked; variables = w.variables.items } };
+    ghost view = { λ w. worker_of w.pc w.number w.was_none w.asked w.variables.items };
 }
 
 /// What a shard holds.
@@ -53,6 +53,7 @@ pub enum State {
 
 impl WorkerState {
     ghost use Rattle.kt_tuple.specs.declared.op.Op.{Op};
+    ghost use Rattle.kt_ckpt.specs.Fields.{worker_of};
 
     /// A worker whose next command has the number `pc`, counted from 0; whose last request had this number,
     /// 0 before the first; whose last answer was none or not; which asked for this and has no answer yet; and
@@ -64,7 +65,7 @@ impl WorkerState {
         asked: Option<Op>,
         variables: Vec<Value>,
     ) -> WorkerState
-        ensures { result ≡ record { pc = pc; number = number; was_none = was_none; asked = asked; variables = variables.items } }
+        ensures { result ≡ worker_of pc number was_none asked variables.items }
     {
         WorkerState {
             pc,

@@ -3,7 +3,8 @@
 ghost use Rattle.std.specs.Prelude.{◌≡◌, ◌++◌, OnOk};
 ghost use Rattle.kt_tuple.specs.Valid.{IsValue, IsPlace};
 ghost use Rattle.kt_ckpt.specs.Reading.{Gives};
-ghost use Rattle.kt_ckpt.specs.Value.{value_bytes, place_bytes, int_at, str_at, value_behind, value_at, place_behind, place_at};
+ghost use Rattle.kt_ckpt.specs.Value.{value_bytes, place_bytes, int_at, str_at};
+ghost use Rattle.kt_ckpt.specs.Value.{value_behind, value_at, place_behind, place_at};
 
 use crate::error::CkptError;
 use crate::limits::{INT, INT_FORMAL, MAX_CHARACTERS, STR, STR_FORMAL};

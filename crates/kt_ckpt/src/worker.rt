@@ -5,7 +5,9 @@ ghost use Rattle.kt_tuple.specs.Valid.{IsValue};
 ghost use Rattle.kt_ckpt.specs.Limits.{max_pc, max_variables};
 ghost use Rattle.kt_ckpt.specs.Op.{IsOp};
 ghost use Rattle.kt_ckpt.specs.Reading.{Gives};
-ghost use Rattle.kt_ckpt.specs.State.{IsWorker, IsCountedWorker, worker_bytes, flag_bytes, asked_bytes, variables_bytes, pc_at, flag_at, asked_at, variables_at, worker_at};
+ghost use Rattle.kt_ckpt.specs.Fields.{worker_of};
+ghost use Rattle.kt_ckpt.specs.State.{IsWorker, IsCountedWorker, worker_bytes, flag_bytes, asked_bytes};
+ghost use Rattle.kt_ckpt.specs.State.{variables_bytes, pc_at, flag_at, asked_at, variables_at, worker_at};
 
 use crate::error::CkptError;
 use crate::limits::{MAX_PC, MAX_VARIABLES};
@@ -41,7 +43,8 @@ fn push_fields(
     variables: &[Value],
 ) -> Result<(), AllocError>
     requires few { length variables.now ≤ max_variables }
-    ensures ok { OnOk result (out.new.items ≡ out.old.items ++ worker_bytes (record { pc = pc; number = number; was_none = was_none; asked = asked.now; variables = variables.now })) }
+    ensures ok { OnOk result (out.new.items ≡ out.old.items
+        ++ worker_bytes (worker_of pc number was_none asked.now variables.now)) }
     ensures asked { OnOk result (IfSome asked.now IsOp) }
     ensures variables { OnOk result (All IsValue variables.now) }
 {

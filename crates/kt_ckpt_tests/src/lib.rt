@@ -1,6 +1,14 @@
-//! The bytes of checkpoints, worked out by hand from the format, both ways. They stand in a crate of their own
-//! so that kt_ckpt is proved once.
+//! The bytes of checkpoints worked out by hand from the format, and of 500 drawn at random, both ways. They stand in
+//! a crate of their own so that kt_ckpt is proved once.
 #![tactic(auto)]
 
 #[cfg(test)]
 mod bytes;
+#[cfg(test)]
+mod drawn;
+#[cfg(test)]
+mod draws;
+#[cfg(test)]
+mod random;
+#[cfg(test)]
+mod seen;

@@ -3,7 +3,7 @@ use Rattle.std.specs.List.{flat_map, zip}
 use Rattle.std.proofs.lemmas.Result.{on_ok_weaker}
 use Rattle.kt_ckpt.specs.Checkpoint.{peer_bytes}
 use Rattle.kt_ckpt.proofs.Loop.{both_appended}
-use Rattle.kt_ckpt.proofs.Checkpoints.{zip_len}
+use Rattle.kt_ckpt.proofs.Peers.{zip_len}
 use Rattle.kt_ckpt.proofs.encode.push_peers.Goals as goal
 
 pub returns-clause-ok : goal.returns-clause-ok

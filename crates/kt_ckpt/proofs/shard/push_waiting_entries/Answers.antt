@@ -9,7 +9,9 @@ pub loop-entry-preserved : goal.loop-entry-preserved
 loop-entry-preserved c =
     let x = c.entry-item.result in
     record {
-      written = appended (entry_bytes request_bytes) c.args.entries.now c.loop-entry.entry-index x _ _ _ c.loop-entry-test.true c.entry-item.is c.loop-entry.invariant.written
+      written = appended (entry_bytes request_bytes) c.args.entries.now c.loop-entry.entry-index x _ _ _ c.loop-entry-test.true c.entry-item.is
+          c.loop-entry.invariant.written
           (both_appended _ _ _ (x.0 ∷ []) (request_bytes x.1) c.in_ok-push.ensures.items c.in_ok-push_request.ensures.ok);
-      held = All-more (λ (x : ℕ × Request). IsRequest x.1) c.args.entries.now c.loop-entry.entry-index x c.loop-entry-test.true c.loop-entry.invariant.held (subst (λ (x : ℕ × Request). IsRequest x.1) c.entry-item.is c.in_ok-push_request.ensures.held);
+      held = All-more (λ (x : ℕ × Request). IsRequest x.1) c.args.entries.now c.loop-entry.entry-index x c.loop-entry-test.true c.loop-entry.invariant.held
+          (subst (λ (x : ℕ × Request). IsRequest x.1) c.entry-item.is c.in_ok-push_request.ensures.held);
     }

@@ -8,20 +8,28 @@ use Rattle.kt_ckpt.proofs.shard.rising_kept_at.Goals as goal
 pub returns-in_err-worker-clause-value : goal.returns-in_err-worker-clause-value
 returns-in_err-worker-clause-value c =
     let p = err_from_is_err_and c.from_residual.result c.from_residual.ensures.1 in
-    rw (p.1, p.2) (rising_ends kept_at c.in_err-worker.field-0.0 c.loop.entries.items c.loop.least c.args.count c.loop.counter c.loop.rest.now (rising_at kept_at 1 c.args.count c.args.bytes.now) c.loop-test.true c.in_err-worker.ensures.value c.loop.invariant)
+    rw (p.1, p.2) (rising_ends kept_at c.in_err-worker.field-0.0 c.loop.entries.items c.loop.least c.args.count c.loop.counter c.loop.rest.now
+    (rising_at kept_at 1 c.args.count c.args.bytes.now) c.loop-test.true c.in_err-worker.ensures.value c.loop.invariant)
 
 pub returns-in_err-kept-clause-value : goal.returns-in_err-kept-clause-value
 returns-in_err-kept-clause-value c =
     let p = err_from_is_err_and c.from_residual-in_err-kept.result c.from_residual-in_err-kept.ensures.1 in
-    rw (p.1, p.2) (rising_ends_behind kept_at c.in_err-kept.field-0.0 c.loop.entries.items c.loop.least c.args.count c.loop.counter c.loop.rest.now c.in_ok-worker.worker c.in_ok-worker.behind.now (rising_at kept_at 1 c.args.count c.args.bytes.now) c.loop-test.true c.in_ok-worker.ensures.value c.in_err-kept.ensures c.loop.invariant)
+    rw (p.1, p.2) (rising_ends_behind kept_at c.in_err-kept.field-0.0 c.loop.entries.items c.loop.least c.args.count c.loop.counter c.loop.rest.now
+    c.in_ok-worker.worker c.in_ok-worker.behind.now (rising_at kept_at 1 c.args.count c.args.bytes.now) c.loop-test.true c.in_ok-worker.ensures.value
+    c.in_err-kept.ensures c.loop.invariant)
 
 pub loop-preserved : goal.loop-preserved
 loop-preserved c =
-    rw c.in_ok-push.ensures.items (rising_goes_on kept_at c.loop.entries.items c.loop.least c.args.count c.loop.counter c.loop.rest.now c.in_ok-worker.worker c.in_ok-worker.behind.now c.in_ok-kept.kept c.in_ok-kept.after.now (rising_at kept_at 1 c.args.count c.args.bytes.now) c.loop-test.true c.in_ok-worker.ensures.value c.in_ok-kept.ensures c.loop.invariant)
+    rw c.in_ok-push.ensures.items (rising_goes_on kept_at c.loop.entries.items c.loop.least c.args.count c.loop.counter c.loop.rest.now c.in_ok-worker.worker
+    c.in_ok-worker.behind.now c.in_ok-kept.kept c.in_ok-kept.after.now
+    (rising_at kept_at 1 c.args.count c.args.bytes.now) c.loop-test.true c.in_ok-worker.ensures.value c.in_ok-kept.ensures c.loop.invariant)
 
 pub returns-clause-value : goal.returns-clause-value
-returns-clause-value c = rising_done kept_at c.loop.entries.items c.loop.least c.args.count c.loop.counter c.loop.rest.now (rising_at kept_at 1 c.args.count c.args.bytes.now) c.loop-test.false c.loop.invariant
+returns-clause-value c = rising_done kept_at c.loop.entries.items c.loop.least c.args.count c.loop.counter c.loop.rest.now
+    (rising_at kept_at 1 c.args.count c.args.bytes.now) c.loop-test.false c.loop.invariant
 
 pub returns-clause-rising : goal.returns-clause-rising
 returns-clause-rising c =
-    rising_of kept_at 1 c.args.count c.args.bytes.now c.loop.entries.items c.loop.rest.now (rising_done kept_at c.loop.entries.items c.loop.least c.args.count c.loop.counter c.loop.rest.now (rising_at kept_at 1 c.args.count c.args.bytes.now) c.loop-test.false c.loop.invariant)
+    rising_of kept_at 1 c.args.count c.args.bytes.now c.loop.entries.items c.loop.rest.now
+    (rising_done kept_at c.loop.entries.items c.loop.least c.args.count c.loop.counter c.loop.rest.now
+    (rising_at kept_at 1 c.args.count c.args.bytes.now) c.loop-test.false c.loop.invariant)

@@ -8,20 +8,28 @@ use Rattle.kt_ckpt.proofs.shard.rising_requests_at.Goals as goal
 pub returns-in_err-worker-clause-value : goal.returns-in_err-worker-clause-value
 returns-in_err-worker-clause-value c =
     let p = err_from_is_err_and c.from_residual.result c.from_residual.ensures.1 in
-    rw (p.1, p.2) (rising_ends request_at c.in_err-worker.field-0.0 c.loop.entries.items c.loop.least c.args.count c.loop.counter c.loop.rest.now (rising_at request_at 1 c.args.count c.args.bytes.now) c.loop-test.true c.in_err-worker.ensures.value c.loop.invariant)
+    rw (p.1, p.2) (rising_ends request_at c.in_err-worker.field-0.0 c.loop.entries.items c.loop.least c.args.count c.loop.counter c.loop.rest.now
+    (rising_at request_at 1 c.args.count c.args.bytes.now) c.loop-test.true c.in_err-worker.ensures.value c.loop.invariant)
 
 pub returns-in_err-request-clause-value : goal.returns-in_err-request-clause-value
 returns-in_err-request-clause-value c =
     let p = err_from_is_err_and c.from_residual-in_err-request.result c.from_residual-in_err-request.ensures.1 in
-    rw (p.1, p.2) (rising_ends_behind request_at c.in_err-request.field-0.0 c.loop.entries.items c.loop.least c.args.count c.loop.counter c.loop.rest.now c.in_ok-worker.worker c.in_ok-worker.behind.now (rising_at request_at 1 c.args.count c.args.bytes.now) c.loop-test.true c.in_ok-worker.ensures.value c.in_err-request.ensures c.loop.invariant)
+    rw (p.1, p.2) (rising_ends_behind request_at c.in_err-request.field-0.0 c.loop.entries.items c.loop.least c.args.count c.loop.counter c.loop.rest.now
+    c.in_ok-worker.worker c.in_ok-worker.behind.now (rising_at request_at 1 c.args.count c.args.bytes.now) c.loop-test.true c.in_ok-worker.ensures.value
+    c.in_err-request.ensures c.loop.invariant)
 
 pub loop-preserved : goal.loop-preserved
 loop-preserved c =
-    rw c.in_ok-push.ensures.items (rising_goes_on request_at c.loop.entries.items c.loop.least c.args.count c.loop.counter c.loop.rest.now c.in_ok-worker.worker c.in_ok-worker.behind.now c.in_ok-request.request c.in_ok-request.after.now (rising_at request_at 1 c.args.count c.args.bytes.now) c.loop-test.true c.in_ok-worker.ensures.value c.in_ok-request.ensures c.loop.invariant)
+    rw c.in_ok-push.ensures.items (rising_goes_on request_at c.loop.entries.items c.loop.least c.args.count c.loop.counter c.loop.rest.now
+    c.in_ok-worker.worker c.in_ok-worker.behind.now c.in_ok-request.request c.in_ok-request.after.now
+    (rising_at request_at 1 c.args.count c.args.bytes.now) c.loop-test.true c.in_ok-worker.ensures.value c.in_ok-request.ensures c.loop.invariant)
 
 pub returns-clause-value : goal.returns-clause-value
-returns-clause-value c = rising_done request_at c.loop.entries.items c.loop.least c.args.count c.loop.counter c.loop.rest.now (rising_at request_at 1 c.args.count c.args.bytes.now) c.loop-test.false c.loop.invariant
+returns-clause-value c = rising_done request_at c.loop.entries.items c.loop.least c.args.count c.loop.counter c.loop.rest.now
+    (rising_at request_at 1 c.args.count c.args.bytes.now) c.loop-test.false c.loop.invariant
 
 pub returns-clause-rising : goal.returns-clause-rising
 returns-clause-rising c =
-    rising_of request_at 1 c.args.count c.args.bytes.now c.loop.entries.items c.loop.rest.now (rising_done request_at c.loop.entries.items c.loop.least c.args.count c.loop.counter c.loop.rest.now (rising_at request_at 1 c.args.count c.args.bytes.now) c.loop-test.false c.loop.invariant)
+    rising_of request_at 1 c.args.count c.args.bytes.now c.loop.entries.items c.loop.rest.now
+    (rising_done request_at c.loop.entries.items c.loop.least c.args.count c.loop.counter c.loop.rest.now
+    (rising_at request_at 1 c.args.count c.args.bytes.now) c.loop-test.false c.loop.invariant)

@@ -9,13 +9,16 @@ use Rattle.kt_ckpt.proofs.tuple.places_at.Goals as goal
 pub returns-in_err-place-clause-value : goal.returns-in_err-place-clause-value
 returns-in_err-place-clause-value c =
     let p = err_from_is_err_and c.from_residual.result c.from_residual.ensures.1 in
-    rw (p.1, p.2) (ends place_at c.in_err-place.field-0.0 c.loop.places.items c.args.count c.loop.counter c.loop.rest.now (list_at place_at c.args.count c.args.bytes.now) c.loop-test.true c.in_err-place.ensures c.loop.invariant.so_far)
+    rw (p.1, p.2) (ends place_at c.in_err-place.field-0.0 c.loop.places.items c.args.count c.loop.counter c.loop.rest.now
+    (list_at place_at c.args.count c.args.bytes.now) c.loop-test.true c.in_err-place.ensures c.loop.invariant.so_far)
 
 pub loop-preserved : goal.loop-preserved
 loop-preserved c = record {
-  so_far = rw c.in_ok-push.ensures.items (goes_on place_at c.loop.places.items c.args.count c.loop.counter c.loop.rest.now c.in_ok-place.place c.in_ok-place.after.now (list_at place_at c.args.count c.args.bytes.now) c.loop-test.true c.in_ok-place.ensures c.loop.invariant.so_far);
+  so_far = rw c.in_ok-push.ensures.items (goes_on place_at c.loop.places.items c.args.count c.loop.counter c.loop.rest.now c.in_ok-place.place
+      c.in_ok-place.after.now (list_at place_at c.args.count c.args.bytes.now) c.loop-test.true c.in_ok-place.ensures c.loop.invariant.so_far);
   len = rw c.in_ok-push.ensures.items (omega (arith, length_push c.loop.places.items c.in_ok-place.place));
 }
 
 pub returns-clause-value : goal.returns-clause-value
-returns-clause-value c = is_done place_at c.loop.places.items c.args.count c.loop.counter c.loop.rest.now (list_at place_at c.args.count c.args.bytes.now) c.loop-test.false c.loop.invariant.so_far
+returns-clause-value c = is_done place_at c.loop.places.items c.args.count c.loop.counter c.loop.rest.now
+    (list_at place_at c.args.count c.args.bytes.now) c.loop-test.false c.loop.invariant.so_far

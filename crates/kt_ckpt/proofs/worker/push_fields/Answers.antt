@@ -9,7 +9,8 @@ pub returns-clause-ok : goal.returns-clause-ok
 returns-clause-ok c =
     let w = c.args in
     on_ok_weaker c.push_variables.result
-    (λ e. both_appended _ _ _ (((to_be_bytes w16 w.pc ++ to_be_bytes w64 w.number) ++ flag_bytes w.was_none) ++ asked_bytes w.asked.now) (variables_bytes w.variables.now)
+    (λ e. both_appended _ _ _ (((to_be_bytes w16 w.pc ++ to_be_bytes w64 w.number) ++ flag_bytes w.was_none) ++ asked_bytes w.asked.now)
+    (variables_bytes w.variables.now)
     (both_appended _ _ _ ((to_be_bytes w16 w.pc ++ to_be_bytes w64 w.number) ++ flag_bytes w.was_none) (asked_bytes w.asked.now)
     (both_appended _ _ _ (to_be_bytes w16 w.pc ++ to_be_bytes w64 w.number) (flag_bytes w.was_none)
     (both_appended _ _ _ (to_be_bytes w16 w.pc) (to_be_bytes w64 w.number) c.in_ok-push_u16.ensures c.in_ok-push_u64.ensures)

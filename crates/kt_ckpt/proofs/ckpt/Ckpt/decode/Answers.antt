@@ -14,4 +14,5 @@ pub returns-clause-cut : goal.returns-clause-cut
 returns-clause-cut c = λ x b more h e. subst (λ f. Gives (λ (k : Checkpoint). k) c.decode.result f) (front_cut x c.args.bytes.now b more h e) c.decode.ensures
 
 pub returns-clause-extra : goal.returns-clause-extra
-returns-clause-extra c = λ x b more h e. subst (λ f. Gives (λ (k : Checkpoint). k) c.decode.result f) (more_extra x c.args.bytes.now b more h e) c.decode.ensures
+returns-clause-extra c = λ x b more h e. subst (λ f. Gives (λ (k : Checkpoint). k) c.decode.result f)
+    (more_extra x c.args.bytes.now b more h e) c.decode.ensures

@@ -1,0 +1,139 @@
+//! The bytes of checkpoints that look random, written by the tables of the format and by nothing of kt_ckpt.
+
+use crate::draws::Draws;
+use std::alloc::{AllocError, Global};
+
+/// The bytes of a checkpoint of a worker or a shard, with so many neighbours.
+pub(crate) fn checkpoint(
+    alloc: Global,
+    draws: &mut Draws,
+    worker: bool,
+    peers: u8,
+) -> Result<Vec<u8>, AllocError> {
+    let mut out = Vec::new(alloc);
+    out.extend_from_slice(b"KTCP")?;
+    out.push(1)?;
+    out.push(if worker { 1 } else { 2 })?;
+    out.push(draws.byte(1, 8))?;
+    push_drawn(&mut out, draws, 8)?;
+    out.push(peers)?;
+    for _ in 0..peers {
+        push_drawn(&mut out, draws, 32)?;
+    }
+    if worker {
+        push_worker(&mut out, draws)?;
+    } else {
+        push_shard(&mut out, draws)?;
+    }
+    Ok(out)
+}
+
+/// So many bytes of any value.
+fn push_drawn(out: &mut Vec<u8>, draws: &mut Draws, count: u8) -> Result<(), AllocError> {
+    for _ in 0..count {
+        out.push(draws.byte(0, 255))?;
+    }
+    Ok(())
+}
+
+fn push_worker(out: &mut Vec<u8>, draws: &mut Draws) -> Result<(), AllocError> {
+    out.push(0)?;
+    out.push(draws.byte(0, 200))?;
+    push_drawn(out, draws, 8)?;
+    out.push(draws.byte(0, 1))?;
+    let asked = draws.byte(0, 1);
+    out.push(asked)?;
+    if asked == 1 {
+        push_op(out, draws)?;
+    }
+    let variables = draws.byte(0, 64);
+    out.push(variables)?;
+    for _ in 0..variables {
+        push_value(out, draws)?;
+    }
+    Ok(())
+}
+
+fn push_shard(out: &mut Vec<u8>, draws: &mut Draws) -> Result<(), AllocError> {
+    let tuples = draws.byte(0, 30);
+    out.extend_from_slice(&[0, 0, 0, tuples])?;
+    for _ in 0..tuples {
+        push_tuple(out, draws)?;
+    }
+    push_entries(out, draws, false)?;
+    push_entries(out, draws, true)
+}
+
+/// Requests of some of the workers, in rising order, with their answers or without.
+fn push_entries(out: &mut Vec<u8>, draws: &mut Draws, answered: bool) -> Result<(), AllocError> {
+    let workers = draws.byte(0, 8);
+    out.push(workers)?;
+    let mut left = workers;
+    for worker in 1..=8u8 {
+        // Of the workers from this one on so many are still to be chosen.
+        if draws.byte(worker, 8) > 8u8.saturating_sub(left) {
+            left = left.saturating_sub(1);
+            out.push(worker)?;
+            push_drawn(out, draws, 8)?;
+            push_op(out, draws)?;
+            if answered {
+                push_answer(out, draws)?;
+            }
+        }
+    }
+    Ok(())
+}
+
+fn push_op(out: &mut Vec<u8>, draws: &mut Draws) -> Result<(), AllocError> {
+    let code = draws.byte(1, 5);
+    out.push(code)?;
+    if code == 1 {
+        return push_tuple(out, draws);
+    }
+    let places = draws.byte(1, 8);
+    out.push(places)?;
+    for _ in 0..places {
+        push_place(out, draws)?;
+    }
+    Ok(())
+}
+
+fn push_answer(out: &mut Vec<u8>, draws: &mut Draws) -> Result<(), AllocError> {
+    let code = draws.byte(0, 2);
+    out.push(code)?;
+    if code == 1 {
+        return push_tuple(out, draws);
+    }
+    Ok(())
+}
+
+fn push_tuple(out: &mut Vec<u8>, draws: &mut Draws) -> Result<(), AllocError> {
+    let values = draws.byte(1, 8);
+    out.push(values)?;
+    for _ in 0..values {
+        push_value(out, draws)?;
+    }
+    Ok(())
+}
+
+fn push_place(out: &mut Vec<u8>, draws: &mut Draws) -> Result<(), AllocError> {
+    match draws.byte(0, 3) {
+        0 => Ok(out.push(0x81)?),
+        1 => Ok(out.push(0x82)?),
+        _ => push_value(out, draws),
+    }
+}
+
+fn push_value(out: &mut Vec<u8>, draws: &mut Draws) -> Result<(), AllocError> {
+    let code = draws.byte(1, 2);
+    out.push(code)?;
+    if code == 1 {
+        return push_drawn(out, draws, 8);
+    }
+    let characters = draws.byte(0, 64);
+    out.push(characters)?;
+    for _ in 0..characters {
+        out.push(draws.byte(0x20, 0x7e))?;
+    }
+    Ok(())
+}
