@@ -10,13 +10,15 @@ ghost use Rattle.kt_store.specs.declared.rows.Purpose.{Purpose};
 ghost use Rattle.kt_store.specs.declared.rows.Verdict.TheVariants as verdicts;
 ghost use Rattle.kt_store.specs.Verdict.{verdict_from};
 ghost use Rattle.kt_store.specs.Content.{Content, next_instance, posted, row_of};
-ghost use Rattle.kt_store.specs.Changes.{bumped, check_begun, decided, discarded, opening, promoted, restart_begun, storing, tentative_put};
+ghost use Rattle.kt_store.specs.Changes.{bumped, check_begun, decided, discarded, opening, promoted, restart_begun};
+ghost use Rattle.kt_store.specs.Changes.{storing, tentative_put};
 ghost use Rattle.kt_store.specs.Others.{OtherInstancesStay, OtherNodesStay};
 
 /// What a write stores of a node leaves what is stored of every other node. A verdict leaves that of all nodes.
 pub fn other_nodes_stay()
     ensures check_begun { (p : NodeId) (ckpt : Ckpt) (c : Content) → OtherNodesStay p c (check_begun p ckpt c) }
-    ensures tentative_put { (p : NodeId) (i : ℕ) (ckpt : Ckpt) (c : Content) → OtherNodesStay p c (tentative_put p i ckpt c) }
+    ensures tentative_put { (p : NodeId) (i : ℕ) (ckpt : Ckpt) (c : Content)
+        → OtherNodesStay p c (tentative_put p i ckpt c) }
     ensures promoted { (p : NodeId) (c : Content) → OtherNodesStay p c (promoted p c) }
     ensures discarded { (p : NodeId) (c : Content) → OtherNodesStay p c (discarded p c) }
     ensures restart_begun { (p : NodeId) (c : Content) → OtherNodesStay p c (restart_begun p c) }
@@ -27,10 +29,13 @@ pub fn other_nodes_stay()
 /// An instance that is begun, or that gets its verdict, leaves every other instance. All other writes leave the
 /// board.
 pub fn other_instances_stay()
-    ensures check_begun { (p : NodeId) (ckpt : Ckpt) (c : Content) → OtherInstancesStay (next_instance c) c (check_begun p ckpt c) }
-    ensures restart_begun { (p : NodeId) (c : Content) → OtherInstancesStay (next_instance c) c (restart_begun p c) }
+    ensures check_begun { (p : NodeId) (ckpt : Ckpt) (c : Content)
+        → OtherInstancesStay (next_instance c) c (check_begun p ckpt c) }
+    ensures restart_begun { (p : NodeId) (c : Content)
+        → OtherInstancesStay (next_instance c) c (restart_begun p c) }
     ensures decided { (i : ℕ) (agreed : Bool) (c : Content) → OtherInstancesStay i c (decided i agreed c) }
-    ensures tentative_put { (p : NodeId) (i : ℕ) (ckpt : Ckpt) (c : Content) → (tentative_put p i ckpt c).board ≡ c.board }
+    ensures tentative_put { (p : NodeId) (i : ℕ) (ckpt : Ckpt) (c : Content)
+        → (tentative_put p i ckpt c).board ≡ c.board }
     ensures promoted { (p : NodeId) (c : Content) → (promoted p c).board ≡ c.board }
     ensures discarded { (p : NodeId) (c : Content) → (discarded p c).board ≡ c.board }
     ensures bumped { (p : NodeId) (c : Content) → (bumped p c).board ≡ c.board }
@@ -41,7 +46,9 @@ pub fn other_instances_stay()
 pub fn what_is_written_is_read()
     ensures stored { (row : NodeRow) (c : Content) → row_of (storing row c) row.node ≡ row }
     ensures begun { (p : NodeId) (purpose : Purpose) (c : Content)
-        → posted (opening p purpose c) (next_instance c) ≡ Some record { instance = next_instance c; initiator = p; purpose = purpose; verdict = verdicts.Open } }
+        → posted (opening p purpose c) (next_instance c)
+        ≡ Some record { instance = next_instance c; initiator = p; purpose = purpose; verdict = verdicts.Open } }
     ensures decided { (i : ℕ) (agreed : Bool) (c : Content)
-        → posted (decided i agreed c) i ≡ option_map (λ (row : Posted). record row { verdict = verdict_from agreed }) (posted c i) }
+        → posted (decided i agreed c) i
+        ≡ option_map (λ (row : Posted). record row { verdict = verdict_from agreed }) (posted c i) }
 {}
