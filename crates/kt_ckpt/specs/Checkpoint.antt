@@ -50,7 +50,7 @@ abbrev pub IsCountedState : State → Type 0
 IsCountedState (states.Worker w) = IsCountedWorker w
 IsCountedState (states.Shard s) = IsCountedShard s
 
--- 1 to 8 neighbours, and for each a label sent and one received
+-- a neighbour at least and no more than there may be, and for each a label sent and one received
 abbrev pub ArePeers : List Label → List Label → Type 0
 ArePeers sent received = (1 ≤ length sent) × (length sent ≤ max_peers) × (length sent ≡ length received)
 

@@ -10,7 +10,7 @@ use Rattle.kt_ckpt.specs.Limits.{max_places}
 use Rattle.kt_ckpt.specs.Reading.{◌>>=◌, byte_within, list_at}
 use Rattle.kt_ckpt.specs.Value.{value_bytes, place_bytes, value_at, place_at}
 
--- what a program can hold: 1 to 8 values, each an int of 64 bits or a str of at most 64 printable characters
+-- what a program can hold: as many values as a tuple may have, each one that a program can hold
 abbrev pub IsTuple : List Value → Type 0
 IsTuple values = HasArity values × All IsValue values
 

@@ -36,8 +36,8 @@ impl Ckpt {
 
     /// The checkpoint of this node, whose line has this length. For each neighbour, in node order, it has the
     /// label of the last message sent to it and of the last heard from it, and it has the node's state. The
-    /// node is one of the workers or shards that there may be, the neighbours are 1 to 8, and the state is
-    /// one of such a node, with counts within the format.
+    /// node is one of the workers or shards that there may be, it has a neighbour and no more than `MAX_PEERS`,
+    /// and the state is one of such a node, with counts within the format.
     pub fn new(
         node: NodeId,
         line_len: u64,
