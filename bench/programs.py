@@ -33,6 +33,9 @@ def build(name, stands_on):
             shutil.rmtree(f"{kept}/{part}", ignore_errors=True)
             if crate != name and os.path.isdir(f"{ROOT}/crates/{crate}/{part}"):
                 shutil.copytree(f"{ROOT}/crates/{crate}/{part}", f"{kept}/{part}")
+        # What was checked already need not be checked again; `rt` takes of it what fits these sources.
+        if not os.path.isdir(f"{kept}/out") and os.path.isdir(f"{ROOT}/crates/{crate}/out"):
+            shutil.copytree(f"{ROOT}/crates/{crate}/out", f"{kept}/out", symlinks=True)
     os.makedirs(f"{PLACE}/crates/{name}/src")
     shutil.copy(f"{ROOT}/bench/{name}.txt", f"{PLACE}/crates/{name}/src/main.rt")
     shutil.copy(f"{ROOT}/HANDLES", f"{PLACE}/HANDLES")

@@ -59,12 +59,15 @@ fn operation(alloc: Global, word: &str, text: &str) -> Result<Operation, Fail> {
     }
 }
 
+fn number(text: &str) -> Result<u8, Fail> {
+    Ok(text.parse::<u8>().ok().ok_or("a number")?)
+}
+
 /// The command of this text: an operation without variables, or `unless`.
 pub(crate) fn command(alloc: Global, text: &str) -> Result<Command, Fail> {
     let (word, rest) = text.split_once(' ').ok_or("a word")?;
     if word == "unless" {
-        let count = rest.parse::<u8>().ok().ok_or("a count")?;
-        return Ok(Command::Unless(count));
+        return Ok(Command::Unless(number(rest)?));
     }
     Ok(Command::Ask(operation(alloc, word, rest)?))
 }
@@ -95,28 +98,41 @@ pub(crate) fn opened(alloc: Global, shards: u8, scripts: Vec<Script>) -> Result<
 
 /// The node of this name.
 fn node(name: &str) -> Result<NodeId, Fail> {
-    if let Some(number) = name.strip_prefix('w') {
-        return Ok(NodeId::Worker(number.parse::<u8>().ok().ok_or("a number")?));
+    if let Some(text) = name.strip_prefix('w') {
+        return Ok(NodeId::Worker(number(text)?));
     }
-    let number = name.strip_prefix('s').ok_or("a node")?;
-    Ok(NodeId::Shard(number.parse::<u8>().ok().ok_or("a number")?))
+    let text = name.strip_prefix('s').ok_or("a node")?;
+    Ok(NodeId::Shard(number(text)?))
 }
 
 /// The step of this line, as a scenario has it.
-pub(crate) fn step(alloc: Global, line: &str) -> Result<Step, Fail> {
-    let words: Vec<&str> = line.split_whitespace().collect(alloc)?;
-    match words.as_slice() {
-        ["issue", name] => Ok(Step::Issue { node: node(name)? }),
-        ["repeat", name] => Ok(Step::Repeat { node: node(name)? }),
-        ["deliver", from, to] => Ok(Step::Deliver {
-            from: node(from)?,
-            to: node(to)?,
-        }),
-        ["serve", shard, worker, place] => Ok(Step::Serve {
-            shard: node(shard)?,
-            worker: node(worker)?,
-            place: place.parse::<u64>().ok().ok_or("a place")?,
-        }),
+pub(crate) fn step(line: &str) -> Result<Step, Fail> {
+    let (word, names) = line.split_once(' ').ok_or("a word")?;
+    match word {
+        "issue" => Ok(Step::Issue { node: node(names)? }),
+        "repeat" => Ok(Step::Repeat { node: node(names)? }),
+        "deliver" => delivery(names),
+        "serve" => service(names),
         _ => Err(Fail::from("another step")),
     }
+}
+
+fn delivery(names: &str) -> Result<Step, Fail> {
+    let (from, to) = names.split_once(' ').ok_or("two nodes")?;
+    let from = node(from)?;
+    let to = node(to)?;
+    Ok(Step::Deliver { from, to })
+}
+
+fn service(names: &str) -> Result<Step, Fail> {
+    let (shard, rest) = names.split_once(' ').ok_or("a shard")?;
+    let (worker, place) = rest.split_once(' ').ok_or("a worker")?;
+    let shard = node(shard)?;
+    let worker = node(worker)?;
+    let place = place.parse::<u64>().ok().ok_or("a place")?;
+    Ok(Step::Serve {
+        shard,
+        worker,
+        place,
+    })
 }

@@ -1,9 +1,9 @@
 //! What a world makes of want of memory.
 
-use crate::making::{S1, W1, scripts, step};
+use crate::making::{S1, W1, scripts};
 use crate::rows::{counts, leaves, made};
 use crate::worlds::PUTTER_AND_TAKER;
-use kt_core::{OpenError, Scene, Step, StepError, World};
+use kt_core::{OpenError, OpenRefused, Scene, Step, StepError, World};
 use std::alloc::{AllocError, Global};
 use std::process::Abort;
 use std::test::Fail;
@@ -31,13 +31,34 @@ fn hoard_size(alloc: Global, hoard: &mut Vec<Vec<u8>>, size: usize) -> Result<()
     Ok(())
 }
 
-/// Small blocks, which are given back one by one.
-fn spare(alloc: Global) -> Result<Vec<Vec<u8>>, AllocError> {
-    let mut spare = Vec::with_capacity(alloc, 4000)?;
-    for _ in 0..4000usize {
-        spare.push(Vec::with_capacity(alloc, 160)?)?;
+/// All memory but what small blocks give back, one after the other.
+#[derive(Drop)]
+struct Little {
+    hoard: Vec<Vec<u8>>,
+    spare: Vec<Vec<u8>>,
+}
+
+impl Little {
+    fn new(alloc: Global) -> Result<Little, AllocError> {
+        let mut spare = Vec::with_capacity(alloc, 4000)?;
+        for _ in 0..4000usize {
+            spare.push(Vec::with_capacity(alloc, 160)?)?;
+        }
+        let hoard = Vec::with_capacity(alloc, BLOCKS)?;
+        Ok(Little { hoard, spare })
     }
-    Ok(spare)
+
+    fn give_back_one(&mut self) {
+        drop(self.spare.pop());
+    }
+}
+
+/// The scene that came back.
+fn given_back(rt: &impl Abort, refused: OpenRefused) -> Scene {
+    let scene = refused.scene;
+    assert!(rt; refused.cause == OpenError::OutOfMemory);
+    assert!(rt; scene.shards() == 1 && scene.scripts().len() == 1);
+    scene
 }
 
 /// Opens the scene with a little more memory each time. Until it is opened the scene comes back.
@@ -45,7 +66,7 @@ fn open_with_little(
     rt: &impl Abort,
     alloc: Global,
     scene: Scene,
-    spare: &mut Vec<Vec<u8>>,
+    little: &mut Little,
 ) -> Result<World, Fail> {
     let mut scene = scene;
     for round in 0..2000usize {
@@ -54,13 +75,9 @@ fn open_with_little(
                 assert!(rt; round > 10, "{round}");
                 return Ok(world);
             }
-            Err(refused) => {
-                assert_eq!(rt; refused.cause, OpenError::OutOfMemory);
-                scene = refused.scene;
-                assert_eq!(rt; (scene.shards(), scene.scripts().len()), (1, 1));
-            }
+            Err(refused) => scene = given_back(rt, refused),
         }
-        drop(spare.pop());
+        little.give_back_one();
     }
     Err(Fail::new("never opened"))
 }
@@ -72,78 +89,78 @@ fn step_with_little(
     alloc: Global,
     world: &mut World,
     step: Step,
-    spare: &mut Vec<Vec<u8>>,
+    little: &mut Little,
 ) -> Result<bool, Fail> {
     let before = counts(world, step.owner());
     for round in 0..2000usize {
         match world.step(alloc, step) {
             Ok(()) => return Ok(round > 0),
-            Err(error) => assert_eq!(rt; error, StepError::OutOfMemory, "{step:?}"),
+            Err(error) => assert!(rt; error == StepError::OutOfMemory, "{step:?}"),
         }
-        assert_eq!(rt; counts(world, step.owner()), before, "{step:?}");
-        drop(spare.pop());
+        assert!(rt; counts(world, step.owner()) == before, "{step:?}");
+        little.give_back_one();
     }
     Err(Fail::new("never made"))
 }
 
+const ISSUE: Step = Step::Issue { node: W1 };
+
+const REPEAT: Step = Step::Repeat { node: W1 };
+
+const HEAR: Step = Step::Deliver { from: W1, to: S1 };
+
+const ACCEPT: Step = Step::Deliver { from: S1, to: W1 };
+
+const SERVE: Step = Step::Serve {
+    shard: S1,
+    worker: W1,
+    place: 0,
+};
+
 /// Steps of each kind.
-const STEPS: [&str; 10] = [
-    "issue w1",
-    "deliver w1 s1",
-    "serve s1 w1 0",
-    "repeat w1",
-    "deliver w1 s1",
-    "deliver s1 w1",
-    "deliver s1 w1",
-    "issue w1",
-    "deliver w1 s1",
-    "serve s1 w1 0",
+const STEPS: [Step; 10] = [
+    ISSUE, HEAR, SERVE, REPEAT, HEAR, ACCEPT, ACCEPT, ISSUE, HEAR, SERVE,
 ];
 
-/// Makes the steps, each with all memory taken but what it needs. How many were refused before they were made.
+/// Makes the steps, each with all memory taken but what it needs. Some are refused before they are made.
 fn steps_with_little(
     rt: &impl Abort,
     alloc: Global,
     world: &mut World,
     steps: &[Step],
-    hoard: &mut Vec<Vec<u8>>,
-    spare: &mut Vec<Vec<u8>>,
-) -> Result<u8, Fail> {
+    little: &mut Little,
+) -> Result<(), Fail> {
     let mut refused = 0u8;
     for step in steps {
-        hoard_all(alloc, hoard)?;
-        if step_with_little(rt, alloc, world, *step, spare)? {
+        hoard_all(alloc, &mut little.hoard)?;
+        if step_with_little(rt, alloc, world, *step, little)? {
             refused = refused.saturating_add(1);
         }
     }
-    Ok(refused)
-}
-
-/// With ever more memory a world is opened and each step made, as it would have been with much of it.
-#[test]
-fn little_memory(rt: HostRuntime) -> Result<(), Fail> {
-    let world = played_with_little(&rt, rt.alloc())?;
-    let survivors = [
-        "w1.1 out (\"a\", 1) done",
-        "w1.2 in (\"a\", ?int) got (\"a\", 1)",
-    ];
-    leaves(&rt, rt.alloc(), &world, &survivors, &[])?;
-    made(&rt, &world, &[(W1, 5), (S1, 5)]);
+    assert!(rt; refused >= 3, "{refused} of the steps were refused first");
     Ok(())
 }
 
 /// The world in which the steps were made with little memory, when the hoard is given back.
 fn played_with_little(rt: &impl Abort, alloc: Global) -> Result<World, Fail> {
     let scene = Scene::new(1, scripts(alloc, &PUTTER_AND_TAKER)?).ok_or("a scene")?;
-    let mut steps = Vec::with_capacity(alloc, STEPS.len())?;
-    for line in STEPS {
-        steps.push(step(alloc, line)?)?;
-    }
-    let mut spare = spare(alloc)?;
-    let mut hoard = Vec::with_capacity(alloc, BLOCKS)?;
-    hoard_all(alloc, &mut hoard)?;
-    let mut world = open_with_little(rt, alloc, scene, &mut spare)?;
-    let refused = steps_with_little(rt, alloc, &mut world, &steps, &mut hoard, &mut spare)?;
-    assert!(rt; refused >= 3, "{refused} of the steps were refused first");
+    let mut little = Little::new(alloc)?;
+    hoard_all(alloc, &mut little.hoard)?;
+    let mut world = open_with_little(rt, alloc, scene, &mut little)?;
+    steps_with_little(rt, alloc, &mut world, &STEPS, &mut little)?;
     Ok(world)
+}
+
+const SURVIVORS: [&str; 2] = [
+    "w1.1 out (\"a\", 1) done",
+    "w1.2 in (\"a\", ?int) got (\"a\", 1)",
+];
+
+/// With ever more memory a world is opened and each step made, as it would have been with much of it.
+#[test]
+fn little_memory(rt: HostRuntime) -> Result<(), Fail> {
+    let world = played_with_little(&rt, rt.alloc())?;
+    leaves(&rt, rt.alloc(), &world, &SURVIVORS, &[])?;
+    made(&rt, &world, &[(W1, 5), (S1, 5)]);
+    Ok(())
 }

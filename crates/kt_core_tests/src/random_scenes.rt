@@ -2,7 +2,7 @@
 //! against the definitions worked out plainly.
 
 use crate::draws::Draws;
-use crate::making::{command, opened};
+use crate::making::{opened, script};
 use crate::rows::counts;
 use crate::slowly::agrees;
 use crate::tally::{Tally, all_there, count, count_notes};
@@ -64,14 +64,21 @@ fn one_of(draws: &mut Draws, texts: &[&'static str]) -> Result<&'static str, Fai
     Ok(*texts.get(place).ok_or("a text")?)
 }
 
-/// A script of which every second command puts a tuple.
-fn script(alloc: Global, draws: &mut Draws) -> Result<Script, Fail> {
-    let mut script = Script::new(alloc);
-    for _ in 0..COMMANDS {
-        let texts: &[&'static str] = if draws.below(2) == 0 { &PUTS } else { &OTHERS };
-        script.push(command(alloc, one_of(draws, texts)?)?)?;
+/// A command; every second puts a tuple.
+fn text(draws: &mut Draws) -> Result<&'static str, Fail> {
+    if draws.below(2) == 0 {
+        one_of(draws, &PUTS)
+    } else {
+        one_of(draws, &OTHERS)
     }
-    Ok(script)
+}
+
+fn random_script(alloc: Global, draws: &mut Draws) -> Result<Script, Fail> {
+    let mut texts = Vec::new(alloc);
+    for _ in 0..COMMANDS {
+        texts.push(text(draws)?)?;
+    }
+    script(alloc, &texts)
 }
 
 /// A world, and how many shards and workers it has.
@@ -87,7 +94,7 @@ fn random_game(alloc: Global, draws: &mut Draws) -> Result<Game, Fail> {
     let (shards, workers) = (draws.number_to(8), draws.number_to(4));
     let mut scripts = Vec::new(alloc);
     for _ in 0..workers {
-        scripts.push(script(alloc, draws)?)?;
+        scripts.push(random_script(alloc, draws)?)?;
     }
     let world = opened(alloc, shards, scripts)?;
     Ok(Game {
@@ -139,7 +146,7 @@ fn is_made(
         Ok(()) => true,
         Err(refusal) => {
             assert!(rt; refusal != StepError::OutOfMemory);
-            assert_eq!(rt; counts(world, step.owner()), before, "{step:?}");
+            assert!(rt; counts(world, step.owner()) == before, "{step:?}");
             count(&mut tally.refusals, usize::from(refusal.number()));
             false
         }

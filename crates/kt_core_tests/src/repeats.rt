@@ -1,13 +1,14 @@
 //! Requests that are asked again.
 
 use crate::making::{S1, W1, W2, opened, scripts};
-use crate::rows::{Stage, play};
+use crate::rows::{Played, Stage, play, play_all};
 use crate::worlds::PUTTER_AND_TAKER;
 use kt_core::{MAX_STEPS, Step, World};
 use std::alloc::Global;
 use std::process::Abort;
 use std::test::Fail;
 
+/// A request that is asked again is answered again by what was kept, and its second reply is ignored.
 const ANSWERED_AGAIN: [Stage; 1] = [Stage {
     rows: &[
         ("repeat s1", "NoNode"),
@@ -31,19 +32,11 @@ const ANSWERED_AGAIN: [Stage; 1] = [Stage {
     ],
     survivors: &["w1.1 out (\"a\", 1) done"],
     tuples: &["(\"a\", 1)"],
+    notes: 7,
     made: &[(W1, 4), (S1, 3)],
 }];
 
-/// A request that is asked again is answered again by what was kept, and its second reply is ignored.
-#[test]
-fn answered_again(rt: HostRuntime) -> Result<(), Fail> {
-    let workers: [&[&str]; 1] = [&["out (\"a\", 1)"]];
-    let mut world = opened(rt.alloc(), 1, scripts(rt.alloc(), &workers)?)?;
-    play(&rt, rt.alloc(), &mut world, &ANSWERED_AGAIN)?;
-    assert_eq!(rt; world.history().notes().len(), 7);
-    Ok(())
-}
-
+/// A request that waits is not heard twice; one that was served before the next is answered again behind it.
 const ASKED_WHILE_IT_WAITS: [Stage; 1] = [Stage {
     rows: &[
         ("issue w1", "w1 by 0: w1.1 in (?str) issue"),
@@ -76,15 +69,26 @@ const ASKED_WHILE_IT_WAITS: [Stage; 1] = [Stage {
     ],
     survivors: &["w2.1 out (\"t\") done", "w1.1 in (?str) got (\"t\")"],
     tuples: &[],
+    notes: 15,
     made: &[(W1, 7), (W2, 1), (S1, 7)],
 }];
 
-/// A request that waits is not heard twice; one that was served before the next is answered again behind it.
+const SCENES: [Played; 2] = [
+    Played {
+        shards: 1,
+        workers: &[&["out (\"a\", 1)"]],
+        stages: &ANSWERED_AGAIN,
+    },
+    Played {
+        shards: 1,
+        workers: &[&["in (?str)", "out (7)"], &["out (\"t\")"]],
+        stages: &ASKED_WHILE_IT_WAITS,
+    },
+];
+
 #[test]
-fn asked_again_while_it_waits(rt: HostRuntime) -> Result<(), Fail> {
-    let workers: [&[&str]; 2] = [&["in (?str)", "out (7)"], &["out (\"t\")"]];
-    let mut world = opened(rt.alloc(), 1, scripts(rt.alloc(), &workers)?)?;
-    play(&rt, rt.alloc(), &mut world, &ASKED_WHILE_IT_WAITS)
+fn answered_again(rt: HostRuntime) -> Result<(), Fail> {
+    play_all(&rt, rt.alloc(), &SCENES)
 }
 
 const AT_THE_LIMIT: [Stage; 1] = [Stage {
@@ -99,6 +103,7 @@ const AT_THE_LIMIT: [Stage; 1] = [Stage {
     ],
     survivors: &[],
     tuples: &[],
+    notes: 100_000,
     made: &[(W1, 100_000), (S1, 0)],
 }];
 
@@ -112,8 +117,9 @@ fn step_limit(rt: HostRuntime) -> Result<(), Fail> {
 
 /// Makes as many steps as there may be: the worker asks, and asks again.
 fn use_up(rt: &impl Abort, alloc: Global, world: &mut World) {
-    assert_eq!(rt; world.step(alloc, Step::Issue { node: W1 }), Ok(()));
-    for _ in 1..MAX_STEPS {
-        assert_eq!(rt; world.step(alloc, Step::Repeat { node: W1 }), Ok(()));
+    let mut step = Step::Issue { node: W1 };
+    for _ in 0..MAX_STEPS {
+        assert!(rt; world.step(alloc, step).is_ok());
+        step = Step::Repeat { node: W1 };
     }
 }

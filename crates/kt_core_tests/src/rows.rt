@@ -1,8 +1,9 @@
 //! Scenes in rows: each step with what comes of it, and how the world stands then.
 
-use crate::making::step;
-use crate::texts::{note_text, service_text, space_texts};
+use crate::making::{opened, scripts, step};
+use crate::texts::{note_text, service_texts, space_texts};
 use kt_core::{Mode, Step, World};
+use kt_history::Note;
 use kt_tuple::NodeId;
 use std::alloc::Global;
 use std::process::Abort;
@@ -19,8 +20,28 @@ pub(crate) struct Stage {
     pub(crate) survivors: &'static [&'static str],
     /// The tuples that are left, in rising order.
     pub(crate) tuples: &'static [&'static str],
+    /// How many notes there are.
+    pub(crate) notes: usize,
     /// How many steps each node made. No other nodes are there.
     pub(crate) made: &'static [(NodeId, u64)],
+}
+
+/// A scene that is played.
+#[derive(Clone, Copy)]
+pub(crate) struct Played {
+    pub(crate) shards: u8,
+    /// The commands of each worker.
+    pub(crate) workers: &'static [&'static [&'static str]],
+    pub(crate) stages: &'static [Stage],
+}
+
+/// Plays the scenes.
+pub(crate) fn play_all(rt: &impl Abort, alloc: Global, scenes: &[Played]) -> Result<(), Fail> {
+    for scene in scenes {
+        let mut world = opened(alloc, scene.shards, scripts(alloc, scene.workers)?)?;
+        play(rt, alloc, &mut world, scene.stages)?;
+    }
+    Ok(())
 }
 
 /// Plays the stages one after the other.
@@ -32,6 +53,7 @@ pub(crate) fn play(
 ) -> Result<(), Fail> {
     for stage in stages {
         play_rows(rt, alloc, world, stage.rows)?;
+        assert!(rt; world.history().notes().len() == stage.notes);
         leaves(rt, alloc, world, stage.survivors, stage.tuples)?;
         made(rt, world, stage.made);
     }
@@ -40,7 +62,7 @@ pub(crate) fn play(
 
 fn play_rows(rt: &impl Abort, alloc: Global, world: &mut World, rows: &[Row]) -> Result<(), Fail> {
     for (line, expected) in rows {
-        let found = comes_of(rt, alloc, world, step(alloc, line)?)?;
+        let found = comes_of(rt, alloc, world, step(line)?)?;
         assert_eq!(rt; found.as_str(), *expected, "{line}");
     }
     Ok(())
@@ -49,17 +71,21 @@ fn play_rows(rt: &impl Abort, alloc: Global, world: &mut World, rows: &[Row]) ->
 /// Makes the step, and tells its one note, or why it was refused and changed nothing.
 fn comes_of(rt: &impl Abort, alloc: Global, world: &mut World, step: Step) -> Result<String, Fail> {
     let (notes, own) = counts(world, step.owner());
-    match world.step(alloc, step) {
-        Ok(()) => {
-            let expected = (notes.saturating_add(1), own.saturating_add(1));
-            assert_eq!(rt; counts(world, step.owner()), expected, "{step:?}");
-            note_text(alloc, world.history().notes().last().ok_or("a note")?)
-        }
-        Err(refusal) => {
-            assert_eq!(rt; counts(world, step.owner()), (notes, own), "{step:?}");
-            Ok(refusal.to_string(alloc)?)
-        }
+    let answer = world.step(alloc, step);
+    let more = u8::from(answer.is_ok());
+    let expected = (
+        notes.saturating_add(usize::from(more)),
+        own.saturating_add(u64::from(more)),
+    );
+    assert_eq!(rt; counts(world, step.owner()), expected, "{step:?}");
+    match answer {
+        Ok(()) => last_text(alloc, world.history().notes()),
+        Err(refusal) => Ok(refusal.to_string(alloc)?),
     }
+}
+
+fn last_text(alloc: Global, notes: &[Note]) -> Result<String, Fail> {
+    note_text(alloc, notes.last().ok_or("a note")?)
 }
 
 /// How many notes there are, and how many steps the node made.
@@ -76,36 +102,31 @@ pub(crate) fn leaves(
     tuples: &[&str],
 ) -> Result<(), Fail> {
     assert_eq!(rt; world.history().lost_count(), 0);
-    survive(rt, alloc, world, survivors)?;
-    let found = space_texts(alloc, world)?;
-    assert_eq!(rt; found.len(), tuples.len());
-    for (found, text) in found.iter().zip(tuples) {
-        assert_eq!(rt; found.as_slice(), text.as_bytes());
-    }
+    are_texts(rt, &service_texts(alloc, world)?, survivors);
+    are_texts(rt, &space_texts(alloc, world)?, tuples);
     Ok(())
 }
 
-fn survive(rt: &impl Abort, alloc: Global, world: &World, texts: &[&str]) -> Result<(), Fail> {
-    let services = world.history().survivors(alloc)?;
-    assert_eq!(rt; services.len(), texts.len());
-    for (service, text) in services.iter().zip(texts) {
-        assert_eq!(rt; service_text(alloc, service)?.as_str(), *text);
+fn are_texts(rt: &impl Abort, found: &[String], expected: &[&str]) {
+    assert_eq!(rt; found.len(), expected.len());
+    for (found, expected) in found.iter().zip(expected) {
+        assert_eq!(rt; found.as_str(), *expected);
     }
-    Ok(())
 }
 
 /// How many steps each node made, and that those and no others are there.
 pub(crate) fn made(rt: &impl Abort, world: &World, counts: &[(NodeId, u64)]) {
-    for (node, count) in counts {
-        assert_eq!(rt; world.steps_of(*node), *count, "{node:?}");
-        assert_eq!(rt; world.mode(*node), Some(Mode::Up), "{node:?}");
-    }
     for number in 0..=u8::MAX {
-        for node in [NodeId::Worker(number), NodeId::Shard(number)] {
-            if !counts.iter().any(|(other, _)| *other == node) {
-                assert_eq!(rt; world.steps_of(node), 0, "{node:?}");
-                assert_eq!(rt; world.mode(node), None, "{node:?}");
-            }
-        }
+        made_by(rt, world, counts, NodeId::Worker(number));
+        made_by(rt, world, counts, NodeId::Shard(number));
     }
+}
+
+fn made_by(rt: &impl Abort, world: &World, counts: &[(NodeId, u64)], node: NodeId) {
+    let expected = match counts.iter().find(|(other, _)| *other == node) {
+        Some((_, count)) => (Some(Mode::Up), *count),
+        None => (None, 0),
+    };
+    let found = (world.mode(node), world.steps_of(node));
+    assert!(rt; found == expected, "{node:?}");
 }

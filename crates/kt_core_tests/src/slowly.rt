@@ -149,25 +149,48 @@ pub(crate) fn served(note: &Note) -> Option<(&Act, &Answer)> {
     }
 }
 
-/// The services that survive, with how many do not counted there: an act survives where nothing in its past is lost.
+/// The services that survive, and how many do not.
+#[derive(Drop)]
+struct Survival {
+    services: Vec<Service>,
+    lost: u64,
+}
+
+/// Judges each note by its past: an act survives where nothing in its past is lost.
 fn surviving(
     alloc: Global,
     notes: &[Note],
     pasts: &[Marks],
     stands: &[bool],
-    lost: &mut u64,
-) -> Result<Vec<Service>, AllocError> {
-    let mut services = Vec::new(alloc);
+) -> Result<Survival, AllocError> {
+    let mut survival = Survival {
+        services: Vec::new(alloc),
+        lost: 0,
+    };
     for (note, past) in notes.iter().zip(pasts.iter().skip(1)) {
+        survival.judge(alloc, note, is_within(past, stands))?;
+    }
+    Ok(survival)
+}
+
+impl Survival {
+    fn judge(&mut self, alloc: Global, note: &Note, survives: bool) -> Result<(), AllocError> {
         if let Some((act, answer)) = served(note) {
-            if is_within(past, stands) {
-                services.push(service(alloc, act, answer)?)?;
+            if survives {
+                self.services.push(service(alloc, act, answer)?)?;
             } else {
-                *lost = lost.saturating_add(1);
+                self.lost = self.lost.saturating_add(1);
             }
         }
+        Ok(())
     }
-    Ok(services)
+}
+
+/// What survives of these notes.
+fn survival_of(alloc: Global, notes: &[Note]) -> Result<Survival, AllocError> {
+    let pasts = pasts_of(alloc, notes)?;
+    let stands = standing(alloc, notes)?;
+    surviving(alloc, notes, &pasts, &stands)
 }
 
 /// Whether the tuple is there and matches.
@@ -219,16 +242,13 @@ fn space_after(alloc: Global, services: &[Service]) -> Result<Vec<Tuple>, Fail> 
     Ok(tuples)
 }
 
-/// What the world says of its history is what the definitions say.
-pub(crate) fn agrees(rt: &impl Abort, alloc: Global, world: &World) -> Result<(), Fail> {
-    let notes = world.history().notes();
-    let pasts = pasts_of(alloc, notes)?;
-    let stands = standing(alloc, notes)?;
-    let mut lost = 0u64;
-    let services = surviving(alloc, notes, &pasts, &stands, &mut lost)?;
-    assert_eq!(rt; world.history().lost_count(), lost);
-    survive(rt, alloc, world, &services)?;
-    are_left(rt, alloc, world, &services)
+/// What the world says of its history is what the definitions say. How many services survive.
+pub(crate) fn agrees(rt: &impl Abort, alloc: Global, world: &World) -> Result<usize, Fail> {
+    let survival = survival_of(alloc, world.history().notes())?;
+    assert!(rt; world.history().lost_count() == survival.lost);
+    survive(rt, alloc, world, &survival.services)?;
+    are_left(rt, alloc, world, &survival.services)?;
+    Ok(survival.services.len())
 }
 
 /// These services survive, in this order.
@@ -239,7 +259,7 @@ fn survive(
     services: &[Service],
 ) -> Result<(), AllocError> {
     let survivors = world.history().survivors(alloc)?;
-    assert_eq!(rt; survivors.as_slice(), services);
+    assert!(rt; survivors.as_slice() == services);
     Ok(())
 }
 
@@ -250,9 +270,13 @@ fn are_left(
     world: &World,
     services: &[Service],
 ) -> Result<(), Fail> {
-    let space = space_after(alloc, services)?;
-    let expected = sorted_texts(alloc, &space)?;
+    let expected = space_texts_after(alloc, services)?;
     let found = space_texts(alloc, world)?;
-    assert_eq!(rt; found.as_slice(), expected.as_slice());
+    assert!(rt; found.as_slice() == expected.as_slice());
     Ok(())
+}
+
+fn space_texts_after(alloc: Global, services: &[Service]) -> Result<Vec<String>, Fail> {
+    let space = space_after(alloc, services)?;
+    sorted_texts(alloc, &space)
 }

@@ -50,7 +50,7 @@ fn what_text(what: &What) -> (&'static str, Option<&Answer>) {
 }
 
 /// The service as a report has it.
-pub(crate) fn service_text(alloc: Global, service: &Service) -> Result<String, Fail> {
+fn service_text(alloc: Global, service: &Service) -> Result<String, Fail> {
     let (worker, request) = (service.worker, service.number);
     let front = format!(in alloc; "w{worker}.{request} ")?;
     let mut text = front.into_bytes();
@@ -65,7 +65,7 @@ fn text_of(bytes: Vec<u8>) -> Result<String, Fail> {
 }
 
 /// The texts of the tuples, in rising order.
-pub(crate) fn sorted_texts(alloc: Global, tuples: &[Tuple]) -> Result<Vec<Vec<u8>>, Fail> {
+pub(crate) fn sorted_texts(alloc: Global, tuples: &[Tuple]) -> Result<Vec<String>, Fail> {
     let mut texts = Vec::new(alloc);
     for tuple in tuples {
         texts.push(tuple_text(alloc, tuple)?)?;
@@ -74,20 +74,29 @@ pub(crate) fn sorted_texts(alloc: Global, tuples: &[Tuple]) -> Result<Vec<Vec<u8
     Ok(texts)
 }
 
-fn tuple_text(alloc: Global, tuple: &Tuple) -> Result<Vec<u8>, Fail> {
+fn tuple_text(alloc: Global, tuple: &Tuple) -> Result<String, Fail> {
     let mut text = Vec::new(alloc);
     tuple.write_to(&mut text)?;
-    Ok(text)
+    text_of(text)
+}
+
+/// The surviving services, in the order made.
+pub(crate) fn service_texts(alloc: Global, world: &World) -> Result<Vec<String>, Fail> {
+    let mut texts = Vec::new(alloc);
+    for service in &world.history().survivors(alloc)? {
+        texts.push(service_text(alloc, service)?)?;
+    }
+    Ok(texts)
 }
 
 /// The texts of the tuples to which the surviving services lead, in rising order.
-pub(crate) fn space_texts(alloc: Global, world: &World) -> Result<Vec<Vec<u8>>, Fail> {
+pub(crate) fn space_texts(alloc: Global, world: &World) -> Result<Vec<String>, Fail> {
     let services = world.history().survivors(alloc)?;
     let bag = space_of(alloc, &services)?;
     bag_texts(alloc, &bag)
 }
 
-fn bag_texts(alloc: Global, bag: &Bag) -> Result<Vec<Vec<u8>>, Fail> {
+fn bag_texts(alloc: Global, bag: &Bag) -> Result<Vec<String>, Fail> {
     let mut texts = Vec::new(alloc);
     for place in 0..bag.len() {
         let tuple = bag.get(place).ok_or("a tuple")?;

@@ -1,9 +1,9 @@
 //! Worked scenarios, step by step.
 
-use crate::making::{S1, S2, W1, W2, W3, opened, script, scripts};
-use crate::rows::{Row, Stage, play};
+use crate::making::{S1, S2, W1, W2, W3, opened, scripts};
+use crate::rows::{Played, Row, Stage, play, play_all};
 use arrayvec::ArrayVec;
-use kt_core::{OpenError, StepError, World};
+use kt_core::{OpenError, Scene, StepError};
 use kt_script::{Actual, Actuals, Command, Name, Operation, Pattern, Script, Slot};
 use kt_tuple::{Kind, Value};
 use std::alloc::Global;
@@ -19,6 +19,7 @@ const PUT_AND_TAKE: [Stage; 2] = [
         // The last reply is still on its way, and the service counts.
         survivors: &PUT_AND_TAKEN,
         tuples: &[],
+        notes: 7,
         made: &[(W1, 3), (S1, 4)],
     },
     Stage {
@@ -31,6 +32,7 @@ const PUT_AND_TAKE: [Stage; 2] = [
         ],
         survivors: &PUT_AND_TAKEN,
         tuples: &[],
+        notes: 8,
         made: &[(W1, 4), (S1, 4)],
     },
 ];
@@ -85,33 +87,25 @@ const PUT_AND_TAKE_ROWS: [Row; 33] = [
     ("deliver w1 s1", "NothingThere"),
 ];
 
-#[test]
-fn put_and_take(rt: HostRuntime) -> Result<(), Fail> {
-    let mut world = opened(rt.alloc(), 1, scripts(rt.alloc(), &PUTTER_AND_TAKER)?)?;
-    play(&rt, rt.alloc(), &mut world, &PUT_AND_TAKE)
-}
-
 const NO_STEPS: [Stage; 1] = [Stage {
     rows: &[],
     survivors: &[],
     tuples: &[],
+    notes: 0,
     made: &[(W1, 0), (S1, 0)],
 }];
 
+/// The scene is that which the world was opened with.
 #[test]
-fn no_steps(rt: HostRuntime) -> Result<(), Fail> {
-    let mut world = opened(rt.alloc(), 1, scripts(rt.alloc(), &PUTTER_AND_TAKER)?)?;
-    play(&rt, rt.alloc(), &mut world, &NO_STEPS)?;
-    has_scene(&rt, &world);
+fn scene(rt: HostRuntime) -> Result<(), Fail> {
+    let world = opened(rt.alloc(), 1, scripts(rt.alloc(), &PUTTER_AND_TAKER)?)?;
+    has_scene(&rt, world.scene());
     Ok(())
 }
 
-/// Nothing happened in the world, and its scene is that which it was opened with.
-fn has_scene(rt: &impl Abort, world: &World) {
-    assert_eq!(rt; world.history().notes().len(), 0);
-    assert_eq!(rt; world.scene().shards(), 1);
-    assert_eq!(rt; world.scene().scripts().len(), 1);
-    for script in world.scene().scripts() {
+fn has_scene(rt: &impl Abort, scene: &Scene) {
+    assert_eq!(rt; (scene.shards(), scene.scripts().len()), (1, 1));
+    for script in scene.scripts() {
         assert_eq!(rt; script.commands().len(), 2);
     }
 }
@@ -131,17 +125,24 @@ const REFUSALS: [(StepError, u8, &str); 8] = [
 #[test]
 fn refusals(rt: HostRuntime) -> Result<(), Fail> {
     are_told(&rt, rt.alloc(), &REFUSALS)?;
-    let text = OpenError::OutOfMemory.to_string(rt.alloc())?;
-    assert_eq!(rt; text.as_str(), "OutOfMemory");
+    is_told(
+        &rt,
+        OpenError::OutOfMemory.to_string(rt.alloc())?,
+        "OutOfMemory",
+    );
     Ok(())
 }
 
 fn are_told(rt: &impl Abort, alloc: Global, rows: &[(StepError, u8, &str)]) -> Result<(), Fail> {
     for (refusal, number, name) in rows {
         assert_eq!(rt; refusal.number(), *number);
-        assert_eq!(rt; refusal.to_string(alloc)?.as_str(), *name);
+        is_told(rt, refusal.to_string(alloc)?, name);
     }
     Ok(())
+}
+
+fn is_told(rt: &impl Abort, text: String, name: &str) {
+    assert_eq!(rt; text.as_str(), name);
 }
 
 const TWO_TAKERS: [Stage; 2] = [
@@ -159,6 +160,7 @@ const TWO_TAKERS: [Stage; 2] = [
         ],
         survivors: &["w3.1 out (\"t\") done"],
         tuples: &["(\"t\")"],
+        notes: 7,
         made: &[(W1, 1), (W2, 1), (W3, 1), (S1, 4)],
     },
     Stage {
@@ -173,47 +175,46 @@ const TWO_TAKERS: [Stage; 2] = [
         ],
         survivors: &["w3.1 out (\"t\") done", "w2.1 in (\"t\") got (\"t\")"],
         tuples: &[],
+        notes: 8,
         made: &[(W1, 1), (W2, 1), (W3, 1), (S1, 5)],
     },
 ];
 
-#[test]
-fn two_takers(rt: HostRuntime) -> Result<(), Fail> {
-    let workers: [&[&str]; 3] = [&["in (\"t\")"], &["in (\"t\")"], &["out (\"t\")"]];
-    let mut world = opened(rt.alloc(), 1, scripts(rt.alloc(), &workers)?)?;
-    play(&rt, rt.alloc(), &mut world, &TWO_TAKERS)
-}
-
-fn name() -> Result<Name, Fail> {
-    Ok(Name::new(b"x").ok_or("a name")?)
+/// The place of a formal `?int x`.
+fn formal() -> Result<Slot, Fail> {
+    let x = Name::new(b"x").ok_or("a name")?;
+    Ok(Slot::Formal(Kind::Int, Some(x)))
 }
 
 /// `rd (5, ?int x)`
 fn read() -> Result<Command, Fail> {
-    let five = Slot::Actual(Actual::Literal(Value::Int(5)));
+    let x = formal()?;
     let mut slots = ArrayVec::new();
-    slots.try_push(five).map_err(|_| "room")?;
-    let x = Slot::Formal(Kind::Int, Some(name()?));
-    slots.try_push(x).map_err(|_| "room")?;
+    slots.push(Slot::Actual(Actual::Literal(Value::Int(5))));
+    slots.push(x);
     let found = Pattern::new(slots).ok_or("a template")?;
     Ok(Command::Ask(Operation::Rd(found)))
 }
 
 /// `out (x)`
 fn put_found() -> Result<Command, Fail> {
+    let x = Name::new(b"x").ok_or("a name")?;
     let mut found = ArrayVec::new();
-    let x = Actual::Variable(name()?);
-    found.try_push(x).map_err(|_| "room")?;
+    found.push(Actual::Variable(x));
     let found = Actuals::new(found).ok_or("a tuple")?;
     Ok(Command::Ask(Operation::Out(found)))
 }
 
-/// `inp ("a")`, `unless 1`, `out ("b")`, `rd (5, ?int x)`, `out (x)`.
-fn reader(alloc: Global) -> Result<Script, Fail> {
-    let mut script = script(alloc, &["inp (\"a\")", "unless 1", "out (\"b\")"])?;
-    script.push(read()?)?;
-    script.push(put_found()?)?;
-    Ok(script)
+/// `inp ("a")`, `unless 1`, `out ("b")`, `rd (5, ?int x)`, `out (x)`; and `out (5, 7)`.
+fn reader_and_putter(alloc: Global) -> Result<Vec<Script>, Fail> {
+    let mut scripts = scripts(
+        alloc,
+        &[&["inp (\"a\")", "unless 1", "out (\"b\")"], &["out (5, 7)"]],
+    )?;
+    let reader = scripts.first_mut().ok_or("a reader")?;
+    reader.push(read()?)?;
+    reader.push(put_found()?)?;
+    Ok(scripts)
 }
 
 const READER_AND_PUTTER: [Stage; 1] = [Stage {
@@ -248,15 +249,14 @@ const READER_AND_PUTTER: [Stage; 1] = [Stage {
         "w1.3 out (7) done",
     ],
     tuples: &["(5, 7)", "(7)"],
+    notes: 14,
     made: &[(W1, 5), (W2, 1), (S1, 8)],
 }];
 
 #[test]
 fn inp_finds_nothing_and_rd_leaves_the_tuple(rt: HostRuntime) -> Result<(), Fail> {
-    let alloc = rt.alloc();
-    let putter = script(alloc, &["out (5, 7)"])?;
-    let mut world = opened(alloc, 1, vec![in alloc; reader(alloc)?, putter]?)?;
-    play(&rt, alloc, &mut world, &READER_AND_PUTTER)
+    let mut world = opened(rt.alloc(), 1, reader_and_putter(rt.alloc())?)?;
+    play(&rt, rt.alloc(), &mut world, &READER_AND_PUTTER)
 }
 
 const TWO_SHARDS: [Stage; 1] = [Stage {
@@ -292,12 +292,35 @@ const TWO_SHARDS: [Stage; 1] = [Stage {
         "w2.1 in (\"a\") got (\"a\")",
     ],
     tuples: &["(\"a\", 1)"],
+    notes: 10,
     made: &[(W1, 2), (W2, 1), (W3, 1), (S1, 4), (S2, 2)],
 }];
 
+/// Scenes of which each is played from its beginning.
+const SCENES: [Played; 4] = [
+    Played {
+        shards: 1,
+        workers: &PUTTER_AND_TAKER,
+        stages: &PUT_AND_TAKE,
+    },
+    Played {
+        shards: 1,
+        workers: &PUTTER_AND_TAKER,
+        stages: &NO_STEPS,
+    },
+    Played {
+        shards: 1,
+        workers: &[&["in (\"t\")"], &["in (\"t\")"], &["out (\"t\")"]],
+        stages: &TWO_TAKERS,
+    },
+    Played {
+        shards: 2,
+        workers: &[&["out (\"a\", 1)"], &["in (\"a\")"], &["out (\"a\")"]],
+        stages: &TWO_SHARDS,
+    },
+];
+
 #[test]
-fn two_shards(rt: HostRuntime) -> Result<(), Fail> {
-    let workers: [&[&str]; 3] = [&["out (\"a\", 1)"], &["in (\"a\")"], &["out (\"a\")"]];
-    let mut world = opened(rt.alloc(), 2, scripts(rt.alloc(), &workers)?)?;
-    play(&rt, rt.alloc(), &mut world, &TWO_SHARDS)
+fn scenes(rt: HostRuntime) -> Result<(), Fail> {
+    play_all(&rt, rt.alloc(), &SCENES)
 }

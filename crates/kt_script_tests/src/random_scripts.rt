@@ -275,7 +275,17 @@ fn slowly(alloc: Global, script: &Script, answers: &[Answer]) -> Result<Option<O
     Ok(None)
 }
 
-/// Drives the script through its answers. Answers how many operations it asked.
+/// The environment made again of what is read of it.
+fn made_again(alloc: Global, script: &Script, env: &Env) -> Result<Env, Fail> {
+    let mut values = Vec::with_capacity(alloc, env.values().len())?;
+    for value in env.values() {
+        values.push(value.copy())?;
+    }
+    Ok(Env::from_parts(script, values, env.was_none()).ok_or("other values")?)
+}
+
+/// Drives the script through its answers; each answer's environment is made again of its parts. Answers how many
+/// operations it asked.
 fn drive(rt: &impl Abort, alloc: Global, dice: &mut Dice, script: &Script) -> Result<usize, Fail> {
     let mut pc = 0;
     let mut env = Env::new(alloc, script)?;
@@ -290,7 +300,8 @@ fn drive(rt: &impl Abort, alloc: Global, dice: &mut Dice, script: &Script) -> Re
         };
         assert!(rt; expected.as_ref() == Some(&next.op));
         let answer = dice.answer(alloc, &next.op)?;
-        env = next.env.bind(alloc, script, next.pc, &answer)?;
+        let bound = next.env.bind(alloc, script, next.pc, &answer)?;
+        env = made_again(alloc, script, &bound)?;
         pc = next.pc;
         answers.push(answer)?;
     }

@@ -8,6 +8,3 @@ mod worker;
 pub use laws::parts_of_a_worker_make_it_again;
 pub use misfit::Misfit;
 pub use worker::Worker;
-
-#[cfg(test)]
-mod tests;
