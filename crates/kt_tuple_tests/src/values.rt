@@ -119,6 +119,20 @@ fn assert_matches(rt: &impl Abort, alloc: Global, rows: &[Pair]) -> Result<(), F
     Ok(())
 }
 
+/// The template of a tuple has its values as actuals.
+#[test]
+fn templates_of_tuples(rt: HostRuntime) -> Result<(), Fail> {
+    for text in [b"(1)".as_slice(), b"(\"\")", b"(1, 1, 1, 1, 1, 1, 1, \"1\")"] {
+        assert!(rt; is_told_so(rt.alloc(), text)?);
+    }
+    Ok(())
+}
+
+fn is_told_so(alloc: Global, text: &[u8]) -> Result<bool, Fail> {
+    let tuple = Tuple::parse(alloc, text)?;
+    Ok(Template::of(alloc, &tuple)? == Template::parse(alloc, text)?)
+}
+
 /// The number of a signature, and its shard where there are two.
 #[test]
 fn shard_of_signature(rt: HostRuntime) -> Result<(), Fail> {
