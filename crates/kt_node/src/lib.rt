@@ -1,0 +1,20 @@
+//! One node: its modes, and what becomes of it by each step and each message, as plans.
+#![tactic(auto)]
+
+mod change;
+mod labels;
+mod live;
+mod message;
+mod node;
+mod plan;
+mod refusal;
+mod role;
+mod turning;
+
+pub use change::{BodyChange, Change, KeptChange, Loaded, Turn};
+pub use live::{Body, Phase};
+pub use message::{Ask, Message, Post, Talk};
+pub use node::{Mode, Node};
+pub use plan::{Outbox, Plan, Write};
+pub use refusal::Refusal;
+pub use role::{Role, View};
