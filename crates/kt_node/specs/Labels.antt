@@ -44,6 +44,10 @@ no_labels = replicate table_size no_label
 abbrev pub no_firsts : List (Option Label)
 no_firsts = replicate table_size None
 
--- the table of a checkpoint's list: neighbours are numbered from 1
+-- the label of a neighbour in a checkpoint's list, which has the neighbours from 1 on
+abbrev pub listed_at : List Label → ℕ → Label
+listed_at labels k = label_at (no_label ∷ labels) k
+
+-- the table of a checkpoint's list
 abbrev pub tabled : List Label → List Label
-tabled labels = map (label_at (no_label ∷ labels)) (numbers 0 table_size)
+tabled labels = map (listed_at labels) (numbers 0 table_size)

@@ -3,6 +3,15 @@ pub mod Node
 pub mod Views
 pub mod View
 pub mod Plan
+pub mod Ready
 pub mod Turning
 pub mod Talking
-pub mod Ready
+pub mod Voting
+pub mod Stored
+pub mod State
+pub mod Joining
+pub mod Loading
+pub mod Learning
+pub mod Arrivals
+pub mod Deciding
+pub mod Failing
