@@ -3,8 +3,8 @@ use Rattle.std.specs.Prelude.{ℕ, Bool, List, Option}
 use Rattle.kt_tuple.specs.declared.value.Value.{Value}
 use Rattle.kt_tuple.specs.declared.tuple.Tuple.{Tuple}
 use Rattle.kt_tuple.specs.declared.op.Op.{Op}
-use Rattle.kt_ckpt.specs.declared.state.Request.{Request}
-use Rattle.kt_ckpt.specs.declared.state.Kept.{Kept}
+use Rattle.kt_shard.specs.declared.request.Request.{Request}
+use Rattle.kt_shard.specs.declared.request.Kept.{Kept}
 
 -- a worker: the number of its next command, of its last request, whether its last answer was none, what it asked for and
 -- has no answer to, and the values of its variables

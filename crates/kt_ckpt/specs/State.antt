@@ -7,8 +7,8 @@ use Rattle.kt_tuple.specs.declared.tuple.Tuple.{Tuple}
 use Rattle.kt_tuple.specs.declared.op.Op.{Op}
 use Rattle.kt_tuple.specs.Valid.{IsValue}
 use Rattle.kt_ckpt.specs.declared.error.CkptError.{CkptError}
-use Rattle.kt_ckpt.specs.declared.state.Request.{Request}
-use Rattle.kt_ckpt.specs.declared.state.Kept.{Kept}
+use Rattle.kt_shard.specs.declared.request.Request.{Request}
+use Rattle.kt_shard.specs.declared.request.Kept.{Kept}
 use Rattle.kt_ckpt.specs.Fields.{WorkerFields, ShardFields}
 use Rattle.kt_ckpt.specs.Limits.{max_pc, max_variables, max_workers}
 use Rattle.kt_ckpt.specs.Reading.{◌>>=◌, made, byte_within, within, number_at, list_at, rising_at, IsRising}

@@ -90,6 +90,25 @@ impl Ckpt {
         &self.state
     }
 
+    /// What `new` takes, in that order. Nothing is copied, and the parts keep the counts of the format.
+    pub fn into_parts(self) -> (NodeId, u64, Vec<Label>, Vec<Label>, State)
+        ensures node { result.0 ≡ self.node }
+        ensures line_len { result.1 ≡ self.line_len }
+        ensures sent { result.2.items ≡ self.sent }
+        ensures received { result.3.items ≡ self.received }
+        ensures state { result.4 ≡ self.state }
+        ensures counts { HasCounts self }
+    {
+        let Ckpt {
+            node,
+            line_len,
+            sent,
+            received,
+            state,
+        } = self;
+        (node, line_len, sent, received, state)
+    }
+
     /// An equal checkpoint.
     pub fn copy(&self, alloc: Global) -> Result<Ckpt, AllocError>
         ensures { IfOk result (λ c. c ≡ self.now) }

@@ -17,4 +17,4 @@ mod worker;
 pub use ckpt::Ckpt;
 pub use error::CkptError;
 pub use limits::{MAX_PC, MAX_PEERS, MAX_SHARDS, MAX_VARIABLES, MAX_WORKERS};
-pub use state::{Kept, Request, ShardState, State, WorkerState};
+pub use state::{ShardState, State, WorkerState};

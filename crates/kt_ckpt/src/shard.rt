@@ -10,8 +10,9 @@ use crate::error::CkptError;
 use crate::limits::MAX_WORKERS;
 use crate::numbers::{byte_within, push_u32, push_u64, u32_at, u64_at};
 use crate::op::{answer_at, op_at, push_answer, push_op};
-use crate::state::{Kept, Request, ShardState};
+use crate::state::ShardState;
 use crate::tuple::{push_tuple, tuple_at};
+use kt_shard::{Kept, Request};
 use kt_tuple::Tuple;
 use std::alloc::{AllocError, Global};
 

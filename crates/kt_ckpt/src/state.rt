@@ -3,27 +3,10 @@
 ghost use Rattle.std.specs.Prelude.{◌≡◌, IfOk};
 ghost use Rattle.std.specs.Option.{option_copied};
 
-use kt_tuple::{Answer, Op, Tuple, Value};
+use kt_shard::{Kept, Request};
+use kt_tuple::{Op, Tuple, Value};
 use std::alloc::{AllocError, Global};
 use std::marker::Model;
-
-/// A request of a worker.
-#[derive(Debug, Drop)]
-pub struct Request {
-    /// The worker counts its requests from 1.
-    pub number: u64,
-    /// What it asks for.
-    pub op: Op,
-}
-
-/// A request that was served, with its answer.
-#[derive(Debug, Drop)]
-pub struct Kept {
-    /// What was asked.
-    pub request: Request,
-    /// What was answered.
-    pub answer: Answer,
-}
 
 /// Where a worker stands.
 #[derive(Debug, Drop)]
@@ -66,30 +49,6 @@ pub enum State {
     Worker(WorkerState),
     /// A shard.
     Shard(ShardState),
-}
-
-impl Request {
-    /// An equal request.
-    pub fn copy(&self, alloc: Global) -> Result<Request, AllocError>
-        ensures { IfOk result (λ r. r ≡ self.now) }
-    {
-        Ok(Request {
-            number: self.number,
-            op: self.op.copy(alloc)?,
-        })
-    }
-}
-
-impl Kept {
-    /// An equal one.
-    pub fn copy(&self, alloc: Global) -> Result<Kept, AllocError>
-        ensures { IfOk result (λ k. k ≡ self.now) }
-    {
-        Ok(Kept {
-            request: self.request.copy(alloc)?,
-            answer: self.answer.copy(alloc)?,
-        })
-    }
 }
 
 impl WorkerState {
@@ -151,6 +110,24 @@ impl WorkerState {
         &self.variables
     }
 
+    /// What `new` takes, in that order.
+    pub fn into_parts(self) -> (u16, u64, bool, Option<Op>, Vec<Value>)
+        ensures pc { result.0 ≡ self.pc }
+        ensures number { result.1 ≡ self.number }
+        ensures was_none { result.2 ≡ self.was_none }
+        ensures asked { result.3 ≡ self.asked }
+        ensures variables { result.4.items ≡ self.variables }
+    {
+        let WorkerState {
+            pc,
+            number,
+            was_none,
+            asked,
+            variables,
+        } = self;
+        (pc, number, was_none, asked, variables)
+    }
+
     /// An equal one.
     pub fn copy(&self, alloc: Global) -> Result<WorkerState, AllocError>
         ensures { IfOk result (λ w. w ≡ self.now) }
@@ -197,6 +174,16 @@ impl ShardState {
         ensures { result.now ≡ self.now.kept }
     {
         &self.kept
+    }
+
+    /// What `new` takes, in that order.
+    pub fn into_parts(self) -> (Vec<Tuple>, Vec<(u8, Request)>, Vec<(u8, Kept)>)
+        ensures bag { result.0.items ≡ self.bag }
+        ensures waiting { result.1.items ≡ self.waiting }
+        ensures kept { result.2.items ≡ self.kept }
+    {
+        let ShardState { bag, waiting, kept } = self;
+        (bag, waiting, kept)
     }
 
     /// An equal one.

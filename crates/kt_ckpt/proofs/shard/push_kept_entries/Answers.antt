@@ -1,6 +1,6 @@
 use Rattle.std.proofs.Common.{subst, ℕ, ◌∷◌, []}
 use Rattle.std.proofs.lemmas.List.Elements.{All-more}
-use Rattle.kt_ckpt.specs.declared.state.Kept.{Kept}
+use Rattle.kt_shard.specs.declared.request.Kept.{Kept}
 use Rattle.kt_ckpt.specs.State.{IsKept, entry_bytes, request_bytes, kept_bytes}
 use Rattle.kt_ckpt.specs.Op.{answer_bytes}
 use Rattle.kt_ckpt.proofs.Loop.{both_appended, appended}

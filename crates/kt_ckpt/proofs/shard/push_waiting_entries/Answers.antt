@@ -1,6 +1,6 @@
 use Rattle.std.proofs.Common.{subst, ℕ, ◌∷◌, []}
 use Rattle.std.proofs.lemmas.List.Elements.{All-more}
-use Rattle.kt_ckpt.specs.declared.state.Request.{Request}
+use Rattle.kt_shard.specs.declared.request.Request.{Request}
 use Rattle.kt_ckpt.specs.State.{IsRequest, entry_bytes, request_bytes}
 use Rattle.kt_ckpt.proofs.Loop.{both_appended, appended}
 use Rattle.kt_ckpt.proofs.shard.push_waiting_entries.Goals as goal
