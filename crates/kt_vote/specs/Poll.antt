@@ -4,28 +4,41 @@ use Rattle.std.specs.Prelude.{List, [], ◌∷◌, ◌++◌, filter, Contains, O
 use Rattle.std.specs.List.{list_any}
 use Rattle.kt_tuple.specs.declared.node.NodeId.{NodeId}
 use Rattle.kt_tuple.specs.Node.{node_eq}
+use Rattle.kt_vote.specs.declared.asker.Asker.{Asker}
 use Rattle.kt_vote.specs.declared.vote.Vote.{Vote}
 
--- the instance; the incarnation in which its node asks; who asked the node itself, unless it began the instance;
--- the nodes that it asked, and those of them that have not voted, each in node order; whether one said no; whether
--- the node itself has voted
+-- the instance; the incarnation in which its node asks; who asked the node itself, and in which of the asker's
+-- incarnations, unless the node began the instance; the nodes that it asked, and those of them that have not voted,
+-- each in node order; whether one said no; whether the node itself has voted
 pub record Poll : Type 0 where
   pub instance : ℕ
   pub incarnation : ℕ
-  pub parent : Option NodeId
+  pub parent : Option Asker
   pub asked : List NodeId
   pub awaited : List NodeId
   pub refused : Bool
   pub voted : Bool
 
 -- nobody is asked yet
-abbrev pub opening_poll : ℕ → ℕ → Option NodeId → Poll
+abbrev pub opening_poll : ℕ → ℕ → Option Asker → Poll
 opening_poll instance incarnation parent = record {
   instance = instance;
   incarnation = incarnation;
   parent = parent;
   asked = [];
   awaited = [];
+  refused = false;
+  voted = false;
+}
+
+-- these are asked, and none has voted
+abbrev pub asking_poll : ℕ → ℕ → Option Asker → List NodeId → Poll
+asking_poll instance incarnation parent asked = record {
+  instance = instance;
+  incarnation = incarnation;
+  parent = parent;
+  asked = asked;
+  awaited = asked;
   refused = false;
   voted = false;
 }

@@ -3,6 +3,7 @@ ghost use Rattle.std.specs.Prelude.{None, Some, true, false, IsTrue, IsSome, IfO
 ghost use Rattle.kt_tuple.specs.declared.node.NodeId.{NodeId};
 ghost use Rattle.kt_tuple.specs.Node.{node_eq};
 
+use crate::asker::Asker;
 use crate::vote::Vote;
 use kt_tuple::NodeId;
 use std::alloc::{AllocError, Global};
@@ -13,7 +14,7 @@ use std::marker::Model;
 pub struct Ballot {
     instance: u64,
     incarnation: u64,
-    parent: Option<NodeId>,
+    parent: Option<Asker>,
     asked: Vec<NodeId>,
     awaited: Vec<NodeId>,
     refused: bool,
@@ -42,12 +43,12 @@ impl Model for Ballot {
 impl Ballot {
     ghost use Rattle.kt_vote.specs.declared.vote.Vote.{Vote};
     ghost use Rattle.kt_vote.specs.Order.{IsBefore, IsInOrder};
-    ghost use Rattle.kt_vote.specs.Poll.{Counts, asked_too, counted, counts, is_awaited, opening_poll, outcome_of};
+    ghost use Rattle.kt_vote.specs.Poll.{Counts, asked_too, asking_poll, counted, counts, is_awaited, opening_poll, outcome_of};
     ghost use Rattle.kt_vote.specs.Counting.{IsAfter, said};
 
-    /// A ballot in this instance of a node in this incarnation, which nobody is asked for yet. The parent is the
-    /// node that asked for it; where there is none, its node began the instance.
-    pub fn new(alloc: Global, instance: u64, incarnation: u64, parent: Option<NodeId>) -> Ballot
+    /// A ballot in this instance of a node in this incarnation, which nobody is asked for yet. The parent is who
+    /// asked for it; where there is none, its node began the instance.
+    pub fn new(alloc: Global, instance: u64, incarnation: u64, parent: Option<Asker>) -> Ballot
         ensures value { result ≡ opening_poll instance incarnation parent }
         ensures after { IsAfter [] result }
     {
@@ -60,6 +61,31 @@ impl Ballot {
             refused: false,
             voted: false,
         }
+    }
+
+    /// A ballot in this instance of a node in this incarnation, which asks these nodes, in node order, and has
+    /// counted no vote.
+    pub fn asking(
+        alloc: Global,
+        instance: u64,
+        incarnation: u64,
+        parent: Option<Asker>,
+        asked: Vec<NodeId>,
+    ) -> Result<Ballot, AllocError>
+        requires { IsInOrder asked.items }
+        ensures value { IfOk result (λ b. b ≡ asking_poll instance incarnation parent asked.items) }
+        ensures after { IfOk result (λ b. IsAfter [] b) }
+    {
+        let awaited = Vec::from_slice(alloc, &asked)?;
+        Ok(Ballot {
+            instance,
+            incarnation,
+            parent,
+            asked,
+            awaited,
+            refused: false,
+            voted: false,
+        })
     }
 
     /// An equal ballot.
@@ -84,15 +110,16 @@ impl Ballot {
         self.instance
     }
 
-    /// The incarnation in which the node asks. A vote repeats it.
+    /// The incarnation in which the node asks. A vote that comes to it repeats it.
     pub fn incarnation(&self) -> u64
         ensures { result ≡ self.now.incarnation }
     {
         self.incarnation
     }
 
-    /// Who asked the node itself, unless it began the instance.
-    pub fn parent(&self) -> Option<NodeId>
+    /// Who asked the node itself, and in which incarnation, unless it began the instance. The node's own vote
+    /// repeats that incarnation.
+    pub fn parent(&self) -> Option<Asker>
         ensures { result ≡ self.now.parent }
     {
         self.parent

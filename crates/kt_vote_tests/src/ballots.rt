@@ -1,12 +1,19 @@
 //! A ballot in instance 5 of a node in incarnation 3.
 
 ghost use Rattle.std.specs.Prelude.{◌≡◌, ◌≤◌, ◌<◌};
+ghost use Rattle.kt_vote.specs.Order.{IsInOrder};
 
 use kt_tuple::NodeId;
-use kt_vote::{Ballot, Vote};
+use kt_vote::{Asker, Ballot, Vote};
 use std::alloc::{AllocError, Global};
 use std::process::Abort;
 use std::test::Fail;
+
+/// The shard 1 in its incarnation 7.
+const ASKER: Asker = Asker {
+    node: NodeId::Shard(1),
+    incarnation: 7,
+};
 
 /// Whose vote comes, its instance and incarnation, whether it agrees; whether it is counted, and what the votes come
 /// to then. The workers 1 to 3 are asked.
@@ -65,7 +72,7 @@ fn a_ballot_tells_what_it_is_and_a_copy_is_apart(rt: HostRuntime) -> Result<(), 
     ballot.mark_voted();
     assert!(rt; ballot.has_voted() && !copy.has_voted());
     assert!(rt; copy.instance() == 5 && copy.incarnation() == 3);
-    assert!(rt; copy.parent() == Some(NodeId::Shard(1)));
+    assert!(rt; copy.parent() == Some(ASKER));
     assert!(rt; copy.asked() == [NodeId::Worker(1), NodeId::Worker(2)].as_slice());
     assert!(rt; copy.awaits(NodeId::Worker(1)) && !copy.complete());
     let alone = asking_workers(rt.alloc(), 0)?;
@@ -73,9 +80,28 @@ fn a_ballot_tells_what_it_is_and_a_copy_is_apart(rt: HostRuntime) -> Result<(), 
     Ok(())
 }
 
+#[test]
+fn a_ballot_made_whole_awaits_all_that_it_asks(rt: HostRuntime) -> Result<(), Fail> {
+    let nodes = [NodeId::Worker(3), NodeId::Shard(1)];
+    let ballot = asking_these(rt.alloc(), nodes)?;
+    assert!(rt; ballot.instance() == 5 && ballot.incarnation() == 3);
+    assert!(rt; ballot.parent().is_none() && !ballot.has_voted());
+    assert!(rt; ballot.asked() == nodes.as_slice());
+    assert!(rt; ballot.awaits(NodeId::Worker(3)) && ballot.awaits(NodeId::Shard(1)));
+    assert!(rt; ballot.outcome().is_none());
+    Ok(())
+}
+
+/// Of a node that began the instance, and made whole.
+fn asking_these(alloc: Global, nodes: [NodeId; 2]) -> Result<Ballot, AllocError>
+    requires { IsInOrder nodes }
+{
+    Ballot::asking(alloc, 5, 3, None, Vec::from_slice(alloc, &nodes)?)
+}
+
 /// Asked by the shard 1, and asking the workers up to this number.
 fn asking_workers(alloc: Global, last: u8) -> Result<Ballot, AllocError> {
-    let mut ballot = Ballot::new(alloc, 5, 3, Some(NodeId::Shard(1)));
+    let mut ballot = Ballot::new(alloc, 5, 3, Some(ASKER));
     for number in 1..=last {
         ballot.ask(NodeId::Worker(number))?;
     }
