@@ -6,3 +6,4 @@ pub mod Op
 pub mod Fields
 pub mod State
 pub mod Checkpoint
+pub mod Marks

@@ -2,6 +2,7 @@
 
 ghost use Rattle.std.specs.Prelude.{◌≡◌, IfOk};
 
+use crate::marks::Marks;
 use crate::state::State;
 use kt_link::Label;
 use kt_tuple::NodeId;
@@ -31,6 +32,7 @@ impl Model for Ckpt {
 
 impl Ckpt {
     ghost use Rattle.kt_ckpt.specs.Checkpoint.{Checkpoint, HasCounts};
+    ghost use Rattle.kt_ckpt.specs.Marks.{marks_of};
 
     /// The checkpoint of this node, whose line has this length. For each neighbour, in node order, it has the
     /// label of the last message sent to it and of the last heard from it, and it has the node's state. The
@@ -88,6 +90,18 @@ impl Ckpt {
         ensures { result.now ≡ self.now.state }
     {
         &self.state
+    }
+
+    /// All of it but the state.
+    pub fn marks(&self, alloc: Global) -> Result<Marks, AllocError>
+        ensures { IfOk result (λ m. m ≡ marks_of self.now) }
+    {
+        Ok(Marks {
+            node: self.node,
+            line_len: self.line_len,
+            sent: Vec::from_slice(alloc, &self.sent)?,
+            received: Vec::from_slice(alloc, &self.received)?,
+        })
     }
 
     /// What `new` takes, in that order. Nothing is copied, and the parts keep the counts of the format.

@@ -13,25 +13,20 @@ use Rattle.kt_node.specs.declared.live.Phase.TheVariants as phases
 use Rattle.kt_node.specs.declared.change.KeptChange.TheVariants as keeps
 use Rattle.kt_node.specs.declared.change.Change.TheVariants as changes
 use Rattle.kt_node.specs.declared.plan.Plan.{Plan}
+use Rattle.kt_node.specs.declared.reaction.Reaction.{Reaction}
+use Rattle.kt_node.specs.declared.reaction.Reaction.TheVariants as reactions
 use Rattle.kt_node.specs.declared.refusal.Refusal.TheVariants as refusals
 use Rattle.kt_node.specs.Labels.{up_to, label_at, first_at, reaches}
 use Rattle.kt_node.specs.Node.{Live, Node, Down, Alive, node_number}
 use Rattle.kt_node.specs.View.{View}
 use Rattle.kt_node.specs.Stored.{fits, is_undecided, sent_in}
-use Rattle.kt_node.specs.Plan.{Planned, empty_plan, no_turn}
+use Rattle.kt_node.specs.Plan.{Planned, empty_plan, no_turn, turning_to}
 use Rattle.kt_node.specs.Voting.{casting, poll_after, vote_for, votes}
 use Rattle.kt_node.specs.Joining.{asker_of, join_check_plan, join_rollback_plan}
-use Rattle.kt_node.specs.Loading.{Stored}
+use Rattle.kt_node.specs.declared.stored.Stored.{Stored}
 use Rattle.kt_node.specs.Learning.{held_learns, rolling_learns, verdict_to}
 
 -- ---- an ask
-
--- what is answered
-pub data Reaction : Type 0 where
-  -- a vote at once
-  Says : Bool → Reaction
-  -- the vote comes later: the node takes part
-  Joins : Reaction
 
 -- the ballot is of this instance
 abbrev pub is_in : Poll → ℕ → Bool
@@ -44,28 +39,28 @@ is_in b instance = b.instance == instance
 abbrev pub check_when_up : Live → NodeId → Ask → Reaction
 check_when_up n from ask =
     if reaches (first_at n.first (node_number from)) ask.label && up_to ask.label (label_at n.sent (node_number from))
-    then Joins else Says false
+    then reactions.Joins else reactions.Says false
 
 -- held: yes where it is this check, and the tentative checkpoint has sent what the asker received
 abbrev pub check_when_held : Poll → NodeId → Ask → Option Marks → Reaction
 check_when_held b from ask tentative =
-    Says (is_in b ask.instance && up_to ask.label (sent_in tentative (node_number from)))
+    reactions.Says (is_in b ask.instance && up_to ask.label (sent_in tentative (node_number from)))
 
 abbrev pub check_in : Live → NodeId → Ask → Option Marks → Phase → Reaction
 check_in n from ask tentative phases.Up = check_when_up n from ask
 check_in n from ask tentative (phases.Held b) = check_when_held b from ask tentative
-check_in n from ask tentative (phases.Rolling b) = Says false
+check_in n from ask tentative (phases.Rolling b) = reactions.Says false
 
 -- yes where the permanent checkpoint has sent what the asker received
 abbrev pub check_when_open : Live → NodeId → Ask → Option Marks → Option Marks → Reaction
 check_when_open n from ask permanent tentative =
-    if up_to ask.label (sent_in permanent (node_number from)) then Says true
+    if up_to ask.label (sent_in permanent (node_number from)) then reactions.Says true
     else check_in n from ask tentative n.phase
 
 -- no where the check is decided
 abbrev pub check_reaction : Live → NodeId → Ask → Option Verdict → Option Marks → Option Marks → Reaction
 check_reaction n from ask verdict permanent tentative =
-    if is_undecided verdict then check_when_open n from ask permanent tentative else Says false
+    if is_undecided verdict then check_when_open n from ask permanent tentative else reactions.Says false
 
 -- a vote at once changes nothing of the node
 abbrev pub answer_plan : NodeId → Ask → Bool → Plan
@@ -77,8 +72,8 @@ answer_plan from ask agreed = record {
 }
 
 abbrev pub check_plan : View → Live → NodeId → Ask → Option Marks → Reaction → Plan
-check_plan v n from ask permanent (Says agreed) = answer_plan from ask agreed
-check_plan v n from ask permanent Joins = join_check_plan v n from ask permanent
+check_plan v n from ask permanent (reactions.Says agreed) = answer_plan from ask agreed
+check_plan v n from ask permanent reactions.Joins = join_check_plan v n from ask permanent
 
 abbrev pub check_fitting : View → NodeId → Ask → Option Verdict → Option Marks → Option Marks → Live → Planned
 check_fitting v from ask verdict permanent tentative n =
@@ -98,19 +93,19 @@ hear_check v from ask verdict permanent tentative =
 -- ---- an ask to roll back
 
 abbrev pub rollback_in : Ask → Phase → Reaction
-rollback_in ask phases.Up = Joins
-rollback_in ask (phases.Held b) = Says false
-rollback_in ask (phases.Rolling b) = Says (is_in b ask.instance)
+rollback_in ask phases.Up = reactions.Joins
+rollback_in ask (phases.Held b) = reactions.Says false
+rollback_in ask (phases.Rolling b) = reactions.Says (is_in b ask.instance)
 
 -- yes where nothing was heard above the label
 abbrev pub rollback_when_open : Live → NodeId → Ask → Reaction
 rollback_when_open n from ask =
-    if up_to (label_at n.received (node_number from)) ask.label then Says true else rollback_in ask n.phase
+    if up_to (label_at n.received (node_number from)) ask.label then reactions.Says true else rollback_in ask n.phase
 
 -- no where the rollback is decided
 abbrev pub rollback_reaction : Live → NodeId → Ask → Option Verdict → Reaction
 rollback_reaction n from ask verdict =
-    if is_undecided verdict then rollback_when_open n from ask else Says false
+    if is_undecided verdict then rollback_when_open n from ask else reactions.Says false
 
 -- whatever is answered, what is kept from the asker above the label is dropped
 abbrev pub sieved_answer_plan : NodeId → Ask → Bool → Plan
@@ -122,8 +117,8 @@ sieved_answer_plan from ask agreed = record {
 }
 
 abbrev pub rollback_plan : View → Live → NodeId → Ask → Option Marks → Reaction → Planned
-rollback_plan v n from ask permanent (Says agreed) = Ok (sieved_answer_plan from ask agreed)
-rollback_plan v n from ask permanent Joins =
+rollback_plan v n from ask permanent (reactions.Says agreed) = Ok (sieved_answer_plan from ask agreed)
+rollback_plan v n from ask permanent reactions.Joins =
     if fits v.role v.line_len permanent then Ok (join_rollback_plan v n from ask permanent) else Err refusals.Damaged
 
 abbrev pub hear_rollback : View → NodeId → Ask → Option Verdict → Option Marks → Planned
@@ -132,23 +127,28 @@ hear_rollback v from ask verdict permanent =
 
 -- ---- a vote
 
--- a node in this phase, with the vote that it has to cast now
-abbrev pub counted_plan : (Poll → Phase) → Poll → Plan
-counted_plan phase b = record {
-  change = changes.Turn record no_turn { phase = Some (phase (poll_after b (casting b))) };
-  send = votes (casting b);
-  note = None;
-  write = None;
-}
+-- the ballot behind the vote that its node has to cast now, if it has to, and that vote
+abbrev pub behind_own : Poll → Poll × Option (NodeId × Vote)
+behind_own b = (poll_after b (casting b), casting b)
 
--- a vote in another instance, on an ask of another incarnation, or of a node that is not awaited is ignored
-abbrev pub vote_plan : (Poll → Phase) → Poll → NodeId → Vote → Plan
-vote_plan phase b from vote = if counts b from vote then counted_plan phase (counted b from vote.yes) else empty_plan
+-- the same of a ballot that counts this vote. One in another instance, on an ask of another incarnation, or of a node
+-- that is not awaited is not counted.
+abbrev pub counted_if : Poll → NodeId → Vote → Option (Poll × Option (NodeId × Vote))
+counted_if b from vote = if counts b from vote then Some (behind_own (counted b from vote.yes)) else None
+
+-- the node does this from now on, and casts this vote
+abbrev pub voting_plan : Phase → Option (NodeId × Vote) → Plan
+voting_plan phase own = record { change = turning_to phase; send = votes own; note = None; write = None }
+
+-- what is not counted is ignored
+abbrev pub vote_plan : (Poll → Phase) → Option (Poll × Option (NodeId × Vote)) → Plan
+vote_plan phase None = empty_plan
+vote_plan phase (Some x) = voting_plan (phase x.0) x.1
 
 abbrev pub vote_in : NodeId → Vote → Phase → Plan
 vote_in from vote phases.Up = empty_plan
-vote_in from vote (phases.Held b) = vote_plan phases.Held b from vote
-vote_in from vote (phases.Rolling b) = vote_plan phases.Rolling b from vote
+vote_in from vote (phases.Held b) = vote_plan phases.Held (counted_if b from vote)
+vote_in from vote (phases.Rolling b) = vote_plan phases.Rolling (counted_if b from vote)
 
 abbrev pub hear_vote : View → NodeId → Vote → Planned
 hear_vote v from vote = unless_down v.node (λ n. Ok (vote_in from vote n.phase))

@@ -18,10 +18,10 @@ use Rattle.kt_node.specs.declared.refusal.Refusal.TheVariants as refusals
 use Rattle.kt_node.specs.Node.{Live, Node, Down, Alive}
 use Rattle.kt_node.specs.View.{View}
 use Rattle.kt_node.specs.Stored.{fits, is_undecided}
-use Rattle.kt_node.specs.Plan.{Planned, no_turn}
+use Rattle.kt_node.specs.Plan.{Planned, no_turn, turning_to}
 use Rattle.kt_node.specs.Voting.{vote_for, voted, votes}
 use Rattle.kt_node.specs.Joining.{begin_check_plan}
-use Rattle.kt_node.specs.Loading.{Stored, marks_in}
+use Rattle.kt_node.specs.declared.stored.Stored.{Stored}
 use Rattle.kt_node.specs.Learning.{verdict_to, held_learns, rolling_learns, down_learns}
 
 -- ---- check: the node is up; the check has the next number
@@ -47,7 +47,7 @@ check v next permanent = check_of v next permanent v.node
 
 -- a node in a rollback that has Yes is up; else it stays what it is
 abbrev pub decided_change : Phase → Bool → Change
-decided_change (phases.Rolling b) true = changes.Turn record no_turn { phase = Some phases.Up }
+decided_change (phases.Rolling b) true = turning_to phases.Up
 decided_change phase agreed = changes.Turn no_turn
 
 abbrev pub decide_plan : Phase → Poll → Bool → Plan
@@ -97,16 +97,16 @@ abandon_open b verdict =
     if is_undecided verdict then Ok (no_plan (changes.Turn no_turn) b.instance b.asked) else Err refusals.NothingThere
 
 -- the participant has voted, and its vote is no
-abbrev pub declined_plan : (Poll → Phase) → Poll → Asker → Plan
-declined_plan phase b parent = record {
-  change = changes.Turn record no_turn { phase = Some (phase (voted b)) };
-  send = votes (Some (vote_for b.instance parent false));
+abbrev pub declined_plan : Phase → ℕ → Asker → Plan
+declined_plan phase instance parent = record {
+  change = turning_to phase;
+  send = votes (Some (vote_for instance parent false));
   note = None;
   write = None;
 }
 
 abbrev pub decline : (Poll → Phase) → Poll → Asker → Planned
-decline phase b parent = if b.voted then Err refusals.NothingThere else Ok (declined_plan phase b parent)
+decline phase b parent = if b.voted then Err refusals.NothingThere else Ok (declined_plan (phase (voted b)) b.instance parent)
 
 abbrev pub abandon_by : (Poll → Phase) → Poll → Option Verdict → Option Asker → Planned
 abandon_by phase b verdict None = abandon_open b verdict
@@ -159,7 +159,7 @@ learn_in v s agreed (phases.Rolling b) = learn_by v s agreed b.parent
 
 abbrev pub learn_settled : View → Stored → Option Bool → Planned
 learn_settled v s None = Err refusals.NotDecided
-learn_settled v s (Some agreed) = down_learns v (marks_in s) agreed
+learn_settled v s (Some agreed) = down_learns v s agreed
 
 abbrev pub learn_down : View → Stored → Bool → Option Bool → Planned
 learn_down v s is_tentative agreed =

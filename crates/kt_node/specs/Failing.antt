@@ -1,5 +1,5 @@
 -- The table of steps, those of failures: how a node fails, and comes back.
-use Rattle.std.specs.Prelude.{ℕ, ◌+◌, Bool, ◌&&◌, if◌then◌else◌, List, [], Option, None, Some, Ok, Err}
+use Rattle.std.specs.Prelude.{ℕ, ◌+◌, Bool, ◌&&◌, if◌then◌else◌, List, [], Option, None, Some, Result, Ok, Err}
 use Rattle.std.specs.Option.{is_some}
 use Rattle.kt_tuple.specs.declared.node.NodeId.{NodeId}
 use Rattle.kt_ckpt.specs.declared.marks.Marks.{Marks}
@@ -12,13 +12,16 @@ use Rattle.kt_node.specs.declared.live.Phase.TheVariants as phases
 use Rattle.kt_node.specs.declared.change.Change.TheVariants as changes
 use Rattle.kt_node.specs.declared.plan.Plan.{Plan}
 use Rattle.kt_node.specs.declared.plan.Write.TheVariants as writes
+use Rattle.kt_node.specs.declared.refusal.Refusal.{Refusal}
 use Rattle.kt_node.specs.declared.refusal.Refusal.TheVariants as refusals
-use Rattle.kt_node.specs.Node.{Body, Node, Down, Alive, neighbours}
+use Rattle.kt_node.specs.Labels.{label_at}
+use Rattle.kt_node.specs.Node.{Live, Node, Down, Alive, neighbours}
 use Rattle.kt_node.specs.View.{View}
 use Rattle.kt_node.specs.Stored.{acts_in, fits}
 use Rattle.kt_node.specs.Plan.{Planned}
 use Rattle.kt_node.specs.Joining.{roll_asks}
-use Rattle.kt_node.specs.Loading.{Stored, loaded, marks_in, with_loaded}
+use Rattle.kt_node.specs.declared.stored.Stored.{Stored}
+use Rattle.kt_node.specs.Loading.{load}
 use Rattle.kt_node.specs.Learning.{cut_of}
 
 -- ---- fail: the line is cut to the tentative checkpoint if there is one whose instance did not get No, else to the
@@ -52,16 +55,20 @@ fail v verdict permanent tentative = fail_of v verdict permanent tentative v.nod
 abbrev pub restarter : View → Stored → ℕ → Poll
 restarter v s next = asking_poll next (s.incarnation + 1) None (neighbours v.role)
 
-abbrev pub restarting_plan : View → Stored → ℕ → Body → Plan
-restarting_plan v s next body = record {
-  change = changes.Load (loaded s (phases.Rolling (restarter v s next)) body);
-  send = roll_asks next (s.incarnation + 1) (marks_in s) (neighbours v.role);
+abbrev pub restarting_plan : View → Stored → ℕ → Live → Plan
+restarting_plan v s next live = record {
+  change = changes.Load record live { phase = phases.Rolling (restarter v s next) };
+  send = roll_asks next (s.incarnation + 1) (label_at live.sent) (neighbours v.role);
   note = None;
   write = Some writes.BeginRestart;
 }
 
+abbrev pub restarted : View → Stored → ℕ → Result Live Refusal → Planned
+restarted v s next (Ok live) = Ok (restarting_plan v s next live)
+restarted v s next (Err refusal) = Err refusal
+
 abbrev pub restart_plan : View → Stored → ℕ → Planned
-restart_plan v s next = with_loaded v s (restarting_plan v s next)
+restart_plan v s next = restarted v s next (load v s)
 
 abbrev pub restart_down : View → Stored → ℕ → Bool → Option ℕ → Planned
 restart_down v s next is_tentative undecided =

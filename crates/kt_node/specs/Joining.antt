@@ -14,6 +14,7 @@ use Rattle.kt_node.specs.declared.change.Change.TheVariants as changes
 use Rattle.kt_node.specs.declared.plan.Plan.{Plan}
 use Rattle.kt_node.specs.declared.plan.Write.{Write}
 use Rattle.kt_node.specs.declared.plan.Write.TheVariants as writes
+use Rattle.kt_link.specs.declared.label.Label.{Label}
 use Rattle.kt_node.specs.Labels.{up_to, label_at}
 use Rattle.kt_node.specs.Node.{Role, Live, node_number, neighbours}
 use Rattle.kt_node.specs.View.{View}
@@ -78,19 +79,15 @@ join_check_plan v n from ask permanent =
 
 -- ---- a rollback
 
--- each neighbour is asked with the last label sent to it before the permanent checkpoint
-abbrev pub roll_ask : ℕ → ℕ → Option Marks → NodeId → NodeId × Message
-roll_ask instance incarnation permanent x = (
+-- each of these is asked with its label: that of the last message sent to it before the permanent checkpoint
+abbrev pub roll_ask : ℕ → ℕ → (ℕ → Label) → NodeId → NodeId × Message
+roll_ask instance incarnation label x = (
   x,
-  messages.RollAsk record {
-    instance = instance;
-    label = sent_in permanent (node_number x);
-    incarnation = incarnation;
-  },
+  messages.RollAsk record { instance = instance; label = label (node_number x); incarnation = incarnation },
 )
 
-abbrev pub roll_asks : ℕ → ℕ → Option Marks → List NodeId → List (NodeId × Message)
-roll_asks instance incarnation permanent asked = map (roll_ask instance incarnation permanent) asked
+abbrev pub roll_asks : ℕ → ℕ → (ℕ → Label) → List NodeId → List (NodeId × Message)
+roll_asks instance incarnation label asked = map (roll_ask instance incarnation label) asked
 
 -- the ballot of a participant, who asks all its neighbours
 abbrev pub roller : Role → Live → NodeId → Ask → Poll
@@ -103,7 +100,7 @@ rolling_plan n from ask permanent b = record {
     kept = keeps.Sieve from ask.label;
     phase = Some (phases.Rolling (poll_after b (casting b)));
   };
-  send = roll_asks b.instance n.incarnation permanent b.asked ++ votes (casting b);
+  send = roll_asks b.instance n.incarnation (sent_in permanent) b.asked ++ votes (casting b);
   note = None;
   write = None;
 }

@@ -1,20 +1,21 @@
 -- What a verdict makes of a node, whether it learns it from the board or is told.
-use Rattle.std.specs.Prelude.{ℕ, ◌+◌, Bool, true, false, if◌then◌else◌, List, [], map, Option, None, Some, Ok, Err}
+use Rattle.std.specs.Prelude.{ℕ, ◌+◌, Bool, true, false, if◌then◌else◌, List, [], map, Option, None, Some, Result, Ok, Err}
 use Rattle.kt_tuple.specs.declared.node.NodeId.{NodeId}
 use Rattle.kt_history.specs.declared.note.Note.{Note}
 use Rattle.kt_history.specs.declared.note.Note.TheVariants as notes
-use Rattle.kt_ckpt.specs.declared.marks.Marks.{Marks}
 use Rattle.kt_node.specs.declared.message.Message.{Message}
 use Rattle.kt_node.specs.declared.message.Message.TheVariants as messages
 use Rattle.kt_node.specs.declared.live.Phase.TheVariants as phases
 use Rattle.kt_node.specs.declared.change.Change.TheVariants as changes
 use Rattle.kt_node.specs.declared.plan.Plan.{Plan}
 use Rattle.kt_node.specs.declared.plan.Write.TheVariants as writes
+use Rattle.kt_node.specs.declared.refusal.Refusal.{Refusal}
 use Rattle.kt_node.specs.declared.refusal.Refusal.TheVariants as refusals
-use Rattle.kt_node.specs.Node.{Body}
+use Rattle.kt_node.specs.Node.{Live}
 use Rattle.kt_node.specs.View.{View}
 use Rattle.kt_node.specs.Stored.{acts_in, fits}
-use Rattle.kt_node.specs.Loading.{Stored, loaded, marks_in, with_loaded}
+use Rattle.kt_node.specs.declared.stored.Stored.{Stored}
+use Rattle.kt_node.specs.Loading.{load, marks_in}
 use Rattle.kt_node.specs.Plan.{Planned, no_turn}
 
 -- the verdict goes to each of these
@@ -52,13 +53,17 @@ abbrev pub held_learns : Bool → List (NodeId × Message) → Plan
 held_learns agreed send = if agreed then promote_plan send else discard_plan send
 
 -- Yes: the permanent state is loaded in the next incarnation, and the line is cut to it
-abbrev pub restoring_plan : View → Stored → List (NodeId × Message) → Body → Plan
-restoring_plan v s send body = record {
-  change = changes.Load (loaded s phases.Up body);
+abbrev pub restoring_plan : View → Stored → List (NodeId × Message) → Live → Plan
+restoring_plan v s send live = record {
+  change = changes.Load live;
   send = send;
   note = cut_of v.role.id (acts_in (marks_in s));
   write = Some writes.Bump;
 }
+
+abbrev pub restored : View → Stored → List (NodeId × Message) → Result Live Refusal → Planned
+restored v s send (Ok live) = Ok (restoring_plan v s send live)
+restored v s send (Err refusal) = Err refusal
 
 -- No: the state stays
 abbrev pub release_plan : List (NodeId × Message) → Plan
@@ -71,7 +76,7 @@ release_plan send = record {
 
 abbrev pub rolling_learns : View → Stored → Bool → List (NodeId × Message) → Planned
 rolling_learns v s agreed send =
-    if agreed then with_loaded v s (restoring_plan v s send) else Ok (release_plan send)
+    if agreed then restored v s send (load v s) else Ok (release_plan send)
 
 -- ---- a node that is down with a tentative checkpoint, and stays down
 
@@ -80,16 +85,16 @@ abbrev pub promote_down_plan : Plan
 promote_down_plan = record { change = changes.Stay; send = []; note = None; write = Some writes.Promote }
 
 -- No: it is given up, and the line is cut to the permanent one
-abbrev pub discard_down_plan : View → Option Marks → Plan
-discard_down_plan v permanent = record {
+abbrev pub discard_down_plan : View → Stored → Plan
+discard_down_plan v s = record {
   change = changes.Stay;
   send = [];
-  note = cut_of v.role.id (acts_in permanent);
+  note = cut_of v.role.id (acts_in (marks_in s));
   write = Some writes.Discard;
 }
 
-abbrev pub down_learns : View → Option Marks → Bool → Planned
-down_learns v permanent agreed =
+abbrev pub down_learns : View → Stored → Bool → Planned
+down_learns v s agreed =
     if agreed then Ok promote_down_plan
-    else if fits v.role v.line_len permanent then Ok (discard_down_plan v permanent)
+    else if fits v.role v.line_len (marks_in s) then Ok (discard_down_plan v s)
     else Err refusals.Damaged

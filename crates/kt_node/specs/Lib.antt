@@ -10,6 +10,8 @@ pub mod Voting
 pub mod Stored
 pub mod State
 pub mod Joining
+pub mod Saving
+pub mod Bodies
 pub mod Loading
 pub mod Learning
 pub mod Arrivals

@@ -1,5 +1,5 @@
 -- What a node works with, as the plain fields of a checkpoint, and back again.
-use Rattle.std.specs.Prelude.{ℕ, ◌==◌, nat_le, Bool, true, not, ◌&&◌, if◌then◌else◌, List, [], ◌∷◌, map, length, Option, None, Some, is_none}
+use Rattle.std.specs.Prelude.{ℕ, ◌==◌, nat_le, Bool, true, not, ◌&&◌, if◌then◌else◌, List, [], ◌∷◌, map, length, Option, None, Some, is_none, Result, Ok, Err}
 use Rattle.std.specs.List.{find, flat_map, list_any}
 use Rattle.std.specs.Option.{option_map}
 use Rattle.kt_tuple.specs.declared.node.NodeId.{NodeId}
@@ -15,6 +15,8 @@ use Rattle.kt_ckpt.specs.declared.ckpt.Ckpt.{Ckpt}
 use Rattle.kt_ckpt.specs.declared.state.State.{State}
 use Rattle.kt_ckpt.specs.declared.state.State.TheVariants as states
 use Rattle.kt_ckpt.specs.Fields.{WorkerFields, ShardFields}
+use Rattle.kt_node.specs.declared.refusal.Refusal.{Refusal}
+use Rattle.kt_node.specs.declared.refusal.Refusal.TheVariants as refusals
 use Rattle.kt_node.specs.Labels.{numbers, listed}
 use Rattle.kt_node.specs.Node.{Role, Body, IsWorker, IsShard, Live, opening_body}
 
@@ -65,14 +67,11 @@ checkpoint_of role n line_len = record {
 abbrev pub entry_of : {A : Type 0} → ℕ → List (ℕ × A) → Option A
 entry_of worker entries = option_map (λ x. x.1) (find (λ x. x.0 == worker) entries)
 
-abbrev pub desk_from : ShardFields → ℕ → Desk
-desk_from y worker = record {
-  waiting = entry_of worker y.waiting;
-  kept = entry_of worker y.kept;
-}
+abbrev pub desk_with : List (ℕ × Request) → List (ℕ × Kept) → ℕ → Desk
+desk_with waiting kept worker = record { waiting = entry_of worker waiting; kept = entry_of worker kept }
 
 abbrev pub shard_from : ShardFields → Shard
-shard_from y = record { bag = y.bag; desks = map (desk_from y) (numbers 0 desk_count) }
+shard_from y = record { bag = y.bag; desks = map (desk_with y.waiting y.kept) (numbers 0 desk_count) }
 
 abbrev pub standing_from : WorkerFields → Standing
 standing_from w = standing_of w.number w.asked w.pc w.was_none w.variables
@@ -90,17 +89,20 @@ shard_fits role line_len y =
 abbrev pub worker_fits : Role → WorkerFields → Bool
 worker_fits role w = is_none (misfit_of role.script (standing_from w))
 
-abbrev pub if_fits : Bool → Body → Option Body
-if_fits fits body = if fits then Some body else None
+abbrev pub if_fits : Bool → Body → Result Body Refusal
+if_fits fits body = if fits then Ok body else Err refusals.Damaged
+
+abbrev pub worker_from : Role → WorkerFields → Result Body Refusal
+worker_from role w = if_fits (worker_fits role w) (IsWorker (standing_from w))
 
 -- what a node of this kind works with behind so many acts, if the state is one that it can be in
-abbrev pub body_from : Role → ℕ → NodeId → State → Option Body
-body_from role line_len (ids.Worker n) (states.Worker w) = if_fits (worker_fits role w) (IsWorker (standing_from w))
-body_from role line_len (ids.Worker n) (states.Shard y) = None
-body_from role line_len (ids.Shard n) (states.Worker w) = None
+abbrev pub body_from : Role → ℕ → NodeId → State → Result Body Refusal
+body_from role line_len (ids.Worker n) (states.Worker w) = worker_from role w
+body_from role line_len (ids.Worker n) (states.Shard y) = Err refusals.Damaged
+body_from role line_len (ids.Shard n) (states.Worker w) = Err refusals.Damaged
 body_from role line_len (ids.Shard n) (states.Shard y) = if_fits (shard_fits role line_len y) (IsShard (shard_from y))
 
 -- the body with which the node goes on from its permanent checkpoint; nothing stored is the beginning
-abbrev pub body_at : Role → Option Ckpt → Option Body
-body_at role None = Some (opening_body role role.id)
+abbrev pub body_at : Role → Option Ckpt → Result Body Refusal
+body_at role None = Ok (opening_body role role.id)
 body_at role (Some c) = body_from role c.line_len role.id c.state

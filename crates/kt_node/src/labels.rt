@@ -1,11 +1,27 @@
 //! Tables of labels, one for each neighbour.
 
 ghost use Rattle.std.specs.Prelude.{◌≡◌, ◌<◌, length};
-ghost use Rattle.kt_node.specs.Labels.{up_to, label_at, first_at, reaches};
+ghost use Rattle.kt_node.specs.Labels.{up_to, label_at, listed_at, first_at, reaches};
 ghost use Rattle.kt_node.specs.Node.{node_number};
 
 use kt_link::Label;
 use kt_tuple::NodeId;
+
+/// Tables have an entry for each number that a neighbour can have, and for 0.
+pub(crate) const TABLE_SIZE: u8 = 9;
+
+/// The label of the neighbour of this number in a checkpoint's list, which has the neighbours from 1 on.
+pub(crate) fn listed_at(labels: &[Label], number: u8) -> Label
+    ensures { result ≡ listed_at labels.now number }
+{
+    if number == 0 {
+        return Label::default();
+    }
+    match labels.get(usize::from(number) - 1) {
+        Some(label) => *label,
+        None => Label::default(),
+    }
+}
 
 /// Whether the label is the other or below it.
 pub(crate) fn up_to(label: Label, other: Label) -> bool
