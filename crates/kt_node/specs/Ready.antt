@@ -16,9 +16,13 @@ CanChangeBody (IsShard y) (bodies.Wait worker request) = worker < desks
 CanChangeBody (IsShard y) (bodies.Serve worker s) = worker < desks
 CanChangeBody _ _ = Unit {0}
 
+-- one message more can be counted
+abbrev pub CanCount : Live → Type 0
+CanCount n = n.count + 1 < 2 ^ 64
+
 -- one message more can be counted, and its receiver has a place in the tables
 pub record CanSay (n : Live) (to : NodeId) : Type 0 where
-  pub count : n.count + 1 < 2 ^ 64
+  pub count : CanCount n
   pub place : node_number to < table_size
 
 pub record CanTurn (n : Live) (t : Turn) : Type 0 where

@@ -10,6 +10,7 @@ mod plan;
 mod refusal;
 mod role;
 mod turning;
+mod talking;
 
 pub use change::{BodyChange, Change, KeptChange, Loaded, Turn};
 pub use live::{Body, Phase};
