@@ -6,3 +6,5 @@ pub mod Plan
 pub mod Turning
 pub mod Talking
 pub mod Ready
+pub mod Steps
+pub mod Posts

@@ -8,6 +8,7 @@ use Rattle.kt_node.specs.declared.change.Turn.{Turn}
 use Rattle.kt_node.specs.declared.change.Change.{Change}
 use Rattle.kt_node.specs.declared.change.Change.TheVariants as changes
 use Rattle.kt_node.specs.Labels.{table_size}
+use Rattle.kt_node.specs.Steps.{up_of}
 use Rattle.kt_node.specs.Node.{Body, IsShard, Live, Node, Alive, node_number}
 
 -- a shard has a desk for the worker
@@ -35,3 +36,7 @@ pub record CanTurn (n : Live) (t : Turn) : Type 0 where
 abbrev pub CanChange : Node → Change → Type 0
 CanChange (Alive n) (changes.Turn t) = CanTurn n t
 CanChange _ _ = Unit {0}
+
+-- a node that is up can count one message more
+abbrev pub CanSpeak : Node → Type 0
+CanSpeak node = IfSome (up_of node) CanCount

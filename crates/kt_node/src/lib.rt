@@ -7,10 +7,12 @@ mod live;
 mod message;
 mod node;
 mod plan;
+mod posts;
 mod refusal;
 mod role;
-mod turning;
+mod steps;
 mod talking;
+mod turning;
 
 pub use change::{BodyChange, Change, KeptChange, Loaded, Turn};
 pub use live::{Body, Phase};

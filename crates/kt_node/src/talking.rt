@@ -242,7 +242,7 @@ impl View<'_> {
         requires { CanCount (live_view live.now) }
         ensures { IfOk result (λ plan. plan ≡
             request_plan (view_of self.entry) (live_view live.now) kept from post.now request.now
-                (arrival_view arrival.entry)) }
+            (arrival_view arrival.entry)) }
     {
         let worker = number_of(from);
         match arrival {
