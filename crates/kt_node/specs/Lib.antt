@@ -17,3 +17,5 @@ pub mod Learning
 pub mod Arrivals
 pub mod Deciding
 pub mod Failing
+pub mod Steps
+pub mod Posts

@@ -8,6 +8,7 @@ use Rattle.kt_node.specs.declared.change.Turn.{Turn}
 use Rattle.kt_node.specs.declared.change.Change.{Change}
 use Rattle.kt_node.specs.declared.change.Change.TheVariants as changes
 use Rattle.kt_node.specs.Labels.{table_size}
+use Rattle.kt_node.specs.Steps.{up_of}
 use Rattle.kt_node.specs.Node.{Body, IsShard, Live, Node, Alive, node_number}
 
 -- a shard has a desk for the worker
@@ -16,9 +17,13 @@ CanChangeBody (IsShard y) (bodies.Wait worker request) = worker < desks
 CanChangeBody (IsShard y) (bodies.Serve worker s) = worker < desks
 CanChangeBody _ _ = Unit {0}
 
+-- one message more can be counted
+abbrev pub CanCount : Live → Type 0
+CanCount n = n.count + 1 < 2 ^ 64
+
 -- one message more can be counted, and its receiver has a place in the tables
 pub record CanSay (n : Live) (to : NodeId) : Type 0 where
-  pub count : n.count + 1 < 2 ^ 64
+  pub count : CanCount n
   pub place : node_number to < table_size
 
 pub record CanTurn (n : Live) (t : Turn) : Type 0 where
@@ -31,3 +36,7 @@ pub record CanTurn (n : Live) (t : Turn) : Type 0 where
 abbrev pub CanChange : Node → Change → Type 0
 CanChange (Alive n) (changes.Turn t) = CanTurn n t
 CanChange _ _ = Unit {0}
+
+-- a node that is up can count one message more
+abbrev pub CanSpeak : Node → Type 0
+CanSpeak node = IfSome (up_of node) CanCount

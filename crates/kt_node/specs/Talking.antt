@@ -5,6 +5,7 @@ use Rattle.kt_tuple.specs.declared.node.NodeId.TheVariants as ids
 use Rattle.kt_tuple.specs.declared.op.Op.{Op}
 use Rattle.kt_tuple.specs.declared.op.Answer.{Answer}
 use Rattle.kt_tuple.specs.Signature.{kinds_of_op, shard_of}
+use Rattle.kt_link.specs.declared.label.Label.{Label}
 use Rattle.kt_history.specs.declared.note.What.{What}
 use Rattle.kt_history.specs.declared.note.What.TheVariants as whats
 use Rattle.kt_history.specs.declared.note.Act.{Act}
@@ -81,10 +82,10 @@ service_plan v n worker by s = record {
 -- ---- an underlying message is heard. Where it stood (a link, or the front of what is kept) is told by what becomes
 -- of the kept list.
 
--- it is heard, this becomes of the body, and nothing is said
-abbrev pub hearing : View → KeptChange → NodeId → Post → BodyChange → Option Note → Plan
-hearing v kept from post body note = record {
-  change = changes.Turn record no_turn { body = body; kept = kept; heard = Some (from, post.label) };
+-- a message of this label is heard, this becomes of the body, and nothing is said
+abbrev pub hearing : KeptChange → NodeId → Label → BodyChange → Option Note → Plan
+hearing kept from label body note = record {
+  change = changes.Turn record no_turn { body = body; kept = kept; heard = Some (from, label) };
   send = [];
   note = note;
   write = None;
@@ -102,31 +103,31 @@ again_plan v n kept from post request answer = record {
 -- a shard hears a request, and this comes of it
 abbrev pub request_plan : View → Live → KeptChange → NodeId → Post → Request → Arrival → Plan
 request_plan v n kept from post request Waits =
-    hearing v kept from post (bodies.Wait (node_number from) request)
+    hearing kept from post.label (bodies.Wait (node_number from) request)
     (note_of v.role.id post.by (node_number from) request whats.Heard)
 request_plan v n kept from post request (Again answer) = again_plan v n kept from post request answer
 request_plan v n kept from post request Ignored =
-    hearing v kept from post bodies.Stay (note_of v.role.id post.by (node_number from) request (whats.Ignored None))
+    hearing kept from post.label bodies.Stay (note_of v.role.id post.by (node_number from) request (whats.Ignored None))
 
 -- a worker hears a reply: it accepts the one that it waits for, and ignores all else
 abbrev pub reply_plan : View → Worker → KeptChange → NodeId → Post → Request → Answer → Plan
 reply_plan v x kept from post request answer =
     if awaits x request.number request.op
-    then hearing v kept from post (bodies.Work (heard v.role.script x answer))
+    then hearing kept from post.label (bodies.Work (heard v.role.script x answer))
     (note_of v.role.id post.by (node_number v.role.id) request (whats.Accepted answer))
-    else hearing v kept from post bodies.Stay
+    else hearing kept from post.label bodies.Stay
     (note_of v.role.id post.by (node_number v.role.id) request (whats.Ignored (Some answer)))
 
 -- a worker hears a reply and a shard a request; what comes from its own kind each ignores
 abbrev pub talk_plan : View → Live → KeptChange → NodeId → Post → Body → Talk → Plan
 talk_plan v n kept from post (IsWorker x) (talks.Reply request answer) = reply_plan v x kept from post request answer
 talk_plan v n kept from post (IsWorker x) (talks.Request request) =
-    hearing v kept from post bodies.Stay
+    hearing kept from post.label bodies.Stay
     (note_of v.role.id post.by (node_number v.role.id) request (whats.Ignored None))
 talk_plan v n kept from post (IsShard y) (talks.Request request) =
     request_plan v n kept from post request (arrival y (node_number from) request)
 talk_plan v n kept from post (IsShard y) (talks.Reply request answer) =
-    hearing v kept from post bodies.Stay
+    hearing kept from post.label bodies.Stay
     (note_of v.role.id post.by (node_number from) request (whats.Ignored (Some answer)))
 
 -- the live node hears the message

@@ -1,5 +1,5 @@
 -- What the code holds and lends, as plain data.
-use Rattle.std.specs.Prelude.{◌≡◌, ℕ, length, Bool, true, ◌&&◌, nat_lt, Option, None, Some}
+use Rattle.std.specs.Prelude.{◌≡◌, length, Bool, true, ◌&&◌, nat_lt, Option, None, Some}
 use Rattle.std.specs.VecDeque.{deque_len, deque_capacity}
 use Rattle.kt_node.specs.declared.live.Body.{Body as BodyCode}
 use Rattle.kt_node.specs.declared.live.Body.TheVariants as codes

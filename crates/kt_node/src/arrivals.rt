@@ -165,7 +165,8 @@ impl View<'_> {
         requires { CanSaveNode (view_of self) self.node.now.node }
         ensures { Gives result (hear_check (view_of self.entry) from ask verdict (option_copied permanent.entry) (option_copied tentative.entry)) }
     {
-        let Some(live) = &self.node.live else {
+        let node = self.node;
+        let Some(live) = &node.live else {
             return Ok(Plan::empty(alloc));
         };
         let (role, line_len) = (self.role, self.line_len);
@@ -189,7 +190,8 @@ impl View<'_> {
     ) -> Result<Plan, Refusal>
         ensures { Gives result (hear_rollback (view_of self.entry) from ask verdict (option_copied permanent.entry)) }
     {
-        let Some(live) = &self.node.live else {
+        let node = self.node;
+        let Some(live) = &node.live else {
             return Ok(Plan::empty(alloc));
         };
         match live.rollback_reaction(from, ask, verdict) {
@@ -208,7 +210,8 @@ impl View<'_> {
     pub fn hear_vote(self, alloc: Global, from: NodeId, vote: Vote) -> Result<Plan, Refusal>
         ensures { Gives result (hear_vote (view_of self.entry) from vote) }
     {
-        match &self.node.live {
+        let node = self.node;
+        match &node.live {
             None => Ok(Plan::empty(alloc)),
             Some(live) => Ok(vote_in(alloc, from, vote, &live.phase)?),
         }
@@ -226,7 +229,8 @@ impl View<'_> {
         requires { stored.incarnation + 1 < 2 ^ 64 }
         ensures { Gives result (hear_verdict (view_of self.entry) stored instance yes) }
     {
-        let Some(live) = &self.node.live else {
+        let node = self.node;
+        let Some(live) = &node.live else {
             return Ok(Plan::empty(alloc));
         };
         match &live.phase {

@@ -78,3 +78,22 @@ pub enum Change {
     /// It becomes this one: its permanent checkpoint is loaded.
     Load(Loaded),
 }
+
+impl Turn {
+    ghost use Rattle.std.specs.Prelude.{◌≡◌};
+    ghost use Rattle.kt_node.specs.Plan.{no_turn};
+
+    /// Nothing of the node is changed: a turn to begin with.
+    pub(crate) fn none() -> Turn
+        ensures { result ≡ no_turn }
+    {
+        Turn {
+            body: BodyChange::Stay,
+            kept: KeptChange::Stay,
+            heard: None,
+            said: None,
+            promoted: false,
+            phase: None,
+        }
+    }
+}

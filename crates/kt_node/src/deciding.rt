@@ -155,7 +155,8 @@ impl View<'_> {
         requires { CanSaveNode (view_of self) self.node.now.node }
         ensures { Gives result (check (view_of self.entry) next (option_copied permanent.entry)) }
     {
-        let Some(live) = &self.node.live else {
+        let node = self.node;
+        let Some(live) = &node.live else {
             return Err(Refusal::WrongMode);
         };
         let Phase::Up = &live.phase else {
@@ -172,7 +173,8 @@ impl View<'_> {
     pub fn decide(self, alloc: Global, verdict: Option<Verdict>) -> Result<Plan, Refusal>
         ensures { Gives result (decide (view_of self.entry) verdict) }
     {
-        let Some(live) = &self.node.live else {
+        let node = self.node;
+        let Some(live) = &node.live else {
             return Err(Refusal::WrongMode);
         };
         match &live.phase {
@@ -193,7 +195,8 @@ impl View<'_> {
     ) -> Result<Plan, Refusal>
         ensures { Gives result (abandon (view_of self.entry) verdict undecided) }
     {
-        let Some(live) = &self.node.live else {
+        let node = self.node;
+        let Some(live) = &node.live else {
             return match undecided {
                 Some(instance) => Ok(no_plan(alloc, Change::Stay, instance, &[])?),
                 None => Err(Refusal::NothingThere),
@@ -233,7 +236,8 @@ impl View<'_> {
         requires { stored.incarnation + 1 < 2 ^ 64 }
         ensures { Gives result (learn (view_of self.entry) stored is_tentative verdict) }
     {
-        let Some(live) = &self.node.live else {
+        let node = self.node;
+        let Some(live) = &node.live else {
             return self.learn_down(alloc, stored, is_tentative, settled(verdict));
         };
         match &live.phase {

@@ -42,7 +42,8 @@ impl View<'_> {
     ) -> Result<Plan, Refusal>
         ensures { Gives result (fail (view_of self.entry) verdict (option_copied permanent.entry) (option_copied tentative.entry)) }
     {
-        if self.node.live.is_none() {
+        let node = self.node;
+        if node.live.is_none() {
             return Err(Refusal::WrongMode);
         }
         let (role, line_len) = (self.role, self.line_len);
@@ -74,7 +75,8 @@ impl View<'_> {
         requires { stored.incarnation + 1 < 2 ^ 64 }
         ensures { Gives result (restart (view_of self.entry) stored next is_tentative undecided verdict) }
     {
-        let Some(live) = &self.node.live else {
+        let node = self.node;
+        let Some(live) = &node.live else {
             if is_tentative || undecided.is_some() {
                 return Err(Refusal::Unresolved);
             }

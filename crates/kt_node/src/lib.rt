@@ -13,11 +13,14 @@ mod loading;
 mod message;
 mod node;
 mod plan;
+mod posts;
 mod reaction;
 mod refusal;
 mod role;
 mod saving;
+mod steps;
 mod stored;
+mod talking;
 mod turning;
 mod voting;
 

@@ -88,6 +88,7 @@ fn kept_of(alloc: Global, worker: u8, entries: &[(u8, Kept)]) -> Result<Option<K
     }
 }
 
+#[tactic(auto, using(crate::proofs::Numbers::mapped_none, crate::proofs::Numbers::mapped_from_zero))]
 fn desks_of(
     alloc: Global,
     waiting: &[(u8, Request)],
@@ -141,6 +142,7 @@ fn opening_body(alloc: Global, role: Role<'_>) -> Result<Body, AllocError>
 }
 
 /// The table of a checkpoint's list.
+#[tactic(auto, using(crate::proofs::Numbers::mapped_none, crate::proofs::Numbers::mapped_from_zero))]
 fn tabled(alloc: Global, labels: &[Label]) -> Result<Vec<Label>, AllocError>
     ensures value { IfOk result (λ v. v.items ≡ tabled labels.now) }
     ensures size { IfOk result (λ v. length v.items ≡ table_size) }

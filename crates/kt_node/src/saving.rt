@@ -34,6 +34,7 @@ pub(crate) fn checkpoint_of(
 }
 
 /// The labels of so many neighbours.
+#[tactic(auto, using(crate::proofs::Numbers::mapped_none, crate::proofs::Numbers::mapped_from_one))]
 fn listed(alloc: Global, peers: u8, table: &[Label]) -> Result<Vec<Label>, AllocError>
     ensures { IfOk result (λ v. v.items ≡ listed peers table.now) }
 {
@@ -107,6 +108,7 @@ fn copy_tuples(alloc: Global, shard: &Shard) -> Result<Vec<Tuple>, AllocError>
     Ok(copies)
 }
 
+#[tactic(auto, using(crate::proofs::Numbers::flat_none, crate::proofs::Numbers::flat_from_one))]
 fn waiting_entries(alloc: Global, shard: &Shard) -> Result<Vec<(u8, Request)>, AllocError>
     ensures { IfOk result (λ v. v.items ≡ entries (λ worker. (desk_of shard.now.state worker).waiting)) }
 {
@@ -120,6 +122,7 @@ fn waiting_entries(alloc: Global, shard: &Shard) -> Result<Vec<(u8, Request)>, A
     Ok(entries)
 }
 
+#[tactic(auto, using(crate::proofs::Numbers::flat_none, crate::proofs::Numbers::flat_from_one))]
 fn kept_entries(alloc: Global, shard: &Shard) -> Result<Vec<(u8, Kept)>, AllocError>
     ensures { IfOk result (λ v. v.items ≡ entries (λ worker. (desk_of shard.now.state worker).kept)) }
 {

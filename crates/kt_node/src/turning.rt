@@ -3,10 +3,10 @@
 ghost use Rattle.std.specs.Prelude.{◌≡◌, ◌<◌, ◌≤◌, ◌+◌, ◌^◌, ◌++◌, ◌∷◌, IsTrue, OnOk, length, filter, not, Some, None};
 ghost use Rattle.std.specs.VecDeque.{deque_len, deque_capacity};
 ghost use Rattle.kt_shard.specs.Table.{put};
-ghost use Rattle.kt_node.specs.Labels.{no_label, no_firsts, table_size};
+ghost use Rattle.kt_node.specs.Labels.{first_at, no_label, no_firsts, table_size};
 ghost use Rattle.kt_node.specs.Node.{node_number};
 ghost use Rattle.kt_node.specs.Views.{body_view, body_has_room, live_view, live_has_room, HasTables};
-ghost use Rattle.kt_node.specs.Turning.{changed, changed_body, changed_kept, is_above, said, turned, turned_over};
+ghost use Rattle.kt_node.specs.Turning.{changed, changed_body, changed_kept, first_or, is_above, said, turned, turned_over};
 ghost use Rattle.kt_node.specs.Ready.{CanChange, CanChangeBody, CanSay, CanTurn};
 
 use crate::change::{BodyChange, Change, KeptChange, Turn};
@@ -79,7 +79,7 @@ impl Live {
         self.body.change(body);
         change_kept(&mut self.kept, kept);
         if let Some((from, label)) = heard {
-            self.received[usize::from(number_of(from))] = label;
+            write(&mut self.received, from, label);
         }
         if let Some(to) = said {
             self.say(to);
@@ -99,16 +99,13 @@ impl Live {
         ensures tables { HasTables self.new }
         ensures said { live_view self.new ≡ said (live_view self.old) to }
     {
-        let place = usize::from(number_of(to));
         self.count += 1;
         let label = Label {
             incarnation: self.incarnation,
             count: self.count,
         };
-        self.sent[place] = label;
-        if self.first[place].is_none() {
-            self.first[place] = Some(label);
-        }
+        write(&mut self.sent, to, label);
+        begin(&mut self.first, to, label);
     }
 }
 
@@ -139,6 +136,26 @@ impl Body {
             _ => {}
         }
     }
+}
+
+/// Writes the label of the node.
+fn write(table: &mut Vec<Label>, node: NodeId, label: Label)
+    requires { node_number node < length table.old.items }
+    ensures written { table.new.items ≡ put no_label table.old.items (node_number node) label }
+    ensures long { length table.new.items ≡ length table.old.items }
+{
+    table[usize::from(number_of(node))] = label;
+}
+
+/// Writes the first label of the node, where it has none.
+fn begin(table: &mut Vec<Option<Label>>, node: NodeId, label: Label)
+    requires { node_number node < length table.old.items }
+    ensures written { table.new.items ≡
+        put None table.old.items (node_number node) (first_or label (first_at table.old.items (node_number node))) }
+    ensures long { length table.new.items ≡ length table.old.items }
+{
+    let place = usize::from(number_of(node));
+    table[place] = table[place].or(Some(label));
 }
 
 /// Makes the change of what is kept, which takes no memory.
