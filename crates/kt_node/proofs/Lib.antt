@@ -1,3 +1,5 @@
 pub mod Numbers
+pub mod Neighbours
 pub mod Tables
 pub mod Sieving
+pub mod Fronts

@@ -1,6 +1,6 @@
 -- What a node works with, as the plain fields of a checkpoint, and back again.
-use Rattle.std.specs.Prelude.{ℕ, ◌==◌, nat_le, Bool, true, not, ◌&&◌, if◌then◌else◌, List, [], ◌∷◌, map, length, Option, None, Some, is_none, Result, Ok, Err}
-use Rattle.std.specs.List.{find, flat_map, list_any}
+use Rattle.std.specs.Prelude.{ℕ, ◌==◌, nat_le, Bool, ◌&&◌, if◌then◌else◌, List, [], ◌∷◌, map, length, Option, None, Some, is_none, Result, Ok, Err}
+use Rattle.std.specs.List.{find, flat_map, list_all}
 use Rattle.std.specs.Option.{option_map}
 use Rattle.kt_tuple.specs.declared.node.NodeId.{NodeId}
 use Rattle.kt_tuple.specs.declared.node.NodeId.TheVariants as ids
@@ -76,9 +76,13 @@ shard_from y = record { bag = y.bag; desks = map (desk_with y.waiting y.kept) (n
 abbrev pub standing_from : WorkerFields → Standing
 standing_from w = standing_of w.number w.asked w.pc w.was_none w.variables
 
+-- the scene has a worker of this number
+abbrev pub is_of_scene : ℕ → ℕ → Bool
+is_of_scene workers number = nat_le 1 number && nat_le number workers
+
 -- each of these entries is of a worker of the scene
 abbrev pub are_of_scene : {A : Type 0} → ℕ → List (ℕ × A) → Bool
-are_of_scene workers entries = not (list_any (λ x. not (nat_le 1 x.0 && nat_le x.0 workers)) entries)
+are_of_scene workers entries = list_all (λ x. is_of_scene workers x.0) entries
 
 -- a shard of the scene, with no more tuples than it remembers acts
 abbrev pub shard_fits : Role → ℕ → ShardFields → Bool

@@ -6,7 +6,7 @@ ghost use Rattle.kt_node.specs.Labels.{numbers, tabled, no_labels, no_firsts, ta
 ghost use Rattle.kt_node.specs.Loading.{load, loaded_by, loaded_from};
 ghost use Rattle.kt_node.specs.Node.{IsShard, fresh_live, opening_body, opening_node};
 ghost use Rattle.kt_node.specs.Plan.{Gives};
-ghost use Rattle.kt_node.specs.State.{are_of_scene, body_at, body_from, desk_with, entry_of, if_fits, shard_fits, shard_from, worker_from};
+ghost use Rattle.kt_node.specs.State.{are_of_scene, is_of_scene, body_at, body_from, desk_with, entry_of, if_fits, shard_fits, shard_from, worker_from};
 ghost use Rattle.kt_node.specs.View.{view_of};
 ghost use Rattle.kt_node.specs.Views.{HasTables, body_view, live_view, role_view};
 ghost use Rattle.kt_node.specs.Bodies.{GivesBody};
@@ -46,13 +46,18 @@ fn worker_from(role: Role<'_>, state: WorkerState) -> Result<Body, Refusal>
     }
 }
 
+/// Whether the scene has a worker of this number.
+fn is_of_scene(workers: u8, number: u8) -> bool
+    ensures { result ≡ is_of_scene workers number }
+{
+    1 <= number && number <= workers
+}
+
 /// Whether each of these entries is of a worker of the scene.
 fn are_of_scene<T>(workers: u8, entries: &[(u8, T)]) -> bool
     ensures { result ≡ are_of_scene workers entries.now }
 {
-    !entries
-        .iter()
-        .any(|entry| !(1 <= entry.0 && entry.0 <= workers))
+    entries.iter().all(|entry| is_of_scene(workers, entry.0))
 }
 
 fn bag_of(alloc: Global, tuples: Vec<Tuple>) -> Result<Bag, AllocError>
@@ -107,6 +112,7 @@ fn desks_of(
 }
 
 /// The shard of the state, where it is one of the scene and has no more tuples than there are acts.
+#[tactic(auto, using(crate::proofs::Numbers::whole_table))]
 fn shard_from(alloc: Global, role: Role<'_>, acts: u64, state: ShardState) -> Result<Body, Refusal>
     ensures { GivesBody result (if_fits (shard_fits (role_view role.entry) acts state) (IsShard (shard_from state))) }
 {
@@ -144,8 +150,7 @@ fn opening_body(alloc: Global, role: Role<'_>) -> Result<Body, AllocError>
 /// The table of a checkpoint's list.
 #[tactic(auto, using(crate::proofs::Numbers::mapped_none, crate::proofs::Numbers::mapped_from_zero))]
 fn tabled(alloc: Global, labels: &[Label]) -> Result<Vec<Label>, AllocError>
-    ensures value { IfOk result (λ v. v.items ≡ tabled labels.now) }
-    ensures size { IfOk result (λ v. length v.items ≡ table_size) }
+    ensures { IfOk result (λ v. v.items ≡ tabled labels.now) }
 {
     let mut table = Vec::with_capacity(alloc, usize::from(TABLE_SIZE))?;
     for number in 0..TABLE_SIZE {
@@ -237,6 +242,7 @@ fn load_opening(alloc: Global, role: Role<'_>, incarnation: u64) -> Result<Loade
     Ok(Loaded { live })
 }
 
+#[tactic(auto, using(crate::proofs::Numbers::whole_table))]
 fn load_checkpoint(
     alloc: Global,
     role: Role<'_>,

@@ -1,11 +1,12 @@
 //! The checkpoint of a moment.
 
-ghost use Rattle.std.specs.Prelude.{◌≡◌, ◌≤◌, IfOk};
+ghost use Rattle.std.specs.Prelude.{◌≡◌, ◌≤◌, ◌++◌, IfOk, OnOk};
+ghost use Rattle.std.specs.Option.{option_copied, option_to_list};
 ghost use Rattle.kt_ckpt.specs.Checkpoint.{HasCounts, IsCountedState};
 ghost use Rattle.kt_ckpt.specs.Limits.{max_pc};
 ghost use Rattle.kt_shard.specs.Shard.{desk_of};
 ghost use Rattle.kt_node.specs.Labels.{listed};
-ghost use Rattle.kt_node.specs.State.{body_fields, checkpoint_of, entries, shard_fields, worker_fields};
+ghost use Rattle.kt_node.specs.State.{body_fields, checkpoint_of, entries, entry, shard_fields, worker_fields};
 ghost use Rattle.kt_node.specs.Views.{body_view, live_view, role_view};
 
 use crate::live::{Body, Live};
@@ -95,17 +96,45 @@ fn shard_state(alloc: Global, shard: &Shard) -> Result<ShardState, AllocError>
     Ok(ShardState::new(bag, waiting, kept))
 }
 
+/// A copy of the tuple, if there is one.
+fn add_copy(
+    alloc: Global,
+    copies: &mut Vec<Tuple>,
+    tuple: Option<&Tuple>,
+) -> Result<(), AllocError>
+    ensures { OnOk result (copies.new.items ≡ copies.old.items ++ option_to_list (option_copied tuple.entry)) }
+{
+    if let Some(tuple) = tuple {
+        copies.push(tuple.copy(alloc)?)?;
+    }
+    Ok(())
+}
+
+#[tactic(auto, using(crate::proofs::Fronts::take_more))]
 fn copy_tuples(alloc: Global, shard: &Shard) -> Result<Vec<Tuple>, AllocError>
     ensures { IfOk result (λ v. v.items ≡ shard.now.state.bag) }
 {
     let bag = shard.bag();
     let mut copies = Vec::with_capacity(alloc, bag.len())?;
     for place in 0..bag.len() {
-        if let Some(tuple) = bag.get(place) {
-            copies.push(tuple.copy(alloc)?)?;
-        }
+        add_copy(alloc, &mut copies, bag.get(place))?;
     }
     Ok(copies)
+}
+
+/// The worker's entry, where it waits.
+fn add_waiting(
+    alloc: Global,
+    entries: &mut Vec<(u8, Request)>,
+    shard: &Shard,
+    worker: u8,
+) -> Result<(), AllocError>
+    ensures { OnOk result (entries.new.items ≡ entries.old.items ++ entry worker (desk_of shard.now.state worker).waiting) }
+{
+    if let Some(request) = shard.waiting(worker) {
+        entries.push((worker, request.copy(alloc)?))?;
+    }
+    Ok(())
 }
 
 #[tactic(auto, using(crate::proofs::Numbers::flat_none, crate::proofs::Numbers::flat_from_one))]
@@ -114,12 +143,24 @@ fn waiting_entries(alloc: Global, shard: &Shard) -> Result<Vec<(u8, Request)>, A
 {
     let mut entries = Vec::new(alloc);
     for before in 0..MAX_WORKERS {
-        let worker = before + 1;
-        if let Some(request) = shard.waiting(worker) {
-            entries.push((worker, request.copy(alloc)?))?;
-        }
+        add_waiting(alloc, &mut entries, shard, before + 1)?;
     }
     Ok(entries)
+}
+
+/// The worker's entry, where something is kept for it.
+fn add_kept(
+    alloc: Global,
+    entries: &mut Vec<(u8, Kept)>,
+    shard: &Shard,
+    worker: u8,
+) -> Result<(), AllocError>
+    ensures { OnOk result (entries.new.items ≡ entries.old.items ++ entry worker (desk_of shard.now.state worker).kept) }
+{
+    if let Some(kept) = shard.kept(worker) {
+        entries.push((worker, kept.copy(alloc)?))?;
+    }
+    Ok(())
 }
 
 #[tactic(auto, using(crate::proofs::Numbers::flat_none, crate::proofs::Numbers::flat_from_one))]
@@ -128,10 +169,7 @@ fn kept_entries(alloc: Global, shard: &Shard) -> Result<Vec<(u8, Kept)>, AllocEr
 {
     let mut entries = Vec::new(alloc);
     for before in 0..MAX_WORKERS {
-        let worker = before + 1;
-        if let Some(kept) = shard.kept(worker) {
-            entries.push((worker, kept.copy(alloc)?))?;
-        }
+        add_kept(alloc, &mut entries, shard, before + 1)?;
     }
     Ok(entries)
 }
