@@ -3,6 +3,7 @@
 
 mod change;
 mod labels;
+mod laws;
 mod live;
 mod message;
 mod node;
@@ -15,6 +16,7 @@ mod talking;
 mod turning;
 
 pub use change::{BodyChange, Change, KeptChange, Loaded, Turn};
+pub use laws::plans_can_be_carried_out;
 pub use live::{Body, Phase};
 pub use message::{Ask, Message, Post, Talk};
 pub use node::{Mode, Node};
