@@ -16,7 +16,8 @@ pub first-or : (old : Option Label) (l : Label) → option_or old (Some l) ≡ f
 first-or None l = refl
 first-or (Some first) l = refl
 
-pub begun : (xs : List (Option Label)) (place k : ℕ) (old new : Option Label) (l : Label) → place ≡ k → k < length xs → old ≡ get_or xs place old → new ≡ option_or old (Some l)
+pub begun : (xs : List (Option Label)) (place k : ℕ) (old new : Option Label) (l : Label) → place ≡ k → k < length xs
+    → old ≡ get_or xs place old → new ≡ option_or old (Some l)
     → set xs place new ≡ put None xs k (first_or l (first_at xs k))
 begun xs place k old new l at lt was is =
     let read : old ≡ first_at xs k = was ∙ get_or_default xs place old None (omega (arith, at, lt)) ∙ ap (first_at xs) at in

@@ -7,6 +7,7 @@ mod deciding;
 mod failing;
 mod joining;
 mod labels;
+mod laws;
 mod learning;
 mod live;
 mod loading;
@@ -25,6 +26,7 @@ mod turning;
 mod voting;
 
 pub use change::{BodyChange, Change, KeptChange, Loaded, Turn};
+pub use laws::plans_can_be_carried_out;
 pub use live::{Body, Phase};
 pub use message::{Ask, Message, Post, Talk};
 pub use node::{Mode, Node};

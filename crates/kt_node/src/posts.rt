@@ -1,10 +1,9 @@
 //! What an underlying message makes of the node that it comes to.
 
 ghost use Rattle.std.specs.Prelude.{◌≡◌, IfOk};
-ghost use Rattle.kt_node.specs.Views.{live_view};
 ghost use Rattle.kt_node.specs.View.{view_of};
 ghost use Rattle.kt_node.specs.Plan.{Gives};
-ghost use Rattle.kt_node.specs.Ready.{CanCount, CanSpeak};
+ghost use Rattle.kt_node.specs.Ready.{CanSpeak};
 ghost use Rattle.kt_node.specs.Posts.{hear_post, keep_plan};
 
 use crate::change::{Change, KeptChange, Turn};

@@ -1,6 +1,6 @@
 //! The steps of the underlying computation.
 
-ghost use Rattle.std.specs.Prelude.{◌≡◌, ◌≤◌, is_some, slice_get};
+ghost use Rattle.std.specs.Prelude.{◌≡◌, ◌≤◌, is_some};
 ghost use Rattle.std.specs.Option.{option_copied, option_map};
 ghost use Rattle.kt_worker.specs.Standing.{next_request};
 ghost use Rattle.kt_node.specs.Views.{live_view};

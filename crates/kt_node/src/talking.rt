@@ -1,15 +1,15 @@
 //! What workers and shards say to each other: the plans of the acts.
 
-ghost use Rattle.std.specs.Prelude.{◌≡◌, ◌<◌, ◌≤◌, ◌+◌, ◌^◌, [], ◌∷◌, IfOk};
+ghost use Rattle.std.specs.Prelude.{◌≡◌, ◌≤◌, [], ◌∷◌, IfOk};
 ghost use Rattle.kt_history.specs.declared.note.What.TheVariants.{Served};
 ghost use Rattle.kt_shard.specs.Arrival.{arrival_view};
 ghost use Rattle.kt_node.specs.declared.message.Talk.TheVariants.{Request as Asked, Reply as Replied};
 ghost use Rattle.kt_node.specs.Node.{next_label};
 ghost use Rattle.kt_node.specs.Views.{live_view};
 ghost use Rattle.kt_node.specs.View.{view_of};
-ghost use Rattle.kt_node.specs.Plan.{no_turn};
 ghost use Rattle.kt_node.specs.Ready.{CanCount};
-ghost use Rattle.kt_node.specs.Talking.{home, note_of, post_of, issue_plan, repeat_plan, service_plan, hearing, again_plan, request_plan, reply_plan, heard_plan};
+ghost use Rattle.kt_node.specs.Talking.{home, note_of, post_of, issue_plan, repeat_plan, service_plan};
+ghost use Rattle.kt_node.specs.Talking.{hearing, again_plan, request_plan, reply_plan, heard_plan};
 
 use crate::change::{BodyChange, Change, KeptChange, Turn};
 use crate::labels::number_of;
