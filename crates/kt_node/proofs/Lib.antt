@@ -1,0 +1,6 @@
+pub mod Numbers
+pub mod Neighbours
+pub mod Tables
+pub mod Sieving
+pub mod Fronts
+pub mod Acting

@@ -1,0 +1,14 @@
+-- When a checkpoint of a node can be taken: its counts are those of the format.
+use Rattle.std.specs.Prelude.{Option, None, Some}
+use Rattle.kt_ckpt.specs.Checkpoint.{HasCounts}
+use Rattle.kt_node.specs.Node.{Live, Node, Down, Alive}
+use Rattle.kt_node.specs.View.{View}
+use Rattle.kt_node.specs.Joining.{checkpoint_now}
+
+abbrev pub CanSave : View → Live → Type 0
+CanSave v n = HasCounts (checkpoint_now v n)
+
+-- the same of a node that may be down
+abbrev pub CanSaveNode : View → Node → Type 0
+CanSaveNode v Down = Unit {0}
+CanSaveNode v (Alive n) = CanSave v n

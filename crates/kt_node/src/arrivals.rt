@@ -1,0 +1,247 @@
+//! What a control message makes of the node that it comes to.
+
+ghost use Rattle.std.specs.Prelude.{◌≡◌, ◌+◌, ◌<◌, ◌^◌, IfOk};
+ghost use Rattle.std.specs.Option.{option_copied};
+ghost use Rattle.kt_node.specs.Plan.{Gives};
+ghost use Rattle.kt_node.specs.Saving.{CanSave, CanSaveNode};
+ghost use Rattle.kt_node.specs.View.{view_of};
+ghost use Rattle.kt_node.specs.Views.{live_view};
+ghost use Rattle.kt_node.specs.Arrivals.{answer_plan, check_plan, counted_if, hear_check, hear_rollback, hear_verdict, hear_vote};
+ghost use Rattle.kt_node.specs.Arrivals.{sieved_answer_plan, verdict_when_held, vote_in, voting_plan};
+
+use crate::change::{BodyChange, Change, KeptChange, Turn};
+use crate::joining::{asker_of, turning_to};
+use crate::learning::{held_learns, verdict_to};
+use crate::live::{Live, Phase};
+use crate::message::Ask;
+use crate::plan::Plan;
+use crate::reaction::{Reaction, is_in};
+use crate::refusal::Refusal;
+use crate::role::View;
+use crate::stored::{Stored, fits};
+use crate::voting::{cast, vote_alone, vote_for};
+use kt_ckpt::Marks;
+use kt_store::Verdict;
+use kt_tuple::NodeId;
+use kt_vote::{Ballot, Vote};
+use std::alloc::{AllocError, Global};
+
+/// A vote at once, which changes nothing of the node.
+fn answer_plan(alloc: Global, from: NodeId, ask: Ask, yes: bool) -> Result<Plan, AllocError>
+    ensures { IfOk result (λ p. p ≡ answer_plan from ask yes) }
+{
+    let vote = vote_for(ask.instance, asker_of(from, ask), yes);
+    Ok(Plan {
+        change: Change::Turn(Turn {
+            body: BodyChange::Stay,
+            kept: KeptChange::Stay,
+            heard: None,
+            said: None,
+            promoted: false,
+            phase: None,
+        }),
+        send: vote_alone(alloc, Some(vote))?,
+        note: None,
+        write: None,
+    })
+}
+
+/// A vote at once; what is kept from the asker above the label is dropped.
+fn sieved_answer_plan(alloc: Global, from: NodeId, ask: Ask, yes: bool) -> Result<Plan, AllocError>
+    ensures { IfOk result (λ p. p ≡ sieved_answer_plan from ask yes) }
+{
+    let vote = vote_for(ask.instance, asker_of(from, ask), yes);
+    Ok(Plan {
+        change: Change::Turn(Turn {
+            body: BodyChange::Stay,
+            kept: KeptChange::Sieve {
+                from,
+                label: ask.label,
+            },
+            heard: None,
+            said: None,
+            promoted: false,
+            phase: None,
+        }),
+        send: vote_alone(alloc, Some(vote))?,
+        note: None,
+        write: None,
+    })
+}
+
+/// A ballot with one vote more, and the vote that its node has to cast now.
+fn counted(
+    alloc: Global,
+    ballot: &Ballot,
+    from: NodeId,
+    vote: Vote,
+) -> Result<Option<(Ballot, Option<(NodeId, Vote)>)>, AllocError>
+    ensures { IfOk result (λ r. r ≡ counted_if ballot.now from vote) }
+{
+    let mut ballot = ballot.copy(alloc)?;
+    if !ballot.count_vote(from, vote) {
+        return Ok(None);
+    }
+    let own = cast(&mut ballot);
+    Ok(Some((ballot, own)))
+}
+
+/// The node does this from now on, and casts the vote that it has to.
+fn voting_plan(alloc: Global, phase: Phase, own: Option<(NodeId, Vote)>) -> Result<Plan, AllocError>
+    ensures { IfOk result (λ p. p ≡ voting_plan phase own) }
+{
+    Ok(Plan {
+        change: turning_to(phase),
+        send: vote_alone(alloc, own)?,
+        note: None,
+        write: None,
+    })
+}
+
+/// What a vote makes of a node in this phase.
+fn vote_in(alloc: Global, from: NodeId, vote: Vote, phase: &Phase) -> Result<Plan, AllocError>
+    ensures { IfOk result (λ p. p ≡ vote_in from vote phase.now) }
+{
+    match phase {
+        Phase::Up => Ok(Plan::empty(alloc)),
+        Phase::Held(ballot) => match counted(alloc, ballot, from, vote)? {
+            None => Ok(Plan::empty(alloc)),
+            Some((ballot, own)) => voting_plan(alloc, Phase::Held(ballot), own),
+        },
+        Phase::Rolling(ballot) => match counted(alloc, ballot, from, vote)? {
+            None => Ok(Plan::empty(alloc)),
+            Some((ballot, own)) => voting_plan(alloc, Phase::Rolling(ballot), own),
+        },
+    }
+}
+
+/// What a held node makes of a verdict: where it is that of its ballot, it learns it and passes it on to all that
+/// it asked.
+fn verdict_when_held(
+    alloc: Global,
+    ballot: &Ballot,
+    instance: u64,
+    yes: bool,
+) -> Result<Plan, AllocError>
+    ensures { IfOk result (λ p. p ≡ verdict_when_held ballot.now instance yes) }
+{
+    if !is_in(ballot, instance) {
+        return Ok(Plan::empty(alloc));
+    }
+    let send = verdict_to(alloc, instance, yes, ballot.asked())?;
+    Ok(held_learns(yes, send))
+}
+
+impl View<'_> {
+    fn check_plan(
+        self,
+        alloc: Global,
+        live: &Live,
+        from: NodeId,
+        ask: Ask,
+        permanent: Option<&Marks>,
+        reaction: Reaction,
+    ) -> Result<Plan, AllocError>
+        requires { CanSave (view_of self) (live_view live.now) }
+        ensures { IfOk result (λ p. p ≡ check_plan (view_of self.entry) (live_view live.now) from ask (option_copied permanent.entry) reaction) }
+    {
+        match reaction {
+            Reaction::Says(yes) => answer_plan(alloc, from, ask, yes),
+            Reaction::Joins => self.join_check_plan(alloc, live, from, ask, permanent),
+        }
+    }
+
+    /// An ask to take a checkpoint. `verdict` is what the board has of its instance; `permanent` and `tentative` are
+    /// the marks of the node's checkpoints. `Damaged` where these do not fit the node.
+    pub fn hear_check(
+        self,
+        alloc: Global,
+        from: NodeId,
+        ask: Ask,
+        verdict: Option<Verdict>,
+        permanent: Option<&Marks>,
+        tentative: Option<&Marks>,
+    ) -> Result<Plan, Refusal>
+        requires { CanSaveNode (view_of self) self.node.now.node }
+        ensures { Gives result (hear_check (view_of self.entry) from ask verdict (option_copied permanent.entry) (option_copied tentative.entry)) }
+    {
+        let node = self.node;
+        let Some(live) = &node.live else {
+            return Ok(Plan::empty(alloc));
+        };
+        let (role, line_len) = (self.role, self.line_len);
+        if !(fits(role, line_len, permanent) && fits(role, line_len, tentative)) {
+            return Err(Refusal::Damaged);
+        }
+        let reaction = live.check_reaction(from, ask, verdict, permanent, tentative);
+        Ok(self.check_plan(alloc, live, from, ask, permanent, reaction)?)
+    }
+
+    /// An ask to roll back. `verdict` is what the board has of its instance, `permanent` the marks of the node's
+    /// permanent checkpoint. What the node keeps from the asker above the label is dropped, whatever it answers.
+    /// `Damaged` where the node takes part and these do not fit it.
+    pub fn hear_rollback(
+        self,
+        alloc: Global,
+        from: NodeId,
+        ask: Ask,
+        verdict: Option<Verdict>,
+        permanent: Option<&Marks>,
+    ) -> Result<Plan, Refusal>
+        ensures { Gives result (hear_rollback (view_of self.entry) from ask verdict (option_copied permanent.entry)) }
+    {
+        let node = self.node;
+        let Some(live) = &node.live else {
+            return Ok(Plan::empty(alloc));
+        };
+        match live.rollback_reaction(from, ask, verdict) {
+            Reaction::Says(yes) => Ok(sieved_answer_plan(alloc, from, ask, yes)?),
+            Reaction::Joins => {
+                if !fits(self.role, self.line_len, permanent) {
+                    return Err(Refusal::Damaged);
+                }
+                Ok(self.join_rollback_plan(alloc, live, from, ask, permanent)?)
+            }
+        }
+    }
+
+    /// A vote. One of another instance, on an ask of another incarnation, or of a node that is not awaited is
+    /// ignored.
+    pub fn hear_vote(self, alloc: Global, from: NodeId, vote: Vote) -> Result<Plan, Refusal>
+        ensures { Gives result (hear_vote (view_of self.entry) from vote) }
+    {
+        let node = self.node;
+        match &node.live {
+            None => Ok(Plan::empty(alloc)),
+            Some(live) => Ok(vote_in(alloc, from, vote, &live.phase)?),
+        }
+    }
+
+    /// A verdict. A held node learns that of its ballot, and so does a participant of a rollback; both pass it on
+    /// to all that they asked. `Damaged` where a permanent checkpoint is to be loaded that does not fit the node.
+    pub fn hear_verdict(
+        self,
+        alloc: Global,
+        stored: Stored,
+        instance: u64,
+        yes: bool,
+    ) -> Result<Plan, Refusal>
+        requires { stored.incarnation + 1 < 2 ^ 64 }
+        ensures { Gives result (hear_verdict (view_of self.entry) stored instance yes) }
+    {
+        let node = self.node;
+        let Some(live) = &node.live else {
+            return Ok(Plan::empty(alloc));
+        };
+        match &live.phase {
+            Phase::Up => Ok(Plan::empty(alloc)),
+            Phase::Held(ballot) => Ok(verdict_when_held(alloc, ballot, instance, yes)?),
+            Phase::Rolling(ballot) => {
+                if ballot.parent().is_none() || !is_in(ballot, instance) {
+                    return Ok(Plan::empty(alloc));
+                }
+                self.rolling_learns(alloc, stored, instance, yes, ballot.asked())
+            }
+        }
+    }
+}

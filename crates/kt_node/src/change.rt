@@ -1,0 +1,99 @@
+//! What becomes of a node.
+
+use crate::live::{Live, Phase};
+use crate::message::Post;
+use kt_link::Label;
+use kt_shard::{Prepared, Request};
+use kt_tuple::NodeId;
+use kt_worker::Worker;
+use std::marker::Model;
+
+/// What becomes of a worker or a shard.
+#[derive(Debug, Drop)]
+pub enum BodyChange {
+    /// It stays as it is.
+    Stay,
+    /// The worker becomes this one.
+    Work(Worker),
+    /// The worker of this number waits with this.
+    Wait { worker: u8, request: Request },
+    /// The worker of this number is served.
+    Serve { worker: u8, service: Prepared },
+}
+
+/// What becomes of the messages that a node keeps.
+#[derive(Debug, Drop)]
+pub enum KeptChange {
+    /// They stay as they are.
+    Stay,
+    /// One more stands behind them.
+    Append { from: NodeId, post: Post },
+    /// The first is taken off.
+    TakeFirst,
+    /// Those from this node above the label are dropped.
+    Sieve { from: NodeId, label: Label },
+}
+
+/// What becomes of a node that stays alive. The parts are independent of each other.
+#[derive(Debug, Drop)]
+pub struct Turn {
+    pub body: BodyChange,
+    pub kept: KeptChange,
+    /// Of whom an underlying message is heard, and its label.
+    pub heard: Option<(NodeId, Label)>,
+    /// To whom the next underlying message is sent.
+    pub said: Option<NodeId>,
+    /// The checkpoint is permanent: from now on nothing was sent since.
+    pub promoted: bool,
+    /// What it does from now on; none where that stays.
+    pub phase: Option<Phase>,
+}
+
+/// A node as its permanent checkpoint has it.
+#[derive(Debug, Drop)]
+pub struct Loaded {
+    pub(crate) live: Live,
+}
+
+impl Model for Loaded {
+    ghost use Rattle.kt_node.specs.Node.{Live as LiveData};
+    ghost use Rattle.kt_node.specs.Views.{HasTables, live_view};
+
+    ghost Value = { LiveData };
+
+    ghost view = { λ l. live_view l.live };
+
+    ghost invariant = { λ l. HasTables l.live };
+}
+
+/// What becomes of a node.
+#[derive(Debug, Drop)]
+pub enum Change {
+    /// It stays as it is: a node that is down, too.
+    Stay,
+    /// It goes on, with these parts changed.
+    Turn(Turn),
+    /// It fails.
+    Fall,
+    /// It becomes this one: its permanent checkpoint is loaded.
+    Load(Loaded),
+}
+
+impl Turn {
+    ghost use Rattle.std.specs.Prelude.{◌≡◌};
+    ghost use Rattle.kt_node.specs.Plan.{no_turn};
+
+    /// Nothing of the node is changed: a turn to begin with.
+    pub(crate) fn none() -> Turn
+        ensures { result ≡ no_turn }
+    {
+        Turn {
+            body: BodyChange::Stay,
+            kept: KeptChange::Stay,
+            heard: None,
+            said: None,
+            promoted: false,
+            phase: None,
+        }
+    }
+}

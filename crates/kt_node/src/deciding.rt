@@ -1,0 +1,278 @@
+//! The steps of checks and rollbacks that a node makes of itself.
+
+ghost use Rattle.std.specs.Prelude.{◌≡◌, ◌+◌, ◌<◌, ◌^◌, IfOk};
+ghost use Rattle.std.specs.Option.{option_copied};
+ghost use Rattle.kt_node.specs.Plan.{Gives};
+ghost use Rattle.kt_node.specs.Saving.{CanSaveNode};
+ghost use Rattle.kt_node.specs.View.{view_of};
+ghost use Rattle.kt_node.specs.Deciding.{abandon, abandon_open, check, decide, decide_by, decide_plan, decided_change, declined_plan};
+ghost use Rattle.kt_node.specs.Deciding.{learn, learn_down, no_plan, settled};
+ghost use Rattle.kt_node.specs.Plan.{no_turn};
+ghost use Rattle.kt_node.specs.Voting.{voted};
+ghost use Rattle.kt_node.specs.declared.change.Change.TheVariants as changes;
+
+use crate::change::{BodyChange, Change, KeptChange, Turn};
+use crate::joining::turning_to;
+use crate::learning::{held_learns, verdict_to};
+use crate::live::Phase;
+use crate::plan::{Outbox, Plan, Write};
+use crate::refusal::Refusal;
+use crate::role::View;
+use crate::stored::{Stored, fits, is_undecided};
+use crate::voting::{vote_alone, vote_for};
+use kt_ckpt::Marks;
+use kt_store::Verdict;
+use kt_tuple::NodeId;
+use kt_vote::{Asker, Ballot};
+use std::alloc::{AllocError, Global};
+
+/// The node goes on as it is.
+fn going_on() -> Change
+    ensures { result ≡ changes.Turn no_turn }
+{
+    Change::Turn(Turn {
+        body: BodyChange::Stay,
+        kept: KeptChange::Stay,
+        heard: None,
+        said: None,
+        promoted: false,
+        phase: None,
+    })
+}
+
+/// What becomes of a node in this phase that writes the verdict: a rollback that got Yes is over for it.
+fn decided_change(phase: &Phase, yes: bool) -> Change
+    ensures { result ≡ decided_change phase.now yes }
+{
+    match phase {
+        Phase::Rolling(_) if yes => turning_to(Phase::Up),
+        _ => going_on(),
+    }
+}
+
+/// The node writes No for the instance, and tells these.
+fn no_plan(
+    alloc: Global,
+    change: Change,
+    instance: u64,
+    asked: &[NodeId],
+) -> Result<Plan, AllocError>
+    ensures { IfOk result (λ p. p ≡ no_plan change instance asked.now) }
+{
+    Ok(Plan {
+        change,
+        send: verdict_to(alloc, instance, false, asked)?,
+        note: None,
+        write: Some(Write::Decide {
+            instance,
+            yes: false,
+        }),
+    })
+}
+
+/// The verdict is written, and sent to all that were asked.
+fn decide_plan(alloc: Global, phase: &Phase, ballot: &Ballot, yes: bool) -> Result<Plan, AllocError>
+    ensures { IfOk result (λ p. p ≡ decide_plan phase.now ballot.now yes) }
+{
+    let instance = ballot.instance();
+    Ok(Plan {
+        change: decided_change(phase, yes),
+        send: verdict_to(alloc, instance, yes, ballot.asked())?,
+        note: None,
+        write: Some(Write::Decide { instance, yes }),
+    })
+}
+
+/// Who began an open instance decides it as soon as the votes do.
+fn decide_by(
+    alloc: Global,
+    phase: &Phase,
+    ballot: &Ballot,
+    verdict: Option<Verdict>,
+) -> Result<Plan, Refusal>
+    ensures { Gives result (decide_by phase.now ballot.now verdict ballot.now.parent) }
+{
+    if ballot.parent().is_some() || !is_undecided(verdict) {
+        return Err(Refusal::NothingThere);
+    }
+    match ballot.outcome() {
+        Some(yes) => Ok(decide_plan(alloc, phase, ballot, yes)?),
+        None => Err(Refusal::NotDecided),
+    }
+}
+
+/// The participant has voted, and its vote is no.
+fn declined_plan(
+    alloc: Global,
+    phase: Phase,
+    instance: u64,
+    parent: Asker,
+) -> Result<Plan, AllocError>
+    ensures { IfOk result (λ p. p ≡ declined_plan phase instance parent) }
+{
+    Ok(Plan {
+        change: turning_to(phase),
+        send: vote_alone(alloc, Some(vote_for(instance, parent, false)))?,
+        note: None,
+        write: None,
+    })
+}
+
+/// The verdict that there is.
+fn settled(verdict: Option<Verdict>) -> Option<bool>
+    ensures { result ≡ settled verdict }
+{
+    match verdict {
+        None | Some(Verdict::Open) => None,
+        Some(Verdict::Yes) => Some(true),
+        Some(Verdict::No) => Some(false),
+    }
+}
+
+/// Who began the instance writes No while it is open.
+fn abandon_open(alloc: Global, ballot: &Ballot, verdict: Option<Verdict>) -> Result<Plan, Refusal>
+    ensures { Gives result (abandon_open ballot.now verdict) }
+{
+    if !is_undecided(verdict) {
+        return Err(Refusal::NothingThere);
+    }
+    Ok(no_plan(alloc, going_on(), ballot.instance(), ballot.asked())?)
+}
+
+/// An equal ballot whose node has voted.
+fn voted(alloc: Global, ballot: &Ballot) -> Result<Ballot, AllocError>
+    ensures { IfOk result (λ b. b ≡ voted ballot.now) }
+{
+    let mut ballot = ballot.copy(alloc)?;
+    ballot.mark_voted();
+    Ok(ballot)
+}
+
+impl View<'_> {
+    /// A node that is up begins a check, which has the number `next`. `permanent` are the marks of its permanent
+    /// checkpoint: `Damaged` where these do not fit it.
+    pub fn check(self, alloc: Global, next: u64, permanent: Option<&Marks>) -> Result<Plan, Refusal>
+        requires { CanSaveNode (view_of self) self.node.now.node }
+        ensures { Gives result (check (view_of self.entry) next (option_copied permanent.entry)) }
+    {
+        let node = self.node;
+        let Some(live) = &node.live else {
+            return Err(Refusal::WrongMode);
+        };
+        let Phase::Up = &live.phase else {
+            return Err(Refusal::WrongMode);
+        };
+        if !fits(self.role, self.line_len, permanent) {
+            return Err(Refusal::Damaged);
+        }
+        Ok(self.begin_check_plan(alloc, live, next, permanent)?)
+    }
+
+    /// Who began an instance that is open writes Yes where nothing is awaited, and No as soon as one refused.
+    /// `verdict` is what the board has of its ballot's instance.
+    pub fn decide(self, alloc: Global, verdict: Option<Verdict>) -> Result<Plan, Refusal>
+        ensures { Gives result (decide (view_of self.entry) verdict) }
+    {
+        let node = self.node;
+        let Some(live) = &node.live else {
+            return Err(Refusal::WrongMode);
+        };
+        match &live.phase {
+            Phase::Up => Err(Refusal::WrongMode),
+            Phase::Held(ballot) => decide_by(alloc, &live.phase, ballot, verdict),
+            Phase::Rolling(ballot) => decide_by(alloc, &live.phase, ballot, verdict),
+        }
+    }
+
+    /// Who began an instance that is open writes No, and so does a node that is down and has begun the open
+    /// instance `undecided`. A participant that has not voted votes no. `verdict` is what the board has of the
+    /// ballot's instance.
+    pub fn abandon(
+        self,
+        alloc: Global,
+        verdict: Option<Verdict>,
+        undecided: Option<u64>,
+    ) -> Result<Plan, Refusal>
+        ensures { Gives result (abandon (view_of self.entry) verdict undecided) }
+    {
+        let node = self.node;
+        let Some(live) = &node.live else {
+            return match undecided {
+                Some(instance) => Ok(no_plan(alloc, Change::Stay, instance, &[])?),
+                None => Err(Refusal::NothingThere),
+            };
+        };
+        match &live.phase {
+            Phase::Up => Err(Refusal::WrongMode),
+            Phase::Held(ballot) => match ballot.parent() {
+                None => abandon_open(alloc, ballot, verdict),
+                Some(_) if ballot.has_voted() => Err(Refusal::NothingThere),
+                Some(parent) => {
+                    let phase = Phase::Held(voted(alloc, ballot)?);
+                    Ok(declined_plan(alloc, phase, ballot.instance(), parent)?)
+                }
+            },
+            Phase::Rolling(ballot) => match ballot.parent() {
+                None => abandon_open(alloc, ballot, verdict),
+                Some(_) if ballot.has_voted() => Err(Refusal::NothingThere),
+                Some(parent) => {
+                    let phase = Phase::Rolling(voted(alloc, ballot)?);
+                    Ok(declined_plan(alloc, phase, ballot.instance(), parent)?)
+                }
+            },
+        }
+    }
+
+    /// What the board says. A node that votes learns the verdict of its ballot's instance, unless it began a
+    /// rollback; a node that is down and has a tentative checkpoint that of the checkpoint's instance. `verdict`
+    /// is what the board has of that instance, `stored` what the store has of the node.
+    pub fn learn(
+        self,
+        alloc: Global,
+        stored: Stored,
+        is_tentative: bool,
+        verdict: Option<Verdict>,
+    ) -> Result<Plan, Refusal>
+        requires { stored.incarnation + 1 < 2 ^ 64 }
+        ensures { Gives result (learn (view_of self.entry) stored is_tentative verdict) }
+    {
+        let node = self.node;
+        let Some(live) = &node.live else {
+            return self.learn_down(alloc, stored, is_tentative, settled(verdict));
+        };
+        match &live.phase {
+            Phase::Up => Err(Refusal::WrongMode),
+            Phase::Held(_) => match settled(verdict) {
+                Some(yes) => Ok(held_learns(yes, Outbox::empty(alloc))),
+                None => Err(Refusal::NotDecided),
+            },
+            Phase::Rolling(ballot) => {
+                if ballot.parent().is_none() {
+                    return Err(Refusal::WrongMode);
+                }
+                match settled(verdict) {
+                    Some(yes) => self.rolling_learns(alloc, stored, ballot.instance(), yes, &[]),
+                    None => Err(Refusal::NotDecided),
+                }
+            }
+        }
+    }
+
+    fn learn_down(
+        self,
+        alloc: Global,
+        stored: Stored,
+        is_tentative: bool,
+        verdict: Option<bool>,
+    ) -> Result<Plan, Refusal>
+        ensures { Gives result (learn_down (view_of self.entry) stored is_tentative verdict) }
+    {
+        if !is_tentative {
+            return Err(Refusal::NothingThere);
+        }
+        match verdict {
+            None => Err(Refusal::NotDecided),
+            Some(yes) => self.down_learns(alloc, &stored, yes),
+        }
+    }
+}

@@ -1,0 +1,22 @@
+//! Laws about plans, each the contract of a function with nothing to do.
+
+ghost use Rattle.std.specs.Prelude.{◌≡◌, ◌<◌, ℕ, Ok};
+ghost use Rattle.kt_shard.specs.Limits.{desks};
+ghost use Rattle.kt_tuple.specs.declared.node.NodeId.{NodeId};
+ghost use Rattle.kt_node.specs.declared.message.Post.{Post};
+ghost use Rattle.kt_node.specs.declared.plan.Plan.{Plan};
+ghost use Rattle.kt_node.specs.View.{View};
+ghost use Rattle.kt_node.specs.Ready.{CanAct, CanChange, HasPlace};
+ghost use Rattle.kt_node.specs.Steps.{issue, repeat, serve, take};
+ghost use Rattle.kt_node.specs.Posts.{hear_post};
+
+/// The node of a plan can make its change.
+pub fn plans_can_be_carried_out()
+    ensures issue { (v : View) (plan : Plan) → CanAct v → issue v ≡ Ok plan → CanChange v.node plan.change }
+    ensures repeat { (v : View) (plan : Plan) → CanAct v → repeat v ≡ Ok plan → CanChange v.node plan.change }
+    ensures take { (v : View) (plan : Plan) → CanAct v → take v ≡ Ok plan → CanChange v.node plan.change }
+    ensures serve { (v : View) (worker place by : ℕ) (plan : Plan)
+        → CanAct v → worker < desks → serve v worker place by ≡ Ok plan → CanChange v.node plan.change }
+    ensures hear_post { (v : View) (from : NodeId) (post : Post) (plan : Plan)
+        → CanAct v → HasPlace from → hear_post v from post ≡ Ok plan → CanChange v.node plan.change }
+{}

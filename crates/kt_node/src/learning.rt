@@ -1,0 +1,134 @@
+//! What a verdict makes of a node.
+
+ghost use Rattle.std.specs.Prelude.{◌≡◌, ◌+◌, ◌<◌, ◌^◌, IfOk};
+ghost use Rattle.kt_node.specs.Plan.{Gives};
+ghost use Rattle.kt_node.specs.View.{view_of};
+ghost use Rattle.kt_node.specs.Learning.{cut_of, down_learns, held_learns, release_plan};
+ghost use Rattle.kt_node.specs.Learning.{rolling_learns, verdict_to};
+
+use crate::change::{BodyChange, Change, KeptChange, Loaded, Turn};
+use crate::joining::turning_to;
+use crate::live::Phase;
+use crate::message::Message;
+use crate::plan::{Outbox, Plan, Write};
+use crate::refusal::Refusal;
+use crate::role::View;
+use crate::stored::Stored;
+use kt_history::Note;
+use kt_tuple::NodeId;
+use std::alloc::{AllocError, Global};
+
+/// The verdict goes to each of these.
+pub(crate) fn verdict_to(
+    alloc: Global,
+    instance: u64,
+    yes: bool,
+    asked: &[NodeId],
+) -> Result<Outbox, AllocError>
+    ensures { IfOk result (λ b. b ≡ verdict_to instance yes asked.now) }
+{
+    let mut send = Outbox::empty(alloc);
+    for node in asked {
+        send.add(*node, Message::Verdict { instance, yes })?;
+    }
+    Ok(send)
+}
+
+/// The node remembers its first so many acts alone.
+pub(crate) fn cut_of(node: NodeId, keep: u64) -> Option<Note>
+    ensures { result ≡ cut_of node keep }
+{
+    Some(Note::Cut { node, keep })
+}
+
+/// What a held node does with the verdict; `send` is what it passes on. With Yes the tentative checkpoint is
+/// permanent and nothing was sent since, with No it is given up.
+pub(crate) fn held_learns(yes: bool, send: Outbox) -> Plan
+    ensures { result ≡ held_learns yes send }
+{
+    let change = Change::Turn(Turn {
+        body: BodyChange::Stay,
+        kept: KeptChange::Stay,
+        heard: None,
+        said: None,
+        promoted: yes,
+        phase: Some(Phase::Up),
+    });
+    let write = if yes { Write::Promote } else { Write::Discard };
+    Plan {
+        change,
+        send,
+        note: None,
+        write: Some(write),
+    }
+}
+
+/// The rollback got No: the node goes on as it is.
+fn release_plan(send: Outbox) -> Plan
+    ensures { result ≡ release_plan send }
+{
+    Plan {
+        change: turning_to(Phase::Up),
+        send,
+        note: None,
+        write: None,
+    }
+}
+
+impl View<'_> {
+    /// What a participant of a rollback does with the verdict, which it passes on to these. With Yes it goes on
+    /// from its permanent checkpoint in the next incarnation, and its line is cut to it.
+    pub(crate) fn rolling_learns(
+        self,
+        alloc: Global,
+        stored: Stored,
+        instance: u64,
+        yes: bool,
+        asked: &[NodeId],
+    ) -> Result<Plan, Refusal>
+        requires { stored.incarnation + 1 < 2 ^ 64 }
+        ensures { Gives result (rolling_learns (view_of self.entry) stored yes (verdict_to instance yes asked.now)) }
+    {
+        if !yes {
+            return Ok(release_plan(verdict_to(alloc, instance, yes, asked)?));
+        }
+        let note = cut_of(self.role.id, stored.acts());
+        let loaded = self.load(alloc, stored)?;
+        let send = verdict_to(alloc, instance, yes, asked)?;
+        Ok(Plan {
+            change: Change::Load(loaded),
+            send,
+            note,
+            write: Some(Write::Bump),
+        })
+    }
+
+    /// What a node that is down with a tentative checkpoint does with the verdict; it stays down. With No its line
+    /// is cut to the permanent one.
+    pub(crate) fn down_learns(
+        self,
+        alloc: Global,
+        stored: &Stored,
+        yes: bool,
+    ) -> Result<Plan, Refusal>
+        ensures { Gives result (down_learns (view_of self.entry) stored.now yes) }
+    {
+        if yes {
+            return Ok(Plan {
+                change: Change::Stay,
+                send: Outbox::empty(alloc),
+                note: None,
+                write: Some(Write::Promote),
+            });
+        }
+        if !stored.fits(self.role, self.line_len) {
+            return Err(Refusal::Damaged);
+        }
+        Ok(Plan {
+            change: Change::Stay,
+            send: Outbox::empty(alloc),
+            note: cut_of(self.role.id, stored.acts()),
+            write: Some(Write::Discard),
+        })
+    }
+}

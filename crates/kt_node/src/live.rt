@@ -1,0 +1,47 @@
+//! What a node has while it is not down.
+
+use crate::message::Post;
+use kt_link::Label;
+use kt_shard::Shard;
+use kt_tuple::NodeId;
+use kt_vote::Ballot;
+use kt_worker::Worker;
+use std::collections::VecDeque;
+
+/// What a node works with.
+#[derive(Debug, Drop)]
+pub enum Body {
+    Worker(Worker),
+    Shard(Shard),
+}
+
+/// What a node that is not down does.
+#[derive(Debug, Drop)]
+pub enum Phase {
+    /// It works.
+    Up,
+    /// It votes in a check.
+    Held(Ballot),
+    /// It votes in a rollback.
+    Rolling(Ballot),
+}
+
+/// All that a node loses when it fails. The tables have an entry for each number that a neighbour can have;
+/// entry 0 is not used.
+#[derive(Debug, Drop)]
+pub(crate) struct Live {
+    pub(crate) phase: Phase,
+    pub(crate) body: Body,
+    /// The incarnation that the store holds too.
+    pub(crate) incarnation: u64,
+    /// How many underlying messages it sent in this incarnation, to all neighbours together.
+    pub(crate) count: u64,
+    /// The last label sent to each neighbour, `(0, 0)` where there is none.
+    pub(crate) sent: Vec<Label>,
+    /// The last label received from each neighbour, `(0, 0)` where there is none.
+    pub(crate) received: Vec<Label>,
+    /// The first label sent to each neighbour since the permanent checkpoint.
+    pub(crate) first: Vec<Option<Label>>,
+    /// The underlying messages that came while it was held, and those behind them, with their senders.
+    pub(crate) kept: VecDeque<(NodeId, Post)>,
+}

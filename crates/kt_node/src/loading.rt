@@ -1,0 +1,264 @@
+//! Loading the permanent state.
+
+ghost use Rattle.std.specs.Prelude.{◌≡◌, ◌+◌, ◌<◌, ◌^◌, IfOk, length, map, Some, None};
+ghost use Rattle.kt_shard.specs.Limits.{desks};
+ghost use Rattle.kt_node.specs.Labels.{numbers, tabled, no_labels, no_firsts, table_size};
+ghost use Rattle.kt_node.specs.Loading.{load, loaded_by, loaded_from};
+ghost use Rattle.kt_node.specs.Node.{IsShard, fresh_live, opening_body, opening_node};
+ghost use Rattle.kt_node.specs.Plan.{Gives};
+ghost use Rattle.kt_node.specs.State.{are_of_scene, is_of_scene, body_at, body_from, desk_with, entry_of, if_fits, shard_fits, shard_from, worker_from};
+ghost use Rattle.kt_node.specs.View.{view_of};
+ghost use Rattle.kt_node.specs.Views.{HasTables, body_view, live_view, role_view};
+ghost use Rattle.kt_node.specs.Bodies.{GivesBody};
+ghost use Rattle.kt_node.specs.declared.live.Phase.TheVariants as phases;
+
+use crate::change::Loaded;
+use crate::labels::{TABLE_SIZE, listed_at};
+use crate::live::{Body, Live, Phase};
+use crate::node::Node;
+use crate::refusal::Refusal;
+use crate::role::{Role, View};
+use crate::stored::Stored;
+use kt_ckpt::{Ckpt, ShardState, State, WorkerState};
+use kt_link::Label;
+use kt_shard::{Desk, Kept, Request, Shard};
+use kt_space::Bag;
+use kt_tuple::{NodeId, Tuple};
+use kt_worker::Worker;
+use std::alloc::{AllocError, Global};
+use std::collections::VecDeque;
+
+/// The worker of the state, where it is one of the script.
+fn worker_from(role: Role<'_>, state: WorkerState) -> Result<Body, Refusal>
+    ensures { GivesBody result (worker_from (role_view role.entry) state) }
+{
+    let (pc, number, was_none, asked, variables) = state.into_parts();
+    match Worker::from_parts(
+        role.script,
+        number,
+        asked,
+        usize::from(pc),
+        was_none,
+        variables,
+    ) {
+        Ok(worker) => Ok(Body::Worker(worker)),
+        Err(_) => Err(Refusal::Damaged),
+    }
+}
+
+/// Whether the scene has a worker of this number.
+fn is_of_scene(workers: u8, number: u8) -> bool
+    ensures { result ≡ is_of_scene workers number }
+{
+    1 <= number && number <= workers
+}
+
+/// Whether each of these entries is of a worker of the scene.
+fn are_of_scene<T>(workers: u8, entries: &[(u8, T)]) -> bool
+    ensures { result ≡ are_of_scene workers entries.now }
+{
+    entries.iter().all(|entry| is_of_scene(workers, entry.0))
+}
+
+fn bag_of(alloc: Global, tuples: Vec<Tuple>) -> Result<Bag, AllocError>
+    ensures { IfOk result (λ b. b.tuples ≡ tuples.items) }
+{
+    let mut bag = Bag::new(alloc);
+    for tuple in tuples {
+        bag.reserve()?;
+        bag.put_reserved(tuple);
+    }
+    Ok(bag)
+}
+
+fn request_of(
+    alloc: Global,
+    worker: u8,
+    entries: &[(u8, Request)],
+) -> Result<Option<Request>, AllocError>
+    ensures { IfOk result (λ r. r ≡ entry_of worker entries.now) }
+{
+    match entries.iter().find(|entry| entry.0 == worker) {
+        Some(entry) => Ok(Some(entry.1.copy(alloc)?)),
+        None => Ok(None),
+    }
+}
+
+fn kept_of(alloc: Global, worker: u8, entries: &[(u8, Kept)]) -> Result<Option<Kept>, AllocError>
+    ensures { IfOk result (λ k. k ≡ entry_of worker entries.now) }
+{
+    match entries.iter().find(|entry| entry.0 == worker) {
+        Some(entry) => Ok(Some(entry.1.copy(alloc)?)),
+        None => Ok(None),
+    }
+}
+
+#[tactic(auto, using(crate::proofs::Numbers::mapped_none, crate::proofs::Numbers::mapped_from_zero))]
+fn desks_of(
+    alloc: Global,
+    waiting: &[(u8, Request)],
+    kept: &[(u8, Kept)],
+) -> Result<Vec<Desk>, AllocError>
+    ensures { IfOk result (λ d. d.items ≡ map (desk_with waiting.now kept.now) (numbers 0 desks)) }
+{
+    let mut made = Vec::with_capacity(alloc, usize::from(TABLE_SIZE))?;
+    for worker in 0..TABLE_SIZE {
+        made.push(Desk {
+            waiting: request_of(alloc, worker, waiting)?,
+            kept: kept_of(alloc, worker, kept)?,
+        })?;
+    }
+    Ok(made)
+}
+
+/// The shard of the state, where it is one of the scene and has no more tuples than there are acts.
+#[tactic(auto, using(crate::proofs::Numbers::whole_table))]
+fn shard_from(alloc: Global, role: Role<'_>, acts: u64, state: ShardState) -> Result<Body, Refusal>
+    ensures { GivesBody result (if_fits (shard_fits (role_view role.entry) acts state) (IsShard (shard_from state))) }
+{
+    let (tuples, waiting, kept) = state.into_parts();
+    let are_there = are_of_scene(role.peers, &waiting) && are_of_scene(role.peers, &kept);
+    if !(are_there && tuples.len() as u64 <= acts) {
+        return Err(Refusal::Damaged);
+    }
+    let bag = bag_of(alloc, tuples)?;
+    let desks = desks_of(alloc, &waiting, &kept)?;
+    Ok(Body::Shard(Shard::from_parts(bag, desks)))
+}
+
+/// What a node of this kind works with behind so many acts.
+fn body_from(alloc: Global, role: Role<'_>, acts: u64, state: State) -> Result<Body, Refusal>
+    ensures { GivesBody result (body_from (role_view role.entry) acts role.entry.id state) }
+{
+    match (role.id, state) {
+        (NodeId::Worker(_), State::Worker(state)) => worker_from(role, state),
+        (NodeId::Shard(_), State::Shard(state)) => shard_from(alloc, role, acts, state),
+        _ => Err(Refusal::Damaged),
+    }
+}
+
+/// What a node works with at first.
+fn opening_body(alloc: Global, role: Role<'_>) -> Result<Body, AllocError>
+    ensures { IfOk result (λ b. body_view b ≡ opening_body (role_view role.entry) role.entry.id) }
+{
+    match role.id {
+        NodeId::Worker(_) => Ok(Body::Worker(Worker::new(alloc, role.script)?)),
+        NodeId::Shard(_) => Ok(Body::Shard(Shard::new(alloc)?)),
+    }
+}
+
+/// The table of a checkpoint's list.
+#[tactic(auto, using(crate::proofs::Numbers::mapped_none, crate::proofs::Numbers::mapped_from_zero))]
+fn tabled(alloc: Global, labels: &[Label]) -> Result<Vec<Label>, AllocError>
+    ensures { IfOk result (λ v. v.items ≡ tabled labels.now) }
+{
+    let mut table = Vec::with_capacity(alloc, usize::from(TABLE_SIZE))?;
+    for number in 0..TABLE_SIZE {
+        table.push(listed_at(labels, number))?;
+    }
+    Ok(table)
+}
+
+fn no_labels(alloc: Global) -> Result<Vec<Label>, AllocError>
+    ensures { IfOk result (λ v. v.items ≡ no_labels) }
+{
+    let mut table = Vec::with_capacity(alloc, usize::from(TABLE_SIZE))?;
+    for number in 0..TABLE_SIZE {
+        table.push(Label::default())?;
+    }
+    Ok(table)
+}
+
+fn no_firsts(alloc: Global) -> Result<Vec<Option<Label>>, AllocError>
+    ensures { IfOk result (λ v. v.items ≡ no_firsts) }
+{
+    let mut table = Vec::with_capacity(alloc, usize::from(TABLE_SIZE))?;
+    for number in 0..TABLE_SIZE {
+        table.push(None)?;
+    }
+    Ok(table)
+}
+
+/// A node that is up and has done nothing since.
+fn fresh_live(
+    alloc: Global,
+    incarnation: u64,
+    body: Body,
+    sent: Vec<Label>,
+    received: Vec<Label>,
+) -> Result<Live, AllocError>
+    requires tables { (length sent.items ≡ table_size) × (length received.items ≡ table_size) }
+    ensures value { IfOk result (λ n. live_view n ≡ fresh_live phases.Up incarnation (body_view body) sent.items received.items) }
+    ensures tables { IfOk result HasTables }
+{
+    Ok(Live {
+        phase: Phase::Up,
+        body,
+        incarnation,
+        count: 0,
+        sent,
+        received,
+        first: no_firsts(alloc)?,
+        kept: VecDeque::new(alloc),
+    })
+}
+
+impl Node {
+    /// The node with which a world opens: up, in its first incarnation, having done nothing.
+    pub fn open(alloc: Global, role: Role<'_>) -> Result<Node, AllocError>
+        ensures { IfOk result (λ n. n.node ≡ opening_node (role_view role.entry)) }
+    {
+        let body = opening_body(alloc, role)?;
+        let (sent, received) = (no_labels(alloc)?, no_labels(alloc)?);
+        let live = fresh_live(alloc, 1, body, sent, received)?;
+        Ok(Node { live: Some(live) })
+    }
+}
+
+impl View<'_> {
+    /// The node that goes on so from its permanent checkpoint, in the next incarnation: nothing was sent since, and
+    /// nothing is kept.
+    pub(crate) fn load(self, alloc: Global, stored: Stored) -> Result<Loaded, Refusal>
+        requires { stored.incarnation + 1 < 2 ^ 64 }
+        ensures { Gives result (load (view_of self.entry) stored) }
+    {
+        if !stored.fits(self.role, self.line_len) {
+            return Err(Refusal::Damaged);
+        }
+        let incarnation = stored.incarnation + 1;
+        match stored.permanent {
+            None => Ok(load_opening(alloc, self.role, incarnation)?),
+            Some(checkpoint) => load_checkpoint(alloc, self.role, incarnation, checkpoint),
+        }
+    }
+}
+
+fn load_opening(alloc: Global, role: Role<'_>, incarnation: u64) -> Result<Loaded, AllocError>
+    ensures { IfOk result (λ l. l ≡ loaded_from None incarnation (opening_body (role_view role.entry) role.entry.id)) }
+{
+    let body = opening_body(alloc, role)?;
+    let (sent, received) = (no_labels(alloc)?, no_labels(alloc)?);
+    let live = fresh_live(alloc, incarnation, body, sent, received)?;
+    Ok(Loaded { live })
+}
+
+#[tactic(auto, using(crate::proofs::Numbers::whole_table))]
+fn load_checkpoint(
+    alloc: Global,
+    role: Role<'_>,
+    incarnation: u64,
+    checkpoint: Ckpt,
+) -> Result<Loaded, Refusal>
+    ensures { Gives result (loaded_by (Some checkpoint) incarnation (body_at (role_view role.entry) (Some checkpoint))) }
+{
+    let (_, acts, sent, received, state) = checkpoint.into_parts();
+    let body = body_from(alloc, role, acts, state)?;
+    let live = fresh_live(
+        alloc,
+        incarnation,
+        body,
+        tabled(alloc, &sent)?,
+        tabled(alloc, &received)?,
+    )?;
+    Ok(Loaded { live })
+}

@@ -1,0 +1,83 @@
+//! What goes from node to node.
+
+ghost use Rattle.std.specs.Prelude.{◌≡◌, IfOk};
+
+use kt_link::Label;
+use kt_shard::Request;
+use kt_tuple::Answer;
+use kt_vote::Vote;
+use std::alloc::{AllocError, Global};
+
+/// What a worker and a shard say to each other.
+#[derive(Debug, Drop)]
+pub enum Talk {
+    /// A worker asks.
+    Request(Request),
+    /// A shard answers.
+    Reply { request: Request, answer: Answer },
+}
+
+impl Talk {
+    /// The same once more.
+    pub fn copy(&self, alloc: Global) -> Result<Talk, AllocError>
+        ensures { IfOk result (λ t. t ≡ self.now) }
+    {
+        match self {
+            Talk::Request(request) => Ok(Talk::Request(request.copy(alloc)?)),
+            Talk::Reply { request, answer } => Ok(Talk::Reply {
+                request: request.copy(alloc)?,
+                answer: answer.copy(alloc)?,
+            }),
+        }
+    }
+}
+
+/// An underlying message.
+#[derive(Debug, Drop)]
+pub struct Post {
+    /// What is said.
+    pub talk: Talk,
+    /// When it was sent: rises with each underlying message of its sender, over all receivers.
+    pub label: Label,
+    /// The number of the note whose act sent it.
+    pub by: u64,
+}
+
+impl Post {
+    /// The same once more.
+    pub fn copy(&self, alloc: Global) -> Result<Post, AllocError>
+        ensures { IfOk result (λ p. p ≡ self.now) }
+    {
+        Ok(Post {
+            talk: self.talk.copy(alloc)?,
+            label: self.label,
+            by: self.by,
+        })
+    }
+}
+
+/// Koo and Toueg's request to take a checkpoint or to roll back.
+#[derive(Clone, Copy, Debug, PartialEq, Eq)]
+pub struct Ask {
+    pub instance: u64,
+    /// In a check the last label that the asker received from the asked node; in a rollback the last one
+    /// that it sent to it before its permanent checkpoint.
+    pub label: Label,
+    /// The incarnation in which the asker asks. The vote repeats it.
+    pub incarnation: u64,
+}
+
+/// What stands on a link.
+#[derive(Debug, Drop)]
+pub enum Message {
+    /// An underlying message; all others are control messages.
+    Post(Post),
+    /// Take a tentative checkpoint.
+    CheckAsk(Ask),
+    /// Roll back.
+    RollAsk(Ask),
+    /// Whether the sender, and all that it asked in its turn, can.
+    Vote(Vote),
+    /// What the initiator decided.
+    Verdict { instance: u64, yes: bool },
+}

@@ -1,0 +1,79 @@
+//! A node of the scene.
+
+ghost use Rattle.std.specs.Prelude.{◌≡◌};
+ghost use Rattle.std.specs.Option.{option_copied};
+
+use crate::live::{Body, Live, Phase};
+use kt_shard::Shard;
+use kt_vote::Ballot;
+use kt_worker::Worker;
+use std::marker::Model;
+
+/// What state a node is in.
+#[derive(Clone, Copy, Debug, PartialEq, Eq)]
+pub enum Mode {
+    /// It works.
+    Up,
+    /// It has taken a tentative checkpoint and sends no underlying message until it learns the verdict.
+    Held,
+    /// It rolls back, or waits whether it has to.
+    Rolling,
+    /// It failed, and has not come back.
+    Down,
+}
+
+/// A node of the scene. One that is down has its name alone.
+#[derive(Debug, Drop)]
+pub struct Node {
+    pub(crate) live: Option<Live>,
+}
+
+impl Model for Node {
+    ghost use Rattle.std.specs.Prelude.{IfSome};
+    ghost use Rattle.kt_node.specs.Views.{HasTables, Standing, standing_of};
+
+    ghost Value = { Standing };
+
+    ghost view = { λ n. standing_of n.live };
+
+    ghost invariant = { λ n. IfSome n.live HasTables };
+}
+
+impl Node {
+    ghost use Rattle.kt_node.specs.Node.{mode_of, worker_of, shard_of, poll_of};
+
+    /// Its mode.
+    pub fn mode(&self) -> Mode
+        ensures { result ≡ mode_of self.now.node }
+    {
+        match &self.live {
+            None => Mode::Down,
+            Some(live) => match live.phase {
+                Phase::Up => Mode::Up,
+                Phase::Held(_) => Mode::Held,
+                Phase::Rolling(_) => Mode::Rolling,
+            },
+        }
+    }
+
+    /// The worker that it is, unless it is down.
+    pub fn worker(&self) -> Option<&Worker>
+        ensures { option_copied result ≡ worker_of self.now.node }
+    {
+        match &self.live.as_ref()?.body {
+            Body::Worker(worker) => Some(worker),
+            Body::Shard(_) => None,
+        }
+    }
+
+    /// The ballot, while it votes.
+    pub fn ballot(&self) -> Option<&Ballot>
+        ensures { option_copied result ≡ poll_of self.now.node }
+    {
+        match &self.live.as_ref()?.phase {
+            Phase::Up => None,
+            Phase::Held(ballot) => Some(ballot),
+            Phase::Rolling(ballot) => Some(ballot),
+        }
+    }
+}

@@ -1,0 +1,112 @@
+//! What a step does, found out before anything is changed.
+
+ghost use Rattle.std.specs.Prelude.{◌≡◌, [], ◌∷◌, ◌++◌, IfOk, OnOk};
+ghost use Rattle.kt_node.specs.Plan.{empty_plan};
+
+use crate::change::Change;
+use crate::message::Message;
+use kt_ckpt::Ckpt;
+use kt_history::Note;
+use kt_tuple::NodeId;
+use std::alloc::{AllocError, Global};
+use std::marker::Model;
+
+/// One write of the store, of the node whose step it is.
+#[derive(Debug, Drop)]
+pub enum Write {
+    /// The next instance is begun as a check, with this tentative checkpoint.
+    BeginCheck(Ckpt),
+    /// The tentative checkpoint of a participant.
+    PutTentative { instance: u64, checkpoint: Ckpt },
+    /// The tentative checkpoint becomes permanent.
+    Promote,
+    /// The tentative checkpoint is given up.
+    Discard,
+    /// The incarnation is raised, and the next instance begun as a rollback.
+    BeginRestart,
+    /// The incarnation is raised.
+    Bump,
+    /// The verdict is written.
+    Decide { instance: u64, yes: bool },
+}
+
+/// Messages with their receivers, in the order in which they are sent.
+#[derive(Debug, Drop)]
+pub struct Outbox {
+    messages: Vec<(NodeId, Message)>,
+}
+
+impl Model for Outbox {
+    ghost use Rattle.std.specs.Prelude.{List};
+    ghost use Rattle.kt_tuple.specs.declared.node.NodeId.{NodeId as Name};
+    ghost use Rattle.kt_node.specs.declared.message.Message.{Message as Sent};
+
+    ghost Value = { List (Name × Sent) };
+
+    ghost view = { λ b. b.messages.items };
+}
+
+impl Outbox {
+    /// No message.
+    pub(crate) fn empty(alloc: Global) -> Outbox
+        ensures { result ≡ [] }
+    {
+        Outbox {
+            messages: Vec::new(alloc),
+        }
+    }
+
+    /// One message.
+    pub(crate) fn one(alloc: Global, to: NodeId, message: Message) -> Result<Outbox, AllocError>
+        ensures { IfOk result (λ b. b ≡ (to, message) ∷ []) }
+    {
+        let mut messages = Vec::with_capacity(alloc, 1)?;
+        messages.push((to, message))?;
+        Ok(Outbox { messages })
+    }
+
+    /// One message more, behind the others.
+    pub(crate) fn add(&mut self, to: NodeId, message: Message) -> Result<(), AllocError>
+        ensures { OnOk result (self.new ≡ self.old ++ (to, message) ∷ []) }
+    {
+        Ok(self.messages.push((to, message))?)
+    }
+
+    /// All messages with their receivers.
+    pub fn messages(&self) -> &[(NodeId, Message)]
+        ensures { result.now ≡ self.now }
+    {
+        &self.messages
+    }
+
+    /// Hands all messages on.
+    pub fn into_messages(self) -> Vec<(NodeId, Message)>
+        ensures { result.items ≡ self }
+    {
+        self.messages
+    }
+}
+
+/// What a step does: what becomes of its owner, what the owner sends, in node order, and at most one note and one
+/// write of the store.
+#[derive(Debug, Drop)]
+pub struct Plan {
+    pub change: Change,
+    pub send: Outbox,
+    pub note: Option<Note>,
+    pub write: Option<Write>,
+}
+
+impl Plan {
+    /// Nothing is done: a message is dropped.
+    pub(crate) fn empty(alloc: Global) -> Plan
+        ensures { result ≡ empty_plan }
+    {
+        Plan {
+            change: Change::Stay,
+            send: Outbox::empty(alloc),
+            note: None,
+            write: None,
+        }
+    }
+}

@@ -1,0 +1,175 @@
+//! The checkpoint of a moment.
+
+ghost use Rattle.std.specs.Prelude.{◌≡◌, ◌≤◌, ◌++◌, IfOk, OnOk};
+ghost use Rattle.std.specs.Option.{option_copied, option_to_list};
+ghost use Rattle.kt_ckpt.specs.Checkpoint.{HasCounts, IsCountedState};
+ghost use Rattle.kt_ckpt.specs.Limits.{max_pc};
+ghost use Rattle.kt_shard.specs.Shard.{desk_of};
+ghost use Rattle.kt_node.specs.Labels.{listed};
+ghost use Rattle.kt_node.specs.State.{body_fields, checkpoint_of, entries, entry, shard_fields, worker_fields};
+ghost use Rattle.kt_node.specs.Views.{body_view, live_view, role_view};
+
+use crate::live::{Body, Live};
+use crate::role::Role;
+use kt_ckpt::{Ckpt, ShardState, State, WorkerState};
+use kt_link::Label;
+use kt_shard::{Kept, MAX_WORKERS, Request, Shard};
+use kt_tuple::{Tuple, Value};
+use kt_worker::Worker;
+use std::alloc::{AllocError, Global};
+
+/// The checkpoint of the node, which remembers so many acts.
+pub(crate) fn checkpoint_of(
+    alloc: Global,
+    role: Role<'_>,
+    live: &Live,
+    line_len: u64,
+) -> Result<Ckpt, AllocError>
+    requires { HasCounts (checkpoint_of (role_view role) (live_view live.now) line_len) }
+    ensures { IfOk result (λ c. c ≡ checkpoint_of (role_view role.entry) (live_view live.now) line_len) }
+{
+    let sent = listed(alloc, role.peers, &live.sent)?;
+    let received = listed(alloc, role.peers, &live.received)?;
+    let state = body_state(alloc, &live.body)?;
+    Ok(Ckpt::new(role.id, line_len, sent, received, state))
+}
+
+/// The labels of so many neighbours.
+#[tactic(auto, using(crate::proofs::Numbers::mapped_none, crate::proofs::Numbers::mapped_from_one))]
+fn listed(alloc: Global, peers: u8, table: &[Label]) -> Result<Vec<Label>, AllocError>
+    ensures { IfOk result (λ v. v.items ≡ listed peers table.now) }
+{
+    let mut labels = Vec::with_capacity(alloc, usize::from(peers))?;
+    for number in 0..peers {
+        let label = match table.get(usize::from(number) + 1) {
+            Some(label) => *label,
+            None => Label::default(),
+        };
+        labels.push(label)?;
+    }
+    Ok(labels)
+}
+
+fn body_state(alloc: Global, body: &Body) -> Result<State, AllocError>
+    requires { IsCountedState (body_fields (body_view body.now)) }
+    ensures { IfOk result (λ s. s ≡ body_fields (body_view body.now)) }
+{
+    match body {
+        Body::Worker(worker) => Ok(State::Worker(worker_state(alloc, worker)?)),
+        Body::Shard(shard) => Ok(State::Shard(shard_state(alloc, shard)?)),
+    }
+}
+
+fn worker_state(alloc: Global, worker: &Worker) -> Result<WorkerState, AllocError>
+    requires { worker.now.position.pc ≤ max_pc }
+    ensures { IfOk result (λ w. w ≡ worker_fields worker.now) }
+{
+    let asked = match worker.asked() {
+        Some(op) => Some(op.copy(alloc)?),
+        None => None,
+    };
+    Ok(WorkerState::new(
+        worker.pc() as u16,
+        worker.number(),
+        worker.was_none(),
+        asked,
+        copy_values(alloc, worker.values())?,
+    ))
+}
+
+fn copy_values(alloc: Global, values: &[Value]) -> Result<Vec<Value>, AllocError>
+    ensures { IfOk result (λ v. v.items ≡ values.now) }
+{
+    let mut copies = Vec::with_capacity(alloc, values.len())?;
+    for value in values {
+        copies.push(value.copy())?;
+    }
+    Ok(copies)
+}
+
+fn shard_state(alloc: Global, shard: &Shard) -> Result<ShardState, AllocError>
+    ensures { IfOk result (λ s. s ≡ shard_fields shard.now.state) }
+{
+    let bag = copy_tuples(alloc, shard)?;
+    let waiting = waiting_entries(alloc, shard)?;
+    let kept = kept_entries(alloc, shard)?;
+    Ok(ShardState::new(bag, waiting, kept))
+}
+
+/// A copy of the tuple, if there is one.
+fn add_copy(
+    alloc: Global,
+    copies: &mut Vec<Tuple>,
+    tuple: Option<&Tuple>,
+) -> Result<(), AllocError>
+    ensures { OnOk result (copies.new.items ≡ copies.old.items ++ option_to_list (option_copied tuple.entry)) }
+{
+    if let Some(tuple) = tuple {
+        copies.push(tuple.copy(alloc)?)?;
+    }
+    Ok(())
+}
+
+#[tactic(auto, using(crate::proofs::Fronts::take_more))]
+fn copy_tuples(alloc: Global, shard: &Shard) -> Result<Vec<Tuple>, AllocError>
+    ensures { IfOk result (λ v. v.items ≡ shard.now.state.bag) }
+{
+    let bag = shard.bag();
+    let mut copies = Vec::with_capacity(alloc, bag.len())?;
+    for place in 0..bag.len() {
+        add_copy(alloc, &mut copies, bag.get(place))?;
+    }
+    Ok(copies)
+}
+
+/// The worker's entry, where it waits.
+fn add_waiting(
+    alloc: Global,
+    entries: &mut Vec<(u8, Request)>,
+    shard: &Shard,
+    worker: u8,
+) -> Result<(), AllocError>
+    ensures { OnOk result (entries.new.items ≡ entries.old.items ++ entry worker (desk_of shard.now.state worker).waiting) }
+{
+    if let Some(request) = shard.waiting(worker) {
+        entries.push((worker, request.copy(alloc)?))?;
+    }
+    Ok(())
+}
+
+#[tactic(auto, using(crate::proofs::Numbers::flat_none, crate::proofs::Numbers::flat_from_one))]
+fn waiting_entries(alloc: Global, shard: &Shard) -> Result<Vec<(u8, Request)>, AllocError>
+    ensures { IfOk result (λ v. v.items ≡ entries (λ worker. (desk_of shard.now.state worker).waiting)) }
+{
+    let mut entries = Vec::new(alloc);
+    for before in 0..MAX_WORKERS {
+        add_waiting(alloc, &mut entries, shard, before + 1)?;
+    }
+    Ok(entries)
+}
+
+/// The worker's entry, where something is kept for it.
+fn add_kept(
+    alloc: Global,
+    entries: &mut Vec<(u8, Kept)>,
+    shard: &Shard,
+    worker: u8,
+) -> Result<(), AllocError>
+    ensures { OnOk result (entries.new.items ≡ entries.old.items ++ entry worker (desk_of shard.now.state worker).kept) }
+{
+    if let Some(kept) = shard.kept(worker) {
+        entries.push((worker, kept.copy(alloc)?))?;
+    }
+    Ok(())
+}
+
+#[tactic(auto, using(crate::proofs::Numbers::flat_none, crate::proofs::Numbers::flat_from_one))]
+fn kept_entries(alloc: Global, shard: &Shard) -> Result<Vec<(u8, Kept)>, AllocError>
+    ensures { IfOk result (λ v. v.items ≡ entries (λ worker. (desk_of shard.now.state worker).kept)) }
+{
+    let mut entries = Vec::new(alloc);
+    for before in 0..MAX_WORKERS {
+        add_kept(alloc, &mut entries, shard, before + 1)?;
+    }
+    Ok(entries)
+}

@@ -1,0 +1,153 @@
+//! The steps of the underlying computation.
+
+ghost use Rattle.std.specs.Prelude.{◌≡◌, ◌≤◌, is_some};
+ghost use Rattle.std.specs.Option.{option_copied, option_map};
+ghost use Rattle.kt_worker.specs.Standing.{next_request};
+ghost use Rattle.kt_node.specs.Views.{live_view};
+ghost use Rattle.kt_node.specs.View.{view_of};
+ghost use Rattle.kt_node.specs.Plan.{Gives};
+ghost use Rattle.kt_node.specs.Ready.{CanCount, CanSpeak};
+ghost use Rattle.kt_node.specs.Steps.{first_kept, issue, issue_found, repeat, serve, take, unserved_as, up_of};
+
+use crate::change::KeptChange;
+use crate::live::{Body, Live, Phase};
+use crate::message::Post;
+use crate::plan::Plan;
+use crate::refusal::Refusal;
+use crate::role::View;
+use kt_script::Script;
+use kt_shard::{Request, ServeError};
+use kt_tuple::NodeId;
+use kt_worker::Worker;
+use std::alloc::Global;
+
+/// Whether the worker waits for nothing and has an operation left.
+fn can_issue(worker: &Worker, script: &Script) -> bool
+    ensures { result ≡ is_some (next_request script.now worker.now) }
+{
+    worker.asked().is_none() && worker.has_next(script)
+}
+
+/// Why a step is refused whose service the shard refuses. A choice takes no memory.
+fn unserved_as(refusal: ServeError) -> Refusal
+    ensures { result ≡ unserved_as refusal }
+{
+    match refusal {
+        ServeError::NotWaiting | ServeError::OutOfMemory => Refusal::NothingThere,
+        ServeError::NoSuchMatch => Refusal::NoSuchMatch,
+    }
+}
+
+impl Live {
+    /// The message that was kept first.
+    pub(crate) fn first_kept(&self) -> Option<&(NodeId, Post)>
+        ensures { option_copied result ≡ first_kept (live_view self.now) }
+    {
+        self.kept.front()
+    }
+}
+
+impl<'a> View<'a> {
+    /// The node, where it is up.
+    pub(crate) fn up(self) -> Option<&'a Live>
+        ensures { option_map (λ n. live_view n.now) result ≡ up_of self.entry.node.now.node }
+    {
+        let node = self.node;
+        let live = node.live.as_ref()?;
+        match live.phase {
+            Phase::Up => Some(live),
+            Phase::Held(_) | Phase::Rolling(_) => None,
+        }
+    }
+
+    /// A worker asks for the next operation of its script, where nothing is unanswered, nothing is kept and
+    /// an operation is left.
+    pub fn issue(self, alloc: Global) -> Result<Plan, Refusal>
+        requires peers { 1 ≤ self.role.peers }
+        requires count { CanSpeak self.node.now.node }
+        ensures { Gives result (issue (view_of self.entry)) }
+    {
+        let Some(live) = self.up() else {
+            return Err(Refusal::WrongMode);
+        };
+        let Body::Worker(worker) = &live.body else {
+            return Err(Refusal::WrongMode);
+        };
+        match live.first_kept() {
+            None => self.issue_next(alloc, live, worker),
+            Some(_) => Err(Refusal::NothingThere),
+        }
+    }
+
+    /// The worker asks for what is next, if anything is.
+    fn issue_next(self, alloc: Global, live: &Live, worker: &Worker) -> Result<Plan, Refusal>
+        requires peers { 1 ≤ self.role.peers }
+        requires count { CanCount (live_view live.now) }
+        ensures { Gives result (issue_found (view_of self.entry) (live_view live.now) worker.now
+            (next_request self.entry.role.script.now worker.now)) }
+    {
+        let script = self.role.script;
+        if !can_issue(worker, script) {
+            return Err(Refusal::NothingThere);
+        }
+        let mut asker = worker.copy(alloc)?;
+        let Some((number, op)) = asker.issue(alloc, script)? else {
+            return Err(Refusal::NothingThere);
+        };
+        Ok(self.issue_plan(alloc, live, &Request { number, op }, asker)?)
+    }
+
+    /// A worker asks once more, where a request is unanswered.
+    pub fn repeat(self, alloc: Global) -> Result<Plan, Refusal>
+        requires peers { 1 ≤ self.role.peers }
+        requires count { CanSpeak self.node.now.node }
+        ensures { Gives result (repeat (view_of self.entry)) }
+    {
+        let Some(live) = self.up() else {
+            return Err(Refusal::WrongMode);
+        };
+        let Body::Worker(worker) = &live.body else {
+            return Err(Refusal::WrongMode);
+        };
+        let Some((number, op)) = worker.again() else {
+            return Err(Refusal::NothingThere);
+        };
+        let op = op.copy(alloc)?;
+        Ok(self.repeat_plan(alloc, live, &Request { number, op })?)
+    }
+
+    /// The node hears the message that was kept first.
+    pub fn take(self, alloc: Global) -> Result<Plan, Refusal>
+        requires { CanSpeak self.node.now.node }
+        ensures { Gives result (take (view_of self.entry)) }
+    {
+        let Some(live) = self.up() else {
+            return Err(Refusal::WrongMode);
+        };
+        let Some((from, post)) = live.first_kept() else {
+            return Err(Refusal::NothingThere);
+        };
+        Ok(self.heard_plan(alloc, live, KeptChange::TakeFirst, *from, post)?)
+    }
+
+    /// A shard serves the worker of this number, which waits there, with the match of this place. The cause
+    /// is that of the hearing which put it in waiting.
+    pub fn serve(self, alloc: Global, worker: u8, place: u64, by: u64) -> Result<Plan, Refusal>
+        requires { CanSpeak self.node.now.node }
+        ensures { Gives result (serve (view_of self.entry) worker place by) }
+    {
+        let Some(live) = self.up() else {
+            return Err(Refusal::WrongMode);
+        };
+        let Body::Shard(shard) = &live.body else {
+            return Err(Refusal::WrongMode);
+        };
+        match shard.choose(worker, place) {
+            Ok(choice) => {
+                let service = choice.prepare(alloc)?;
+                Ok(self.service_plan(alloc, live, worker, by, service)?)
+            }
+            Err(refusal) => Err(unserved_as(refusal)),
+        }
+    }
+}

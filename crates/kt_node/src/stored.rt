@@ -1,0 +1,127 @@
+//! What the store says to a node of its checkpoints.
+
+ghost use Rattle.std.specs.Prelude.{◌≡◌};
+ghost use Rattle.std.specs.Option.{option_copied};
+ghost use Rattle.kt_node.specs.Node.{node_number};
+ghost use Rattle.kt_node.specs.Stored.{acts_in, fits, is_undecided, marks_fit, received_in, sent_in};
+ghost use Rattle.kt_node.specs.Loading.{marks_in};
+ghost use Rattle.kt_node.specs.Views.{role_view};
+
+use crate::labels::{listed_at, number_of};
+use crate::role::Role;
+use kt_ckpt::{Ckpt, Marks};
+use kt_link::Label;
+use kt_store::Verdict;
+use kt_tuple::NodeId;
+
+/// What the store says to a node that is to go on from its permanent checkpoint.
+#[derive(Debug, Drop)]
+pub struct Stored {
+    /// The node's last incarnation.
+    pub incarnation: u64,
+    /// Where there is none, the node goes on from its beginning.
+    pub permanent: Option<Ckpt>,
+}
+
+impl Stored {
+    /// How many acts the permanent checkpoint holds.
+    pub(crate) fn acts(&self) -> u64
+        ensures { result ≡ acts_in (marks_in self.now) }
+    {
+        match &self.permanent {
+            None => 0,
+            Some(checkpoint) => checkpoint.line_len(),
+        }
+    }
+
+    /// Whether acts and labels of the permanent checkpoint fit the node, which remembers so many acts.
+    pub(crate) fn fits(&self, role: Role<'_>, line_len: u64) -> bool
+        ensures { result ≡ fits (role_view role.entry) line_len (marks_in self.now) }
+    {
+        match &self.permanent {
+            None => true,
+            Some(checkpoint) => parts_fit(
+                role,
+                line_len,
+                checkpoint.node(),
+                checkpoint.line_len(),
+                checkpoint.sent(),
+                checkpoint.received(),
+            ),
+        }
+    }
+}
+
+/// Whether the instance was begun and has no verdict.
+pub(crate) fn is_undecided(verdict: Option<Verdict>) -> bool
+    ensures { result ≡ is_undecided verdict }
+{
+    match verdict {
+        None => false,
+        Some(verdict) => verdict.is_open(),
+    }
+}
+
+/// How many acts the checkpoint holds.
+pub(crate) fn acts_in(stored: Option<&Marks>) -> u64
+    ensures { result ≡ acts_in (option_copied stored.entry) }
+{
+    match stored {
+        None => 0,
+        Some(marks) => marks.line_len(),
+    }
+}
+
+/// The last label that the checkpoint has sent to the node.
+pub(crate) fn sent_in(stored: Option<&Marks>, node: NodeId) -> Label
+    ensures { result ≡ sent_in (option_copied stored.entry) (node_number node) }
+{
+    match stored {
+        None => Label::default(),
+        Some(marks) => listed_at(marks.sent(), number_of(node)),
+    }
+}
+
+/// The last label that the checkpoint has received from the node.
+pub(crate) fn received_in(stored: Option<&Marks>, node: NodeId) -> Label
+    ensures { result ≡ received_in (option_copied stored.entry) (node_number node) }
+{
+    match stored {
+        None => Label::default(),
+        Some(marks) => listed_at(marks.received(), number_of(node)),
+    }
+}
+
+/// Whether acts and labels of the checkpoint fit the node, which remembers so many acts.
+pub(crate) fn fits(role: Role<'_>, line_len: u64, stored: Option<&Marks>) -> bool
+    ensures { result ≡ fits (role_view role.entry) line_len (option_copied stored.entry) }
+{
+    match stored {
+        None => true,
+        Some(marks) => parts_fit(
+            role,
+            line_len,
+            marks.node(),
+            marks.line_len(),
+            marks.sent(),
+            marks.received(),
+        ),
+    }
+}
+
+/// The same of a checkpoint with these parts.
+pub(crate) fn parts_fit(
+    role: Role<'_>,
+    line_len: u64,
+    node: NodeId,
+    acts: u64,
+    sent: &[Label],
+    received: &[Label],
+) -> bool
+    ensures { result ≡ marks_fit (role_view role.entry) line_len (record { node = node; line_len = acts; sent = sent.now; received = received.now }) }
+{
+    node == role.id
+        && sent.len() == usize::from(role.peers)
+        && received.len() == usize::from(role.peers)
+        && acts <= line_len
+}

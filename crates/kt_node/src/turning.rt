@@ -1,0 +1,192 @@
+//! Changing a node, once nothing can be refused any more.
+
+ghost use Rattle.std.specs.Prelude.{◌≡◌, ◌<◌, ◌≤◌, ◌+◌, ◌^◌, ◌++◌, ◌∷◌, IsTrue, OnOk, length, filter, not, Some, None};
+ghost use Rattle.std.specs.VecDeque.{deque_len, deque_capacity};
+ghost use Rattle.kt_shard.specs.Table.{put};
+ghost use Rattle.kt_node.specs.Labels.{first_at, no_label, no_firsts, table_size};
+ghost use Rattle.kt_node.specs.Node.{node_number};
+ghost use Rattle.kt_node.specs.Views.{body_view, body_has_room, live_view, live_has_room, HasTables};
+ghost use Rattle.kt_node.specs.Turning.{changed, changed_body, changed_kept, first_or, is_above, said, turned, turned_over};
+ghost use Rattle.kt_node.specs.Ready.{CanChange, CanChangeBody, CanSay, CanTurn};
+
+use crate::change::{BodyChange, Change, KeptChange, Turn};
+use crate::labels::{number_of, up_to};
+use crate::live::{Body, Live};
+use crate::message::Post;
+use crate::node::Node;
+use kt_link::Label;
+use kt_tuple::NodeId;
+use std::alloc::AllocError;
+use std::collections::VecDeque;
+
+impl Node {
+    /// Makes room for one tuple more and for one kept message more.
+    pub fn reserve(&mut self) -> Result<(), AllocError>
+        ensures same { self.new.node ≡ self.old.node }
+        ensures room { OnOk result (IsTrue self.new.has_room) }
+    {
+        if let Some(live) = &mut self.live {
+            live.reserve()?;
+        }
+        Ok(())
+    }
+
+    /// Makes the change, which takes no memory. There is room for one tuple more and one kept message more.
+    pub fn change(&mut self, change: Change)
+        requires can { CanChange self.old.node change }
+        requires room { IsTrue self.old.has_room }
+        ensures { self.new.node ≡ changed change self.old.node }
+    {
+        match change {
+            Change::Stay => {}
+            Change::Turn(turn) => {
+                if let Some(live) = &mut self.live {
+                    live.turn(turn);
+                }
+            }
+            Change::Fall => self.live = None,
+            Change::Load(loaded) => self.live = Some(loaded.live),
+        }
+    }
+}
+
+impl Live {
+    fn reserve(&mut self) -> Result<(), AllocError>
+        requires { HasTables self.old }
+        ensures same { live_view self.new ≡ live_view self.old }
+        ensures tables { HasTables self.new }
+        ensures room { OnOk result (IsTrue (live_has_room self.new)) }
+    {
+        self.body.reserve()?;
+        self.kept.reserve(1)
+    }
+
+    fn turn(&mut self, turn: Turn)
+        requires tables { HasTables self.old }
+        requires can { CanTurn (live_view self.old) turn }
+        requires room { IsTrue (live_has_room self.old) }
+        ensures turned { live_view self.new ≡ turned turn (live_view self.old) }
+        ensures tables { HasTables self.new }
+    {
+        let Turn {
+            body,
+            kept,
+            heard,
+            said,
+            promoted,
+            phase,
+        } = turn;
+        self.body.change(body);
+        change_kept(&mut self.kept, kept);
+        if let Some((from, label)) = heard {
+            write(&mut self.received, from, label);
+        }
+        if let Some(to) = said {
+            self.say(to);
+        }
+        if promoted {
+            self.first.fill(None);
+        }
+        if let Some(phase) = phase {
+            self.phase = phase;
+        }
+    }
+
+    /// Sends the next underlying message to the node.
+    fn say(&mut self, to: NodeId)
+        requires tables { HasTables self.old }
+        requires can { CanSay (live_view self.old) to }
+        ensures tables { HasTables self.new }
+        ensures said { live_view self.new ≡ said (live_view self.old) to }
+    {
+        self.count += 1;
+        let label = Label {
+            incarnation: self.incarnation,
+            count: self.count,
+        };
+        write(&mut self.sent, to, label);
+        begin(&mut self.first, to, label);
+    }
+}
+
+impl Body {
+    fn reserve(&mut self) -> Result<(), AllocError>
+        ensures same { body_view self.new ≡ body_view self.old }
+        ensures room { OnOk result (IsTrue (body_has_room self.new)) }
+    {
+        if let Body::Shard(shard) = self {
+            shard.reserve()?;
+        }
+        Ok(())
+    }
+
+    fn change(&mut self, change: BodyChange)
+        requires can { CanChangeBody (body_view self.old) change }
+        requires room { IsTrue (body_has_room self.old) }
+        ensures { body_view self.new ≡ changed_body (body_view self.old) change }
+    {
+        match (self, change) {
+            (Body::Worker(worker), BodyChange::Work(changed)) => *worker = changed,
+            (Body::Shard(shard), BodyChange::Wait { worker, request }) => {
+                shard.wait(worker, request);
+            }
+            (Body::Shard(shard), BodyChange::Serve { worker, service }) => {
+                shard.carry_out(worker, service);
+            }
+            _ => {}
+        }
+    }
+}
+
+/// Writes the label of the node.
+fn write(table: &mut Vec<Label>, node: NodeId, label: Label)
+    requires { node_number node < length table.old.items }
+    ensures written { table.new.items ≡ put no_label table.old.items (node_number node) label }
+    ensures long { length table.new.items ≡ length table.old.items }
+{
+    table[usize::from(number_of(node))] = label;
+}
+
+/// Writes the first label of the node, where it has none.
+fn begin(table: &mut Vec<Option<Label>>, node: NodeId, label: Label)
+    requires { node_number node < length table.old.items }
+    ensures written { table.new.items ≡
+        put None table.old.items (node_number node) (first_or label (first_at table.old.items (node_number node))) }
+    ensures long { length table.new.items ≡ length table.old.items }
+{
+    let place = usize::from(number_of(node));
+    table[place] = table[place].or(Some(label));
+}
+
+/// Makes the change of what is kept, which takes no memory.
+fn change_kept(kept: &mut VecDeque<(NodeId, Post)>, change: KeptChange)
+    requires { deque_len kept.old < deque_capacity kept.old }
+    ensures { kept.new.items ≡ changed_kept kept.old.items change }
+{
+    match change {
+        KeptChange::Stay => {}
+        KeptChange::Append { from, post } => kept.push_back_reserved((from, post)),
+        KeptChange::TakeFirst => drop(kept.pop_front()),
+        KeptChange::Sieve { from, label } => sieve(kept, from, label),
+    }
+}
+
+/// Drops what is kept from the node above the label.
+fn sieve(kept: &mut VecDeque<(NodeId, Post)>, from: NodeId, label: Label)
+    ensures { kept.new.items ≡ filter (λ x. not (is_above from label x)) kept.old.items }
+{
+    for _ in 0..kept.len() {
+        turn_over(kept, from, label);
+    }
+}
+
+/// Takes the first kept message off, and puts it behind the others unless it is from the node above the label.
+fn turn_over(kept: &mut VecDeque<(NodeId, Post)>, from: NodeId, label: Label)
+    ensures items { kept.new.items ≡ turned_over from label kept.old.items }
+{
+    if let Some((sender, post)) = kept.pop_front() {
+        if sender != from || up_to(post.label, label) {
+            kept.push_back_reserved((sender, post));
+        }
+    }
+}
