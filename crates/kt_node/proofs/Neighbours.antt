@@ -22,11 +22,11 @@ all_before id zero m lt = subst (All (λ x. IsBefore x (across id m))) (sym (map
 all_before id (suc n) m lt =
     subst (All (λ x. IsBefore x (across id m))) (sym (more id n))
     (All-push (λ x. IsBefore x (across id m)) (map (across id) (numbers 1 n)) (across id (1 + n)) (all_before id n m (omega (arith, lt)))
-        (before id (1 + n) m (omega (arith, lt))))
+    (before id (1 + n) m (omega (arith, lt))))
 
 pub in_order : (id : NodeId) (n : ℕ) → IsInOrder (map (across id) (numbers 1 n))
 in_order id zero = subst IsInOrder (sym (mapped_none (across id) 1)) (λ i j d lt within. let none : ⊥ = omega (arith, within) in absurd none)
 in_order id (suc n) =
     subst IsInOrder (sym (more id n))
     (all_pairs_push IsBefore (map (across id) (numbers 1 n)) (across id (1 + n)) (in_order id n)
-        (λ k d within. All-get_or (λ x. IsBefore x (across id (1 + n))) (map (across id) (numbers 1 n)) k d within (all_before id n (1 + n) (omega arith))))
+    (λ k d within. All-get_or (λ x. IsBefore x (across id (1 + n))) (map (across id) (numbers 1 n)) k d within (all_before id n (1 + n) (omega arith))))

@@ -97,11 +97,7 @@ fn shard_state(alloc: Global, shard: &Shard) -> Result<ShardState, AllocError>
 }
 
 /// A copy of the tuple, if there is one.
-fn add_copy(
-    alloc: Global,
-    copies: &mut Vec<Tuple>,
-    tuple: Option<&Tuple>,
-) -> Result<(), AllocError>
+fn add_copy(alloc: Global, copies: &mut Vec<Tuple>, tuple: Option<&Tuple>) -> Result<(), AllocError>
     ensures { OnOk result (copies.new.items ≡ copies.old.items ++ option_to_list (option_copied tuple.entry)) }
 {
     if let Some(tuple) = tuple {
