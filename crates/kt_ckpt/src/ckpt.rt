@@ -92,18 +92,6 @@ impl Ckpt {
         &self.state
     }
 
-    /// All of it but the state.
-    pub fn marks(&self, alloc: Global) -> Result<Marks, AllocError>
-        ensures { IfOk result (λ m. m ≡ marks_of self.now) }
-    {
-        Ok(Marks {
-            node: self.node,
-            line_len: self.line_len,
-            sent: Vec::from_slice(alloc, &self.sent)?,
-            received: Vec::from_slice(alloc, &self.received)?,
-        })
-    }
-
     /// What `new` takes, in that order. Nothing is copied, and the parts keep the counts of the format.
     pub fn into_parts(self) -> (NodeId, u64, Vec<Label>, Vec<Label>, State)
         ensures node { result.0 ≡ self.node }
