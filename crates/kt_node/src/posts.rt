@@ -35,7 +35,7 @@ fn keep_plan(alloc: Global, from: NodeId, post: &Post) -> Result<Plan, AllocErro
 impl View<'_> {
     /// A node that is up hears the message, or keeps it behind what is kept; a held node keeps it; one that
     /// rolls back or is down drops it.
-    pub(crate) fn hear_post(self, alloc: Global, from: NodeId, post: &Post) -> Result<Plan, Refusal>
+    pub fn hear_post(self, alloc: Global, from: NodeId, post: &Post) -> Result<Plan, Refusal>
         requires { CanSpeak self.node.now.node }
         ensures { Gives result (hear_post (view_of self.entry) from post.now) }
     {
