@@ -77,8 +77,14 @@ fn assert_alike(rt: &impl Abort, one: &Shard, other: &Shard) {
         assert!(rt; one.bag().get(place) == other.bag().get(place));
     }
     for worker in 0..=MAX_WORKERS {
-        assert!(rt; waits_alike(one.waiting(worker), other.waiting(worker)), "{worker}");
-        assert!(rt; is_kept_alike(one.kept(worker), other.kept(worker)), "{worker}");
+        assert!(rt;
+            waits_alike(one.waiting(worker), other.waiting(worker)),
+            "{worker}"
+        );
+        assert!(rt;
+            is_kept_alike(one.kept(worker), other.kept(worker)),
+            "{worker}"
+        );
     }
 }
 

@@ -122,7 +122,11 @@ fn assert_matches(rt: &impl Abort, alloc: Global, rows: &[Pair]) -> Result<(), F
 /// The template of a tuple has its values as actuals.
 #[test]
 fn templates_of_tuples(rt: HostRuntime) -> Result<(), Fail> {
-    for text in [b"(1)".as_slice(), b"(\"\")", b"(1, 1, 1, 1, 1, 1, 1, \"1\")"] {
+    for text in [
+        b"(1)".as_slice(),
+        b"(\"\")",
+        b"(1, 1, 1, 1, 1, 1, 1, \"1\")",
+    ] {
         assert!(rt; is_told_so(rt.alloc(), text)?);
     }
     Ok(())

@@ -65,7 +65,10 @@ fn assert_row(
             assert_eq!(rt; hears_none(alloc, script, worker, number)?, is_accepted);
         }
         Row::HearsGot(number, tuple, is_accepted) => {
-            assert_eq!(rt; hears_got(alloc, script, worker, number, tuple)?, is_accepted);
+            assert_eq!(rt;
+                hears_got(alloc, script, worker, number, tuple)?,
+                is_accepted
+            );
         }
         Row::Left(is_left, is_done) => {
             assert_eq!(rt; worker.has_next(script), is_left);
