@@ -4,3 +4,5 @@ pub mod Tables
 pub mod Sieving
 pub mod Fronts
 pub mod Acting
+pub mod Small
+pub mod Rows

@@ -19,3 +19,4 @@ pub mod Deciding
 pub mod Failing
 pub mod Steps
 pub mod Posts
+pub mod Writing

@@ -1,0 +1,9 @@
+pub mod Limits
+pub mod Cast
+pub mod Cause
+pub mod Step
+pub mod State
+pub mod Told
+pub mod Judge
+pub mod Effect
+pub mod Reached
