@@ -15,11 +15,11 @@ use Rattle.kt_core.specs.declared.step.Step.{Step}
 use Rattle.kt_core.specs.Step.{owner}
 use Rattle.kt_core.specs.State.{State, Node, node, link, link_place, body_of}
 use Rattle.kt_core.specs.Effect.{changed, changed_body, taken_off, noted, applied}
-use Rattle.kt_core.proofs.Rows.{at-put_same, at-put_other}
+use Rattle.kt_lines.proofs.Rows.{at-put_same, at-put_other}
 use Rattle.kt_core.proofs.OnLinks.{taken_off-was, sent-cases, sent_between}
 use Rattle.kt_core.proofs.NoteSound.{noted-legal, noted-well_formed, noted-others, noted-carries}
 use Rattle.kt_core.proofs.Sound.{IsBodyLike, Carries, Keeps, IsSound}
-use Rattle.kt_core.proofs.Lists.{all-at}
+use Rattle.kt_lines.proofs.Lists.{all-at}
 
 -- what becomes of a node
 pub changed-body : (row : Option Node) (change : Change) → body_of (changed row change) ≡ option_map (λ b. changed_body b change) (body_of row)

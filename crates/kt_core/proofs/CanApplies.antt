@@ -31,7 +31,7 @@ use Rattle.kt_core.proofs.Plans as plans
 use Rattle.kt_core.proofs.Plans.{PlanOf}
 use Rattle.kt_core.proofs.StepSound.{shard_in-is, hearer-shard}
 use Rattle.kt_core.proofs.Peopled.{IsNode, a_worker, a_shard, owner-is_node}
-use Rattle.kt_core.proofs.NamedCauses.{cause_of_waiting-named}
+use Rattle.kt_lines.proofs.NamedCauses.{cause_of_waiting-named}
 
 -- ---- the scene's nodes have rows, desks and links
 

@@ -18,14 +18,14 @@ use Rattle.kt_history.proofs.Survivors.{survives-decides}
 use Rattle.kt_core.specs.Cast.{is_shard}
 use Rattle.kt_core.specs.State.{State, IsShard, node, body_of}
 use Rattle.kt_core.specs.Asks.{setting_of}
-use Rattle.kt_core.specs.ShardLine.{shard_of_acts, new_shard}
+use Rattle.kt_lines.specs.ShardLine.{shard_of_acts, new_shard}
 use Rattle.kt_core.specs.Headline.{IsNothingLost, bag_of, all_bags, Headline}
 use Rattle.kt_core.specs.Workers.{WorkersFollowLines}
 use Rattle.kt_core.specs.Reached.{IsReached}
-use Rattle.kt_core.proofs.Homes.{is_home}
-use Rattle.kt_core.proofs.Shares.{shares, shares-whole, flat_map-like, range_within}
-use Rattle.kt_core.proofs.Survive.{surviving_tuples, survivors_run, survivors_order, survivors_bags}
-use Rattle.kt_core.proofs.WellFormed.{causes_come_first}
+use Rattle.kt_lines.proofs.Homes.{is_home}
+use Rattle.kt_lines.proofs.Shares.{shares, shares-whole, flat_map-like, range_within}
+use Rattle.kt_lines.proofs.Survive.{surviving_tuples, survivors_run, survivors_order, survivors_bags}
+use Rattle.kt_lines.proofs.WellFormed.{causes_come_first}
 use Rattle.kt_core.proofs.Sound.{IsBodyLike}
 use Rattle.kt_core.proofs.Holding.{Holds}
 use Rattle.kt_core.proofs.Opened.{reached-holds}

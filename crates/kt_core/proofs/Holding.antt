@@ -22,7 +22,7 @@ use Rattle.kt_core.proofs.Peopled.{IsPeopled, owner-is_node, applied-peopled}
 use Rattle.kt_core.proofs.CanApplies.{can_apply}
 use Rattle.kt_core.proofs.StaysReady.{stays_ready, sends_next}
 use Rattle.kt_history.specs.WellFormed.{HasNoCut}
-use Rattle.kt_core.proofs.WellFormed.{HasNoCut-act}
+use Rattle.kt_lines.proofs.WellFormed.{HasNoCut-act}
 
 -- how a step was made
 pub record IsMade (s : State) (step : Step) (new : State) : Type 0 where

@@ -12,10 +12,10 @@ use Rattle.kt_history.proofs.Fronts.{acts_in_line-other_act, acts_in_line-other_
 use Rattle.kt_core.specs.declared.node.Message.{Message}
 use Rattle.kt_core.specs.Cast.{Cast}
 use Rattle.kt_core.specs.Asks.{setting_of}
-use Rattle.kt_core.specs.Legal.{AreLegal}
+use Rattle.kt_lines.specs.Legal.{AreLegal}
 use Rattle.kt_core.specs.Effect.{noted}
-use Rattle.kt_core.proofs.Growth.{MayMake, AreLegal-act, AreLegal-cut}
-use Rattle.kt_core.proofs.WellFormed.{IsWellFormed-push}
+use Rattle.kt_lines.proofs.Growth.{MayMake, AreLegal-act, AreLegal-cut}
+use Rattle.kt_lines.proofs.WellFormed.{IsWellFormed-push}
 use Rattle.kt_core.proofs.Sound.{MayNote, Carries, Carries-old}
 
 pub noted-legal : (cast : Cast) (h : List Note) (p : NodeId) (note : Option Note) → AreLegal (setting_of cast) h → MayNote cast h p note → AreLegal (setting_of cast) (noted h note)

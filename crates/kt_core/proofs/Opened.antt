@@ -23,11 +23,11 @@ use Rattle.kt_shard.specs.Shard.{Shard, empty_shard}
 use Rattle.kt_shard.specs.Limits.{desks}
 use Rattle.kt_shard.specs.Table.{at}
 use Rattle.kt_shard.specs.Desk.{empty_desk}
-use Rattle.kt_core.specs.WorkerLine.{new_worker}
+use Rattle.kt_lines.specs.WorkerLine.{new_worker}
 use Rattle.kt_core.specs.Ready.{IsOfKind, IsReady}
 use Rattle.kt_core.specs.Reached.{row_of, worker_if, idle_shard, opening_worker, opening_shard, opening_rows, opening, IsReached}
-use Rattle.kt_core.proofs.Growth.{AreLegal-empty, acts_in_line-empty}
-use Rattle.kt_core.proofs.WellFormed.{IsWellFormed-empty, HasNoCut-empty}
+use Rattle.kt_lines.proofs.Growth.{AreLegal-empty, acts_in_line-empty}
+use Rattle.kt_lines.proofs.WellFormed.{IsWellFormed-empty, HasNoCut-empty}
 use Rattle.kt_core.proofs.Sound.{IsBodyLike, IsWorkerLike, IsSound}
 use Rattle.kt_core.proofs.Peopled.{IsNode, a_worker, a_shard, IsPeopled}
 use Rattle.kt_core.proofs.CanApplies.{worker-small, node-row}

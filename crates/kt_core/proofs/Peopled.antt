@@ -19,7 +19,7 @@ use Rattle.kt_shard.specs.Table.{at}
 use Rattle.kt_core.specs.Judge.{Found}
 use Rattle.kt_core.specs.Effect.{changed, applied}
 use Rattle.kt_core.specs.Reached.{row_of}
-use Rattle.kt_core.proofs.Rows.{at-put_other}
+use Rattle.kt_lines.proofs.Rows.{at-put_other}
 use Rattle.kt_core.proofs.Founds.{IsFound, asks, repeats, hears, serves}
 use Rattle.kt_core.proofs.Applying.{applied-owner, applied-other}
 

@@ -16,7 +16,7 @@ use Rattle.kt_core.specs.declared.node.Message.TheVariants as messages
 use Rattle.kt_core.specs.declared.plan.Plan.{Plan}
 use Rattle.kt_core.specs.State.{node_number}
 use Rattle.kt_shard.specs.Shard.{Shard, desk_of}
-use Rattle.kt_core.specs.Cause.{cause_of_waiting}
+use Rattle.kt_lines.specs.Cause.{cause_of_waiting}
 use Rattle.kt_shard.specs.Desk.{newest, kept_answer}
 use Rattle.kt_core.specs.Judge.{Nobody, ByWorker, ByShard, Found, Asks, Repeats, Hears, Serves}
 use Rattle.kt_core.specs.Plan.{home, request_for, empty_plan, issue_plan, asks_plan, repeat_plan, heard_plan, again_plan, ignored_plan, request_plan, accepted_plan, reply_plan, service_plan}

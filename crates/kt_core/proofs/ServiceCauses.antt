@@ -9,9 +9,9 @@ use Rattle.kt_history.specs.Closed.{acts_in_line}
 use Rattle.kt_shard.specs.declared.request.Request.{Request}
 use Rattle.kt_core.specs.State.{State}
 use Rattle.kt_core.specs.Reached.{IsReached}
-use Rattle.kt_core.specs.Hearing.{WasHeardFor}
-use Rattle.kt_core.specs.ShardLine.{MadeShard, ShardMay, ShardMakes, ShardLine, shard_after, shard_of_acts, new_shard, request_of}
-use Rattle.kt_core.proofs.Traces.{WasHeard, waits_heard}
+use Rattle.kt_lines.specs.Hearing.{WasHeardFor}
+use Rattle.kt_lines.specs.ShardLine.{MadeShard, ShardMay, ShardMakes, ShardLine, shard_after, shard_of_acts, new_shard, request_of}
+use Rattle.kt_lines.proofs.Traces.{WasHeard, waits_heard}
 use Rattle.kt_core.proofs.Opened.{reached-holds}
 
 -- an act of a line is one that the acts before it allow

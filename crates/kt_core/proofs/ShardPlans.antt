@@ -24,18 +24,18 @@ use Rattle.kt_shard.specs.Table.{at, put}
 use Rattle.kt_shard.specs.Desk.{empty_desk, newest, same_request, answer_if_kept, answer_unless_waiting, kept_answer}
 use Rattle.kt_core.specs.Plan.{act_of, heard_plan, again_plan, ignored_plan, service_plan}
 use Rattle.kt_shard.specs.Arrival.{waiting_shard}
-use Rattle.kt_core.specs.Cause.{cause_of_waiting}
+use Rattle.kt_lines.specs.Cause.{cause_of_waiting}
 use Rattle.kt_core.specs.Cast.{Cast}
 use Rattle.kt_core.specs.Asks.{setting_of}
-use Rattle.kt_core.specs.Legal.{AreLegal}
-use Rattle.kt_core.specs.ShardLine.{MadeShard, Hears, AnswersAgain, Ignores, shard_after, shard_of_acts, new_shard, put_row}
-use Rattle.kt_core.proofs.Rows.{at-put_same, at-put_other}
-use Rattle.kt_core.proofs.Numbered.{put_row_holds}
-use Rattle.kt_core.proofs.Permutations.{step_like}
+use Rattle.kt_lines.specs.Legal.{AreLegal}
+use Rattle.kt_lines.specs.ShardLine.{MadeShard, Hears, AnswersAgain, Ignores, shard_after, shard_of_acts, new_shard, put_row}
+use Rattle.kt_lines.proofs.Rows.{at-put_same, at-put_other}
+use Rattle.kt_lines.proofs.Numbered.{put_row_holds}
+use Rattle.kt_lines.proofs.Permutations.{step_like}
 use Rattle.kt_shard.proofs.Steps.{service-due, service-step}
-use Rattle.kt_core.proofs.Traces.{WasHeard, waits_heard, ServedIn, keeps_served, ShardLine-home, Contains-acts_at, cause_found}
-use Rattle.kt_core.proofs.Causes.{before_at}
-use Rattle.kt_core.proofs.Growth.{shard_of_acts-push}
+use Rattle.kt_lines.proofs.Traces.{WasHeard, waits_heard, ServedIn, keeps_served, ShardLine-home, Contains-acts_at, cause_found}
+use Rattle.kt_lines.proofs.Causes.{before_at}
+use Rattle.kt_lines.proofs.Growth.{shard_of_acts-push}
 use Rattle.kt_core.proofs.Sound.{IsShardLike, IsRequestOf, Keeps, act_keeps, note_at-next}
 
 -- what the shard's acts make of it

@@ -30,10 +30,10 @@ use Rattle.kt_shard.specs.Desk.{empty_desk}
 use Rattle.kt_core.specs.Effect.{changed_body, noted}
 use Rattle.kt_core.specs.Cast.{Cast}
 use Rattle.kt_core.specs.Asks.{script_numbered, setting_of}
-use Rattle.kt_core.specs.ShardLine.{MadeShard, shard_of_acts, new_shard}
-use Rattle.kt_core.specs.WorkerLine.{MadeWorker, worker_of_acts, new_worker}
-use Rattle.kt_core.specs.Legal.{AreLegal}
-use Rattle.kt_core.proofs.Growth.{MayMake}
+use Rattle.kt_lines.specs.ShardLine.{MadeShard, shard_of_acts, new_shard}
+use Rattle.kt_lines.specs.WorkerLine.{MadeWorker, worker_of_acts, new_worker}
+use Rattle.kt_lines.specs.Legal.{AreLegal}
+use Rattle.kt_lines.proofs.Growth.{MayMake}
 
 -- a worker of this script is like what its acts make of it
 pub record IsWorkerLike (script : List Command) (made : MadeWorker) (x : Worker) : Type 0 where

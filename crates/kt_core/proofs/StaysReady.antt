@@ -28,8 +28,8 @@ use Rattle.kt_shard.specs.Table.{at, put}
 use Rattle.kt_core.specs.Judge.{Found}
 use Rattle.kt_core.specs.Effect.{changed_body, taken_off, noted, applied, next_note}
 use Rattle.kt_core.specs.Ready.{IsOfKind, NamesAct, IsReady, CanChange, CanApply}
-use Rattle.kt_core.proofs.Rows.{at-put_same, at-put_other, length-put}
-use Rattle.kt_core.proofs.Lists.{all-at}
+use Rattle.kt_lines.proofs.Rows.{at-put_same, at-put_other, length-put}
+use Rattle.kt_lines.proofs.Lists.{all-at}
 use Rattle.kt_core.proofs.OnLinks.{taken_off-was, sent-cases}
 use Rattle.kt_core.proofs.Plans as plans
 use Rattle.kt_core.proofs.Plans.{PlanOf}

@@ -24,8 +24,8 @@ use Rattle.kt_core.specs.State.{IsWorker}
 use Rattle.kt_core.specs.Cast.{Cast}
 use Rattle.kt_core.specs.Plan.{act_of, home, issue_plan, repeat_plan, accepted_plan, ignored_plan}
 use Rattle.kt_core.specs.Asks.{script_numbered}
-use Rattle.kt_core.specs.WorkerLine.{MadeWorker, Awaits, worker_after, worker_of_acts, new_worker}
-use Rattle.kt_core.proofs.Growth.{worker_of_acts-push}
+use Rattle.kt_lines.specs.WorkerLine.{MadeWorker, Awaits, worker_after, worker_of_acts, new_worker}
+use Rattle.kt_lines.proofs.Growth.{worker_of_acts-push}
 use Rattle.kt_core.proofs.Sound.{IsWorkerLike, IsReplyOf, Keeps, act_keeps, note_at-next}
 
 -- what the worker's acts make of it

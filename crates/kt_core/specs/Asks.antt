@@ -3,7 +3,7 @@ use Rattle.std.specs.Prelude.{ℕ, List, [], unwrap_or}
 use Rattle.kt_script.specs.declared.command.Command.{Command}
 use Rattle.kt_script.specs.Asks.{asks}
 use Rattle.kt_core.specs.Cast.{Cast, script_at}
-use Rattle.kt_core.specs.Order.{Setting}
+use Rattle.kt_lines.specs.Order.{Setting}
 
 -- the script of the worker with this number, and where there is no such worker the script of no commands
 abbrev pub script_numbered : List (List Command) → ℕ → List Command

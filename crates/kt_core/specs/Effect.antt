@@ -19,7 +19,7 @@ use Rattle.kt_core.specs.declared.step.StepError.{StepError}
 use Rattle.kt_core.specs.Step.{owner}
 use Rattle.kt_link.specs.Network.{entry_at, with_entry}
 use Rattle.kt_core.specs.State.{State, Body, IsWorker, IsShard, Node, node, link_place, node_number}
-use Rattle.kt_core.specs.Cause.{cause_of_waiting}
+use Rattle.kt_lines.specs.Cause.{cause_of_waiting}
 use Rattle.kt_core.specs.Judge.{Found, Asks, Repeats, Hears, Serves, map_ok, allowed}
 use Rattle.kt_core.specs.Plan.{asks_plan, repeat_plan, request_for, home, arrival_plan, service_plan}
 

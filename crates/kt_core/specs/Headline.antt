@@ -14,7 +14,7 @@ use Rattle.kt_history.specs.Line.{IsAct}
 use Rattle.kt_history.specs.Survival.{Stands, Survives, services}
 use Rattle.kt_history.specs.WellFormed.{IsWellFormed}
 use Rattle.kt_core.specs.State.{State, Body, IsWorker, IsShard, node, body_of}
-use Rattle.kt_core.specs.Order.{FollowsScripts}
+use Rattle.kt_lines.specs.Order.{FollowsScripts}
 use Rattle.kt_core.specs.Asks.{setting_of}
 
 -- every act is still remembered

@@ -1,12 +1,6 @@
 pub mod Asks
-pub mod Bag
-pub mod ShardLine
-pub mod WorkerLine
 pub mod Workers
-pub mod Order
-pub mod Legal
 pub mod Headline
-pub mod Hearing
 pub mod Cast
 pub mod Step
 pub mod State
@@ -17,7 +11,6 @@ pub mod Machine
 pub mod Reached
 pub mod Limits
 pub mod Judge
-pub mod Cause
 pub mod Traffic
 pub mod Views
 pub mod Runs

@@ -6,7 +6,7 @@ use Rattle.kt_worker.specs.declared.worker.Worker.{Worker}
 use Rattle.kt_worker.specs.After.{IsAfter}
 use Rattle.kt_core.specs.State.{State, IsWorker, node, body_of}
 use Rattle.kt_core.specs.Asks.{script_numbered}
-use Rattle.kt_core.specs.WorkerLine.{MadeWorker, worker_of_acts, new_worker}
+use Rattle.kt_lines.specs.WorkerLine.{MadeWorker, worker_of_acts, new_worker}
 
 -- what the line of the worker with this number makes of it
 abbrev pub made_in_line : State → ℕ → MadeWorker

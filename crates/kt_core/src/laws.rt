@@ -10,7 +10,7 @@ ghost use Rattle.kt_core.specs.declared.step.Step.{Step};
 ghost use Rattle.kt_core.specs.Cast.{Cast, IsCast};
 ghost use Rattle.kt_core.specs.Reached.{opening, after};
 ghost use Rattle.kt_core.specs.Headline.{Headline, IsNothingLost};
-ghost use Rattle.kt_core.specs.Hearing.{WasHeardFor};
+ghost use Rattle.kt_lines.specs.Hearing.{WasHeardFor};
 ghost use Rattle.kt_core.specs.Workers.{WorkersFollowLines};
 
 /// After every list of steps from the opening of every scene, refused steps among them, the surviving

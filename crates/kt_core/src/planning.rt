@@ -1,7 +1,7 @@
 //! The plan of an allowed step, which takes the memory that the step needs.
 
 ghost use Rattle.std.specs.Prelude.{◌≡◌, ◌<◌, ◌≤◌, ◌^◌, length, IfOk};
-ghost use Rattle.kt_core.specs.Cause.{hears_worker, cause_of_waiting};
+ghost use Rattle.kt_lines.specs.Cause.{hears_worker, cause_of_waiting};
 ghost use Rattle.kt_core.specs.Effect.{next_note, plan_of};
 ghost use Rattle.kt_shard.specs.Views.{choice_view};
 ghost use Rattle.kt_core.specs.Views.{found_view, hearer_view};

@@ -1,5 +1,5 @@
 use Rattle.std.proofs.Common.{◌≡◌, length}
-use Rattle.kt_core.specs.Cause.{cause_of_waiting, cause_among}
+use Rattle.kt_lines.specs.Cause.{cause_of_waiting, cause_among}
 use Rattle.kt_core.proofs.planning.cause_of_waiting.Given as goal
 
 -- what is left of the line gives what the whole line gives

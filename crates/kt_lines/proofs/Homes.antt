@@ -14,9 +14,9 @@ use Rattle.kt_tuple.specs.Value.{kind_of}
 use Rattle.kt_tuple.specs.Matching.{Admits, Matches}
 use Rattle.kt_tuple.specs.Signature.{kind_of_place, kinds_of, kinds_of_places, kinds_of_op, shard_of}
 use Rattle.kt_tuple.specs.Space.{SpaceStep}
-use Rattle.kt_core.specs.Bag.{without, served_bag}
+use Rattle.kt_lines.specs.Bag.{without, served_bag}
 use Rattle.kt_history.proofs.Lists.{Contains-here}
-use Rattle.kt_core.proofs.Bags.{takes, Contains-filter, Contains-unfilter, filter-without_kept, filter-without_other}
+use Rattle.kt_lines.proofs.Bags.{takes, Contains-filter, Contains-unfilter, filter-without_kept, filter-without_other}
 
 -- the shard that is a tuple's home
 abbrev pub home_of : ℕ → Tuple → ℕ

@@ -15,15 +15,15 @@ use Rattle.kt_history.specs.Closed.{IsClosed, acts_at, acts_in_line, own}
 use Rattle.kt_history.specs.WellFormed.{CausesComeFirst, IsWellFormed}
 use Rattle.kt_history.proofs.Survivors.{survives-closed}
 use Rattle.kt_history.proofs.Fronts.{marked_front, acts_at-append}
-use Rattle.kt_core.specs.Order.{Setting, FollowsScripts}
-use Rattle.kt_core.specs.ShardLine.{MadeShard, ShardLine, shard_after, shard_of_acts, new_shard}
-use Rattle.kt_core.specs.WorkerLine.{MadeWorker, WorkerLine, worker_after}
-use Rattle.kt_core.specs.Legal.{IsLine, AreLegal}
+use Rattle.kt_lines.specs.Order.{Setting, FollowsScripts}
+use Rattle.kt_lines.specs.ShardLine.{MadeShard, ShardLine, shard_after, shard_of_acts, new_shard}
+use Rattle.kt_lines.specs.WorkerLine.{MadeWorker, WorkerLine, worker_after}
+use Rattle.kt_lines.specs.Legal.{IsLine, AreLegal}
 use Rattle.kt_history.proofs.Lists.{Contains-here}
-use Rattle.kt_core.proofs.Homes.{is_home}
-use Rattle.kt_core.proofs.OneRun.{tuples_after, one_run}
-use Rattle.kt_core.proofs.Follows.{follows_scripts}
-use Rattle.kt_core.proofs.Causes.{causes_first}
+use Rattle.kt_lines.proofs.Homes.{is_home}
+use Rattle.kt_lines.proofs.OneRun.{tuples_after, one_run}
+use Rattle.kt_lines.proofs.Follows.{follows_scripts}
+use Rattle.kt_lines.proofs.Causes.{causes_first}
 
 -- the first acts of a line that a node may make are a line that it may make
 WorkerLine-front : (asks : List Answer → Option Op) (w : ℕ) (x : MadeWorker) (acts rest : List Act) → WorkerLine asks w x (acts ++ rest) → WorkerLine asks w x acts

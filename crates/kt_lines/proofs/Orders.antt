@@ -5,9 +5,9 @@ use Rattle.std.proofs.lemmas.List.Elements.{filter-append, filter_passes, All-co
 use Rattle.kt_tuple.specs.declared.op.Op.{Op}
 use Rattle.kt_tuple.specs.declared.op.Answer.{Answer}
 use Rattle.kt_tuple.specs.declared.service.Service.{Service}
-use Rattle.kt_core.specs.Order.{of_worker, OrderFrom}
+use Rattle.kt_lines.specs.Order.{of_worker, OrderFrom}
 use Rattle.kt_history.proofs.Lists.{Contains-here, Contains-none}
-use Rattle.kt_core.proofs.Bags.{Contains-there, Contains-cases, Contains-filter}
+use Rattle.kt_lines.proofs.Bags.{Contains-there, Contains-cases, Contains-filter}
 
 abbrev pub answers_in : List Service → List Answer
 answers_in services = map (λ (s : Service). s.answer) services

@@ -10,7 +10,7 @@ use Rattle.kt_history.specs.declared.note.What.TheVariants as whats
 use Rattle.kt_shard.specs.declared.request.Request.{Request}
 use Rattle.kt_shard.specs.declared.desk.Desk.{Desk}
 use Rattle.kt_shard.specs.Desk.{empty_desk, newest}
-use Rattle.kt_core.specs.Bag.{served_bag}
+use Rattle.kt_lines.specs.Bag.{served_bag}
 
 -- what a shard's acts make of it: its tuples, a desk for each worker's number, and the cause of the last
 -- hearing of each worker

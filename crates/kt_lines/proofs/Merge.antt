@@ -6,11 +6,11 @@ use Rattle.kt_history.specs.declared.note.Act.{Act}
 use Rattle.kt_history.specs.Line.{same_node}
 use Rattle.kt_history.specs.Closed.{own}
 use Rattle.kt_history.proofs.Lines.{same_node-refl, same_node-true}
-use Rattle.kt_core.specs.Order.{Setting}
-use Rattle.kt_core.specs.ShardLine.{MadeShard, ShardMakes, ShardLine, shard_after, shard_of_acts, put_row, new_shard}
-use Rattle.kt_core.specs.WorkerLine.{MadeWorker, WorkerMakes, WorkerLine, worker_after, worker_of_acts, new_worker}
-use Rattle.kt_core.specs.Legal.{IsLine}
-use Rattle.kt_core.proofs.Numbered.{put_row-same, put_row-other, same_node-false}
+use Rattle.kt_lines.specs.Order.{Setting}
+use Rattle.kt_lines.specs.ShardLine.{MadeShard, ShardMakes, ShardLine, shard_after, shard_of_acts, put_row, new_shard}
+use Rattle.kt_lines.specs.WorkerLine.{MadeWorker, WorkerMakes, WorkerLine, worker_after, worker_of_acts, new_worker}
+use Rattle.kt_lines.specs.Legal.{IsLine}
+use Rattle.kt_lines.proofs.Numbered.{put_row-same, put_row-other, same_node-false}
 
 -- the states of all nodes
 pub record World : Type 0 where

@@ -16,11 +16,11 @@ use Rattle.kt_history.specs.Closed.{act_of, acts_at}
 use Rattle.kt_shard.specs.declared.request.Request.{Request}
 use Rattle.kt_shard.specs.declared.request.Kept.{Kept}
 use Rattle.kt_shard.specs.declared.desk.Desk.{Desk}
-use Rattle.kt_core.specs.ShardLine.{MadeShard, request_of, desk_after, cause_after, shard_after, shard_of_acts, ShardLine, new_shard}
-use Rattle.kt_core.specs.Cause.{is_hearing, hears_worker, cause_of}
+use Rattle.kt_lines.specs.ShardLine.{MadeShard, request_of, desk_after, cause_after, shard_after, shard_of_acts, ShardLine, new_shard}
+use Rattle.kt_lines.specs.Cause.{is_hearing, hears_worker, cause_of}
 use Rattle.kt_history.proofs.Lists.{Contains-here, Contains-none}
-use Rattle.kt_core.proofs.Bags.{Contains-there, Contains-cases}
-use Rattle.kt_core.proofs.Numbered.{put_row-same, put_row-other}
+use Rattle.kt_lines.proofs.Bags.{Contains-there, Contains-cases}
+use Rattle.kt_lines.proofs.Numbered.{put_row-same, put_row-other}
 
 -- one of these acts heard the request of the worker w, with this cause
 pub record WasHeard (acts : List Act) (w : ℕ) (request : Request) (cause : ℕ) : Type 0 where

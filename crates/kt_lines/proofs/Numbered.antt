@@ -4,7 +4,7 @@ use Rattle.std.proofs.lemmas.Bool.{cases_eq, eqb-false}
 use Rattle.kt_tuple.specs.declared.node.NodeId.{NodeId}
 use Rattle.kt_tuple.specs.Node.{node_index}
 use Rattle.kt_history.specs.Line.{same_node}
-use Rattle.kt_core.specs.ShardLine.{put_row}
+use Rattle.kt_lines.specs.ShardLine.{put_row}
 
 pub put_row-same : {X : Type 0} (k : ℕ) (x : X) (rows : ℕ → X) → put_row k x rows k ≡ x
 put_row-same k x rows = rw (eq-eqb k k refl) refl

@@ -7,11 +7,11 @@ use Rattle.kt_tuple.specs.declared.tuple.Tuple.{Tuple}
 use Rattle.kt_tuple.specs.declared.service.Service.{Service}
 use Rattle.kt_tuple.specs.Signature.{kinds_of, signature_of}
 use Rattle.kt_tuple.specs.Space.{RunsFrom}
-use Rattle.kt_core.specs.Bag.{served_bag}
+use Rattle.kt_lines.specs.Bag.{served_bag}
 use Rattle.kt_history.proofs.Lists.{Contains-here, Contains-none}
-use Rattle.kt_core.proofs.Bags.{Contains-there, Contains-cases}
-use Rattle.kt_core.proofs.Homes.{home_of, is_home}
-use Rattle.kt_core.proofs.Permutations.{step_like}
+use Rattle.kt_lines.proofs.Bags.{Contains-there, Contains-cases}
+use Rattle.kt_lines.proofs.Homes.{home_of, is_home}
+use Rattle.kt_lines.proofs.Permutations.{step_like}
 
 -- the lists at these numbers, with u put in front of the one at k
 abbrev with_one : (ℕ → List Tuple) → Tuple → ℕ → ℕ → List Tuple

@@ -16,19 +16,19 @@ use Rattle.kt_history.specs.declared.note.What.TheVariants as whats
 use Rattle.kt_history.specs.Survival.{service_of, services_of}
 use Rattle.kt_history.specs.WellFormed.{IsAsking, SameRequest}
 use Rattle.kt_history.specs.Closed.{own}
-use Rattle.kt_core.specs.Legal.{IsLine}
+use Rattle.kt_lines.specs.Legal.{IsLine}
 use Rattle.kt_shard.specs.declared.request.Request.{Request}
 use Rattle.kt_shard.specs.declared.request.Kept.{Kept}
 use Rattle.kt_shard.specs.declared.desk.Desk.{Desk}
 use Rattle.kt_shard.specs.Desk.{number_or_0, kept_request}
-use Rattle.kt_core.specs.Order.{Setting, of_worker, OrderFrom, FollowsScripts}
-use Rattle.kt_core.specs.ShardLine.{MadeShard, request_of, ShardMay, ShardMakes, desk_after, shard_after, put_row}
-use Rattle.kt_core.specs.WorkerLine.{MadeWorker, WorkerMay, worker_after, worker_after_what}
+use Rattle.kt_lines.specs.Order.{Setting, of_worker, OrderFrom, FollowsScripts}
+use Rattle.kt_lines.specs.ShardLine.{MadeShard, request_of, ShardMay, ShardMakes, desk_after, shard_after, put_row}
+use Rattle.kt_lines.specs.WorkerLine.{MadeWorker, WorkerMay, worker_after, worker_after_what}
 use Rattle.kt_history.proofs.Lists.{Contains-none}
-use Rattle.kt_core.proofs.Bags.{Contains-cases, Contains-unfilter}
-use Rattle.kt_core.proofs.Numbered.{put_row_holds, put_row-same}
-use Rattle.kt_core.proofs.Orders.{answers_in, split_same, service_after, place_of, OrderFrom-push, of_worker_own, of_worker_holds, Contains-of_worker}
-use Rattle.kt_core.proofs.Merge.{World, new_world, after_at, world_after, Makes, Runs, merge}
+use Rattle.kt_lines.proofs.Bags.{Contains-cases, Contains-unfilter}
+use Rattle.kt_lines.proofs.Numbered.{put_row_holds, put_row-same}
+use Rattle.kt_lines.proofs.Orders.{answers_in, split_same, service_after, place_of, OrderFrom-push, of_worker_own, of_worker_holds, Contains-of_worker}
+use Rattle.kt_lines.proofs.Merge.{World, new_world, after_at, world_after, Makes, Runs, merge}
 
 -- one of these acts asked for the request of a
 pub record IsRequested (past : List Act) (a : Act) : Type 0 where

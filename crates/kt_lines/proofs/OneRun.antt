@@ -16,14 +16,14 @@ use Rattle.kt_history.specs.declared.note.What.TheVariants as whats
 use Rattle.kt_history.specs.Survival.{service_of, services_of}
 use Rattle.kt_history.specs.Closed.{own}
 use Rattle.kt_shard.specs.declared.desk.Desk.{Desk}
-use Rattle.kt_core.specs.Bag.{served_bag}
-use Rattle.kt_core.specs.Order.{Setting}
-use Rattle.kt_core.specs.ShardLine.{MadeShard, ShardMay, bag_after, shard_after, shard_of_acts, new_shard}
-use Rattle.kt_core.specs.WorkerLine.{MadeWorker, WorkerMay}
-use Rattle.kt_core.specs.Legal.{IsLine}
-use Rattle.kt_core.proofs.Homes.{is_home, step_of_all, share_at_home, share_elsewhere}
-use Rattle.kt_core.proofs.Numbered.{put_row_holds}
-use Rattle.kt_core.proofs.Merge.{World, new_world, after_at, world_after, Makes, Runs, world_of_acts, merge, shard_in_world}
+use Rattle.kt_lines.specs.Bag.{served_bag}
+use Rattle.kt_lines.specs.Order.{Setting}
+use Rattle.kt_lines.specs.ShardLine.{MadeShard, ShardMay, bag_after, shard_after, shard_of_acts, new_shard}
+use Rattle.kt_lines.specs.WorkerLine.{MadeWorker, WorkerMay}
+use Rattle.kt_lines.specs.Legal.{IsLine}
+use Rattle.kt_lines.proofs.Homes.{is_home, step_of_all, share_at_home, share_elsewhere}
+use Rattle.kt_lines.proofs.Numbered.{put_row_holds}
+use Rattle.kt_lines.proofs.Merge.{World, new_world, after_at, world_after, Makes, Runs, world_of_acts, merge, shard_in_world}
 
 -- the act, of this kind, leads from these tuples to those that it leaves
 abbrev Steps : List Tuple → Act → What → Type 0

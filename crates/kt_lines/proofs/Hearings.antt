@@ -8,7 +8,7 @@ use Rattle.kt_history.specs.declared.note.Act.{Act}
 use Rattle.kt_history.specs.declared.note.Note.{Note}
 use Rattle.kt_history.specs.Line.{note_at}
 use Rattle.kt_history.specs.Closed.{act_of, acts_at}
-use Rattle.kt_core.specs.Cause.{hears_worker, cause_of, cause_among}
+use Rattle.kt_lines.specs.Cause.{hears_worker, cause_of, cause_among}
 
 -- the acts of numbers with one more at the end, backwards
 backwards : (h : List Note) (before : List ℕ) (n : ℕ) (rest : List ℕ) → rest ≡ before ++ n ∷ []

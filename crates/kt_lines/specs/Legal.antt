@@ -5,9 +5,9 @@ use Rattle.kt_tuple.specs.declared.node.NodeId.TheVariants as nodes
 use Rattle.kt_history.specs.declared.note.Act.{Act}
 use Rattle.kt_history.specs.declared.note.Note.{Note}
 use Rattle.kt_history.specs.Closed.{acts_in_line}
-use Rattle.kt_core.specs.Order.{Setting}
-use Rattle.kt_core.specs.ShardLine.{ShardLine, new_shard}
-use Rattle.kt_core.specs.WorkerLine.{WorkerLine, new_worker}
+use Rattle.kt_lines.specs.Order.{Setting}
+use Rattle.kt_lines.specs.ShardLine.{ShardLine, new_shard}
+use Rattle.kt_lines.specs.WorkerLine.{WorkerLine, new_worker}
 
 -- the node may make these acts, one after the other, from its first state
 abbrev pub IsLine : Setting → NodeId → List Act → Type 0

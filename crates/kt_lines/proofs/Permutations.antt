@@ -9,10 +9,10 @@ use Rattle.kt_tuple.specs.declared.op.Answer.{Answer}
 use Rattle.kt_tuple.specs.declared.op.Answer.TheVariants as answers
 use Rattle.kt_tuple.specs.Matching.{Matches}
 use Rattle.kt_tuple.specs.Space.{SpaceStep}
-use Rattle.kt_core.specs.Bag.{without, served_bag}
+use Rattle.kt_lines.specs.Bag.{without, served_bag}
 use Rattle.kt_history.proofs.Lists.{Contains-here}
 use Rattle.kt_history.proofs.Runs.{IsPermutation-uncons}
-use Rattle.kt_core.proofs.Bags.{takes}
+use Rattle.kt_lines.proofs.Bags.{takes}
 
 -- one is the other with u
 taken_like : (u : Tuple) (x y new : List Tuple) → IsPermutation x y → IsPermutation y (u ∷ new) → IsPermutation x (u ∷ without u x) × IsPermutation (without u x) new

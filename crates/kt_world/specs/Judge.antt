@@ -1,0 +1,120 @@
+-- The plan of a step, or its refusal: of several refusals the first that stands is given.
+use Rattle.std.specs.Prelude.{ℕ, nat_lt, Bool, true, false, ◌&&◌, ◌||◌, if◌then◌else◌, List, [], ◌∷◌, is_some, Result, Ok, Err}
+use Rattle.kt_tuple.specs.declared.node.NodeId.{NodeId}
+use Rattle.kt_store.specs.declared.error.StoreError.TheVariants as stores
+use Rattle.kt_node.specs.declared.message.Message.{Message}
+use Rattle.kt_node.specs.declared.message.Message.TheVariants as messages
+use Rattle.kt_node.specs.declared.plan.Plan.{Plan}
+use Rattle.kt_node.specs.declared.refusal.Refusal.{Refusal}
+use Rattle.kt_node.specs.declared.refusal.Refusal.TheVariants as reasons
+use Rattle.kt_node.specs.Node.{node_number}
+use Rattle.kt_node.specs.View.{View}
+use Rattle.kt_node.specs.Plan.{Planned}
+use Rattle.kt_node.specs.Posts.{hear_post}
+use Rattle.kt_node.specs.Steps.{issue, repeat, take, serve}
+use Rattle.kt_node.specs.Arrivals.{hear_check, hear_rollback, hear_vote, hear_verdict}
+use Rattle.kt_node.specs.Deciding.{check, decide, abandon, learn}
+use Rattle.kt_node.specs.Failing.{fail, restart}
+use Rattle.kt_world.specs.declared.step.Step.{Step}
+use Rattle.kt_world.specs.declared.step.Step.TheVariants.{Issue, Repeat, Deliver, Take, Serve, Check, Decide, Abandon, Learn, Fail, Restart}
+use Rattle.kt_world.specs.declared.step.StepError.{StepError}
+use Rattle.kt_world.specs.declared.step.StepError.TheVariants as refusals
+use Rattle.kt_world.specs.declared.told.Told.{Told}
+use Rattle.kt_world.specs.Limits.{most_steps}
+use Rattle.kt_world.specs.Cast.{Cast, is_worker, is_shard, is_node, are_neighbours}
+use Rattle.kt_world.specs.State.{State, link, view}
+use Rattle.kt_lines.specs.Cause.{cause_of_waiting}
+use Rattle.kt_world.specs.Told.{told}
+
+-- why a step is refused that its owner refuses; a checkpoint that does not fit is the store's fault
+abbrev pub refusal_of : Refusal → StepError
+refusal_of reasons.WrongMode = refusals.WrongMode
+refusal_of reasons.NothingThere = refusals.NothingThere
+refusal_of reasons.NoSuchMatch = refusals.NoSuchMatch
+refusal_of reasons.NotDecided = refusals.NotDecided
+refusal_of reasons.Unresolved = refusals.Unresolved
+refusal_of reasons.Damaged = refusals.Store stores.Damaged
+refusal_of reasons.OutOfMemory = refusals.OutOfMemory
+
+abbrev pub of_owner : Planned → Result Plan StepError
+of_owner (Ok plan) = Ok plan
+of_owner (Err refusal) = Err (refusal_of refusal)
+
+-- who is a node, and of which kind, is told by the scene alone
+abbrev pub of_scene : Bool → Planned → Result Plan StepError
+of_scene there planned = if there then of_owner planned else Err refusals.NoNode
+
+-- a message of p is heard
+abbrev pub hear : View → Told → NodeId → Message → Planned
+hear v t p (messages.Post post) = hear_post v p post
+hear v t p (messages.CheckAsk ask) = hear_check v p ask t.verdict t.permanent t.tentative
+hear v t p (messages.RollAsk ask) = hear_rollback v p ask t.verdict t.permanent
+hear v t p (messages.Vote vote) = hear_vote v p vote
+hear v t p (messages.Verdict instance agreed) = hear_verdict v t.stored instance agreed
+
+-- the first message of the link
+abbrev pub delivery : View → Told → NodeId → List Message → Planned
+delivery v t p [] = Err reasons.NothingThere
+delivery v t p (message ∷ later) = hear v t p message
+
+-- the worker's waiting request is served
+abbrev pub service_by : State → NodeId → ℕ → ℕ → Planned
+service_by s p worker place = serve (view s p) worker place (cause_of_waiting s.history p worker)
+
+-- what the owner makes of its step
+abbrev pub due : State → Told → Step → Planned
+due s t (Issue p) = issue (view s p)
+due s t (Repeat p) = repeat (view s p)
+due s t (Deliver p q) = delivery (view s q) t p (link s p q)
+due s t (Take p) = take (view s p)
+due s t (Serve p w place) = service_by s p (node_number w) place
+due s t (Check p) = check (view s p) t.next t.permanent
+due s t (Decide p) = decide (view s p) t.verdict
+due s t (Abandon p) = abandon (view s p) t.verdict t.undecided
+due s t (Learn p) = learn (view s p) t.stored (is_some t.tentative) t.verdict
+due s t (Fail p) = fail (view s p) t.verdict t.permanent t.tentative
+due s t (Restart p) = restart (view s p) t.stored t.next (is_some t.tentative) t.undecided t.verdict
+
+-- the step names nodes of the scene, of the kinds that it is for
+abbrev pub is_in_scene : Cast → Step → Bool
+is_in_scene cast (Issue p) = is_worker cast p
+is_in_scene cast (Repeat p) = is_worker cast p
+is_in_scene cast (Deliver p q) = are_neighbours cast p q
+is_in_scene cast (Serve p w place) = is_shard cast p && is_worker cast w
+is_in_scene cast (Take p) = is_node cast p
+is_in_scene cast (Check p) = is_node cast p
+is_in_scene cast (Decide p) = is_node cast p
+is_in_scene cast (Abandon p) = is_node cast p
+is_in_scene cast (Learn p) = is_node cast p
+is_in_scene cast (Fail p) = is_node cast p
+is_in_scene cast (Restart p) = is_node cast p
+
+-- the plan of a step whose owner is told so, or why it is not allowed; the limit is left aside
+abbrev pub judged : State → Told → Step → Result Plan StepError
+judged s t step = of_scene (is_in_scene s.cast step) (due s t step)
+
+-- after 100,000 steps no more is made; of a step that is not enabled the limit is not asked
+abbrev pub unless_over : {X : Type 0} → ℕ → Result X StepError → Result X StepError
+unless_over made due = if nat_lt made most_steps then due else Err refusals.StepLimit
+
+abbrev pub within_limit : {X : Type 0} → ℕ → Result X StepError → Result X StepError
+within_limit made (Ok plan) = unless_over made (Ok plan)
+within_limit made (Err (refusals.Store refusal)) = unless_over made (Err (refusals.Store refusal))
+within_limit made (Err refusal) = Err refusal
+
+-- the plan of a step whose owner is told so, or its refusal
+abbrev pub planned_by : State → Told → Step → Result Plan StepError
+planned_by s t step = within_limit s.made (judged s t step)
+
+-- the plan of the step, or its refusal
+abbrev pub planned : State → Step → Result Plan StepError
+planned s step = planned_by s (told s step) step
+
+-- whether the step is enabled: nothing but the store or want of memory can refuse it
+abbrev pub is_planned : Result Plan StepError → Bool
+is_planned (Ok plan) = true
+is_planned (Err (refusals.Store refusal)) = true
+is_planned (Err refusal) = false
+
+abbrev pub is_enabled : State → Step → Bool
+is_enabled s step = is_planned (planned s step)

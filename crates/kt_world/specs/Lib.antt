@@ -1,0 +1,10 @@
+pub mod Limits
+pub mod Cast
+pub mod Step
+pub mod State
+pub mod Told
+pub mod Judge
+pub mod Writing
+pub mod Effect
+pub mod Reached
+pub mod Ready

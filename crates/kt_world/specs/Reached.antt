@@ -1,0 +1,47 @@
+-- The states that a world can be in: those that steps lead to from the opening of a scene.
+use Rattle.std.specs.Prelude.{ℕ, zero, suc, ◌*◌, if◌then◌else◌, true, length, List, [], ◌∷◌, ◌++◌, replicate, Option, None, Some, Result, Ok, Err}
+use Rattle.kt_tuple.specs.declared.node.NodeId.{NodeId}
+use Rattle.kt_tuple.specs.declared.node.NodeId.TheVariants as ids
+use Rattle.kt_shard.specs.Limits.{desks}
+use Rattle.kt_store.specs.Content.{empty_content}
+use Rattle.kt_node.specs.Node.{Node, opening_node}
+use Rattle.kt_world.specs.declared.step.Step.{Step}
+use Rattle.kt_world.specs.declared.step.StepError.{StepError}
+use Rattle.kt_world.specs.Limits.{rows}
+use Rattle.kt_world.specs.Cast.{Cast, is_node}
+use Rattle.kt_world.specs.State.{State, role_of}
+use Rattle.kt_world.specs.Effect.{step_result}
+
+-- the row of a node, which is empty where the scene has no such node
+abbrev pub opening_row : Cast → NodeId → Option Node
+opening_row cast p = if is_node cast p then Some (opening_node (role_of cast p)) else None
+
+-- the rows of the workers and shards with a number below this one
+unfoldable pub opening_rows : Cast → ℕ → List (Option Node)
+opening_rows cast zero = []
+opening_rows cast (suc n) = opening_rows cast n ++ opening_row cast (ids.Worker n) ∷ opening_row cast (ids.Shard n) ∷ []
+
+-- nothing was done yet, over a fresh store
+abbrev pub opening : Cast → State
+opening cast = record {
+  cast = cast;
+  nodes = opening_rows cast desks;
+  links = replicate (2 * (length cast.scripts * cast.shards)) [];
+  content = empty_content;
+  history = [];
+  own = replicate rows 0;
+  made = 0;
+}
+
+abbrev pub or_as_it_was : Result State StepError → State → State
+or_as_it_was (Ok new) old = new
+or_as_it_was (Err refusal) old = old
+
+-- the state after a step: a refused one changes nothing
+abbrev pub next_state : State → Step → State
+next_state s step = or_as_it_was (step_result s step) s
+
+-- the state after these steps
+unfoldable pub after : State → List Step → State
+after s [] = s
+after s (step ∷ later) = after (next_state s step) later

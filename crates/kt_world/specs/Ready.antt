@@ -1,0 +1,103 @@
+-- What the state of a world keeps so that each step can be made, whatever a store answers: the tables have their rows,
+-- the counts are small, each node is of its kind, and who sent, asked or was asked is a neighbour.
+use Rattle.std.specs.Prelude.{◌≡◌, ◌≢◌, ℕ, ◌<◌, ◌≤◌, Bool, true, List, [], length, Option, None, Some, Contains, IfSome, IsTrue, is_some}
+use Rattle.std.specs.List.{AllByRecursion}
+use Rattle.kt_tuple.specs.declared.node.NodeId.{NodeId}
+use Rattle.kt_tuple.specs.declared.node.NodeId.TheVariants as ids
+use Rattle.kt_tuple.specs.Node.{node_index}
+use Rattle.kt_history.specs.declared.note.Note.{Note}
+use Rattle.kt_history.specs.Line.{IsAct}
+use Rattle.kt_history.specs.WellFormed.{CausesComeFirst, MayFollow}
+use Rattle.kt_history.specs.Chronicle.{node_of}
+use Rattle.kt_script.specs.declared.command.Command.{Command}
+use Rattle.kt_script.specs.Variables.{variables_of}
+use Rattle.kt_worker.specs.declared.worker.Worker.{Worker}
+use Rattle.kt_shard.specs.Table.{at}
+use Rattle.kt_ckpt.specs.Limits.{max_pc, max_variables}
+use Rattle.kt_vote.specs.declared.asker.Asker.{Asker}
+use Rattle.kt_vote.specs.Poll.{Poll}
+use Rattle.kt_node.specs.declared.message.Post.{Post}
+use Rattle.kt_node.specs.declared.message.Message.{Message}
+use Rattle.kt_node.specs.declared.message.Message.TheVariants as messages
+use Rattle.kt_node.specs.declared.live.Phase.{Phase}
+use Rattle.kt_node.specs.declared.plan.Plan.{Plan}
+use Rattle.kt_node.specs.Labels.{table_size}
+use Rattle.kt_node.specs.Node.{Body, IsWorker, IsShard, Live, Node, Down, Alive, poll_in}
+use Rattle.kt_node.specs.Ready.{CanChange}
+use Rattle.kt_world.specs.Limits.{rows as row_count, most_steps}
+use Rattle.kt_world.specs.Cast.{Cast, IsCast, is_node, are_neighbours, script_at}
+use Rattle.kt_world.specs.State.{State, node, role_of, view}
+
+-- p and q are neighbours in the scene
+abbrev pub AreNeighbours : Cast → NodeId → NodeId → Type 0
+AreNeighbours cast p q = IsTrue (are_neighbours cast p q)
+
+-- a script has no more commands and variables than a checkpoint can count
+pub record IsShort (script : List Command) : Type 0 where
+  pub commands : length script ≤ max_pc
+  pub variables : length (variables_of script) ≤ max_variables
+
+-- the worker stands within its script
+pub record IsWithin (script : List Command) (x : Worker) : Type 0 where
+  pub pc : x.position.pc ≤ length script
+  pub values : length x.position.memory.values ≤ max_variables
+
+-- what a node of this name works with is of its kind, with no more tuples than steps were made
+abbrev pub IsBodyReady : List Command → ℕ → NodeId → Body → Type 0
+IsBodyReady script made (ids.Worker n) (IsWorker x) = IsWithin script x
+IsBodyReady script made (ids.Worker n) (IsShard y) = ⊥
+IsBodyReady script made (ids.Shard n) (IsWorker x) = ⊥
+IsBodyReady script made (ids.Shard n) (IsShard y) = length y.bag ≤ made
+
+-- the message names the act that sent it, if it names one
+abbrev pub NamesAct : List Note → ℕ → Type 0
+NamesAct h by = by ≢ 0 → IsAct h by
+
+abbrev pub IsMessageReady : List Note → Message → Type 0
+IsMessageReady h (messages.Post post) = NamesAct h post.by
+IsMessageReady h message = Unit {0}
+
+-- who asked, and who was asked, is a neighbour
+pub record IsPollReady (cast : Cast) (p : NodeId) (b : Poll) : Type 0 where
+  pub parent : IfSome b.parent (λ asker. AreNeighbours cast p asker.node)
+  pub asked : (q : NodeId) → Contains b.asked q → AreNeighbours cast p q
+
+abbrev pub IsPhaseReady : Cast → NodeId → Phase → Type 0
+IsPhaseReady cast p phase = IfSome (poll_in phase) (IsPollReady cast p)
+
+-- a kept message has come from a neighbour
+pub record IsKeptReady (cast : Cast) (h : List Note) (p : NodeId) (x : NodeId × Post) : Type 0 where
+  pub from : AreNeighbours cast p x.0
+  pub names : NamesAct h x.1.by
+
+pub record IsLiveReady (cast : Cast) (h : List Note) (made : ℕ) (p : NodeId) (n : Live) : Type 0 where
+  pub body : IsBodyReady (role_of cast p).script made p n.body
+  pub count : n.count ≤ made
+  pub phase : IsPhaseReady cast p n.phase
+  pub kept : (x : NodeId × Post) → Contains n.kept x → IsKeptReady cast h p x
+
+abbrev pub IsNodeReady : Cast → List Note → ℕ → NodeId → Node → Type 0
+IsNodeReady cast h made p Down = Unit {0}
+IsNodeReady cast h made p (Alive n) = IsLiveReady cast h made p n
+
+pub record IsReady (s : State) : Type 0 where
+  pub cast : IsCast s.cast
+  pub scripts : (n : ℕ) → IfSome (script_at s.cast.scripts n) IsShort
+  pub rows : length s.nodes ≡ row_count
+  pub counts : length s.own ≡ row_count
+  pub there : (p : NodeId) → is_some (node s p) ≡ is_node s.cast p
+  pub nodes : (p : NodeId) → IfSome (node s p) (IsNodeReady s.cast s.history s.made p)
+  pub few_steps : s.made ≤ most_steps
+  pub few_own : (k : ℕ) → at 0 s.own k ≤ s.made
+  pub few_notes : length s.history ≤ s.made
+  pub causes : CausesComeFirst s.history
+  pub messages : (k : ℕ) (m : Message) → Contains (at [] s.links k) m → IsMessageReady s.history m
+
+-- the plan can be carried out: its node has a row and can change so, it sends to neighbours alone, and notes what may
+-- follow
+pub record CanApply (s : State) (p : NodeId) (plan : Plan) : Type 0 where
+  pub row : node_index p < row_count
+  pub send : AllByRecursion (λ m. AreNeighbours s.cast p m.0) plan.send
+  pub change : CanChange (view s p).node plan.change
+  pub note : IfSome plan.note (MayFollow s.history)
+  pub own : IfSome plan.note (λ note. node_of note ≡ p)
