@@ -1,5 +1,5 @@
 -- Runs of a world and what is seen of them, for the worked rows.
-use Rattle.std.specs.Prelude.{ℕ, ◌+◌, List, [], ◌∷◌, length, map, Option, None, Some, Result, Ok, Err, pos}
+use Rattle.std.specs.Prelude.{ℕ, ◌+◌, List, [], ◌∷◌, length, map, Result, Ok, Err, pos}
 use Rattle.kt_tuple.specs.declared.node.NodeId.{NodeId}
 use Rattle.kt_tuple.specs.declared.value.Value.TheVariants as values
 use Rattle.kt_tuple.specs.declared.tuple.Tuple.{Tuple}

@@ -1,6 +1,6 @@
 -- What the state of a world keeps so that each step can be made, whatever a store answers: the tables have their rows,
 -- the counts are small, each node is of its kind, and who sent, asked or was asked is a neighbour.
-use Rattle.std.specs.Prelude.{◌≡◌, ◌≢◌, ℕ, ◌<◌, ◌≤◌, Bool, true, List, [], length, Option, None, Some, Contains, IfSome, IsTrue, is_some}
+use Rattle.std.specs.Prelude.{◌≡◌, ◌≢◌, ℕ, ◌<◌, ◌≤◌, List, [], length, Contains, IfSome, IsTrue, is_some}
 use Rattle.std.specs.List.{AllByRecursion}
 use Rattle.kt_tuple.specs.declared.node.NodeId.{NodeId}
 use Rattle.kt_tuple.specs.declared.node.NodeId.TheVariants as ids
@@ -14,14 +14,12 @@ use Rattle.kt_script.specs.Variables.{variables_of}
 use Rattle.kt_worker.specs.declared.worker.Worker.{Worker}
 use Rattle.kt_shard.specs.Table.{at}
 use Rattle.kt_ckpt.specs.Limits.{max_pc, max_variables}
-use Rattle.kt_vote.specs.declared.asker.Asker.{Asker}
 use Rattle.kt_vote.specs.Poll.{Poll}
 use Rattle.kt_node.specs.declared.message.Post.{Post}
 use Rattle.kt_node.specs.declared.message.Message.{Message}
 use Rattle.kt_node.specs.declared.message.Message.TheVariants as messages
 use Rattle.kt_node.specs.declared.live.Phase.{Phase}
 use Rattle.kt_node.specs.declared.plan.Plan.{Plan}
-use Rattle.kt_node.specs.Labels.{table_size}
 use Rattle.kt_node.specs.Node.{Body, IsWorker, IsShard, Live, Node, Down, Alive, poll_in}
 use Rattle.kt_node.specs.Ready.{CanChange}
 use Rattle.kt_world.specs.Limits.{rows as row_count, most_steps}

@@ -1,5 +1,5 @@
 -- The state of a world, as plain data.
-use Rattle.std.specs.Prelude.{ℕ, ◌+◌, List, [], length, Option, None, Some, unwrap_or}
+use Rattle.std.specs.Prelude.{ℕ, ◌+◌, List, [], length, Option, None, unwrap_or}
 use Rattle.kt_tuple.specs.declared.node.NodeId.{NodeId}
 use Rattle.kt_tuple.specs.declared.node.NodeId.TheVariants as ids
 use Rattle.kt_tuple.specs.Node.{node_index}

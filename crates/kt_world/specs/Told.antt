@@ -1,5 +1,5 @@
 -- What the store says to the owner of a step, by what it holds.
-use Rattle.std.specs.Prelude.{ℕ, List, [], ◌∷◌, Option, None, Some}
+use Rattle.std.specs.Prelude.{List, [], ◌∷◌, Option, None, Some}
 use Rattle.std.specs.Option.{option_map}
 use Rattle.kt_tuple.specs.declared.node.NodeId.{NodeId}
 use Rattle.kt_ckpt.specs.Marks.{MarkFields, marks_of}
@@ -12,7 +12,7 @@ use Rattle.kt_node.specs.declared.message.Message.TheVariants as messages
 use Rattle.kt_node.specs.declared.stored.Stored.{Stored}
 use Rattle.kt_node.specs.Node.{Node, Down, Alive, poll_of}
 use Rattle.kt_world.specs.declared.step.Step.{Step}
-use Rattle.kt_world.specs.declared.step.Step.TheVariants.{Issue, Repeat, Deliver, Take, Serve, Check, Decide, Abandon, Learn, Fail, Restart}
+use Rattle.kt_world.specs.declared.step.Step.TheVariants.{Deliver, Decide, Abandon, Learn, Fail, Restart}
 use Rattle.kt_world.specs.declared.told.Told.{Told}
 use Rattle.kt_world.specs.Step.{owner}
 use Rattle.kt_world.specs.State.{State, link, view}

@@ -14,28 +14,53 @@ pub const MAX_STEPS: u64 = 100_000;
 #[derive(Clone, Copy, Debug, PartialEq, Eq)]
 pub enum Step {
     /// The worker asks for its next operation.
-    Issue { node: NodeId },
+    Issue {
+        node: NodeId,
+    },
     /// The worker asks once more what is unanswered.
-    Repeat { node: NodeId },
+    Repeat {
+        node: NodeId,
+    },
     /// The first message of the link between the two nodes arrives.
-    Deliver { from: NodeId, to: NodeId },
+    Deliver {
+        from: NodeId,
+        to: NodeId,
+    },
     /// The node hears the message that it kept first.
-    Take { node: NodeId },
+    Take {
+        node: NodeId,
+    },
     /// The shard serves the worker's waiting request. Of the tuples that match it takes the one at
     /// this place, counted from 0, in order of arrival.
-    Serve { shard: NodeId, worker: NodeId, place: u64 },
+    Serve {
+        shard: NodeId,
+        worker: NodeId,
+        place: u64,
+    },
     /// The node begins a check: it takes a tentative checkpoint and asks its cohort.
-    Check { node: NodeId },
+    Check {
+        node: NodeId,
+    },
     /// Who began an instance writes the verdict that the votes come to.
-    Decide { node: NodeId },
+    Decide {
+        node: NodeId,
+    },
     /// Who began an instance writes No; a participant that has not voted votes no.
-    Abandon { node: NodeId },
+    Abandon {
+        node: NodeId,
+    },
     /// The node learns the verdict from the board.
-    Learn { node: NodeId },
+    Learn {
+        node: NodeId,
+    },
     /// The node fails.
-    Fail { node: NodeId },
+    Fail {
+        node: NodeId,
+    },
     /// The node goes on from its permanent checkpoint, and asks its neighbours to roll back.
-    Restart { node: NodeId },
+    Restart {
+        node: NodeId,
+    },
 }
 
 impl Step {
