@@ -8,3 +8,4 @@ pub mod Writing
 pub mod Effect
 pub mod Reached
 pub mod Ready
+pub mod Backed
