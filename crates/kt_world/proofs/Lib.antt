@@ -1,3 +1,4 @@
 pub mod Small
 pub mod Rows
 pub mod Plans
+pub mod Enough

@@ -1,11 +1,9 @@
 -- The plan of a step, or its refusal: of several refusals the first that stands is given.
 use Rattle.std.specs.Prelude.{ℕ, nat_lt, Bool, true, false, ◌&&◌, if◌then◌else◌, List, [], ◌∷◌, is_some, Result, Ok, Err}
 use Rattle.kt_tuple.specs.declared.node.NodeId.{NodeId}
-use Rattle.kt_store.specs.declared.error.StoreError.TheVariants as stores
 use Rattle.kt_node.specs.declared.message.Message.{Message}
 use Rattle.kt_node.specs.declared.message.Message.TheVariants as messages
 use Rattle.kt_node.specs.declared.plan.Plan.{Plan}
-use Rattle.kt_node.specs.declared.refusal.Refusal.{Refusal}
 use Rattle.kt_node.specs.declared.refusal.Refusal.TheVariants as reasons
 use Rattle.kt_node.specs.Node.{node_number}
 use Rattle.kt_node.specs.View.{View}
@@ -24,17 +22,8 @@ use Rattle.kt_world.specs.Limits.{most_steps}
 use Rattle.kt_world.specs.Cast.{Cast, is_worker, is_shard, is_node, are_neighbours}
 use Rattle.kt_world.specs.State.{State, link, view}
 use Rattle.kt_lines.specs.Cause.{cause_of_waiting}
+use Rattle.kt_world.specs.Refusals.{refusal_of}
 use Rattle.kt_world.specs.Told.{told}
-
--- why a step is refused that its owner refuses; a checkpoint that does not fit is the store's fault
-abbrev pub refusal_of : Refusal → StepError
-refusal_of reasons.WrongMode = refusals.WrongMode
-refusal_of reasons.NothingThere = refusals.NothingThere
-refusal_of reasons.NoSuchMatch = refusals.NoSuchMatch
-refusal_of reasons.NotDecided = refusals.NotDecided
-refusal_of reasons.Unresolved = refusals.Unresolved
-refusal_of reasons.Damaged = refusals.Store stores.Damaged
-refusal_of reasons.OutOfMemory = refusals.OutOfMemory
 
 abbrev pub of_owner : Planned → Result Plan StepError
 of_owner (Ok plan) = Ok plan

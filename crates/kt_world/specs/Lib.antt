@@ -1,8 +1,10 @@
 pub mod Limits
 pub mod Cast
 pub mod Step
+pub mod Refusals
 pub mod State
 pub mod Told
+pub mod Needs
 pub mod Judge
 pub mod Writing
 pub mod Effect

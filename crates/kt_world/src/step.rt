@@ -2,6 +2,7 @@
 
 ghost use Rattle.std.specs.Prelude.{◌≡◌};
 
+use kt_node::Refusal;
 use kt_store::StoreError;
 use kt_tuple::NodeId;
 use std::alloc::AllocError;
@@ -147,5 +148,35 @@ impl From<AllocError> for StepError {
 
     fn from(_error: AllocError) -> StepError {
         StepError::OutOfMemory
+    }
+}
+
+impl From<StoreError> for StepError {
+    ghost use Rattle.std.specs.Prelude.{◌≡◌};
+    ghost use Rattle.kt_world.specs.declared.step.StepError.TheVariants.{Store};
+
+    ghost from_gives = { λ error e. e ≡ Store error };
+
+    fn from(error: StoreError) -> StepError {
+        StepError::Store(error)
+    }
+}
+
+impl From<Refusal> for StepError {
+    ghost use Rattle.std.specs.Prelude.{◌≡◌};
+    ghost use Rattle.kt_world.specs.Refusals.{refusal_of};
+
+    ghost from_gives = { λ refusal e. e ≡ refusal_of refusal };
+
+    fn from(refusal: Refusal) -> StepError {
+        match refusal {
+            Refusal::WrongMode => StepError::WrongMode,
+            Refusal::NothingThere => StepError::NothingThere,
+            Refusal::NoSuchMatch => StepError::NoSuchMatch,
+            Refusal::NotDecided => StepError::NotDecided,
+            Refusal::Unresolved => StepError::Unresolved,
+            Refusal::Damaged => StepError::Store(StoreError::Damaged),
+            Refusal::OutOfMemory => StepError::OutOfMemory,
+        }
     }
 }
