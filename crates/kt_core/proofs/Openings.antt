@@ -2,9 +2,9 @@
 use Rattle.std.proofs.Common.{◌≡◌, ℕ, Option, ◌+◌, List, [], ◌∷◌, ◌++◌, map, sym, ap, ◌∙◌, append_assoc, add-one}
 use Rattle.std.proofs.lemmas.List.{map-append}
 use Rattle.kt_core.specs.declared.node.Node.{Node}
-use Rattle.kt_core.specs.Cast.{Cast}
-use Rattle.kt_core.specs.State.{Node as Row, row_view}
-use Rattle.kt_core.specs.Reached.{opening_rows, opening_worker, opening_shard}
+use Rattle.kt_world.specs.Cast.{Cast}
+use Rattle.kt_world.specs.State.{Node as Row, row_view}
+use Rattle.kt_world.specs.Reached.{opening_rows, opening_worker, opening_shard}
 
 pub no_rows : (nodes : List (Option Node)) (cast : Cast) → nodes ≡ [] → map row_view nodes ≡ opening_rows cast 0
 unfolding opening_rows

@@ -7,9 +7,9 @@ use Rattle.kt_tuple.specs.Node.{node_index}
 use Rattle.kt_tuple.proofs.Nodes.{node_index-injective}
 use Rattle.kt_link.specs.Network.{Network, AreNeighbours, ChangesOnly, place, queue, room, entry_at, with_entry}
 use Rattle.kt_link.proofs.Others.{other_room}
-use Rattle.kt_core.specs.declared.node.Message.{Message}
-use Rattle.kt_core.specs.Cast.{Cast}
-use Rattle.kt_core.specs.Effect.{Way, sent_one, sent}
+use Rattle.kt_node.specs.declared.message.Message.{Message}
+use Rattle.kt_world.specs.Cast.{Cast}
+use Rattle.kt_world.specs.Effect.{Way, sent_one, sent}
 use Rattle.kt_core.specs.Traffic.{IsSameTraffic}
 
 abbrev pub Net : Type 0

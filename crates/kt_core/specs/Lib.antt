@@ -1,16 +1,2 @@
-pub mod Asks
-pub mod Workers
-pub mod Headline
-pub mod Cast
-pub mod Step
-pub mod State
-pub mod Plan
-pub mod Effect
-pub mod Ready
 pub mod Machine
-pub mod Reached
-pub mod Limits
-pub mod Judge
 pub mod Traffic
-pub mod Views
-pub mod Runs

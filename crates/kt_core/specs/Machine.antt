@@ -1,26 +1,38 @@
 -- The code's state as plain data, and what its calls answer.
-use Rattle.std.specs.Prelude.{◌≡◌, ◌≤◌, length, map, None, Result, Ok, Err, IsOk}
+use Rattle.std.specs.Prelude.{◌≡◌, ◌≤◌, length, map, Option, None, Some, Result, Ok, Err, IsOk, IfSome, IsTrue}
 use Rattle.std.specs.List.{AllByRecursion}
+use Rattle.std.specs.Option.{option_map}
 use Rattle.kt_tuple.specs.declared.node.NodeId.{NodeId}
 use Rattle.kt_tuple.specs.Node.{node_index}
 use Rattle.kt_history.specs.Chronicle.{room_of}
 use Rattle.kt_link.specs.Network.{room}
 use Rattle.kt_shard.specs.Table.{at}
-use Rattle.kt_core.specs.declared.plan.Plan.{Plan}
-use Rattle.kt_core.specs.Ready.{HasRoom}
-use Rattle.kt_core.specs.declared.judge.Found.{Found as FoundCode}
+use Rattle.kt_store.specs.Content.{Content}
+use Rattle.kt_node.specs.declared.node.Node.{Node as NodeCode}
+use Rattle.kt_node.specs.declared.plan.Plan.{Plan}
+use Rattle.kt_node.specs.Node.{Node}
+use Rattle.kt_world.specs.declared.step.StepError.{StepError}
+use Rattle.kt_world.specs.declared.step.StepError.TheVariants as refusals
+use Rattle.kt_world.specs.State.{State}
 use Rattle.kt_core.specs.declared.machine.Machine.{Machine}
-use Rattle.kt_core.specs.declared.step.StepError.{StepError}
-use Rattle.kt_core.specs.declared.step.StepError.TheVariants as refusals
-use Rattle.kt_core.specs.State.{State, row_view}
-use Rattle.kt_core.specs.Judge.{Found}
-use Rattle.kt_core.specs.Views.{found_view}
 
-abbrev pub state_of : Machine → State
-state_of m = record {
+abbrev pub node_of : NodeCode → Node
+node_of n = n.node
+
+abbrev pub row_view : Option NodeCode → Option Node
+row_view row = option_map node_of row
+
+-- one more tuple and one more kept message take no memory
+abbrev pub HasRoom : Option NodeCode → Type 0
+HasRoom row = IfSome row (λ n. IsTrue n.has_room)
+
+-- the state of the machine beside a store that holds this
+abbrev pub state_of : Machine → Content → State
+state_of m content = record {
   cast = m.scene;
   nodes = map row_view m.nodes.items;
   links = m.links.queues;
+  content = content;
   history = m.history.notes;
   own = m.own.items;
   made = m.made;
@@ -36,11 +48,6 @@ pub record HasRoomFor (m : Machine) (p : NodeId) (plan : Plan) : Type 0 where
 abbrev pub Refuses : {Y : Type 0} → StepError → Result Y StepError → Type 0
 Refuses refusals.OutOfMemory due = IsOk due
 Refuses refusal due = due ≡ Err refusal
-
--- what was found is what is due
-abbrev pub Finds : Result FoundCode StepError → Result Found StepError → Type 0
-Finds (Ok found) due = due ≡ Ok (found_view found)
-Finds (Err refusal) due = due ≡ Err refusal
 
 -- what was answered is what is due, unless memory ran out
 abbrev pub Gives : {Y : Type 0} → Result Y StepError → Result Y StepError → Type 0

@@ -1,10 +1,10 @@
 //! The tables of a world that was just opened.
 
 ghost use Rattle.std.specs.Prelude.{◌≡◌, map, IfOk, replicate};
-ghost use Rattle.kt_core.specs.Limits.{rows};
+ghost use Rattle.kt_world.specs.Limits.{rows};
 ghost use Rattle.kt_shard.specs.Limits.{desks};
-ghost use Rattle.kt_core.specs.State.{row_view};
-ghost use Rattle.kt_core.specs.Reached.{opening_rows, opening_worker, opening_shard};
+ghost use Rattle.kt_world.specs.State.{row_view};
+ghost use Rattle.kt_world.specs.Reached.{opening_rows, opening_worker, opening_shard};
 
 use crate::node::{Body, Node};
 use crate::scene::Scene;

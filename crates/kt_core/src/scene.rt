@@ -19,7 +19,7 @@ pub struct Scene {
 }
 
 impl Model for Scene {
-    ghost use Rattle.kt_core.specs.Cast.{Cast, IsCast};
+    ghost use Rattle.kt_world.specs.Cast.{Cast, IsCast};
 
     ghost Value = { Cast };
 
@@ -29,7 +29,7 @@ impl Model for Scene {
 }
 
 impl Scene {
-    ghost use Rattle.kt_core.specs.Cast.{Cast, IsCast, script_in, is_worker, is_shard, are_neighbours};
+    ghost use Rattle.kt_world.specs.Cast.{Cast, IsCast, script_in, is_worker, is_shard, are_neighbours};
 
     /// The scene of so many shards and of a worker for each script, or `None` where there are not
     /// 1 to 8 of each.

@@ -1,16 +1,18 @@
 -- What the rule of a step looks at is all that it has to be told.
-use Rattle.std.proofs.Common.{◌≡◌, ℕ, ◌==◌, Bool, true, false, ◌&&◌, List, [], ◌∷◌, Option, Some, None, Result, refl, ap}
+use Rattle.std.proofs.Common.{◌≡◌, ℕ, ◌==◌, Bool, true, false, ◌&&◌, if◌then◌else◌, List, [], ◌∷◌, Option, Some, None, Result, refl, ap}
 use Rattle.std.specs.Prelude.{is_some}
 use Rattle.kt_tuple.specs.declared.node.NodeId.{NodeId}
 use Rattle.kt_store.specs.declared.rows.Verdict.{Verdict}
 use Rattle.kt_store.specs.Content.{Content, next_instance, open_of, permanent_marks, row_of, verdict_of, verdict_on}
+use Rattle.kt_ckpt.specs.Marks.{MarkFields}
+use Rattle.kt_node.specs.declared.message.Ask.{Ask}
 use Rattle.kt_vote.specs.declared.asker.Asker.{Asker}
 use Rattle.kt_vote.specs.Poll.{Poll}
 use Rattle.kt_node.specs.declared.message.Message.{Message}
 use Rattle.kt_node.specs.declared.message.Message.TheVariants as messages
 use Rattle.kt_node.specs.declared.live.Phase.{Phase}
 use Rattle.kt_node.specs.declared.live.Phase.TheVariants as phases
-use Rattle.kt_node.specs.Node.{Live, Node, Down, Alive, poll_in}
+use Rattle.kt_node.specs.Node.{Live, Node, Down, Alive, mode_in, mode_of, poll_in, poll_of}
 use Rattle.kt_node.specs.View.{View}
 use Rattle.kt_node.specs.Plan.{Planned}
 use Rattle.kt_node.specs.Arrivals.{hear_check, hear_rollback, hear_verdict, unless_down, check_fitting, rollback_plan, rollback_reaction, verdict_in, verdict_by_parent, verdict_when_rolling}
@@ -24,44 +26,40 @@ use Rattle.kt_world.specs.declared.told.Told.{Told}
 use Rattle.kt_world.specs.Step.{owner}
 use Rattle.kt_world.specs.State.{State, link, view}
 use Rattle.kt_world.specs.Told.{told, tentative_in, stored_of, of_ask, of_poll, of_first, to_learn}
-use Rattle.kt_world.specs.Needs.{told_by, needs_of, for_check, for_check_in, for_decide, for_initiator_in, if_initiator, for_abandon, for_learn, for_learn_in, if_learner, for_fail, for_restart, for_restart_in, if_restarter, for_ask, for_verdict, for_verdict_in, if_participant, for_message, for_first}
-use Rattle.kt_world.specs.Judge.{due, judged, of_scene, is_in_scene, hear, delivery}
+use Rattle.kt_world.specs.Needs.{told_by, no_needs, needs_in, needs_of, for_check, for_decide, if_initiator, for_abandon, for_learn, if_learner, for_fail, for_restart, if_restarter, for_ask, for_verdict, if_participant, for_message, for_first}
+use Rattle.kt_world.specs.Cast.{is_in_scene}
+use Rattle.kt_world.specs.Judge.{due, judged, of_scene, hear, delivery}
 
 check-enough : (v : View) (c : Content) (p : NodeId) (node : Node) →
-    check_of v (told_by (for_check node) c p).next (told_by (for_check node) c p).permanent node
+    let t = told_by (for_check (mode_of node)) c p in check_of v t.next t.permanent node
     ≡ check_of v (next_instance c) (permanent_marks c p) node
 check-enough v c p Down = refl
 check-enough v c p (Alive n) = by n.phase
   where
-    by : (phase : Phase) → check_in v (told_by (for_check_in phase) c p).next (told_by (for_check_in phase) c p).permanent n phase
+    by : (phase : Phase) → let t = told_by (for_check (mode_in phase)) c p in check_in v t.next t.permanent n phase
         ≡ check_in v (next_instance c) (permanent_marks c p) n phase
     by phases.Up = refl
     by (phases.Held b) = refl
     by (phases.Rolling b) = refl
 
 decide-enough : (c : Content) (p : NodeId) (node : Node) →
-    decide_of (told_by (for_decide node) c p).verdict node ≡ decide_of (of_poll c (Rattle.kt_node.specs.Node.poll_of node)) node
+    decide_of (told_by (for_decide (poll_of node)) c p).verdict node ≡ decide_of (of_poll c (poll_of node)) node
 decide-enough c p Down = refl
 decide-enough c p (Alive n) = by n.phase
   where
-    held : (b : Poll) (parent : Option Asker) → decide_by (phases.Held b) b (told_by (if_initiator b parent) c p).verdict parent
-        ≡ decide_by (phases.Held b) b (verdict_of c b.instance) parent
-    held b None = refl
-    held b (Some parent) = refl
+    voting : (phase : Phase) (b : Poll) (parent : Option Asker) → decide_by phase b (told_by (if_initiator b parent) c p).verdict parent
+        ≡ decide_by phase b (verdict_of c b.instance) parent
+    voting phase b None = refl
+    voting phase b (Some parent) = refl
 
-    rolling : (b : Poll) (parent : Option Asker) → decide_by (phases.Rolling b) b (told_by (if_initiator b parent) c p).verdict parent
-        ≡ decide_by (phases.Rolling b) b (verdict_of c b.instance) parent
-    rolling b None = refl
-    rolling b (Some parent) = refl
-
-    by : (phase : Phase) → decide_in (told_by (for_initiator_in phase) c p).verdict phase ≡ decide_in (of_poll c (poll_in phase)) phase
+    by : (phase : Phase) → decide_in (told_by (for_decide (poll_in phase)) c p).verdict phase ≡ decide_in (of_poll c (poll_in phase)) phase
     by phases.Up = refl
-    by (phases.Held b) = held b b.parent
-    by (phases.Rolling b) = rolling b b.parent
+    by (phases.Held b) = voting (phases.Held b) b b.parent
+    by (phases.Rolling b) = voting (phases.Rolling b) b b.parent
 
 abandon-enough : (c : Content) (p : NodeId) (node : Node) →
-    abandon_of (told_by (for_abandon node) c p).verdict (told_by (for_abandon node) c p).undecided node
-    ≡ abandon_of (of_poll c (Rattle.kt_node.specs.Node.poll_of node)) (open_of c p) node
+    let t = told_by (for_abandon (mode_of node) (poll_of node)) c p in abandon_of t.verdict t.undecided node
+    ≡ abandon_of (of_poll c (poll_of node)) (open_of c p) node
 abandon-enough c p Down = refl
 abandon-enough c p (Alive n) = by n.phase
   where
@@ -70,13 +68,13 @@ abandon-enough c p (Alive n) = by n.phase
     voting phase b None = refl
     voting phase b (Some parent) = refl
 
-    by : (phase : Phase) → abandon_in (told_by (for_initiator_in phase) c p).verdict phase ≡ abandon_in (of_poll c (poll_in phase)) phase
+    by : (phase : Phase) → abandon_in (told_by (for_abandon (mode_in phase) (poll_in phase)) c p).verdict phase ≡ abandon_in (of_poll c (poll_in phase)) phase
     by phases.Up = refl
     by (phases.Held b) = voting phases.Held b b.parent
     by (phases.Rolling b) = voting phases.Rolling b b.parent
 
 learn-enough : (v : View) (c : Content) (p : NodeId) (node : Node) →
-    let t = told_by (for_learn node) c p in learn_of v t.stored (is_some t.tentative) (settled t.verdict) node
+    let t = told_by (for_learn (mode_of node) (poll_of node)) c p in learn_of v t.stored (is_some t.tentative) (settled t.verdict) node
     ≡ learn_of v (stored_of c p) (is_some (tentative_in c p)) (settled (to_learn c p node)) node
 learn-enough v c p Down = refl
 learn-enough v c p (Alive n) = by n.phase
@@ -86,21 +84,27 @@ learn-enough v c p (Alive n) = by n.phase
     rolling b None = refl
     rolling b (Some parent) = refl
 
-    by : (phase : Phase) → learn_in v (told_by (for_learn_in phase) c p).stored (settled (told_by (for_learn_in phase) c p).verdict) phase
+    by : (phase : Phase) → let t = told_by (for_learn (mode_in phase) (poll_in phase)) c p in learn_in v t.stored (settled t.verdict) phase
         ≡ learn_in v (stored_of c p) (settled (of_poll c (poll_in phase))) phase
     by phases.Up = refl
     by (phases.Held b) = refl
     by (phases.Rolling b) = rolling b b.parent
 
 fail-enough : (v : View) (c : Content) (p : NodeId) (node : Node) →
-    let t = told_by (for_fail node) c p in fail_of v t.verdict t.permanent t.tentative node
+    let t = told_by (for_fail (mode_of node)) c p in fail_of v t.verdict t.permanent t.tentative node
     ≡ fail_of v (verdict_on c (row_of c p).tentative) (permanent_marks c p) (tentative_in c p) node
 fail-enough v c p Down = refl
-fail-enough v c p (Alive n) = refl
+fail-enough v c p (Alive n) = by n.phase
+  where
+    by : (phase : Phase) → let t = told_by (for_fail (mode_in phase)) c p in fail_of v t.verdict t.permanent t.tentative (Alive n)
+        ≡ fail_of v (verdict_on c (row_of c p).tentative) (permanent_marks c p) (tentative_in c p) (Alive n)
+    by phases.Up = refl
+    by (phases.Held b) = refl
+    by (phases.Rolling b) = refl
 
 restart-enough : (v : View) (c : Content) (p : NodeId) (node : Node) →
-    let t = told_by (for_restart node) c p in restart_of v t.stored t.next (is_some t.tentative) t.undecided t.verdict node
-    ≡ restart_of v (stored_of c p) (next_instance c) (is_some (tentative_in c p)) (open_of c p) (of_poll c (Rattle.kt_node.specs.Node.poll_of node)) node
+    let t = told_by (for_restart (mode_of node) (poll_of node)) c p in restart_of v t.stored t.next (is_some t.tentative) t.undecided t.verdict node
+    ≡ restart_of v (stored_of c p) (next_instance c) (is_some (tentative_in c p)) (open_of c p) (of_poll c (poll_of node)) node
 restart-enough v c p Down = refl
 restart-enough v c p (Alive n) = by n.phase
   where
@@ -110,33 +114,53 @@ restart-enough v c p (Alive n) = by n.phase
     rolling b None = refl
     rolling b (Some parent) = refl
 
-    by : (phase : Phase) → let t = told_by (for_restart_in phase) c p in restart_in v t.stored t.next t.verdict phase
+    by : (phase : Phase) → let t = told_by (for_restart (mode_in phase) (poll_in phase)) c p in restart_in v t.stored t.next t.verdict phase
         ≡ restart_in v (stored_of c p) (next_instance c) (of_poll c (poll_in phase)) phase
     by phases.Up = refl
     by (phases.Held b) = refl
     by (phases.Rolling b) = rolling b b.parent
 
+-- an ask, of whatever kind, to a node in this phase
+asked-enough : (c : Content) (p : NodeId) (instance : ℕ) (n : Live) (phase : Phase) (P : Option Verdict → Option MarkFields → Option MarkFields → Planned) →
+    let t = told_by (for_ask instance (mode_in phase)) c p in P t.verdict t.permanent t.tentative
+    ≡ P (verdict_of c instance) (permanent_marks c p) (tentative_in c p)
+asked-enough c p instance n phases.Up P = refl
+asked-enough c p instance n (phases.Held b) P = refl
+asked-enough c p instance n (phases.Rolling b) P = refl
+
+check_ask-enough : (v : View) (c : Content) (p from : NodeId) (ask : Ask) (node : Node) →
+    let t = told_by (for_ask ask.instance (mode_of node)) c p in unless_down node (check_fitting v from ask t.verdict t.permanent t.tentative)
+    ≡ unless_down node (check_fitting v from ask (verdict_of c ask.instance) (permanent_marks c p) (tentative_in c p))
+check_ask-enough v c p from ask Down = refl
+check_ask-enough v c p from ask (Alive n) = asked-enough c p ask.instance n n.phase (λ verdict permanent tentative. check_fitting v from ask verdict permanent tentative n)
+
+roll_ask-enough : (v : View) (c : Content) (p from : NodeId) (ask : Ask) (node : Node) →
+    let t = told_by (for_ask ask.instance (mode_of node)) c p in unless_down node (λ n. rollback_plan v n from ask t.permanent (rollback_reaction n from ask t.verdict))
+    ≡ unless_down node (λ n. rollback_plan v n from ask (permanent_marks c p) (rollback_reaction n from ask (verdict_of c ask.instance)))
+roll_ask-enough v c p from ask Down = refl
+roll_ask-enough v c p from ask (Alive n) = asked-enough c p ask.instance n n.phase (λ verdict permanent tentative. rollback_plan v n from ask permanent (rollback_reaction n from ask verdict))
+
 verdict-enough : (v : View) (c : Content) (p : NodeId) (instance : ℕ) (agreed : Bool) (node : Node) →
-    unless_down node (λ n. verdict_in v (told_by (for_verdict instance agreed node) c p).stored instance agreed n.phase)
+    unless_down node (λ n. verdict_in v (told_by (for_verdict instance agreed (mode_of node) (poll_of node)) c p).stored instance agreed n.phase)
     ≡ unless_down node (λ n. verdict_in v (stored_of c p) instance agreed n.phase)
 verdict-enough v c p instance agreed Down = refl
 verdict-enough v c p instance agreed (Alive n) = by n.phase
   where
-    this : (b : Poll) (said same : Bool) → (b.instance == instance) ≡ same → agreed ≡ said →
-        verdict_when_rolling v (told_by (if_participant (same && said) (Some (record { node = p; incarnation = 0 }))) c p).stored b instance agreed
+    this : (b : Poll) (parent : Asker) (said same : Bool) → (b.instance == instance) ≡ same → agreed ≡ said →
+        verdict_when_rolling v (told_by (if_participant (same && said) (Some parent)) c p).stored b instance agreed
         ≡ verdict_when_rolling v (stored_of c p) b instance agreed
-    this b true true e f = refl
-    this b false true e f = rw f refl
-    this b true false e f = rw e refl
-    this b false false e f = rw e refl
+    this b parent true true e f = refl
+    this b parent false true e f = rw f refl
+    this b parent true false e f = rw e refl
+    this b parent false false e f = rw e refl
 
     rolling : (b : Poll) (parent : Option Asker) →
         verdict_by_parent v (told_by (if_participant ((b.instance == instance) && agreed) parent) c p).stored b instance agreed parent
         ≡ verdict_by_parent v (stored_of c p) b instance agreed parent
     rolling b None = refl
-    rolling b (Some parent) = this b agreed (b.instance == instance) refl refl
+    rolling b (Some parent) = this b parent agreed (b.instance == instance) refl refl
 
-    by : (phase : Phase) → verdict_in v (told_by (for_verdict_in instance agreed phase) c p).stored instance agreed phase
+    by : (phase : Phase) → verdict_in v (told_by (for_verdict instance agreed (mode_in phase) (poll_in phase)) c p).stored instance agreed phase
         ≡ verdict_in v (stored_of c p) instance agreed phase
     by phases.Up = refl
     by (phases.Held b) = refl
@@ -144,32 +168,29 @@ verdict-enough v c p instance agreed (Alive n) = by n.phase
 
 -- all that an arrival is told
 abbrev full : Content → NodeId → Option Verdict → Told
-full c p verdict = record { verdict = verdict; permanent = permanent_marks c p; tentative = tentative_in c p; stored = stored_of c p; undecided = open_of c p; next = next_instance c }
+full c p verdict = record {
+  verdict = verdict;
+  permanent = permanent_marks c p;
+  tentative = tentative_in c p;
+  stored = stored_of c p;
+  undecided = open_of c p;
+  next = next_instance c;
+}
 
 hear-enough : (v : View) (c : Content) (from p : NodeId) (message : Message) →
-    hear v (told_by (for_message v.node message) c p) from message ≡ hear v (full c p (of_ask c message)) from message
+    hear v (told_by (for_message message (mode_of v.node) (poll_of v.node)) c p) from message ≡ hear v (full c p (of_ask c message)) from message
 hear-enough v c from p (messages.Post post) = refl
-hear-enough v c from p (messages.CheckAsk ask) = by v.node
-  where
-    by : (node : Node) → let u = told_by (for_ask ask.instance node) c p in unless_down node (check_fitting v from ask u.verdict u.permanent u.tentative)
-        ≡ unless_down node (check_fitting v from ask (verdict_of c ask.instance) (permanent_marks c p) (tentative_in c p))
-    by Down = refl
-    by (Alive n) = refl
-hear-enough v c from p (messages.RollAsk ask) = by v.node
-  where
-    by : (node : Node) → let u = told_by (for_ask ask.instance node) c p in unless_down node (λ n. rollback_plan v n from ask u.permanent (rollback_reaction n from ask u.verdict))
-        ≡ unless_down node (λ n. rollback_plan v n from ask (permanent_marks c p) (rollback_reaction n from ask (verdict_of c ask.instance)))
-    by Down = refl
-    by (Alive n) = refl
+hear-enough v c from p (messages.CheckAsk ask) = check_ask-enough v c p from ask v.node
+hear-enough v c from p (messages.RollAsk ask) = roll_ask-enough v c p from ask v.node
 hear-enough v c from p (messages.Vote vote) = refl
 hear-enough v c from p (messages.Verdict instance agreed) = verdict-enough v c p instance agreed v.node
 
 delivery-enough : (v : View) (c : Content) (from p : NodeId) (queue : List Message) →
-    delivery v (told_by (for_first v.node queue) c p) from queue ≡ delivery v (full c p (of_first c queue)) from queue
+    delivery v (told_by (for_first queue (mode_of v.node) (poll_of v.node)) c p) from queue ≡ delivery v (full c p (of_first c queue)) from queue
 delivery-enough v c from p [] = refl
 delivery-enough v c from p (message ∷ later) = hear-enough v c from p message
 
-due-enough : (s : State) (step : Step) → due s (told_by (needs_of s step) s.content (owner step)) step ≡ due s (told s step) step
+due-enough : (s : State) (step : Step) → due s (told_by (needs_in s step) s.content (owner step)) step ≡ due s (told s step) step
 due-enough s (Issue p) = refl
 due-enough s (Repeat p) = refl
 due-enough s (Deliver p q) = delivery-enough (view s q) s.content p q (link s p q)
@@ -182,5 +203,11 @@ due-enough s (Learn p) = learn-enough (view s p) s.content p (view s p).node
 due-enough s (Fail p) = fail-enough (view s p) s.content p (view s p).node
 due-enough s (Restart p) = restart-enough (view s p) s.content p (view s p).node
 
+-- a step that names no nodes of the scene is told nothing, and refused
 pub enough : (s : State) (step : Step) → judged s (told_by (needs_of s step) s.content (owner step)) step ≡ judged s (told s step) step
-enough s step = ap (of_scene (is_in_scene s.cast step)) (due-enough s step)
+enough s step = by (is_in_scene s.cast step)
+  where
+    by : (there : Bool) → of_scene there (due s (told_by (if there then needs_in s step else no_needs) s.content (owner step)) step)
+        ≡ of_scene there (due s (told s step) step)
+    by true = ap (of_scene true) (due-enough s step)
+    by false = refl

@@ -3,6 +3,8 @@ use Rattle.std.specs.Prelude.{ℕ, zero, suc, ◌≤◌, nat_le, Bool, false, �
 use Rattle.kt_tuple.specs.declared.node.NodeId.{NodeId}
 use Rattle.kt_tuple.specs.declared.node.NodeId.TheVariants as ids
 use Rattle.kt_script.specs.declared.command.Command.{Command}
+use Rattle.kt_world.specs.declared.step.Step.{Step}
+use Rattle.kt_world.specs.declared.step.Step.TheVariants.{Issue, Repeat, Deliver, Take, Serve, Check, Decide, Abandon, Learn, Fail, Restart}
 use Rattle.kt_world.specs.Limits.{most_of_a_kind}
 
 -- how many shards there are, and each worker's script
@@ -47,3 +49,17 @@ are_neighbours cast p q = is_worker cast p && is_shard cast q || is_shard cast p
 -- p is a node of the scene
 abbrev pub is_node : Cast → NodeId → Bool
 is_node cast p = is_worker cast p || is_shard cast p
+
+-- the step names nodes of the scene, of the kinds that it is for
+abbrev pub is_in_scene : Cast → Step → Bool
+is_in_scene cast (Issue p) = is_worker cast p
+is_in_scene cast (Repeat p) = is_worker cast p
+is_in_scene cast (Deliver p q) = are_neighbours cast p q
+is_in_scene cast (Serve p w place) = is_shard cast p && is_worker cast w
+is_in_scene cast (Take p) = is_node cast p
+is_in_scene cast (Check p) = is_node cast p
+is_in_scene cast (Decide p) = is_node cast p
+is_in_scene cast (Abandon p) = is_node cast p
+is_in_scene cast (Learn p) = is_node cast p
+is_in_scene cast (Fail p) = is_node cast p
+is_in_scene cast (Restart p) = is_node cast p

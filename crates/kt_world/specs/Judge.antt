@@ -19,7 +19,7 @@ use Rattle.kt_world.specs.declared.step.StepError.{StepError}
 use Rattle.kt_world.specs.declared.step.StepError.TheVariants as refusals
 use Rattle.kt_world.specs.declared.told.Told.{Told}
 use Rattle.kt_world.specs.Limits.{most_steps}
-use Rattle.kt_world.specs.Cast.{Cast, is_worker, is_shard, is_node, are_neighbours}
+use Rattle.kt_world.specs.Cast.{is_in_scene}
 use Rattle.kt_world.specs.State.{State, link, view}
 use Rattle.kt_lines.specs.Cause.{cause_of_waiting}
 use Rattle.kt_world.specs.Refusals.{refusal_of}
@@ -63,20 +63,6 @@ due s t (Abandon p) = abandon (view s p) t.verdict t.undecided
 due s t (Learn p) = learn (view s p) t.stored (is_some t.tentative) t.verdict
 due s t (Fail p) = fail (view s p) t.verdict t.permanent t.tentative
 due s t (Restart p) = restart (view s p) t.stored t.next (is_some t.tentative) t.undecided t.verdict
-
--- the step names nodes of the scene, of the kinds that it is for
-abbrev pub is_in_scene : Cast → Step → Bool
-is_in_scene cast (Issue p) = is_worker cast p
-is_in_scene cast (Repeat p) = is_worker cast p
-is_in_scene cast (Deliver p q) = are_neighbours cast p q
-is_in_scene cast (Serve p w place) = is_shard cast p && is_worker cast w
-is_in_scene cast (Take p) = is_node cast p
-is_in_scene cast (Check p) = is_node cast p
-is_in_scene cast (Decide p) = is_node cast p
-is_in_scene cast (Abandon p) = is_node cast p
-is_in_scene cast (Learn p) = is_node cast p
-is_in_scene cast (Fail p) = is_node cast p
-is_in_scene cast (Restart p) = is_node cast p
 
 -- the plan of a step whose owner is told so, or why it is not allowed; the limit is left aside
 abbrev pub judged : State → Told → Step → Result Plan StepError

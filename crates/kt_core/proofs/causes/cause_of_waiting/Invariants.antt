@@ -1,6 +1,6 @@
 use Rattle.std.proofs.Common.{◌≡◌, length}
 use Rattle.kt_lines.specs.Cause.{cause_of_waiting, cause_among}
-use Rattle.kt_core.proofs.planning.cause_of_waiting.Given as goal
+use Rattle.kt_core.proofs.causes.cause_of_waiting.Given as goal
 
 -- what is left of the line gives what the whole line gives
 abbrev pub invariant-loop-number : goal.invariant-loop-number
