@@ -1,30 +1,18 @@
 -- The code's state as plain data, and what its calls answer.
-use Rattle.std.specs.Prelude.{◌≡◌, ◌≤◌, length, map, Option, None, Some, Result, Ok, Err, IsOk, IfSome, IsTrue}
+use Rattle.std.specs.Prelude.{◌≡◌, ◌≤◌, length, map, None, Result, Ok, Err, IsOk}
 use Rattle.std.specs.List.{AllByRecursion}
-use Rattle.std.specs.Option.{option_map}
 use Rattle.kt_tuple.specs.declared.node.NodeId.{NodeId}
 use Rattle.kt_tuple.specs.Node.{node_index}
 use Rattle.kt_history.specs.Chronicle.{room_of}
 use Rattle.kt_link.specs.Network.{room}
 use Rattle.kt_shard.specs.Table.{at}
 use Rattle.kt_store.specs.Content.{Content}
-use Rattle.kt_node.specs.declared.node.Node.{Node as NodeCode}
 use Rattle.kt_node.specs.declared.plan.Plan.{Plan}
-use Rattle.kt_node.specs.Node.{Node}
 use Rattle.kt_world.specs.declared.step.StepError.{StepError}
 use Rattle.kt_world.specs.declared.step.StepError.TheVariants as refusals
 use Rattle.kt_world.specs.State.{State}
 use Rattle.kt_core.specs.declared.machine.Machine.{Machine}
-
-abbrev pub node_of : NodeCode → Node
-node_of n = n.node
-
-abbrev pub row_view : Option NodeCode → Option Node
-row_view row = option_map node_of row
-
--- one more tuple and one more kept message take no memory
-abbrev pub HasRoom : Option NodeCode → Type 0
-HasRoom row = IfSome row (λ n. IsTrue n.has_room)
+use Rattle.kt_core.specs.Rows.{HasRoom, row_view}
 
 -- the state of the machine beside a store that holds this
 abbrev pub state_of : Machine → Content → State

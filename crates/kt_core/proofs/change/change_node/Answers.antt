@@ -1,5 +1,6 @@
 use Rattle.std.specs.Prelude.{Option, None}
-use Rattle.kt_world.specs.State.{Node, row_view}
+use Rattle.kt_node.specs.Node.{Node}
+use Rattle.kt_core.specs.Rows.{row_view}
 use Rattle.kt_world.specs.Effect.{changed}
 use Rattle.kt_lines.proofs.Rows.{map-set_changed}
 use Rattle.kt_core.proofs.change.change_node.Goals as goal

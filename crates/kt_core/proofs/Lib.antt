@@ -1,0 +1,4 @@
+pub mod Outcomes
+pub mod Openings
+pub mod Readiness
+pub mod Traffics
