@@ -6,3 +6,6 @@ pub mod ActsFound
 pub mod ArrivalsFound
 pub mod StepsFound
 pub mod PlansFound
+pub mod OnLinks
+pub mod Frames
+pub mod Scene
