@@ -2,3 +2,11 @@ pub mod Small
 pub mod Rows
 pub mod Plans
 pub mod Enough
+pub mod Passed
+pub mod ActsFound
+pub mod ArrivalsFound
+pub mod StepsFound
+pub mod PlansFound
+pub mod OnLinks
+pub mod Frames
+pub mod Scene

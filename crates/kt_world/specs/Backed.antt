@@ -1,5 +1,5 @@
 -- What a store that is honest keeps of the nodes of a world, so that each write of a step is one that the store allows.
-use Rattle.std.specs.Prelude.{◌≡◌, ℕ, ◌+◌, ◌≤◌, List, [], Option, None, Some, Contains, IfSome}
+use Rattle.std.specs.Prelude.{◌≡◌, ℕ, ◌+◌, ◌≤◌, [], Option, None, Some, Contains, IfSome}
 use Rattle.kt_tuple.specs.declared.node.NodeId.{NodeId}
 use Rattle.kt_shard.specs.Table.{at}
 use Rattle.kt_store.specs.declared.rows.Tentative.{Tentative}
