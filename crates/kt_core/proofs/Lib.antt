@@ -1,4 +1,6 @@
 pub mod Outcomes
 pub mod Openings
 pub mod Readiness
+pub mod Shorts
+pub mod Judged
 pub mod Traffics

@@ -1,3 +1,5 @@
 pub mod Rows
 pub mod Machine
 pub mod Traffic
+pub mod Judged
+pub mod Store

@@ -8,7 +8,9 @@ ghost use Rattle.kt_node.specs.Saving.{CanSaveNode};
 ghost use Rattle.kt_node.specs.View.{view_of};
 ghost use Rattle.kt_world.specs.declared.step.StepError.TheVariants.{NoNode};
 ghost use Rattle.kt_world.specs.Judge.{hear, of_owner, planned_by};
+ghost use Rattle.kt_node.specs.Node.{node_number};
 ghost use Rattle.kt_core.specs.Machine.{Gives};
+ghost use Rattle.kt_core.specs.Judged.{is_refused, voting_due};
 
 use crate::causes::cause_of_waiting;
 use crate::machine::Machine;
@@ -58,11 +60,59 @@ fn heard(
     }
 }
 
+/// The node's number among its kind.
+fn number_of(node: NodeId) -> u8
+    ensures { result ≡ node_number node }
+{
+    match node {
+        NodeId::Worker(number) | NodeId::Shard(number) => number,
+    }
+}
+
+/// What the owner of a step of checks or rollbacks makes of it.
+fn voting(view: View<'_>, alloc: Global, told: Told, step: Step) -> Result<Plan, Refusal>
+    requires acts { CanAct (view_of view) }
+    requires saves { CanSaveNode (view_of view) view.node.now.node }
+    requires small { told.stored.incarnation + 1 < 2 ^ 64 }
+    ensures { Plans result (voting_due (view_of view.entry) told step) }
+{
+    let Told {
+        verdict,
+        permanent,
+        tentative,
+        stored,
+        undecided,
+        next,
+    } = told;
+    match step {
+        Step::Check { .. } => view.check(alloc, next, permanent.as_ref()),
+        Step::Decide { .. } => view.decide(alloc, verdict),
+        Step::Abandon { .. } => view.abandon(alloc, verdict, undecided),
+        Step::Learn { .. } => view.learn(alloc, stored, tentative.is_some(), verdict),
+        Step::Fail { .. } => view.fail(alloc, verdict, permanent.as_ref(), tentative.as_ref()),
+        Step::Restart { .. } => {
+            view.restart(alloc, stored, next, tentative.is_some(), undecided, verdict)
+        }
+        _ => Err(Refusal::WrongMode),
+    }
+}
+
+/// Whether the step is not allowed. A store's refusal and want of memory come only where it is.
+fn is_refused(judged: &Result<Plan, StepError>) -> bool
+    ensures { result ≡ is_refused judged.now }
+{
+    match judged {
+        Ok(_) | Err(StepError::Store(_) | StepError::OutOfMemory) => false,
+        Err(_) => true,
+    }
+}
+
 impl Machine {
     ghost use Rattle.kt_tuple.specs.declared.node.NodeId.{NodeId as Name};
     ghost use Rattle.kt_world.specs.Cast.{is_node};
     ghost use Rattle.kt_world.specs.declared.step.Step.TheVariants as steps;
-    ghost use Rattle.kt_world.specs.Judge.{judged};
+    ghost use Rattle.kt_world.specs.Judge.{due, judged};
+    ghost use Rattle.kt_world.specs.Step.{owner};
     ghost use Rattle.kt_world.specs.Ready.{IsReady};
     ghost use Rattle.kt_world.specs.State.{view};
     ghost use Rattle.kt_core.specs.Machine.{state_of};
@@ -90,48 +140,64 @@ impl Machine {
         }
     }
 
-    /// The first message of the link comes to the node.
-    fn arrival(
+    /// What the owner of the step, which sees this, makes of it.
+    fn due(
         &self,
+        seen: View<'_>,
         alloc: Global,
         told: Told,
-        from: NodeId,
-        to: NodeId,
-    ) -> Result<Plan, StepError>
-        requires ready { IsReady (state_of self.now empty_content) }
+        step: Step,
+    ) -> Result<Plan, Refusal>
+        requires view { view_of seen ≡ view (state_of self.now empty_content) (owner step) }
+        requires acts { CanAct (view_of seen) }
+        requires saves { CanSaveNode (view_of seen) seen.node.now.node }
         requires small { told.stored.incarnation + 1 < 2 ^ 64 }
-        ensures { Gives result (judged (state_of self.now empty_content) told (steps.Deliver from to)) }
+        ensures { Plans result (due (state_of self.now empty_content) told step) }
     {
-        if !self.scene.are_neighbours(from, to) {
-            return Err(StepError::NoNode);
-        }
-        let view = self.seen(to)?;
-        match self.links.front(from, to) {
-            Some(message) => as_step(heard(view, alloc, told, from, message)),
-            None => Err(StepError::NothingThere),
+        match step {
+            Step::Issue { .. } => seen.issue(alloc),
+            Step::Repeat { .. } => seen.repeat(alloc),
+            Step::Take { .. } => seen.take(alloc),
+            Step::Deliver { from, to } => match self.links.front(from, to) {
+                Some(message) => heard(seen, alloc, told, from, message),
+                None => Err(Refusal::NothingThere),
+            },
+            Step::Serve {
+                shard,
+                worker,
+                place,
+            } => {
+                let number = number_of(worker);
+                let by = cause_of_waiting(&self.history, shard, number);
+                seen.serve(alloc, number, place, by)
+            }
+            _ => voting(seen, alloc, told, step),
         }
     }
 
-    /// The shard serves the worker.
-    fn service(
-        &self,
-        alloc: Global,
-        told: &Told,
-        shard: NodeId,
-        worker: NodeId,
-        place: u64,
-    ) -> Result<Plan, StepError>
+    /// The plan of the step whose owner is told so, or its refusal; the limit is left aside.
+    fn judged(&self, alloc: Global, told: Told, step: Step) -> Result<Plan, StepError>
         requires ready { IsReady (state_of self.now empty_content) }
-        ensures { Gives result (judged (state_of self.now empty_content) told.now (steps.Serve shard worker place)) }
+        requires small { told.stored.incarnation + 1 < 2 ^ 64 }
+        ensures { Gives result (judged (state_of self.now empty_content) told step) }
     {
-        if !(self.scene.has_shard(shard) && self.scene.has_worker(worker)) {
+        if !self.scene.is_for(step) {
             return Err(StepError::NoNode);
         }
-        let view = self.seen(shard)?;
-        let number = match worker {
-            NodeId::Worker(number) | NodeId::Shard(number) => number,
-        };
-        let by = cause_of_waiting(&self.history, shard, number);
-        as_step(view.serve(alloc, number, place, by))
+        let seen = self.seen(step.owner())?;
+        as_step(self.due(seen, alloc, told, step))
+    }
+
+    /// The plan of the step whose owner is told so, or its refusal.
+    pub(crate) fn plan(&self, alloc: Global, told: Told, step: Step) -> Result<Plan, StepError>
+        requires ready { IsReady (state_of self.now empty_content) }
+        requires small { told.stored.incarnation + 1 < 2 ^ 64 }
+        ensures { Gives result (planned_by (state_of self.now empty_content) told step) }
+    {
+        let judged = self.judged(alloc, told, step);
+        if self.made < MAX_STEPS || is_refused(&judged) {
+            return judged;
+        }
+        Err(StepError::StepLimit)
     }
 }

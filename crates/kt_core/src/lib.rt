@@ -5,11 +5,14 @@ mod change;
 mod causes;
 mod judging;
 mod machine;
+mod needing;
 
 mod opening;
+mod reading;
 
 mod scene;
 mod traffic;
+mod writing;
 
 pub use kt_script::{
     Actual, Actuals, Command, MAX_COMMANDS, Name, Operation, Pattern, Script, ScriptError, Slot,

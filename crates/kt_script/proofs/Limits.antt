@@ -45,7 +45,7 @@ limits-follow before [] f h = subst KeepLimits (sym (append-nil before)) h
 limits-follow before (c ∷ later) f h =
     subst KeepLimits (append_assoc before (c ∷ []) later) (limits-follow (before ++ c ∷ []) later f.1 (limits-push before c f.0))
 
-keeps_limits : (script : List Command) → IsScript script → KeepLimits script
+pub keeps_limits : (script : List Command) → IsScript script → KeepLimits script
 keeps_limits script is = limits-follow [] script is (omega arith, omega arith)
 
 pub few-commands : (script : List Command) → IsScript script → length script ≤ 200
