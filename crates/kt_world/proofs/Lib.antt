@@ -9,3 +9,8 @@ pub mod PlansFound
 pub mod OnLinks
 pub mod Frames
 pub mod Scene
+pub mod Lists
+pub mod Heards
+pub mod Within
+pub mod Growing
+pub mod Good
