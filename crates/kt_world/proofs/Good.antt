@@ -1,5 +1,5 @@
 -- What a plan has so that it can be carried out and leaves the state ready, told of its parts.
-use Rattle.std.proofs.Common.{◌≡◌, ◌≢◌, ℕ, ◌+◌, ◌<◌, ◌≤◌, List, [], ◌∷◌, ◌++◌, length, Contains, drop, not, Option, None, Some, inl, inr, refl, sym, ap, ◌∙◌, subst, arith}
+use Rattle.std.proofs.Common.{◌≡◌, ℕ, ◌+◌, ◌<◌, ◌≤◌, List, [], length, Contains, not, Option, None, Some, inl, inr, refl, sym, ap, ◌∙◌, subst, arith}
 use Rattle.std.specs.Prelude.{IfSome, IsTrue, is_some, unwrap_or}
 use Rattle.std.specs.Option.{option_map}
 use Rattle.std.specs.List.{AllByRecursion}
@@ -18,7 +18,6 @@ use Rattle.kt_node.specs.declared.live.Phase.{Phase}
 use Rattle.kt_node.specs.declared.change.KeptChange.{KeptChange}
 use Rattle.kt_node.specs.declared.change.KeptChange.TheVariants as keeps
 use Rattle.kt_node.specs.declared.change.Turn.{Turn}
-use Rattle.kt_node.specs.declared.change.Change.{Change}
 use Rattle.kt_node.specs.declared.change.Change.TheVariants as changes
 use Rattle.kt_node.specs.declared.plan.Plan.{Plan}
 use Rattle.kt_node.specs.declared.plan.Write.{Write}
@@ -64,7 +63,8 @@ there-after s ready step plan = applied-rows s step plan (λ q row. is_some row 
     own : is_some (option_map (changed plan.change) (node s (owner step))) ≡ is_node s.cast (owner step)
     own = same (node s (owner step)) ∙ ready.there (owner step)
 
-messages-after : (s : State) → IsReady s → (step : Step) (plan : Plan) → IsGood s (owner step) plan → (k : ℕ) (m : Message) → Contains (at [] (applied s step plan).links k) m
+messages-after : (s : State) → IsReady s → (step : Step) (plan : Plan) → IsGood s (owner step) plan → (k : ℕ) (m : Message)
+    → Contains (at [] (applied s step plan).links k) m
     → IsMessageReady (noted s.history plan.note) m
 messages-after s ready step plan g k m c = elim (sent-cases (link_place s.cast) (taken_off (link_place s.cast) s.links step) (owner step) plan.send (Some k) m c) [
   | inl old ↦ message-noted s.history plan.note m (ready.messages k m (taken_off-was (link_place s.cast) s.links step (Some k) m old))
@@ -123,7 +123,8 @@ few-said : (count made : ℕ) (said : Option NodeId) → count ≤ made → said
 few-said count made None le = omega (arith, le)
 few-said count made (Some q) le = omega (arith, le)
 
-phase-well : (cast : Cast) (p : NodeId) (phase : Phase) (new : Option Phase) → IsPhaseReady cast p phase → IfSome new (IsPhaseReady cast p) → IsPhaseReady cast p (phase_in phase new)
+phase-well : (cast : Cast) (p : NodeId) (phase : Phase) (new : Option Phase) → IsPhaseReady cast p phase → IfSome new (IsPhaseReady cast p)
+    → IsPhaseReady cast p (phase_in phase new)
 phase-well cast p phase None is well = is
 phase-well cast p phase (Some new) is well = well
 

@@ -1,5 +1,5 @@
 -- What is ready stays so behind one step more and one note more.
-use Rattle.std.proofs.Common.{◌≡◌, ◌≢◌, ℕ, suc, ◌+◌, ◌≤◌, List, [], ◌∷◌, ◌++◌, length, Contains, Option, None, Some, ap, ◌∙◌, arith, length-append}
+use Rattle.std.proofs.Common.{◌≡◌, ℕ, suc, ◌+◌, ◌≤◌, List, [], ◌∷◌, ◌++◌, length, Option, None, Some, ap, ◌∙◌, arith, length-append}
 use Rattle.std.specs.Prelude.{IfSome}
 use Rattle.kt_tuple.specs.declared.node.NodeId.{NodeId}
 use Rattle.kt_tuple.specs.declared.node.NodeId.TheVariants as ids
@@ -28,13 +28,14 @@ pub names-noted : (h : List Note) (note : Option Note) (by : ℕ) → NamesAct h
 names-noted h note by names some = act-noted h note by (names some)
 
 pub message-noted : (h : List Note) (note : Option Note) (m : Message) → IsMessageReady h m → IsMessageReady (noted h note) m
-message-noted h note (messages.Post post) is = names-noted h note post.by is
-message-noted h note (messages.CheckAsk ask) is = tt
-message-noted h note (messages.RollAsk ask) is = tt
-message-noted h note (messages.Vote vote) is = tt
-message-noted h note (messages.Verdict instance agreed) is = tt
+message-noted h one (messages.Post post) is = names-noted h one post.by is
+message-noted h one (messages.CheckAsk ask) is = tt
+message-noted h one (messages.RollAsk ask) is = tt
+message-noted h one (messages.Vote vote) is = tt
+message-noted h one (messages.Verdict instance agreed) is = tt
 
-pub kept-noted : (cast : Cast) (h : List Note) (note : Option Note) (p : NodeId) (x : NodeId × Post) → IsKeptReady cast h p x → IsKeptReady cast (noted h note) p x
+pub kept-noted : (cast : Cast) (h : List Note) (note : Option Note) (p : NodeId) (x : NodeId × Post) → IsKeptReady cast h p x
+    → IsKeptReady cast (noted h note) p x
 kept-noted cast h note p x is = record { from = is.from; names = names-noted h note x.1.by is.names }
 
 pub body-grown : (script : List Command) (made more : ℕ) (p : NodeId) (b : Body) → made ≤ more → IsBodyReady script made p b → IsBodyReady script more p b
@@ -43,7 +44,8 @@ body-grown script made more (ids.Worker n) (IsShard y) le is = is
 body-grown script made more (ids.Shard n) (IsWorker x) le is = is
 body-grown script made more (ids.Shard n) (IsShard y) le is = omega (arith, le, is)
 
-pub live-grown : (cast : Cast) (h : List Note) (note : Option Note) (made : ℕ) (p : NodeId) (n : Live) → IsLiveReady cast h made p n → IsLiveReady cast (noted h note) (made + 1) p n
+pub live-grown : (cast : Cast) (h : List Note) (note : Option Note) (made : ℕ) (p : NodeId) (n : Live) → IsLiveReady cast h made p n
+    → IsLiveReady cast (noted h note) (made + 1) p n
 live-grown cast h note made p n is = record {
   body = body-grown (role_of cast p).script made (made + 1) p n.body (omega arith) is.body;
   count = let few = is.count in omega (arith, few);
@@ -51,14 +53,15 @@ live-grown cast h note made p n is = record {
   kept = λ x c. kept-noted cast h note p x (is.kept x c);
 }
 
-pub node-grown : (cast : Cast) (h : List Note) (note : Option Note) (made : ℕ) (p : NodeId) (x : Node) → IsNodeReady cast h made p x → IsNodeReady cast (noted h note) (made + 1) p x
-node-grown cast h note made p Down is = tt
-node-grown cast h note made p (Alive n) is = live-grown cast h note made p n is
+pub node-grown : (cast : Cast) (h : List Note) (note : Option Note) (made : ℕ) (p : NodeId) (x : Node) → IsNodeReady cast h made p x
+    → IsNodeReady cast (noted h note) (made + 1) p x
+node-grown cast h one made p Down is = tt
+node-grown cast h one made p (Alive n) is = live-grown cast h one made p n is
 
 pub row-grown : (cast : Cast) (h : List Note) (note : Option Note) (made : ℕ) (p : NodeId) (row : Option Node) → IfSome row (IsNodeReady cast h made p)
     → IfSome row (IsNodeReady cast (noted h note) (made + 1) p)
-row-grown cast h note made p None is = tt
-row-grown cast h note made p (Some x) is = node-grown cast h note made p x is
+row-grown cast h one made p None is = tt
+row-grown cast h one made p (Some x) is = node-grown cast h one made p x is
 
 -- the next note's act is named by its number
 pub next-act : (h : List Note) (a : Act) → IsAct (h ++ notes.Act a ∷ []) (length h + 1)

@@ -1,5 +1,5 @@
 -- The ways in which a live node hears an underlying message: what is known there, and the plan.
-use Rattle.std.proofs.Common.{◌≡◌, ℕ, ◌<◌, ◌≤◌, Bool, true, false, if◌then◌else◌, Option, Some, None, refl, sym, subst}
+use Rattle.std.proofs.Common.{◌≡◌, ◌<◌, ◌≤◌, Bool, true, false, if◌then◌else◌, Option, Some, None, refl}
 use Rattle.std.specs.Prelude.{nat_lt}
 use Rattle.std.proofs.lemmas.Bool.{ltb-true, ltb-false}
 use Rattle.kt_tuple.specs.declared.node.NodeId.{NodeId}
@@ -10,7 +10,7 @@ use Rattle.kt_worker.specs.Standing.{awaits, heard}
 use Rattle.kt_shard.specs.declared.request.Request.{Request}
 use Rattle.kt_shard.specs.Shard.{Shard, desk_of}
 use Rattle.kt_shard.specs.Desk.{newest, kept_answer}
-use Rattle.kt_shard.specs.Arrival.{Arrival, Waits, again_or_ignored}
+use Rattle.kt_shard.specs.Arrival.{Waits, again_or_ignored}
 use Rattle.kt_node.specs.declared.message.Talk.{Talk}
 use Rattle.kt_node.specs.declared.message.Talk.TheVariants as talks
 use Rattle.kt_node.specs.declared.message.Post.{Post}
@@ -19,7 +19,7 @@ use Rattle.kt_node.specs.declared.change.KeptChange.{KeptChange}
 use Rattle.kt_node.specs.declared.plan.Plan.{Plan}
 use Rattle.kt_node.specs.Node.{Body, IsWorker, IsShard, Live, node_number}
 use Rattle.kt_node.specs.View.{View}
-use Rattle.kt_node.specs.Talking.{note_of, hearing, again_plan, request_plan, reply_plan, talk_plan, heard_plan}
+use Rattle.kt_node.specs.Talking.{note_of, hearing, again_plan, request_plan, talk_plan, heard_plan}
 
 pub data HeardOf (v : View) (n : Live) (kept : KeptChange) (from : NodeId) (post : Post) : Plan → Type 0 where
   misses_request : {x : Worker} {request : Request}
@@ -53,19 +53,22 @@ heard-is v n kept from post = by n.body post.talk refl refl
     Is : Plan → Type 0
     Is = HeardOf v n kept from post
 
-    answers : (x : Worker) (request : Request) (answer : Answer) → n.body ≡ IsWorker x → post.talk ≡ talks.Reply request answer → (b : Bool) → awaits x request.number request.op ≡ b
+    answers : (x : Worker) (request : Request) (answer : Answer) → n.body ≡ IsWorker x → post.talk ≡ talks.Reply request answer → (b : Bool)
+        → awaits x request.number request.op ≡ b
         → Is (if b
         then hearing kept from post.label (bodies.Work (heard v.role.script x answer)) (note_of v.role.id post.by (node_number v.role.id) request (whats.Accepted answer))
         else hearing kept from post.label bodies.Stay (note_of v.role.id post.by (node_number v.role.id) request (whats.Ignored (Some answer))))
     answers x request answer body talk true e = accepts body talk e
     answers x request answer body talk false e = ignores_reply body talk e
 
-    old : (y : Shard) (request : Request) → n.body ≡ IsShard y → post.talk ≡ talks.Request request → (o : Option Answer) → kept_answer (desk_of y (node_number from)) request ≡ o
+    old : (y : Shard) (request : Request) → n.body ≡ IsShard y → post.talk ≡ talks.Request request → (o : Option Answer)
+        → kept_answer (desk_of y (node_number from)) request ≡ o
         → request.number ≤ newest (desk_of y (node_number from)) → Is (request_plan v n kept from post request (again_or_ignored o))
     old y request body talk None is le = ignores_request body talk le is
     old y request body talk (Some answer) is le = answers_again body talk le is
 
-    asks : (y : Shard) (request : Request) → n.body ≡ IsShard y → post.talk ≡ talks.Request request → (b : Bool) → nat_lt (newest (desk_of y (node_number from))) request.number ≡ b
+    asks : (y : Shard) (request : Request) → n.body ≡ IsShard y → post.talk ≡ talks.Request request → (b : Bool)
+        → nat_lt (newest (desk_of y (node_number from))) request.number ≡ b
         → Is (request_plan v n kept from post request (if b then Waits else again_or_ignored (kept_answer (desk_of y (node_number from)) request)))
     asks y request body talk true e = hears body talk (ltb-true _ _ e)
     asks y request body talk false e = old y request body talk (kept_answer (desk_of y (node_number from)) request) refl (ltb-false _ _ e)

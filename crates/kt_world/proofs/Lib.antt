@@ -14,3 +14,8 @@ pub mod Heards
 pub mod Within
 pub mod Growing
 pub mod Good
+pub mod Loads
+pub mod Leaves
+pub mod GoodActs
+pub mod GoodAsks
+pub mod CanApplies

@@ -1,6 +1,6 @@
 -- A worker stays within its script, and a shard's tuples grow by one at most.
-use Rattle.std.proofs.Common.{◌≡◌, ℕ, zero, suc, ◌+◌, ◌≤◌, Bool, true, false, if◌then◌else◌, List, [], ◌∷◌, ◌++◌, length, drop, map, Option, None, Some, refl, sym, ap, ◌∙◌, subst, arith, length-append}
-use Rattle.std.proofs.lemmas.List.{length-drop, length-map}
+use Rattle.std.proofs.Common.{◌≡◌, ℕ, zero, suc, ◌+◌, ◌≤◌, Bool, true, false, if◌then◌else◌, List, [], ◌∷◌, length, drop, Option, None, Some, refl, ap, ◌∙◌, subst, arith, length-append}
+use Rattle.std.proofs.lemmas.List.{length-drop}
 use Rattle.kt_tuple.specs.declared.value.Value.{Value}
 use Rattle.kt_tuple.specs.declared.value.Kind.{Kind}
 use Rattle.kt_tuple.specs.declared.op.Op.{Op}
@@ -24,7 +24,7 @@ use Rattle.kt_script.specs.Next.{Position, next_from, next_at, assigned, slots_b
 use Rattle.kt_space.specs.Picking.{without_match}
 use Rattle.kt_shard.specs.Service.{left_by}
 use Rattle.kt_worker.specs.declared.worker.Worker.{Worker}
-use Rattle.kt_worker.specs.Standing.{unless_asked, next_of, asking, issued, heard}
+use Rattle.kt_worker.specs.Standing.{unless_asked, asking, issued, heard}
 use Rattle.kt_world.specs.Ready.{IsWithin}
 
 -- ---- as many values as before
