@@ -19,3 +19,5 @@ pub mod Leaves
 pub mod GoodActs
 pub mod GoodAsks
 pub mod CanApplies
+pub mod Saves
+pub mod Opened

@@ -107,12 +107,16 @@ if_fits-passed false body got e = absurd cc
 
 -- ---- scripts
 
-pub script-short : (s : State) → IsReady s → (n : ℕ) → IsShort (unwrap_or (script_at s.cast.scripts n) [])
-script-short s ready n = by (script_at s.cast.scripts n) (ready.scripts n)
+-- every script of the scene is short, and so is none
+pub short-script : (cast : Cast) → ((n : ℕ) → IfSome (script_at cast.scripts n) IsShort) → (n : ℕ) → IsShort (unwrap_or (script_at cast.scripts n) [])
+short-script cast short n = by (script_at cast.scripts n) (short n)
   where
     by : (o : Option (List Command)) → IfSome o IsShort → IsShort (unwrap_or o [])
     by None is = record { commands = omega arith; variables = omega arith }
     by (Some script) is = is
+
+pub script-short : (s : State) → IsReady s → (n : ℕ) → IsShort (unwrap_or (script_at s.cast.scripts n) [])
+script-short s ready n = short-script s.cast ready.scripts n
 
 -- ---- the body
 
@@ -133,20 +137,22 @@ body-from s ready (ids.Shard n) long (states.Shard y) body le e =
     let few : length y.bag ≤ long = leb-true (length y.bag) long (and_parts front (nat_le (length y.bag) long) passed.0).1 in
     subst (IsBodyReady [] s.made (ids.Shard n)) passed.1 (omega (arith, few, le))
 
-body-opening : (s : State) → IsReady s → (p : NodeId) → IsBodyReady (role_of s.cast p).script s.made p (opening_body (role_of s.cast p) (role_of s.cast p).id)
-body-opening s ready (ids.Worker n) =
-    let short = script-short s ready n in
-    let same = within-opening (unwrap_or (script_at s.cast.scripts n) []) short in
-    let few = short.variables in
+-- what a node works with at first
+pub opening-body : (cast : Cast) → ((n : ℕ) → IfSome (script_at cast.scripts n) IsShort) → (made : ℕ) (p : NodeId)
+    → IsBodyReady (role_of cast p).script made p (opening_body (role_of cast p) (role_of cast p).id)
+opening-body cast short made (ids.Worker n) =
+    let script : List Command = unwrap_or (script_at cast.scripts n) [] in
+    let few = (short-script cast short n).variables in
+    let same = within-opening script (short-script cast short n) in
     record { pc = omega arith; values = omega (arith, same, few) }
-body-opening s ready (ids.Shard n) = omega arith
+opening-body cast short made (ids.Shard n) = omega arith
 
 body-at : (s : State) → IsReady s → (p : NodeId) (stored : Option Ckpt) (body : Body)
     → IsTrue (fits (role_of s.cast p) (view s p).line_len (option_map marks_of stored))
     → body_at (role_of s.cast p) stored ≡ Ok body → IsBodyReady (role_of s.cast p).script s.made p body
 body-at s ready p None body fit e =
     let same : opening_body (role_of s.cast p) (role_of s.cast p).id ≡ body = cc in
-    subst (IsBodyReady (role_of s.cast p).script s.made p) same (body-opening s ready p)
+    subst (IsBodyReady (role_of s.cast p).script s.made p) same (opening-body s.cast ready.scripts s.made p)
 body-at s ready p (Some c) body fit e =
     let acts = acts-fit (role_of s.cast p) (view s p).line_len (Some (marks_of c)) fit in
     let long = length-line s.history p in
