@@ -1,5 +1,5 @@
 -- What a step leaves: to carry out a plan changes its owner's row, and all others stay.
-use Rattle.std.proofs.Common.{◌≡◌, ◌≢◌, ℕ, ◌+◌, List, Option, Some, None, inl, inr, sym, ap, ◌∙◌, subst}
+use Rattle.std.proofs.Common.{◌≡◌, ◌≢◌, ℕ, List, Option, None, inl, inr, sym, ap, subst}
 use Rattle.std.specs.Option.{option_map}
 use Rattle.std.proofs.lemmas.Bool.{cases_eq}
 use Rattle.kt_tuple.specs.declared.node.NodeId.{NodeId}
@@ -25,7 +25,8 @@ applied-other s step plan q d =
     (λ e. d (node_index-injective (owner step) q (sym e)))
 
 -- what holds of the owner's row as it becomes, and of each other row as it was, holds of each row
-pub applied-rows : (s : State) (step : Step) (plan : Plan) (P : NodeId → Option Node → Type 0) → P (owner step) (option_map (changed plan.change) (node s (owner step)))
+pub applied-rows : (s : State) (step : Step) (plan : Plan) (P : NodeId → Option Node → Type 0)
+    → P (owner step) (option_map (changed plan.change) (node s (owner step)))
     → ((q : NodeId) → owner step ≢ q → P q (node s q)) → (q : NodeId) → P q (node (applied s step plan) q)
 applied-rows s step plan P own others q = elim (cases_eq (node_index (owner step)) (node_index q)) [
   | inl e ↦

@@ -10,3 +10,15 @@ pub mod PlansFound
 pub mod OnLinks
 pub mod Frames
 pub mod Scene
+pub mod Lists
+pub mod Heards
+pub mod Within
+pub mod Growing
+pub mod Good
+pub mod Loads
+pub mod Leaves
+pub mod GoodActs
+pub mod GoodAsks
+pub mod CanApplies
+pub mod Saves
+pub mod Opened

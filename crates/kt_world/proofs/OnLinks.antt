@@ -32,9 +32,9 @@ entry-cases links (Some j) (Some i) new m c = elim (cases_eq i j) [
   | inr other ↦ inl (subst (λ (l : List Message). Contains l m) (get_or-set_other links j i new [] other) c)
 ]
 
-Contains-tail : (messages : List Message) (m : Message) → Contains (drop 1 messages) m → Contains messages m
-Contains-tail [] m c = c
-Contains-tail (x ∷ xs) m c = Contains-there x xs m c
+pub Contains-tail : {X : Type 0} (xs : List X) (x : X) → Contains (drop 1 xs) x → Contains xs x
+Contains-tail [] x c = c
+Contains-tail (y ∷ xs) x c = Contains-there y xs x c
 
 -- what is on a link after a delivery was on it before
 pub taken_off-was : (way : Way) (links : Links) (step : Step) (k : Option ℕ) (m : Message) → Contains (entry_at [] (taken_off way links step) k) m → Contains (entry_at [] links k) m

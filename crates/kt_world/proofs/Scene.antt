@@ -1,5 +1,5 @@
 -- The nodes of a scene: their numbers are small, and neighbours are a worker and a shard.
-use Rattle.std.proofs.Common.{◌≡◌, ℕ, zero, suc, ◌+◌, ◌%◌, ◌<◌, ◌≤◌, Bool, true, false, ◌&&◌, ◌||◌, List, [], ◌∷◌, length, Option, None, Some, refl, sym, ap, subst, arith, mod-lt}
+use Rattle.std.proofs.Common.{◌≡◌, ℕ, zero, suc, ◌<◌, ◌≤◌, Bool, true, false, ◌&&◌, ◌||◌, List, [], ◌∷◌, length, refl, arith, mod-lt}
 use Rattle.std.specs.Prelude.{is_some, slice_get, nat_le, IsTrue}
 use Rattle.std.proofs.lemmas.Bool.{and_parts, and_from, or_left, or_right, leb-true, le-leb}
 use Rattle.kt_tuple.specs.declared.node.NodeId.{NodeId}
@@ -9,11 +9,11 @@ use Rattle.kt_tuple.specs.Node.{node_index}
 use Rattle.kt_tuple.specs.Signature.{kinds_of_op, signature_of}
 use Rattle.kt_script.specs.declared.command.Command.{Command}
 use Rattle.kt_shard.specs.Limits.{desks}
-use Rattle.kt_node.specs.Node.{Role, node_number, across}
+use Rattle.kt_node.specs.Node.{node_number, across}
 use Rattle.kt_node.specs.Talking.{home}
 use Rattle.kt_node.specs.Ready.{HasPlace}
 use Rattle.kt_world.specs.Limits.{rows, most_of_a_kind}
-use Rattle.kt_world.specs.Cast.{Cast, IsCast, script_at, is_worker, is_shard, is_node, are_neighbours, is_among}
+use Rattle.kt_world.specs.Cast.{Cast, IsCast, script_at, is_worker, is_shard, is_node, is_among}
 use Rattle.kt_world.specs.State.{role_of}
 use Rattle.kt_world.specs.Ready.{AreNeighbours}
 
@@ -86,13 +86,15 @@ pub data Ends (cast : Cast) : NodeId → NodeId → Type 0 where
 pub ends : (cast : Cast) (p q : NodeId) → AreNeighbours cast p q → Ends cast p q
 ends cast (ids.Worker w) (ids.Shard r) e = by (is_worker cast (ids.Worker w)) (is_shard cast (ids.Shard r)) refl refl e
   where
-    by : (a b : Bool) → is_worker cast (ids.Worker w) ≡ a → is_shard cast (ids.Shard r) ≡ b → (a && b || false && false) ≡ true → Ends cast (ids.Worker w) (ids.Shard r)
+    by : (a b : Bool) → is_worker cast (ids.Worker w) ≡ a → is_shard cast (ids.Shard r) ≡ b → (a && b || false && false) ≡ true
+        → Ends cast (ids.Worker w) (ids.Shard r)
     by true true f g e = let h = script_at-some cast.scripts w f in let k = among-some cast.shards r g in to_shard h.0 h.1 k.0 k.1
     by true false f g e = absurd cc
     by false b f g e = absurd cc
 ends cast (ids.Shard r) (ids.Worker w) e = by (is_shard cast (ids.Shard r)) (is_worker cast (ids.Worker w)) refl refl e
   where
-    by : (a b : Bool) → is_shard cast (ids.Shard r) ≡ a → is_worker cast (ids.Worker w) ≡ b → (false && false || a && b) ≡ true → Ends cast (ids.Shard r) (ids.Worker w)
+    by : (a b : Bool) → is_shard cast (ids.Shard r) ≡ a → is_worker cast (ids.Worker w) ≡ b → (false && false || a && b) ≡ true
+        → Ends cast (ids.Shard r) (ids.Worker w)
     by true true g f e = let h = script_at-some cast.scripts w f in let k = among-some cast.shards r g in to_worker h.0 h.1 k.0 k.1
     by true false f g e = absurd cc
     by false b f g e = absurd cc
