@@ -5,7 +5,7 @@ use Rattle.std.proofs.lemmas.Bool.{cases_eq, cases_lt}
 use Rattle.kt_script.specs.declared.command.Command.{Command}
 use Rattle.kt_script.specs.Rules.{IsScript}
 use Rattle.kt_script.proofs.Limits.{keeps_limits}
-use Rattle.kt_world.specs.Ready.{IsShort}
+use Rattle.kt_world.specs.Short.{IsShort}
 
 of_script : (script : List Command) → IsScript script → IsShort script
 of_script script is = let k = keeps_limits script is in record { commands = k.0; variables = k.1 }

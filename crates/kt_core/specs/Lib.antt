@@ -3,3 +3,4 @@ pub mod Machine
 pub mod Traffic
 pub mod Judged
 pub mod Store
+pub mod Stepping

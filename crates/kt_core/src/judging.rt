@@ -118,12 +118,10 @@ impl Machine {
     ghost use Rattle.kt_core.specs.Machine.{state_of};
 
     /// What the node of the scene sees.
-    fn seen(&self, id: NodeId) -> Result<View<'_>, StepError>
+    fn found(&self, id: NodeId) -> Result<View<'_>, StepError>
         requires { IsReady (state_of self.now empty_content) }
         ensures there { is_ok result ≡ is_node self.now.scene id }
         ensures view { IfOk result (λ v. view_of v ≡ view (state_of self.now empty_content) id) }
-        ensures acts { IfOk result (λ v. CanAct (view_of v)) }
-        ensures saves { IfOk result (λ v. CanSaveNode (view_of v) v.node.now.node) }
         ensures absent { IfErr result (λ e. e ≡ NoNode) }
     {
         let Some(role) = self.scene.role(&self.no_script, id) else {
@@ -138,6 +136,19 @@ impl Machine {
             }),
             _ => Err(StepError::NoNode),
         }
+    }
+
+    /// The same: it can act and be saved.
+    fn seen(&self, id: NodeId) -> Result<View<'_>, StepError>
+        requires { IsReady (state_of self.now empty_content) }
+        ensures there { is_ok result ≡ is_node self.now.scene id }
+        ensures view { IfOk result (λ v. view_of v ≡ view (state_of self.now empty_content) id) }
+        ensures acts { IfOk result (λ v. CanAct (view_of v)) }
+        ensures saves { IfOk result (λ v. CanSaveNode (view_of v) v.node.now.node) }
+        ensures absent { IfErr result (λ e. e ≡ NoNode) }
+    {
+        let view = self.found(id)?;
+        Ok(view)
     }
 
     /// What the owner of the step, which sees this, makes of it.

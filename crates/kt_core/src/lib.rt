@@ -11,6 +11,7 @@ mod opening;
 mod reading;
 
 mod scene;
+mod stepping;
 mod traffic;
 mod writing;
 

@@ -4,7 +4,7 @@ ghost use Rattle.std.specs.Prelude.{◌≡◌, ℕ, length, map, IfOk, IfSome, O
 ghost use Rattle.kt_world.specs.Limits.{rows};
 ghost use Rattle.kt_shard.specs.Limits.{desks};
 ghost use Rattle.kt_world.specs.Cast.{IsCast, script_at};
-ghost use Rattle.kt_world.specs.Ready.{IsShort};
+ghost use Rattle.kt_world.specs.Short.{IsShort};
 ghost use Rattle.kt_core.specs.Rows.{row_view};
 ghost use Rattle.kt_world.specs.Reached.{opening_rows};
 

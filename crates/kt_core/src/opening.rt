@@ -5,7 +5,7 @@ ghost use Rattle.kt_world.specs.Limits.{rows};
 ghost use Rattle.kt_shard.specs.Limits.{desks};
 ghost use Rattle.kt_core.specs.Rows.{row_view};
 ghost use Rattle.kt_world.specs.Reached.{opening_row, opening_rows};
-ghost use Rattle.kt_world.specs.Ready.{IsShort};
+ghost use Rattle.kt_world.specs.Short.{IsShort};
 
 use crate::scene::Scene;
 use kt_node::Node;

@@ -15,7 +15,8 @@ use Rattle.kt_node.specs.Node.{Node, opening_node, opening_body, node_number}
 use Rattle.kt_world.specs.Limits.{rows}
 use Rattle.kt_world.specs.Cast.{Cast, IsCast, script_at, is_node}
 use Rattle.kt_world.specs.State.{State, node, role_of}
-use Rattle.kt_world.specs.Ready.{IsShort, IsNodeReady, IsReady}
+use Rattle.kt_world.specs.Ready.{IsNodeReady, IsReady}
+use Rattle.kt_world.specs.Short.{AreShort, IsShort}
 use Rattle.kt_world.specs.Reached.{opening_row, opening_rows, opening}
 use Rattle.kt_world.proofs.Scene.{IsNode, a_worker, a_shard, of_node}
 use Rattle.kt_world.proofs.Loads.{opening-body, fresh-ready}
@@ -111,9 +112,6 @@ pub no_messages : (n k : ℕ) (m : Message) → Contains (at [] (replicate n [])
 no_messages n k m c = Contains-none m (subst (λ (l : List Message). Contains l m) (at-replicate {A = List Message} [] n k) c)
 
 -- the scripts are short
-abbrev pub AreShort : Cast → Type 0
-AreShort cast = (n : ℕ) → IfSome (script_at cast.scripts n) IsShort
-
 opening-there : (cast : Cast) (p : NodeId) → is_some (opening_row cast p) ≡ is_node cast p
 opening-there cast p = by (is_node cast p)
   where

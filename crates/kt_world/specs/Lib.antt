@@ -1,5 +1,6 @@
 pub mod Limits
 pub mod Cast
+pub mod Short
 pub mod Step
 pub mod Refusals
 pub mod State

@@ -1,5 +1,5 @@
 -- The states that a world can be in: those that steps lead to from the opening of a scene.
-use Rattle.std.specs.Prelude.{ℕ, zero, suc, ◌*◌, if◌then◌else◌, length, List, [], ◌∷◌, ◌++◌, replicate, Option, None, Some, Result, Ok, Err}
+use Rattle.std.specs.Prelude.{◌≡◌, ℕ, zero, suc, ◌*◌, if◌then◌else◌, length, List, [], ◌∷◌, ◌++◌, replicate, Option, None, Some, Result, Ok, Err}
 use Rattle.kt_tuple.specs.declared.node.NodeId.{NodeId}
 use Rattle.kt_tuple.specs.declared.node.NodeId.TheVariants as ids
 use Rattle.kt_shard.specs.Limits.{desks}
@@ -8,7 +8,8 @@ use Rattle.kt_node.specs.Node.{Node, opening_node}
 use Rattle.kt_world.specs.declared.step.Step.{Step}
 use Rattle.kt_world.specs.declared.step.StepError.{StepError}
 use Rattle.kt_world.specs.Limits.{rows}
-use Rattle.kt_world.specs.Cast.{Cast, is_node}
+use Rattle.kt_world.specs.Cast.{Cast, IsCast, is_node}
+use Rattle.kt_world.specs.Short.{AreShort}
 use Rattle.kt_world.specs.State.{State, role_of}
 use Rattle.kt_world.specs.Effect.{step_result}
 
@@ -45,3 +46,11 @@ next_state s step = or_as_it_was (step_result s step) s
 unfoldable pub after : State → List Step → State
 after s [] = s
 after s (step ∷ later) = after (next_state s step) later
+
+-- some list of steps leads to this state from the opening of some scene
+pub record IsReached (s : State) : Type 0 where
+  pub cast : Cast
+  pub is_cast : IsCast cast
+  pub are_short : AreShort cast
+  pub steps : List Step
+  pub leads : after (opening cast) steps ≡ s

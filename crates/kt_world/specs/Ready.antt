@@ -24,16 +24,12 @@ use Rattle.kt_node.specs.Node.{Body, IsWorker, IsShard, Live, Node, Down, Alive,
 use Rattle.kt_node.specs.Ready.{CanChange}
 use Rattle.kt_world.specs.Limits.{rows as row_count, most_steps}
 use Rattle.kt_world.specs.Cast.{Cast, IsCast, is_node, are_neighbours, script_at}
+use Rattle.kt_world.specs.Short.{IsShort}
 use Rattle.kt_world.specs.State.{State, node, role_of, view}
 
 -- p and q are neighbours in the scene
 abbrev pub AreNeighbours : Cast → NodeId → NodeId → Type 0
 AreNeighbours cast p q = IsTrue (are_neighbours cast p q)
-
--- a script has no more commands and variables than a checkpoint can count
-pub record IsShort (script : List Command) : Type 0 where
-  pub commands : length script ≤ max_pc
-  pub variables : length (variables_of script) ≤ max_variables
 
 -- the worker stands within its script
 pub record IsWithin (script : List Command) (x : Worker) : Type 0 where
