@@ -21,3 +21,5 @@ pub mod GoodAsks
 pub mod CanApplies
 pub mod Saves
 pub mod Opened
+pub mod Boards
+pub mod Writes
