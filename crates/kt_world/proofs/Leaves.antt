@@ -133,7 +133,7 @@ abbrev pub SaysReady : List Note → NodeId × Message → Type 0
 SaysReady h m = IsMessageReady h m.1
 
 -- votes go to who asked
-casting-all : (P : NodeId × Message → Type 0) (b : Poll) → IfSome b.parent (λ a. (vote : Vote) → P (a.node, messages.Vote vote))
+pub casting-all : (P : NodeId × Message → Type 0) (b : Poll) → IfSome b.parent (λ a. (vote : Vote) → P (a.node, messages.Vote vote))
     → AllByRecursion P (votes (casting b))
 casting-all P b h = by b.parent h
   where

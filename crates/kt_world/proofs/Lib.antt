@@ -23,3 +23,5 @@ pub mod Saves
 pub mod Opened
 pub mod Boards
 pub mod Writes
+pub mod Backs
+pub mod StaysBacked

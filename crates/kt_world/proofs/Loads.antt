@@ -161,7 +161,7 @@ body-at s ready p (Some c) body fit e =
 
 -- ---- the node
 
-load-passed : (b : Bool) (r : Result Live Refusal) (live : Live) → (if b then r else Err refusals.Damaged) ≡ Ok live → IsTrue b × (r ≡ Ok live)
+pub load-passed : (b : Bool) (r : Result Live Refusal) (live : Live) → (if b then r else Err refusals.Damaged) ≡ Ok live → IsTrue b × (r ≡ Ok live)
 load-passed true r live e = (refl, e)
 load-passed false r live e = absurd cc
 

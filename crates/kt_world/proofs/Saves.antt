@@ -1,5 +1,5 @@
 -- A node of a ready state can act, and its checkpoint can be taken.
-use Rattle.std.proofs.Common.{◌≡◌, ℕ, get_or, zero, suc, ◌+◌, ◌<◌, ◌≤◌, ◌^◌, true, List, [], ◌∷◌, ◌++◌, map, length, Contains, Option, None, Some, All, refl, sym, ap, ◌∙◌, subst, arith}
+use Rattle.std.proofs.Common.{◌≡◌, ℕ, get_or, zero, suc, ◌+◌, ◌≤◌, true, List, ◌++◌, length, Option, None, Some, refl, sym, ap, ◌∙◌, arith}
 use Rattle.std.specs.Prelude.{IfSome, IsTrue, is_some, unwrap_or}
 use Rattle.std.specs.List.{flat_map}
 use Rattle.std.proofs.lemmas.List.{length-map}
@@ -11,14 +11,13 @@ use Rattle.kt_shard.specs.Limits.{most_workers}
 use Rattle.kt_ckpt.specs.Limits.{max_workers}
 use Rattle.kt_ckpt.specs.Reading.{IsRising}
 use Rattle.kt_ckpt.specs.Checkpoint.{IsNode as IsNamed, Suits, IsCountedState, ArePeers}
-use Rattle.kt_node.specs.declared.message.Post.{Post}
 use Rattle.kt_node.specs.declared.live.Phase.{Phase}
 use Rattle.kt_node.specs.declared.live.Phase.TheVariants as phases
 use Rattle.kt_node.specs.Labels.{numbers, label_at, listed}
 use Rattle.kt_node.specs.Node.{Body, IsWorker, IsShard, Live, Node, Down, Alive}
 use Rattle.kt_node.specs.State.{entry, entries, body_fields}
 use Rattle.kt_node.specs.Steps.{up_in}
-use Rattle.kt_node.specs.Ready.{CanCount, CanSpeak, HasPlace, KeptHavePlaces, CanAct}
+use Rattle.kt_node.specs.Ready.{CanCount, CanSpeak, KeptHavePlaces, CanAct}
 use Rattle.kt_node.specs.Saving.{CanSave, CanSaveNode}
 use Rattle.kt_world.specs.Cast.{is_node}
 use Rattle.kt_world.specs.State.{State, node, role_of, view}
