@@ -84,7 +84,8 @@ nodes-after s is step plan b = applied-rows s step plan (λ q row. IsRowBacked (
     others q apart =
         subst (λ (row : NodeRow). IsRowBacked row.tentative (node s q)) (sym (other-rows (owner step) plan.write s.content q (λ e. apart (sym e)))) (is.nodes q)
 
-boards-later : (p : NodeId) (write : Option Write) (c : Content) → IfSome write (IsAllowed c p) → (m : Message) → IsBoards c m → IsBoards (content_after p write c) m
+boards-later : (p : NodeId) (write : Option Write) (c : Content) → IfSome write (IsAllowed c p) → (m : Message) → IsBoards c m
+    → IsBoards (content_after p write c) m
 boards-later p write c allowed (messages.Post post) is = tt
 boards-later p write c allowed (messages.CheckAsk ask) is = tt
 boards-later p write c allowed (messages.RollAsk ask) is = tt
@@ -146,7 +147,8 @@ turned-row : (s : State) (p : NodeId) (n : Live) (t : Turn) (stored : Option Ten
     → IsRowBacked stored (option_map (changed (changes.Turn t)) (node s p))
 turned-row s p n t stored at is = subst (λ (row : Option Node). IsRowBacked stored (option_map (changed (changes.Turn t)) row)) (sym at) is
 
-loaded-row : (s : State) (p : NodeId) (live : Live) (stored : Option Tentative) → IsPhaseBacked live.phase stored → IsRowBacked stored (option_map (changed (changes.Load live)) (node s p))
+loaded-row : (s : State) (p : NodeId) (live : Live) (stored : Option Tentative) → IsPhaseBacked live.phase stored
+    → IsRowBacked stored (option_map (changed (changes.Load live)) (node s p))
 loaded-row s p live stored is = by (node s p)
   where
     by : (row : Option Node) → IsRowBacked stored (option_map (changed (changes.Load live)) row)
@@ -160,7 +162,8 @@ fallen-row s p stored = by (node s p)
     by None = tt
     by (Some x) = tt
 
-stayed-row : (s : State) (p : NodeId) (stored : Option Tentative) → IsRowBacked stored (node s p) → IsRowBacked stored (option_map (changed changes.Stay) (node s p))
+stayed-row : (s : State) (p : NodeId) (stored : Option Tentative) → IsRowBacked stored (node s p)
+    → IsRowBacked stored (option_map (changed changes.Stay) (node s p))
 stayed-row s p stored is = by (node s p) is
   where
     by : (row : Option Node) → IsRowBacked stored row → IsRowBacked stored (option_map (changed changes.Stay) row)
@@ -176,7 +179,8 @@ down-backed s p stored down = by (node s p) down
     by (Some Down) e = tt
     by (Some (Alive n)) e = absurd cc
 
-pub turn-backs : (s : State) (p : NodeId) (n : Live) (plan : Plan) (t : Turn) → plan.change ≡ changes.Turn t → IsAlive s p n → IfSome plan.write (IsAllowed s.content p)
+pub turn-backs : (s : State) (p : NodeId) (n : Live) (plan : Plan) (t : Turn) → plan.change ≡ changes.Turn t → IsAlive s p n
+    → IfSome plan.write (IsAllowed s.content p)
     → IsPhaseBacked (phase_in n.phase t.phase) (row_after s.content (row_of s.content p) plan.write).tentative
     → AllByRecursion (SaysBoards (content_after p plan.write s.content)) plan.send → Backs s p plan
 turn-backs s p n plan t change at allowed is says = record {
@@ -218,7 +222,8 @@ stay-backs s is p plan change write send = record {
   says = subst (AllByRecursion (SaysBoards (content_after p plan.write s.content))) (sym send) tt;
 }
 
-pub down-backs : (s : State) (p : NodeId) (plan : Plan) → plan.change ≡ changes.Stay → IsDown s p → IfSome plan.write (IsAllowed s.content p) → plan.send ≡ [] → Backs s p plan
+pub down-backs : (s : State) (p : NodeId) (plan : Plan) → plan.change ≡ changes.Stay → IsDown s p → IfSome plan.write (IsAllowed s.content p)
+    → plan.send ≡ [] → Backs s p plan
 down-backs s p plan change down allowed send = record {
   allowed = allowed;
   row = subst (λ (c : Change). IsRowBacked stored (option_map (changed c) (node s p))) (sym change) (stayed-row s p stored (down-backed s p stored down));
@@ -240,10 +245,12 @@ casting-board c b = casting-all (SaysBoards c) b (by b.parent)
 pub checks-board : (c : Content) (instance : ℕ) (n : Live) (asked : List NodeId) → AllByRecursion (SaysBoards c) (check_asks instance n asked)
 checks-board c instance n asked = all-map (SaysBoards c) _ asked (all-from (λ q. Unit {0}) asked (λ q h. tt))
 
-pub rolls-board : (c : Content) (instance incarnation : ℕ) (label : ℕ → Label) (asked : List NodeId) → AllByRecursion (SaysBoards c) (roll_asks instance incarnation label asked)
+pub rolls-board : (c : Content) (instance incarnation : ℕ) (label : ℕ → Label) (asked : List NodeId)
+    → AllByRecursion (SaysBoards c) (roll_asks instance incarnation label asked)
 rolls-board c instance incarnation label asked = all-map (SaysBoards c) _ asked (all-from (λ q. Unit {0}) asked (λ q h. tt))
 
-pub verdicts-board : (c : Content) (instance : ℕ) (agreed : Bool) (asked : List NodeId) → Says c instance agreed → AllByRecursion (SaysBoards c) (verdict_to instance agreed asked)
+pub verdicts-board : (c : Content) (instance : ℕ) (agreed : Bool) (asked : List NodeId) → Says c instance agreed
+    → AllByRecursion (SaysBoards c) (verdict_to instance agreed asked)
 verdicts-board c instance agreed asked says = all-map (SaysBoards c) _ asked (all-from (λ q. Says c instance agreed) asked (λ q h. says))
 
 -- ---- verdicts

@@ -30,7 +30,8 @@ found-holds P q (x ∷ rows) row all e = by (q x) refl e (found-holds P q rows r
     by false is e rest = rest e
 
 -- of rows whose numbers rise, each is found by its number
-found-own : (q : Posted → Bool) (rows : List Posted) (row : Posted) → AllPairs (λ (a b : Posted). nat_lt a.instance b.instance ≡ true) rows → find q rows ≡ Some row
+found-own : (q : Posted → Bool) (rows : List Posted) (row : Posted) → AllPairs (λ (a b : Posted). nat_lt a.instance b.instance ≡ true) rows
+    → find q rows ≡ Some row
     → find (λ (x : Posted). x.instance == row.instance) rows ≡ Some row
 found-own q [] row rising e = absurd cc
 found-own q (x ∷ rows) row rising e = by (q x) e (found-own q rows row (λ i j d lt within. rising (suc i) (suc j) d (omega (arith, lt)) (omega (arith, within))))
@@ -117,7 +118,8 @@ open-not : (agreed : Bool) → Some verdicts.Open ≡ Some (verdict_from agreed)
 open-not true e = cc (e)
 open-not false e = cc (e)
 
-pub decided-says : (j : ℕ) (said : Bool) (c : Content) → verdict_of c j ≡ Some verdicts.Open → (i : ℕ) (agreed : Bool) → Says c i agreed → Says (decided j said c) i agreed
+pub decided-says : (j : ℕ) (said : Bool) (c : Content) → verdict_of c j ≡ Some verdicts.Open → (i : ℕ) (agreed : Bool) → Says c i agreed
+    → Says (decided j said c) i agreed
 decided-says j said c undecided i agreed says = elim (cases_eq i j) [
   | inl same ↦ absurd (open-not agreed (sym undecided ∙ ap (verdict_of c) (sym same) ∙ says))
   | inr other ↦ ap (option_map (λ (row : Posted). row.verdict)) (others_decided j said c i other) ∙ says

@@ -25,3 +25,5 @@ pub mod Boards
 pub mod Writes
 pub mod Backs
 pub mod StaysBacked
+pub mod Scripts
+pub mod Standing

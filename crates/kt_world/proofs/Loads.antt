@@ -39,7 +39,7 @@ use Rattle.kt_node.specs.State.{standing_from, are_of_scene, shard_fits, worker_
 use Rattle.kt_node.specs.Loading.{marks_in, loaded_from, loaded_by, load}
 use Rattle.kt_world.specs.Cast.{Cast, script_at}
 use Rattle.kt_world.specs.State.{State, role_of, view}
-use Rattle.kt_world.specs.Ready.{IsShort, IsWithin, IsBodyReady, IsLiveReady, IsReady}
+use Rattle.kt_world.specs.Ready.{IsShort, AreShort, IsWithin, IsBodyReady, IsLiveReady, IsReady}
 
 -- ---- lines are no longer than the history
 
@@ -108,7 +108,7 @@ if_fits-passed false body got e = absurd cc
 -- ---- scripts
 
 -- every script of the scene is short, and so is none
-pub short-script : (cast : Cast) → ((n : ℕ) → IfSome (script_at cast.scripts n) IsShort) → (n : ℕ) → IsShort (unwrap_or (script_at cast.scripts n) [])
+pub short-script : (cast : Cast) → AreShort cast → (n : ℕ) → IsShort (unwrap_or (script_at cast.scripts n) [])
 short-script cast short n = by (script_at cast.scripts n) (short n)
   where
     by : (o : Option (List Command)) → IfSome o IsShort → IsShort (unwrap_or o [])
@@ -138,7 +138,7 @@ body-from s ready (ids.Shard n) long (states.Shard y) body le e =
     subst (IsBodyReady [] s.made (ids.Shard n)) passed.1 (omega (arith, few, le))
 
 -- what a node works with at first
-pub opening-body : (cast : Cast) → ((n : ℕ) → IfSome (script_at cast.scripts n) IsShort) → (made : ℕ) (p : NodeId)
+pub opening-body : (cast : Cast) → AreShort cast → (made : ℕ) (p : NodeId)
     → IsBodyReady (role_of cast p).script made p (opening_body (role_of cast p) (role_of cast p).id)
 opening-body cast short made (ids.Worker n) =
     let script : List Command = unwrap_or (script_at cast.scripts n) [] in

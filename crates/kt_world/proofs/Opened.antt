@@ -12,9 +12,9 @@ use Rattle.kt_shard.specs.Table.{at}
 use Rattle.kt_node.specs.declared.message.Message.{Message}
 use Rattle.kt_node.specs.Node.{Node, opening_node, opening_body, node_number}
 use Rattle.kt_world.specs.Limits.{rows}
-use Rattle.kt_world.specs.Cast.{Cast, IsCast, script_at, is_node}
+use Rattle.kt_world.specs.Cast.{Cast, IsCast, is_node}
 use Rattle.kt_world.specs.State.{node, role_of}
-use Rattle.kt_world.specs.Ready.{IsShort, IsNodeReady, IsReady}
+use Rattle.kt_world.specs.Ready.{AreShort, IsNodeReady, IsReady}
 use Rattle.kt_store.specs.Content.{empty_content, row_of}
 use Rattle.kt_world.specs.Backed.{IsNodeBacked, IsBacked}
 use Rattle.kt_world.specs.Reached.{opening_row, opening_rows, opening}
@@ -51,7 +51,8 @@ worker_row cast (suc n) k below = by (cases_lt k n) (λ less. worker_row cast n 
     long : length (opening_rows cast n) ≡ 2 * n
     long = length-opening_rows cast n
 
-    by : (k < n) ⊎ (n ≤ k) → (k < n → at None (opening_rows cast n) (2 * k) ≡ opening_row cast (ids.Worker k)) → at None (opening_rows cast n ++ two) (2 * k) ≡ opening_row cast (ids.Worker k)
+    by : (k < n) ⊎ (n ≤ k) → (k < n → at None (opening_rows cast n) (2 * k) ≡ opening_row cast (ids.Worker k))
+        → at None (opening_rows cast n ++ two) (2 * k) ≡ opening_row cast (ids.Worker k)
     by (inl less) before = get_or_append_left (opening_rows cast n) two None (2 * k) (omega (arith, less, long)) ∙ before less
     by (inr more) before =
         let same : n ≡ k = omega (arith, below, more) in
@@ -69,7 +70,8 @@ shard_row cast (suc n) k below = by (cases_lt k n) (λ less. shard_row cast n k 
     long : length (opening_rows cast n) ≡ 2 * n
     long = length-opening_rows cast n
 
-    by : (k < n) ⊎ (n ≤ k) → (k < n → at None (opening_rows cast n) (2 * k + 1) ≡ opening_row cast (ids.Shard k)) → at None (opening_rows cast n ++ two) (2 * k + 1) ≡ opening_row cast (ids.Shard k)
+    by : (k < n) ⊎ (n ≤ k) → (k < n → at None (opening_rows cast n) (2 * k + 1) ≡ opening_row cast (ids.Shard k))
+        → at None (opening_rows cast n ++ two) (2 * k + 1) ≡ opening_row cast (ids.Shard k)
     by (inl less) before = get_or_append_left (opening_rows cast n) two None (2 * k + 1) (omega (arith, less, long)) ∙ before less
     by (inr more) before =
         let same : n ≡ k = omega (arith, below, more) in
@@ -110,10 +112,6 @@ opening-node cast is (ids.Shard r) = elim (cases_lt r desks) [
 -- nothing is on its way in a new world
 pub no_messages : (n k : ℕ) (m : Message) → Contains (at [] (replicate n []) k) m → ⊥
 no_messages n k m c = Contains-none m (subst (λ (l : List Message). Contains l m) (at-replicate {A = List Message} [] n k) c)
-
--- the scripts are short
-abbrev pub AreShort : Cast → Type 0
-AreShort cast = (n : ℕ) → IfSome (script_at cast.scripts n) IsShort
 
 opening-there : (cast : Cast) (p : NodeId) → is_some (opening_row cast p) ≡ is_node cast p
 opening-there cast p = by (is_node cast p)

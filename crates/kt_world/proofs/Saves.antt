@@ -69,7 +69,8 @@ can_act s ready p = record {
 
 -- ---- saving
 
-rising : {A : Type 0} (of : ℕ → Option A) (least from n : ℕ) → least ≤ from → from + n ≤ max_workers + 1 → IsRising least (flat_map (λ worker. entry worker (of worker)) (numbers from n))
+rising : {A : Type 0} (of : ℕ → Option A) (least from n : ℕ) → least ≤ from → from + n ≤ max_workers + 1
+    → IsRising least (flat_map (λ worker. entry worker (of worker)) (numbers from n))
 unfolding numbers
 rising of least from zero low high = tt
 rising {A} of least from (suc n) low high = by (of from) (λ next le. rising of next (suc from) n le (omega (arith, high)))
@@ -87,7 +88,8 @@ rising-entries of = rising of 1 1 most_workers (omega arith) (omega arith)
 length-listed : (peers : ℕ) (table : List Label) → length (listed peers table) ≡ peers
 length-listed peers table = length-map (numbers 1 peers) (label_at table) ∙ length-numbers 1 peers
 
-are-peers : (s : State) → IsReady s → (p : NodeId) (sent received : List Label) → ArePeers (listed (role_of s.cast p).peers sent) (listed (role_of s.cast p).peers received)
+are-peers : (s : State) → IsReady s → (p : NodeId) (sent received : List Label)
+    → ArePeers (listed (role_of s.cast p).peers sent) (listed (role_of s.cast p).peers received)
 are-peers s ready p sent received =
     let some = some_peers s.cast ready.cast p in
     let few = few_peers s.cast ready.cast p in

@@ -68,10 +68,12 @@ poll-is : (x : Phase) (b : Poll) (phase : Poll → Phase) → Votes x b phase �
 poll-is x b phase plans.holds = refl
 poll-is x b phase plans.rolls = refl
 
-told-poll : (s : State) (p : NodeId) (n : Live) (b : Poll) (phase : Poll → Phase) → IsAlive s p n → Votes n.phase b phase → of_poll s.content (poll_of (view s p).node) ≡ verdict_of s.content b.instance
+told-poll : (s : State) (p : NodeId) (n : Live) (b : Poll) (phase : Poll → Phase) → IsAlive s p n → Votes n.phase b phase
+    → of_poll s.content (poll_of (view s p).node) ≡ verdict_of s.content b.instance
 told-poll s p n b phase at voting = ap (λ (x : Node). of_poll s.content (poll_of x)) (live-seen s p n at) ∙ ap (of_poll s.content) (poll-is n.phase b phase voting)
 
-told-held : (s : State) (p : NodeId) (n : Live) (b : Poll) → IsAlive s p n → n.phase ≡ phases.Held b → to_learn s.content p (view s p).node ≡ verdict_of s.content b.instance
+told-held : (s : State) (p : NodeId) (n : Live) (b : Poll) → IsAlive s p n → n.phase ≡ phases.Held b
+    → to_learn s.content p (view s p).node ≡ verdict_of s.content b.instance
 told-held s p n b at held =
     ap (λ (x : Node). to_learn s.content p x) (live-seen s p n at) ∙ ap (λ (x : Phase). of_poll s.content (poll_in x)) held
 
@@ -102,7 +104,8 @@ loaded-up s p stored live e = by (body_at (role_of s.cast p) stored.permanent) (
 -- ---- the leaves
 
 -- a message is heard
-heard-backs : (s : State) → IsBacked s → (p from : NodeId) (n : Live) (kept : KeptChange) (post : Post) (plan : Plan) → IsAlive s p n → HeardOf (view s p) n kept from post plan → Backs s p plan
+heard-backs : (s : State) → IsBacked s → (p from : NodeId) (n : Live) (kept : KeptChange) (post : Post) (plan : Plan) → IsAlive s p n
+    → HeardOf (view s p) n kept from post plan → Backs s p plan
 heard-backs s is p from n kept post plan at (ways.misses_request body talk) = turn-backs s p n plan _ refl at tt (phase-backed s is p n at) tt
 heard-backs s is p from n kept post plan at (ways.accepts body talk awaited) = turn-backs s p n plan _ refl at tt (phase-backed s is p n at) tt
 heard-backs s is p from n kept post plan at (ways.ignores_reply body talk other) = turn-backs s p n plan _ refl at tt (phase-backed s is p n at) tt
@@ -112,7 +115,8 @@ heard-backs s is p from n kept post plan at (ways.ignores_request body talk old 
 heard-backs s is p from n kept post plan at (ways.misses_reply body talk) = turn-backs s p n plan _ refl at tt (phase-backed s is p n at) tt
 
 -- the phase stays, with another ballot in the same instance
-phase-again : (x : Phase) (b c : Poll) (phase : Poll → Phase) (stored : Option Tentative) → Votes x b phase → c.instance ≡ b.instance → IsPhaseBacked x stored → IsPhaseBacked (phase c) stored
+phase-again : (x : Phase) (b c : Poll) (phase : Poll → Phase) (stored : Option Tentative) → Votes x b phase → c.instance ≡ b.instance
+    → IsPhaseBacked x stored → IsPhaseBacked (phase c) stored
 phase-again x b c phase stored plans.holds same is = subst (λ (i : ℕ). IsTakenIn i stored) (sym same) is
 phase-again x b c phase stored plans.rolls same is = is
 
@@ -121,18 +125,21 @@ after-instance b None = refl
 after-instance b (Some vote) = refl
 
 -- a node that is held learns
-held-backs : (s : State) (p : NodeId) (n : Live) (b : Poll) (agreed : Bool) (send : List (NodeId × Message)) → IsAlive s p n → IsTakenIn b.instance (row_of s.content p).tentative
+held-backs : (s : State) (p : NodeId) (n : Live) (b : Poll) (agreed : Bool) (send : List (NodeId × Message)) → IsAlive s p n
+    → IsTakenIn b.instance (row_of s.content p).tentative
     → Says s.content b.instance agreed → ((c : Content) → Says c b.instance agreed → AllByRecursion (SaysBoards c) send) → Backs s p (held_learns agreed send)
 held-backs s p n b true send at is says sends =
     turn-backs s p n _ _ refl at (taken-has s.content b.instance (row_of s.content p).tentative verdicts.Yes is says) refl (sends (content_after p (Some writes.Promote) s.content) says)
 held-backs s p n b false send at is says sends =
     turn-backs s p n _ _ refl at (taken-has s.content b.instance (row_of s.content p).tentative verdicts.No is says) refl (sends (content_after p (Some writes.Discard) s.content) says)
 
-decide-backs : (s : State) → IsBacked s → (p : NodeId) (n : Live) (b : Poll) (agreed : Bool) → IsAlive s p n → verdict_of s.content b.instance ≡ Some verdicts.Open
+decide-backs : (s : State) → IsBacked s → (p : NodeId) (n : Live) (b : Poll) (agreed : Bool) → IsAlive s p n
+    → verdict_of s.content b.instance ≡ Some verdicts.Open
     → Backs s p (decide_plan n.phase b agreed)
 decide-backs s is p n b agreed at undecided = by n.phase agreed (phase-backed s is p n at) refl
   where
-    sends : (agreed : Bool) → AllByRecursion (SaysBoards (content_after p (Some (writes.Decide b.instance agreed)) s.content)) (verdict_to b.instance agreed b.asked)
+    sends : (agreed : Bool)
+        → AllByRecursion (SaysBoards (content_after p (Some (writes.Decide b.instance agreed)) s.content)) (verdict_to b.instance agreed b.asked)
     sends agreed = verdicts-board (content_after p (Some (writes.Decide b.instance agreed)) s.content) b.instance agreed b.asked (decided-own b.instance agreed s.content verdicts.Open undecided)
 
     by : (x : Phase) (agreed : Bool) → IsPhaseBacked x (row_of s.content p).tentative → n.phase ≡ x → Backs s p (decide_plan x b agreed)
@@ -141,12 +148,14 @@ decide-backs s is p n b agreed at undecided = by n.phase agreed (phase-backed s 
     by (phases.Held c) agreed back e = turn-backs s p n _ _ refl at undecided (phase-backed s is p n at) (sends agreed)
     by phases.Up agreed back e = turn-backs s p n _ _ refl at undecided (phase-backed s is p n at) (sends agreed)
 
-restore-backs : (s : State) (p : NodeId) (stored : Stored) (live : Live) (send : List (NodeId × Message)) → load (view s p) stored ≡ Ok live → (row_of s.content p).tentative ≡ None
+restore-backs : (s : State) (p : NodeId) (stored : Stored) (live : Live) (send : List (NodeId × Message)) → load (view s p) stored ≡ Ok live
+    → (row_of s.content p).tentative ≡ None
     → AllByRecursion (SaysBoards (content_after p (Some writes.Bump) s.content)) send → Backs s p (restoring_plan (view s p) stored send live)
 restore-backs s p stored live send loads none says =
     load-backs s p _ live refl tt (subst (λ (x : Phase). IsPhaseBacked x (row_of s.content p).tentative) (sym (loaded-up s p stored live loads)) none) says
 
-restart-backs : (s : State) (p : NodeId) (stored : Stored) (next : ℕ) (live : Live) → (row_of s.content p).tentative ≡ None → Backs s p (restarting_plan (view s p) stored next live)
+restart-backs : (s : State) (p : NodeId) (stored : Stored) (next : ℕ) (live : Live) → (row_of s.content p).tentative ≡ None
+    → Backs s p (restarting_plan (view s p) stored next live)
 restart-backs s p stored next live none =
     load-backs s p _ _ refl tt none
     (rolls-board (content_after p (Some writes.BeginRestart) s.content) next (stored.incarnation + 1) (label_at live.sent) (neighbours (role_of s.cast p)))
@@ -224,8 +233,10 @@ plan-backs s is step plan (plans.restarts_anew {p = p} {n = n} {live = live} {b 
 -- ---- the laws
 
 -- the step's write is one that the store allows
-pub write-allowed : (s : State) → IsBacked s → (step : Step) (plan : Plan) → PlanOf s (told s step) step plan → IfSome plan.write (IsAllowed s.content (owner step))
+pub write-allowed : (s : State) → IsBacked s → (step : Step) (plan : Plan) → PlanOf s (told s step) step plan
+    → IfSome plan.write (IsAllowed s.content (owner step))
 write-allowed s is step plan of = (plan-backs s is step plan of).allowed
 
-pub stays_backed : (s : State) → IsBacked s → s.made < most_steps → (step : Step) (plan : Plan) → PlanOf s (told s step) step plan → IsBacked (applied s step plan)
+pub stays_backed : (s : State) → IsBacked s → s.made < most_steps → (step : Step) (plan : Plan) → PlanOf s (told s step) step plan
+    → IsBacked (applied s step plan)
 stays_backed s is few step plan of = backs-backed s step plan is few (plan-backs s is step plan of)

@@ -83,7 +83,8 @@ incarnation-after c row (Some (writes.Decide instance agreed)) = omega arith
 
 -- ---- the board
 
-pub says-after : (p : NodeId) (write : Option Write) (c : Content) → IfSome write (IsAllowed c p) → (i : ℕ) (agreed : Bool) → Says c i agreed → Says (content_after p write c) i agreed
+pub says-after : (p : NodeId) (write : Option Write) (c : Content) → IfSome write (IsAllowed c p) → (i : ℕ) (agreed : Bool) → Says c i agreed
+    → Says (content_after p write c) i agreed
 says-after p None c allowed i agreed says = says
 says-after p (Some (writes.BeginCheck checkpoint)) c allowed i agreed says =
     begun-says p purposes.Check (storing record (row_of c p) { tentative = taken (next_instance c) checkpoint } c) i agreed says
