@@ -78,7 +78,9 @@ nodes-after s is step plan b = applied-rows s step plan (λ q row. IsRowBacked (
     new = content_after (owner step) plan.write s.content
 
     own : IsRowBacked (row_of new (owner step)).tentative (option_map (changed plan.change) (node s (owner step)))
-    own = subst (λ (row : NodeRow). IsRowBacked row.tentative (option_map (changed plan.change) (node s (owner step)))) (sym (own-row (owner step) plan.write s.content)) b.row
+    own =
+        subst (λ (row : NodeRow). IsRowBacked row.tentative (option_map (changed plan.change) (node s (owner step))))
+        (sym (own-row (owner step) plan.write s.content)) b.row
 
     others : (q : NodeId) → owner step ≢ q → IsRowBacked (row_of new q).tentative (node s q)
     others q apart =
@@ -217,7 +219,8 @@ pub stay-backs : (s : State) → IsBacked s → (p : NodeId) (plan : Plan) → p
 stay-backs s is p plan change write send = record {
   allowed = subst (λ (w : Option Write). IfSome w (IsAllowed s.content p)) (sym write) tt;
   row = subst (λ (c : Change). IsRowBacked (row_after s.content (row_of s.content p) plan.write).tentative (option_map (changed c) (node s p))) (sym change)
-      (subst (λ (w : Option Write). IsRowBacked (row_after s.content (row_of s.content p) w).tentative (option_map (changed changes.Stay) (node s p))) (sym write)
+      (subst (λ (w : Option Write). IsRowBacked (row_after s.content (row_of s.content p) w).tentative (option_map (changed changes.Stay) (node s p)))
+      (sym write)
       (stayed-row s p (row_of s.content p).tentative (is.nodes p)));
   says = subst (AllByRecursion (SaysBoards (content_after p plan.write s.content))) (sym send) tt;
 }

@@ -34,7 +34,8 @@ found-own : (q : Posted → Bool) (rows : List Posted) (row : Posted) → AllPai
     → find q rows ≡ Some row
     → find (λ (x : Posted). x.instance == row.instance) rows ≡ Some row
 found-own q [] row rising e = absurd cc
-found-own q (x ∷ rows) row rising e = by (q x) e (found-own q rows row (λ i j d lt within. rising (suc i) (suc j) d (omega (arith, lt)) (omega (arith, within))))
+found-own q (x ∷ rows) row rising e =
+    by (q x) e (found-own q rows row (λ i j d lt within. rising (suc i) (suc j) d (omega (arith, lt)) (omega (arith, within))))
   where
     later : All (λ (y : Posted). nat_lt x.instance y.instance ≡ true) rows
     later = λ k d lt. rising 0 (suc k) d (omega arith) (omega (arith, lt))
@@ -68,7 +69,8 @@ open-verdict c p i board e = by (find q c.board) refl e
         let same : row.instance ≡ i = cc in
         let passes = (found-holds (λ (x : Posted). Unit {0}) q c.board row (λ k d lt. tt) is).1 in
         let open_yet = open-is row.verdict (and_parts (node_eq row.initiator p) (is_open row.verdict) passes).1 in
-        ap (verdict_of c) (sym same) ∙ ap (option_map (λ (x : Posted). x.verdict)) (found-own q c.board row board.rising is) ∙ ap (λ (v : Verdict). Some v) open_yet
+        ap (verdict_of c) (sym same) ∙ ap (option_map (λ (x : Posted). x.verdict)) (found-own q c.board row board.rising is)
+        ∙ ap (λ (v : Verdict). Some v) open_yet
 
 -- ---- the next instance
 
@@ -87,12 +89,14 @@ above_all (x ∷ rows) a =
 
 -- every instance on the board comes before the next
 below-next : (c : Content) → All (λ (row : Posted). row.instance ≤ next_instance c) c.board
-below-next c = λ k d lt. let h : (get_or c.board k d).instance ≤ fold max 0 (map (λ (row : Posted). row.instance) c.board) = above_all c.board 0 k d lt in omega (arith, h)
+below-next c =
+    λ k d lt. let h : (get_or c.board k d).instance ≤ fold max 0 (map (λ (row : Posted). row.instance) c.board) = above_all c.board 0 k d lt in omega (arith, h)
 
 -- of the next instance nothing is posted
 pub next_free : (c : Content) (row : Posted) → posted c (next_instance c) ≡ Some row → ⊥
 next_free c row e =
-    let both = found-holds (λ (x : Posted). x.instance ≤ fold max 0 (map (λ (x : Posted). x.instance) c.board)) (λ (x : Posted). x.instance == next_instance c) c.board row (above_all c.board 0) e in
+    let both = found-holds (λ (x : Posted). x.instance ≤ fold max 0 (map (λ (x : Posted). x.instance) c.board))
+    (λ (x : Posted). x.instance == next_instance c) c.board row (above_all c.board 0) e in
     let low = both.0 in
     let same = both.1 in
     grind (arith, low, same)

@@ -89,10 +89,12 @@ length-values (v ∷ vs) [] e = absurd cc
 length-values (v ∷ vs) (u ∷ us) e = ap suc (length-values vs us (and_parts (kind_eq v.1 (kind_of u)) (are_values_of vs us) e).1)
 
 within-misfit : (script : List Command) (x : Worker) → IsShort script → is_none (misfit_of script x) ≡ true → IsWithin script x
-within-misfit script x short e = by (nat_lt (length script) x.position.pc) (nat_lt x.position.pc x.number) (are_values_of (variables_of script) x.position.memory.values) refl refl e
+within-misfit script x short e =
+    by (nat_lt (length script) x.position.pc) (nat_lt x.position.pc x.number) (are_values_of (variables_of script) x.position.memory.values) refl refl e
   where
     by : (a b c : Bool) → nat_lt (length script) x.position.pc ≡ a → are_values_of (variables_of script) x.position.memory.values ≡ c
-        → is_none (if a then Some misfits.Position else if b then Some misfits.Number else if not c then Some misfits.Values else None) ≡ true → IsWithin script x
+        → is_none (if a then Some misfits.Position else if b then Some misfits.Number else if not c then Some misfits.Values else None) ≡ true
+        → IsWithin script x
     by true b c f g e = absurd cc
     by false true c f g e = absurd cc
     by false false false f g e = absurd cc

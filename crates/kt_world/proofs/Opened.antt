@@ -57,7 +57,8 @@ worker_row cast (suc n) k below = by (cases_lt k n) (λ less. worker_row cast n 
     by (inr more) before =
         let same : n ≡ k = omega (arith, below, more) in
         let place : 2 * k ≡ length (opening_rows cast n) + 0 = omega (arith, long, same) in
-        ap (at None (opening_rows cast n ++ two)) place ∙ get_or-append-add (opening_rows cast n) two 0 None ∙ ap (λ (j : ℕ). opening_row cast (ids.Worker j)) same
+        ap (at None (opening_rows cast n ++ two)) place ∙ get_or-append-add (opening_rows cast n) two 0 None
+        ∙ ap (λ (j : ℕ). opening_row cast (ids.Worker j)) same
 
 shard_row : (cast : Cast) (n k : ℕ) → k < n → at None (opening_rows cast n) (2 * k + 1) ≡ opening_row cast (ids.Shard k)
 unfolding opening_rows
@@ -76,7 +77,8 @@ shard_row cast (suc n) k below = by (cases_lt k n) (λ less. shard_row cast n k 
     by (inr more) before =
         let same : n ≡ k = omega (arith, below, more) in
         let place : 2 * k + 1 ≡ length (opening_rows cast n) + 1 = omega (arith, long, same) in
-        ap (at None (opening_rows cast n ++ two)) place ∙ get_or-append-add (opening_rows cast n) two 1 None ∙ ap (λ (j : ℕ). opening_row cast (ids.Shard j)) same
+        ap (at None (opening_rows cast n ++ two)) place ∙ get_or-append-add (opening_rows cast n) two 1 None
+        ∙ ap (λ (j : ℕ). opening_row cast (ids.Shard j)) same
 
 -- rows past the table are empty
 past_rows : (cast : Cast) (k : ℕ) → rows ≤ k → at None (opening_rows cast desks) k ≡ None
@@ -153,7 +155,8 @@ opening-row-backed cast p = by (is_node cast p)
 
 pub opening-backed : (cast : Cast) → IsCast cast → IsBacked (opening cast)
 opening-backed cast is = record {
-  nodes = λ p. subst (λ (row : Option Node). IfSome row (λ x. IsNodeBacked x (row_of empty_content p).tentative)) (sym (opening-node cast is p)) (opening-row-backed cast p);
+  nodes = λ p. subst (λ (row : Option Node). IfSome row (λ x. IsNodeBacked x (row_of empty_content p).tentative)) (sym (opening-node cast is p))
+      (opening-row-backed cast p);
   messages = λ k m on. absurd (no_messages _ k m on);
   board = record { rising = λ i j d lt within. absurd (omega (arith, within)); within = λ k d lt. absurd (omega (arith, lt)) };
   few_instances = omega arith;

@@ -65,7 +65,8 @@ can_act s ready p = record {
     keeps : (x : Node) → (view s p).node ≡ x → KeptHavePlaces x
     keeps Down is = tt
     keeps (Alive n) is = λ k d lt.
-        neighbour-place s.cast ready.cast p (get_or n.kept k d).0 ((live-ready s ready p n (alive-is s p n is)).kept (get_or n.kept k d) (Contains-get_or n.kept k d lt)).from
+        neighbour-place s.cast ready.cast p (get_or n.kept k d).0
+        ((live-ready s ready p n (alive-is s p n is)).kept (get_or n.kept k d) (Contains-get_or n.kept k d lt)).from
 
 -- ---- saving
 

@@ -112,13 +112,15 @@ ends cast (ids.Shard r) (ids.Shard q) e = by (is_shard cast (ids.Shard r)) e
 
 -- and back
 pub from_ends : (cast : Cast) (p q : NodeId) → Ends cast p q → AreNeighbours cast p q
-from_ends cast p q (to_shard {w = w} {r = r} a b c d) = by (is_worker cast (ids.Worker w)) (is_shard cast (ids.Shard r)) (script_at-there cast.scripts w a b) (among-is cast.shards r c d)
+from_ends cast p q (to_shard {w = w} {r = r} a b c d) =
+    by (is_worker cast (ids.Worker w)) (is_shard cast (ids.Shard r)) (script_at-there cast.scripts w a b) (among-is cast.shards r c d)
   where
     by : (x y : Bool) → x ≡ true → y ≡ true → (x && y || false && false) ≡ true
     by true true e f = refl
     by true false e f = absurd cc
     by false y e f = absurd cc
-from_ends cast p q (to_worker {r = r} {w = w} a b c d) = by (is_shard cast (ids.Shard r)) (is_worker cast (ids.Worker w)) (among-is cast.shards r c d) (script_at-there cast.scripts w a b)
+from_ends cast p q (to_worker {r = r} {w = w} a b c d) =
+    by (is_shard cast (ids.Shard r)) (is_worker cast (ids.Worker w)) (among-is cast.shards r c d) (script_at-there cast.scripts w a b)
   where
     by : (x y : Bool) → x ≡ true → y ≡ true → (false && false || x && y) ≡ true
     by true true e f = refl

@@ -70,7 +70,8 @@ poll-is x b phase plans.rolls = refl
 
 told-poll : (s : State) (p : NodeId) (n : Live) (b : Poll) (phase : Poll → Phase) → IsAlive s p n → Votes n.phase b phase
     → of_poll s.content (poll_of (view s p).node) ≡ verdict_of s.content b.instance
-told-poll s p n b phase at voting = ap (λ (x : Node). of_poll s.content (poll_of x)) (live-seen s p n at) ∙ ap (of_poll s.content) (poll-is n.phase b phase voting)
+told-poll s p n b phase at voting =
+    ap (λ (x : Node). of_poll s.content (poll_of x)) (live-seen s p n at) ∙ ap (of_poll s.content) (poll-is n.phase b phase voting)
 
 told-held : (s : State) (p : NodeId) (n : Live) (b : Poll) → IsAlive s p n → n.phase ≡ phases.Held b
     → to_learn s.content p (view s p).node ≡ verdict_of s.content b.instance
@@ -89,7 +90,8 @@ none-tentative s p e = by (row_of s.content p).tentative e
 
 -- what is loaded is up
 loaded-up : (s : State) (p : NodeId) (stored : Stored) (live : Live) → load (view s p) stored ≡ Ok live → live.phase ≡ phases.Up
-loaded-up s p stored live e = by (body_at (role_of s.cast p) stored.permanent) (load-passed (fits (role_of s.cast p) (view s p).line_len (loading_marks stored)) _ live e).1
+loaded-up s p stored live e =
+    by (body_at (role_of s.cast p) stored.permanent) (load-passed (fits (role_of s.cast p) (view s p).line_len (loading_marks stored)) _ live e).1
   where
     from : (o : Option Ckpt) (incarnation : ℕ) (body : Body) → (loaded_from o incarnation body).phase ≡ phases.Up
     from None incarnation body = refl
@@ -129,9 +131,11 @@ held-backs : (s : State) (p : NodeId) (n : Live) (b : Poll) (agreed : Bool) (sen
     → IsTakenIn b.instance (row_of s.content p).tentative
     → Says s.content b.instance agreed → ((c : Content) → Says c b.instance agreed → AllByRecursion (SaysBoards c) send) → Backs s p (held_learns agreed send)
 held-backs s p n b true send at is says sends =
-    turn-backs s p n _ _ refl at (taken-has s.content b.instance (row_of s.content p).tentative verdicts.Yes is says) refl (sends (content_after p (Some writes.Promote) s.content) says)
+    turn-backs s p n _ _ refl at (taken-has s.content b.instance (row_of s.content p).tentative verdicts.Yes is says) refl
+    (sends (content_after p (Some writes.Promote) s.content) says)
 held-backs s p n b false send at is says sends =
-    turn-backs s p n _ _ refl at (taken-has s.content b.instance (row_of s.content p).tentative verdicts.No is says) refl (sends (content_after p (Some writes.Discard) s.content) says)
+    turn-backs s p n _ _ refl at (taken-has s.content b.instance (row_of s.content p).tentative verdicts.No is says) refl
+    (sends (content_after p (Some writes.Discard) s.content) says)
 
 decide-backs : (s : State) → IsBacked s → (p : NodeId) (n : Live) (b : Poll) (agreed : Bool) → IsAlive s p n
     → verdict_of s.content b.instance ≡ Some verdicts.Open
@@ -140,7 +144,9 @@ decide-backs s is p n b agreed at undecided = by n.phase agreed (phase-backed s 
   where
     sends : (agreed : Bool)
         → AllByRecursion (SaysBoards (content_after p (Some (writes.Decide b.instance agreed)) s.content)) (verdict_to b.instance agreed b.asked)
-    sends agreed = verdicts-board (content_after p (Some (writes.Decide b.instance agreed)) s.content) b.instance agreed b.asked (decided-own b.instance agreed s.content verdicts.Open undecided)
+    sends agreed =
+        verdicts-board (content_after p (Some (writes.Decide b.instance agreed)) s.content) b.instance agreed b.asked
+        (decided-own b.instance agreed s.content verdicts.Open undecided)
 
     by : (x : Phase) (agreed : Bool) → IsPhaseBacked x (row_of s.content p).tentative → n.phase ≡ x → Backs s p (decide_plan x b agreed)
     by (phases.Rolling c) true back e = turn-backs s p n _ _ refl at undecided back (sends true)
@@ -212,8 +218,10 @@ plan-backs s is step plan (plans.decides {p = p} {n = n} {b = b} {phase = phase}
 plan-backs s is step plan (plans.gives_up {p = p} {n = n} {b = b} {phase = phase} there at voting own undecided) =
     let yet = sym (told-poll s p n b phase at voting) ∙ undecided-open _ undecided in
     turn-backs s p n plan _ refl at yet (phase-backed s is p n at)
-    (verdicts-board (content_after p (Some (writes.Decide b.instance false)) s.content) b.instance false b.asked (decided-own b.instance false s.content verdicts.Open yet))
-plan-backs s is step plan (plans.gives_up_down {p = p} {instance = instance} there down has) = down-backs s p plan refl down (open-verdict s.content p instance is.board has) refl
+    (verdicts-board (content_after p (Some (writes.Decide b.instance false)) s.content) b.instance false b.asked
+    (decided-own b.instance false s.content verdicts.Open yet))
+plan-backs s is step plan (plans.gives_up_down {p = p} {instance = instance} there down has) =
+    down-backs s p plan refl down (open-verdict s.content p instance is.board has) refl
 plan-backs s is step plan (plans.declines {p = p} {n = n} {b = b} {phase = phase} there at voting asked has) =
     turn-backs s p n plan _ refl at tt (phase-again n.phase b (voted b) phase (row_of s.content p).tentative voting refl (phase-backed s is p n at)) (tt, tt)
 plan-backs s is step plan (plans.learns_when_held {p = p} {n = n} {b = b} {agreed = agreed} there at held knows) =
@@ -222,8 +230,10 @@ plan-backs s is step plan (plans.learns_to_roll {p = p} {n = n} {live = live} {b
     restore-backs s p _ live [] loads (backed-in s is p n (phases.Rolling b) at rolls) tt
 plan-backs s is step plan (plans.learns_to_go_on {p = p} {n = n} {b = b} there at rolls asked knows) =
     turn-backs s p n plan _ refl at tt (backed-in s is p n (phases.Rolling b) at rolls) tt
-plan-backs s is step plan (plans.learns_yes_down {p = p} there down has knows) = down-backs s p plan refl down (sym (told-down s p down) ∙ settled-is _ true knows) refl
-plan-backs s is step plan (plans.learns_no_down {p = p} there down has knows fit) = down-backs s p plan refl down (sym (told-down s p down) ∙ settled-is _ false knows) refl
+plan-backs s is step plan (plans.learns_yes_down {p = p} there down has knows) =
+    down-backs s p plan refl down (sym (told-down s p down) ∙ settled-is _ true knows) refl
+plan-backs s is step plan (plans.learns_no_down {p = p} there down has knows fit) =
+    down-backs s p plan refl down (sym (told-down s p down) ∙ settled-is _ false knows) refl
 plan-backs s is step plan (plans.fails {p = p} there at fit other) = fall-backs s p plan refl refl refl
 plan-backs s is step plan (plans.restarts {p = p} {live = live} there down has free loads) =
     restart-backs s p (told s (Restart p)).stored (told s (Restart p)).next live (none-tentative s p has)

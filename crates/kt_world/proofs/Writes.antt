@@ -62,7 +62,8 @@ own-row p (Some (writes.Decide instance agreed)) c = decided_row instance agreed
 pub other-rows : (p : NodeId) (write : Option Write) (c : Content) → OtherNodesStay p c (content_after p write c)
 other-rows p None c q d = refl
 other-rows p (Some (writes.BeginCheck checkpoint)) c q d = others_stay_of p (record (row_of c p) { tentative = taken (next_instance c) checkpoint }) c refl q d
-other-rows p (Some (writes.PutTentative instance checkpoint)) c q d = others_stay_of p (record (row_of c p) { tentative = taken instance checkpoint }) c refl q d
+other-rows p (Some (writes.PutTentative instance checkpoint)) c q d =
+    others_stay_of p (record (row_of c p) { tentative = taken instance checkpoint }) c refl q d
 other-rows p (Some writes.Promote) c q d =
     others_stay_of p (record (row_of c p) { permanent = promoted_from (row_of c p).permanent (row_of c p).tentative; tentative = None }) c refl q d
 other-rows p (Some writes.Discard) c q d = others_stay_of p (record (row_of c p) { tentative = None }) c refl q d
@@ -110,7 +111,8 @@ board-after p (Some (writes.Decide instance agreed)) c room is = decided-board i
 
 pub next-after : (p : NodeId) (write : Option Write) (c : Content) → next_instance (content_after p write c) ≤ next_instance c + 1
 next-after p None c = omega arith
-next-after p (Some (writes.BeginCheck checkpoint)) c = begun-next p purposes.Check (storing record (row_of c p) { tentative = taken (next_instance c) checkpoint } c)
+next-after p (Some (writes.BeginCheck checkpoint)) c =
+    begun-next p purposes.Check (storing record (row_of c p) { tentative = taken (next_instance c) checkpoint } c)
 next-after p (Some (writes.PutTentative instance checkpoint)) c = omega arith
 next-after p (Some writes.Promote) c = omega arith
 next-after p (Some writes.Discard) c = omega arith
