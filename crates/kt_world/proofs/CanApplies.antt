@@ -43,9 +43,11 @@ asked-near s ready p n b phase at is voting = (poll-ready s ready p n b phase at
 pub plan-good : (s : State) → IsReady s → (t : Told) (step : Step) (plan : Plan) → PlanOf s t step plan → IsGood s (owner step) plan
 plan-good s ready t step plan (plans.issues {p = p} {n = n} {x = x} {r = r} is at up body kept next) = issue-good s ready p n x r is at body
 plan-good s ready t step plan (plans.repeats {p = p} {n = n} {r = r} is at up body again) = repeat-good s ready p n r is at
-plan-good s ready t step plan (plans.serves {p = p} {w = w} {n = n} {service = service} is other at up body gives) = serve-good s ready p w n service is other at
+plan-good s ready t step plan (plans.serves {p = p} {w = w} {n = n} {service = service} is other at up body gives) =
+    serve-good s ready p w n service is other at
 plan-good s ready t step plan (plans.takes {p = p} {from = from} {n = n} {post = post} {later = later} is at up kept) =
-    let has = (live-ready s ready p n at).kept (from, post) (subst (λ (l : List (NodeId × Post)). Contains l (from, post)) (sym kept) (Contains-here (from, post) later)) in
+    let has = (live-ready s ready p n at).kept (from, post) (subst (λ (l : List (NodeId × Post)). Contains l (from, post)) (sym kept)
+    (Contains-here (from, post) later)) in
     heard-good s ready p from n keeps.TakeFirst post is at has.from has.names tt
 plan-good s ready t step plan (plans.hears {p = p} {q = q} {n = n} {post = post} comes at up kept) =
     heard-good s ready q p n keeps.Stay post (there s p q _ comes) at (near s p q _ comes) (comes-ready s ready p q (messages.Post post) comes) tt
@@ -70,7 +72,8 @@ plan-good s ready t step plan (plans.told_to_roll {p = p} {q = q} {n = n} {live 
     (verdicts-near s.cast q instance true b.asked (asked-near s ready q n b phases.Rolling at rolls plans.rolls)) (verdicts-say s.history instance true b.asked)
 plan-good s ready t step plan (plans.told_to_go_on {p = p} {q = q} {n = n} {b = b} {instance = instance} comes at rolls asked same) =
     release-good s ready q n _ (there s p q _ comes) at
-    (verdicts-near s.cast q instance false b.asked (asked-near s ready q n b phases.Rolling at rolls plans.rolls)) (verdicts-say s.history instance false b.asked)
+    (verdicts-near s.cast q instance false b.asked (asked-near s ready q n b phases.Rolling at rolls plans.rolls))
+    (verdicts-say s.history instance false b.asked)
 plan-good s ready t step plan (plans.begins_check {p = p} {n = n} is at up fit) = begin_check-good s ready p n t.next t.permanent is at
 plan-good s ready t step plan (plans.decides {p = p} {n = n} {b = b} {phase = phase} {agreed = agreed} is at voting own open_yet comes) =
     decide-good s ready p n b phase agreed is at voting
@@ -79,7 +82,8 @@ plan-good s ready t step plan (plans.gives_up_down {p = p} is down has) = stay-g
 plan-good s ready t step plan (plans.declines {p = p} {n = n} {b = b} {phase = phase} {parent = parent} is at voting asked has) =
     decline-good s ready p n b phase parent is at voting asked
 plan-good s ready t step plan (plans.learns_when_held {p = p} {n = n} {agreed = agreed} is at held knows) = held_learns-good s ready p n agreed [] is at tt tt
-plan-good s ready t step plan (plans.learns_to_roll {p = p} {live = live} is at rolls asked knows loads) = restore-good s ready p t.stored live [] is loads tt tt
+plan-good s ready t step plan (plans.learns_to_roll {p = p} {live = live} is at rolls asked knows loads) =
+    restore-good s ready p t.stored live [] is loads tt tt
 plan-good s ready t step plan (plans.learns_to_go_on {p = p} {n = n} is at rolls asked knows) = release-good s ready p n [] is at tt tt
 plan-good s ready t step plan (plans.learns_yes_down {p = p} is down has knows) = promote_down-good s ready p is
 plan-good s ready t step plan (plans.learns_no_down {p = p} is down has knows fit) = discard_down-good s ready p t.stored is fit

@@ -66,10 +66,11 @@ there-after s ready step plan = applied-rows s step plan (λ q row. is_some row 
 messages-after : (s : State) → IsReady s → (step : Step) (plan : Plan) → IsGood s (owner step) plan → (k : ℕ) (m : Message)
     → Contains (at [] (applied s step plan).links k) m
     → IsMessageReady (noted s.history plan.note) m
-messages-after s ready step plan g k m c = elim (sent-cases (link_place s.cast) (taken_off (link_place s.cast) s.links step) (owner step) plan.send (Some k) m c) [
-  | inl old ↦ message-noted s.history plan.note m (ready.messages k m (taken_off-was (link_place s.cast) s.links step (Some k) m old))
-  | inr new ↦ all-at (λ (x : NodeId × Message). IsMessageReady (noted s.history plan.note) x.1) plan.send (new.to, m) g.says new.among
-]
+messages-after s ready step plan g k m c =
+    elim (sent-cases (link_place s.cast) (taken_off (link_place s.cast) s.links step) (owner step) plan.send (Some k) m c) [
+      | inl old ↦ message-noted s.history plan.note m (ready.messages k m (taken_off-was (link_place s.cast) s.links step (Some k) m old))
+      | inr new ↦ all-at (λ (x : NodeId × Message). IsMessageReady (noted s.history plan.note) x.1) plan.send (new.to, m) g.says new.among
+    ]
 
 pub good-ready : (s : State) (step : Step) (plan : Plan) → IsReady s → IsGood s (owner step) plan → s.made < most_steps → IsReady (applied s step plan)
 good-ready s step plan ready g few =
@@ -157,7 +158,8 @@ turn-good s ready p n t send note write there at well sends says may own = recor
   note = may;
   own = own;
   says = says;
-  becomes = subst (λ (row : Option Node). IfSome (option_map (changed (changes.Turn t)) row) (IsNodeReady s.cast (noted s.history note) (s.made + 1) p)) (sym at)
+  becomes = subst (λ (row : Option Node). IfSome (option_map (changed (changes.Turn t)) row) (IsNodeReady s.cast (noted s.history note) (s.made + 1) p))
+      (sym at)
       (turned-ready s note p n t (live-ready s ready p n at) well);
 }
 

@@ -42,9 +42,10 @@ pub issue-good : (s : State) → IsReady s → (p : NodeId) (n : Live) (x : Work
     → IsGood s p (issue_plan (view s p) n r (issued (role_of s.cast p).script x))
 issue-good s ready p n x r there at body =
     let near = home-neighbour s.cast ready.cast p r.1 there in
+    let place = neighbour-place s.cast ready.cast p (home (role_of s.cast p).peers r.1) near in
     turn-good s ready p n _ _ _ None (worker-node s.cast p there) at
     (record {
-      can = record { body = can-work n.body _; heard = tt; said = record { count = can-count s ready p n at; place = neighbour-place s.cast ready.cast p (home (role_of s.cast p).peers r.1) near } };
+      can = record { body = can-work n.body _; heard = tt; said = record { count = can-count s ready p n at; place = place } };
       body = work-body (role_of s.cast p).script s.made p n.body x _ body (issued-within (role_of s.cast p).script x) (live-ready s ready p n at).body;
       kept = tt;
       phase = tt;
@@ -55,9 +56,10 @@ pub repeat-good : (s : State) → IsReady s → (p : NodeId) (n : Live) (r : ℕ
     → IsGood s p (repeat_plan (view s p) n r)
 repeat-good s ready p n r there at =
     let near = home-neighbour s.cast ready.cast p r.1 there in
+    let place = neighbour-place s.cast ready.cast p (home (role_of s.cast p).peers r.1) near in
     turn-good s ready p n _ _ _ None (worker-node s.cast p there) at
     (record {
-      can = record { body = can-stay n.body; heard = tt; said = record { count = can-count s ready p n at; place = neighbour-place s.cast ready.cast p (home (role_of s.cast p).peers r.1) near } };
+      can = record { body = can-stay n.body; heard = tt; said = record { count = can-count s ready p n at; place = place } };
       body = stay-body (role_of s.cast p).script s.made p n.body (live-ready s ready p n at).body;
       kept = tt;
       phase = tt;
@@ -111,12 +113,14 @@ heard-by s ready p from n kept post plan there at near names keeping (ways.misse
     (stay-body (role_of s.cast p).script s.made p n.body (live-ready s ready p n at).body) names (role-id s.cast p)
 heard-by s ready p from n kept post plan there at near names keeping (ways.accepts {x = x} body talk awaited) =
     hearing-good s ready p from n kept post _ _ there at near keeping (can-work n.body _)
-    (work-body (role_of s.cast p).script s.made p n.body x _ body (heard-within (role_of s.cast p).script x _) (live-ready s ready p n at).body) names (role-id s.cast p)
+    (work-body (role_of s.cast p).script s.made p n.body x _ body (heard-within (role_of s.cast p).script x _) (live-ready s ready p n at).body) names
+    (role-id s.cast p)
 heard-by s ready p from n kept post plan there at near names keeping (ways.ignores_reply body talk other) =
     hearing-good s ready p from n kept post _ _ there at near keeping (can-stay n.body)
     (stay-body (role_of s.cast p).script s.made p n.body (live-ready s ready p n at).body) names (role-id s.cast p)
 heard-by s ready p from n kept post plan there at near names keeping (ways.hears {request = request} body talk new) =
-    hearing-good s ready p from n kept post _ _ there at near keeping (can-wait n.body (node_number from) request (neighbour-place s.cast ready.cast p from near))
+    hearing-good s ready p from n kept post _ _ there at near keeping
+    (can-wait n.body (node_number from) request (neighbour-place s.cast ready.cast p from near))
     (wait-body (role_of s.cast p).script s.made p n.body (node_number from) request (live-ready s ready p n at).body) names (role-id s.cast p)
 heard-by s ready p from n kept post plan there at near names keeping (ways.answers_again body talk old is) =
     let place = neighbour-place s.cast ready.cast p from near in

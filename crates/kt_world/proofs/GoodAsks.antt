@@ -76,10 +76,13 @@ sieved-good s ready p from n ask agreed there at near = phase-good s ready p n (
 held-good : (s : State) → IsReady s → (p : NodeId) (n : Live) (b : Poll) (write : Write) → IsTrue (is_node s.cast p) → IsAlive s p n → IsPollReady s.cast p b
     → IsGood s p (held_plan n b write)
 held-good s ready p n b write there at is =
-    phase-good s ready p n keeps.Stay (Some (phases.Held (poll_after b (casting b)))) false (check_asks b.instance n b.asked ++ votes (casting b)) (Some write) there at tt
+    phase-good s ready p n keeps.Stay (Some (phases.Held (poll_after b (casting b)))) false (check_asks b.instance n b.asked ++ votes (casting b))
+    (Some write) there at tt
     (after-poll s.cast p b (casting b) is)
-    (all-append (GoesNear s.cast p) (check_asks b.instance n b.asked) (votes (casting b)) (checks-near s.cast p b.instance n b.asked is.asked) (casting-near s.cast p b is))
-    (all-append (SaysReady s.history) (check_asks b.instance n b.asked) (votes (casting b)) (checks-say s.history b.instance n b.asked) (casting-says s.history b))
+    (all-append (GoesNear s.cast p) (check_asks b.instance n b.asked) (votes (casting b)) (checks-near s.cast p b.instance n b.asked is.asked)
+    (casting-near s.cast p b is))
+    (all-append (SaysReady s.history) (check_asks b.instance n b.asked) (votes (casting b)) (checks-say s.history b.instance n b.asked)
+    (casting-says s.history b))
 
 pub begin_check-good : (s : State) → IsReady s → (p : NodeId) (n : Live) (next : ℕ) (permanent : Option Marks) → IsTrue (is_node s.cast p) → IsAlive s p n
     → IsGood s p (begin_check_plan (view s p) n next permanent)
@@ -140,7 +143,8 @@ decide-good s ready p n b phase agreed there at voting = by n.phase agreed
     near agreed = verdicts-near s.cast p b.instance agreed b.asked (poll-ready s ready p n b phase at voting).asked
 
     by : (x : Phase) (agreed : Bool) → IsGood s p (decide_plan x b agreed)
-    by (phases.Rolling c) true = phase-good s ready p n keeps.Stay (Some phases.Up) false _ _ there at tt tt (near true) (verdicts-say s.history b.instance true b.asked)
+    by (phases.Rolling c) true =
+        phase-good s ready p n keeps.Stay (Some phases.Up) false _ _ there at tt tt (near true) (verdicts-say s.history b.instance true b.asked)
     by (phases.Rolling c) false = phase-good s ready p n keeps.Stay None false _ _ there at tt tt (near false) (verdicts-say s.history b.instance false b.asked)
     by (phases.Held c) agreed = phase-good s ready p n keeps.Stay None false _ _ there at tt tt (near agreed) (verdicts-say s.history b.instance agreed b.asked)
     by phases.Up agreed = phase-good s ready p n keeps.Stay None false _ _ there at tt tt (near agreed) (verdicts-say s.history b.instance agreed b.asked)

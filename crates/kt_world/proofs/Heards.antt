@@ -27,13 +27,16 @@ pub data HeardOf (v : View) (n : Live) (kept : KeptChange) (from : NodeId) (post
       → HeardOf v n kept from post (hearing kept from post.label bodies.Stay (note_of v.role.id post.by (node_number v.role.id) request (whats.Ignored None)))
   accepts : {x : Worker} {request : Request} {answer : Answer}
       → n.body ≡ IsWorker x → post.talk ≡ talks.Reply request answer → awaits x request.number request.op ≡ true
-      → HeardOf v n kept from post (hearing kept from post.label (bodies.Work (heard v.role.script x answer)) (note_of v.role.id post.by (node_number v.role.id) request (whats.Accepted answer)))
+      → HeardOf v n kept from post (hearing kept from post.label (bodies.Work (heard v.role.script x answer))
+      (note_of v.role.id post.by (node_number v.role.id) request (whats.Accepted answer)))
   ignores_reply : {x : Worker} {request : Request} {answer : Answer}
       → n.body ≡ IsWorker x → post.talk ≡ talks.Reply request answer → awaits x request.number request.op ≡ false
-      → HeardOf v n kept from post (hearing kept from post.label bodies.Stay (note_of v.role.id post.by (node_number v.role.id) request (whats.Ignored (Some answer))))
+      → HeardOf v n kept from post (hearing kept from post.label bodies.Stay
+      (note_of v.role.id post.by (node_number v.role.id) request (whats.Ignored (Some answer))))
   hears : {y : Shard} {request : Request}
       → n.body ≡ IsShard y → post.talk ≡ talks.Request request → newest (desk_of y (node_number from)) < request.number
-      → HeardOf v n kept from post (hearing kept from post.label (bodies.Wait (node_number from) request) (note_of v.role.id post.by (node_number from) request whats.Heard))
+      → HeardOf v n kept from post (hearing kept from post.label (bodies.Wait (node_number from) request)
+      (note_of v.role.id post.by (node_number from) request whats.Heard))
   answers_again : {y : Shard} {request : Request} {answer : Answer}
       → n.body ≡ IsShard y → post.talk ≡ talks.Request request → request.number ≤ newest (desk_of y (node_number from))
       → kept_answer (desk_of y (node_number from)) request ≡ Some answer
@@ -44,7 +47,8 @@ pub data HeardOf (v : View) (n : Live) (kept : KeptChange) (from : NodeId) (post
       → HeardOf v n kept from post (hearing kept from post.label bodies.Stay (note_of v.role.id post.by (node_number from) request (whats.Ignored None)))
   misses_reply : {y : Shard} {request : Request} {answer : Answer}
       → n.body ≡ IsShard y → post.talk ≡ talks.Reply request answer
-      → HeardOf v n kept from post (hearing kept from post.label bodies.Stay (note_of v.role.id post.by (node_number from) request (whats.Ignored (Some answer))))
+      → HeardOf v n kept from post (hearing kept from post.label bodies.Stay
+      (note_of v.role.id post.by (node_number from) request (whats.Ignored (Some answer))))
 
 -- every plan of a hearing is made in one of these ways
 pub heard-is : (v : View) (n : Live) (kept : KeptChange) (from : NodeId) (post : Post) → HeardOf v n kept from post (heard_plan v n kept from post)
@@ -56,7 +60,8 @@ heard-is v n kept from post = by n.body post.talk refl refl
     answers : (x : Worker) (request : Request) (answer : Answer) → n.body ≡ IsWorker x → post.talk ≡ talks.Reply request answer → (b : Bool)
         → awaits x request.number request.op ≡ b
         → Is (if b
-        then hearing kept from post.label (bodies.Work (heard v.role.script x answer)) (note_of v.role.id post.by (node_number v.role.id) request (whats.Accepted answer))
+        then hearing kept from post.label (bodies.Work (heard v.role.script x answer))
+        (note_of v.role.id post.by (node_number v.role.id) request (whats.Accepted answer))
         else hearing kept from post.label bodies.Stay (note_of v.role.id post.by (node_number v.role.id) request (whats.Ignored (Some answer))))
     answers x request answer body talk true e = accepts body talk e
     answers x request answer body talk false e = ignores_reply body talk e

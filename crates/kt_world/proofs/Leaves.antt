@@ -112,7 +112,8 @@ pub all-neighbours : (cast : Cast) (p : NodeId) → IsTrue (is_node cast p) → 
 all-neighbours cast p there =
     all-map (AreNeighbours cast p) (across (role_of cast p).id) (numbers 1 (role_of cast p).peers)
     (all-numbers (λ k. AreNeighbours cast p (across (role_of cast p).id k)) 1 (role_of cast p).peers
-    (λ k low high. subst (λ (q : NodeId). AreNeighbours cast p (across q k)) (sym (role-id cast p)) (across-neighbour cast p k there low (omega (arith, high)))))
+    (λ k low high. subst (λ (q : NodeId). AreNeighbours cast p (across q k)) (sym (role-id cast p))
+    (across-neighbour cast p k there low (omega (arith, high)))))
 
 pub neighbour-in : (cast : Cast) (p : NodeId) → IsTrue (is_node cast p) → (q : NodeId) → Contains (neighbours (role_of cast p)) q → AreNeighbours cast p q
 neighbour-in cast p there q c = all-at (AreNeighbours cast p) (neighbours (role_of cast p)) q (all-neighbours cast p there) c
@@ -133,7 +134,7 @@ abbrev pub SaysReady : List Note → NodeId × Message → Type 0
 SaysReady h m = IsMessageReady h m.1
 
 -- votes go to who asked
-casting-all : (P : NodeId × Message → Type 0) (b : Poll) → IfSome b.parent (λ a. (vote : Vote) → P (a.node, messages.Vote vote))
+pub casting-all : (P : NodeId × Message → Type 0) (b : Poll) → IfSome b.parent (λ a. (vote : Vote) → P (a.node, messages.Vote vote))
     → AllByRecursion P (votes (casting b))
 casting-all P b h = by b.parent h
   where

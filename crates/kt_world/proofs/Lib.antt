@@ -22,3 +22,9 @@ pub mod GoodAsks
 pub mod CanApplies
 pub mod Saves
 pub mod Opened
+pub mod Boards
+pub mod Writes
+pub mod Backs
+pub mod StaysBacked
+pub mod Scripts
+pub mod Standing

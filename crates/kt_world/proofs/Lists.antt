@@ -36,7 +36,8 @@ all-numbers P from (suc n) h = (h from (omega arith) (omega arith), all-numbers 
 
 -- what is kept of a list was in it
 pub filter-was : {A : Type 0} (p : A → Bool) (xs : List A) (x : A) → Contains (filter p xs) x → Contains xs x
-filter-was {A} p xs x c = all-at (λ (y : A). Contains xs y) (filter p xs) x (all-filter (λ (y : A). Contains xs y) p xs (all-from (λ (y : A). Contains xs y) xs (λ y h. h))) c
+filter-was {A} p xs x c =
+    all-at (λ (y : A). Contains xs y) (filter p xs) x (all-filter (λ (y : A). Contains xs y) p xs (all-from (λ (y : A). Contains xs y) xs (λ y h. h))) c
 
 pub length-numbers : (from n : ℕ) → length (numbers from n) ≡ n
 unfolding numbers

@@ -40,7 +40,7 @@ use Rattle.kt_node.specs.Loading.{marks_in, loaded_from, loaded_by, load}
 use Rattle.kt_world.specs.Cast.{Cast, script_at}
 use Rattle.kt_world.specs.State.{State, role_of, view}
 use Rattle.kt_world.specs.Ready.{IsWithin, IsBodyReady, IsLiveReady, IsReady}
-use Rattle.kt_world.specs.Short.{IsShort}
+use Rattle.kt_world.specs.Short.{IsShort, AreShort}
 
 -- ---- lines are no longer than the history
 
@@ -90,10 +90,12 @@ length-values (v ∷ vs) [] e = absurd cc
 length-values (v ∷ vs) (u ∷ us) e = ap suc (length-values vs us (and_parts (kind_eq v.1 (kind_of u)) (are_values_of vs us) e).1)
 
 within-misfit : (script : List Command) (x : Worker) → IsShort script → is_none (misfit_of script x) ≡ true → IsWithin script x
-within-misfit script x short e = by (nat_lt (length script) x.position.pc) (nat_lt x.position.pc x.number) (are_values_of (variables_of script) x.position.memory.values) refl refl e
+within-misfit script x short e =
+    by (nat_lt (length script) x.position.pc) (nat_lt x.position.pc x.number) (are_values_of (variables_of script) x.position.memory.values) refl refl e
   where
     by : (a b c : Bool) → nat_lt (length script) x.position.pc ≡ a → are_values_of (variables_of script) x.position.memory.values ≡ c
-        → is_none (if a then Some misfits.Position else if b then Some misfits.Number else if not c then Some misfits.Values else None) ≡ true → IsWithin script x
+        → is_none (if a then Some misfits.Position else if b then Some misfits.Number else if not c then Some misfits.Values else None) ≡ true
+        → IsWithin script x
     by true b c f g e = absurd cc
     by false true c f g e = absurd cc
     by false false false f g e = absurd cc
@@ -109,7 +111,7 @@ if_fits-passed false body got e = absurd cc
 -- ---- scripts
 
 -- every script of the scene is short, and so is none
-pub short-script : (cast : Cast) → ((n : ℕ) → IfSome (script_at cast.scripts n) IsShort) → (n : ℕ) → IsShort (unwrap_or (script_at cast.scripts n) [])
+pub short-script : (cast : Cast) → AreShort cast → (n : ℕ) → IsShort (unwrap_or (script_at cast.scripts n) [])
 short-script cast short n = by (script_at cast.scripts n) (short n)
   where
     by : (o : Option (List Command)) → IfSome o IsShort → IsShort (unwrap_or o [])
@@ -139,7 +141,7 @@ body-from s ready (ids.Shard n) long (states.Shard y) body le e =
     subst (IsBodyReady [] s.made (ids.Shard n)) passed.1 (omega (arith, few, le))
 
 -- what a node works with at first
-pub opening-body : (cast : Cast) → ((n : ℕ) → IfSome (script_at cast.scripts n) IsShort) → (made : ℕ) (p : NodeId)
+pub opening-body : (cast : Cast) → AreShort cast → (made : ℕ) (p : NodeId)
     → IsBodyReady (role_of cast p).script made p (opening_body (role_of cast p) (role_of cast p).id)
 opening-body cast short made (ids.Worker n) =
     let script : List Command = unwrap_or (script_at cast.scripts n) [] in
@@ -162,7 +164,7 @@ body-at s ready p (Some c) body fit e =
 
 -- ---- the node
 
-load-passed : (b : Bool) (r : Result Live Refusal) (live : Live) → (if b then r else Err refusals.Damaged) ≡ Ok live → IsTrue b × (r ≡ Ok live)
+pub load-passed : (b : Bool) (r : Result Live Refusal) (live : Live) → (if b then r else Err refusals.Damaged) ≡ Ok live → IsTrue b × (r ≡ Ok live)
 load-passed true r live e = (refl, e)
 load-passed false r live e = absurd cc
 

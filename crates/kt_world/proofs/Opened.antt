@@ -1,22 +1,23 @@
--- A world that was just opened is ready.
-use Rattle.std.proofs.Common.{Option, None, Some, if◌then◌else◌, ◌≡◌, ℕ, zero, suc, ◌+◌, ◌*◌, ◌<◌, ◌≤◌, Bool, true, false, List, [], ◌∷◌, ◌++◌, length, map, replicate, Contains, ◌⊎◌, inl, inr, refl, sym, ap, ◌∙◌, subst, length-append, arith}
+-- A world that was just opened is ready, and backed.
+use Rattle.std.proofs.Common.{Option, None, Some, if◌then◌else◌, ◌≡◌, ℕ, zero, suc, ◌+◌, ◌*◌, ◌<◌, ◌≤◌, Bool, true, false, List, [], ◌∷◌, ◌++◌, length, replicate, Contains, ◌⊎◌, inl, inr, refl, sym, ap, ◌∙◌, subst, length-append, arith}
 use Rattle.std.proofs.lemmas.Bool.{cases_lt}
-use Rattle.std.proofs.lemmas.List.{get_or_past, get_or_append_left, get_or-append-add, length-map}
-use Rattle.std.specs.Prelude.{unwrap_or, is_some, IfSome, IsTrue}
+use Rattle.std.proofs.lemmas.List.{get_or_past, get_or_append_left, get_or-append-add}
+use Rattle.std.specs.Prelude.{is_some, IfSome}
 use Rattle.kt_tuple.specs.declared.node.NodeId.{NodeId}
 use Rattle.kt_tuple.specs.declared.node.NodeId.TheVariants as ids
 use Rattle.kt_history.proofs.Lists.{Contains-none}
 use Rattle.kt_history.proofs.Pasts.{CausesComeFirst-empty}
-use Rattle.kt_script.specs.declared.command.Command.{Command}
 use Rattle.kt_shard.specs.Limits.{desks}
 use Rattle.kt_shard.specs.Table.{at}
 use Rattle.kt_node.specs.declared.message.Message.{Message}
 use Rattle.kt_node.specs.Node.{Node, opening_node, opening_body, node_number}
 use Rattle.kt_world.specs.Limits.{rows}
-use Rattle.kt_world.specs.Cast.{Cast, IsCast, script_at, is_node}
-use Rattle.kt_world.specs.State.{State, node, role_of}
+use Rattle.kt_world.specs.Cast.{Cast, IsCast, is_node}
+use Rattle.kt_world.specs.State.{node, role_of}
 use Rattle.kt_world.specs.Ready.{IsNodeReady, IsReady}
-use Rattle.kt_world.specs.Short.{AreShort, IsShort}
+use Rattle.kt_world.specs.Short.{AreShort}
+use Rattle.kt_store.specs.Content.{empty_content, row_of}
+use Rattle.kt_world.specs.Backed.{IsNodeBacked, IsBacked}
 use Rattle.kt_world.specs.Reached.{opening_row, opening_rows, opening}
 use Rattle.kt_world.proofs.Scene.{IsNode, a_worker, a_shard, of_node}
 use Rattle.kt_world.proofs.Loads.{opening-body, fresh-ready}
@@ -51,12 +52,14 @@ worker_row cast (suc n) k below = by (cases_lt k n) (λ less. worker_row cast n 
     long : length (opening_rows cast n) ≡ 2 * n
     long = length-opening_rows cast n
 
-    by : (k < n) ⊎ (n ≤ k) → (k < n → at None (opening_rows cast n) (2 * k) ≡ opening_row cast (ids.Worker k)) → at None (opening_rows cast n ++ two) (2 * k) ≡ opening_row cast (ids.Worker k)
+    by : (k < n) ⊎ (n ≤ k) → (k < n → at None (opening_rows cast n) (2 * k) ≡ opening_row cast (ids.Worker k))
+        → at None (opening_rows cast n ++ two) (2 * k) ≡ opening_row cast (ids.Worker k)
     by (inl less) before = get_or_append_left (opening_rows cast n) two None (2 * k) (omega (arith, less, long)) ∙ before less
     by (inr more) before =
         let same : n ≡ k = omega (arith, below, more) in
         let place : 2 * k ≡ length (opening_rows cast n) + 0 = omega (arith, long, same) in
-        ap (at None (opening_rows cast n ++ two)) place ∙ get_or-append-add (opening_rows cast n) two 0 None ∙ ap (λ (j : ℕ). opening_row cast (ids.Worker j)) same
+        ap (at None (opening_rows cast n ++ two)) place ∙ get_or-append-add (opening_rows cast n) two 0 None
+        ∙ ap (λ (j : ℕ). opening_row cast (ids.Worker j)) same
 
 shard_row : (cast : Cast) (n k : ℕ) → k < n → at None (opening_rows cast n) (2 * k + 1) ≡ opening_row cast (ids.Shard k)
 unfolding opening_rows
@@ -69,12 +72,14 @@ shard_row cast (suc n) k below = by (cases_lt k n) (λ less. shard_row cast n k 
     long : length (opening_rows cast n) ≡ 2 * n
     long = length-opening_rows cast n
 
-    by : (k < n) ⊎ (n ≤ k) → (k < n → at None (opening_rows cast n) (2 * k + 1) ≡ opening_row cast (ids.Shard k)) → at None (opening_rows cast n ++ two) (2 * k + 1) ≡ opening_row cast (ids.Shard k)
+    by : (k < n) ⊎ (n ≤ k) → (k < n → at None (opening_rows cast n) (2 * k + 1) ≡ opening_row cast (ids.Shard k))
+        → at None (opening_rows cast n ++ two) (2 * k + 1) ≡ opening_row cast (ids.Shard k)
     by (inl less) before = get_or_append_left (opening_rows cast n) two None (2 * k + 1) (omega (arith, less, long)) ∙ before less
     by (inr more) before =
         let same : n ≡ k = omega (arith, below, more) in
         let place : 2 * k + 1 ≡ length (opening_rows cast n) + 1 = omega (arith, long, same) in
-        ap (at None (opening_rows cast n ++ two)) place ∙ get_or-append-add (opening_rows cast n) two 1 None ∙ ap (λ (j : ℕ). opening_row cast (ids.Shard j)) same
+        ap (at None (opening_rows cast n ++ two)) place ∙ get_or-append-add (opening_rows cast n) two 1 None
+        ∙ ap (λ (j : ℕ). opening_row cast (ids.Shard j)) same
 
 -- rows past the table are empty
 past_rows : (cast : Cast) (k : ℕ) → rows ≤ k → at None (opening_rows cast desks) k ≡ None
@@ -111,7 +116,6 @@ opening-node cast is (ids.Shard r) = elim (cases_lt r desks) [
 pub no_messages : (n k : ℕ) (m : Message) → Contains (at [] (replicate n []) k) m → ⊥
 no_messages n k m c = Contains-none m (subst (λ (l : List Message). Contains l m) (at-replicate {A = List Message} [] n k) c)
 
--- the scripts are short
 opening-there : (cast : Cast) (p : NodeId) → is_some (opening_row cast p) ≡ is_node cast p
 opening-there cast p = by (is_node cast p)
   where
@@ -139,4 +143,23 @@ opening-ready cast is short = record {
   few_notes = omega arith;
   causes = CausesComeFirst-empty;
   messages = λ k m on. absurd (no_messages _ k m on);
+}
+
+-- ---- over a fresh store
+
+opening-row-backed : (cast : Cast) (p : NodeId) → IfSome (opening_row cast p) (λ x. IsNodeBacked x (row_of empty_content p).tentative)
+opening-row-backed cast p = by (is_node cast p)
+  where
+    by : (b : Bool) → IfSome (if b then Some (opening_node (role_of cast p)) else None) (λ x. IsNodeBacked x (row_of empty_content p).tentative)
+    by true = refl
+    by false = tt
+
+pub opening-backed : (cast : Cast) → IsCast cast → IsBacked (opening cast)
+opening-backed cast is = record {
+  nodes = λ p. subst (λ (row : Option Node). IfSome row (λ x. IsNodeBacked x (row_of empty_content p).tentative)) (sym (opening-node cast is p))
+      (opening-row-backed cast p);
+  messages = λ k m on. absurd (no_messages _ k m on);
+  board = record { rising = λ i j d lt within. absurd (omega (arith, within)); within = λ k d lt. absurd (omega (arith, lt)) };
+  few_instances = omega arith;
+  few_incarnations = λ p. omega arith;
 }

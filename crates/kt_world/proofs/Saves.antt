@@ -1,5 +1,5 @@
 -- A node of a ready state can act, and its checkpoint can be taken.
-use Rattle.std.proofs.Common.{◌≡◌, ℕ, get_or, zero, suc, ◌+◌, ◌<◌, ◌≤◌, ◌^◌, true, List, [], ◌∷◌, ◌++◌, map, length, Contains, Option, None, Some, All, refl, sym, ap, ◌∙◌, subst, arith}
+use Rattle.std.proofs.Common.{◌≡◌, ℕ, get_or, zero, suc, ◌+◌, ◌≤◌, true, List, ◌++◌, length, Option, None, Some, refl, sym, ap, ◌∙◌, arith}
 use Rattle.std.specs.Prelude.{IfSome, IsTrue, is_some, unwrap_or}
 use Rattle.std.specs.List.{flat_map}
 use Rattle.std.proofs.lemmas.List.{length-map}
@@ -11,14 +11,13 @@ use Rattle.kt_shard.specs.Limits.{most_workers}
 use Rattle.kt_ckpt.specs.Limits.{max_workers}
 use Rattle.kt_ckpt.specs.Reading.{IsRising}
 use Rattle.kt_ckpt.specs.Checkpoint.{IsNode as IsNamed, Suits, IsCountedState, ArePeers}
-use Rattle.kt_node.specs.declared.message.Post.{Post}
 use Rattle.kt_node.specs.declared.live.Phase.{Phase}
 use Rattle.kt_node.specs.declared.live.Phase.TheVariants as phases
 use Rattle.kt_node.specs.Labels.{numbers, label_at, listed}
 use Rattle.kt_node.specs.Node.{Body, IsWorker, IsShard, Live, Node, Down, Alive}
 use Rattle.kt_node.specs.State.{entry, entries, body_fields}
 use Rattle.kt_node.specs.Steps.{up_in}
-use Rattle.kt_node.specs.Ready.{CanCount, CanSpeak, HasPlace, KeptHavePlaces, CanAct}
+use Rattle.kt_node.specs.Ready.{CanCount, CanSpeak, KeptHavePlaces, CanAct}
 use Rattle.kt_node.specs.Saving.{CanSave, CanSaveNode}
 use Rattle.kt_world.specs.Cast.{is_node}
 use Rattle.kt_world.specs.State.{State, node, role_of, view}
@@ -66,11 +65,13 @@ can_act s ready p = record {
     keeps : (x : Node) → (view s p).node ≡ x → KeptHavePlaces x
     keeps Down is = tt
     keeps (Alive n) is = λ k d lt.
-        neighbour-place s.cast ready.cast p (get_or n.kept k d).0 ((live-ready s ready p n (alive-is s p n is)).kept (get_or n.kept k d) (Contains-get_or n.kept k d lt)).from
+        neighbour-place s.cast ready.cast p (get_or n.kept k d).0
+        ((live-ready s ready p n (alive-is s p n is)).kept (get_or n.kept k d) (Contains-get_or n.kept k d lt)).from
 
 -- ---- saving
 
-rising : {A : Type 0} (of : ℕ → Option A) (least from n : ℕ) → least ≤ from → from + n ≤ max_workers + 1 → IsRising least (flat_map (λ worker. entry worker (of worker)) (numbers from n))
+rising : {A : Type 0} (of : ℕ → Option A) (least from n : ℕ) → least ≤ from → from + n ≤ max_workers + 1
+    → IsRising least (flat_map (λ worker. entry worker (of worker)) (numbers from n))
 unfolding numbers
 rising of least from zero low high = tt
 rising {A} of least from (suc n) low high = by (of from) (λ next le. rising of next (suc from) n le (omega (arith, high)))
@@ -88,7 +89,8 @@ rising-entries of = rising of 1 1 most_workers (omega arith) (omega arith)
 length-listed : (peers : ℕ) (table : List Label) → length (listed peers table) ≡ peers
 length-listed peers table = length-map (numbers 1 peers) (label_at table) ∙ length-numbers 1 peers
 
-are-peers : (s : State) → IsReady s → (p : NodeId) (sent received : List Label) → ArePeers (listed (role_of s.cast p).peers sent) (listed (role_of s.cast p).peers received)
+are-peers : (s : State) → IsReady s → (p : NodeId) (sent received : List Label)
+    → ArePeers (listed (role_of s.cast p).peers sent) (listed (role_of s.cast p).peers received)
 are-peers s ready p sent received =
     let some = some_peers s.cast ready.cast p in
     let few = few_peers s.cast ready.cast p in

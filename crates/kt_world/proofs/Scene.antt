@@ -8,6 +8,7 @@ use Rattle.kt_tuple.specs.declared.op.Op.{Op}
 use Rattle.kt_tuple.specs.Node.{node_index}
 use Rattle.kt_tuple.specs.Signature.{kinds_of_op, signature_of}
 use Rattle.kt_script.specs.declared.command.Command.{Command}
+use Rattle.kt_link.specs.Network.{AreNeighbours as AreLinked}
 use Rattle.kt_shard.specs.Limits.{desks}
 use Rattle.kt_node.specs.Node.{node_number, across}
 use Rattle.kt_node.specs.Talking.{home}
@@ -111,13 +112,15 @@ ends cast (ids.Shard r) (ids.Shard q) e = by (is_shard cast (ids.Shard r)) e
 
 -- and back
 pub from_ends : (cast : Cast) (p q : NodeId) → Ends cast p q → AreNeighbours cast p q
-from_ends cast p q (to_shard {w = w} {r = r} a b c d) = by (is_worker cast (ids.Worker w)) (is_shard cast (ids.Shard r)) (script_at-there cast.scripts w a b) (among-is cast.shards r c d)
+from_ends cast p q (to_shard {w = w} {r = r} a b c d) =
+    by (is_worker cast (ids.Worker w)) (is_shard cast (ids.Shard r)) (script_at-there cast.scripts w a b) (among-is cast.shards r c d)
   where
     by : (x y : Bool) → x ≡ true → y ≡ true → (x && y || false && false) ≡ true
     by true true e f = refl
     by true false e f = absurd cc
     by false y e f = absurd cc
-from_ends cast p q (to_worker {r = r} {w = w} a b c d) = by (is_shard cast (ids.Shard r)) (is_worker cast (ids.Worker w)) (among-is cast.shards r c d) (script_at-there cast.scripts w a b)
+from_ends cast p q (to_worker {r = r} {w = w} a b c d) =
+    by (is_shard cast (ids.Shard r)) (is_worker cast (ids.Worker w)) (among-is cast.shards r c d) (script_at-there cast.scripts w a b)
   where
     by : (x y : Bool) → x ≡ true → y ≡ true → (false && false || x && y) ≡ true
     by true true e f = refl
@@ -158,6 +161,18 @@ worker-neighbour cast (ids.Shard r) (ids.Worker w) e f =
     let h = script_at-some cast.scripts w f in
     let k = among-some cast.shards r e in
     from_ends cast (ids.Shard r) (ids.Worker w) (to_worker h.0 h.1 k.0 k.1)
+
+-- neighbours in the scene have a link
+pub linked : (cast : Cast) (p q : NodeId) → AreNeighbours cast p q → AreLinked (length cast.scripts) cast.shards p q
+linked cast p q e = by p q (ends cast p q e)
+  where
+    by : (p q : NodeId) → Ends cast p q → AreLinked (length cast.scripts) cast.shards p q
+    by p q (to_shard a b c d) = ((a, b), (c, d))
+    by p q (to_worker a b c d) = ((a, b), (c, d))
+
+-- a shard has a desk for each worker
+pub worker-small : (cast : Cast) → IsCast cast → (p : NodeId) → IsTrue (is_worker cast p) → node_number p < desks
+worker-small cast is p e = small cast is p (of_node cast p (worker-node cast p e))
 
 -- ---- who a node is
 

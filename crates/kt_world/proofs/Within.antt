@@ -89,7 +89,8 @@ issued-within script x is = asks x.asked
   where
     goes : (o : Option Next) → next_at script x.position ≡ o → IsWithin script (asking x o)
     goes None e = is
-    goes (Some next) e = let h = ahead script x.position next is.pc e in record { pc = h.pc; values = let same = h.values in let few = is.values in omega (arith, same, few) }
+    goes (Some next) e =
+        let h = ahead script x.position next is.pc e in record { pc = h.pc; values = let same = h.values in let few = is.values in omega (arith, same, few) }
 
     asks : (o : Option Op) → IsWithin script (asking x (unless_asked o (next_at script x.position)))
     asks None = goes (next_at script x.position) refl

@@ -24,7 +24,7 @@ use Rattle.kt_node.specs.Node.{Body, IsWorker, IsShard, Live, Node, Down, Alive,
 use Rattle.kt_node.specs.Ready.{CanChange}
 use Rattle.kt_world.specs.Limits.{rows as row_count, most_steps}
 use Rattle.kt_world.specs.Cast.{Cast, IsCast, is_node, are_neighbours, script_at}
-use Rattle.kt_world.specs.Short.{IsShort}
+use Rattle.kt_world.specs.Short.{IsShort, AreShort}
 use Rattle.kt_world.specs.State.{State, node, role_of, view}
 
 -- p and q are neighbours in the scene
@@ -76,7 +76,7 @@ IsNodeReady cast h made p (Alive n) = IsLiveReady cast h made p n
 
 pub record IsReady (s : State) : Type 0 where
   pub cast : IsCast s.cast
-  pub scripts : (n : ℕ) → IfSome (script_at s.cast.scripts n) IsShort
+  pub scripts : AreShort s.cast
   pub rows : length s.nodes ≡ row_count
   pub counts : length s.own ≡ row_count
   pub there : (p : NodeId) → is_some (node s p) ≡ is_node s.cast p
