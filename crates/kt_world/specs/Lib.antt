@@ -1,5 +1,6 @@
 pub mod Limits
 pub mod Cast
+pub mod Asks
 pub mod Step
 pub mod State
 pub mod Told
