@@ -6,3 +6,4 @@ pub mod NoteSound
 pub mod OnLinks
 pub mod Contents
 pub mod Applying
+pub mod Saved
