@@ -45,14 +45,13 @@ applied-other s step plan q d =
 
 -- ---- what a plan keeps
 
--- a plan of the step that keeps the state sound: all of it speaks of what the owner works with, of what is stored of it,
--- of the history and of what is sent
-pub record Keeps (s : State) (step : Step) (plan : Plan) : Type 0 where
-  pub may : MayNote s.cast s.history (owner step) plan.note
-  pub sends : SendWell s.cast.shards (noted s.history plan.note) (owner step) plan.send
-  pub noes : NoesStay s.content (content_after (owner step) plan.write s.content)
-  pub sound : NodeSoundIn s.cast (noted s.history plan.note) (content_after (owner step) plan.write s.content) (owner step)
-      (option_map (changed plan.change) (node s (owner step)))
+-- a plan of the node p that keeps the state sound: all of it speaks of what p works with, of what is stored of it, of
+-- the history and of what is sent
+pub record Keeps (s : State) (p : NodeId) (plan : Plan) : Type 0 where
+  pub may : MayNote s.cast s.history p plan.note
+  pub sends : SendWell s.cast.shards (noted s.history plan.note) p plan.send
+  pub noes : NoesStay s.content (content_after p plan.write s.content)
+  pub sound : NodeSoundIn s.cast (noted s.history plan.note) (content_after p plan.write s.content) p (option_map (changed plan.change) (node s p))
 
 -- a No that comes takes nothing away
 stored-later : (cast : Cast) (p : NodeId) (acts : List Act) (old : Option Ckpt) (taken : Option Tentative) (before after : Option Verdict)
@@ -90,7 +89,7 @@ sound-later cast h c d note p acts node row stays sound =
 
 -- ---- all
 
-applied-nodes : (s : State) (step : Step) (plan : Plan) → IsSound s → Keeps s step plan → (q : NodeId)
+applied-nodes : (s : State) (step : Step) (plan : Plan) → IsSound s → Keeps s (owner step) plan → (q : NodeId)
     → NodeSoundIn s.cast (noted s.history plan.note) (content_after (owner step) plan.write s.content) q (node (applied s step plan) q)
 applied-nodes s step plan sound keeps q = elim (cases_eq (node_index (owner step)) (node_index q)) [
   | inl e ↦ subst At (node_index-injective (owner step) q e) own
@@ -119,7 +118,7 @@ applied-nodes s step plan sound keeps q = elim (cases_eq (node_index (owner step
     own =
         subst (NodeSoundIn s.cast (noted s.history plan.note) (content_after (owner step) plan.write s.content) (owner step)) (sym (applied-owner s step plan)) keeps.sound
 
-applied-carries : (s : State) (step : Step) (plan : Plan) → IsSound s → Keeps s step plan → (p q : NodeId) (m : Message) → Contains (link (applied s step plan) p q) m
+applied-carries : (s : State) (step : Step) (plan : Plan) → IsSound s → Keeps s (owner step) plan → (p q : NodeId) (m : Message) → Contains (link (applied s step plan) p q) m
     → Carries s.cast.shards (noted s.history plan.note) p q m
 applied-carries s step plan sound keeps p q m c =
     elim (sent-cases (link_place s.cast) (taken_off (link_place s.cast) s.links step) (owner step) plan.send (link_place s.cast p q) m c) [
@@ -131,7 +130,7 @@ applied-carries s step plan sound keeps p q m c =
           subst (λ x. Carries s.cast.shards (noted s.history plan.note) p x m) ends.1 (subst (λ x. Carries s.cast.shards (noted s.history plan.note) x new.to m) ends.0 well)
     ]
 
-pub applied-sound : (s : State) (step : Step) (plan : Plan) → IsSound s → Keeps s step plan → IsSound (applied s step plan)
+pub applied-sound : (s : State) (step : Step) (plan : Plan) → IsSound s → Keeps s (owner step) plan → IsSound (applied s step plan)
 applied-sound s step plan sound keeps = record {
   legal = noted-legal s.cast s.history (owner step) plan.note sound.legal keeps.may;
   well_formed = noted-well_formed s.cast s.history (owner step) plan.note sound.well_formed keeps.may;

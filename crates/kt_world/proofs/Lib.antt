@@ -7,3 +7,5 @@ pub mod OnLinks
 pub mod Contents
 pub mod Applying
 pub mod Saved
+pub mod Growing
+pub mod ActKeeps
