@@ -58,12 +58,6 @@ act_keeps s p n old t send a sound alive up works same fewer well = record {
   sound = subst Of (sym alive) (subst Acts (sym line) now);
 }
   where
-    acts : List Act
-    acts = acts_in_line s.history p
-
-    h : List Note
-    h = s.history ++ notes.Act a ∷ []
-
     Of : Option Node → Type 0
     Of row = NodeSoundIn s.cast (s.history ++ notes.Act a ∷ []) s.content p (option_map (changed (changes.Turn t)) row)
 

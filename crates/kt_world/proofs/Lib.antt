@@ -9,3 +9,5 @@ pub mod Applying
 pub mod Saved
 pub mod Growing
 pub mod ActKeeps
+pub mod WorkerPlans
+pub mod ShardPlans
