@@ -11,3 +11,4 @@ pub mod Growing
 pub mod ActKeeps
 pub mod WorkerPlans
 pub mod ShardPlans
+pub mod ActLeaves
