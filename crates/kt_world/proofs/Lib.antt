@@ -12,3 +12,4 @@ pub mod ActKeeps
 pub mod WorkerPlans
 pub mod ShardPlans
 pub mod ActLeaves
+pub mod Turns
