@@ -13,3 +13,4 @@ pub mod WorkerPlans
 pub mod ShardPlans
 pub mod ActLeaves
 pub mod Turns
+pub mod QuietLeaves
