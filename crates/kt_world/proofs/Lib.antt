@@ -14,3 +14,4 @@ pub mod ShardPlans
 pub mod ActLeaves
 pub mod Turns
 pub mod QuietLeaves
+pub mod CheckLeaves
