@@ -15,3 +15,5 @@ pub mod ActLeaves
 pub mod Turns
 pub mod QuietLeaves
 pub mod CheckLeaves
+pub mod Cutting
+pub mod FailLeaves
