@@ -17,3 +17,4 @@ pub mod QuietLeaves
 pub mod CheckLeaves
 pub mod Cutting
 pub mod FailLeaves
+pub mod RollLeaves
