@@ -18,3 +18,4 @@ pub mod CheckLeaves
 pub mod Cutting
 pub mod FailLeaves
 pub mod RollLeaves
+pub mod StepSound
