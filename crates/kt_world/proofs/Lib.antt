@@ -19,3 +19,4 @@ pub mod Cutting
 pub mod FailLeaves
 pub mod RollLeaves
 pub mod StepSound
+pub mod Opened
