@@ -20,3 +20,5 @@ pub mod FailLeaves
 pub mod RollLeaves
 pub mod StepSound
 pub mod Opened
+pub mod Headlines
+pub mod LinesAfter

@@ -10,3 +10,4 @@ pub mod Effect
 pub mod Reached
 pub mod Ready
 pub mod Backed
+pub mod Headline
