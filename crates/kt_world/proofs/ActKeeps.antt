@@ -1,5 +1,5 @@
 -- A plan that notes an act of a node that is up keeps the state sound where the act does.
-use Rattle.std.proofs.Common.{◌≡◌, ◌≢◌, ℕ, ◌+◌, List, [], ◌∷◌, ◌++◌, length, Contains, Option, Some, None, refl, sym, ap, ◌∙◌, subst}
+use Rattle.std.proofs.Common.{◌≡◌, ◌≢◌, List, [], ◌∷◌, ◌++◌, length, Contains, Option, Some, None, sym, ap, ◌∙◌, subst}
 use Rattle.std.specs.Option.{option_map}
 use Rattle.kt_tuple.specs.declared.node.NodeId.{NodeId}
 use Rattle.kt_tuple.specs.declared.node.NodeId.TheVariants as ids
@@ -12,24 +12,21 @@ use Rattle.kt_history.proofs.Fronts.{acts_in_line-own_act}
 use Rattle.kt_store.specs.Content.{row_of, verdict_on}
 use Rattle.kt_node.specs.declared.message.Message.{Message}
 use Rattle.kt_node.specs.declared.message.Post.{Post}
-use Rattle.kt_node.specs.declared.live.Phase.{Phase}
 use Rattle.kt_node.specs.declared.live.Phase.TheVariants as phases
 use Rattle.kt_node.specs.declared.change.Turn.{Turn}
 use Rattle.kt_node.specs.declared.change.KeptChange.{KeptChange}
 use Rattle.kt_node.specs.declared.change.Change.TheVariants as changes
-use Rattle.kt_node.specs.declared.plan.Plan.{Plan}
-use Rattle.kt_node.specs.Node.{Body, Live, Node, Down, Alive}
+use Rattle.kt_node.specs.Node.{Body, Live, Node, Alive}
 use Rattle.kt_node.specs.Turning.{changed, changed_body, changed_kept, phase_in, turned}
 use Rattle.kt_world.specs.Cast.{Cast, script_at}
-use Rattle.kt_world.specs.State.{State, node}
+use Rattle.kt_world.specs.State.{State}
 use Rattle.kt_world.specs.Asks.{setting_of}
-use Rattle.kt_world.specs.Effect.{noted}
 use Rattle.kt_lines.proofs.Growth.{MayMake}
 use Rattle.kt_world.proofs.Plans.{IsAlive}
 use Rattle.kt_world.proofs.Sound.{IsBodyLike, acts_held, EndsRolling, IsNodeSound, NodeSoundIn, IsSound, SendWell}
 use Rattle.kt_world.proofs.NoteSound.{noted-says}
 use Rattle.kt_world.proofs.Applying.{Keeps}
-use Rattle.kt_world.proofs.Growing.{stored-push}
+use Rattle.kt_world.proofs.StoredFronts.{stored-push}
 
 -- the node p may make the act, which makes this of what it works with, and this is sent
 pub record ActWell (cast : Cast) (h : List Note) (p : NodeId) (becomes : Body) (send : List (NodeId × Message)) (a : Act) : Type 0 where

@@ -1,5 +1,5 @@
 -- The plans that note an act keep a state sound: a worker issues and repeats, a shard serves, and each hears.
-use Rattle.std.proofs.Common.{◌≡◌, ◌≢◌, ℕ, ◌<◌, ◌≤◌, ◌∷◌, Bool, true, false, cond, List, [], drop, Contains, Option, Some, None, Ok, refl, sym, ap, ◌∙◌, subst, ltb}
+use Rattle.std.proofs.Common.{◌≡◌, ◌≢◌, ℕ, ◌≤◌, ◌∷◌, Bool, true, false, cond, List, Contains, Option, Some, None, Ok, refl, sym, subst, ltb}
 use Rattle.std.specs.Prelude.{IfSome, is_some, IsTrue, ◌&&◌, ◌||◌}
 use Rattle.std.proofs.lemmas.Bool.{ltb-true, ltb-false}
 use Rattle.kt_tuple.specs.declared.node.NodeId.{NodeId}
@@ -26,15 +26,15 @@ use Rattle.kt_node.specs.declared.message.Message.TheVariants as messages
 use Rattle.kt_node.specs.declared.live.Phase.TheVariants as phases
 use Rattle.kt_node.specs.declared.change.KeptChange.{KeptChange}
 use Rattle.kt_node.specs.declared.change.KeptChange.TheVariants as keeps
-use Rattle.kt_node.specs.Node.{Body, IsWorker, IsShard, Live, Node, Alive, node_number, next_label}
+use Rattle.kt_node.specs.Node.{Body, IsWorker, IsShard, Live, Node, node_number, next_label}
 use Rattle.kt_node.specs.declared.change.BodyChange.TheVariants as bodies
 use Rattle.kt_lines.specs.ShardLine.{shard_of_acts, new_shard}
 use Rattle.kt_lines.specs.WorkerLine.{worker_of_acts, new_worker}
 use Rattle.kt_node.specs.Talking.{hearing, note_of, issue_plan, repeat_plan, service_plan, request_plan, reply_plan, talk_plan, heard_plan}
 use Rattle.kt_world.specs.Cast.{Cast, script_at, is_worker, is_shard, are_neighbours}
-use Rattle.kt_world.specs.State.{State, node, link, role_of, view}
+use Rattle.kt_world.specs.State.{State, role_of, view}
 use Rattle.kt_world.specs.Asks.{script_numbered}
-use Rattle.kt_world.specs.Ready.{AreNeighbours, IsNodeReady, IsReady}
+use Rattle.kt_world.specs.Ready.{IsNodeReady, IsReady}
 use Rattle.kt_world.proofs.Plans.{IsAlive, Comes}
 use Rattle.kt_world.proofs.Sound.{IsBodyLike, IsWorkerLike, IsShardLike, IsRequestOf, IsReplyOf, SaysSo, Carries, KeepsSo, NodeSoundIn, IsSound}
 use Rattle.kt_world.proofs.OnLinks.{Contains-tail}

@@ -1,6 +1,6 @@
 -- To carry out a plan changes its owner, the links of the owner, what is stored of the owner, the board and the history
 -- alone; so a plan that keeps its owner sound keeps the state sound.
-use Rattle.std.proofs.Common.{◌≡◌, ◌≢◌, ℕ, ◌≤◌, List, Contains, length, Option, Some, None, inl, inr, refl, sym, ap, ◌∙◌, subst}
+use Rattle.std.proofs.Common.{◌≡◌, ◌≢◌, ℕ, List, Contains, length, Option, Some, None, inl, inr, sym, ap, subst}
 use Rattle.std.specs.Option.{option_map}
 use Rattle.std.proofs.lemmas.Bool.{cases_eq}
 use Rattle.kt_tuple.specs.declared.node.NodeId.{NodeId}
@@ -30,7 +30,7 @@ use Rattle.kt_lines.proofs.Lists.{all-at}
 use Rattle.kt_world.proofs.OnLinks.{taken_off-was, sent-cases, sent_between}
 use Rattle.kt_world.proofs.NoteSound.{noted-legal, noted-well_formed, noted-others, noted-carries, noted-kept}
 use Rattle.kt_world.proofs.Contents.{other-rows}
-use Rattle.kt_world.proofs.Sound.{Carries, EndsDown, Ends, IsNotNo, IsStored, IsNodeSound, NodeSoundIn, IsSound, MayNote, SendWell, NoesStay}
+use Rattle.kt_world.proofs.Sound.{Carries, EndsDown, Ends, IsStored, IsNodeSound, NodeSoundIn, IsSound, MayNote, SendWell, NoesStay}
 
 -- ---- what becomes of the nodes
 

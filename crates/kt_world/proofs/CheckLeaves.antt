@@ -1,13 +1,11 @@
 -- The plans of checks keep a state sound: a node takes its tentative checkpoint, and learns what becomes of it.
-use Rattle.std.proofs.Common.{◌≡◌, ℕ, ◌≤◌, ◌∷◌, Bool, true, false, List, [], length, Contains, Option, Some, None, Ok, refl, sym, ap, ◌∙◌, subst, arith}
+use Rattle.std.proofs.Common.{◌≡◌, ℕ, ◌∷◌, Bool, true, false, List, [], Contains, Option, Some, None, refl, sym, ap, ◌∙◌, subst, arith}
 use Rattle.std.specs.Prelude.{IfSome, unwrap_or}
 use Rattle.kt_tuple.specs.declared.node.NodeId.{NodeId}
-use Rattle.kt_tuple.specs.declared.node.NodeId.TheVariants as ids
 use Rattle.kt_history.specs.declared.note.Act.{Act}
 use Rattle.kt_history.specs.Closed.{acts_in_line}
 use Rattle.kt_history.proofs.Lists.{Contains-here}
 use Rattle.kt_link.specs.Network.{entry_at}
-use Rattle.kt_shard.specs.Table.{at}
 use Rattle.kt_ckpt.specs.declared.ckpt.Ckpt.{Ckpt}
 use Rattle.kt_ckpt.specs.declared.marks.Marks.{Marks}
 use Rattle.kt_store.specs.declared.rows.Tentative.{Tentative}
@@ -22,70 +20,57 @@ use Rattle.kt_node.specs.declared.message.Message.{Message}
 use Rattle.kt_node.specs.declared.message.Message.TheVariants as messages
 use Rattle.kt_node.specs.declared.live.Phase.{Phase}
 use Rattle.kt_node.specs.declared.live.Phase.TheVariants as phases
-use Rattle.kt_node.specs.declared.plan.Write.{Write}
 use Rattle.kt_node.specs.declared.plan.Write.TheVariants as writes
-use Rattle.kt_node.specs.Node.{Body, Live, Node, Down, Alive, poll_in}
-use Rattle.kt_node.specs.State.{body_fields, body_from}
+use Rattle.kt_node.specs.Node.{Live, Node, Down, Alive, poll_in}
 use Rattle.kt_node.specs.Voting.{casting}
-use Rattle.kt_node.specs.Joining.{asker_of, cohort, checkpoint_now, held_plan, begin_check_plan, join_check_plan}
+use Rattle.kt_node.specs.Joining.{asker_of, cohort, checkpoint_now, begin_check_plan, join_check_plan}
 use Rattle.kt_node.specs.Learning.{held_learns}
 use Rattle.kt_node.specs.Deciding.{settled}
 use Rattle.kt_world.specs.declared.step.Step.TheVariants.{Learn}
 use Rattle.kt_world.specs.Cast.{Cast}
-use Rattle.kt_world.specs.State.{State, node, link, link_place, role_of, view}
+use Rattle.kt_world.specs.State.{State, link_place, view}
 use Rattle.kt_world.specs.Told.{of_poll, to_learn, verdict_for}
-use Rattle.kt_world.specs.Ready.{IsReady}
 use Rattle.kt_world.specs.Backed.{IsTakenIn, IsPhaseBacked, IsNodeBacked, IsBoards, IsBacked}
 use Rattle.kt_world.proofs.Plans.{IsAlive, Comes}
-use Rattle.kt_world.proofs.Sound.{acts_held, IsFront, IsNotNo, IsStored, IsSound, SendWell}
+use Rattle.kt_world.proofs.Sound.{IsFront, IsNotNo, IsStored, IsSound, SendWell}
 use Rattle.kt_world.proofs.NoteSound.{line-long}
-use Rattle.kt_world.proofs.Contents.{SaysNoYes}
 use Rattle.kt_world.proofs.Applying.{Keeps}
-use Rattle.kt_world.proofs.Saved.{loaded_like}
-use Rattle.kt_world.proofs.Growing.{front-now}
+use Rattle.kt_world.proofs.StoredFronts.{front-now}
 use Rattle.kt_world.proofs.ActLeaves.{alive_like, alive_keeps}
-use Rattle.kt_world.proofs.Turns.{StoredThen, check_asks_well, alive_was, of_ballot, turn_keeps}
-
--- who a node is
-pub role_id : (cast : Cast) (p : NodeId) → (role_of cast p).id ≡ p
-role_id cast (ids.Worker w) = refl
-role_id cast (ids.Shard r) = refl
+use Rattle.kt_world.proofs.Turns.{check_asks_well, alive_was, turn_keeps}
 
 -- ---- a tentative checkpoint is taken
 
 -- the checkpoint of this moment holds the whole line
-saved_now : (s : State) → IsReady s → IsSound s → (p : NodeId) (n : Live) → IsAlive s p n → IsFront s.cast p (acts_in_line s.history p) (Some (checkpoint_now (view s p) n))
-saved_now s ready sound p n alive =
-    front-now s.cast p (acts_in_line s.history p) (checkpoint_now (view s p) n) (sym (line-long s.history p))
-    (λ b e.
-    let From : NodeId → Type 0 = λ q. body_from (role_of s.cast p) (view s p).line_len q (body_fields n.body) ≡ Ok b in
-    loaded_like s.cast ready.cast p (acts_in_line s.history p) (view s p).line_len n.body b (alive_like s sound p n alive) (subst From (role_id s.cast p) e))
+saved_now : (s : State) → IsSound s → (p : NodeId) (n : Live) → IsAlive s p n → IsFront s.cast p (acts_in_line s.history p) (Some (checkpoint_now (view s p) n))
+saved_now s sound p n alive =
+    front-now s.cast p (acts_in_line s.history p) (checkpoint_now (view s p) n) n.body (sym (line-long s.history p)) refl (alive_like s sound p n alive)
 
 -- which is stored as the tentative one
-taken_stored : (s : State) → IsReady s → IsSound s → (p : NodeId) (n : Live) (instance : ℕ) (verdict : Option Verdict) → IsAlive s p n
+taken_stored : (s : State) → IsSound s → (p : NodeId) (n : Live) (instance : ℕ) (verdict : Option Verdict) → IsAlive s p n
     → IsStored s.cast p (acts_in_line s.history p) (row_of s.content p).permanent (Some (record { instance = instance; checkpoint = checkpoint_now (view s p) n })) verdict
-taken_stored s ready sound p n instance verdict alive =
+taken_stored s sound p n instance verdict alive =
     let was = (alive_was s sound p n alive).stored in record {
       permanent = was.permanent;
       tentative = λ fine. record {
-        front = saved_now s ready sound p n alive;
+        front = saved_now s sound p n alive;
         behind = let long = line-long s.history p in omega (arith, long, was.permanent.short);
       };
     }
 
-pub begins_check : (s : State) → IsReady s → IsSound s → (p : NodeId) (n : Live) (instance : ℕ) (permanent : Option Marks) → IsAlive s p n
+pub begins_check : (s : State) → IsSound s → (p : NodeId) (n : Live) (instance : ℕ) (permanent : Option Marks) → IsAlive s p n
     → Keeps s p (begin_check_plan (view s p) n instance permanent)
-begins_check s ready sound p n instance permanent alive =
+begins_check s sound p n instance permanent alive =
     let b : Poll = asking_poll instance n.incarnation None (cohort (view s p).role permanent n) in
     turn_keeps s p n _ _ (Some (writes.BeginCheck (checkpoint_now (view s p) n))) sound alive refl (alive_keeps s sound p n alive)
-    (check_asks_well s.cast.shards s.history p b.instance n b.asked (casting b)) tt (taken_stored s ready sound p n _ _ alive) tt
+    (check_asks_well s.cast.shards s.history p b.instance n b.asked (casting b)) tt (taken_stored s sound p n _ _ alive) tt
 
-pub joins_check : (s : State) → IsReady s → IsSound s → (p q : NodeId) (n : Live) (ask : Ask) (permanent : Option Marks) → IsAlive s q n
+pub joins_check : (s : State) → IsSound s → (p q : NodeId) (n : Live) (ask : Ask) (permanent : Option Marks) → IsAlive s q n
     → Keeps s q (join_check_plan (view s q) n p ask permanent)
-joins_check s ready sound p q n ask permanent alive =
+joins_check s sound p q n ask permanent alive =
     let b : Poll = asking_poll ask.instance n.incarnation (Some (asker_of p ask)) (cohort (view s q).role permanent n) in
     turn_keeps s q n _ _ (Some (writes.PutTentative ask.instance (checkpoint_now (view s q) n))) sound alive refl (alive_keeps s sound q n alive)
-    (check_asks_well s.cast.shards s.history q b.instance n b.asked (casting b)) tt (taken_stored s ready sound q n _ _ alive) tt
+    (check_asks_well s.cast.shards s.history q b.instance n b.asked (casting b)) tt (taken_stored s sound q n _ _ alive) tt
 
 -- ---- what becomes of it
 

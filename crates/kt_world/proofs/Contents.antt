@@ -1,27 +1,25 @@
 -- What a write makes of what is stored: the owner's row, the rows of others, and the verdicts.
-use Rattle.std.proofs.Common.{◌≡◌, ◌≢◌, ℕ, ◌+◌, ◌≤◌, ◌==◌, Bool, true, false, cond, List, [], ◌∷◌, map, Option, Some, None, inl, inr, refl, sym, ap, ◌∙◌, subst, arith}
+use Rattle.std.proofs.Common.{◌≡◌, ℕ, ◌+◌, ◌≤◌, ◌==◌, Bool, true, false, cond, List, [], ◌∷◌, map, Option, Some, None, inl, inr, refl, sym, ap, ◌∙◌, subst, arith}
 use Rattle.std.specs.Prelude.{fold, max}
 use Rattle.std.specs.List.{find}
 use Rattle.std.specs.Option.{option_map}
 use Rattle.std.proofs.lemmas.Bool.{cases_eq}
 use Rattle.kt_tuple.specs.declared.node.NodeId.{NodeId}
 use Rattle.kt_tuple.specs.Node.{node_eq, node_eq_decides}
-use Rattle.kt_ckpt.specs.declared.ckpt.Ckpt.{Ckpt}
 use Rattle.kt_store.specs.declared.rows.NodeRow.{NodeRow}
 use Rattle.kt_store.specs.declared.rows.Posted.{Posted}
 use Rattle.kt_store.specs.declared.rows.Purpose.{Purpose}
 use Rattle.kt_store.specs.declared.rows.Purpose.TheVariants as purposes
-use Rattle.kt_store.specs.declared.rows.Verdict.{Verdict}
 use Rattle.kt_store.specs.declared.rows.Verdict.TheVariants as verdicts
 use Rattle.kt_store.specs.Verdict.{verdict_from}
 use Rattle.kt_store.specs.Content.{Content, next_instance, posted, row_or, row_of, verdict_of}
-use Rattle.kt_store.specs.Changes.{storing, opening, taken, decided, deciding, promoted_from}
+use Rattle.kt_store.specs.Changes.{storing, opening, taken, decided, promoted_from}
 use Rattle.kt_store.specs.Others.{OtherNodesStay}
 use Rattle.kt_store.proofs.OtherNodes.{others_stay_of, stored_is_read}
-use Rattle.kt_store.proofs.OtherInstances.{others_begun, begun_is_read, others_decided, decided_is_read, nodes_stay}
+use Rattle.kt_store.proofs.OtherInstances.{others_begun, others_decided, decided_is_read, nodes_stay}
 use Rattle.kt_node.specs.declared.plan.Write.{Write}
 use Rattle.kt_node.specs.declared.plan.Write.TheVariants as writes
-use Rattle.kt_world.specs.Writing.{written, content_after}
+use Rattle.kt_world.specs.Writing.{content_after}
 use Rattle.kt_world.proofs.Sound.{NoesStay}
 
 -- ---- rows

@@ -1,5 +1,5 @@
 -- A plan that cuts its node's line keeps a state sound where what the node becomes and what is stored suit what is left.
-use Rattle.std.proofs.Common.{◌≡◌, ℕ, ◌+◌, ◌≤◌, Bool, true, false, if◌then◌else◌, List, [], ◌∷◌, ◌++◌, length, take, Contains, Option, Some, None, Result, Ok, Err, refl, sym, ap, ◌∙◌, subst, arith}
+use Rattle.std.proofs.Common.{◌≡◌, ℕ, ◌+◌, ◌≤◌, Bool, true, false, if◌then◌else◌, List, [], ◌∷◌, ◌++◌, length, take, Contains, Option, Some, None, Result, Ok, Err, refl, sym, ap, subst, arith}
 use Rattle.std.specs.Option.{option_map}
 use Rattle.std.proofs.lemmas.List.{length-take-le}
 use Rattle.kt_tuple.specs.declared.node.NodeId.{NodeId}
@@ -14,8 +14,7 @@ use Rattle.kt_ckpt.specs.Marks.{marks_of}
 use Rattle.kt_store.specs.declared.rows.NodeRow.{NodeRow}
 use Rattle.kt_store.specs.declared.rows.Tentative.{Tentative}
 use Rattle.kt_store.specs.declared.rows.Verdict.{Verdict}
-use Rattle.kt_store.specs.declared.rows.Verdict.TheVariants as verdicts
-use Rattle.kt_store.specs.Content.{row_of, verdict_on}
+use Rattle.kt_store.specs.Content.{verdict_on}
 use Rattle.kt_node.specs.declared.message.Message.{Message}
 use Rattle.kt_node.specs.declared.message.Post.{Post}
 use Rattle.kt_node.specs.declared.live.Phase.TheVariants as phases
@@ -24,7 +23,7 @@ use Rattle.kt_node.specs.declared.plan.Write.{Write}
 use Rattle.kt_node.specs.declared.refusal.Refusal.{Refusal}
 use Rattle.kt_node.specs.declared.refusal.Refusal.TheVariants as refusals
 use Rattle.kt_node.specs.declared.stored.Stored.{Stored}
-use Rattle.kt_node.specs.Node.{Body, Live, Node, Down, Alive}
+use Rattle.kt_node.specs.Node.{Body, Live, Node, Down}
 use Rattle.kt_node.specs.State.{body_at}
 use Rattle.kt_node.specs.View.{View}
 use Rattle.kt_node.specs.Stored.{acts_in, fits}
@@ -34,12 +33,12 @@ use Rattle.kt_node.specs.Turning.{changed}
 use Rattle.kt_world.specs.Cast.{Cast}
 use Rattle.kt_world.specs.State.{State, node, role_of}
 use Rattle.kt_world.specs.Writing.{content_after}
-use Rattle.kt_world.proofs.Sound.{KeepsSo, acts_held, EndsDown, IsFront, IsNotNo, IsStored, IsNodeSound, NodeSoundIn, IsSound, SendWell}
+use Rattle.kt_world.proofs.Sound.{KeepsSo, acts_held, EndsDown, IsNotNo, IsStored, IsNodeSound, NodeSoundIn, SendWell}
 use Rattle.kt_world.proofs.NoteSound.{line-long}
 use Rattle.kt_world.proofs.Contents.{own-row, SaysNoYes, noes-stay}
 use Rattle.kt_world.proofs.Applying.{Keeps}
-use Rattle.kt_world.proofs.Growing.{stored-cut}
-use Rattle.kt_world.proofs.CheckLeaves.{role_id}
+use Rattle.kt_world.proofs.StoredFronts.{stored-cut}
+use Rattle.kt_world.proofs.Saved.{role_id}
 use Rattle.kt_world.proofs.Turns.{row_then}
 
 -- the node p as it becomes and as it is stored suits the first so many acts of its line

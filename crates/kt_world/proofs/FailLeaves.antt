@@ -1,7 +1,7 @@
 -- The plans of failures and rollbacks keep a state sound: a node fails, learns while it is down, rolls back, and
 -- restarts.
-use Rattle.std.proofs.Common.{◌≡◌, ℕ, ◌+◌, ◌≤◌, ◌∷◌, ◌++◌, true, false, List, [], length, take, Option, Some, None, Ok, refl, sym, ap, ◌∙◌, subst, arith}
-use Rattle.std.specs.Prelude.{IfSome, is_some, unwrap_or}
+use Rattle.std.proofs.Common.{◌≡◌, ℕ, ◌≤◌, ◌∷◌, ◌++◌, true, List, [], length, take, Option, Some, None, refl, sym, ap, ◌∙◌, subst, arith}
+use Rattle.std.specs.Prelude.{IsTrue, is_some, unwrap_or}
 use Rattle.std.specs.Option.{option_map}
 use Rattle.kt_tuple.specs.declared.node.NodeId.{NodeId}
 use Rattle.kt_history.specs.declared.note.Act.{Act}
@@ -14,38 +14,29 @@ use Rattle.kt_store.specs.declared.rows.NodeRow.{NodeRow}
 use Rattle.kt_store.specs.declared.rows.Tentative.{Tentative}
 use Rattle.kt_store.specs.declared.rows.Verdict.{Verdict}
 use Rattle.kt_store.specs.declared.rows.Verdict.TheVariants as verdicts
-use Rattle.kt_store.specs.Verdict.{verdict_from}
 use Rattle.kt_store.specs.Changes.{promoted_from}
 use Rattle.kt_store.specs.Content.{Content, row_of, verdict_on}
-use Rattle.kt_vote.specs.Poll.{Poll}
-use Rattle.kt_node.specs.declared.message.Message.{Message}
-use Rattle.kt_node.specs.declared.live.Phase.{Phase}
-use Rattle.kt_node.specs.declared.live.Phase.TheVariants as phases
 use Rattle.kt_node.specs.declared.change.Change.TheVariants as changes
 use Rattle.kt_node.specs.declared.plan.Write.{Write}
 use Rattle.kt_node.specs.declared.plan.Write.TheVariants as writes
-use Rattle.kt_node.specs.Labels.{label_at}
-use Rattle.kt_node.specs.Node.{Live, Node, Down, Alive, neighbours}
+use Rattle.kt_node.specs.Node.{Live, Node, Down}
 use Rattle.kt_node.specs.Stored.{acts_in}
-use Rattle.kt_node.specs.Loading.{load}
-use Rattle.kt_node.specs.Learning.{restoring_plan, promote_down_plan, discard_down_plan}
+use Rattle.kt_node.specs.Learning.{promote_down_plan, discard_down_plan}
 use Rattle.kt_node.specs.Deciding.{settled}
-use Rattle.kt_node.specs.Failing.{fail_plan, line_left, restarter, restarting_plan}
+use Rattle.kt_node.specs.Failing.{fail_plan, line_left}
 use Rattle.kt_node.specs.Turning.{changed}
 use Rattle.kt_world.specs.declared.step.Step.TheVariants.{Learn}
-use Rattle.kt_world.specs.Cast.{Cast}
+use Rattle.kt_world.specs.Cast.{Cast, is_node}
+use Rattle.kt_world.specs.Ready.{IsReady}
 use Rattle.kt_world.specs.State.{State, node, view}
 use Rattle.kt_world.specs.Told.{marks_in, tentative_in, stored_of, to_learn, verdict_for}
 use Rattle.kt_world.specs.Writing.{content_after}
-use Rattle.kt_world.specs.Backed.{IsPhaseBacked, IsNodeBacked, IsBacked}
 use Rattle.kt_world.proofs.Plans.{IsAlive, IsDown}
-use Rattle.kt_world.proofs.Sound.{acts_held, EndsDown, EndsRolling, IsFront, IsNotNo, IsStored, IsNodeSound, NodeSoundIn, IsSound, SendWell, IsBodyLike}
+use Rattle.kt_world.proofs.Sound.{acts_held, EndsDown, IsFront, IsNotNo, IsStored, IsNodeSound, NodeSoundIn, IsSound}
 use Rattle.kt_world.proofs.Contents.{own-row, noes-stay}
-use Rattle.kt_world.proofs.Applying.{Keeps, sound-later}
-use Rattle.kt_world.proofs.Growing.{stored-cut, loaded-whole}
+use Rattle.kt_world.proofs.Applying.{Keeps}
 use Rattle.kt_world.proofs.CheckLeaves.{promoted_front, settled_is}
-use Rattle.kt_world.proofs.Cutting.{cut_keeps, held_marks, fallen, IsLoaded, loaded, loaded_so}
-use Rattle.kt_world.proofs.Turns.{alive_was, asks_well}
+use Rattle.kt_world.proofs.Cutting.{cut_keeps, held_marks, fallen}
 
 -- ---- a node fails
 
@@ -90,15 +81,26 @@ pub fails : (s : State) → IsSound s → (p : NodeId) (n : Live) → IsAlive s 
 fails s sound p n alive =
     let keep : ℕ = line_left (verdict_on s.content (row_of s.content p).tentative) (option_map marks_of (row_of s.content p).permanent) (tentative_in s.content p) in
     let left = leaves s.cast (s.history ++ notes.Cut p keep ∷ []) p (acts_in_line s.history p) (row_of s.content p).permanent (row_of s.content p).tentative
-        (verdict_on s.content (row_of s.content p).tentative) (sound.nodes p).stored in
+    (verdict_on s.content (row_of s.content p).tentative) (sound.nodes p).stored in
     cut_keeps s p keep changes.Fall [] None Down (ap (option_map (changed changes.Fall)) alive) left.short tt tt left.sound
 
 -- ---- a node that is down learns a verdict
 
-down_was : (s : State) → IsSound s → (p : NodeId) → IsDown s p → NodeSoundIn s.cast s.history s.content p (Some Down)
+-- a node of the scene that is down
+abbrev pub HasFallen : State → NodeId → Type 0
+HasFallen s p = node s p ≡ Some Down
+
+pub has_fallen : (s : State) → IsReady s → (p : NodeId) → IsTrue (is_node s.cast p) → IsDown s p → HasFallen s p
+has_fallen s ready p is down = by (node s p) (ready.there p ∙ is) down
+  where
+    by : (row : Option Node) → is_some row ≡ true → unwrap_or row Down ≡ Down → row ≡ Some Down
+    by None there e = absurd cc
+    by (Some x) there e = ap Some e
+
+down_was : (s : State) → IsSound s → (p : NodeId) → HasFallen s p → NodeSoundIn s.cast s.history s.content p (Some Down)
 down_was s sound p down = subst (NodeSoundIn s.cast s.history s.content p) down (sound.nodes p)
 
-pub learns_no_down : (s : State) → IsSound s → (p : NodeId) → IsDown s p → Keeps s p (discard_down_plan (view s p) (stored_of s.content p))
+pub learns_no_down : (s : State) → IsSound s → (p : NodeId) → HasFallen s p → Keeps s p (discard_down_plan (view s p) (stored_of s.content p))
 learns_no_down s sound p down =
     let old : Option Ckpt = (row_of s.content p).permanent in
     let acts : List Act = acts_in_line s.history p in
@@ -115,7 +117,7 @@ promoted_long : (long : ℕ) (old : Option Ckpt) (taken : Option Tentative) (ver
 promoted_long long old None verdict fine ends = ends
 promoted_long long old (Some t) verdict fine ends = ends fine
 
-pub learns_yes_down : (s : State) → IsSound s → (p : NodeId) → IsDown s p → settled (verdict_for s (Learn p)) ≡ Some true → Keeps s p promote_down_plan
+pub learns_yes_down : (s : State) → IsSound s → (p : NodeId) → HasFallen s p → settled (verdict_for s (Learn p)) ≡ Some true → Keeps s p promote_down_plan
 learns_yes_down s sound p down is =
     let write : Option Write = Some writes.Promote in
     let c : Content = content_after p write s.content in

@@ -7,7 +7,7 @@ pub mod OnLinks
 pub mod Contents
 pub mod Applying
 pub mod Saved
-pub mod Growing
+pub mod StoredFronts
 pub mod ActKeeps
 pub mod WorkerPlans
 pub mod ShardPlans
@@ -19,6 +19,6 @@ pub mod Cutting
 pub mod FailLeaves
 pub mod RollLeaves
 pub mod StepSound
-pub mod Opened
+pub mod OpenedSound
 pub mod Headlines
 pub mod LinesAfter

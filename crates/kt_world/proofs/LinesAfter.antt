@@ -6,14 +6,11 @@ use Rattle.std.proofs.lemmas.Bool.{cases_eq}
 use Rattle.kt_tuple.specs.declared.node.NodeId.{NodeId}
 use Rattle.kt_tuple.specs.Node.{node_index}
 use Rattle.kt_tuple.proofs.Nodes.{node_index-injective}
-use Rattle.kt_tuple.specs.declared.op.Answer.{Answer}
 use Rattle.kt_history.specs.declared.note.Act.{Act}
 use Rattle.kt_history.specs.declared.note.Note.{Note}
 use Rattle.kt_history.specs.declared.note.Note.TheVariants as notes
 use Rattle.kt_history.specs.Line.{line, same_node}
-use Rattle.kt_history.specs.Chronicle.{node_of}
 use Rattle.kt_history.proofs.Lines.{line-own_act, line-own_cut, line-other_act, line-other_cut}
-use Rattle.kt_worker.specs.declared.worker.Worker.{Worker}
 use Rattle.kt_worker.specs.Standing.{awaits}
 use Rattle.kt_shard.specs.declared.request.Request.{Request}
 use Rattle.kt_shard.specs.Arrival.{Arrival, Waits, Again, Ignored, arrival}
@@ -26,7 +23,7 @@ use Rattle.kt_node.specs.declared.change.KeptChange.TheVariants as keeps
 use Rattle.kt_node.specs.declared.plan.Plan.{Plan}
 use Rattle.kt_node.specs.Node.{Body, IsWorker, IsShard, Live}
 use Rattle.kt_node.specs.View.{View}
-use Rattle.kt_node.specs.Talking.{hearing, request_plan, reply_plan, talk_plan, heard_plan}
+use Rattle.kt_node.specs.Talking.{request_plan, talk_plan, heard_plan}
 use Rattle.kt_world.specs.declared.step.Step.{Step}
 use Rattle.kt_world.specs.declared.step.Step.TheVariants.{Issue, Repeat, Deliver, Take, Serve, Check, Decide, Abandon, Learn, Fail, Restart}
 use Rattle.kt_world.specs.declared.told.Told.{Told}

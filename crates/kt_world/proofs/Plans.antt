@@ -1,7 +1,7 @@
 -- The ways in which a step gets its plan, one for each leaf of the tables: what is known there, and the plan. Later
 -- proofs match these and never see the tests.
-use Rattle.std.proofs.Common.{◌≡◌, ℕ, Bool, true, false, List, [], ◌∷◌, Option, Some, None, Ok}
-use Rattle.std.specs.Prelude.{is_some, not, IsTrue}
+use Rattle.std.proofs.Common.{◌≡◌, ℕ, Bool, true, false, List, [], ◌∷◌, Some, None, Ok}
+use Rattle.std.specs.Prelude.{is_some, IsTrue}
 use Rattle.kt_tuple.specs.declared.node.NodeId.{NodeId}
 use Rattle.kt_tuple.specs.declared.op.Op.{Op}
 use Rattle.kt_worker.specs.declared.worker.Worker.{Worker}
@@ -21,10 +21,9 @@ use Rattle.kt_node.specs.declared.live.Phase.TheVariants as phases
 use Rattle.kt_node.specs.declared.change.KeptChange.TheVariants as keeps
 use Rattle.kt_node.specs.declared.change.Change.TheVariants as changes
 use Rattle.kt_node.specs.declared.plan.Plan.{Plan}
-use Rattle.kt_node.specs.Node.{Live, Node, Down, Alive, IsWorker, IsShard, node_number, worker_in, shard_in}
+use Rattle.kt_node.specs.Node.{Live, Down, Alive, IsWorker, IsShard, node_number}
 use Rattle.kt_node.specs.Plan.{empty_plan, no_turn}
 use Rattle.kt_node.specs.Stored.{fits, is_undecided}
-use Rattle.kt_node.specs.Steps.{first_kept}
 use Rattle.kt_node.specs.Posts.{keep_plan}
 use Rattle.kt_node.specs.Voting.{casting, poll_after, voted}
 use Rattle.kt_node.specs.Talking.{issue_plan, repeat_plan, service_plan, heard_plan}
@@ -45,9 +44,9 @@ use Rattle.kt_lines.specs.Cause.{cause_of_waiting}
 abbrev pub IsAlive : State → NodeId → Live → Type 0
 IsAlive s p n = node s p ≡ Some (Alive n)
 
--- p is down
+-- p is down, or no node
 abbrev pub IsDown : State → NodeId → Type 0
-IsDown s p = node s p ≡ Some Down
+IsDown s p = (view s p).node ≡ Down
 
 -- the first message of the link from p to q
 pub record Comes (s : State) (p q : NodeId) (message : Message) : Type 0 where

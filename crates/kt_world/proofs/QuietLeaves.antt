@@ -1,6 +1,6 @@
 -- The plans that note nothing and store nothing of their node keep a state sound: a message is kept back or dropped, an
 -- ask is answered, a node joins a rollback, votes are counted and cast, verdicts are written, a node is released.
-use Rattle.std.proofs.Common.{◌≡◌, ℕ, Bool, true, false, List, [], ◌∷◌, ◌++◌, length, Contains, Option, Some, None, inl, inr, refl, sym, ap, ◌∙◌, subst}
+use Rattle.std.proofs.Common.{◌≡◌, ℕ, Bool, true, false, List, [], ◌∷◌, ◌++◌, length, Option, Some, None, inl, inr, refl, sym, ◌∙◌, subst}
 use Rattle.std.specs.Prelude.{IsTrue}
 use Rattle.std.proofs.lemmas.List.Elements.{Contains-push_cases}
 use Rattle.kt_tuple.specs.declared.node.NodeId.{NodeId}
@@ -21,17 +21,17 @@ use Rattle.kt_node.specs.declared.live.Phase.{Phase}
 use Rattle.kt_node.specs.declared.live.Phase.TheVariants as phases
 use Rattle.kt_node.specs.declared.change.Change.TheVariants as changes
 use Rattle.kt_node.specs.declared.plan.Write.TheVariants as writes
-use Rattle.kt_node.specs.Node.{Live, Alive, poll_in}
-use Rattle.kt_node.specs.Plan.{empty_plan, no_turn}
+use Rattle.kt_node.specs.Node.{Live, poll_in}
+use Rattle.kt_node.specs.Plan.{no_turn}
 use Rattle.kt_node.specs.Stored.{is_undecided, sent_in}
 use Rattle.kt_node.specs.Posts.{keep_plan}
-use Rattle.kt_node.specs.Voting.{casting, poll_after, voted, vote_for, votes}
+use Rattle.kt_node.specs.Voting.{casting, poll_after, voted, vote_for}
 use Rattle.kt_node.specs.Joining.{asker_of, join_rollback_plan, roller}
-use Rattle.kt_node.specs.Learning.{release_plan, verdict_to}
+use Rattle.kt_node.specs.Learning.{release_plan}
 use Rattle.kt_node.specs.Arrivals.{answer_plan, sieved_answer_plan, voting_plan}
 use Rattle.kt_node.specs.Deciding.{decide_plan, no_plan, declined_plan}
 use Rattle.kt_world.specs.declared.step.Step.TheVariants.{Decide}
-use Rattle.kt_world.specs.State.{State, node, view}
+use Rattle.kt_world.specs.State.{State, view}
 use Rattle.kt_world.specs.Told.{verdict_for}
 use Rattle.kt_world.proofs.Plans.{IsAlive, Comes, Votes, holds, rolls}
 use Rattle.kt_world.proofs.Sound.{SaysSo, KeepsSo, acts_held, EndsRolling, IsSound, SendWell}

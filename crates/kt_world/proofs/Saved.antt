@@ -1,5 +1,5 @@
 -- What a node works with, saved in a checkpoint and loaded again, is like what it was like.
-use Rattle.std.proofs.Common.{◌≡◌, ◌≢◌, ℕ, zero, suc, ◌+◌, ◌<◌, ◌≤◌, ◌==◌, Bool, true, false, List, [], ◌∷◌, ◌++◌, length, map, Option, Some, None, Result, Ok, Err, inl, inr, refl, sym, ap, ◌∙◌, subst, ◌⊎◌, eq-eqb, ne_eqb, arith}
+use Rattle.std.proofs.Common.{◌≡◌, ◌≢◌, ℕ, zero, suc, ◌+◌, ◌<◌, ◌≤◌, ◌==◌, Bool, true, false, List, [], ◌∷◌, ◌++◌, length, map, Option, Some, None, Ok, inl, inr, refl, sym, ap, ◌∙◌, subst, ◌⊎◌, eq-eqb, ne_eqb, arith}
 use Rattle.std.specs.Prelude.{slice_get}
 use Rattle.std.specs.List.{find, flat_map}
 use Rattle.std.specs.Option.{option_map}
@@ -14,9 +14,8 @@ use Rattle.kt_shard.specs.declared.desk.Desk.{Desk}
 use Rattle.kt_shard.specs.Shard.{Shard, desk_of}
 use Rattle.kt_shard.specs.Table.{at}
 use Rattle.kt_shard.specs.Desk.{empty_desk}
-use Rattle.kt_node.specs.declared.refusal.Refusal.{Refusal}
 use Rattle.kt_node.specs.Labels.{numbers}
-use Rattle.kt_node.specs.Node.{Role, Body, IsWorker, IsShard}
+use Rattle.kt_node.specs.Node.{Body, IsWorker, IsShard}
 use Rattle.kt_node.specs.State.{entry, entries, entry_of, desk_with, shard_fields, shard_from, shard_fits, worker_fields, worker_fits, standing_from, body_fields, body_from, if_fits}
 use Rattle.kt_world.specs.Cast.{Cast, IsCast, script_at}
 use Rattle.kt_world.specs.State.{role_of}
@@ -140,6 +139,11 @@ shard_loaded scripts made y few like = record {
     outside w out = no_desk y w out ∙ sym (like.others w (no_script scripts w few out)) ∙ like.desks w
 
 -- ---- all
+
+-- who a node is
+pub role_id : (cast : Cast) (p : NodeId) → (role_of cast p).id ≡ p
+role_id cast (ids.Worker w) = refl
+role_id cast (ids.Shard r) = refl
 
 fitting : (fits : Bool) (body b : Body) → if_fits fits body ≡ Ok b → body ≡ b
 fitting true body b e = cc

@@ -1,6 +1,6 @@
 -- Sound states: the history is legal and well-formed, each message carries what its act says, and of each node what it
 -- works with and what is stored of it are like what its line, or the front of it, makes of it.
-use Rattle.std.proofs.Common.{◌≡◌, ℕ, ◌+◌, ◌≤◌, List, ◌∷◌, [], ◌++◌, length, take, Contains, Option, Some, None, Result, Ok, IsPermutation}
+use Rattle.std.proofs.Common.{◌≡◌, ℕ, ◌≤◌, List, length, take, Contains, Option, Some, None, IsPermutation}
 use Rattle.std.specs.Prelude.{IfSome}
 use Rattle.std.specs.List.{AllByRecursion}
 use Rattle.kt_tuple.specs.declared.node.NodeId.{NodeId}
@@ -32,8 +32,8 @@ use Rattle.kt_node.specs.declared.message.Message.{Message}
 use Rattle.kt_node.specs.declared.message.Message.TheVariants as messages
 use Rattle.kt_node.specs.declared.live.Phase.{Phase}
 use Rattle.kt_node.specs.declared.live.Phase.TheVariants as phases
-use Rattle.kt_node.specs.Node.{Body, IsWorker, IsShard, Node, Down, Alive}
-use Rattle.kt_node.specs.State.{body_at}
+use Rattle.kt_node.specs.Node.{Role, Body, IsWorker, IsShard, Node, Down, Alive, opening_body}
+use Rattle.kt_node.specs.State.{body_fields}
 use Rattle.kt_world.specs.Cast.{Cast, script_at}
 use Rattle.kt_world.specs.State.{State, node, link, role_of}
 use Rattle.kt_world.specs.Asks.{script_numbered, setting_of}
@@ -122,10 +122,17 @@ abbrev pub acts_held : Option Ckpt → ℕ
 acts_held None = 0
 acts_held (Some c) = c.line_len
 
--- the checkpoint holds the first of these acts, and what is loaded from it is like what those make of the node
+-- what the node worked with is what the checkpoint has of it
+abbrev pub IsSavedOf : Role → Option Ckpt → Body → Type 0
+IsSavedOf role None body = body ≡ opening_body role role.id
+IsSavedOf role (Some c) body = c.state ≡ body_fields body
+
+-- the checkpoint holds the first of these acts, and was taken of what is like what those make of the node
 pub record IsFront (cast : Cast) (p : NodeId) (acts : List Act) (stored : Option Ckpt) : Type 0 where
   pub short : acts_held stored ≤ length acts
-  pub like : (b : Body) → body_at (role_of cast p) stored ≡ Ok b → IsBodyLike cast.scripts p (take (acts_held stored) acts) b
+  pub body : Body
+  pub saved : IsSavedOf (role_of cast p) stored body
+  pub like : IsBodyLike cast.scripts p (take (acts_held stored) acts) body
 
 -- a tentative one holds no less than the permanent one
 pub record IsTentative (cast : Cast) (p : NodeId) (acts : List Act) (permanent : Option Ckpt) (c : Ckpt) : Type 0 where

@@ -1,29 +1,25 @@
 -- A plan that notes nothing keeps a state sound where what is kept, what is stored and the end of the line still suit.
-use Rattle.std.proofs.Common.{◌≡◌, ℕ, Bool, true, false, not, cond, List, [], ◌∷◌, ◌++◌, map, filter, length, Contains, Option, Some, None, inl, inr, refl, sym, ap, ◌∙◌, subst}
+use Rattle.std.proofs.Common.{◌≡◌, ℕ, Bool, true, false, not, cond, List, [], ◌∷◌, ◌++◌, filter, length, Contains, Option, Some, None, inl, inr, refl, sym, ap, ◌∙◌, subst}
 use Rattle.std.specs.Prelude.{unwrap_or}
 use Rattle.std.specs.Option.{option_map}
 use Rattle.kt_tuple.specs.declared.node.NodeId.{NodeId}
 use Rattle.kt_history.specs.declared.note.Note.{Note}
 use Rattle.kt_history.specs.Closed.{acts_in_line}
-use Rattle.kt_history.proofs.Lists.{Contains-none, Contains-here, Contains-there, Contains-cons_cases}
+use Rattle.kt_history.proofs.Lists.{Contains-here, Contains-there, Contains-cons_cases}
 use Rattle.kt_link.specs.declared.label.Label.{Label}
 use Rattle.kt_store.specs.declared.rows.NodeRow.{NodeRow}
-use Rattle.kt_store.specs.declared.rows.Verdict.TheVariants as verdicts
 use Rattle.kt_store.specs.Content.{Content, row_of, verdict_of, verdict_on}
 use Rattle.kt_vote.specs.declared.vote.Vote.{Vote}
 use Rattle.kt_vote.specs.Poll.{Poll}
 use Rattle.kt_node.specs.declared.message.Message.{Message}
 use Rattle.kt_node.specs.declared.message.Post.{Post}
 use Rattle.kt_node.specs.declared.live.Phase.{Phase}
-use Rattle.kt_node.specs.declared.live.Phase.TheVariants as phases
 use Rattle.kt_node.specs.declared.change.BodyChange.TheVariants as bodies
 use Rattle.kt_node.specs.declared.change.KeptChange.TheVariants as keeps
 use Rattle.kt_node.specs.declared.change.Turn.{Turn}
-use Rattle.kt_node.specs.declared.change.Change.{Change}
 use Rattle.kt_node.specs.declared.change.Change.TheVariants as changes
 use Rattle.kt_node.specs.declared.plan.Write.{Write}
 use Rattle.kt_node.specs.declared.plan.Write.TheVariants as writes
-use Rattle.kt_node.specs.declared.plan.Plan.{Plan}
 use Rattle.kt_node.specs.Node.{Body, IsWorker, IsShard, Live, Node, Down, Alive, poll_in, poll_of}
 use Rattle.kt_node.specs.Plan.{empty_plan}
 use Rattle.kt_node.specs.Voting.{votes}
@@ -34,7 +30,7 @@ use Rattle.kt_world.specs.State.{State, node, view}
 use Rattle.kt_world.specs.Told.{of_poll}
 use Rattle.kt_world.specs.Writing.{content_after}
 use Rattle.kt_world.proofs.Plans.{IsAlive}
-use Rattle.kt_world.proofs.Sound.{Carries, IsBodyLike, KeepsSo, acts_held, EndsRolling, IsStored, IsNodeSound, NodeSoundIn, IsSound, SendWell}
+use Rattle.kt_world.proofs.Sound.{IsBodyLike, KeepsSo, acts_held, EndsRolling, IsStored, IsNodeSound, NodeSoundIn, IsSound, SendWell}
 use Rattle.kt_world.proofs.Contents.{row_after, own-row, SaysNoYes, noes-stay}
 use Rattle.kt_world.proofs.Applying.{Keeps, sound-later}
 
@@ -147,7 +143,7 @@ pub deciding_keeps : (s : State) (p : NodeId) (n : Live) (t : Turn) (send : List
 deciding_keeps s p n t send instance agreed sound alive same so well says ends =
     let write : Option Write = Some (writes.Decide instance agreed) in
     let later = sound-later s.cast s.history s.content (content_after p write s.content) None p (acts_in_line s.history p) (Some (Alive n)) (row_of s.content p)
-        (noes-stay p write s.content says) (alive_was s sound p n alive) in
+    (noes-stay p write s.content says) (alive_was s sound p n alive) in
     turn_keeps s p n t send write sound alive same so well says later.stored ends
 
 -- a node that stays as it is, and writes nothing, or a verdict

@@ -1,5 +1,5 @@
 -- A world that was just opened is sound.
-use Rattle.std.proofs.Common.{Option, None, Some, if◌then◌else◌, ◌≡◌, ℕ, zero, suc, ◌+◌, ◌*◌, ◌<◌, ◌≤◌, Bool, true, false, List, [], ◌∷◌, ◌++◌, length, replicate, Contains, Ok, ◌⊎◌, inl, inr, refl, sym, ap, ◌∙◌, subst, length-append, arith}
+use Rattle.std.proofs.Common.{Option, None, Some, if◌then◌else◌, ◌≡◌, ℕ, zero, suc, ◌+◌, ◌*◌, ◌<◌, ◌≤◌, Bool, true, false, List, [], ◌∷◌, ◌++◌, length, replicate, Contains, ◌⊎◌, inl, inr, refl, sym, ap, ◌∙◌, subst, length-append, arith}
 use Rattle.std.proofs.lemmas.Bool.{cases_lt}
 use Rattle.std.proofs.lemmas.List.{get_or_past, get_or_append_left, get_or-append-add}
 use Rattle.std.proofs.lemmas.List.Sorted.{IsPermutation-refl}
@@ -15,7 +15,7 @@ use Rattle.kt_shard.specs.Desk.{empty_desk}
 use Rattle.kt_lines.proofs.Growth.{AreLegal-empty, acts_in_line-empty}
 use Rattle.kt_lines.proofs.WellFormed.{IsWellFormed-empty}
 use Rattle.kt_node.specs.declared.message.Message.{Message}
-use Rattle.kt_node.specs.Node.{Body, Node, opening_body, opening_node}
+use Rattle.kt_node.specs.Node.{Node, opening_body, opening_node}
 use Rattle.kt_world.specs.Limits.{rows}
 use Rattle.kt_world.specs.Cast.{Cast, is_node}
 use Rattle.kt_world.specs.Asks.{script_numbered, setting_of}
@@ -99,10 +99,8 @@ opening_like cast (ids.Shard r) =
     record { bag = IsPermutation-refl []; desks = λ w. at-replicate empty_desk desks w; others = λ w none. at-replicate empty_desk desks w }
 
 nothing_stored : (cast : Cast) (p : NodeId) → IsFront cast p [] None
-nothing_stored cast p = record {
-  short = omega arith;
-  like = λ b e. let same : opening_body (role_of cast p) (role_of cast p).id ≡ b = cc in subst (IsBodyLike cast.scripts p []) same (opening_like cast p);
-}
+nothing_stored cast p =
+    record { short = omega arith; body = opening_body (role_of cast p) (role_of cast p).id; saved = refl; like = opening_like cast p }
 
 node_sound : (cast : Cast) (p : NodeId) (there : Bool) → IsNodeSound cast [] p [] (if there then Some (opening_node (role_of cast p)) else None) None None None
 node_sound cast p true =
