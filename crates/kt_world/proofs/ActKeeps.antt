@@ -45,7 +45,8 @@ abbrev pub IsThere : Cast → NodeId → Type 0
 IsThere cast (ids.Worker w) = script_at cast.scripts w ≢ None
 IsThere cast (ids.Shard r) = Unit {0}
 
-pub act_keeps : (s : State) (p : NodeId) (n : Live) (old : Body) (t : Turn) (send : List (NodeId × Message)) (a : Act) → IsSound s → IsAlive s p n → n.phase ≡ phases.Up
+pub act_keeps : (s : State) (p : NodeId) (n : Live) (old : Body) (t : Turn) (send : List (NodeId × Message)) (a : Act) → IsSound s → IsAlive s p n
+    → n.phase ≡ phases.Up
     → n.body ≡ old → t.phase ≡ None → KeepsNoMore n t.kept → ActWell s.cast s.history p (changed_body old t.body) send a
     → Keeps s p (record { change = changes.Turn t; send = send; note = Some (notes.Act a); write = None })
 act_keeps s p n old t send a sound alive up works same fewer well = record {

@@ -87,21 +87,24 @@ stays n x c = c
 
 -- ---- the acts of a worker and of a shard that hear nothing
 
-pub issues : (s : State) → IsSound s → (p : NodeId) (n : Live) (x : Worker) (r : ℕ × Op) → IsTrue (is_worker s.cast p) → IsAlive s p n → n.phase ≡ phases.Up → n.body ≡ IsWorker x
+pub issues : (s : State) → IsSound s → (p : NodeId) (n : Live) (x : Worker) (r : ℕ × Op) → IsTrue (is_worker s.cast p) → IsAlive s p n → n.phase ≡ phases.Up
+    → n.body ≡ IsWorker x
     → next_request (role_of s.cast p).script x ≡ Some r → Keeps s p (issue_plan (view s p) n r (issued (role_of s.cast p).script x))
 issues s sound (ids.Shard q) n x r is alive up works next = absurd cc
 issues s sound (ids.Worker w) n x r is alive up works next =
     let like = subst (IsBodyLike s.cast.scripts (ids.Worker w) (acts_in_line s.history (ids.Worker w))) works (alive_like s sound (ids.Worker w) n alive) in
     act_keeps s (ids.Worker w) n (IsWorker x) _ _ _ sound alive up works refl (stays n) (issued_well s.cast s.history w x r (next_label n) like next)
 
-pub repeats : (s : State) → IsSound s → (p : NodeId) (n : Live) (x : Worker) (r : ℕ × Op) → IsTrue (is_worker s.cast p) → IsAlive s p n → n.phase ≡ phases.Up → n.body ≡ IsWorker x
+pub repeats : (s : State) → IsSound s → (p : NodeId) (n : Live) (x : Worker) (r : ℕ × Op) → IsTrue (is_worker s.cast p) → IsAlive s p n → n.phase ≡ phases.Up
+    → n.body ≡ IsWorker x
     → again_request x ≡ Some r → Keeps s p (repeat_plan (view s p) n r)
 repeats s sound (ids.Shard q) n x r is alive up works again = absurd cc
 repeats s sound (ids.Worker w) n x r is alive up works again =
     let like = subst (IsBodyLike s.cast.scripts (ids.Worker w) (acts_in_line s.history (ids.Worker w))) works (alive_like s sound (ids.Worker w) n alive) in
     act_keeps s (ids.Worker w) n (IsWorker x) _ _ _ sound alive up works refl (stays n) (repeated_well s.cast s.history w x r (next_label n) like again)
 
-pub serves : (s : State) → IsSound s → (p w : NodeId) (n : Live) (y : Shard) (place : ℕ) (v : Service) → IsTrue (is_shard s.cast p) → IsTrue (is_worker s.cast w) → IsAlive s p n
+pub serves : (s : State) → IsSound s → (p w : NodeId) (n : Live) (y : Shard) (place : ℕ) (v : Service) → IsTrue (is_shard s.cast p)
+    → IsTrue (is_worker s.cast w) → IsAlive s p n
     → n.phase ≡ phases.Up → n.body ≡ IsShard y → service y (node_number w) place ≡ Ok v
     → Keeps s p (service_plan (view s p) n (node_number w) (cause_of_waiting s.history p (node_number w)) v)
 serves s sound (ids.Worker q) w n y place v is there alive up works chosen = absurd cc
@@ -113,21 +116,28 @@ serves s sound (ids.Shard r) (ids.Worker w) n y place v is there alive up works 
 
 -- ---- hearing
 
-reply_keeps : (s : State) → IsSound s → (w r : ℕ) (n : Live) (x : Worker) (kept : KeptChange) (post : Post) (request : Request) (answer : Answer) → IsAlive s (ids.Worker w) n → n.phase ≡ phases.Up
-    → n.body ≡ IsWorker x → KeepsNoMore n kept → IsWorkerLike (script_numbered s.cast.scripts w) (worker_of_acts new_worker (acts_in_line s.history (ids.Worker w))) x
+reply_keeps : (s : State) → IsSound s → (w r : ℕ) (n : Live) (x : Worker) (kept : KeptChange) (post : Post) (request : Request) (answer : Answer)
+    → IsAlive s (ids.Worker w) n → n.phase ≡ phases.Up
+    → n.body ≡ IsWorker x → KeepsNoMore n kept
+    → IsWorkerLike (script_numbered s.cast.scripts w) (worker_of_acts new_worker (acts_in_line s.history (ids.Worker w))) x
     → IsReplyOf s.history r w request answer post.by → Keeps s (ids.Worker w) (reply_plan (view s (ids.Worker w)) x kept (ids.Shard r) post request answer)
 reply_keeps s sound w r n x kept post request answer alive up works fewer like says = by (awaits x request.number request.op) refl
   where
     by : (b : Bool) → awaits x request.number request.op ≡ b → Keeps s (ids.Worker w) (cond b
-        (hearing kept (ids.Shard r) post.label (bodies.Work (heard (script_numbered s.cast.scripts w) x answer)) (note_of (ids.Worker w) post.by w request (whats.Accepted answer)))
+        (hearing kept (ids.Shard r) post.label (bodies.Work (heard (script_numbered s.cast.scripts w) x answer))
+        (note_of (ids.Worker w) post.by w request (whats.Accepted answer)))
         (hearing kept (ids.Shard r) post.label bodies.Stay (note_of (ids.Worker w) post.by w request (whats.Ignored (Some answer)))))
     by true e =
-        act_keeps s (ids.Worker w) n (IsWorker x) _ _ _ sound alive up works refl fewer (accepted_well s.cast s.history r w x request answer post.by like says e)
+        act_keeps s (ids.Worker w) n (IsWorker x) _ _ _ sound alive up works refl fewer
+        (accepted_well s.cast s.history r w x request answer post.by like says e)
     by false e =
-        act_keeps s (ids.Worker w) n (IsWorker x) _ _ _ sound alive up works refl fewer (workers.ignored_well s.cast s.history r w x request answer post.by like says e)
+        act_keeps s (ids.Worker w) n (IsWorker x) _ _ _ sound alive up works refl fewer
+        (workers.ignored_well s.cast s.history r w x request answer post.by like says e)
 
-request_keeps : (s : State) → IsSound s → (r w : ℕ) (n : Live) (y : Shard) (kept : KeptChange) (post : Post) (request : Request) → IsAlive s (ids.Shard r) n → n.phase ≡ phases.Up
-    → n.body ≡ IsShard y → KeepsNoMore n kept → script_at s.cast.scripts w ≢ None → IsShardLike s.cast.scripts (shard_of_acts new_shard (acts_in_line s.history (ids.Shard r))) y
+request_keeps : (s : State) → IsSound s → (r w : ℕ) (n : Live) (y : Shard) (kept : KeptChange) (post : Post) (request : Request) → IsAlive s (ids.Shard r) n
+    → n.phase ≡ phases.Up
+    → n.body ≡ IsShard y → KeepsNoMore n kept → script_at s.cast.scripts w ≢ None
+    → IsShardLike s.cast.scripts (shard_of_acts new_shard (acts_in_line s.history (ids.Shard r))) y
     → IsRequestOf s.cast.shards s.history w r request post.by
     → Keeps s (ids.Shard r) (request_plan (view s (ids.Shard r)) n kept (ids.Worker w) post request (arrival y w request))
 request_keeps s sound r w n y kept post request alive up works fewer there like says = decide (ltb (newest (desk_of y w)) request.number) refl
@@ -142,14 +152,18 @@ request_keeps s sound r w n y kept post request alive up works fewer there like 
         (again_well s.cast s.history w r y request answer post.by (next_label n) like says (kept_answer-is (desk_of y w) request answer again))
 
     decide : (b : Bool) → ltb (newest (desk_of y w)) request.number ≡ b
-        → Keeps s (ids.Shard r) (request_plan (view s (ids.Shard r)) n kept (ids.Worker w) post request (cond b Waits (again_or_ignored (kept_answer (desk_of y w) request))))
+        → Keeps s (ids.Shard r)
+        (request_plan (view s (ids.Shard r)) n kept (ids.Worker w) post request (cond b Waits (again_or_ignored (kept_answer (desk_of y w) request))))
     decide true e =
-        act_keeps s (ids.Shard r) n (IsShard y) _ _ _ sound alive up works refl fewer (heard_well s.cast s.history w r y request post.by like says there (ltb-true _ _ e))
+        act_keeps s (ids.Shard r) n (IsShard y) _ _ _ sound alive up works refl fewer
+        (heard_well s.cast s.history w r y request post.by like says there (ltb-true _ _ e))
     decide false e = old (kept_answer (desk_of y w) request) refl (ltb-false _ _ e)
 
 -- whatever is heard was said so, by a node of the other kind
-talk_keeps : (s : State) → IsSound s → (p from : NodeId) (n : Live) (kept : KeptChange) (post : Post) (body : Body) (talk : Talk) → IsAlive s p n → n.phase ≡ phases.Up → n.body ≡ body
-    → KeepsNoMore n kept → IsThere s.cast from → IsBodyLike s.cast.scripts p (acts_in_line s.history p) body → SaysSo s.cast.shards s.history from p talk post.by
+talk_keeps : (s : State) → IsSound s → (p from : NodeId) (n : Live) (kept : KeptChange) (post : Post) (body : Body) (talk : Talk) → IsAlive s p n
+    → n.phase ≡ phases.Up → n.body ≡ body
+    → KeepsNoMore n kept → IsThere s.cast from → IsBodyLike s.cast.scripts p (acts_in_line s.history p) body
+    → SaysSo s.cast.shards s.history from p talk post.by
     → Keeps s p (talk_plan (view s p) n kept from post body talk)
 talk_keeps s sound (ids.Worker w) (ids.Worker v) n kept post body talk alive up works fewer there like says = absurd says
 talk_keeps s sound (ids.Shard r) (ids.Shard q) n kept post body talk alive up works fewer there like says = absurd says
@@ -162,7 +176,8 @@ talk_keeps s sound (ids.Shard r) (ids.Worker w) n kept post (IsShard y) (talks.R
 talk_keeps s sound (ids.Shard r) (ids.Worker w) n kept post (IsShard y) (talks.Request request) alive up works fewer there like says =
     request_keeps s sound r w n y kept post request alive up works fewer there like says
 
-heard_keeps : (s : State) → IsSound s → (p from : NodeId) (n : Live) (kept : KeptChange) (post : Post) → IsAlive s p n → n.phase ≡ phases.Up → KeepsNoMore n kept → IsThere s.cast from
+heard_keeps : (s : State) → IsSound s → (p from : NodeId) (n : Live) (kept : KeptChange) (post : Post) → IsAlive s p n → n.phase ≡ phases.Up
+    → KeepsNoMore n kept → IsThere s.cast from
     → SaysSo s.cast.shards s.history from p post.talk post.by → Keeps s p (heard_plan (view s p) n kept from post)
 heard_keeps s sound p from n kept post alive up fewer there says =
     talk_keeps s sound p from n kept post n.body post.talk alive up refl fewer there (alive_like s sound p n alive) says
@@ -174,13 +189,16 @@ comes_so s sound p q m comes = sound.carries p q m (subst (λ l. Contains l m) (
 pub hears : (s : State) → IsSound s → (p q : NodeId) (n : Live) (post : Post) → Comes s p q (messages.Post post) → IsAlive s q n → n.phase ≡ phases.Up
     → Keeps s q (heard_plan (view s q) n keeps.Stay p post)
 hears s sound p q n post comes alive up =
-    heard_keeps s sound q p n keeps.Stay post alive up (stays n) (neighbour-there s.cast p q comes.neighbours).0 (comes_so s sound p q (messages.Post post) comes)
+    heard_keeps s sound q p n keeps.Stay post alive up (stays n) (neighbour-there s.cast p q comes.neighbours).0
+    (comes_so s sound p q (messages.Post post) comes)
 
-pub takes : (s : State) → IsReady s → IsSound s → (p from : NodeId) (n : Live) (post : Post) (later : List (NodeId × Post)) → IsAlive s p n → n.phase ≡ phases.Up → n.kept ≡ (from, post) ∷ later
+pub takes : (s : State) → IsReady s → IsSound s → (p from : NodeId) (n : Live) (post : Post) (later : List (NodeId × Post)) → IsAlive s p n
+    → n.phase ≡ phases.Up → n.kept ≡ (from, post) ∷ later
     → Keeps s p (heard_plan (view s p) n keeps.TakeFirst from post)
 takes s ready sound p from n post later alive up first =
     let stands : Contains n.kept (from, post) = subst (λ l. Contains l (from, post)) (sym first) (Contains-here (from, post) later) in
     let Ready : Option Node → Type 0 = λ row. IfSome row (IsNodeReady s.cast s.history s.made p) in
     let live = subst Ready alive (ready.nodes p) in
-    heard_keeps s sound p from n keeps.TakeFirst post alive up (λ x c. Contains-tail n.kept x c) (neighbour-there s.cast p from (live.kept (from, post) stands).from).1
+    heard_keeps s sound p from n keeps.TakeFirst post alive up (λ x c. Contains-tail n.kept x c)
+    (neighbour-there s.cast p from (live.kept (from, post) stands).from).1
     (alive_keeps s sound p n alive (from, post) stands)

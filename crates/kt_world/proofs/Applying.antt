@@ -71,7 +71,8 @@ ends-later long permanent tentative before after (Some Down) stays ends = ends_d
 ends-later long permanent tentative before after (Some (Alive n)) stays ends = ends
 
 -- the verdict on what is tentative
-verdict-later : (c d : Content) (tentative : Option Tentative) → NoesStay c d → verdict_on c tentative ≡ Some verdicts.No → verdict_on d tentative ≡ Some verdicts.No
+verdict-later : (c d : Content) (tentative : Option Tentative) → NoesStay c d → verdict_on c tentative ≡ Some verdicts.No
+    → verdict_on d tentative ≡ Some verdicts.No
 verdict-later c d None stays e = absurd cc
 verdict-later c d (Some t) stays e = stays t.instance e
 
@@ -96,8 +97,10 @@ applied-nodes s step plan sound keeps q = elim (cases_eq (node_index (owner step
   | inr d ↦
       let other : owner step ≢ q = λ e. d (ap node_index e) in
       let Of : Option Node → Type 0 = NodeSoundIn s.cast h c q in
-      let Acts : List Act → Type 0 = λ acts. IsNodeSound s.cast h q acts (node s q) (row_of c q).permanent (row_of c q).tentative (verdict_on c (row_of c q).tentative) in
-      let Row : NodeRow → Type 0 = λ row. IsNodeSound s.cast h q (acts_in_line s.history q) (node s q) row.permanent row.tentative (verdict_on c row.tentative) in
+      let Acts : List Act → Type 0 =
+      λ acts. IsNodeSound s.cast h q acts (node s q) (row_of c q).permanent (row_of c q).tentative (verdict_on c (row_of c q).tentative) in
+      let Row : NodeRow → Type 0 =
+      λ row. IsNodeSound s.cast h q (acts_in_line s.history q) (node s q) row.permanent row.tentative (verdict_on c row.tentative) in
       let stays : row_of c q ≡ row_of s.content q = other-rows (owner step) plan.write s.content q (λ e. other (sym e)) in
       subst Of (sym (applied-other s step plan q other))
       (subst Acts (sym (noted-others s.cast s.history (owner step) plan.note keeps.may q other))
@@ -116,18 +119,24 @@ applied-nodes s step plan sound keeps q = elim (cases_eq (node_index (owner step
 
     own : At (owner step)
     own =
-        subst (NodeSoundIn s.cast (noted s.history plan.note) (content_after (owner step) plan.write s.content) (owner step)) (sym (applied-owner s step plan)) keeps.sound
+        subst (NodeSoundIn s.cast (noted s.history plan.note) (content_after (owner step) plan.write s.content) (owner step))
+        (sym (applied-owner s step plan)) keeps.sound
 
-applied-carries : (s : State) (step : Step) (plan : Plan) → IsSound s → Keeps s (owner step) plan → (p q : NodeId) (m : Message) → Contains (link (applied s step plan) p q) m
+applied-carries : (s : State) (step : Step) (plan : Plan) → IsSound s → Keeps s (owner step) plan → (p q : NodeId) (m : Message)
+    → Contains (link (applied s step plan) p q) m
     → Carries s.cast.shards (noted s.history plan.note) p q m
 applied-carries s step plan sound keeps p q m c =
     elim (sent-cases (link_place s.cast) (taken_off (link_place s.cast) s.links step) (owner step) plan.send (link_place s.cast p q) m c) [
-      | inl old ↦ noted-carries s.cast.shards s.history plan.note p q m (sound.carries p q m (taken_off-was (link_place s.cast) s.links step (link_place s.cast p q) m old))
+      | inl old ↦
+          noted-carries s.cast.shards s.history plan.note p q m
+          (sound.carries p q m (taken_off-was (link_place s.cast) s.links step (link_place s.cast p q) m old))
       | inr new ↦
           let ends = sent_between s.cast (owner step) plan.send p q m new in
           let well : Carries s.cast.shards (noted s.history plan.note) (owner step) new.to m =
-          all-at (λ (x : NodeId × Message). Carries s.cast.shards (noted s.history plan.note) (owner step) x.0 x.1) plan.send (new.to, m) keeps.sends new.among in
-          subst (λ x. Carries s.cast.shards (noted s.history plan.note) p x m) ends.1 (subst (λ x. Carries s.cast.shards (noted s.history plan.note) x new.to m) ends.0 well)
+          all-at (λ (x : NodeId × Message). Carries s.cast.shards (noted s.history plan.note) (owner step) x.0 x.1) plan.send
+          (new.to, m) keeps.sends new.among in
+          subst (λ x. Carries s.cast.shards (noted s.history plan.note) p x m) ends.1
+          (subst (λ x. Carries s.cast.shards (noted s.history plan.note) x new.to m) ends.0 well)
     ]
 
 pub applied-sound : (s : State) (step : Step) (plan : Plan) → IsSound s → Keeps s (owner step) plan → IsSound (applied s step plan)

@@ -48,7 +48,8 @@ saved_now s sound p n alive =
 
 -- which is stored as the tentative one
 taken_stored : (s : State) → IsSound s → (p : NodeId) (n : Live) (instance : ℕ) (verdict : Option Verdict) → IsAlive s p n
-    → IsStored s.cast p (acts_in_line s.history p) (row_of s.content p).permanent (Some (record { instance = instance; checkpoint = checkpoint_now (view s p) n })) verdict
+    → IsStored s.cast p (acts_in_line s.history p) (row_of s.content p).permanent
+    (Some (record { instance = instance; checkpoint = checkpoint_now (view s p) n })) verdict
 taken_stored s sound p n instance verdict alive =
     let was = (alive_was s sound p n alive).stored in record {
       permanent = was.permanent;
@@ -74,16 +75,20 @@ joins_check s sound p q n ask permanent alive =
 
 -- ---- what becomes of it
 
-pub promoted_front : (cast : Cast) (p : NodeId) (acts : List Act) (old : Option Ckpt) (taken : Option Tentative) (verdict : Option Verdict) → IsStored cast p acts old taken verdict → IsNotNo verdict
+pub promoted_front : (cast : Cast) (p : NodeId) (acts : List Act) (old : Option Ckpt) (taken : Option Tentative) (verdict : Option Verdict)
+    → IsStored cast p acts old taken verdict → IsNotNo verdict
     → IsFront cast p acts (promoted_from old taken)
 promoted_front cast p acts old None verdict stored fine = stored.permanent
 promoted_front cast p acts old (Some t) verdict stored fine = (stored.tentative fine).front
 
 learns_as : (s : State) → IsSound s → (p : NodeId) (n : Live) (agreed : Bool) (send : List (NodeId × Message)) → IsAlive s p n
-    → verdict_on s.content (row_of s.content p).tentative ≡ Some (verdict_from agreed) → SendWell s.cast.shards s.history p send → Keeps s p (held_learns agreed send)
+    → verdict_on s.content (row_of s.content p).tentative ≡ Some (verdict_from agreed) → SendWell s.cast.shards s.history p send
+    → Keeps s p (held_learns agreed send)
 learns_as s sound p n true send alive is well =
     turn_keeps s p n _ send (Some writes.Promote) sound alive refl (alive_keeps s sound p n alive) well tt (record {
-      permanent = promoted_front s.cast p (acts_in_line s.history p) (row_of s.content p).permanent (row_of s.content p).tentative _ (alive_was s sound p n alive).stored
+      permanent =
+          promoted_front s.cast p (acts_in_line s.history p) (row_of s.content p).permanent (row_of s.content p).tentative _
+          (alive_was s sound p n alive).stored
           (λ e. cc (is, e));
       tentative = λ fine. tt;
     }) tt
@@ -131,5 +136,6 @@ learnt s p n alive = ap (λ row. to_learn s.content p (unwrap_or row Down)) aliv
 pub learns_when_held : (s : State) → IsBacked s → IsSound s → (p : NodeId) (n : Live) (b : Poll) (agreed : Bool) → IsAlive s p n → n.phase ≡ phases.Held b
     → settled (verdict_for s (Learn p)) ≡ Some agreed → Keeps s p (held_learns agreed [])
 learns_when_held s backed sound p n b agreed alive holds is =
-    let board : verdict_for s (Learn p) ≡ verdict_of s.content b.instance = learnt s p n alive ∙ ap (λ (phase : Phase). of_poll s.content (poll_in phase)) holds in
+    let board : verdict_for s (Learn p) ≡ verdict_of s.content b.instance =
+    learnt s p n alive ∙ ap (λ (phase : Phase). of_poll s.content (poll_in phase)) holds in
     learns_as s sound p n agreed [] alive (held_verdict s backed p n b alive holds ∙ sym board ∙ settled_is (verdict_for s (Learn p)) agreed is) tt

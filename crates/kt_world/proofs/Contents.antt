@@ -1,5 +1,6 @@
 -- What a write makes of what is stored: the owner's row, the rows of others, and the verdicts.
-use Rattle.std.proofs.Common.{◌≡◌, ℕ, ◌+◌, ◌≤◌, ◌==◌, Bool, true, false, cond, List, [], ◌∷◌, map, Option, Some, None, inl, inr, refl, sym, ap, ◌∙◌, subst, arith}
+use Rattle.std.proofs.Common.{◌≡◌, ℕ, ◌+◌, ◌≤◌, ◌==◌, Bool, true, false, cond, List, [], ◌∷◌}
+use Rattle.std.proofs.Common.{map, Option, Some, None, inl, inr, refl, sym, ap, ◌∙◌, subst, arith}
 use Rattle.std.specs.Prelude.{fold, max}
 use Rattle.std.specs.List.{find}
 use Rattle.std.specs.Option.{option_map}
@@ -67,7 +68,8 @@ own-row p (Some (writes.Decide instance agreed)) c = decided_row instance agreed
 pub other-rows : (p : NodeId) (write : Option Write) (c : Content) → OtherNodesStay p c (content_after p write c)
 other-rows p None c q d = refl
 other-rows p (Some (writes.BeginCheck checkpoint)) c q d = others_stay_of p (record (row_of c p) { tentative = taken (next_instance c) checkpoint }) c refl q d
-other-rows p (Some (writes.PutTentative instance checkpoint)) c q d = others_stay_of p (record (row_of c p) { tentative = taken instance checkpoint }) c refl q d
+other-rows p (Some (writes.PutTentative instance checkpoint)) c q d =
+    others_stay_of p (record (row_of c p) { tentative = taken instance checkpoint }) c refl q d
 other-rows p (Some writes.Promote) c q d =
     others_stay_of p (record (row_of c p) { permanent = promoted_from (row_of c p).permanent (row_of c p).tentative; tentative = None }) c refl q d
 other-rows p (Some writes.Discard) c q d = others_stay_of p (record (row_of c p) { tentative = None }) c refl q d
@@ -84,7 +86,8 @@ above_start (x ∷ rows) a =
     let rest : max a x.instance ≤ fold max (max a x.instance) (map (λ (row : Posted). row.instance) rows) = above_start rows (max a x.instance) in
     grind (arith, rest)
 
-not_posted : (rows : List Posted) (a i : ℕ) → fold max a (map (λ (row : Posted). row.instance) rows) + 1 ≤ i → find (λ (row : Posted). row.instance == i) rows ≡ None
+not_posted : (rows : List Posted) (a i : ℕ) → fold max a (map (λ (row : Posted). row.instance) rows) + 1 ≤ i
+    → find (λ (row : Posted). row.instance == i) rows ≡ None
 not_posted [] a i h = refl
 not_posted (x ∷ rows) a i h = by (x.instance == i) refl (not_posted rows (max a x.instance) i h)
   where
@@ -136,7 +139,8 @@ SaysNoYes c _ = Unit {0}
 
 pub noes-stay : (p : NodeId) (write : Option Write) (c : Content) → SaysNoYes c write → NoesStay c (content_after p write c)
 noes-stay p None c says = λ i was. was
-noes-stay p (Some (writes.BeginCheck checkpoint)) c says = begun-noes p purposes.Check (storing record (row_of c p) { tentative = taken (next_instance c) checkpoint } c)
+noes-stay p (Some (writes.BeginCheck checkpoint)) c says =
+    begun-noes p purposes.Check (storing record (row_of c p) { tentative = taken (next_instance c) checkpoint } c)
 noes-stay p (Some (writes.PutTentative instance checkpoint)) c says = λ i was. was
 noes-stay p (Some writes.Promote) c says = λ i was. was
 noes-stay p (Some writes.Discard) c says = λ i was. was

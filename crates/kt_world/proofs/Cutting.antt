@@ -1,5 +1,6 @@
 -- A plan that cuts its node's line keeps a state sound where what the node becomes and what is stored suit what is left.
-use Rattle.std.proofs.Common.{◌≡◌, ℕ, ◌+◌, ◌≤◌, Bool, true, false, if◌then◌else◌, List, [], ◌∷◌, ◌++◌, length, take, Contains, Option, Some, None, Result, Ok, Err, refl, sym, ap, subst, arith}
+use Rattle.std.proofs.Common.{◌≡◌, ℕ, ◌+◌, ◌≤◌, Bool, true, false, if◌then◌else◌, List, [], ◌∷◌, ◌++◌, length}
+use Rattle.std.proofs.Common.{take, Contains, Option, Some, None, Result, Ok, Err, refl, sym, ap, subst, arith}
 use Rattle.std.specs.Option.{option_map}
 use Rattle.std.proofs.lemmas.List.{length-take-le}
 use Rattle.kt_tuple.specs.declared.node.NodeId.{NodeId}
@@ -44,11 +45,13 @@ use Rattle.kt_world.proofs.Turns.{row_then}
 -- the node p as it becomes and as it is stored suits the first so many acts of its line
 abbrev pub CutSound : State → NodeId → ℕ → Option Write → Node → Type 0
 CutSound s p keep write becomes =
-    IsNodeSound s.cast (s.history ++ notes.Cut p keep ∷ []) p (take keep (acts_in_line s.history p)) (Some becomes) (row_then s p write).permanent (row_then s p write).tentative
+    IsNodeSound s.cast (s.history ++ notes.Cut p keep ∷ []) p (take keep (acts_in_line s.history p)) (Some becomes) (row_then s p write).permanent
+    (row_then s p write).tentative
     (verdict_on (content_after p write s.content) (row_then s p write).tentative)
 
 own_cut_keeps : (s : State) (p : NodeId) (keep : ℕ) (change : Change) (send : List (NodeId × Message)) (write : Option Write) (becomes : Node)
-    → option_map (changed change) (node s p) ≡ Some becomes → keep ≤ length (acts_in_line s.history p) → SendWell s.cast.shards (s.history ++ notes.Cut p keep ∷ []) p send
+    → option_map (changed change) (node s p) ≡ Some becomes → keep ≤ length (acts_in_line s.history p)
+    → SendWell s.cast.shards (s.history ++ notes.Cut p keep ∷ []) p send
     → SaysNoYes s.content write → CutSound s p keep write becomes
     → Keeps s p (record { change = change; send = send; note = Some (notes.Cut p keep); write = write })
 own_cut_keeps s p keep change send write becomes is short well says sound = record {
@@ -62,7 +65,9 @@ own_cut_keeps s p keep change send write becomes is short well says sound = reco
     Of row = NodeSoundIn s.cast (s.history ++ notes.Cut p keep ∷ []) (content_after p write s.content) p row
 
     Row : NodeRow → Type 0
-    Row row = IsNodeSound s.cast (s.history ++ notes.Cut p keep ∷ []) p (acts_in_line (s.history ++ notes.Cut p keep ∷ []) p) (Some becomes) row.permanent row.tentative
+    Row row =
+        IsNodeSound s.cast (s.history ++ notes.Cut p keep ∷ []) p (acts_in_line (s.history ++ notes.Cut p keep ∷ []) p)
+        (Some becomes) row.permanent row.tentative
         (verdict_on (content_after p write s.content) row.tentative)
 
     Acts : List Act → Type 0
@@ -70,7 +75,8 @@ own_cut_keeps s p keep change send write becomes is short well says sound = reco
         (verdict_on (content_after p write s.content) (row_then s p write).tentative)
 
 pub cut_keeps : (s : State) (p : NodeId) (keep : ℕ) (change : Change) (send : List (NodeId × Message)) (write : Option Write) (becomes : Node)
-    → option_map (changed change) (node s p) ≡ Some becomes → keep ≤ length (acts_in_line s.history p) → SendWell s.cast.shards (s.history ++ notes.Cut p keep ∷ []) p send
+    → option_map (changed change) (node s p) ≡ Some becomes → keep ≤ length (acts_in_line s.history p)
+    → SendWell s.cast.shards (s.history ++ notes.Cut p keep ∷ []) p send
     → SaysNoYes s.content write → CutSound s p keep write becomes
     → Keeps s p (record { change = change; send = send; note = cut_of (role_of s.cast p).id keep; write = write })
 cut_keeps s p keep change send write becomes is short well says sound =
@@ -86,7 +92,8 @@ held_marks (Some c) = refl
 
 -- a node that is down, its line cut to so many acts
 pub fallen : (cast : Cast) (h : List Note) (p : NodeId) (acts : List Act) (old : Option Ckpt) (taken : Option Tentative) (verdict : Option Verdict) (keep : ℕ)
-    → IsStored cast p acts old taken verdict → acts_held old ≤ keep → keep ≤ length acts → (IsNotNo verdict → (t : Tentative) → taken ≡ Some t → t.checkpoint.line_len ≤ keep)
+    → IsStored cast p acts old taken verdict → acts_held old ≤ keep → keep ≤ length acts
+    → (IsNotNo verdict → (t : Tentative) → taken ≡ Some t → t.checkpoint.line_len ≤ keep)
     → EndsDown keep (acts_held old) verdict taken → IsNodeSound cast h p (take keep acts) (Some Down) old taken verdict
 fallen cast h p acts old taken verdict keep stored low high behind ends = record {
   like = tt;
@@ -109,12 +116,25 @@ loaded-as : (cast : Cast) (p : NodeId) (stored : Option Ckpt) (incarnation : ℕ
 loaded-as cast p stored incarnation (Err refusal) live is e = absurd cc
 loaded-as cast p None incarnation (Ok body) live is e =
     let same : loaded_from None incarnation body ≡ live = cc in
-    record { body = body; is_body = is; works = ap (λ (n : Live). n.body) (sym same); empty = ap (λ (n : Live). n.kept) (sym same); up = ap (λ (n : Live). n.phase) (sym same) }
+    record {
+      body = body;
+      is_body = is;
+      works = ap (λ (n : Live). n.body) (sym same);
+      empty = ap (λ (n : Live). n.kept) (sym same);
+      up = ap (λ (n : Live). n.phase) (sym same);
+    }
 loaded-as cast p (Some c) incarnation (Ok body) live is e =
     let same : loaded_from (Some c) incarnation body ≡ live = cc in
-    record { body = body; is_body = is; works = ap (λ (n : Live). n.body) (sym same); empty = ap (λ (n : Live). n.kept) (sym same); up = ap (λ (n : Live). n.phase) (sym same) }
+    record {
+      body = body;
+      is_body = is;
+      works = ap (λ (n : Live). n.body) (sym same);
+      empty = ap (λ (n : Live). n.kept) (sym same);
+      up = ap (λ (n : Live). n.phase) (sym same);
+    }
 
-pub loaded : (cast : Cast) (p : NodeId) (v : View) (stored : Stored) (live : Live) → v.role ≡ role_of cast p → load v stored ≡ Ok live → IsLoaded cast p stored.permanent live
+pub loaded : (cast : Cast) (p : NodeId) (v : View) (stored : Stored) (live : Live) → v.role ≡ role_of cast p → load v stored ≡ Ok live
+    → IsLoaded cast p stored.permanent live
 loaded cast p v stored live role e = by (fits v.role v.line_len (marks_in stored)) e
   where
     by : (b : Bool) → (if b then loaded_by stored.permanent (stored.incarnation + 1) (body_at v.role stored.permanent) else Err refusals.Damaged) ≡ Ok live

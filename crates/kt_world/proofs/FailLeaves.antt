@@ -41,11 +41,13 @@ use Rattle.kt_world.proofs.Cutting.{cut_keeps, held_marks, fallen}
 -- ---- a node fails
 
 -- what a node that fails keeps of its line is no less than what it will go on from
-record Leaves (cast : Cast) (h : List Note) (p : NodeId) (acts : List Act) (old : Option Ckpt) (taken : Option Tentative) (verdict : Option Verdict) (keep : ℕ) : Type 0 where
+record Leaves (cast : Cast) (h : List Note) (p : NodeId) (acts : List Act) (old : Option Ckpt) (taken : Option Tentative) (verdict : Option Verdict)
+    (keep : ℕ) : Type 0 where
   short : keep ≤ length acts
   sound : IsNodeSound cast h p (take keep acts) (Some Down) old taken verdict
 
-leaves_permanent : (cast : Cast) (h : List Note) (p : NodeId) (acts : List Act) (old : Option Ckpt) (taken : Option Tentative) (verdict : Option Verdict) (keep : ℕ) → keep ≡ acts_held old
+leaves_permanent : (cast : Cast) (h : List Note) (p : NodeId) (acts : List Act) (old : Option Ckpt) (taken : Option Tentative) (verdict : Option Verdict)
+    (keep : ℕ) → keep ≡ acts_held old
     → IsStored cast p acts old taken verdict → (IsNotNo verdict → (t : Tentative) → taken ≡ Some t → ⊥) → Leaves cast h p acts old taken verdict keep
 leaves_permanent cast h p acts old taken verdict keep is stored none = record {
   short = short;
@@ -64,7 +66,10 @@ leaves_tentative : (cast : Cast) (h : List Note) (p : NodeId) (acts : List Act) 
 leaves_tentative cast h p acts old t verdict fine stored = record {
   short = (stored.tentative fine).front.short;
   sound = fallen cast h p acts old (Some t) verdict t.checkpoint.line_len stored (stored.tentative fine).behind (stored.tentative fine).front.short
-      (λ fine x e. let same : t ≡ x = cc in let long : x.checkpoint.line_len ≡ t.checkpoint.line_len = ap (λ (y : Tentative). y.checkpoint.line_len) (sym same) in omega (arith, long)) (λ fine. refl);
+      (λ fine x e.
+      let same : x ≡ t = cc in
+      let long : x.checkpoint.line_len ≡ t.checkpoint.line_len = ap (λ (y : Tentative). y.checkpoint.line_len) same in
+      omega (arith, long)) (λ fine. refl);
 }
 
 leaves : (cast : Cast) (h : List Note) (p : NodeId) (acts : List Act) (old : Option Ckpt) (taken : Option Tentative) (verdict : Option Verdict)
@@ -76,10 +81,16 @@ leaves cast h p acts old (Some t) None stored = leaves_tentative cast h p acts o
 leaves cast h p acts old (Some t) (Some verdicts.Open) stored = leaves_tentative cast h p acts old t (Some verdicts.Open) (λ e. cc (e)) stored
 leaves cast h p acts old (Some t) (Some verdicts.Yes) stored = leaves_tentative cast h p acts old t (Some verdicts.Yes) (λ e. cc (e)) stored
 
+-- what p keeps of its line where it fails
+abbrev pub kept_then : State → NodeId → ℕ
+kept_then s p =
+    line_left (verdict_on s.content (row_of s.content p).tentative) (option_map marks_of (row_of s.content p).permanent) (tentative_in s.content p)
+
 pub fails : (s : State) → IsSound s → (p : NodeId) (n : Live) → IsAlive s p n
-    → Keeps s p (fail_plan (view s p) (line_left (verdict_on s.content (row_of s.content p).tentative) (option_map marks_of (row_of s.content p).permanent) (tentative_in s.content p)))
+    → Keeps s p (fail_plan (view s p) (kept_then s p))
 fails s sound p n alive =
-    let keep : ℕ = line_left (verdict_on s.content (row_of s.content p).tentative) (option_map marks_of (row_of s.content p).permanent) (tentative_in s.content p) in
+    let keep : ℕ =
+    line_left (verdict_on s.content (row_of s.content p).tentative) (option_map marks_of (row_of s.content p).permanent) (tentative_in s.content p) in
     let left = leaves s.cast (s.history ++ notes.Cut p keep ∷ []) p (acts_in_line s.history p) (row_of s.content p).permanent (row_of s.content p).tentative
     (verdict_on s.content (row_of s.content p).tentative) (sound.nodes p).stored in
     cut_keeps s p keep changes.Fall [] None Down (ap (option_map (changed changes.Fall)) alive) left.short tt tt left.sound
@@ -112,7 +123,8 @@ learns_no_down s sound p down =
     (λ fine t e. absurd cc) is)
 
 -- what is promoted holds the whole line
-promoted_long : (long : ℕ) (old : Option Ckpt) (taken : Option Tentative) (verdict : Option Verdict) → IsNotNo verdict → EndsDown long (acts_held old) verdict taken
+promoted_long : (long : ℕ) (old : Option Ckpt) (taken : Option Tentative) (verdict : Option Verdict) → IsNotNo verdict
+    → EndsDown long (acts_held old) verdict taken
     → long ≡ acts_held (promoted_from old taken)
 promoted_long long old None verdict fine ends = ends
 promoted_long long old (Some t) verdict fine ends = ends fine
@@ -128,7 +140,8 @@ learns_yes_down s sound p down is =
     let yes_there : verdict ≡ Some verdicts.Yes = sym board ∙ settled_is (verdict_for s (Learn p)) true is in
     let fine : IsNotNo verdict = λ e. cc (yes_there, e) in
     let Of : Option Node → Type 0 = λ x. NodeSoundIn s.cast s.history c p (option_map (changed changes.Stay) x) in
-    let Row : NodeRow → Type 0 = λ new. IsNodeSound s.cast s.history p (acts_in_line s.history p) (Some Down) new.permanent new.tentative (verdict_on c new.tentative) in
+    let Row : NodeRow → Type 0 =
+    λ new. IsNodeSound s.cast s.history p (acts_in_line s.history p) (Some Down) new.permanent new.tentative (verdict_on c new.tentative) in
     record {
       may = tt;
       sends = tt;

@@ -38,7 +38,8 @@ headline s sound =
 -- ---- where nothing that is remembered has lost anything of its past
 
 -- a shard holds what its line leads to
-shard_holds : (s : State) → IsSound s → (r : ℕ) (n : Live) → IsAlive s (ids.Shard r) n → IsPermutation (shard_of_acts new_shard (acts_in_line s.history (ids.Shard r))).bag (bag_in n.body)
+shard_holds : (s : State) → IsSound s → (r : ℕ) (n : Live) → IsAlive s (ids.Shard r) n
+    → IsPermutation (shard_of_acts new_shard (acts_in_line s.history (ids.Shard r))).bag (bag_in n.body)
 shard_holds s sound r n alive = by n.body (alive_like s sound (ids.Shard r) n alive)
   where
     by : (b : Body) → IsBodyLike s.cast.scripts (ids.Shard r) (acts_in_line s.history (ids.Shard r)) b
@@ -51,7 +52,8 @@ pub bags_held : (s : State) → IsSound s → 1 ≤ s.cast.shards → ((n : ℕ)
     → ((r : ℕ) → is_shard s.cast (ids.Shard r) ≡ true → (n : Live) × IsAlive s (ids.Shard r) n) → IsPermutation (surviving_tuples s.history) (all_bags s)
 bags_held s sound some all alive =
     IsPermutation-trans (surviving_tuples s.history) (shares s.cast.shards (surviving_tuples s.history)) (all_bags s)
-    (IsPermutation-sym (shares s.cast.shards (surviving_tuples s.history)) (surviving_tuples s.history) (shares-whole s.cast.shards some (surviving_tuples s.history)))
+    (IsPermutation-sym (shares s.cast.shards (surviving_tuples s.history)) (surviving_tuples s.history)
+    (shares-whole s.cast.shards some (surviving_tuples s.history)))
     (flat_map-like (range_with_len 1 s.cast.shards) (λ r. filter (is_home s.cast.shards r) (surviving_tuples s.history)) (λ r. bag_of (node s (ids.Shard r)))
     (λ r c. let w = range_within 1 s.cast.shards r c in one r w.0 (omega (arith, w.1))))
   where
@@ -67,4 +69,5 @@ bags_held s sound some all alive =
         let there = alive r here in
         let share = survivors_bags (setting_of s.cast) s.history causes sound.legal marked r in
         subst (λ l. IsPermutation l (bag_of (node s (ids.Shard r)))) (sym share)
-        (subst (λ row. IsPermutation (shard_of_acts new_shard (acts_in_line s.history (ids.Shard r))).bag (bag_of row)) (sym there.1) (shard_holds s sound r there.0 there.1))
+        (subst (λ row. IsPermutation (shard_of_acts new_shard (acts_in_line s.history (ids.Shard r))).bag (bag_of row)) (sym there.1)
+        (shard_holds s sound r there.0 there.1))

@@ -1,6 +1,7 @@
 -- What a step notes, and what it makes of what each node remembers: at most one note, of its owner; an act at the end of
 -- the owner's line, or a cut, which only a failure or a verdict that is learnt or told can bring.
-use Rattle.std.proofs.Common.{◌≡◌, ◌≢◌, ℕ, suc, ◌+◌, ◌≤◌, Bool, true, false, cond, List, [], ◌∷◌, ◌++◌, take, length, Option, Some, None, inl, inr, refl, sym, ap, ◌∙◌, subst, add-one, ne_eqb}
+use Rattle.std.proofs.Common.{◌≡◌, ◌≢◌, ℕ, suc, ◌+◌, ◌≤◌, Bool, true, false, cond, List, [], ◌∷◌, ◌++◌}
+use Rattle.std.proofs.Common.{take, length, Option, Some, None, inl, inr, refl, sym, ap, ◌∙◌, subst, add-one, ne_eqb}
 use Rattle.std.specs.Prelude.{IsTrue}
 use Rattle.std.proofs.lemmas.Bool.{cases_eq}
 use Rattle.kt_tuple.specs.declared.node.NodeId.{NodeId}
@@ -43,7 +44,8 @@ use Rattle.kt_world.proofs.Applying.{Keeps}
 abbrev NotesAct : Plan → Type 0
 NotesAct plan = (a : Act) × (plan.note ≡ Some (notes.Act a))
 
-request_notes : (v : View) (n : Live) (kept : KeptChange) (from : NodeId) (post : Post) (request : Request) (a : Arrival) → NotesAct (request_plan v n kept from post request a)
+request_notes : (v : View) (n : Live) (kept : KeptChange) (from : NodeId) (post : Post) (request : Request) (a : Arrival)
+    → NotesAct (request_plan v n kept from post request a)
 request_notes v n kept from post request Waits = (_, refl)
 request_notes v n kept from post request (Again answer) = (_, refl)
 request_notes v n kept from post request Ignored = (_, refl)
@@ -52,7 +54,8 @@ reply_notes : (b : Bool) (p q : Plan) → NotesAct p → NotesAct q → NotesAct
 reply_notes true p q first second = first
 reply_notes false p q first second = second
 
-talk_notes : (v : View) (n : Live) (kept : KeptChange) (from : NodeId) (post : Post) (body : Body) (talk : Talk) → NotesAct (talk_plan v n kept from post body talk)
+talk_notes : (v : View) (n : Live) (kept : KeptChange) (from : NodeId) (post : Post) (body : Body) (talk : Talk)
+    → NotesAct (talk_plan v n kept from post body talk)
 talk_notes v n kept from post (IsWorker x) (talks.Reply request answer) = reply_notes (awaits x request.number request.op) _ _ (_, refl) (_, refl)
 talk_notes v n kept from post (IsWorker x) (talks.Request request) = (_, refl)
 talk_notes v n kept from post (IsShard y) (talks.Request request) = request_notes v n kept from post request (arrival y _ request)
@@ -73,7 +76,8 @@ cut_forgets : (s : State) (t : Told) (step : Step) (plan : Plan) → PlanOf s t 
 cut_forgets s t (Issue p) plan (plans.issues is alive up works kept next) cuts = absurd (cc (cuts.2))
 cut_forgets s t (Repeat p) plan (plans.repeats is alive up works again) cuts = absurd (cc (cuts.2))
 cut_forgets s t (Serve p w place) plan (plans.serves is there alive up works chosen) cuts = absurd (cc (cuts.2))
-cut_forgets s t (Take p) plan (plans.takes {from = from} {n = n} {post = post} is alive up first) cuts = absurd (hearing_cuts (view s p) n keeps.TakeFirst from post cuts)
+cut_forgets s t (Take p) plan (plans.takes {from = from} {n = n} {post = post} is alive up first) cuts =
+    absurd (hearing_cuts (view s p) n keeps.TakeFirst from post cuts)
 cut_forgets s t (Deliver p q) plan (plans.hears {n = n} {post = post} comes alive up empty) cuts = absurd (hearing_cuts (view s q) n keeps.Stay p post cuts)
 cut_forgets s t (Deliver p q) plan (plans.puts_by comes alive not_rolling) cuts = absurd (cc (cuts.2))
 cut_forgets s t (Deliver p q) plan (plans.drops comes) cuts = absurd (cc (cuts.2))
@@ -110,7 +114,8 @@ notes_one s step plan keeps = noted_one s.cast s.history (owner step) plan.note 
 apart : (p q r : NodeId) → r ≡ p → node_index p ≢ node_index q → same_node r q ≡ false
 apart p q r own d = ne_eqb (node_index r) (node_index q) (λ e. d (ap node_index (sym own) ∙ e))
 
-line_noted : (s : State) (step : Step) (note : Option Note) → MayNote s.cast s.history (owner step) note → ((q : NodeId) (keep : ℕ) → note ≡ Some (notes.Cut q keep) → IsTrue (may_forget s step))
+line_noted : (s : State) (step : Step) (note : Option Note) → MayNote s.cast s.history (owner step) note
+    → ((q : NodeId) (keep : ℕ) → note ≡ Some (notes.Cut q keep) → IsTrue (may_forget s step))
     → (q : NodeId) → LineAfter s step (noted s.history note) q
 line_noted s step None may forgets q = stays refl
 line_noted s step (Some (notes.Act a)) may forgets q = elim (cases_eq (node_index (owner step)) (node_index q)) [
@@ -132,5 +137,6 @@ line_noted s step (Some (notes.Cut r keep)) may forgets q = elim (cases_eq (node
       is_cut is (forgets r keep refl) keep (subst Short here may.1) (subst Cut here (line-own_cut s.history r keep))
 ]
 
-pub line_after : (s : State) (t : Told) (step : Step) (plan : Plan) → PlanOf s t step plan → Keeps s (owner step) plan → (q : NodeId) → LineAfter s step (applied s step plan).history q
+pub line_after : (s : State) (t : Told) (step : Step) (plan : Plan) → PlanOf s t step plan → Keeps s (owner step) plan → (q : NodeId)
+    → LineAfter s step (applied s step plan).history q
 line_after s t step plan of keeps q = line_noted s step plan.note keeps.may (λ r keep e. cut_forgets s t step plan of (r, keep, e)) q

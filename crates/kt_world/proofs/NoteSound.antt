@@ -1,5 +1,6 @@
 -- What one more note makes of lines: an act, a cut, or none. What a message carries stays.
-use Rattle.std.proofs.Common.{◌≡◌, ◌≢◌, ℕ, suc, ◌+◌, false, List, [], ◌∷◌, ◌++◌, length, Contains, Option, Some, None, refl, sym, ap, ◌∙◌, subst, ne_eqb, add-one}
+use Rattle.std.proofs.Common.{◌≡◌, ◌≢◌, ℕ, suc, ◌+◌, false, List, [], ◌∷◌, ◌++◌, length}
+use Rattle.std.proofs.Common.{Contains, Option, Some, None, refl, sym, ap, ◌∙◌, subst, ne_eqb, add-one}
 use Rattle.std.specs.List.{cons_option}
 use Rattle.kt_tuple.specs.declared.node.NodeId.{NodeId}
 use Rattle.kt_tuple.specs.declared.node.NodeId.TheVariants as ids
@@ -28,7 +29,8 @@ use Rattle.kt_world.specs.Asks.{setting_of}
 use Rattle.kt_world.specs.Effect.{noted}
 use Rattle.kt_world.proofs.Sound.{MayNote, IsRequestOf, IsReplyOf, SaysSo, Carries, AreKept}
 
-pub noted-legal : (cast : Cast) (h : List Note) (p : NodeId) (note : Option Note) → AreLegal (setting_of cast) h → MayNote cast h p note → AreLegal (setting_of cast) (noted h note)
+pub noted-legal : (cast : Cast) (h : List Note) (p : NodeId) (note : Option Note) → AreLegal (setting_of cast) h → MayNote cast h p note
+    → AreLegal (setting_of cast) (noted h note)
 noted-legal cast h p None legal may = legal
 noted-legal cast h p (Some (notes.Act a)) legal may =
     AreLegal-act (setting_of cast) h a legal (subst (λ q. MayMake (setting_of cast) q (acts_in_line h q) a) (sym may.0) may.1)
@@ -43,14 +45,16 @@ apart : (p q r : NodeId) → r ≡ p → p ≢ q → same_node r q ≡ false
 apart p q r own d = ne_eqb (node_index r) (node_index q) (λ e. d (sym own ∙ node_index-injective r q e))
 
 -- the lines of other nodes stay
-pub noted-others : (cast : Cast) (h : List Note) (p : NodeId) (note : Option Note) → MayNote cast h p note → (q : NodeId) → p ≢ q → acts_in_line (noted h note) q ≡ acts_in_line h q
+pub noted-others : (cast : Cast) (h : List Note) (p : NodeId) (note : Option Note) → MayNote cast h p note → (q : NodeId) → p ≢ q
+    → acts_in_line (noted h note) q ≡ acts_in_line h q
 noted-others cast h p None may q d = refl
 noted-others cast h p (Some (notes.Act a)) may q d = acts_in_line-other_act h a q (apart p q a.node may.0 d)
 noted-others cast h p (Some (notes.Cut r keep)) may q d = acts_in_line-other_cut h r keep q (apart p q r may.0 d)
 
 -- ---- what a message carries stays as the history grows
 
-IsRequestOf-old : (shards : ℕ) (h g : List Note) (w s : ℕ) (request : Request) (by : ℕ) → IsRequestOf shards h w s request by → IsRequestOf shards (h ++ g) w s request by
+IsRequestOf-old : (shards : ℕ) (h g : List Note) (w s : ℕ) (request : Request) (by : ℕ) → IsRequestOf shards h w s request by
+    → IsRequestOf shards (h ++ g) w s request by
 IsRequestOf-old shards h g w s request by m = record {
   act = m.act;
   is_act = note_at-old h g by (note_at-within h by (notes.Act m.act) m.is_act).1 ∙ m.is_act;
@@ -62,7 +66,8 @@ IsRequestOf-old shards h g w s request by m = record {
   home = m.home;
 }
 
-IsReplyOf-old : (h g : List Note) (s w : ℕ) (request : Request) (answer : Answer) (by : ℕ) → IsReplyOf h s w request answer by → IsReplyOf (h ++ g) s w request answer by
+IsReplyOf-old : (h g : List Note) (s w : ℕ) (request : Request) (answer : Answer) (by : ℕ) → IsReplyOf h s w request answer by
+    → IsReplyOf (h ++ g) s w request answer by
 IsReplyOf-old h g s w request answer by m = record {
   act = m.act;
   is_act = note_at-old h g by (note_at-within h by (notes.Act m.act) m.is_act).1 ∙ m.is_act;
@@ -81,18 +86,21 @@ says-old shards h g (ids.Shard s) (ids.Worker w) (talks.Reply request answer) by
 says-old shards h g (ids.Worker w) (ids.Worker v) talk by c = c
 says-old shards h g (ids.Shard s) (ids.Shard r) talk by c = c
 
-pub noted-says : (shards : ℕ) (h : List Note) (note : Option Note) (p q : NodeId) (talk : Talk) (by : ℕ) → SaysSo shards h p q talk by → SaysSo shards (noted h note) p q talk by
+pub noted-says : (shards : ℕ) (h : List Note) (note : Option Note) (p q : NodeId) (talk : Talk) (by : ℕ) → SaysSo shards h p q talk by
+    → SaysSo shards (noted h note) p q talk by
 noted-says shards h None p q talk by c = c
 noted-says shards h (Some note) p q talk by c = says-old shards h (note ∷ []) p q talk by c
 
-pub noted-carries : (shards : ℕ) (h : List Note) (note : Option Note) (p q : NodeId) (m : Message) → Carries shards h p q m → Carries shards (noted h note) p q m
+pub noted-carries : (shards : ℕ) (h : List Note) (note : Option Note) (p q : NodeId) (m : Message) → Carries shards h p q m
+    → Carries shards (noted h note) p q m
 noted-carries shards h next p q (messages.Post post) c = noted-says shards h next p q post.talk post.by c
 noted-carries shards h next p q (messages.CheckAsk ask) c = tt
 noted-carries shards h next p q (messages.RollAsk ask) c = tt
 noted-carries shards h next p q (messages.Vote vote) c = tt
 noted-carries shards h next p q (messages.Verdict instance agreed) c = tt
 
-pub noted-kept : (shards : ℕ) (h : List Note) (note : Option Note) (p : NodeId) (node : Option Node) → AreKept shards h p node → AreKept shards (noted h note) p node
+pub noted-kept : (shards : ℕ) (h : List Note) (note : Option Note) (p : NodeId) (node : Option Node) → AreKept shards h p node
+    → AreKept shards (noted h note) p node
 noted-kept shards h next p None kept = tt
 noted-kept shards h next p (Some Down) kept = tt
 noted-kept shards h next p (Some (Alive n)) kept = λ x c. noted-says shards h next x.0 p x.1.talk x.1.by (kept x c)

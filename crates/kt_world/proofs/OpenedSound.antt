@@ -1,5 +1,6 @@
 -- A world that was just opened is sound.
-use Rattle.std.proofs.Common.{Option, None, Some, if◌then◌else◌, ◌≡◌, ℕ, zero, suc, ◌+◌, ◌*◌, ◌<◌, ◌≤◌, Bool, true, false, List, [], ◌∷◌, ◌++◌, length, replicate, Contains, ◌⊎◌, inl, inr, refl, sym, ap, ◌∙◌, subst, length-append, arith}
+use Rattle.std.proofs.Common.{Option, None, Some, if◌then◌else◌, ◌≡◌, ℕ, zero, suc, ◌+◌, ◌*◌, ◌<◌, ◌≤◌, Bool, true, false, List}
+use Rattle.std.proofs.Common.{[], ◌∷◌, ◌++◌, length, replicate, Contains, ◌⊎◌, inl, inr, refl, sym, ap, ◌∙◌, subst, length-append, arith}
 use Rattle.std.proofs.lemmas.Bool.{cases_lt}
 use Rattle.std.proofs.lemmas.List.{get_or_past, get_or_append_left, get_or-append-add}
 use Rattle.std.proofs.lemmas.List.Sorted.{IsPermutation-refl}
@@ -49,7 +50,8 @@ worker_row cast (suc n) k below = by (cases_lt k n) (λ less. worker_row cast n 
     long : length (opening_rows cast n) ≡ 2 * n
     long = length-opening_rows cast n
 
-    by : (k < n) ⊎ (n ≤ k) → (k < n → at None (opening_rows cast n) (2 * k) ≡ opening_row cast (ids.Worker k)) → at None (opening_rows cast n ++ two) (2 * k) ≡ opening_row cast (ids.Worker k)
+    by : (k < n) ⊎ (n ≤ k) → (k < n → at None (opening_rows cast n) (2 * k) ≡ opening_row cast (ids.Worker k))
+        → at None (opening_rows cast n ++ two) (2 * k) ≡ opening_row cast (ids.Worker k)
     by (inl less) before = get_or_append_left (opening_rows cast n) two None (2 * k) (omega (arith, less, long)) ∙ before less
     by (inr more) before =
         let same : n ≡ k = omega (arith, below, more) in
@@ -67,7 +69,8 @@ shard_row cast (suc n) k below = by (cases_lt k n) (λ less. shard_row cast n k 
     long : length (opening_rows cast n) ≡ 2 * n
     long = length-opening_rows cast n
 
-    by : (k < n) ⊎ (n ≤ k) → (k < n → at None (opening_rows cast n) (2 * k + 1) ≡ opening_row cast (ids.Shard k)) → at None (opening_rows cast n ++ two) (2 * k + 1) ≡ opening_row cast (ids.Shard k)
+    by : (k < n) ⊎ (n ≤ k) → (k < n → at None (opening_rows cast n) (2 * k + 1) ≡ opening_row cast (ids.Shard k))
+        → at None (opening_rows cast n ++ two) (2 * k + 1) ≡ opening_row cast (ids.Shard k)
     by (inl less) before = get_or_append_left (opening_rows cast n) two None (2 * k + 1) (omega (arith, less, long)) ∙ before less
     by (inr more) before =
         let same : n ≡ k = omega (arith, below, more) in
@@ -104,7 +107,12 @@ nothing_stored cast p =
 
 node_sound : (cast : Cast) (p : NodeId) (there : Bool) → IsNodeSound cast [] p [] (if there then Some (opening_node (role_of cast p)) else None) None None None
 node_sound cast p true =
-    record { like = opening_like cast p; kept = λ x c. absurd (Contains-none x c); stored = record { permanent = nothing_stored cast p; tentative = λ fine. tt }; ends = tt }
+    record {
+      like = opening_like cast p;
+      kept = λ x c. absurd (Contains-none x c);
+      stored = record { permanent = nothing_stored cast p; tentative = λ fine. tt };
+      ends = tt;
+    }
 node_sound cast p false = record { like = tt; kept = tt; stored = record { permanent = nothing_stored cast p; tentative = λ fine. tt }; ends = tt }
 
 no_node_sound : (cast : Cast) (p : NodeId) → IsNodeSound cast [] p [] None None None None

@@ -38,7 +38,8 @@ use Rattle.kt_world.proofs.Sound.{SaysSo, KeepsSo, acts_held, EndsRolling, IsSou
 use Rattle.kt_world.proofs.Contents.{SaysNoYes}
 use Rattle.kt_world.proofs.Applying.{Keeps}
 use Rattle.kt_world.proofs.ActLeaves.{alive_keeps, comes_so}
-use Rattle.kt_world.proofs.Turns.{EndsThen, verdicts_well, votes_well, roll_asks_well, sieved_so, alive_was, of_ballot, quiet_keeps, deciding_keeps, refusing_keeps}
+use Rattle.kt_world.proofs.Turns.{EndsThen, verdicts_well, votes_well, roll_asks_well, sieved_so}
+use Rattle.kt_world.proofs.Turns.{alive_was, of_ballot, quiet_keeps, deciding_keeps, refusing_keeps}
 
 -- ---- ballots
 
@@ -56,7 +57,8 @@ ends_on : (long permanent : ℕ) (ph : Phase) (b new : Poll) (phase : Poll → P
 ends_on long permanent ph b new phase holds same ends = tt
 ends_on long permanent ph b new phase rolls same ends = λ none. ends (sym same ∙ none)
 
-ballot_ends : (s : State) → IsSound s → (p : NodeId) (n : Live) (b new : Poll) (phase : Poll → Phase) → IsAlive s p n → Votes n.phase b phase → new.parent ≡ b.parent
+ballot_ends : (s : State) → IsSound s → (p : NodeId) (n : Live) (b new : Poll) (phase : Poll → Phase) → IsAlive s p n → Votes n.phase b phase
+    → new.parent ≡ b.parent
     → EndsThen s p None (phase new)
 ballot_ends s sound p n b new phase alive votes_so same =
     ends_on (length (acts_in_line s.history p)) (acts_held (row_of s.content p).permanent) n.phase b new phase votes_so same (alive_was s sound p n alive).ends
@@ -67,17 +69,20 @@ joined_ends s p b parent is none = absurd (cc (is, none))
 
 -- ---- underlying messages that are not heard
 
-appended_so : (shards : ℕ) (h : List Note) (p from : NodeId) (post : Post) (kept : List (NodeId × Post)) → KeepsSo shards h p kept → SaysSo shards h from p post.talk post.by
+appended_so : (shards : ℕ) (h : List Note) (p from : NodeId) (post : Post) (kept : List (NodeId × Post)) → KeepsSo shards h p kept
+    → SaysSo shards h from p post.talk post.by
     → KeepsSo shards h p (kept ++ (from, post) ∷ [])
 appended_so shards h p from post kept so says x c = elim (Contains-push_cases kept (from, post) x c) [
   | inl old ↦ so x old
   | inr same ↦ subst (λ (y : NodeId × Post). SaysSo shards h y.0 p y.1.talk y.1.by) same says
 ]
 
-pub puts_by : (s : State) → IsSound s → (p q : NodeId) (n : Live) (post : Post) → Comes s p q (messages.Post post) → IsAlive s q n → Keeps s q (keep_plan p post)
+pub puts_by : (s : State) → IsSound s → (p q : NodeId) (n : Live) (post : Post) → Comes s p q (messages.Post post) → IsAlive s q n
+    → Keeps s q (keep_plan p post)
 puts_by s sound p q n post comes alive =
     quiet_keeps s q n _ _ sound alive refl
-    (appended_so s.cast.shards s.history q p post n.kept (alive_keeps s sound q n alive) (comes_so s sound p q (messages.Post post) comes)) tt (alive_was s sound q n alive).ends
+    (appended_so s.cast.shards s.history q p post n.kept (alive_keeps s sound q n alive) (comes_so s sound p q (messages.Post post) comes)) tt
+    (alive_was s sound q n alive).ends
 
 -- ---- asks
 
@@ -86,7 +91,8 @@ answers_check s sound p q n ask agreed alive =
     quiet_keeps s q n _ _ sound alive refl (alive_keeps s sound q n alive)
     (votes_well s.cast.shards s.history q (Some (vote_for ask.instance (asker_of p ask) agreed))) (alive_was s sound q n alive).ends
 
-pub answers_rollback : (s : State) → IsSound s → (p q : NodeId) (n : Live) (ask : Ask) (agreed : Bool) → IsAlive s q n → Keeps s q (sieved_answer_plan p ask agreed)
+pub answers_rollback : (s : State) → IsSound s → (p q : NodeId) (n : Live) (ask : Ask) (agreed : Bool) → IsAlive s q n
+    → Keeps s q (sieved_answer_plan p ask agreed)
 answers_rollback s sound p q n ask agreed alive =
     quiet_keeps s q n _ _ sound alive refl (sieved_so s.cast.shards s.history q p ask.label n.kept (alive_keeps s sound q n alive))
     (votes_well s.cast.shards s.history q (Some (vote_for ask.instance (asker_of p ask) agreed))) (alive_was s sound q n alive).ends
@@ -96,7 +102,8 @@ pub joins_rollback : (s : State) → IsSound s → (p q : NodeId) (n : Live) (as
 joins_rollback s sound p q n ask permanent alive =
     let b : Poll = roller (view s q).role n p ask in
     quiet_keeps s q n _ _ sound alive refl (sieved_so s.cast.shards s.history q p ask.label n.kept (alive_keeps s sound q n alive))
-    (roll_asks_well s.cast.shards s.history q b.instance n.incarnation (sent_in permanent) b.asked (casting b)) (joined_ends s q (poll_after b (casting b)) (asker_of p ask) (parent_after b (casting b)))
+    (roll_asks_well s.cast.shards s.history q b.instance n.incarnation (sent_in permanent) b.asked (casting b))
+    (joined_ends s q (poll_after b (casting b)) (asker_of p ask) (parent_after b (casting b)))
 
 -- ---- votes
 
@@ -104,7 +111,8 @@ pub counts_vote : (s : State) → IsSound s → (p q : NodeId) (n : Live) (agree
     → Keeps s q (voting_plan (phase (poll_after (counted b p agreed) (casting (counted b p agreed)))) (casting (counted b p agreed)))
 counts_vote s sound p q n agreed b phase alive votes_so =
     quiet_keeps s q n _ _ sound alive refl (alive_keeps s sound q n alive) (votes_well s.cast.shards s.history q (casting (counted b p agreed)))
-    (ballot_ends s sound q n b (poll_after (counted b p agreed) (casting (counted b p agreed))) phase alive votes_so (parent_after (counted b p agreed) (casting (counted b p agreed))))
+    (ballot_ends s sound q n b (poll_after (counted b p agreed) (casting (counted b p agreed))) phase alive votes_so
+    (parent_after (counted b p agreed) (casting (counted b p agreed))))
 
 pub declines : (s : State) → IsSound s → (p : NodeId) (n : Live) (b : Poll) (phase : Poll → Phase) (parent : Asker) → IsAlive s p n → Votes n.phase b phase
     → Keeps s p (declined_plan (phase (voted b)) b.instance parent)
@@ -114,7 +122,8 @@ declines s sound p n b phase parent alive votes_so =
 
 -- ---- verdicts
 
-pub goes_on : (s : State) → IsSound s → (p : NodeId) (n : Live) (send : List (NodeId × Message)) → IsAlive s p n → SendWell s.cast.shards s.history p send → Keeps s p (release_plan send)
+pub goes_on : (s : State) → IsSound s → (p : NodeId) (n : Live) (send : List (NodeId × Message)) → IsAlive s p n → SendWell s.cast.shards s.history p send
+    → Keeps s p (release_plan send)
 goes_on s sound p n send alive well = quiet_keeps s p n _ send sound alive refl (alive_keeps s sound p n alive) well tt
 
 pub undecided_not_no : (o : Option Verdict) → IsTrue (is_undecided o) → ¬ (o ≡ Some verdicts.No)
@@ -124,19 +133,24 @@ undecided_not_no (Some verdicts.Yes) e is = cc (e)
 undecided_not_no (Some verdicts.No) e is = cc (e)
 
 -- the verdict is no second one
-says_anew : (s : State) (instance : ℕ) (agreed : Bool) → ¬ (verdict_of s.content instance ≡ Some verdicts.No) → SaysNoYes s.content (Some (writes.Decide instance agreed))
+says_anew : (s : State) (instance : ℕ) (agreed : Bool) → ¬ (verdict_of s.content instance ≡ Some verdicts.No)
+    → SaysNoYes s.content (Some (writes.Decide instance agreed))
 says_anew s instance true fine = fine
 says_anew s instance false fine = tt
 
-decides_as : (s : State) → IsSound s → (p : NodeId) (n : Live) (ph : Phase) (b : Poll) (phase : Poll → Phase) (agreed : Bool) → IsAlive s p n → n.phase ≡ ph → Votes ph b phase
+decides_as : (s : State) → IsSound s → (p : NodeId) (n : Live) (ph : Phase) (b : Poll) (phase : Poll → Phase) (agreed : Bool) → IsAlive s p n → n.phase ≡ ph
+    → Votes ph b phase
     → ¬ (verdict_of s.content b.instance ≡ Some verdicts.No) → Keeps s p (decide_plan ph b agreed)
 decides_as s sound p n ph b phase agreed alive is holds fine =
-    deciding_keeps s p n no_turn _ b.instance agreed sound alive refl (alive_keeps s sound p n alive) (verdicts_well s.cast.shards s.history p b.instance agreed b.asked)
+    deciding_keeps s p n no_turn _ b.instance agreed sound alive refl (alive_keeps s sound p n alive)
+    (verdicts_well s.cast.shards s.history p b.instance agreed b.asked)
     (says_anew s b.instance agreed fine) (alive_was s sound p n alive).ends
 decides_as s sound p n ph b phase true alive is rolls fine =
-    deciding_keeps s p n _ _ b.instance true sound alive refl (alive_keeps s sound p n alive) (verdicts_well s.cast.shards s.history p b.instance true b.asked) fine tt
+    deciding_keeps s p n _ _ b.instance true sound alive refl (alive_keeps s sound p n alive)
+    (verdicts_well s.cast.shards s.history p b.instance true b.asked) fine tt
 decides_as s sound p n ph b phase false alive is rolls fine =
-    deciding_keeps s p n no_turn _ b.instance false sound alive refl (alive_keeps s sound p n alive) (verdicts_well s.cast.shards s.history p b.instance false b.asked) tt
+    deciding_keeps s p n no_turn _ b.instance false sound alive refl (alive_keeps s sound p n alive)
+    (verdicts_well s.cast.shards s.history p b.instance false b.asked) tt
     (alive_was s sound p n alive).ends
 
 pub decides : (s : State) → IsSound s → (p : NodeId) (n : Live) (b : Poll) (phase : Poll → Phase) (agreed : Bool) → IsAlive s p n → Votes n.phase b phase
@@ -147,7 +161,8 @@ decides s sound p n b phase agreed alive votes_so undecided =
 
 pub gives_up : (s : State) → IsSound s → (p : NodeId) (n : Live) (b : Poll) → IsAlive s p n → Keeps s p (no_plan (changes.Turn no_turn) b.instance b.asked)
 gives_up s sound p n b alive =
-    deciding_keeps s p n no_turn _ b.instance false sound alive refl (alive_keeps s sound p n alive) (verdicts_well s.cast.shards s.history p b.instance false b.asked) tt
+    deciding_keeps s p n no_turn _ b.instance false sound alive refl (alive_keeps s sound p n alive)
+    (verdicts_well s.cast.shards s.history p b.instance false b.asked) tt
     (alive_was s sound p n alive).ends
 
 pub gives_up_down : (s : State) → IsSound s → (p : NodeId) (instance : ℕ) → Keeps s p (no_plan changes.Stay instance [])

@@ -42,22 +42,28 @@ use Rattle.kt_world.proofs.Turns.{alive_was, asks_well}
 -- ---- a participant rolls back
 
 -- a node that rolls back has nothing tentative
-rolling_free : (s : State) → IsBacked s → (p : NodeId) (n : Live) (b : Poll) → IsAlive s p n → n.phase ≡ phases.Rolling b → (row_of s.content p).tentative ≡ None
+rolling_free : (s : State) → IsBacked s → (p : NodeId) (n : Live) (b : Poll) → IsAlive s p n → n.phase ≡ phases.Rolling b
+    → (row_of s.content p).tentative ≡ None
 rolling_free s backed p n b alive rolling =
     let taken : Option Tentative = (row_of s.content p).tentative in
     let Row : Option Node → Type 0 = λ row. IfSome row (λ x. IsNodeBacked x taken) in
     let In : Phase → Type 0 = λ phase. IsPhaseBacked phase taken in
     subst In rolling (subst Row alive (backed.nodes p))
 
-pub rolls_back : (s : State) → IsReady s → IsBacked s → IsSound s → (p : NodeId) (n live : Live) (b : Poll) (send : List (NodeId × Message)) → IsAlive s p n → n.phase ≡ phases.Rolling b
+pub rolls_back : (s : State) → IsReady s → IsBacked s → IsSound s → (p : NodeId) (n live : Live) (b : Poll) (send : List (NodeId × Message)) → IsAlive s p n
+    → n.phase ≡ phases.Rolling b
     → load (view s p) (stored_of s.content p) ≡ Ok live
     → SendWell s.cast.shards (s.history ++ notes.Cut p (acts_in (option_map marks_of (row_of s.content p).permanent)) ∷ []) p send
     → Keeps s p (restoring_plan (view s p) (stored_of s.content p) send live)
 rolls_back s ready backed sound p n live b send alive rolling from_store well =
     cut_keeps s p keep (changes.Load live) send (Some writes.Bump) (Alive live) (ap (option_map (changed (changes.Load live))) alive) short well tt (record {
-      like = subst (λ x. IsBodyLike s.cast.scripts p (take keep acts) x) (sym is.works) (subst (λ k. IsBodyLike s.cast.scripts p (take k acts) is.body) (sym held) (loaded-front s.cast ready.cast p acts old is.body is.is_body front));
+      like =
+          subst (λ x. IsBodyLike s.cast.scripts p (take keep acts) x) (sym is.works)
+          (subst (λ k. IsBodyLike s.cast.scripts p (take k acts) is.body) (sym held) (loaded-front s.cast ready.cast p acts old is.body is.is_body front));
       kept = loaded_so s.cast.shards (s.history ++ notes.Cut p keep ∷ []) p live.kept is.empty;
-      stored = stored-cut s.cast p acts keep old (row_of s.content p).tentative _ (omega (arith, held)) short (λ fine t e. absurd (cc (rolling_free s backed p n b alive rolling, e)))
+      stored =
+          stored-cut s.cast p acts keep old (row_of s.content p).tentative _ (omega (arith, held)) short
+          (λ fine t e. absurd (cc (rolling_free s backed p n b alive rolling, e)))
           (sound.nodes p).stored;
       ends = subst (EndsRolling (length (take keep acts)) (acts_held old)) (sym is.up) tt;
     })
@@ -86,7 +92,8 @@ rolls_back s ready backed sound p n live b send alive rolling from_store well =
 -- ---- a node restarts
 
 -- whose line ends where its permanent checkpoint does
-restarting : (s : State) → IsReady s → IsSound s → (p : NodeId) (was : Node) (live : Live) (next : ℕ) → node s p ≡ Some was → length (acts_in_line s.history p) ≡ acts_held (row_of s.content p).permanent
+restarting : (s : State) → IsReady s → IsSound s → (p : NodeId) (was : Node) (live : Live) (next : ℕ) → node s p ≡ Some was
+    → length (acts_in_line s.history p) ≡ acts_held (row_of s.content p).permanent
     → load (view s p) (stored_of s.content p) ≡ Ok live → Keeps s p (restarting_plan (view s p) (stored_of s.content p) next live)
 restarting s ready sound p was live next here long from_store =
     let write : Option Write = Some writes.BeginRestart in
@@ -104,7 +111,9 @@ restarting s ready sound p was live next here long from_store =
       sends = asks_well s.cast.shards s.history p next _ (label_at live.sent) (neighbours (view s p).role);
       noes = noes-stay p write s.content tt;
       sound = subst Of (sym here) (subst Row (sym (own-row p write s.content)) (record {
-        like = subst (IsBodyLike s.cast.scripts p acts) (sym is.works) (loaded-whole s.cast ready.cast p acts row.permanent is.body long is.is_body later.stored.permanent);
+        like =
+            subst (IsBodyLike s.cast.scripts p acts) (sym is.works)
+            (loaded-whole s.cast ready.cast p acts row.permanent is.body long is.is_body later.stored.permanent);
         kept = loaded_so s.cast.shards s.history p live.kept is.empty;
         stored = later.stored;
         ends = λ none. long;
@@ -120,10 +129,12 @@ pub restarts : (s : State) → IsReady s → IsSound s → (p : NodeId) (live : 
 restarts s ready sound p live next down none from_store =
     let row : NodeRow = row_of s.content p in
     let was = subst (NodeSoundIn s.cast s.history s.content p) down (sound.nodes p) in
-    let Taken : Option Tentative → Type 0 = λ o. EndsDown (length (acts_in_line s.history p)) (acts_held row.permanent) (verdict_on s.content row.tentative) o in
+    let Taken : Option Tentative → Type 0 =
+    λ o. EndsDown (length (acts_in_line s.history p)) (acts_held row.permanent) (verdict_on s.content row.tentative) o in
     restarting s ready sound p Down live next down (subst Taken (none_taken row.tentative none) was.ends) from_store
 
-pub restarts_anew : (s : State) → IsReady s → IsSound s → (p : NodeId) (n live : Live) (b : Poll) (next : ℕ) → IsAlive s p n → n.phase ≡ phases.Rolling b → b.parent ≡ None
+pub restarts_anew : (s : State) → IsReady s → IsSound s → (p : NodeId) (n live : Live) (b : Poll) (next : ℕ) → IsAlive s p n → n.phase ≡ phases.Rolling b
+    → b.parent ≡ None
     → load (view s p) (stored_of s.content p) ≡ Ok live → Keeps s p (restarting_plan (view s p) (stored_of s.content p) next live)
 restarts_anew s ready sound p n live b next alive rolling began from_store =
     let Ends : Phase → Type 0 = EndsRolling (length (acts_in_line s.history p)) (acts_held (row_of s.content p).permanent) in

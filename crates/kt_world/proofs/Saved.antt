@@ -1,5 +1,6 @@
 -- What a node works with, saved in a checkpoint and loaded again, is like what it was like.
-use Rattle.std.proofs.Common.{◌≡◌, ◌≢◌, ℕ, zero, suc, ◌+◌, ◌<◌, ◌≤◌, ◌==◌, Bool, true, false, List, [], ◌∷◌, ◌++◌, length, map, Option, Some, None, Ok, inl, inr, refl, sym, ap, ◌∙◌, subst, ◌⊎◌, eq-eqb, ne_eqb, arith}
+use Rattle.std.proofs.Common.{◌≡◌, ◌≢◌, ℕ, zero, suc, ◌+◌, ◌<◌, ◌≤◌, ◌==◌, Bool, true, false, List, [], ◌∷◌, ◌++◌, length}
+use Rattle.std.proofs.Common.{map, Option, Some, None, Ok, inl, inr, refl, sym, ap, ◌∙◌, subst, ◌⊎◌, eq-eqb, ne_eqb, arith}
 use Rattle.std.specs.Prelude.{slice_get}
 use Rattle.std.specs.List.{find, flat_map}
 use Rattle.std.specs.Option.{option_map}
@@ -16,7 +17,8 @@ use Rattle.kt_shard.specs.Table.{at}
 use Rattle.kt_shard.specs.Desk.{empty_desk}
 use Rattle.kt_node.specs.Labels.{numbers}
 use Rattle.kt_node.specs.Node.{Body, IsWorker, IsShard}
-use Rattle.kt_node.specs.State.{entry, entries, entry_of, desk_with, shard_fields, shard_from, shard_fits, worker_fields, worker_fits, standing_from, body_fields, body_from, if_fits}
+use Rattle.kt_node.specs.State.{entry, entries, entry_of, desk_with, shard_fields, shard_from, shard_fits}
+use Rattle.kt_node.specs.State.{worker_fields, worker_fits, standing_from, body_fields, body_from, if_fits}
 use Rattle.kt_world.specs.Cast.{Cast, IsCast, script_at}
 use Rattle.kt_world.specs.State.{role_of}
 use Rattle.kt_lines.specs.ShardLine.{MadeShard, shard_of_acts, new_shard}
@@ -54,7 +56,8 @@ found-here w None later none = ap (option_map (λ x. x.1)) none
 found-here w (Some x) later none = rw (eq-eqb w w refl) refl
 
 -- a number that is not among these has no entry
-no-entry : {A : Type 0} (of : ℕ → Option A) (w from n : ℕ) → (w < from) ⊎ (from + n ≤ w) → find (λ x. x.0 == w) (flat_map (λ k. entry k (of k)) (numbers from n)) ≡ None
+no-entry : {A : Type 0} (of : ℕ → Option A) (w from n : ℕ) → (w < from) ⊎ (from + n ≤ w)
+    → find (λ x. x.0 == w) (flat_map (λ k. entry k (of k)) (numbers from n)) ≡ None
 unfolding numbers
 no-entry of w from zero out = refl
 no-entry of w from (suc n) out = elim out [
@@ -88,7 +91,8 @@ entry-none of w out = ap (option_map (λ x. x.1)) (no-entry of w 1 8 out)
 
 -- ---- desks
 
-same_desk : (waiting : Option Request) (kept : Option Kept) (d : Desk) → waiting ≡ d.waiting → kept ≡ d.kept → (let e : Desk = record { waiting = waiting; kept = kept } in e) ≡ d
+same_desk : (waiting : Option Request) (kept : Option Kept) (d : Desk) → waiting ≡ d.waiting → kept ≡ d.kept
+    → (let e : Desk = record { waiting = waiting; kept = kept } in e) ≡ d
 same_desk waiting kept d w k = λ i. record { waiting = w i; kept = k i }
 
 -- the desk of a shard that was saved and loaded: the same, and empty where no worker has such a number
@@ -116,7 +120,8 @@ no_script scripts zero few out = refl
 no_script scripts (suc k) few (inl low) = absurd (omega (arith, low))
 no_script scripts (suc k) few (inr high) = no_script-past scripts k (omega (arith, few, high))
 
-shard_loaded : (scripts : List (List Command)) (made : MadeShard) (y : Shard) → length scripts ≤ 8 → IsShardLike scripts made y → IsShardLike scripts made (shard_from (shard_fields y))
+shard_loaded : (scripts : List (List Command)) (made : MadeShard) (y : Shard) → length scripts ≤ 8 → IsShardLike scripts made y
+    → IsShardLike scripts made (shard_from (shard_fields y))
 shard_loaded scripts made y few like = record {
   bag = like.bag;
   desks = λ w. elim (cases_lt w 1) [

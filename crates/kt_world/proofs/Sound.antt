@@ -167,7 +167,8 @@ Ends long permanent tentative verdict (Some (Alive n)) = EndsRolling long perman
 -- ---- a node, and all
 
 -- the node p, with these acts, as it is and as it is stored
-pub record IsNodeSound (cast : Cast) (h : List Note) (p : NodeId) (acts : List Act) (node : Option Node) (permanent : Option Ckpt) (tentative : Option Tentative)
+pub record IsNodeSound (cast : Cast) (h : List Note) (p : NodeId) (acts : List Act) (node : Option Node) (permanent : Option Ckpt)
+    (tentative : Option Tentative)
     (verdict : Option Verdict) : Type 0 where
   pub like : IsNodeLike cast.scripts p acts node
   pub kept : AreKept cast.shards h p node

@@ -16,7 +16,8 @@ use Rattle.kt_world.proofs.Saved.{role_id, loaded_like}
 use Rattle.kt_world.proofs.Sound.{IsBodyLike, acts_held, IsFront, IsTentative, IsNotNo, IsStored}
 
 -- a front stays where the line begins with the same acts
-front-kept : (cast : Cast) (p : NodeId) (acts new : List Act) (stored : Option Ckpt) → acts_held stored ≤ length new → take (acts_held stored) new ≡ take (acts_held stored) acts
+front-kept : (cast : Cast) (p : NodeId) (acts new : List Act) (stored : Option Ckpt) → acts_held stored ≤ length new
+    → take (acts_held stored) new ≡ take (acts_held stored) acts
     → IsFront cast p acts stored → IsFront cast p new stored
 front-kept cast p acts new stored short same front =
     record { short = short; body = front.body; saved = front.saved; like = subst (λ l. IsBodyLike cast.scripts p l front.body) (sym same) front.like }
@@ -26,7 +27,8 @@ front-push cast p acts a stored front =
     let long = length-append acts (a ∷ []) in
     front-kept cast p acts (acts ++ a ∷ []) stored (omega (arith, long, front.short)) (take-append-le (acts_held stored) acts (a ∷ []) front.short) front
 
-front-cut : (cast : Cast) (p : NodeId) (acts : List Act) (keep : ℕ) (stored : Option Ckpt) → acts_held stored ≤ keep → keep ≤ length acts → IsFront cast p acts stored
+front-cut : (cast : Cast) (p : NodeId) (acts : List Act) (keep : ℕ) (stored : Option Ckpt) → acts_held stored ≤ keep → keep ≤ length acts
+    → IsFront cast p acts stored
     → IsFront cast p (take keep acts) stored
 front-cut cast p acts keep stored low high front =
     let long = length-take-le keep acts high in
@@ -44,7 +46,8 @@ pub stored-push : (cast : Cast) (p : NodeId) (acts : List Act) (a : Act) (old : 
     → IsStored cast p acts old taken verdict → IsStored cast p (acts ++ a ∷ []) old taken verdict
 stored-push cast p acts a old taken verdict stored = record {
   permanent = front-push cast p acts a old stored.permanent;
-  tentative = λ fine. tentatives cast p acts (acts ++ a ∷ []) old taken (λ t is front. front-push cast p acts a (Some t.checkpoint) front) (stored.tentative fine);
+  tentative =
+      λ fine. tentatives cast p acts (acts ++ a ∷ []) old taken (λ t is front. front-push cast p acts a (Some t.checkpoint) front) (stored.tentative fine);
 }
 
 -- a cut behind the permanent checkpoint, and behind the tentative one where that may still count
@@ -62,7 +65,8 @@ take-all [] = refl
 take-all (x ∷ xs) = ap (λ l. x ∷ l) (take-all xs)
 
 -- what holds all of the line
-pub front-now : (cast : Cast) (p : NodeId) (acts : List Act) (c : Ckpt) (body : Body) → c.line_len ≡ length acts → c.state ≡ body_fields body → IsBodyLike cast.scripts p acts body
+pub front-now : (cast : Cast) (p : NodeId) (acts : List Act) (c : Ckpt) (body : Body) → c.line_len ≡ length acts → c.state ≡ body_fields body
+    → IsBodyLike cast.scripts p acts body
     → IsFront cast p acts (Some c)
 front-now cast p acts c body long saved like = record {
   short = omega (arith, long);
@@ -74,7 +78,8 @@ front-now cast p acts c body long saved like = record {
 -- ---- what is loaded
 
 -- whatever is loaded is like what the checkpoint's acts make of the node
-pub loaded-front : (cast : Cast) → IsCast cast → (p : NodeId) (acts : List Act) (stored : Option Ckpt) (b : Body) → body_at (role_of cast p) stored ≡ Ok b → IsFront cast p acts stored
+pub loaded-front : (cast : Cast) → IsCast cast → (p : NodeId) (acts : List Act) (stored : Option Ckpt) (b : Body) → body_at (role_of cast p) stored ≡ Ok b
+    → IsFront cast p acts stored
     → IsBodyLike cast.scripts p (take (acts_held stored) acts) b
 loaded-front cast is p acts None b e front =
     let same : opening_body (role_of cast p) (role_of cast p).id ≡ b = cc in

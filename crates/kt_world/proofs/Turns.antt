@@ -1,5 +1,6 @@
 -- A plan that notes nothing keeps a state sound where what is kept, what is stored and the end of the line still suit.
-use Rattle.std.proofs.Common.{◌≡◌, ℕ, Bool, true, false, not, cond, List, [], ◌∷◌, ◌++◌, filter, length, Contains, Option, Some, None, inl, inr, refl, sym, ap, ◌∙◌, subst}
+use Rattle.std.proofs.Common.{◌≡◌, ℕ, Bool, true, false, not, cond, List, [], ◌∷◌, ◌++◌, filter}
+use Rattle.std.proofs.Common.{length, Contains, Option, Some, None, inl, inr, refl, sym, ap, ◌∙◌, subst}
 use Rattle.std.specs.Prelude.{unwrap_or}
 use Rattle.std.specs.Option.{option_map}
 use Rattle.kt_tuple.specs.declared.node.NodeId.{NodeId}
@@ -37,7 +38,8 @@ use Rattle.kt_world.proofs.Applying.{Keeps, sound-later}
 -- ---- what is sent
 
 -- asks, votes and verdicts carry no act
-pub verdicts_well : (shards : ℕ) (h : List Note) (p : NodeId) (instance : ℕ) (agreed : Bool) (asked : List NodeId) → SendWell shards h p (verdict_to instance agreed asked)
+pub verdicts_well : (shards : ℕ) (h : List Note) (p : NodeId) (instance : ℕ) (agreed : Bool) (asked : List NodeId)
+    → SendWell shards h p (verdict_to instance agreed asked)
 verdicts_well shards h p instance agreed [] = tt
 verdicts_well shards h p instance agreed (q ∷ asked) = (tt, verdicts_well shards h p instance agreed asked)
 
@@ -50,7 +52,8 @@ pub check_asks_well : (shards : ℕ) (h : List Note) (p : NodeId) (instance : �
 check_asks_well shards h p instance n [] own = votes_well shards h p own
 check_asks_well shards h p instance n (q ∷ asked) own = (tt, check_asks_well shards h p instance n asked own)
 
-pub roll_asks_well : (shards : ℕ) (h : List Note) (p : NodeId) (instance incarnation : ℕ) (label : ℕ → Label) (asked : List NodeId) (own : Option (NodeId × Vote))
+pub roll_asks_well : (shards : ℕ) (h : List Note) (p : NodeId) (instance incarnation : ℕ) (label : ℕ → Label) (asked : List NodeId)
+    (own : Option (NodeId × Vote))
     → SendWell shards h p (roll_asks instance incarnation label asked ++ votes own)
 roll_asks_well shards h p instance incarnation label [] own = votes_well shards h p own
 roll_asks_well shards h p instance incarnation label (q ∷ asked) own = (tt, roll_asks_well shards h p instance incarnation label asked own)
@@ -67,10 +70,13 @@ Contains-sieved f [] x c = c
 Contains-sieved f (y ∷ kept) x c = by (f y) c (Contains-sieved f kept x)
   where
     by : (b : Bool) → Contains (cond b (y ∷ filter f kept) (filter f kept)) x → (Contains (filter f kept) x → Contains kept x) → Contains (y ∷ kept) x
-    by true c rest = elim (Contains-cons_cases y (filter f kept) x c) [ inl same ↦ subst (Contains (y ∷ kept)) same (Contains-here y kept) | inr later ↦ Contains-there y kept x (rest later) ]
+    by true c rest =
+        elim (Contains-cons_cases y (filter f kept) x c)
+        [ inl same ↦ subst (Contains (y ∷ kept)) same (Contains-here y kept) | inr later ↦ Contains-there y kept x (rest later) ]
     by false c rest = Contains-there y kept x (rest c)
 
-pub sieved_so : (shards : ℕ) (h : List Note) (p from : NodeId) (l : Label) (kept : List (NodeId × Post)) → KeepsSo shards h p kept → KeepsSo shards h p (changed_kept kept (keeps.Sieve from l))
+pub sieved_so : (shards : ℕ) (h : List Note) (p from : NodeId) (l : Label) (kept : List (NodeId × Post)) → KeepsSo shards h p kept
+    → KeepsSo shards h p (changed_kept kept (keeps.Sieve from l))
 sieved_so shards h p from l kept so x c = so x (Contains-sieved (λ y. not (is_above from l y)) kept x c)
 
 -- ---- what is known of a node
@@ -79,7 +85,8 @@ pub alive_was : (s : State) → IsSound s → (p : NodeId) (n : Live) → IsAliv
 alive_was s sound p n alive = subst (NodeSoundIn s.cast s.history s.content p) alive (sound.nodes p)
 
 -- what the board has of the instance of an alive node's ballot
-pub of_ballot : (s : State) (p : NodeId) (n : Live) (b : Poll) → IsAlive s p n → poll_in n.phase ≡ Some b → of_poll s.content (poll_of (view s p).node) ≡ verdict_of s.content b.instance
+pub of_ballot : (s : State) (p : NodeId) (n : Live) (b : Poll) → IsAlive s p n → poll_in n.phase ≡ Some b
+    → of_poll s.content (poll_of (view s p).node) ≡ verdict_of s.content b.instance
 of_ballot s p n b alive votes_in =
     ap (λ row. of_poll s.content (poll_of (unwrap_or row Down))) alive ∙ ap (of_poll s.content) votes_in
 
@@ -100,7 +107,8 @@ EndsThen s p write phase = EndsRolling (length (acts_in_line s.history p)) (acts
 
 -- a node that goes on with what it works with, and notes nothing
 pub turn_keeps : (s : State) (p : NodeId) (n : Live) (t : Turn) (send : List (NodeId × Message)) (write : Option Write) → IsSound s → IsAlive s p n
-    → t.body ≡ bodies.Stay → KeepsSo s.cast.shards s.history p (changed_kept n.kept t.kept) → SendWell s.cast.shards s.history p send → SaysNoYes s.content write
+    → t.body ≡ bodies.Stay → KeepsSo s.cast.shards s.history p (changed_kept n.kept t.kept) → SendWell s.cast.shards s.history p send
+    → SaysNoYes s.content write
     → StoredThen s p write → EndsThen s p write (phase_in n.phase t.phase)
     → Keeps s p (record { change = changes.Turn t; send = send; note = None; write = write })
 turn_keeps s p n t send write sound alive same so well says stored ends = record {
@@ -165,8 +173,11 @@ refusing_keeps s p send instance sound well =
     let write : Option Write = Some (writes.Decide instance false) in
     let c : Content = content_after p write s.content in
     let Of : Option Node → Type 0 = NodeSoundIn s.cast s.history c p in
-    let Row : NodeRow → Type 0 = λ row. IsNodeSound s.cast s.history p (acts_in_line s.history p) (node s p) row.permanent row.tentative (verdict_on c row.tentative) in
-    let later = sound-later s.cast s.history s.content c None p (acts_in_line s.history p) (node s p) (row_of s.content p) (noes-stay p write s.content tt) (sound.nodes p) in
+    let Row : NodeRow → Type 0 =
+    λ row. IsNodeSound s.cast s.history p (acts_in_line s.history p) (node s p) row.permanent row.tentative (verdict_on c row.tentative) in
+    let later =
+    sound-later s.cast s.history s.content c None p (acts_in_line s.history p) (node s p) (row_of s.content p) (noes-stay p write s.content tt)
+    (sound.nodes p) in
     record {
       may = tt;
       sends = well;

@@ -39,7 +39,8 @@ use Rattle.kt_world.proofs.ActKeeps.{ActWell}
 abbrev made_of : List Note → ℕ → MadeWorker
 made_of h w = worker_of_acts new_worker (acts_in_line h (ids.Worker w))
 
-like-push : (script : List Command) (acts : List Act) (a : Act) (x : Worker) → IsWorkerLike script (worker_after (worker_of_acts new_worker acts) a) x → IsWorkerLike script (worker_of_acts new_worker (acts ++ a ∷ [])) x
+like-push : (script : List Command) (acts : List Act) (a : Act) (x : Worker) → IsWorkerLike script (worker_after (worker_of_acts new_worker acts) a) x
+    → IsWorkerLike script (worker_of_acts new_worker (acts ++ a ∷ [])) x
 like-push script acts a x like = subst (λ m. IsWorkerLike script m x) (sym (worker_of_acts-push new_worker acts a)) like
 
 -- the next note's act says this
@@ -71,8 +72,10 @@ again-is x r e = by x.asked refl e
     by None is e = absurd cc
     by (Some op) is e = let same : (x.number, op) ≡ r = cc (e) in (ap (λ (z : ℕ × Op). z.0) same, is ∙ ap (λ (z : ℕ × Op). Some z.1) same)
 
-pub repeated_well : (cast : Cast) (h : List Note) (w : ℕ) (x : Worker) (r : ℕ × Op) (l : Label) → IsWorkerLike (script_numbered cast.scripts w) (made_of h w) x → again_request x ≡ Some r
-    → ActWell cast h (ids.Worker w) (IsWorker x) (posting h (home cast.shards r.1) l (talks.Request (request_for r))) (act_of (ids.Worker w) 0 w (request_for r) whats.Repeat)
+pub repeated_well : (cast : Cast) (h : List Note) (w : ℕ) (x : Worker) (r : ℕ × Op) (l : Label) → IsWorkerLike (script_numbered cast.scripts w) (made_of h w) x
+    → again_request x ≡ Some r
+    → ActWell cast h (ids.Worker w) (IsWorker x) (posting h (home cast.shards r.1) l (talks.Request (request_for r)))
+    (act_of (ids.Worker w) 0 w (request_for r) whats.Repeat)
 repeated_well cast h w x r l like e =
     let script : List Command = script_numbered cast.scripts w in
     let made : MadeWorker = made_of h w in
@@ -86,18 +89,21 @@ repeated_well cast h w x r l like e =
     }
 
 -- what the worker waits for is what its acts say
-Awaits-like : (script : List Command) (made : MadeWorker) (x : Worker) (request : Request) → IsWorkerLike script made x → awaits x request.number request.op ≡ true → Awaits request.number request.op made
+Awaits-like : (script : List Command) (made : MadeWorker) (x : Worker) (request : Request) → IsWorkerLike script made x
+    → awaits x request.number request.op ≡ true → Awaits request.number request.op made
 Awaits-like script made x request like e =
     let i = awaits-is x request.number request.op e in
     (sym i.0 ∙ like.after.number ∙ ap (λ o. last_number o (length made.answers)) i.1, sym like.asked ∙ i.1)
 
-awaits-from_Awaits : (script : List Command) (made : MadeWorker) (x : Worker) (request : Request) → IsWorkerLike script made x → Awaits request.number request.op made → awaits x request.number request.op ≡ true
+awaits-from_Awaits : (script : List Command) (made : MadeWorker) (x : Worker) (request : Request) → IsWorkerLike script made x
+    → Awaits request.number request.op made → awaits x request.number request.op ≡ true
 awaits-from_Awaits script made x request like h =
     let asked : x.asked ≡ Some request.op = like.asked ∙ h.1 in
     awaits-from x request.number request.op (like.after.number ∙ ap (λ o. last_number o (length made.answers)) asked ∙ sym h.0) asked
 
 -- what was heard was answered by a shard
-heard_reply : (h : List Note) (s w : ℕ) (request : Request) (answer : Answer) (by : ℕ) (a : Act) → IsReplyOf h s w request answer by → a.by ≡ by → a.worker ≡ w → a.number ≡ request.number → a.op ≡ request.op → HeardReply h a answer
+heard_reply : (h : List Note) (s w : ℕ) (request : Request) (answer : Answer) (by : ℕ) (a : Act) → IsReplyOf h s w request answer by → a.by ≡ by → a.worker ≡ w
+    → a.number ≡ request.number → a.op ≡ request.op → HeardReply h a answer
 heard_reply h s w request answer by a m cause worker number op = record {
   cause = m.act;
   is_cause = subst (λ n. note_at h n ≡ Some (notes.Act m.act)) (sym cause) m.is_act;
@@ -106,7 +112,8 @@ heard_reply h s w request answer by a m cause worker number op = record {
   same = record { worker = m.worker ∙ sym worker; number = m.number ∙ sym number; op = m.op ∙ sym op };
 }
 
-pub accepted_well : (cast : Cast) (h : List Note) (s w : ℕ) (x : Worker) (request : Request) (answer : Answer) (by : ℕ) → IsWorkerLike (script_numbered cast.scripts w) (made_of h w) x
+pub accepted_well : (cast : Cast) (h : List Note) (s w : ℕ) (x : Worker) (request : Request) (answer : Answer) (by : ℕ)
+    → IsWorkerLike (script_numbered cast.scripts w) (made_of h w) x
     → IsReplyOf h s w request answer by → awaits x request.number request.op ≡ true
     → ActWell cast h (ids.Worker w) (IsWorker (heard (script_numbered cast.scripts w) x answer)) [] (act_of (ids.Worker w) by w request (whats.Accepted answer))
 accepted_well cast h s w x request answer by like m e =
@@ -121,7 +128,8 @@ accepted_well cast h s w x request answer by like m e =
       sends = tt;
     }
 
-pub ignored_well : (cast : Cast) (h : List Note) (s w : ℕ) (x : Worker) (request : Request) (answer : Answer) (by : ℕ) → IsWorkerLike (script_numbered cast.scripts w) (made_of h w) x
+pub ignored_well : (cast : Cast) (h : List Note) (s w : ℕ) (x : Worker) (request : Request) (answer : Answer) (by : ℕ)
+    → IsWorkerLike (script_numbered cast.scripts w) (made_of h w) x
     → IsReplyOf h s w request answer by → awaits x request.number request.op ≡ false
     → ActWell cast h (ids.Worker w) (IsWorker x) [] (act_of (ids.Worker w) by w request (whats.Ignored (Some answer)))
 ignored_well cast h s w x request answer by like m e =

@@ -1,6 +1,7 @@
 -- What holds of every state that steps lead to: the surviving services are one run of a sequential tuple space, each
 -- worker's requests being its script's, in order. And what a step makes of the history and of what is remembered.
-use Rattle.std.specs.Prelude.{◌≡◌, ℕ, ◌+◌, Bool, true, false, List, [], ◌∷◌, ◌++◌, take, length, ◌≤◌, Option, None, Some, IsTrue}
+use Rattle.std.specs.Prelude.{◌≡◌, ℕ, ◌+◌, Bool, true, false, List, [], ◌∷◌}
+use Rattle.std.specs.Prelude.{◌++◌, take, length, ◌≤◌, Option, None, Some, IsTrue}
 use Rattle.std.specs.List.{flat_map, range_with_len}
 use Rattle.kt_tuple.specs.declared.node.NodeId.{NodeId}
 use Rattle.kt_tuple.specs.declared.node.NodeId.TheVariants as ids
