@@ -10,7 +10,10 @@ use Rattle.kt_tuple.specs.declared.node.NodeId.TheVariants as ids
 use Rattle.kt_history.specs.Line.{line}
 use Rattle.kt_history.specs.Survival.{Stands, Survives, survives}
 use Rattle.kt_history.specs.Closed.{acts_in_line}
-use Rattle.kt_history.specs.WellFormed.{CausesComeFirst}
+use Rattle.kt_history.specs.WellFormed.{CausesComeFirst, HasNoCut}
+use Rattle.kt_history.proofs.Lines.{line-own}
+use Rattle.kt_history.proofs.Pasts.{InPast-back}
+use Rattle.kt_history.proofs.Sense.{Stands-no_cut}
 use Rattle.kt_history.proofs.Survivors.{survives-decides}
 use Rattle.kt_lines.specs.ShardLine.{shard_of_acts, new_shard}
 use Rattle.kt_lines.proofs.Homes.{is_home}
@@ -21,7 +24,7 @@ use Rattle.kt_node.specs.Node.{Body, IsWorker, IsShard, Live}
 use Rattle.kt_world.specs.Cast.{is_shard}
 use Rattle.kt_world.specs.State.{State, node}
 use Rattle.kt_world.specs.Asks.{setting_of}
-use Rattle.kt_world.specs.Headline.{bag_in, bag_of, all_bags, Headline}
+use Rattle.kt_world.specs.Headline.{bag_in, bag_of, all_bags, IsNothingLost, Headline}
 use Rattle.kt_world.proofs.Plans.{IsAlive}
 use Rattle.kt_world.proofs.Sound.{IsBodyLike, IsSound}
 use Rattle.kt_world.proofs.ActLeaves.{alive_like}
@@ -34,6 +37,17 @@ headline s sound =
       one_run = survivors_run (setting_of s.cast) s.history causes sound.legal;
       in_order = survivors_order (setting_of s.cast) s.history causes sound.well_formed sound.legal;
     }
+
+-- ---- without a cut nothing is lost, so each act that stands has all of its past
+
+pub nothing_lost : (h : List Note) → HasNoCut h → IsNothingLost h
+nothing_lost h none n act = Stands-no_cut h n none act
+
+pub survives_all : (s : State) → IsSound s → IsNothingLost s.history → (n : ℕ) → Stands s.history n → Survives s.history n
+survives_all s sound all n stands =
+    let own = line-own s.history stands.0 n stands.1 in
+    let causes = causes_come_first s.history sound.well_formed in
+    λ e past lost. lost (all e (InPast-back s.history causes e (own.act, own.is_act) past).1)
 
 -- ---- where nothing that is remembered has lost anything of its past
 

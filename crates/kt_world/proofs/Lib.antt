@@ -22,3 +22,4 @@ pub mod StepSound
 pub mod OpenedSound
 pub mod Headlines
 pub mod LinesAfter
+pub mod Following

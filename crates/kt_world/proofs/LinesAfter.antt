@@ -1,7 +1,7 @@
 -- What a step notes, and what it makes of what each node remembers: at most one note, of its owner; an act at the end of
 -- the owner's line, or a cut, which only a failure or a verdict that is learnt or told can bring.
 use Rattle.std.proofs.Common.{◌≡◌, ◌≢◌, ℕ, suc, ◌+◌, ◌≤◌, Bool, true, false, cond, List, [], ◌∷◌, ◌++◌}
-use Rattle.std.proofs.Common.{take, length, Option, Some, None, inl, inr, refl, sym, ap, ◌∙◌, subst, add-one, ne_eqb}
+use Rattle.std.proofs.Common.{take, length, Option, Some, None, inl, inr, refl, sym, ap, ◌∙◌, subst, add-one, ne_eqb, length-append, ◌<◌, arith}
 use Rattle.std.specs.Prelude.{IsTrue}
 use Rattle.std.proofs.lemmas.Bool.{cases_eq}
 use Rattle.kt_tuple.specs.declared.node.NodeId.{NodeId}
@@ -140,3 +140,11 @@ line_noted s step (Some (notes.Cut r keep)) may forgets q = elim (cases_eq (node
 pub line_after : (s : State) (t : Told) (step : Step) (plan : Plan) → PlanOf s t step plan → Keeps s (owner step) plan → (q : NodeId)
     → LineAfter s step (applied s step plan).history q
 line_after s t step plan of keeps q = line_noted s step plan.note keeps.may (λ r keep e. cut_forgets s t step plan of (r, keep, e)) q
+
+-- so a line is shorter only behind a step of its own by which a node may forget
+pub shorter_forgets : (s : State) (step : Step) (h : List Note) (q : NodeId) → LineAfter s step h q → length (line h q) < length (line s.history q)
+    → (owner step ≡ q) × IsTrue (may_forget s step)
+shorter_forgets s step h q (stays same) short = absurd (omega (arith, ap (λ (l : List ℕ). length l) same, short))
+shorter_forgets s step h q (grows own more) short =
+    absurd (omega (arith, ap (λ (l : List ℕ). length l) more, length-append (line s.history q) ((length s.history + 1) ∷ []), short))
+shorter_forgets s step h q (is_cut own forgets keep within cut) short = (own, forgets)

@@ -8,9 +8,9 @@ use Rattle.kt_tuple.specs.declared.node.NodeId.TheVariants as ids
 use Rattle.kt_tuple.specs.declared.tuple.Tuple.{Tuple}
 use Rattle.kt_tuple.specs.Space.{IsSpaceRun}
 use Rattle.kt_history.specs.declared.note.Note.{Note}
-use Rattle.kt_history.specs.Line.{line}
+use Rattle.kt_history.specs.Line.{line, IsAct}
 use Rattle.kt_history.specs.Chronicle.{node_of}
-use Rattle.kt_history.specs.Survival.{services}
+use Rattle.kt_history.specs.Survival.{Stands, services}
 use Rattle.kt_history.specs.WellFormed.{IsWellFormed}
 use Rattle.kt_lines.specs.Order.{FollowsScripts}
 use Rattle.kt_node.specs.declared.message.Message.{Message}
@@ -30,6 +30,10 @@ pub record Headline (s : State) : Type 0 where
   pub one_run : IsSpaceRun (services s.history) tuples
   -- each worker's requests are its script's, in order
   pub in_order : FollowsScripts (setting_of s.cast) (services s.history)
+
+-- every act is still remembered
+abbrev pub IsNothingLost : List Note → Type 0
+IsNothingLost h = (n : ℕ) → IsAct h n → Stands h n
 
 -- ---- tuples
 

@@ -11,3 +11,4 @@ pub mod Reached
 pub mod Ready
 pub mod Backed
 pub mod Headline
+pub mod Workers
