@@ -1,12 +1,13 @@
 -- The headline of a sound state: the survivors are one run and in order; and where all that is remembered survives, the
 -- shards hold that run's tuples.
-use Rattle.std.proofs.Common.{◌≡◌, ℕ, ◌≤◌, true, filter, Contains, IsPermutation, IsTrue, sym, subst, le-leb, arith}
+use Rattle.std.proofs.Common.{◌≡◌, ℕ, ◌≤◌, true, List, filter, Contains, IsPermutation, IsTrue, sym, subst, le-leb, arith}
 use Rattle.std.specs.List.{range_with_len}
 use Rattle.std.specs.Prelude.{nat_le}
 use Rattle.std.proofs.lemmas.Bool.{and_from}
 use Rattle.std.proofs.lemmas.List.Sorted.{IsPermutation-sym, IsPermutation-trans}
 use Rattle.kt_tuple.specs.declared.node.NodeId.{NodeId}
 use Rattle.kt_tuple.specs.declared.node.NodeId.TheVariants as ids
+use Rattle.kt_history.specs.declared.note.Note.{Note}
 use Rattle.kt_history.specs.Line.{line}
 use Rattle.kt_history.specs.Survival.{Stands, Survives, survives}
 use Rattle.kt_history.specs.Closed.{acts_in_line}
