@@ -1,5 +1,6 @@
 pub mod Limits
 pub mod Cast
+pub mod Asks
 pub mod Step
 pub mod State
 pub mod Told
@@ -9,3 +10,5 @@ pub mod Effect
 pub mod Reached
 pub mod Ready
 pub mod Backed
+pub mod Headline
+pub mod Workers
