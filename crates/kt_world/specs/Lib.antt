@@ -1,6 +1,7 @@
 pub mod Limits
 pub mod Cast
 pub mod Short
+pub mod Asks
 pub mod Step
 pub mod Refusals
 pub mod State
@@ -12,3 +13,5 @@ pub mod Effect
 pub mod Reached
 pub mod Ready
 pub mod Backed
+pub mod Headline
+pub mod Workers

@@ -1,0 +1,82 @@
+-- A plan that notes an act of a node that is up keeps the state sound where the act does.
+use Rattle.std.proofs.Common.{◌≡◌, ◌≢◌, List, [], ◌∷◌, ◌++◌, length, Contains, Option, Some, None, sym, ap, ◌∙◌, subst}
+use Rattle.std.specs.Option.{option_map}
+use Rattle.kt_tuple.specs.declared.node.NodeId.{NodeId}
+use Rattle.kt_tuple.specs.declared.node.NodeId.TheVariants as ids
+use Rattle.kt_history.specs.declared.note.Act.{Act}
+use Rattle.kt_history.specs.declared.note.Note.{Note}
+use Rattle.kt_history.specs.declared.note.Note.TheVariants as notes
+use Rattle.kt_history.specs.Closed.{acts_in_line}
+use Rattle.kt_history.specs.WellFormed.{Fits}
+use Rattle.kt_history.proofs.Fronts.{acts_in_line-own_act}
+use Rattle.kt_store.specs.Content.{row_of, verdict_on}
+use Rattle.kt_node.specs.declared.message.Message.{Message}
+use Rattle.kt_node.specs.declared.message.Post.{Post}
+use Rattle.kt_node.specs.declared.live.Phase.TheVariants as phases
+use Rattle.kt_node.specs.declared.change.Turn.{Turn}
+use Rattle.kt_node.specs.declared.change.KeptChange.{KeptChange}
+use Rattle.kt_node.specs.declared.change.Change.TheVariants as changes
+use Rattle.kt_node.specs.Node.{Body, Live, Node, Alive}
+use Rattle.kt_node.specs.Turning.{changed, changed_body, changed_kept, phase_in, turned}
+use Rattle.kt_world.specs.Cast.{Cast, script_at}
+use Rattle.kt_world.specs.State.{State}
+use Rattle.kt_world.specs.Asks.{setting_of}
+use Rattle.kt_lines.proofs.Growth.{MayMake}
+use Rattle.kt_world.proofs.Plans.{IsAlive}
+use Rattle.kt_world.proofs.Sound.{IsBodyLike, acts_held, EndsRolling, IsNodeSound, NodeSoundIn, IsSound, SendWell}
+use Rattle.kt_world.proofs.NoteSound.{noted-says}
+use Rattle.kt_world.proofs.Applying.{Keeps}
+use Rattle.kt_world.proofs.StoredFronts.{stored-push}
+
+-- the node p may make the act, which makes this of what it works with, and this is sent
+pub record ActWell (cast : Cast) (h : List Note) (p : NodeId) (becomes : Body) (send : List (NodeId × Message)) (a : Act) : Type 0 where
+  pub own : a.node ≡ p
+  pub may : MayMake (setting_of cast) p (acts_in_line h p) a
+  pub fits : Fits h (notes.Act a)
+  pub like : IsBodyLike cast.scripts p (acts_in_line h p ++ a ∷ []) becomes
+  pub sends : SendWell cast.shards (h ++ notes.Act a ∷ []) p send
+
+-- nothing is kept that was not
+abbrev pub KeepsNoMore : Live → KeptChange → Type 0
+KeepsNoMore n change = (x : NodeId × Post) → Contains (changed_kept n.kept change) x → Contains n.kept x
+
+-- of a worker the scene says that it is there
+abbrev pub IsThere : Cast → NodeId → Type 0
+IsThere cast (ids.Worker w) = script_at cast.scripts w ≢ None
+IsThere cast (ids.Shard r) = Unit {0}
+
+pub act_keeps : (s : State) (p : NodeId) (n : Live) (old : Body) (t : Turn) (send : List (NodeId × Message)) (a : Act) → IsSound s → IsAlive s p n
+    → n.phase ≡ phases.Up
+    → n.body ≡ old → t.phase ≡ None → KeepsNoMore n t.kept → ActWell s.cast s.history p (changed_body old t.body) send a
+    → Keeps s p (record { change = changes.Turn t; send = send; note = Some (notes.Act a); write = None })
+act_keeps s p n old t send a sound alive up works same fewer well = record {
+  may = (well.own, well.may, well.fits);
+  sends = well.sends;
+  noes = λ i was. was;
+  sound = subst Of (sym alive) (subst Acts (sym line) now);
+}
+  where
+    Of : Option Node → Type 0
+    Of row = NodeSoundIn s.cast (s.history ++ notes.Act a ∷ []) s.content p (option_map (changed (changes.Turn t)) row)
+
+    Acts : List Act → Type 0
+    Acts l = IsNodeSound s.cast (s.history ++ notes.Act a ∷ []) p l (Some (Alive (turned t n))) (row_of s.content p).permanent (row_of s.content p).tentative
+        (verdict_on s.content (row_of s.content p).tentative)
+
+    line : acts_in_line (s.history ++ notes.Act a ∷ []) p ≡ acts_in_line s.history p ++ a ∷ []
+    line = subst (λ r. acts_in_line (s.history ++ notes.Act a ∷ []) r ≡ acts_in_line s.history r ++ a ∷ []) well.own (acts_in_line-own_act s.history a)
+
+    was : NodeSoundIn s.cast s.history s.content p (Some (Alive n))
+    was = subst (NodeSoundIn s.cast s.history s.content p) alive (sound.nodes p)
+
+    phase : phase_in n.phase t.phase ≡ phases.Up
+    phase = ap (phase_in n.phase) same ∙ up
+
+    now : Acts (acts_in_line s.history p ++ a ∷ [])
+    now = record {
+      like = subst (λ b. IsBodyLike s.cast.scripts p (acts_in_line s.history p ++ a ∷ []) (changed_body b t.body)) (sym works) well.like;
+      kept = λ x c. noted-says s.cast.shards s.history (Some (notes.Act a)) x.0 p x.1.talk x.1.by (was.kept x (fewer x c));
+      stored = stored-push s.cast p (acts_in_line s.history p) a (row_of s.content p).permanent (row_of s.content p).tentative
+          (verdict_on s.content (row_of s.content p).tentative) was.stored;
+      ends = subst (EndsRolling (length (acts_in_line s.history p ++ a ∷ [])) (acts_held (row_of s.content p).permanent)) (sym phase) tt;
+    }

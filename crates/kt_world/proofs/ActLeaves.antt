@@ -1,0 +1,204 @@
+-- The plans that note an act keep a state sound: a worker issues and repeats, a shard serves, and each hears.
+use Rattle.std.proofs.Common.{◌≡◌, ◌≢◌, ℕ, ◌≤◌, ◌∷◌, Bool, true, false, cond, List, Contains, Option, Some, None, Ok, refl, sym, subst, ltb}
+use Rattle.std.specs.Prelude.{IfSome, is_some, IsTrue, ◌&&◌, ◌||◌}
+use Rattle.std.proofs.lemmas.Bool.{ltb-true, ltb-false}
+use Rattle.kt_tuple.specs.declared.node.NodeId.{NodeId}
+use Rattle.kt_tuple.specs.declared.node.NodeId.TheVariants as ids
+use Rattle.kt_tuple.specs.declared.op.Op.{Op}
+use Rattle.kt_tuple.specs.declared.op.Answer.{Answer}
+use Rattle.kt_history.specs.declared.note.What.TheVariants as whats
+use Rattle.kt_history.specs.Closed.{acts_in_line}
+use Rattle.kt_history.proofs.Lists.{Contains-here}
+use Rattle.kt_script.specs.declared.command.Command.{Command}
+use Rattle.kt_worker.specs.declared.worker.Worker.{Worker}
+use Rattle.kt_worker.specs.Standing.{next_request, again_request, issued, awaits, heard}
+use Rattle.kt_shard.specs.declared.request.Request.{Request}
+use Rattle.kt_shard.specs.Arrival.{Waits, again_or_ignored, arrival}
+use Rattle.kt_shard.specs.Desk.{newest, kept_answer}
+use Rattle.kt_shard.specs.Shard.{Shard, desk_of}
+use Rattle.kt_shard.specs.Service.{Service, service}
+use Rattle.kt_lines.specs.Cause.{cause_of_waiting}
+use Rattle.kt_node.specs.declared.message.Talk.{Talk}
+use Rattle.kt_node.specs.declared.message.Talk.TheVariants as talks
+use Rattle.kt_node.specs.declared.message.Post.{Post}
+use Rattle.kt_node.specs.declared.message.Message.{Message}
+use Rattle.kt_node.specs.declared.message.Message.TheVariants as messages
+use Rattle.kt_node.specs.declared.live.Phase.TheVariants as phases
+use Rattle.kt_node.specs.declared.change.KeptChange.{KeptChange}
+use Rattle.kt_node.specs.declared.change.KeptChange.TheVariants as keeps
+use Rattle.kt_node.specs.Node.{Body, IsWorker, IsShard, Live, Node, node_number, next_label}
+use Rattle.kt_node.specs.declared.change.BodyChange.TheVariants as bodies
+use Rattle.kt_lines.specs.ShardLine.{shard_of_acts, new_shard}
+use Rattle.kt_lines.specs.WorkerLine.{worker_of_acts, new_worker}
+use Rattle.kt_node.specs.Talking.{hearing, note_of, issue_plan, repeat_plan, service_plan, request_plan, reply_plan, talk_plan, heard_plan}
+use Rattle.kt_world.specs.Cast.{Cast, script_at, is_worker, is_shard, are_neighbours}
+use Rattle.kt_world.specs.State.{State, role_of, view}
+use Rattle.kt_world.specs.Asks.{script_numbered}
+use Rattle.kt_world.specs.Ready.{IsNodeReady, IsReady}
+use Rattle.kt_world.proofs.Plans.{IsAlive, Comes}
+use Rattle.kt_world.proofs.Sound.{IsBodyLike, IsWorkerLike, IsShardLike, IsRequestOf, IsReplyOf, SaysSo, Carries, KeepsSo, NodeSoundIn, IsSound}
+use Rattle.kt_world.proofs.OnLinks.{Contains-tail}
+use Rattle.kt_world.proofs.Applying.{Keeps}
+use Rattle.kt_world.proofs.ActKeeps.{IsThere, KeepsNoMore, act_keeps}
+use Rattle.kt_world.proofs.WorkerPlans.{issued_well, repeated_well, accepted_well}
+use Rattle.kt_world.proofs.WorkerPlans as workers
+use Rattle.kt_world.proofs.ShardPlans.{heard_well, again_well, served_well, kept_answer-is, kept_answer-none}
+use Rattle.kt_world.proofs.ShardPlans as shards
+
+-- ---- what is known of a node
+
+-- what an alive node works with is like what its line makes of it, and what it keeps says what it should
+pub alive_like : (s : State) → IsSound s → (p : NodeId) (n : Live) → IsAlive s p n → IsBodyLike s.cast.scripts p (acts_in_line s.history p) n.body
+alive_like s sound p n alive = (subst (NodeSoundIn s.cast s.history s.content p) alive (sound.nodes p)).like
+
+pub alive_keeps : (s : State) → IsSound s → (p : NodeId) (n : Live) → IsAlive s p n → KeepsSo s.cast.shards s.history p n.kept
+alive_keeps s sound p n alive = (subst (NodeSoundIn s.cast s.history s.content p) alive (sound.nodes p)).kept
+
+-- a worker that has a neighbour, or that is one, is of the scene
+some_script : (o : Option (List Command)) → is_some o ≡ true → o ≢ None
+some_script None e none = cc (e)
+some_script (Some script) e none = cc (none)
+
+worker-there : (cast : Cast) (w : NodeId) → IsTrue (is_worker cast w) → IsThere cast w
+worker-there cast (ids.Worker w) e = some_script (script_at cast.scripts w) e
+worker-there cast (ids.Shard r) e = tt
+
+neighbour-there : (cast : Cast) (p q : NodeId) → IsTrue (are_neighbours cast p q) → IsThere cast p × IsThere cast q
+neighbour-there cast (ids.Shard r) (ids.Shard q) e = (tt, tt)
+neighbour-there cast (ids.Worker w) (ids.Worker v) e = by (is_some (script_at cast.scripts w)) (is_some (script_at cast.scripts v)) e
+  where
+    by : (a b : Bool) → ((a && false) || (false && b)) ≡ true → IsThere cast (ids.Worker w) × IsThere cast (ids.Worker v)
+    by true b e = absurd cc
+    by false b e = absurd cc
+neighbour-there cast (ids.Worker w) (ids.Shard r) e = (by (is_some (script_at cast.scripts w)) (is_shard cast (ids.Shard r)) refl e, tt)
+  where
+    by : (a b : Bool) → is_some (script_at cast.scripts w) ≡ a → ((a && b) || (false && false)) ≡ true → script_at cast.scripts w ≢ None
+    by true b is e = some_script (script_at cast.scripts w) is
+    by false b is e = absurd cc
+neighbour-there cast (ids.Shard r) (ids.Worker w) e = (tt, by (is_shard cast (ids.Shard r)) (is_some (script_at cast.scripts w)) refl e)
+  where
+    by : (a b : Bool) → is_some (script_at cast.scripts w) ≡ b → ((false && false) || (a && b)) ≡ true → script_at cast.scripts w ≢ None
+    by a true is e = some_script (script_at cast.scripts w) is
+    by true false is e = absurd cc
+    by false false is e = absurd cc
+
+stays : (n : Live) → KeepsNoMore n keeps.Stay
+stays n x c = c
+
+-- ---- the acts of a worker and of a shard that hear nothing
+
+pub issues : (s : State) → IsSound s → (p : NodeId) (n : Live) (x : Worker) (r : ℕ × Op) → IsTrue (is_worker s.cast p) → IsAlive s p n → n.phase ≡ phases.Up
+    → n.body ≡ IsWorker x
+    → next_request (role_of s.cast p).script x ≡ Some r → Keeps s p (issue_plan (view s p) n r (issued (role_of s.cast p).script x))
+issues s sound (ids.Shard q) n x r is alive up works next = absurd cc
+issues s sound (ids.Worker w) n x r is alive up works next =
+    let like = subst (IsBodyLike s.cast.scripts (ids.Worker w) (acts_in_line s.history (ids.Worker w))) works (alive_like s sound (ids.Worker w) n alive) in
+    act_keeps s (ids.Worker w) n (IsWorker x) _ _ _ sound alive up works refl (stays n) (issued_well s.cast s.history w x r (next_label n) like next)
+
+pub repeats : (s : State) → IsSound s → (p : NodeId) (n : Live) (x : Worker) (r : ℕ × Op) → IsTrue (is_worker s.cast p) → IsAlive s p n → n.phase ≡ phases.Up
+    → n.body ≡ IsWorker x
+    → again_request x ≡ Some r → Keeps s p (repeat_plan (view s p) n r)
+repeats s sound (ids.Shard q) n x r is alive up works again = absurd cc
+repeats s sound (ids.Worker w) n x r is alive up works again =
+    let like = subst (IsBodyLike s.cast.scripts (ids.Worker w) (acts_in_line s.history (ids.Worker w))) works (alive_like s sound (ids.Worker w) n alive) in
+    act_keeps s (ids.Worker w) n (IsWorker x) _ _ _ sound alive up works refl (stays n) (repeated_well s.cast s.history w x r (next_label n) like again)
+
+pub serves : (s : State) → IsSound s → (p w : NodeId) (n : Live) (y : Shard) (place : ℕ) (v : Service) → IsTrue (is_shard s.cast p)
+    → IsTrue (is_worker s.cast w) → IsAlive s p n
+    → n.phase ≡ phases.Up → n.body ≡ IsShard y → service y (node_number w) place ≡ Ok v
+    → Keeps s p (service_plan (view s p) n (node_number w) (cause_of_waiting s.history p (node_number w)) v)
+serves s sound (ids.Worker q) w n y place v is there alive up works chosen = absurd cc
+serves s sound (ids.Shard r) (ids.Shard q) n y place v is there alive up works chosen = absurd cc
+serves s sound (ids.Shard r) (ids.Worker w) n y place v is there alive up works chosen =
+    let like = subst (IsBodyLike s.cast.scripts (ids.Shard r) (acts_in_line s.history (ids.Shard r))) works (alive_like s sound (ids.Shard r) n alive) in
+    act_keeps s (ids.Shard r) n (IsShard y) _ _ _ sound alive up works refl (stays n)
+    (served_well s.cast s.history w r y place v (next_label n) sound.legal sound.well_formed like (worker-there s.cast (ids.Worker w) there) chosen)
+
+-- ---- hearing
+
+reply_keeps : (s : State) → IsSound s → (w r : ℕ) (n : Live) (x : Worker) (kept : KeptChange) (post : Post) (request : Request) (answer : Answer)
+    → IsAlive s (ids.Worker w) n → n.phase ≡ phases.Up
+    → n.body ≡ IsWorker x → KeepsNoMore n kept
+    → IsWorkerLike (script_numbered s.cast.scripts w) (worker_of_acts new_worker (acts_in_line s.history (ids.Worker w))) x
+    → IsReplyOf s.history r w request answer post.by → Keeps s (ids.Worker w) (reply_plan (view s (ids.Worker w)) x kept (ids.Shard r) post request answer)
+reply_keeps s sound w r n x kept post request answer alive up works fewer like says = by (awaits x request.number request.op) refl
+  where
+    by : (b : Bool) → awaits x request.number request.op ≡ b → Keeps s (ids.Worker w) (cond b
+        (hearing kept (ids.Shard r) post.label (bodies.Work (heard (script_numbered s.cast.scripts w) x answer))
+        (note_of (ids.Worker w) post.by w request (whats.Accepted answer)))
+        (hearing kept (ids.Shard r) post.label bodies.Stay (note_of (ids.Worker w) post.by w request (whats.Ignored (Some answer)))))
+    by true e =
+        act_keeps s (ids.Worker w) n (IsWorker x) _ _ _ sound alive up works refl fewer
+        (accepted_well s.cast s.history r w x request answer post.by like says e)
+    by false e =
+        act_keeps s (ids.Worker w) n (IsWorker x) _ _ _ sound alive up works refl fewer
+        (workers.ignored_well s.cast s.history r w x request answer post.by like says e)
+
+request_keeps : (s : State) → IsSound s → (r w : ℕ) (n : Live) (y : Shard) (kept : KeptChange) (post : Post) (request : Request) → IsAlive s (ids.Shard r) n
+    → n.phase ≡ phases.Up
+    → n.body ≡ IsShard y → KeepsNoMore n kept → script_at s.cast.scripts w ≢ None
+    → IsShardLike s.cast.scripts (shard_of_acts new_shard (acts_in_line s.history (ids.Shard r))) y
+    → IsRequestOf s.cast.shards s.history w r request post.by
+    → Keeps s (ids.Shard r) (request_plan (view s (ids.Shard r)) n kept (ids.Worker w) post request (arrival y w request))
+request_keeps s sound r w n y kept post request alive up works fewer there like says = decide (ltb (newest (desk_of y w)) request.number) refl
+  where
+    old : (o : Option Answer) → kept_answer (desk_of y w) request ≡ o → request.number ≤ newest (desk_of y w)
+        → Keeps s (ids.Shard r) (request_plan (view s (ids.Shard r)) n kept (ids.Worker w) post request (again_or_ignored o))
+    old None again le =
+        act_keeps s (ids.Shard r) n (IsShard y) _ _ _ sound alive up works refl fewer
+        (shards.ignored_well s.cast s.history w r y request post.by like says (le, kept_answer-none (desk_of y w) request again))
+    old (Some answer) again le =
+        act_keeps s (ids.Shard r) n (IsShard y) _ _ _ sound alive up works refl fewer
+        (again_well s.cast s.history w r y request answer post.by (next_label n) like says (kept_answer-is (desk_of y w) request answer again))
+
+    decide : (b : Bool) → ltb (newest (desk_of y w)) request.number ≡ b
+        → Keeps s (ids.Shard r)
+        (request_plan (view s (ids.Shard r)) n kept (ids.Worker w) post request (cond b Waits (again_or_ignored (kept_answer (desk_of y w) request))))
+    decide true e =
+        act_keeps s (ids.Shard r) n (IsShard y) _ _ _ sound alive up works refl fewer
+        (heard_well s.cast s.history w r y request post.by like says there (ltb-true _ _ e))
+    decide false e = old (kept_answer (desk_of y w) request) refl (ltb-false _ _ e)
+
+-- whatever is heard was said so, by a node of the other kind
+talk_keeps : (s : State) → IsSound s → (p from : NodeId) (n : Live) (kept : KeptChange) (post : Post) (body : Body) (talk : Talk) → IsAlive s p n
+    → n.phase ≡ phases.Up → n.body ≡ body
+    → KeepsNoMore n kept → IsThere s.cast from → IsBodyLike s.cast.scripts p (acts_in_line s.history p) body
+    → SaysSo s.cast.shards s.history from p talk post.by
+    → Keeps s p (talk_plan (view s p) n kept from post body talk)
+talk_keeps s sound (ids.Worker w) (ids.Worker v) n kept post body talk alive up works fewer there like says = absurd says
+talk_keeps s sound (ids.Shard r) (ids.Shard q) n kept post body talk alive up works fewer there like says = absurd says
+talk_keeps s sound (ids.Worker w) (ids.Shard r) n kept post (IsShard y) talk alive up works fewer there like says = absurd like
+talk_keeps s sound (ids.Worker w) (ids.Shard r) n kept post (IsWorker x) (talks.Request request) alive up works fewer there like says = absurd says
+talk_keeps s sound (ids.Worker w) (ids.Shard r) n kept post (IsWorker x) (talks.Reply request answer) alive up works fewer there like says =
+    reply_keeps s sound w r n x kept post request answer alive up works fewer like says
+talk_keeps s sound (ids.Shard r) (ids.Worker w) n kept post (IsWorker x) talk alive up works fewer there like says = absurd like
+talk_keeps s sound (ids.Shard r) (ids.Worker w) n kept post (IsShard y) (talks.Reply request answer) alive up works fewer there like says = absurd says
+talk_keeps s sound (ids.Shard r) (ids.Worker w) n kept post (IsShard y) (talks.Request request) alive up works fewer there like says =
+    request_keeps s sound r w n y kept post request alive up works fewer there like says
+
+heard_keeps : (s : State) → IsSound s → (p from : NodeId) (n : Live) (kept : KeptChange) (post : Post) → IsAlive s p n → n.phase ≡ phases.Up
+    → KeepsNoMore n kept → IsThere s.cast from
+    → SaysSo s.cast.shards s.history from p post.talk post.by → Keeps s p (heard_plan (view s p) n kept from post)
+heard_keeps s sound p from n kept post alive up fewer there says =
+    talk_keeps s sound p from n kept post n.body post.talk alive up refl fewer there (alive_like s sound p n alive) says
+
+-- what comes by a link carries what its act says
+pub comes_so : (s : State) → IsSound s → (p q : NodeId) (m : Message) → Comes s p q m → Carries s.cast.shards s.history p q m
+comes_so s sound p q m comes = sound.carries p q m (subst (λ l. Contains l m) (sym comes.on) (Contains-here m comes.later))
+
+pub hears : (s : State) → IsSound s → (p q : NodeId) (n : Live) (post : Post) → Comes s p q (messages.Post post) → IsAlive s q n → n.phase ≡ phases.Up
+    → Keeps s q (heard_plan (view s q) n keeps.Stay p post)
+hears s sound p q n post comes alive up =
+    heard_keeps s sound q p n keeps.Stay post alive up (stays n) (neighbour-there s.cast p q comes.neighbours).0
+    (comes_so s sound p q (messages.Post post) comes)
+
+pub takes : (s : State) → IsReady s → IsSound s → (p from : NodeId) (n : Live) (post : Post) (later : List (NodeId × Post)) → IsAlive s p n
+    → n.phase ≡ phases.Up → n.kept ≡ (from, post) ∷ later
+    → Keeps s p (heard_plan (view s p) n keeps.TakeFirst from post)
+takes s ready sound p from n post later alive up first =
+    let stands : Contains n.kept (from, post) = subst (λ l. Contains l (from, post)) (sym first) (Contains-here (from, post) later) in
+    let Ready : Option Node → Type 0 = λ row. IfSome row (IsNodeReady s.cast s.history s.made p) in
+    let live = subst Ready alive (ready.nodes p) in
+    heard_keeps s sound p from n keeps.TakeFirst post alive up (λ x c. Contains-tail n.kept x c)
+    (neighbour-there s.cast p from (live.kept (from, post) stands).from).1
+    (alive_keeps s sound p n alive (from, post) stands)

@@ -1,0 +1,141 @@
+-- The plans of checks keep a state sound: a node takes its tentative checkpoint, and learns what becomes of it.
+use Rattle.std.proofs.Common.{◌≡◌, ℕ, ◌∷◌, Bool, true, false, List, [], Contains, Option, Some, None, refl, sym, ap, ◌∙◌, subst, arith}
+use Rattle.std.specs.Prelude.{IfSome, unwrap_or}
+use Rattle.kt_tuple.specs.declared.node.NodeId.{NodeId}
+use Rattle.kt_history.specs.declared.note.Act.{Act}
+use Rattle.kt_history.specs.Closed.{acts_in_line}
+use Rattle.kt_history.proofs.Lists.{Contains-here}
+use Rattle.kt_link.specs.Network.{entry_at}
+use Rattle.kt_ckpt.specs.declared.ckpt.Ckpt.{Ckpt}
+use Rattle.kt_ckpt.specs.declared.marks.Marks.{Marks}
+use Rattle.kt_store.specs.declared.rows.Tentative.{Tentative}
+use Rattle.kt_store.specs.declared.rows.Verdict.{Verdict}
+use Rattle.kt_store.specs.declared.rows.Verdict.TheVariants as verdicts
+use Rattle.kt_store.specs.Verdict.{verdict_from}
+use Rattle.kt_store.specs.Changes.{promoted_from}
+use Rattle.kt_store.specs.Content.{row_of, verdict_of, verdict_on}
+use Rattle.kt_vote.specs.Poll.{Poll, asking_poll}
+use Rattle.kt_node.specs.declared.message.Ask.{Ask}
+use Rattle.kt_node.specs.declared.message.Message.{Message}
+use Rattle.kt_node.specs.declared.message.Message.TheVariants as messages
+use Rattle.kt_node.specs.declared.live.Phase.{Phase}
+use Rattle.kt_node.specs.declared.live.Phase.TheVariants as phases
+use Rattle.kt_node.specs.declared.plan.Write.TheVariants as writes
+use Rattle.kt_node.specs.Node.{Live, Node, Down, Alive, poll_in}
+use Rattle.kt_node.specs.Voting.{casting}
+use Rattle.kt_node.specs.Joining.{asker_of, cohort, checkpoint_now, begin_check_plan, join_check_plan}
+use Rattle.kt_node.specs.Learning.{held_learns}
+use Rattle.kt_node.specs.Deciding.{settled}
+use Rattle.kt_world.specs.declared.step.Step.TheVariants.{Learn}
+use Rattle.kt_world.specs.Cast.{Cast}
+use Rattle.kt_world.specs.State.{State, link_place, view}
+use Rattle.kt_world.specs.Told.{of_poll, to_learn, verdict_for}
+use Rattle.kt_world.specs.Backed.{IsTakenIn, IsPhaseBacked, IsNodeBacked, IsBoards, IsBacked}
+use Rattle.kt_world.proofs.Plans.{IsAlive, Comes}
+use Rattle.kt_world.proofs.Sound.{IsFront, IsNotNo, IsStored, IsSound, SendWell}
+use Rattle.kt_world.proofs.NoteSound.{line-long}
+use Rattle.kt_world.proofs.Applying.{Keeps}
+use Rattle.kt_world.proofs.StoredFronts.{front-now}
+use Rattle.kt_world.proofs.ActLeaves.{alive_like, alive_keeps}
+use Rattle.kt_world.proofs.Turns.{check_asks_well, alive_was, turn_keeps}
+
+-- ---- a tentative checkpoint is taken
+
+-- the checkpoint of this moment holds the whole line
+saved_now : (s : State) → IsSound s → (p : NodeId) (n : Live) → IsAlive s p n → IsFront s.cast p (acts_in_line s.history p) (Some (checkpoint_now (view s p) n))
+saved_now s sound p n alive =
+    front-now s.cast p (acts_in_line s.history p) (checkpoint_now (view s p) n) n.body (sym (line-long s.history p)) refl (alive_like s sound p n alive)
+
+-- which is stored as the tentative one
+taken_stored : (s : State) → IsSound s → (p : NodeId) (n : Live) (instance : ℕ) (verdict : Option Verdict) → IsAlive s p n
+    → IsStored s.cast p (acts_in_line s.history p) (row_of s.content p).permanent
+    (Some (record { instance = instance; checkpoint = checkpoint_now (view s p) n })) verdict
+taken_stored s sound p n instance verdict alive =
+    let was = (alive_was s sound p n alive).stored in record {
+      permanent = was.permanent;
+      tentative = λ fine. record {
+        front = saved_now s sound p n alive;
+        behind = let long = line-long s.history p in omega (arith, long, was.permanent.short);
+      };
+    }
+
+pub begins_check : (s : State) → IsSound s → (p : NodeId) (n : Live) (instance : ℕ) (permanent : Option Marks) → IsAlive s p n
+    → Keeps s p (begin_check_plan (view s p) n instance permanent)
+begins_check s sound p n instance permanent alive =
+    let b : Poll = asking_poll instance n.incarnation None (cohort (view s p).role permanent n) in
+    turn_keeps s p n _ _ (Some (writes.BeginCheck (checkpoint_now (view s p) n))) sound alive refl (alive_keeps s sound p n alive)
+    (check_asks_well s.cast.shards s.history p b.instance n b.asked (casting b)) tt (taken_stored s sound p n _ _ alive) tt
+
+pub joins_check : (s : State) → IsSound s → (p q : NodeId) (n : Live) (ask : Ask) (permanent : Option Marks) → IsAlive s q n
+    → Keeps s q (join_check_plan (view s q) n p ask permanent)
+joins_check s sound p q n ask permanent alive =
+    let b : Poll = asking_poll ask.instance n.incarnation (Some (asker_of p ask)) (cohort (view s q).role permanent n) in
+    turn_keeps s q n _ _ (Some (writes.PutTentative ask.instance (checkpoint_now (view s q) n))) sound alive refl (alive_keeps s sound q n alive)
+    (check_asks_well s.cast.shards s.history q b.instance n b.asked (casting b)) tt (taken_stored s sound q n _ _ alive) tt
+
+-- ---- what becomes of it
+
+pub promoted_front : (cast : Cast) (p : NodeId) (acts : List Act) (old : Option Ckpt) (taken : Option Tentative) (verdict : Option Verdict)
+    → IsStored cast p acts old taken verdict → IsNotNo verdict
+    → IsFront cast p acts (promoted_from old taken)
+promoted_front cast p acts old None verdict stored fine = stored.permanent
+promoted_front cast p acts old (Some t) verdict stored fine = (stored.tentative fine).front
+
+learns_as : (s : State) → IsSound s → (p : NodeId) (n : Live) (agreed : Bool) (send : List (NodeId × Message)) → IsAlive s p n
+    → verdict_on s.content (row_of s.content p).tentative ≡ Some (verdict_from agreed) → SendWell s.cast.shards s.history p send
+    → Keeps s p (held_learns agreed send)
+learns_as s sound p n true send alive is well =
+    turn_keeps s p n _ send (Some writes.Promote) sound alive refl (alive_keeps s sound p n alive) well tt (record {
+      permanent =
+          promoted_front s.cast p (acts_in_line s.history p) (row_of s.content p).permanent (row_of s.content p).tentative _
+          (alive_was s sound p n alive).stored
+          (λ e. cc (is, e));
+      tentative = λ fine. tt;
+    }) tt
+learns_as s sound p n false send alive is well =
+    turn_keeps s p n _ send (Some writes.Discard) sound alive refl (alive_keeps s sound p n alive) well tt
+    (record { permanent = (alive_was s sound p n alive).stored.permanent; tentative = λ fine. tt }) tt
+
+-- of a held node the tentative checkpoint is one of its ballot's instance
+held_verdict : (s : State) → IsBacked s → (p : NodeId) (n : Live) (b : Poll) → IsAlive s p n → n.phase ≡ phases.Held b
+    → verdict_on s.content (row_of s.content p).tentative ≡ verdict_of s.content b.instance
+held_verdict s backed p n b alive holds =
+    let taken : Option Tentative = (row_of s.content p).tentative in
+    let Row : Option Node → Type 0 = λ row. IfSome row (λ x. IsNodeBacked x taken) in
+    let In : Phase → Type 0 = λ phase. IsPhaseBacked phase taken in
+    let in_ballot : IsTakenIn b.instance taken = subst In holds (subst Row alive (backed.nodes p)) in
+    ap (verdict_on s.content) in_ballot.is_stored ∙ ap (verdict_of s.content) in_ballot.is_of
+
+-- a verdict that comes is the board's
+pub comes_boards : (s : State) → IsBacked s → (p q : NodeId) (m : Message) → Comes s p q m → IsBoards s.content m
+comes_boards s backed p q m comes = by (link_place s.cast p q) comes.on
+  where
+    by : (o : Option ℕ) → entry_at [] s.links o ≡ m ∷ comes.later → IsBoards s.content m
+    by None e = absurd cc
+    by (Some k) e = backed.messages k m (subst (λ l. Contains l m) (sym e) (Contains-here m comes.later))
+
+pub told_when_held : (s : State) → IsBacked s → IsSound s → (p q : NodeId) (n : Live) (b : Poll) (instance : ℕ) (agreed : Bool) (send : List (NodeId × Message))
+    → Comes s p q (messages.Verdict instance agreed) → IsAlive s q n → n.phase ≡ phases.Held b → b.instance ≡ instance → SendWell s.cast.shards s.history q send
+    → Keeps s q (held_learns agreed send)
+told_when_held s backed sound p q n b instance agreed send comes alive holds same well =
+    learns_as s sound q n agreed send alive
+    (held_verdict s backed q n b alive holds ∙ ap (verdict_of s.content) same ∙ comes_boards s backed p q (messages.Verdict instance agreed) comes) well
+
+pub settled_is : (o : Option Verdict) (agreed : Bool) → settled o ≡ Some agreed → o ≡ Some (verdict_from agreed)
+settled_is None agreed e = absurd cc
+settled_is (Some verdicts.Open) agreed e = absurd cc
+settled_is (Some verdicts.Yes) true e = refl
+settled_is (Some verdicts.Yes) false e = absurd cc
+settled_is (Some verdicts.No) true e = absurd cc
+settled_is (Some verdicts.No) false e = refl
+
+-- what an alive node can learn is the verdict on its ballot's instance
+pub learnt : (s : State) (p : NodeId) (n : Live) → IsAlive s p n → verdict_for s (Learn p) ≡ to_learn s.content p (Alive n)
+learnt s p n alive = ap (λ row. to_learn s.content p (unwrap_or row Down)) alive
+
+pub learns_when_held : (s : State) → IsBacked s → IsSound s → (p : NodeId) (n : Live) (b : Poll) (agreed : Bool) → IsAlive s p n → n.phase ≡ phases.Held b
+    → settled (verdict_for s (Learn p)) ≡ Some agreed → Keeps s p (held_learns agreed [])
+learns_when_held s backed sound p n b agreed alive holds is =
+    let board : verdict_for s (Learn p) ≡ verdict_of s.content b.instance =
+    learnt s p n alive ∙ ap (λ (phase : Phase). of_poll s.content (poll_in phase)) holds in
+    learns_as s sound p n agreed [] alive (held_verdict s backed p n b alive holds ∙ sym board ∙ settled_is (verdict_for s (Learn p)) agreed is) tt

@@ -1,0 +1,96 @@
+-- What is stored stays at the front of a line that grows, or that is cut behind it.
+use Rattle.std.proofs.Common.{◌≡◌, ℕ, ◌≤◌, List, [], ◌∷◌, ◌++◌, length, take, Option, Some, None, Ok, refl, sym, ap, ◌∙◌, subst, arith, length-append}
+use Rattle.std.specs.Prelude.{IfSome}
+use Rattle.std.proofs.lemmas.List.{take-append-le, take-take, length-take-le}
+use Rattle.kt_tuple.specs.declared.node.NodeId.{NodeId}
+use Rattle.kt_history.specs.declared.note.Act.{Act}
+use Rattle.kt_ckpt.specs.declared.ckpt.Ckpt.{Ckpt}
+use Rattle.kt_store.specs.declared.rows.Tentative.{Tentative}
+use Rattle.kt_store.specs.declared.rows.Verdict.{Verdict}
+use Rattle.kt_ckpt.specs.declared.state.State.{State as SavedState}
+use Rattle.kt_node.specs.Node.{Body, opening_body}
+use Rattle.kt_node.specs.State.{body_at, body_fields, body_from}
+use Rattle.kt_world.specs.Cast.{Cast, IsCast}
+use Rattle.kt_world.specs.State.{role_of}
+use Rattle.kt_world.proofs.Saved.{role_id, loaded_like}
+use Rattle.kt_world.proofs.Sound.{IsBodyLike, acts_held, IsFront, IsTentative, IsNotNo, IsStored}
+
+-- a front stays where the line begins with the same acts
+front-kept : (cast : Cast) (p : NodeId) (acts new : List Act) (stored : Option Ckpt) → acts_held stored ≤ length new
+    → take (acts_held stored) new ≡ take (acts_held stored) acts
+    → IsFront cast p acts stored → IsFront cast p new stored
+front-kept cast p acts new stored short same front =
+    record { short = short; body = front.body; saved = front.saved; like = subst (λ l. IsBodyLike cast.scripts p l front.body) (sym same) front.like }
+
+front-push : (cast : Cast) (p : NodeId) (acts : List Act) (a : Act) (stored : Option Ckpt) → IsFront cast p acts stored → IsFront cast p (acts ++ a ∷ []) stored
+front-push cast p acts a stored front =
+    let long = length-append acts (a ∷ []) in
+    front-kept cast p acts (acts ++ a ∷ []) stored (omega (arith, long, front.short)) (take-append-le (acts_held stored) acts (a ∷ []) front.short) front
+
+front-cut : (cast : Cast) (p : NodeId) (acts : List Act) (keep : ℕ) (stored : Option Ckpt) → acts_held stored ≤ keep → keep ≤ length acts
+    → IsFront cast p acts stored
+    → IsFront cast p (take keep acts) stored
+front-cut cast p acts keep stored low high front =
+    let long = length-take-le keep acts high in
+    front-kept cast p acts (take keep acts) stored (omega (arith, long, low)) (take-take (acts_held stored) keep acts low) front
+
+-- ---- all that is stored
+
+tentatives : (cast : Cast) (p : NodeId) (acts new : List Act) (old : Option Ckpt) (taken : Option Tentative)
+    → ((t : Tentative) → taken ≡ Some t → IsFront cast p acts (Some t.checkpoint) → IsFront cast p new (Some t.checkpoint))
+    → IfSome taken (λ t. IsTentative cast p acts old t.checkpoint) → IfSome taken (λ t. IsTentative cast p new old t.checkpoint)
+tentatives cast p acts new old None goes_on some = tt
+tentatives cast p acts new old (Some t) goes_on some = record { front = goes_on t refl some.front; behind = some.behind }
+
+pub stored-push : (cast : Cast) (p : NodeId) (acts : List Act) (a : Act) (old : Option Ckpt) (taken : Option Tentative) (verdict : Option Verdict)
+    → IsStored cast p acts old taken verdict → IsStored cast p (acts ++ a ∷ []) old taken verdict
+stored-push cast p acts a old taken verdict stored = record {
+  permanent = front-push cast p acts a old stored.permanent;
+  tentative =
+      λ fine. tentatives cast p acts (acts ++ a ∷ []) old taken (λ t is front. front-push cast p acts a (Some t.checkpoint) front) (stored.tentative fine);
+}
+
+-- a cut behind the permanent checkpoint, and behind the tentative one where that may still count
+pub stored-cut : (cast : Cast) (p : NodeId) (acts : List Act) (keep : ℕ) (old : Option Ckpt) (taken : Option Tentative) (verdict : Option Verdict)
+    → acts_held old ≤ keep → keep ≤ length acts → (IsNotNo verdict → (t : Tentative) → taken ≡ Some t → t.checkpoint.line_len ≤ keep)
+    → IsStored cast p acts old taken verdict → IsStored cast p (take keep acts) old taken verdict
+stored-cut cast p acts keep old taken verdict low high behind stored = record {
+  permanent = front-cut cast p acts keep old low high stored.permanent;
+  tentative = λ fine. tentatives cast p acts (take keep acts) old taken
+      (λ t is front. front-cut cast p acts keep (Some t.checkpoint) (behind fine t is) high front) (stored.tentative fine);
+}
+
+take-all : (xs : List Act) → take (length xs) xs ≡ xs
+take-all [] = refl
+take-all (x ∷ xs) = ap (λ l. x ∷ l) (take-all xs)
+
+-- what holds all of the line
+pub front-now : (cast : Cast) (p : NodeId) (acts : List Act) (c : Ckpt) (body : Body) → c.line_len ≡ length acts → c.state ≡ body_fields body
+    → IsBodyLike cast.scripts p acts body
+    → IsFront cast p acts (Some c)
+front-now cast p acts c body long saved like = record {
+  short = omega (arith, long);
+  body = body;
+  saved = saved;
+  like = subst (λ l. IsBodyLike cast.scripts p l body) (sym (ap (λ k. take k acts) long ∙ take-all acts)) like;
+}
+
+-- ---- what is loaded
+
+-- whatever is loaded is like what the checkpoint's acts make of the node
+pub loaded-front : (cast : Cast) → IsCast cast → (p : NodeId) (acts : List Act) (stored : Option Ckpt) (b : Body) → body_at (role_of cast p) stored ≡ Ok b
+    → IsFront cast p acts stored
+    → IsBodyLike cast.scripts p (take (acts_held stored) acts) b
+loaded-front cast is p acts None b e front =
+    let same : opening_body (role_of cast p) (role_of cast p).id ≡ b = cc in
+    subst (IsBodyLike cast.scripts p (take 0 acts)) (front.saved ∙ same) front.like
+loaded-front cast is p acts (Some c) b e front =
+    let Id : NodeId → Type 0 = λ q. body_from (role_of cast p) c.line_len q c.state ≡ Ok b in
+    let Saved : SavedState → Type 0 = λ state. body_from (role_of cast p) c.line_len p state ≡ Ok b in
+    loaded_like cast is p (take c.line_len acts) c.line_len front.body b front.like (subst Saved front.saved (subst Id (role_id cast p) e))
+
+-- where the line ends with what is stored, it is like the line
+pub loaded-whole : (cast : Cast) → IsCast cast → (p : NodeId) (acts : List Act) (stored : Option Ckpt) (b : Body) → length acts ≡ acts_held stored
+    → body_at (role_of cast p) stored ≡ Ok b → IsFront cast p acts stored → IsBodyLike cast.scripts p acts b
+loaded-whole cast is p acts stored b long e front =
+    subst (λ l. IsBodyLike cast.scripts p l b) (ap (λ k. take k acts) (sym long) ∙ take-all acts) (loaded-front cast is p acts stored b e front)

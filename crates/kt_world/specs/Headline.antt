@@ -1,0 +1,84 @@
+-- What holds of every state that steps lead to: the surviving services are one run of a sequential tuple space, each
+-- worker's requests being its script's, in order. And what a step makes of the history and of what is remembered.
+use Rattle.std.specs.Prelude.{◌≡◌, ℕ, ◌+◌, Bool, true, false, List, [], ◌∷◌}
+use Rattle.std.specs.Prelude.{◌++◌, take, length, ◌≤◌, Option, None, Some, IsTrue}
+use Rattle.std.specs.List.{flat_map, range_with_len}
+use Rattle.kt_tuple.specs.declared.node.NodeId.{NodeId}
+use Rattle.kt_tuple.specs.declared.node.NodeId.TheVariants as ids
+use Rattle.kt_tuple.specs.declared.tuple.Tuple.{Tuple}
+use Rattle.kt_tuple.specs.Space.{IsSpaceRun}
+use Rattle.kt_history.specs.declared.note.Note.{Note}
+use Rattle.kt_history.specs.Line.{line, IsAct}
+use Rattle.kt_history.specs.Chronicle.{node_of}
+use Rattle.kt_history.specs.Survival.{Stands, services}
+use Rattle.kt_history.specs.WellFormed.{IsWellFormed}
+use Rattle.kt_lines.specs.Order.{FollowsScripts}
+use Rattle.kt_node.specs.declared.message.Message.{Message}
+use Rattle.kt_node.specs.declared.message.Message.TheVariants as messages
+use Rattle.kt_node.specs.Node.{Body, IsWorker, IsShard, Node, Down, Alive}
+use Rattle.kt_world.specs.declared.step.Step.{Step}
+use Rattle.kt_world.specs.declared.step.Step.TheVariants.{Deliver, Learn, Fail}
+use Rattle.kt_world.specs.Step.{owner}
+use Rattle.kt_world.specs.State.{State, node, link}
+use Rattle.kt_world.specs.Asks.{setting_of}
+
+pub record Headline (s : State) : Type 0 where
+  -- each act is of a kind that its cause allows, and causes come first
+  pub well_formed : IsWellFormed s.history
+  -- the tuples that the surviving services lead to, as one run of a sequential space
+  pub tuples : List Tuple
+  pub one_run : IsSpaceRun (services s.history) tuples
+  -- each worker's requests are its script's, in order
+  pub in_order : FollowsScripts (setting_of s.cast) (services s.history)
+
+-- every act is still remembered
+abbrev pub IsNothingLost : List Note → Type 0
+IsNothingLost h = (n : ℕ) → IsAct h n → Stands h n
+
+-- ---- tuples
+
+abbrev pub bag_in : Body → List Tuple
+bag_in (IsWorker x) = []
+bag_in (IsShard y) = y.bag
+
+-- what the node holds, where it is a shard that is not down
+abbrev pub bag_of : Option Node → List Tuple
+bag_of None = []
+bag_of (Some Down) = []
+bag_of (Some (Alive n)) = bag_in n.body
+
+-- the tuples of all shards
+abbrev pub all_bags : State → List Tuple
+all_bags s = flat_map (λ r. bag_of (node s (ids.Shard r))) (range_with_len 1 s.cast.shards)
+
+-- ---- what a step notes
+
+-- the history has one note more at most, which is of the node p
+pub data NotesOneAtMost (p : NodeId) (old : List Note) : List Note → Type 0 where
+  nothing : NotesOneAtMost p old old
+  one : (note : Note) → node_of note ≡ p → NotesOneAtMost p old (old ++ note ∷ [])
+
+abbrev pub is_verdict : Message → Bool
+is_verdict (messages.Verdict instance agreed) = true
+is_verdict message = false
+
+abbrev pub is_verdict_first : List Message → Bool
+is_verdict_first [] = false
+is_verdict_first (message ∷ later) = is_verdict message
+
+-- a step by which its node may forget: it fails, or it learns a verdict, from the board or by a message
+abbrev pub may_forget : State → Step → Bool
+may_forget s (Deliver p q) = is_verdict_first (link s p q)
+may_forget s (Learn p) = true
+may_forget s (Fail p) = true
+may_forget s step = false
+
+-- what the step that leads to this history makes of what q remembers
+pub data LineAfter (s : State) (step : Step) (h : List Note) (q : NodeId) : Type 0 where
+  -- nothing
+  stays : line h q ≡ line s.history q → LineAfter s step h q
+  -- one act of its own stands at its end
+  grows : owner step ≡ q → line h q ≡ line s.history q ++ (length s.history + 1) ∷ [] → LineAfter s step h q
+  -- only the first so many are left, in a step of its own by which a node may forget
+  is_cut : owner step ≡ q → IsTrue (may_forget s step) → (keep : ℕ) → keep ≤ length (line s.history q)
+      → line h q ≡ take keep (line s.history q) → LineAfter s step h q
