@@ -1,12 +1,15 @@
 -- What a store that is honest keeps of the nodes of a world, so that each write of a step is one that the store allows.
-use Rattle.std.specs.Prelude.{◌≡◌, ℕ, ◌+◌, ◌≤◌, List, [], Option, None, Some, Contains, IfSome}
+use Rattle.std.specs.Prelude.{◌≡◌, ℕ, ◌+◌, ◌<◌, ◌≤◌, [], Option, None, Some, Contains, IfSome}
 use Rattle.kt_tuple.specs.declared.node.NodeId.{NodeId}
 use Rattle.kt_shard.specs.Table.{at}
 use Rattle.kt_store.specs.declared.rows.Tentative.{Tentative}
 use Rattle.kt_store.specs.Verdict.{verdict_from}
-use Rattle.kt_store.specs.Content.{Content, IsBoard, next_instance, row_of, verdict_of}
+use Rattle.kt_store.specs.declared.rows.Verdict.TheVariants as verdicts
+use Rattle.kt_store.specs.Content.{Content, HasVerdict, IsBoard, greatest, next_instance, row_of, verdict_of}
 use Rattle.kt_node.specs.declared.message.Message.{Message}
 use Rattle.kt_node.specs.declared.message.Message.TheVariants as messages
+use Rattle.kt_node.specs.declared.plan.Write.{Write}
+use Rattle.kt_node.specs.declared.plan.Write.TheVariants as writes
 use Rattle.kt_node.specs.declared.live.Phase.{Phase}
 use Rattle.kt_node.specs.declared.live.Phase.TheVariants as phases
 use Rattle.kt_node.specs.Node.{Node, Down, Alive}
@@ -39,3 +42,19 @@ pub record IsBacked (s : State) : Type 0 where
   pub board : IsBoard s.content.board
   pub few_instances : next_instance s.content ≤ s.made + 1
   pub few_incarnations : (p : NodeId) → (row_of s.content p).incarnation ≤ s.made + 1
+
+-- the store allows the write of p: a tentative checkpoint is taken where there is none, and made permanent or given up
+-- by the verdict of its instance, and only an open instance is decided
+abbrev pub IsAllowed : Content → NodeId → Write → Type 0
+IsAllowed c p (writes.BeginCheck checkpoint) = (row_of c p).tentative ≡ None
+IsAllowed c p (writes.PutTentative instance checkpoint) = (row_of c p).tentative ≡ None
+IsAllowed c p writes.Promote = HasVerdict c p verdicts.Yes
+IsAllowed c p writes.Discard = HasVerdict c p verdicts.No
+IsAllowed c p writes.BeginRestart = Unit {0}
+IsAllowed c p writes.Bump = Unit {0}
+IsAllowed c p (writes.Decide instance agreed) = verdict_of c instance ≡ Some verdicts.Open
+
+-- the store has a number for one instance and one incarnation more
+pub record HasNumbers (c : Content) (p : NodeId) : Type 0 where
+  pub instance : next_instance c < greatest
+  pub incarnation : (row_of c p).incarnation < greatest

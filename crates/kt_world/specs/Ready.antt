@@ -35,6 +35,10 @@ pub record IsShort (script : List Command) : Type 0 where
   pub commands : length script ≤ max_pc
   pub variables : length (variables_of script) ≤ max_variables
 
+-- each script of the scene is short
+abbrev pub AreShort : Cast → Type 0
+AreShort cast = (n : ℕ) → IfSome (script_at cast.scripts n) IsShort
+
 -- the worker stands within its script
 pub record IsWithin (script : List Command) (x : Worker) : Type 0 where
   pub pc : x.position.pc ≤ length script
@@ -80,7 +84,7 @@ IsNodeReady cast h made p (Alive n) = IsLiveReady cast h made p n
 
 pub record IsReady (s : State) : Type 0 where
   pub cast : IsCast s.cast
-  pub scripts : (n : ℕ) → IfSome (script_at s.cast.scripts n) IsShort
+  pub scripts : AreShort s.cast
   pub rows : length s.nodes ≡ row_count
   pub counts : length s.own ≡ row_count
   pub there : (p : NodeId) → is_some (node s p) ≡ is_node s.cast p

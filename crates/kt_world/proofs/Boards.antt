@@ -1,0 +1,177 @@
+-- The board: the next instance is free, an open instance is found by its number, and a board stays one.
+use Rattle.std.proofs.Common.{◌≡◌, ℕ, suc, ◌+◌, ◌≤◌, ◌==◌, Bool, true, false, ◌&&◌, cond, List, [], ◌∷◌, map, All, AllPairs, get_or, Option, None, Some, refl, sym, ap, ◌∙◌, subst, inl, inr, arith}
+use Rattle.std.specs.Prelude.{fold, max, nat_lt}
+use Rattle.std.specs.List.{find}
+use Rattle.std.specs.Option.{option_map}
+use Rattle.std.proofs.lemmas.Bool.{cases_eq, and_parts, eq-eqb}
+use Rattle.std.proofs.lemmas.List.Elements.{All-cons}
+use Rattle.kt_tuple.specs.declared.node.NodeId.{NodeId}
+use Rattle.kt_tuple.specs.Node.{node_eq}
+use Rattle.kt_store.specs.declared.rows.Posted.{Posted}
+use Rattle.kt_store.specs.declared.rows.Purpose.{Purpose}
+use Rattle.kt_store.specs.declared.rows.Verdict.{Verdict}
+use Rattle.kt_store.specs.declared.rows.Verdict.TheVariants as verdicts
+use Rattle.kt_store.specs.Verdict.{is_open, verdict_from}
+use Rattle.kt_store.specs.Content.{Content, IsBoard, greatest, next_instance, open_of, posted, verdict_of}
+use Rattle.kt_store.specs.Changes.{opening, decided, deciding, with_posted}
+use Rattle.kt_store.proofs.OtherInstances.{others_begun, others_decided, decided_is_read}
+use Rattle.kt_store.proofs.Board.{greatest_within, posted_last, still_board}
+use Rattle.kt_store.proofs.Tables.{IsOrder, placed_rising, placed_all}
+
+-- ---- what is found
+
+-- what is found passes, and is one of the rows
+found-holds : {A : Type 0} (P : A → Type 0) (q : A → Bool) (rows : List A) (row : A) → All P rows → find q rows ≡ Some row → P row × (q row ≡ true)
+found-holds P q [] row all e = absurd cc
+found-holds P q (x ∷ rows) row all e = by (q x) refl e (found-holds P q rows row (λ k d lt. all (suc k) d (omega (arith, lt))))
+  where
+    by : (b : Bool) → q x ≡ b → cond b (Some x) (find q rows) ≡ Some row → (find q rows ≡ Some row → P row × (q row ≡ true)) → P row × (q row ≡ true)
+    by true is e rest = let same : x ≡ row = cc in (subst P same (all 0 x (omega arith)), ap q (sym same) ∙ is)
+    by false is e rest = rest e
+
+-- of rows whose numbers rise, each is found by its number
+found-own : (q : Posted → Bool) (rows : List Posted) (row : Posted) → AllPairs (λ (a b : Posted). nat_lt a.instance b.instance ≡ true) rows
+    → find q rows ≡ Some row
+    → find (λ (x : Posted). x.instance == row.instance) rows ≡ Some row
+found-own q [] row rising e = absurd cc
+found-own q (x ∷ rows) row rising e = by (q x) e (found-own q rows row (λ i j d lt within. rising (suc i) (suc j) d (omega (arith, lt)) (omega (arith, within))))
+  where
+    later : All (λ (y : Posted). nat_lt x.instance y.instance ≡ true) rows
+    later = λ k d lt. rising 0 (suc k) d (omega arith) (omega (arith, lt))
+
+    by : (b : Bool) → cond b (Some x) (find q rows) ≡ Some row → (find q rows ≡ Some row → find (λ (y : Posted). y.instance == row.instance) rows ≡ Some row)
+        → find (λ (y : Posted). y.instance == row.instance) (x ∷ rows) ≡ Some row
+    by true e rest =
+        let same : x ≡ row = cc in
+        let here : (x.instance == row.instance) ≡ true = eq-eqb x.instance row.instance (ap (λ (y : Posted). y.instance) same) in
+        rw here (ap (λ (y : Posted). Some y) same)
+    by false e rest =
+        let behind = (found-holds (λ (y : Posted). nat_lt x.instance y.instance ≡ true) q rows row later e).0 in
+        let other : (x.instance == row.instance) ≡ false = grind (arith, behind) in
+        rw other (rest e)
+
+open-is : (v : Verdict) → is_open v ≡ true → v ≡ verdicts.Open
+open-is verdicts.Open e = refl
+open-is verdicts.Yes e = absurd cc
+open-is verdicts.No e = absurd cc
+
+-- an instance that is found open is open
+pub open-verdict : (c : Content) (p : NodeId) (i : ℕ) → IsBoard c.board → open_of c p ≡ Some i → verdict_of c i ≡ Some verdicts.Open
+open-verdict c p i board e = by (find q c.board) refl e
+  where
+    q : Posted → Bool
+    q row = node_eq row.initiator p && is_open row.verdict
+
+    by : (o : Option Posted) → find q c.board ≡ o → option_map (λ (row : Posted). row.instance) o ≡ Some i → verdict_of c i ≡ Some verdicts.Open
+    by None is e = absurd cc
+    by (Some row) is e =
+        let same : row.instance ≡ i = cc in
+        let passes = (found-holds (λ (x : Posted). Unit {0}) q c.board row (λ k d lt. tt) is).1 in
+        let open_yet = open-is row.verdict (and_parts (node_eq row.initiator p) (is_open row.verdict) passes).1 in
+        ap (verdict_of c) (sym same) ∙ ap (option_map (λ (x : Posted). x.verdict)) (found-own q c.board row board.rising is) ∙ ap (λ (v : Verdict). Some v) open_yet
+
+-- ---- the next instance
+
+above_start : (rows : List Posted) (a : ℕ) → a ≤ fold max a (map (λ (row : Posted). row.instance) rows)
+above_start [] a = omega arith
+above_start (x ∷ rows) a =
+    let rest : max a x.instance ≤ fold max (max a x.instance) (map (λ (row : Posted). row.instance) rows) = above_start rows (max a x.instance) in
+    grind (arith, rest)
+
+above_all : (rows : List Posted) (a : ℕ) → All (λ (row : Posted). row.instance ≤ fold max a (map (λ (row : Posted). row.instance) rows)) rows
+above_all [] a = λ k d h. absurd (omega (arith, h))
+above_all (x ∷ rows) a =
+    let n : ℕ = fold max (max a x.instance) (map (λ (row : Posted). row.instance) rows) in
+    let rest : max a x.instance ≤ n = above_start rows (max a x.instance) in
+    All-cons (λ (row : Posted). row.instance ≤ n) x rows (grind (arith, rest)) (above_all rows (max a x.instance))
+
+-- every instance on the board comes before the next
+below-next : (c : Content) → All (λ (row : Posted). row.instance ≤ next_instance c) c.board
+below-next c = λ k d lt. let h : (get_or c.board k d).instance ≤ fold max 0 (map (λ (row : Posted). row.instance) c.board) = above_all c.board 0 k d lt in omega (arith, h)
+
+-- of the next instance nothing is posted
+pub next_free : (c : Content) (row : Posted) → posted c (next_instance c) ≡ Some row → ⊥
+next_free c row e =
+    let both = found-holds (λ (x : Posted). x.instance ≤ fold max 0 (map (λ (x : Posted). x.instance) c.board)) (λ (x : Posted). x.instance == next_instance c) c.board row (above_all c.board 0) e in
+    let low = both.0 in
+    let same = both.1 in
+    grind (arith, low, same)
+
+-- ---- a verdict that there is stays
+
+abbrev pub Says : Content → ℕ → Bool → Type 0
+Says c i agreed = verdict_of c i ≡ Some (verdict_from agreed)
+
+says-posted : (o : Option Posted) (v : Verdict) → option_map (λ (row : Posted). row.verdict) o ≡ Some v → (row : Posted) × (o ≡ Some row)
+says-posted None v e = absurd cc
+says-posted (Some row) v e = (row, refl)
+
+pub begun-says : (p : NodeId) (purpose : Purpose) (c : Content) (i : ℕ) (agreed : Bool) → Says c i agreed → Says (opening p purpose c) i agreed
+begun-says p purpose c i agreed says = elim (cases_eq i (next_instance c)) [
+  | inl same ↦
+      let row = says-posted (posted c i) (verdict_from agreed) says in
+      absurd (next_free c row.0 (ap (posted c) (sym same) ∙ row.1))
+  | inr other ↦ ap (option_map (λ (row : Posted). row.verdict)) (others_begun p purpose c i other) ∙ says
+]
+
+open-not : (agreed : Bool) → Some verdicts.Open ≡ Some (verdict_from agreed) → ⊥
+open-not true e = cc (e)
+open-not false e = cc (e)
+
+pub decided-says : (j : ℕ) (said : Bool) (c : Content) → verdict_of c j ≡ Some verdicts.Open → (i : ℕ) (agreed : Bool) → Says c i agreed
+    → Says (decided j said c) i agreed
+decided-says j said c undecided i agreed says = elim (cases_eq i j) [
+  | inl same ↦ absurd (open-not agreed (sym undecided ∙ ap (verdict_of c) (sym same) ∙ says))
+  | inr other ↦ ap (option_map (λ (row : Posted). row.verdict)) (others_decided j said c i other) ∙ says
+]
+
+-- an instance that was posted has the verdict that it gets
+pub decided-own : (i : ℕ) (agreed : Bool) (c : Content) (v : Verdict) → verdict_of c i ≡ Some v → Says (decided i agreed c) i agreed
+decided-own i agreed c v e =
+    let row = says-posted (posted c i) v e in
+    ap (option_map (λ (x : Posted). x.verdict)) (decided_is_read i agreed c)
+    ∙ ap (λ (o : Option Posted). option_map (λ (x : Posted). x.verdict) (option_map (λ (x : Posted). record x { verdict = verdict_from agreed }) o)) row.1
+
+-- ---- a board stays one
+
+by_number : IsOrder (λ (a b : Posted). nat_lt a.instance b.instance)
+by_number = record { one_way = λ a b h. grind (arith, h); itself = λ a. grind arith; through = λ a b c h g. grind (arith, h, g) }
+
+pub begun-board : (p : NodeId) (purpose : Purpose) (c : Content) → next_instance c ≤ greatest → IsBoard c.board → IsBoard (opening p purpose c).board
+begun-board p purpose c room is =
+    let new : Posted = record { instance = next_instance c; initiator = p; purpose = purpose; verdict = verdicts.Open } in
+    subst IsBoard (posted_last new c.board refl) (still_board new c.board refl room is)
+
+pub decided-board : (i : ℕ) (agreed : Bool) (c : Content) → IsBoard c.board → IsBoard (decided i agreed c).board
+decided-board i agreed c is = by (posted c i) refl
+  where
+    by : (o : Option Posted) → posted c i ≡ o → IsBoard (deciding agreed o c).board
+    by None e = is
+    by (Some row) e =
+        let new : Posted = record row { verdict = verdict_from agreed } in
+        record {
+          rising = placed_rising (λ (a b : Posted). nat_lt a.instance b.instance) new c.board by_number is.rising;
+          within = placed_all (λ (x : Posted). x.instance ≤ greatest) (λ (a b : Posted). nat_lt a.instance b.instance) new c.board
+              (found-holds (λ (x : Posted). x.instance ≤ greatest) (λ (x : Posted). x.instance == i) c.board row is.within e).0 is.within;
+        }
+
+-- ---- one instance more at most
+
+pub begun-next : (p : NodeId) (purpose : Purpose) (c : Content) → next_instance (opening p purpose c) ≤ next_instance c + 1
+begun-next p purpose c =
+    let new : Posted = record { instance = next_instance c; initiator = p; purpose = purpose; verdict = verdicts.Open } in
+    let low = greatest_within (with_posted new c.board) 0 (next_instance c) (omega arith)
+    (placed_all (λ (x : Posted). x.instance ≤ next_instance c) (λ (a b : Posted). nat_lt a.instance b.instance) new c.board (omega arith) (below-next c)) in
+    omega (arith, low)
+
+pub decided-next : (i : ℕ) (agreed : Bool) (c : Content) → next_instance (decided i agreed c) ≤ next_instance c + 1
+decided-next i agreed c = by (posted c i) refl
+  where
+    by : (o : Option Posted) → posted c i ≡ o → next_instance (deciding agreed o c) ≤ next_instance c + 1
+    by None e = omega arith
+    by (Some row) e =
+        let new : Posted = record row { verdict = verdict_from agreed } in
+        let here = (found-holds (λ (x : Posted). x.instance ≤ next_instance c) (λ (x : Posted). x.instance == i) c.board row (below-next c) e).0 in
+        let low = greatest_within (with_posted new c.board) 0 (next_instance c) (omega arith)
+        (placed_all (λ (x : Posted). x.instance ≤ next_instance c) (λ (a b : Posted). nat_lt a.instance b.instance) new c.board here (below-next c)) in
+        omega (arith, low)

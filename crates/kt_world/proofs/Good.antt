@@ -1,0 +1,231 @@
+-- What a plan has so that it can be carried out and leaves the state ready, told of its parts.
+use Rattle.std.proofs.Common.{◌≡◌, ℕ, ◌+◌, ◌<◌, ◌≤◌, List, [], length, Contains, not, Option, None, Some, inl, inr, refl, sym, ap, ◌∙◌, subst, arith}
+use Rattle.std.specs.Prelude.{IfSome, IsTrue, is_some, unwrap_or}
+use Rattle.std.specs.Option.{option_map}
+use Rattle.std.specs.List.{AllByRecursion}
+use Rattle.std.proofs.lemmas.List.Elements.{Contains-push_cases}
+use Rattle.kt_tuple.specs.declared.node.NodeId.{NodeId}
+use Rattle.kt_tuple.specs.Node.{node_index}
+use Rattle.kt_history.specs.declared.note.Note.{Note}
+use Rattle.kt_history.specs.WellFormed.{MayFollow}
+use Rattle.kt_history.specs.Chronicle.{node_of}
+use Rattle.kt_shard.specs.Table.{at}
+use Rattle.kt_lines.proofs.Rows.{length-put}
+use Rattle.kt_lines.proofs.Lists.{all-at}
+use Rattle.kt_node.specs.declared.message.Message.{Message}
+use Rattle.kt_node.specs.declared.message.Post.{Post}
+use Rattle.kt_node.specs.declared.live.Phase.{Phase}
+use Rattle.kt_node.specs.declared.change.KeptChange.{KeptChange}
+use Rattle.kt_node.specs.declared.change.KeptChange.TheVariants as keeps
+use Rattle.kt_node.specs.declared.change.Turn.{Turn}
+use Rattle.kt_node.specs.declared.change.Change.TheVariants as changes
+use Rattle.kt_node.specs.declared.plan.Plan.{Plan}
+use Rattle.kt_node.specs.declared.plan.Write.{Write}
+use Rattle.kt_node.specs.Node.{Live, Node, Down, Alive}
+use Rattle.kt_node.specs.Ready.{CanTurn, CanChange}
+use Rattle.kt_node.specs.Turning.{changed, changed_body, changed_kept, is_above, phase_in, said_count, turned}
+use Rattle.kt_world.specs.declared.step.Step.{Step}
+use Rattle.kt_world.specs.Step.{owner}
+use Rattle.kt_world.specs.Limits.{most_steps}
+use Rattle.kt_world.specs.Cast.{Cast, is_node}
+use Rattle.kt_world.specs.State.{State, node, link_place, role_of, view}
+use Rattle.kt_world.specs.Effect.{noted, taken_off, applied}
+use Rattle.kt_world.specs.Ready.{AreNeighbours, IsBodyReady, IsMessageReady, IsPhaseReady, IsKeptReady, IsLiveReady, IsNodeReady, IsReady, CanApply}
+use Rattle.kt_world.proofs.Plans.{IsAlive}
+use Rattle.kt_world.proofs.OnLinks.{Contains-tail, taken_off-was, sent-cases}
+use Rattle.kt_world.proofs.Frames.{applied-rows, put-holds}
+use Rattle.kt_world.proofs.Scene.{node-row}
+use Rattle.kt_world.proofs.Lists.{filter-was}
+use Rattle.kt_world.proofs.Growing.{message-noted, kept-noted, row-grown, noted-causes, length-noted}
+
+pub record IsGood (s : State) (p : NodeId) (plan : Plan) : Type 0 where
+  pub there : IsTrue (is_node s.cast p)
+  pub send : AllByRecursion (λ m. AreNeighbours s.cast p m.0) plan.send
+  pub change : CanChange (view s p).node plan.change
+  pub note : IfSome plan.note (MayFollow s.history)
+  pub own : IfSome plan.note (λ note. node_of note ≡ p)
+  pub says : AllByRecursion (λ m. IsMessageReady (noted s.history plan.note) m.1) plan.send
+  pub becomes : IfSome (option_map (changed plan.change) (node s p)) (IsNodeReady s.cast (noted s.history plan.note) (s.made + 1) p)
+
+pub good-applies : (s : State) (p : NodeId) (plan : Plan) → IsReady s → IsGood s p plan → CanApply s p plan
+good-applies s p plan ready g =
+    record { row = node-row s.cast ready.cast p g.there; send = g.send; change = g.change; note = g.note; own = g.own }
+
+-- ---- the state after it
+
+there-after : (s : State) → IsReady s → (step : Step) (plan : Plan) (q : NodeId) → is_some (node (applied s step plan) q) ≡ is_node s.cast q
+there-after s ready step plan = applied-rows s step plan (λ q row. is_some row ≡ is_node s.cast q) own (λ q apart. ready.there q)
+  where
+    same : (row : Option Node) → is_some (option_map (changed plan.change) row) ≡ is_some row
+    same None = refl
+    same (Some x) = refl
+
+    own : is_some (option_map (changed plan.change) (node s (owner step))) ≡ is_node s.cast (owner step)
+    own = same (node s (owner step)) ∙ ready.there (owner step)
+
+messages-after : (s : State) → IsReady s → (step : Step) (plan : Plan) → IsGood s (owner step) plan → (k : ℕ) (m : Message)
+    → Contains (at [] (applied s step plan).links k) m
+    → IsMessageReady (noted s.history plan.note) m
+messages-after s ready step plan g k m c = elim (sent-cases (link_place s.cast) (taken_off (link_place s.cast) s.links step) (owner step) plan.send (Some k) m c) [
+  | inl old ↦ message-noted s.history plan.note m (ready.messages k m (taken_off-was (link_place s.cast) s.links step (Some k) m old))
+  | inr new ↦ all-at (λ (x : NodeId × Message). IsMessageReady (noted s.history plan.note) x.1) plan.send (new.to, m) g.says new.among
+]
+
+pub good-ready : (s : State) (step : Step) (plan : Plan) → IsReady s → IsGood s (owner step) plan → s.made < most_steps → IsReady (applied s step plan)
+good-ready s step plan ready g few =
+    let p = owner step in
+    let row = node-row s.cast ready.cast p g.there in
+    let room : node_index p < length s.nodes = let rows = ready.rows in omega (arith, row, rows) in
+    let own_room : node_index p < length s.own = let counts = ready.counts in omega (arith, row, counts) in
+    record {
+      cast = ready.cast;
+      scripts = ready.scripts;
+      rows = length-put None s.nodes (node_index p) _ room ∙ ready.rows;
+      counts = length-put 0 s.own (node_index p) _ own_room ∙ ready.counts;
+      there = there-after s ready step plan;
+      nodes = applied-rows s step plan (λ q x. IfSome x (IsNodeReady s.cast (noted s.history plan.note) (s.made + 1) q)) g.becomes
+          (λ q apart. row-grown s.cast s.history plan.note s.made q (node s q) (ready.nodes q));
+      few_steps = omega (arith, few);
+      few_own = put-holds (λ (n : ℕ). n ≤ s.made + 1) 0 s.own (node_index p) _ (let h = ready.few_own (node_index p) in omega (arith, h))
+          (λ k. let h = ready.few_own k in omega (arith, h));
+      few_notes = let h = ready.few_notes in let one = length-noted s.history plan.note in omega (arith, h, one);
+      causes = noted-causes s.history plan.note ready.causes g.note;
+      messages = messages-after s ready step plan g;
+    }
+
+-- ---- a live node that turns
+
+-- what is put behind the kept messages has come from a neighbour
+abbrev pub IsKeeping : Cast → List Note → NodeId → KeptChange → Type 0
+IsKeeping cast h p (keeps.Append from post) = IsKeptReady cast h p (from, post)
+IsKeeping cast h p _ = Unit {0}
+
+-- the parts of a turn that leaves its node ready
+pub record TurnsWell (s : State) (note : Option Note) (p : NodeId) (n : Live) (t : Turn) : Type 0 where
+  pub can : CanTurn n t
+  pub body : IsBodyReady (role_of s.cast p).script (s.made + 1) p (changed_body n.body t.body)
+  pub kept : IsKeeping s.cast s.history p t.kept
+  pub phase : IfSome t.phase (IsPhaseReady s.cast p)
+
+kept-well : (cast : Cast) (h : List Note) (note : Option Note) (p : NodeId) (kept : List (NodeId × Post)) (change : KeptChange)
+    → ((x : NodeId × Post) → Contains kept x → IsKeptReady cast h p x) → IsKeeping cast h p change
+    → (x : NodeId × Post) → Contains (changed_kept kept change) x → IsKeptReady cast (noted h note) p x
+kept-well cast h note p kept keeps.Stay is well x c = kept-noted cast h note p x (is x c)
+kept-well cast h note p kept keeps.TakeFirst is well x c = kept-noted cast h note p x (is x (Contains-tail kept x c))
+kept-well cast h note p kept (keeps.Sieve from l) is well x c =
+    kept-noted cast h note p x (is x (filter-was (λ (y : NodeId × Post). not (is_above from l y)) kept x c))
+kept-well cast h note p kept (keeps.Append from post) is well x c = elim (Contains-push_cases kept (from, post) x c) [
+  | inl was ↦ kept-noted cast h note p x (is x was)
+  | inr e ↦ subst (IsKeptReady cast (noted h note) p) e (kept-noted cast h note p (from, post) well)
+]
+
+few-said : (count made : ℕ) (said : Option NodeId) → count ≤ made → said_count count said ≤ made + 1
+few-said count made None le = omega (arith, le)
+few-said count made (Some q) le = omega (arith, le)
+
+phase-well : (cast : Cast) (p : NodeId) (phase : Phase) (new : Option Phase) → IsPhaseReady cast p phase → IfSome new (IsPhaseReady cast p)
+    → IsPhaseReady cast p (phase_in phase new)
+phase-well cast p phase None is well = is
+phase-well cast p phase (Some new) is well = well
+
+turned-ready : (s : State) (note : Option Note) (p : NodeId) (n : Live) (t : Turn) → IsLiveReady s.cast s.history s.made p n → TurnsWell s note p n t
+    → IsLiveReady s.cast (noted s.history note) (s.made + 1) p (turned t n)
+turned-ready s note p n t is well = record {
+  body = well.body;
+  count = few-said n.count s.made t.said is.count;
+  phase = phase-well s.cast p n.phase t.phase is.phase well.phase;
+  kept = kept-well s.cast s.history note p n.kept t.kept is.kept well.kept;
+}
+
+-- what a ready state knows of a live node
+pub live-ready : (s : State) → IsReady s → (p : NodeId) (n : Live) → IsAlive s p n → IsLiveReady s.cast s.history s.made p n
+live-ready s ready p n at = let P : Option Node → Type 0 = λ row. IfSome row (IsNodeReady s.cast s.history s.made p) in subst P at (ready.nodes p)
+
+pub live-seen : (s : State) (p : NodeId) (n : Live) → IsAlive s p n → (view s p).node ≡ Alive n
+live-seen s p n at = ap (λ row. unwrap_or row Down) at
+
+-- a live node turns, sends and notes
+pub turn-good : (s : State) → IsReady s → (p : NodeId) (n : Live) (t : Turn) (send : List (NodeId × Message)) (note : Option Note) (write : Option Write)
+    → IsTrue (is_node s.cast p) → IsAlive s p n → TurnsWell s note p n t
+    → AllByRecursion (λ m. AreNeighbours s.cast p m.0) send → AllByRecursion (λ m. IsMessageReady (noted s.history note) m.1) send
+    → IfSome note (MayFollow s.history) → IfSome note (λ x. node_of x ≡ p)
+    → IsGood s p (record { change = changes.Turn t; send = send; note = note; write = write })
+turn-good s ready p n t send note write there at well sends says may own = record {
+  there = there;
+  send = sends;
+  change = subst (λ (x : Node). CanChange x (changes.Turn t)) (sym (live-seen s p n at)) well.can;
+  note = may;
+  own = own;
+  says = says;
+  becomes = subst (λ (row : Option Node). IfSome (option_map (changed (changes.Turn t)) row) (IsNodeReady s.cast (noted s.history note) (s.made + 1) p)) (sym at)
+      (turned-ready s note p n t (live-ready s ready p n at) well);
+}
+
+-- the node stays as it is
+pub stay-good : (s : State) → IsReady s → (p : NodeId) (note : Option Note) (write : Option Write) → IsTrue (is_node s.cast p)
+    → IfSome note (MayFollow s.history) → IfSome note (λ x. node_of x ≡ p)
+    → IsGood s p (record { change = changes.Stay; send = []; note = note; write = write })
+stay-good s ready p note write there may own = record {
+  there = there;
+  send = tt;
+  change = can (view s p).node;
+  note = may;
+  own = own;
+  says = tt;
+  becomes = stays (node s p) (row-grown s.cast s.history note s.made p (node s p) (ready.nodes p));
+}
+  where
+    can : (x : Node) → CanChange x changes.Stay
+    can Down = tt
+    can (Alive n) = tt
+
+    stays : (row : Option Node) → IfSome row (IsNodeReady s.cast (noted s.history note) (s.made + 1) p)
+        → IfSome (option_map (changed changes.Stay) row) (IsNodeReady s.cast (noted s.history note) (s.made + 1) p)
+    stays None is = tt
+    stays (Some x) is = is
+
+-- the node falls
+pub fall-good : (s : State) → IsReady s → (p : NodeId) (note : Option Note) (write : Option Write) → IsTrue (is_node s.cast p)
+    → IfSome note (MayFollow s.history) → IfSome note (λ x. node_of x ≡ p)
+    → IsGood s p (record { change = changes.Fall; send = []; note = note; write = write })
+fall-good s ready p note write there may own = record {
+  there = there;
+  send = tt;
+  change = can (view s p).node;
+  note = may;
+  own = own;
+  says = tt;
+  becomes = falls (node s p);
+}
+  where
+    can : (x : Node) → CanChange x changes.Fall
+    can Down = tt
+    can (Alive n) = tt
+
+    falls : (row : Option Node) → IfSome (option_map (changed changes.Fall) row) (IsNodeReady s.cast (noted s.history note) (s.made + 1) p)
+    falls None = tt
+    falls (Some x) = tt
+
+-- the node goes on as this one
+pub load-good : (s : State) (p : NodeId) (live : Live) (send : List (NodeId × Message)) (note : Option Note) (write : Option Write)
+    → IsTrue (is_node s.cast p) → IsLiveReady s.cast (noted s.history note) (s.made + 1) p live
+    → AllByRecursion (λ m. AreNeighbours s.cast p m.0) send → AllByRecursion (λ m. IsMessageReady (noted s.history note) m.1) send
+    → IfSome note (MayFollow s.history) → IfSome note (λ x. node_of x ≡ p)
+    → IsGood s p (record { change = changes.Load live; send = send; note = note; write = write })
+load-good s p live send note write there is sends says may own = record {
+  there = there;
+  send = sends;
+  change = can (view s p).node;
+  note = may;
+  own = own;
+  says = says;
+  becomes = loads (node s p);
+}
+  where
+    can : (x : Node) → CanChange x (changes.Load live)
+    can Down = tt
+    can (Alive n) = tt
+
+    loads : (row : Option Node) → IfSome (option_map (changed (changes.Load live)) row) (IsNodeReady s.cast (noted s.history note) (s.made + 1) p)
+    loads None = tt
+    loads (Some x) = is

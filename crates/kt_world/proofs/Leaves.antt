@@ -1,0 +1,189 @@
+-- What the leaves of the tables are made of: whom they send to, and what becomes of a node's work.
+use Rattle.std.proofs.Common.{◌≡◌, ℕ, ◌+◌, ◌<◌, Bool, true, false, List, Contains, Option, None, Some, sym, subst, arith}
+use Rattle.std.specs.Prelude.{IfSome, IsTrue}
+use Rattle.std.specs.List.{AllByRecursion}
+use Rattle.kt_tuple.specs.declared.node.NodeId.{NodeId}
+use Rattle.kt_tuple.specs.declared.node.NodeId.TheVariants as ids
+use Rattle.kt_history.specs.declared.note.Note.{Note}
+use Rattle.kt_script.specs.declared.command.Command.{Command}
+use Rattle.kt_worker.specs.declared.worker.Worker.{Worker}
+use Rattle.kt_shard.specs.declared.request.Request.{Request}
+use Rattle.kt_shard.specs.Service.{Service}
+use Rattle.kt_shard.specs.Limits.{desks}
+use Rattle.kt_ckpt.specs.declared.marks.Marks.{Marks}
+use Rattle.kt_vote.specs.declared.asker.Asker.{Asker}
+use Rattle.kt_vote.specs.declared.vote.Vote.{Vote}
+use Rattle.kt_vote.specs.Poll.{Poll, outcome_of}
+use Rattle.kt_link.specs.declared.label.Label.{Label}
+use Rattle.kt_node.specs.declared.message.Message.{Message}
+use Rattle.kt_node.specs.declared.message.Message.TheVariants as messages
+use Rattle.kt_node.specs.declared.live.Phase.{Phase}
+use Rattle.kt_node.specs.declared.change.BodyChange.TheVariants as bodies
+use Rattle.kt_node.specs.Labels.{numbers}
+use Rattle.kt_node.specs.Node.{Body, IsWorker, IsShard, Live, across, neighbours}
+use Rattle.kt_node.specs.Ready.{CanChangeBody, CanCount}
+use Rattle.kt_node.specs.Turning.{changed_body}
+use Rattle.kt_node.specs.Voting.{casting_to, casting_unless, casting_of, casting, poll_after, votes}
+use Rattle.kt_node.specs.Joining.{is_in_cohort, cohort, check_asks, roll_asks}
+use Rattle.kt_node.specs.Learning.{verdict_to}
+use Rattle.kt_world.specs.Cast.{Cast, is_node}
+use Rattle.kt_world.specs.State.{State, role_of}
+use Rattle.kt_world.specs.Ready.{AreNeighbours, IsWithin, IsBodyReady, IsMessageReady, IsPollReady, IsPhaseReady, IsReady}
+use Rattle.kt_world.proofs.Plans as plans
+use Rattle.kt_world.proofs.Plans.{IsAlive, Votes}
+use Rattle.kt_world.proofs.Scene.{role-id, across-neighbour}
+use Rattle.kt_world.proofs.Lists.{all-from, all-map, all-numbers, filter-was}
+use Rattle.kt_world.proofs.Growing.{body-grown}
+use Rattle.kt_world.proofs.Within.{length-left}
+use Rattle.kt_world.proofs.Good.{live-ready}
+use Rattle.kt_lines.proofs.Lists.{all-at}
+
+-- ---- the work
+
+pub can-stay : (b : Body) → CanChangeBody b bodies.Stay
+can-stay (IsWorker x) = tt
+can-stay (IsShard y) = tt
+
+pub can-work : (b : Body) (x : Worker) → CanChangeBody b (bodies.Work x)
+can-work (IsWorker w) x = tt
+can-work (IsShard y) x = tt
+
+pub can-wait : (b : Body) (worker : ℕ) (request : Request) → worker < desks → CanChangeBody b (bodies.Wait worker request)
+can-wait (IsWorker w) worker request lt = tt
+can-wait (IsShard y) worker request lt = lt
+
+pub can-serve : (b : Body) (worker : ℕ) (v : Service) → worker < desks → CanChangeBody b (bodies.Serve worker v)
+can-serve (IsWorker w) worker v lt = tt
+can-serve (IsShard y) worker v lt = lt
+
+pub stay-body : (script : List Command) (made : ℕ) (p : NodeId) (b : Body) → IsBodyReady script made p b
+    → IsBodyReady script (made + 1) p (changed_body b bodies.Stay)
+stay-body script made p (IsWorker x) is = body-grown script made (made + 1) p (IsWorker x) (omega arith) is
+stay-body script made p (IsShard y) is = body-grown script made (made + 1) p (IsShard y) (omega arith) is
+
+pub work-body : (script : List Command) (made : ℕ) (p : NodeId) (b : Body) (x new : Worker) → b ≡ IsWorker x → (IsWithin script x → IsWithin script new)
+    → IsBodyReady script made p b → IsBodyReady script (made + 1) p (changed_body b (bodies.Work new))
+work-body script made (ids.Worker n) (IsWorker w) x new e keeps is = let same : w ≡ x = cc in keeps (subst (IsWithin script) same is)
+work-body script made (ids.Shard n) (IsWorker w) x new e keeps is = absurd is
+work-body script made p (IsShard y) x new e keeps is = absurd cc
+
+pub wait-body : (script : List Command) (made : ℕ) (p : NodeId) (b : Body) (worker : ℕ) (request : Request) → IsBodyReady script made p b
+    → IsBodyReady script (made + 1) p (changed_body b (bodies.Wait worker request))
+wait-body script made p (IsWorker x) worker request is = body-grown script made (made + 1) p (IsWorker x) (omega arith) is
+wait-body script made (ids.Worker n) (IsShard y) worker request is = absurd is
+wait-body script made (ids.Shard n) (IsShard y) worker request is = omega (arith, is)
+
+pub serve-body : (script : List Command) (made : ℕ) (p : NodeId) (b : Body) (worker : ℕ) (v : Service) → IsBodyReady script made p b
+    → IsBodyReady script (made + 1) p (changed_body b (bodies.Serve worker v))
+serve-body script made p (IsWorker x) worker v is = body-grown script made (made + 1) p (IsWorker x) (omega arith) is
+serve-body script made (ids.Worker n) (IsShard y) worker v is = absurd is
+serve-body script made (ids.Shard n) (IsShard y) worker v is = let long = length-left y.bag v.request.op v.place in omega (arith, is, long)
+
+-- a live node can count one message more
+pub can-count : (s : State) → IsReady s → (p : NodeId) (n : Live) → IsAlive s p n → CanCount n
+can-count s ready p n at =
+    let few = (live-ready s ready p n at).count in
+    let steps = ready.few_steps in
+    omega (arith, few, steps)
+
+-- ---- ballots
+
+pub after-poll : (cast : Cast) (p : NodeId) (b : Poll) (vote : Option (NodeId × Vote)) → IsPollReady cast p b → IsPollReady cast p (poll_after b vote)
+after-poll cast p b None is = is
+after-poll cast p b (Some vote) is = record { parent = is.parent; asked = is.asked }
+
+phase-poll : (cast : Cast) (p : NodeId) (x : Phase) (b : Poll) (phase : Poll → Phase) → Votes x b phase → IsPhaseReady cast p x → IsPollReady cast p b
+phase-poll cast p x b phase plans.holds is = is
+phase-poll cast p x b phase plans.rolls is = is
+
+-- what a node that votes knows of its ballot
+pub poll-ready : (s : State) → IsReady s → (p : NodeId) (n : Live) (b : Poll) (phase : Poll → Phase) → IsAlive s p n → Votes n.phase b phase
+    → IsPollReady s.cast p b
+poll-ready s ready p n b phase at voting = phase-poll s.cast p n.phase b phase voting (live-ready s ready p n at).phase
+
+pub phase-ready : (cast : Cast) (p : NodeId) (x : Phase) (b c : Poll) (phase : Poll → Phase) → Votes x b phase → IsPollReady cast p c
+    → IsPhaseReady cast p (phase c)
+phase-ready cast p x b c phase plans.holds is = is
+phase-ready cast p x b c phase plans.rolls is = is
+
+-- ---- who is asked
+
+pub all-neighbours : (cast : Cast) (p : NodeId) → IsTrue (is_node cast p) → AllByRecursion (AreNeighbours cast p) (neighbours (role_of cast p))
+all-neighbours cast p there =
+    all-map (AreNeighbours cast p) (across (role_of cast p).id) (numbers 1 (role_of cast p).peers)
+    (all-numbers (λ k. AreNeighbours cast p (across (role_of cast p).id k)) 1 (role_of cast p).peers
+    (λ k low high. subst (λ (q : NodeId). AreNeighbours cast p (across q k)) (sym (role-id cast p)) (across-neighbour cast p k there low (omega (arith, high)))))
+
+pub neighbour-in : (cast : Cast) (p : NodeId) → IsTrue (is_node cast p) → (q : NodeId) → Contains (neighbours (role_of cast p)) q → AreNeighbours cast p q
+neighbour-in cast p there q c = all-at (AreNeighbours cast p) (neighbours (role_of cast p)) q (all-neighbours cast p there) c
+
+pub cohort-in : (cast : Cast) (p : NodeId) (permanent : Option Marks) (n : Live) → IsTrue (is_node cast p)
+    → (q : NodeId) → Contains (cohort (role_of cast p) permanent n) q → AreNeighbours cast p q
+cohort-in cast p permanent n there q c =
+    neighbour-in cast p there q (filter-was (is_in_cohort permanent n) (neighbours (role_of cast p)) q c)
+
+-- ---- what is sent
+
+-- the message goes to a neighbour
+abbrev pub GoesNear : Cast → NodeId → NodeId × Message → Type 0
+GoesNear cast p m = AreNeighbours cast p m.0
+
+-- the message is ready
+abbrev pub SaysReady : List Note → NodeId × Message → Type 0
+SaysReady h m = IsMessageReady h m.1
+
+-- votes go to who asked
+pub casting-all : (P : NodeId × Message → Type 0) (b : Poll) → IfSome b.parent (λ a. (vote : Vote) → P (a.node, messages.Vote vote))
+    → AllByRecursion P (votes (casting b))
+casting-all P b h = by b.parent h
+  where
+    agrees : (parent : Asker) → ((vote : Vote) → P (parent.node, messages.Vote vote)) → (o : Option Bool) → AllByRecursion P (votes (casting_to b parent o))
+    agrees parent h None = tt
+    agrees parent h (Some agreed) = (h _, tt)
+
+    unless : (parent : Asker) → ((vote : Vote) → P (parent.node, messages.Vote vote)) → (voted : Bool)
+        → AllByRecursion P (votes (casting_unless voted b parent))
+    unless parent h true = tt
+    unless parent h false = agrees parent h (outcome_of b)
+
+    by : (o : Option Asker) → IfSome o (λ a. (vote : Vote) → P (a.node, messages.Vote vote)) → AllByRecursion P (votes (casting_of b o))
+    by None h = tt
+    by (Some parent) h = unless parent h b.voted
+
+pub casting-near : (cast : Cast) (p : NodeId) (b : Poll) → IsPollReady cast p b → AllByRecursion (GoesNear cast p) (votes (casting b))
+casting-near cast p b is = casting-all (GoesNear cast p) b (by b.parent is.parent)
+  where
+    by : (o : Option Asker) → IfSome o (λ a. AreNeighbours cast p a.node) → IfSome o (λ a. (vote : Vote) → AreNeighbours cast p a.node)
+    by None h = tt
+    by (Some a) h = λ vote. h
+
+pub casting-says : (h : List Note) (b : Poll) → AllByRecursion (SaysReady h) (votes (casting b))
+casting-says h b = casting-all (SaysReady h) b (by b.parent)
+  where
+    by : (o : Option Asker) → IfSome o (λ a. (vote : Vote) → Unit {0})
+    by None = tt
+    by (Some a) = λ vote. tt
+
+-- asks and verdicts go to who is asked
+pub checks-near : (cast : Cast) (p : NodeId) (instance : ℕ) (n : Live) (asked : List NodeId) → ((q : NodeId) → Contains asked q → AreNeighbours cast p q)
+    → AllByRecursion (GoesNear cast p) (check_asks instance n asked)
+checks-near cast p instance n asked near = all-map (GoesNear cast p) _ asked (all-from (AreNeighbours cast p) asked near)
+
+pub checks-say : (h : List Note) (instance : ℕ) (n : Live) (asked : List NodeId) → AllByRecursion (SaysReady h) (check_asks instance n asked)
+checks-say h instance n asked = all-map (SaysReady h) _ asked (all-from (λ q. Unit {0}) asked (λ q c. tt))
+
+pub rolls-near : (cast : Cast) (p : NodeId) (instance incarnation : ℕ) (label : ℕ → Label) (asked : List NodeId)
+    → ((q : NodeId) → Contains asked q → AreNeighbours cast p q)
+    → AllByRecursion (GoesNear cast p) (roll_asks instance incarnation label asked)
+rolls-near cast p instance incarnation label asked near = all-map (GoesNear cast p) _ asked (all-from (AreNeighbours cast p) asked near)
+
+pub rolls-say : (h : List Note) (instance incarnation : ℕ) (label : ℕ → Label) (asked : List NodeId)
+    → AllByRecursion (SaysReady h) (roll_asks instance incarnation label asked)
+rolls-say h instance incarnation label asked = all-map (SaysReady h) _ asked (all-from (λ q. Unit {0}) asked (λ q c. tt))
+
+pub verdicts-near : (cast : Cast) (p : NodeId) (instance : ℕ) (agreed : Bool) (asked : List NodeId) → ((q : NodeId) → Contains asked q → AreNeighbours cast p q)
+    → AllByRecursion (GoesNear cast p) (verdict_to instance agreed asked)
+verdicts-near cast p instance agreed asked near = all-map (GoesNear cast p) _ asked (all-from (AreNeighbours cast p) asked near)
+
+pub verdicts-say : (h : List Note) (instance : ℕ) (agreed : Bool) (asked : List NodeId) → AllByRecursion (SaysReady h) (verdict_to instance agreed asked)
+verdicts-say h instance agreed asked = all-map (SaysReady h) _ asked (all-from (λ q. Unit {0}) asked (λ q c. tt))

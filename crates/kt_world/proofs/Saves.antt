@@ -1,0 +1,134 @@
+-- A node of a ready state can act, and its checkpoint can be taken.
+use Rattle.std.proofs.Common.{◌≡◌, ℕ, get_or, zero, suc, ◌+◌, ◌≤◌, true, List, ◌++◌, length, Option, None, Some, refl, sym, ap, ◌∙◌, arith}
+use Rattle.std.specs.Prelude.{IfSome, IsTrue, is_some, unwrap_or}
+use Rattle.std.specs.List.{flat_map}
+use Rattle.std.proofs.lemmas.List.{length-map}
+use Rattle.std.proofs.lemmas.List.Elements.{Contains-get_or}
+use Rattle.kt_tuple.specs.declared.node.NodeId.{NodeId}
+use Rattle.kt_tuple.specs.declared.node.NodeId.TheVariants as ids
+use Rattle.kt_link.specs.declared.label.Label.{Label}
+use Rattle.kt_shard.specs.Limits.{most_workers}
+use Rattle.kt_ckpt.specs.Limits.{max_workers}
+use Rattle.kt_ckpt.specs.Reading.{IsRising}
+use Rattle.kt_ckpt.specs.Checkpoint.{IsNode as IsNamed, Suits, IsCountedState, ArePeers}
+use Rattle.kt_node.specs.declared.live.Phase.{Phase}
+use Rattle.kt_node.specs.declared.live.Phase.TheVariants as phases
+use Rattle.kt_node.specs.Labels.{numbers, label_at, listed}
+use Rattle.kt_node.specs.Node.{Body, IsWorker, IsShard, Live, Node, Down, Alive}
+use Rattle.kt_node.specs.State.{entry, entries, body_fields}
+use Rattle.kt_node.specs.Steps.{up_in}
+use Rattle.kt_node.specs.Ready.{CanCount, CanSpeak, KeptHavePlaces, CanAct}
+use Rattle.kt_node.specs.Saving.{CanSave, CanSaveNode}
+use Rattle.kt_world.specs.Cast.{is_node}
+use Rattle.kt_world.specs.State.{State, node, role_of, view}
+use Rattle.kt_world.specs.Ready.{IsBodyReady, IsReady}
+use Rattle.kt_world.proofs.Plans.{IsAlive, IsDown}
+use Rattle.kt_world.proofs.Passed.{alive-is}
+use Rattle.kt_world.proofs.Scene.{IsNode, a_worker, a_shard, of_node, some_peers, few_peers, neighbour-place}
+use Rattle.kt_world.proofs.Lists.{length-numbers}
+use Rattle.kt_world.proofs.Loads.{script-short}
+use Rattle.kt_world.proofs.Good.{live-ready}
+use Rattle.kt_world.proofs.Leaves.{can-count}
+
+-- ---- a node of a ready state
+
+pub alive-node : (s : State) → IsReady s → (p : NodeId) (n : Live) → IsAlive s p n → IsTrue (is_node s.cast p)
+alive-node s ready p n at = sym (ready.there p) ∙ ap is_some at
+
+-- a node of the scene that is seen down has a row
+pub down-row : (s : State) → IsReady s → (p : NodeId) → IsTrue (is_node s.cast p) → IsDown s p → node s p ≡ Some Down
+down-row s ready p there down = by (node s p) (ready.there p ∙ there) down
+  where
+    by : (row : Option Node) → is_some row ≡ true → unwrap_or row Down ≡ Down → row ≡ Some Down
+    by None e f = absurd cc
+    by (Some x) e f = ap (λ (y : Node). Some y) f
+
+-- ---- acting
+
+pub can_act : (s : State) → IsReady s → (p : NodeId) → CanAct (view s p)
+can_act s ready p = record {
+  some = some_peers s.cast ready.cast p;
+  few = let few = few_peers s.cast ready.cast p in omega (arith, few);
+  count = speaks (view s p).node refl;
+  kept = keeps (view s p).node refl;
+}
+  where
+    speaks : (x : Node) → (view s p).node ≡ x → CanSpeak x
+    speaks Down is = tt
+    speaks (Alive n) is = by n.phase
+      where
+        by : (phase : Phase) → IfSome (up_in n phase) CanCount
+        by phases.Up = can-count s ready p n (alive-is s p n is)
+        by (phases.Held b) = tt
+        by (phases.Rolling b) = tt
+
+    keeps : (x : Node) → (view s p).node ≡ x → KeptHavePlaces x
+    keeps Down is = tt
+    keeps (Alive n) is = λ k d lt.
+        neighbour-place s.cast ready.cast p (get_or n.kept k d).0 ((live-ready s ready p n (alive-is s p n is)).kept (get_or n.kept k d) (Contains-get_or n.kept k d lt)).from
+
+-- ---- saving
+
+rising : {A : Type 0} (of : ℕ → Option A) (least from n : ℕ) → least ≤ from → from + n ≤ max_workers + 1
+    → IsRising least (flat_map (λ worker. entry worker (of worker)) (numbers from n))
+unfolding numbers
+rising of least from zero low high = tt
+rising {A} of least from (suc n) low high = by (of from) (λ next le. rising of next (suc from) n le (omega (arith, high)))
+  where
+    rest : List (ℕ × A)
+    rest = flat_map (λ worker. entry worker (of worker)) (numbers (suc from) n)
+
+    by : (o : Option A) → ((next : ℕ) → next ≤ suc from → IsRising next rest) → IsRising least (entry from o ++ rest)
+    by None more = more least (omega (arith, low))
+    by (Some x) more = (low, omega (arith, high), more (from + 1) (omega arith))
+
+rising-entries : {A : Type 0} (of : ℕ → Option A) → IsRising 1 (entries of)
+rising-entries of = rising of 1 1 most_workers (omega arith) (omega arith)
+
+length-listed : (peers : ℕ) (table : List Label) → length (listed peers table) ≡ peers
+length-listed peers table = length-map (numbers 1 peers) (label_at table) ∙ length-numbers 1 peers
+
+are-peers : (s : State) → IsReady s → (p : NodeId) (sent received : List Label)
+    → ArePeers (listed (role_of s.cast p).peers sent) (listed (role_of s.cast p).peers received)
+are-peers s ready p sent received =
+    let some = some_peers s.cast ready.cast p in
+    let few = few_peers s.cast ready.cast p in
+    let one = length-listed (role_of s.cast p).peers sent in
+    let two = length-listed (role_of s.cast p).peers received in
+    (omega (arith, some, one), omega (arith, few, one), one ∙ sym two)
+
+named : (s : State) → IsReady s → (p : NodeId) → IsNode s.cast p → IsNamed (role_of s.cast p).id
+named s ready p (a_worker low high) = let few = ready.cast.few_workers in (low, omega (arith, high, few))
+named s ready p (a_shard low high) = let few = ready.cast.few_shards in (low, omega (arith, high, few))
+
+suits : (s : State) (p : NodeId) (b : Body) → IsBodyReady (role_of s.cast p).script s.made p b → Suits (role_of s.cast p).id (body_fields b)
+suits s (ids.Worker n) (IsWorker x) is = tt
+suits s (ids.Worker n) (IsShard y) is = is
+suits s (ids.Shard n) (IsWorker x) is = is
+suits s (ids.Shard n) (IsShard y) is = tt
+
+counted : (s : State) → IsReady s → (p : NodeId) (b : Body) → IsBodyReady (role_of s.cast p).script s.made p b → IsCountedState (body_fields b)
+counted s ready (ids.Worker n) (IsWorker x) is =
+    let short = (script-short s ready n).commands in
+    let within = is.pc in
+    (omega (arith, short, within), is.values)
+counted s ready (ids.Worker n) (IsShard y) is = absurd is
+counted s ready (ids.Shard n) (IsWorker x) is = absurd is
+counted s ready (ids.Shard n) (IsShard y) is =
+    let steps = ready.few_steps in
+    (omega (arith, is, steps), rising-entries _, rising-entries _)
+
+pub can_save : (s : State) → IsReady s → (p : NodeId) (n : Live) → IsAlive s p n → CanSave (view s p) n
+can_save s ready p n at = record {
+  node = named s ready p (of_node s.cast p (alive-node s ready p n at));
+  peers = are-peers s ready p n.sent n.received;
+  suits = suits s p n.body (live-ready s ready p n at).body;
+  state = counted s ready p n.body (live-ready s ready p n at).body;
+}
+
+pub can_save_node : (s : State) → IsReady s → (p : NodeId) → CanSaveNode (view s p) (view s p).node
+can_save_node s ready p = by (view s p).node refl
+  where
+    by : (x : Node) → (view s p).node ≡ x → CanSaveNode (view s p) x
+    by Down is = tt
+    by (Alive n) is = can_save s ready p n (alive-is s p n is)
