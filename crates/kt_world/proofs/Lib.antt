@@ -48,3 +48,4 @@ pub mod Backs
 pub mod StaysBacked
 pub mod Scripts
 pub mod Standing
+pub mod Holding
