@@ -49,3 +49,4 @@ pub mod OpenedSound
 pub mod Headlines
 pub mod LinesAfter
 pub mod Following
+pub mod Holding

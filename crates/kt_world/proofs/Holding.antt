@@ -1,0 +1,94 @@
+-- What every state keeps that steps lead to from an opening: it is ready, backed by what is stored, and sound. So each
+-- has the headline, and each step notes one thing at most.
+use Rattle.std.proofs.Common.{◌≡◌, ◌<◌, List, [], ◌∷◌, Result, Ok, Err, refl, subst}
+use Rattle.kt_tuple.specs.declared.node.NodeId.{NodeId}
+use Rattle.kt_node.specs.declared.plan.Plan.{Plan}
+use Rattle.kt_world.specs.declared.step.Step.{Step}
+use Rattle.kt_world.specs.declared.step.StepError.{StepError}
+use Rattle.kt_world.specs.Step.{owner}
+use Rattle.kt_world.specs.Limits.{most_steps}
+use Rattle.kt_world.specs.Cast.{Cast, IsCast}
+use Rattle.kt_world.specs.State.{State}
+use Rattle.kt_world.specs.Told.{told}
+use Rattle.kt_world.specs.Judge.{planned}
+use Rattle.kt_world.specs.Effect.{applied, applied_if, step_result}
+use Rattle.kt_world.specs.Reached.{opening, or_as_it_was, next_state, after}
+use Rattle.kt_world.specs.Short.{AreShort}
+use Rattle.kt_world.specs.Ready.{IsReady}
+use Rattle.kt_world.specs.Backed.{IsBacked}
+use Rattle.kt_world.specs.Headline.{NotesOneAtMost, LineAfter, Headline}
+use Rattle.kt_world.specs.Workers.{WorkersFollowLines}
+use Rattle.kt_world.proofs.Plans.{PlanOf}
+use Rattle.kt_world.proofs.PlansFound.{plan-found, plan-few}
+use Rattle.kt_world.proofs.CanApplies.{stays_ready}
+use Rattle.kt_world.proofs.StaysBacked.{stays_backed}
+use Rattle.kt_world.proofs.Opened.{opening-ready, opening-backed}
+use Rattle.kt_world.proofs.Sound.{IsSound}
+use Rattle.kt_world.proofs.StepSound.{step_keeps, step_sound}
+use Rattle.kt_world.proofs.OpenedSound.{opening_sound}
+use Rattle.kt_world.proofs.Headlines.{headline}
+use Rattle.kt_world.proofs.LinesAfter.{notes_one, line_after}
+use Rattle.kt_world.proofs.Following.{workers_follow}
+
+pub record Holds (s : State) : Type 0 where
+  pub ready : IsReady s
+  pub backed : IsBacked s
+  pub sound : IsSound s
+
+-- how a step was made
+pub record IsMade (s : State) (step : Step) (new : State) : Type 0 where
+  pub plan : Plan
+  pub is_plan : PlanOf s (told s step) step plan
+  pub few : s.made < most_steps
+  pub leads : applied s step plan ≡ new
+
+pub step-made : (s : State) (step : Step) (new : State) → step_result s step ≡ Ok new → IsMade s step new
+step-made s step new e = by (planned s step) refl e
+  where
+    by : (r : Result Plan StepError) → planned s step ≡ r → applied_if s step r ≡ Ok new → IsMade s step new
+    by (Ok plan) is e = record { plan = plan; is_plan = plan-found s (told s step) step plan is; few = plan-few s (told s step) step plan is; leads = cc (e) }
+    by (Err refusal) is e = absurd cc
+
+pub made-holds : (s : State) (step : Step) (new : State) → Holds s → IsMade s step new → Holds new
+made-holds s step new h m = let P : State → Type 0 = Holds in subst P m.leads (record {
+  ready = stays_ready s h.ready m.few (told s step) step m.plan m.is_plan;
+  backed = stays_backed s h.backed m.few step m.plan m.is_plan;
+  sound = step_sound s h.ready h.backed h.sound step m.plan m.is_plan;
+})
+
+result-holds : (s : State) (step : Step) (r : Result State StepError) → Holds s → step_result s step ≡ r → Holds (or_as_it_was r s)
+result-holds s step (Ok new) h e = made-holds s step new h (step-made s step new e)
+result-holds s step (Err refusal) h e = h
+
+-- the induction
+pub steps-hold : (s : State) (steps : List Step) → Holds s → Holds (after s steps)
+unfolding after
+steps-hold s [] h = h
+steps-hold s (step ∷ later) h = steps-hold (next_state s step) later (result-holds s step (step_result s step) h refl)
+
+pub opening-holds : (cast : Cast) → IsCast cast → AreShort cast → Holds (opening cast)
+opening-holds cast is short = record { ready = opening-ready cast is short; backed = opening-backed cast is; sound = opening_sound cast }
+
+pub after-holds : (cast : Cast) → IsCast cast → AreShort cast → (steps : List Step) → Holds (after (opening cast) steps)
+after-holds cast is short steps = steps-hold (opening cast) steps (opening-holds cast is short)
+
+-- ---- what follows of each state that steps lead to
+
+pub headline-after : (cast : Cast) → IsCast cast → AreShort cast → (steps : List Step) → Headline (after (opening cast) steps)
+headline-after cast is short steps = headline (after (opening cast) steps) (after-holds cast is short steps).sound
+
+pub workers-after : (cast : Cast) → IsCast cast → AreShort cast → (steps : List Step) → WorkersFollowLines (after (opening cast) steps)
+workers-after cast is short steps = workers_follow (after (opening cast) steps) (after-holds cast is short steps).sound
+
+-- and of each step that is made there
+pub made-notes : (s : State) (step : Step) (new : State) → Holds s → step_result s step ≡ Ok new → NotesOneAtMost (owner step) s.history new.history
+made-notes s step new h e =
+    let m = step-made s step new e in
+    let P : State → Type 0 = λ x. NotesOneAtMost (owner step) s.history x.history in
+    subst P m.leads (notes_one s step m.plan (step_keeps s h.ready h.backed h.sound step m.plan m.is_plan))
+
+pub made-lines : (s : State) (step : Step) (new : State) → Holds s → step_result s step ≡ Ok new → (q : NodeId) → LineAfter s step new.history q
+made-lines s step new h e q =
+    let m = step-made s step new e in
+    let P : State → Type 0 = λ x. LineAfter s step x.history q in
+    subst P m.leads (line_after s (told s step) step m.plan m.is_plan (step_keeps s h.ready h.backed h.sound step m.plan m.is_plan) q)
