@@ -1,7 +1,8 @@
 //! The write of a plan.
 
-ghost use Rattle.std.specs.Prelude.{IsTrue};
-ghost use Rattle.kt_world.specs.Writing.{MayWriteAll, content_after};
+ghost use Rattle.std.specs.Prelude.{IfSome, IsTrue};
+ghost use Rattle.kt_world.specs.Backed.{HasNumbers, IsAllowed};
+ghost use Rattle.kt_world.specs.Writing.{content_after};
 ghost use Rattle.kt_core.specs.Store.{IsWritten};
 
 use kt_node::Write;
@@ -14,7 +15,8 @@ pub(crate) fn write<S: CkptStore>(
     node: NodeId,
     write: &Option<Write>,
 ) -> Result<(), StoreError>
-    requires { IsTrue (S.is_honest store.old) → MayWriteAll (S.content store.old) node write.now }
+    requires allowed { IsTrue (S.is_honest store.old) → IfSome write.now (IsAllowed (S.content store.old) node) }
+    requires numbers { IsTrue (S.is_honest store.old) → HasNumbers (S.content store.old) node }
     ensures { IsWritten S.content S.is_honest S.fault_count store.old store.new (content_after node write.now) result }
 {
     match write {
