@@ -49,4 +49,5 @@ pub mod OpenedSound
 pub mod Headlines
 pub mod LinesAfter
 pub mod Following
+pub mod FirstCut
 pub mod Holding
