@@ -1,7 +1,15 @@
 -- What every state keeps that steps lead to from an opening: it is ready, backed by what is stored, and sound, and calm
 -- while it has no cut. So each has the headline, and each step notes one thing at most.
-use Rattle.std.proofs.Common.{◌≡◌, ◌<◌, List, [], ◌∷◌, Result, Ok, Err, refl, sym, subst}
+use Rattle.std.proofs.Common.{◌≡◌, ℕ, length, ◌++◌, ◌<◌, List, [], ◌∷◌, Result, Ok, Err, refl, sym, subst}
+use Rattle.std.specs.Prelude.{IsTrue}
 use Rattle.kt_tuple.specs.declared.node.NodeId.{NodeId}
+use Rattle.kt_tuple.specs.declared.node.NodeId.TheVariants as ids
+use Rattle.kt_tuple.specs.declared.op.Answer.{Answer}
+use Rattle.kt_history.specs.declared.note.Act.{Act}
+use Rattle.kt_history.specs.declared.note.What.TheVariants.{Served}
+use Rattle.kt_history.specs.Line.{line}
+use Rattle.kt_history.specs.Closed.{acts_in_line}
+use Rattle.kt_lines.specs.Hearing.{WasHeardFor}
 use Rattle.kt_history.specs.WellFormed.{HasNoCut}
 use Rattle.kt_lines.proofs.Survive.{surviving_tuples, survivors_run}
 use Rattle.kt_lines.proofs.WellFormed.{causes_come_first}
@@ -20,7 +28,7 @@ use Rattle.kt_world.specs.Reached.{IsReached, opening, or_as_it_was, next_state,
 use Rattle.kt_world.specs.Short.{AreShort}
 use Rattle.kt_world.specs.Ready.{IsReady}
 use Rattle.kt_world.specs.Backed.{IsBacked}
-use Rattle.kt_world.specs.Headline.{Headline, IsWhole, NotesOneAtMost, LineAfter, HasCut, IsFailure}
+use Rattle.kt_world.specs.Headline.{may_forget, Headline, IsWhole, NotesOneAtMost, LineAfter, HasCut, IsFailure}
 use Rattle.kt_world.specs.Workers.{WorkersFollowLines}
 use Rattle.kt_world.proofs.Plans.{PlanOf}
 use Rattle.kt_world.proofs.PlansFound.{plan-found, plan-few}
@@ -32,8 +40,8 @@ use Rattle.kt_world.proofs.StepSound.{step_keeps, step_sound}
 use Rattle.kt_world.proofs.OpenedSound.{opening_sound}
 use Rattle.kt_world.proofs.Headlines.{headline, nothing_lost, survives_all, bags_held}
 use Rattle.kt_world.proofs.FirstCut.{IsCalm, shard-alive, stays_calm, failure_cuts_first, opening_calm}
-use Rattle.kt_world.proofs.LinesAfter.{notes_one, line_after}
-use Rattle.kt_world.proofs.Following.{workers_follow}
+use Rattle.kt_world.proofs.LinesAfter.{notes_one, line_after, shorter_forgets}
+use Rattle.kt_world.proofs.Following.{workers_follow, service_heard}
 
 pub record Holds (s : State) : Type 0 where
   pub ready : IsReady s
@@ -92,6 +100,10 @@ headline-reached s is = headline s (reached-holds s is).sound
 pub workers-reached : (s : State) → IsReached s → WorkersFollowLines s
 workers-reached s is = workers_follow s (reached-holds s is).sound
 
+pub services-reached : (s : State) → IsReached s → (r : ℕ) (before : List Act) (a : Act) (later : List Act) (answer : Answer)
+    → acts_in_line s.history (ids.Shard r) ≡ before ++ a ∷ later → a.what ≡ Served answer → WasHeardFor before a
+services-reached s is = service_heard s (reached-holds s is).sound
+
 -- without a cut nobody is down, so all tuples are there
 pub whole-reached : (s : State) → IsReached s → HasNoCut s.history → IsWhole s
 whole-reached s is none =
@@ -119,6 +131,10 @@ made-lines s step new is e q =
     let m = step-made s step new e in
     let P : State → Type 0 = λ x. LineAfter s step x.history q in
     subst P m.leads (line_after s (told s step) step m.plan m.is_plan (step_keeps s h.ready h.backed h.sound step m.plan m.is_plan) q)
+
+pub made-shorter : (s : State) (step : Step) (new : State) → IsReached s → step_result s step ≡ Ok new
+    → (q : NodeId) → length (line new.history q) < length (line s.history q) → (owner step ≡ q) × IsTrue (may_forget s step)
+made-shorter s step new is e q = shorter_forgets s step new.history q (made-lines s step new is e q)
 
 pub made-first_cut : (s : State) (step : Step) (new : State) → IsReached s → step_result s step ≡ Ok new → HasNoCut s.history → HasCut new.history → IsFailure step
 made-first_cut s step new is e none has =
