@@ -1,5 +1,5 @@
 -- What the rule of a step looks at is all that it has to be told.
-use Rattle.std.proofs.Common.{◌≡◌, ℕ, ◌==◌, Bool, true, false, ◌&&◌, if◌then◌else◌, List, [], ◌∷◌, Option, Some, None, Result, refl, ap}
+use Rattle.std.proofs.Common.{◌≡◌, ℕ, ◌==◌, Bool, true, false, ◌&&◌, if◌then◌else◌, List, [], ◌∷◌, Option, Some, None, refl, ap}
 use Rattle.std.specs.Prelude.{is_some}
 use Rattle.kt_tuple.specs.declared.node.NodeId.{NodeId}
 use Rattle.kt_store.specs.declared.rows.Verdict.{Verdict}
@@ -15,13 +15,11 @@ use Rattle.kt_node.specs.declared.live.Phase.TheVariants as phases
 use Rattle.kt_node.specs.Node.{Live, Node, Down, Alive, mode_in, mode_of, poll_in, poll_of}
 use Rattle.kt_node.specs.View.{View}
 use Rattle.kt_node.specs.Plan.{Planned}
-use Rattle.kt_node.specs.Arrivals.{hear_check, hear_rollback, hear_verdict, unless_down, check_fitting, rollback_plan, rollback_reaction, verdict_in, verdict_by_parent, verdict_when_rolling}
-use Rattle.kt_node.specs.Learning.{rolling_learns, verdict_to}
+use Rattle.kt_node.specs.Arrivals.{unless_down, check_fitting, rollback_plan, rollback_reaction, verdict_in, verdict_by_parent, verdict_when_rolling}
 use Rattle.kt_node.specs.Deciding.{check_of, check_in, decide_of, decide_in, decide_by, abandon_of, abandon_in, abandon_by, learn_of, learn_in, learn_by, settled}
 use Rattle.kt_node.specs.Failing.{fail_of, restart_of, restart_in, restart_by}
 use Rattle.kt_world.specs.declared.step.Step.{Step}
 use Rattle.kt_world.specs.declared.step.Step.TheVariants.{Issue, Repeat, Deliver, Take, Serve, Check, Decide, Abandon, Learn, Fail, Restart}
-use Rattle.kt_world.specs.declared.step.StepError.{StepError}
 use Rattle.kt_world.specs.declared.told.Told.{Told}
 use Rattle.kt_world.specs.Step.{owner}
 use Rattle.kt_world.specs.State.{State, link, view}

@@ -33,7 +33,8 @@ use Rattle.kt_world.specs.Told.{marks_in, tentative_in, stored_of, to_learn, ver
 use Rattle.kt_world.specs.Writing.{content_after}
 use Rattle.kt_world.proofs.Plans.{IsAlive, IsDown}
 use Rattle.kt_world.proofs.Sound.{acts_held, EndsDown, IsFront, IsNotNo, IsStored, IsNodeSound, NodeSoundIn, IsSound}
-use Rattle.kt_world.proofs.Contents.{own-row, noes-stay}
+use Rattle.kt_world.proofs.Writes.{own-row}
+use Rattle.kt_world.proofs.Noes.{noes-stay}
 use Rattle.kt_world.proofs.Applying.{Keeps}
 use Rattle.kt_world.proofs.CheckLeaves.{promoted_front, settled_is}
 use Rattle.kt_world.proofs.Cutting.{cut_keeps, held_marks, fallen}

@@ -1,6 +1,6 @@
 -- What a sound state says of single nodes: a service in a shard's line has the cause of the hearing that put its request
 -- in waiting, and a worker stands as its line says.
-use Rattle.std.proofs.Common.{◌≡◌, ℕ, List, [], ◌∷◌, ◌++◌, Option, None, Some, refl, sym, ap, ◌∙◌, subst}
+use Rattle.std.proofs.Common.{◌≡◌, ℕ, List, [], ◌∷◌, ◌++◌, Option, None, Some, sym, ap, ◌∙◌, subst}
 use Rattle.std.specs.Prelude.{unwrap_or}
 use Rattle.kt_tuple.specs.declared.node.NodeId.TheVariants as ids
 use Rattle.kt_tuple.specs.declared.op.Answer.{Answer}

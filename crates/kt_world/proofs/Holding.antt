@@ -1,7 +1,18 @@
--- What every state keeps that steps lead to from an opening: it is ready, backed by what is stored, and sound. So each
--- has the headline, and each step notes one thing at most.
-use Rattle.std.proofs.Common.{◌≡◌, ◌<◌, List, [], ◌∷◌, Result, Ok, Err, refl, subst}
+-- What every state keeps that steps lead to from an opening: it is ready, backed by what is stored, and sound, and calm
+-- while it has no cut. So each has the headline, and each step notes one thing at most.
+use Rattle.std.proofs.Common.{◌≡◌, ℕ, length, ◌++◌, ◌<◌, List, [], ◌∷◌, Result, Ok, Err, refl, sym, subst}
+use Rattle.std.specs.Prelude.{IsTrue}
 use Rattle.kt_tuple.specs.declared.node.NodeId.{NodeId}
+use Rattle.kt_tuple.specs.declared.node.NodeId.TheVariants as ids
+use Rattle.kt_tuple.specs.declared.op.Answer.{Answer}
+use Rattle.kt_history.specs.declared.note.Act.{Act}
+use Rattle.kt_history.specs.declared.note.What.TheVariants.{Served}
+use Rattle.kt_history.specs.Line.{line}
+use Rattle.kt_history.specs.Closed.{acts_in_line}
+use Rattle.kt_lines.specs.Hearing.{WasHeardFor}
+use Rattle.kt_history.specs.WellFormed.{HasNoCut}
+use Rattle.kt_lines.proofs.Survive.{surviving_tuples, survivors_run}
+use Rattle.kt_lines.proofs.WellFormed.{causes_come_first}
 use Rattle.kt_node.specs.declared.plan.Plan.{Plan}
 use Rattle.kt_world.specs.declared.step.Step.{Step}
 use Rattle.kt_world.specs.declared.step.StepError.{StepError}
@@ -9,14 +20,15 @@ use Rattle.kt_world.specs.Step.{owner}
 use Rattle.kt_world.specs.Limits.{most_steps}
 use Rattle.kt_world.specs.Cast.{Cast, IsCast}
 use Rattle.kt_world.specs.State.{State}
+use Rattle.kt_world.specs.Asks.{setting_of}
 use Rattle.kt_world.specs.Told.{told}
 use Rattle.kt_world.specs.Judge.{planned}
 use Rattle.kt_world.specs.Effect.{applied, applied_if, step_result}
-use Rattle.kt_world.specs.Reached.{opening, or_as_it_was, next_state, after}
+use Rattle.kt_world.specs.Reached.{IsReached, opening, or_as_it_was, next_state, after}
 use Rattle.kt_world.specs.Short.{AreShort}
 use Rattle.kt_world.specs.Ready.{IsReady}
 use Rattle.kt_world.specs.Backed.{IsBacked}
-use Rattle.kt_world.specs.Headline.{NotesOneAtMost, LineAfter, Headline}
+use Rattle.kt_world.specs.Headline.{may_forget, Headline, IsWhole, NotesOneAtMost, LineAfter, HasCut, IsFailure}
 use Rattle.kt_world.specs.Workers.{WorkersFollowLines}
 use Rattle.kt_world.proofs.Plans.{PlanOf}
 use Rattle.kt_world.proofs.PlansFound.{plan-found, plan-few}
@@ -26,14 +38,16 @@ use Rattle.kt_world.proofs.Opened.{opening-ready, opening-backed}
 use Rattle.kt_world.proofs.Sound.{IsSound}
 use Rattle.kt_world.proofs.StepSound.{step_keeps, step_sound}
 use Rattle.kt_world.proofs.OpenedSound.{opening_sound}
-use Rattle.kt_world.proofs.Headlines.{headline}
-use Rattle.kt_world.proofs.LinesAfter.{notes_one, line_after}
-use Rattle.kt_world.proofs.Following.{workers_follow}
+use Rattle.kt_world.proofs.Headlines.{headline, nothing_lost, survives_all, bags_held}
+use Rattle.kt_world.proofs.FirstCut.{IsCalm, shard-alive, stays_calm, failure_cuts_first, opening_calm}
+use Rattle.kt_world.proofs.LinesAfter.{notes_one, line_after, shorter_forgets}
+use Rattle.kt_world.proofs.Following.{workers_follow, service_heard}
 
 pub record Holds (s : State) : Type 0 where
   pub ready : IsReady s
   pub backed : IsBacked s
   pub sound : IsSound s
+  pub calm : HasNoCut s.history → IsCalm s
 
 -- how a step was made
 pub record IsMade (s : State) (step : Step) (new : State) : Type 0 where
@@ -54,6 +68,7 @@ made-holds s step new h m = let P : State → Type 0 = Holds in subst P m.leads 
   ready = stays_ready s h.ready m.few (told s step) step m.plan m.is_plan;
   backed = stays_backed s h.backed m.few step m.plan m.is_plan;
   sound = step_sound s h.ready h.backed h.sound step m.plan m.is_plan;
+  calm = stays_calm s h.ready h.calm (told s step) step m.plan m.is_plan;
 })
 
 result-holds : (s : State) (step : Step) (r : Result State StepError) → Holds s → step_result s step ≡ r → Holds (or_as_it_was r s)
@@ -67,28 +82,62 @@ steps-hold s [] h = h
 steps-hold s (step ∷ later) h = steps-hold (next_state s step) later (result-holds s step (step_result s step) h refl)
 
 pub opening-holds : (cast : Cast) → IsCast cast → AreShort cast → Holds (opening cast)
-opening-holds cast is short = record { ready = opening-ready cast is short; backed = opening-backed cast is; sound = opening_sound cast }
+opening-holds cast is short = record {
+  ready = opening-ready cast is short;
+  backed = opening-backed cast is;
+  sound = opening_sound cast;
+  calm = λ none. opening_calm cast is;
+}
 
-pub after-holds : (cast : Cast) → IsCast cast → AreShort cast → (steps : List Step) → Holds (after (opening cast) steps)
-after-holds cast is short steps = steps-hold (opening cast) steps (opening-holds cast is short)
+pub reached-holds : (s : State) → IsReached s → Holds s
+reached-holds s is = subst Holds is.leads (steps-hold (opening is.cast) is.steps (opening-holds is.cast is.is_cast is.are_short))
 
 -- ---- what follows of each state that steps lead to
 
-pub headline-after : (cast : Cast) → IsCast cast → AreShort cast → (steps : List Step) → Headline (after (opening cast) steps)
-headline-after cast is short steps = headline (after (opening cast) steps) (after-holds cast is short steps).sound
+pub headline-reached : (s : State) → IsReached s → Headline s
+headline-reached s is = headline s (reached-holds s is).sound
 
-pub workers-after : (cast : Cast) → IsCast cast → AreShort cast → (steps : List Step) → WorkersFollowLines (after (opening cast) steps)
-workers-after cast is short steps = workers_follow (after (opening cast) steps) (after-holds cast is short steps).sound
+pub workers-reached : (s : State) → IsReached s → WorkersFollowLines s
+workers-reached s is = workers_follow s (reached-holds s is).sound
+
+pub services-reached : (s : State) → IsReached s → (r : ℕ) (before : List Act) (a : Act) (later : List Act) (answer : Answer)
+    → acts_in_line s.history (ids.Shard r) ≡ before ++ a ∷ later → a.what ≡ Served answer → WasHeardFor before a
+services-reached s is = service_heard s (reached-holds s is).sound
+
+-- without a cut nobody is down, so all tuples are there
+pub whole-reached : (s : State) → IsReached s → HasNoCut s.history → IsWhole s
+whole-reached s is none =
+    let h = reached-holds s is in
+    let all = survives_all s h.sound (nothing_lost s.history none) in
+    record {
+      all_stand = nothing_lost s.history none;
+      all_survive = λ n act. all n (nothing_lost s.history none n act);
+      tuples = surviving_tuples s.history;
+      one_run = survivors_run (setting_of s.cast) s.history (causes_come_first s.history h.sound.well_formed) h.sound.legal;
+      are_held = bags_held s h.sound h.ready.cast.some_shards all (λ r there. shard-alive s h.ready (h.calm none) r there);
+    }
 
 -- and of each step that is made there
-pub made-notes : (s : State) (step : Step) (new : State) → Holds s → step_result s step ≡ Ok new → NotesOneAtMost (owner step) s.history new.history
-made-notes s step new h e =
+pub made-notes : (s : State) (step : Step) (new : State) → IsReached s → step_result s step ≡ Ok new → NotesOneAtMost (owner step) s.history new.history
+made-notes s step new is e =
+    let h = reached-holds s is in
     let m = step-made s step new e in
     let P : State → Type 0 = λ x. NotesOneAtMost (owner step) s.history x.history in
     subst P m.leads (notes_one s step m.plan (step_keeps s h.ready h.backed h.sound step m.plan m.is_plan))
 
-pub made-lines : (s : State) (step : Step) (new : State) → Holds s → step_result s step ≡ Ok new → (q : NodeId) → LineAfter s step new.history q
-made-lines s step new h e q =
+pub made-lines : (s : State) (step : Step) (new : State) → IsReached s → step_result s step ≡ Ok new → (q : NodeId) → LineAfter s step new.history q
+made-lines s step new is e q =
+    let h = reached-holds s is in
     let m = step-made s step new e in
     let P : State → Type 0 = λ x. LineAfter s step x.history q in
     subst P m.leads (line_after s (told s step) step m.plan m.is_plan (step_keeps s h.ready h.backed h.sound step m.plan m.is_plan) q)
+
+pub made-shorter : (s : State) (step : Step) (new : State) → IsReached s → step_result s step ≡ Ok new
+    → (q : NodeId) → length (line new.history q) < length (line s.history q) → (owner step ≡ q) × IsTrue (may_forget s step)
+made-shorter s step new is e q = shorter_forgets s step new.history q (made-lines s step new is e q)
+
+pub made-first_cut : (s : State) (step : Step) (new : State) → IsReached s → step_result s step ≡ Ok new → HasNoCut s.history → HasCut new.history → IsFailure step
+made-first_cut s step new is e none has =
+    let h = reached-holds s is in
+    let m = step-made s step new e in
+    failure_cuts_first s h.ready (h.calm none) (told s step) step m.plan m.is_plan none (subst (λ (x : State). HasCut x.history) (sym m.leads) has)

@@ -30,7 +30,7 @@ pub mod Scripts
 pub mod Standing
 pub mod Sound
 pub mod NoteSound
-pub mod Contents
+pub mod Noes
 pub mod Applying
 pub mod Saved
 pub mod StoredFronts
@@ -49,4 +49,5 @@ pub mod OpenedSound
 pub mod Headlines
 pub mod LinesAfter
 pub mod Following
+pub mod FirstCut
 pub mod Holding

@@ -1,16 +1,17 @@
 -- What holds of every state that steps lead to: the surviving services are one run of a sequential tuple space, each
 -- worker's requests being its script's, in order. And what a step makes of the history and of what is remembered.
 use Rattle.std.specs.Prelude.{◌≡◌, ℕ, ◌+◌, Bool, true, false, List, [], ◌∷◌}
-use Rattle.std.specs.Prelude.{◌++◌, take, length, ◌≤◌, Option, None, Some, IsTrue}
+use Rattle.std.specs.Prelude.{◌++◌, take, length, ◌≤◌, Option, None, Some, IsTrue, IsPermutation}
 use Rattle.std.specs.List.{flat_map, range_with_len}
 use Rattle.kt_tuple.specs.declared.node.NodeId.{NodeId}
 use Rattle.kt_tuple.specs.declared.node.NodeId.TheVariants as ids
 use Rattle.kt_tuple.specs.declared.tuple.Tuple.{Tuple}
 use Rattle.kt_tuple.specs.Space.{IsSpaceRun}
 use Rattle.kt_history.specs.declared.note.Note.{Note}
-use Rattle.kt_history.specs.Line.{line, IsAct}
+use Rattle.kt_history.specs.declared.note.Note.TheVariants as notes
+use Rattle.kt_history.specs.Line.{note_at, line, IsAct}
 use Rattle.kt_history.specs.Chronicle.{node_of}
-use Rattle.kt_history.specs.Survival.{Stands, services}
+use Rattle.kt_history.specs.Survival.{Stands, Survives, services}
 use Rattle.kt_history.specs.WellFormed.{IsWellFormed}
 use Rattle.kt_lines.specs.Order.{FollowsScripts}
 use Rattle.kt_node.specs.declared.message.Message.{Message}
@@ -51,6 +52,14 @@ bag_of (Some (Alive n)) = bag_in n.body
 abbrev pub all_bags : State → List Tuple
 all_bags s = flat_map (λ r. bag_of (node s (ids.Shard r))) (range_with_len 1 s.cast.shards)
 
+-- nothing is lost: every act is remembered and survives, and the shards hold just the tuples of the surviving run
+pub record IsWhole (s : State) : Type 0 where
+  pub all_stand : IsNothingLost s.history
+  pub all_survive : (n : ℕ) → IsAct s.history n → Survives s.history n
+  pub tuples : List Tuple
+  pub one_run : IsSpaceRun (services s.history) tuples
+  pub are_held : IsPermutation tuples (all_bags s)
+
 -- ---- what a step notes
 
 -- the history has one note more at most, which is of the node p
@@ -82,3 +91,16 @@ pub data LineAfter (s : State) (step : Step) (h : List Note) (q : NodeId) : Type
   -- only the first so many are left, in a step of its own by which a node may forget
   is_cut : owner step ≡ q → IsTrue (may_forget s step) → (keep : ℕ) → keep ≤ length (line s.history q)
       → line h q ≡ take keep (line s.history q) → LineAfter s step h q
+
+-- ---- failures
+
+-- a note of the history is a cut
+pub record HasCut (h : List Note) : Type 0 where
+  pub number : ℕ
+  pub node : NodeId
+  pub keep : ℕ
+  pub is_cut : note_at h number ≡ Some (notes.Cut node keep)
+
+abbrev pub IsFailure : Step → Type 0
+IsFailure (Fail p) = Unit {0}
+IsFailure step = ⊥

@@ -10,10 +10,9 @@ use Rattle.kt_history.specs.Line.{IsAct}
 use Rattle.kt_history.specs.WellFormed.{CausesComeFirst, MayFollow}
 use Rattle.kt_history.specs.Chronicle.{node_of}
 use Rattle.kt_script.specs.declared.command.Command.{Command}
-use Rattle.kt_script.specs.Variables.{variables_of}
 use Rattle.kt_worker.specs.declared.worker.Worker.{Worker}
 use Rattle.kt_shard.specs.Table.{at}
-use Rattle.kt_ckpt.specs.Limits.{max_pc, max_variables}
+use Rattle.kt_ckpt.specs.Limits.{max_variables}
 use Rattle.kt_vote.specs.Poll.{Poll}
 use Rattle.kt_node.specs.declared.message.Post.{Post}
 use Rattle.kt_node.specs.declared.message.Message.{Message}
@@ -23,8 +22,8 @@ use Rattle.kt_node.specs.declared.plan.Plan.{Plan}
 use Rattle.kt_node.specs.Node.{Body, IsWorker, IsShard, Live, Node, Down, Alive, poll_in}
 use Rattle.kt_node.specs.Ready.{CanChange}
 use Rattle.kt_world.specs.Limits.{rows as row_count, most_steps}
-use Rattle.kt_world.specs.Cast.{Cast, IsCast, is_node, are_neighbours, script_at}
-use Rattle.kt_world.specs.Short.{IsShort, AreShort}
+use Rattle.kt_world.specs.Cast.{Cast, IsCast, is_node, are_neighbours}
+use Rattle.kt_world.specs.Short.{AreShort}
 use Rattle.kt_world.specs.State.{State, node, role_of, view}
 
 -- p and q are neighbours in the scene

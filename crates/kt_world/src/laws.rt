@@ -1,0 +1,66 @@
+//! Laws of the world, each the contract of a function with nothing to do. They speak of every state that a list of
+//! steps, refused ones among them, leads to from the opening of a scene.
+
+ghost use Rattle.std.specs.Prelude.{◌≡◌, ◌<◌, ℕ, List, ◌∷◌, ◌++◌, Ok, IsTrue, length};
+ghost use Rattle.kt_tuple.specs.declared.node.NodeId.{NodeId};
+ghost use Rattle.kt_tuple.specs.declared.node.NodeId.TheVariants.{Shard};
+ghost use Rattle.kt_tuple.specs.declared.op.Answer.{Answer};
+ghost use Rattle.kt_history.specs.declared.note.Act.{Act};
+ghost use Rattle.kt_history.specs.declared.note.What.TheVariants.{Served};
+ghost use Rattle.kt_history.specs.Line.{line};
+ghost use Rattle.kt_history.specs.Closed.{acts_in_line};
+ghost use Rattle.kt_history.specs.WellFormed.{HasNoCut};
+ghost use Rattle.kt_lines.specs.Hearing.{WasHeardFor};
+ghost use Rattle.kt_world.specs.declared.step.Step.{Step};
+ghost use Rattle.kt_world.specs.Step.{owner};
+ghost use Rattle.kt_world.specs.State.{State};
+ghost use Rattle.kt_world.specs.Effect.{step_result};
+ghost use Rattle.kt_world.specs.Reached.{IsReached};
+ghost use Rattle.kt_world.specs.Headline.{Headline, IsWhole, NotesOneAtMost, LineAfter, may_forget, HasCut, IsFailure};
+ghost use Rattle.kt_world.specs.Workers.{WorkersFollowLines};
+
+/// The surviving services, in the order made, are one run of a sequential tuple space, each worker's requests being its
+/// script's, in order.
+pub fn survivors_are_one_run()
+    ensures headline { (s : State) → IsReached s → Headline s }
+{}
+
+/// Without a cut no act is lost, each survives, and the shards hold just the tuples of the surviving run.
+pub fn without_a_cut_nothing_is_lost()
+    ensures whole { (s : State) → IsReached s → HasNoCut s.history → IsWhole s }
+{}
+
+/// Each worker that is not down has unanswered what its line says, and stands in its script as after the answers in its
+/// line: so its next operation is what the script asks after them.
+pub fn workers_stand_as_their_answers_say()
+    ensures workers { (s : State) → IsReached s → WorkersFollowLines s }
+{}
+
+/// A service in a shard's line has before it in that line the hearing of its request, with the same cause.
+pub fn services_have_the_cause_of_their_hearing()
+    ensures services { (s : State) → IsReached s
+        → (r : ℕ) (before : List Act) (a : Act) (later : List Act) (answer : Answer)
+        → acts_in_line s.history (Shard r) ≡ before ++ a ∷ later → a.what ≡ Served answer → WasHeardFor before a }
+{}
+
+/// A step notes one thing at most, of its owner.
+pub fn steps_note_one_thing_at_most()
+    ensures notes { (s : State) → IsReached s → (step : Step) (new : State) → step_result s step ≡ Ok new
+        → NotesOneAtMost (owner step) s.history new.history }
+{}
+
+/// A line grows by an act of its own node alone, and is cut only in a step of that node by which it may forget: it
+/// fails, or it learns a verdict, from the board or by a message. So a line that is shorter than before was cut so.
+pub fn lines_are_cut_by_their_own_node_alone()
+    ensures lines { (s : State) → IsReached s → (step : Step) (new : State) → step_result s step ≡ Ok new
+        → (q : NodeId) → LineAfter s step new.history q }
+    ensures shorter { (s : State) → IsReached s → (step : Step) (new : State) → step_result s step ≡ Ok new
+        → (q : NodeId) → length (line new.history q) < length (line s.history q)
+        → (owner step ≡ q) × IsTrue (may_forget s step) }
+{}
+
+/// The step that makes the first cut of a history is a failure.
+pub fn only_a_failure_makes_the_first_cut()
+    ensures first { (s : State) → IsReached s → (step : Step) (new : State) → step_result s step ≡ Ok new
+        → HasNoCut s.history → HasCut new.history → IsFailure step }
+{}
