@@ -4,5 +4,6 @@ pub mod Readiness
 pub mod Seen
 pub mod Shorts
 pub mod Steps
+pub mod Worlds
 pub mod Judged
 pub mod Traffics

@@ -4,3 +4,4 @@ pub mod Traffic
 pub mod Judged
 pub mod Store
 pub mod Stepping
+pub mod World

@@ -13,6 +13,7 @@ mod reading;
 mod scene;
 mod stepping;
 mod traffic;
+mod world;
 mod writing;
 
 pub use kt_script::{
@@ -20,3 +21,4 @@ pub use kt_script::{
 };
 pub use kt_world::{MAX_STEPS, Step, StepError};
 pub use scene::{MAX_SHARDS, MAX_WORKERS, Scene};
+pub use world::{OpenError, OpenRefused, World};

@@ -1,0 +1,28 @@
+use Rattle.std.proofs.Common.{subst}
+use Rattle.std.specs.Prelude.{IfErr}
+use Rattle.kt_world.specs.Judge.{planned}
+use Rattle.kt_core.specs.Machine.{state_of}
+use Rattle.kt_core.specs.Stepping.{IsCause}
+use Rattle.kt_core.specs.World.{Standing}
+use Rattle.kt_core.proofs.Worlds.{headline-reached, reached-holds, step-world}
+use Rattle.kt_core.proofs.world.World.step.Goals as goal
+
+pub make-requires-clause-backed : goal.make-requires-clause-backed
+make-requires-clause-backed g c = λ h. (reached-holds _ (c.self.invariant.reached h)).backed
+
+pub invariant_of-self : goal.invariant_of-self
+invariant_of-self g c =
+    step-world c.make.result c.self.inside.machine c.make.new.machine (g.S.CkptStore.content c.self.inside.store) (g.S.CkptStore.content c.make.new.store)
+    (g.S.CkptStore.is_honest c.self.inside.store) (g.S.CkptStore.is_honest c.make.new.store) c.args.step c.self.invariant c.make.ensures.ready c.make.ensures.honest c.make.ensures.effect
+    c.make.ensures.same c.make.ensures.content
+
+pub returns-clause-cause : goal.returns-clause-cause
+returns-clause-cause g c =
+    let P : Standing → Type 0 = λ old. IfErr c.make.result (IsCause old.faults (g.S.CkptStore.fault_count c.make.new.store) (g.S.CkptStore.is_honest c.make.new.store) (planned old.state c.args.step)) in
+    subst P c.self.view_is c.make.ensures.cause
+
+pub returns-clause-headline : goal.returns-clause-headline
+returns-clause-headline g c =
+    let world = step-world c.make.result c.self.inside.machine c.make.new.machine (g.S.CkptStore.content c.self.inside.store) (g.S.CkptStore.content c.make.new.store)
+    (g.S.CkptStore.is_honest c.self.inside.store) (g.S.CkptStore.is_honest c.make.new.store) c.args.step c.self.invariant c.make.ensures.ready c.make.ensures.honest c.make.ensures.effect
+    c.make.ensures.same c.make.ensures.content in λ h. headline-reached _ (world.reached h)
