@@ -16,7 +16,8 @@ use Rattle.kt_node.specs.Node.{Live, Node, Down, Alive, mode_in, mode_of, poll_i
 use Rattle.kt_node.specs.View.{View}
 use Rattle.kt_node.specs.Plan.{Planned}
 use Rattle.kt_node.specs.Arrivals.{unless_down, check_fitting, rollback_plan, rollback_reaction, verdict_in, verdict_by_parent, verdict_when_rolling}
-use Rattle.kt_node.specs.Deciding.{check_of, check_in, decide_of, decide_in, decide_by, abandon_of, abandon_in, abandon_by, learn_of, learn_in, learn_by, settled}
+use Rattle.kt_node.specs.Deciding.{check_of, check_in, decide_of, decide_in, decide_by, abandon_of, abandon_in}
+use Rattle.kt_node.specs.Deciding.{abandon_by, learn_of, learn_in, learn_by, settled}
 use Rattle.kt_node.specs.Failing.{fail_of, restart_of, restart_in, restart_by}
 use Rattle.kt_world.specs.declared.step.Step.{Step}
 use Rattle.kt_world.specs.declared.step.Step.TheVariants.{Issue, Repeat, Deliver, Take, Serve, Check, Decide, Abandon, Learn, Fail, Restart}
@@ -24,7 +25,9 @@ use Rattle.kt_world.specs.declared.told.Told.{Told}
 use Rattle.kt_world.specs.Step.{owner}
 use Rattle.kt_world.specs.State.{State, link, view}
 use Rattle.kt_world.specs.Told.{told, tentative_in, stored_of, of_ask, of_poll, of_first, to_learn}
-use Rattle.kt_world.specs.Needs.{told_by, no_needs, needs_in, needs_of, for_check, for_decide, if_initiator, for_abandon, for_learn, if_learner, for_fail, for_restart, if_restarter, for_ask, for_verdict, if_participant, for_message, for_first}
+use Rattle.kt_world.specs.Needs.{told_by, no_needs, needs_in, needs_of, for_check, for_decide, if_initiator}
+use Rattle.kt_world.specs.Needs.{for_abandon, for_learn, if_learner, for_fail, for_restart, if_restarter, for_ask}
+use Rattle.kt_world.specs.Needs.{for_verdict, if_participant, for_message, for_first}
 use Rattle.kt_world.specs.Cast.{is_in_scene}
 use Rattle.kt_world.specs.Judge.{due, judged, of_scene, hear, delivery}
 
@@ -77,7 +80,8 @@ learn-enough : (v : View) (c : Content) (p : NodeId) (node : Node) →
 learn-enough v c p Down = refl
 learn-enough v c p (Alive n) = by n.phase
   where
-    rolling : (b : Poll) (parent : Option Asker) → learn_by v (told_by (if_learner b parent) c p).stored (settled (told_by (if_learner b parent) c p).verdict) parent
+    rolling : (b : Poll) (parent : Option Asker)
+        → learn_by v (told_by (if_learner b parent) c p).stored (settled (told_by (if_learner b parent) c p).verdict) parent
         ≡ learn_by v (stored_of c p) (settled (verdict_of c b.instance)) parent
     rolling b None = refl
     rolling b (Some parent) = refl

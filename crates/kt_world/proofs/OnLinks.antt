@@ -37,7 +37,8 @@ Contains-tail [] x c = c
 Contains-tail (y ∷ xs) x c = Contains-there y xs x c
 
 -- what is on a link after a delivery was on it before
-pub taken_off-was : (way : Way) (links : Links) (step : Step) (k : Option ℕ) (m : Message) → Contains (entry_at [] (taken_off way links step) k) m → Contains (entry_at [] links k) m
+pub taken_off-was : (way : Way) (links : Links) (step : Step) (k : Option ℕ) (m : Message) → Contains (entry_at [] (taken_off way links step) k) m
+    → Contains (entry_at [] links k) m
 taken_off-was way links (Issue p) k m c = c
 taken_off-was way links (Repeat p) k m c = c
 taken_off-was way links (Take p) k m c = c
@@ -63,7 +64,8 @@ pub record IsSent (way : Way) (p : NodeId) (send : List (NodeId × Message)) (k 
   pub by : way p to ≡ Some at
   pub here : k ≡ Some at
 
-pub sent-cases : (way : Way) (links : Links) (p : NodeId) (send : List (NodeId × Message)) (k : Option ℕ) (m : Message) → Contains (entry_at [] (sent way links p send) k) m
+pub sent-cases : (way : Way) (links : Links) (p : NodeId) (send : List (NodeId × Message)) (k : Option ℕ) (m : Message)
+    → Contains (entry_at [] (sent way links p send) k) m
     → Contains (entry_at [] links k) m ⊎ IsSent way p send k m
 unfolding sent
 sent-cases way links p [] k m c = inl c
@@ -83,5 +85,6 @@ sent-cases way links p (message ∷ later) k m c = elim (sent-cases way (sent_on
 ]
 
 -- what was sent by the link from p to q was sent from p to q
-pub sent_between : (cast : Cast) (owner : NodeId) (send : List (NodeId × Message)) (p q : NodeId) (m : Message) → (new : IsSent (link_place cast) owner send (link_place cast p q) m) → (owner ≡ p) × (new.to ≡ q)
+pub sent_between : (cast : Cast) (owner : NodeId) (send : List (NodeId × Message)) (p q : NodeId) (m : Message)
+    → (new : IsSent (link_place cast) owner send (link_place cast p q) m) → (owner ≡ p) × (new.to ≡ q)
 sent_between cast owner send p q m new = place-own _ _ owner new.to p q new.at new.by new.here

@@ -51,7 +51,9 @@ use Rattle.kt_world.proofs.Heards.{HeardOf, heard-is}
 use Rattle.kt_world.proofs.Good.{live-seen}
 use Rattle.kt_world.proofs.Loads.{load-passed}
 use Rattle.kt_world.proofs.Boards.{Says, open-verdict, decided-own}
-use Rattle.kt_world.proofs.Backs.{SaysBoards, Backs, backs-backed, phase-backed, backed-in, turn-backs, load-backs, fall-backs, stay-backs, down-backs, casting-board, checks-board, rolls-board, verdicts-board, undecided-open, settled-is, taken-has}
+use Rattle.kt_world.proofs.Backs.{SaysBoards, Backs, backs-backed, phase-backed, backed-in, turn-backs, load-backs}
+use Rattle.kt_world.proofs.Backs.{fall-backs, stay-backs, down-backs, casting-board, checks-board, rolls-board}
+use Rattle.kt_world.proofs.Backs.{verdicts-board, undecided-open, settled-is, taken-has}
 
 -- ---- what is known
 
