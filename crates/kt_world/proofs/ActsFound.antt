@@ -13,7 +13,8 @@ use Rattle.kt_node.specs.declared.message.Post.{Post}
 use Rattle.kt_node.specs.declared.live.Phase.TheVariants as phases
 use Rattle.kt_node.specs.declared.plan.Plan.{Plan}
 use Rattle.kt_node.specs.Node.{Body, IsWorker, IsShard, Live, Alive, node_number, worker_in, shard_in}
-use Rattle.kt_node.specs.Steps.{first_kept, issue, issue_by, issue_unless_kept, issue_found, repeat, repeat_by, repeat_found, take, take_first, serve_by, serve_found}
+use Rattle.kt_node.specs.Steps.{first_kept, issue, issue_by, issue_unless_kept, issue_found, repeat, repeat_by}
+use Rattle.kt_node.specs.Steps.{repeat_found, take, take_first, serve_by, serve_found}
 use Rattle.kt_lines.specs.Cause.{cause_of_waiting}
 use Rattle.kt_world.specs.declared.step.Step.TheVariants.{Issue, Repeat, Take, Serve}
 use Rattle.kt_world.specs.declared.told.Told.{Told}

@@ -23,7 +23,9 @@ use Rattle.kt_node.specs.Stored.{fits, is_undecided, sent_in}
 use Rattle.kt_node.specs.Posts.{post_when_up, post_in, post_plan, hear_post}
 use Rattle.kt_node.specs.Loading.{load}
 use Rattle.kt_node.specs.Learning.{restored, verdict_to, held_learns, rolling_learns}
-use Rattle.kt_node.specs.Arrivals.{unless_down, is_in, check_in, check_when_open, check_reaction, check_plan, check_fitting, hear_check, rollback_in, rollback_when_open, rollback_reaction, rollback_plan, hear_rollback, behind_own, vote_plan, vote_in, hear_vote, verdict_by_parent, verdict_in, hear_verdict}
+use Rattle.kt_node.specs.Arrivals.{unless_down, is_in, check_in, check_when_open, check_reaction, check_plan}
+use Rattle.kt_node.specs.Arrivals.{check_fitting, hear_check, rollback_in, rollback_when_open, rollback_reaction}
+use Rattle.kt_node.specs.Arrivals.{rollback_plan, hear_rollback, behind_own, vote_plan, vote_in, hear_vote, verdict_by_parent, verdict_in, hear_verdict}
 use Rattle.kt_node.specs.Plan.{empty_plan}
 use Rattle.kt_world.specs.declared.step.Step.TheVariants.{Deliver}
 use Rattle.kt_world.specs.declared.told.Told.{Told}

@@ -26,7 +26,9 @@ use Rattle.kt_world.proofs.Scene.{neighbour-node, neighbours-turned}
 use Rattle.kt_world.proofs.Good.{IsGood, live-ready, stay-good, good-applies, good-ready}
 use Rattle.kt_world.proofs.Leaves.{poll-ready, verdicts-near, verdicts-say}
 use Rattle.kt_world.proofs.GoodActs.{issue-good, repeat-good, serve-good, heard-good, keep-good, comes-ready}
-use Rattle.kt_world.proofs.GoodAsks.{answer-good, sieved-good, begin_check-good, join_check-good, join_rollback-good, vote-good, decline-good, decide-good, give_up-good, held_learns-good, release-good, restore-good, restart-good, promote_down-good, discard_down-good, fail-good}
+use Rattle.kt_world.proofs.GoodAsks.{answer-good, sieved-good, begin_check-good, join_check-good, join_rollback-good}
+use Rattle.kt_world.proofs.GoodAsks.{vote-good, decline-good, decide-good, give_up-good, held_learns-good, release-good}
+use Rattle.kt_world.proofs.GoodAsks.{restore-good, restart-good, promote_down-good, discard_down-good, fail-good}
 
 -- the receiver is a node, and the sender its neighbour
 there : (s : State) (p q : NodeId) (m : Message) → Comes s p q m → IsTrue (is_node s.cast q)

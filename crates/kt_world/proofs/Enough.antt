@@ -16,7 +16,8 @@ use Rattle.kt_node.specs.Node.{Live, Node, Down, Alive, mode_in, mode_of, poll_i
 use Rattle.kt_node.specs.View.{View}
 use Rattle.kt_node.specs.Plan.{Planned}
 use Rattle.kt_node.specs.Arrivals.{unless_down, check_fitting, rollback_plan, rollback_reaction, verdict_in, verdict_by_parent, verdict_when_rolling}
-use Rattle.kt_node.specs.Deciding.{check_of, check_in, decide_of, decide_in, decide_by, abandon_of, abandon_in, abandon_by, learn_of, learn_in, learn_by, settled}
+use Rattle.kt_node.specs.Deciding.{check_of, check_in, decide_of, decide_in, decide_by, abandon_of, abandon_in}
+use Rattle.kt_node.specs.Deciding.{abandon_by, learn_of, learn_in, learn_by, settled}
 use Rattle.kt_node.specs.Failing.{fail_of, restart_of, restart_in, restart_by}
 use Rattle.kt_world.specs.declared.step.Step.{Step}
 use Rattle.kt_world.specs.declared.step.Step.TheVariants.{Issue, Repeat, Deliver, Take, Serve, Check, Decide, Abandon, Learn, Fail, Restart}
@@ -24,7 +25,9 @@ use Rattle.kt_world.specs.declared.told.Told.{Told}
 use Rattle.kt_world.specs.Step.{owner}
 use Rattle.kt_world.specs.State.{State, link, view}
 use Rattle.kt_world.specs.Told.{told, tentative_in, stored_of, of_ask, of_poll, of_first, to_learn}
-use Rattle.kt_world.specs.Needs.{told_by, no_needs, needs_in, needs_of, for_check, for_decide, if_initiator, for_abandon, for_learn, if_learner, for_fail, for_restart, if_restarter, for_ask, for_verdict, if_participant, for_message, for_first}
+use Rattle.kt_world.specs.Needs.{told_by, no_needs, needs_in, needs_of, for_check, for_decide, if_initiator}
+use Rattle.kt_world.specs.Needs.{for_abandon, for_learn, if_learner, for_fail, for_restart, if_restarter, for_ask}
+use Rattle.kt_world.specs.Needs.{for_verdict, if_participant, for_message, for_first}
 use Rattle.kt_world.specs.Cast.{is_in_scene}
 use Rattle.kt_world.specs.Judge.{due, judged, of_scene, hear, delivery}
 
@@ -77,7 +80,8 @@ learn-enough : (v : View) (c : Content) (p : NodeId) (node : Node) →
 learn-enough v c p Down = refl
 learn-enough v c p (Alive n) = by n.phase
   where
-    rolling : (b : Poll) (parent : Option Asker) → learn_by v (told_by (if_learner b parent) c p).stored (settled (told_by (if_learner b parent) c p).verdict) parent
+    rolling : (b : Poll) (parent : Option Asker)
+        → learn_by v (told_by (if_learner b parent) c p).stored (settled (told_by (if_learner b parent) c p).verdict) parent
         ≡ learn_by v (stored_of c p) (settled (verdict_of c b.instance)) parent
     rolling b None = refl
     rolling b (Some parent) = refl
@@ -130,13 +134,18 @@ check_ask-enough : (v : View) (c : Content) (p from : NodeId) (ask : Ask) (node 
     let t = told_by (for_ask ask.instance (mode_of node)) c p in unless_down node (check_fitting v from ask t.verdict t.permanent t.tentative)
     ≡ unless_down node (check_fitting v from ask (verdict_of c ask.instance) (permanent_marks c p) (tentative_in c p))
 check_ask-enough v c p from ask Down = refl
-check_ask-enough v c p from ask (Alive n) = asked-enough c p ask.instance n n.phase (λ verdict permanent tentative. check_fitting v from ask verdict permanent tentative n)
+check_ask-enough v c p from ask (Alive n) =
+    asked-enough c p ask.instance n n.phase
+    (λ verdict permanent tentative. check_fitting v from ask verdict permanent tentative n)
 
 roll_ask-enough : (v : View) (c : Content) (p from : NodeId) (ask : Ask) (node : Node) →
-    let t = told_by (for_ask ask.instance (mode_of node)) c p in unless_down node (λ n. rollback_plan v n from ask t.permanent (rollback_reaction n from ask t.verdict))
+    let t = told_by (for_ask ask.instance (mode_of node)) c p in
+    unless_down node (λ n. rollback_plan v n from ask t.permanent (rollback_reaction n from ask t.verdict))
     ≡ unless_down node (λ n. rollback_plan v n from ask (permanent_marks c p) (rollback_reaction n from ask (verdict_of c ask.instance)))
 roll_ask-enough v c p from ask Down = refl
-roll_ask-enough v c p from ask (Alive n) = asked-enough c p ask.instance n n.phase (λ verdict permanent tentative. rollback_plan v n from ask permanent (rollback_reaction n from ask verdict))
+roll_ask-enough v c p from ask (Alive n) =
+    asked-enough c p ask.instance n n.phase
+    (λ verdict permanent tentative. rollback_plan v n from ask permanent (rollback_reaction n from ask verdict))
 
 verdict-enough : (v : View) (c : Content) (p : NodeId) (instance : ℕ) (agreed : Bool) (node : Node) →
     unless_down node (λ n. verdict_in v (told_by (for_verdict instance agreed (mode_of node) (poll_of node)) c p).stored instance agreed n.phase)

@@ -59,7 +59,8 @@ workers_follow s sound w x e = by_row (node s (ids.Worker w)) (sound.nodes (ids.
     by_body (IsWorker z) like is = let same : z ≡ x = cc in subst (Follows s w) same (like.asked, like.after)
     by_body (IsShard y) like is = absurd like
 
-    by_row : (row : Option Node) → IsNodeLike s.cast.scripts (ids.Worker w) (acts_in_line s.history (ids.Worker w)) row → worker_of (unwrap_or row Down) ≡ Some x → Follows s w x
+    by_row : (row : Option Node) → IsNodeLike s.cast.scripts (ids.Worker w) (acts_in_line s.history (ids.Worker w)) row
+        → worker_of (unwrap_or row Down) ≡ Some x → Follows s w x
     by_row None like is = absurd cc
     by_row (Some Down) like is = absurd cc
     by_row (Some (Alive n)) like is = by_body n.body like is

@@ -43,7 +43,9 @@ use Rattle.kt_world.proofs.Lists.{all-append, all-through}
 use Rattle.kt_world.proofs.Growing.{live-grown, message-noted}
 use Rattle.kt_world.proofs.Loads.{acts-fit, load-fits, load-ready}
 use Rattle.kt_world.proofs.Good.{IsGood, IsKeeping, live-ready, turn-good, stay-good, fall-good, load-good}
-use Rattle.kt_world.proofs.Leaves.{GoesNear, SaysReady, can-stay, stay-body, after-poll, poll-ready, phase-ready, neighbour-in, cohort-in, casting-near, casting-says, checks-near, checks-say, rolls-near, rolls-say, verdicts-near, verdicts-say}
+use Rattle.kt_world.proofs.Leaves.{GoesNear, SaysReady, can-stay, stay-body, after-poll, poll-ready, phase-ready}
+use Rattle.kt_world.proofs.Leaves.{neighbour-in, cohort-in, casting-near, casting-says, checks-near, checks-say}
+use Rattle.kt_world.proofs.Leaves.{rolls-near, rolls-say, verdicts-near, verdicts-say}
 
 -- a live node turns its phase or what it keeps alone
 pub phase-good : (s : State) → IsReady s

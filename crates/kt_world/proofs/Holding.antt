@@ -136,7 +136,8 @@ pub made-shorter : (s : State) (step : Step) (new : State) → IsReached s → s
     → (q : NodeId) → length (line new.history q) < length (line s.history q) → (owner step ≡ q) × IsTrue (may_forget s step)
 made-shorter s step new is e q = shorter_forgets s step new.history q (made-lines s step new is e q)
 
-pub made-first_cut : (s : State) (step : Step) (new : State) → IsReached s → step_result s step ≡ Ok new → HasNoCut s.history → HasCut new.history → IsFailure step
+pub made-first_cut : (s : State) (step : Step) (new : State) → IsReached s → step_result s step ≡ Ok new → HasNoCut s.history → HasCut new.history
+    → IsFailure step
 made-first_cut s step new is e none has =
     let h = reached-holds s is in
     let m = step-made s step new e in

@@ -13,7 +13,8 @@ use Rattle.kt_node.specs.declared.node.Mode.{Mode}
 use Rattle.kt_node.specs.declared.node.Mode.TheVariants as modes
 use Rattle.kt_node.specs.Node.{mode_of, poll_of}
 use Rattle.kt_world.specs.declared.step.Step.{Step}
-use Rattle.kt_world.specs.declared.step.Step.TheVariants.{Issue, Repeat, Deliver, Take, Serve, Check, Decide, Abandon, Learn, Fail, Restart}
+use Rattle.kt_world.specs.declared.step.Step.TheVariants.{Issue, Repeat, Deliver, Take, Serve, Check, Decide, Abandon}
+use Rattle.kt_world.specs.declared.step.Step.TheVariants.{Learn, Fail, Restart}
 use Rattle.kt_world.specs.declared.needs.Needs.{Needs}
 use Rattle.kt_world.specs.declared.needs.Question.{Question}
 use Rattle.kt_world.specs.declared.needs.Question.TheVariants as questions

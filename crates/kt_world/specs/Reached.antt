@@ -1,5 +1,6 @@
 -- The states that a world can be in: those that steps lead to from the opening of a scene.
-use Rattle.std.specs.Prelude.{◌≡◌, ℕ, zero, suc, ◌*◌, if◌then◌else◌, length, List, [], ◌∷◌, ◌++◌, replicate, Option, None, Some, Result, Ok, Err}
+use Rattle.std.specs.Prelude.{◌≡◌, ℕ, zero, suc, ◌*◌, if◌then◌else◌, length, List, [], ◌∷◌, ◌++◌, replicate, Option}
+use Rattle.std.specs.Prelude.{None, Some, Result, Ok, Err}
 use Rattle.kt_tuple.specs.declared.node.NodeId.{NodeId}
 use Rattle.kt_tuple.specs.declared.node.NodeId.TheVariants as ids
 use Rattle.kt_shard.specs.Limits.{desks}
@@ -47,7 +48,7 @@ unfoldable pub after : State → List Step → State
 after s [] = s
 after s (step ∷ later) = after (next_state s step) later
 
--- some list of steps leads to this state from the opening of some scene
+-- some list of steps leads to this state from the opening of some scene whose scripts a checkpoint can count
 pub record IsReached (s : State) : Type 0 where
   pub cast : Cast
   pub is_cast : IsCast cast
