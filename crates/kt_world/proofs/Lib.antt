@@ -23,3 +23,4 @@ pub mod OpenedSound
 pub mod Headlines
 pub mod LinesAfter
 pub mod Following
+pub mod Cuts

@@ -12,3 +12,4 @@ pub mod Ready
 pub mod Backed
 pub mod Headline
 pub mod Workers
+pub mod Cut
