@@ -13,3 +13,4 @@ pub mod Backed
 pub mod Headline
 pub mod Workers
 pub mod Cut
+pub mod Like
