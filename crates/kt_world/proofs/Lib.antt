@@ -24,3 +24,4 @@ pub mod Headlines
 pub mod LinesAfter
 pub mod Following
 pub mod Cuts
+pub mod PermanentPart
