@@ -43,7 +43,8 @@ use Rattle.kt_world.proofs.Turns.{check_asks_well, alive_was, turn_keeps}
 -- ---- a tentative checkpoint is taken
 
 -- the checkpoint of this moment holds the whole line
-saved_now : (s : State) → IsSound s → (p : NodeId) (n : Live) → IsAlive s p n → HoldsFront s.cast p (acts_in_line s.history p) (Some (checkpoint_now (view s p) n))
+saved_now : (s : State) → IsSound s → (p : NodeId) (n : Live) → IsAlive s p n
+    → HoldsFront s.cast p (acts_in_line s.history p) (Some (checkpoint_now (view s p) n))
 saved_now s sound p n alive =
     front-now s.cast p (acts_in_line s.history p) (checkpoint_now (view s p) n) n.body (sym (line-long s.history p)) refl (alive_like s sound p n alive)
 

@@ -1,6 +1,7 @@
 -- The part under a causally closed cut is one run of the sequential space, follows the scripts, and each shard's share of
 -- the run's tuples is the bag that the first acts of its line lead to.
-use Rattle.std.proofs.Common.{◌≡◌, ℕ, zero, suc, ◌+◌, ◌<◌, ◌≤◌, ◌==◌, Bool, true, false, List, [], ◌∷◌, ◌++◌, take, length, filter, Contains, Option, Some, None, IsTrue, ◌⊎◌, inl, inr, refl, sym, ap, ◌∙◌, subst, arith, length-append}
+use Rattle.std.proofs.Common.{◌≡◌, ℕ, zero, suc, ◌<◌, ◌≤◌, true, List, [], ◌∷◌, ◌++◌, take, length, filter}
+use Rattle.std.proofs.Common.{Contains, Option, Some, None, IsTrue, inl, inr, refl, sym, ap, ◌∙◌, subst, arith, length-append}
 use Rattle.std.specs.List.{slice_get}
 use Rattle.std.proofs.lemmas.Bool.{cases_lt, false≢true}
 use Rattle.std.proofs.lemmas.List.{take_at}
@@ -13,9 +14,10 @@ use Rattle.kt_history.specs.declared.note.Note.TheVariants as notes
 use Rattle.kt_history.specs.Line.{note_at, line}
 use Rattle.kt_history.specs.Past.{itself, in_line, by_cause}
 use Rattle.kt_history.specs.Survival.{marked_acts}
-use Rattle.kt_history.specs.Closed.{IsClosed, IsFront, acts_at, acts_in_line, own}
+use Rattle.kt_history.specs.Closed.{IsClosed, acts_at, acts_in_line, own}
 use Rattle.kt_history.specs.WellFormed.{IsWellFormed}
-use Rattle.kt_history.proofs.Lists.{slice_get-append_left, slice_get-from_Contains, slice_get-take, Contains-here, Contains-there, Contains-from_slice_get, Contains-from_take, Contains-from_list_any, list_any-from_Contains}
+use Rattle.kt_history.proofs.Lists.{slice_get-append_left, slice_get-from_Contains, slice_get-take, Contains-here, Contains-there}
+use Rattle.kt_history.proofs.Lists.{Contains-from_slice_get, Contains-from_take, Contains-from_list_any, list_any-from_Contains}
 use Rattle.kt_history.proofs.Lines.{line-own, line-rises}
 use Rattle.kt_history.proofs.Fronts.{acts_at-take, marked_front}
 use Rattle.kt_lines.specs.Order.{Setting, FollowsScripts}
@@ -63,7 +65,8 @@ marked_own h cut p n stands t =
     let c = in_cut-marked h cut n t in
     let own_there = line-own h c.0 n (Contains-from_take (cut c.0) (line h c.0) n c.1) in
     let own_here = line-own h p n stands in
-    let same : own_there.act ≡ own_here.act = let both : Some (notes.Act own_there.act) ≡ Some (notes.Act own_here.act) = sym own_there.is_act ∙ own_here.is_act in cc in
+    let same : own_there.act ≡ own_here.act =
+    let both : Some (notes.Act own_there.act) ≡ Some (notes.Act own_here.act) = sym own_there.is_act ∙ own_here.is_act in cc in
     let Of : NodeId → Type 0 = λ q. Contains (take (cut q) (line h q)) n in
     subst Of (sym own_there.own ∙ ap (λ (a : Act). a.node) same ∙ own_here.own) c.1
 
@@ -124,16 +127,20 @@ cut_acts h cut closed p within =
 
 -- ---- the part
 
-pub part_run : (setting : Setting) (h : List Note) (cut : NodeId → ℕ) → AreLegal setting h → IsCausallyClosed h cut → IsSpaceRun (part h cut) (marked_tuples (is_in_cut h cut) h)
+pub part_run : (setting : Setting) (h : List Note) (cut : NodeId → ℕ) → AreLegal setting h → IsCausallyClosed h cut
+    → IsSpaceRun (part h cut) (marked_tuples (is_in_cut h cut) h)
 unfolding part
 part_run setting h cut legal closed = (closed_run setting h (is_in_cut h cut) legal (cut-closed h cut closed)).0
 
-pub part_order : (setting : Setting) (h : List Note) (cut : NodeId → ℕ) → AreLegal setting h → IsWellFormed h → IsCausallyClosed h cut → FollowsScripts setting (part h cut)
+pub part_order : (setting : Setting) (h : List Note) (cut : NodeId → ℕ) → AreLegal setting h → IsWellFormed h → IsCausallyClosed h cut
+    → FollowsScripts setting (part h cut)
 unfolding part
 part_order setting h cut legal wf closed = closed_order setting h (is_in_cut h cut) legal wf (cut-closed h cut closed)
 
-pub part_share : (setting : Setting) (h : List Note) (cut : NodeId → ℕ) → AreLegal setting h → IsCausallyClosed h cut → (s : ℕ) → cut (nodes.Shard s) ≤ length (line h (nodes.Shard s))
-    → filter (is_home setting.shards s) (marked_tuples (is_in_cut h cut) h) ≡ (shard_of_acts new_shard (take (cut (nodes.Shard s)) (acts_in_line h (nodes.Shard s)))).bag
+pub part_share : (setting : Setting) (h : List Note) (cut : NodeId → ℕ) → AreLegal setting h → IsCausallyClosed h cut → (s : ℕ)
+    → cut (nodes.Shard s) ≤ length (line h (nodes.Shard s))
+    → filter (is_home setting.shards s) (marked_tuples (is_in_cut h cut) h) ≡
+    (shard_of_acts new_shard (take (cut (nodes.Shard s)) (acts_in_line h (nodes.Shard s)))).bag
 part_share setting h cut legal closed s within =
     (closed_run setting h (is_in_cut h cut) legal (cut-closed h cut closed)).1 s
     ∙ ap (λ l. (shard_of_acts new_shard l).bag) (cut_acts h cut closed (nodes.Shard s) within)

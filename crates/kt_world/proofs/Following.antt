@@ -1,6 +1,6 @@
 -- What a sound state says of single nodes: a service in a shard's line has the cause of the hearing that put its request
 -- in waiting, and a worker stands as its line says.
-use Rattle.std.proofs.Common.{◌≡◌, ℕ, List, [], ◌∷◌, ◌++◌, Option, None, Some, refl, sym, ap, ◌∙◌, subst}
+use Rattle.std.proofs.Common.{◌≡◌, ℕ, List, [], ◌∷◌, ◌++◌, Option, None, Some, sym, ap, ◌∙◌, subst}
 use Rattle.std.specs.Prelude.{unwrap_or}
 use Rattle.kt_tuple.specs.declared.node.NodeId.TheVariants as ids
 use Rattle.kt_tuple.specs.declared.op.Answer.{Answer}
@@ -60,7 +60,8 @@ workers_follow s sound w x e = by_row (node s (ids.Worker w)) (sound.nodes (ids.
     by_body (IsWorker z) like is = let same : z ≡ x = cc in subst (Follows s w) same (like.asked, like.after)
     by_body (IsShard y) like is = absurd like
 
-    by_row : (row : Option Node) → IsNodeLike s.cast.scripts (ids.Worker w) (acts_in_line s.history (ids.Worker w)) row → worker_of (unwrap_or row Down) ≡ Some x → Follows s w x
+    by_row : (row : Option Node) → IsNodeLike s.cast.scripts (ids.Worker w) (acts_in_line s.history (ids.Worker w)) row
+        → worker_of (unwrap_or row Down) ≡ Some x → Follows s w x
     by_row None like is = absurd cc
     by_row (Some Down) like is = absurd cc
     by_row (Some (Alive n)) like is = by_body n.body like is

@@ -1,6 +1,6 @@
 -- What the permanent checkpoints hold: the states behind the fronts of their nodes' lines; and where their cut is causally
 -- closed, one run of the sequential space, in order, whose tuples they hold.
-use Rattle.std.proofs.Common.{◌≡◌, ℕ, ◌≤◌, List, [], take, length, filter, IsPermutation, Option, Some, None, refl, sym, ap, ◌∙◌, subst, arith}
+use Rattle.std.proofs.Common.{ℕ, ◌≤◌, List, take, length, filter, IsPermutation, Option, Some, None, sym, ap, subst, arith}
 use Rattle.std.specs.Prelude.{IfSome}
 use Rattle.std.specs.List.{range_with_len}
 use Rattle.std.proofs.lemmas.List.Sorted.{IsPermutation-sym, IsPermutation-trans}
@@ -23,8 +23,8 @@ use Rattle.kt_node.specs.Node.{Body, IsWorker, IsShard}
 use Rattle.kt_world.specs.Cast.{Cast}
 use Rattle.kt_world.specs.State.{State, role_of}
 use Rattle.kt_world.specs.Asks.{setting_of}
-use Rattle.kt_world.specs.Cut.{IsCausallyClosed, acts_held, is_in_cut, permanent_by, permanent_of, permanent_length, tuples_in, tuples_of, permanent_tuples}
-use Rattle.kt_world.specs.Like.{IsBodyLike, IsSavedOf, HoldsFront, HoldsItsActs, StoresFollowLines}
+use Rattle.kt_world.specs.Cut.{IsCausallyClosed, is_in_cut, permanent_by, permanent_of, permanent_length, tuples_in, tuples_of, permanent_tuples}
+use Rattle.kt_world.specs.Like.{IsBodyLike, IsSavedOf, HoldsFront, StoresFollowLines}
 use Rattle.kt_world.specs.Headline.{IsPermanentRun}
 use Rattle.kt_world.proofs.Sound.{IsTentative, IsStored, IsSound}
 use Rattle.kt_world.proofs.NoteSound.{line-long}
@@ -32,7 +32,8 @@ use Rattle.kt_world.proofs.Cuts.{part_run, part_order, part_share}
 
 -- ---- each stored checkpoint
 
-fronts_in : (cast : Cast) (p : NodeId) (acts : List Act) (old : Option Ckpt) (taken : Option Tentative) → IfSome taken (λ t. IsTentative cast p acts old t.checkpoint)
+fronts_in : (cast : Cast) (p : NodeId) (acts : List Act) (old : Option Ckpt) (taken : Option Tentative)
+    → IfSome taken (λ t. IsTentative cast p acts old t.checkpoint)
     → IfSome taken (λ t. HoldsFront cast p acts (Some t.checkpoint))
 fronts_in cast p acts old None some = tt
 fronts_in cast p acts old (Some t) some = some.front
@@ -46,7 +47,8 @@ stores_follow s sound p =
 
 -- ---- the permanent ones, among which a tentative one counts that has Yes
 
-permanent_by_front : (cast : Cast) (p : NodeId) (acts : List Act) (old : Option Ckpt) (taken : Option Tentative) (verdict : Option Verdict) → IsStored cast p acts old taken verdict
+permanent_by_front : (cast : Cast) (p : NodeId) (acts : List Act) (old : Option Ckpt) (taken : Option Tentative) (verdict : Option Verdict)
+    → IsStored cast p acts old taken verdict
     → HoldsFront cast p acts (permanent_by verdict taken old)
 permanent_by_front cast p acts old (Some t) (Some verdicts.Yes) stored = (stored.tentative (λ e. cc (e))).front
 permanent_by_front cast p acts old None (Some verdicts.Yes) stored = stored.permanent
@@ -93,8 +95,8 @@ permanent_held s sound some closed =
         let front = permanent_front s sound (ids.Shard r) in
         let share = part_share (setting_of s.cast) s.history (permanent_length s.content) sound.legal closed r (permanent_within s sound (ids.Shard r)) in
         subst (λ l. IsPermutation l (tuples_of (permanent_of s.content (ids.Shard r)))) (sym share)
-        (saved_tuples s.cast r (take (permanent_length s.content (ids.Shard r)) (acts_in_line s.history (ids.Shard r))) (permanent_of s.content (ids.Shard r)) front.body
-        front.saved front.like)
+        (saved_tuples s.cast r (take (permanent_length s.content (ids.Shard r)) (acts_in_line s.history (ids.Shard r)))
+        (permanent_of s.content (ids.Shard r)) front.body front.saved front.like)
 
 pub permanent_run : (s : State) → IsSound s → 1 ≤ s.cast.shards → IsCausallyClosed s.history (permanent_length s.content) → IsPermanentRun s
 permanent_run s sound some closed = record {

@@ -1,6 +1,6 @@
 -- Sound states: the history is legal and well-formed, each message carries what its act says, and of each node what it
 -- works with and what is stored of it are like what its line, or the front of it, makes of it.
-use Rattle.std.proofs.Common.{◌≡◌, ℕ, ◌≤◌, List, length, take, Contains, Option, Some, None, IsPermutation}
+use Rattle.std.proofs.Common.{◌≡◌, ℕ, ◌≤◌, List, length, Contains, Option, Some, None}
 use Rattle.std.specs.Prelude.{IfSome}
 use Rattle.std.specs.List.{AllByRecursion}
 use Rattle.kt_tuple.specs.declared.node.NodeId.{NodeId}
@@ -14,12 +14,7 @@ use Rattle.kt_history.specs.Line.{note_at}
 use Rattle.kt_history.specs.Closed.{acts_in_line}
 use Rattle.kt_history.specs.WellFormed.{IsAsking, IsAnswering, Fits, IsWellFormed}
 use Rattle.kt_script.specs.declared.command.Command.{Command}
-use Rattle.kt_worker.specs.declared.worker.Worker.{Worker}
-use Rattle.kt_worker.specs.After.{IsAfter}
 use Rattle.kt_shard.specs.declared.request.Request.{Request}
-use Rattle.kt_shard.specs.Shard.{Shard}
-use Rattle.kt_shard.specs.Table.{at}
-use Rattle.kt_shard.specs.Desk.{empty_desk}
 use Rattle.kt_ckpt.specs.declared.ckpt.Ckpt.{Ckpt}
 use Rattle.kt_store.specs.declared.rows.Tentative.{Tentative}
 use Rattle.kt_store.specs.declared.rows.Verdict.{Verdict}
@@ -32,13 +27,10 @@ use Rattle.kt_node.specs.declared.message.Message.{Message}
 use Rattle.kt_node.specs.declared.message.Message.TheVariants as messages
 use Rattle.kt_node.specs.declared.live.Phase.{Phase}
 use Rattle.kt_node.specs.declared.live.Phase.TheVariants as phases
-use Rattle.kt_node.specs.Node.{Role, Body, IsWorker, IsShard, Node, Down, Alive, opening_body}
-use Rattle.kt_node.specs.State.{body_fields}
-use Rattle.kt_world.specs.Cast.{Cast, script_at}
-use Rattle.kt_world.specs.State.{State, node, link, role_of}
-use Rattle.kt_world.specs.Asks.{script_numbered, setting_of}
-use Rattle.kt_lines.specs.ShardLine.{MadeShard, shard_of_acts, new_shard}
-use Rattle.kt_lines.specs.WorkerLine.{MadeWorker, worker_of_acts, new_worker}
+use Rattle.kt_node.specs.Node.{Node, Down, Alive}
+use Rattle.kt_world.specs.Cast.{Cast}
+use Rattle.kt_world.specs.State.{State, node, link}
+use Rattle.kt_world.specs.Asks.{setting_of}
 use Rattle.kt_world.specs.Cut.{acts_held}
 use Rattle.kt_world.specs.Like.{IsBodyLike, HoldsFront, IsNotNo}
 use Rattle.kt_lines.specs.Legal.{AreLegal}

@@ -24,7 +24,8 @@ front-kept : (cast : Cast) (p : NodeId) (acts new : List Act) (stored : Option C
 front-kept cast p acts new stored short same front =
     record { short = short; body = front.body; saved = front.saved; like = subst (λ l. IsBodyLike cast.scripts p l front.body) (sym same) front.like }
 
-front-push : (cast : Cast) (p : NodeId) (acts : List Act) (a : Act) (stored : Option Ckpt) → HoldsFront cast p acts stored → HoldsFront cast p (acts ++ a ∷ []) stored
+front-push : (cast : Cast) (p : NodeId) (acts : List Act) (a : Act) (stored : Option Ckpt) → HoldsFront cast p acts stored
+    → HoldsFront cast p (acts ++ a ∷ []) stored
 front-push cast p acts a stored front =
     let long = length-append acts (a ∷ []) in
     front-kept cast p acts (acts ++ a ∷ []) stored (omega (arith, long, front.short)) (take-append-le (acts_held stored) acts (a ∷ []) front.short) front

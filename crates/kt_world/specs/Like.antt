@@ -38,7 +38,8 @@ pub record IsShardLike (scripts : List (List Command)) (made : MadeShard) (y : S
 
 -- so is what the node p, whose acts these are, works with
 abbrev pub IsBodyLike : List (List Command) → NodeId → List Act → Body → Type 0
-IsBodyLike scripts (ids.Worker w) acts (IsWorker x) = IsWorkerLike (script_numbered scripts w) (worker_of_acts new_worker acts) x
+IsBodyLike scripts (ids.Worker w) acts (IsWorker x) =
+    IsWorkerLike (script_numbered scripts w) (worker_of_acts new_worker acts) x
 IsBodyLike scripts (ids.Worker w) acts (IsShard y) = ⊥
 IsBodyLike scripts (ids.Shard s) acts (IsWorker x) = ⊥
 IsBodyLike scripts (ids.Shard s) acts (IsShard y) = IsShardLike scripts (shard_of_acts new_shard acts) y
@@ -59,7 +60,8 @@ pub record HoldsFront (cast : Cast) (p : NodeId) (acts : List Act) (stored : Opt
 abbrev pub IsNotNo : Option Verdict → Type 0
 IsNotNo verdict = ¬ (verdict ≡ Some verdicts.No)
 
--- each stored permanent checkpoint, and each tentative one whose verdict is not No, holds the state behind the first acts
+-- each stored permanent checkpoint, and each tentative one whose verdict is not No, holds the state behind the first
+-- acts
 -- of its node's line
 pub record HoldsItsActs (s : State) (p : NodeId) : Type 0 where
   pub permanent : HoldsFront s.cast p (acts_in_line s.history p) (row_of s.content p).permanent
