@@ -25,7 +25,7 @@ use Rattle.kt_world.specs.State.{State, role_of}
 use Rattle.kt_world.specs.Asks.{setting_of}
 use Rattle.kt_world.specs.Cut.{IsCausallyClosed, is_in_cut, permanent_by, permanent_of, permanent_length, tuples_in, tuples_of, permanent_tuples}
 use Rattle.kt_world.specs.Like.{IsBodyLike, IsSavedOf, HoldsFront, StoresFollowLines}
-use Rattle.kt_world.specs.Headline.{IsPermanentRun}
+use Rattle.kt_world.specs.PermanentRun.{IsPermanentRun}
 use Rattle.kt_world.proofs.Sound.{IsTentative, IsStored, IsSound}
 use Rattle.kt_world.proofs.NoteSound.{line-long}
 use Rattle.kt_world.proofs.Cuts.{part_run, part_order, part_share}
@@ -103,5 +103,5 @@ permanent_run s sound some closed = record {
   tuples = marked_tuples (is_in_cut s.history (permanent_length s.content)) s.history;
   one_run = part_run (setting_of s.cast) s.history (permanent_length s.content) sound.legal closed;
   in_order = part_order (setting_of s.cast) s.history (permanent_length s.content) sound.legal sound.well_formed closed;
-  held = permanent_held s sound some closed;
+  are_held = permanent_held s sound some closed;
 }

@@ -1,7 +1,7 @@
 -- What holds of every state that steps lead to: the surviving services are one run of a sequential tuple space, each
 -- worker's requests being its script's, in order. And what a step makes of the history and of what is remembered.
 use Rattle.std.specs.Prelude.{◌≡◌, ℕ, ◌+◌, Bool, true, false, List, [], ◌∷◌}
-use Rattle.std.specs.Prelude.{◌++◌, take, length, ◌≤◌, Option, None, Some, IsTrue, IsPermutation}
+use Rattle.std.specs.Prelude.{◌++◌, take, length, ◌≤◌, Option, None, Some, IsTrue}
 use Rattle.std.specs.List.{flat_map, range_with_len}
 use Rattle.kt_tuple.specs.declared.node.NodeId.{NodeId}
 use Rattle.kt_tuple.specs.declared.node.NodeId.TheVariants as ids
@@ -21,7 +21,6 @@ use Rattle.kt_world.specs.declared.step.Step.TheVariants.{Deliver, Learn, Fail}
 use Rattle.kt_world.specs.Step.{owner}
 use Rattle.kt_world.specs.State.{State, node, link}
 use Rattle.kt_world.specs.Asks.{setting_of}
-use Rattle.kt_world.specs.Cut.{part, permanent_length, permanent_tuples}
 
 pub record Headline (s : State) : Type 0 where
   -- each act is of a kind that its cause allows, and causes come first
@@ -51,13 +50,6 @@ bag_of (Some (Alive n)) = bag_in n.body
 -- the tuples of all shards
 abbrev pub all_bags : State → List Tuple
 all_bags s = flat_map (λ r. bag_of (node s (ids.Shard r))) (range_with_len 1 s.cast.shards)
-
--- what the permanent checkpoints hold is a run of its own, in order, and their tuples are that run's
-pub record IsPermanentRun (s : State) : Type 0 where
-  pub tuples : List Tuple
-  pub one_run : IsSpaceRun (part s.history (permanent_length s.content)) tuples
-  pub in_order : FollowsScripts (setting_of s.cast) (part s.history (permanent_length s.content))
-  pub held : IsPermutation tuples (permanent_tuples s)
 
 -- ---- what a step notes
 

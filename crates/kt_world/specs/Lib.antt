@@ -14,3 +14,4 @@ pub mod Headline
 pub mod Workers
 pub mod Cut
 pub mod Like
+pub mod PermanentRun
