@@ -18,7 +18,8 @@ use Rattle.kt_node.specs.Node.{Body, IsWorker, IsShard, Node, Down, Alive, worke
 use Rattle.kt_world.specs.State.{State, node}
 use Rattle.kt_world.specs.Asks.{script_numbered}
 use Rattle.kt_world.specs.Workers.{made_in_line, WorkersFollowLines}
-use Rattle.kt_world.proofs.Sound.{IsBodyLike, IsNodeLike, IsSound}
+use Rattle.kt_world.specs.Like.{IsBodyLike}
+use Rattle.kt_world.proofs.Sound.{IsNodeLike, IsSound}
 
 -- ---- services
 
@@ -59,7 +60,8 @@ workers_follow s sound w x e = by_row (node s (ids.Worker w)) (sound.nodes (ids.
     by_body (IsWorker z) like is = let same : z ≡ x = cc in subst (Follows s w) same (like.asked, like.after)
     by_body (IsShard y) like is = absurd like
 
-    by_row : (row : Option Node) → IsNodeLike s.cast.scripts (ids.Worker w) (acts_in_line s.history (ids.Worker w)) row → worker_of (unwrap_or row Down) ≡ Some x → Follows s w x
+    by_row : (row : Option Node) → IsNodeLike s.cast.scripts (ids.Worker w) (acts_in_line s.history (ids.Worker w)) row
+        → worker_of (unwrap_or row Down) ≡ Some x → Follows s w x
     by_row None like is = absurd cc
     by_row (Some Down) like is = absurd cc
     by_row (Some (Alive n)) like is = by_body n.body like is

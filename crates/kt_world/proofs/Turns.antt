@@ -31,7 +31,9 @@ use Rattle.kt_world.specs.State.{State, node, view}
 use Rattle.kt_world.specs.Told.{of_poll}
 use Rattle.kt_world.specs.Writing.{content_after}
 use Rattle.kt_world.proofs.Plans.{IsAlive}
-use Rattle.kt_world.proofs.Sound.{IsBodyLike, KeepsSo, acts_held, EndsRolling, IsStored, IsNodeSound, NodeSoundIn, IsSound, SendWell}
+use Rattle.kt_world.specs.Cut.{acts_held}
+use Rattle.kt_world.specs.Like.{IsBodyLike}
+use Rattle.kt_world.proofs.Sound.{KeepsSo, EndsRolling, IsStored, IsNodeSound, NodeSoundIn, IsSound, SendWell}
 use Rattle.kt_world.proofs.Contents.{row_after, own-row, SaysNoYes, noes-stay}
 use Rattle.kt_world.proofs.Applying.{Keeps, sound-later}
 
