@@ -122,8 +122,7 @@ Ends long permanent tentative verdict (Some (Alive n)) = EndsRolling long perman
 
 -- the node p, with these acts, as it is and as it is stored
 pub record IsNodeSound (cast : Cast) (h : List Note) (p : NodeId) (acts : List Act) (node : Option Node) (permanent : Option Ckpt)
-    (tentative : Option Tentative)
-    (verdict : Option Verdict) : Type 0 where
+    (tentative : Option Tentative) (verdict : Option Verdict) : Type 0 where
   pub like : IsNodeLike cast.scripts p acts node
   pub kept : AreKept cast.shards h p node
   pub stored : IsStored cast p acts permanent tentative verdict

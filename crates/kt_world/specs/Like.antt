@@ -61,8 +61,7 @@ abbrev pub IsNotNo : Option Verdict → Type 0
 IsNotNo verdict = ¬ (verdict ≡ Some verdicts.No)
 
 -- each stored permanent checkpoint, and each tentative one whose verdict is not No, holds the state behind the first
--- acts
--- of its node's line
+-- acts of its node's line
 pub record HoldsItsActs (s : State) (p : NodeId) : Type 0 where
   pub permanent : HoldsFront s.cast p (acts_in_line s.history p) (row_of s.content p).permanent
   pub tentative : IsNotNo (verdict_on s.content (row_of s.content p).tentative)
