@@ -1,11 +1,8 @@
 -- To carry out a plan changes its owner, the links of the owner, what is stored of the owner, the board and the history
 -- alone; so a plan that keeps its owner sound keeps the state sound.
-use Rattle.std.proofs.Common.{◌≡◌, ◌≢◌, ℕ, List, Contains, length, Option, Some, None, inl, inr, sym, ap, subst}
+use Rattle.std.proofs.Common.{◌≡◌, ◌≢◌, ℕ, List, Contains, length, Option, Some, None, inl, inr, sym, subst}
 use Rattle.std.specs.Option.{option_map}
-use Rattle.std.proofs.lemmas.Bool.{cases_eq}
 use Rattle.kt_tuple.specs.declared.node.NodeId.{NodeId}
-use Rattle.kt_tuple.specs.Node.{node_index}
-use Rattle.kt_tuple.proofs.Nodes.{node_index-injective}
 use Rattle.kt_history.specs.declared.note.Act.{Act}
 use Rattle.kt_history.specs.declared.note.Note.{Note}
 use Rattle.kt_history.specs.Closed.{acts_in_line}
@@ -25,23 +22,12 @@ use Rattle.kt_world.specs.Cast.{Cast}
 use Rattle.kt_world.specs.State.{State, node, link, link_place}
 use Rattle.kt_world.specs.Writing.{content_after}
 use Rattle.kt_world.specs.Effect.{taken_off, noted, applied}
-use Rattle.kt_lines.proofs.Rows.{at-put_same, at-put_other}
 use Rattle.kt_lines.proofs.Lists.{all-at}
 use Rattle.kt_world.proofs.OnLinks.{taken_off-was, sent-cases, sent_between}
+use Rattle.kt_world.proofs.Frames.{applied-rows}
 use Rattle.kt_world.proofs.NoteSound.{noted-legal, noted-well_formed, noted-others, noted-carries, noted-kept}
-use Rattle.kt_world.proofs.Contents.{other-rows}
+use Rattle.kt_world.proofs.Writes.{other-rows}
 use Rattle.kt_world.proofs.Sound.{Carries, EndsDown, Ends, IsStored, IsNodeSound, NodeSoundIn, IsSound, MayNote, SendWell, NoesStay}
-
--- ---- what becomes of the nodes
-
--- the owner of a step as it becomes, and the others as they were
-pub applied-owner : (s : State) (step : Step) (plan : Plan) → node (applied s step plan) (owner step) ≡ option_map (changed plan.change) (node s (owner step))
-applied-owner s step plan = at-put_same None s.nodes (node_index (owner step)) (option_map (changed plan.change) (node s (owner step)))
-
-pub applied-other : (s : State) (step : Step) (plan : Plan) (q : NodeId) → owner step ≢ q → node (applied s step plan) q ≡ node s q
-applied-other s step plan q d =
-    at-put_other None s.nodes (node_index (owner step)) (node_index q) (option_map (changed plan.change) (node s (owner step)))
-    (λ e. d (node_index-injective (owner step) q (sym e)))
 
 -- ---- what a plan keeps
 
@@ -92,21 +78,7 @@ sound-later cast h c d note p acts node row stays sound =
 
 applied-nodes : (s : State) (step : Step) (plan : Plan) → IsSound s → Keeps s (owner step) plan → (q : NodeId)
     → NodeSoundIn s.cast (noted s.history plan.note) (content_after (owner step) plan.write s.content) q (node (applied s step plan) q)
-applied-nodes s step plan sound keeps q = elim (cases_eq (node_index (owner step)) (node_index q)) [
-  | inl e ↦ subst At (node_index-injective (owner step) q e) own
-  | inr d ↦
-      let other : owner step ≢ q = λ e. d (ap node_index e) in
-      let Of : Option Node → Type 0 = NodeSoundIn s.cast h c q in
-      let Acts : List Act → Type 0 =
-      λ acts. IsNodeSound s.cast h q acts (node s q) (row_of c q).permanent (row_of c q).tentative (verdict_on c (row_of c q).tentative) in
-      let Row : NodeRow → Type 0 =
-      λ row. IsNodeSound s.cast h q (acts_in_line s.history q) (node s q) row.permanent row.tentative (verdict_on c row.tentative) in
-      let stays : row_of c q ≡ row_of s.content q = other-rows (owner step) plan.write s.content q (λ e. other (sym e)) in
-      subst Of (sym (applied-other s step plan q other))
-      (subst Acts (sym (noted-others s.cast s.history (owner step) plan.note keeps.may q other))
-      (subst Row (sym stays)
-      (sound-later s.cast s.history s.content c plan.note q (acts_in_line s.history q) (node s q) (row_of s.content q) keeps.noes (sound.nodes q))))
-]
+applied-nodes s step plan sound keeps = applied-rows s step plan (NodeSoundIn s.cast h c) keeps.sound others
   where
     h : List Note
     h = noted s.history plan.note
@@ -114,13 +86,16 @@ applied-nodes s step plan sound keeps q = elim (cases_eq (node_index (owner step
     c : Content
     c = content_after (owner step) plan.write s.content
 
-    At : NodeId → Type 0
-    At r = NodeSoundIn s.cast (noted s.history plan.note) (content_after (owner step) plan.write s.content) r (node (applied s step plan) r)
-
-    own : At (owner step)
-    own =
-        subst (NodeSoundIn s.cast (noted s.history plan.note) (content_after (owner step) plan.write s.content) (owner step))
-        (sym (applied-owner s step plan)) keeps.sound
+    others : (q : NodeId) → owner step ≢ q → NodeSoundIn s.cast h c q (node s q)
+    others q other =
+        let Acts : List Act → Type 0 =
+        λ acts. IsNodeSound s.cast h q acts (node s q) (row_of c q).permanent (row_of c q).tentative (verdict_on c (row_of c q).tentative) in
+        let Row : NodeRow → Type 0 =
+        λ row. IsNodeSound s.cast h q (acts_in_line s.history q) (node s q) row.permanent row.tentative (verdict_on c row.tentative) in
+        let stays : row_of c q ≡ row_of s.content q = other-rows (owner step) plan.write s.content q (λ e. other (sym e)) in
+        subst Acts (sym (noted-others s.cast s.history (owner step) plan.note keeps.may q other))
+        (subst Row (sym stays)
+        (sound-later s.cast s.history s.content c plan.note q (acts_in_line s.history q) (node s q) (row_of s.content q) keeps.noes (sound.nodes q)))
 
 applied-carries : (s : State) (step : Step) (plan : Plan) → IsSound s → Keeps s (owner step) plan → (p q : NodeId) (m : Message)
     → Contains (link (applied s step plan) p q) m

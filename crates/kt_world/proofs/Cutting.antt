@@ -38,7 +38,8 @@ use Rattle.kt_world.specs.Cut.{acts_held}
 use Rattle.kt_world.specs.Like.{IsNotNo}
 use Rattle.kt_world.proofs.Sound.{KeepsSo, EndsDown, IsStored, IsNodeSound, NodeSoundIn, SendWell}
 use Rattle.kt_world.proofs.NoteSound.{line-long}
-use Rattle.kt_world.proofs.Contents.{own-row, SaysNoYes, noes-stay}
+use Rattle.kt_world.proofs.Writes.{own-row}
+use Rattle.kt_world.proofs.Noes.{SaysNoYes, noes-stay}
 use Rattle.kt_world.proofs.Applying.{Keeps}
 use Rattle.kt_world.proofs.StoredFronts.{stored-cut}
 use Rattle.kt_world.proofs.Saved.{role_id}

@@ -35,7 +35,8 @@ use Rattle.kt_world.proofs.Plans.{IsAlive, IsDown}
 use Rattle.kt_world.specs.Cut.{acts_held}
 use Rattle.kt_world.specs.Like.{HoldsFront, IsNotNo}
 use Rattle.kt_world.proofs.Sound.{EndsDown, IsStored, IsNodeSound, NodeSoundIn, IsSound}
-use Rattle.kt_world.proofs.Contents.{own-row, noes-stay}
+use Rattle.kt_world.proofs.Writes.{own-row}
+use Rattle.kt_world.proofs.Noes.{noes-stay}
 use Rattle.kt_world.proofs.Applying.{Keeps}
 use Rattle.kt_world.proofs.CheckLeaves.{promoted_front, settled_is}
 use Rattle.kt_world.proofs.Cutting.{cut_keeps, held_marks, fallen}

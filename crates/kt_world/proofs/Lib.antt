@@ -30,7 +30,7 @@ pub mod Scripts
 pub mod Standing
 pub mod Sound
 pub mod NoteSound
-pub mod Contents
+pub mod Noes
 pub mod Applying
 pub mod Saved
 pub mod StoredFronts

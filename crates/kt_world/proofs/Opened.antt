@@ -41,7 +41,7 @@ length-opening_rows cast (suc n) =
     omega (arith, length-append (opening_rows cast n) (opening_row cast (ids.Worker n) ∷ opening_row cast (ids.Shard n) ∷ []), length-opening_rows cast n)
 
 -- the rows of the worker and of the shard with the number k
-worker_row : (cast : Cast) (n k : ℕ) → k < n → at None (opening_rows cast n) (2 * k) ≡ opening_row cast (ids.Worker k)
+pub worker_row : (cast : Cast) (n k : ℕ) → k < n → at None (opening_rows cast n) (2 * k) ≡ opening_row cast (ids.Worker k)
 unfolding opening_rows
 worker_row cast zero k below = absurd (omega (arith, below))
 worker_row cast (suc n) k below = by (cases_lt k n) (λ less. worker_row cast n k less)
@@ -61,7 +61,7 @@ worker_row cast (suc n) k below = by (cases_lt k n) (λ less. worker_row cast n 
         ap (at None (opening_rows cast n ++ two)) place ∙ get_or-append-add (opening_rows cast n) two 0 None
         ∙ ap (λ (j : ℕ). opening_row cast (ids.Worker j)) same
 
-shard_row : (cast : Cast) (n k : ℕ) → k < n → at None (opening_rows cast n) (2 * k + 1) ≡ opening_row cast (ids.Shard k)
+pub shard_row : (cast : Cast) (n k : ℕ) → k < n → at None (opening_rows cast n) (2 * k + 1) ≡ opening_row cast (ids.Shard k)
 unfolding opening_rows
 shard_row cast zero k below = absurd (omega (arith, below))
 shard_row cast (suc n) k below = by (cases_lt k n) (λ less. shard_row cast n k less)
@@ -82,7 +82,7 @@ shard_row cast (suc n) k below = by (cases_lt k n) (λ less. shard_row cast n k 
         ∙ ap (λ (j : ℕ). opening_row cast (ids.Shard j)) same
 
 -- rows past the table are empty
-past_rows : (cast : Cast) (k : ℕ) → rows ≤ k → at None (opening_rows cast desks) k ≡ None
+pub past_rows : (cast : Cast) (k : ℕ) → rows ≤ k → at None (opening_rows cast desks) k ≡ None
 past_rows cast k past = get_or_past (opening_rows cast desks) k None (omega (arith, past, length-opening_rows cast desks))
 
 -- ---- nodes

@@ -36,7 +36,7 @@ use Rattle.kt_world.specs.Told.{verdict_for}
 use Rattle.kt_world.proofs.Plans.{IsAlive, Comes, Votes, holds, rolls}
 use Rattle.kt_world.specs.Cut.{acts_held}
 use Rattle.kt_world.proofs.Sound.{SaysSo, KeepsSo, EndsRolling, IsSound, SendWell}
-use Rattle.kt_world.proofs.Contents.{SaysNoYes}
+use Rattle.kt_world.proofs.Noes.{SaysNoYes}
 use Rattle.kt_world.proofs.Applying.{Keeps}
 use Rattle.kt_world.proofs.ActLeaves.{alive_keeps, comes_so}
 use Rattle.kt_world.proofs.Turns.{EndsThen, verdicts_well, votes_well, roll_asks_well, sieved_so}

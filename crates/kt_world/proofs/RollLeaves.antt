@@ -34,7 +34,8 @@ use Rattle.kt_world.proofs.Plans.{IsAlive}
 use Rattle.kt_world.specs.Cut.{acts_held}
 use Rattle.kt_world.specs.Like.{IsBodyLike, HoldsFront}
 use Rattle.kt_world.proofs.Sound.{EndsDown, EndsRolling, IsNodeSound, NodeSoundIn, IsSound, SendWell}
-use Rattle.kt_world.proofs.Contents.{own-row, noes-stay}
+use Rattle.kt_world.proofs.Writes.{own-row}
+use Rattle.kt_world.proofs.Noes.{noes-stay}
 use Rattle.kt_world.proofs.Applying.{Keeps, sound-later}
 use Rattle.kt_world.proofs.StoredFronts.{stored-cut, loaded-front, loaded-whole}
 use Rattle.kt_world.proofs.Cutting.{cut_keeps, held_marks, IsLoaded, loaded, loaded_so}

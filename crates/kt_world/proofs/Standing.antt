@@ -1,26 +1,21 @@
 -- What is planned in a ready state can be carried out and leaves the state ready, whatever the store says; and over a
--- store that tells what it holds every state that steps lead to from an opening is ready and backed.
-use Rattle.std.proofs.Common.{◌≡◌, List, [], ◌∷◌, Result, Ok, Err, refl}
+-- store that tells what it holds its write is allowed, and leaves the state backed.
+use Rattle.std.proofs.Common.{◌≡◌, Ok}
 use Rattle.std.specs.Prelude.{IfSome}
 use Rattle.kt_node.specs.declared.plan.Plan.{Plan}
 use Rattle.kt_world.specs.declared.step.Step.{Step}
-use Rattle.kt_world.specs.declared.step.StepError.{StepError}
 use Rattle.kt_world.specs.declared.told.Told.{Told}
 use Rattle.kt_world.specs.Step.{owner}
-use Rattle.kt_world.specs.Cast.{Cast, IsCast}
 use Rattle.kt_world.specs.State.{State}
 use Rattle.kt_world.specs.Told.{told}
 use Rattle.kt_world.specs.Judge.{planned_by, planned}
-use Rattle.kt_world.specs.Effect.{applied, applied_if}
+use Rattle.kt_world.specs.Effect.{applied}
 use Rattle.kt_world.specs.Ready.{IsReady, CanApply}
-use Rattle.kt_world.specs.Short.{AreShort}
 use Rattle.kt_world.specs.Backed.{IsBacked, IsAllowed, HasNumbers}
-use Rattle.kt_world.specs.Reached.{opening, or_as_it_was, next_state, after}
 use Rattle.kt_world.proofs.PlansFound.{plan-found, plan-few}
 use Rattle.kt_world.proofs.CanApplies.{can_apply, stays_ready}
 use Rattle.kt_world.proofs.Backs.{numbers-left}
 use Rattle.kt_world.proofs.StaysBacked.{write-allowed, stays_backed}
-use Rattle.kt_world.proofs.Opened.{opening-ready, opening-backed}
 
 pub planned-can : (s : State) → IsReady s → (t : Told) (step : Step) (plan : Plan) → planned_by s t step ≡ Ok plan → CanApply s (owner step) plan
 planned-can s ready t step plan e = can_apply s ready t step plan (plan-found s t step plan e)
@@ -36,21 +31,3 @@ planned-numbers s is step plan e = numbers-left s is (plan-few s (told s step) s
 
 pub planned-backed : (s : State) → IsBacked s → (step : Step) (plan : Plan) → planned s step ≡ Ok plan → IsBacked (applied s step plan)
 planned-backed s is step plan e = stays_backed s is (plan-few s (told s step) step plan e) step plan (plan-found s (told s step) step plan e)
-
--- ---- the states that steps lead to
-
-pub record Stands (s : State) : Type 0 where
-  pub ready : IsReady s
-  pub backed : IsBacked s
-
-result-stands : (s : State) (step : Step) (r : Result Plan StepError) → Stands s → planned s step ≡ r → Stands (or_as_it_was (applied_if s step r) s)
-result-stands s step (Ok plan) h e = record { ready = planned-ready s h.ready (told s step) step plan e; backed = planned-backed s h.backed step plan e }
-result-stands s step (Err refusal) h e = h
-
-pub steps-stand : (s : State) (steps : List Step) → Stands s → Stands (after s steps)
-unfolding after
-steps-stand s [] h = h
-steps-stand s (step ∷ later) h = steps-stand (next_state s step) later (result-stands s step (planned s step) h refl)
-
-pub reached-stands : (cast : Cast) → IsCast cast → AreShort cast → (steps : List Step) → Stands (after (opening cast) steps)
-reached-stands cast is short steps = steps-stand (opening cast) steps (record { ready = opening-ready cast is short; backed = opening-backed cast is })

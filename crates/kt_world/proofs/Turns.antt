@@ -34,7 +34,8 @@ use Rattle.kt_world.proofs.Plans.{IsAlive}
 use Rattle.kt_world.specs.Cut.{acts_held}
 use Rattle.kt_world.specs.Like.{IsBodyLike}
 use Rattle.kt_world.proofs.Sound.{KeepsSo, EndsRolling, IsStored, IsNodeSound, NodeSoundIn, IsSound, SendWell}
-use Rattle.kt_world.proofs.Contents.{row_after, own-row, SaysNoYes, noes-stay}
+use Rattle.kt_world.proofs.Writes.{row_after, own-row}
+use Rattle.kt_world.proofs.Noes.{SaysNoYes, noes-stay}
 use Rattle.kt_world.proofs.Applying.{Keeps, sound-later}
 
 -- ---- what is sent

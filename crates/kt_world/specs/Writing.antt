@@ -1,8 +1,7 @@
 -- What the write of a plan makes of the store's content.
-use Rattle.std.specs.Prelude.{◌≡◌, ◌<◌, ◌≤◌, Option, None, Some, IfSome}
+use Rattle.std.specs.Prelude.{Option, None, Some}
 use Rattle.kt_tuple.specs.declared.node.NodeId.{NodeId}
-use Rattle.kt_store.specs.declared.rows.Verdict.TheVariants as verdicts
-use Rattle.kt_store.specs.Content.{Content, HasVerdict, greatest, next_instance, row_of, verdict_of}
+use Rattle.kt_store.specs.Content.{Content}
 use Rattle.kt_store.specs.Changes.{check_begun, tentative_put, promoted, discarded, restart_begun, bumped, decided}
 use Rattle.kt_node.specs.declared.plan.Write.{Write}
 use Rattle.kt_node.specs.declared.plan.Write.TheVariants as writes
@@ -21,16 +20,3 @@ written p (writes.Decide instance agreed) c = decided instance agreed c
 abbrev pub content_after : NodeId → Option Write → Content → Content
 content_after p None c = c
 content_after p (Some write) c = written p write c
-
--- an honest store that holds this allows the write, and is not too full for it
-abbrev pub MayWrite : Content → NodeId → Write → Type 0
-MayWrite c p (writes.BeginCheck checkpoint) = ((row_of c p).tentative ≡ None) × (next_instance c ≤ greatest)
-MayWrite c p (writes.PutTentative instance checkpoint) = (row_of c p).tentative ≡ None
-MayWrite c p writes.Promote = HasVerdict c p verdicts.Yes
-MayWrite c p writes.Discard = HasVerdict c p verdicts.No
-MayWrite c p writes.BeginRestart = (next_instance c ≤ greatest) × ((row_of c p).incarnation < greatest)
-MayWrite c p writes.Bump = (row_of c p).incarnation < greatest
-MayWrite c p (writes.Decide instance agreed) = verdict_of c instance ≡ Some verdicts.Open
-
-abbrev pub MayWriteAll : Content → NodeId → Option Write → Type 0
-MayWriteAll c p write = IfSome write (MayWrite c p)
