@@ -1,6 +1,6 @@
 //! What a control message makes of the node that it comes to.
 
-ghost use Rattle.std.specs.Prelude.{◌≡◌, ◌+◌, ◌<◌, ◌^◌, IfOk};
+ghost use Rattle.std.specs.Prelude.{◌≡◌, ◌+◌, ◌<◌, ◌^◌, IfOk, Ok};
 ghost use Rattle.std.specs.Option.{option_copied};
 ghost use Rattle.kt_node.specs.Plan.{Gives};
 ghost use Rattle.kt_node.specs.Saving.{CanSave, CanSaveNode};
@@ -115,8 +115,8 @@ fn verdict_when_held(
     ballot: &Ballot,
     instance: u64,
     yes: bool,
-) -> Result<Plan, AllocError>
-    ensures { IfOk result (λ p. p ≡ verdict_when_held ballot.now instance yes) }
+) -> Result<Plan, Refusal>
+    ensures { Gives result (Ok (verdict_when_held ballot.now instance yes)) }
 {
     if !is_in(ballot, instance) {
         return Ok(Plan::empty(alloc));
@@ -230,7 +230,7 @@ impl View<'_> {
         };
         match &live.phase {
             Phase::Up => Ok(Plan::empty(alloc)),
-            Phase::Held(ballot) => Ok(verdict_when_held(alloc, ballot, instance, yes)?),
+            Phase::Held(ballot) => verdict_when_held(alloc, ballot, instance, yes),
             Phase::Rolling(ballot) => {
                 self.verdict_when_rolling(alloc, stored, ballot, instance, yes)
             }

@@ -64,8 +64,9 @@ impl View<'_> {
     ) -> Result<(Request, Option<Note>), AllocError>
         ensures { IfOk result (λ r. r ≡ (request.now, note_of self.entry.role.id by worker request.now Heard)) }
     {
+        let asked = request.copy(alloc)?;
         let note = self.note(alloc, by, worker, request, What::Heard)?;
-        Ok((request.copy(alloc)?, note))
+        Ok((asked, note))
     }
 
     /// The shard hears a request, and the worker waits.

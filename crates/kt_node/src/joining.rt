@@ -1,6 +1,6 @@
 //! How a node begins to vote in an instance.
 
-ghost use Rattle.std.specs.Prelude.{◌≡◌, ◌++◌, IfOk, filter};
+ghost use Rattle.std.specs.Prelude.{◌≡◌, ◌++◌, IfOk, None, Some, filter};
 ghost use Rattle.std.specs.Option.{option_copied};
 ghost use Rattle.kt_vote.specs.Order.{IsInOrder};
 ghost use Rattle.kt_vote.specs.Poll.{asking_poll};
@@ -8,9 +8,11 @@ ghost use Rattle.kt_node.specs.Node.{across, neighbours};
 ghost use Rattle.kt_node.specs.View.{view_of};
 ghost use Rattle.kt_node.specs.Views.{live_view, role_view};
 ghost use Rattle.kt_node.specs.Saving.{CanSave};
-ghost use Rattle.kt_node.specs.Joining.{asker_of, begin_check_plan, cohort, held_plan, is_in_cohort};
+ghost use Rattle.kt_node.specs.Joining.{asker_of, begin_check_plan, cohort, held_ballot, is_in_cohort};
 ghost use Rattle.kt_node.specs.Joining.{join_check_plan, join_rollback_plan, rolling_plan};
+ghost use Rattle.kt_node.specs.Plan.{turning_to};
 ghost use Rattle.kt_node.specs.Voting.{casting, poll_after, votes};
+ghost use Rattle.kt_node.specs.declared.live.Phase.TheVariants.{Held};
 
 use crate::asking::{Sent, check_asks, roll_asks};
 use crate::change::{BodyChange, Change, KeptChange, Turn};
@@ -74,7 +76,8 @@ fn cohort(
     permanent: Option<&Marks>,
     live: &Live,
 ) -> Result<Vec<NodeId>, AllocError>
-    ensures value { IfOk result (λ v. v.items ≡ cohort (role_view role.entry) (option_copied permanent.entry) (live_view live.now)) }
+    ensures value { IfOk result (λ v. v.items ≡
+        cohort (role_view role.entry) (option_copied permanent.entry) (live_view live.now)) }
     ensures in_order { IfOk result (λ v. IsInOrder v.items) }
 {
     let mut nodes = neighbours(alloc, role)?;
@@ -92,16 +95,23 @@ fn then_vote(send: Outbox, ballot: &mut Ballot) -> Result<Outbox, AllocError>
     Ok(send)
 }
 
-/// The node is held with this ballot, its tentative checkpoint is stored, its cohort is asked; a participant whose
-/// cohort is empty votes at once.
-fn held_plan(alloc: Global, live: &Live, ballot: Ballot, write: Write) -> Result<Plan, AllocError>
-    ensures { IfOk result (λ p. p ≡ held_plan (live_view live.now) ballot write) }
+/// The ballot with which the node is held, and what it sends: its cohort is asked; a participant whose cohort is
+/// empty votes at once.
+fn held_ballot(alloc: Global, live: &Live, ballot: Ballot) -> Result<(Ballot, Outbox), AllocError>
+    ensures { IfOk result (λ r. r ≡ held_ballot (live_view live.now) ballot) }
 {
     let mut ballot = ballot;
     let send = check_asks(alloc, ballot.instance(), live, ballot.asked())?;
     let send = then_vote(send, &mut ballot)?;
+    Ok((ballot, send))
+}
+
+/// The node is held with this ballot and sends these, and its tentative checkpoint is stored.
+fn held_plan(ballot: Ballot, send: Outbox, write: Write) -> Plan
+    ensures { result ≡ record { change = turning_to (Held ballot); send = send; note = None; write = Some write } }
+{
     let turn = Turn::to(Phase::Held(ballot));
-    Ok(Plan::writing(Change::Turn(turn), send, write))
+    Plan::writing(Change::Turn(turn), send, write)
 }
 
 /// The node rolls with this ballot and asks all neighbours; what it keeps from the asker above the label is
@@ -145,12 +155,14 @@ impl View<'_> {
         permanent: Option<&Marks>,
     ) -> Result<Plan, AllocError>
         requires { CanSave (view_of self) (live_view live.now) }
-        ensures { IfOk result (λ p. p ≡ begin_check_plan (view_of self.entry) (live_view live.now) instance (option_copied permanent.entry)) }
+        ensures { IfOk result (λ p. p ≡
+            begin_check_plan (view_of self.entry) (live_view live.now) instance (option_copied permanent.entry)) }
     {
         let asked = cohort(alloc, self.role, permanent, live)?;
         let ballot = Ballot::asking(alloc, instance, live.incarnation, None, asked)?;
+        let (ballot, send) = held_ballot(alloc, live, ballot)?;
         let checkpoint = checkpoint_of(alloc, self.role, live, self.line_len)?;
-        held_plan(alloc, live, ballot, Write::BeginCheck(checkpoint))
+        Ok(held_plan(ballot, send, Write::BeginCheck(checkpoint)))
     }
 
     /// The node takes part in the check of the ask.
@@ -163,18 +175,20 @@ impl View<'_> {
         permanent: Option<&Marks>,
     ) -> Result<Plan, AllocError>
         requires { CanSave (view_of self) (live_view live.now) }
-        ensures { IfOk result (λ p. p ≡ join_check_plan (view_of self.entry) (live_view live.now) from ask (option_copied permanent.entry)) }
+        ensures { IfOk result (λ p. p ≡
+            join_check_plan (view_of self.entry) (live_view live.now) from ask (option_copied permanent.entry)) }
     {
         let asked = cohort(alloc, self.role, permanent, live)?;
         let (instance, incarnation) = (ask.instance, live.incarnation);
         let parent = Some(asker_of(from, ask));
         let ballot = Ballot::asking(alloc, instance, incarnation, parent, asked)?;
+        let (ballot, send) = held_ballot(alloc, live, ballot)?;
         let checkpoint = checkpoint_of(alloc, self.role, live, self.line_len)?;
         let write = Write::PutTentative {
             instance,
             checkpoint,
         };
-        held_plan(alloc, live, ballot, write)
+        Ok(held_plan(ballot, send, write))
     }
 
     /// The node takes part in the rollback of the ask.
@@ -186,7 +200,8 @@ impl View<'_> {
         ask: Ask,
         permanent: Option<&Marks>,
     ) -> Result<Plan, AllocError>
-        ensures { IfOk result (λ p. p ≡ join_rollback_plan (view_of self.entry) (live_view live.now) from ask (option_copied permanent.entry)) }
+        ensures { IfOk result (λ p. p ≡
+            join_rollback_plan (view_of self.entry) (live_view live.now) from ask (option_copied permanent.entry)) }
     {
         let asked = neighbours(alloc, self.role)?;
         let (instance, incarnation) = (ask.instance, live.incarnation);

@@ -1,10 +1,11 @@
 //! What a verdict makes of a node.
 
-ghost use Rattle.std.specs.Prelude.{◌≡◌, ◌+◌, ◌<◌, ◌^◌, IfOk, Some, true};
+ghost use Rattle.std.specs.Prelude.{◌≡◌, ◌+◌, ◌<◌, ◌^◌, IfOk, Some, false, true};
 ghost use Rattle.kt_node.specs.Plan.{Gives};
 ghost use Rattle.kt_node.specs.View.{view_of};
 ghost use Rattle.kt_node.specs.Learning.{cut_of, down_learns, held_learns, release_plan};
-ghost use Rattle.kt_node.specs.Learning.{rolling_learns, verdict_to};
+ghost use Rattle.kt_node.specs.Learning.{restored, rolling_learns, verdict_to};
+ghost use Rattle.kt_node.specs.Loading.{load};
 ghost use Rattle.kt_node.specs.declared.change.Change.TheVariants.{Load};
 ghost use Rattle.kt_node.specs.declared.plan.Write.TheVariants.{Bump};
 
@@ -59,35 +60,24 @@ pub(crate) fn held_learns(yes: bool, send: Outbox) -> Plan
     Plan::writing(Change::Turn(turn), send, write)
 }
 
-/// The rollback got No: the node goes on as it is.
-fn release_plan(send: Outbox) -> Plan
-    ensures { result ≡ release_plan send }
+/// The rollback got No, which goes on to these: the node goes on as it is.
+fn release_plan(alloc: Global, instance: u64, asked: &[NodeId]) -> Result<Plan, AllocError>
+    ensures { IfOk result (λ p. p ≡ release_plan (verdict_to instance false asked.now)) }
 {
-    Plan::of(Turn::to(Phase::Up), send, None)
+    let send = verdict_to(alloc, instance, false, asked)?;
+    Ok(Plan::of(Turn::to(Phase::Up), send, None))
 }
 
-/// The node becomes this one and passes the verdict, Yes, on to these; its line is cut.
-fn restoring_plan(
-    alloc: Global,
-    loaded: Loaded,
-    note: Option<Note>,
-    instance: u64,
-    asked: &[NodeId],
-) -> Result<Plan, AllocError>
-    ensures { IfOk result (λ p. p ≡ record {
-      change = Load loaded;
-      send = verdict_to instance true asked.now;
-      note = note;
-      write = Some Bump;
-    }) }
+/// The rollback got Yes: the node becomes this one, and its line is cut.
+fn restoring_plan(loaded: Loaded, note: Option<Note>, send: Outbox) -> Plan
+    ensures { result ≡ record { change = Load loaded; send = send; note = note; write = Some Bump } }
 {
-    let send = verdict_to(alloc, instance, true, asked)?;
-    Ok(Plan {
+    Plan {
         change: Change::Load(loaded),
         send,
         note,
         write: Some(Write::Bump),
-    })
+    }
 }
 
 impl View<'_> {
@@ -104,13 +94,28 @@ impl View<'_> {
         requires { stored.incarnation + 1 < 2 ^ 64 }
         ensures { Gives result (rolling_learns (view_of self.entry) stored yes (verdict_to instance yes asked.now)) }
     {
-        if !yes {
-            return Ok(release_plan(verdict_to(alloc, instance, yes, asked)?));
+        if yes {
+            self.restores(alloc, stored, instance, asked)
+        } else {
+            Ok(release_plan(alloc, instance, asked)?)
         }
+    }
+
+    fn restores(
+        self,
+        alloc: Global,
+        stored: Stored,
+        instance: u64,
+        asked: &[NodeId],
+    ) -> Result<Plan, Refusal>
+        requires { stored.incarnation + 1 < 2 ^ 64 }
+        ensures { Gives result (restored (view_of self.entry) stored
+            (verdict_to instance true asked.now) (load (view_of self.entry) stored)) }
+    {
         let keep = stored.acts();
         let loaded = self.load(alloc, stored)?;
-        let note = cut_of(self.role.id, keep);
-        Ok(restoring_plan(alloc, loaded, note, instance, asked)?)
+        let send = verdict_to(alloc, instance, true, asked)?;
+        Ok(restoring_plan(loaded, cut_of(self.role.id, keep), send))
     }
 
     /// What a node that is down with a tentative checkpoint does with the verdict; it stays down. With No its line

@@ -132,7 +132,8 @@ fn add_waiting(
     shard: &Shard,
     worker: u8,
 ) -> Result<(), AllocError>
-    ensures { OnOk result (entries.new.items ≡ entries.old.items ++ entry worker (desk_of shard.now.state worker).waiting) }
+    ensures { OnOk result
+        (entries.new.items ≡ entries.old.items ++ entry worker (desk_of shard.now.state worker).waiting) }
 {
     if let Some(request) = shard.waiting(worker) {
         entries.push((worker, request.copy(alloc)?))?;
@@ -158,7 +159,8 @@ fn add_kept(
     shard: &Shard,
     worker: u8,
 ) -> Result<(), AllocError>
-    ensures { OnOk result (entries.new.items ≡ entries.old.items ++ entry worker (desk_of shard.now.state worker).kept) }
+    ensures { OnOk result
+        (entries.new.items ≡ entries.old.items ++ entry worker (desk_of shard.now.state worker).kept) }
 {
     if let Some(kept) = shard.kept(worker) {
         entries.push((worker, kept.copy(alloc)?))?;

@@ -112,8 +112,8 @@ impl View<'_> {
           note_of self.entry.role.id 0 (node_number self.entry.role.id) request.now what,
         )) }
     {
-        let note = self.note(alloc, 0, number_of(self.role.id), request, what)?;
         let send = self.asks(alloc, live, self.home(&request.op), request)?;
+        let note = self.note(alloc, 0, number_of(self.role.id), request, what)?;
         Ok((send, note))
     }
 
@@ -189,8 +189,8 @@ impl View<'_> {
           note_of self.entry.role.id by (node_number to) request.now what,
         )) }
     {
-        let note = self.note(alloc, by, number_of(to), request, what)?;
         let send = self.replies(alloc, live, to, request, answer)?;
+        let note = self.note(alloc, by, number_of(to), request, what)?;
         Ok((send, note))
     }
 

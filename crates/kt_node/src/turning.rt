@@ -54,8 +54,9 @@ impl Node {
         requires room { IsTrue self.old.has_room }
         ensures { self.new.node ≡ turned_node turn self.old.node }
     {
-        if let Some(live) = &mut self.live {
-            live.turn(turn);
+        match &mut self.live {
+            Some(live) => live.turn(turn),
+            None => drop(turn),
         }
     }
 
