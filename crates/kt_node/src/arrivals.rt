@@ -8,7 +8,7 @@ ghost use Rattle.kt_node.specs.View.{view_of};
 ghost use Rattle.kt_node.specs.Views.{live_view};
 ghost use Rattle.kt_node.specs.Arrivals.{answer_plan, check_plan, hear_check, sieved_answer_plan, hear_rollback};
 ghost use Rattle.kt_node.specs.Arrivals.{counted_if, hear_vote, vote_in, vote_plan, voting_plan};
-ghost use Rattle.kt_node.specs.Arrivals.{hear_verdict, verdict_by_parent, verdict_when_held};
+ghost use Rattle.kt_node.specs.Arrivals.{hear_verdict, verdict_by_parent, verdict_in, verdict_when_held};
 ghost use Rattle.kt_node.specs.Voting.{in_phase};
 
 use crate::change::{BodyChange, KeptChange, Turn};
@@ -225,10 +225,25 @@ impl View<'_> {
         ensures { Gives result (hear_verdict (view_of self.entry) stored instance yes) }
     {
         let node = self.node;
-        let Some(live) = &node.live else {
-            return Ok(Plan::empty(alloc));
-        };
-        match &live.phase {
+        match &node.live {
+            None => Ok(Plan::empty(alloc)),
+            Some(live) => self.verdict_in(alloc, stored, &live.phase, instance, yes),
+        }
+    }
+
+    /// What a node in this phase makes of a verdict.
+    fn verdict_in(
+        self,
+        alloc: Global,
+        stored: Stored,
+        phase: &Phase,
+        instance: u64,
+        yes: bool,
+    ) -> Result<Plan, Refusal>
+        requires { stored.incarnation + 1 < 2 ^ 64 }
+        ensures { Gives result (verdict_in (view_of self.entry) stored instance yes phase.now) }
+    {
+        match phase {
             Phase::Up => Ok(Plan::empty(alloc)),
             Phase::Held(ballot) => verdict_when_held(alloc, ballot, instance, yes),
             Phase::Rolling(ballot) => {

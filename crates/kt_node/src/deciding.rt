@@ -7,7 +7,7 @@ ghost use Rattle.kt_node.specs.Saving.{CanSaveNode};
 ghost use Rattle.kt_node.specs.View.{view_of};
 ghost use Rattle.kt_node.specs.Deciding.{check, decide, decide_by, decide_plan, decided_change};
 ghost use Rattle.kt_node.specs.Deciding.{abandon, abandon_by, abandon_open, declined_plan, no_plan};
-ghost use Rattle.kt_node.specs.Deciding.{learn, learn_by, learn_down, settled};
+ghost use Rattle.kt_node.specs.Deciding.{learn, learn_by, learn_down, learn_held, learn_in, settled};
 ghost use Rattle.kt_node.specs.Voting.{in_phase, voted};
 ghost use Rattle.kt_node.specs.declared.plan.Write.TheVariants.{Decide};
 
@@ -108,6 +108,16 @@ fn abandon_open(alloc: Global, ballot: &Ballot, verdict: Option<Verdict>) -> Res
     let instance = ballot.instance();
     let send = verdict_to(alloc, instance, false, ballot.asked())?;
     Ok(no_plan(Change::Turn(Turn::none()), instance, send))
+}
+
+/// What a held node learns from the board.
+fn learn_held(alloc: Global, verdict: Option<bool>) -> Result<Plan, Refusal>
+    ensures { Gives result (learn_held verdict) }
+{
+    match verdict {
+        Some(yes) => Ok(held_learns(yes, Outbox::empty(alloc))),
+        None => Err(Refusal::NotDecided),
+    }
 }
 
 /// An equal ballot whose node has voted.
@@ -215,16 +225,27 @@ impl View<'_> {
         ensures { Gives result (learn (view_of self.entry) stored is_tentative verdict) }
     {
         let node = self.node;
-        let Some(live) = &node.live else {
-            return self.learn_down(alloc, &stored, is_tentative, settled(verdict));
-        };
-        match &live.phase {
+        match &node.live {
+            None => self.learn_down(alloc, &stored, is_tentative, settled(verdict)),
+            Some(live) => self.learn_in(alloc, stored, &live.phase, settled(verdict)),
+        }
+    }
+
+    /// What a node in this phase learns from the board.
+    fn learn_in(
+        self,
+        alloc: Global,
+        stored: Stored,
+        phase: &Phase,
+        verdict: Option<bool>,
+    ) -> Result<Plan, Refusal>
+        requires { stored.incarnation + 1 < 2 ^ 64 }
+        ensures { Gives result (learn_in (view_of self.entry) stored verdict phase.now) }
+    {
+        match phase {
             Phase::Up => Err(Refusal::WrongMode),
-            Phase::Held(_) => match settled(verdict) {
-                Some(yes) => Ok(held_learns(yes, Outbox::empty(alloc))),
-                None => Err(Refusal::NotDecided),
-            },
-            Phase::Rolling(ballot) => self.learn_by(alloc, stored, ballot, settled(verdict)),
+            Phase::Held(_) => learn_held(alloc, verdict),
+            Phase::Rolling(ballot) => self.learn_by(alloc, stored, ballot, verdict),
         }
     }
 

@@ -1,6 +1,6 @@
 //! What a verdict makes of a node.
 
-ghost use Rattle.std.specs.Prelude.{◌≡◌, ◌+◌, ◌<◌, ◌^◌, IfOk, Some, false, true};
+ghost use Rattle.std.specs.Prelude.{◌≡◌, ◌+◌, ◌<◌, ◌^◌, IfOk, Ok, Some, false, true};
 ghost use Rattle.kt_node.specs.Plan.{Gives};
 ghost use Rattle.kt_node.specs.View.{view_of};
 ghost use Rattle.kt_node.specs.Learning.{cut_of, down_learns, held_learns, release_plan};
@@ -61,8 +61,8 @@ pub(crate) fn held_learns(yes: bool, send: Outbox) -> Plan
 }
 
 /// The rollback got No, which goes on to these: the node goes on as it is.
-fn release_plan(alloc: Global, instance: u64, asked: &[NodeId]) -> Result<Plan, AllocError>
-    ensures { IfOk result (λ p. p ≡ release_plan (verdict_to instance false asked.now)) }
+fn release_plan(alloc: Global, instance: u64, asked: &[NodeId]) -> Result<Plan, Refusal>
+    ensures { Gives result (Ok (release_plan (verdict_to instance false asked.now))) }
 {
     let send = verdict_to(alloc, instance, false, asked)?;
     Ok(Plan::of(Turn::to(Phase::Up), send, None))
@@ -97,7 +97,7 @@ impl View<'_> {
         if yes {
             self.restores(alloc, stored, instance, asked)
         } else {
-            Ok(release_plan(alloc, instance, asked)?)
+            release_plan(alloc, instance, asked)
         }
     }
 

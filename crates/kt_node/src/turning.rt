@@ -159,8 +159,9 @@ impl Body {
 fn change_worker(worker: &mut Worker, change: BodyChange)
     ensures { IsWorker worker.new ≡ changed_body (IsWorker worker.old) change }
 {
-    if let BodyChange::Work(changed) = change {
-        *worker = changed;
+    match change {
+        BodyChange::Work(changed) => *worker = changed,
+        other => drop(other),
     }
 }
 
