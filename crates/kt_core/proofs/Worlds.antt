@@ -9,17 +9,10 @@ use Rattle.kt_world.specs.Headline.{Headline}
 use Rattle.kt_world.specs.Ready.{IsReady}
 use Rattle.kt_world.specs.Reached.{opening, next_state, or_as_it_was, after, IsReached}
 use Rattle.kt_world.specs.State.{State}
-use Rattle.kt_world.proofs.Holding.{Holds, after-holds}
-use Rattle.kt_world.proofs.Headlines.{headline}
+
 use Rattle.kt_core.specs.declared.machine.Machine.{Machine}
 use Rattle.kt_core.specs.Machine.{state_of}
 use Rattle.kt_core.specs.World.{IsWorld}
-
-pub reached-holds : (s : State) → IsReached s → Holds s
-reached-holds s r = subst Holds r.leads (after-holds r.cast r.is_cast r.are_short r.steps)
-
-pub headline-reached : (s : State) → IsReached s → Headline s
-headline-reached s r = headline s (reached-holds s r).sound
 
 after-push : (s : State) (steps : List Step) (step : Step) → after s (steps ++ step ∷ []) ≡ next_state (after s steps) step
 unfolding after

@@ -4,7 +4,8 @@ use Rattle.kt_world.specs.Judge.{planned}
 use Rattle.kt_core.specs.Machine.{state_of}
 use Rattle.kt_core.specs.Stepping.{IsCause}
 use Rattle.kt_core.specs.World.{Standing}
-use Rattle.kt_core.proofs.Worlds.{headline-reached, reached-holds, step-world}
+use Rattle.kt_world.proofs.Holding.{headline-reached, reached-holds}
+use Rattle.kt_core.proofs.Worlds.{step-world}
 use Rattle.kt_core.proofs.world.World.step.Goals as goal
 
 pub make-requires-clause-backed : goal.make-requires-clause-backed
