@@ -2,21 +2,26 @@
 #![tactic(auto)]
 
 mod change;
-mod causes;
-mod judging;
+mod judge;
+mod laws;
 mod machine;
-mod needing;
-
+mod node;
 mod opening;
-mod reading;
-
+mod plan;
+mod planning;
 mod scene;
-mod stepping;
+mod step;
+mod tables;
 mod traffic;
-mod writing;
+mod world;
 
 pub use kt_script::{
     Actual, Actuals, Command, MAX_COMMANDS, Name, Operation, Pattern, Script, ScriptError, Slot,
 };
-pub use kt_world::{MAX_STEPS, Step, StepError};
+pub use laws::{
+    nothing_is_lost_without_failures, services_have_the_cause_of_their_hearing,
+    survivors_are_one_run, workers_stand_as_their_answers_say,
+};
 pub use scene::{MAX_SHARDS, MAX_WORKERS, Scene};
+pub use step::{MAX_STEPS, Mode, Step, StepError};
+pub use world::{OpenError, OpenRefused, World};
