@@ -1,5 +1,6 @@
 -- What a plan makes of its node can be carried out.
-use Rattle.std.proofs.Common.{◌≡◌, ℕ, ◌<◌, ◌≤◌, Bool, true, false, if◌then◌else◌, List, [], ◌∷◌, Option, None, Some, Result, Ok, Err, subst, refl, slice_get, arith}
+use Rattle.std.proofs.Common.{◌≡◌, ℕ, ◌<◌, ◌≤◌, Bool, true, false, if◌then◌else◌, List, [], ◌∷◌, Option, None, Some}
+use Rattle.std.proofs.Common.{Result, Ok, Err, subst, refl, slice_get, arith}
 use Rattle.std.proofs.Math.Nat.{mod-lt}
 use Rattle.std.specs.Prelude.{All, IfSome}
 use Rattle.kt_tuple.specs.declared.node.NodeId.{NodeId}
@@ -29,7 +30,8 @@ use Rattle.kt_node.specs.View.{View}
 use Rattle.kt_node.specs.Plan.{Planned}
 use Rattle.kt_node.specs.Ready.{CanAct, CanCount, CanChange, CanChangeBody, CanSpeak, HasPlace, KeptHavePlaces}
 use Rattle.kt_node.specs.Talking.{home, issue_plan, repeat_plan, service_plan, request_plan, reply_plan, talk_plan, heard_plan}
-use Rattle.kt_node.specs.Steps.{first_kept, up_in, up_of, by_up, issue, issue_by, issue_unless_kept, issue_found, repeat, repeat_by, repeat_found, take, take_first, serve, serve_by, serve_found}
+use Rattle.kt_node.specs.Steps.{first_kept, up_in, up_of, by_up, issue, issue_by, issue_unless_kept, issue_found}
+use Rattle.kt_node.specs.Steps.{repeat, repeat_by, repeat_found, take, take_first, serve, serve_by, serve_found}
 use Rattle.kt_node.specs.Posts.{keep_plan, post_when_up, post_in, post_plan, hear_post}
 
 -- the live node can make the plan's change

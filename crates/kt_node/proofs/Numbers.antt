@@ -1,5 +1,5 @@
 -- Numbers in a row.
-use Rattle.std.proofs.Common.{◌≡◌, ℕ, zero, suc, ◌+◌, List, [], ◌∷◌, ◌++◌, append-nil, map, length, refl, sym, ap, ◌∙◌, arith}
+use Rattle.std.proofs.Common.{◌≡◌, ℕ, zero, suc, ◌+◌, List, [], ◌∷◌, ◌++◌, append-nil, map, length, refl, ap, ◌∙◌, arith}
 use Rattle.std.specs.List.{flat_map}
 use Rattle.std.proofs.lemmas.List.{map-append}
 use Rattle.std.proofs.lemmas.Grind.{flat_map-append}
@@ -45,7 +45,8 @@ pub flat_none : {A : Type 0} (f : ℕ → List A) (from : ℕ) → flat_map f (n
 flat_none f from = ap (flat_map f) (none from)
 
 pub flat_from_one : {A : Type 0} (f : ℕ → List A) (n : ℕ) → flat_map f (numbers 1 (n + 1)) ≡ flat_map f (numbers 1 n) ++ f (n + 1)
-flat_from_one f n = ap (flat_map f) (from_one n) ∙ flat_map-append f (numbers 1 n) ((n + 1) ∷ []) ∙ ap (λ l. flat_map f (numbers 1 n) ++ l) (append-nil (f (n + 1)))
+flat_from_one f n =
+    ap (flat_map f) (from_one n) ∙ flat_map-append f (numbers 1 n) ((n + 1) ∷ []) ∙ ap (λ l. flat_map f (numbers 1 n) ++ l) (append-nil (f (n + 1)))
 
 -- a table has an entry for each number that a neighbour can have, and for 0
 pub whole_table : {A : Type 0} (f : ℕ → A) → length (map f (numbers 0 9)) ≡ 9

@@ -1,6 +1,6 @@
 -- The table of arrivals: what a control message makes of the node that it comes to. The rules of each message are
 -- tried from the top; a node that is down drops everything.
-use Rattle.std.specs.Prelude.{ℕ, ◌==◌, Bool, true, false, ◌&&◌, if◌then◌else◌, [], Option, None, Some, Ok, Err}
+use Rattle.std.specs.Prelude.{ℕ, ◌==◌, Bool, true, false, ◌&&◌, if◌then◌else◌, Option, None, Some, Ok, Err}
 use Rattle.kt_tuple.specs.declared.node.NodeId.{NodeId}
 use Rattle.kt_ckpt.specs.declared.marks.Marks.{Marks}
 use Rattle.kt_store.specs.declared.rows.Verdict.{Verdict}
@@ -32,8 +32,8 @@ use Rattle.kt_node.specs.Learning.{held_learns, rolling_learns, verdict_to}
 abbrev pub is_in : Poll → ℕ → Bool
 is_in b instance = b.instance == instance
 
--- ---- an ask to take a checkpoint: the verdict is what the board has of its instance, and the node may have a permanent
--- and a tentative checkpoint
+-- ---- an ask to take a checkpoint: the verdict is what the board has of its instance, and the node may have a
+-- permanent and a tentative checkpoint
 
 -- up: joins where the label is that of a message sent since the permanent checkpoint
 abbrev pub check_when_up : Live → NodeId → Ask → Reaction

@@ -7,7 +7,6 @@ use Rattle.kt_store.specs.declared.rows.Verdict.{Verdict}
 use Rattle.kt_store.specs.declared.rows.Verdict.TheVariants as verdicts
 use Rattle.kt_vote.specs.declared.asker.Asker.{Asker}
 use Rattle.kt_vote.specs.Poll.{Poll, outcome_of}
-use Rattle.kt_node.specs.declared.message.Message.{Message}
 use Rattle.kt_node.specs.declared.live.Phase.{Phase}
 use Rattle.kt_node.specs.declared.live.Phase.TheVariants as phases
 use Rattle.kt_node.specs.declared.change.Change.{Change}
@@ -42,8 +41,8 @@ check_of v next permanent (Alive n) = check_in v next permanent n n.phase
 abbrev pub check : View → ℕ → Option Marks → Planned
 check v next permanent = check_of v next permanent v.node
 
--- ---- decide: who began an instance that is open, with nothing awaited or one refused; the verdict is what the board has
--- of the ballot's instance
+-- ---- decide: who began an instance that is open, with nothing awaited or one refused; the verdict is what the board
+-- has of the ballot's instance
 
 -- a node in a rollback that has Yes is up; else it stays what it is
 abbrev pub decided_change : Phase → Bool → Change
@@ -106,7 +105,8 @@ declined_plan phase instance parent = record {
 }
 
 abbrev pub decline : (Poll → Phase) → Poll → Asker → Planned
-decline phase b parent = if b.voted then Err refusals.NothingThere else Ok (declined_plan (phase (voted b)) b.instance parent)
+decline phase b parent =
+    if b.voted then Err refusals.NothingThere else Ok (declined_plan (phase (voted b)) b.instance parent)
 
 abbrev pub abandon_by : (Poll → Phase) → Poll → Option Verdict → Option Asker → Planned
 abandon_by phase b verdict None = abandon_open b verdict

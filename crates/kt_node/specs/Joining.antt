@@ -51,8 +51,8 @@ check_ask instance n x = (
 abbrev pub check_asks : ℕ → Live → List NodeId → List (NodeId × Message)
 check_asks instance n asked = map (check_ask instance n) asked
 
--- the node is held with this ballot, its tentative checkpoint is stored, its cohort is asked; a participant whose cohort
--- is empty votes at once
+-- the node is held with this ballot, its tentative checkpoint is stored, its cohort is asked; a participant whose
+-- cohort is empty votes at once
 abbrev pub held_plan : Live → Poll → Write → Plan
 held_plan n b write = record {
   change = changes.Turn record no_turn { phase = Some (phases.Held (poll_after b (casting b))) };
@@ -60,6 +60,10 @@ held_plan n b write = record {
   note = None;
   write = Some write;
 }
+
+-- the ballot behind the vote that its node has to cast now, if it has to, and what a node sends that is held with it
+abbrev pub held_ballot : Live → Poll → Poll × List (NodeId × Message)
+held_ballot n b = (poll_after b (casting b), check_asks b.instance n b.asked ++ votes (casting b))
 
 -- the checkpoint of this moment
 abbrev pub checkpoint_now : View → Live → Ckpt

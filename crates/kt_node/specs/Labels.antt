@@ -1,5 +1,6 @@
 -- Tables of labels, one for each neighbour, by the neighbour's number among its kind.
-use Rattle.std.specs.Prelude.{ℕ, zero, suc, ◌==◌, nat_lt, nat_le, Bool, false, ◌&&◌, ◌||◌, List, [], ◌∷◌, map, replicate, Option, None, Some}
+use Rattle.std.specs.Prelude.{ℕ, zero, suc, ◌==◌, nat_lt, nat_le, Bool, false, ◌&&◌, ◌||◌}
+use Rattle.std.specs.Prelude.{List, [], ◌∷◌, map, replicate, Option, None, Some}
 use Rattle.kt_link.specs.declared.label.Label.{Label}
 use Rattle.kt_shard.specs.Table.{at}
 use Rattle.kt_shard.specs.Limits.{desks}

@@ -1,5 +1,4 @@
 -- When a checkpoint of a node can be taken: its counts are those of the format.
-use Rattle.std.specs.Prelude.{Option, None, Some}
 use Rattle.kt_ckpt.specs.Checkpoint.{HasCounts}
 use Rattle.kt_node.specs.Node.{Live, Node, Down, Alive}
 use Rattle.kt_node.specs.View.{View}

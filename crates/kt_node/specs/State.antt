@@ -1,5 +1,6 @@
 -- What a node works with, as the plain fields of a checkpoint, and back again.
-use Rattle.std.specs.Prelude.{ℕ, ◌==◌, nat_le, Bool, ◌&&◌, if◌then◌else◌, List, [], ◌∷◌, map, length, Option, None, Some, is_none, Result, Ok, Err}
+use Rattle.std.specs.Prelude.{ℕ, ◌==◌, nat_le, Bool, ◌&&◌, if◌then◌else◌, List, [], ◌∷◌, map, length}
+use Rattle.std.specs.Prelude.{Option, None, Some, is_none, Result, Ok, Err}
 use Rattle.std.specs.List.{find, flat_map, list_all}
 use Rattle.std.specs.Option.{option_map}
 use Rattle.kt_tuple.specs.declared.node.NodeId.{NodeId}

@@ -1,5 +1,5 @@
 -- What the store says to a node of its checkpoints: nothing stored is the beginning.
-use Rattle.std.specs.Prelude.{ℕ, ◌==◌, nat_le, Bool, true, false, ◌&&◌, List, length, Option, None, Some}
+use Rattle.std.specs.Prelude.{ℕ, ◌==◌, nat_le, Bool, true, false, ◌&&◌, length, Option, None, Some}
 use Rattle.kt_tuple.specs.Node.{node_eq}
 use Rattle.kt_link.specs.declared.label.Label.{Label}
 use Rattle.kt_ckpt.specs.declared.marks.Marks.{Marks}

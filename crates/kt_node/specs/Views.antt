@@ -1,11 +1,16 @@
 -- What the code holds and lends, as plain data.
-use Rattle.std.specs.Prelude.{◌≡◌, length, Bool, true, ◌&&◌, nat_lt, Option, None, Some}
+use Rattle.std.specs.Prelude.{◌≡◌, ℕ, length, Bool, true, ◌&&◌, nat_lt, Option, None, Some}
+use Rattle.std.specs.Option.{option_copied}
 use Rattle.std.specs.VecDeque.{deque_len, deque_capacity}
+use Rattle.kt_link.specs.declared.label.Label.{Label}
+use Rattle.kt_node.specs.declared.asking.Sent.{Sent}
+use Rattle.kt_node.specs.declared.asking.Sent.TheVariants as sents
 use Rattle.kt_node.specs.declared.live.Body.{Body as BodyCode}
 use Rattle.kt_node.specs.declared.live.Body.TheVariants as codes
 use Rattle.kt_node.specs.declared.live.Live.{Live as LiveCode}
 use Rattle.kt_node.specs.declared.role.Role.{Role as RoleCode}
-use Rattle.kt_node.specs.Labels.{table_size}
+use Rattle.kt_node.specs.Labels.{label_at, table_size}
+use Rattle.kt_node.specs.Stored.{sent_in}
 use Rattle.kt_node.specs.Node.{Role, Body, IsWorker, IsShard, Live, Node, Down, Alive}
 
 abbrev pub body_view : BodyCode → Body
@@ -56,3 +61,8 @@ standing_of live = record { node = node_view live; has_room = node_has_room live
 
 abbrev pub role_view : RoleCode → Role
 role_view r = record { id = r.id; peers = r.peers; script = r.script.now }
+
+-- the last label sent before the permanent checkpoint to the neighbour of this number
+abbrev pub sent_view : Sent → ℕ → Label
+sent_view (sents.Marks permanent) k = sent_in (option_copied permanent) k
+sent_view (sents.Table table) k = label_at table.now k

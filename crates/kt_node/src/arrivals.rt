@@ -1,16 +1,18 @@
 //! What a control message makes of the node that it comes to.
 
-ghost use Rattle.std.specs.Prelude.{◌≡◌, ◌+◌, ◌<◌, ◌^◌, IfOk};
+ghost use Rattle.std.specs.Prelude.{◌≡◌, ◌+◌, ◌<◌, ◌^◌, IfOk, Ok};
 ghost use Rattle.std.specs.Option.{option_copied};
 ghost use Rattle.kt_node.specs.Plan.{Gives};
 ghost use Rattle.kt_node.specs.Saving.{CanSave, CanSaveNode};
 ghost use Rattle.kt_node.specs.View.{view_of};
 ghost use Rattle.kt_node.specs.Views.{live_view};
-ghost use Rattle.kt_node.specs.Arrivals.{answer_plan, check_plan, counted_if, hear_check, hear_rollback, hear_verdict, hear_vote};
-ghost use Rattle.kt_node.specs.Arrivals.{sieved_answer_plan, verdict_when_held, vote_in, voting_plan};
+ghost use Rattle.kt_node.specs.Arrivals.{answer_plan, check_plan, hear_check, sieved_answer_plan, hear_rollback};
+ghost use Rattle.kt_node.specs.Arrivals.{counted_if, hear_vote, vote_in, vote_plan, voting_plan};
+ghost use Rattle.kt_node.specs.Arrivals.{hear_verdict, verdict_by_parent, verdict_in, verdict_when_held};
+ghost use Rattle.kt_node.specs.Voting.{in_phase};
 
-use crate::change::{BodyChange, Change, KeptChange, Turn};
-use crate::joining::{asker_of, turning_to};
+use crate::change::{BodyChange, KeptChange, Turn};
+use crate::joining::asker_of;
 use crate::learning::{held_learns, verdict_to};
 use crate::live::{Live, Phase};
 use crate::message::Ask;
@@ -31,19 +33,8 @@ fn answer_plan(alloc: Global, from: NodeId, ask: Ask, yes: bool) -> Result<Plan,
     ensures { IfOk result (λ p. p ≡ answer_plan from ask yes) }
 {
     let vote = vote_for(ask.instance, asker_of(from, ask), yes);
-    Ok(Plan {
-        change: Change::Turn(Turn {
-            body: BodyChange::Stay,
-            kept: KeptChange::Stay,
-            heard: None,
-            said: None,
-            promoted: false,
-            phase: None,
-        }),
-        send: vote_alone(alloc, Some(vote))?,
-        note: None,
-        write: None,
-    })
+    let send = vote_alone(alloc, Some(vote))?;
+    Ok(Plan::of(Turn::none(), send, None))
 }
 
 /// A vote at once; what is kept from the asker above the label is dropped.
@@ -51,22 +42,19 @@ fn sieved_answer_plan(alloc: Global, from: NodeId, ask: Ask, yes: bool) -> Resul
     ensures { IfOk result (λ p. p ≡ sieved_answer_plan from ask yes) }
 {
     let vote = vote_for(ask.instance, asker_of(from, ask), yes);
-    Ok(Plan {
-        change: Change::Turn(Turn {
-            body: BodyChange::Stay,
-            kept: KeptChange::Sieve {
-                from,
-                label: ask.label,
-            },
-            heard: None,
-            said: None,
-            promoted: false,
-            phase: None,
-        }),
-        send: vote_alone(alloc, Some(vote))?,
-        note: None,
-        write: None,
-    })
+    let send = vote_alone(alloc, Some(vote))?;
+    let turn = Turn {
+        body: BodyChange::Stay,
+        kept: KeptChange::Sieve {
+            from,
+            label: ask.label,
+        },
+        heard: None,
+        said: None,
+        promoted: false,
+        phase: None,
+    };
+    Ok(Plan::of(turn, send, None))
 }
 
 /// A ballot with one vote more, and the vote that its node has to cast now.
@@ -90,12 +78,24 @@ fn counted(
 fn voting_plan(alloc: Global, phase: Phase, own: Option<(NodeId, Vote)>) -> Result<Plan, AllocError>
     ensures { IfOk result (λ p. p ≡ voting_plan phase own) }
 {
-    Ok(Plan {
-        change: turning_to(phase),
-        send: vote_alone(alloc, own)?,
-        note: None,
-        write: None,
-    })
+    let send = vote_alone(alloc, own)?;
+    Ok(Plan::of(Turn::to(phase), send, None))
+}
+
+/// What a vote makes of a node in this phase, which has this ballot.
+fn vote_by(
+    alloc: Global,
+    from: NodeId,
+    vote: Vote,
+    phase: &Phase,
+    ballot: &Ballot,
+) -> Result<Plan, AllocError>
+    ensures { IfOk result (λ p. p ≡ vote_plan (in_phase phase.now) (counted_if ballot.now from vote)) }
+{
+    match counted(alloc, ballot, from, vote)? {
+        None => Ok(Plan::empty(alloc)),
+        Some((ballot, own)) => voting_plan(alloc, phase.with(ballot), own),
+    }
 }
 
 /// What a vote makes of a node in this phase.
@@ -104,14 +104,7 @@ fn vote_in(alloc: Global, from: NodeId, vote: Vote, phase: &Phase) -> Result<Pla
 {
     match phase {
         Phase::Up => Ok(Plan::empty(alloc)),
-        Phase::Held(ballot) => match counted(alloc, ballot, from, vote)? {
-            None => Ok(Plan::empty(alloc)),
-            Some((ballot, own)) => voting_plan(alloc, Phase::Held(ballot), own),
-        },
-        Phase::Rolling(ballot) => match counted(alloc, ballot, from, vote)? {
-            None => Ok(Plan::empty(alloc)),
-            Some((ballot, own)) => voting_plan(alloc, Phase::Rolling(ballot), own),
-        },
+        Phase::Held(ballot) | Phase::Rolling(ballot) => vote_by(alloc, from, vote, phase, ballot),
     }
 }
 
@@ -122,8 +115,8 @@ fn verdict_when_held(
     ballot: &Ballot,
     instance: u64,
     yes: bool,
-) -> Result<Plan, AllocError>
-    ensures { IfOk result (λ p. p ≡ verdict_when_held ballot.now instance yes) }
+) -> Result<Plan, Refusal>
+    ensures { Gives result (Ok (verdict_when_held ballot.now instance yes)) }
 {
     if !is_in(ballot, instance) {
         return Ok(Plan::empty(alloc));
@@ -143,7 +136,8 @@ impl View<'_> {
         reaction: Reaction,
     ) -> Result<Plan, AllocError>
         requires { CanSave (view_of self) (live_view live.now) }
-        ensures { IfOk result (λ p. p ≡ check_plan (view_of self.entry) (live_view live.now) from ask (option_copied permanent.entry) reaction) }
+        ensures { IfOk result (λ p. p ≡
+            check_plan (view_of self.entry) (live_view live.now) from ask (option_copied permanent.entry) reaction) }
     {
         match reaction {
             Reaction::Says(yes) => answer_plan(alloc, from, ask, yes),
@@ -163,7 +157,8 @@ impl View<'_> {
         tentative: Option<&Marks>,
     ) -> Result<Plan, Refusal>
         requires { CanSaveNode (view_of self) self.node.now.node }
-        ensures { Gives result (hear_check (view_of self.entry) from ask verdict (option_copied permanent.entry) (option_copied tentative.entry)) }
+        ensures { Gives result (hear_check (view_of self.entry) from ask verdict
+            (option_copied permanent.entry) (option_copied tentative.entry)) }
     {
         let node = self.node;
         let Some(live) = &node.live else {
@@ -230,18 +225,50 @@ impl View<'_> {
         ensures { Gives result (hear_verdict (view_of self.entry) stored instance yes) }
     {
         let node = self.node;
-        let Some(live) = &node.live else {
-            return Ok(Plan::empty(alloc));
-        };
-        match &live.phase {
+        match &node.live {
+            None => Ok(Plan::empty(alloc)),
+            Some(live) => self.verdict_in(alloc, stored, &live.phase, instance, yes),
+        }
+    }
+
+    /// What a node in this phase makes of a verdict.
+    fn verdict_in(
+        self,
+        alloc: Global,
+        stored: Stored,
+        phase: &Phase,
+        instance: u64,
+        yes: bool,
+    ) -> Result<Plan, Refusal>
+        requires { stored.incarnation + 1 < 2 ^ 64 }
+        ensures { Gives result (verdict_in (view_of self.entry) stored instance yes phase.now) }
+    {
+        match phase {
             Phase::Up => Ok(Plan::empty(alloc)),
-            Phase::Held(ballot) => Ok(verdict_when_held(alloc, ballot, instance, yes)?),
+            Phase::Held(ballot) => verdict_when_held(alloc, ballot, instance, yes),
             Phase::Rolling(ballot) => {
-                if ballot.parent().is_none() || !is_in(ballot, instance) {
-                    return Ok(Plan::empty(alloc));
-                }
-                self.rolling_learns(alloc, stored, instance, yes, ballot.asked())
+                self.verdict_when_rolling(alloc, stored, ballot, instance, yes)
             }
         }
+    }
+
+    /// What a node that rolls makes of a verdict: a participant learns that of its ballot and passes it on to all
+    /// that it asked.
+    fn verdict_when_rolling(
+        self,
+        alloc: Global,
+        stored: Stored,
+        ballot: &Ballot,
+        instance: u64,
+        yes: bool,
+    ) -> Result<Plan, Refusal>
+        requires { stored.incarnation + 1 < 2 ^ 64 }
+        ensures { Gives result
+            (verdict_by_parent (view_of self.entry) stored ballot.now instance yes ballot.now.parent) }
+    {
+        if ballot.parent().is_none() || !is_in(ballot, instance) {
+            return Ok(Plan::empty(alloc));
+        }
+        self.rolling_learns(alloc, stored, instance, yes, ballot.asked())
     }
 }

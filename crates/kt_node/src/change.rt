@@ -80,7 +80,7 @@ pub enum Change {
 }
 
 impl Turn {
-    ghost use Rattle.std.specs.Prelude.{◌≡◌};
+    ghost use Rattle.std.specs.Prelude.{◌≡◌, Some};
     ghost use Rattle.kt_node.specs.Plan.{no_turn};
 
     /// Nothing of the node is changed: a turn to begin with.
@@ -94,6 +94,34 @@ impl Turn {
             said: None,
             promoted: false,
             phase: None,
+        }
+    }
+
+    /// The next underlying message is sent to the node, and this becomes of the body.
+    pub(crate) fn saying(body: BodyChange, to: NodeId) -> Turn
+        ensures { result ≡ record no_turn { body = body; said = Some to } }
+    {
+        Turn {
+            body,
+            kept: KeptChange::Stay,
+            heard: None,
+            said: Some(to),
+            promoted: false,
+            phase: None,
+        }
+    }
+
+    /// The node does this from now on.
+    pub(crate) fn to(phase: Phase) -> Turn
+        ensures { result ≡ record no_turn { phase = Some phase } }
+    {
+        Turn {
+            body: BodyChange::Stay,
+            kept: KeptChange::Stay,
+            heard: None,
+            said: None,
+            promoted: false,
+            phase: Some(phase),
         }
     }
 }

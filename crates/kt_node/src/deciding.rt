@@ -1,18 +1,17 @@
 //! The steps of checks and rollbacks that a node makes of itself.
 
-ghost use Rattle.std.specs.Prelude.{◌≡◌, ◌+◌, ◌<◌, ◌^◌, IfOk};
+ghost use Rattle.std.specs.Prelude.{◌≡◌, ◌+◌, ◌<◌, ◌^◌, IfOk, None, Some, false};
 ghost use Rattle.std.specs.Option.{option_copied};
 ghost use Rattle.kt_node.specs.Plan.{Gives};
 ghost use Rattle.kt_node.specs.Saving.{CanSaveNode};
 ghost use Rattle.kt_node.specs.View.{view_of};
-ghost use Rattle.kt_node.specs.Deciding.{abandon, abandon_open, check, decide, decide_by, decide_plan, decided_change, declined_plan};
-ghost use Rattle.kt_node.specs.Deciding.{learn, learn_down, no_plan, settled};
-ghost use Rattle.kt_node.specs.Plan.{no_turn};
-ghost use Rattle.kt_node.specs.Voting.{voted};
-ghost use Rattle.kt_node.specs.declared.change.Change.TheVariants as changes;
+ghost use Rattle.kt_node.specs.Deciding.{check, decide, decide_by, decide_plan, decided_change};
+ghost use Rattle.kt_node.specs.Deciding.{abandon, abandon_by, abandon_open, declined_plan, no_plan};
+ghost use Rattle.kt_node.specs.Deciding.{learn, learn_by, learn_down, learn_held, learn_in, settled};
+ghost use Rattle.kt_node.specs.Voting.{in_phase, voted};
+ghost use Rattle.kt_node.specs.declared.plan.Write.TheVariants.{Decide};
 
-use crate::change::{BodyChange, Change, KeptChange, Turn};
-use crate::joining::turning_to;
+use crate::change::{Change, Turn};
 use crate::learning::{held_learns, verdict_to};
 use crate::live::Phase;
 use crate::plan::{Outbox, Plan, Write};
@@ -26,48 +25,25 @@ use kt_tuple::NodeId;
 use kt_vote::{Asker, Ballot};
 use std::alloc::{AllocError, Global};
 
-/// The node goes on as it is.
-fn going_on() -> Change
-    ensures { result ≡ changes.Turn no_turn }
-{
-    Change::Turn(Turn {
-        body: BodyChange::Stay,
-        kept: KeptChange::Stay,
-        heard: None,
-        said: None,
-        promoted: false,
-        phase: None,
-    })
-}
-
 /// What becomes of a node in this phase that writes the verdict: a rollback that got Yes is over for it.
 fn decided_change(phase: &Phase, yes: bool) -> Change
     ensures { result ≡ decided_change phase.now yes }
 {
     match phase {
-        Phase::Rolling(_) if yes => turning_to(Phase::Up),
-        _ => going_on(),
+        Phase::Rolling(_) if yes => Change::Turn(Turn::to(Phase::Up)),
+        _ => Change::Turn(Turn::none()),
     }
 }
 
-/// The node writes No for the instance, and tells these.
-fn no_plan(
-    alloc: Global,
-    change: Change,
-    instance: u64,
-    asked: &[NodeId],
-) -> Result<Plan, AllocError>
-    ensures { IfOk result (λ p. p ≡ no_plan change instance asked.now) }
+/// This becomes of the node, which writes No for the instance and has these messages of it.
+fn no_plan(change: Change, instance: u64, send: Outbox) -> Plan
+    ensures { result ≡ record { change = change; send = send; note = None; write = Some (Decide instance false) } }
 {
-    Ok(Plan {
-        change,
-        send: verdict_to(alloc, instance, false, asked)?,
-        note: None,
-        write: Some(Write::Decide {
-            instance,
-            yes: false,
-        }),
-    })
+    let write = Write::Decide {
+        instance,
+        yes: false,
+    };
+    Plan::writing(change, send, write)
 }
 
 /// The verdict is written, and sent to all that were asked.
@@ -75,12 +51,9 @@ fn decide_plan(alloc: Global, phase: &Phase, ballot: &Ballot, yes: bool) -> Resu
     ensures { IfOk result (λ p. p ≡ decide_plan phase.now ballot.now yes) }
 {
     let instance = ballot.instance();
-    Ok(Plan {
-        change: decided_change(phase, yes),
-        send: verdict_to(alloc, instance, yes, ballot.asked())?,
-        note: None,
-        write: Some(Write::Decide { instance, yes }),
-    })
+    let send = verdict_to(alloc, instance, yes, ballot.asked())?;
+    let write = Write::Decide { instance, yes };
+    Ok(Plan::writing(decided_change(phase, yes), send, write))
 }
 
 /// Who began an open instance decides it as soon as the votes do.
@@ -110,12 +83,8 @@ fn declined_plan(
 ) -> Result<Plan, AllocError>
     ensures { IfOk result (λ p. p ≡ declined_plan phase instance parent) }
 {
-    Ok(Plan {
-        change: turning_to(phase),
-        send: vote_alone(alloc, Some(vote_for(instance, parent, false)))?,
-        note: None,
-        write: None,
-    })
+    let send = vote_alone(alloc, Some(vote_for(instance, parent, false)))?;
+    Ok(Plan::of(Turn::to(phase), send, None))
 }
 
 /// The verdict that there is.
@@ -136,7 +105,19 @@ fn abandon_open(alloc: Global, ballot: &Ballot, verdict: Option<Verdict>) -> Res
     if !is_undecided(verdict) {
         return Err(Refusal::NothingThere);
     }
-    Ok(no_plan(alloc, going_on(), ballot.instance(), ballot.asked())?)
+    let instance = ballot.instance();
+    let send = verdict_to(alloc, instance, false, ballot.asked())?;
+    Ok(no_plan(Change::Turn(Turn::none()), instance, send))
+}
+
+/// What a held node learns from the board.
+fn learn_held(alloc: Global, verdict: Option<bool>) -> Result<Plan, Refusal>
+    ensures { Gives result (learn_held verdict) }
+{
+    match verdict {
+        Some(yes) => Ok(held_learns(yes, Outbox::empty(alloc))),
+        None => Err(Refusal::NotDecided),
+    }
 }
 
 /// An equal ballot whose node has voted.
@@ -146,6 +127,25 @@ fn voted(alloc: Global, ballot: &Ballot) -> Result<Ballot, AllocError>
     let mut ballot = ballot.copy(alloc)?;
     ballot.mark_voted();
     Ok(ballot)
+}
+
+/// Who began the instance writes No while it is open; a participant that has not voted votes no.
+fn abandon_by(
+    alloc: Global,
+    phase: &Phase,
+    ballot: &Ballot,
+    verdict: Option<Verdict>,
+) -> Result<Plan, Refusal>
+    ensures { Gives result (abandon_by (in_phase phase.now) ballot.now verdict ballot.now.parent) }
+{
+    let Some(parent) = ballot.parent() else {
+        return abandon_open(alloc, ballot, verdict);
+    };
+    if ballot.has_voted() {
+        return Err(Refusal::NothingThere);
+    }
+    let phase = phase.with(voted(alloc, ballot)?);
+    Ok(declined_plan(alloc, phase, ballot.instance(), parent)?)
 }
 
 impl View<'_> {
@@ -179,8 +179,9 @@ impl View<'_> {
         };
         match &live.phase {
             Phase::Up => Err(Refusal::WrongMode),
-            Phase::Held(ballot) => decide_by(alloc, &live.phase, ballot, verdict),
-            Phase::Rolling(ballot) => decide_by(alloc, &live.phase, ballot, verdict),
+            Phase::Held(ballot) | Phase::Rolling(ballot) => {
+                decide_by(alloc, &live.phase, ballot, verdict)
+            }
         }
     }
 
@@ -198,28 +199,15 @@ impl View<'_> {
         let node = self.node;
         let Some(live) = &node.live else {
             return match undecided {
-                Some(instance) => Ok(no_plan(alloc, Change::Stay, instance, &[])?),
+                Some(instance) => Ok(no_plan(Change::Stay, instance, Outbox::empty(alloc))),
                 None => Err(Refusal::NothingThere),
             };
         };
         match &live.phase {
             Phase::Up => Err(Refusal::WrongMode),
-            Phase::Held(ballot) => match ballot.parent() {
-                None => abandon_open(alloc, ballot, verdict),
-                Some(_) if ballot.has_voted() => Err(Refusal::NothingThere),
-                Some(parent) => {
-                    let phase = Phase::Held(voted(alloc, ballot)?);
-                    Ok(declined_plan(alloc, phase, ballot.instance(), parent)?)
-                }
-            },
-            Phase::Rolling(ballot) => match ballot.parent() {
-                None => abandon_open(alloc, ballot, verdict),
-                Some(_) if ballot.has_voted() => Err(Refusal::NothingThere),
-                Some(parent) => {
-                    let phase = Phase::Rolling(voted(alloc, ballot)?);
-                    Ok(declined_plan(alloc, phase, ballot.instance(), parent)?)
-                }
-            },
+            Phase::Held(ballot) | Phase::Rolling(ballot) => {
+                abandon_by(alloc, &live.phase, ballot, verdict)
+            }
         }
     }
 
@@ -237,42 +225,65 @@ impl View<'_> {
         ensures { Gives result (learn (view_of self.entry) stored is_tentative verdict) }
     {
         let node = self.node;
-        let Some(live) = &node.live else {
-            return self.learn_down(alloc, stored, is_tentative, settled(verdict));
-        };
-        match &live.phase {
+        match &node.live {
+            None => self.learn_down(alloc, &stored, is_tentative, settled(verdict)),
+            Some(live) => self.learn_in(alloc, stored, &live.phase, settled(verdict)),
+        }
+    }
+
+    /// What a node in this phase learns from the board.
+    fn learn_in(
+        self,
+        alloc: Global,
+        stored: Stored,
+        phase: &Phase,
+        verdict: Option<bool>,
+    ) -> Result<Plan, Refusal>
+        requires { stored.incarnation + 1 < 2 ^ 64 }
+        ensures { Gives result (learn_in (view_of self.entry) stored verdict phase.now) }
+    {
+        match phase {
             Phase::Up => Err(Refusal::WrongMode),
-            Phase::Held(_) => match settled(verdict) {
-                Some(yes) => Ok(held_learns(yes, Outbox::empty(alloc))),
-                None => Err(Refusal::NotDecided),
-            },
-            Phase::Rolling(ballot) => {
-                if ballot.parent().is_none() {
-                    return Err(Refusal::WrongMode);
-                }
-                match settled(verdict) {
-                    Some(yes) => self.rolling_learns(alloc, stored, ballot.instance(), yes, &[]),
-                    None => Err(Refusal::NotDecided),
-                }
-            }
+            Phase::Held(_) => learn_held(alloc, verdict),
+            Phase::Rolling(ballot) => self.learn_by(alloc, stored, ballot, verdict),
+        }
+    }
+
+    /// What a node that rolls learns from the board: who began the rollback learns nothing.
+    fn learn_by(
+        self,
+        alloc: Global,
+        stored: Stored,
+        ballot: &Ballot,
+        verdict: Option<bool>,
+    ) -> Result<Plan, Refusal>
+        requires { stored.incarnation + 1 < 2 ^ 64 }
+        ensures { Gives result (learn_by (view_of self.entry) stored verdict ballot.now.parent) }
+    {
+        if ballot.parent().is_none() {
+            return Err(Refusal::WrongMode);
+        }
+        match verdict {
+            Some(yes) => self.rolling_learns(alloc, stored, ballot.instance(), yes, &[]),
+            None => Err(Refusal::NotDecided),
         }
     }
 
     fn learn_down(
         self,
         alloc: Global,
-        stored: Stored,
+        stored: &Stored,
         is_tentative: bool,
         verdict: Option<bool>,
     ) -> Result<Plan, Refusal>
-        ensures { Gives result (learn_down (view_of self.entry) stored is_tentative verdict) }
+        ensures { Gives result (learn_down (view_of self.entry) stored.now is_tentative verdict) }
     {
         if !is_tentative {
             return Err(Refusal::NothingThere);
         }
         match verdict {
             None => Err(Refusal::NotDecided),
-            Some(yes) => self.down_learns(alloc, &stored, yes),
+            Some(yes) => self.down_learns(alloc, stored, yes),
         }
     }
 }

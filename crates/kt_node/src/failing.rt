@@ -1,20 +1,32 @@
 //! How a node fails, and comes back.
 
-ghost use Rattle.std.specs.Prelude.{◌≡◌, ◌+◌, ◌<◌, ◌^◌};
+ghost use Rattle.std.specs.Prelude.{◌≡◌, ◌+◌, ◌<◌, ◌^◌, ℕ, IfOk, MatchResult, None, Some};
 ghost use Rattle.std.specs.Option.{option_copied};
-ghost use Rattle.kt_node.specs.Failing.{fail, line_left, restart, restart_plan};
-ghost use Rattle.kt_node.specs.Plan.{Gives};
-ghost use Rattle.kt_node.specs.View.{view_of};
+ghost use Rattle.kt_vote.specs.Poll.{asking_poll};
+ghost use Rattle.kt_node.specs.declared.change.Change.TheVariants.{Load};
+ghost use Rattle.kt_node.specs.declared.live.Phase.TheVariants.{Rolling};
+ghost use Rattle.kt_node.specs.declared.plan.Write.TheVariants.{BeginRestart};
+ghost use Rattle.kt_node.specs.declared.stored.Stored.{Stored as StoredData};
+ghost use Rattle.kt_node.specs.Failing.{fail, line_left, restart, restart_of, restart_plan};
+ghost use Rattle.kt_node.specs.Joining.{roll_asks};
+ghost use Rattle.kt_node.specs.Labels.{label_at};
+ghost use Rattle.kt_node.specs.Node.{neighbours};
+ghost use Rattle.kt_node.specs.Plan.{Gives, Refuses};
+ghost use Rattle.kt_node.specs.View.{View as ViewData, view_of};
+ghost use Rattle.kt_node.specs.Views.{role_view};
 
-use crate::change::Change;
-use crate::joining::{neighbours, roll_asks_by};
+use crate::asking::{Sent, roll_asks};
+use crate::change::{Change, Loaded};
+use crate::joining::neighbours;
 use crate::learning::cut_of;
 use crate::live::Phase;
+use crate::node::Node;
 use crate::plan::{Outbox, Plan, Write};
 use crate::refusal::Refusal;
-use crate::role::View;
+use crate::role::{Role, View};
 use crate::stored::{Stored, acts_in, fits};
 use kt_ckpt::Marks;
+use kt_link::Label;
 use kt_store::Verdict;
 use kt_vote::Ballot;
 use std::alloc::{AllocError, Global};
@@ -30,6 +42,78 @@ fn line_left(verdict: Option<Verdict>, permanent: Option<&Marks>, tentative: Opt
     }
 }
 
+/// Whether the node restarts, and why it does not.
+fn may_restart(
+    node: &Node,
+    is_tentative: bool,
+    undecided: Option<u64>,
+    verdict: Option<Verdict>,
+) -> Result<(), Refusal>
+    ensures { (v : ViewData) (s : StoredData) (next : ℕ) → MatchResult result
+        (λ _. restart_of v s next is_tentative undecided verdict node.now.node ≡ restart_plan v s next)
+        (λ r. Refuses r (restart_of v s next is_tentative undecided verdict node.now.node)) }
+{
+    let Some(live) = &node.live else {
+        if is_tentative || undecided.is_some() {
+            return Err(Refusal::Unresolved);
+        }
+        return Ok(());
+    };
+    let Phase::Rolling(ballot) = &live.phase else {
+        return Err(Refusal::WrongMode);
+    };
+    if ballot.parent().is_some() {
+        return Err(Refusal::WrongMode);
+    }
+    match verdict {
+        Some(Verdict::No) => Ok(()),
+        _ => Err(Refusal::NotDecided),
+    }
+}
+
+/// The ballot of who restarts, and what it asks its neighbours; `sent` are the labels of its permanent checkpoint.
+fn restarting(
+    alloc: Global,
+    role: Role<'_>,
+    sent: &[Label],
+    next: u64,
+    incarnation: u64,
+) -> Result<(Ballot, Outbox), AllocError>
+    ensures { IfOk result (λ r. r ≡ (
+      asking_poll next incarnation None (neighbours (role_view role.entry)),
+      roll_asks next incarnation (label_at sent.now) (neighbours (role_view role.entry)),
+    )) }
+{
+    let asked = neighbours(alloc, role)?;
+    let send = roll_asks(alloc, next, incarnation, Sent::Table(sent), &asked)?;
+    let ballot = Ballot::asking(alloc, next, incarnation, None, asked)?;
+    Ok((ballot, send))
+}
+
+/// The node of the permanent checkpoint begins the rollback.
+fn restarting_plan(
+    alloc: Global,
+    role: Role<'_>,
+    loaded: Loaded,
+    next: u64,
+    incarnation: u64,
+) -> Result<Plan, AllocError>
+    ensures { IfOk result (λ p. p ≡ record {
+      change = Load record loaded {
+        phase = Rolling (asking_poll next incarnation None (neighbours (role_view role.entry)));
+      };
+      send = roll_asks next incarnation (label_at loaded.sent) (neighbours (role_view role.entry));
+      note = None;
+      write = Some BeginRestart;
+    }) }
+{
+    let mut loaded = loaded;
+    let (ballot, send) = restarting(alloc, role, &loaded.live.sent, next, incarnation)?;
+    loaded.live.phase = Phase::Rolling(ballot);
+    let change = Change::Load(loaded);
+    Ok(Plan::writing(change, send, Write::BeginRestart))
+}
+
 impl View<'_> {
     /// The node fails. `verdict` is what the board has of the instance of its tentative checkpoint; `permanent` and
     /// `tentative` are the marks of its checkpoints, `Damaged` where these do not fit it.
@@ -40,7 +124,8 @@ impl View<'_> {
         permanent: Option<&Marks>,
         tentative: Option<&Marks>,
     ) -> Result<Plan, Refusal>
-        ensures { Gives result (fail (view_of self.entry) verdict (option_copied permanent.entry) (option_copied tentative.entry)) }
+        ensures { Gives result (fail (view_of self.entry) verdict
+            (option_copied permanent.entry) (option_copied tentative.entry)) }
     {
         let node = self.node;
         if node.live.is_none() {
@@ -75,23 +160,8 @@ impl View<'_> {
         requires { stored.incarnation + 1 < 2 ^ 64 }
         ensures { Gives result (restart (view_of self.entry) stored next is_tentative undecided verdict) }
     {
-        let node = self.node;
-        let Some(live) = &node.live else {
-            if is_tentative || undecided.is_some() {
-                return Err(Refusal::Unresolved);
-            }
-            return self.restart_plan(alloc, stored, next);
-        };
-        let Phase::Rolling(ballot) = &live.phase else {
-            return Err(Refusal::WrongMode);
-        };
-        if ballot.parent().is_some() {
-            return Err(Refusal::WrongMode);
-        }
-        match verdict {
-            Some(Verdict::No) => self.restart_plan(alloc, stored, next),
-            _ => Err(Refusal::NotDecided),
-        }
+        may_restart(self.node, is_tentative, undecided, verdict)?;
+        self.restart_plan(alloc, stored, next)
     }
 
     fn restart_plan(self, alloc: Global, stored: Stored, next: u64) -> Result<Plan, Refusal>
@@ -99,16 +169,7 @@ impl View<'_> {
         ensures { Gives result (restart_plan (view_of self.entry) stored next) }
     {
         let incarnation = stored.incarnation + 1;
-        let mut loaded = self.load(alloc, stored)?;
-        let asked = neighbours(alloc, self.role)?;
-        let send = roll_asks_by(alloc, next, incarnation, &loaded.live.sent, &asked)?;
-        let ballot = Ballot::asking(alloc, next, incarnation, None, asked)?;
-        loaded.live.phase = Phase::Rolling(ballot);
-        Ok(Plan {
-            change: Change::Load(loaded),
-            send,
-            note: None,
-            write: Some(Write::BeginRestart),
-        })
+        let loaded = self.load(alloc, stored)?;
+        Ok(restarting_plan(alloc, self.role, loaded, next, incarnation)?)
     }
 }

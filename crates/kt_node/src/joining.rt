@@ -1,30 +1,30 @@
 //! How a node begins to vote in an instance.
 
-ghost use Rattle.std.specs.Prelude.{◌≡◌, IfOk, filter};
+ghost use Rattle.std.specs.Prelude.{◌≡◌, ◌++◌, IfOk, None, Some, filter};
 ghost use Rattle.std.specs.Option.{option_copied};
 ghost use Rattle.kt_vote.specs.Order.{IsInOrder};
 ghost use Rattle.kt_vote.specs.Poll.{asking_poll};
-ghost use Rattle.kt_node.specs.Labels.{label_at};
 ghost use Rattle.kt_node.specs.Node.{across, neighbours};
-ghost use Rattle.kt_node.specs.Stored.{sent_in};
 ghost use Rattle.kt_node.specs.View.{view_of};
 ghost use Rattle.kt_node.specs.Views.{live_view, role_view};
 ghost use Rattle.kt_node.specs.Saving.{CanSave};
-ghost use Rattle.kt_node.specs.Joining.{asker_of, begin_check_plan, check_ask, check_asks, cohort, held_plan, is_in_cohort};
-ghost use Rattle.kt_node.specs.Joining.{join_check_plan, join_rollback_plan, roll_ask, roll_asks, rolling_plan};
-ghost use Rattle.kt_node.specs.Plan.{no_turn, turning_to};
+ghost use Rattle.kt_node.specs.Joining.{asker_of, begin_check_plan, cohort, held_ballot, is_in_cohort};
+ghost use Rattle.kt_node.specs.Joining.{join_check_plan, join_rollback_plan, rolling_plan};
+ghost use Rattle.kt_node.specs.Plan.{turning_to};
+ghost use Rattle.kt_node.specs.Voting.{casting, poll_after, votes};
+ghost use Rattle.kt_node.specs.declared.live.Phase.TheVariants.{Held};
 
+use crate::asking::{Sent, check_asks, roll_asks};
 use crate::change::{BodyChange, Change, KeptChange, Turn};
 use crate::labels::{label_at, up_to};
 use crate::live::{Live, Phase};
-use crate::message::{Ask, Message};
+use crate::message::Ask;
 use crate::plan::{Outbox, Plan, Write};
 use crate::role::{Role, View};
 use crate::saving::checkpoint_of;
-use crate::stored::{received_in, sent_in};
+use crate::stored::received_in;
 use crate::voting::{add_vote, cast};
 use kt_ckpt::Marks;
-use kt_link::Label;
 use kt_tuple::NodeId;
 use kt_vote::{Asker, Ballot};
 use std::alloc::{AllocError, Global};
@@ -76,7 +76,8 @@ fn cohort(
     permanent: Option<&Marks>,
     live: &Live,
 ) -> Result<Vec<NodeId>, AllocError>
-    ensures value { IfOk result (λ v. v.items ≡ cohort (role_view role.entry) (option_copied permanent.entry) (live_view live.now)) }
+    ensures value { IfOk result (λ v. v.items ≡
+        cohort (role_view role.entry) (option_copied permanent.entry) (live_view live.now)) }
     ensures in_order { IfOk result (λ v. IsInOrder v.items) }
 {
     let mut nodes = neighbours(alloc, role)?;
@@ -84,112 +85,33 @@ fn cohort(
     Ok(nodes)
 }
 
-/// The ask to take a checkpoint, with the last label received from the node.
-fn check_ask(instance: u64, live: &Live, node: NodeId) -> (NodeId, Message)
-    ensures { result ≡ check_ask instance (live_view live.now) node }
+/// Behind these asks the vote that the node has to cast now, if it has to; then it has voted.
+fn then_vote(send: Outbox, ballot: &mut Ballot) -> Result<Outbox, AllocError>
+    ensures sent { IfOk result (λ b. b ≡ send ++ votes (casting ballot.old)) }
+    ensures voted { ballot.new ≡ poll_after ballot.old (casting ballot.old) }
 {
-    let ask = Ask {
-        instance,
-        label: label_at(&live.received, node),
-        incarnation: live.incarnation,
-    };
-    (node, Message::CheckAsk(ask))
-}
-
-fn check_asks(
-    alloc: Global,
-    instance: u64,
-    live: &Live,
-    asked: &[NodeId],
-) -> Result<Outbox, AllocError>
-    ensures { IfOk result (λ b. b ≡ check_asks instance (live_view live.now) asked.now) }
-{
-    let mut send = Outbox::empty(alloc);
-    for node in asked {
-        let (to, ask) = check_ask(instance, live, *node);
-        send.add(to, ask)?;
-    }
+    let mut send = send;
+    add_vote(&mut send, cast(ballot))?;
     Ok(send)
 }
 
-/// The ask to roll back, with the last label sent to the node before the permanent checkpoint.
-fn roll_ask(instance: u64, incarnation: u64, label: Label, node: NodeId) -> (NodeId, Message)
-    ensures { result ≡ roll_ask instance incarnation (λ _. label) node }
-{
-    let ask = Ask {
-        instance,
-        label,
-        incarnation,
-    };
-    (node, Message::RollAsk(ask))
-}
-
-/// Each of these is asked to roll back, with the label of this permanent checkpoint.
-fn roll_asks(
-    alloc: Global,
-    instance: u64,
-    incarnation: u64,
-    permanent: Option<&Marks>,
-    asked: &[NodeId],
-) -> Result<Outbox, AllocError>
-    ensures { IfOk result (λ b. b ≡ roll_asks instance incarnation (sent_in (option_copied permanent.entry)) asked.now) }
-{
-    let mut send = Outbox::empty(alloc);
-    for node in asked {
-        let label = sent_in(permanent, *node);
-        let (to, ask) = roll_ask(instance, incarnation, label, *node);
-        send.add(to, ask)?;
-    }
-    Ok(send)
-}
-
-/// The same, with the labels of a table.
-pub(crate) fn roll_asks_by(
-    alloc: Global,
-    instance: u64,
-    incarnation: u64,
-    sent: &[Label],
-    asked: &[NodeId],
-) -> Result<Outbox, AllocError>
-    ensures { IfOk result (λ b. b ≡ roll_asks instance incarnation (label_at sent.now) asked.now) }
-{
-    let mut send = Outbox::empty(alloc);
-    for node in asked {
-        let label = label_at(sent, *node);
-        let (to, ask) = roll_ask(instance, incarnation, label, *node);
-        send.add(to, ask)?;
-    }
-    Ok(send)
-}
-
-/// The node goes on, and does this from now on.
-pub(crate) fn turning_to(phase: Phase) -> Change
-    ensures { result ≡ turning_to phase }
-{
-    Change::Turn(Turn {
-        body: BodyChange::Stay,
-        kept: KeptChange::Stay,
-        heard: None,
-        said: None,
-        promoted: false,
-        phase: Some(phase),
-    })
-}
-
-/// The node is held with this ballot, its tentative checkpoint is stored, its cohort is asked; a participant whose
-/// cohort is empty votes at once.
-fn held_plan(alloc: Global, live: &Live, ballot: Ballot, write: Write) -> Result<Plan, AllocError>
-    ensures { IfOk result (λ p. p ≡ held_plan (live_view live.now) ballot write) }
+/// The ballot with which the node is held, and what it sends: its cohort is asked; a participant whose cohort is
+/// empty votes at once.
+fn held_ballot(alloc: Global, live: &Live, ballot: Ballot) -> Result<(Ballot, Outbox), AllocError>
+    ensures { IfOk result (λ r. r ≡ held_ballot (live_view live.now) ballot) }
 {
     let mut ballot = ballot;
-    let mut send = check_asks(alloc, ballot.instance(), live, ballot.asked())?;
-    add_vote(&mut send, cast(&mut ballot))?;
-    Ok(Plan {
-        change: turning_to(Phase::Held(ballot)),
-        send,
-        note: None,
-        write: Some(write),
-    })
+    let send = check_asks(alloc, ballot.instance(), live, ballot.asked())?;
+    let send = then_vote(send, &mut ballot)?;
+    Ok((ballot, send))
+}
+
+/// The node is held with this ballot and sends these, and its tentative checkpoint is stored.
+fn held_plan(ballot: Ballot, send: Outbox, write: Write) -> Plan
+    ensures { result ≡ record { change = turning_to (Held ballot); send = send; note = None; write = Some write } }
+{
+    let turn = Turn::to(Phase::Held(ballot));
+    Plan::writing(Change::Turn(turn), send, write)
 }
 
 /// The node rolls with this ballot and asks all neighbours; what it keeps from the asker above the label is
@@ -206,24 +128,21 @@ fn rolling_plan(
 {
     let mut ballot = ballot;
     let (instance, incarnation) = (ballot.instance(), live.incarnation);
-    let mut send = roll_asks(alloc, instance, incarnation, permanent, ballot.asked())?;
-    add_vote(&mut send, cast(&mut ballot))?;
-    Ok(Plan {
-        change: Change::Turn(Turn {
-            body: BodyChange::Stay,
-            kept: KeptChange::Sieve {
-                from,
-                label: ask.label,
-            },
-            heard: None,
-            said: None,
-            promoted: false,
-            phase: Some(Phase::Rolling(ballot)),
-        }),
-        send,
-        note: None,
-        write: None,
-    })
+    let sent = Sent::Marks(permanent);
+    let send = roll_asks(alloc, instance, incarnation, sent, ballot.asked())?;
+    let send = then_vote(send, &mut ballot)?;
+    let turn = Turn {
+        body: BodyChange::Stay,
+        kept: KeptChange::Sieve {
+            from,
+            label: ask.label,
+        },
+        heard: None,
+        said: None,
+        promoted: false,
+        phase: Some(Phase::Rolling(ballot)),
+    };
+    Ok(Plan::of(turn, send, None))
 }
 
 impl View<'_> {
@@ -236,12 +155,14 @@ impl View<'_> {
         permanent: Option<&Marks>,
     ) -> Result<Plan, AllocError>
         requires { CanSave (view_of self) (live_view live.now) }
-        ensures { IfOk result (λ p. p ≡ begin_check_plan (view_of self.entry) (live_view live.now) instance (option_copied permanent.entry)) }
+        ensures { IfOk result (λ p. p ≡
+            begin_check_plan (view_of self.entry) (live_view live.now) instance (option_copied permanent.entry)) }
     {
         let asked = cohort(alloc, self.role, permanent, live)?;
         let ballot = Ballot::asking(alloc, instance, live.incarnation, None, asked)?;
+        let (ballot, send) = held_ballot(alloc, live, ballot)?;
         let checkpoint = checkpoint_of(alloc, self.role, live, self.line_len)?;
-        held_plan(alloc, live, ballot, Write::BeginCheck(checkpoint))
+        Ok(held_plan(ballot, send, Write::BeginCheck(checkpoint)))
     }
 
     /// The node takes part in the check of the ask.
@@ -254,18 +175,20 @@ impl View<'_> {
         permanent: Option<&Marks>,
     ) -> Result<Plan, AllocError>
         requires { CanSave (view_of self) (live_view live.now) }
-        ensures { IfOk result (λ p. p ≡ join_check_plan (view_of self.entry) (live_view live.now) from ask (option_copied permanent.entry)) }
+        ensures { IfOk result (λ p. p ≡
+            join_check_plan (view_of self.entry) (live_view live.now) from ask (option_copied permanent.entry)) }
     {
         let asked = cohort(alloc, self.role, permanent, live)?;
         let (instance, incarnation) = (ask.instance, live.incarnation);
         let parent = Some(asker_of(from, ask));
         let ballot = Ballot::asking(alloc, instance, incarnation, parent, asked)?;
+        let (ballot, send) = held_ballot(alloc, live, ballot)?;
         let checkpoint = checkpoint_of(alloc, self.role, live, self.line_len)?;
         let write = Write::PutTentative {
             instance,
             checkpoint,
         };
-        held_plan(alloc, live, ballot, write)
+        Ok(held_plan(ballot, send, write))
     }
 
     /// The node takes part in the rollback of the ask.
@@ -277,7 +200,8 @@ impl View<'_> {
         ask: Ask,
         permanent: Option<&Marks>,
     ) -> Result<Plan, AllocError>
-        ensures { IfOk result (λ p. p ≡ join_rollback_plan (view_of self.entry) (live_view live.now) from ask (option_copied permanent.entry)) }
+        ensures { IfOk result (λ p. p ≡
+            join_rollback_plan (view_of self.entry) (live_view live.now) from ask (option_copied permanent.entry)) }
     {
         let asked = neighbours(alloc, self.role)?;
         let (instance, incarnation) = (ask.instance, live.incarnation);

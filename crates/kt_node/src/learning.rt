@@ -1,13 +1,15 @@
 //! What a verdict makes of a node.
 
-ghost use Rattle.std.specs.Prelude.{◌≡◌, ◌+◌, ◌<◌, ◌^◌, IfOk};
+ghost use Rattle.std.specs.Prelude.{◌≡◌, ◌+◌, ◌<◌, ◌^◌, IfOk, Ok, Some, false, true};
 ghost use Rattle.kt_node.specs.Plan.{Gives};
 ghost use Rattle.kt_node.specs.View.{view_of};
 ghost use Rattle.kt_node.specs.Learning.{cut_of, down_learns, held_learns, release_plan};
-ghost use Rattle.kt_node.specs.Learning.{rolling_learns, verdict_to};
+ghost use Rattle.kt_node.specs.Learning.{restored, rolling_learns, verdict_to};
+ghost use Rattle.kt_node.specs.Loading.{load};
+ghost use Rattle.kt_node.specs.declared.change.Change.TheVariants.{Load};
+ghost use Rattle.kt_node.specs.declared.plan.Write.TheVariants.{Bump};
 
 use crate::change::{BodyChange, Change, KeptChange, Loaded, Turn};
-use crate::joining::turning_to;
 use crate::live::Phase;
 use crate::message::Message;
 use crate::plan::{Outbox, Plan, Write};
@@ -46,32 +48,35 @@ pub(crate) fn cut_of(node: NodeId, keep: u64) -> Option<Note>
 pub(crate) fn held_learns(yes: bool, send: Outbox) -> Plan
     ensures { result ≡ held_learns yes send }
 {
-    let change = Change::Turn(Turn {
+    let turn = Turn {
         body: BodyChange::Stay,
         kept: KeptChange::Stay,
         heard: None,
         said: None,
         promoted: yes,
         phase: Some(Phase::Up),
-    });
+    };
     let write = if yes { Write::Promote } else { Write::Discard };
-    Plan {
-        change,
-        send,
-        note: None,
-        write: Some(write),
-    }
+    Plan::writing(Change::Turn(turn), send, write)
 }
 
-/// The rollback got No: the node goes on as it is.
-fn release_plan(send: Outbox) -> Plan
-    ensures { result ≡ release_plan send }
+/// The rollback got No, which goes on to these: the node goes on as it is.
+fn release_plan(alloc: Global, instance: u64, asked: &[NodeId]) -> Result<Plan, Refusal>
+    ensures { Gives result (Ok (release_plan (verdict_to instance false asked.now))) }
+{
+    let send = verdict_to(alloc, instance, false, asked)?;
+    Ok(Plan::of(Turn::to(Phase::Up), send, None))
+}
+
+/// The rollback got Yes: the node becomes this one, and its line is cut.
+fn restoring_plan(loaded: Loaded, note: Option<Note>, send: Outbox) -> Plan
+    ensures { result ≡ record { change = Load loaded; send = send; note = note; write = Some Bump } }
 {
     Plan {
-        change: turning_to(Phase::Up),
+        change: Change::Load(loaded),
         send,
-        note: None,
-        write: None,
+        note,
+        write: Some(Write::Bump),
     }
 }
 
@@ -89,18 +94,28 @@ impl View<'_> {
         requires { stored.incarnation + 1 < 2 ^ 64 }
         ensures { Gives result (rolling_learns (view_of self.entry) stored yes (verdict_to instance yes asked.now)) }
     {
-        if !yes {
-            return Ok(release_plan(verdict_to(alloc, instance, yes, asked)?));
+        if yes {
+            self.restores(alloc, stored, instance, asked)
+        } else {
+            release_plan(alloc, instance, asked)
         }
-        let note = cut_of(self.role.id, stored.acts());
+    }
+
+    fn restores(
+        self,
+        alloc: Global,
+        stored: Stored,
+        instance: u64,
+        asked: &[NodeId],
+    ) -> Result<Plan, Refusal>
+        requires { stored.incarnation + 1 < 2 ^ 64 }
+        ensures { Gives result (restored (view_of self.entry) stored
+            (verdict_to instance true asked.now) (load (view_of self.entry) stored)) }
+    {
+        let keep = stored.acts();
         let loaded = self.load(alloc, stored)?;
-        let send = verdict_to(alloc, instance, yes, asked)?;
-        Ok(Plan {
-            change: Change::Load(loaded),
-            send,
-            note,
-            write: Some(Write::Bump),
-        })
+        let send = verdict_to(alloc, instance, true, asked)?;
+        Ok(restoring_plan(loaded, cut_of(self.role.id, keep), send))
     }
 
     /// What a node that is down with a tentative checkpoint does with the verdict; it stays down. With No its line
@@ -114,12 +129,7 @@ impl View<'_> {
         ensures { Gives result (down_learns (view_of self.entry) stored.now yes) }
     {
         if yes {
-            return Ok(Plan {
-                change: Change::Stay,
-                send: Outbox::empty(alloc),
-                note: None,
-                write: Some(Write::Promote),
-            });
+            return Ok(Plan::writing(Change::Stay, Outbox::empty(alloc), Write::Promote));
         }
         if !stored.fits(self.role, self.line_len) {
             return Err(Refusal::Damaged);

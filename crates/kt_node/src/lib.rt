@@ -2,9 +2,11 @@
 #![tactic(auto)]
 
 mod arrivals;
+mod asking;
 mod change;
 mod deciding;
 mod failing;
+mod hearing;
 mod joining;
 mod labels;
 mod laws;

@@ -26,6 +26,22 @@ pub enum Phase {
     Rolling(Ballot),
 }
 
+impl Phase {
+    ghost use Rattle.std.specs.Prelude.{◌≡◌};
+    ghost use Rattle.kt_node.specs.Voting.{in_phase};
+
+    /// The same phase with another ballot.
+    pub(crate) fn with(&self, ballot: Ballot) -> Phase
+        ensures { result ≡ in_phase self.now ballot }
+    {
+        match self {
+            Phase::Up => Phase::Up,
+            Phase::Held(_) => Phase::Held(ballot),
+            Phase::Rolling(_) => Phase::Rolling(ballot),
+        }
+    }
+}
+
 /// All that a node loses when it fails. The tables have an entry for each number that a neighbour can have;
 /// entry 0 is not used.
 #[derive(Debug, Drop)]

@@ -1,12 +1,13 @@
 //! Loading the permanent state.
 
-ghost use Rattle.std.specs.Prelude.{◌≡◌, ◌+◌, ◌<◌, ◌^◌, IfOk, length, map, Some, None};
+ghost use Rattle.std.specs.Prelude.{◌≡◌, ◌+◌, ◌<◌, ◌^◌, IfOk, map, Some, None};
 ghost use Rattle.kt_shard.specs.Limits.{desks};
-ghost use Rattle.kt_node.specs.Labels.{numbers, tabled, no_labels, no_firsts, table_size};
+ghost use Rattle.kt_node.specs.Labels.{numbers, tabled, no_labels, no_firsts};
 ghost use Rattle.kt_node.specs.Loading.{load, loaded_by, loaded_from};
 ghost use Rattle.kt_node.specs.Node.{IsShard, fresh_live, opening_body, opening_node};
 ghost use Rattle.kt_node.specs.Plan.{Gives};
-ghost use Rattle.kt_node.specs.State.{are_of_scene, is_of_scene, body_at, body_from, desk_with, entry_of, if_fits, shard_fits, shard_from, worker_from};
+ghost use Rattle.kt_node.specs.State.{are_of_scene, is_of_scene, body_at, body_from, desk_with, entry_of};
+ghost use Rattle.kt_node.specs.State.{if_fits, shard_fits, shard_from, worker_from};
 ghost use Rattle.kt_node.specs.View.{view_of};
 ghost use Rattle.kt_node.specs.Views.{HasTables, body_view, live_view, role_view};
 ghost use Rattle.kt_node.specs.Bodies.{GivesBody};
@@ -27,6 +28,7 @@ use kt_tuple::{NodeId, Tuple};
 use kt_worker::Worker;
 use std::alloc::{AllocError, Global};
 use std::collections::VecDeque;
+use std::marker::Model;
 
 /// The worker of the state, where it is one of the script.
 fn worker_from(role: Role<'_>, state: WorkerState) -> Result<Body, Refusal>
@@ -93,6 +95,19 @@ fn kept_of(alloc: Global, worker: u8, entries: &[(u8, Kept)]) -> Result<Option<K
     }
 }
 
+fn desk_of(
+    alloc: Global,
+    worker: u8,
+    waiting: &[(u8, Request)],
+    kept: &[(u8, Kept)],
+) -> Result<Desk, AllocError>
+    ensures { IfOk result (λ d. d ≡ desk_with waiting.now kept.now worker) }
+{
+    let waiting = request_of(alloc, worker, waiting)?;
+    let kept = kept_of(alloc, worker, kept)?;
+    Ok(Desk { waiting, kept })
+}
+
 #[tactic(auto, using(crate::proofs::Numbers::mapped_none, crate::proofs::Numbers::mapped_from_zero))]
 fn desks_of(
     alloc: Global,
@@ -103,10 +118,7 @@ fn desks_of(
 {
     let mut made = Vec::with_capacity(alloc, usize::from(TABLE_SIZE))?;
     for worker in 0..TABLE_SIZE {
-        made.push(Desk {
-            waiting: request_of(alloc, worker, waiting)?,
-            kept: kept_of(alloc, worker, kept)?,
-        })?;
+        made.push(desk_of(alloc, worker, waiting, kept)?)?;
     }
     Ok(made)
 }
@@ -179,28 +191,81 @@ fn no_firsts(alloc: Global) -> Result<Vec<Option<Label>>, AllocError>
     Ok(table)
 }
 
-/// A node that is up and has done nothing since.
-fn fresh_live(
-    alloc: Global,
-    incarnation: u64,
-    body: Body,
+/// The tables of labels that a node has which has sent nothing since its permanent checkpoint.
+#[derive(Debug, Drop)]
+struct Tables {
     sent: Vec<Label>,
     received: Vec<Label>,
-) -> Result<Live, AllocError>
-    requires tables { (length sent.items ≡ table_size) × (length received.items ≡ table_size) }
-    ensures value { IfOk result (λ n. live_view n ≡ fresh_live phases.Up incarnation (body_view body) sent.items received.items) }
-    ensures tables { IfOk result HasTables }
+    first: Vec<Option<Label>>,
+}
+
+impl Model for Tables {
+    ghost use Rattle.std.specs.Prelude.{◌≡◌, List, length};
+    ghost use Rattle.kt_link.specs.declared.label.Label.{Label as Mark};
+    ghost use Rattle.kt_node.specs.Labels.{no_firsts, table_size};
+
+    ghost Value = { List Mark × List Mark };
+
+    ghost view = { λ t. (t.sent.items, t.received.items) };
+
+    ghost invariant = { λ t. (length t.sent.items ≡ table_size) × (length t.received.items ≡ table_size)
+        × (t.first.items ≡ no_firsts) };
+}
+
+fn no_tables(alloc: Global) -> Result<Tables, AllocError>
+    ensures { IfOk result (λ t. t ≡ (no_labels, no_labels)) }
 {
-    Ok(Live {
+    let sent = no_labels(alloc)?;
+    let received = no_labels(alloc)?;
+    let first = no_firsts(alloc)?;
+    Ok(Tables {
+        sent,
+        received,
+        first,
+    })
+}
+
+/// The tables of a checkpoint's lists.
+#[tactic(auto, using(crate::proofs::Numbers::whole_table))]
+fn tables_of(alloc: Global, sent: &[Label], received: &[Label]) -> Result<Tables, AllocError>
+    ensures { IfOk result (λ t. t ≡ (tabled sent.now, tabled received.now)) }
+{
+    let sent = tabled(alloc, sent)?;
+    let received = tabled(alloc, received)?;
+    let first = no_firsts(alloc)?;
+    Ok(Tables {
+        sent,
+        received,
+        first,
+    })
+}
+
+/// A node that is up and has done nothing since.
+fn fresh_live(alloc: Global, incarnation: u64, body: Body, tables: Tables) -> Live
+    ensures value { live_view result ≡ fresh_live phases.Up incarnation (body_view body) tables.0 tables.1 }
+    ensures tables { HasTables result }
+{
+    Live {
         phase: Phase::Up,
         body,
         incarnation,
         count: 0,
-        sent,
-        received,
-        first: no_firsts(alloc)?,
+        sent: tables.sent,
+        received: tables.received,
+        first: tables.first,
         kept: VecDeque::new(alloc),
-    })
+    }
+}
+
+/// The node of this role that has done nothing yet, in this incarnation.
+fn opening_live(alloc: Global, role: Role<'_>, incarnation: u64) -> Result<Live, AllocError>
+    ensures value { IfOk result (λ n. live_view n ≡
+        fresh_live phases.Up incarnation (opening_body (role_view role.entry) role.entry.id) no_labels no_labels) }
+    ensures tables { IfOk result HasTables }
+{
+    let body = opening_body(alloc, role)?;
+    let tables = no_tables(alloc)?;
+    Ok(fresh_live(alloc, incarnation, body, tables))
 }
 
 impl Node {
@@ -208,9 +273,7 @@ impl Node {
     pub fn open(alloc: Global, role: Role<'_>) -> Result<Node, AllocError>
         ensures { IfOk result (λ n. n.node ≡ opening_node (role_view role.entry)) }
     {
-        let body = opening_body(alloc, role)?;
-        let (sent, received) = (no_labels(alloc)?, no_labels(alloc)?);
-        let live = fresh_live(alloc, 1, body, sent, received)?;
+        let live = opening_live(alloc, role, 1)?;
         Ok(Node { live: Some(live) })
     }
 }
@@ -234,31 +297,39 @@ impl View<'_> {
 }
 
 fn load_opening(alloc: Global, role: Role<'_>, incarnation: u64) -> Result<Loaded, AllocError>
-    ensures { IfOk result (λ l. l ≡ loaded_from None incarnation (opening_body (role_view role.entry) role.entry.id)) }
+    ensures { IfOk result (λ l. l ≡
+        loaded_from None incarnation (opening_body (role_view role.entry) role.entry.id)) }
 {
-    let body = opening_body(alloc, role)?;
-    let (sent, received) = (no_labels(alloc)?, no_labels(alloc)?);
-    let live = fresh_live(alloc, incarnation, body, sent, received)?;
+    let live = opening_live(alloc, role, incarnation)?;
     Ok(Loaded { live })
 }
 
-#[tactic(auto, using(crate::proofs::Numbers::whole_table))]
 fn load_checkpoint(
     alloc: Global,
     role: Role<'_>,
     incarnation: u64,
     checkpoint: Ckpt,
 ) -> Result<Loaded, Refusal>
-    ensures { Gives result (loaded_by (Some checkpoint) incarnation (body_at (role_view role.entry) (Some checkpoint))) }
+    ensures { Gives result
+        (loaded_by (Some checkpoint) incarnation (body_at (role_view role.entry) (Some checkpoint))) }
 {
     let (_, acts, sent, received, state) = checkpoint.into_parts();
     let body = body_from(alloc, role, acts, state)?;
-    let live = fresh_live(
-        alloc,
-        incarnation,
-        body,
-        tabled(alloc, &sent)?,
-        tabled(alloc, &received)?,
-    )?;
+    Ok(loaded_with(alloc, incarnation, body, &sent, &received)?)
+}
+
+/// The node of a checkpoint with these lists.
+fn loaded_with(
+    alloc: Global,
+    incarnation: u64,
+    body: Body,
+    sent: &[Label],
+    received: &[Label],
+) -> Result<Loaded, AllocError>
+    ensures { IfOk result (λ l. l ≡
+        fresh_live phases.Up incarnation (body_view body) (tabled sent.now) (tabled received.now)) }
+{
+    let tables = tables_of(alloc, sent, received)?;
+    let live = fresh_live(alloc, incarnation, body, tables);
     Ok(Loaded { live })
 }

@@ -1,9 +1,10 @@
 //! What a step does, found out before anything is changed.
 
-ghost use Rattle.std.specs.Prelude.{◌≡◌, [], ◌∷◌, ◌++◌, IfOk, OnOk};
+ghost use Rattle.std.specs.Prelude.{◌≡◌, [], ◌∷◌, ◌++◌, IfOk, None, OnOk, Some};
 ghost use Rattle.kt_node.specs.Plan.{empty_plan};
+ghost use Rattle.kt_node.specs.declared.change.Change.TheVariants as changes;
 
-use crate::change::Change;
+use crate::change::{Change, Turn};
 use crate::message::Message;
 use kt_ckpt::Ckpt;
 use kt_history::Note;
@@ -60,9 +61,9 @@ impl Outbox {
     pub(crate) fn one(alloc: Global, to: NodeId, message: Message) -> Result<Outbox, AllocError>
         ensures { IfOk result (λ b. b ≡ (to, message) ∷ []) }
     {
-        let mut messages = Vec::with_capacity(alloc, 1)?;
-        messages.push((to, message))?;
-        Ok(Outbox { messages })
+        let mut outbox = Outbox::empty(alloc);
+        outbox.add(to, message)?;
+        Ok(outbox)
     }
 
     /// One message more, behind the others.
@@ -107,6 +108,30 @@ impl Plan {
             send: Outbox::empty(alloc),
             note: None,
             write: None,
+        }
+    }
+
+    /// The node goes on with this turn and sends these; this is noted.
+    pub(crate) fn of(turn: Turn, send: Outbox, note: Option<Note>) -> Plan
+        ensures { result ≡ record { change = changes.Turn turn; send = send; note = note; write = None } }
+    {
+        Plan {
+            change: Change::Turn(turn),
+            send,
+            note,
+            write: None,
+        }
+    }
+
+    /// This becomes of the node, it sends these, and this is written.
+    pub(crate) fn writing(change: Change, send: Outbox, write: Write) -> Plan
+        ensures { result ≡ record { change = change; send = send; note = None; write = Some write } }
+    {
+        Plan {
+            change,
+            send,
+            note: None,
+            write: Some(write),
         }
     }
 }

@@ -6,7 +6,7 @@ ghost use Rattle.kt_node.specs.Plan.{Gives};
 ghost use Rattle.kt_node.specs.Ready.{CanSpeak};
 ghost use Rattle.kt_node.specs.Posts.{hear_post, keep_plan};
 
-use crate::change::{Change, KeptChange, Turn};
+use crate::change::{BodyChange, KeptChange, Turn};
 use crate::live::Phase;
 use crate::message::Post;
 use crate::plan::{Outbox, Plan};
@@ -21,15 +21,14 @@ fn keep_plan(alloc: Global, from: NodeId, post: &Post) -> Result<Plan, AllocErro
 {
     let post = post.copy(alloc)?;
     let turn = Turn {
+        body: BodyChange::Stay,
         kept: KeptChange::Append { from, post },
-        ..Turn::none()
+        heard: None,
+        said: None,
+        promoted: false,
+        phase: None,
     };
-    Ok(Plan {
-        change: Change::Turn(turn),
-        send: Outbox::empty(alloc),
-        note: None,
-        write: None,
-    })
+    Ok(Plan::of(turn, Outbox::empty(alloc), None))
 }
 
 impl View<'_> {

@@ -2,7 +2,8 @@
 
 ghost use Rattle.std.specs.Prelude.{◌≡◌};
 ghost use Rattle.std.specs.Option.{option_copied};
-ghost use Rattle.kt_node.specs.Arrivals.{check_in, check_reaction, check_when_up, is_in, rollback_in, rollback_reaction};
+ghost use Rattle.kt_node.specs.Arrivals.{check_in, check_reaction, check_when_up, is_in};
+ghost use Rattle.kt_node.specs.Arrivals.{rollback_in, rollback_reaction};
 ghost use Rattle.kt_node.specs.Views.{live_view};
 
 use crate::labels::{label_at, reaches, up_to};
@@ -64,7 +65,8 @@ impl Live {
         permanent: Option<&Marks>,
         tentative: Option<&Marks>,
     ) -> Reaction
-        ensures { result ≡ check_reaction (live_view self.now) from ask verdict (option_copied permanent.entry) (option_copied tentative.entry) }
+        ensures { result ≡ check_reaction (live_view self.now) from ask verdict
+            (option_copied permanent.entry) (option_copied tentative.entry) }
     {
         if !is_undecided(verdict) {
             Reaction::Says(false)

@@ -14,7 +14,7 @@ use crate::role::Role;
 use kt_ckpt::{Ckpt, ShardState, State, WorkerState};
 use kt_link::Label;
 use kt_shard::{Kept, MAX_WORKERS, Request, Shard};
-use kt_tuple::{Tuple, Value};
+use kt_tuple::{Op, Tuple, Value};
 use kt_worker::Worker;
 use std::alloc::{AllocError, Global};
 
@@ -64,17 +64,24 @@ fn worker_state(alloc: Global, worker: &Worker) -> Result<WorkerState, AllocErro
     requires { worker.now.position.pc ≤ max_pc }
     ensures { IfOk result (λ w. w ≡ worker_fields worker.now) }
 {
-    let asked = match worker.asked() {
-        Some(op) => Some(op.copy(alloc)?),
-        None => None,
-    };
+    let values = copy_values(alloc, worker.values())?;
+    let asked = asked_of(alloc, worker)?;
     Ok(WorkerState::new(
         worker.pc() as u16,
         worker.number(),
         worker.was_none(),
         asked,
-        copy_values(alloc, worker.values())?,
+        values,
     ))
+}
+
+fn asked_of(alloc: Global, worker: &Worker) -> Result<Option<Op>, AllocError>
+    ensures { IfOk result (λ op. op ≡ worker.now.asked) }
+{
+    match worker.asked() {
+        Some(op) => Ok(Some(op.copy(alloc)?)),
+        None => Ok(None),
+    }
 }
 
 fn copy_values(alloc: Global, values: &[Value]) -> Result<Vec<Value>, AllocError>
@@ -125,7 +132,8 @@ fn add_waiting(
     shard: &Shard,
     worker: u8,
 ) -> Result<(), AllocError>
-    ensures { OnOk result (entries.new.items ≡ entries.old.items ++ entry worker (desk_of shard.now.state worker).waiting) }
+    ensures { OnOk result
+        (entries.new.items ≡ entries.old.items ++ entry worker (desk_of shard.now.state worker).waiting) }
 {
     if let Some(request) = shard.waiting(worker) {
         entries.push((worker, request.copy(alloc)?))?;
@@ -151,7 +159,8 @@ fn add_kept(
     shard: &Shard,
     worker: u8,
 ) -> Result<(), AllocError>
-    ensures { OnOk result (entries.new.items ≡ entries.old.items ++ entry worker (desk_of shard.now.state worker).kept) }
+    ensures { OnOk result
+        (entries.new.items ≡ entries.old.items ++ entry worker (desk_of shard.now.state worker).kept) }
 {
     if let Some(kept) = shard.kept(worker) {
         entries.push((worker, kept.copy(alloc)?))?;

@@ -1,12 +1,13 @@
 //! The steps of the underlying computation.
 
-ghost use Rattle.std.specs.Prelude.{◌≡◌, ◌≤◌, is_some};
+ghost use Rattle.std.specs.Prelude.{◌≡◌, ◌≤◌, IfOk, is_some};
 ghost use Rattle.std.specs.Option.{option_copied, option_map};
-ghost use Rattle.kt_worker.specs.Standing.{next_request};
+ghost use Rattle.kt_worker.specs.Standing.{issued, next_request};
 ghost use Rattle.kt_node.specs.Views.{live_view};
 ghost use Rattle.kt_node.specs.View.{view_of};
 ghost use Rattle.kt_node.specs.Plan.{Gives};
 ghost use Rattle.kt_node.specs.Ready.{CanCount, CanSpeak};
+ghost use Rattle.kt_node.specs.Talking.{repeat_plan, request_for};
 ghost use Rattle.kt_node.specs.Steps.{first_kept, issue, issue_found, repeat, serve, take, unserved_as, up_of};
 
 use crate::change::KeptChange;
@@ -17,15 +18,31 @@ use crate::refusal::Refusal;
 use crate::role::View;
 use kt_script::Script;
 use kt_shard::{Request, ServeError};
-use kt_tuple::NodeId;
+use kt_tuple::{NodeId, Op};
 use kt_worker::Worker;
-use std::alloc::Global;
+use std::alloc::{AllocError, Global};
 
 /// Whether the worker waits for nothing and has an operation left.
 fn can_issue(worker: &Worker, script: &Script) -> bool
     ensures { result ≡ is_some (next_request script.now worker.now) }
 {
     worker.asked().is_none() && worker.has_next(script)
+}
+
+/// What the worker asks for next, and the worker that has asked for it.
+fn issued(
+    alloc: Global,
+    worker: &Worker,
+    script: &Script,
+) -> Result<Option<(Request, Worker)>, AllocError>
+    ensures { IfOk result (λ r. r ≡ option_map (λ q. (request_for q, issued script.now worker.now))
+        (next_request script.now worker.now)) }
+{
+    let mut asker = worker.copy(alloc)?;
+    match asker.issue(alloc, script)? {
+        Some((number, op)) => Ok(Some((Request { number, op }, asker))),
+        None => Ok(None),
+    }
 }
 
 /// Why a step is refused whose service the shard refuses. A choice takes no memory.
@@ -90,11 +107,10 @@ impl<'a> View<'a> {
         if !can_issue(worker, script) {
             return Err(Refusal::NothingThere);
         }
-        let mut asker = worker.copy(alloc)?;
-        let Some((number, op)) = asker.issue(alloc, script)? else {
+        let Some((request, asker)) = issued(alloc, worker, script)? else {
             return Err(Refusal::NothingThere);
         };
-        Ok(self.issue_plan(alloc, live, &Request { number, op }, asker)?)
+        Ok(self.issue_plan(alloc, live, &request, asker)?)
     }
 
     /// A worker asks once more, where a request is unanswered.
@@ -112,8 +128,23 @@ impl<'a> View<'a> {
         let Some((number, op)) = worker.again() else {
             return Err(Refusal::NothingThere);
         };
+        Ok(self.repeat_next(alloc, live, number, op)?)
+    }
+
+    fn repeat_next(
+        self,
+        alloc: Global,
+        live: &Live,
+        number: u64,
+        op: &Op,
+    ) -> Result<Plan, AllocError>
+        requires peers { 1 ≤ self.role.peers }
+        requires count { CanCount (live_view live.now) }
+        ensures { IfOk result (λ plan. plan ≡
+            repeat_plan (view_of self.entry) (live_view live.now) (number, op.now)) }
+    {
         let op = op.copy(alloc)?;
-        Ok(self.repeat_plan(alloc, live, &Request { number, op })?)
+        self.repeat_plan(alloc, live, &Request { number, op })
     }
 
     /// The node hears the message that was kept first.

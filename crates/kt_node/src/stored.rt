@@ -118,7 +118,8 @@ pub(crate) fn parts_fit(
     sent: &[Label],
     received: &[Label],
 ) -> bool
-    ensures { result ≡ marks_fit (role_view role.entry) line_len (record { node = node; line_len = acts; sent = sent.now; received = received.now }) }
+    ensures { result ≡ marks_fit (role_view role.entry) line_len
+        (record { node = node; line_len = acts; sent = sent.now; received = received.now }) }
 {
     node == role.id
         && sent.len() == usize::from(role.peers)

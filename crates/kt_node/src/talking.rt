@@ -1,25 +1,23 @@
-//! What workers and shards say to each other: the plans of the acts.
+//! What workers and shards say to each other: the plans of the acts in which they hear nothing.
 
 ghost use Rattle.std.specs.Prelude.{◌≡◌, ◌≤◌, [], ◌∷◌, IfOk};
-ghost use Rattle.kt_history.specs.declared.note.What.TheVariants.{Served};
-ghost use Rattle.kt_shard.specs.Arrival.{arrival_view};
+ghost use Rattle.kt_history.specs.declared.note.What.TheVariants.{Again, Served};
 ghost use Rattle.kt_node.specs.declared.message.Talk.TheVariants.{Request as Asked, Reply as Replied};
-ghost use Rattle.kt_node.specs.Node.{next_label};
+ghost use Rattle.kt_node.specs.Node.{next_label, node_number};
 ghost use Rattle.kt_node.specs.Views.{live_view};
 ghost use Rattle.kt_node.specs.View.{view_of};
 ghost use Rattle.kt_node.specs.Ready.{CanCount};
 ghost use Rattle.kt_node.specs.Talking.{home, note_of, post_of, issue_plan, repeat_plan, service_plan};
-ghost use Rattle.kt_node.specs.Talking.{hearing, again_plan, request_plan, reply_plan, heard_plan};
 
-use crate::change::{BodyChange, Change, KeptChange, Turn};
+use crate::change::{BodyChange, Turn};
 use crate::labels::number_of;
-use crate::live::{Body, Live};
+use crate::live::Live;
 use crate::message::{Message, Post, Talk};
 use crate::plan::{Outbox, Plan};
 use crate::role::View;
 use kt_history::{Act, Note, What};
 use kt_link::Label;
-use kt_shard::{Arrival, Prepared, Request};
+use kt_shard::{Prepared, Request};
 use kt_tuple::{Answer, NodeId, Op};
 use kt_worker::Worker;
 use std::alloc::{AllocError, Global};
@@ -39,7 +37,7 @@ impl Live {
 
 impl View<'_> {
     /// The note of an act of the node about a request of the worker of this number.
-    fn note(
+    pub(crate) fn note(
         self,
         alloc: Global,
         by: u64,
@@ -49,12 +47,13 @@ impl View<'_> {
     ) -> Result<Option<Note>, AllocError>
         ensures { IfOk result (λ note. note ≡ note_of self.entry.role.id by worker request.now what) }
     {
+        let op = request.op.copy(alloc)?;
         Ok(Some(Note::Act(Act {
             node: self.role.id,
             by,
             worker,
             number: request.number,
-            op: request.op.copy(alloc)?,
+            op,
             what,
         })))
     }
@@ -95,6 +94,29 @@ impl View<'_> {
         Outbox::one(alloc, to, self.post(live, talk))
     }
 
+    /// What a worker says that asks for this, and the note of it.
+    fn asking(
+        self,
+        alloc: Global,
+        live: &Live,
+        request: &Request,
+        what: What,
+    ) -> Result<(Outbox, Option<Note>), AllocError>
+        requires peers { 1 ≤ self.role.peers }
+        requires count { CanCount (live_view live.now) }
+        ensures { IfOk result (λ said. said ≡ (
+          (
+            home self.entry.role.peers request.now.op,
+            post_of (view_of self.entry) (live_view live.now) (Asked request.now),
+          ) ∷ [],
+          note_of self.entry.role.id 0 (node_number self.entry.role.id) request.now what,
+        )) }
+    {
+        let send = self.asks(alloc, live, self.home(&request.op), request)?;
+        let note = self.note(alloc, 0, number_of(self.role.id), request, what)?;
+        Ok((send, note))
+    }
+
     /// The worker asks the home of the operation, and becomes the asker.
     pub(crate) fn issue_plan(
         self,
@@ -108,18 +130,9 @@ impl View<'_> {
         ensures { IfOk result (λ plan. plan ≡
             issue_plan (view_of self.entry) (live_view live.now) (request.now.number, request.now.op) asker) }
     {
-        let home = self.home(&request.op);
-        let turn = Turn {
-            body: BodyChange::Work(asker),
-            said: Some(home),
-            ..Turn::none()
-        };
-        Ok(Plan {
-            change: Change::Turn(turn),
-            send: self.asks(alloc, live, home, request)?,
-            note: self.note(alloc, 0, number_of(self.role.id), request, What::Issue)?,
-            write: None,
-        })
+        let (send, note) = self.asking(alloc, live, request, What::Issue)?;
+        let turn = Turn::saying(BodyChange::Work(asker), self.home(&request.op));
+        Ok(Plan::of(turn, send, note))
     }
 
     /// The worker asks once more.
@@ -134,17 +147,9 @@ impl View<'_> {
         ensures { IfOk result (λ plan. plan ≡
             repeat_plan (view_of self.entry) (live_view live.now) (request.now.number, request.now.op)) }
     {
-        let home = self.home(&request.op);
-        let turn = Turn {
-            said: Some(home),
-            ..Turn::none()
-        };
-        Ok(Plan {
-            change: Change::Turn(turn),
-            send: self.asks(alloc, live, home, request)?,
-            note: self.note(alloc, 0, number_of(self.role.id), request, What::Repeat)?,
-            write: None,
-        })
+        let (send, note) = self.asking(alloc, live, request, What::Repeat)?;
+        let turn = Turn::saying(BodyChange::Stay, self.home(&request.op));
+        Ok(Plan::of(turn, send, note))
     }
 
     /// The message in which the shard answers.
@@ -167,6 +172,52 @@ impl View<'_> {
         Outbox::one(alloc, to, self.post(live, talk))
     }
 
+    /// What a shard says that answers this, and the note of it.
+    fn answering(
+        self,
+        alloc: Global,
+        live: &Live,
+        to: NodeId,
+        by: u64,
+        request: &Request,
+        answer: &Answer,
+        what: What,
+    ) -> Result<(Outbox, Option<Note>), AllocError>
+        requires { CanCount (live_view live.now) }
+        ensures { IfOk result (λ said. said ≡ (
+          (to, post_of (view_of self.entry) (live_view live.now) (Replied request.now answer.now)) ∷ [],
+          note_of self.entry.role.id by (node_number to) request.now what,
+        )) }
+    {
+        let send = self.replies(alloc, live, to, request, answer)?;
+        let note = self.note(alloc, by, number_of(to), request, what)?;
+        Ok((send, note))
+    }
+
+    /// What a shard says that makes this service, and the note of it.
+    fn serving(
+        self,
+        alloc: Global,
+        live: &Live,
+        to: NodeId,
+        by: u64,
+        service: &Prepared,
+    ) -> Result<(Outbox, Option<Note>), AllocError>
+        requires { CanCount (live_view live.now) }
+        ensures { IfOk result (λ said. said ≡ (
+          (
+            to,
+            post_of (view_of self.entry) (live_view live.now)
+                (Replied service.now.request service.now.answer),
+          ) ∷ [],
+          note_of self.entry.role.id by (node_number to) service.now.request (Served service.now.answer),
+        )) }
+    {
+        let (request, answer) = (service.request(), service.answer());
+        let what = What::Served(answer.copy(alloc)?);
+        self.answering(alloc, live, to, by, request, answer, what)
+    }
+
     /// The shard serves the worker of this number. The cause is that of the hearing which put it in waiting.
     pub(crate) fn service_plan(
         self,
@@ -181,169 +232,28 @@ impl View<'_> {
             service_plan (view_of self.entry) (live_view live.now) worker by service) }
     {
         let to = NodeId::Worker(worker);
-        let (request, answer) = (service.request(), service.answer());
-        let send = self.replies(alloc, live, to, request, answer)?;
-        let what = What::Served(answer.copy(alloc)?);
-        let note = self.note(alloc, by, worker, request, what)?;
-        let turn = Turn {
-            body: BodyChange::Serve { worker, service },
-            said: Some(to),
-            ..Turn::none()
-        };
-        Ok(Plan {
-            change: Change::Turn(turn),
-            send,
-            note,
-            write: None,
-        })
+        let (send, note) = self.serving(alloc, live, to, by, &service)?;
+        let turn = Turn::saying(BodyChange::Serve { worker, service }, to);
+        Ok(Plan::of(turn, send, note))
     }
 
-    /// The kept answer is sent again.
-    fn again_plan(
+    /// What a shard says that sends a kept answer again, and the note of it.
+    pub(crate) fn answering_again(
         self,
         alloc: Global,
         live: &Live,
-        kept: KeptChange,
-        from: NodeId,
-        post: &Post,
+        to: NodeId,
+        by: u64,
         request: &Request,
         answer: &Answer,
-    ) -> Result<Plan, AllocError>
+    ) -> Result<(Outbox, Option<Note>), AllocError>
         requires { CanCount (live_view live.now) }
-        ensures { IfOk result (λ plan. plan ≡
-            again_plan (view_of self.entry) (live_view live.now) kept from post.now request.now answer.now) }
+        ensures { IfOk result (λ said. said ≡ (
+          (to, post_of (view_of self.entry) (live_view live.now) (Replied request.now answer.now)) ∷ [],
+          note_of self.entry.role.id by (node_number to) request.now (Again answer.now),
+        )) }
     {
-        let turn = Turn {
-            kept,
-            heard: Some((from, post.label)),
-            said: Some(from),
-            ..Turn::none()
-        };
         let what = What::Again(answer.copy(alloc)?);
-        Ok(Plan {
-            change: Change::Turn(turn),
-            send: self.replies(alloc, live, from, request, answer)?,
-            note: self.note(alloc, post.by, number_of(from), request, what)?,
-            write: None,
-        })
-    }
-
-    /// A shard hears a request, and this comes of it.
-    fn request_plan(
-        self,
-        alloc: Global,
-        live: &Live,
-        kept: KeptChange,
-        from: NodeId,
-        post: &Post,
-        request: &Request,
-        arrival: Arrival<'_>,
-    ) -> Result<Plan, AllocError>
-        requires { CanCount (live_view live.now) }
-        ensures { IfOk result (λ plan. plan ≡
-            request_plan (view_of self.entry) (live_view live.now) kept from post.now request.now
-            (arrival_view arrival.entry)) }
-    {
-        let worker = number_of(from);
-        match arrival {
-            Arrival::Waits => {
-                let note = self.note(alloc, post.by, worker, request, What::Heard)?;
-                let request = request.copy(alloc)?;
-                let body = BodyChange::Wait { worker, request };
-                Ok(hearing(alloc, kept, from, post.label, body, note))
-            }
-            Arrival::Again(answer) => {
-                self.again_plan(alloc, live, kept, from, post, request, answer)
-            }
-            Arrival::Ignored => {
-                let note = self.note(alloc, post.by, worker, request, What::Ignored(None))?;
-                Ok(hearing(alloc, kept, from, post.label, BodyChange::Stay, note))
-            }
-        }
-    }
-
-    /// A worker hears a reply.
-    fn reply_plan(
-        self,
-        alloc: Global,
-        worker: &Worker,
-        kept: KeptChange,
-        from: NodeId,
-        post: &Post,
-        request: &Request,
-        answer: &Answer,
-    ) -> Result<Plan, AllocError>
-        ensures { IfOk result (λ plan. plan ≡
-            reply_plan (view_of self.entry) worker.now kept from post.now request.now answer.now) }
-    {
-        let mut hearer = worker.copy(alloc)?;
-        let script = self.role.script;
-        let answered = answer.copy(alloc)?;
-        let (body, what) = if hearer.hear(alloc, script, request.number, &request.op, answer)? {
-            (BodyChange::Work(hearer), What::Accepted(answered))
-        } else {
-            (BodyChange::Stay, What::Ignored(Some(answered)))
-        };
-        let note = self.note(alloc, post.by, number_of(self.role.id), request, what)?;
-        Ok(hearing(alloc, kept, from, post.label, body, note))
-    }
-
-    /// The live node hears the message. Where it stood is told by what becomes of what is kept.
-    pub(crate) fn heard_plan(
-        self,
-        alloc: Global,
-        live: &Live,
-        kept: KeptChange,
-        from: NodeId,
-        post: &Post,
-    ) -> Result<Plan, AllocError>
-        requires { CanCount (live_view live.now) }
-        ensures { IfOk result (λ plan. plan ≡
-            heard_plan (view_of self.entry) (live_view live.now) kept from post.now) }
-    {
-        match (&live.body, &post.talk) {
-            (Body::Worker(worker), Talk::Reply { request, answer }) => {
-                self.reply_plan(alloc, worker, kept, from, post, request, answer)
-            }
-            (Body::Worker(_), Talk::Request(request)) => {
-                let number = number_of(self.role.id);
-                let note = self.note(alloc, post.by, number, request, What::Ignored(None))?;
-                Ok(hearing(alloc, kept, from, post.label, BodyChange::Stay, note))
-            }
-            (Body::Shard(shard), Talk::Request(request)) => {
-                let arrival = shard.arrival(number_of(from), request);
-                self.request_plan(alloc, live, kept, from, post, request, arrival)
-            }
-            (Body::Shard(_), Talk::Reply { request, answer }) => {
-                let what = What::Ignored(Some(answer.copy(alloc)?));
-                let note = self.note(alloc, post.by, number_of(from), request, what)?;
-                Ok(hearing(alloc, kept, from, post.label, BodyChange::Stay, note))
-            }
-        }
-    }
-}
-
-/// A message of this label is heard, this becomes of the body, and nothing is said.
-fn hearing(
-    alloc: Global,
-    kept: KeptChange,
-    from: NodeId,
-    label: Label,
-    body: BodyChange,
-    note: Option<Note>,
-) -> Plan
-    ensures { result ≡ hearing kept from label body note }
-{
-    let turn = Turn {
-        body,
-        kept,
-        heard: Some((from, label)),
-        ..Turn::none()
-    };
-    Plan {
-        change: Change::Turn(turn),
-        send: Outbox::empty(alloc),
-        note,
-        write: None,
+        self.answering(alloc, live, to, by, request, answer, what)
     }
 }

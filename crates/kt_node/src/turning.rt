@@ -1,21 +1,25 @@
 //! Changing a node, once nothing can be refused any more.
 
-ghost use Rattle.std.specs.Prelude.{◌≡◌, ◌<◌, ◌≤◌, ◌+◌, ◌^◌, ◌++◌, ◌∷◌, IsTrue, OnOk, length, filter, not, Some, None};
+ghost use Rattle.std.specs.Prelude.{◌≡◌, ◌<◌, IsTrue, OnOk, length, filter, not, None};
 ghost use Rattle.std.specs.VecDeque.{deque_len, deque_capacity};
 ghost use Rattle.kt_shard.specs.Table.{put};
-ghost use Rattle.kt_node.specs.Labels.{first_at, no_label, no_firsts, table_size};
-ghost use Rattle.kt_node.specs.Node.{node_number};
+ghost use Rattle.kt_node.specs.declared.change.Change.TheVariants.{Turn as Goes};
+ghost use Rattle.kt_node.specs.Labels.{first_at, no_label};
+ghost use Rattle.kt_node.specs.Node.{Alive, Down, IsShard, IsWorker, node_number};
 ghost use Rattle.kt_node.specs.Views.{body_view, body_has_room, live_view, live_has_room, HasTables};
-ghost use Rattle.kt_node.specs.Turning.{changed, changed_body, changed_kept, first_or, is_above, said, turned, turned_over};
+ghost use Rattle.kt_node.specs.Turning.{changed, changed_body, changed_kept, turned, turned_node};
+ghost use Rattle.kt_node.specs.Turning.{first_or, is_above, said, turned_over};
 ghost use Rattle.kt_node.specs.Ready.{CanChange, CanChangeBody, CanSay, CanTurn};
 
-use crate::change::{BodyChange, Change, KeptChange, Turn};
+use crate::change::{BodyChange, Change, KeptChange, Loaded, Turn};
 use crate::labels::{number_of, up_to};
 use crate::live::{Body, Live};
 use crate::message::Post;
 use crate::node::Node;
 use kt_link::Label;
+use kt_shard::Shard;
 use kt_tuple::NodeId;
+use kt_worker::Worker;
 use std::alloc::AllocError;
 use std::collections::VecDeque;
 
@@ -39,14 +43,33 @@ impl Node {
     {
         match change {
             Change::Stay => {}
-            Change::Turn(turn) => {
-                if let Some(live) = &mut self.live {
-                    live.turn(turn);
-                }
-            }
-            Change::Fall => self.live = None,
-            Change::Load(loaded) => self.live = Some(loaded.live),
+            Change::Turn(turn) => self.turn(turn),
+            Change::Fall => self.fall(),
+            Change::Load(loaded) => self.become_this(loaded),
         }
+    }
+
+    fn turn(&mut self, turn: Turn)
+        requires can { CanChange self.old.node (Goes turn) }
+        requires room { IsTrue self.old.has_room }
+        ensures { self.new.node ≡ turned_node turn self.old.node }
+    {
+        match &mut self.live {
+            Some(live) => live.turn(turn),
+            None => drop(turn),
+        }
+    }
+
+    fn fall(&mut self)
+        ensures { self.new.node ≡ Down }
+    {
+        self.live = None;
+    }
+
+    fn become_this(&mut self, loaded: Loaded)
+        ensures { self.new.node ≡ Alive loaded }
+    {
+        self.live = Some(loaded.live);
     }
 }
 
@@ -125,16 +148,33 @@ impl Body {
         requires room { IsTrue (body_has_room self.old) }
         ensures { body_view self.new ≡ changed_body (body_view self.old) change }
     {
-        match (self, change) {
-            (Body::Worker(worker), BodyChange::Work(changed)) => *worker = changed,
-            (Body::Shard(shard), BodyChange::Wait { worker, request }) => {
-                shard.wait(worker, request);
-            }
-            (Body::Shard(shard), BodyChange::Serve { worker, service }) => {
-                shard.carry_out(worker, service);
-            }
-            _ => {}
+        match self {
+            Body::Worker(worker) => change_worker(worker, change),
+            Body::Shard(shard) => change_shard(shard, change),
         }
+    }
+}
+
+/// Makes the change of a worker; that of a shard changes nothing.
+fn change_worker(worker: &mut Worker, change: BodyChange)
+    ensures { IsWorker worker.new ≡ changed_body (IsWorker worker.old) change }
+{
+    match change {
+        BodyChange::Work(changed) => *worker = changed,
+        other => drop(other),
+    }
+}
+
+/// Makes the change of a shard; that of a worker changes nothing.
+fn change_shard(shard: &mut Shard, change: BodyChange)
+    requires can { CanChangeBody (IsShard shard.old.state) change }
+    requires room { IsTrue shard.old.has_room }
+    ensures { IsShard shard.new.state ≡ changed_body (IsShard shard.old.state) change }
+{
+    match change {
+        BodyChange::Wait { worker, request } => shard.wait(worker, request),
+        BodyChange::Serve { worker, service } => shard.carry_out(worker, service),
+        BodyChange::Stay | BodyChange::Work(_) => {}
     }
 }
 
@@ -180,13 +220,20 @@ fn sieve(kept: &mut VecDeque<(NodeId, Post)>, from: NodeId, label: Label)
     }
 }
 
+/// Whether the kept message is from the node above the label.
+fn is_above(from: NodeId, label: Label, kept: &(NodeId, Post)) -> bool
+    ensures { result ≡ is_above from label kept.now }
+{
+    kept.0 == from && !up_to(kept.1.label, label)
+}
+
 /// Takes the first kept message off, and puts it behind the others unless it is from the node above the label.
 fn turn_over(kept: &mut VecDeque<(NodeId, Post)>, from: NodeId, label: Label)
     ensures items { kept.new.items ≡ turned_over from label kept.old.items }
 {
-    if let Some((sender, post)) = kept.pop_front() {
-        if sender != from || up_to(post.label, label) {
-            kept.push_back_reserved((sender, post));
+    if let Some(first) = kept.pop_front() {
+        if !is_above(from, label, &first) {
+            kept.push_back_reserved(first);
         }
     }
 }

@@ -14,5 +14,6 @@ returns-clause-value c =
 
 pub returns-clause-in_order : goal.returns-clause-in_order
 returns-clause-in_order c =
-    subst IsInOrder (sym (filter_same _ (is_in_cohort (option_copied c.args.permanent) (live_view c.args.live.now)) _ (λ x b f' k. search rules) _ _ c.retain.ensures.filtered))
+    subst IsInOrder
+    (sym (filter_same _ (is_in_cohort (option_copied c.args.permanent) (live_view c.args.live.now)) _ (λ x b f' k. search rules) _ _ c.retain.ensures.filtered))
     (AllPairs-filter IsBefore (is_in_cohort (option_copied c.args.permanent) (live_view c.args.live.now)) _ c.in_ok-nodes.ensures.in_order)

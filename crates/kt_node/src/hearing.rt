@@ -1,0 +1,292 @@
+//! What workers and shards hear of each other: the plans of these acts.
+
+ghost use Rattle.std.specs.Prelude.{◌≡◌, IfOk};
+ghost use Rattle.std.specs.Bool.{then_some};
+ghost use Rattle.std.specs.Option.{option_copied};
+ghost use Rattle.kt_history.specs.declared.note.What.TheVariants.{Accepted, Heard, Ignored};
+ghost use Rattle.kt_worker.specs.Standing.{awaits, heard};
+ghost use Rattle.kt_shard.specs.Arrival.{arrival_view};
+ghost use Rattle.kt_node.specs.declared.change.BodyChange.TheVariants.{Stay, Wait, Work};
+ghost use Rattle.kt_node.specs.Node.{node_number};
+ghost use Rattle.kt_node.specs.Views.{live_view};
+ghost use Rattle.kt_node.specs.View.{view_of};
+ghost use Rattle.kt_node.specs.Ready.{CanCount};
+ghost use Rattle.kt_node.specs.Talking.{hearing, note_of, again_plan, request_plan, reply_plan, heard_plan};
+
+use crate::change::{BodyChange, KeptChange, Turn};
+use crate::labels::number_of;
+use crate::live::{Body, Live};
+use crate::message::{Post, Talk};
+use crate::plan::{Outbox, Plan};
+use crate::role::View;
+use kt_history::{Note, What};
+use kt_link::Label;
+use kt_shard::{Arrival, Request};
+use kt_tuple::{Answer, NodeId};
+use kt_worker::Worker;
+use std::alloc::{AllocError, Global};
+
+impl View<'_> {
+    /// The kept answer is sent again.
+    fn again_plan(
+        self,
+        alloc: Global,
+        live: &Live,
+        kept: KeptChange,
+        from: NodeId,
+        post: &Post,
+        request: &Request,
+        answer: &Answer,
+    ) -> Result<Plan, AllocError>
+        requires { CanCount (live_view live.now) }
+        ensures { IfOk result (λ plan. plan ≡
+            again_plan (view_of self.entry) (live_view live.now) kept from post.now request.now answer.now) }
+    {
+        let (send, note) = self.answering_again(alloc, live, from, post.by, request, answer)?;
+        let turn = Turn {
+            body: BodyChange::Stay,
+            kept,
+            heard: Some((from, post.label)),
+            said: Some(from),
+            promoted: false,
+            phase: None,
+        };
+        Ok(Plan::of(turn, send, note))
+    }
+
+    /// The request that the worker waits with, and the note that the shard heard it.
+    fn waiting(
+        self,
+        alloc: Global,
+        by: u64,
+        worker: u8,
+        request: &Request,
+    ) -> Result<(Request, Option<Note>), AllocError>
+        ensures { IfOk result (λ r. r ≡ (request.now, note_of self.entry.role.id by worker request.now Heard)) }
+    {
+        let asked = request.copy(alloc)?;
+        let note = self.note(alloc, by, worker, request, What::Heard)?;
+        Ok((asked, note))
+    }
+
+    /// The shard hears a request, and the worker waits.
+    fn waiting_plan(
+        self,
+        alloc: Global,
+        kept: KeptChange,
+        from: NodeId,
+        post: &Post,
+        request: &Request,
+    ) -> Result<Plan, AllocError>
+        ensures { IfOk result (λ plan. plan ≡ hearing kept from post.now.label (Wait (node_number from) request.now)
+            (note_of self.entry.role.id post.now.by (node_number from) request.now Heard)) }
+    {
+        let worker = number_of(from);
+        let (request, note) = self.waiting(alloc, post.by, worker, request)?;
+        let body = BodyChange::Wait { worker, request };
+        Ok(hearing(alloc, kept, from, post.label, body, note))
+    }
+
+    /// The note of what is ignored about a request of the worker of this number: an answer, or the request.
+    fn note_ignored(
+        self,
+        alloc: Global,
+        by: u64,
+        worker: u8,
+        request: &Request,
+        answer: Option<&Answer>,
+    ) -> Result<Option<Note>, AllocError>
+        ensures { IfOk result (λ note. note ≡
+            note_of self.entry.role.id by worker request.now (Ignored (option_copied answer.entry))) }
+    {
+        let ignored = match answer {
+            Some(answer) => Some(answer.copy(alloc)?),
+            None => None,
+        };
+        self.note(alloc, by, worker, request, What::Ignored(ignored))
+    }
+
+    /// The node hears what it ignores.
+    fn ignoring_plan(
+        self,
+        alloc: Global,
+        kept: KeptChange,
+        from: NodeId,
+        post: &Post,
+        worker: u8,
+        request: &Request,
+        answer: Option<&Answer>,
+    ) -> Result<Plan, AllocError>
+        ensures { IfOk result (λ plan. plan ≡ hearing kept from post.now.label Stay
+            (note_of self.entry.role.id post.now.by worker request.now (Ignored (option_copied answer.entry)))) }
+    {
+        let note = self.note_ignored(alloc, post.by, worker, request, answer)?;
+        Ok(hearing(alloc, kept, from, post.label, BodyChange::Stay, note))
+    }
+
+    /// A shard hears a request, and this comes of it.
+    fn request_plan(
+        self,
+        alloc: Global,
+        live: &Live,
+        kept: KeptChange,
+        from: NodeId,
+        post: &Post,
+        request: &Request,
+        arrival: Arrival<'_>,
+    ) -> Result<Plan, AllocError>
+        requires { CanCount (live_view live.now) }
+        ensures { IfOk result (λ plan. plan ≡
+            request_plan (view_of self.entry) (live_view live.now) kept from post.now request.now
+            (arrival_view arrival.entry)) }
+    {
+        match arrival {
+            Arrival::Waits => self.waiting_plan(alloc, kept, from, post, request),
+            Arrival::Again(answer) => {
+                self.again_plan(alloc, live, kept, from, post, request, answer)
+            }
+            Arrival::Ignored => {
+                self.ignoring_plan(alloc, kept, from, post, number_of(from), request, None)
+            }
+        }
+    }
+
+    /// What the reply makes of the worker, where it accepts it.
+    fn heard_by(
+        self,
+        alloc: Global,
+        worker: &Worker,
+        request: &Request,
+        answer: &Answer,
+    ) -> Result<Option<Worker>, AllocError>
+        ensures { IfOk result (λ hearer. hearer ≡
+            then_some (awaits worker.now request.now.number request.now.op)
+            (heard self.entry.role.script.now worker.now answer.now)) }
+    {
+        let mut hearer = worker.copy(alloc)?;
+        let script = self.role.script;
+        if hearer.hear(alloc, script, request.number, &request.op, answer)? {
+            Ok(Some(hearer))
+        } else {
+            Ok(None)
+        }
+    }
+
+    /// The note that the node accepts the answer to its request.
+    fn note_accepted(
+        self,
+        alloc: Global,
+        by: u64,
+        request: &Request,
+        answer: &Answer,
+    ) -> Result<Option<Note>, AllocError>
+        ensures { IfOk result (λ note. note ≡ note_of self.entry.role.id by
+            (node_number self.entry.role.id) request.now (Accepted answer.now)) }
+    {
+        let what = What::Accepted(answer.copy(alloc)?);
+        self.note(alloc, by, number_of(self.role.id), request, what)
+    }
+
+    /// The worker becomes this one, which has accepted the answer.
+    fn accepting_plan(
+        self,
+        alloc: Global,
+        hearer: Worker,
+        kept: KeptChange,
+        from: NodeId,
+        post: &Post,
+        request: &Request,
+        answer: &Answer,
+    ) -> Result<Plan, AllocError>
+        ensures { IfOk result (λ plan. plan ≡ hearing kept from post.now.label (Work hearer)
+            (note_of self.entry.role.id post.now.by (node_number self.entry.role.id) request.now
+            (Accepted answer.now))) }
+    {
+        let note = self.note_accepted(alloc, post.by, request, answer)?;
+        Ok(hearing(
+            alloc,
+            kept,
+            from,
+            post.label,
+            BodyChange::Work(hearer),
+            note,
+        ))
+    }
+
+    /// A worker hears a reply.
+    fn reply_plan(
+        self,
+        alloc: Global,
+        worker: &Worker,
+        kept: KeptChange,
+        from: NodeId,
+        post: &Post,
+        request: &Request,
+        answer: &Answer,
+    ) -> Result<Plan, AllocError>
+        ensures { IfOk result (λ plan. plan ≡
+            reply_plan (view_of self.entry) worker.now kept from post.now request.now answer.now) }
+    {
+        let number = number_of(self.role.id);
+        match self.heard_by(alloc, worker, request, answer)? {
+            Some(hearer) => {
+                self.accepting_plan(alloc, hearer, kept, from, post, request, answer)
+            }
+            None => self.ignoring_plan(alloc, kept, from, post, number, request, Some(answer)),
+        }
+    }
+
+    /// The live node hears the message. Where it stood is told by what becomes of what is kept.
+    pub(crate) fn heard_plan(
+        self,
+        alloc: Global,
+        live: &Live,
+        kept: KeptChange,
+        from: NodeId,
+        post: &Post,
+    ) -> Result<Plan, AllocError>
+        requires { CanCount (live_view live.now) }
+        ensures { IfOk result (λ plan. plan ≡
+            heard_plan (view_of self.entry) (live_view live.now) kept from post.now) }
+    {
+        let number = number_of(from);
+        match (&live.body, &post.talk) {
+            (Body::Worker(worker), Talk::Reply { request, answer }) => {
+                self.reply_plan(alloc, worker, kept, from, post, request, answer)
+            }
+            (Body::Worker(_), Talk::Request(request)) => {
+                let own = number_of(self.role.id);
+                self.ignoring_plan(alloc, kept, from, post, own, request, None)
+            }
+            (Body::Shard(shard), Talk::Request(request)) => {
+                let arrival = shard.arrival(number, request);
+                self.request_plan(alloc, live, kept, from, post, request, arrival)
+            }
+            (Body::Shard(_), Talk::Reply { request, answer }) => {
+                self.ignoring_plan(alloc, kept, from, post, number, request, Some(answer))
+            }
+        }
+    }
+}
+
+/// A message of this label is heard, this becomes of the body, and nothing is said.
+fn hearing(
+    alloc: Global,
+    kept: KeptChange,
+    from: NodeId,
+    label: Label,
+    body: BodyChange,
+    note: Option<Note>,
+) -> Plan
+    ensures { result ≡ hearing kept from label body note }
+{
+    let turn = Turn {
+        body,
+        kept,
+        heard: Some((from, label)),
+        said: None,
+        promoted: false,
+        phase: None,
+    };
+    Plan::of(turn, Outbox::empty(alloc), note)
+}
