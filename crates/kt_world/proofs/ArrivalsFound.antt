@@ -25,8 +25,7 @@ use Rattle.kt_node.specs.Loading.{load}
 use Rattle.kt_node.specs.Learning.{restored, verdict_to, held_learns, rolling_learns}
 use Rattle.kt_node.specs.Arrivals.{unless_down, is_in, check_in, check_when_open, check_reaction, check_plan}
 use Rattle.kt_node.specs.Arrivals.{check_fitting, hear_check, rollback_in, rollback_when_open, rollback_reaction}
-use Rattle.kt_node.specs.Arrivals.{rollback_plan, hear_rollback, behind_own, vote_plan, vote_in, hear_vote}
-use Rattle.kt_node.specs.Arrivals.{verdict_by_parent, verdict_in, hear_verdict}
+use Rattle.kt_node.specs.Arrivals.{rollback_plan, hear_rollback, behind_own, vote_plan, vote_in, hear_vote, verdict_by_parent, verdict_in, hear_verdict}
 use Rattle.kt_node.specs.Plan.{empty_plan}
 use Rattle.kt_world.specs.declared.step.Step.TheVariants.{Deliver}
 use Rattle.kt_world.specs.declared.told.Told.{Told}

@@ -1,6 +1,6 @@
 -- What a plan has whose write the store allows and that leaves the state backed, told of its parts.
 use Rattle.std.proofs.Common.{◌≡◌, ◌≢◌, ℕ, ◌+◌, ◌<◌, ◌≤◌, Bool, true, false, List, [], Contains, Option, None, Some, inl, inr, refl, sym, ap, ◌∙◌, subst, arith}
-use Rattle.std.specs.Prelude.{IfSome, unwrap_or}
+use Rattle.std.specs.Prelude.{IfSome, unwrap_or, is_some}
 use Rattle.std.specs.List.{AllByRecursion}
 use Rattle.std.specs.Option.{option_map}
 use Rattle.std.proofs.lemmas.Bool.{cases_eq}
@@ -40,14 +40,15 @@ use Rattle.kt_world.specs.State.{State, node, link_place}
 use Rattle.kt_world.specs.Writing.{content_after}
 use Rattle.kt_world.specs.Effect.{taken_off, applied}
 use Rattle.kt_world.specs.Backed.{IsTakenIn, IsPhaseBacked, IsNodeBacked, IsBoards, IsBacked, IsAllowed, HasNumbers}
-use Rattle.kt_world.proofs.Plans.{IsAlive, IsDown}
-use Rattle.kt_world.proofs.OnLinks.{taken_off-was, sent-cases}
+use Rattle.kt_world.proofs.Plans.{IsAlive, IsDown, Comes}
+use Rattle.kt_world.proofs.OnLinks.{taken_off-was, sent-cases, first-holds}
 use Rattle.kt_world.proofs.Frames.{applied-rows}
 use Rattle.kt_world.proofs.Lists.{all-from, all-map}
 use Rattle.kt_world.proofs.Leaves.{casting-all}
 use Rattle.kt_world.proofs.Boards.{Says}
 use Rattle.kt_world.proofs.Writes.{row_after, own-row, other-rows, incarnation-after, says-after, board-after, next-after}
 use Rattle.kt_lines.proofs.Lists.{all-at}
+use Rattle.kt_world.specs.Told.{tentative_in, marks_in}
 
 -- the rows of the table are backed by what is stored of the node
 abbrev pub IsRowBacked : Option Tentative → Option Node → Type 0
@@ -273,3 +274,15 @@ settled-is (Some verdicts.No) agreed e = let is : false ≡ agreed = cc in ap (�
 -- the verdict of the instance is the one of the checkpoint that was taken in it
 pub taken-has : (c : Content) (i : ℕ) (stored : Option Tentative) (v : Verdict) → IsTakenIn i stored → verdict_of c i ≡ Some v → verdict_on c stored ≡ Some v
 taken-has c i stored v is e = ap (verdict_on c) is.is_stored ∙ ap (verdict_of c) is.is_of ∙ e
+
+-- nothing tentative is told of where nothing is stored
+pub none-tentative : (s : State) (p : NodeId) → is_some (tentative_in s.content p) ≡ false → (row_of s.content p).tentative ≡ None
+none-tentative s p e = by (row_of s.content p).tentative e
+  where
+    by : (o : Option Tentative) → is_some (option_map marks_in o) ≡ false → o ≡ None
+    by None e = refl
+    by (Some t) e = absurd cc
+
+-- a verdict that comes is the board's
+pub comes-boards : (s : State) → IsBacked s → (p q : NodeId) (m : Message) → Comes s p q m → IsBoards s.content m
+comes-boards s is p q m comes = first-holds s p q m (IsBoards s.content) comes is.messages

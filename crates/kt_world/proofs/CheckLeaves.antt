@@ -1,16 +1,13 @@
 -- The plans of checks keep a state sound: a node takes its tentative checkpoint, and learns what becomes of it.
-use Rattle.std.proofs.Common.{◌≡◌, ℕ, ◌∷◌, Bool, true, false, List, [], Contains, Option, Some, None, refl, sym, ap, ◌∙◌, subst, arith}
-use Rattle.std.specs.Prelude.{IfSome, unwrap_or}
+use Rattle.std.proofs.Common.{◌≡◌, ℕ, Bool, true, false, List, [], Option, Some, None, refl, sym, ap, ◌∙◌, arith}
+use Rattle.std.specs.Prelude.{unwrap_or}
 use Rattle.kt_tuple.specs.declared.node.NodeId.{NodeId}
 use Rattle.kt_history.specs.declared.note.Act.{Act}
 use Rattle.kt_history.specs.Closed.{acts_in_line}
-use Rattle.kt_history.proofs.Lists.{Contains-here}
-use Rattle.kt_link.specs.Network.{entry_at}
 use Rattle.kt_ckpt.specs.declared.ckpt.Ckpt.{Ckpt}
 use Rattle.kt_ckpt.specs.declared.marks.Marks.{Marks}
 use Rattle.kt_store.specs.declared.rows.Tentative.{Tentative}
 use Rattle.kt_store.specs.declared.rows.Verdict.{Verdict}
-use Rattle.kt_store.specs.declared.rows.Verdict.TheVariants as verdicts
 use Rattle.kt_store.specs.Verdict.{verdict_from}
 use Rattle.kt_store.specs.Changes.{promoted_from}
 use Rattle.kt_store.specs.Content.{row_of, verdict_of, verdict_on}
@@ -21,16 +18,16 @@ use Rattle.kt_node.specs.declared.message.Message.TheVariants as messages
 use Rattle.kt_node.specs.declared.live.Phase.{Phase}
 use Rattle.kt_node.specs.declared.live.Phase.TheVariants as phases
 use Rattle.kt_node.specs.declared.plan.Write.TheVariants as writes
-use Rattle.kt_node.specs.Node.{Live, Node, Down, Alive, poll_in}
+use Rattle.kt_node.specs.Node.{Live, Down, Alive, poll_in}
 use Rattle.kt_node.specs.Voting.{casting}
 use Rattle.kt_node.specs.Joining.{asker_of, cohort, checkpoint_now, begin_check_plan, join_check_plan}
 use Rattle.kt_node.specs.Learning.{held_learns}
 use Rattle.kt_node.specs.Deciding.{settled}
 use Rattle.kt_world.specs.declared.step.Step.TheVariants.{Learn}
 use Rattle.kt_world.specs.Cast.{Cast}
-use Rattle.kt_world.specs.State.{State, link_place, view}
+use Rattle.kt_world.specs.State.{State, view}
 use Rattle.kt_world.specs.Told.{of_poll, to_learn, verdict_for}
-use Rattle.kt_world.specs.Backed.{IsTakenIn, IsPhaseBacked, IsNodeBacked, IsBoards, IsBacked}
+use Rattle.kt_world.specs.Backed.{IsTakenIn, IsBacked}
 use Rattle.kt_world.proofs.Plans.{IsAlive, Comes}
 use Rattle.kt_world.proofs.Sound.{IsFront, IsNotNo, IsStored, IsSound, SendWell}
 use Rattle.kt_world.proofs.NoteSound.{line-long}
@@ -38,6 +35,7 @@ use Rattle.kt_world.proofs.Applying.{Keeps}
 use Rattle.kt_world.proofs.StoredFronts.{front-now}
 use Rattle.kt_world.proofs.ActLeaves.{alive_like, alive_keeps}
 use Rattle.kt_world.proofs.Turns.{check_asks_well, alive_was, turn_keeps}
+use Rattle.kt_world.proofs.Backs.{backed-in, comes-boards, settled-is}
 
 -- ---- a tentative checkpoint is taken
 
@@ -100,34 +98,15 @@ learns_as s sound p n false send alive is well =
 held_verdict : (s : State) → IsBacked s → (p : NodeId) (n : Live) (b : Poll) → IsAlive s p n → n.phase ≡ phases.Held b
     → verdict_on s.content (row_of s.content p).tentative ≡ verdict_of s.content b.instance
 held_verdict s backed p n b alive holds =
-    let taken : Option Tentative = (row_of s.content p).tentative in
-    let Row : Option Node → Type 0 = λ row. IfSome row (λ x. IsNodeBacked x taken) in
-    let In : Phase → Type 0 = λ phase. IsPhaseBacked phase taken in
-    let in_ballot : IsTakenIn b.instance taken = subst In holds (subst Row alive (backed.nodes p)) in
+    let in_ballot : IsTakenIn b.instance (row_of s.content p).tentative = backed-in s backed p n (phases.Held b) alive holds in
     ap (verdict_on s.content) in_ballot.is_stored ∙ ap (verdict_of s.content) in_ballot.is_of
-
--- a verdict that comes is the board's
-pub comes_boards : (s : State) → IsBacked s → (p q : NodeId) (m : Message) → Comes s p q m → IsBoards s.content m
-comes_boards s backed p q m comes = by (link_place s.cast p q) comes.on
-  where
-    by : (o : Option ℕ) → entry_at [] s.links o ≡ m ∷ comes.later → IsBoards s.content m
-    by None e = absurd cc
-    by (Some k) e = backed.messages k m (subst (λ l. Contains l m) (sym e) (Contains-here m comes.later))
 
 pub told_when_held : (s : State) → IsBacked s → IsSound s → (p q : NodeId) (n : Live) (b : Poll) (instance : ℕ) (agreed : Bool) (send : List (NodeId × Message))
     → Comes s p q (messages.Verdict instance agreed) → IsAlive s q n → n.phase ≡ phases.Held b → b.instance ≡ instance → SendWell s.cast.shards s.history q send
     → Keeps s q (held_learns agreed send)
 told_when_held s backed sound p q n b instance agreed send comes alive holds same well =
     learns_as s sound q n agreed send alive
-    (held_verdict s backed q n b alive holds ∙ ap (verdict_of s.content) same ∙ comes_boards s backed p q (messages.Verdict instance agreed) comes) well
-
-pub settled_is : (o : Option Verdict) (agreed : Bool) → settled o ≡ Some agreed → o ≡ Some (verdict_from agreed)
-settled_is None agreed e = absurd cc
-settled_is (Some verdicts.Open) agreed e = absurd cc
-settled_is (Some verdicts.Yes) true e = refl
-settled_is (Some verdicts.Yes) false e = absurd cc
-settled_is (Some verdicts.No) true e = absurd cc
-settled_is (Some verdicts.No) false e = refl
+    (held_verdict s backed q n b alive holds ∙ ap (verdict_of s.content) same ∙ comes-boards s backed p q (messages.Verdict instance agreed) comes) well
 
 -- what an alive node can learn is the verdict on its ballot's instance
 pub learnt : (s : State) (p : NodeId) (n : Live) → IsAlive s p n → verdict_for s (Learn p) ≡ to_learn s.content p (Alive n)
@@ -138,4 +117,4 @@ pub learns_when_held : (s : State) → IsBacked s → IsSound s → (p : NodeId)
 learns_when_held s backed sound p n b agreed alive holds is =
     let board : verdict_for s (Learn p) ≡ verdict_of s.content b.instance =
     learnt s p n alive ∙ ap (λ (phase : Phase). of_poll s.content (poll_in phase)) holds in
-    learns_as s sound p n agreed [] alive (held_verdict s backed p n b alive holds ∙ sym board ∙ settled_is (verdict_for s (Learn p)) agreed is) tt
+    learns_as s sound p n agreed [] alive (held_verdict s backed p n b alive holds ∙ sym board ∙ settled-is (verdict_for s (Learn p)) agreed is) tt

@@ -40,7 +40,7 @@ use Rattle.kt_world.proofs.Writes.{own-row}
 use Rattle.kt_world.proofs.Noes.{SaysNoYes, noes-stay}
 use Rattle.kt_world.proofs.Applying.{Keeps}
 use Rattle.kt_world.proofs.StoredFronts.{stored-cut}
-use Rattle.kt_world.proofs.Saved.{role_id}
+use Rattle.kt_world.proofs.Scene.{role-id}
 use Rattle.kt_world.proofs.Turns.{row_then}
 
 -- the node p as it becomes and as it is stored suits the first so many acts of its line
@@ -82,7 +82,7 @@ pub cut_keeps : (s : State) (p : NodeId) (keep : ℕ) (change : Change) (send : 
     → Keeps s p (record { change = change; send = send; note = cut_of (role_of s.cast p).id keep; write = write })
 cut_keeps s p keep change send write becomes is short well says sound =
     let By : NodeId → Type 0 = λ q. Keeps s p (record { change = change; send = send; note = cut_of q keep; write = write }) in
-    subst By (sym (role_id s.cast p)) (own_cut_keeps s p keep change send write becomes is short well says sound)
+    subst By (sym (role-id s.cast p)) (own_cut_keeps s p keep change send write becomes is short well says sound)
 
 -- ---- what is left of a line
 

@@ -134,13 +134,18 @@ check_ask-enough : (v : View) (c : Content) (p from : NodeId) (ask : Ask) (node 
     let t = told_by (for_ask ask.instance (mode_of node)) c p in unless_down node (check_fitting v from ask t.verdict t.permanent t.tentative)
     ≡ unless_down node (check_fitting v from ask (verdict_of c ask.instance) (permanent_marks c p) (tentative_in c p))
 check_ask-enough v c p from ask Down = refl
-check_ask-enough v c p from ask (Alive n) = asked-enough c p ask.instance n n.phase (λ verdict permanent tentative. check_fitting v from ask verdict permanent tentative n)
+check_ask-enough v c p from ask (Alive n) =
+    asked-enough c p ask.instance n n.phase
+    (λ verdict permanent tentative. check_fitting v from ask verdict permanent tentative n)
 
 roll_ask-enough : (v : View) (c : Content) (p from : NodeId) (ask : Ask) (node : Node) →
-    let t = told_by (for_ask ask.instance (mode_of node)) c p in unless_down node (λ n. rollback_plan v n from ask t.permanent (rollback_reaction n from ask t.verdict))
+    let t = told_by (for_ask ask.instance (mode_of node)) c p in
+    unless_down node (λ n. rollback_plan v n from ask t.permanent (rollback_reaction n from ask t.verdict))
     ≡ unless_down node (λ n. rollback_plan v n from ask (permanent_marks c p) (rollback_reaction n from ask (verdict_of c ask.instance)))
 roll_ask-enough v c p from ask Down = refl
-roll_ask-enough v c p from ask (Alive n) = asked-enough c p ask.instance n n.phase (λ verdict permanent tentative. rollback_plan v n from ask permanent (rollback_reaction n from ask verdict))
+roll_ask-enough v c p from ask (Alive n) =
+    asked-enough c p ask.instance n n.phase
+    (λ verdict permanent tentative. rollback_plan v n from ask permanent (rollback_reaction n from ask verdict))
 
 verdict-enough : (v : View) (c : Content) (p : NodeId) (instance : ℕ) (agreed : Bool) (node : Node) →
     unless_down node (λ n. verdict_in v (told_by (for_verdict instance agreed (mode_of node) (poll_of node)) c p).stored instance agreed n.phase)

@@ -36,7 +36,8 @@ use Rattle.kt_world.proofs.Sound.{acts_held, EndsDown, IsFront, IsNotNo, IsStore
 use Rattle.kt_world.proofs.Writes.{own-row}
 use Rattle.kt_world.proofs.Noes.{noes-stay}
 use Rattle.kt_world.proofs.Applying.{Keeps}
-use Rattle.kt_world.proofs.CheckLeaves.{promoted_front, settled_is}
+use Rattle.kt_world.proofs.CheckLeaves.{promoted_front}
+use Rattle.kt_world.proofs.Backs.{settled-is}
 use Rattle.kt_world.proofs.Cutting.{cut_keeps, held_marks, fallen}
 
 -- ---- a node fails
@@ -138,7 +139,7 @@ learns_yes_down s sound p down is =
     let verdict : Option Verdict = verdict_on s.content row.tentative in
     let was = down_was s sound p down in
     let board : verdict_for s (Learn p) ≡ verdict = ap (λ x. to_learn s.content p (unwrap_or x Down)) down in
-    let yes_there : verdict ≡ Some verdicts.Yes = sym board ∙ settled_is (verdict_for s (Learn p)) true is in
+    let yes_there : verdict ≡ Some verdicts.Yes = sym board ∙ settled-is (verdict_for s (Learn p)) true is in
     let fine : IsNotNo verdict = λ e. cc (yes_there, e) in
     let Of : Option Node → Type 0 = λ x. NodeSoundIn s.cast s.history c p (option_map (changed changes.Stay) x) in
     let Row : NodeRow → Type 0 =

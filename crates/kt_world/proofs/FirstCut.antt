@@ -10,9 +10,7 @@ use Rattle.kt_history.specs.declared.note.Note.{Note}
 use Rattle.kt_history.specs.declared.note.Note.TheVariants as notes
 use Rattle.kt_history.specs.Line.{note_at}
 use Rattle.kt_history.specs.WellFormed.{HasNoCut}
-use Rattle.kt_history.proofs.Lists.{Contains-here, Contains-none}
 use Rattle.kt_history.proofs.Lines.{note_at-old, note_at-new, note_at-within, note_at-push_cases}
-use Rattle.kt_link.specs.Network.{entry_at}
 use Rattle.kt_shard.specs.Table.{at}
 use Rattle.kt_vote.specs.declared.asker.Asker.{Asker}
 use Rattle.kt_vote.specs.declared.vote.Vote.{Vote}
@@ -46,7 +44,7 @@ use Rattle.kt_world.specs.Ready.{IsReady}
 use Rattle.kt_world.specs.Headline.{HasCut, IsFailure}
 use Rattle.kt_world.proofs.Plans as plans
 use Rattle.kt_world.proofs.Plans.{IsAlive, IsDown, Comes, Votes, PlanOf}
-use Rattle.kt_world.proofs.OnLinks.{taken_off-was, sent-cases}
+use Rattle.kt_world.proofs.OnLinks.{taken_off-was, sent-cases, first-holds}
 use Rattle.kt_world.proofs.Frames.{applied-rows}
 use Rattle.kt_world.proofs.Opened.{opening-node, no_messages}
 use Rattle.kt_world.proofs.Lists.{all-from, all-map, all-append}
@@ -123,11 +121,7 @@ shard-alive s ready is r there = by (node s (ids.Shard r)) refl (ready.there (id
     by (Some (Alive n)) at e calm = (n, at)
 
 none-asked : (s : State) → IsCalm s → (p q : NodeId) (m : Message) → Comes s p q m → IsMessageCalm m
-none-asked s is p q m comes = at_place (link_place s.cast p q) (subst (λ (l : List Message). Contains l m) (sym comes.on) (Contains-here m comes.later))
-  where
-    at_place : (k : Option ℕ) → Contains (entry_at [] s.links k) m → IsMessageCalm m
-    at_place None c = absurd (Contains-none m c)
-    at_place (Some k) c = is.messages k m c
+none-asked s is p q m comes = first-holds s p q m IsMessageCalm comes is.messages
 
 -- ---- what is sent
 

@@ -1,16 +1,14 @@
 -- The acts of workers and shards can be carried out, and leave the state ready.
-use Rattle.std.proofs.Common.{◌≡◌, ℕ, ◌+◌, List, [], Contains, Option, None, Some, refl, sym, subst}
+use Rattle.std.proofs.Common.{◌≡◌, ℕ, ◌+◌, [], None, Some, refl}
 use Rattle.std.specs.Prelude.{IsTrue}
 use Rattle.kt_tuple.specs.declared.node.NodeId.{NodeId}
 use Rattle.kt_tuple.specs.declared.node.NodeId.TheVariants as ids
 use Rattle.kt_tuple.specs.declared.op.Op.{Op}
 use Rattle.kt_history.specs.declared.note.Act.{Act}
 use Rattle.kt_history.specs.declared.note.Note.TheVariants as notes
-use Rattle.kt_history.proofs.Lists.{Contains-here, Contains-none}
 use Rattle.kt_worker.specs.declared.worker.Worker.{Worker}
 use Rattle.kt_worker.specs.Standing.{issued}
 use Rattle.kt_shard.specs.Service.{Service}
-use Rattle.kt_link.specs.Network.{entry_at}
 use Rattle.kt_node.specs.declared.message.Post.{Post}
 use Rattle.kt_node.specs.declared.message.Message.{Message}
 use Rattle.kt_node.specs.declared.change.BodyChange.{BodyChange}
@@ -24,7 +22,7 @@ use Rattle.kt_node.specs.Posts.{keep_plan}
 use Rattle.kt_lines.specs.Cause.{cause_of_waiting}
 use Rattle.kt_lines.proofs.NamedCauses.{cause_of_waiting-named}
 use Rattle.kt_world.specs.Cast.{is_worker, is_shard, is_node}
-use Rattle.kt_world.specs.State.{State, link_place, role_of, view}
+use Rattle.kt_world.specs.State.{State, role_of, view}
 use Rattle.kt_world.specs.Ready.{AreNeighbours, IsBodyReady, IsMessageReady, NamesAct, IsReady}
 use Rattle.kt_world.proofs.Plans.{IsAlive, Comes}
 use Rattle.kt_world.proofs.Scene.{role-id, worker-node, shard-node, neighbour-place, home-neighbour, worker-neighbour}
@@ -34,6 +32,7 @@ use Rattle.kt_world.proofs.Heards as ways
 use Rattle.kt_world.proofs.Heards.{HeardOf, heard-is}
 use Rattle.kt_world.proofs.Good.{IsGood, IsKeeping, live-ready, turn-good}
 use Rattle.kt_world.proofs.Leaves.{can-stay, can-work, can-wait, can-serve, stay-body, work-body, wait-body, serve-body, can-count}
+use Rattle.kt_world.proofs.OnLinks.{first-holds}
 
 no_cause : (s : State) → NamesAct s.history 0
 no_cause s = λ some. absurd (some refl)
@@ -84,11 +83,7 @@ serve-good s ready p w n v there other at =
 
 -- what comes names an act, if it names one
 pub comes-ready : (s : State) → IsReady s → (p q : NodeId) (m : Message) → Comes s p q m → IsMessageReady s.history m
-comes-ready s ready p q m comes = at_place (link_place s.cast p q) (subst (λ (l : List Message). Contains l m) (sym comes.on) (Contains-here m comes.later))
-  where
-    at_place : (k : Option ℕ) → Contains (entry_at [] s.links k) m → IsMessageReady s.history m
-    at_place None c = absurd (Contains-none m c)
-    at_place (Some k) c = ready.messages k m c
+comes-ready s ready p q m comes = first-holds s p q m (IsMessageReady s.history) comes ready.messages
 
 -- hearing says nothing
 hearing-good : (s : State) → IsReady s → (p from : NodeId) (n : Live) (kept : KeptChange) (post : Post) (change : BodyChange) (a : Act)

@@ -1,6 +1,6 @@
 -- What the leaves of the tables are made of: whom they send to, and what becomes of a node's work.
-use Rattle.std.proofs.Common.{◌≡◌, ℕ, ◌+◌, ◌<◌, Bool, true, false, List, Contains, Option, None, Some, sym, subst, arith}
-use Rattle.std.specs.Prelude.{IfSome, IsTrue}
+use Rattle.std.proofs.Common.{◌≡◌, ℕ, ◌+◌, ◌<◌, Bool, true, false, List, Contains, Option, None, Some, sym, subst, arith, refl, ap, ◌∙◌}
+use Rattle.std.specs.Prelude.{IfSome, IsTrue, unwrap_or}
 use Rattle.std.specs.List.{AllByRecursion}
 use Rattle.kt_tuple.specs.declared.node.NodeId.{NodeId}
 use Rattle.kt_tuple.specs.declared.node.NodeId.TheVariants as ids
@@ -20,14 +20,14 @@ use Rattle.kt_node.specs.declared.message.Message.TheVariants as messages
 use Rattle.kt_node.specs.declared.live.Phase.{Phase}
 use Rattle.kt_node.specs.declared.change.BodyChange.TheVariants as bodies
 use Rattle.kt_node.specs.Labels.{numbers}
-use Rattle.kt_node.specs.Node.{Body, IsWorker, IsShard, Live, across, neighbours}
+use Rattle.kt_node.specs.Node.{Body, IsWorker, IsShard, Live, across, neighbours, poll_in, poll_of, Down}
 use Rattle.kt_node.specs.Ready.{CanChangeBody, CanCount}
 use Rattle.kt_node.specs.Turning.{changed_body}
 use Rattle.kt_node.specs.Voting.{casting_to, casting_unless, casting_of, casting, poll_after, votes}
 use Rattle.kt_node.specs.Joining.{is_in_cohort, cohort, check_asks, roll_asks}
 use Rattle.kt_node.specs.Learning.{verdict_to}
 use Rattle.kt_world.specs.Cast.{Cast, is_node}
-use Rattle.kt_world.specs.State.{State, role_of}
+use Rattle.kt_world.specs.State.{State, role_of, view}
 use Rattle.kt_world.specs.Ready.{AreNeighbours, IsWithin, IsBodyReady, IsMessageReady, IsPollReady, IsPhaseReady, IsReady}
 use Rattle.kt_world.proofs.Plans as plans
 use Rattle.kt_world.proofs.Plans.{IsAlive, Votes}
@@ -37,6 +37,8 @@ use Rattle.kt_world.proofs.Growing.{body-grown}
 use Rattle.kt_world.proofs.Within.{length-left}
 use Rattle.kt_world.proofs.Good.{live-ready}
 use Rattle.kt_lines.proofs.Lists.{all-at}
+use Rattle.kt_store.specs.Content.{verdict_of}
+use Rattle.kt_world.specs.Told.{of_poll}
 
 -- ---- the work
 
@@ -100,6 +102,17 @@ phase-poll cast p x b phase plans.rolls is = is
 pub poll-ready : (s : State) → IsReady s → (p : NodeId) (n : Live) (b : Poll) (phase : Poll → Phase) → IsAlive s p n → Votes n.phase b phase
     → IsPollReady s.cast p b
 poll-ready s ready p n b phase at voting = phase-poll s.cast p n.phase b phase voting (live-ready s ready p n at).phase
+
+-- the ballot of a node that votes
+pub ballot_in : (x : Phase) (b : Poll) (phase : Poll → Phase) → Votes x b phase → poll_in x ≡ Some b
+ballot_in x b phase plans.holds = refl
+ballot_in x b phase plans.rolls = refl
+
+-- what the board has of the instance of an alive node's ballot
+pub of_ballot : (s : State) (p : NodeId) (n : Live) (b : Poll) → IsAlive s p n → poll_in n.phase ≡ Some b
+    → of_poll s.content (poll_of (view s p).node) ≡ verdict_of s.content b.instance
+of_ballot s p n b alive votes_in =
+    ap (λ row. of_poll s.content (poll_of (unwrap_or row Down))) alive ∙ ap (of_poll s.content) votes_in
 
 pub phase-ready : (cast : Cast) (p : NodeId) (x : Phase) (b c : Poll) (phase : Poll → Phase) → Votes x b phase → IsPollReady cast p c
     → IsPhaseReady cast p (phase c)

@@ -1,7 +1,7 @@
 -- What a step notes, and what it makes of what each node remembers: at most one note, of its owner; an act at the end of
 -- the owner's line, or a cut, which only a failure or a verdict that is learnt or told can bring.
-use Rattle.std.proofs.Common.{◌≡◌, ◌≢◌, ℕ, suc, ◌+◌, ◌≤◌, Bool, true, false, cond, List, [], ◌∷◌, ◌++◌}
-use Rattle.std.proofs.Common.{take, length, Option, Some, None, inl, inr, refl, sym, ap, ◌∙◌, subst, add-one, ne_eqb, length-append, ◌<◌, arith}
+use Rattle.std.proofs.Common.{◌≡◌, ℕ, suc, ◌+◌, ◌≤◌, Bool, true, false, cond, List, [], ◌∷◌, ◌++◌}
+use Rattle.std.proofs.Common.{take, length, Option, Some, None, inl, inr, refl, sym, ap, ◌∙◌, subst, add-one, length-append, ◌<◌, arith}
 use Rattle.std.specs.Prelude.{IsTrue}
 use Rattle.std.proofs.lemmas.Bool.{cases_eq}
 use Rattle.kt_tuple.specs.declared.node.NodeId.{NodeId}
@@ -10,7 +10,7 @@ use Rattle.kt_tuple.proofs.Nodes.{node_index-injective}
 use Rattle.kt_history.specs.declared.note.Act.{Act}
 use Rattle.kt_history.specs.declared.note.Note.{Note}
 use Rattle.kt_history.specs.declared.note.Note.TheVariants as notes
-use Rattle.kt_history.specs.Line.{line, same_node}
+use Rattle.kt_history.specs.Line.{line}
 use Rattle.kt_history.proofs.Lines.{line-own_act, line-own_cut, line-other_act, line-other_cut}
 use Rattle.kt_worker.specs.Standing.{awaits}
 use Rattle.kt_shard.specs.declared.request.Request.{Request}
@@ -37,6 +37,7 @@ use Rattle.kt_world.proofs.Plans as plans
 use Rattle.kt_world.proofs.Plans.{Comes, PlanOf}
 use Rattle.kt_world.proofs.Sound.{MayNote}
 use Rattle.kt_world.proofs.Applying.{Keeps}
+use Rattle.kt_world.proofs.NoteSound.{apart}
 
 -- ---- who cuts
 
@@ -111,15 +112,12 @@ notes_one s step plan keeps = noted_one s.cast s.history (owner step) plan.note 
 
 -- ---- what is remembered
 
-apart : (p q r : NodeId) → r ≡ p → node_index p ≢ node_index q → same_node r q ≡ false
-apart p q r own d = ne_eqb (node_index r) (node_index q) (λ e. d (ap node_index (sym own) ∙ e))
-
 line_noted : (s : State) (step : Step) (note : Option Note) → MayNote s.cast s.history (owner step) note
     → ((q : NodeId) (keep : ℕ) → note ≡ Some (notes.Cut q keep) → IsTrue (may_forget s step))
     → (q : NodeId) → LineAfter s step (noted s.history note) q
 line_noted s step None may forgets q = stays refl
 line_noted s step (Some (notes.Act a)) may forgets q = elim (cases_eq (node_index (owner step)) (node_index q)) [
-  | inr other ↦ stays (line-other_act s.history a q (apart (owner step) q a.node may.0 other))
+  | inr other ↦ stays (line-other_act s.history a q (apart (owner step) q a.node may.0 (λ e. other (ap node_index e))))
   | inl same ↦
       let is : owner step ≡ q = node_index-injective (owner step) q same in
       let here : a.node ≡ q = may.0 ∙ is in
@@ -128,7 +126,7 @@ line_noted s step (Some (notes.Act a)) may forgets q = elim (cases_eq (node_inde
       grows is (subst Grown here (line-own_act s.history a) ∙ ap (λ k. line s.history q ++ k ∷ []) last)
 ]
 line_noted s step (Some (notes.Cut r keep)) may forgets q = elim (cases_eq (node_index (owner step)) (node_index q)) [
-  | inr other ↦ stays (line-other_cut s.history r keep q (apart (owner step) q r may.0 other))
+  | inr other ↦ stays (line-other_cut s.history r keep q (apart (owner step) q r may.0 (λ e. other (ap node_index e))))
   | inl same ↦
       let is : owner step ≡ q = node_index-injective (owner step) q same in
       let here : r ≡ q = may.0 ∙ is in

@@ -41,7 +41,8 @@ noted-well_formed cast h p None wf may = wf
 noted-well_formed cast h p (Some (notes.Act a)) wf may = IsWellFormed-push h (notes.Act a) wf may.2
 noted-well_formed cast h p (Some (notes.Cut q keep)) wf may = IsWellFormed-push h (notes.Cut q keep) wf may.1
 
-apart : (p q r : NodeId) → r ≡ p → p ≢ q → same_node r q ≡ false
+-- an act or a cut of one node is not of another
+pub apart : (p q r : NodeId) → r ≡ p → p ≢ q → same_node r q ≡ false
 apart p q r own d = ne_eqb (node_index r) (node_index q) (λ e. d (sym own ∙ node_index-injective r q e))
 
 -- the lines of other nodes stay

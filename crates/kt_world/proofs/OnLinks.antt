@@ -4,15 +4,17 @@ use Rattle.std.proofs.lemmas.Bool.{cases_eq, cases_lt}
 use Rattle.std.proofs.lemmas.List.{get_or-set_other, get_or-set_same, set_past}
 use Rattle.std.proofs.lemmas.List.Elements.{Contains-push_cases}
 use Rattle.kt_tuple.specs.declared.node.NodeId.{NodeId}
-use Rattle.kt_history.proofs.Lists.{Contains-here, Contains-there}
+use Rattle.kt_history.proofs.Lists.{Contains-here, Contains-there, Contains-none}
 use Rattle.kt_link.specs.Network.{entry_at, with_entry}
 use Rattle.kt_link.proofs.Places.{place-own}
+use Rattle.kt_shard.specs.Table.{at}
 use Rattle.kt_node.specs.declared.message.Message.{Message}
 use Rattle.kt_world.specs.declared.step.Step.{Step}
 use Rattle.kt_world.specs.declared.step.Step.TheVariants.{Issue, Repeat, Deliver, Take, Serve, Check, Decide, Abandon, Learn, Fail, Restart}
 use Rattle.kt_world.specs.Cast.{Cast}
-use Rattle.kt_world.specs.State.{link_place}
+use Rattle.kt_world.specs.State.{State, link_place}
 use Rattle.kt_world.specs.Effect.{Way, sent_one, sent, taken_off}
+use Rattle.kt_world.proofs.Plans.{Comes}
 
 abbrev Links : Type 0
 Links = List (List Message)
@@ -25,7 +27,8 @@ entry-cases links (Some j) None new m c = inl c
 entry-cases links (Some j) (Some i) new m c = elim (cases_eq i j) [
   | inl same ↦ elim (cases_lt j (length links)) [
     | inl below ↦
-        let here : entry_at [] (set links j new) (Some i) ≡ new = ap (λ (k : ℕ). entry_at [] (set links j new) (Some k)) same ∙ get_or-set_same links j new [] below in
+        let there : entry_at [] (set links j new) (Some j) ≡ new = get_or-set_same links j new [] below in
+        let here : entry_at [] (set links j new) (Some i) ≡ new = ap (λ (k : ℕ). entry_at [] (set links j new) (Some k)) same ∙ there in
         inr (j, refl, ap Some same, subst (λ (l : List Message). Contains l m) here c)
     | inr past ↦ inl (subst (λ (l : Links). Contains (entry_at [] l (Some i)) m) (set_past links j new past) c)
   ]
@@ -79,7 +82,8 @@ sent-cases way links p (message ∷ later) k m c = elim (sent-cases way (sent_on
           inl (subst (λ (o : Option ℕ). Contains (entry_at [] links o) m) same was)
       | inr e ↦
           let first : Contains (message ∷ later) (message.0, message.1) = Contains-here message later in
-          inr (record { to = message.0; among = subst (λ (x : Message). Contains (message ∷ later) (message.0, x)) e first; at = new.0; by = new.1; here = new.2 })
+          let among = subst (λ (x : Message). Contains (message ∷ later) (message.0, x)) e first in
+          inr (record { to = message.0; among = among; at = new.0; by = new.1; here = new.2 })
     ]
   ]
 ]
@@ -88,3 +92,14 @@ sent-cases way links p (message ∷ later) k m c = elim (sent-cases way (sent_on
 pub sent_between : (cast : Cast) (owner : NodeId) (send : List (NodeId × Message)) (p q : NodeId) (m : Message)
     → (new : IsSent (link_place cast) owner send (link_place cast p q) m) → (owner ≡ p) × (new.to ≡ q)
 sent_between cast owner send p q m new = place-own _ _ owner new.to p q new.at new.by new.here
+
+-- ---- what comes
+
+-- what holds of all that is on the links holds of what comes
+pub first-holds : (s : State) (p q : NodeId) (m : Message) (P : Message → Type 0) → Comes s p q m
+    → ((k : ℕ) (x : Message) → Contains (at [] s.links k) x → P x) → P m
+first-holds s p q m P comes all = at_place (link_place s.cast p q) (subst (λ (l : List Message). Contains l m) (sym comes.on) (Contains-here m comes.later))
+  where
+    at_place : (k : Option ℕ) → Contains (entry_at [] s.links k) m → P m
+    at_place None c = absurd (Contains-none m c)
+    at_place (Some k) c = all k m c

@@ -21,7 +21,7 @@ use Rattle.kt_node.specs.declared.live.Phase.{Phase}
 use Rattle.kt_node.specs.declared.live.Phase.TheVariants as phases
 use Rattle.kt_node.specs.declared.change.Change.TheVariants as changes
 use Rattle.kt_node.specs.declared.plan.Write.TheVariants as writes
-use Rattle.kt_node.specs.Node.{Live, poll_in}
+use Rattle.kt_node.specs.Node.{Live}
 use Rattle.kt_node.specs.Plan.{no_turn}
 use Rattle.kt_node.specs.Stored.{is_undecided, sent_in}
 use Rattle.kt_node.specs.Posts.{keep_plan}
@@ -38,18 +38,14 @@ use Rattle.kt_world.proofs.Sound.{SaysSo, KeepsSo, acts_held, EndsRolling, IsSou
 use Rattle.kt_world.proofs.Noes.{SaysNoYes}
 use Rattle.kt_world.proofs.Applying.{Keeps}
 use Rattle.kt_world.proofs.ActLeaves.{alive_keeps, comes_so}
-use Rattle.kt_world.proofs.Turns.{EndsThen, verdicts_well, votes_well, roll_asks_well, sieved_so}
-use Rattle.kt_world.proofs.Turns.{alive_was, of_ballot, quiet_keeps, deciding_keeps, refusing_keeps}
+use Rattle.kt_world.proofs.Turns.{EndsThen, verdicts_well, votes_well, roll_asks_well, sieved_so, alive_was, quiet_keeps, deciding_keeps, refusing_keeps}
+use Rattle.kt_world.proofs.Leaves.{ballot_in, of_ballot}
 
 -- ---- ballots
 
 pub parent_after : (b : Poll) (own : Option (NodeId × Vote)) → (poll_after b own).parent ≡ b.parent
 parent_after b None = refl
 parent_after b (Some vote) = refl
-
-pub ballot_in : (ph : Phase) (b : Poll) (phase : Poll → Phase) → Votes ph b phase → poll_in ph ≡ Some b
-ballot_in ph b phase holds = refl
-ballot_in ph b phase rolls = refl
 
 -- a ballot that keeps its parent ends as it did
 ends_on : (long permanent : ℕ) (ph : Phase) (b new : Poll) (phase : Poll → Phase) → Votes ph b phase → new.parent ≡ b.parent → EndsRolling long permanent ph

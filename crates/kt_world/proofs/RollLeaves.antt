@@ -1,6 +1,6 @@
 -- The plans that load the permanent checkpoint keep a state sound: a node rolls back, and restarts.
 use Rattle.std.proofs.Common.{◌≡◌, ℕ, ◌≤◌, ◌∷◌, ◌++◌, false, List, [], length, take, Option, Some, None, Ok, refl, sym, ap, subst, arith}
-use Rattle.std.specs.Prelude.{IfSome, is_some}
+use Rattle.std.specs.Prelude.{is_some}
 use Rattle.std.specs.Option.{option_map}
 use Rattle.kt_tuple.specs.declared.node.NodeId.{NodeId}
 use Rattle.kt_history.specs.declared.note.Act.{Act}
@@ -29,7 +29,7 @@ use Rattle.kt_world.specs.State.{State, node, view}
 use Rattle.kt_world.specs.Told.{tentative_in, stored_of}
 use Rattle.kt_world.specs.Writing.{content_after}
 use Rattle.kt_world.specs.Ready.{IsReady}
-use Rattle.kt_world.specs.Backed.{IsPhaseBacked, IsNodeBacked, IsBacked}
+use Rattle.kt_world.specs.Backed.{IsBacked}
 use Rattle.kt_world.proofs.Plans.{IsAlive}
 use Rattle.kt_world.proofs.Sound.{IsBodyLike, acts_held, EndsDown, EndsRolling, IsFront, IsNodeSound, NodeSoundIn, IsSound, SendWell}
 use Rattle.kt_world.proofs.Writes.{own-row}
@@ -39,17 +39,9 @@ use Rattle.kt_world.proofs.StoredFronts.{stored-cut, loaded-front, loaded-whole}
 use Rattle.kt_world.proofs.Cutting.{cut_keeps, held_marks, IsLoaded, loaded, loaded_so}
 use Rattle.kt_world.proofs.FailLeaves.{HasFallen}
 use Rattle.kt_world.proofs.Turns.{alive_was, asks_well}
+use Rattle.kt_world.proofs.Backs.{backed-in, none-tentative}
 
 -- ---- a participant rolls back
-
--- a node that rolls back has nothing tentative
-rolling_free : (s : State) → IsBacked s → (p : NodeId) (n : Live) (b : Poll) → IsAlive s p n → n.phase ≡ phases.Rolling b
-    → (row_of s.content p).tentative ≡ None
-rolling_free s backed p n b alive rolling =
-    let taken : Option Tentative = (row_of s.content p).tentative in
-    let Row : Option Node → Type 0 = λ row. IfSome row (λ x. IsNodeBacked x taken) in
-    let In : Phase → Type 0 = λ phase. IsPhaseBacked phase taken in
-    subst In rolling (subst Row alive (backed.nodes p))
 
 pub rolls_back : (s : State) → IsReady s → IsBacked s → IsSound s → (p : NodeId) (n live : Live) (b : Poll) (send : List (NodeId × Message)) → IsAlive s p n
     → n.phase ≡ phases.Rolling b
@@ -64,7 +56,7 @@ rolls_back s ready backed sound p n live b send alive rolling from_store well =
       kept = loaded_so s.cast.shards (s.history ++ notes.Cut p keep ∷ []) p live.kept is.empty;
       stored =
           stored-cut s.cast p acts keep old (row_of s.content p).tentative _ (omega (arith, held)) short
-          (λ fine t e. absurd (cc (rolling_free s backed p n b alive rolling, e)))
+          (λ fine t e. absurd (cc (backed-in s backed p n (phases.Rolling b) alive rolling, e)))
           (sound.nodes p).stored;
       ends = subst (EndsRolling (length (take keep acts)) (acts_held old)) (sym is.up) tt;
     })
@@ -121,10 +113,6 @@ restarting s ready sound p was live next here long from_store =
       }));
     }
 
-none_taken : (o : Option Tentative) → is_some (option_map Rattle.kt_world.specs.Told.marks_in o) ≡ false → o ≡ None
-none_taken None e = refl
-none_taken (Some t) e = absurd cc
-
 pub restarts : (s : State) → IsReady s → IsSound s → (p : NodeId) (live : Live) (next : ℕ) → HasFallen s p → is_some (tentative_in s.content p) ≡ false
     → load (view s p) (stored_of s.content p) ≡ Ok live → Keeps s p (restarting_plan (view s p) (stored_of s.content p) next live)
 restarts s ready sound p live next down none from_store =
@@ -132,7 +120,7 @@ restarts s ready sound p live next down none from_store =
     let was = subst (NodeSoundIn s.cast s.history s.content p) down (sound.nodes p) in
     let Taken : Option Tentative → Type 0 =
     λ o. EndsDown (length (acts_in_line s.history p)) (acts_held row.permanent) (verdict_on s.content row.tentative) o in
-    restarting s ready sound p Down live next down (subst Taken (none_taken row.tentative none) was.ends) from_store
+    restarting s ready sound p Down live next down (subst Taken (none-tentative s p none) was.ends) from_store
 
 pub restarts_anew : (s : State) → IsReady s → IsSound s → (p : NodeId) (n live : Live) (b : Poll) (next : ℕ) → IsAlive s p n → n.phase ≡ phases.Rolling b
     → b.parent ≡ None

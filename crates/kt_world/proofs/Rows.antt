@@ -1,12 +1,11 @@
 -- The worked rows, computed by the definitions.
 use Rattle.std.proofs.Common.{refl}
-use Rattle.std.specs.Prelude.{◌≡◌, ℕ, List, [], ◌∷◌, ◌++◌}
+use Rattle.std.specs.Prelude.{◌≡◌, ℕ, List, [], ◌∷◌, ◌++◌, pos, None}
 use Rattle.kt_tuple.specs.declared.node.NodeId.{NodeId}
 use Rattle.kt_tuple.specs.declared.node.NodeId.TheVariants as ids
 use Rattle.kt_node.specs.declared.node.Mode.{Mode}
 use Rattle.kt_node.specs.declared.node.Mode.TheVariants as modes
 use Rattle.kt_world.specs.declared.step.StepError.TheVariants as refusals
-use Rattle.std.specs.Prelude.{pos, None}
 use Rattle.kt_tuple.specs.declared.value.Value.TheVariants as values
 use Rattle.kt_tuple.specs.declared.value.Kind.TheVariants as kinds
 use Rattle.kt_script.specs.declared.command.Command.{Command}

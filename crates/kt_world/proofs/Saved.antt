@@ -145,11 +145,6 @@ shard_loaded scripts made y few like = record {
 
 -- ---- all
 
--- who a node is
-pub role_id : (cast : Cast) (p : NodeId) → (role_of cast p).id ≡ p
-role_id cast (ids.Worker w) = refl
-role_id cast (ids.Shard r) = refl
-
 fitting : (fits : Bool) (body b : Body) → if_fits fits body ≡ Ok b → body ≡ b
 fitting true body b e = cc
 fitting false body b e = absurd cc

@@ -1,13 +1,9 @@
 -- A step of a world over a store that tells what it holds makes a write that the store allows, and leaves the state
 -- backed.
-use Rattle.std.proofs.Common.{◌≡◌, ℕ, ◌+◌, ◌<◌, Bool, true, false, List, [], Contains, Option, None, Some, Result, Ok, Err, refl, sym, ap, ◌∙◌, subst}
-use Rattle.std.specs.Prelude.{IfSome, is_some}
+use Rattle.std.proofs.Common.{◌≡◌, ℕ, ◌+◌, ◌<◌, Bool, true, false, List, [], Option, None, Some, Ok, refl, sym, ap, ◌∙◌, subst}
+use Rattle.std.specs.Prelude.{IfSome}
 use Rattle.std.specs.List.{AllByRecursion}
-use Rattle.std.specs.Option.{option_map}
 use Rattle.kt_tuple.specs.declared.node.NodeId.{NodeId}
-use Rattle.kt_history.proofs.Lists.{Contains-here, Contains-none}
-use Rattle.kt_link.specs.Network.{entry_at}
-use Rattle.kt_ckpt.specs.declared.ckpt.Ckpt.{Ckpt}
 use Rattle.kt_store.specs.declared.rows.Tentative.{Tentative}
 use Rattle.kt_store.specs.declared.rows.Verdict.TheVariants as verdicts
 use Rattle.kt_store.specs.Content.{Content, next_instance, row_of, verdict_of, verdict_on}
@@ -21,14 +17,12 @@ use Rattle.kt_node.specs.declared.change.KeptChange.{KeptChange}
 use Rattle.kt_node.specs.declared.change.KeptChange.TheVariants as keeps
 use Rattle.kt_node.specs.declared.plan.Plan.{Plan}
 use Rattle.kt_node.specs.declared.stored.Stored.{Stored}
-use Rattle.kt_node.specs.declared.refusal.Refusal.{Refusal}
-use Rattle.kt_node.specs.Node.{Body, Live, Node, neighbours, poll_in, poll_of}
-use Rattle.kt_node.specs.Stored.{fits, sent_in}
-use Rattle.kt_node.specs.State.{body_at}
+use Rattle.kt_node.specs.Node.{Live, Node, neighbours, poll_in}
+use Rattle.kt_node.specs.Stored.{sent_in}
 use Rattle.kt_node.specs.Labels.{label_at}
 use Rattle.kt_node.specs.Voting.{casting, poll_after, voted, votes}
 use Rattle.kt_node.specs.Joining.{asker_of, cohort, check_asks, roll_asks, roller}
-use Rattle.kt_node.specs.Loading.{loaded_from, loaded_by, load, marks_in as loading_marks}
+use Rattle.kt_node.specs.Loading.{load}
 use Rattle.kt_node.specs.Learning.{verdict_to, held_learns, restoring_plan}
 use Rattle.kt_node.specs.Failing.{restarting_plan}
 use Rattle.kt_node.specs.declared.plan.Write.TheVariants as writes
@@ -38,42 +32,25 @@ use Rattle.kt_world.specs.declared.step.Step.{Step}
 use Rattle.kt_world.specs.declared.step.Step.TheVariants.{Restart}
 use Rattle.kt_world.specs.Step.{owner}
 use Rattle.kt_world.specs.Limits.{most_steps}
-use Rattle.kt_world.specs.State.{State, link_place, role_of, view}
-use Rattle.kt_world.specs.Told.{told, of_poll, to_learn, tentative_in, marks_in}
+use Rattle.kt_world.specs.State.{State, role_of, view}
+use Rattle.kt_world.specs.Told.{told, of_poll, to_learn}
 use Rattle.kt_world.specs.Effect.{applied}
 use Rattle.kt_world.specs.Writing.{content_after}
-use Rattle.kt_world.specs.Backed.{IsTakenIn, IsPhaseBacked, IsBoards, IsBacked, IsAllowed}
+use Rattle.kt_world.specs.Backed.{IsTakenIn, IsPhaseBacked, IsBacked, IsAllowed}
 use Rattle.kt_world.proofs.Plans as plans
 use Rattle.kt_world.proofs.Plans.{IsAlive, IsDown, Comes, Votes, PlanOf}
 use Rattle.kt_world.proofs.Lists.{all-append}
 use Rattle.kt_world.proofs.Heards as ways
 use Rattle.kt_world.proofs.Heards.{HeardOf, heard-is}
 use Rattle.kt_world.proofs.Good.{live-seen}
-use Rattle.kt_world.proofs.Loads.{load-passed}
 use Rattle.kt_world.proofs.Boards.{Says, open-verdict, decided-own}
 use Rattle.kt_world.proofs.Backs.{SaysBoards, Backs, backs-backed, phase-backed, backed-in, turn-backs, load-backs}
 use Rattle.kt_world.proofs.Backs.{fall-backs, stay-backs, down-backs, casting-board, checks-board, rolls-board}
-use Rattle.kt_world.proofs.Backs.{verdicts-board, undecided-open, settled-is, taken-has}
+use Rattle.kt_world.proofs.Backs.{verdicts-board, undecided-open, settled-is, taken-has, comes-boards, none-tentative}
+use Rattle.kt_world.proofs.Leaves.{ballot_in, of_ballot}
+use Rattle.kt_world.proofs.Cutting.{loaded}
 
 -- ---- what is known
-
--- a verdict that comes is the board's
-comes-boards : (s : State) → IsBacked s → (p q : NodeId) (m : Message) → Comes s p q m → IsBoards s.content m
-comes-boards s is p q m comes = at_place (link_place s.cast p q) (subst (λ (l : List Message). Contains l m) (sym comes.on) (Contains-here m comes.later))
-  where
-    at_place : (k : Option ℕ) → Contains (entry_at [] s.links k) m → IsBoards s.content m
-    at_place None c = absurd (Contains-none m c)
-    at_place (Some k) c = is.messages k m c
-
--- what is told of the ballot of a node that votes
-poll-is : (x : Phase) (b : Poll) (phase : Poll → Phase) → Votes x b phase → poll_in x ≡ Some b
-poll-is x b phase plans.holds = refl
-poll-is x b phase plans.rolls = refl
-
-told-poll : (s : State) (p : NodeId) (n : Live) (b : Poll) (phase : Poll → Phase) → IsAlive s p n → Votes n.phase b phase
-    → of_poll s.content (poll_of (view s p).node) ≡ verdict_of s.content b.instance
-told-poll s p n b phase at voting =
-    ap (λ (x : Node). of_poll s.content (poll_of x)) (live-seen s p n at) ∙ ap (of_poll s.content) (poll-is n.phase b phase voting)
 
 told-held : (s : State) (p : NodeId) (n : Live) (b : Poll) → IsAlive s p n → n.phase ≡ phases.Held b
     → to_learn s.content p (view s p).node ≡ verdict_of s.content b.instance
@@ -82,28 +59,6 @@ told-held s p n b at held =
 
 told-down : (s : State) (p : NodeId) → IsDown s p → to_learn s.content p (view s p).node ≡ verdict_on s.content (row_of s.content p).tentative
 told-down s p down = ap (λ (x : Node). to_learn s.content p x) down
-
-none-tentative : (s : State) (p : NodeId) → is_some (tentative_in s.content p) ≡ false → (row_of s.content p).tentative ≡ None
-none-tentative s p e = by (row_of s.content p).tentative e
-  where
-    by : (o : Option Tentative) → is_some (option_map marks_in o) ≡ false → o ≡ None
-    by None e = refl
-    by (Some t) e = absurd cc
-
--- what is loaded is up
-loaded-up : (s : State) (p : NodeId) (stored : Stored) (live : Live) → load (view s p) stored ≡ Ok live → live.phase ≡ phases.Up
-loaded-up s p stored live e =
-    by (body_at (role_of s.cast p) stored.permanent) (load-passed (fits (role_of s.cast p) (view s p).line_len (loading_marks stored)) _ live e).1
-  where
-    from : (o : Option Ckpt) (incarnation : ℕ) (body : Body) → (loaded_from o incarnation body).phase ≡ phases.Up
-    from None incarnation body = refl
-    from (Some c) incarnation body = refl
-
-    by : (r : Result Body Refusal) → loaded_by stored.permanent (stored.incarnation + 1) r ≡ Ok live → live.phase ≡ phases.Up
-    by (Err refusal) e = absurd cc
-    by (Ok body) e =
-        let same : loaded_from stored.permanent (stored.incarnation + 1) body ≡ live = cc in
-        ap (λ (x : Live). x.phase) (sym same) ∙ from stored.permanent (stored.incarnation + 1) body
 
 -- ---- the leaves
 
@@ -160,7 +115,8 @@ restore-backs : (s : State) (p : NodeId) (stored : Stored) (live : Live) (send :
     → (row_of s.content p).tentative ≡ None
     → AllByRecursion (SaysBoards (content_after p (Some writes.Bump) s.content)) send → Backs s p (restoring_plan (view s p) stored send live)
 restore-backs s p stored live send loads none says =
-    load-backs s p _ live refl tt (subst (λ (x : Phase). IsPhaseBacked x (row_of s.content p).tentative) (sym (loaded-up s p stored live loads)) none) says
+    load-backs s p _ live refl tt
+    (subst (λ (x : Phase). IsPhaseBacked x (row_of s.content p).tentative) (sym (loaded s.cast p (view s p) stored live refl loads).up) none) says
 
 restart-backs : (s : State) (p : NodeId) (stored : Stored) (next : ℕ) (live : Live) → (row_of s.content p).tentative ≡ None
     → Backs s p (restarting_plan (view s p) stored next live)
@@ -216,9 +172,9 @@ plan-backs s is step plan (plans.begins_check {p = p} {n = n} there at up fit) =
     (record { tentative = _; is_stored = refl; is_of = sym (after-instance b (casting b)) })
     (all-append (SaysBoards c) (check_asks b.instance n b.asked) (votes (casting b)) (checks-board c b.instance n b.asked) (casting-board c b))
 plan-backs s is step plan (plans.decides {p = p} {n = n} {b = b} {phase = phase} {agreed = agreed} there at voting own undecided comes) =
-    decide-backs s is p n b agreed at (sym (told-poll s p n b phase at voting) ∙ undecided-open _ undecided)
+    decide-backs s is p n b agreed at (sym (of_ballot s p n b at (ballot_in n.phase b phase voting)) ∙ undecided-open _ undecided)
 plan-backs s is step plan (plans.gives_up {p = p} {n = n} {b = b} {phase = phase} there at voting own undecided) =
-    let yet = sym (told-poll s p n b phase at voting) ∙ undecided-open _ undecided in
+    let yet = sym (of_ballot s p n b at (ballot_in n.phase b phase voting)) ∙ undecided-open _ undecided in
     turn-backs s p n plan _ refl at yet (phase-backed s is p n at)
     (verdicts-board (content_after p (Some (writes.Decide b.instance false)) s.content) b.instance false b.asked
     (decided-own b.instance false s.content verdicts.Open yet))

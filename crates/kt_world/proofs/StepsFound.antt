@@ -19,8 +19,7 @@ use Rattle.kt_node.specs.Loading.{load, marks_in}
 use Rattle.kt_node.specs.Learning.{restored}
 use Rattle.kt_node.specs.Deciding.{check, check_in, check_of, decide, decide_if, decide_by, decide_in, decide_of}
 use Rattle.kt_node.specs.Deciding.{decide_plan, abandon, abandon_by, abandon_in, abandon_down, abandon_of, settled}
-use Rattle.kt_node.specs.Deciding.{learn, learn_held, learn_rolling, learn_by, learn_in, learn_settled, learn_of}
-use Rattle.kt_node.specs.Deciding.{declined_plan}
+use Rattle.kt_node.specs.Deciding.{learn, learn_held, learn_rolling, learn_by, learn_in, learn_settled, learn_of, declined_plan}
 use Rattle.kt_node.specs.Failing.{fail, fail_of, restart, restarted, restart_down, restart_after, restart_by, restart_in, restart_of}
 use Rattle.kt_world.specs.declared.step.Step.TheVariants.{Check, Decide, Abandon, Learn, Fail, Restart}
 use Rattle.kt_world.specs.declared.told.Told.{Told}

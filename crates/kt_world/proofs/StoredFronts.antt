@@ -12,7 +12,8 @@ use Rattle.kt_node.specs.Node.{Body, opening_body}
 use Rattle.kt_node.specs.State.{body_at, body_fields, body_from}
 use Rattle.kt_world.specs.Cast.{Cast, IsCast}
 use Rattle.kt_world.specs.State.{role_of}
-use Rattle.kt_world.proofs.Saved.{role_id, loaded_like}
+use Rattle.kt_world.proofs.Saved.{loaded_like}
+use Rattle.kt_world.proofs.Scene.{role-id}
 use Rattle.kt_world.proofs.Sound.{IsBodyLike, acts_held, IsFront, IsTentative, IsNotNo, IsStored}
 
 -- a front stays where the line begins with the same acts
@@ -87,7 +88,7 @@ loaded-front cast is p acts None b e front =
 loaded-front cast is p acts (Some c) b e front =
     let Id : NodeId → Type 0 = λ q. body_from (role_of cast p) c.line_len q c.state ≡ Ok b in
     let Saved : SavedState → Type 0 = λ state. body_from (role_of cast p) c.line_len p state ≡ Ok b in
-    loaded_like cast is p (take c.line_len acts) c.line_len front.body b front.like (subst Saved front.saved (subst Id (role_id cast p) e))
+    loaded_like cast is p (take c.line_len acts) c.line_len front.body b front.like (subst Saved front.saved (subst Id (role-id cast p) e))
 
 -- where the line ends with what is stored, it is like the line
 pub loaded-whole : (cast : Cast) → IsCast cast → (p : NodeId) (acts : List Act) (stored : Option Ckpt) (b : Body) → length acts ≡ acts_held stored

@@ -1,7 +1,6 @@
 -- A plan that notes nothing keeps a state sound where what is kept, what is stored and the end of the line still suit.
 use Rattle.std.proofs.Common.{◌≡◌, ℕ, Bool, true, false, not, cond, List, [], ◌∷◌, ◌++◌, filter}
 use Rattle.std.proofs.Common.{length, Contains, Option, Some, None, inl, inr, refl, sym, ap, ◌∙◌, subst}
-use Rattle.std.specs.Prelude.{unwrap_or}
 use Rattle.std.specs.Option.{option_map}
 use Rattle.kt_tuple.specs.declared.node.NodeId.{NodeId}
 use Rattle.kt_history.specs.declared.note.Note.{Note}
@@ -9,9 +8,8 @@ use Rattle.kt_history.specs.Closed.{acts_in_line}
 use Rattle.kt_history.proofs.Lists.{Contains-here, Contains-there, Contains-cons_cases}
 use Rattle.kt_link.specs.declared.label.Label.{Label}
 use Rattle.kt_store.specs.declared.rows.NodeRow.{NodeRow}
-use Rattle.kt_store.specs.Content.{Content, row_of, verdict_of, verdict_on}
+use Rattle.kt_store.specs.Content.{Content, row_of, verdict_on}
 use Rattle.kt_vote.specs.declared.vote.Vote.{Vote}
-use Rattle.kt_vote.specs.Poll.{Poll}
 use Rattle.kt_node.specs.declared.message.Message.{Message}
 use Rattle.kt_node.specs.declared.message.Post.{Post}
 use Rattle.kt_node.specs.declared.live.Phase.{Phase}
@@ -21,14 +19,13 @@ use Rattle.kt_node.specs.declared.change.Turn.{Turn}
 use Rattle.kt_node.specs.declared.change.Change.TheVariants as changes
 use Rattle.kt_node.specs.declared.plan.Write.{Write}
 use Rattle.kt_node.specs.declared.plan.Write.TheVariants as writes
-use Rattle.kt_node.specs.Node.{Body, IsWorker, IsShard, Live, Node, Down, Alive, poll_in, poll_of}
+use Rattle.kt_node.specs.Node.{Body, IsWorker, IsShard, Live, Node, Alive}
 use Rattle.kt_node.specs.Plan.{empty_plan}
 use Rattle.kt_node.specs.Voting.{votes}
 use Rattle.kt_node.specs.Joining.{check_asks, roll_asks}
 use Rattle.kt_node.specs.Learning.{verdict_to}
 use Rattle.kt_node.specs.Turning.{changed, changed_body, changed_kept, is_above, phase_in, turned}
-use Rattle.kt_world.specs.State.{State, node, view}
-use Rattle.kt_world.specs.Told.{of_poll}
+use Rattle.kt_world.specs.State.{State, node}
 use Rattle.kt_world.specs.Writing.{content_after}
 use Rattle.kt_world.proofs.Plans.{IsAlive}
 use Rattle.kt_world.proofs.Sound.{IsBodyLike, KeepsSo, acts_held, EndsRolling, IsStored, IsNodeSound, NodeSoundIn, IsSound, SendWell}
@@ -84,12 +81,6 @@ sieved_so shards h p from l kept so x c = so x (Contains-sieved (λ y. not (is_a
 
 pub alive_was : (s : State) → IsSound s → (p : NodeId) (n : Live) → IsAlive s p n → NodeSoundIn s.cast s.history s.content p (Some (Alive n))
 alive_was s sound p n alive = subst (NodeSoundIn s.cast s.history s.content p) alive (sound.nodes p)
-
--- what the board has of the instance of an alive node's ballot
-pub of_ballot : (s : State) (p : NodeId) (n : Live) (b : Poll) → IsAlive s p n → poll_in n.phase ≡ Some b
-    → of_poll s.content (poll_of (view s p).node) ≡ verdict_of s.content b.instance
-of_ballot s p n b alive votes_in =
-    ap (λ row. of_poll s.content (poll_of (unwrap_or row Down))) alive ∙ ap (of_poll s.content) votes_in
 
 -- ---- plans
 

@@ -25,7 +25,8 @@ Way = NodeId → NodeId → Option ℕ
 
 -- the links with one message more at the end of the one from p to its receiver
 abbrev pub sent_one : Way → List (List Message) → NodeId → NodeId × Message → List (List Message)
-sent_one way links p message = with_entry links (way p message.0) (entry_at [] links (way p message.0) ++ message.1 ∷ [])
+sent_one way links p message =
+    with_entry links (way p message.0) (entry_at [] links (way p message.0) ++ message.1 ∷ [])
 
 -- and with all of these
 unfoldable pub sent : Way → List (List Message) → NodeId → List (NodeId × Message) → List (List Message)

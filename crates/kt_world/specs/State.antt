@@ -39,7 +39,8 @@ link s p q = entry_at [] s.links (link_place s.cast p q)
 
 -- who p is: a worker has all shards as neighbours, a shard all workers
 abbrev pub role_of : Cast → NodeId → Role
-role_of cast (ids.Worker n) = record { id = ids.Worker n; peers = cast.shards; script = unwrap_or (script_at cast.scripts n) [] }
+role_of cast (ids.Worker n) =
+    record { id = ids.Worker n; peers = cast.shards; script = unwrap_or (script_at cast.scripts n) [] }
 role_of cast (ids.Shard n) = record { id = ids.Shard n; peers = length cast.scripts; script = [] }
 
 -- what p sees, but for the store and for what it hears
