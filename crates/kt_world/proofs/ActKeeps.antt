@@ -23,7 +23,9 @@ use Rattle.kt_world.specs.State.{State}
 use Rattle.kt_world.specs.Asks.{setting_of}
 use Rattle.kt_lines.proofs.Growth.{MayMake}
 use Rattle.kt_world.proofs.Plans.{IsAlive}
-use Rattle.kt_world.proofs.Sound.{IsBodyLike, acts_held, EndsRolling, IsNodeSound, NodeSoundIn, IsSound, SendWell}
+use Rattle.kt_world.specs.Cut.{acts_held}
+use Rattle.kt_world.specs.Like.{IsBodyLike}
+use Rattle.kt_world.proofs.Sound.{EndsRolling, IsNodeSound, NodeSoundIn, IsSound, SendWell}
 use Rattle.kt_world.proofs.NoteSound.{noted-says}
 use Rattle.kt_world.proofs.Applying.{Keeps}
 use Rattle.kt_world.proofs.StoredFronts.{stored-push}

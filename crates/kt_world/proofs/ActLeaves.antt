@@ -36,7 +36,8 @@ use Rattle.kt_world.specs.State.{State, role_of, view}
 use Rattle.kt_world.specs.Asks.{script_numbered}
 use Rattle.kt_world.specs.Ready.{IsNodeReady, IsReady}
 use Rattle.kt_world.proofs.Plans.{IsAlive, Comes}
-use Rattle.kt_world.proofs.Sound.{IsBodyLike, IsWorkerLike, IsShardLike, IsRequestOf, IsReplyOf, SaysSo, Carries, KeepsSo, NodeSoundIn, IsSound}
+use Rattle.kt_world.specs.Like.{IsBodyLike, IsWorkerLike, IsShardLike}
+use Rattle.kt_world.proofs.Sound.{IsRequestOf, IsReplyOf, SaysSo, Carries, KeepsSo, NodeSoundIn, IsSound}
 use Rattle.kt_world.proofs.OnLinks.{Contains-tail}
 use Rattle.kt_world.proofs.Applying.{Keeps}
 use Rattle.kt_world.proofs.ActKeeps.{IsThere, KeepsNoMore, act_keeps}

@@ -29,7 +29,8 @@ use Rattle.kt_world.specs.State.{State, view}
 use Rattle.kt_world.specs.Told.{of_poll, to_learn, verdict_for}
 use Rattle.kt_world.specs.Backed.{IsTakenIn, IsBacked}
 use Rattle.kt_world.proofs.Plans.{IsAlive, Comes}
-use Rattle.kt_world.proofs.Sound.{IsFront, IsNotNo, IsStored, IsSound, SendWell}
+use Rattle.kt_world.specs.Like.{HoldsFront, IsNotNo}
+use Rattle.kt_world.proofs.Sound.{IsStored, IsSound, SendWell}
 use Rattle.kt_world.proofs.NoteSound.{line-long}
 use Rattle.kt_world.proofs.Applying.{Keeps}
 use Rattle.kt_world.proofs.StoredFronts.{front-now}
@@ -40,7 +41,8 @@ use Rattle.kt_world.proofs.Backs.{backed-in, comes-boards, settled-is}
 -- ---- a tentative checkpoint is taken
 
 -- the checkpoint of this moment holds the whole line
-saved_now : (s : State) → IsSound s → (p : NodeId) (n : Live) → IsAlive s p n → IsFront s.cast p (acts_in_line s.history p) (Some (checkpoint_now (view s p) n))
+saved_now : (s : State) → IsSound s → (p : NodeId) (n : Live) → IsAlive s p n
+    → HoldsFront s.cast p (acts_in_line s.history p) (Some (checkpoint_now (view s p) n))
 saved_now s sound p n alive =
     front-now s.cast p (acts_in_line s.history p) (checkpoint_now (view s p) n) n.body (sym (line-long s.history p)) refl (alive_like s sound p n alive)
 
@@ -75,7 +77,7 @@ joins_check s sound p q n ask permanent alive =
 
 pub promoted_front : (cast : Cast) (p : NodeId) (acts : List Act) (old : Option Ckpt) (taken : Option Tentative) (verdict : Option Verdict)
     → IsStored cast p acts old taken verdict → IsNotNo verdict
-    → IsFront cast p acts (promoted_from old taken)
+    → HoldsFront cast p acts (promoted_from old taken)
 promoted_front cast p acts old None verdict stored fine = stored.permanent
 promoted_front cast p acts old (Some t) verdict stored fine = (stored.tentative fine).front
 

@@ -34,7 +34,9 @@ use Rattle.kt_node.specs.Turning.{changed}
 use Rattle.kt_world.specs.Cast.{Cast}
 use Rattle.kt_world.specs.State.{State, node, role_of}
 use Rattle.kt_world.specs.Writing.{content_after}
-use Rattle.kt_world.proofs.Sound.{KeepsSo, acts_held, EndsDown, IsNotNo, IsStored, IsNodeSound, NodeSoundIn, SendWell}
+use Rattle.kt_world.specs.Cut.{acts_held}
+use Rattle.kt_world.specs.Like.{IsNotNo}
+use Rattle.kt_world.proofs.Sound.{KeepsSo, EndsDown, IsStored, IsNodeSound, NodeSoundIn, SendWell}
 use Rattle.kt_world.proofs.NoteSound.{line-long}
 use Rattle.kt_world.proofs.Writes.{own-row}
 use Rattle.kt_world.proofs.Noes.{SaysNoYes, noes-stay}

@@ -32,7 +32,9 @@ use Rattle.kt_world.specs.State.{State, node, view}
 use Rattle.kt_world.specs.Told.{marks_in, tentative_in, stored_of, to_learn, verdict_for}
 use Rattle.kt_world.specs.Writing.{content_after}
 use Rattle.kt_world.proofs.Plans.{IsAlive, IsDown}
-use Rattle.kt_world.proofs.Sound.{acts_held, EndsDown, IsFront, IsNotNo, IsStored, IsNodeSound, NodeSoundIn, IsSound}
+use Rattle.kt_world.specs.Cut.{acts_held}
+use Rattle.kt_world.specs.Like.{HoldsFront, IsNotNo}
+use Rattle.kt_world.proofs.Sound.{EndsDown, IsStored, IsNodeSound, NodeSoundIn, IsSound}
 use Rattle.kt_world.proofs.Writes.{own-row}
 use Rattle.kt_world.proofs.Noes.{noes-stay}
 use Rattle.kt_world.proofs.Applying.{Keeps}
@@ -117,7 +119,7 @@ pub learns_no_down : (s : State) → IsSound s → (p : NodeId) → HasFallen s 
 learns_no_down s sound p down =
     let old : Option Ckpt = (row_of s.content p).permanent in
     let acts : List Act = acts_in_line s.history p in
-    let front : IsFront s.cast p acts old = (sound.nodes p).stored.permanent in
+    let front : HoldsFront s.cast p acts old = (sound.nodes p).stored.permanent in
     let is = held_marks old in
     let short : acts_in (option_map marks_of old) ≤ length acts = omega (arith, is, front.short) in
     cut_keeps s p (acts_in (option_map marks_of old)) changes.Stay [] (Some writes.Discard) Down (ap (option_map (changed changes.Stay)) down) short tt tt

@@ -18,7 +18,8 @@ use Rattle.kt_node.specs.Node.{Body, IsWorker, IsShard, Node, Down, Alive, worke
 use Rattle.kt_world.specs.State.{State, node}
 use Rattle.kt_world.specs.Asks.{script_numbered}
 use Rattle.kt_world.specs.Workers.{made_in_line, WorkersFollowLines}
-use Rattle.kt_world.proofs.Sound.{IsBodyLike, IsNodeLike, IsSound}
+use Rattle.kt_world.specs.Like.{IsBodyLike}
+use Rattle.kt_world.proofs.Sound.{IsNodeLike, IsSound}
 
 -- ---- services
 

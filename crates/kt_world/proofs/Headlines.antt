@@ -27,7 +27,8 @@ use Rattle.kt_world.specs.State.{State, node}
 use Rattle.kt_world.specs.Asks.{setting_of}
 use Rattle.kt_world.specs.Headline.{bag_in, bag_of, all_bags, IsNothingLost, Headline}
 use Rattle.kt_world.proofs.Plans.{IsAlive}
-use Rattle.kt_world.proofs.Sound.{IsBodyLike, IsSound}
+use Rattle.kt_world.specs.Like.{IsBodyLike}
+use Rattle.kt_world.proofs.Sound.{IsSound}
 use Rattle.kt_world.proofs.ActLeaves.{alive_like}
 
 pub headline : (s : State) → IsSound s → Headline s

@@ -50,4 +50,7 @@ pub mod Headlines
 pub mod LinesAfter
 pub mod Following
 pub mod FirstCut
+pub mod Cuts
+pub mod PermanentPart
 pub mod Holding
+pub mod PermanentReached

@@ -18,8 +18,9 @@ use Rattle.kt_node.specs.Node.{Node, opening_body, opening_node}
 use Rattle.kt_world.specs.Cast.{Cast, is_node}
 use Rattle.kt_world.specs.Asks.{script_numbered, setting_of}
 use Rattle.kt_world.specs.State.{node, link_place, role_of}
+use Rattle.kt_world.specs.Like.{IsBodyLike, HoldsFront}
+use Rattle.kt_world.proofs.Sound.{IsNodeSound, IsSound}
 use Rattle.kt_world.specs.Reached.{opening_row, opening}
-use Rattle.kt_world.proofs.Sound.{IsBodyLike, IsFront, IsNodeSound, IsSound}
 use Rattle.kt_world.proofs.Opened.{at-replicate, worker_row, shard_row, past_rows, no_messages}
 
 -- ---- rows
@@ -44,7 +45,7 @@ opening_like cast (ids.Worker w) = record { asked = refl; after = opening-after 
 opening_like cast (ids.Shard r) =
     record { bag = IsPermutation-refl []; desks = λ w. at-replicate empty_desk desks w; others = λ w none. at-replicate empty_desk desks w }
 
-nothing_stored : (cast : Cast) (p : NodeId) → IsFront cast p [] None
+nothing_stored : (cast : Cast) (p : NodeId) → HoldsFront cast p [] None
 nothing_stored cast p =
     record { short = omega arith; body = opening_body (role_of cast p) (role_of cast p).id; saved = refl; like = opening_like cast p }
 

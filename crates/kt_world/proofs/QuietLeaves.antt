@@ -34,7 +34,8 @@ use Rattle.kt_world.specs.declared.step.Step.TheVariants.{Decide}
 use Rattle.kt_world.specs.State.{State, view}
 use Rattle.kt_world.specs.Told.{verdict_for}
 use Rattle.kt_world.proofs.Plans.{IsAlive, Comes, Votes, holds, rolls}
-use Rattle.kt_world.proofs.Sound.{SaysSo, KeepsSo, acts_held, EndsRolling, IsSound, SendWell}
+use Rattle.kt_world.specs.Cut.{acts_held}
+use Rattle.kt_world.proofs.Sound.{SaysSo, KeepsSo, EndsRolling, IsSound, SendWell}
 use Rattle.kt_world.proofs.Noes.{SaysNoYes}
 use Rattle.kt_world.proofs.Applying.{Keeps}
 use Rattle.kt_world.proofs.ActLeaves.{alive_keeps, comes_so}

@@ -31,7 +31,9 @@ use Rattle.kt_world.specs.Writing.{content_after}
 use Rattle.kt_world.specs.Ready.{IsReady}
 use Rattle.kt_world.specs.Backed.{IsBacked}
 use Rattle.kt_world.proofs.Plans.{IsAlive}
-use Rattle.kt_world.proofs.Sound.{IsBodyLike, acts_held, EndsDown, EndsRolling, IsFront, IsNodeSound, NodeSoundIn, IsSound, SendWell}
+use Rattle.kt_world.specs.Cut.{acts_held}
+use Rattle.kt_world.specs.Like.{IsBodyLike, HoldsFront}
+use Rattle.kt_world.proofs.Sound.{EndsDown, EndsRolling, IsNodeSound, NodeSoundIn, IsSound, SendWell}
 use Rattle.kt_world.proofs.Writes.{own-row}
 use Rattle.kt_world.proofs.Noes.{noes-stay}
 use Rattle.kt_world.proofs.Applying.{Keeps, sound-later}
@@ -73,7 +75,7 @@ rolls_back s ready backed sound p n live b send alive rolling from_store well =
     held : acts_in (option_map marks_of (row_of s.content p).permanent) ≡ acts_held (row_of s.content p).permanent
     held = held_marks (row_of s.content p).permanent
 
-    front : IsFront s.cast p (acts_in_line s.history p) (row_of s.content p).permanent
+    front : HoldsFront s.cast p (acts_in_line s.history p) (row_of s.content p).permanent
     front = (sound.nodes p).stored.permanent
 
     short : acts_in (option_map marks_of (row_of s.content p).permanent) ≤ length (acts_in_line s.history p)

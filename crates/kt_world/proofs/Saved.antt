@@ -22,7 +22,7 @@ use Rattle.kt_node.specs.State.{worker_fields, worker_fits, standing_from, body_
 use Rattle.kt_world.specs.Cast.{Cast, IsCast, script_at}
 use Rattle.kt_world.specs.State.{role_of}
 use Rattle.kt_lines.specs.ShardLine.{MadeShard, shard_of_acts, new_shard}
-use Rattle.kt_world.proofs.Sound.{IsBodyLike, IsShardLike}
+use Rattle.kt_world.specs.Like.{IsBodyLike, IsShardLike}
 
 -- ---- tables of numbers
 

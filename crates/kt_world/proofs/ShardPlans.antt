@@ -38,7 +38,8 @@ use Rattle.kt_shard.proofs.Steps.{service-due, service-step}
 use Rattle.kt_lines.proofs.Traces.{WasHeard, waits_heard, ServedIn, keeps_served, ShardLine-home, Contains-acts_at, cause_found}
 use Rattle.kt_lines.proofs.Causes.{before_at}
 use Rattle.kt_lines.proofs.Growth.{shard_of_acts-push}
-use Rattle.kt_world.proofs.Sound.{IsShardLike, IsRequestOf}
+use Rattle.kt_world.specs.Like.{IsShardLike}
+use Rattle.kt_world.proofs.Sound.{IsRequestOf}
 use Rattle.kt_world.proofs.NoteSound.{note_at-next}
 use Rattle.kt_world.proofs.ActKeeps.{ActWell}
 use Rattle.kt_world.proofs.WorkerPlans.{posting}

@@ -1,6 +1,6 @@
 -- Sound states: the history is legal and well-formed, each message carries what its act says, and of each node what it
 -- works with and what is stored of it are like what its line, or the front of it, makes of it.
-use Rattle.std.proofs.Common.{◌≡◌, ℕ, ◌≤◌, List, length, take, Contains, Option, Some, None, IsPermutation}
+use Rattle.std.proofs.Common.{◌≡◌, ℕ, ◌≤◌, List, length, Contains, Option, Some, None}
 use Rattle.std.specs.Prelude.{IfSome}
 use Rattle.std.specs.List.{AllByRecursion}
 use Rattle.kt_tuple.specs.declared.node.NodeId.{NodeId}
@@ -14,12 +14,7 @@ use Rattle.kt_history.specs.Line.{note_at}
 use Rattle.kt_history.specs.Closed.{acts_in_line}
 use Rattle.kt_history.specs.WellFormed.{IsAsking, IsAnswering, Fits, IsWellFormed}
 use Rattle.kt_script.specs.declared.command.Command.{Command}
-use Rattle.kt_worker.specs.declared.worker.Worker.{Worker}
-use Rattle.kt_worker.specs.After.{IsAfter}
 use Rattle.kt_shard.specs.declared.request.Request.{Request}
-use Rattle.kt_shard.specs.Shard.{Shard}
-use Rattle.kt_shard.specs.Table.{at}
-use Rattle.kt_shard.specs.Desk.{empty_desk}
 use Rattle.kt_ckpt.specs.declared.ckpt.Ckpt.{Ckpt}
 use Rattle.kt_store.specs.declared.rows.Tentative.{Tentative}
 use Rattle.kt_store.specs.declared.rows.Verdict.{Verdict}
@@ -32,38 +27,18 @@ use Rattle.kt_node.specs.declared.message.Message.{Message}
 use Rattle.kt_node.specs.declared.message.Message.TheVariants as messages
 use Rattle.kt_node.specs.declared.live.Phase.{Phase}
 use Rattle.kt_node.specs.declared.live.Phase.TheVariants as phases
-use Rattle.kt_node.specs.Node.{Role, Body, IsWorker, IsShard, Node, Down, Alive, opening_body}
-use Rattle.kt_node.specs.State.{body_fields}
-use Rattle.kt_world.specs.Cast.{Cast, script_at}
-use Rattle.kt_world.specs.State.{State, node, link, role_of}
-use Rattle.kt_world.specs.Asks.{script_numbered, setting_of}
-use Rattle.kt_lines.specs.ShardLine.{MadeShard, shard_of_acts, new_shard}
-use Rattle.kt_lines.specs.WorkerLine.{MadeWorker, worker_of_acts, new_worker}
+use Rattle.kt_node.specs.Node.{Node, Down, Alive}
+use Rattle.kt_world.specs.Cast.{Cast}
+use Rattle.kt_world.specs.State.{State, node, link}
+use Rattle.kt_world.specs.Asks.{setting_of}
+use Rattle.kt_world.specs.Cut.{acts_held}
+use Rattle.kt_world.specs.Like.{IsBodyLike, HoldsFront, IsNotNo}
 use Rattle.kt_lines.specs.Legal.{AreLegal}
 use Rattle.kt_lines.proofs.Growth.{MayMake}
 
 -- ---- what a node works with
 
--- a worker of this script is like what its acts make of it
-pub record IsWorkerLike (script : List Command) (made : MadeWorker) (x : Worker) : Type 0 where
-  pub asked : x.asked ≡ made.asked
-  pub after : IsAfter script made.answers x
-
--- a shard is like what its acts make of it: the same tuples in some order, and the same desks, which are empty where
--- the scene has no such worker
-pub record IsShardLike (scripts : List (List Command)) (made : MadeShard) (y : Shard) : Type 0 where
-  pub bag : IsPermutation made.bag y.bag
-  pub desks : (w : ℕ) → at empty_desk y.desks w ≡ made.desk w
-  pub others : (w : ℕ) → script_at scripts w ≡ None → at empty_desk y.desks w ≡ empty_desk
-
--- so is what the node p, whose acts these are, works with
-abbrev pub IsBodyLike : List (List Command) → NodeId → List Act → Body → Type 0
-IsBodyLike scripts (ids.Worker w) acts (IsWorker x) = IsWorkerLike (script_numbered scripts w) (worker_of_acts new_worker acts) x
-IsBodyLike scripts (ids.Worker w) acts (IsShard y) = ⊥
-IsBodyLike scripts (ids.Shard s) acts (IsWorker x) = ⊥
-IsBodyLike scripts (ids.Shard s) acts (IsShard y) = IsShardLike scripts (shard_of_acts new_shard acts) y
-
--- if the node is alive
+-- what an alive node works with is like what its acts make of it
 abbrev pub IsNodeLike : List (List Command) → NodeId → List Act → Option Node → Type 0
 IsNodeLike scripts p acts None = Unit {0}
 IsNodeLike scripts p acts (Some Down) = Unit {0}
@@ -117,34 +92,13 @@ AreKept shards h p (Some (Alive n)) = KeepsSo shards h p n.kept
 
 -- ---- what is stored
 
--- how many acts a checkpoint holds; nothing stored is the beginning
-abbrev pub acts_held : Option Ckpt → ℕ
-acts_held None = 0
-acts_held (Some c) = c.line_len
-
--- what the node worked with is what the checkpoint has of it
-abbrev pub IsSavedOf : Role → Option Ckpt → Body → Type 0
-IsSavedOf role None body = body ≡ opening_body role role.id
-IsSavedOf role (Some c) body = c.state ≡ body_fields body
-
--- the checkpoint holds the first of these acts, and was taken of what is like what those make of the node
-pub record IsFront (cast : Cast) (p : NodeId) (acts : List Act) (stored : Option Ckpt) : Type 0 where
-  pub short : acts_held stored ≤ length acts
-  pub body : Body
-  pub saved : IsSavedOf (role_of cast p) stored body
-  pub like : IsBodyLike cast.scripts p (take (acts_held stored) acts) body
-
--- a tentative one holds no less than the permanent one
+-- the tentative checkpoint holds no less than the permanent one
 pub record IsTentative (cast : Cast) (p : NodeId) (acts : List Act) (permanent : Option Ckpt) (c : Ckpt) : Type 0 where
-  pub front : IsFront cast p acts (Some c)
+  pub front : HoldsFront cast p acts (Some c)
   pub behind : acts_held permanent ≤ c.line_len
 
--- the verdict on its instance is not No
-abbrev pub IsNotNo : Option Verdict → Type 0
-IsNotNo verdict = ¬ (verdict ≡ Some verdicts.No)
-
 pub record IsStored (cast : Cast) (p : NodeId) (acts : List Act) (old : Option Ckpt) (taken : Option Tentative) (verdict : Option Verdict) : Type 0 where
-  pub permanent : IsFront cast p acts old
+  pub permanent : HoldsFront cast p acts old
   pub tentative : IsNotNo verdict → IfSome taken (λ t. IsTentative cast p acts old t.checkpoint)
 
 -- a node that is down ends where what it will go on from ends
@@ -168,8 +122,7 @@ Ends long permanent tentative verdict (Some (Alive n)) = EndsRolling long perman
 
 -- the node p, with these acts, as it is and as it is stored
 pub record IsNodeSound (cast : Cast) (h : List Note) (p : NodeId) (acts : List Act) (node : Option Node) (permanent : Option Ckpt)
-    (tentative : Option Tentative)
-    (verdict : Option Verdict) : Type 0 where
+    (tentative : Option Tentative) (verdict : Option Verdict) : Type 0 where
   pub like : IsNodeLike cast.scripts p acts node
   pub kept : AreKept cast.shards h p node
   pub stored : IsStored cast p acts permanent tentative verdict

@@ -14,23 +14,26 @@ use Rattle.kt_world.specs.Cast.{Cast, IsCast}
 use Rattle.kt_world.specs.State.{role_of}
 use Rattle.kt_world.proofs.Saved.{loaded_like}
 use Rattle.kt_world.proofs.Scene.{role-id}
-use Rattle.kt_world.proofs.Sound.{IsBodyLike, acts_held, IsFront, IsTentative, IsNotNo, IsStored}
+use Rattle.kt_world.specs.Cut.{acts_held}
+use Rattle.kt_world.specs.Like.{IsBodyLike, HoldsFront, IsNotNo}
+use Rattle.kt_world.proofs.Sound.{IsTentative, IsStored}
 
 -- a front stays where the line begins with the same acts
 front-kept : (cast : Cast) (p : NodeId) (acts new : List Act) (stored : Option Ckpt) → acts_held stored ≤ length new
     → take (acts_held stored) new ≡ take (acts_held stored) acts
-    → IsFront cast p acts stored → IsFront cast p new stored
+    → HoldsFront cast p acts stored → HoldsFront cast p new stored
 front-kept cast p acts new stored short same front =
     record { short = short; body = front.body; saved = front.saved; like = subst (λ l. IsBodyLike cast.scripts p l front.body) (sym same) front.like }
 
-front-push : (cast : Cast) (p : NodeId) (acts : List Act) (a : Act) (stored : Option Ckpt) → IsFront cast p acts stored → IsFront cast p (acts ++ a ∷ []) stored
+front-push : (cast : Cast) (p : NodeId) (acts : List Act) (a : Act) (stored : Option Ckpt) → HoldsFront cast p acts stored
+    → HoldsFront cast p (acts ++ a ∷ []) stored
 front-push cast p acts a stored front =
     let long = length-append acts (a ∷ []) in
     front-kept cast p acts (acts ++ a ∷ []) stored (omega (arith, long, front.short)) (take-append-le (acts_held stored) acts (a ∷ []) front.short) front
 
 front-cut : (cast : Cast) (p : NodeId) (acts : List Act) (keep : ℕ) (stored : Option Ckpt) → acts_held stored ≤ keep → keep ≤ length acts
-    → IsFront cast p acts stored
-    → IsFront cast p (take keep acts) stored
+    → HoldsFront cast p acts stored
+    → HoldsFront cast p (take keep acts) stored
 front-cut cast p acts keep stored low high front =
     let long = length-take-le keep acts high in
     front-kept cast p acts (take keep acts) stored (omega (arith, long, low)) (take-take (acts_held stored) keep acts low) front
@@ -38,7 +41,7 @@ front-cut cast p acts keep stored low high front =
 -- ---- all that is stored
 
 tentatives : (cast : Cast) (p : NodeId) (acts new : List Act) (old : Option Ckpt) (taken : Option Tentative)
-    → ((t : Tentative) → taken ≡ Some t → IsFront cast p acts (Some t.checkpoint) → IsFront cast p new (Some t.checkpoint))
+    → ((t : Tentative) → taken ≡ Some t → HoldsFront cast p acts (Some t.checkpoint) → HoldsFront cast p new (Some t.checkpoint))
     → IfSome taken (λ t. IsTentative cast p acts old t.checkpoint) → IfSome taken (λ t. IsTentative cast p new old t.checkpoint)
 tentatives cast p acts new old None goes_on some = tt
 tentatives cast p acts new old (Some t) goes_on some = record { front = goes_on t refl some.front; behind = some.behind }
@@ -68,7 +71,7 @@ take-all (x ∷ xs) = ap (λ l. x ∷ l) (take-all xs)
 -- what holds all of the line
 pub front-now : (cast : Cast) (p : NodeId) (acts : List Act) (c : Ckpt) (body : Body) → c.line_len ≡ length acts → c.state ≡ body_fields body
     → IsBodyLike cast.scripts p acts body
-    → IsFront cast p acts (Some c)
+    → HoldsFront cast p acts (Some c)
 front-now cast p acts c body long saved like = record {
   short = omega (arith, long);
   body = body;
@@ -80,7 +83,7 @@ front-now cast p acts c body long saved like = record {
 
 -- whatever is loaded is like what the checkpoint's acts make of the node
 pub loaded-front : (cast : Cast) → IsCast cast → (p : NodeId) (acts : List Act) (stored : Option Ckpt) (b : Body) → body_at (role_of cast p) stored ≡ Ok b
-    → IsFront cast p acts stored
+    → HoldsFront cast p acts stored
     → IsBodyLike cast.scripts p (take (acts_held stored) acts) b
 loaded-front cast is p acts None b e front =
     let same : opening_body (role_of cast p) (role_of cast p).id ≡ b = cc in
@@ -92,6 +95,6 @@ loaded-front cast is p acts (Some c) b e front =
 
 -- where the line ends with what is stored, it is like the line
 pub loaded-whole : (cast : Cast) → IsCast cast → (p : NodeId) (acts : List Act) (stored : Option Ckpt) (b : Body) → length acts ≡ acts_held stored
-    → body_at (role_of cast p) stored ≡ Ok b → IsFront cast p acts stored → IsBodyLike cast.scripts p acts b
+    → body_at (role_of cast p) stored ≡ Ok b → HoldsFront cast p acts stored → IsBodyLike cast.scripts p acts b
 loaded-whole cast is p acts stored b long e front =
     subst (λ l. IsBodyLike cast.scripts p l b) (ap (λ k. take k acts) (sym long) ∙ take-all acts) (loaded-front cast is p acts stored b e front)

@@ -28,7 +28,9 @@ use Rattle.kt_node.specs.Turning.{changed, changed_body, changed_kept, is_above,
 use Rattle.kt_world.specs.State.{State, node}
 use Rattle.kt_world.specs.Writing.{content_after}
 use Rattle.kt_world.proofs.Plans.{IsAlive}
-use Rattle.kt_world.proofs.Sound.{IsBodyLike, KeepsSo, acts_held, EndsRolling, IsStored, IsNodeSound, NodeSoundIn, IsSound, SendWell}
+use Rattle.kt_world.specs.Cut.{acts_held}
+use Rattle.kt_world.specs.Like.{IsBodyLike}
+use Rattle.kt_world.proofs.Sound.{KeepsSo, EndsRolling, IsStored, IsNodeSound, NodeSoundIn, IsSound, SendWell}
 use Rattle.kt_world.proofs.Writes.{row_after, own-row}
 use Rattle.kt_world.proofs.Noes.{SaysNoYes, noes-stay}
 use Rattle.kt_world.proofs.Applying.{Keeps, sound-later}

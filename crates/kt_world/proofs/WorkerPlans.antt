@@ -31,7 +31,8 @@ use Rattle.kt_node.specs.Talking.{act_of, home, request_for}
 use Rattle.kt_world.specs.Asks.{script_numbered}
 use Rattle.kt_lines.specs.WorkerLine.{MadeWorker, Awaits, worker_after, worker_of_acts, new_worker}
 use Rattle.kt_lines.proofs.Growth.{worker_of_acts-push}
-use Rattle.kt_world.proofs.Sound.{IsWorkerLike, IsReplyOf}
+use Rattle.kt_world.specs.Like.{IsWorkerLike}
+use Rattle.kt_world.proofs.Sound.{IsReplyOf}
 use Rattle.kt_world.proofs.NoteSound.{note_at-next}
 use Rattle.kt_world.proofs.ActKeeps.{ActWell}
 

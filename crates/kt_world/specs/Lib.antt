@@ -15,3 +15,6 @@ pub mod Ready
 pub mod Backed
 pub mod Headline
 pub mod Workers
+pub mod Cut
+pub mod Like
+pub mod PermanentRun

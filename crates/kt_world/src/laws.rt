@@ -18,6 +18,9 @@ ghost use Rattle.kt_world.specs.Effect.{step_result};
 ghost use Rattle.kt_world.specs.Reached.{IsReached};
 ghost use Rattle.kt_world.specs.Headline.{Headline, IsWhole, NotesOneAtMost, LineAfter, may_forget, HasCut, IsFailure};
 ghost use Rattle.kt_world.specs.Workers.{WorkersFollowLines};
+ghost use Rattle.kt_world.specs.Cut.{IsCausallyClosed, permanent_length};
+ghost use Rattle.kt_world.specs.Like.{StoresFollowLines};
+ghost use Rattle.kt_world.specs.PermanentRun.{IsPermanentRun};
 
 /// The surviving services, in the order made, are one run of a sequential tuple space, each worker's requests being its
 /// script's, in order.
@@ -63,4 +66,13 @@ pub fn lines_are_cut_by_their_own_node_alone()
 pub fn only_a_failure_makes_the_first_cut()
     ensures first { (s : State) → IsReached s → (step : Step) (new : State) → step_result s step ≡ Ok new
         → HasNoCut s.history → HasCut new.history → IsFailure step }
+{}
+
+/// Each stored permanent checkpoint, and each tentative one whose instance did not get No, holds the state behind the
+/// first acts of its node's line. Where the permanent ones, among which a tentative one counts that has Yes, hold with
+/// each act all of its past, the services that they hold are one run, in order, and they hold its tuples.
+pub fn checkpoints_hold_the_fronts_of_lines()
+    ensures fronts { (s : State) → IsReached s → StoresFollowLines s }
+    ensures permanent { (s : State) → IsReached s → IsCausallyClosed s.history (permanent_length s.content)
+        → IsPermanentRun s }
 {}

@@ -1,0 +1,71 @@
+-- What stands in a node, or is stored of it, is like what its acts make of it: the state that the empty one reaches by
+-- them, the tuples in some order.
+use Rattle.std.specs.Prelude.{◌≡◌, ℕ, ◌≤◌, List, length, take, Option, None, Some, IfSome, IsPermutation}
+use Rattle.kt_tuple.specs.declared.node.NodeId.{NodeId}
+use Rattle.kt_tuple.specs.declared.node.NodeId.TheVariants as ids
+use Rattle.kt_history.specs.declared.note.Act.{Act}
+use Rattle.kt_history.specs.Closed.{acts_in_line}
+use Rattle.kt_script.specs.declared.command.Command.{Command}
+use Rattle.kt_worker.specs.declared.worker.Worker.{Worker}
+use Rattle.kt_worker.specs.After.{IsAfter}
+use Rattle.kt_shard.specs.Shard.{Shard}
+use Rattle.kt_shard.specs.Table.{at}
+use Rattle.kt_shard.specs.Desk.{empty_desk}
+use Rattle.kt_ckpt.specs.declared.ckpt.Ckpt.{Ckpt}
+use Rattle.kt_store.specs.declared.rows.Verdict.{Verdict}
+use Rattle.kt_store.specs.declared.rows.Verdict.TheVariants as verdicts
+use Rattle.kt_store.specs.Content.{row_of, verdict_on}
+use Rattle.kt_lines.specs.ShardLine.{MadeShard, shard_of_acts, new_shard}
+use Rattle.kt_lines.specs.WorkerLine.{MadeWorker, worker_of_acts, new_worker}
+use Rattle.kt_node.specs.Node.{Role, Body, IsWorker, IsShard, opening_body}
+use Rattle.kt_node.specs.State.{body_fields}
+use Rattle.kt_world.specs.Cast.{Cast, script_at}
+use Rattle.kt_world.specs.State.{State, role_of}
+use Rattle.kt_world.specs.Asks.{script_numbered}
+use Rattle.kt_world.specs.Cut.{acts_held}
+
+-- a worker of this script is like what its acts make of it
+pub record IsWorkerLike (script : List Command) (made : MadeWorker) (x : Worker) : Type 0 where
+  pub asked : x.asked ≡ made.asked
+  pub after : IsAfter script made.answers x
+
+-- a shard is like what its acts make of it: the same tuples in some order, and the same desks, which are empty where
+-- the scene has no such worker
+pub record IsShardLike (scripts : List (List Command)) (made : MadeShard) (y : Shard) : Type 0 where
+  pub bag : IsPermutation made.bag y.bag
+  pub desks : (w : ℕ) → at empty_desk y.desks w ≡ made.desk w
+  pub others : (w : ℕ) → script_at scripts w ≡ None → at empty_desk y.desks w ≡ empty_desk
+
+-- so is what the node p, whose acts these are, works with
+abbrev pub IsBodyLike : List (List Command) → NodeId → List Act → Body → Type 0
+IsBodyLike scripts (ids.Worker w) acts (IsWorker x) =
+    IsWorkerLike (script_numbered scripts w) (worker_of_acts new_worker acts) x
+IsBodyLike scripts (ids.Worker w) acts (IsShard y) = ⊥
+IsBodyLike scripts (ids.Shard s) acts (IsWorker x) = ⊥
+IsBodyLike scripts (ids.Shard s) acts (IsShard y) = IsShardLike scripts (shard_of_acts new_shard acts) y
+
+-- what the node worked with is what the checkpoint has of it
+abbrev pub IsSavedOf : Role → Option Ckpt → Body → Type 0
+IsSavedOf role None body = body ≡ opening_body role role.id
+IsSavedOf role (Some c) body = c.state ≡ body_fields body
+
+-- the checkpoint holds the first of these acts, and was taken of what is like what those make of the node
+pub record HoldsFront (cast : Cast) (p : NodeId) (acts : List Act) (stored : Option Ckpt) : Type 0 where
+  pub short : acts_held stored ≤ length acts
+  pub body : Body
+  pub saved : IsSavedOf (role_of cast p) stored body
+  pub like : IsBodyLike cast.scripts p (take (acts_held stored) acts) body
+
+-- the verdict on its instance is not No
+abbrev pub IsNotNo : Option Verdict → Type 0
+IsNotNo verdict = ¬ (verdict ≡ Some verdicts.No)
+
+-- each stored permanent checkpoint, and each tentative one whose verdict is not No, holds the state behind the first
+-- acts of its node's line
+pub record HoldsItsActs (s : State) (p : NodeId) : Type 0 where
+  pub permanent : HoldsFront s.cast p (acts_in_line s.history p) (row_of s.content p).permanent
+  pub tentative : IsNotNo (verdict_on s.content (row_of s.content p).tentative)
+      → IfSome (row_of s.content p).tentative (λ t. HoldsFront s.cast p (acts_in_line s.history p) (Some t.checkpoint))
+
+abbrev pub StoresFollowLines : State → Type 0
+StoresFollowLines s = (p : NodeId) → HoldsItsActs s p
