@@ -1,5 +1,6 @@
 -- What is loaded of a permanent checkpoint is no larger than the node's line is long.
-use Rattle.std.proofs.Common.{◌≡◌, ℕ, ◌+◌, ◌<◌, ◌≤◌, Bool, true, false, ◌&&◌, if◌then◌else◌, List, [], length, Option, None, Some, Result, Ok, Err, refl, sym, ap, subst, arith}
+use Rattle.std.proofs.Common.{◌≡◌, ℕ, ◌+◌, ◌<◌, ◌≤◌, Bool, true, false, ◌&&◌, if◌then◌else◌, List, []}
+use Rattle.std.proofs.Common.{length, Option, None, Some, Result, Ok, Err, refl, sym, ap, subst, arith}
 use Rattle.std.specs.Prelude.{nat_le, ◌==◌, IfOk}
 use Rattle.std.specs.Option.{option_map, is_some}
 use Rattle.std.proofs.lemmas.Bool.{leb-true, and_parts}
@@ -87,7 +88,8 @@ load-fits v s k le =
 
 -- ---- a participant that learns
 
-restored-fits : (v : View) (s : Stored) (send : List (NodeId × Message)) (k : ℕ) (live : Result Live Refusal) → LiveFits k live → PlanFits k (restored v s send live)
+restored-fits : (v : View) (s : Stored) (send : List (NodeId × Message)) (k : ℕ) (live : Result Live Refusal) → LiveFits k live
+    → PlanFits k (restored v s send live)
 restored-fits v s send k (Ok live) fit = fit
 restored-fits v s send k (Err refusal) fit = tt
 
@@ -123,7 +125,8 @@ settled-fits v s (Some false) k = tested (PlanFits k) (fits v.role v.line_len (m
 learn_down-fits : (v : View) (s : Stored) (is_tentative : Bool) (agreed : Option Bool) (k : ℕ) → PlanFits k (learn_down v s is_tentative agreed)
 learn_down-fits v s is_tentative agreed k = tested (PlanFits k) is_tentative _ _ (λ ok. settled-fits v s agreed k) tt
 
-learn_of-fits : (v : View) (s : Stored) (is_tentative : Bool) (agreed : Option Bool) (node : Node) (k : ℕ) → v.line_len ≤ k → PlanFits k (learn_of v s is_tentative agreed node)
+learn_of-fits : (v : View) (s : Stored) (is_tentative : Bool) (agreed : Option Bool) (node : Node) (k : ℕ) → v.line_len ≤ k
+    → PlanFits k (learn_of v s is_tentative agreed node)
 learn_of-fits v s is_tentative agreed Down k le = learn_down-fits v s is_tentative agreed k
 learn_of-fits v s is_tentative agreed (Alive n) k le = learn_in-fits v s agreed n.phase k le
 
@@ -158,7 +161,8 @@ restart_in-fits v s next verdict phases.Up k le = tt
 restart_in-fits v s next verdict (phases.Held b) k le = tt
 restart_in-fits v s next verdict (phases.Rolling b) k le = restart_by-fits v s next verdict b.parent k le
 
-restart_of-fits : (v : View) (s : Stored) (next : ℕ) (is_tentative : Bool) (undecided : Option ℕ) (verdict : Option Verdict) (node : Node) (k : ℕ) → v.line_len ≤ k
+restart_of-fits : (v : View) (s : Stored) (next : ℕ) (is_tentative : Bool) (undecided : Option ℕ) (verdict : Option Verdict) (node : Node) (k : ℕ)
+    → v.line_len ≤ k
     → PlanFits k (restart_of v s next is_tentative undecided verdict node)
 restart_of-fits v s next is_tentative undecided verdict Down k le = restart_down-fits v s next is_tentative undecided k le
 restart_of-fits v s next is_tentative undecided verdict (Alive n) k le = restart_in-fits v s next verdict n.phase k le

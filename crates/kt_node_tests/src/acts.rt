@@ -11,10 +11,14 @@ fn issue_asks_the_home_of_the_next_operation(rt: HostRuntime) -> Result<(), Fail
         &rt,
         rt.alloc(),
         W1,
-        "> issue
+        "> worker
+        number 0 answered
+        > issue
         to s1: request 1 1.1 by 1 out (1, 1)
         w1 by 0: w1.1 out (1, 1) issue
         Up
+        > worker
+        number 1 asked
         . s1: reply 1 1.1 by 3 done to out (1, 1)
         > issue
         to s2: request 2 1.2 by 3 out (1)
@@ -68,6 +72,28 @@ fn repeat_asks_once_more_for_what_is_unanswered(rt: HostRuntime) -> Result<(), F
         . s1: reply 1 1.1 by 5 done to out (1, 1)
         > repeat
         refused: NothingThere",
+    )
+}
+
+#[test]
+fn a_shard_is_no_worker_and_what_is_down_has_none(rt: HostRuntime) -> Result<(), Fail> {
+    tells(
+        &rt,
+        rt.alloc(),
+        S1,
+        "> worker
+        none",
+    )?;
+    tells(
+        &rt,
+        rt.alloc(),
+        W1,
+        ". answered; fail
+        > worker
+        none
+        . restart
+        > worker
+        number 0 answered",
     )
 }
 
@@ -291,16 +317,20 @@ fn a_reply_to_what_is_unanswered_is_accepted(rt: HostRuntime) -> Result<(), Fail
         > s1: reply 1 1.2 by 4 done to out (1, 2)
         w1 by 4: w1.1 out (1, 2) ignored done
         Up
+        > worker
+        number 1 asked
         > s1: reply 1 1.3 by 5 done to out (1, 1)
         w1 by 5: w1.1 out (1, 1) accepted done
         Up
+        > worker
+        number 1 answered
         > s1: reply 1 1.4 by 6 done to out (1, 1)
         w1 by 6: w1.1 out (1, 1) ignored done
         Up",
     )
 }
 
-/// Each message that is heard was received, an ignored one too, and each that is sent was sent, an answer given again too.
+/// What is ignored was received too, and an answer that is given again was sent.
 #[test]
 fn what_is_heard_and_sent_shows_in_a_checkpoint(rt: HostRuntime) -> Result<(), Fail> {
     tells(

@@ -48,7 +48,13 @@ fn a_joiner_asks_its_cohort(rt: HostRuntime) -> Result<(), Fail> {
         > s2: check-ask 7 1.2 1
         to s1: check-ask 7 1.5 1
         tentative in 7: w1 acts 4 sent 1.1 1.2 received 1.5 0.0 number 2 asked
-        Held in 7 for s2.1, asked s1, awaits s1",
+        Held in 7 for s2.1, asked s1, awaits s1
+
+        . worker back; issue; s1: reply 1 3.1 by 9 done to out (1, 1); board 7 open
+        > s1: check-ask 7 2.1 4
+        to s1: check-ask 7 3.1 2
+        tentative in 7: w1 acts 2 sent 2.1 0.0 received 3.1 0.0 number 1 answered
+        Held in 7 for s1.4, asked s1, awaits s1",
     )?;
     tells(
         &rt,

@@ -221,7 +221,8 @@ fn loading_and_failing_empty_what_is_kept(rt: HostRuntime) -> Result<(), Fail> {
         s1 by 10: w2.2 out (2, 2) heard
         Up
 
-        . check; w2: request 1 1.1 by 9 out (2, 2); abandon; learn; fail; restart; w1: vote 2 2 yes; w2: vote 2 2 yes; decide
+        . check; w2: request 1 1.1 by 9 out (2, 2); abandon; learn
+        . fail; restart; w1: vote 2 2 yes; w2: vote 2 2 yes; decide
         > take
         refused: NothingThere",
     )

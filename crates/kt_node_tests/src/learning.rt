@@ -58,8 +58,8 @@ fn a_rolling_initiator_learns_nothing(rt: HostRuntime) -> Result<(), Fail> {
     )
 }
 
-/// With Yes the line is cut to the permanent checkpoint, the permanent state is loaded and labels begin anew; with No the
-/// node goes on as it was.
+/// With Yes the line is cut to the permanent checkpoint, the permanent state is loaded and labels begin anew; with No
+/// the node goes on as it was.
 #[test]
 fn a_rolling_participant_learns(rt: HostRuntime) -> Result<(), Fail> {
     tells(
@@ -87,7 +87,8 @@ fn a_rolling_participant_learns(rt: HostRuntime) -> Result<(), Fail> {
         begins check: w1 acts 4 sent 1.1 1.2 received 1.1 1.4 number 2 answered
         Held in 8, asked s1 s2, awaits s1 s2
 
-        . answered; saved by s1; issue; s2: reply 2 1.4 by 9 done to out (1); board 7 open; s2: roll-ask 7 0.0 3; board 7 yes
+        . answered; saved by s1; issue; s2: reply 2 1.4 by 9 done to out (1)
+        . board 7 open; s2: roll-ask 7 0.0 3; board 7 yes
         > learn
         w1 is cut to 2
         bumps

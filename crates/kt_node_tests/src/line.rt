@@ -257,12 +257,8 @@ impl Line {
     fn state(&mut self, state: &State) -> Result<(), AllocError> {
         match state {
             State::Worker(worker) => {
-                self.word(" number ")?;
-                self.number(worker.number())?;
-                self.word(match worker.asked() {
-                    Some(_) => " asked",
-                    None => " answered",
-                })
+                self.word(" ")?;
+                self.standing(worker.number(), worker.asked().is_some())
             }
             State::Shard(shard) => {
                 self.word(" tuples ")?;
@@ -272,6 +268,20 @@ impl Line {
                 self.word(" kept ")?;
                 self.number(shard.kept().len() as u64)
             }
+        }
+    }
+
+    fn standing(&mut self, number: u64, is_asked: bool) -> Result<(), AllocError> {
+        self.word("number ")?;
+        self.number(number)?;
+        self.word(if is_asked { " asked" } else { " answered" })
+    }
+
+    /// The worker that the node is, as `number 1 asked`.
+    pub(crate) fn worker(&mut self, node: &Node) -> Result<(), AllocError> {
+        match node.worker() {
+            Some(worker) => self.standing(worker.number(), worker.asked().is_some()),
+            None => self.word("none"),
         }
     }
 

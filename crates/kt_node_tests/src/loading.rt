@@ -11,6 +11,8 @@ fn a_worker_asks_for_what_it_had_asked_for(rt: HostRuntime) -> Result<(), Fail> 
         W1,
         ". issue; check; decide; learn; s1: reply 1 1.1 by 3 done to out (1, 1); issue
         . fail; restart; s1: vote 2 2 yes; s2: vote 2 2 yes; decide
+        > worker
+        number 1 asked
         > issue
         refused: NothingThere
         > repeat

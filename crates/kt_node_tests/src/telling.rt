@@ -158,15 +158,16 @@ impl Solo {
         Ok(())
     }
 
-    /// What comes of the text: `board 7 no` writes on the board, all else is a call.
+    /// What comes of the text: `board 7 no` writes on the board, `worker` reads the worker, all else is a call.
     pub(crate) fn tell(&mut self, alloc: Global, text: &str) -> Result<String, Fail> {
         let mut line = Line::new(alloc);
-        match text.strip_prefix("board ") {
-            Some(entry) => self.post_text(entry)?,
-            None => {
-                let call = call_of(alloc, text)?;
-                self.make(alloc, &call, &mut line)?;
-            }
+        if let Some(entry) = text.strip_prefix("board ") {
+            self.post_text(entry)?;
+        } else if text == "worker" {
+            line.worker(&self.node)?;
+        } else {
+            let call = call_of(alloc, text)?;
+            self.make(alloc, &call, &mut line)?;
         }
         line.into_text()
     }

@@ -38,6 +38,29 @@ fn a_held_node_learns_the_verdict_and_passes_it_on(rt: HostRuntime) -> Result<()
     )
 }
 
+/// Then a label below the first one sent since is a no.
+#[test]
+fn yes_clears_what_was_sent_first_and_no_does_not(rt: HostRuntime) -> Result<(), Fail> {
+    tells(
+        &rt,
+        rt.alloc(),
+        W1,
+        ". answered; board 7 open; board 8 open; s1: check-ask 7 1.1 3; s1: verdict 7 yes
+        . issue; s2: reply 2 1.4 by 9 done to out (1); issue
+        > s1: check-ask 8 1.2 1
+        to s1: vote 8 1 no
+        Up
+
+        . answered; board 7 open; board 8 open; s1: check-ask 7 1.1 3; s1: verdict 7 no
+        . issue; s2: reply 2 1.4 by 9 done to out (1); issue
+        > s1: check-ask 8 1.2 1
+        to s1: check-ask 8 1.1 1
+        to s2: check-ask 8 1.4 1
+        tentative in 8: w1 acts 5 sent 1.3 1.2 received 1.1 1.4 number 3 asked
+        Held in 8 for s1.1, asked s1 s2, awaits s1 s2",
+    )
+}
+
 #[test]
 fn a_held_initiator_learns_the_verdict_too(rt: HostRuntime) -> Result<(), Fail> {
     tells(
