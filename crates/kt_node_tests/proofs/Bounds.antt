@@ -1,6 +1,6 @@
 -- A step makes a node larger by one at most.
-use Rattle.std.proofs.Common.{◌≡◌, ℕ, zero, suc, ◌+◌, ◌<◌, ◌≤◌, Bool, true, false, if◌then◌else◌, List}
-use Rattle.std.proofs.Common.{[], ◌∷◌, ◌++◌, length, Option, None, Some, refl, sym, ap, subst, arith}
+use Rattle.std.proofs.Common.{ℕ, zero, suc, ◌+◌, ◌<◌, ◌≤◌, Bool, true, false, if◌then◌else◌, List}
+use Rattle.std.proofs.Common.{[], ◌∷◌, length, Option, None, Some, arith}
 use Rattle.std.specs.Prelude.{IfSome}
 use Rattle.std.proofs.lemmas.List.{length-append}
 use Rattle.kt_tuple.specs.declared.node.NodeId.{NodeId}
@@ -13,7 +13,6 @@ use Rattle.kt_space.specs.Picking.{without_match}
 use Rattle.kt_shard.specs.Service.{left_by}
 use Rattle.kt_node.specs.declared.change.BodyChange.{BodyChange}
 use Rattle.kt_node.specs.declared.change.BodyChange.TheVariants as bodies
-use Rattle.kt_node.specs.declared.change.Turn.{Turn}
 use Rattle.kt_node.specs.declared.change.Change.{Change}
 use Rattle.kt_node.specs.declared.change.Change.TheVariants as changes
 use Rattle.kt_node.specs.declared.live.Phase.{Phase}
@@ -21,10 +20,10 @@ use Rattle.kt_node.specs.declared.live.Phase.TheVariants as phases
 use Rattle.kt_node.specs.Node.{Role, Body, IsWorker, IsShard, Live, Node, Down, Alive, node_number, opening_body, opening_node}
 use Rattle.kt_shard.specs.Limits.{desks}
 use Rattle.kt_tuple.specs.declared.node.NodeId.TheVariants as ids
-use Rattle.kt_node.specs.Steps.{up_in, up_of}
+use Rattle.kt_node.specs.Steps.{up_in}
 use Rattle.kt_node.specs.Turning.{changed, changed_body, said_count}
 use Rattle.kt_node.specs.Ready.{CanCount, CanSpeak, CanSay, CanChangeBody, CanChange}
-use Rattle.kt_node_tests.specs.Small.{sent_by, tuples_in, tuples_in_body, IsFew, LoadsFew, HasDesk, IsPlaced, ChangeIsPlaced}
+use Rattle.kt_node_tests.specs.Small.{sent_by, tuples_in, tuples_in_body, LoadsFew, HasDesk, ChangeIsPlaced}
 
 -- ---- the node with which a world opens
 

@@ -1,6 +1,6 @@
 -- What is loaded of a permanent checkpoint is no larger than the node's line is long.
-use Rattle.std.proofs.Common.{◌≡◌, ℕ, ◌+◌, ◌<◌, ◌≤◌, Bool, true, false, ◌&&◌, if◌then◌else◌, List, []}
-use Rattle.std.proofs.Common.{length, Option, None, Some, Result, Ok, Err, refl, sym, ap, subst, arith}
+use Rattle.std.proofs.Common.{◌≡◌, ℕ, ◌+◌, ◌≤◌, Bool, true, false, ◌&&◌, if◌then◌else◌, List, []}
+use Rattle.std.proofs.Common.{length, Option, None, Some, Result, Ok, Err, refl, subst, arith}
 use Rattle.std.specs.Prelude.{nat_le, ◌==◌, IfOk}
 use Rattle.std.specs.Option.{option_map, is_some}
 use Rattle.std.proofs.lemmas.Bool.{leb-true, and_parts}
@@ -21,17 +21,16 @@ use Rattle.kt_node.specs.declared.message.Message.{Message}
 use Rattle.kt_node.specs.declared.plan.Plan.{Plan}
 use Rattle.kt_node.specs.declared.stored.Stored.{Stored}
 use Rattle.kt_node.specs.declared.refusal.Refusal.{Refusal}
-use Rattle.kt_node.specs.declared.refusal.Refusal.TheVariants as refusals
-use Rattle.kt_node.specs.Node.{Role, Body, IsWorker, IsShard, Live, Node, Down, Alive, opening_body}
+use Rattle.kt_node.specs.Node.{Role, Body, Live, Node, Down, Alive, opening_body}
 use Rattle.kt_node.specs.Plan.{Planned, Gives}
-use Rattle.kt_node.specs.State.{if_fits, body_from, body_at, shard_fits, worker_fits, worker_from, are_of_scene, shard_from}
-use Rattle.kt_node.specs.Stored.{fits, marks_fit}
-use Rattle.kt_node.specs.Loading.{marks_in, loaded_from, loaded_by, load}
+use Rattle.kt_node.specs.State.{body_from, body_at, shard_fits, worker_fits, are_of_scene}
+use Rattle.kt_node.specs.Stored.{fits}
+use Rattle.kt_node.specs.Loading.{marks_in, loaded_by, load}
 use Rattle.kt_node.specs.View.{View}
-use Rattle.kt_node.specs.Learning.{verdict_to, rolling_learns, restored, down_learns, held_learns}
+use Rattle.kt_node.specs.Learning.{verdict_to, rolling_learns, restored, held_learns}
 use Rattle.kt_node.specs.Deciding.{learn, learn_of, learn_in, learn_by, learn_rolling, learn_held, learn_down, learn_settled, settled}
 use Rattle.kt_node.specs.Failing.{restart, restart_of, restart_in, restart_by, restart_after, restart_down, restart_plan, restarted}
-use Rattle.kt_node.specs.Arrivals.{unless_down, hear_verdict, verdict_in, verdict_by_parent, verdict_when_rolling, verdict_when_held, is_in}
+use Rattle.kt_node.specs.Arrivals.{unless_down, hear_verdict, verdict_in, verdict_by_parent, verdict_when_held, is_in}
 use Rattle.kt_node_tests.specs.Small.{tuples_in_body, IsFew, LoadsFew}
 
 abbrev BodyFits : ℕ → Result Body Refusal → Type 0
@@ -64,7 +63,9 @@ body-fits role acts k (ids.Worker n) (states.Shard y) le = tt
 body-fits role acts k (ids.Shard n) (states.Worker w) le = tt
 body-fits role acts k (ids.Shard n) (states.Shard y) le =
     tested (BodyFits k) (shard_fits role acts y) _ _
-    (λ ok. let few = leb-true (length y.bag) acts (and_parts (are_of_scene role.peers y.waiting && are_of_scene role.peers y.kept) (nat_le (length y.bag) acts) ok).1 in
+    (λ ok.
+    let there : Bool = are_of_scene role.peers y.waiting && are_of_scene role.peers y.kept in
+    let few = leb-true (length y.bag) acts (and_parts there (nat_le (length y.bag) acts) ok).1 in
     omega (arith, few, le))
     tt
 

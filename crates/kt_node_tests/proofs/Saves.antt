@@ -1,22 +1,21 @@
 -- A checkpoint of a small node of the scene can be taken.
-use Rattle.std.proofs.Common.{◌≡◌, ◌≢◌, ℕ, zero, suc, ◌+◌, ◌<◌, ◌≤◌, ◌^◌, List, [], ◌∷◌}
-use Rattle.std.proofs.Common.{◌++◌, length, map, Option, None, Some, refl, sym, ap, subst, ◌∙◌, arith}
+use Rattle.std.proofs.Common.{◌≡◌, ℕ, zero, suc, ◌+◌, ◌≤◌, List}
+use Rattle.std.proofs.Common.{◌++◌, length, Option, None, Some, refl, sym, ap, subst, ◌∙◌, arith}
 use Rattle.std.specs.List.{flat_map}
 use Rattle.std.proofs.lemmas.List.{length-map}
 use Rattle.kt_tuple.specs.declared.node.NodeId.{NodeId}
 use Rattle.kt_tuple.specs.declared.node.NodeId.TheVariants as ids
 use Rattle.kt_worker.specs.declared.worker.Worker.{Worker}
-use Rattle.kt_ckpt.specs.Checkpoint.{IsNode, HasCounts, ArePeers, Suits, IsCountedState}
+use Rattle.kt_ckpt.specs.Checkpoint.{IsNode, ArePeers, Suits, IsCountedState}
 use Rattle.kt_ckpt.specs.Reading.{IsRising}
 use Rattle.kt_shard.specs.Shard.{Shard, desk_of}
 use Rattle.kt_node.specs.Labels.{numbers, listed, label_at}
 use Rattle.kt_node.specs.Node.{Role, Body, IsWorker, IsShard, Live, Node, Down, Alive, worker_of, worker_in, node_number, mode_of, mode_in}
-use Rattle.kt_node.specs.State.{entry, entries, body_fields}
+use Rattle.kt_node.specs.State.{entry, body_fields}
 use Rattle.kt_node.specs.declared.live.Phase.{Phase}
 use Rattle.kt_node.specs.declared.live.Phase.TheVariants as phases
 use Rattle.kt_node.specs.declared.node.Mode.TheVariants as modes
 use Rattle.kt_node.specs.View.{View}
-use Rattle.kt_node.specs.Joining.{checkpoint_now}
 use Rattle.kt_node.specs.Saving.{CanSave, CanSaveNode}
 use Rattle.kt_node_tests.specs.Small.{IsCast, tuples_in, tuples_in_body}
 

@@ -1,6 +1,5 @@
 -- How much a node holds.
 use Rattle.std.specs.Prelude.{ℕ, ◌≤◌, ◌<◌, length, IfSome}
-use Rattle.kt_tuple.specs.declared.node.NodeId.{NodeId}
 use Rattle.kt_shard.specs.Limits.{desks}
 use Rattle.kt_node.specs.declared.change.BodyChange.{BodyChange}
 use Rattle.kt_node.specs.declared.change.BodyChange.TheVariants as bodies

@@ -1,4 +1,4 @@
-use Rattle.std.proofs.Common.{rules, ◌≡◌, ◌≤◌, length, Some, None, arith}
+use Rattle.std.proofs.Common.{rules, ◌≡◌, ◌≤◌, length, Some, None}
 use Rattle.kt_tuple.specs.declared.node.NodeId.TheVariants as ids
 use Rattle.kt_node.specs.Node.{worker_of}
 use Rattle.kt_node.specs.View.{view_of}
