@@ -101,6 +101,7 @@ pub record HasCut (h : List Note) : Type 0 where
   pub keep : ℕ
   pub is_cut : note_at h number ≡ Some (notes.Cut node keep)
 
+-- the step is the failure of a node
 abbrev pub IsFailure : Step → Type 0
 IsFailure (Fail p) = Unit {0}
 IsFailure step = ⊥

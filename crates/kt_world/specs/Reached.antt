@@ -48,7 +48,7 @@ unfoldable pub after : State → List Step → State
 after s [] = s
 after s (step ∷ later) = after (next_state s step) later
 
--- some list of steps leads to this state from the opening of some scene
+-- some list of steps leads to this state from the opening of some scene whose scripts a checkpoint can count
 pub record IsReached (s : State) : Type 0 where
   pub cast : Cast
   pub is_cast : IsCast cast

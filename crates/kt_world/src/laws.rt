@@ -1,5 +1,6 @@
 //! Laws of the world, each the contract of a function with nothing to do. They speak of every state that a list of
-//! steps, refused ones among them, leads to from the opening of a scene.
+//! steps, refused ones among them, leads to from the opening of a scene whose scripts a checkpoint can count, over a
+//! store that tells what it holds.
 
 ghost use Rattle.std.specs.Prelude.{◌≡◌, ◌<◌, ℕ, List, ◌∷◌, ◌++◌, Ok, IsTrue, length};
 ghost use Rattle.kt_tuple.specs.declared.node.NodeId.{NodeId};
