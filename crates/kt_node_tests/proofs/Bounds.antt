@@ -52,12 +52,12 @@ said_more : (count k : ℕ) (said : Option NodeId) → count ≤ k → said_coun
 said_more count k None le = omega (arith, le)
 said_more count k (Some q) le = omega (arith, le)
 
-pub changed_sent : (node : Node) (change : Change) (k : ℕ) → sent_by node ≤ k → LoadsFew (k + 1) change → sent_by (changed change node) ≤ k + 1
-changed_sent node changes.Stay k le few = omega (arith, le)
-changed_sent Down (changes.Turn t) k le few = omega (arith)
-changed_sent (Alive n) (changes.Turn t) k le few = said_more n.count k t.said le
-changed_sent node changes.Fall k le few = omega (arith)
-changed_sent node (changes.Load n) k le few = few.sent
+pub sends : (node : Node) (change : Change) (k : ℕ) → sent_by node ≤ k → LoadsFew (k + 1) change → sent_by (changed change node) ≤ k + 1
+sends node changes.Stay k le few = omega (arith, le)
+sends Down (changes.Turn t) k le few = omega (arith)
+sends (Alive n) (changes.Turn t) k le few = said_more n.count k t.said le
+sends node changes.Fall k le few = omega (arith)
+sends node (changes.Load n) k le few = few.sent
 
 -- ---- changing
 
@@ -113,9 +113,9 @@ body_more (IsShard y) (bodies.Work x) k le = omega (arith, le)
 body_more (IsShard y) (bodies.Wait worker request) k le = omega (arith, le)
 body_more (IsShard y) (bodies.Serve worker s) k le = let h = left-length y.bag s.request.op s.place in omega (arith, le, h)
 
-pub changed_tuples : (node : Node) (change : Change) (k : ℕ) → tuples_in node ≤ k → LoadsFew (k + 1) change → tuples_in (changed change node) ≤ k + 1
-changed_tuples node changes.Stay k le few = omega (arith, le)
-changed_tuples Down (changes.Turn t) k le few = omega (arith)
-changed_tuples (Alive n) (changes.Turn t) k le few = body_more n.body t.body k le
-changed_tuples node changes.Fall k le few = omega (arith)
-changed_tuples node (changes.Load n) k le few = few.tuples
+pub puts : (node : Node) (change : Change) (k : ℕ) → tuples_in node ≤ k → LoadsFew (k + 1) change → tuples_in (changed change node) ≤ k + 1
+puts node changes.Stay k le few = omega (arith, le)
+puts Down (changes.Turn t) k le few = omega (arith)
+puts (Alive n) (changes.Turn t) k le few = body_more n.body t.body k le
+puts node changes.Fall k le few = omega (arith)
+puts node (changes.Load n) k le few = few.tuples

@@ -107,7 +107,7 @@ impl Solo {
         self.line_len = acts.min(self.made);
     }
 
-    #[tactic(auto, using(crate::proofs::Bounds::can_change, crate::proofs::Bounds::changed_sent, crate::proofs::Bounds::changed_tuples))]
+    #[tactic(auto, using(crate::proofs::Bounds::can_change, crate::proofs::Bounds::sends, crate::proofs::Bounds::puts))]
     fn change(&mut self, change: Change) -> Result<(), Fail>
         requires few { self.old.made < 1000 }
         requires loads { LoadsFew (self.old.made + 1) change }
