@@ -11,6 +11,7 @@ mod opening;
 mod reading;
 
 mod scene;
+mod space;
 mod stepping;
 mod traffic;
 mod world;
