@@ -7,9 +7,9 @@ use Rattle.kt_scene.specs.Stream.{IsAllRead}
 use Rattle.kt_scene.specs.Run.{IsTextFault, IsWorldFault, of_text}
 
 -- what the text that was read answers comes before the report
-pub told_before : {S X : Type 0} (honest : S → Bool) (before after : Reader) (text held : List ℕ) (r : Result X ReplayFault) → IsAllRead before after text → held ≡ text → IfErr r (IsTextFault honest held)
-    → IfErr r (IsWorldFault honest before after)
-told_before honest before after text held (Ok s) read same f = tt
-told_before honest before after text held (Err fault) read same f =
-    let P : List ℕ → Type 0 = λ t. IsTextFault honest t fault in
+pub told_before : {S X : Type 0} (honest : S → Bool) (fresh : Bool) (before after : Reader) (text held : List ℕ) (r : Result X ReplayFault) → IsAllRead before after text → held ≡ text → IfErr r (IsTextFault honest fresh held)
+    → IfErr r (IsWorldFault honest fresh before after)
+told_before honest fresh before after text held (Ok s) read same f = tt
+told_before honest fresh before after text held (Err fault) read same f =
+    let P : List ℕ → Type 0 = λ t. IsTextFault honest fresh t fault in
     of_text text read (subst P same f)

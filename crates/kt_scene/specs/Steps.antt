@@ -33,7 +33,8 @@ deliver_of words = node_before_space words >>= λ p. node_at p.1 >>= λ q. ended
 
 abbrev pub serve_of : List ℕ → Option Step
 serve_of words =
-    node_before_space words >>= λ s. node_before_space s.1 >>= λ w. number_within 0 99999 w.1 >>= λ k. ended (Serve s.0 w.0 k.0, k.1)
+    node_before_space words >>= λ s. node_before_space s.1 >>= λ w. number_within 0 99999 w.1 >>= λ k.
+    ended (Serve s.0 w.0 k.0, k.1)
 
 -- the step that the line says
 abbrev pub step_of : List ℕ → Option Step

@@ -1,10 +1,12 @@
 //! From the bytes of a scenario to the bytes of its report.
 
-ghost use Rattle.std.specs.Prelude.{◌≡◌, Err, IfOk, IfErr, IsTrue, OnOk};
+ghost use Rattle.std.specs.Prelude.{◌≡◌, true, Err, IfOk, IfErr, IsTrue, OnOk};
+ghost use Rattle.kt_store.specs.Content.{is_fresh};
 ghost use Rattle.kt_world.specs.Reached.{opening};
 ghost use Rattle.kt_scene.specs.Reading.{steps_of};
 ghost use Rattle.kt_scene.specs.Runs.{RunsTo};
-ghost use Rattle.kt_scene.specs.Run.{IsRunFault, IsStepFault, play_in, LeadsTo, IsTextFault, IsReplayed, WritesReplayed, WritesReplayedFront, IsWorldFault, IsReplayFault};
+ghost use Rattle.kt_scene.specs.Run.{play_in, IsStepFault, IsRunFault, LeadsTo, IsTextFault, IsReplayed, IsWorldFault};
+ghost use Rattle.kt_scene.specs.Run.{WritesReplayed, WritesReplayedFront, IsReplayFault};
 ghost use Rattle.kt_scene.specs.Stream.{UnlessWrite};
 
 use crate::fault::{ReplayFault, SceneFault};
@@ -28,10 +30,11 @@ pub fn replay<R: Read, W: Write, S: CkptStore + Drop>(
     writer: &mut Sink<W>,
     store: S,
 ) -> Result<(), ReplayFault>
-    ensures written { OnOk result (WritesReplayed S.is_honest reader.old reader.new writer.old writer.new) }
+    ensures written { OnOk result
+        (WritesReplayed S.is_honest (is_fresh (S.content store)) reader.old reader.new writer.old writer.new) }
     ensures front { result ≡ Err ReplayFault.Write
-        → WritesReplayedFront S.is_honest reader.old reader.new writer.old writer.new }
-    ensures fault { IfErr result (IsReplayFault S.is_honest reader.old reader.new) }
+        → WritesReplayedFront S.is_honest (is_fresh (S.content store)) reader.old reader.new writer.old writer.new }
+    ensures fault { IfErr result (IsReplayFault S.is_honest (is_fresh (S.content store)) reader.old reader.new) }
     // Before any fault but the writer's the writer is not called.
     ensures nothing { IfErr result (λ fault. UnlessWrite fault (writer.new ≡ writer.old)) }
 {
@@ -51,8 +54,9 @@ pub fn replay_world<R: Read, S: CkptStore + Drop>(
     reader: &mut Source<R>,
     store: S,
 ) -> Result<World<S>, ReplayFault>
-    ensures replayed { IfOk result (λ world. IsReplayed reader.old reader.new world.is_honest world.state) }
-    ensures fault { IfErr result (IsWorldFault S.is_honest reader.old reader.new) }
+    ensures replayed { IfOk result (λ world.
+        IsReplayed reader.old reader.new world.is_honest (is_fresh (S.content store)) world.state) }
+    ensures fault { IfErr result (IsWorldFault S.is_honest (is_fresh (S.content store)) reader.old reader.new) }
 {
     let text = read_text(alloc, reader)?;
     world_told(alloc, &text, store)
@@ -64,8 +68,8 @@ fn world_told<S: CkptStore + Drop>(
     text: &[u8],
     store: S,
 ) -> Result<World<S>, ReplayFault>
-    ensures leads { IfOk result (λ world. LeadsTo text.now world.is_honest world.state) }
-    ensures fault { IfErr result (IsTextFault S.is_honest text.now) }
+    ensures leads { IfOk result (λ world. LeadsTo text.now world.is_honest (is_fresh (S.content store)) world.state) }
+    ensures fault { IfErr result (IsTextFault S.is_honest (is_fresh (S.content store)) text.now) }
 {
     match read_scene(alloc, text) {
         Ok(scenario) => run_scenario(alloc, scenario, store),
@@ -80,7 +84,9 @@ fn run_scenario<S: CkptStore + Drop>(
 ) -> Result<World<S>, ReplayFault>
     ensures replayed { IfOk result (λ world. IsTrue world.is_honest
         → RunsTo (opening (play_in scenario).cast) (steps_of (play_in scenario).work) world.state) }
-    ensures fault { IfErr result (IsRunFault S.is_honest (play_in scenario).cast (steps_of (play_in scenario).work)) }
+    ensures fresh { IfOk result (λ world. IsTrue world.is_honest → is_fresh (S.content store) ≡ true) }
+    ensures fault { IfErr result (IsRunFault S.is_honest (is_fresh (S.content store))
+        (play_in scenario).cast (steps_of (play_in scenario).work)) }
 {
     let Scenario { scene, work } = scenario;
     run(alloc, scene, work.steps(), store)
@@ -94,7 +100,8 @@ fn run<S: CkptStore + Drop>(
     store: S,
 ) -> Result<World<S>, ReplayFault>
     ensures replayed { IfOk result (λ world. IsTrue world.is_honest → RunsTo (opening scene) steps.now world.state) }
-    ensures fault { IfErr result (IsRunFault S.is_honest scene steps.now) }
+    ensures fresh { IfOk result (λ world. IsTrue world.is_honest → is_fresh (S.content store) ≡ true) }
+    ensures fault { IfErr result (IsRunFault S.is_honest (is_fresh (S.content store)) scene steps.now) }
 {
     match World::open(alloc, scene, store) {
         Ok(mut world) => match make_steps(alloc, &mut world, steps) {

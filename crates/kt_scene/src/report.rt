@@ -4,7 +4,8 @@ ghost use Rattle.std.specs.Prelude.{◌≡◌, ◌++◌, List, ℕ, map, IfOk, I
 ghost use Rattle.std.specs.List.{flat_map};
 ghost use Rattle.kt_tuple.specs.Spelling.{tuple_text};
 ghost use Rattle.kt_core.specs.World.{beside};
-ghost use Rattle.kt_scene.specs.Report.{IsReport, WritesReport, WritesReportFront, AppendsTexts, count_line, service_line, text_line, items_of};
+ghost use Rattle.kt_scene.specs.Report.{IsReport, WritesReport, WritesReportFront, AppendsTexts};
+ghost use Rattle.kt_scene.specs.Report.{count_line, service_line, text_line, items_of};
 ghost use Rattle.kt_scene.specs.Stream.{UnlessWrite, IsReportFault};
 
 use crate::fault::ReplayFault;

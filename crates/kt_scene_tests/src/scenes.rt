@@ -3,7 +3,7 @@
 use crate::tables::{
     BEHIND_COMMANDS, BEHIND_NAMES, Lines, OPERATIONS, OTHER_COMMANDS, SCRIPTS, Text,
 };
-use crate::texts::{ENDS, HEADERS, SCENARIOS, STEPS};
+use crate::texts::{ENDS, HEADERS, NODE_STEPS, SCENARIOS, STEPS};
 use kt_core::Step;
 use kt_scene::{MAX_TEXT, Work, read_scene, write_scene};
 use kt_script::{Actual, Command, Operation, Slot};
@@ -112,6 +112,12 @@ fn scripts(rt: HostRuntime) -> Result<(), Fail> {
 fn steps(rt: HostRuntime) -> Result<(), Fail> {
     let front = b"linda-kt 1\nshards 1\nworker\nsteps\n";
     assert_faults(&rt, rt.alloc(), front, 5, &STEPS, b"\nend\n")
+}
+
+#[test]
+fn node_steps(rt: HostRuntime) -> Result<(), Fail> {
+    let front = b"linda-kt 1\nshards 1\nworker\nsteps\n";
+    assert_faults(&rt, rt.alloc(), front, 5, &NODE_STEPS, b"\nend\n")
 }
 
 #[test]

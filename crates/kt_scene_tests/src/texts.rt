@@ -4,7 +4,7 @@
 use crate::tables::{Lines, Text};
 
 /// Lines among the steps.
-pub(crate) const STEPS: [Lines; 190] = [
+pub(crate) const STEPS: [Lines; 113] = [
     (b"issue w1", 0),
     (b"issue s1", 0),
     (b"issue w99", 0),
@@ -100,6 +100,28 @@ pub(crate) const STEPS: [Lines; 190] = [
     (b"repeats w1", 2),
     (b"repeatw1", 2),
     (b"repeat w1\r", 2),
+    (b"fail w1 after 3", 2),
+    (b"check w1 after 3", 2),
+    (b"worker", 2),
+    (b"steps", 2),
+    (b"out (1)", 2),
+    (b"out", 2),
+    (b"out (01)", 2),
+    (b"set x = y + 1", 2),
+    (b"unless 201", 2),
+    (b"shards 9", 2),
+    (b"linda-kt 1", 2),
+    (b"faults", 2),
+    (b"end ", 2),
+    (b" end", 2),
+    (b"End", 2),
+    (b"end\r", 2),
+    (b" #", 2),
+    (b"\0", 2),
+];
+
+/// Other lines among the steps: a word and a node.
+pub(crate) const NODE_STEPS: [Lines; 77] = [
     (b"take w1", 0),
     (b"take s99", 0),
     (b"take", 2),
@@ -177,24 +199,6 @@ pub(crate) const STEPS: [Lines; 190] = [
     (b"restart w1 s1", 2),
     (b"restart  w1", 2),
     (b"restarts1", 2),
-    (b"fail w1 after 3", 2),
-    (b"check w1 after 3", 2),
-    (b"worker", 2),
-    (b"steps", 2),
-    (b"out (1)", 2),
-    (b"out", 2),
-    (b"out (01)", 2),
-    (b"set x = y + 1", 2),
-    (b"unless 201", 2),
-    (b"shards 9", 2),
-    (b"linda-kt 1", 2),
-    (b"faults", 2),
-    (b"end ", 2),
-    (b" end", 2),
-    (b"End", 2),
-    (b"end\r", 2),
-    (b" #", 2),
-    (b"\0", 2),
 ];
 
 /// Texts with a fault of the first two lines, or behind them.

@@ -54,10 +54,11 @@ IsWordsStatus n = (n ≡ 0) ⊎ ((n ≡ 2) ⊎ ((n ≡ 6) ⊎ (n ≡ 7)))
 abbrev pub in_memory : Content → Bool
 in_memory store = true
 
--- the exit status of a command: that of what a replay answers here, which is 0 where what was read was replayed and its report
--- written, and else that of the fault, before which nothing is written, or of the writer's a front of the report; or 6, with
--- nothing read and nothing written, where memory ran out before the command was known
+-- the exit status of a command: that of what a replay over a fresh store answers here, which is 0 where what was read
+-- was replayed and its report written, and else that of the fault, before which nothing is written, or of the writer's a
+-- front of the report; or 6, with nothing read and nothing written, where memory ran out before the command was known
 pub data IsRunStatus (before after : Reader) (old new : Writer) (n : ℕ) : Type 0 where
-  done : n ≡ 0 → WritesReplayed in_memory before after old new → IsRunStatus before after old new n
-  refused : (fault : ReplayFault) → IsReplayFault in_memory before after fault → LeavesWriter in_memory before after old new fault → n ≡ status_of fault → IsRunStatus before after old new n
+  done : n ≡ 0 → WritesReplayed in_memory true before after old new → IsRunStatus before after old new n
+  refused : (fault : ReplayFault) → IsReplayFault in_memory true before after fault
+      → LeavesWriter in_memory true before after old new fault → n ≡ status_of fault → IsRunStatus before after old new n
   unread : n ≡ 6 → after ≡ before → new ≡ old → IsRunStatus before after old new n
