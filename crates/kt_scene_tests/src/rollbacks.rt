@@ -2,6 +2,7 @@
 
 use kt_core::{StepError, World};
 use kt_history::Note;
+use kt_node::Mode;
 use kt_scene::{OpenError, ReplayFault, Sink, Source, replay, replay_world};
 use kt_store::MemStore;
 use kt_tuple::NodeId;
@@ -60,6 +61,13 @@ deliver s2 w3\n";
 const VOTED: &str = "deliver w1 s2\ndeliver w2 s2\ndeliver w3 s2\ndeliver s2 w2\ndeliver s1 w2\n\
 deliver s3 w2\ndeliver w1 s1\ndeliver w3 s1\ndeliver w2 s1\ndeliver s1 w1\n\
 deliver s3 w1\ndecide w1\nlearn s1\nlearn w2\nlearn s2\n";
+
+/// Two checks that overlap, of which none succeeds.
+const OVERLAPPING: &str =
+    "issue w2\ndeliver w2 s1\nserve s1 w2 0\ndeliver s1 w2\ncheck w1\ncheck w2\n\
+deliver w1 s1\ndeliver w2 s1\ndeliver s1 w1\ndeliver s1 w2\ndeliver s1 w2\n\
+decide w2\ndeliver w1 s1\ndeliver w2 s1\ndeliver s1 w1\ndecide w1\n\
+learn w1\nlearn w2\nlearn s1\n";
 
 /// The report where the tuple is there, and nothing permanent.
 const ONCE: &str =
@@ -209,18 +217,7 @@ decide w1\nrepeat w1\ndeliver w1 s1\ndeliver w1 s1\ndeliver s1 w1\n",
         Ok(()),
     ),
     // overlapping_instances
-    (
-        &[
-            TWO_WORKERS,
-            PUT,
-            "issue w2\ndeliver w2 s1\nserve s1 w2 0\ndeliver s1 w2\ncheck w1\ncheck w2\n\
-deliver w1 s1\ndeliver w2 s1\ndeliver s1 w1\ndeliver s1 w2\ndeliver s1 w2\n\
-decide w2\ndeliver w1 s1\ndeliver w2 s1\ndeliver s1 w1\ndecide w1\n\
-learn w1\nlearn w2\nlearn s1\n",
-        ],
-        BOTH,
-        Ok(()),
-    ),
+    (&[TWO_WORKERS, PUT, OVERLAPPING], BOTH, Ok(())),
 ];
 
 /// The parts of a scenario and its last line.
@@ -284,5 +281,37 @@ fn a_store_that_was_used(rt: HostRuntime) -> Result<(), Fail> {
     let answer = replay(alloc, &mut source, &mut sink, store);
     assert_eq!(rt; answer, Err(ReplayFault::Open(OpenError::NotFresh)));
     assert!(rt; sink.into_inner().is_empty());
+    Ok(())
+}
+
+/// Scenarios after which all nodes are up, and how many bags and tuples there are then.
+const ALL_UP: [(&[&str], usize, usize); 3] = [
+    (&[THREE_SHARDS, WORK, ASKED, VOTED], 3, 1),
+    (&[ONE_WORKER, BOTH_UP], 1, 0),
+    (&[TWO_WORKERS, PUT, OVERLAPPING], 1, 2),
+];
+
+#[test]
+fn who_is_up_at_the_end(rt: HostRuntime) -> Result<(), Fail> {
+    let alloc = rt.alloc();
+    for (parts, bags, tuples) in &ALL_UP {
+        let world = world_of(alloc, parts)?;
+        assert!(rt; world.is_steady());
+        for number in 1..=8u8 {
+            for node in [NodeId::Worker(number), NodeId::Shard(number)] {
+                if let Some(mode) = world.mode(node) {
+                    assert_eq!(rt; mode, Mode::Up, "{node:?}");
+                }
+            }
+        }
+        let (mut there, mut held) = (0usize, 0usize);
+        for bag in world.bags() {
+            if let Some(bag) = bag {
+                there = there.saturating_add(1);
+                held = held.saturating_add(bag.len());
+            }
+        }
+        assert_eq!(rt; (there, held), (*bags, *tuples));
+    }
     Ok(())
 }
