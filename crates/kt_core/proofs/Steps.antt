@@ -1,9 +1,9 @@
 -- What the parts of a step come to.
-use Rattle.std.proofs.Common.{◌≡◌, ℕ, ◌+◌, ◌<◌, ◌≤◌, if◌then◌else◌, Bool, true, false, Result, Ok, Err, ◌⊎◌, inl, inr, refl, sym, ap, ◌∙◌, subst, arith}
-use Rattle.std.specs.Prelude.{nat_lt, IfErr, IfSome, IsOk, IsTrue, OnErr}
+use Rattle.std.proofs.Common.{◌≡◌, ℕ, ◌+◌, ◌<◌, ◌≤◌, ◌^◌, if◌then◌else◌, Bool, true, false, Result, Ok, Err, ◌⊎◌, inl, inr, refl, sym, ap, ◌∙◌, subst, arith}
+use Rattle.std.specs.Prelude.{nat_lt, not, IfErr, IfSome, IsOk, IsTrue, OnErr}
 use Rattle.kt_store.specs.declared.error.StoreError.{StoreError}
 use Rattle.kt_store.specs.declared.error.StoreError.TheVariants as stores
-use Rattle.kt_store.specs.Content.{Content, empty_content}
+use Rattle.kt_store.specs.Content.{Content, empty_content, row_of}
 use Rattle.kt_node.specs.declared.plan.Plan.{Plan}
 use Rattle.kt_world.specs.declared.step.Step.{Step}
 use Rattle.kt_world.specs.declared.step.StepError.{StepError}
@@ -11,7 +11,7 @@ use Rattle.kt_world.specs.declared.step.StepError.TheVariants as refusals
 use Rattle.kt_world.specs.declared.told.Told.{Told}
 use Rattle.kt_world.specs.declared.needs.Needs.{Needs}
 use Rattle.kt_tuple.specs.declared.node.NodeId.{NodeId}
-use Rattle.kt_world.specs.Judge.{due, judged, of_owner, of_scene, planned, planned_by, within_limit}
+use Rattle.kt_world.specs.Judge.{due, is_planned, judged, of_owner, of_scene, planned, planned_by, within_limit}
 use Rattle.kt_world.specs.Cast.{is_in_scene}
 use Rattle.kt_world.specs.Limits.{most_steps}
 use Rattle.kt_node.specs.declared.refusal.Refusal.TheVariants as reasons
@@ -32,6 +32,7 @@ use Rattle.kt_world.proofs.CanApplies.{can_apply, stays_ready}
 use Rattle.std.specs.Result.{IsErrAnd}
 use Rattle.kt_core.specs.Machine as machine
 use Rattle.kt_core.specs.Store.{IsFault}
+use Rattle.kt_core.specs.Judged.{is_refused}
 use Rattle.kt_core.specs.Stepping.{IsCause, Refuses}
 
 -- what is asked for is what the rule of the step looks at
@@ -178,3 +179,21 @@ allowed s step plan c p backed is read owned =
 pub numbers : (s : State) (step : Step) (plan : Plan) (c : Content) (p : NodeId) → IsBacked s → planned s step ≡ Ok plan → c ≡ s.content → p ≡ owner step → HasNumbers c p
 numbers s step plan c p backed is read owned =
     subst (λ (d : Content). HasNumbers d p) (sym read) (subst (HasNumbers s.content) (sym owned) (planned-numbers s backed step plan is))
+
+-- what is not refused is enabled
+pub enabled : (r due : Result Plan StepError) → machine.Gives r due → not (is_refused r) ≡ is_planned due
+enabled (Ok plan) due gives = ap is_planned (sym gives)
+enabled (Err (refusals.Store x)) due gives = ap is_planned (sym gives)
+enabled (Err refusals.OutOfMemory) (Ok plan) gives = refl
+enabled (Err refusals.OutOfMemory) (Err e) gives = absurd cc
+enabled (Err refusals.NoNode) due gives = ap is_planned (sym gives)
+enabled (Err refusals.WrongMode) due gives = ap is_planned (sym gives)
+enabled (Err refusals.NothingThere) due gives = ap is_planned (sym gives)
+enabled (Err refusals.NoSuchMatch) due gives = ap is_planned (sym gives)
+enabled (Err refusals.NotDecided) due gives = ap is_planned (sym gives)
+enabled (Err refusals.Unresolved) due gives = ap is_planned (sym gives)
+enabled (Err refusals.StepLimit) due gives = ap is_planned (sym gives)
+
+-- no incarnation is the greatest number of all
+pub small-incarnation : (s : State) → IsReady s → IsBacked s → (p : NodeId) → (row_of s.content p).incarnation + 1 < 2 ^ 64
+small-incarnation s ready backed p = let few = backed.few_incarnations p in let steps = ready.few_steps in omega (arith, few, steps)

@@ -1,7 +1,12 @@
 -- A world that was opened, and each that a step leads to, was reached by steps while its store is honest.
-use Rattle.std.proofs.Common.{◌≡◌, Bool, List, [], ◌∷◌, ◌++◌, Result, Ok, Err, refl, sym, ap, subst, ◌∙◌}
+use Rattle.std.proofs.Common.{◌≡◌, true, ◌&&◌, Bool, List, [], ◌∷◌, ◌++◌, Result, Ok, Err, refl, sym, ap, subst, ◌∙◌}
 use Rattle.std.specs.Prelude.{IsTrue, OnErr, OnOk}
-use Rattle.kt_store.specs.Content.{Content, empty_content}
+use Rattle.kt_store.specs.declared.rows.NodeRow.{NodeRow}
+use Rattle.kt_store.specs.declared.rows.Posted.{Posted}
+use Rattle.kt_store.specs.Content.{Content, empty_content, is_empty, is_fresh}
+use Rattle.kt_world.specs.Cast.{Cast, IsCast}
+use Rattle.kt_world.specs.Short.{AreShort}
+use Rattle.kt_world.proofs.Opened.{opening-ready}
 use Rattle.kt_world.specs.declared.step.Step.{Step}
 use Rattle.kt_world.specs.declared.step.StepError.{StepError}
 use Rattle.kt_world.specs.Effect.{step_result}
@@ -40,3 +45,25 @@ step-world r old new before after was is step world ready honest made same conte
     by (Err e) ok err content reached =
         let there : state_of new after ≡ state_of old before = ap (λ (s : State). record s { content = after }) err ∙ ap (state_of old) content in
         let P : State → Type 0 = IsReached in subst P (sym there) reached
+
+-- ---- opening
+
+fresh-empty : (c : Content) → is_fresh c ≡ true → c ≡ empty_content
+fresh-empty c e = by c.nodes c.board refl refl e
+  where
+    by : (nodes : List NodeRow) (board : List Posted) → c.nodes ≡ nodes → c.board ≡ board → (is_empty nodes && is_empty board) ≡ true → c ≡ empty_content
+    by [] [] n b e = λ i. record { nodes = n i; board = b i }
+    by [] (x ∷ later) n b e = absurd cc
+    by (x ∷ later) board n b e = absurd cc
+
+-- a world that was opened over a fresh store is at its opening
+pub opened-state : (m : Machine) (cast : Cast) (c : Content) → state_of m empty_content ≡ opening cast → is_fresh c ≡ true → state_of m c ≡ opening cast
+opened-state m cast c opened fresh = ap (state_of m) (fresh-empty c fresh) ∙ opened
+
+pub opened-world : (m : Machine) (cast : Cast) (c : Content) (honest : Bool) → state_of m empty_content ≡ opening cast → IsCast cast → AreShort cast
+    → (IsTrue honest → is_fresh c ≡ true) → IsWorld (state_of m c) honest
+unfolding after
+opened-world m cast c honest opened is short fresh = record {
+  ready = let P : State → Type 0 = IsReady in subst P (sym opened) (opening-ready cast is short);
+  reached = λ h. record { cast = cast; is_cast = is; are_short = short; steps = []; leads = sym (opened-state m cast c opened (fresh h)) };
+}

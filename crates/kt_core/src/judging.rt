@@ -98,7 +98,7 @@ fn voting(view: View<'_>, alloc: Global, told: Told, step: Step) -> Result<Plan,
 }
 
 /// Whether the step is not allowed. A store's refusal and want of memory come only where it is.
-fn is_refused(judged: &Result<Plan, StepError>) -> bool
+pub(crate) fn is_refused(judged: &Result<Plan, StepError>) -> bool
     ensures { result ≡ is_refused judged.now }
 {
     match judged {

@@ -3,13 +3,13 @@
 ghost use Rattle.std.specs.Prelude.{◌≡◌, ℕ, length, map, IfOk, IfSome, OnOk, OnErr, replicate, ◌*◌, []};
 ghost use Rattle.kt_world.specs.Limits.{rows};
 ghost use Rattle.kt_shard.specs.Limits.{desks};
-ghost use Rattle.kt_world.specs.Cast.{IsCast, script_at};
-ghost use Rattle.kt_world.specs.Short.{IsShort};
+ghost use Rattle.kt_world.specs.Cast.{IsCast};
+ghost use Rattle.kt_world.specs.Short.{AreShort};
 ghost use Rattle.kt_core.specs.Rows.{row_view};
 ghost use Rattle.kt_world.specs.Reached.{opening_rows};
 
 use crate::change::{change_node, count, make_room_in_row};
-use crate::opening::{no_counts, opening_nodes};
+use crate::opening::{no_counts, opening_nodes, scripts_are_short};
 use crate::scene::Scene;
 use crate::traffic::{add_note, make_room_on_links, send_all, take_off};
 use kt_history::History;
@@ -72,9 +72,11 @@ impl Machine {
     pub(crate) fn open(alloc: Global, scene: Scene) -> Result<Machine, Scene>
         ensures opened { IfOk result (λ m. state_of m empty_content ≡ opening scene) }
         ensures cast { IsCast scene }
+        ensures short { AreShort scene }
         ensures back { IfErr result (λ back. back ≡ scene) }
     {
         let no_script = Script::new(alloc);
+        scripts_are_short(scene.scripts());
         match opening_tables(alloc, &scene, &no_script) {
             Ok((nodes, links, own)) => Ok(Machine {
                 scene,

@@ -1,13 +1,21 @@
 //! The world: what its callers see of it, and its step.
 
-ghost use Rattle.std.specs.Prelude.{◌≡◌, ◌≤◌, false, true, IfErr, IfOk, IsTrue, Ok, OnErr, OnOk};
+ghost use Rattle.std.specs.Prelude.{◌≡◌, ◌↔◌, false, true, is_some, IfErr, IfOk, IsTrue, Ok, OnErr, OnOk};
+ghost use Rattle.std.specs.Option.{option_map};
 ghost use Rattle.kt_store.specs.Content.{is_fresh};
+ghost use Rattle.kt_tuple.specs.Node.{node_index};
+ghost use Rattle.kt_shard.specs.Table.{at};
+ghost use Rattle.kt_core.specs.declared.world.OpenError.TheVariants as opened;
 
+use crate::judging::is_refused;
 use crate::machine::Machine;
+use crate::reading::tell;
 use crate::scene::Scene;
 use crate::stepping::make;
 use kt_history::History;
+use kt_node::Mode;
 use kt_store::{CkptStore, StoreError};
+use kt_tuple::NodeId;
 use kt_world::{Step, StepError};
 use std::alloc::Global;
 use std::marker::Model;
@@ -64,10 +72,67 @@ impl<S: CkptStore> Model for World<S> {
 
 impl<S: CkptStore> World<S> {
     ghost use Rattle.kt_core.specs.Stepping.{IsCause, Refuses};
-    ghost use Rattle.kt_core.specs.World.{beside};
+    ghost use Rattle.kt_core.specs.Store.{IsFault};
+    ghost use Rattle.kt_core.specs.World.{IsOpenCause, beside};
+    ghost use Rattle.kt_world.specs.Cast.{is_node};
     ghost use Rattle.kt_world.specs.Effect.{step_result};
     ghost use Rattle.kt_world.specs.Headline.{Headline};
-    ghost use Rattle.kt_world.specs.Judge.{planned};
+    ghost use Rattle.kt_world.specs.Judge.{is_enabled, planned};
+    ghost use Rattle.kt_world.specs.Reached.{opening};
+    ghost use Rattle.kt_world.specs.State.{node};
+    ghost use Rattle.kt_node.specs.Node.{mode_of};
+
+    /// The world of the scene over a store on which nothing was ever stored. Where it is refused, scene and store come
+    /// back, and the store holds what it held.
+    pub fn open(alloc: Global, scene: Scene, store: S) -> Result<World<S>, OpenRefused<S>>
+        ensures opened { IfOk result (λ w. IsTrue w.is_honest → w.state ≡ opening scene) }
+        ensures fresh { IfOk result (λ w. IsTrue w.is_honest → is_fresh (S.content store) ≡ true) }
+        ensures honest { IfOk result (λ w. IsTrue w.is_honest → IsTrue (S.is_honest store)) }
+        ensures headline { IfOk result (λ w. IsTrue w.is_honest → Headline w.state) }
+        ensures scene_back { IfErr result (λ refused. refused.scene ≡ scene) }
+        ensures content_back { IfErr result (λ refused.
+            IsTrue (S.is_honest refused.store) → S.content refused.store ≡ S.content store) }
+        ensures honest_back { IfErr result (λ refused. IsTrue (S.is_honest refused.store) → IsTrue (S.is_honest store)) }
+        ensures not_fresh { IfErr result (λ refused.
+            refused.cause ≡ opened.NotFresh → IsTrue (S.is_honest refused.store) → is_fresh (S.content store) ≡ false) }
+        ensures cause { IfErr result (λ refused.
+            IsOpenCause (S.fault_count store) (S.fault_count refused.store) (S.is_honest refused.store) refused.cause) }
+    {
+        let mut store = store;
+        match store.is_fresh() {
+            Ok(true) => World::open_fresh(alloc, scene, store),
+            Ok(false) => Err(OpenRefused {
+                cause: OpenError::NotFresh,
+                scene,
+                store,
+            }),
+            Err(refusal) => Err(OpenRefused {
+                cause: OpenError::Store(refusal),
+                scene,
+                store,
+            }),
+        }
+    }
+
+    /// The same over a store that says that nothing was ever stored on it.
+    fn open_fresh(alloc: Global, scene: Scene, store: S) -> Result<World<S>, OpenRefused<S>>
+        requires { IsTrue (S.is_honest store) → is_fresh (S.content store) ≡ true }
+        ensures opened { IfOk result (λ w. IsTrue w.is_honest → w.state ≡ opening scene) }
+        ensures honest { IfOk result (λ w. w.is_honest ≡ S.is_honest store) }
+        ensures headline { IfOk result (λ w. IsTrue w.is_honest → Headline w.state) }
+        ensures scene_back { IfErr result (λ refused. refused.scene ≡ scene) }
+        ensures store_back { IfErr result (λ refused. refused.store ≡ store) }
+        ensures cause { IfErr result (λ refused. refused.cause ≡ opened.OutOfMemory) }
+    {
+        match Machine::open(alloc, scene) {
+            Ok(machine) => Ok(World { machine, store }),
+            Err(scene) => Err(OpenRefused {
+                cause: OpenError::OutOfMemory,
+                scene,
+                store,
+            }),
+        }
+    }
 
     /// Makes the step. A refused step changes nothing; of several refusals the first that stands comes, `Store` where
     /// a call of the store was refused or gave a checkpoint that does not fit the node, and `OutOfMemory` only where
@@ -84,6 +149,21 @@ impl<S: CkptStore> World<S> {
         make(&mut self.machine, &mut self.store, alloc, step)
     }
 
+    /// Whether the step is enabled: nothing but the store or want of memory would refuse it. The store's refusal, where
+    /// the store does not say what has to be known. It takes what the making of the step's plan takes.
+    pub fn can(&mut self, alloc: Global, step: Step) -> Result<bool, StoreError>
+        ensures value { IsTrue self.new.is_honest → IfOk result (λ can. can ≡ is_enabled self.old.state step) }
+        ensures same { IsTrue self.new.is_honest → self.new.state ≡ self.old.state }
+        ensures beside { beside self.new.state ≡ beside self.old.state }
+        ensures honest { IsTrue self.new.is_honest → IsTrue self.old.is_honest }
+        ensures cause { IfErr result (IsFault self.old.faults self.new.faults self.new.is_honest) }
+    {
+        let needs = self.machine.needs(step);
+        let told = tell(&mut self.store, alloc, step.owner(), needs)?;
+        let planned = self.machine.plan(alloc, told, step);
+        Ok(!is_refused(&planned))
+    }
+
     /// What happened so far.
     pub fn history(&self) -> &History
         ensures value { result.now.notes ≡ self.now.state.history }
@@ -92,9 +172,43 @@ impl<S: CkptStore> World<S> {
         &self.machine.history
     }
 
+    /// The scene that it was opened with.
+    pub fn scene(&self) -> &Scene
+        ensures { result.now ≡ self.now.state.cast }
+    {
+        &self.machine.scene
+    }
+
+    /// How many steps of its own the node made, 0 for a node that is not in the scene.
+    pub fn steps_of(&self, id: NodeId) -> u64
+        ensures value { IsTrue (is_node self.now.state.cast id) → result ≡ at 0 self.now.state.own (node_index id) }
+        ensures absent { is_node self.now.state.cast id ≡ false → result ≡ 0 }
+    {
+        if !self.machine.scene.has(id) {
+            return 0;
+        }
+        match self.machine.own.get(id.index()) {
+            Some(count) => *count,
+            None => 0,
+        }
+    }
+
+    /// What state the node is in, `None` for a node that is not in the scene.
+    pub fn mode(&self, id: NodeId) -> Option<Mode>
+        ensures value { result ≡ option_map mode_of (node self.now.state id) }
+        ensures there { is_some result ≡ is_node self.now.state.cast id }
+    {
+        match self.machine.nodes.get(id.index()) {
+            Some(Some(node)) => Some(node.mode()),
+            _ => None,
+        }
+    }
+
     /// Hands the store on.
     pub fn into_store(self) -> S
-        ensures { S.content result ≡ self.state.content }
+        ensures content { S.content result ≡ self.state.content }
+        ensures honest { S.is_honest result ≡ self.is_honest }
+        ensures faults { S.fault_count result ≡ self.faults }
     {
         self.store
     }

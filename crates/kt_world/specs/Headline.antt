@@ -1,8 +1,8 @@
 -- What holds of every state that steps lead to: the surviving services are one run of a sequential tuple space, each
 -- worker's requests being its script's, in order. And what a step makes of the history and of what is remembered.
-use Rattle.std.specs.Prelude.{◌≡◌, ℕ, ◌+◌, Bool, true, false, List, [], ◌∷◌}
+use Rattle.std.specs.Prelude.{◌≡◌, ℕ, ◌+◌, Bool, true, false, List, [], ◌∷◌, map}
 use Rattle.std.specs.Prelude.{◌++◌, take, length, ◌≤◌, Option, None, Some, IsTrue, IsPermutation}
-use Rattle.std.specs.List.{flat_map, range_with_len}
+use Rattle.std.specs.List.{flat_map, list_all, range_with_len}
 use Rattle.kt_tuple.specs.declared.node.NodeId.{NodeId}
 use Rattle.kt_tuple.specs.declared.node.NodeId.TheVariants as ids
 use Rattle.kt_tuple.specs.declared.tuple.Tuple.{Tuple}
@@ -16,7 +16,10 @@ use Rattle.kt_history.specs.WellFormed.{IsWellFormed}
 use Rattle.kt_lines.specs.Order.{FollowsScripts}
 use Rattle.kt_node.specs.declared.message.Message.{Message}
 use Rattle.kt_node.specs.declared.message.Message.TheVariants as messages
-use Rattle.kt_node.specs.Node.{Body, IsWorker, IsShard, Node, Down, Alive}
+use Rattle.kt_node.specs.declared.node.Mode.{Mode}
+use Rattle.kt_node.specs.declared.node.Mode.TheVariants as modes
+use Rattle.kt_node.specs.Node.{Body, IsWorker, IsShard, Node, Down, Alive, mode_of}
+use Rattle.kt_world.specs.Limits.{most_of_a_kind}
 use Rattle.kt_world.specs.declared.step.Step.{Step}
 use Rattle.kt_world.specs.declared.step.Step.TheVariants.{Deliver, Learn, Fail}
 use Rattle.kt_world.specs.Step.{owner}
@@ -59,6 +62,40 @@ pub record IsWhole (s : State) : Type 0 where
   pub tuples : List Tuple
   pub one_run : IsSpaceRun (services s.history) tuples
   pub are_held : IsPermutation tuples (all_bags s)
+
+-- the bag that a shard lends, unless it is down
+abbrev pub lent_in : Body → Option (List Tuple)
+lent_in (IsWorker x) = None
+lent_in (IsShard y) = Some y.bag
+
+abbrev pub lent_by : Option Node → Option (List Tuple)
+lent_by None = None
+lent_by (Some Down) = None
+lent_by (Some (Alive n)) = lent_in n.body
+
+-- of each number that a shard can have: none past the last shard
+abbrev pub lent_bags : State → List (Option (List Tuple))
+lent_bags s = map (λ r. lent_by (node s (ids.Shard r))) (range_with_len 1 most_of_a_kind)
+
+-- ---- steady states
+
+abbrev pub is_steady_mode : Mode → Bool
+is_steady_mode modes.Up = true
+is_steady_mode modes.Held = true
+is_steady_mode modes.Rolling = false
+is_steady_mode modes.Down = false
+
+abbrev pub is_steady_row : Option Node → Bool
+is_steady_row None = true
+is_steady_row (Some n) = is_steady_mode (mode_of n)
+
+-- no node is down or rolls back
+abbrev pub IsSteady : State → Type 0
+IsSteady s = (p : NodeId) → IsTrue (is_steady_row (node s p))
+
+-- the same as a test that computes
+abbrev pub is_steady : State → Bool
+is_steady s = list_all is_steady_row s.nodes
 
 -- ---- what a step notes
 
