@@ -1,5 +1,6 @@
 pub mod Known
 pub mod TupleLists
+pub mod Reports
 pub mod Runs
 pub mod Replays
 pub mod Names

@@ -8,8 +8,9 @@ use Rattle.kt_script.specs.declared.command.Command.{Command}
 use Rattle.kt_script.specs.declared.command.Command.TheVariants.{Ask, Set, Unless}
 use Rattle.kt_script.specs.declared.command.Operation.TheVariants.{Out, In, Rd, Inp, Rdp}
 use Rattle.kt_script.specs.Rules.{refusal_of, FollowOn, IsScript}
-use Rattle.kt_core.specs.declared.step.Step.{Step}
-use Rattle.kt_core.specs.declared.step.Step.TheVariants.{Issue, Repeat, Deliver, Serve}
+use Rattle.kt_world.specs.declared.step.Step.{Step}
+use Rattle.kt_world.specs.declared.step.Step.TheVariants.{Issue, Repeat, Deliver, Take, Serve, Check, Decide, Abandon}
+use Rattle.kt_world.specs.declared.step.Step.TheVariants.{Learn, Fail, Restart}
 use Rattle.kt_scene.specs.declared.draft.Stage.TheVariants as stages
 use Rattle.kt_scene.specs.Commands.{fitting, fault_behind}
 use Rattle.kt_scene.specs.Lines.{Sketch, nothing_read, is_word, is_ignored, count_of, line_read}
@@ -91,7 +92,14 @@ step_plain : (step : Step) → IsStepPlain (step_text step)
 step_plain (Issue node) = record { told = refl; no_end = refl }
 step_plain (Repeat node) = record { told = refl; no_end = refl }
 step_plain (Deliver from to) = record { told = refl; no_end = refl }
+step_plain (Take node) = record { told = refl; no_end = refl }
 step_plain (Serve shard worker place) = record { told = refl; no_end = refl }
+step_plain (Check node) = record { told = refl; no_end = refl }
+step_plain (Decide node) = record { told = refl; no_end = refl }
+step_plain (Abandon node) = record { told = refl; no_end = refl }
+step_plain (Learn node) = record { told = refl; no_end = refl }
+step_plain (Fail node) = record { told = refl; no_end = refl }
+step_plain (Restart node) = record { told = refl; no_end = refl }
 
 step_line : (shards : ℕ) (scripts : List (List Command)) (before : List Step) (step : Step) → IsStep step → line_read (among_steps shards scripts before) (step_text step) ≡ Ok (among_steps shards scripts (before ++ step ∷ []))
 step_line shards scripts before step h =

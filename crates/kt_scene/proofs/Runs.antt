@@ -1,12 +1,13 @@
 -- Steps that were made, and one more.
 use Rattle.std.proofs.Common.{◌≡◌, ℕ, suc, ◌+◌, ◌<◌, List, [], ◌∷◌, ◌++◌, length, take, drop, get_or, Ok, refl, sym, ap, subst, ◌∙◌, arith, length-take, take-append-drop, drop-cons}
 use Rattle.std.proofs.lemmas.List.{take_more, get_or_default}
-use Rattle.kt_core.specs.declared.step.Step.{Step}
-use Rattle.kt_core.specs.declared.step.StepError.{StepError}
-use Rattle.kt_core.specs.State.{State}
-use Rattle.kt_core.specs.Effect.{step_result}
-use Rattle.kt_core.specs.Machine.{Refuses}
-use Rattle.kt_core.specs.Runs.{RunsTo, IsRefusedAt}
+use Rattle.kt_world.specs.declared.step.Step.{Step}
+use Rattle.kt_world.specs.declared.step.StepError.{StepError}
+use Rattle.kt_world.specs.State.{State}
+use Rattle.kt_world.specs.Effect.{step_result}
+use Rattle.kt_world.specs.Judge.{planned}
+use Rattle.kt_core.specs.Stepping.{Refuses}
+use Rattle.kt_scene.specs.Runs.{RunsTo, IsRefusedAt}
 
 pub RunsTo-push : (old : State) (steps : List Step) (between : State) (step : Step) (new : State) → RunsTo old steps between → step_result between step ≡ Ok new → RunsTo old (steps ++ step ∷ []) new
 RunsTo-push old [] between step new runs e = (new, subst (λ (s : State). step_result s step ≡ Ok new) runs e, refl)
@@ -21,7 +22,7 @@ made_more old steps i between step new lt at runs e =
     subst P more (RunsTo-push old (take i steps) between step new runs e)
 
 -- the step at this place was the first refused
-pub refused_at : (old : State) (steps : List Step) (i : ℕ) (between : State) (step : Step) (cause : StepError) → i < length steps → step ≡ get_or steps i step → RunsTo old (take i steps) between → Refuses cause (step_result between step)
+pub refused_at : (old : State) (steps : List Step) (i : ℕ) (between : State) (step : Step) (cause : StepError) → i < length steps → step ≡ get_or steps i step → RunsTo old (take i steps) between → Refuses cause (planned between step)
     → IsRefusedAt old steps (i + 1) cause
 refused_at old steps i between step cause lt at runs e = record {
   made = take i steps;
@@ -38,5 +39,5 @@ refused_at old steps i between step cause lt at runs e = record {
 pub made_next : (old : State) (steps : List Step) (i : ℕ) (between : State) (d : Step) (new : State) → i < length steps → RunsTo old (take i steps) between → step_result between (get_or steps i d) ≡ Ok new → RunsTo old (take (i + 1) steps) new
 made_next old steps i between d new lt runs e = made_more old steps i between (get_or steps i d) new lt (get_or_default steps i d (get_or steps i d) lt) runs e
 
-pub refused_next : (old : State) (steps : List Step) (i : ℕ) (between : State) (d : Step) (cause : StepError) → i < length steps → RunsTo old (take i steps) between → Refuses cause (step_result between (get_or steps i d)) → IsRefusedAt old steps (i + 1) cause
+pub refused_next : (old : State) (steps : List Step) (i : ℕ) (between : State) (d : Step) (cause : StepError) → i < length steps → RunsTo old (take i steps) between → Refuses cause (planned between (get_or steps i d)) → IsRefusedAt old steps (i + 1) cause
 refused_next old steps i between d cause lt runs e = refused_at old steps i between (get_or steps i d) cause lt (get_or_default steps i d (get_or steps i d) lt) runs e

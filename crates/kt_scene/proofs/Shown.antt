@@ -29,8 +29,9 @@ use Rattle.kt_script.specs.declared.command.Operation.TheVariants.{Out, In, Rd, 
 use Rattle.kt_script.specs.declared.command.Command.{Command}
 use Rattle.kt_script.specs.declared.command.Command.TheVariants.{Ask, Set, Unless}
 use Rattle.kt_script.specs.Name.{is_letter, is_name_character, IsName}
-use Rattle.kt_core.specs.declared.step.Step.{Step}
-use Rattle.kt_core.specs.declared.step.Step.TheVariants.{Issue, Repeat, Deliver, Serve}
+use Rattle.kt_world.specs.declared.step.Step.{Step}
+use Rattle.kt_world.specs.declared.step.Step.TheVariants.{Issue, Repeat, Deliver, Take, Serve, Check, Decide, Abandon}
+use Rattle.kt_world.specs.declared.step.Step.TheVariants.{Learn, Fail, Restart}
 use Rattle.kt_scene.specs.Text.{actual_text, slot_text, pattern_text, operation_text, command_text, node_text, step_text}
 use Rattle.kt_scene.specs.Scenario.{IsActual, IsSlot, IsPattern, IsOperation, IsCommand, IsStepNode, IsStep}
 use Rattle.kt_scene.proofs.CommandLaws.{set_text}
@@ -153,6 +154,13 @@ pub step_shown : (step : Step) → IsStep step → AreShown (step_text step)
 step_shown (Issue node) h = node_shown node h
 step_shown (Repeat node) h = node_shown node h
 step_shown (Deliver from to) (from_is, to_is) = shown_append (codes "deliver " ++ node_text from) (32 ∷ node_text to) (node_shown from from_is) (node_shown to to_is)
+step_shown (Take node) h = node_shown node h
 step_shown (Serve shard worker place) (shard_is, worker_is, small) =
     let before = shown_append (codes "serve " ++ node_text shard) (32 ∷ node_text worker) (node_shown shard shard_is) (node_shown worker worker_is) in
     shown_append (codes "serve " ++ node_text shard ++ 32 ∷ node_text worker) (32 ∷ decimal place) before (decimal_shown place (omega (arith, small)))
+step_shown (Check node) h = node_shown node h
+step_shown (Decide node) h = node_shown node h
+step_shown (Abandon node) h = node_shown node h
+step_shown (Learn node) h = node_shown node h
+step_shown (Fail node) h = node_shown node h
+step_shown (Restart node) h = node_shown node h

@@ -6,7 +6,7 @@ use Rattle.std.specs.Prelude.{codes, decimal, All}
 use Rattle.std.specs.List.{flat_map}
 use Rattle.kt_script.specs.declared.command.Command.{Command}
 use Rattle.kt_script.specs.Rules.{IsScript}
-use Rattle.kt_core.specs.declared.step.Step.{Step}
+use Rattle.kt_world.specs.declared.step.Step.{Step}
 use Rattle.kt_scene.specs.declared.draft.Stage.{Stage}
 use Rattle.kt_scene.specs.declared.draft.Stage.TheVariants as stages
 use Rattle.kt_scene.specs.Lines.{Sketch, is_ended}

@@ -9,7 +9,7 @@ use Rattle.kt_script.specs.declared.script_error.ScriptError.TheVariants as refu
 use Rattle.kt_script.specs.Command.{bindings}
 use Rattle.kt_script.specs.Variables.{variables_of, with_bindings}
 use Rattle.kt_script.specs.Rules.{has_count, keeps_rules, is_within, refusal_of, IsScript}
-use Rattle.kt_core.specs.declared.step.Step.{Step}
+use Rattle.kt_world.specs.declared.step.Step.{Step}
 use Rattle.kt_scene.specs.declared.command.Spelled.{Spelled}
 use Rattle.kt_scene.specs.declared.fault.SceneError.{SceneError}
 use Rattle.kt_scene.specs.declared.fault.SceneError.TheVariants as faults

@@ -11,7 +11,7 @@ use Rattle.kt_script.specs.declared.command.Command.TheVariants.{Ask, Set, Unles
 use Rattle.kt_script.specs.Name.{IsName}
 use Rattle.kt_script.specs.Variables.{variables_of}
 use Rattle.kt_script.specs.Rules.{keeps_rules}
-use Rattle.kt_core.specs.declared.step.Step.{Step}
+use Rattle.kt_world.specs.declared.step.Step.{Step}
 use Rattle.kt_scene.specs.declared.command.Verb.{Verb}
 use Rattle.kt_scene.specs.declared.command.Verb.TheVariants as verbs
 use Rattle.kt_scene.specs.declared.fault.SceneError.{SceneError}

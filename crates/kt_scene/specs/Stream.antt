@@ -38,6 +38,7 @@ abbrev pub IsReadFault : (before after : Reader) → ReplayFault → Type 0
 IsReadFault before after (faults.Scene line cause) = (line ≡ 1) × (cause ≡ Limit) × IsTooLong before.bytes × (after.outcome ≡ outcomes.Open)
 IsReadFault before after (faults.Step at cause) = ⊥
 IsReadFault before after (faults.Open cause) = ⊥
+IsReadFault before after (faults.Report cause) = ⊥
 IsReadFault before after faults.Memory = after.outcome ≡ outcomes.Open
 IsReadFault before after faults.Read = after.outcome ≡ outcomes.Failed
 IsReadFault before after faults.Write = ⊥
@@ -47,15 +48,17 @@ abbrev pub UnlessWrite : ReplayFault → Type 0 → Type 0
 UnlessWrite (faults.Scene line cause) P = P
 UnlessWrite (faults.Step at cause) P = P
 UnlessWrite (faults.Open cause) P = P
+UnlessWrite (faults.Report cause) P = P
 UnlessWrite faults.Memory P = P
 UnlessWrite faults.Read P = P
 UnlessWrite faults.Write P = Unit {0}
 
--- what writing a report alone answers: want of memory, or a failure of the writer
+-- what writing a report alone answers: a refusal of the store, want of memory, or a failure of the writer
 abbrev pub IsReportFault : ReplayFault → Type 0
 IsReportFault (faults.Scene line cause) = ⊥
 IsReportFault (faults.Step at cause) = ⊥
 IsReportFault (faults.Open cause) = ⊥
+IsReportFault (faults.Report cause) = Unit {0}
 IsReportFault faults.Memory = Unit {0}
 IsReportFault faults.Read = ⊥
 IsReportFault faults.Write = Unit {0}

@@ -193,33 +193,38 @@ fn push_step(out: &mut Vec<u8>, step: Step) -> Result<(), AllocError>
     ensures { OnOk result (out.new.items ≡ out.old.items ++ step_text step) }
 {
     match step {
-        Step::Issue { node } => {
-            out.extend_from_slice(b"issue ")?;
-            push_node(out, node)
-        }
-        Step::Repeat { node } => {
-            out.extend_from_slice(b"repeat ")?;
-            push_node(out, node)
-        }
+        Step::Issue { node } => push_at(out, b"issue ", node),
+        Step::Repeat { node } => push_at(out, b"repeat ", node),
         Step::Deliver { from, to } => {
-            out.extend_from_slice(b"deliver ")?;
-            push_node(out, from)?;
-            out.push(b' ')?;
-            push_node(out, to)
+            push_at(out, b"deliver ", from)?;
+            push_at(out, b" ", to)
         }
+        Step::Take { node } => push_at(out, b"take ", node),
         Step::Serve {
             shard,
             worker,
             place,
         } => {
-            out.extend_from_slice(b"serve ")?;
-            push_node(out, shard)?;
-            out.push(b' ')?;
-            push_node(out, worker)?;
+            push_at(out, b"serve ", shard)?;
+            push_at(out, b" ", worker)?;
             out.push(b' ')?;
             push_number(out, place)
         }
+        Step::Check { node } => push_at(out, b"check ", node),
+        Step::Decide { node } => push_at(out, b"decide ", node),
+        Step::Abandon { node } => push_at(out, b"abandon ", node),
+        Step::Learn { node } => push_at(out, b"learn ", node),
+        Step::Fail { node } => push_at(out, b"fail ", node),
+        Step::Restart { node } => push_at(out, b"restart ", node),
     }
+}
+
+/// A word with the space behind it, and a node.
+fn push_at(out: &mut Vec<u8>, word: &[u8], node: NodeId) -> Result<(), AllocError>
+    ensures { OnOk result (out.new.items ≡ out.old.items ++ word.now ++ node_text node) }
+{
+    out.extend_from_slice(word)?;
+    push_node(out, node)
 }
 
 fn push_node(out: &mut Vec<u8>, node: NodeId) -> Result<(), AllocError>

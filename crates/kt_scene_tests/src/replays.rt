@@ -5,6 +5,7 @@ use kt_scene::{
     MAX_TEXT, OpenError, Outcome, ReplayFault, SceneError, SceneFault, Source, StepError,
     read_text, replay_world,
 };
+use kt_store::{MemStore, StoreError};
 use std::alloc::Global;
 use std::process::Abort;
 use std::test::Fail;
@@ -232,7 +233,10 @@ fn what_a_reader_came_to(rt: HostRuntime) -> Result<(), Fail> {
             good,
             ..whole(text)
         });
-        assert_eq!(rt; replay_world(alloc, &mut source).is_ok(), good == 2);
+        assert_eq!(rt;
+            replay_world(alloc, &mut source, MemStore::new(alloc)).is_ok(),
+            good == 2
+        );
         assert_eq!(rt; source.outcome(), outcome);
     }
     Ok(())
@@ -267,7 +271,7 @@ const SCENE_LINES: [(usize, SceneError, &str); 8] = [
 ];
 
 /// Why a step is refused, and the line that tells of it.
-const STEP_LINES: [(usize, StepError, &str); 8] = [
+const STEP_LINES: [(usize, StepError, &str); 10] = [
     (1, StepError::NoNode, "step 1: 1 NoNode"),
     (2, StepError::WrongMode, "step 2: 2 WrongMode"),
     (3, StepError::NothingThere, "step 3: 3 NothingThere"),
@@ -275,12 +279,22 @@ const STEP_LINES: [(usize, StepError, &str); 8] = [
     (6, StepError::NotDecided, "step 6: 5 NotDecided"),
     (8, StepError::Unresolved, "step 8: 6 Unresolved"),
     (100_001, StepError::StepLimit, "step 100001: 7 StepLimit"),
+    (7, StepError::Store(StoreError::Device), "store: Device"),
+    (4, StepError::Store(StoreError::Memory), "store: Memory"),
     (5, StepError::OutOfMemory, "memory"),
 ];
 
 /// The other faults and their lines.
-const OTHER_LINES: [(ReplayFault, &str); 4] = [
+const OTHER_LINES: [(ReplayFault, &str); 9] = [
+    (ReplayFault::Open(OpenError::NotFresh), "store: NotFresh"),
+    (
+        ReplayFault::Open(OpenError::Store(StoreError::Damaged)),
+        "store: Damaged",
+    ),
     (ReplayFault::Open(OpenError::OutOfMemory), "memory"),
+    (ReplayFault::Report(StoreError::Device), "store: Device"),
+    (ReplayFault::Report(StoreError::Memory), "store: Memory"),
+    (ReplayFault::Report(StoreError::Full), "store: Full"),
     (ReplayFault::Memory, "memory"),
     (ReplayFault::Read, "read"),
     (ReplayFault::Write, "write"),

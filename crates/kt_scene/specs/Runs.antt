@@ -1,0 +1,24 @@
+-- Making steps one after the other.
+use Rattle.std.specs.Prelude.{◌≡◌, ℕ, ◌+◌, List, [], ◌∷◌, ◌++◌, length, Ok}
+use Rattle.kt_world.specs.declared.step.Step.{Step}
+use Rattle.kt_world.specs.declared.step.StepError.{StepError}
+use Rattle.kt_world.specs.State.{State}
+use Rattle.kt_world.specs.Judge.{planned}
+use Rattle.kt_world.specs.Effect.{step_result}
+use Rattle.kt_core.specs.Stepping.{Refuses}
+
+-- each of the steps is made, in order, and they lead from the one state to the other
+abbrev pub RunsTo : State → List Step → State → Type 0
+RunsTo old [] new = new ≡ old
+RunsTo old (step ∷ later) new = (between : State) × (step_result old step ≡ Ok between) × RunsTo between later new
+
+-- the step with this number, counted from 1, is the first that is refused, for this cause
+pub record IsRefusedAt (old : State) (steps : List Step) (at : ℕ) (cause : StepError) : Type 0 where
+  pub made : List Step
+  pub refused : Step
+  pub later : List Step
+  pub split : steps ≡ made ++ refused ∷ later
+  pub count : at ≡ length made + 1
+  pub reached : State
+  pub runs : RunsTo old made reached
+  pub refusal : Refuses cause (planned reached refused)
