@@ -13,6 +13,7 @@ mod reading;
 mod scene;
 mod space;
 mod stepping;
+mod tables;
 mod traffic;
 mod world;
 mod writing;
