@@ -1,4 +1,6 @@
-use Rattle.std.proofs.Common.{◌≡◌, ◌∙◌, subst}
+use Rattle.std.proofs.Common.{◌≡◌, ◌∙◌, ap, subst}
+use Rattle.std.specs.List.{list_all}
+use Rattle.kt_core.specs.Rows.{is_steady_code}
 use Rattle.kt_world.specs.Headline.{is_steady}
 use Rattle.kt_core.specs.World.{Standing}
 use Rattle.kt_core.proofs.Later.{all-rows}
@@ -6,4 +8,4 @@ use Rattle.kt_core.proofs.world.World.is_steady.Goals as goal
 
 pub returns : goal.returns
 returns g c =
-    let P : Standing → Type 0 = λ w. c.are_steady.result ≡ is_steady w.state in subst P c.self.view_is (c.are_steady.ensures ∙ all-rows c.self.inside.machine.nodes.items)
+    let P : Standing → Type 0 = λ w. c.are_steady.result ≡ is_steady w.state in subst P c.self.view_is (c.are_steady.ensures ∙ ap (list_all is_steady_code) c.deref.ensures.value ∙ all-rows c.self.inside.machine.nodes.items)
