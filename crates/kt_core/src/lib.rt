@@ -11,7 +11,9 @@ mod opening;
 mod reading;
 
 mod scene;
+mod space;
 mod stepping;
+mod tables;
 mod traffic;
 mod world;
 mod writing;

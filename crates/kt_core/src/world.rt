@@ -1,6 +1,6 @@
 //! The world: what its callers see of it, and its step.
 
-ghost use Rattle.std.specs.Prelude.{◌≡◌, ◌↔◌, false, true, is_some, IfErr, IfOk, IsTrue, Ok, OnErr, OnOk};
+ghost use Rattle.std.specs.Prelude.{◌≡◌, ◌↔◌, false, true, is_some, map, IfErr, IfOk, IsTrue, Ok, OnErr, OnOk};
 ghost use Rattle.std.specs.Option.{option_map};
 ghost use Rattle.kt_store.specs.Content.{is_fresh};
 ghost use Rattle.kt_tuple.specs.Node.{node_index};
@@ -11,11 +11,14 @@ use crate::judging::is_refused;
 use crate::machine::Machine;
 use crate::reading::tell;
 use crate::scene::Scene;
+use crate::space::permanent_tuples;
 use crate::stepping::make;
+use crate::tables::{are_steady, bag_at};
 use kt_history::History;
 use kt_node::Mode;
+use kt_space::Bag;
 use kt_store::{CkptStore, StoreError};
-use kt_tuple::NodeId;
+use kt_tuple::{NodeId, Tuple};
 use kt_world::{Step, StepError};
 use std::alloc::Global;
 use std::marker::Model;
@@ -76,7 +79,8 @@ impl<S: CkptStore> World<S> {
     ghost use Rattle.kt_core.specs.World.{IsOpenCause, beside};
     ghost use Rattle.kt_world.specs.Cast.{is_node};
     ghost use Rattle.kt_world.specs.Effect.{step_result};
-    ghost use Rattle.kt_world.specs.Headline.{Headline};
+    ghost use Rattle.kt_world.specs.Cut.{permanent_tuples};
+    ghost use Rattle.kt_world.specs.Headline.{Headline, is_steady, lent_bags};
     ghost use Rattle.kt_world.specs.Judge.{is_enabled, planned};
     ghost use Rattle.kt_world.specs.Reached.{opening};
     ghost use Rattle.kt_world.specs.State.{node};
@@ -202,6 +206,42 @@ impl<S: CkptStore> World<S> {
             Some(Some(node)) => Some(node.mode()),
             _ => None,
         }
+    }
+
+    /// Whether no node is down or rolls back. It takes no memory.
+    pub fn is_steady(&self) -> bool
+        ensures { result ≡ is_steady self.now.state }
+    {
+        are_steady(&self.machine.nodes)
+    }
+
+    /// For each shard in order its bag: none while it is down, and none past the last shard. It takes no memory.
+    pub fn bags(&self) -> [Option<&Bag>; 8]
+        ensures { map (λ bag. option_map (λ b. b.now.tuples) bag) result ≡ lent_bags self.now.state }
+    {
+        let nodes = &self.machine.nodes;
+        [
+            bag_at(nodes, 1),
+            bag_at(nodes, 2),
+            bag_at(nodes, 3),
+            bag_at(nodes, 4),
+            bag_at(nodes, 5),
+            bag_at(nodes, 6),
+            bag_at(nodes, 7),
+            bag_at(nodes, 8),
+        ]
+    }
+
+    /// The tuples of each shard's permanent checkpoint, shard after shard; a tentative one counts from the moment that
+    /// its Yes is written. The store's refusal, or `Memory`.
+    pub fn permanent_space(&mut self, alloc: Global) -> Result<Vec<Tuple>, StoreError>
+        ensures value { IsTrue self.new.is_honest → IfOk result (λ tuples. tuples.items ≡ permanent_tuples self.old.state) }
+        ensures same { IsTrue self.new.is_honest → self.new.state ≡ self.old.state }
+        ensures beside { beside self.new.state ≡ beside self.old.state }
+        ensures honest { IsTrue self.new.is_honest → IsTrue self.old.is_honest }
+        ensures cause { IfErr result (IsFault self.old.faults self.new.faults self.new.is_honest) }
+    {
+        permanent_tuples(&mut self.store, alloc, self.machine.scene.shards())
     }
 
     /// Hands the store on.
