@@ -1,3 +1,5 @@
 pub mod Numbers
 pub mod Reading
 pub mod Represents
+pub mod Opened
+pub mod Links

@@ -15,7 +15,7 @@ next_named (ids.Worker n) = ids.Worker (suc n)
 next_named (ids.Shard n) = ids.Shard (suc n)
 
 -- the node of this number
-pub named : ℕ → NodeId
+unfoldable pub named : ℕ → NodeId
 named zero = ids.Worker 0
 named (suc zero) = ids.Shard 0
 named (suc (suc n)) = next_named (named n)

@@ -53,7 +53,7 @@ carried_one (messages.RollAsk ask) = Ask (Rollback ask.instance) (label_of ask.l
 carried_one (messages.Vote vote) = []
 carried_one (messages.Verdict instance agreed) = []
 
-pub carried : List RealMessage → List Message
+unfoldable pub carried : List RealMessage → List Message
 carried [] = []
 carried (m ∷ later) = carried_one m ++ carried later
 
@@ -95,7 +95,7 @@ abbrev pub kept_one : NodeId → NodeId × RealPost → List Post
 kept_one q x = if node_eq x.0 q then post_of x.1 ∷ [] else []
 
 -- what is kept of q, of all that is kept
-pub kept_from : NodeId → List (NodeId × RealPost) → List Post
+unfoldable pub kept_from : NodeId → List (NodeId × RealPost) → List Post
 kept_from q [] = []
 kept_from q (x ∷ later) = kept_one q x ++ kept_from q later
 
