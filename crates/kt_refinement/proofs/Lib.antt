@@ -3,3 +3,4 @@ pub mod Reading
 pub mod Represents
 pub mod Opened
 pub mod Links
+pub mod Frames
