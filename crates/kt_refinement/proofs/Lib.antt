@@ -4,3 +4,4 @@ pub mod Represents
 pub mod Opened
 pub mod Links
 pub mod Frames
+pub mod Cohorts
