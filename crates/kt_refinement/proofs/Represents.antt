@@ -137,14 +137,14 @@ undecided (Some verdicts.Open) (Some t) = Some t
 undecided (Some verdicts.Yes) (Some t) = None
 undecided (Some verdicts.No) (Some t) = None
 
-pub record IsTentative (cast : Cast) (h : List Note) (p : NodeId) (numbers : List ℕ) (t : Tentative) (x : Node) : Type 0 where
-  pub instance : x.tent ≡ Some t.instance
+pub record IsTentative (cast : Cast) (h : List Note) (p : NodeId) (numbers : List ℕ) (t : Tentative) (tent : Option ℕ) (acts : List Act) : Type 0 where
+  pub instance : tent ≡ Some t.instance
   pub whole : t.checkpoint.line_len ≡ length numbers
-  pub stands : Stands cast h p numbers (Some t.checkpoint) x.line
+  pub stands : Stands cast h p numbers (Some t.checkpoint) acts
 
-abbrev pub TentativeIs : Cast → List Note → NodeId → List ℕ → Option Tentative → Node → Type 0
-TentativeIs cast h p numbers None x = x.tent ≡ None
-TentativeIs cast h p numbers (Some t) x = IsTentative cast h p numbers t x
+abbrev pub TentativeIs : Cast → List Note → NodeId → List ℕ → Option Tentative → Option ℕ → List Act → Type 0
+TentativeIs cast h p numbers None tent acts = tent ≡ None
+TentativeIs cast h p numbers (Some t) tent acts = IsTentative cast h p numbers t tent acts
 
 -- ---- a node
 
@@ -154,7 +154,7 @@ pub record NodeIs (cast : Cast) (h : List Note) (p : NodeId) (numbers : List ℕ
   pub life : row.incarnation ≡ x.life
   pub state : StateIs cast p real x
   pub perm : Stands cast h p numbers (permanent_by verdict row.tentative row.permanent) x.perm
-  pub tent : TentativeIs cast h p numbers (undecided verdict row.tentative) x
+  pub tent : TentativeIs cast h p numbers (undecided verdict row.tentative) x.tent x.line
   -- an ask is answered by the stored checkpoint, which a Yes that is not learnt leaves behind
   pub lower : (q : NodeId) → AreNeighbours cast p q → UpTo (label_of (sent_in (option_map marks_of row.permanent) (node_number q))) (top_sent x.perm (node_index q))
 
