@@ -188,7 +188,7 @@ after-cast s step plan c d is leads p q near v on =
           (subst (λ (x : NodeId). WasCast (d.node (node_index (owner step))).votes x v) ends.1 so)
     ]
 
-cases-node : (p q : NodeId) → (p ≡ q) ⊎ (p ≢ q)
+pub cases-node : (p q : NodeId) → (p ≡ q) ⊎ (p ≢ q)
 cases-node p q = elim (cases_eq (node_index p) (node_index q)) [
   | inl e ↦ inl (node_index-injective p q e)
   | inr d ↦ inr (λ e. d (ap node_index e))

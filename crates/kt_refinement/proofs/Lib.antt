@@ -5,3 +5,5 @@ pub mod Opened
 pub mod Links
 pub mod Frames
 pub mod Cohorts
+pub mod Known
+pub mod JoinsRollback
