@@ -1,5 +1,6 @@
 -- What is known of the machine's node where something is known of the real one.
 use Rattle.std.proofs.Common.{◌≡◌, ◌⊎◌, ℕ, suc, zero, ◌≤◌, Bool, true, false, IsTrue, List, [], ◌∷◌, ◌++◌, map, filter, Contains, Option, Some, None, refl, sym, ap, subst, ◌∙◌, arith}
+use Rattle.std.specs.Option.{option_map}
 use Rattle.kt_tuple.specs.declared.node.NodeId.{NodeId}
 use Rattle.kt_tuple.specs.Node.{node_index}
 use Rattle.kt_store.specs.declared.rows.Posted.{Posted}
@@ -14,13 +15,14 @@ use Rattle.kt_node.specs.declared.message.Message.{Message as RealMessage}
 use Rattle.kt_node.specs.Labels.{numbers}
 use Rattle.kt_node.specs.Node.{Node as RealNode, Down as IsDown, Alive, Live, across}
 use Rattle.kt_node.specs.Stored.{is_undecided}
-use Rattle.kt_vote.specs.Poll.{outcome_from}
+use Rattle.kt_vote.specs.Poll.{Poll, outcome_from}
 use Rattle.kt_world.specs.State.{State as World, node}
 use Rattle.kt_world.specs.Ready.{AreNeighbours}
 use Rattle.kt_world.proofs.Plans.{IsAlive, Comes}
-use Rattle.kt_protocol.specs.Machine.{Instance, Check, Rollback, Verdict, Open, Mode, Up, Node, State, Message}
+use Rattle.kt_protocol.specs.Machine.{Instance, Check, Rollback, Verdict, Open, Ballot, Mode, Up, Within, Node, State, Message}
+use Rattle.kt_protocol.proofs.Invariant.{Invariant}
 use Rattle.kt_refinement.proofs.Numbers.{peers, peers-of}
-use Rattle.kt_refinement.proofs.Represents.{carried, carried_one, PhaseIs, LiveIs, NodeIn, verdict_as, is_for, Represents}
+use Rattle.kt_refinement.proofs.Represents.{carried, carried_one, PhaseIs, Votes, LiveIs, NodeIn, verdict_is, verdict_as, begun_as, is_for, Represents}
 
 -- an alive node is one of the machine
 pub alive-is : (s : World) (c : State) → Represents s c → (p : NodeId) (n : Live) → IsAlive s p n
@@ -66,3 +68,34 @@ waits-for p (suc n) some = refl
 pub all-chosen : {A : Type 0} (xs : List A) → filter (λ x. true) xs ≡ xs
 all-chosen [] = refl
 all-chosen (x ∷ xs) = ap (λ l. x ∷ l) (all-chosen xs)
+
+-- ---- instances in which a node votes
+
+pub rolling-is : (s : World) (c : State) → Represents s c → (p : NodeId) (n : Live) (b : Poll) → IsAlive s p n → n.phase ≡ phases.Rolling b
+    → Votes (Rollback b.instance) b (c.node (node_index p)).life (c.node (node_index p)).mode
+rolling-is s c is p n b alive rolling =
+    subst (λ (x : Phase). PhaseIs x (c.node (node_index p)).life (c.node (node_index p)).mode) rolling (alive-is s c is p n alive).state.phase
+
+pub held-is : (s : World) (c : State) → Represents s c → (p : NodeId) (n : Live) (b : Poll) → IsAlive s p n → n.phase ≡ phases.Held b
+    → Votes (Check b.instance) b (c.node (node_index p)).life (c.node (node_index p)).mode
+held-is s c is p n b alive held =
+    subst (λ (x : Phase). PhaseIs x (c.node (node_index p)).life (c.node (node_index p)).mode) held (alive-is s c is p n alive).state.phase
+
+-- an instance in which a node votes was begun
+pub voting-begun : (peer : ℕ → ℕ → Bool) (c : State) → Invariant peer c → (o : ℕ) (i : Instance) (b : Ballot) → (c.node o).mode ≡ Within i b → c.board.begun i ≡ true
+voting-begun peer c inv o i b e = ((inv.local o).members i (c.node o).life (b.parent, ((inv.local o).ballot i b e).member)).1
+
+decided-as : (purpose : Purpose) (o : Option Posted) (v : RealVerdict) → begun_as purpose o ≡ true → option_map (λ (row : Posted). row.verdict) o ≡ Some v
+    → verdict_as purpose o ≡ verdict_is v
+decided-as purpose None v begun e = absurd (cc (e))
+decided-as purpose (Some row) v begun e = rw begun (ap verdict_is (cc (e)))
+
+pub rollback-verdict : (s : World) (c : State) → Represents s c → (i : ℕ) (v : RealVerdict) → c.board.begun (Rollback i) ≡ true → verdict_of s.content i ≡ Some v
+    → c.board.verdict (Rollback i) ≡ verdict_is v
+rollback-verdict s c is i v begun e =
+    (is.board i).rollback ∙ decided-as purposes.Rollback (posted s.content i) v (sym (is.board i).rollback_begun ∙ begun) e
+
+pub check-verdict : (s : World) (c : State) → Represents s c → (i : ℕ) (v : RealVerdict) → c.board.begun (Check i) ≡ true → verdict_of s.content i ≡ Some v
+    → c.board.verdict (Check i) ≡ verdict_is v
+check-verdict s c is i v begun e =
+    (is.board i).check ∙ decided-as purposes.Check (posted s.content i) v (sym (is.board i).check_begun ∙ begun) e

@@ -7,3 +7,5 @@ pub mod Frames
 pub mod Cohorts
 pub mod Known
 pub mod JoinsRollback
+pub mod Loading
+pub mod RollsBack
