@@ -9,3 +9,4 @@ pub mod Known
 pub mod JoinsRollback
 pub mod Loading
 pub mod RollsBack
+pub mod Settling
