@@ -10,3 +10,4 @@ pub mod JoinsRollback
 pub mod Loading
 pub mod RollsBack
 pub mod Settling
+pub mod Decides

@@ -161,11 +161,11 @@ rolls s c inv is h step n live b send alive rolling decided from may links cast 
       });
     }
 
-verdicts-silent : (instance : ℕ) (agreed : Bool) (asked : List NodeId) → AllByRecursion IsSilent (verdict_to instance agreed asked)
+pub verdicts-silent : (instance : ℕ) (agreed : Bool) (asked : List NodeId) → AllByRecursion IsSilent (verdict_to instance agreed asked)
 verdicts-silent instance agreed [] = tt
 verdicts-silent instance agreed (q ∷ asked) = (refl, verdicts-silent instance agreed asked)
 
-verdicts-cast : (votes : List Vote) (instance : ℕ) (agreed : Bool) (asked : List NodeId) → AllByRecursion (CastSo votes) (verdict_to instance agreed asked)
+pub verdicts-cast : (votes : List Vote) (instance : ℕ) (agreed : Bool) (asked : List NodeId) → AllByRecursion (CastSo votes) (verdict_to instance agreed asked)
 verdicts-cast votes instance agreed [] = tt
 verdicts-cast votes instance agreed (q ∷ asked) = (tt, verdicts-cast votes instance agreed asked)
 
