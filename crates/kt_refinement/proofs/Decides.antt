@@ -67,7 +67,7 @@ agreed-is peer o b life x is e =
       none = is.refused ∙ both.0;
     }
 
-no-parent : (b : Poll) (life : ℕ) (x : Ballot) → BallotIs b life x → b.parent ≡ None → x.parent ≡ None
+pub no-parent : (b : Poll) (life : ℕ) (x : Ballot) → BallotIs b life x → b.parent ≡ None → x.parent ≡ None
 no-parent b life x is e = is.parent ∙ ap (Rattle.std.specs.Option.option_map Rattle.kt_refinement.proofs.Represents.asker_key) e
 
 -- who began an instance says yes to itself; its real ballot does not tell
@@ -117,7 +117,7 @@ turning_plan change send = record { change = change; send = send; note = None; w
 abbrev pub deciding_plan : Change → List (NodeId × RealMessage) → ℕ → Bool → Plan
 deciding_plan change send i agreed = record { change = change; send = send; note = None; write = Some (writes.Decide i agreed) }
 
-opened-is : (v : Option RealVerdict) → IsTrue (is_undecided v) → v ≡ Some verdicts.Open
+pub opened-is : (v : Option RealVerdict) → IsTrue (is_undecided v) → v ≡ Some verdicts.Open
 opened-is None t = absurd (cc (t))
 opened-is (Some verdicts.Open) t = refl
 opened-is (Some verdicts.Yes) t = absurd (cc (t))

@@ -11,3 +11,4 @@ pub mod Loading
 pub mod RollsBack
 pub mod Settling
 pub mod Decides
+pub mod Denies
