@@ -12,3 +12,4 @@ pub mod RollsBack
 pub mod Settling
 pub mod Decides
 pub mod Denies
+pub mod Verdicts
