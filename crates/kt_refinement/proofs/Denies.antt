@@ -84,7 +84,7 @@ says_no_check s c is step change i asked idle begun undecided links =
 
 -- ---- a rollback
 
-both-purposes : (o : Option Posted) → begun_as purposes.Check o ≡ true → begun_as purposes.Rollback o ≡ true → ⊥
+pub both-purposes : (o : Option Posted) → begun_as purposes.Check o ≡ true → begun_as purposes.Rollback o ≡ true → ⊥
 both-purposes None e f = absurd (cc (e))
 both-purposes (Some row) e f = by row.purpose e f where
   by : (purpose : Purpose) → is_for purposes.Check purpose ≡ true → is_for purposes.Rollback purpose ≡ true → ⊥
@@ -124,7 +124,7 @@ says_no_rollback s c inv is step change i asked idle begun undecided links =
 
 -- ---- Yes on a rollback
 
-twice : {A : Type 0} (o : ℕ) (g : A → A) (b : A) (f : ℕ → A) (k : ℕ) → at o (g (at o b f o)) (at o b f) k ≡ at o (g b) f k
+pub twice : {A : Type 0} (o : ℕ) (g : A → A) (b : A) (f : ℕ → A) (k : ℕ) → at o (g (at o b f o)) (at o b f) k ≡ at o (g b) f k
 twice {A} o g b f k = at-both o (g b) f k (λ (x : A). at o (g (at o b f o)) (at o b f) k ≡ x)
     (λ e. subst (λ j. at o (g (at o b f o)) (at o b f) j ≡ g b) (sym e) (at-here o (g (at o b f o)) (at o b f) ∙ ap g (at-here o b f)))
     (λ ne. at-else o (g (at o b f o)) (at o b f) k ne ∙ at-else o b f k ne)

@@ -13,3 +13,4 @@ pub mod Settling
 pub mod Decides
 pub mod Denies
 pub mod Verdicts
+pub mod Voting

@@ -1,0 +1,142 @@
+-- A vote that comes and is counted, and the vote that it may make the node cast: one or two steps of the machine. And a
+-- participant that votes no of itself.
+use Rattle.std.proofs.Common.{◌≡◌, ◌≢◌, ◌⊎◌, ℕ, Bool, true, false, not, ◌&&◌, ◌||◌, cond, IsTrue, List, [], ◌∷◌, filter, Contains, Option, Some, None, inl, inr, refl, sym, ap, subst, ◌∙◌}
+use Rattle.std.specs.List.{AllByRecursion, list_any}
+use Rattle.std.specs.Option.{option_map}
+use Rattle.std.proofs.lemmas.Bool.{cases_eq, eq-eqb, ne_eqb}
+use Rattle.kt_tuple.specs.declared.node.NodeId.{NodeId}
+use Rattle.kt_tuple.specs.Node.{node_index, node_eq, node_eq_decides}
+use Rattle.kt_history.proofs.Lists.{Contains-here}
+use Rattle.kt_vote.specs.declared.asker.Asker.{Asker}
+use Rattle.kt_vote.specs.declared.vote.Vote.{Vote as RealVote}
+use Rattle.kt_vote.specs.Poll.{Poll, counts, counted, is_awaited, is_on, outcome_of}
+use Rattle.kt_node.specs.declared.message.Message.{Message as RealMessage}
+use Rattle.kt_node.specs.declared.message.Message.TheVariants as messages
+use Rattle.kt_node.specs.declared.live.Phase.{Phase}
+use Rattle.kt_node.specs.declared.live.Phase.TheVariants as phases
+use Rattle.kt_node.specs.declared.plan.Plan.{Plan}
+use Rattle.kt_node.specs.Node.{Live, Alive}
+use Rattle.kt_node.specs.Plan.{no_turn, turning_to}
+use Rattle.kt_node.specs.Turning.{turned}
+use Rattle.kt_node.specs.Voting.{casting, casting_to, vote_for, poll_after, voted, votes}
+use Rattle.kt_node.specs.Arrivals.{voting_plan}
+use Rattle.kt_node.specs.Deciding.{declined_plan}
+use Rattle.kt_world.specs.declared.step.Step.{Step}
+use Rattle.kt_world.specs.declared.step.Step.TheVariants.{Deliver, Abandon}
+use Rattle.kt_world.specs.Step.{owner}
+use Rattle.kt_world.specs.State.{State as World, link}
+use Rattle.kt_world.specs.Ready.{AreNeighbours}
+use Rattle.kt_world.proofs.Plans.{IsAlive, Comes, Votes as VotesSo, holds, rolls}
+use Rattle.kt_world.proofs.Scene.{neighbours-turned}
+use Rattle.kt_protocol.specs.Labels.{at}
+use Rattle.kt_protocol.specs.Lines.{IsIn, here, there}
+use Rattle.kt_protocol.specs.Machine.{Instance, Check, Rollback, Key, Ballot, Mode, Within, Vote, Mark, Node, State, key_of}
+use Rattle.kt_protocol.specs.Steps as machine
+use Rattle.kt_protocol.specs.Steps.{change, counting, answering, consenting, agrees, declines, Step as MachineStep}
+use Rattle.kt_protocol.specs.Runs.{Run, nothing_done, one_more}
+use Rattle.kt_protocol.proofs.Labels.{at-both, at-here, at-else}
+use Rattle.kt_protocol.proofs.Invariant.{Invariant, a_vote, a_key}
+use Rattle.kt_refinement.proofs.Numbers.{peers}
+use Rattle.kt_refinement.proofs.Represents.{asker_key, WasCast, BallotIs, Votes, PhaseIs, NodeIn, Represents}
+use Rattle.kt_refinement.proofs.Frames.{cases-node, apart-index, CastSo, LinksLead, Refines, owner-in, nodes-at, votes-at, links-silent, links-idle, silent-to, IsSilent, leads-represents}
+use Rattle.kt_refinement.proofs.Known.{alive-is, rolling-is, held-is, near-is, voting-begun}
+use Rattle.kt_refinement.proofs.Decides.{agreed-is}
+use Rattle.kt_refinement.proofs.Denies.{both-purposes, twice}
+
+-- ---- checks and rollbacks alike
+
+-- what the machine calls an instance in which a node votes in this phase
+pub record IsKind (phase : Poll → Phase) : Type 0 where
+  pub kind : ℕ → Instance
+  pub into : (b : Poll) (life : ℕ) (mode : Mode) → Votes (kind b.instance) b life mode → PhaseIs (phase b) life mode
+  pub cast : (of : List Vote) (q : NodeId) (v : RealVote) → IsIn (a_vote (kind v.instance) (a_key (node_index q) v.incarnation) v.yes) of → WasCast of q v
+
+pub checks : IsKind phases.Held
+checks = record { kind = Check; into = λ b life mode v. v; cast = λ of q v i. inl i }
+
+pub rollbacks : IsKind phases.Rolling
+rollbacks = record { kind = Rollback; into = λ b life mode v. v; cast = λ of q v i. inr i }
+
+-- ---- ballots
+
+awaited-less : (p r : NodeId) (xs : List NodeId) → r ≢ p
+    → list_any (λ x. node_eq x r) xs ≡ list_any (λ x. node_eq x r) (filter (λ x. not (node_eq x p)) xs)
+awaited-less p r [] d = refl
+awaited-less p r (x ∷ xs) d = by (node_eq x p) refl (awaited-less p r xs d) where
+  none : node_eq x p ≡ true → node_eq x r ≡ false
+  none e = so (node_eq x r) refl where
+    so : (b : Bool) → node_eq x r ≡ b → b ≡ false
+    so true f = absurd (d (sym ((node_eq_decides x r).0 f) ∙ (node_eq_decides x p).0 e))
+    so false f = refl
+
+  by : (b : Bool) → node_eq x p ≡ b → list_any (λ y. node_eq y r) xs ≡ list_any (λ y. node_eq y r) (filter (λ y. not (node_eq y p)) xs)
+      → (node_eq x r || list_any (λ y. node_eq y r) xs)
+      ≡ list_any (λ y. node_eq y r) (cond (not b) (x ∷ filter (λ y. not (node_eq y p)) xs) (filter (λ y. not (node_eq y p)) xs))
+  by true e rest = rw (none e) rest
+  by false e rest = ap (λ b. node_eq x r || b) rest
+
+awaited-gone : (p : NodeId) (xs : List NodeId) → list_any (λ x. node_eq x p) (filter (λ x. not (node_eq x p)) xs) ≡ false
+awaited-gone p [] = refl
+awaited-gone p (x ∷ xs) = by (node_eq x p) refl (awaited-gone p xs) where
+  by : (b : Bool) → node_eq x p ≡ b → list_any (λ y. node_eq y p) (filter (λ y. not (node_eq y p)) xs) ≡ false
+      → list_any (λ y. node_eq y p) (cond (not b) (x ∷ filter (λ y. not (node_eq y p)) xs) (filter (λ y. not (node_eq y p)) xs)) ≡ false
+  by true e rest = rest
+  by false e rest = rw e rest
+
+counted-is : (b : Poll) (life : ℕ) (x : Ballot) (p : NodeId) (y : Bool) → BallotIs b life x → BallotIs (counted b p y) life (machine.counted (node_index p) y x)
+counted-is b life x p y is = record {
+  parent = is.parent;
+  awaited = λ r. elim (cases-node r p) [
+    | inl e ↦
+        let P : NodeId → Type 0 = λ z. at (node_index p) false x.awaited (node_index z) ≡ is_awaited (counted b p y) z in
+        subst P (sym e) (at-here (node_index p) false x.awaited ∙ sym (awaited-gone p b.awaited))
+    | inr d ↦ at-else (node_index p) false x.awaited (node_index r) (apart-index r p d) ∙ is.awaited r ∙ awaited-less p r b.awaited d
+  ];
+  refused = ap (λ r. r || not y) is.refused;
+  voted = is.voted;
+  asks_in = is.asks_in;
+}
+
+voted-is : (b : Poll) (life : ℕ) (x : Ballot) → BallotIs b life x → BallotIs (voted b) life (record x { voted = true })
+voted-is b life x is = record { parent = is.parent; awaited = is.awaited; refused = is.refused; voted = λ a e. refl; asks_in = is.asks_in }
+
+-- ---- a node that does something else from now on
+
+pub phase-turned : (s : World) (p : NodeId) (n : Live) (x : Node) (f : Phase) (mode : Mode) (of : List Vote) (said : List Mark)
+    → NodeIn s.cast s.history s.content p (Some (Alive n)) x → PhaseIs f x.life mode
+    → NodeIn s.cast s.history s.content p (Some (Alive (turned record no_turn { phase = Some f } n))) record x { mode = mode; votes = of; said = said }
+phase-turned s p n x f mode of said was phase = record {
+  line = was.line;
+  life = was.life;
+  state = record {
+    phase = phase;
+    life = was.state.life;
+    count = was.state.count;
+    sent = was.state.sent;
+    received = was.state.received;
+    kept = was.state.kept;
+  };
+  perm = was.perm;
+  tent = was.tent;
+  lower = was.lower;
+}
+
+-- the vote that is due, if one is
+pub data IsDue (b : Poll) : Option (NodeId × RealVote) → Type 0 where
+  nothing : IsDue b None
+  due : (parent : Asker) (agreed : Bool) → b.parent ≡ Some parent → b.voted ≡ false → outcome_of b ≡ Some agreed
+      → IsDue b (Some (vote_for b.instance parent agreed))
+
+pub is_due : (b : Poll) → IsDue b (casting b)
+is_due b = by b.parent refl where
+  outcome : (parent : Asker) → b.parent ≡ Some parent → b.voted ≡ false → (o : Option Bool) → outcome_of b ≡ o → IsDue b (casting_to b parent o)
+  outcome parent e f None g = nothing
+  outcome parent e f (Some agreed) g = due parent agreed e f g
+
+  unless : (parent : Asker) → b.parent ≡ Some parent → (v : Bool) → b.voted ≡ v → IsDue b (Rattle.kt_node.specs.Voting.casting_unless v b parent)
+  unless parent e true f = nothing
+  unless parent e false f = outcome parent e f (outcome_of b) refl
+
+  by : (o : Option Asker) → b.parent ≡ o → IsDue b (Rattle.kt_node.specs.Voting.casting_of b o)
+  by None e = nothing
+  by (Some parent) e = unless parent e b.voted refl
