@@ -14,3 +14,4 @@ pub mod Decides
 pub mod Denies
 pub mod Verdicts
 pub mod Voting
+pub mod CountsVote

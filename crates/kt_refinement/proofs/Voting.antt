@@ -51,10 +51,10 @@ pub record IsKind (phase : Poll → Phase) : Type 0 where
   pub into : (b : Poll) (life : ℕ) (mode : Mode) → Votes (kind b.instance) b life mode → PhaseIs (phase b) life mode
   pub cast : (of : List Vote) (q : NodeId) (v : RealVote) → IsIn (a_vote (kind v.instance) (a_key (node_index q) v.incarnation) v.yes) of → WasCast of q v
 
-pub checks : IsKind phases.Held
+abbrev pub checks : IsKind phases.Held
 checks = record { kind = Check; into = λ b life mode v. v; cast = λ of q v i. inl i }
 
-pub rollbacks : IsKind phases.Rolling
+abbrev pub rollbacks : IsKind phases.Rolling
 rollbacks = record { kind = Rollback; into = λ b life mode v. v; cast = λ of q v i. inr i }
 
 -- ---- ballots
@@ -83,7 +83,7 @@ awaited-gone p (x ∷ xs) = by (node_eq x p) refl (awaited-gone p xs) where
   by true e rest = rest
   by false e rest = rw e rest
 
-counted-is : (b : Poll) (life : ℕ) (x : Ballot) (p : NodeId) (y : Bool) → BallotIs b life x → BallotIs (counted b p y) life (machine.counted (node_index p) y x)
+pub counted-is : (b : Poll) (life : ℕ) (x : Ballot) (p : NodeId) (y : Bool) → BallotIs b life x → BallotIs (counted b p y) life (machine.counted (node_index p) y x)
 counted-is b life x p y is = record {
   parent = is.parent;
   awaited = λ r. elim (cases-node r p) [
@@ -140,3 +140,96 @@ is_due b = by b.parent refl where
   by : (o : Option Asker) → b.parent ≡ o → IsDue b (Rattle.kt_node.specs.Voting.casting_of b o)
   by None e = nothing
   by (Some parent) e = unless parent e b.voted refl
+
+-- ---- the vote that a node casts
+
+abbrev pub cast_node : Instance → Ballot → Key → Bool → Node → Node
+cast_node i x k true n = answering i k true (consenting i x n)
+cast_node i x k false n = answering i k false (machine.casting i x n)
+
+pub casts-step : (peer : ℕ → ℕ → Bool) (c : State) (o : ℕ) (i : Instance) (b : Poll) (life : ℕ) (x : Ballot) (parent : Asker) (agreed : Bool) → (c.node o).mode ≡ Within i x
+    → BallotIs b life x → b.parent ≡ Some parent → b.voted ≡ false → (agreed ≡ true → outcome_of b ≡ Some true)
+    → MachineStep peer c (change o (cast_node i x (asker_key parent) agreed) c)
+casts-step peer c o i b life x parent true within is has unvoted outcome =
+    agrees o i x (asker_key parent) within (is.parent ∙ ap (option_map asker_key) has) (is.voted parent has ∙ unvoted) (agreed-is peer o b life x is (outcome refl))
+casts-step peer c o i b life x parent false within is has unvoted outcome =
+    declines o i x (asker_key parent) within (is.parent ∙ ap (option_map asker_key) has) (is.voted parent has ∙ unvoted)
+
+pub cast-is : (s : World) (p : NodeId) (n : Live) (x : Node) (phase : Poll → Phase) (k : IsKind phase) (b : Poll) (ballot : Ballot) (key : Key) (agreed : Bool)
+    → NodeIn s.cast s.history s.content p (Some (Alive n)) x → BallotIs b x.life ballot
+    → NodeIn s.cast s.history s.content p (Some (Alive (turned record no_turn { phase = Some (phase (voted b)) } n))) (cast_node (k.kind b.instance) ballot key agreed x)
+cast-is s p n x phase k b ballot key true was is =
+    phase-turned s p n x (phase (voted b)) (Within (k.kind b.instance) record ballot { voted = true }) _ _ was
+    (k.into (voted b) x.life (Within (k.kind b.instance) record ballot { voted = true })
+    (record { ballot = record ballot { voted = true }; within = refl; is = voted-is b x.life ballot is }))
+cast-is s p n x phase k b ballot key false was is =
+    phase-turned s p n x (phase (voted b)) (Within (k.kind b.instance) record ballot { voted = true }) _ _ was
+    (k.into (voted b) x.life (Within (k.kind b.instance) record ballot { voted = true })
+    (record { ballot = record ballot { voted = true }; within = refl; is = voted-is b x.life ballot is }))
+
+pub cast-among : (i : Instance) (ballot : Ballot) (key : Key) (agreed : Bool) (x : Node) → IsIn (a_vote i key agreed) (cast_node i ballot key agreed x).votes
+cast-among i ballot key true x = here
+cast-among i ballot key false x = here
+
+pub cast-more : (i : Instance) (ballot : Ballot) (key : Key) (agreed : Bool) (x : Node) (v : Vote) → IsIn v x.votes → IsIn v (cast_node i ballot key agreed x).votes
+cast-more i ballot key true x v m = there m
+cast-more i ballot key false x v m = there m
+
+-- ---- a participant votes no of itself
+
+declines-so : (s : World) (c : State) → Represents s c → (p : NodeId) (n : Live) (b : Poll) (phase : Poll → Phase) (k : IsKind phase) (parent : Asker)
+    → IsAlive s p n → Votes (k.kind b.instance) b (c.node (node_index p)).life (c.node (node_index p)).mode → b.parent ≡ Some parent → b.voted ≡ false
+    → Refines s (Abandon p) (declined_plan (phase (voted b)) b.instance parent) c
+declines-so s c is p n b phase k parent alive votes has unvoted =
+    let plan = declined_plan (phase (voted b)) b.instance parent in
+    let o = node_index p in
+    let i = k.kind b.instance in
+    let key = asker_key parent in
+    let new : Node = cast_node i votes.ballot key false (c.node o) in
+    let next : State = change o (cast_node i votes.ballot key false) c in
+    record {
+      next = next;
+      run = one_more nothing_done
+          (casts-step (peers s.cast) c o i b (c.node o).life votes.ballot parent false votes.within votes.is has unvoted (λ e. absurd (cc (e))));
+      stands = leads-represents s (Abandon p) plan c next is (record {
+        nodes = nodes-at s (Abandon p) plan c new is tt (λ r d. refl) (owner-in s (Abandon p) plan (Some (Alive n)) new alive
+            (cast-is s p n (c.node o) phase k b votes.ballot key false (alive-is s c is p n alive) votes.is));
+        board = is.board;
+        links = links-idle s (Abandon p) plan c (λ x y e. absurd (cc (e))) (λ r near. silent-to r plan.send (refl, tt));
+        votes = votes-at c o new (cast-more i votes.ballot key false (c.node o));
+        cast =
+            let X : Node → Type 0 = λ x. AllByRecursion (CastSo x.votes) plan.send in
+            subst X (sym (at-here o new c.node)) (k.cast new.votes parent.node (vote_for b.instance parent false).1 here, tt);
+      });
+    }
+
+pub declines_of_itself : (s : World) (c : State) → Represents s c → (p : NodeId) (n : Live) (b : Poll) (phase : Poll → Phase) (parent : Asker)
+    → IsAlive s p n → VotesSo n.phase b phase → b.parent ≡ Some parent → b.voted ≡ false
+    → Refines s (Abandon p) (declined_plan (phase (voted b)) b.instance parent) c
+declines_of_itself s c is p n b phase parent alive votes has unvoted = by n.phase refl b phase votes has unvoted where
+  by : (f : Phase) → n.phase ≡ f → (b : Poll) (phase : Poll → Phase) → VotesSo f b phase → b.parent ≡ Some parent → b.voted ≡ false
+      → Refines s (Abandon p) (declined_plan (phase (voted b)) b.instance parent) c
+  by f e b phase holds has unvoted = declines-so s c is p n b phases.Held checks parent alive (held-is s c is p n b alive e) has unvoted
+  by f e b phase rolls has unvoted = declines-so s c is p n b phases.Rolling rollbacks parent alive (rolling-is s c is p n b alive e) has unvoted
+
+-- ---- a vote comes
+
+-- what is known of a vote that is counted
+pub record Counted (b : Poll) (p : NodeId) (vote : RealVote) : Type 0 where
+  pub instance : vote.instance ≡ b.instance
+  pub incarnation : vote.incarnation ≡ b.incarnation
+  pub awaited : is_awaited b p ≡ true
+
+both-true : (a b : Bool) → (a && b) ≡ true → (a ≡ true) × (b ≡ true)
+both-true true true e = (refl, refl)
+both-true true false e = absurd (cc (e))
+both-true false b e = absurd (cc (e))
+
+same-number : (m n : ℕ) → Rattle.std.specs.Prelude.nat_eq m n ≡ true → m ≡ n
+same-number m n e = elim (cases_eq m n) [ inl same ↦ same | inr d ↦ absurd (cc (e, ne_eqb m n d)) ]
+
+pub counted-so : (b : Poll) (p : NodeId) (vote : RealVote) → IsTrue (counts b p vote) → Counted b p vote
+counted-so b p vote e =
+    let all = both-true (is_on b vote) (is_awaited b p) e in
+    let on = both-true (Rattle.std.specs.Prelude.nat_eq vote.instance b.instance) (Rattle.std.specs.Prelude.nat_eq vote.incarnation b.incarnation) all.0 in
+    record { instance = same-number vote.instance b.instance on.0; incarnation = same-number vote.incarnation b.incarnation on.1; awaited = all.1 }
