@@ -15,3 +15,4 @@ pub mod Denies
 pub mod Verdicts
 pub mod Voting
 pub mod CountsVote
+pub mod Falling
