@@ -16,3 +16,4 @@ pub mod Verdicts
 pub mod Voting
 pub mod CountsVote
 pub mod Falling
+pub mod Beginning
