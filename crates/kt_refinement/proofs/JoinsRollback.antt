@@ -52,7 +52,7 @@ use Rattle.kt_refinement.proofs.Frames.{cases-node, apart-index, CastSo, Refines
 use Rattle.kt_refinement.proofs.Known.{alive-is, up-is, near-is, comes-is, rollback-open, waits-for, all-chosen}
 
 -- all neighbours
-abbrev everyone : NodeId → Bool
+abbrev pub everyone : NodeId → Bool
 everyone x = true
 
 -- the plan, with the vote that is cast at once
@@ -70,7 +70,7 @@ no-vote s h n p q ask =
     let role = role_of s.cast q in
     ap (casting_to (roller role n p ask) (asker_of p ask)) (waits-for role.id role.peers (some_peers s.cast h.ready.cast q))
 
-roll-asks-cast : (votes : List Vote) (instance incarnation : ℕ) (label : ℕ → Rattle.kt_link.specs.declared.label.Label.Label) (asked : List NodeId)
+pub roll-asks-cast : (votes : List Vote) (instance incarnation : ℕ) (label : ℕ → Rattle.kt_link.specs.declared.label.Label.Label) (asked : List NodeId)
     → AllByRecursion (CastSo votes) (roll_asks instance incarnation label asked)
 roll-asks-cast votes instance incarnation label [] = tt
 roll-asks-cast votes instance incarnation label (q ∷ asked) = (tt, roll-asks-cast votes instance incarnation label asked)

@@ -17,3 +17,4 @@ pub mod Voting
 pub mod CountsVote
 pub mod Falling
 pub mod Beginning
+pub mod Restarts
