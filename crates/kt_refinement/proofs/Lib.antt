@@ -18,3 +18,4 @@ pub mod CountsVote
 pub mod Falling
 pub mod Beginning
 pub mod Restarts
+pub mod Checking

@@ -40,7 +40,7 @@ use Rattle.kt_refinement.proofs.Represents.{LabelsAre, Stands}
 
 -- ---- tables
 
-at-numbers : {A : Type 0} (f : ℕ → A) (d : A) (from n k : ℕ) → k < n → at d (map f (numbers from n)) k ≡ f (from + k)
+pub at-numbers : {A : Type 0} (f : ℕ → A) (d : A) (from n k : ℕ) → k < n → at d (map f (numbers from n)) k ≡ f (from + k)
 unfolding numbers
 at-numbers f d from zero k lt = absurd (omega (arith, lt))
 at-numbers f d from (suc n) zero lt = let e : from ≡ from + 0 = omega arith in ap f e
