@@ -19,3 +19,4 @@ pub mod Falling
 pub mod Beginning
 pub mod Restarts
 pub mod Checking
+pub mod BeginsCheck
