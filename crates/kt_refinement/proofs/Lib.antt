@@ -20,3 +20,4 @@ pub mod Beginning
 pub mod Restarts
 pub mod Checking
 pub mod BeginsCheck
+pub mod Acting
