@@ -21,3 +21,4 @@ pub mod Restarts
 pub mod Checking
 pub mod BeginsCheck
 pub mod Acting
+pub mod Sending
