@@ -22,3 +22,4 @@ pub mod Checking
 pub mod BeginsCheck
 pub mod Acting
 pub mod Sending
+pub mod Issuing
