@@ -77,18 +77,18 @@ cohort-is s p n permanent k x heard held = record {
   passes : (m : ℕ) → IsTrue (peers s.cast (node_index p) m) → Under (top_heard x.perm m) (top_heard x.line m) → is_in_cohort permanent n (named m) ≡ true
   passes m near must =
       by (up_to (label_at n.received (node_number (named m))) (received_in permanent (node_number (named m)))) refl where
-    real : AreNeighbours s.cast p (named m)
-    real = subst (λ b. IsTrue b) (peers-of s.cast p (named m)) (subst (λ j. IsTrue (peers s.cast (node_index p) j)) (sym (index-named m)) near)
+        real : AreNeighbours s.cast p (named m)
+        real = subst (λ b. IsTrue b) (peers-of s.cast p (named m)) (subst (λ j. IsTrue (peers s.cast (node_index p) j)) (sym (index-named m)) near)
 
-    by : (b : Bool) → up_to (label_at n.received (node_number (named m))) (received_in permanent (node_number (named m))) ≡ b → not b ≡ true
-    by false e = refl
-    by true e =
-        let low : UpTo (label_of (label_at n.received (node_number (named m)))) (label_of (received_in permanent (node_number (named m)))) =
-        up_to-true (label_of (label_at n.received (node_number (named m)))) (label_of (received_in permanent (node_number (named m)))) e in
-        let L : ℕ → Type 0 = λ j. UpTo (top_heard x.line j) (top_heard x.perm j) in
-        absurd (Under-not must (subst L (index-named m)
-        (subst (λ l. UpTo l (top_heard x.perm (node_index (named m)))) (heard (named m) real)
-        (subst (λ l. UpTo (label_of (label_at n.received (node_number (named m)))) l) (held (named m) real) low))))
+        by : (b : Bool) → up_to (label_at n.received (node_number (named m))) (received_in permanent (node_number (named m))) ≡ b → not b ≡ true
+        by false e = refl
+        by true e =
+            let low : UpTo (label_of (label_at n.received (node_number (named m)))) (label_of (received_in permanent (node_number (named m)))) =
+            up_to-true (label_of (label_at n.received (node_number (named m)))) (label_of (received_in permanent (node_number (named m)))) e in
+            let L : ℕ → Type 0 = λ j. UpTo (top_heard x.line j) (top_heard x.perm j) in
+            absurd (Under-not must (subst L (index-named m)
+            (subst (λ l. UpTo l (top_heard x.perm (node_index (named m)))) (heard (named m) real)
+            (subst (λ l. UpTo (label_of (label_at n.received (node_number (named m)))) l) (held (named m) real) low))))
 
 -- what is sent to a neighbour
 pub check-asks-to : (s : World) (p r : NodeId) (n : Live) (permanent : Option Marks) (k : ℕ) (x : Node) → AreNeighbours s.cast p r
@@ -98,17 +98,17 @@ pub check-asks-to : (s : World) (p r : NodeId) (n : Live) (permanent : Option Ma
 unfolding carried
 check-asks-to s p r n permanent k x near heard life =
     rw (near-is s p r near) (named-same ∙ by (is_in_cohort permanent n r) ∙ ap carried (sym (asked-once s.cast p (is_in_cohort permanent n) f r near))) where
-  f : NodeId → RealMessage
-  f y = messages.CheckAsk record { instance = k; label = label_at n.received (node_number y); incarnation = n.incarnation }
+      f : NodeId → RealMessage
+      f y = messages.CheckAsk record { instance = k; label = label_at n.received (node_number y); incarnation = n.incarnation }
 
-  named-same : (if is_in_cohort permanent n (named (node_index r)) then Ask (Check k) (top_heard x.line (node_index r)) x.life ∷ [] else [])
-      ≡ (if is_in_cohort permanent n r then Ask (Check k) (top_heard x.line (node_index r)) x.life ∷ [] else [])
-  named-same = ap (λ y. if is_in_cohort permanent n y then Ask (Check k) (top_heard x.line (node_index r)) x.life ∷ [] else [])
-      (Rattle.kt_refinement.proofs.Numbers.named-index r)
+      named-same : (if is_in_cohort permanent n (named (node_index r)) then Ask (Check k) (top_heard x.line (node_index r)) x.life ∷ [] else [])
+          ≡ (if is_in_cohort permanent n r then Ask (Check k) (top_heard x.line (node_index r)) x.life ∷ [] else [])
+      named-same = ap (λ y. if is_in_cohort permanent n y then Ask (Check k) (top_heard x.line (node_index r)) x.life ∷ [] else [])
+          (Rattle.kt_refinement.proofs.Numbers.named-index r)
 
-  by : (b : Bool) → (if b then Ask (Check k) (top_heard x.line (node_index r)) x.life ∷ [] else []) ≡ carried (if b then f r ∷ [] else [])
-  by true = ap (λ l. Ask (Check k) l x.life ∷ []) (sym (heard r near)) ∙ ap (λ i. Ask (Check k) (label_of (label_at n.received (node_number r))) i ∷ []) (sym life)
-  by false = refl
+      by : (b : Bool) → (if b then Ask (Check k) (top_heard x.line (node_index r)) x.life ∷ [] else []) ≡ carried (if b then f r ∷ [] else [])
+      by true = ap (λ l. Ask (Check k) l x.life ∷ []) (sym (heard r near)) ∙ ap (λ i. Ask (Check k) (label_of (label_at n.received (node_number r))) i ∷ []) (sym life)
+      by false = refl
 
 pub check-asks-cast : (votes : List Vote) (k : ℕ) (n : Live) (asked : List NodeId) → AllByRecursion (CastSo votes) (check_asks k n asked)
 check-asks-cast votes k n [] = tt

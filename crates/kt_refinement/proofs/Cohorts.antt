@@ -146,20 +146,20 @@ pub chosen-cohort : (cast : Cast) (p : NodeId) (g : NodeId → Bool) (q : NodeId
     → cohort cast p g (node_index q) ≡ list_any (λ x. node_eq x q) (chosen cast p g)
 chosen-cohort cast p g q is =
     ap (λ b. b && g (named (node_index q))) (peers-of cast p q) ∙ ap (λ x. are_neighbours cast p q && g x) (named-index q) ∙ by (are_neighbours cast p q) refl where
-  no : (b : Bool) → list_any (λ x. node_eq x q) (chosen cast p g) ≡ b → are_neighbours cast p q ≡ false → false ≡ b
-  no true e f = absurd (cc (f, chosen-near cast p g q is (any-found q (chosen cast p g) e)))
-  no false e f = refl
+      no : (b : Bool) → list_any (λ x. node_eq x q) (chosen cast p g) ≡ b → are_neighbours cast p q ≡ false → false ≡ b
+      no true e f = absurd (cc (f, chosen-near cast p g q is (any-found q (chosen cast p g) e)))
+      no false e f = refl
 
-  by : (b : Bool) → are_neighbours cast p q ≡ b → (b && g q) ≡ list_any (λ x. node_eq x q) (chosen cast p g)
-  by true e =
-      let a = is_across cast p q e in
-      let low = a.low in
-      let high = a.high in
-      let P : NodeId → Type 0 = λ x. g x ≡ list_any (λ y. node_eq y x) (chosen cast p g) in
-      let R : NodeId → Type 0 = λ i. g (across p (node_number q))
-      ≡ list_any (λ y. node_eq y (across p (node_number q))) (filter g (map (across i) (numbers 1 (role_of cast p).peers))) in
-      subst P (sym a.is) (subst R (sym (role-id cast p)) (sym (any-one p g 1 (role_of cast p).peers (node_number q) low (omega (arith, high)))))
-  by false e = no (list_any (λ x. node_eq x q) (chosen cast p g)) refl e
+      by : (b : Bool) → are_neighbours cast p q ≡ b → (b && g q) ≡ list_any (λ x. node_eq x q) (chosen cast p g)
+      by true e =
+          let a = is_across cast p q e in
+          let low = a.low in
+          let high = a.high in
+          let P : NodeId → Type 0 = λ x. g x ≡ list_any (λ y. node_eq y x) (chosen cast p g) in
+          let R : NodeId → Type 0 = λ i. g (across p (node_number q))
+          ≡ list_any (λ y. node_eq y (across p (node_number q))) (filter g (map (across i) (numbers 1 (role_of cast p).peers))) in
+          subst P (sym a.is) (subst R (sym (role-id cast p)) (sym (any-one p g 1 (role_of cast p).peers (node_number q) low (omega (arith, high)))))
+      by false e = no (list_any (λ x. node_eq x q) (chosen cast p g)) refl e
 
 -- ---- what an ask drops
 

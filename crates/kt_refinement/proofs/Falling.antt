@@ -124,46 +124,46 @@ pub fails_so : (s : World) (c : State) → Represents s c → (p : NodeId) (n : 
 unfolding carried to
 fails_so s c is p n alive may =
     by (left (verdict_on s.content (row_of s.content p).tentative) (row_of s.content p).tentative (row_of s.content p).permanent) where
-  keep : ℕ
-  keep = line_left (told s (Fail p)).verdict (told s (Fail p)).permanent (told s (Fail p)).tentative
+      keep : ℕ
+      keep = line_left (told s (Fail p)).verdict (told s (Fail p)).permanent (told s (Fail p)).tentative
 
-  plan : Plan
-  plan = fail_plan (view s p) keep
+      plan : Plan
+      plan = fail_plan (view s p) keep
 
-  was : NodeIn s.cast s.history s.content p (node s p) (c.node (node_index p))
-  was = is.nodes p
+      was : NodeIn s.cast s.history s.content p (node s p) (c.node (node_index p))
+      was = is.nodes p
 
-  by : Left (verdict_on s.content (row_of s.content p).tentative) (row_of s.content p).tentative (row_of s.content p).permanent keep → Refines s (Fail p) plan c
-  by (permanent_left none same) =
-      let o = node_index p in
-      let new : Node = falling (cutting (c.node o)) in
-      let next : State = change o (λ x. falling (cutting x)) c in
-      let W : Option Tentative → Type 0 = λ t. TentativeIs s.cast s.history p (line s.history p) t (c.node o).tent (c.node o).line in
-      record {
-        next = next;
-        run = one_more nothing_done (fails o (subst W none was.tent));
-        stands = leads-represents s (Fail p) plan c next is (record {
-          nodes = nodes-at s (Fail p) plan c new is may (λ r d. refl) (owner-in s (Fail p) plan (Some (Alive n)) new alive (fallen-is s c is p keep none same));
-          board = is.board;
-          links = links-idle s (Fail p) plan c (λ x y e. absurd (cc (e))) (λ r near. refl);
-          votes = votes-at c o new (λ v i. i);
-          cast = tt;
-        });
-      }
-  by (all_left held some same) =
-      let o = node_index p in
-      let new : Node = falling (c.node o) in
-      let next : State = change o falling c in
-      let W : Option Tentative → Type 0 = λ t. TentativeIs s.cast s.history p (line s.history p) t (c.node o).tent (c.node o).line in
-      let tentative : IsTentative s.cast s.history p (line s.history p) held (c.node o).tent (c.node o).line = subst W some was.tent in
-      record {
-        next = next;
-        run = one_more nothing_done (fails_holding o held.instance tentative.instance);
-        stands = leads-represents s (Fail p) plan c next is (record {
-          nodes = nodes-at s (Fail p) plan c new is may (λ r d. refl) (owner-in s (Fail p) plan (Some (Alive n)) new alive (holding-is s c is p keep held some same));
-          board = is.board;
-          links = links-idle s (Fail p) plan c (λ x y e. absurd (cc (e))) (λ r near. refl);
-          votes = votes-at c o new (λ v i. i);
-          cast = tt;
-        });
-      }
+      by : Left (verdict_on s.content (row_of s.content p).tentative) (row_of s.content p).tentative (row_of s.content p).permanent keep → Refines s (Fail p) plan c
+      by (permanent_left none same) =
+          let o = node_index p in
+          let new : Node = falling (cutting (c.node o)) in
+          let next : State = change o (λ x. falling (cutting x)) c in
+          let W : Option Tentative → Type 0 = λ t. TentativeIs s.cast s.history p (line s.history p) t (c.node o).tent (c.node o).line in
+          record {
+            next = next;
+            run = one_more nothing_done (fails o (subst W none was.tent));
+            stands = leads-represents s (Fail p) plan c next is (record {
+              nodes = nodes-at s (Fail p) plan c new is may (λ r d. refl) (owner-in s (Fail p) plan (Some (Alive n)) new alive (fallen-is s c is p keep none same));
+              board = is.board;
+              links = links-idle s (Fail p) plan c (λ x y e. absurd (cc (e))) (λ r near. refl);
+              votes = votes-at c o new (λ v i. i);
+              cast = tt;
+            });
+          }
+      by (all_left held some same) =
+          let o = node_index p in
+          let new : Node = falling (c.node o) in
+          let next : State = change o falling c in
+          let W : Option Tentative → Type 0 = λ t. TentativeIs s.cast s.history p (line s.history p) t (c.node o).tent (c.node o).line in
+          let tentative : IsTentative s.cast s.history p (line s.history p) held (c.node o).tent (c.node o).line = subst W some was.tent in
+          record {
+            next = next;
+            run = one_more nothing_done (fails_holding o held.instance tentative.instance);
+            stands = leads-represents s (Fail p) plan c next is (record {
+              nodes = nodes-at s (Fail p) plan c new is may (λ r d. refl) (owner-in s (Fail p) plan (Some (Alive n)) new alive (holding-is s c is p keep held some same));
+              board = is.board;
+              links = links-idle s (Fail p) plan c (λ x y e. absurd (cc (e))) (λ r near. refl);
+              votes = votes-at c o new (λ v i. i);
+              cast = tt;
+            });
+          }

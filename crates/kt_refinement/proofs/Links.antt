@@ -58,7 +58,7 @@ one-own cast links o q m k lt place = by (node_eq m.0 q) refl where
       subst P (sym same) (entry-same links k _ lt)
   by false e =
       entry-other links (link_place cast o m.0) (Some k) _
-          (λ f. absurd (cc (e, (Rattle.kt_tuple.specs.Node.node_eq_decides m.0 q).1 (place-own _ _ o m.0 o q k f place).1)))
+      (λ f. absurd (cc (e, (Rattle.kt_tuple.specs.Node.node_eq_decides m.0 q).1 (place-own _ _ o m.0 o q k f place).1)))
       ∙ sym (append-nil (entry_at [] links (Some k)))
 
 to-more : (q : NodeId) (m : NodeId × Message) (later : List (NodeId × Message)) → to q (m ∷ []) ++ to q later ≡ to q (m ∷ later)

@@ -62,43 +62,43 @@ pub decides : (s : World) (c : State) → Invariant (peers s.cast) c → Represe
     → Refines s (Decide p) (decide_plan n.phase b agreed) c
 decides s c inv is p n b phase agreed alive votes began undecided outcome = by n.phase refl b phase agreed votes began outcome
     (λ f e g. subst (λ v. IsTrue (is_undecided v)) (poll-verdict s p n b f alive e g) undecided) where
-  by : (f : Phase) → n.phase ≡ f → (b : Poll) (phase : Poll → Phase) (agreed : Bool) → VotesSo f b phase → b.parent ≡ None → outcome_of b ≡ Some agreed
-      → ((f : Phase) → n.phase ≡ f → poll_in f ≡ Some b → IsTrue (is_undecided (verdict_of s.content b.instance))) → Refines s (Decide p) (decide_plan f b agreed) c
-  by f e b phase true holds began outcome opened =
-      says_yes_check s c inv is (Decide p) n b b.asked alive e began (opened (phases.Held b) e refl) outcome
-      (told-links s (Decide p) c (changes.Turn no_turn) b.instance true b.asked (λ x y z. absurd (cc (z))))
-  by f e b phase false holds began outcome opened =
-      let votes = held-is s c is p n b alive e in
-      says_no_check s c is (Decide p) (changes.Turn no_turn) b.instance b.asked (alive-idle s c is (Decide p) n alive)
-      (voting-begun (peers s.cast) c inv (node_index p) (Check b.instance) votes.ballot votes.within) (opened (phases.Held b) e refl)
-      (told-links s (Decide p) c (changes.Turn no_turn) b.instance false b.asked (λ x y z. absurd (cc (z))))
-  by f e b phase true rolls began outcome opened =
-      says_yes_rollback s c inv is (Decide p) n b b.asked alive e began (opened (phases.Rolling b) e refl) outcome
-      (told-links s (Decide p) c (Rattle.kt_node.specs.Plan.turning_to phases.Up) b.instance true b.asked (λ x y z. absurd (cc (z))))
-  by f e b phase false rolls began outcome opened =
-      let votes = rolling-is s c is p n b alive e in
-      says_no_rollback s c inv is (Decide p) (changes.Turn no_turn) b.instance b.asked (alive-idle s c is (Decide p) n alive)
-      (voting-begun (peers s.cast) c inv (node_index p) (Rollback b.instance) votes.ballot votes.within) (opened (phases.Rolling b) e refl)
-      (told-links s (Decide p) c (changes.Turn no_turn) b.instance false b.asked (λ x y z. absurd (cc (z))))
+      by : (f : Phase) → n.phase ≡ f → (b : Poll) (phase : Poll → Phase) (agreed : Bool) → VotesSo f b phase → b.parent ≡ None → outcome_of b ≡ Some agreed
+          → ((f : Phase) → n.phase ≡ f → poll_in f ≡ Some b → IsTrue (is_undecided (verdict_of s.content b.instance))) → Refines s (Decide p) (decide_plan f b agreed) c
+      by f e b phase true holds began outcome opened =
+          says_yes_check s c inv is (Decide p) n b b.asked alive e began (opened (phases.Held b) e refl) outcome
+          (told-links s (Decide p) c (changes.Turn no_turn) b.instance true b.asked (λ x y z. absurd (cc (z))))
+      by f e b phase false holds began outcome opened =
+          let votes = held-is s c is p n b alive e in
+          says_no_check s c is (Decide p) (changes.Turn no_turn) b.instance b.asked (alive-idle s c is (Decide p) n alive)
+          (voting-begun (peers s.cast) c inv (node_index p) (Check b.instance) votes.ballot votes.within) (opened (phases.Held b) e refl)
+          (told-links s (Decide p) c (changes.Turn no_turn) b.instance false b.asked (λ x y z. absurd (cc (z))))
+      by f e b phase true rolls began outcome opened =
+          says_yes_rollback s c inv is (Decide p) n b b.asked alive e began (opened (phases.Rolling b) e refl) outcome
+          (told-links s (Decide p) c (Rattle.kt_node.specs.Plan.turning_to phases.Up) b.instance true b.asked (λ x y z. absurd (cc (z))))
+      by f e b phase false rolls began outcome opened =
+          let votes = rolling-is s c is p n b alive e in
+          says_no_rollback s c inv is (Decide p) (changes.Turn no_turn) b.instance b.asked (alive-idle s c is (Decide p) n alive)
+          (voting-begun (peers s.cast) c inv (node_index p) (Rollback b.instance) votes.ballot votes.within) (opened (phases.Rolling b) e refl)
+          (told-links s (Decide p) c (changes.Turn no_turn) b.instance false b.asked (λ x y z. absurd (cc (z))))
 
 pub gives_up : (s : World) (c : State) → Invariant (peers s.cast) c → Represents s c → (p : NodeId) (n : Live) (b : Poll) (phase : Poll → Phase)
     → IsAlive s p n → VotesSo n.phase b phase → IsTrue (is_undecided (told s (Abandon p)).verdict)
     → Refines s (Abandon p) (no_plan (changes.Turn no_turn) b.instance b.asked) c
 gives_up s c inv is p n b phase alive votes undecided = by n.phase refl b phase votes
     (λ f e g. subst (λ v. IsTrue (is_undecided v)) (poll-verdict s p n b f alive e g) undecided) where
-  by : (f : Phase) → n.phase ≡ f → (b : Poll) (phase : Poll → Phase) → VotesSo f b phase
-      → ((f : Phase) → n.phase ≡ f → poll_in f ≡ Some b → IsTrue (is_undecided (verdict_of s.content b.instance)))
-      → Refines s (Abandon p) (no_plan (changes.Turn no_turn) b.instance b.asked) c
-  by f e b phase holds opened =
-      let votes = held-is s c is p n b alive e in
-      says_no_check s c is (Abandon p) (changes.Turn no_turn) b.instance b.asked (alive-idle s c is (Abandon p) n alive)
-      (voting-begun (peers s.cast) c inv (node_index p) (Check b.instance) votes.ballot votes.within) (opened (phases.Held b) e refl)
-      (told-links s (Abandon p) c (changes.Turn no_turn) b.instance false b.asked (λ x y z. absurd (cc (z))))
-  by f e b phase rolls opened =
-      let votes = rolling-is s c is p n b alive e in
-      says_no_rollback s c inv is (Abandon p) (changes.Turn no_turn) b.instance b.asked (alive-idle s c is (Abandon p) n alive)
-      (voting-begun (peers s.cast) c inv (node_index p) (Rollback b.instance) votes.ballot votes.within) (opened (phases.Rolling b) e refl)
-      (told-links s (Abandon p) c (changes.Turn no_turn) b.instance false b.asked (λ x y z. absurd (cc (z))))
+      by : (f : Phase) → n.phase ≡ f → (b : Poll) (phase : Poll → Phase) → VotesSo f b phase
+          → ((f : Phase) → n.phase ≡ f → poll_in f ≡ Some b → IsTrue (is_undecided (verdict_of s.content b.instance)))
+          → Refines s (Abandon p) (no_plan (changes.Turn no_turn) b.instance b.asked) c
+      by f e b phase holds opened =
+          let votes = held-is s c is p n b alive e in
+          says_no_check s c is (Abandon p) (changes.Turn no_turn) b.instance b.asked (alive-idle s c is (Abandon p) n alive)
+          (voting-begun (peers s.cast) c inv (node_index p) (Check b.instance) votes.ballot votes.within) (opened (phases.Held b) e refl)
+          (told-links s (Abandon p) c (changes.Turn no_turn) b.instance false b.asked (λ x y z. absurd (cc (z))))
+      by f e b phase rolls opened =
+          let votes = rolling-is s c is p n b alive e in
+          says_no_rollback s c inv is (Abandon p) (changes.Turn no_turn) b.instance b.asked (alive-idle s c is (Abandon p) n alive)
+          (voting-begun (peers s.cast) c inv (node_index p) (Rollback b.instance) votes.ballot votes.within) (opened (phases.Rolling b) e refl)
+          (told-links s (Abandon p) c (changes.Turn no_turn) b.instance false b.asked (λ x y z. absurd (cc (z))))
 
 -- what a posted instance is for
 data IsFor (c : State) (i : ℕ) : Type 0 where
