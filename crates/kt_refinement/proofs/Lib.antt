@@ -23,3 +23,4 @@ pub mod BeginsCheck
 pub mod Acting
 pub mod Sending
 pub mod Issuing
+pub mod Restarting
