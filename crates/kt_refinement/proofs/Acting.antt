@@ -1,8 +1,6 @@
 -- An act of a node that is up stands at the end of its line, and on the machine's stack.
-use Rattle.std.proofs.Common.{◌≡◌, ◌≢◌, ℕ, zero, suc, ◌+◌, ◌≤◌, Bool, true, false, List, [], ◌∷◌, ◌++◌, take, length, Contains, Option, Some, None, inl, inr, refl, sym, ap, subst, ◌∙◌, arith, add-one}
+use Rattle.std.proofs.Common.{◌≡◌, ◌≢◌, ℕ, ◌+◌, ◌≤◌, List, [], ◌∷◌, ◌++◌, length, Contains, Option, Some, inl, inr, sym, ap, subst, ◌∙◌, add-one}
 use Rattle.std.proofs.lemmas.List.{take-append-le}
-use Rattle.std.proofs.lemmas.Bool.{cases_eq, eq-eqb, ne_eqb}
-use Rattle.std.specs.Option.{option_map}
 use Rattle.kt_tuple.specs.declared.node.NodeId.{NodeId}
 use Rattle.kt_tuple.specs.Node.{node_index}
 use Rattle.kt_history.specs.declared.note.Act.{Act as Done}
@@ -14,7 +12,7 @@ use Rattle.std.proofs.lemmas.List.Elements.{Contains-push_cases}
 use Rattle.kt_history.proofs.Lines.{line-own_act}
 use Rattle.kt_link.specs.declared.label.Label.{Label as RealLabel}
 use Rattle.kt_lines.proofs.Rows.{at-put_same, at-put_other}
-use Rattle.kt_shard.specs.Table.{at as entry, put}
+use Rattle.kt_shard.specs.Table.{put}
 use Rattle.kt_ckpt.specs.declared.ckpt.Ckpt.{Ckpt}
 use Rattle.kt_node.specs.Labels.{no_label, label_at}
 use Rattle.kt_node.specs.Node.{node_number, across}
@@ -24,12 +22,12 @@ use Rattle.kt_world.specs.Effect.{noted}
 use Rattle.kt_world.specs.Ready.{AreNeighbours}
 use Rattle.kt_world.proofs.NoteSound.{note_at-next}
 use Rattle.kt_protocol.specs.Labels.{Label}
-use Rattle.kt_protocol.specs.Lines.{IsIn, here, there, Act, Sends, Hears, top_sent, top_heard}
+use Rattle.kt_protocol.specs.Lines.{IsIn, there, Act, Sends, Hears, top_sent, top_heard}
 use Rattle.kt_protocol.proofs.Lines.{sent-here, sent-else, sent-heard, heard-here, heard-else, heard-sent}
 use Rattle.kt_refinement.proofs.Numbers.{label_of}
-use Rattle.kt_refinement.proofs.Reading.{Reads, nothing, one, ReadsAs, WasHeard, reads-later}
+use Rattle.kt_refinement.proofs.Reading.{Reads, nothing, one, WasHeard, reads-later}
 use Rattle.kt_refinement.proofs.Represents.{LabelsAre, Stands}
-use Rattle.kt_refinement.proofs.Cohorts.{IsAcross, is_across}
+use Rattle.kt_refinement.proofs.Cohorts.{is_across}
 use Rattle.kt_refinement.proofs.Frames.{cases-node, apart-index}
 
 -- ---- lines

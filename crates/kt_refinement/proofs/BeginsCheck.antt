@@ -1,20 +1,16 @@
 -- A node that is up begins a check: the machine begins.
-use Rattle.std.proofs.Common.{◌≡◌, ◌≢◌, ℕ, suc, Bool, true, false, IsTrue, List, [], ◌∷◌, ◌++◌, length, Option, Some, None, refl, sym, ap, subst, ◌∙◌, append-nil}
-use Rattle.std.specs.List.{AllByRecursion, list_any}
+use Rattle.std.proofs.Common.{◌≡◌, ℕ, Bool, false, IsTrue, [], Option, Some, None, refl, sym, ap, subst, ◌∙◌, append-nil}
 use Rattle.std.specs.Option.{option_map}
 use Rattle.kt_tuple.specs.declared.node.NodeId.{NodeId}
-use Rattle.kt_tuple.specs.Node.{node_index, node_eq}
+use Rattle.kt_tuple.specs.Node.{node_index}
 use Rattle.kt_history.specs.Line.{line}
-use Rattle.kt_ckpt.specs.declared.ckpt.Ckpt.{Ckpt}
-use Rattle.kt_ckpt.specs.Marks.{marks_of}
-use Rattle.kt_store.specs.declared.rows.NodeRow.{NodeRow}
 use Rattle.kt_store.specs.declared.rows.Posted.{Posted}
 use Rattle.kt_store.specs.declared.rows.Purpose.TheVariants as purposes
 use Rattle.kt_store.specs.declared.rows.Tentative.{Tentative}
 use Rattle.kt_store.specs.declared.rows.Verdict.{Verdict as RealVerdict}
 use Rattle.kt_store.specs.declared.rows.Verdict.TheVariants as verdicts
-use Rattle.kt_store.specs.Content.{Content, row_of, next_instance, permanent_marks, verdict_of, verdict_on}
-use Rattle.kt_store.specs.Changes.{opening, taken}
+use Rattle.kt_store.specs.Content.{Content, row_of, next_instance, permanent_marks, verdict_of}
+use Rattle.kt_store.specs.Changes.{opening}
 use Rattle.kt_store.proofs.OtherInstances.{begun_is_read}
 use Rattle.kt_vote.specs.Poll.{Poll, asking_poll}
 use Rattle.kt_node.specs.declared.live.Phase.TheVariants as phases
@@ -22,26 +18,22 @@ use Rattle.kt_node.specs.declared.plan.Plan.{Plan}
 use Rattle.kt_node.specs.Node.{Live, Alive}
 use Rattle.kt_node.specs.Plan.{no_turn}
 use Rattle.kt_node.specs.Turning.{turned}
-use Rattle.kt_node.specs.Stored.{received_in}
 use Rattle.kt_node.specs.Joining.{is_in_cohort, check_asks, checkpoint_now, begin_check_plan}
-use Rattle.kt_world.specs.declared.step.Step.TheVariants.{Check as TakesCheck, Deliver}
+use Rattle.kt_world.specs.declared.step.Step.TheVariants.{Check as TakesCheck}
 use Rattle.kt_world.specs.Cast.{is_node}
-use Rattle.kt_world.specs.State.{State as World, role_of, view}
+use Rattle.kt_world.specs.State.{State as World, view}
 use Rattle.kt_world.specs.Told.{told}
-use Rattle.kt_world.specs.Cut.{permanent_by}
 use Rattle.kt_world.specs.Writing.{content_after}
 use Rattle.kt_world.proofs.Plans.{IsAlive}
 use Rattle.kt_world.proofs.Backs.{backed-in}
 use Rattle.kt_world.proofs.Holding.{Holds}
 use Rattle.kt_world.proofs.Lists.{all-append}
-use Rattle.kt_protocol.specs.Lines.{top_heard}
 use Rattle.kt_protocol.specs.Machine.{Check, Node, State}
 use Rattle.kt_protocol.specs.Steps.{joining, asking, begins, begin, change, push}
 use Rattle.kt_protocol.specs.Runs.{nothing_done, one_more}
-use Rattle.kt_protocol.proofs.Labels.{at-here}
 use Rattle.kt_protocol.proofs.Invariant.{Invariant}
 use Rattle.kt_refinement.proofs.Numbers.{peers}
-use Rattle.kt_refinement.proofs.Represents.{carried, NodeIs, NodeIn, Stands, TentativeIs, undecided, LabelsAre, Represents}
+use Rattle.kt_refinement.proofs.Represents.{carried, NodeIs, NodeIn, Stands, Represents}
 use Rattle.kt_refinement.proofs.Links.{to}
 use Rattle.kt_refinement.proofs.Cohorts.{chosen, cohort, chosen-cohort}
 use Rattle.kt_refinement.proofs.Frames.{CastSo, Refines, owner-in, nodes-at, votes-at, sends-only, leads-represents}

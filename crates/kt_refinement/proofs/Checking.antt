@@ -1,18 +1,17 @@
 -- What a node that takes a checkpoint stores, and whom it asks.
-use Rattle.std.proofs.Common.{◌≡◌, ◌≢◌, ◌⊎◌, inl, inr, ℕ, zero, suc, ◌+◌, ◌<◌, ◌≤◌, Bool, true, false, not, ◌&&◌, IsTrue, List, [], ◌∷◌, ◌++◌, map, filter, take, take_all, length, Option, Some, None, refl, sym, ap, subst, ◌∙◌, arith}
+use Rattle.std.proofs.Common.{◌≡◌, ℕ, zero, suc, ◌+◌, ◌≤◌, Bool, true, false, not, ◌&&◌, IsTrue, List, [], ◌∷◌, take_all, length, Option, Some, refl, sym, ap, subst, ◌∙◌, arith}
 use Rattle.std.specs.Prelude.{if◌then◌else◌}
-use Rattle.std.specs.List.{AllByRecursion, list_any}
+use Rattle.std.specs.List.{AllByRecursion}
 use Rattle.kt_tuple.specs.declared.node.NodeId.{NodeId}
-use Rattle.kt_tuple.specs.Node.{node_index, node_eq}
+use Rattle.kt_tuple.specs.Node.{node_index}
 use Rattle.kt_history.specs.declared.note.Note.{Note}
 use Rattle.kt_history.specs.Line.{line}
 use Rattle.kt_link.specs.declared.label.Label.{Label as RealLabel}
 use Rattle.kt_ckpt.specs.declared.marks.Marks.{Marks}
-use Rattle.kt_store.specs.Content.{row_of, permanent_marks, next_instance}
 use Rattle.kt_node.specs.declared.message.Message.{Message as RealMessage}
 use Rattle.kt_node.specs.declared.message.Message.TheVariants as messages
-use Rattle.kt_node.specs.Labels.{numbers, no_label, label_at, listed, listed_at, up_to}
-use Rattle.kt_node.specs.Node.{Live, node_number, neighbours}
+use Rattle.kt_node.specs.Labels.{no_label, label_at, listed, listed_at, up_to}
+use Rattle.kt_node.specs.Node.{Live, node_number}
 use Rattle.kt_node.specs.State.{checkpoint_of}
 use Rattle.kt_node.specs.Stored.{received_in}
 use Rattle.kt_node.specs.Joining.{is_in_cohort, check_asks}
@@ -29,7 +28,7 @@ use Rattle.kt_refinement.proofs.Numbers.{named, index-named, peers, peers-of, la
 use Rattle.kt_refinement.proofs.Reading.{Reads}
 use Rattle.kt_refinement.proofs.Represents.{carried, LabelsAre, Stands}
 use Rattle.kt_refinement.proofs.Links.{to}
-use Rattle.kt_refinement.proofs.Cohorts.{IsAcross, is_across, addressed, chosen, cohort, asked-once}
+use Rattle.kt_refinement.proofs.Cohorts.{is_across, chosen, cohort, asked-once}
 use Rattle.kt_refinement.proofs.Frames.{CastSo}
 use Rattle.kt_refinement.proofs.Known.{near-is}
 use Rattle.kt_refinement.proofs.Loading.{at-numbers}

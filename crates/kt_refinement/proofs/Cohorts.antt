@@ -1,5 +1,5 @@
 -- Whom a node asks: each neighbour of a kind gets one ask, all others none; and what an ask drops of what is kept.
-use Rattle.std.proofs.Common.{◌≡◌, ◌≢◌, ◌⊎◌, ℕ, zero, suc, ◌+◌, ◌<◌, ◌≤◌, Bool, true, false, not, ◌&&◌, ◌||◌, cond, eqb, IsTrue, List, [], ◌∷◌, ◌++◌, map, filter, Contains, Option, Some, None, inl, inr, refl, sym, ap, subst, ◌∙◌, arith}
+use Rattle.std.proofs.Common.{◌≡◌, ◌≢◌, ℕ, zero, suc, ◌+◌, ◌<◌, ◌≤◌, Bool, true, false, not, ◌&&◌, ◌||◌, cond, eqb, IsTrue, List, [], ◌∷◌, ◌++◌, map, filter, Contains, inl, inr, refl, sym, ap, subst, ◌∙◌, arith}
 use Rattle.std.specs.Prelude.{if◌then◌else◌}
 use Rattle.std.specs.List.{list_any}
 use Rattle.std.proofs.lemmas.Bool.{cases_eq, eq-eqb, ne_eqb}
@@ -20,7 +20,6 @@ use Rattle.kt_world.specs.Ready.{AreNeighbours}
 use Rattle.kt_world.proofs.Lists.{all-map, all-filter, all-numbers}
 use Rattle.kt_world.proofs.Scene.{Ends, to_shard, to_worker, ends, across-neighbour, role-id}
 use Rattle.kt_protocol.specs.Steps.{sieve}
-use Rattle.kt_protocol.specs.Machine.{Post}
 use Rattle.kt_refinement.proofs.Numbers.{named, peers, peers-of, named-index, label_of}
 use Rattle.kt_refinement.proofs.Represents.{kept_one, kept_from, post_of}
 use Rattle.kt_refinement.proofs.Links.{to}

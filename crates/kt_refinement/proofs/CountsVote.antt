@@ -1,32 +1,28 @@
 -- A vote that comes is counted, and may make the node cast its own: one or two steps of the machine.
-use Rattle.std.proofs.Common.{◌≡◌, ◌≢◌, ◌⊎◌, ℕ, Bool, true, false, IsTrue, List, [], ◌∷◌, Contains, Option, Some, None, inl, inr, refl, sym, ap, subst, ◌∙◌}
+use Rattle.std.proofs.Common.{◌≡◌, ℕ, Bool, true, false, IsTrue, List, Contains, Option, Some, None, inl, inr, refl, sym, ap, subst, ◌∙◌}
 use Rattle.std.specs.List.{AllByRecursion}
 use Rattle.kt_tuple.specs.declared.node.NodeId.{NodeId}
 use Rattle.kt_tuple.specs.Node.{node_index}
 use Rattle.kt_history.proofs.Lists.{Contains-here}
 use Rattle.kt_store.specs.Content.{posted}
-use Rattle.kt_vote.specs.declared.asker.Asker.{Asker}
 use Rattle.kt_vote.specs.declared.vote.Vote.{Vote as RealVote}
-use Rattle.kt_vote.specs.Poll.{Poll, counts, counted, outcome_of}
+use Rattle.kt_vote.specs.Poll.{Poll, counts, counted}
 use Rattle.kt_node.specs.declared.message.Message.{Message as RealMessage}
 use Rattle.kt_node.specs.declared.message.Message.TheVariants as messages
 use Rattle.kt_node.specs.declared.live.Phase.{Phase}
 use Rattle.kt_node.specs.declared.live.Phase.TheVariants as phases
-use Rattle.kt_node.specs.declared.plan.Plan.{Plan}
 use Rattle.kt_node.specs.Node.{Live, Alive}
 use Rattle.kt_node.specs.Plan.{no_turn}
 use Rattle.kt_node.specs.Turning.{turned}
 use Rattle.kt_node.specs.Voting.{casting, vote_for, poll_after, voted, votes}
 use Rattle.kt_node.specs.Arrivals.{voting_plan}
 use Rattle.kt_world.specs.declared.step.Step.TheVariants.{Deliver}
-use Rattle.kt_world.specs.State.{State as World, link, node}
+use Rattle.kt_world.specs.State.{State as World, node}
 use Rattle.kt_world.specs.Effect.{applied}
-use Rattle.kt_world.specs.Ready.{AreNeighbours}
 use Rattle.kt_world.proofs.Plans.{IsAlive, Comes, Votes as VotesSo, holds, rolls}
 use Rattle.kt_world.proofs.Scene.{neighbours-turned}
-use Rattle.kt_protocol.specs.Labels.{at}
 use Rattle.kt_protocol.specs.Lines.{IsIn}
-use Rattle.kt_protocol.specs.Machine.{Instance, Check, Rollback, Key, Ballot, Mode, Within, Vote, Node, State}
+use Rattle.kt_protocol.specs.Machine.{Instance, Check, Rollback, Key, Ballot, Within, Node, State}
 use Rattle.kt_protocol.specs.Steps as machine
 use Rattle.kt_protocol.specs.Steps.{change, counting}
 use Rattle.kt_protocol.specs.Runs.{nothing_done, one_more}
@@ -34,7 +30,7 @@ use Rattle.kt_protocol.proofs.Labels.{at-here}
 use Rattle.kt_protocol.proofs.Invariant.{Invariant, a_vote, a_key}
 use Rattle.kt_refinement.proofs.Numbers.{peers}
 use Rattle.kt_refinement.proofs.Represents.{asker_key, WasCast, BallotIs, Votes, NodeIn, Represents}
-use Rattle.kt_refinement.proofs.Frames.{CastSo, LinksLead, Refines, owner-in, nodes-at, votes-at, links-silent, IsSilent, leads-represents}
+use Rattle.kt_refinement.proofs.Frames.{CastSo, Refines, owner-in, nodes-at, votes-at, links-silent, IsSilent, leads-represents}
 use Rattle.kt_refinement.proofs.Known.{alive-is, rolling-is, held-is, near-is, voting-begun}
 use Rattle.kt_refinement.proofs.Denies.{both-purposes, twice}
 use Rattle.kt_refinement.proofs.Voting.{IsKind, checks, rollbacks, counted-is, phase-turned, IsDue, nothing, due, is_due, cast_node, casts-step, cast-is, cast-among, cast-more, Counted, counted-so}

@@ -1,18 +1,14 @@
 -- Who began an instance writes its verdict. Yes on a check is one step of the machine for all nodes at once.
-use Rattle.std.proofs.Common.{◌≡◌, ◌≢◌, ℕ, Bool, true, false, IsTrue, List, [], ◌∷◌, Option, Some, None, inl, inr, refl, sym, ap, subst, ◌∙◌}
+use Rattle.std.proofs.Common.{◌≡◌, ℕ, Bool, true, false, IsTrue, List, [], ◌∷◌, Option, Some, None, refl, sym, ap, subst, ◌∙◌}
 use Rattle.std.specs.List.{AllByRecursion, list_any}
 use Rattle.kt_tuple.specs.declared.node.NodeId.{NodeId}
 use Rattle.kt_tuple.specs.Node.{node_index, node_eq}
 use Rattle.kt_history.specs.Line.{line}
 use Rattle.kt_store.specs.declared.rows.NodeRow.{NodeRow}
-use Rattle.kt_store.specs.declared.rows.Posted.{Posted}
-use Rattle.kt_store.specs.declared.rows.Purpose.{Purpose}
-use Rattle.kt_store.specs.declared.rows.Purpose.TheVariants as purposes
 use Rattle.kt_store.specs.declared.rows.Verdict.{Verdict as RealVerdict}
 use Rattle.kt_store.specs.declared.rows.Verdict.TheVariants as verdicts
-use Rattle.kt_store.specs.Content.{Content, row_of, posted, verdict_of, verdict_on}
+use Rattle.kt_store.specs.Content.{row_of, verdict_of, verdict_on}
 use Rattle.kt_store.specs.Changes.{decided}
-use Rattle.kt_vote.specs.declared.asker.Asker.{Asker}
 use Rattle.kt_vote.specs.Poll.{Poll, outcome_from, outcome_of}
 use Rattle.kt_node.specs.declared.message.Message.{Message as RealMessage}
 use Rattle.kt_node.specs.declared.live.Phase.{Phase}
@@ -22,33 +18,30 @@ use Rattle.kt_node.specs.declared.change.Change.TheVariants as changes
 use Rattle.kt_node.specs.declared.plan.Plan.{Plan}
 use Rattle.kt_node.specs.declared.plan.Write.TheVariants as writes
 use Rattle.kt_node.specs.Node.{Node as RealNode, Live, Alive}
-use Rattle.kt_node.specs.Plan.{no_turn, turning_to}
+use Rattle.kt_node.specs.Plan.{no_turn}
 use Rattle.kt_node.specs.Turning.{turned}
 use Rattle.kt_node.specs.Stored.{is_undecided}
 use Rattle.kt_node.specs.Learning.{verdict_to}
 use Rattle.kt_world.specs.declared.step.Step.{Step}
 use Rattle.kt_world.specs.Step.{owner}
 use Rattle.kt_world.specs.State.{State as World, node}
-use Rattle.kt_world.specs.Writing.{content_after}
 use Rattle.kt_world.specs.Effect.{applied}
 use Rattle.kt_world.proofs.Plans.{IsAlive}
 use Rattle.kt_world.proofs.Writes.{own-row}
-use Rattle.kt_world.proofs.Holding.{Holds}
 use Rattle.kt_protocol.specs.Labels.{UpTo, at}
-use Rattle.kt_protocol.specs.Lines.{Act, top_sent, there}
-use Rattle.kt_protocol.specs.Machine.{Instance, Check, Rollback, Verdict, Open, Yes, No, Ballot, Mode, Up, Within, Node, State}
-use Rattle.kt_protocol.specs.Steps.{IsAgreed, consenting, rising, change, decide, promote, discard, decides_check, decides_rollback, gives_up_check, gives_up_rollback}
+use Rattle.kt_protocol.specs.Lines.{Act, top_sent}
+use Rattle.kt_protocol.specs.Machine.{Check, Yes, Ballot, Node, State}
+use Rattle.kt_protocol.specs.Steps.{IsAgreed, consenting, change, decide, promote, decides_check}
 use Rattle.kt_protocol.specs.Runs.{nothing_done, one_more}
-use Rattle.kt_protocol.proofs.Labels.{at-both, at-here, at-else}
-use Rattle.kt_protocol.proofs.Frames.{at-same}
+use Rattle.kt_protocol.proofs.Labels.{at-both}
 use Rattle.kt_protocol.proofs.Lines.{sent-tail}
 use Rattle.kt_protocol.proofs.Invariant.{Invariant}
 use Rattle.kt_refinement.proofs.Numbers.{named, index-named, peers}
 use Rattle.kt_refinement.proofs.Represents.{BallotIs, Votes, PhaseIs, StateIs, LiveIs, NodeIs, NodeIn, begun_as, is_for, Represents}
-use Rattle.kt_refinement.proofs.Frames.{CastSo, LinksLead, Refines, owner-in, nodes-at, votes-at, leads-represents}
-use Rattle.kt_refinement.proofs.Known.{alive-is, rolling-is, held-is, voting-begun, rollback-open, check-open}
+use Rattle.kt_refinement.proofs.Frames.{LinksLead, Refines, owner-in, nodes-at, votes-at, leads-represents}
+use Rattle.kt_refinement.proofs.Known.{alive-is, held-is, voting-begun, check-open}
 use Rattle.kt_refinement.proofs.RollsBack.{verdicts-cast}
-use Rattle.kt_refinement.proofs.Settling.{promoting, releasing, node-yes, node-no, node-else, board-check, board-rollback}
+use Rattle.kt_refinement.proofs.Settling.{node-yes, board-check}
 
 -- ---- ballots
 

@@ -1,6 +1,5 @@
 -- No on an instance, and Yes on a rollback.
-use Rattle.std.proofs.Common.{◌≡◌, ◌≢◌, ℕ, Bool, true, false, IsTrue, List, [], ◌∷◌, Option, Some, None, inl, inr, refl, sym, ap, subst, ◌∙◌}
-use Rattle.std.specs.List.{AllByRecursion}
+use Rattle.std.proofs.Common.{◌≡◌, ◌≢◌, ℕ, true, false, IsTrue, List, Option, Some, None, refl, sym, ap, subst, ◌∙◌}
 use Rattle.std.specs.Option.{option_map}
 use Rattle.kt_tuple.specs.declared.node.NodeId.{NodeId}
 use Rattle.kt_tuple.specs.Node.{node_index}
@@ -8,14 +7,11 @@ use Rattle.kt_history.specs.Line.{line}
 use Rattle.kt_store.specs.declared.rows.Posted.{Posted}
 use Rattle.kt_store.specs.declared.rows.Purpose.{Purpose}
 use Rattle.kt_store.specs.declared.rows.Purpose.TheVariants as purposes
-use Rattle.kt_store.specs.declared.rows.Verdict.TheVariants as verdicts
-use Rattle.kt_store.specs.Content.{Content, row_of, posted, verdict_of, verdict_on}
+use Rattle.kt_store.specs.Content.{row_of, posted, verdict_of}
 use Rattle.kt_vote.specs.Poll.{Poll, outcome_of}
 use Rattle.kt_node.specs.declared.message.Message.{Message as RealMessage}
-use Rattle.kt_node.specs.declared.live.Phase.{Phase}
 use Rattle.kt_node.specs.declared.live.Phase.TheVariants as phases
 use Rattle.kt_node.specs.declared.change.Change.{Change}
-use Rattle.kt_node.specs.declared.change.Change.TheVariants as changes
 use Rattle.kt_node.specs.Node.{Node as RealNode, Live, Alive}
 use Rattle.kt_node.specs.Plan.{no_turn, turning_to}
 use Rattle.kt_node.specs.Turning.{changed, turned}
@@ -27,19 +23,19 @@ use Rattle.kt_world.specs.State.{State as World, node}
 use Rattle.kt_world.specs.Effect.{applied}
 use Rattle.kt_world.proofs.Plans.{IsAlive}
 use Rattle.kt_protocol.specs.Labels.{at}
-use Rattle.kt_protocol.specs.Machine.{Instance, Check, Rollback, Verdict, Open, Yes, No, Ballot, Mode, Up, Within, Node, State}
+use Rattle.kt_protocol.specs.Machine.{Check, Rollback, Yes, No, Node, State}
 use Rattle.kt_protocol.specs.Steps.{consenting, rising, change, decide, discard, decides_rollback, gives_up_check, gives_up_rollback}
 use Rattle.kt_protocol.specs.Runs.{nothing_done, one_more}
 use Rattle.kt_protocol.proofs.Labels.{at-both, at-here, at-else}
 use Rattle.kt_protocol.proofs.Frames.{at-same}
 use Rattle.kt_protocol.proofs.Invariant.{Invariant}
 use Rattle.kt_refinement.proofs.Numbers.{peers}
-use Rattle.kt_refinement.proofs.Represents.{PhaseIs, NodeIs, NodeIn, begun_as, is_for, Represents}
-use Rattle.kt_refinement.proofs.Frames.{CastSo, LinksLead, Refines, owner-in, nodes-at, votes-at, leads-represents}
-use Rattle.kt_refinement.proofs.Known.{alive-is, rolling-is, held-is, voting-begun, rollback-open, check-open}
+use Rattle.kt_refinement.proofs.Represents.{NodeIn, begun_as, is_for, Represents}
+use Rattle.kt_refinement.proofs.Frames.{LinksLead, Refines, owner-in, nodes-at, votes-at, leads-represents}
+use Rattle.kt_refinement.proofs.Known.{alive-is, rolling-is, voting-begun, rollback-open, check-open}
 use Rattle.kt_refinement.proofs.RollsBack.{verdicts-cast}
-use Rattle.kt_refinement.proofs.Settling.{promoting, releasing, node-no, node-else, board-check, board-rollback}
-use Rattle.kt_refinement.proofs.Decides.{agreed-is, no-parent, unturned-is, rows-decided, turning_plan, deciding_plan, opened-is}
+use Rattle.kt_refinement.proofs.Settling.{releasing, node-no, node-else, board-check, board-rollback}
+use Rattle.kt_refinement.proofs.Decides.{agreed-is, no-parent, rows-decided, turning_plan, deciding_plan, opened-is}
 
 -- a node whose change turns nothing stands for what it stood for
 pub record IsIdle (s : World) (step : Step) (c : State) (change : Change) : Type 0 where

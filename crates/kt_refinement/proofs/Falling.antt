@@ -1,45 +1,35 @@
 -- A node fails, or is down and learns what became of its tentative checkpoint.
-use Rattle.std.proofs.Common.{◌≡◌, ◌≢◌, ℕ, ◌≤◌, Bool, true, false, IsTrue, List, [], ◌∷◌, ◌++◌, take, take_all, length, Option, Some, None, refl, sym, ap, subst, ◌∙◌, arith}
-use Rattle.std.specs.Prelude.{unwrap_or}
+use Rattle.std.proofs.Common.{◌≡◌, ℕ, List, take, take_all, Option, Some, None, refl, sym, subst, ◌∙◌, arith}
 use Rattle.std.specs.Option.{option_map}
 use Rattle.kt_tuple.specs.declared.node.NodeId.{NodeId}
 use Rattle.kt_tuple.specs.Node.{node_index}
-use Rattle.kt_history.specs.declared.note.Note.{Note}
 use Rattle.kt_history.specs.Line.{line}
 use Rattle.kt_ckpt.specs.declared.ckpt.Ckpt.{Ckpt}
 use Rattle.kt_ckpt.specs.Marks.{marks_of}
-use Rattle.kt_store.specs.declared.rows.NodeRow.{NodeRow}
 use Rattle.kt_store.specs.declared.rows.Tentative.{Tentative}
 use Rattle.kt_store.specs.declared.rows.Verdict.{Verdict as RealVerdict}
 use Rattle.kt_store.specs.declared.rows.Verdict.TheVariants as verdicts
-use Rattle.kt_store.specs.Content.{Content, row_of, verdict_of, verdict_on}
+use Rattle.kt_store.specs.Content.{row_of, verdict_on}
 use Rattle.kt_node.specs.declared.plan.Plan.{Plan}
-use Rattle.kt_node.specs.Node.{Node as RealNode, Live, Alive, Down as IsDownNode}
+use Rattle.kt_node.specs.Node.{Live, Alive, Down as IsDownNode}
 use Rattle.kt_node.specs.Failing.{fail_plan, line_left}
-use Rattle.kt_node.specs.Learning.{cut_of, discard_down_plan, promote_down_plan}
-use Rattle.kt_node.specs.Deciding.{settled}
-use Rattle.kt_node.specs.Stored.{acts_in}
-use Rattle.kt_node.specs.Loading.{marks_in}
-use Rattle.kt_world.specs.declared.step.Step.{Step}
-use Rattle.kt_world.specs.declared.step.Step.TheVariants.{Fail, Learn}
+use Rattle.kt_node.specs.Learning.{cut_of}
+use Rattle.kt_world.specs.declared.step.Step.TheVariants.{Fail}
 use Rattle.kt_world.specs.State.{State as World, role_of, view, node}
 use Rattle.kt_world.specs.Told.{told, stored_of, to_learn}
 use Rattle.kt_world.specs.Told as tellings
 use Rattle.kt_world.specs.Cut.{acts_held, permanent_by}
 use Rattle.kt_world.specs.Effect.{noted}
-use Rattle.kt_world.specs.Writing.{content_after}
 use Rattle.kt_world.proofs.Plans.{IsAlive}
 use Rattle.kt_world.proofs.Cutting.{held_marks}
 use Rattle.kt_world.proofs.Sound.{MayNote}
 use Rattle.kt_protocol.specs.Machine.{Node, State}
 use Rattle.kt_protocol.specs.Steps.{falling, cutting, fails, fails_holding, change}
 use Rattle.kt_protocol.specs.Runs.{nothing_done, one_more}
-use Rattle.kt_protocol.proofs.Labels.{UpTo-eq}
-use Rattle.kt_refinement.proofs.Numbers.{peers}
 use Rattle.kt_refinement.proofs.Reading.{Reads, reads-later}
-use Rattle.kt_refinement.proofs.Represents.{carried, NodeIs, NodeIn, Stands, TentativeIs, undecided, IsTentative, StateIs, FallenIs, Represents}
+use Rattle.kt_refinement.proofs.Represents.{carried, NodeIs, NodeIn, TentativeIs, undecided, IsTentative, Represents}
 use Rattle.kt_refinement.proofs.Links.{to}
-use Rattle.kt_refinement.proofs.Frames.{LinksLead, Refines, node-later, owner-in, nodes-at, votes-at, links-idle, leads-represents}
+use Rattle.kt_refinement.proofs.Frames.{Refines, node-later, owner-in, nodes-at, votes-at, links-idle, leads-represents}
 use Rattle.kt_refinement.proofs.Loading.{line-cut, stands-cut}
 
 -- ---- where the line is cut

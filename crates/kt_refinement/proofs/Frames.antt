@@ -1,6 +1,6 @@
 -- What a step leaves of what is represented: only its owner, the owner's links and the instance that it writes of are to
 -- be looked at.
-use Rattle.std.proofs.Common.{◌≡◌, ◌≢◌, ◌⊎◌, ℕ, ◌*◌, Bool, true, false, IsTrue, List, [], ◌∷◌, ◌++◌, drop, length, Contains, Option, Some, None, inl, inr, refl, sym, ap, subst, ◌∙◌, append_assoc, append-nil}
+use Rattle.std.proofs.Common.{◌≡◌, ◌≢◌, ◌⊎◌, ℕ, Bool, true, false, List, [], ◌∷◌, ◌++◌, drop, Contains, Option, Some, None, inl, inr, refl, sym, ap, subst, ◌∙◌, append_assoc, append-nil}
 use Rattle.std.specs.List.{AllByRecursion}
 use Rattle.std.specs.Option.{option_map}
 use Rattle.std.proofs.lemmas.Bool.{cases_eq, eq-eqb, ne_eqb}
@@ -16,7 +16,7 @@ use Rattle.kt_ckpt.specs.declared.ckpt.Ckpt.{Ckpt}
 use Rattle.kt_store.specs.declared.rows.NodeRow.{NodeRow}
 use Rattle.kt_store.specs.declared.rows.Verdict.{Verdict as RealVerdict}
 use Rattle.kt_store.specs.declared.rows.Tentative.{Tentative}
-use Rattle.kt_store.specs.Content.{Content, row_of, posted, verdict_on}
+use Rattle.kt_store.specs.Content.{row_of, posted, verdict_on}
 use Rattle.kt_vote.specs.declared.vote.Vote.{Vote as RealVote}
 use Rattle.kt_node.specs.declared.message.Message.{Message as RealMessage}
 use Rattle.kt_node.specs.declared.message.Message.TheVariants as messages
@@ -46,7 +46,7 @@ use Rattle.kt_protocol.specs.Steps.{pull, push}
 use Rattle.kt_protocol.proofs.Labels.{at-both, at-here, at-else}
 use Rattle.kt_refinement.proofs.Numbers.{peers}
 use Rattle.kt_refinement.proofs.Reading.{reads-later}
-use Rattle.kt_refinement.proofs.Represents.{carried_one, carried, WasCast, LinkIs, Stands, IsTentative, TentativeIs, NodeIs, NodeIn, undecided, InstanceIs, Represents}
+use Rattle.kt_refinement.proofs.Represents.{carried_one, carried, WasCast, Stands, TentativeIs, NodeIs, NodeIn, undecided, InstanceIs, Represents}
 use Rattle.kt_refinement.proofs.Links.{to, sent-long, taken-long, link-own, link-other, link-taken}
 
 -- ---- two nodes

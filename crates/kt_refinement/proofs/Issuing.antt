@@ -1,13 +1,12 @@
 -- A worker asks, or asks once more.
-use Rattle.std.proofs.Common.{◌≡◌, ℕ, IsTrue, Option, Some, None, refl}
+use Rattle.std.proofs.Common.{◌≡◌, ℕ, IsTrue, refl}
 use Rattle.kt_tuple.specs.declared.node.NodeId.{NodeId}
 use Rattle.kt_tuple.specs.declared.op.Op.{Op}
 use Rattle.kt_history.specs.declared.note.What.TheVariants as whats
 use Rattle.kt_worker.specs.declared.worker.Worker.{Worker}
-use Rattle.kt_node.specs.declared.message.Talk.TheVariants as talks
 use Rattle.kt_node.specs.declared.live.Phase.TheVariants as phases
 use Rattle.kt_node.specs.declared.change.BodyChange.TheVariants as bodies
-use Rattle.kt_node.specs.Node.{Live, node_number, next_label}
+use Rattle.kt_node.specs.Node.{Live, node_number}
 use Rattle.kt_node.specs.Talking.{request_for, home, act_of, issue_plan, repeat_plan}
 use Rattle.kt_world.specs.declared.step.Step.TheVariants.{Issue, Repeat}
 use Rattle.kt_world.specs.Cast.{is_worker}

@@ -1,6 +1,5 @@
 -- A node that is up joins a rollback, and asks all its neighbours: the machine joins.
 use Rattle.std.proofs.Common.{◌≡◌, ◌≢◌, ◌⊎◌, ℕ, Bool, true, false, not, ◌&&◌, IsTrue, List, [], ◌∷◌, ◌++◌, map, filter, Contains, Option, Some, None, inl, inr, refl, sym, ap, subst, ◌∙◌, append-nil}
-use Rattle.std.specs.Prelude.{if◌then◌else◌}
 use Rattle.std.specs.List.{AllByRecursion}
 use Rattle.kt_tuple.specs.declared.node.NodeId.{NodeId}
 use Rattle.kt_tuple.specs.Node.{node_index}
@@ -10,14 +9,12 @@ use Rattle.kt_store.specs.declared.rows.Tentative.{Tentative}
 use Rattle.kt_world.specs.Cut.{permanent_by}
 use Rattle.kt_store.specs.Content.{row_of, permanent_marks, verdict_of, verdict_on}
 use Rattle.kt_vote.specs.declared.vote.Vote.{Vote as RealVote}
-use Rattle.kt_vote.specs.Poll.{Poll, outcome_of}
 use Rattle.kt_node.specs.declared.message.Ask.{Ask as RealAsk}
 use Rattle.kt_node.specs.declared.message.Message.{Message as RealMessage}
 use Rattle.kt_node.specs.declared.message.Message.TheVariants as messages
 use Rattle.kt_node.specs.declared.live.Phase.TheVariants as phases
 use Rattle.kt_node.specs.declared.change.KeptChange.TheVariants as keeps
 use Rattle.kt_node.specs.declared.change.Change.TheVariants as changes
-use Rattle.kt_node.specs.declared.change.Turn.{Turn}
 use Rattle.kt_node.specs.declared.plan.Plan.{Plan}
 use Rattle.kt_node.specs.Labels.{label_at, up_to}
 use Rattle.kt_node.specs.Node.{Live, Alive, neighbours, node_number}
@@ -26,7 +23,6 @@ use Rattle.kt_node.specs.Stored.{is_undecided, sent_in}
 use Rattle.kt_node.specs.Voting.{casting, casting_to, poll_after, votes}
 use Rattle.kt_node.specs.Joining.{asker_of, roll_asks, roller, join_rollback_plan}
 use Rattle.kt_node.specs.Turning.{turned}
-use Rattle.kt_world.specs.declared.step.Step.{Step}
 use Rattle.kt_world.specs.declared.step.Step.TheVariants.{Deliver}
 use Rattle.kt_world.specs.State.{State as World, role_of, view}
 use Rattle.kt_world.specs.Told.{told, of_first}
@@ -35,19 +31,19 @@ use Rattle.kt_world.proofs.Plans.{IsAlive, Comes}
 use Rattle.kt_world.proofs.Backs.{backed-in}
 use Rattle.kt_world.proofs.Holding.{Holds}
 use Rattle.kt_world.proofs.Lists.{all-append}
-use Rattle.kt_world.proofs.Scene.{some_peers, role-id, neighbour-node, neighbours-turned}
+use Rattle.kt_world.proofs.Scene.{some_peers, neighbour-node, neighbours-turned}
 use Rattle.kt_protocol.specs.Labels.{at}
-use Rattle.kt_protocol.specs.Lines.{top_sent, top_heard}
-use Rattle.kt_protocol.specs.Machine.{Instance, Rollback, Key, Ballot, Node, State, Vote, Ask}
+use Rattle.kt_protocol.specs.Lines.{top_sent}
+use Rattle.kt_protocol.specs.Machine.{Rollback, Node, State, Vote, Ask}
 use Rattle.kt_protocol.specs.Steps.{sieve, joining, sifting, asking, joins, MustJoin, IsCohort, change, push, pull}
 use Rattle.kt_protocol.specs.Runs.{nothing_done, one_more}
-use Rattle.kt_protocol.proofs.Labels.{at-both, at-here, at-else}
+use Rattle.kt_protocol.proofs.Labels.{at-here, at-else}
 use Rattle.kt_protocol.proofs.Invariant.{a_key}
 use Rattle.kt_protocol.proofs.Rows.{up_to-false}
-use Rattle.kt_refinement.proofs.Numbers.{peers, label_of, peers-of}
-use Rattle.kt_refinement.proofs.Represents.{carried, kept_from, LiveIs, NodeIs, NodeIn, BallotIs, Stands, Represents}
+use Rattle.kt_refinement.proofs.Numbers.{peers, label_of}
+use Rattle.kt_refinement.proofs.Represents.{carried, kept_from, NodeIn, Stands, Represents}
 use Rattle.kt_refinement.proofs.Links.{to}
-use Rattle.kt_refinement.proofs.Cohorts.{addressed, chosen, cohort, asked-once, chosen-cohort, kept-sieved, kept-others}
+use Rattle.kt_refinement.proofs.Cohorts.{addressed, cohort, asked-once, chosen-cohort, kept-sieved, kept-others}
 use Rattle.kt_refinement.proofs.Frames.{cases-node, apart-index, CastSo, Refines, owner-in, nodes-at, votes-at, delivered, leads-represents}
 use Rattle.kt_refinement.proofs.Known.{alive-is, up-is, near-is, comes-is, rollback-open, waits-for, all-chosen}
 

@@ -1,5 +1,5 @@
 -- What is known of the machine's node where something is known of the real one.
-use Rattle.std.proofs.Common.{◌≡◌, ◌⊎◌, ℕ, suc, zero, ◌≤◌, Bool, true, false, IsTrue, List, [], ◌∷◌, ◌++◌, map, filter, Contains, Option, Some, None, refl, sym, ap, subst, ◌∙◌, arith}
+use Rattle.std.proofs.Common.{◌≡◌, ℕ, suc, zero, ◌≤◌, Bool, true, false, IsTrue, List, [], ◌∷◌, ◌++◌, map, filter, Option, Some, None, refl, sym, ap, subst, ◌∙◌, arith}
 use Rattle.std.specs.Option.{option_map}
 use Rattle.kt_tuple.specs.declared.node.NodeId.{NodeId}
 use Rattle.kt_tuple.specs.Node.{node_index}
@@ -8,18 +8,18 @@ use Rattle.kt_store.specs.declared.rows.Purpose.{Purpose}
 use Rattle.kt_store.specs.declared.rows.Purpose.TheVariants as purposes
 use Rattle.kt_store.specs.declared.rows.Verdict.{Verdict as RealVerdict}
 use Rattle.kt_store.specs.declared.rows.Verdict.TheVariants as verdicts
-use Rattle.kt_store.specs.Content.{Content, row_of, posted, verdict_of, verdict_on}
+use Rattle.kt_store.specs.Content.{posted, verdict_of}
 use Rattle.kt_node.specs.declared.live.Phase.{Phase}
 use Rattle.kt_node.specs.declared.live.Phase.TheVariants as phases
 use Rattle.kt_node.specs.declared.message.Message.{Message as RealMessage}
 use Rattle.kt_node.specs.Labels.{numbers}
-use Rattle.kt_node.specs.Node.{Node as RealNode, Down as IsDown, Alive, Live, across}
+use Rattle.kt_node.specs.Node.{Alive, Live, across}
 use Rattle.kt_node.specs.Stored.{is_undecided}
 use Rattle.kt_vote.specs.Poll.{Poll, outcome_from}
-use Rattle.kt_world.specs.State.{State as World, node}
+use Rattle.kt_world.specs.State.{State as World}
 use Rattle.kt_world.specs.Ready.{AreNeighbours}
 use Rattle.kt_world.proofs.Plans.{IsAlive, Comes}
-use Rattle.kt_protocol.specs.Machine.{Instance, Check, Rollback, Verdict, Open, Ballot, Mode, Up, Within, Node, State, Message}
+use Rattle.kt_protocol.specs.Machine.{Instance, Check, Rollback, Open, Ballot, Up, Within, State}
 use Rattle.kt_protocol.proofs.Invariant.{Invariant}
 use Rattle.kt_refinement.proofs.Numbers.{peers, peers-of}
 use Rattle.kt_refinement.proofs.Represents.{carried, carried_one, PhaseIs, Votes, LiveIs, NodeIn, verdict_is, verdict_as, begun_as, is_for, Represents}

@@ -1,25 +1,20 @@
 -- A permanent checkpoint that is loaded, and the line that is cut to it.
-use Rattle.std.proofs.Common.{◌≡◌, ℕ, zero, suc, ◌+◌, ◌<◌, ◌≤◌, Bool, true, false, IsTrue, List, [], ◌∷◌, ◌++◌, map, replicate, length, take, take-take, Option, Some, None, Result, Ok, Err, refl, sym, ap, subst, ◌∙◌, arith}
-use Rattle.std.specs.Prelude.{if◌then◌else◌}
+use Rattle.std.proofs.Common.{◌≡◌, ℕ, zero, suc, ◌+◌, ◌<◌, ◌≤◌, List, [], map, take, take-take, Option, Some, None, Result, Ok, Err, refl, sym, ap, subst, ◌∙◌, arith}
 use Rattle.std.specs.Option.{option_map}
 use Rattle.kt_tuple.specs.declared.node.NodeId.{NodeId}
-use Rattle.kt_tuple.specs.Node.{node_index}
 use Rattle.kt_history.specs.declared.note.Note.{Note}
-use Rattle.kt_history.specs.declared.note.Note.TheVariants as notes
 use Rattle.kt_history.specs.Line.{line}
 use Rattle.kt_history.proofs.Lines.{line-own_cut}
-use Rattle.kt_link.specs.declared.label.Label.{Label as RealLabel}
 use Rattle.kt_shard.specs.Table.{at}
 use Rattle.kt_ckpt.specs.declared.ckpt.Ckpt.{Ckpt}
 use Rattle.kt_ckpt.specs.Marks.{marks_of}
 use Rattle.kt_node.specs.declared.live.Phase.TheVariants as phases
 use Rattle.kt_node.specs.declared.refusal.Refusal.{Refusal}
-use Rattle.kt_node.specs.declared.refusal.Refusal.TheVariants as refusals
 use Rattle.kt_node.specs.declared.stored.Stored.{Stored}
-use Rattle.kt_node.specs.Labels.{numbers, no_label, no_labels, label_at, listed_at, tabled, table_size}
-use Rattle.kt_node.specs.Node.{Body, Live, Role, node_number}
+use Rattle.kt_node.specs.Labels.{numbers, no_label, label_at, listed_at, table_size}
+use Rattle.kt_node.specs.Node.{Body, Live, node_number}
 use Rattle.kt_node.specs.State.{body_at}
-use Rattle.kt_node.specs.Stored.{sent_in, received_in, fits, acts_in}
+use Rattle.kt_node.specs.Stored.{sent_in, received_in, fits}
 use Rattle.kt_node.specs.Loading.{loaded_by, load, marks_in}
 use Rattle.kt_node.specs.Learning.{cut_of}
 use Rattle.kt_node.specs.View.{View}
@@ -27,13 +22,10 @@ use Rattle.kt_world.specs.Cast.{Cast, IsCast}
 use Rattle.kt_world.specs.State.{role_of}
 use Rattle.kt_world.specs.Cut.{acts_held}
 use Rattle.kt_world.specs.Effect.{noted}
-use Rattle.kt_world.specs.Ready.{AreNeighbours}
-use Rattle.kt_world.proofs.Cutting.{held_marks}
 use Rattle.kt_world.proofs.Loads.{load-passed}
 use Rattle.kt_world.proofs.Opened.{at-replicate}
 use Rattle.kt_world.proofs.Scene.{neighbour-place, role-id}
 use Rattle.kt_protocol.specs.Lines.{Act, top_sent, top_heard}
-use Rattle.kt_protocol.specs.Machine.{Node}
 use Rattle.kt_refinement.proofs.Numbers.{label_of}
 use Rattle.kt_refinement.proofs.Reading.{Reads, reads-later}
 use Rattle.kt_refinement.proofs.Represents.{LabelsAre, Stands}

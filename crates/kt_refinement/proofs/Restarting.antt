@@ -1,5 +1,5 @@
 -- A node that is down restarts, and one whose rollback got No.
-use Rattle.std.proofs.Common.{◌≡◌, ◌⊎◌, inl, inr, ℕ, Bool, true, false, IsTrue, length, Option, Some, None, Ok, refl, sym, ap, subst, ◌∙◌}
+use Rattle.std.proofs.Common.{◌≡◌, inl, inr, false, IsTrue, length, Option, Some, None, Ok, refl, subst}
 use Rattle.std.specs.Prelude.{is_some}
 use Rattle.std.specs.Option.{option_map}
 use Rattle.kt_tuple.specs.declared.node.NodeId.{NodeId}
@@ -9,7 +9,7 @@ use Rattle.kt_store.specs.Content.{row_of, verdict_on}
 use Rattle.kt_vote.specs.Poll.{Poll}
 use Rattle.kt_node.specs.declared.live.Phase.{Phase}
 use Rattle.kt_node.specs.declared.live.Phase.TheVariants as phases
-use Rattle.kt_node.specs.Node.{Node as RealNode, Live, Alive, Down}
+use Rattle.kt_node.specs.Node.{Node as RealNode, Live, Down}
 use Rattle.kt_node.specs.Loading.{load}
 use Rattle.kt_node.specs.Failing.{restarting_plan}
 use Rattle.kt_world.specs.declared.step.Step.TheVariants.{Restart}
@@ -39,20 +39,20 @@ pub restarts : (s : World) (c : State) → Invariant (peers s.cast) c → Repres
     → Refines s (Restart p) (restarting_plan (view s p) (told s (Restart p)).stored (told s (Restart p)).next live) c
 restarts s c inv is h p live there down untaken from =
     restarts_so s c inv is h (Restart p) live (λ x y e. absurd (cc (e))) there (inl fallen) none ends from where
-  fallen : node s p ≡ Some Down
-  fallen = has_fallen s h.ready p there down
+      fallen : node s p ≡ Some Down
+      fallen = has_fallen s h.ready p there down
 
-  none : (row_of s.content p).tentative ≡ None
-  none = nothing-there (row_of s.content p).tentative untaken
+      none : (row_of s.content p).tentative ≡ None
+      none = nothing-there (row_of s.content p).tentative untaken
 
-  ends : length (acts_in_line s.history p) ≡ acts_held (row_of s.content p).permanent
-  ends =
-      let N : Option RealNode → Type 0 =
-      λ r. Ends (length (acts_in_line s.history p)) (acts_held (row_of s.content p).permanent) (row_of s.content p).tentative
-      (verdict_on s.content (row_of s.content p).tentative) r in
-      let T : Option Tentative → Type 0 =
-      λ t. EndsDown (length (acts_in_line s.history p)) (acts_held (row_of s.content p).permanent) (verdict_on s.content t) t in
-      subst T none (subst N fallen (h.sound.nodes p).ends)
+      ends : length (acts_in_line s.history p) ≡ acts_held (row_of s.content p).permanent
+      ends =
+          let N : Option RealNode → Type 0 =
+          λ r. Ends (length (acts_in_line s.history p)) (acts_held (row_of s.content p).permanent) (row_of s.content p).tentative
+          (verdict_on s.content (row_of s.content p).tentative) r in
+          let T : Option Tentative → Type 0 =
+          λ t. EndsDown (length (acts_in_line s.history p)) (acts_held (row_of s.content p).permanent) (verdict_on s.content t) t in
+          subst T none (subst N fallen (h.sound.nodes p).ends)
 
 pub restarts_anew : (s : World) (c : State) → Invariant (peers s.cast) c → Represents s c → Holds s → (p : NodeId) (n live : Live) (b : Poll)
     → IsTrue (is_node s.cast p) → IsAlive s p n → n.phase ≡ phases.Rolling b → b.parent ≡ None → load (view s p) (told s (Restart p)).stored ≡ Ok live
@@ -60,10 +60,10 @@ pub restarts_anew : (s : World) (c : State) → Invariant (peers s.cast) c → R
 restarts_anew s c inv is h p n live b there alive rolling began from =
     restarts_so s c inv is h (Restart p) live (λ x y e. absurd (cc (e))) there (inr (n, alive)) (backed-in s h.backed p n (phases.Rolling b) alive rolling) ends from
   where
-  ends : length (acts_in_line s.history p) ≡ acts_held (row_of s.content p).permanent
-  ends =
-      let N : Option RealNode → Type 0 =
-      λ r. Ends (length (acts_in_line s.history p)) (acts_held (row_of s.content p).permanent) (row_of s.content p).tentative
-      (verdict_on s.content (row_of s.content p).tentative) r in
-      let P : Phase → Type 0 = λ f. EndsRolling (length (acts_in_line s.history p)) (acts_held (row_of s.content p).permanent) f in
-      subst P rolling (subst N alive (h.sound.nodes p).ends) began
+    ends : length (acts_in_line s.history p) ≡ acts_held (row_of s.content p).permanent
+    ends =
+        let N : Option RealNode → Type 0 =
+        λ r. Ends (length (acts_in_line s.history p)) (acts_held (row_of s.content p).permanent) (row_of s.content p).tentative
+        (verdict_on s.content (row_of s.content p).tentative) r in
+        let P : Phase → Type 0 = λ f. EndsRolling (length (acts_in_line s.history p)) (acts_held (row_of s.content p).permanent) f in
+        subst P rolling (subst N alive (h.sound.nodes p).ends) began

@@ -1,8 +1,6 @@
 -- A node restarts: the machine's fails, where it is not down with its permanent checkpoint's line, and restarts.
-use Rattle.std.proofs.Common.{◌≡◌, ◌≢◌, ◌⊎◌, inl, inr, ℕ, suc, ◌+◌, ◌≤◌, Bool, true, false, IsTrue, List, [], ◌∷◌, ◌++◌, take, take_all, length, Option, Some, None, Ok, refl, sym, ap, subst, ◌∙◌, arith}
-use Rattle.std.specs.Prelude.{is_some}
-use Rattle.std.specs.List.{AllByRecursion, list_any}
-use Rattle.std.specs.Option.{option_map}
+use Rattle.std.proofs.Common.{◌≡◌, ◌⊎◌, inl, inr, ℕ, suc, ◌+◌, false, IsTrue, List, [], ◌∷◌, take, take_all, length, Option, Some, None, Ok, refl, sym, ap, subst, ◌∙◌, arith}
+use Rattle.std.specs.List.{list_any}
 use Rattle.kt_tuple.specs.declared.node.NodeId.{NodeId}
 use Rattle.kt_tuple.specs.Node.{node_index, node_eq}
 use Rattle.kt_history.specs.Line.{line}
@@ -11,8 +9,6 @@ use Rattle.kt_store.specs.declared.rows.NodeRow.{NodeRow}
 use Rattle.kt_store.specs.declared.rows.Purpose.TheVariants as purposes
 use Rattle.kt_store.specs.declared.rows.Tentative.{Tentative}
 use Rattle.kt_store.specs.Content.{Content, row_of, next_instance, verdict_on}
-use Rattle.kt_vote.specs.Poll.{Poll}
-use Rattle.kt_node.specs.declared.message.Message.TheVariants as messages
 use Rattle.kt_node.specs.declared.live.Phase.TheVariants as phases
 use Rattle.kt_node.specs.declared.plan.Plan.{Plan}
 use Rattle.kt_node.specs.Labels.{label_at}
@@ -31,9 +27,8 @@ use Rattle.kt_world.specs.Ready.{AreNeighbours}
 use Rattle.kt_world.specs.Writing.{content_after}
 use Rattle.kt_world.proofs.NoteSound.{line-long}
 use Rattle.kt_world.proofs.Holding.{Holds}
-use Rattle.kt_protocol.specs.Labels.{at}
 use Rattle.kt_protocol.specs.Lines.{IsIn, top_sent}
-use Rattle.kt_protocol.specs.Machine.{Instance, Rollback, Ask, Mode, Within, Node, State}
+use Rattle.kt_protocol.specs.Machine.{Rollback, Ask, Node, State}
 use Rattle.kt_protocol.specs.Steps as machine
 use Rattle.kt_protocol.specs.Steps.{joining, loading, falling, cutting, asking, fails, begin, change, push}
 use Rattle.kt_protocol.specs.Runs.{nothing_done, one_more}
@@ -44,7 +39,7 @@ use Rattle.kt_refinement.proofs.Reading.{Reads}
 use Rattle.kt_refinement.proofs.Represents.{carried, kept_from, NodeIs, NodeIn, Stands, TentativeIs, undecided, Represents}
 use Rattle.kt_refinement.proofs.Links.{to}
 use Rattle.kt_refinement.proofs.Cohorts.{cohort, chosen-cohort}
-use Rattle.kt_refinement.proofs.Frames.{CastSo, LinksLead, Refines, owner-in, nodes-at, votes-at, sends-only, leads-represents}
+use Rattle.kt_refinement.proofs.Frames.{Refines, owner-in, nodes-at, votes-at, sends-only, leads-represents}
 use Rattle.kt_refinement.proofs.Known.{all-chosen}
 use Rattle.kt_refinement.proofs.JoinsRollback.{everyone, everyone-is, everyone-asked, roll-asks-to, roll-asks-cast}
 use Rattle.kt_refinement.proofs.Loading.{LoadedAs, loaded-as, loaded-sent, loaded-received}

@@ -1,11 +1,10 @@
 -- A participant of a rollback that has Yes: its line is cut, and its permanent checkpoint is loaded. The machine learns Yes.
-use Rattle.std.proofs.Common.{◌≡◌, ◌≢◌, ℕ, suc, ◌+◌, ◌≤◌, Bool, true, false, IsTrue, List, [], ◌∷◌, ◌++◌, take, length, Option, Some, None, Ok, refl, sym, ap, subst, ◌∙◌, arith}
+use Rattle.std.proofs.Common.{◌≡◌, ℕ, suc, ◌+◌, Bool, true, List, [], ◌∷◌, take, Option, Some, None, Ok, refl, sym, ap, subst, ◌∙◌, arith}
 use Rattle.std.specs.List.{AllByRecursion}
 use Rattle.std.specs.Option.{option_map}
 use Rattle.kt_tuple.specs.declared.node.NodeId.{NodeId}
 use Rattle.kt_tuple.specs.Node.{node_index}
 use Rattle.kt_history.specs.declared.note.Note.{Note}
-use Rattle.kt_history.specs.declared.note.Note.TheVariants as notes
 use Rattle.kt_history.specs.Line.{line}
 use Rattle.kt_ckpt.specs.Marks.{marks_of}
 use Rattle.kt_store.specs.declared.rows.NodeRow.{NodeRow}
@@ -17,8 +16,6 @@ use Rattle.kt_vote.specs.Poll.{Poll}
 use Rattle.kt_node.specs.declared.message.Message.{Message as RealMessage}
 use Rattle.kt_node.specs.declared.message.Message.TheVariants as messages
 use Rattle.kt_node.specs.declared.live.Phase.TheVariants as phases
-use Rattle.kt_node.specs.declared.plan.Plan.{Plan}
-use Rattle.kt_node.specs.declared.plan.Write.TheVariants as writes
 use Rattle.kt_node.specs.Node.{Live, Alive, Down as IsDown, poll_in}
 use Rattle.kt_node.specs.Stored.{acts_in}
 use Rattle.kt_node.specs.Loading.{load, marks_in}
@@ -38,7 +35,6 @@ use Rattle.kt_world.specs.Writing.{content_after}
 use Rattle.kt_world.proofs.Plans.{IsAlive, Comes}
 use Rattle.kt_world.proofs.Backs.{backed-in}
 use Rattle.kt_world.proofs.Cutting.{held_marks}
-use Rattle.kt_world.proofs.Writes.{row_after}
 use Rattle.kt_world.proofs.Sound.{MayNote}
 use Rattle.kt_world.proofs.Holding.{Holds}
 use Rattle.kt_protocol.specs.Machine.{Rollback, Yes, Node, State, Vote}
@@ -51,7 +47,7 @@ use Rattle.kt_refinement.proofs.Reading.{Reads}
 use Rattle.kt_refinement.proofs.Represents.{kept_from, carried, NodeIs, NodeIn, Stands, TentativeIs, undecided, Represents}
 use Rattle.kt_refinement.proofs.Frames.{IsSilent, links-silent, links-idle, CastSo, LinksLead, Refines, owner-in, nodes-at, votes-at, leads-represents}
 use Rattle.kt_refinement.proofs.Links.{to}
-use Rattle.kt_refinement.proofs.Known.{alive-is, rolling-is, voting-begun, rollback-verdict}
+use Rattle.kt_refinement.proofs.Known.{rolling-is, voting-begun, rollback-verdict}
 use Rattle.kt_refinement.proofs.Loading.{LoadedAs, loaded-as, loaded-sent, loaded-received, line-cut, stands-cut, reads-cut}
 
 -- the permanent checkpoint of a node that has no tentative one is the stored one

@@ -1,11 +1,9 @@
 -- A node that is up sends a message of itself: the machine sends.
-use Rattle.std.proofs.Common.{◌≡◌, ◌≢◌, ℕ, suc, ◌+◌, ◌≤◌, Bool, true, false, IsTrue, List, [], ◌∷◌, ◌++◌, length, Option, Some, None, inl, inr, refl, sym, ap, subst, ◌∙◌, arith}
+use Rattle.std.proofs.Common.{◌≡◌, ◌≢◌, ℕ, suc, ◌+◌, ◌≤◌, Bool, true, false, List, [], ◌∷◌, ◌++◌, length, Option, Some, None, inl, inr, refl, sym, ap, subst, ◌∙◌, arith}
 use Rattle.std.proofs.lemmas.Bool.{eq-eqb, ne_eqb}
-use Rattle.std.specs.Option.{option_map}
 use Rattle.kt_tuple.specs.declared.node.NodeId.{NodeId}
 use Rattle.kt_tuple.specs.Node.{node_index, node_eq, node_eq_decides}
 use Rattle.kt_history.specs.declared.note.Act.{Act as Done}
-use Rattle.kt_history.specs.declared.note.Note.{Note}
 use Rattle.kt_history.specs.declared.note.Note.TheVariants as notes
 use Rattle.kt_history.specs.Line.{line}
 use Rattle.kt_store.specs.declared.rows.Tentative.{Tentative}
@@ -25,7 +23,7 @@ use Rattle.kt_node.specs.Turning.{turned}
 use Rattle.kt_world.specs.declared.step.Step.{Step}
 use Rattle.kt_world.specs.declared.step.Step.TheVariants.{Deliver}
 use Rattle.kt_world.specs.Step.{owner}
-use Rattle.kt_world.specs.State.{State as World, node}
+use Rattle.kt_world.specs.State.{State as World}
 use Rattle.kt_world.specs.Cut.{acts_held, permanent_by}
 use Rattle.kt_world.specs.Ready.{AreNeighbours}
 use Rattle.kt_world.proofs.Plans.{IsAlive}
@@ -34,15 +32,15 @@ use Rattle.kt_world.proofs.NoteSound.{line-long}
 use Rattle.kt_world.proofs.Sound.{MayNote}
 use Rattle.kt_world.proofs.Holding.{Holds}
 use Rattle.kt_protocol.specs.Labels.{Label}
-use Rattle.kt_protocol.specs.Lines.{IsIn, here, there, Act, Sends, top_sent}
-use Rattle.kt_protocol.specs.Machine.{App, Up, Node, State, Message, next_label as next_of}
+use Rattle.kt_protocol.specs.Lines.{IsIn, here, there, Sends, top_sent}
+use Rattle.kt_protocol.specs.Machine.{App, Node, State, Message, next_label as next_of}
 use Rattle.kt_protocol.specs.Steps.{sends, sending, only, change, push}
 use Rattle.kt_protocol.specs.Runs.{nothing_done, one_more}
-use Rattle.kt_refinement.proofs.Numbers.{peers, label_of}
-use Rattle.kt_refinement.proofs.Reading.{Reads, WasHeard}
+use Rattle.kt_refinement.proofs.Numbers.{label_of}
+use Rattle.kt_refinement.proofs.Reading.{WasHeard}
 use Rattle.kt_refinement.proofs.Represents.{carried, NodeIs, NodeIn, PhaseIs, Stands, TentativeIs, undecided, Represents}
 use Rattle.kt_refinement.proofs.Links.{to}
-use Rattle.kt_refinement.proofs.Frames.{cases-node, apart-index, CastSo, Refines, owner-in, nodes-at, votes-at, sends-only, leads-represents}
+use Rattle.kt_refinement.proofs.Frames.{cases-node, apart-index, Refines, owner-in, nodes-at, votes-at, sends-only, leads-represents}
 use Rattle.kt_refinement.proofs.Known.{alive-is, up-is, near-is}
 use Rattle.kt_refinement.proofs.RollsBack.{stored-stands}
 use Rattle.kt_refinement.proofs.Acting.{line-more, stands-more, reads-more, sent-more, heard-unsent}

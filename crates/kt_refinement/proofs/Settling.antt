@@ -1,7 +1,6 @@
 -- A verdict is written. Yes on a check makes all its tentative checkpoints permanent at once, as does the machine; No gives
 -- them up; a rollback's has nothing to do with any.
-use Rattle.std.proofs.Common.{◌≡◌, ◌≢◌, ◌⊎◌, ℕ, Bool, true, false, eqb, IsTrue, List, [], ◌∷◌, take, length, Option, Some, None, inl, inr, refl, sym, ap, subst, ◌∙◌}
-use Rattle.std.specs.Prelude.{if◌then◌else◌}
+use Rattle.std.proofs.Common.{◌≡◌, ◌≢◌, ℕ, Bool, true, false, List, Option, Some, None, inl, inr, refl, sym, ap, subst, ◌∙◌}
 use Rattle.std.specs.Option.{option_map}
 use Rattle.std.proofs.lemmas.Bool.{cases_eq, eq-eqb, ne_eqb}
 use Rattle.kt_tuple.specs.declared.node.NodeId.{NodeId}
@@ -16,7 +15,7 @@ use Rattle.kt_store.specs.declared.rows.Purpose.TheVariants as purposes
 use Rattle.kt_store.specs.declared.rows.Tentative.{Tentative}
 use Rattle.kt_store.specs.declared.rows.Verdict.{Verdict as RealVerdict}
 use Rattle.kt_store.specs.declared.rows.Verdict.TheVariants as verdicts
-use Rattle.kt_store.specs.Content.{Content, row_of, posted, verdict_of, verdict_on}
+use Rattle.kt_store.specs.Content.{Content, posted, verdict_of, verdict_on}
 use Rattle.kt_store.specs.Changes.{decided}
 use Rattle.kt_store.specs.Verdict.{verdict_from}
 use Rattle.kt_store.proofs.OtherInstances.{others_decided, decided_is_read}
@@ -27,11 +26,11 @@ use Rattle.kt_world.specs.Cut.{permanent_by}
 use Rattle.kt_world.specs.Ready.{AreNeighbours}
 use Rattle.kt_protocol.specs.Labels.{UpTo}
 use Rattle.kt_protocol.specs.Lines.{Act, top_sent}
-use Rattle.kt_protocol.specs.Machine.{Instance, Check, Rollback, Verdict, Open, Yes, No, Node, Board, at_instance}
+use Rattle.kt_protocol.specs.Machine.{Check, Rollback, Node, Board, at_instance}
 use Rattle.kt_protocol.specs.Steps.{promoted, released}
 use Rattle.kt_protocol.proofs.Labels.{UpTo-trans}
 use Rattle.kt_refinement.proofs.Numbers.{label_of}
-use Rattle.kt_refinement.proofs.Represents.{StateIs, Stands, TentativeIs, undecided, NodeIs, verdict_is, is_for, verdict_as, begun_as, InstanceIs}
+use Rattle.kt_refinement.proofs.Represents.{StateIs, Stands, TentativeIs, undecided, NodeIs, verdict_is, is_for, begun_as, InstanceIs}
 
 -- ---- what is stored of one node
 

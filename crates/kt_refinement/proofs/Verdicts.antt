@@ -1,5 +1,5 @@
 -- The steps that write a verdict: who began an instance decides, or gives it up, alive or down.
-use Rattle.std.proofs.Common.{◌≡◌, ℕ, Bool, true, false, IsTrue, List, [], ◌∷◌, Option, Some, None, refl, sym, ap, subst, ◌∙◌}
+use Rattle.std.proofs.Common.{◌≡◌, ℕ, Bool, true, false, IsTrue, List, [], Option, Some, None, refl, sym, ap, subst, ◌∙◌}
 use Rattle.std.specs.Prelude.{unwrap_or}
 use Rattle.std.specs.Option.{option_map}
 use Rattle.kt_tuple.specs.declared.node.NodeId.{NodeId}
@@ -7,9 +7,7 @@ use Rattle.kt_tuple.specs.Node.{node_index}
 use Rattle.kt_store.specs.declared.rows.Posted.{Posted}
 use Rattle.kt_store.specs.declared.rows.Purpose.{Purpose}
 use Rattle.kt_store.specs.declared.rows.Purpose.TheVariants as purposes
-use Rattle.kt_store.specs.declared.rows.Verdict.{Verdict as RealVerdict}
-use Rattle.kt_store.specs.declared.rows.Verdict.TheVariants as verdicts
-use Rattle.kt_store.specs.Content.{Content, posted, verdict_of, open_of}
+use Rattle.kt_store.specs.Content.{posted, verdict_of}
 use Rattle.kt_vote.specs.Poll.{Poll, outcome_of}
 use Rattle.kt_node.specs.declared.live.Phase.{Phase}
 use Rattle.kt_node.specs.declared.live.Phase.TheVariants as phases
@@ -24,13 +22,13 @@ use Rattle.kt_world.specs.declared.step.Step.TheVariants.{Deliver, Decide, Aband
 use Rattle.kt_world.specs.Step.{owner}
 use Rattle.kt_world.specs.State.{State as World, node, view}
 use Rattle.kt_world.specs.Told.{told, of_poll}
-use Rattle.kt_world.proofs.Plans.{IsAlive, IsDown, Votes as VotesSo, holds, rolls}
+use Rattle.kt_world.proofs.Plans.{IsAlive, Votes as VotesSo, holds, rolls}
 use Rattle.kt_world.proofs.Holding.{Holds}
 use Rattle.kt_world.proofs.Boards.{open-verdict}
-use Rattle.kt_protocol.specs.Machine.{Instance, Check, Rollback, State}
+use Rattle.kt_protocol.specs.Machine.{Check, Rollback, State}
 use Rattle.kt_protocol.proofs.Invariant.{Invariant}
 use Rattle.kt_refinement.proofs.Numbers.{peers}
-use Rattle.kt_refinement.proofs.Represents.{begun_as, NodeIn, StateIs, NodeIs, Represents}
+use Rattle.kt_refinement.proofs.Represents.{begun_as, NodeIn, Represents}
 use Rattle.kt_refinement.proofs.Frames.{LinksLead, Refines, links-idle, silent-to}
 use Rattle.kt_refinement.proofs.Known.{alive-is, rolling-is, held-is, voting-begun}
 use Rattle.kt_refinement.proofs.RollsBack.{verdicts-silent}

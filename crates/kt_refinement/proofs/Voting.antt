@@ -1,47 +1,37 @@
 -- A vote that comes and is counted, and the vote that it may make the node cast: one or two steps of the machine. And a
 -- participant that votes no of itself.
-use Rattle.std.proofs.Common.{◌≡◌, ◌≢◌, ◌⊎◌, ℕ, Bool, true, false, not, ◌&&◌, ◌||◌, cond, IsTrue, List, [], ◌∷◌, filter, Contains, Option, Some, None, inl, inr, refl, sym, ap, subst, ◌∙◌}
+use Rattle.std.proofs.Common.{◌≡◌, ◌≢◌, ℕ, Bool, true, false, not, ◌&&◌, ◌||◌, cond, IsTrue, List, [], ◌∷◌, filter, Option, Some, None, inl, inr, refl, sym, ap, subst, ◌∙◌}
 use Rattle.std.specs.List.{AllByRecursion, list_any}
 use Rattle.std.specs.Option.{option_map}
-use Rattle.std.proofs.lemmas.Bool.{cases_eq, eq-eqb, ne_eqb}
+use Rattle.std.proofs.lemmas.Bool.{cases_eq, ne_eqb}
 use Rattle.kt_tuple.specs.declared.node.NodeId.{NodeId}
 use Rattle.kt_tuple.specs.Node.{node_index, node_eq, node_eq_decides}
-use Rattle.kt_history.proofs.Lists.{Contains-here}
 use Rattle.kt_vote.specs.declared.asker.Asker.{Asker}
 use Rattle.kt_vote.specs.declared.vote.Vote.{Vote as RealVote}
 use Rattle.kt_vote.specs.Poll.{Poll, counts, counted, is_awaited, is_on, outcome_of}
-use Rattle.kt_node.specs.declared.message.Message.{Message as RealMessage}
-use Rattle.kt_node.specs.declared.message.Message.TheVariants as messages
 use Rattle.kt_node.specs.declared.live.Phase.{Phase}
 use Rattle.kt_node.specs.declared.live.Phase.TheVariants as phases
-use Rattle.kt_node.specs.declared.plan.Plan.{Plan}
 use Rattle.kt_node.specs.Node.{Live, Alive}
-use Rattle.kt_node.specs.Plan.{no_turn, turning_to}
+use Rattle.kt_node.specs.Plan.{no_turn}
 use Rattle.kt_node.specs.Turning.{turned}
 use Rattle.kt_node.specs.Voting.{casting, casting_to, vote_for, poll_after, voted, votes}
-use Rattle.kt_node.specs.Arrivals.{voting_plan}
 use Rattle.kt_node.specs.Deciding.{declined_plan}
-use Rattle.kt_world.specs.declared.step.Step.{Step}
-use Rattle.kt_world.specs.declared.step.Step.TheVariants.{Deliver, Abandon}
-use Rattle.kt_world.specs.Step.{owner}
-use Rattle.kt_world.specs.State.{State as World, link}
-use Rattle.kt_world.specs.Ready.{AreNeighbours}
-use Rattle.kt_world.proofs.Plans.{IsAlive, Comes, Votes as VotesSo, holds, rolls}
-use Rattle.kt_world.proofs.Scene.{neighbours-turned}
+use Rattle.kt_world.specs.declared.step.Step.TheVariants.{Abandon}
+use Rattle.kt_world.specs.State.{State as World}
+use Rattle.kt_world.proofs.Plans.{IsAlive, Votes as VotesSo, holds, rolls}
 use Rattle.kt_protocol.specs.Labels.{at}
 use Rattle.kt_protocol.specs.Lines.{IsIn, here, there}
-use Rattle.kt_protocol.specs.Machine.{Instance, Check, Rollback, Key, Ballot, Mode, Within, Vote, Mark, Node, State, key_of}
+use Rattle.kt_protocol.specs.Machine.{Instance, Check, Rollback, Key, Ballot, Mode, Within, Vote, Mark, Node, State}
 use Rattle.kt_protocol.specs.Steps as machine
 use Rattle.kt_protocol.specs.Steps.{change, counting, answering, consenting, agrees, declines, Step as MachineStep}
-use Rattle.kt_protocol.specs.Runs.{Run, nothing_done, one_more}
-use Rattle.kt_protocol.proofs.Labels.{at-both, at-here, at-else}
-use Rattle.kt_protocol.proofs.Invariant.{Invariant, a_vote, a_key}
+use Rattle.kt_protocol.specs.Runs.{nothing_done, one_more}
+use Rattle.kt_protocol.proofs.Labels.{at-here, at-else}
+use Rattle.kt_protocol.proofs.Invariant.{a_vote, a_key}
 use Rattle.kt_refinement.proofs.Numbers.{peers}
 use Rattle.kt_refinement.proofs.Represents.{asker_key, WasCast, BallotIs, Votes, PhaseIs, NodeIn, Represents}
-use Rattle.kt_refinement.proofs.Frames.{cases-node, apart-index, CastSo, LinksLead, Refines, owner-in, nodes-at, votes-at, links-silent, links-idle, silent-to, IsSilent, leads-represents}
-use Rattle.kt_refinement.proofs.Known.{alive-is, rolling-is, held-is, near-is, voting-begun}
+use Rattle.kt_refinement.proofs.Frames.{cases-node, apart-index, CastSo, Refines, owner-in, nodes-at, votes-at, links-idle, silent-to, leads-represents}
+use Rattle.kt_refinement.proofs.Known.{alive-is, rolling-is, held-is}
 use Rattle.kt_refinement.proofs.Decides.{agreed-is}
-use Rattle.kt_refinement.proofs.Denies.{both-purposes, twice}
 
 -- ---- checks and rollbacks alike
 
