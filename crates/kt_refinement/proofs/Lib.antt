@@ -24,3 +24,4 @@ pub mod Acting
 pub mod Sending
 pub mod Issuing
 pub mod Restarting
+pub mod Releases
