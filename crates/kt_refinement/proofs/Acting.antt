@@ -88,7 +88,8 @@ pub heard-more : (cast : Cast) (p q : NodeId) (table : List RealLabel) (l : Real
 heard-more cast p q table l by acts near are r far = elim (cases-node q r) [
   | inl e ↦
       let P : NodeId → Type 0 =
-      λ z. label_of (label_at (put no_label table (node_number q) l) (node_number z)) ≡ top_heard (Hears by (node_index q) (label_of l) ∷ acts) (node_index z) in
+      λ z. label_of (label_at (put no_label table (node_number q) l) (node_number z))
+      ≡ top_heard (Hears by (node_index q) (label_of l) ∷ acts) (node_index z) in
       subst P e (ap label_of (at-put_same no_label table (node_number q) l) ∙ sym (heard-here by (node_index q) (label_of l) acts))
   | inr d ↦
       ap label_of (at-put_other no_label table (node_number q) (node_number r) l (λ e. numbers-apart cast p q r near far d (sym e))) ∙ are r far
@@ -114,7 +115,12 @@ pub cause-heard : {h : List Note} {numbers : List ℕ} {acts : List Act} → Rea
 cause-heard {h} nothing n a on is some = absurd (Contains-none n on)
 cause-heard {h} (one {numbers} {acts} m new reads act) n a on is some =
     elim (Contains-push_cases numbers m n on) [
-      | inl old ↦ let w = cause-heard reads n a old is some in record { from = w.from; label = w.label; among = in-append new acts (Hears a.by w.from w.label) w.among }
+      | inl old ↦ let w = cause-heard reads n a old is some in record {
+        from = w.from;
+        label = w.label;
+        among = in-append new acts
+            (Hears a.by w.from w.label) w.among;
+      }
       | inr e ↦
           let same : act.act ≡ a = same-act h n m act.act a e act.is_act is in
           subst (λ (b : Done). b.by ≢ 0 → WasHeard b.by (new ++ acts)) same act.cause some

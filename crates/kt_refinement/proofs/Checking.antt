@@ -1,5 +1,6 @@
 -- What a node that takes a checkpoint stores, and whom it asks.
-use Rattle.std.proofs.Common.{◌≡◌, ℕ, zero, suc, ◌+◌, ◌≤◌, Bool, true, false, not, ◌&&◌, IsTrue, List, [], ◌∷◌, take_all, length, Option, Some, refl, sym, ap, subst, ◌∙◌, arith}
+use Rattle.std.proofs.Common.{◌≡◌, ℕ, zero, suc, ◌+◌, ◌≤◌, Bool, true, false, not, ◌&&◌, IsTrue}
+use Rattle.std.proofs.Common.{List, [], ◌∷◌, take_all, length, Option, Some, refl, sym, ap, subst, ◌∙◌, arith}
 use Rattle.std.specs.Prelude.{if◌then◌else◌}
 use Rattle.std.specs.List.{AllByRecursion}
 use Rattle.kt_tuple.specs.declared.node.NodeId.{NodeId}
@@ -106,7 +107,8 @@ check-asks-to s p r n permanent k x near heard life =
           (Rattle.kt_refinement.proofs.Numbers.named-index r)
 
       by : (b : Bool) → (if b then Ask (Check k) (top_heard x.line (node_index r)) x.life ∷ [] else []) ≡ carried (if b then f r ∷ [] else [])
-      by true = ap (λ l. Ask (Check k) l x.life ∷ []) (sym (heard r near)) ∙ ap (λ i. Ask (Check k) (label_of (label_at n.received (node_number r))) i ∷ []) (sym life)
+      by true = ap (λ l. Ask (Check k) l x.life ∷ []) (sym (heard r near))
+          ∙ ap (λ i. Ask (Check k) (label_of (label_at n.received (node_number r))) i ∷ []) (sym life)
       by false = refl
 
 pub check-asks-cast : (votes : List Vote) (k : ℕ) (n : Live) (asked : List NodeId) → AllByRecursion (CastSo votes) (check_asks k n asked)

@@ -1,5 +1,6 @@
 -- Whom a node asks: each neighbour of a kind gets one ask, all others none; and what an ask drops of what is kept.
-use Rattle.std.proofs.Common.{◌≡◌, ◌≢◌, ℕ, zero, suc, ◌+◌, ◌<◌, ◌≤◌, Bool, true, false, not, ◌&&◌, ◌||◌, cond, eqb, IsTrue, List, [], ◌∷◌, ◌++◌, map, filter, Contains, inl, inr, refl, sym, ap, subst, ◌∙◌, arith}
+use Rattle.std.proofs.Common.{◌≡◌, ◌≢◌, ℕ, zero, suc, ◌+◌, ◌<◌, ◌≤◌, Bool, true, false, not, ◌&&◌, ◌||◌, cond, eqb}
+use Rattle.std.proofs.Common.{IsTrue, List, [], ◌∷◌, ◌++◌, map, filter, Contains, inl, inr, refl, sym, ap, subst, ◌∙◌, arith}
 use Rattle.std.specs.Prelude.{if◌then◌else◌}
 use Rattle.std.specs.List.{list_any}
 use Rattle.std.proofs.lemmas.Bool.{cases_eq, eq-eqb, ne_eqb}
@@ -55,7 +56,8 @@ to-one p g f from (suc n) k low high = elim (cases_eq from k) [
   | inr d ↦ there d (g (across p from)) (to-one p g f (suc from) n k (omega (arith, low, d)) (omega (arith, high)))
 ] where
   here : (b : Bool) → g (across p from) ≡ b
-      → to (across p from) (map (addressed f) (cond b (across p from ∷ Across p g (suc from) n) (Across p g (suc from) n))) ≡ (if b then f (across p from) ∷ [] else [])
+      → to (across p from) (map (addressed f) (cond b (across p from ∷ Across p g (suc from) n) (Across p g (suc from) n)))
+      ≡ (if b then f (across p from) ∷ [] else [])
   here true e = rw (across-eq p from from ∙ eq-eqb from from refl) (ap (λ l. f (across p from) ∷ l) (to-none p g f (suc from) n from (omega arith)))
   here false e = to-none p g f (suc from) n from (omega arith)
 
@@ -144,7 +146,8 @@ chosen-near cast p g q is on =
 pub chosen-cohort : (cast : Cast) (p : NodeId) (g : NodeId → Bool) (q : NodeId) → IsTrue (is_node cast p)
     → cohort cast p g (node_index q) ≡ list_any (λ x. node_eq x q) (chosen cast p g)
 chosen-cohort cast p g q is =
-    ap (λ b. b && g (named (node_index q))) (peers-of cast p q) ∙ ap (λ x. are_neighbours cast p q && g x) (named-index q) ∙ by (are_neighbours cast p q) refl where
+    ap (λ b. b && g (named (node_index q))) (peers-of cast p q) ∙ ap (λ x. are_neighbours cast p q && g x) (named-index q)
+    ∙ by (are_neighbours cast p q) refl where
       no : (b : Bool) → list_any (λ x. node_eq x q) (chosen cast p g) ≡ b → are_neighbours cast p q ≡ false → false ≡ b
       no true e f = absurd (cc (f, chosen-near cast p g q is (any-found q (chosen cast p g) e)))
       no false e f = refl

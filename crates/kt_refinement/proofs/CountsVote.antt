@@ -30,10 +30,12 @@ use Rattle.kt_protocol.proofs.Labels.{at-here}
 use Rattle.kt_protocol.proofs.Invariant.{Invariant, a_vote, a_key}
 use Rattle.kt_refinement.proofs.Numbers.{peers}
 use Rattle.kt_refinement.proofs.Represents.{asker_key, WasCast, BallotIs, Votes, NodeIn, Represents}
-use Rattle.kt_refinement.proofs.Frames.{CastSo, Refines, owner-in, nodes-at, votes-at, links-silent, IsSilent, leads-represents}
+use Rattle.kt_refinement.proofs.Frames.{CastSo, Refines, owner-in, nodes-at, votes-at, leads-represents}
+use Rattle.kt_refinement.proofs.Silence.{links-silent, IsSilent}
 use Rattle.kt_refinement.proofs.Known.{alive-is, rolling-is, held-is, near-is, voting-begun}
 use Rattle.kt_refinement.proofs.Denies.{both-purposes, twice}
-use Rattle.kt_refinement.proofs.Voting.{IsKind, checks, rollbacks, counted-is, phase-turned, IsDue, nothing, due, is_due, cast_node, casts-step, cast-is, cast-among, cast-more, Counted, counted-so}
+use Rattle.kt_refinement.proofs.Voting.{IsKind, checks, rollbacks, counted-is, phase-turned, IsDue, nothing, due}
+use Rattle.kt_refinement.proofs.Voting.{is_due, cast_node, casts-step, cast-is, cast-among, cast-more, Counted, counted-so}
 
 own-silent : (o : Option (NodeId × RealVote)) → AllByRecursion IsSilent (votes o)
 own-silent None = tt
@@ -62,7 +64,8 @@ counts-so s c is p q n vote b phase k comes alive v so among own nothing =
       stands = leads-represents s (Deliver p q) plan c next is (record {
         nodes = nodes-at s (Deliver p q) plan c new is tt (λ r d. refl) (owner-in s (Deliver p q) plan (Some (Alive n)) new alive
             (phase-turned s q n (c.node o) (phase (counted b p vote.yes)) (Within i ballot) (c.node o).votes (c.node o).said (alive-is s c is q n alive)
-            (k.into (counted b p vote.yes) life (Within i ballot) (record { ballot = ballot; within = refl; is = counted-is b life v.ballot p vote.yes v.is }))));
+            (k.into (counted b p vote.yes) life (Within i ballot)
+            (record { ballot = ballot; within = refl; is = counted-is b life v.ballot p vote.yes v.is }))));
         board = is.board;
         links = links-silent s p q plan c (messages.Vote vote) is comes refl tt;
         votes = votes-at c o new (λ w m. m);
@@ -110,7 +113,8 @@ counts-so s c is p q n vote b phase k comes alive v so among own (due parent agr
       });
     }
   where
-    cast-behind : (s : World) (q : NodeId) (n : Live) (x : Node) (phase : Poll → Phase) (k : IsKind phase) (after : Poll) (ballot : Ballot) (key : Key) (agreed : Bool)
+    cast-behind : (s : World) (q : NodeId) (n : Live) (x : Node) (phase : Poll
+        → Phase) (k : IsKind phase) (after : Poll) (ballot : Ballot) (key : Key) (agreed : Bool)
         → NodeIn s.cast s.history s.content q (Some (Alive n)) x → BallotIs after x.life ballot
         → NodeIn s.cast s.history s.content q (Some (Alive (turned record no_turn { phase = Some (phase (voted after)) } n)))
         (cast_node (k.kind after.instance) ballot key agreed record x { mode = Within (k.kind after.instance) ballot })
@@ -118,12 +122,14 @@ counts-so s c is p q n vote b phase k comes alive v so among own (due parent agr
     cast-behind s q n x phase k after ballot key false was is = cast-is s q n x phase k after ballot key false was is
 
 -- the vote that comes was cast in the ballot's instance, and not in one of the other kind
-pub counts_vote : (s : World) (c : State) → Invariant (peers s.cast) c → Represents s c → (p q : NodeId) (n : Live) (vote : RealVote) (b : Poll) (phase : Poll → Phase)
+pub counts_vote : (s : World) (c : State) → Invariant (peers s.cast) c → Represents s c
+    → (p q : NodeId) (n : Live) (vote : RealVote) (b : Poll) (phase : Poll → Phase)
     → Comes s p q (messages.Vote vote) → IsAlive s q n → VotesSo n.phase b phase → IsTrue (counts b p vote)
     → Refines s (Deliver p q) (voting_plan (phase (poll_after (counted b p vote.yes) (casting (counted b p vote.yes)))) (casting (counted b p vote.yes))) c
 counts_vote s c inv is p q n vote b phase comes alive votes_so counts_it = by n.phase refl b phase votes_so (counted-so b p vote counts_it) where
   was : WasCast (c.node (node_index p)).votes q vote
-  was = (is.links p q comes.neighbours).cast vote (subst (λ (l : List RealMessage). Contains l (messages.Vote vote)) (sym comes.on) (Contains-here (messages.Vote vote) comes.later))
+  was = (is.links p q comes.neighbours).cast vote (subst (λ (l : List RealMessage). Contains l (messages.Vote vote)) (sym comes.on) (Contains-here
+      (messages.Vote vote) comes.later))
 
   begun : (i : Instance) (life : ℕ) (y : Bool) → IsIn (a_vote i (a_key (node_index q) life) y) (c.node (node_index p)).votes → c.board.begun i ≡ true
   begun i life y m =
@@ -133,7 +139,8 @@ counts_vote s c inv is p q n vote b phase comes alive votes_so counts_it = by n.
   clash : (i : ℕ) → c.board.begun (Check i) ≡ true → c.board.begun (Rollback i) ≡ true → ⊥
   clash i e f = both-purposes (posted s.content i) (sym (is.board i).check_begun ∙ e) (sym (is.board i).rollback_begun ∙ f)
 
-  check : (b : Poll) (life : ℕ) → c.board.begun (Check b.instance) ≡ true → b.incarnation ≡ life → Counted b p vote → WasCast (c.node (node_index p)).votes q vote
+  check : (b : Poll) (life : ℕ) → c.board.begun (Check b.instance) ≡ true → b.incarnation ≡ life → Counted b p vote
+      → WasCast (c.node (node_index p)).votes q vote
       → IsIn (a_vote (Check b.instance) (a_key (node_index q) life) vote.yes) (c.node (node_index p)).votes
   check b life e asks so (inl m) =
       let I : ℕ → Type 0 = λ i. IsIn (a_vote (Check i) (a_key (node_index q) life) vote.yes) (c.node (node_index p)).votes in
@@ -142,7 +149,8 @@ counts_vote s c inv is p q n vote b phase comes alive votes_so counts_it = by n.
   check b life e asks so (inr m) =
       absurd (clash b.instance e (ap (λ i. c.board.begun (Rollback i)) (sym so.instance) ∙ begun (Rollback vote.instance) vote.incarnation vote.yes m))
 
-  rollback : (b : Poll) (life : ℕ) → c.board.begun (Rollback b.instance) ≡ true → b.incarnation ≡ life → Counted b p vote → WasCast (c.node (node_index p)).votes q vote
+  rollback : (b : Poll) (life : ℕ) → c.board.begun (Rollback b.instance) ≡ true → b.incarnation ≡ life → Counted b p vote
+      → WasCast (c.node (node_index p)).votes q vote
       → IsIn (a_vote (Rollback b.instance) (a_key (node_index q) life) vote.yes) (c.node (node_index p)).votes
   rollback b life e asks so (inr m) =
       let I : ℕ → Type 0 = λ i. IsIn (a_vote (Rollback i) (a_key (node_index q) life) vote.yes) (c.node (node_index p)).votes in

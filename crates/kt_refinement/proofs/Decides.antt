@@ -172,7 +172,8 @@ says_yes_check s c inv is step n b asked alive held began undecided outcome link
       stands = leads-represents s step plan c next is (record {
         nodes = λ q.
             rows-decided s i true q (node (applied s step plan) q) _
-            (node-yes s.cast s.history q (line s.history q) (node (applied s step plan) q) (row_of s.content q) s.content i (at o new c.node (node_index q)) opened
+            (node-yes s.cast s.history q (line s.history q) (node (applied s step plan) q) (row_of s.content q) s.content i (at o new c.node
+            (node_index q)) opened
             (λ k. longer (peers s.cast) c inv o new refl refl (node_index q) k)
             (nodes-at s step before c new is tt (λ r d. refl) (owner-in s step before (Some (Alive n)) new alive own) q));
         board = board-check s.content i true c.board begun is.board;

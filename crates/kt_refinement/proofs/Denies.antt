@@ -44,7 +44,8 @@ pub record IsIdle (s : World) (step : Step) (c : State) (change : Change) : Type
   pub same : NodeIn s.cast s.history s.content (owner step) (option_map (changed change) was) (c.node (node_index (owner step)))
 
 -- so do all
-idle-nodes : (s : World) (step : Step) (c : State) (change : Change) (send : List (NodeId × RealMessage)) → Represents s c → IsIdle s step c change → (q : NodeId)
+idle-nodes : (s : World) (step : Step) (c : State) (change : Change) (send : List (NodeId × RealMessage)) → Represents s c → IsIdle s step c change
+    → (q : NodeId)
     → NodeIn s.cast s.history s.content q (node (applied s step (turning_plan change send)) q) (c.node (node_index q))
 idle-nodes s step c change send is idle q =
     let before = turning_plan change send in
@@ -88,7 +89,8 @@ both-purposes (Some row) e f = by row.purpose e f where
   by purposes.Rollback e f = absurd (cc (e))
 
 -- nobody has a tentative checkpoint of a rollback
-none-of-it : (s : World) (c : State) → Invariant (peers s.cast) c → Represents s c → (i : ℕ) → c.board.begun (Rollback i) ≡ true → (k : ℕ) → (c.node k).tent ≢ Some i
+none-of-it : (s : World) (c : State) → Invariant (peers s.cast) c → Represents s c → (i : ℕ) → c.board.begun (Rollback i) ≡ true → (k : ℕ)
+    → (c.node k).tent ≢ Some i
 none-of-it s c inv is i begun k e =
     let held = ((inv.local k).holding i e).1 in
     both-purposes (posted s.content i) (sym (is.board i).check_begun ∙ ((inv.local k).members (Check i) (c.node k).life held).1)
@@ -108,7 +110,8 @@ says_no_rollback s c inv is step change i asked idle begun undecided links =
       stands = leads-represents s step plan c next is (record {
         nodes = λ q.
             rows-decided s i false q (node (applied s step plan) q) (c.node (node_index q))
-            (node-else s.cast s.history q (line s.history q) (node (applied s step plan) q) (row_of s.content q) s.content i false (c.node (node_index q)) opened
+            (node-else s.cast s.history q (line s.history q) (node (applied s step plan) q) (row_of s.content q) s.content i false (c.node
+            (node_index q)) opened
             (none-of-it s c inv is i begun (node_index q))
             (idle-nodes s step c change (verdict_to i false asked) is idle q));
         board = board-rollback s.content i false c.board begun is.board;
@@ -126,7 +129,8 @@ twice {A} o g b f k = at-both o (g b) f k (λ (x : A). at o (g (at o b f o)) (at
     (λ ne. at-else o (g (at o b f o)) (at o b f) k ne ∙ at-else o b f k ne)
 
 pub says_yes_rollback : (s : World) (c : State) → Invariant (peers s.cast) c → Represents s c → (step : Step) (n : Live) (b : Poll) (asked : List NodeId)
-    → IsAlive s (owner step) n → n.phase ≡ phases.Rolling b → b.parent ≡ None → IsTrue (is_undecided (verdict_of s.content b.instance)) → outcome_of b ≡ Some true
+    → IsAlive s (owner step) n → n.phase ≡ phases.Rolling b → b.parent ≡ None → IsTrue (is_undecided (verdict_of s.content b.instance)) → outcome_of b
+    ≡ Some true
     → LinksLead s step (deciding_plan (turning_to phases.Up) (verdict_to b.instance true asked) b.instance true) c c.link
     → Refines s step (deciding_plan (turning_to phases.Up) (verdict_to b.instance true asked) b.instance true) c
 says_yes_rollback s c inv is step n b asked alive rolling began undecided outcome links =
@@ -168,7 +172,8 @@ says_yes_rollback s c inv is step n b asked alive rolling began undecided outcom
             let X : Node → Type 0 = λ x. NodeIn s.cast s.history (Rattle.kt_store.specs.Changes.decided i true s.content) q (node (applied s step plan) q) x in
             subst X (sym (twice o rising agreed c.node (node_index q)))
             (rows-decided s i true q (node (applied s step plan) q) (at o new c.node (node_index q))
-            (node-else s.cast s.history q (line s.history q) (node (applied s step plan) q) (row_of s.content q) s.content i true (at o new c.node (node_index q)) opened
+            (node-else s.cast s.history q (line s.history q) (node (applied s step plan) q) (row_of s.content q) s.content i true (at o new c.node
+            (node_index q)) opened
             (at-both o new c.node (node_index q) (λ (x : Node). x.tent ≢ Some i)
             (λ e. none-of-it s c inv is i begun o) (λ ne. none-of-it s c inv is i begun (node_index q)))
             (nodes-at s step before c new is tt (λ r d. refl) (owner-in s step before (Some (Alive n)) new alive own) q)));

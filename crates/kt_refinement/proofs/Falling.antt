@@ -123,7 +123,8 @@ fails_so s c is p n alive may =
       was : NodeIn s.cast s.history s.content p (node s p) (c.node (node_index p))
       was = is.nodes p
 
-      by : Left (verdict_on s.content (row_of s.content p).tentative) (row_of s.content p).tentative (row_of s.content p).permanent keep → Refines s (Fail p) plan c
+      by : Left (verdict_on s.content (row_of s.content p).tentative) (row_of s.content p).tentative (row_of s.content p).permanent keep
+          → Refines s (Fail p) plan c
       by (permanent_left none same) =
           let o = node_index p in
           let new : Node = falling (cutting (c.node o)) in
@@ -133,7 +134,8 @@ fails_so s c is p n alive may =
             next = next;
             run = one_more nothing_done (fails o (subst W none was.tent));
             stands = leads-represents s (Fail p) plan c next is (record {
-              nodes = nodes-at s (Fail p) plan c new is may (λ r d. refl) (owner-in s (Fail p) plan (Some (Alive n)) new alive (fallen-is s c is p keep none same));
+              nodes = nodes-at s (Fail p) plan c new is may (λ r d. refl) (owner-in s (Fail p) plan (Some (Alive n)) new alive
+                  (fallen-is s c is p keep none same));
               board = is.board;
               links = links-idle s (Fail p) plan c (λ x y e. absurd (cc (e))) (λ r near. refl);
               votes = votes-at c o new (λ v i. i);
@@ -150,7 +152,8 @@ fails_so s c is p n alive may =
             next = next;
             run = one_more nothing_done (fails_holding o held.instance tentative.instance);
             stands = leads-represents s (Fail p) plan c next is (record {
-              nodes = nodes-at s (Fail p) plan c new is may (λ r d. refl) (owner-in s (Fail p) plan (Some (Alive n)) new alive (holding-is s c is p keep held some same));
+              nodes = nodes-at s (Fail p) plan c new is may (λ r d. refl) (owner-in s (Fail p) plan (Some (Alive n)) new alive
+                  (holding-is s c is p keep held some same));
               board = is.board;
               links = links-idle s (Fail p) plan c (λ x y e. absurd (cc (e))) (λ r near. refl);
               votes = votes-at c o new (λ v i. i);

@@ -1,6 +1,7 @@
 -- What a step leaves of what is represented: only its owner, the owner's links and the instance that it writes of are to
 -- be looked at.
-use Rattle.std.proofs.Common.{◌≡◌, ◌≢◌, ◌⊎◌, ℕ, Bool, true, false, List, [], ◌∷◌, ◌++◌, drop, Contains, Option, Some, None, inl, inr, refl, sym, ap, subst, ◌∙◌, append_assoc, append-nil}
+use Rattle.std.proofs.Common.{◌≡◌, ◌≢◌, ◌⊎◌, ℕ, List, [], ◌∷◌, ◌++◌, drop}
+use Rattle.std.proofs.Common.{Contains, Option, Some, None, inl, inr, refl, sym, ap, subst, ◌∙◌, append_assoc, append-nil}
 use Rattle.std.specs.List.{AllByRecursion}
 use Rattle.std.specs.Option.{option_map}
 use Rattle.std.proofs.lemmas.Bool.{cases_eq, eq-eqb, ne_eqb}
@@ -247,7 +248,8 @@ leads-represents s step plan c d is leads = record {
   nodes = leads.nodes;
   links = λ p q near. record { carries = after-carries s step plan c d is leads p q near; cast = after-cast s step plan c d is leads p q near };
   board = leads.board;
-  wide = sent-long (link_place s.cast) (taken_off (link_place s.cast) s.links step) (owner step) plan.send ∙ taken-long (link_place s.cast) s.links step ∙ is.wide;
+  wide = sent-long (link_place s.cast) (taken_off (link_place s.cast) s.links step) (owner step) plan.send ∙ taken-long (link_place s.cast) s.links step
+      ∙ is.wide;
 }
 
 -- ---- the owner
@@ -297,10 +299,10 @@ votes-at c o new stay p v i = at-both o new c.node p (λ (x : Node). IsIn v x.vo
 
 -- ---- a message comes
 
-delivers-from : (p q x y : NodeId) → Deliver p q ≡ Deliver x y → p ≡ x
+pub delivers-from : (p q x y : NodeId) → Deliver p q ≡ Deliver x y → p ≡ x
 delivers-from p q x y e = cc (e)
 
-delivers-to : (p q x y : NodeId) → Deliver p q ≡ Deliver x y → q ≡ y
+pub delivers-to : (p q x y : NodeId) → Deliver p q ≡ Deliver x y → q ≡ y
 delivers-to p q x y e = cc (e)
 
 -- the machine takes a message off and sends
@@ -348,12 +350,14 @@ delivered-quietly s p q plan c m is comes silent =
           let P : NodeId → Type 0 = λ z. (pull x o rest c).link (node_index a) (node_index z) ≡ carried (drop 1 (link s a z)) in
           subst P (delivers-to p q a b e) (sym (push-other o (λ k. []) (pull x o rest c) (node_index a) o
           (apart-index a q (λ f. d (delivers-from p q a b e ∙ f)))) ∙ from a b e near);
-      others = λ a b near ne apart. sym (push-other o (λ k. []) (pull x o rest c) (node_index a) (node_index b) (apart-index a q ne)) ∙ more.others a b near ne apart;
+      others = λ a b near ne apart. sym (push-other o (λ k. []) (pull x o rest c) (node_index a) (node_index b) (apart-index a q ne))
+          ∙ more.others a b near ne apart;
       apart = more.apart;
     }
   where
     from : (a b : NodeId) → Deliver p q ≡ Deliver a b → AreNeighbours s.cast a b
-        → (push (node_index q) (λ k. []) (pull (node_index p) (node_index q) (carried comes.later) c)).link (node_index a) (node_index q) ≡ carried (drop 1 (link s a q))
+        → (push (node_index q) (λ k. []) (pull (node_index p) (node_index q) (carried comes.later) c)).link (node_index a) (node_index q)
+        ≡ carried (drop 1 (link s a q))
     from a b e near =
         let more = delivered s p q plan c m (λ r. []) is comes (λ r near. sym (silent r near)) in
         more.taken a q (ap (λ z. Deliver z q) (delivers-from p q a b e)) (subst (λ z. AreNeighbours s.cast a z) (sym (delivers-to p q a b e)) near)
@@ -386,34 +390,3 @@ pub record Refines (s : World) (step : Step) (plan : Plan) (c : State) : Type 0 
   pub next : State
   pub run : Run (peers s.cast) c next
   pub stands : Represents (applied s step plan) next
-
--- ---- what is nothing to the machine
-
--- a vote or a verdict
-abbrev pub IsSilent : NodeId × RealMessage → Type 0
-IsSilent (q, m) = carried_one m ≡ []
-
-pub silent-to : (q : NodeId) (send : List (NodeId × RealMessage)) → AllByRecursion IsSilent send → carried (to q send) ≡ []
-unfolding carried to
-silent-to q [] all = refl
-silent-to q (m ∷ later) all = by (Rattle.kt_tuple.specs.Node.node_eq m.0 q) (silent-to q later all.1) where
-  by : (b : Bool) → carried (to q later) ≡ [] → carried (Rattle.std.specs.Prelude.if◌then◌else◌ b (m.1 ∷ to q later) (to q later)) ≡ []
-  by true rest = ap (λ l. l ++ carried (to q later)) all.0 ∙ rest
-  by false rest = rest
-
--- a vote or a verdict comes, and what is sent is nothing to the machine
-pub links-silent : (s : World) (p q : NodeId) (plan : Plan) (c : State) (m : RealMessage) → Represents s c → Comes s p q m → carried_one m ≡ []
-    → AllByRecursion IsSilent plan.send → LinksLead s (Deliver p q) plan c c.link
-unfolding carried
-links-silent s p q plan c m is comes none silent =
-    let d = neighbours-apart s.cast p q comes.neighbours in record {
-      own = λ r near. sym (append-nil _) ∙ ap (λ l. c.link (node_index q) (node_index r) ++ l) (sym (silent-to r plan.send silent));
-      taken = λ a b e near.
-          let P : NodeId → Type 0 = λ z. c.link (node_index z) (node_index b) ≡ carried (drop 1 (link s z b)) in
-          let Q : NodeId → Type 0 = λ z. c.link (node_index p) (node_index z) ≡ carried (drop 1 (link s p z)) in
-          subst P (delivers-from p q a b e) (subst Q (delivers-to p q a b e)
-          ((is.links p q comes.neighbours).carries ∙ ap carried comes.on ∙ ap (λ l. l ++ carried comes.later) none
-          ∙ ap (λ l. carried (drop 1 l)) (sym comes.on)));
-      others = λ a b near ne apart. refl;
-      apart = λ a e f. d (delivers-from p q a q e ∙ sym f);
-    }

@@ -1,5 +1,6 @@
 -- A node that is up joins a rollback, and asks all its neighbours: the machine joins.
-use Rattle.std.proofs.Common.{◌≡◌, ◌≢◌, ◌⊎◌, ℕ, Bool, true, false, not, ◌&&◌, IsTrue, List, [], ◌∷◌, ◌++◌, map, filter, Contains, Option, Some, None, inl, inr, refl, sym, ap, subst, ◌∙◌, append-nil}
+use Rattle.std.proofs.Common.{◌≡◌, ◌≢◌, ◌⊎◌, ℕ, Bool, true, false, not, ◌&&◌, IsTrue, List, [], ◌∷◌, ◌++◌}
+use Rattle.std.proofs.Common.{map, filter, Contains, Option, Some, None, inl, inr, refl, sym, ap, subst, ◌∙◌, append-nil}
 use Rattle.std.specs.List.{AllByRecursion}
 use Rattle.kt_tuple.specs.declared.node.NodeId.{NodeId}
 use Rattle.kt_tuple.specs.Node.{node_index}
@@ -72,7 +73,8 @@ roll-asks-cast votes instance incarnation label [] = tt
 roll-asks-cast votes instance incarnation label (q ∷ asked) = (tt, roll-asks-cast votes instance incarnation label asked)
 
 -- what is sent to a neighbour
-pub roll-asks-to : (s : World) (q r : NodeId) (instance incarnation : ℕ) (label : ℕ → Rattle.kt_link.specs.declared.label.Label.Label) → AreNeighbours s.cast q r
+pub roll-asks-to : (s : World) (q r : NodeId) (instance incarnation : ℕ) (label : ℕ → Rattle.kt_link.specs.declared.label.Label.Label)
+    → AreNeighbours s.cast q r
     → to r (roll_asks instance incarnation label (neighbours (role_of s.cast q)))
     ≡ messages.RollAsk record { instance = instance; label = label (node_number r); incarnation = incarnation } ∷ []
 roll-asks-to s q r instance incarnation label near =
@@ -166,7 +168,8 @@ joins_rollback s c is h p q n ask comes alive up undecided above =
         nodes = nodes-at s (Deliver p q) plan c (joined s c p q ask) is tt (λ r d. refl)
             (owner-in s (Deliver p q) plan (Some (Alive n)) (joined s c p q ask) alive (joined-is s c is h p q n ask comes.neighbours alive));
         board = is.board;
-        links = delivered s p q plan c (messages.RollAsk ask) (asking (Rollback ask.instance) (cohort s.cast q everyone) (c.node (node_index q))) is comes sends;
+        links = delivered s p q plan c (messages.RollAsk ask) (asking (Rollback ask.instance) (cohort s.cast q everyone) (c.node
+            (node_index q))) is comes sends;
         votes = votes-at c (node_index q) (joined s c p q ask) (λ v i. i);
         cast =
             let votes = (at (node_index q) (joined s c p q ask) c.node (node_index q)).votes in

@@ -1,5 +1,6 @@
 -- What is known of the machine's node where something is known of the real one.
-use Rattle.std.proofs.Common.{◌≡◌, ℕ, suc, zero, ◌≤◌, Bool, true, false, IsTrue, List, [], ◌∷◌, ◌++◌, map, filter, Option, Some, None, refl, sym, ap, subst, ◌∙◌, arith}
+use Rattle.std.proofs.Common.{◌≡◌, ℕ, suc, zero, ◌≤◌, Bool, true, false, IsTrue, List, [], ◌∷◌}
+use Rattle.std.proofs.Common.{◌++◌, map, filter, Option, Some, None, refl, sym, ap, subst, ◌∙◌, arith}
 use Rattle.std.specs.Option.{option_map}
 use Rattle.kt_tuple.specs.declared.node.NodeId.{NodeId}
 use Rattle.kt_tuple.specs.Node.{node_index}
@@ -44,10 +45,12 @@ unfolding carried
 comes-is s c is p q m comes = (is.links p q comes.neighbours).carries ∙ ap carried comes.on
 
 -- an instance that the board has as open is open, whatever it is for
-opened-as : (purpose : Purpose) (o : Option Posted) → IsTrue (is_undecided (Rattle.std.specs.Option.option_map (λ (row : Posted). row.verdict) o)) → verdict_as purpose o ≡ Open
+opened-as : (purpose : Purpose) (o : Option Posted) → IsTrue (is_undecided (Rattle.std.specs.Option.option_map (λ (row : Posted). row.verdict) o))
+    → verdict_as purpose o ≡ Open
 opened-as purpose None t = absurd (cc (t))
 opened-as purpose (Some row) t = by (is_for purpose row.purpose) row.verdict t where
-  by : (b : Bool) (v : RealVerdict) → IsTrue (is_undecided (Some v)) → (Rattle.std.specs.Prelude.if◌then◌else◌ b (Rattle.kt_refinement.proofs.Represents.verdict_is v) Open) ≡ Open
+  by : (b : Bool) (v : RealVerdict) → IsTrue (is_undecided (Some v))
+      → (Rattle.std.specs.Prelude.if◌then◌else◌ b (Rattle.kt_refinement.proofs.Represents.verdict_is v) Open) ≡ Open
   by true verdicts.Open t = refl
   by true verdicts.Yes t = absurd (cc (t))
   by true verdicts.No t = absurd (cc (t))
@@ -82,7 +85,8 @@ held-is s c is p n b alive held =
     subst (λ (x : Phase). PhaseIs x (c.node (node_index p)).life (c.node (node_index p)).mode) held (alive-is s c is p n alive).state.phase
 
 -- an instance in which a node votes was begun
-pub voting-begun : (peer : ℕ → ℕ → Bool) (c : State) → Invariant peer c → (o : ℕ) (i : Instance) (b : Ballot) → (c.node o).mode ≡ Within i b → c.board.begun i ≡ true
+pub voting-begun : (peer : ℕ → ℕ → Bool) (c : State) → Invariant peer c → (o : ℕ) (i : Instance) (b : Ballot) → (c.node o).mode ≡ Within i b
+    → c.board.begun i ≡ true
 voting-begun peer c inv o i b e = ((inv.local o).members i (c.node o).life (b.parent, ((inv.local o).ballot i b e).member)).1
 
 decided-as : (purpose : Purpose) (o : Option Posted) (v : RealVerdict) → begun_as purpose o ≡ true → option_map (λ (row : Posted). row.verdict) o ≡ Some v
@@ -90,7 +94,8 @@ decided-as : (purpose : Purpose) (o : Option Posted) (v : RealVerdict) → begun
 decided-as purpose None v begun e = absurd (cc (e))
 decided-as purpose (Some row) v begun e = rw begun (ap verdict_is (cc (e)))
 
-pub rollback-verdict : (s : World) (c : State) → Represents s c → (i : ℕ) (v : RealVerdict) → c.board.begun (Rollback i) ≡ true → verdict_of s.content i ≡ Some v
+pub rollback-verdict : (s : World) (c : State) → Represents s c → (i : ℕ) (v : RealVerdict) → c.board.begun (Rollback i) ≡ true → verdict_of s.content i
+    ≡ Some v
     → c.board.verdict (Rollback i) ≡ verdict_is v
 rollback-verdict s c is i v begun e =
     (is.board i).rollback ∙ decided-as purposes.Rollback (posted s.content i) v (sym (is.board i).rollback_begun ∙ begun) e

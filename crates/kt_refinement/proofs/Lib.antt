@@ -4,6 +4,7 @@ pub mod Represents
 pub mod Opened
 pub mod Links
 pub mod Frames
+pub mod Silence
 pub mod Cohorts
 pub mod Known
 pub mod JoinsRollback

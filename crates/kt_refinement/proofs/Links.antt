@@ -1,6 +1,7 @@
 -- What carrying out a plan makes of the links: the owner's have what it sends at their ends, the one that a message came
 -- by has lost it, and all others stay.
-use Rattle.std.proofs.Common.{◌≡◌, ◌≢◌, ℕ, ◌<◌, ◌*◌, Bool, true, false, List, [], ◌∷◌, ◌++◌, length, drop, Option, Some, None, refl, sym, ap, ◌∙◌, subst, append_assoc, append-nil}
+use Rattle.std.proofs.Common.{◌≡◌, ◌≢◌, ℕ, ◌<◌, ◌*◌, Bool, true, false, List, [], ◌∷◌, ◌++◌}
+use Rattle.std.proofs.Common.{length, drop, Option, Some, None, refl, sym, ap, ◌∙◌, subst, append_assoc, append-nil}
 use Rattle.std.specs.Prelude.{if◌then◌else◌}
 use Rattle.std.proofs.lemmas.List.{get_or-set_other, get_or-set_same, length-set}
 use Rattle.kt_tuple.specs.declared.node.NodeId.{NodeId}
@@ -129,7 +130,8 @@ pub record IsWide (cast : Cast) (links : Links) (p q : NodeId) : Type 0 where
   pub place : link_place cast p q ≡ Some at
   pub within : at < length links
 
-pub wide : (cast : Cast) (links : Links) → length links ≡ 2 * (length cast.scripts * cast.shards) → (p q : NodeId) → AreNeighbours cast p q → IsWide cast links p q
+pub wide : (cast : Cast) (links : Links) → length links ≡ 2 * (length cast.scripts * cast.shards) → (p q : NodeId) → AreNeighbours cast p q
+    → IsWide cast links p q
 wide cast links long p q near =
     let k = neighbours-place (length cast.scripts) cast.shards p q (linked cast p q near) in
     record { at = k.0; place = k.1; within = subst (λ n. k.0 < n) (sym long) (place-within _ _ p q k.0 k.1) }
@@ -138,13 +140,15 @@ owner-delivers : (step : Step) (x y : NodeId) → step ≡ Deliver x y → y ≡
 owner-delivers step x y e = ap owner (sym e)
 
 -- the owner's
-pub link-own : (s : State) (step : Step) (plan : Plan) → length s.links ≡ 2 * (length s.cast.scripts * s.cast.shards) → (q : NodeId) → AreNeighbours s.cast (owner step) q
+pub link-own : (s : State) (step : Step) (plan : Plan) → length s.links ≡ 2 * (length s.cast.scripts * s.cast.shards) → (q : NodeId)
+    → AreNeighbours s.cast (owner step) q
     → ((x : NodeId) → step ≡ Deliver x (owner step) → owner step ≢ x)
     → link (applied s step plan) (owner step) q ≡ link s (owner step) q ++ to q plan.send
 link-own s step plan long q near apart =
     let w = wide s.cast s.links long (owner step) q near in
     let P : Option ℕ → Type 0 =
-    λ k. entry_at [] (sent (link_place s.cast) (taken_off (link_place s.cast) s.links step) (owner step) plan.send) k ≡ entry_at [] s.links k ++ to q plan.send in
+    λ k. entry_at [] (sent (link_place s.cast) (taken_off (link_place s.cast) s.links step) (owner step) plan.send) k
+    ≡ entry_at [] s.links k ++ to q plan.send in
     subst P (sym w.place)
     (sent-own s.cast (taken_off (link_place s.cast) s.links step) (owner step) q plan.send w.at
     (subst (λ n. w.at < n) (sym (taken-long (link_place s.cast) s.links step)) w.within) w.place
@@ -152,7 +156,8 @@ link-own s step plan long q near apart =
     (λ x y e same. apart x (e ∙ ap (Deliver x) (owner-delivers step x y e)) same.0)))
 
 -- those of others, but for the one that a message came by
-pub link-other : (s : State) (step : Step) (plan : Plan) → length s.links ≡ 2 * (length s.cast.scripts * s.cast.shards) → (p q : NodeId) → AreNeighbours s.cast p q
+pub link-other : (s : State) (step : Step) (plan : Plan) → length s.links ≡ 2 * (length s.cast.scripts * s.cast.shards) → (p q : NodeId)
+    → AreNeighbours s.cast p q
     → p ≢ owner step → ((x y : NodeId) → step ≡ Deliver x y → (p ≡ x) × (q ≡ y) → ⊥)
     → link (applied s step plan) p q ≡ link s p q
 link-other s step plan long p q near d apart =

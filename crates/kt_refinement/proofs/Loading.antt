@@ -1,5 +1,6 @@
 -- A permanent checkpoint that is loaded, and the line that is cut to it.
-use Rattle.std.proofs.Common.{◌≡◌, ℕ, zero, suc, ◌+◌, ◌<◌, ◌≤◌, List, [], map, take, take-take, Option, Some, None, Result, Ok, Err, refl, sym, ap, subst, ◌∙◌, arith}
+use Rattle.std.proofs.Common.{◌≡◌, ℕ, zero, suc, ◌+◌, ◌<◌, ◌≤◌, List, [], map, take, take-take}
+use Rattle.std.proofs.Common.{Option, Some, None, Result, Ok, Err, refl, sym, ap, subst, ◌∙◌, arith}
 use Rattle.std.specs.Option.{option_map}
 use Rattle.kt_tuple.specs.declared.node.NodeId.{NodeId}
 use Rattle.kt_history.specs.declared.note.Note.{Note}
@@ -50,7 +51,8 @@ pub record LoadedAs (stored : Option Ckpt) (incarnation : ℕ) (live : Live) : T
   pub sent : (k : ℕ) → k < table_size → label_at live.sent k ≡ sent_in (option_map marks_of stored) k
   pub received : (k : ℕ) → k < table_size → label_at live.received k ≡ received_in (option_map marks_of stored) k
 
-by-body : (stored : Option Ckpt) (incarnation : ℕ) (r : Result Body Refusal) (live : Live) → loaded_by stored incarnation r ≡ Ok live → LoadedAs stored incarnation live
+by-body : (stored : Option Ckpt) (incarnation : ℕ) (r : Result Body Refusal) (live : Live) → loaded_by stored incarnation r ≡ Ok live
+    → LoadedAs stored incarnation live
 by-body stored incarnation (Err refusal) live e = absurd (cc (e))
 by-body None incarnation (Ok body) live e =
     let same : Rattle.kt_node.specs.Loading.loaded_from None incarnation body ≡ live = cc (e) in
@@ -79,12 +81,14 @@ loaded-as v stored live e =
     (load-passed (fits v.role v.line_len (marks_in stored)) (loaded_by stored.permanent (stored.incarnation + 1) (body_at v.role stored.permanent)) live e).1
 
 -- the tables of what was loaded are the permanent checkpoint's
-pub loaded-sent : (cast : Cast) → IsCast cast → (h : List Note) (p : NodeId) (numbers : List ℕ) (stored : Option Ckpt) (incarnation : ℕ) (live : Live) (acts : List Act)
+pub loaded-sent : (cast : Cast) → IsCast cast
+    → (h : List Note) (p : NodeId) (numbers : List ℕ) (stored : Option Ckpt) (incarnation : ℕ) (live : Live) (acts : List Act)
     → LoadedAs stored incarnation live → Stands cast h p numbers stored acts → LabelsAre cast p (label_at live.sent) top_sent acts
 loaded-sent cast is h p numbers stored incarnation live acts loaded stands q near =
     ap label_of (loaded.sent (node_number q) (neighbour-place cast is p q near)) ∙ stands.sent q near
 
-pub loaded-received : (cast : Cast) → IsCast cast → (h : List Note) (p : NodeId) (numbers : List ℕ) (stored : Option Ckpt) (incarnation : ℕ) (live : Live) (acts : List Act)
+pub loaded-received : (cast : Cast) → IsCast cast
+    → (h : List Note) (p : NodeId) (numbers : List ℕ) (stored : Option Ckpt) (incarnation : ℕ) (live : Live) (acts : List Act)
     → LoadedAs stored incarnation live → Stands cast h p numbers stored acts → LabelsAre cast p (label_at live.received) top_heard acts
 loaded-received cast is h p numbers stored incarnation live acts loaded stands q near =
     ap label_of (loaded.received (node_number q) (neighbour-place cast is p q near)) ∙ stands.received q near

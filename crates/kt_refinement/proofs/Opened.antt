@@ -68,7 +68,8 @@ opened-state cast p = by (is_node cast p) where
     kept = λ q. refl;
   }
 
-opened-node : (cast : Cast) (p : NodeId) → NodeIs cast [] p [] (opening_row cast p) record { node = p; incarnation = 1; permanent = None; tentative = None } None new_node
+opened-node : (cast : Cast) (p : NodeId)
+    → NodeIs cast [] p [] (opening_row cast p) record { node = p; incarnation = 1; permanent = None; tentative = None } None new_node
 unfolding top_sent top_heard
 opened-node cast p = record {
   line = nothing;

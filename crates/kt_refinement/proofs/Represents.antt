@@ -149,14 +149,16 @@ TentativeIs cast h p numbers (Some t) tent acts = IsTentative cast h p numbers t
 -- ---- a node
 
 -- the node p, with this line, as it is and as it is stored, its tentative checkpoint with this verdict
-pub record NodeIs (cast : Cast) (h : List Note) (p : NodeId) (numbers : List ℕ) (real : Option RealNode) (row : NodeRow) (verdict : Option RealVerdict) (x : Node) : Type 0 where
+pub record NodeIs (cast : Cast) (h : List Note) (p : NodeId) (numbers : List ℕ) (real : Option RealNode) (row : NodeRow) (verdict : Option RealVerdict)
+    (x : Node) : Type 0 where
   pub line : Reads h numbers x.line
   pub life : row.incarnation ≡ x.life
   pub state : StateIs cast p real x
   pub perm : Stands cast h p numbers (permanent_by verdict row.tentative row.permanent) x.perm
   pub tent : TentativeIs cast h p numbers (undecided verdict row.tentative) x.tent x.line
   -- an ask is answered by the stored checkpoint, which a Yes that is not learnt leaves behind
-  pub lower : (q : NodeId) → AreNeighbours cast p q → UpTo (label_of (sent_in (option_map marks_of row.permanent) (node_number q))) (top_sent x.perm (node_index q))
+  pub lower : (q : NodeId) → AreNeighbours cast p q
+      → UpTo (label_of (sent_in (option_map marks_of row.permanent) (node_number q))) (top_sent x.perm (node_index q))
 
 abbrev pub NodeIn : Cast → List Note → Content → NodeId → Option RealNode → Node → Type 0
 NodeIn cast h c p real x = NodeIs cast h p (line h p) real (row_of c p) (verdict_on c (row_of c p).tentative) x

@@ -58,7 +58,8 @@ pub restarts_anew : (s : World) (c : State) → Invariant (peers s.cast) c → R
     → IsTrue (is_node s.cast p) → IsAlive s p n → n.phase ≡ phases.Rolling b → b.parent ≡ None → load (view s p) (told s (Restart p)).stored ≡ Ok live
     → Refines s (Restart p) (restarting_plan (view s p) (told s (Restart p)).stored (told s (Restart p)).next live) c
 restarts_anew s c inv is h p n live b there alive rolling began from =
-    restarts_so s c inv is h (Restart p) live (λ x y e. absurd (cc (e))) there (inr (n, alive)) (backed-in s h.backed p n (phases.Rolling b) alive rolling) ends from
+    restarts_so s c inv is h (Restart p) live (λ x y e. absurd (cc (e))) there (inr (n, alive)) (backed-in s h.backed p n
+    (phases.Rolling b) alive rolling) ends from
   where
     ends : length (acts_in_line s.history p) ≡ acts_held (row_of s.content p).permanent
     ends =

@@ -1,5 +1,6 @@
 -- A node restarts: the machine's fails, where it is not down with its permanent checkpoint's line, and restarts.
-use Rattle.std.proofs.Common.{◌≡◌, ◌⊎◌, inl, inr, ℕ, suc, ◌+◌, false, IsTrue, List, [], ◌∷◌, take, take_all, length, Option, Some, None, Ok, refl, sym, ap, subst, ◌∙◌, arith}
+use Rattle.std.proofs.Common.{◌≡◌, ◌⊎◌, inl, inr, ℕ, suc, ◌+◌, false, IsTrue, List, [], ◌∷◌}
+use Rattle.std.proofs.Common.{take, take_all, length, Option, Some, None, Ok, refl, sym, ap, subst, ◌∙◌, arith}
 use Rattle.std.specs.List.{list_any}
 use Rattle.kt_tuple.specs.declared.node.NodeId.{NodeId}
 use Rattle.kt_tuple.specs.Node.{node_index, node_eq}
@@ -117,7 +118,8 @@ restarted-is s c is h p live k d there none long from = record {
 -- ---- the leaf, of a node that is down and of one whose rollback got No
 
 pub restarts_so : (s : World) (c : State) → Invariant (peers s.cast) c → Represents s c → Holds s → (step : Step) (live : Live)
-    → ((x y : NodeId) → step ≡ Deliver x y → ⊥) → IsTrue (is_node s.cast (owner step)) → node s (owner step) ≡ Some (Rattle.kt_node.specs.Node.Down) ⊎ ((n : Live) × (node s (owner step) ≡ Some (Alive n)))
+    → ((x y : NodeId) → step ≡ Deliver x y → ⊥) → IsTrue (is_node s.cast (owner step)) → node s (owner step)
+    ≡ Some (Rattle.kt_node.specs.Node.Down) ⊎ ((n : Live) × (node s (owner step) ≡ Some (Alive n)))
     → (row_of s.content (owner step)).tentative ≡ None
     → length (acts_in_line s.history (owner step)) ≡ acts_held (row_of s.content (owner step)).permanent
     → load (view s (owner step)) (stored_of s.content (owner step)) ≡ Ok live
@@ -175,7 +177,10 @@ restarts_so s c inv is h step live no_delivery there known none long from = reco
   no_tent : (c.node o).tent ≡ None
   no_tent = subst Was none (is.nodes p).tent
 
-  becomes : NodeIs s.cast s.history p (line s.history p) (Some (Alive (record live { phase = phases.Rolling (restarter (view s p) (stored_of s.content p) k) })))
+  becomes : NodeIs s.cast s.history p (line s.history p) (Some (Alive (record live {
+    phase = phases.Rolling (restarter (view s p)
+        (stored_of s.content p) k);
+  })))
       (record (row_of s.content p) { incarnation = (row_of s.content p).incarnation + 1 })
       (verdict_on (content_after p plan.write s.content) (row_of s.content p).tentative) new
   becomes = restarted-is s c is h p live k (content_after p plan.write s.content) there none long from

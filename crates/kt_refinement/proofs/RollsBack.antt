@@ -45,14 +45,16 @@ use Rattle.kt_protocol.proofs.Invariant.{Invariant}
 use Rattle.kt_refinement.proofs.Numbers.{peers}
 use Rattle.kt_refinement.proofs.Reading.{Reads}
 use Rattle.kt_refinement.proofs.Represents.{kept_from, carried, NodeIs, NodeIn, Stands, TentativeIs, undecided, Represents}
-use Rattle.kt_refinement.proofs.Frames.{IsSilent, links-silent, links-idle, CastSo, LinksLead, Refines, owner-in, nodes-at, votes-at, leads-represents}
+use Rattle.kt_refinement.proofs.Frames.{links-idle, CastSo, LinksLead, Refines, owner-in, nodes-at, votes-at, leads-represents}
+use Rattle.kt_refinement.proofs.Silence.{IsSilent, links-silent}
 use Rattle.kt_refinement.proofs.Links.{to}
 use Rattle.kt_refinement.proofs.Known.{rolling-is, voting-begun, rollback-verdict}
 use Rattle.kt_refinement.proofs.Loading.{LoadedAs, loaded-as, loaded-sent, loaded-received, line-cut, stands-cut, reads-cut}
 
 -- the permanent checkpoint of a node that has no tentative one is the stored one
 pub stored-stands : (s : World) (p : NodeId) (numbers : List ℕ) (acts : List Rattle.kt_protocol.specs.Lines.Act) → (row_of s.content p).tentative ≡ None
-    → Stands s.cast s.history p numbers (permanent_by (verdict_on s.content (row_of s.content p).tentative) (row_of s.content p).tentative (row_of s.content p).permanent) acts
+    → Stands s.cast s.history p numbers (permanent_by (verdict_on s.content (row_of s.content p).tentative) (row_of s.content p).tentative
+    (row_of s.content p).permanent) acts
     → Stands s.cast s.history p numbers (row_of s.content p).permanent acts
 stored-stands s p numbers acts none stands =
     let P : Option Tentative → Type 0 = λ t. Stands s.cast s.history p numbers (permanent_by (verdict_on s.content t) t (row_of s.content p).permanent) acts in
@@ -127,7 +129,8 @@ loading-is s c is h p live d none from =
 
 -- ---- the leaf, whether the verdict comes or is looked up
 
-rolls : (s : World) (c : State) → Invariant (peers s.cast) c → Represents s c → Holds s → (step : Step) (n live : Live) (b : Poll) (send : List (NodeId × RealMessage))
+rolls : (s : World) (c : State) → Invariant (peers s.cast) c → Represents s c → Holds s
+    → (step : Step) (n live : Live) (b : Poll) (send : List (NodeId × RealMessage))
     → IsAlive s (owner step) n → n.phase ≡ phases.Rolling b → verdict_of s.content b.instance ≡ Some verdicts.Yes
     → load (view s (owner step)) (stored_of s.content (owner step)) ≡ Ok live
     → MayNote s.cast s.history (owner step) (restoring_plan (view s (owner step)) (stored_of s.content (owner step)) send live).note
@@ -184,7 +187,8 @@ settled-is (Some verdicts.Yes) e = refl
 settled-is (Some verdicts.No) e = absurd (cc (e))
 
 -- a node that rolls back learns of its ballot's instance
-pub learnt-of : (s : World) (p : NodeId) (n : Live) (b : Poll) → IsAlive s p n → n.phase ≡ phases.Rolling b → (told s (Learn p)).verdict ≡ verdict_of s.content b.instance
+pub learnt-of : (s : World) (p : NodeId) (n : Live) (b : Poll) → IsAlive s p n → n.phase ≡ phases.Rolling b → (told s (Learn p)).verdict
+    ≡ verdict_of s.content b.instance
 learnt-of s p n b alive rolling =
     ap (λ r. to_learn s.content p (unwrap_or r IsDown)) alive ∙ ap (λ x. of_poll s.content (poll_in x)) rolling
 

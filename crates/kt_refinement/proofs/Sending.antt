@@ -1,5 +1,6 @@
 -- A node that is up sends a message of itself: the machine sends.
-use Rattle.std.proofs.Common.{◌≡◌, ◌≢◌, ℕ, suc, ◌+◌, ◌≤◌, Bool, true, false, List, [], ◌∷◌, ◌++◌, length, Option, Some, None, inl, inr, refl, sym, ap, subst, ◌∙◌, arith}
+use Rattle.std.proofs.Common.{◌≡◌, ◌≢◌, ℕ, suc, ◌+◌, ◌≤◌, Bool, true, false, List, [], ◌∷◌}
+use Rattle.std.proofs.Common.{◌++◌, length, Option, Some, None, inl, inr, refl, sym, ap, subst, ◌∙◌, arith}
 use Rattle.std.proofs.lemmas.Bool.{eq-eqb, ne_eqb}
 use Rattle.kt_tuple.specs.declared.node.NodeId.{NodeId}
 use Rattle.kt_tuple.specs.Node.{node_index, node_eq, node_eq_decides}
@@ -177,7 +178,8 @@ says_so s c is h step n body q post a no_delivery alive up near own cause by_is 
       received = heard-unsent s.cast p (label_at n.received) post.by (node_index q) (next_of (c.node o)) (c.node o).line was.state.received;
       kept = was.state.kept;
     };
-    perm = subst Perm (sym none) (stands-more s.cast s.history (Some (notes.Act a)) p numbers (length s.history + 1) (row_of s.content p).permanent (c.node o).perm short stored);
+    perm = subst Perm (sym none) (stands-more s.cast s.history (Some (notes.Act a)) p numbers (length s.history + 1) (row_of s.content p).permanent
+        (c.node o).perm short stored);
     tent = subst Tent (sym none) (subst Was none was.tent);
     lower = was.lower;
   })

@@ -47,7 +47,8 @@ verdict-there i agreed c j v same e =
     ap (verdict_of (decided i agreed c)) same ∙ ap (option_map (λ (row : Posted). row.verdict)) (decided_is_read i agreed c) ∙ by (posted c i) e
   where
     by : (o : Option Posted) → option_map (λ (row : Posted). row.verdict) o ≡ Some v
-        → option_map (λ (row : Posted). row.verdict) (option_map (λ (row : Posted). record row { verdict = verdict_from agreed }) o) ≡ Some (verdict_from agreed)
+        → option_map (λ (row : Posted). row.verdict) (option_map (λ (row : Posted). record row { verdict = verdict_from agreed }) o)
+        ≡ Some (verdict_from agreed)
     by None e = absurd (cc (e))
     by (Some row) e = refl
 
@@ -69,14 +70,16 @@ tent-else cast h p numbers i t v tent acts d is = by v is where
       let P : Option ℕ → Type 0 = λ o. (released i o ≡ o) × ((x : Node) → promoted i o x ≡ x.perm) in
       subst P (sym e) (refl, λ x. refl)
 
-  by : (v : Option RealVerdict) → TentativeIs cast h p numbers (undecided v (Some t)) tent acts → (released i tent ≡ tent) × ((x : Node) → promoted i tent x ≡ x.perm)
+  by : (v : Option RealVerdict) → TentativeIs cast h p numbers (undecided v (Some t)) tent acts → (released i tent ≡ tent) × ((x : Node)
+      → promoted i tent x ≡ x.perm)
   by None is = some is.instance
   by (Some verdicts.Open) is = some is.instance
   by (Some verdicts.Yes) is = none is
   by (Some verdicts.No) is = none is
 
 -- Yes on a check
-pub saved-yes : (cast : Cast) (h : List Note) (p : NodeId) (numbers : List ℕ) (permanent : Option Ckpt) (t : Option Tentative) (c : Content) (i : ℕ) (tent : Option ℕ) (x : Node)
+pub saved-yes : (cast : Cast) (h : List Note) (p : NodeId) (numbers : List ℕ) (permanent : Option Ckpt) (t : Option Tentative) (c : Content) (i : ℕ)
+    (tent : Option ℕ) (x : Node)
     → verdict_of c i ≡ Some verdicts.Open → ((q : ℕ) → UpTo (top_sent x.perm q) (top_sent x.line q))
     → SavedIs cast h p numbers permanent t (verdict_on c t) x.perm tent x.line
     → SavedIs cast h p numbers permanent t (verdict_on (decided i true c) t) (promoted i tent x) (released i tent) x.line
@@ -103,7 +106,8 @@ saved-yes cast h p numbers permanent (Some t) c i tent x opened longer was = eli
       (record { perm = old.tent.stands; tent = refl; lower = λ q near. UpTo-trans (old.lower q near) (longer (node_index q)) })))
 
 -- No on a check
-pub saved-no : (cast : Cast) (h : List Note) (p : NodeId) (numbers : List ℕ) (permanent : Option Ckpt) (t : Option Tentative) (c : Content) (i : ℕ) (tent : Option ℕ) (perm acts : List Act)
+pub saved-no : (cast : Cast) (h : List Note) (p : NodeId) (numbers : List ℕ) (permanent : Option Ckpt) (t : Option Tentative) (c : Content) (i : ℕ)
+    (tent : Option ℕ) (perm acts : List Act)
     → verdict_of c i ≡ Some verdicts.Open
     → SavedIs cast h p numbers permanent t (verdict_on c t) perm tent acts
     → SavedIs cast h p numbers permanent t (verdict_on (decided i false c) t) perm (released i tent) acts
@@ -128,7 +132,8 @@ saved-no cast h p numbers permanent (Some t) c i tent perm acts opened was = eli
       (subst O (sym old.tent.instance) (rw (eq-eqb t.instance i same) (record { perm = old.perm; tent = refl; lower = old.lower })))
 
 -- a verdict on an instance in which nobody has a tentative checkpoint
-pub saved-else : (cast : Cast) (h : List Note) (p : NodeId) (numbers : List ℕ) (permanent : Option Ckpt) (t : Option Tentative) (c : Content) (i : ℕ) (agreed : Bool) (tent : Option ℕ)
+pub saved-else : (cast : Cast) (h : List Note) (p : NodeId) (numbers : List ℕ) (permanent : Option Ckpt) (t : Option Tentative) (c : Content) (i : ℕ)
+    (agreed : Bool) (tent : Option ℕ)
     (perm acts : List Act) → verdict_of c i ≡ Some verdicts.Open → tent ≢ Some i
     → SavedIs cast h p numbers permanent t (verdict_on c t) perm tent acts
     → SavedIs cast h p numbers permanent t (verdict_on (decided i agreed c) t) perm tent acts
@@ -191,7 +196,8 @@ node-no cast h p numbers real row c i x opened is =
     node-settled cast h p numbers real row _ _ x x.perm (released i x.tent) is
     (saved-no cast h p numbers row.permanent row.tentative c i x.tent x.perm x.line opened (saved-of cast h p numbers real row _ x is))
 
-pub node-else : (cast : Cast) (h : List Note) (p : NodeId) (numbers : List ℕ) (real : Option RealNode) (row : NodeRow) (c : Content) (i : ℕ) (agreed : Bool) (x : Node)
+pub node-else : (cast : Cast) (h : List Note) (p : NodeId) (numbers : List ℕ) (real : Option RealNode) (row : NodeRow) (c : Content) (i : ℕ)
+    (agreed : Bool) (x : Node)
     → verdict_of c i ≡ Some verdicts.Open → x.tent ≢ Some i → NodeIs cast h p numbers real row (verdict_on c row.tentative) x
     → NodeIs cast h p numbers real row (verdict_on (decided i agreed c) row.tentative) x
 node-else cast h p numbers real row c i agreed x opened other is =
@@ -200,7 +206,8 @@ node-else cast h p numbers real row c i agreed x opened other is =
 
 -- ---- the board
 
-is-own : (i : ℕ) (agreed : Bool) (c : Content) (row : Posted) → posted c i ≡ Some row → posted (decided i agreed c) i ≡ Some (record row { verdict = verdict_from agreed })
+is-own : (i : ℕ) (agreed : Bool) (c : Content) (row : Posted) → posted c i ≡ Some row → posted (decided i agreed c) i
+    ≡ Some (record row { verdict = verdict_from agreed })
 is-own i agreed c row e = decided_is_read i agreed c ∙ ap (option_map (λ (r : Posted). record r { verdict = verdict_from agreed })) e
 
 -- an instance of a check is none of a rollback

@@ -29,7 +29,8 @@ use Rattle.kt_protocol.specs.Machine.{Check, Rollback, State}
 use Rattle.kt_protocol.proofs.Invariant.{Invariant}
 use Rattle.kt_refinement.proofs.Numbers.{peers}
 use Rattle.kt_refinement.proofs.Represents.{begun_as, NodeIn, Represents}
-use Rattle.kt_refinement.proofs.Frames.{LinksLead, Refines, links-idle, silent-to}
+use Rattle.kt_refinement.proofs.Frames.{LinksLead, Refines, links-idle}
+use Rattle.kt_refinement.proofs.Silence.{silent-to}
 use Rattle.kt_refinement.proofs.Known.{alive-is, rolling-is, held-is, voting-begun}
 use Rattle.kt_refinement.proofs.RollsBack.{verdicts-silent}
 use Rattle.kt_refinement.proofs.Decides.{deciding_plan, unturned-is, says_yes_check}
@@ -53,7 +54,8 @@ alive-idle s c is step n alive = record {
 told-links : (s : World) (step : Step) (c : State) (change : Rattle.kt_node.specs.declared.change.Change.Change) (i : ℕ) (agreed : Bool) (asked : List NodeId)
     → ((x y : NodeId) → step ≡ Deliver x y → ⊥) → LinksLead s step (deciding_plan change (verdict_to i agreed asked) i agreed) c c.link
 told-links s step c change i agreed asked none =
-    links-idle s step (deciding_plan change (verdict_to i agreed asked) i agreed) c none (λ r near. silent-to r (verdict_to i agreed asked) (verdicts-silent i agreed asked))
+    links-idle s step (deciding_plan change (verdict_to i agreed asked) i agreed) c none (λ r near. silent-to r (verdict_to i agreed asked)
+    (verdicts-silent i agreed asked))
 
 pub decides : (s : World) (c : State) → Invariant (peers s.cast) c → Represents s c → (p : NodeId) (n : Live) (b : Poll) (phase : Poll → Phase) (agreed : Bool)
     → IsAlive s p n → VotesSo n.phase b phase → b.parent ≡ None → IsTrue (is_undecided (told s (Decide p)).verdict) → outcome_of b ≡ Some agreed
@@ -61,7 +63,8 @@ pub decides : (s : World) (c : State) → Invariant (peers s.cast) c → Represe
 decides s c inv is p n b phase agreed alive votes began undecided outcome = by n.phase refl b phase agreed votes began outcome
     (λ f e g. subst (λ v. IsTrue (is_undecided v)) (poll-verdict s p n b f alive e g) undecided) where
       by : (f : Phase) → n.phase ≡ f → (b : Poll) (phase : Poll → Phase) (agreed : Bool) → VotesSo f b phase → b.parent ≡ None → outcome_of b ≡ Some agreed
-          → ((f : Phase) → n.phase ≡ f → poll_in f ≡ Some b → IsTrue (is_undecided (verdict_of s.content b.instance))) → Refines s (Decide p) (decide_plan f b agreed) c
+          → ((f : Phase) → n.phase ≡ f → poll_in f ≡ Some b → IsTrue (is_undecided (verdict_of s.content b.instance)))
+          → Refines s (Decide p) (decide_plan f b agreed) c
       by f e b phase true holds began outcome opened =
           says_yes_check s c inv is (Decide p) n b b.asked alive e began (opened (phases.Held b) e refl) outcome
           (told-links s (Decide p) c (changes.Turn no_turn) b.instance true b.asked (λ x y z. absurd (cc (z))))
@@ -131,6 +134,8 @@ gives_up_down s c inv is h p i undecided = by (is-for s c is i opened) where
   }
 
   by : IsFor c i → Refines s (Abandon p) (no_plan changes.Stay i []) c
-  by (a_check begun) = says_no_check s c is (Abandon p) changes.Stay i [] idle begun opened (told-links s (Abandon p) c changes.Stay i false [] (λ x y z. absurd (cc (z))))
+  by (a_check begun) = says_no_check s c is (Abandon p) changes.Stay i [] idle begun opened (told-links s (Abandon p) c changes.Stay i false []
+      (λ x y z. absurd (cc (z))))
   by (a_rollback begun) =
-      says_no_rollback s c inv is (Abandon p) changes.Stay i [] idle begun opened (told-links s (Abandon p) c changes.Stay i false [] (λ x y z. absurd (cc (z))))
+      says_no_rollback s c inv is (Abandon p) changes.Stay i [] idle begun opened (told-links s (Abandon p) c changes.Stay i false [] (λ x y z. absurd (cc
+      (z))))

@@ -1,6 +1,7 @@
 -- A vote that comes and is counted, and the vote that it may make the node cast: one or two steps of the machine. And a
 -- participant that votes no of itself.
-use Rattle.std.proofs.Common.{◌≡◌, ◌≢◌, ℕ, Bool, true, false, not, ◌&&◌, ◌||◌, cond, IsTrue, List, [], ◌∷◌, filter, Option, Some, None, inl, inr, refl, sym, ap, subst, ◌∙◌}
+use Rattle.std.proofs.Common.{◌≡◌, ◌≢◌, ℕ, Bool, true, false, not, ◌&&◌, ◌||◌, cond, IsTrue, List}
+use Rattle.std.proofs.Common.{[], ◌∷◌, filter, Option, Some, None, inl, inr, refl, sym, ap, subst, ◌∙◌}
 use Rattle.std.specs.List.{AllByRecursion, list_any}
 use Rattle.std.specs.Option.{option_map}
 use Rattle.std.proofs.lemmas.Bool.{cases_eq, ne_eqb}
@@ -29,7 +30,8 @@ use Rattle.kt_protocol.proofs.Labels.{at-here, at-else}
 use Rattle.kt_protocol.proofs.Invariant.{a_vote, a_key}
 use Rattle.kt_refinement.proofs.Numbers.{peers}
 use Rattle.kt_refinement.proofs.Represents.{asker_key, WasCast, BallotIs, Votes, PhaseIs, NodeIn, Represents}
-use Rattle.kt_refinement.proofs.Frames.{cases-node, apart-index, CastSo, Refines, owner-in, nodes-at, votes-at, links-idle, silent-to, leads-represents}
+use Rattle.kt_refinement.proofs.Frames.{cases-node, apart-index, CastSo, Refines, owner-in, nodes-at, votes-at, links-idle, leads-represents}
+use Rattle.kt_refinement.proofs.Silence.{silent-to}
 use Rattle.kt_refinement.proofs.Known.{alive-is, rolling-is, held-is}
 use Rattle.kt_refinement.proofs.Decides.{agreed-is}
 
@@ -73,7 +75,8 @@ awaited-gone p (x ∷ xs) = by (node_eq x p) refl (awaited-gone p xs) where
   by true e rest = rest
   by false e rest = rw e rest
 
-pub counted-is : (b : Poll) (life : ℕ) (x : Ballot) (p : NodeId) (y : Bool) → BallotIs b life x → BallotIs (counted b p y) life (machine.counted (node_index p) y x)
+pub counted-is : (b : Poll) (life : ℕ) (x : Ballot) (p : NodeId) (y : Bool) → BallotIs b life x
+    → BallotIs (counted b p y) life (machine.counted (node_index p) y x)
 counted-is b life x p y is = record {
   parent = is.parent;
   awaited = λ r. elim (cases-node r p) [
@@ -137,17 +140,20 @@ abbrev pub cast_node : Instance → Ballot → Key → Bool → Node → Node
 cast_node i x k true n = answering i k true (consenting i x n)
 cast_node i x k false n = answering i k false (machine.casting i x n)
 
-pub casts-step : (peer : ℕ → ℕ → Bool) (c : State) (o : ℕ) (i : Instance) (b : Poll) (life : ℕ) (x : Ballot) (parent : Asker) (agreed : Bool) → (c.node o).mode ≡ Within i x
+pub casts-step : (peer : ℕ → ℕ → Bool) (c : State) (o : ℕ) (i : Instance) (b : Poll) (life : ℕ) (x : Ballot) (parent : Asker) (agreed : Bool)
+    → (c.node o).mode ≡ Within i x
     → BallotIs b life x → b.parent ≡ Some parent → b.voted ≡ false → (agreed ≡ true → outcome_of b ≡ Some true)
     → MachineStep peer c (change o (cast_node i x (asker_key parent) agreed) c)
 casts-step peer c o i b life x parent true within is has unvoted outcome =
-    agrees o i x (asker_key parent) within (is.parent ∙ ap (option_map asker_key) has) (is.voted parent has ∙ unvoted) (agreed-is peer o b life x is (outcome refl))
+    agrees o i x (asker_key parent) within (is.parent ∙ ap (option_map asker_key) has) (is.voted parent has
+    ∙ unvoted) (agreed-is peer o b life x is (outcome refl))
 casts-step peer c o i b life x parent false within is has unvoted outcome =
     declines o i x (asker_key parent) within (is.parent ∙ ap (option_map asker_key) has) (is.voted parent has ∙ unvoted)
 
 pub cast-is : (s : World) (p : NodeId) (n : Live) (x : Node) (phase : Poll → Phase) (k : IsKind phase) (b : Poll) (ballot : Ballot) (key : Key) (agreed : Bool)
     → NodeIn s.cast s.history s.content p (Some (Alive n)) x → BallotIs b x.life ballot
-    → NodeIn s.cast s.history s.content p (Some (Alive (turned record no_turn { phase = Some (phase (voted b)) } n))) (cast_node (k.kind b.instance) ballot key agreed x)
+    → NodeIn s.cast s.history s.content p (Some (Alive (turned record no_turn { phase = Some (phase (voted b)) } n))) (cast_node
+    (k.kind b.instance) ballot key agreed x)
 cast-is s p n x phase k b ballot key true was is =
     phase-turned s p n x (phase (voted b)) (Within (k.kind b.instance) record ballot { voted = true }) _ _ was
     (k.into (voted b) x.life (Within (k.kind b.instance) record ballot { voted = true })
@@ -161,7 +167,8 @@ pub cast-among : (i : Instance) (ballot : Ballot) (key : Key) (agreed : Bool) (x
 cast-among i ballot key true x = here
 cast-among i ballot key false x = here
 
-pub cast-more : (i : Instance) (ballot : Ballot) (key : Key) (agreed : Bool) (x : Node) (v : Vote) → IsIn v x.votes → IsIn v (cast_node i ballot key agreed x).votes
+pub cast-more : (i : Instance) (ballot : Ballot) (key : Key) (agreed : Bool) (x : Node) (v : Vote) → IsIn v x.votes
+    → IsIn v (cast_node i ballot key agreed x).votes
 cast-more i ballot key true x v m = there m
 cast-more i ballot key false x v m = there m
 
