@@ -7,9 +7,11 @@ use Rattle.kt_tuple.specs.Node.{node_index}
 use Rattle.kt_tuple.proofs.Nodes.{node_index-injective}
 use Rattle.kt_link.specs.Network.{Network, AreNeighbours, ChangesOnly, place, queue, room, entry_at, with_entry}
 use Rattle.kt_link.proofs.Others.{other_room}
-use Rattle.kt_core.specs.declared.node.Message.{Message}
-use Rattle.kt_core.specs.Cast.{Cast}
-use Rattle.kt_core.specs.Effect.{Way, sent_one, sent}
+use Rattle.kt_node.specs.declared.message.Message.{Message}
+use Rattle.kt_world.specs.Cast.{Cast}
+use Rattle.kt_world.specs.Ready as ready
+use Rattle.kt_world.proofs.Scene.{Ends, to_shard, to_worker, ends}
+use Rattle.kt_world.specs.Effect.{Way, sent_one, sent}
 use Rattle.kt_core.specs.Traffic.{IsSameTraffic}
 
 abbrev pub Net : Type 0
@@ -85,11 +87,18 @@ nothing_left (x ∷ xs) e = absurd (omega (arith, e))
 pub sent-one : (old new : Net) (p q : NodeId) (m : Message) → queue new p q ≡ queue old p q ++ m ∷ [] → ChangesOnly old new p q → new.queues ≡ sent_one (place old.workers old.shards) old.queues p (q, m)
 sent-one old new p q m appended only = ap (λ (n : Net). n.queues) only ∙ ap (with_entry old.queues (place old.workers old.shards p q)) appended
 
--- the links are those of the scene
+-- neighbours in the scene are neighbours on the links
+linked : (cast : Cast) (p q : NodeId) → Ends cast p q → AreNeighbours (length cast.scripts) cast.shards p q
+linked cast p q (to_shard w few r fewr) = ((w, few), (r, fewr))
+linked cast p q (to_worker w few r fewr) = ((w, few), (r, fewr))
+
 pub wired : (cast : Cast) (net : Net) (p : NodeId) (send : List (NodeId × Message)) → net.workers ≡ length cast.scripts → net.shards ≡ cast.shards
-    → AllByRecursion (λ (m : NodeId × Message). AreNeighbours (length cast.scripts) cast.shards p m.0) send → AllByRecursion (λ (m : NodeId × Message). AreNeighbours net.workers net.shards p m.0) send
+    → AllByRecursion (λ (m : NodeId × Message). ready.AreNeighbours cast p m.0) send → AllByRecursion (λ (m : NodeId × Message). AreNeighbours net.workers net.shards p m.0) send
 wired cast net p send w s all =
-    subst (λ (k : ℕ). AllByRecursion (λ (m : NodeId × Message). AreNeighbours k net.shards p m.0) send) (sym w) (subst (λ (k : ℕ). AllByRecursion (λ (m : NodeId × Message). AreNeighbours (length cast.scripts) k p m.0) send) (sym s) all)
+    subst (λ (k : ℕ). AllByRecursion (λ (m : NodeId × Message). AreNeighbours k net.shards p m.0) send) (sym w)
+    (subst (λ (k : ℕ). AllByRecursion (λ (m : NodeId × Message). AreNeighbours (length cast.scripts) k p m.0) send) (sym s)
+    (all-map (λ (m : NodeId × Message). ready.AreNeighbours cast p m.0) (λ (m : NodeId × Message). AreNeighbours (length cast.scripts) cast.shards p m.0) send
+    (λ m h. linked cast p m.0 (ends cast p m.0 h)) all))
 
 -- ---- sending all messages, one after the other
 
@@ -100,6 +109,12 @@ pub record Sending (old now : Net) (owner : NodeId) (all rest : List (NodeId × 
   pub queues : sent (place old.workers old.shards) now.queues owner rest ≡ sent (place old.workers old.shards) old.queues owner all
   pub there : AllByRecursion (λ (m : NodeId × Message). AreNeighbours old.workers old.shards owner m.0) rest
   pub room_left : AllByRecursion (λ (m : NodeId × Message). length rest ≤ room now owner m.0) rest
+
+pub sending-first : (old : Net) (owner : NodeId) (all rest : List (NodeId × Message)) → rest ≡ all → AllByRecursion (λ (m : NodeId × Message). AreNeighbours old.workers old.shards owner m.0) all
+    → AllByRecursion (λ (m : NodeId × Message). length all ≤ room old owner m.0) all → Sending old old owner all rest
+sending-first old owner all rest is there room_left =
+    let P : List (NodeId × Message) → Type 0 = Sending old old owner all in
+    subst P (sym is) (record { workers = refl; shards = refl; queues = refl; there = there; room_left = room_left })
 
 pub sent-next : (old now new : Net) (owner : NodeId) (all rest later : List (NodeId × Message)) (m : NodeId × Message) → Sending old now owner all rest → rest ≡ m ∷ later
     → queue new owner m.0 ≡ queue now owner m.0 ++ m.1 ∷ [] → room new owner m.0 + 1 ≡ room now owner m.0 → ChangesOnly now new owner m.0 → Sending old new owner all later

@@ -1,38 +1,74 @@
--- A world that was opened, and each that a step leads to, was reached by steps, and is ready.
-use Rattle.std.proofs.Common.{◌≡◌, List, [], ◌∷◌, ◌++◌, Result, Ok, Err, refl, sym, ap, subst, ◌∙◌}
-use Rattle.std.specs.Prelude.{OnOk, OnErr}
-use Rattle.kt_core.specs.declared.step.Step.{Step}
-use Rattle.kt_core.specs.declared.step.StepError.{StepError}
-use Rattle.kt_core.specs.Cast.{Cast, IsCast}
-use Rattle.kt_core.specs.State.{State}
-use Rattle.kt_core.specs.Effect.{step_result}
-use Rattle.kt_core.specs.Reached.{opening, next_state, or_as_it_was, after, IsWorld}
-use Rattle.kt_core.proofs.Holding.{step-made, made-ready}
-use Rattle.kt_core.proofs.Opened.{opening-holds}
+-- A world that was opened, and each that a step leads to, was reached by steps while its store is honest.
+use Rattle.std.proofs.Common.{◌≡◌, true, ◌&&◌, Bool, List, [], ◌∷◌, ◌++◌, Result, Ok, Err, refl, sym, ap, subst, ◌∙◌}
+use Rattle.std.specs.Prelude.{IsTrue, OnErr, OnOk}
+use Rattle.kt_store.specs.declared.rows.NodeRow.{NodeRow}
+use Rattle.kt_store.specs.declared.rows.Posted.{Posted}
+use Rattle.kt_store.specs.Content.{Content, empty_content, is_empty, is_fresh}
+use Rattle.kt_world.specs.Cast.{Cast, IsCast}
+use Rattle.kt_world.specs.Short.{AreShort}
+use Rattle.kt_world.proofs.Opened.{opening-ready}
+use Rattle.kt_refinement.proofs.Lasting.{forced-reached}
+use Rattle.kt_world.specs.declared.step.Step.{Step}
+use Rattle.kt_world.specs.declared.step.StepError.{StepError}
+use Rattle.kt_world.specs.Effect.{step_result}
+use Rattle.kt_world.specs.Forced.{IsForced}
+use Rattle.kt_world.specs.Ready.{IsReady}
+use Rattle.kt_world.specs.Reached.{opening, next_state, or_as_it_was, after, IsReached}
+use Rattle.kt_world.specs.State.{State}
+use Rattle.kt_core.specs.declared.machine.Machine.{Machine}
+use Rattle.kt_core.specs.Machine.{state_of}
+use Rattle.kt_core.specs.World.{IsWorld}
 
-pub opening-world : (cast : Cast) → IsCast cast → IsWorld (opening cast)
-unfolding after
-opening-world cast is = record { ready = (opening-holds cast is).ready; reached = record { cast = cast; is_cast = is; steps = []; leads = refl } }
-
-pub after-push : (s : State) (steps : List Step) (step : Step) → after s (steps ++ step ∷ []) ≡ next_state (after s steps) step
+after-push : (s : State) (steps : List Step) (step : Step) → after s (steps ++ step ∷ []) ≡ next_state (after s steps) step
 unfolding after
 after-push s [] step = refl
 after-push s (first ∷ later) step = after-push (next_state s first) later step
 
-made-world : (s new : State) (step : Step) → IsWorld s → step_result s step ≡ Ok new → IsWorld new
-made-world s new step world e =
-    let before = world.reached in
-    record {
-      ready = made-ready s step new world.ready (step-made s step new e);
-      reached = record {
-        cast = before.cast;
-        is_cast = before.is_cast;
-        steps = before.steps ++ step ∷ [];
-        leads = after-push (opening before.cast) before.steps step ∙ ap (λ (x : State). next_state x step) before.leads ∙ ap (λ (r : Result State StepError). or_as_it_was r s) e;
-      };
-    }
+pub made-reached : (s new : State) (step : Step) → IsReached s → step_result s step ≡ Ok new → IsReached new
+made-reached s new step r e = record {
+  cast = r.cast;
+  is_cast = r.is_cast;
+  are_short = r.are_short;
+  steps = r.steps ++ step ∷ [];
+  leads = after-push (opening r.cast) r.steps step ∙ ap (λ (x : State). next_state x step) r.leads ∙ ap (λ (x : Result State StepError). or_as_it_was x s) e;
+}
 
 -- a world stays one, whether the step was made or refused
-pub step-world : {X : Type 0} (r : Result X StepError) (s new : State) (step : Step) → IsWorld s → OnOk r (step_result s step ≡ Ok new) → OnErr r (new ≡ s) → IsWorld new
-step-world (Ok x) s new step world ok err = made-world s new step world ok
-step-world (Err refusal) s new step world ok err = let P : State → Type 0 = IsWorld in subst P (sym err) world
+pub step-world : {X : Type 0} (r : Result X StepError) (old new : Machine) (before after : Content) (was is : Bool) (step : Step) → IsWorld (state_of old before) was
+    → IsReady (state_of new empty_content) → (IsTrue is → IsTrue was) → (IsTrue is → OnOk r (step_result (state_of old before) step ≡ Ok (state_of new after)))
+    → OnErr r (state_of new empty_content ≡ state_of old empty_content) → (IsTrue is → OnErr r (after ≡ before)) → IsWorld (state_of new after) is
+step-world r old new before after was is step world ready honest made same content = record { ready = ready; reached = λ h. by r (made h) same (content h) (world.reached (honest h)) }
+  where
+    by : {X : Type 0} (r : Result X StepError) → OnOk r (step_result (state_of old before) step ≡ Ok (state_of new after)) → OnErr r (state_of new empty_content ≡ state_of old empty_content)
+        → OnErr r (after ≡ before) → IsReached (state_of old before) → IsReached (state_of new after)
+    by (Ok x) ok err content reached = made-reached (state_of old before) (state_of new after) step reached ok
+    by (Err e) ok err content reached =
+        let there : state_of new after ≡ state_of old before = ap (λ (s : State). record s { content = after }) err ∙ ap (state_of old) content in
+        let P : State → Type 0 = IsReached in subst P (sym there) reached
+
+-- whom a step makes roll back, or take a checkpoint, has to
+pub step-forced : {X : Type 0} (r : Result X StepError) (s new : State) (step : Step) → IsReached s → OnOk r (step_result s step ≡ Ok new) → OnOk r (IsForced s step new)
+step-forced (Ok x) s new step is made = forced-reached s is step new made
+step-forced (Err e) s new step is made = tt
+
+-- ---- opening
+
+fresh-empty : (c : Content) → is_fresh c ≡ true → c ≡ empty_content
+fresh-empty c e = by c.nodes c.board refl refl e
+  where
+    by : (nodes : List NodeRow) (board : List Posted) → c.nodes ≡ nodes → c.board ≡ board → (is_empty nodes && is_empty board) ≡ true → c ≡ empty_content
+    by [] [] n b e = λ i. record { nodes = n i; board = b i }
+    by [] (x ∷ later) n b e = absurd cc
+    by (x ∷ later) board n b e = absurd cc
+
+-- a world that was opened over a fresh store is at its opening
+pub opened-state : (m : Machine) (cast : Cast) (c : Content) → state_of m empty_content ≡ opening cast → is_fresh c ≡ true → state_of m c ≡ opening cast
+opened-state m cast c opened fresh = ap (state_of m) (fresh-empty c fresh) ∙ opened
+
+pub opened-world : (m : Machine) (cast : Cast) (c : Content) (honest : Bool) → state_of m empty_content ≡ opening cast → IsCast cast → AreShort cast
+    → (IsTrue honest → is_fresh c ≡ true) → IsWorld (state_of m c) honest
+unfolding after
+opened-world m cast c honest opened is short fresh = record {
+  ready = let P : State → Type 0 = IsReady in subst P (sym opened) (opening-ready cast is short);
+  reached = λ h. record { cast = cast; is_cast = is; are_short = short; steps = []; leads = sym (opened-state m cast c opened (fresh h)) };
+}

@@ -6,21 +6,21 @@ use Rattle.kt_tuple.specs.Node.{node_index}
 use Rattle.kt_history.specs.Chronicle.{room_of}
 use Rattle.kt_link.specs.Network.{room}
 use Rattle.kt_shard.specs.Table.{at}
-use Rattle.kt_core.specs.declared.plan.Plan.{Plan}
-use Rattle.kt_core.specs.Ready.{HasRoom}
-use Rattle.kt_core.specs.declared.judge.Found.{Found as FoundCode}
+use Rattle.kt_store.specs.Content.{Content}
+use Rattle.kt_node.specs.declared.plan.Plan.{Plan}
+use Rattle.kt_world.specs.declared.step.StepError.{StepError}
+use Rattle.kt_world.specs.declared.step.StepError.TheVariants as refusals
+use Rattle.kt_world.specs.State.{State}
 use Rattle.kt_core.specs.declared.machine.Machine.{Machine}
-use Rattle.kt_core.specs.declared.step.StepError.{StepError}
-use Rattle.kt_core.specs.declared.step.StepError.TheVariants as refusals
-use Rattle.kt_core.specs.State.{State, row_view}
-use Rattle.kt_core.specs.Judge.{Found}
-use Rattle.kt_core.specs.Views.{found_view}
+use Rattle.kt_core.specs.Rows.{HasRoom, row_view}
 
-abbrev pub state_of : Machine → State
-state_of m = record {
+-- the state of the machine beside a store that holds this
+abbrev pub state_of : Machine → Content → State
+state_of m content = record {
   cast = m.scene;
   nodes = map row_view m.nodes.items;
   links = m.links.queues;
+  content = content;
   history = m.history.notes;
   own = m.own.items;
   made = m.made;
@@ -36,11 +36,6 @@ pub record HasRoomFor (m : Machine) (p : NodeId) (plan : Plan) : Type 0 where
 abbrev pub Refuses : {Y : Type 0} → StepError → Result Y StepError → Type 0
 Refuses refusals.OutOfMemory due = IsOk due
 Refuses refusal due = due ≡ Err refusal
-
--- what was found is what is due
-abbrev pub Finds : Result FoundCode StepError → Result Found StepError → Type 0
-Finds (Ok found) due = due ≡ Ok (found_view found)
-Finds (Err refusal) due = due ≡ Err refusal
 
 -- what was answered is what is due, unless memory ran out
 abbrev pub Gives : {Y : Type 0} → Result Y StepError → Result Y StepError → Type 0

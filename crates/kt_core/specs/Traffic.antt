@@ -1,7 +1,7 @@
 -- What is on its way, as the links hold it.
 use Rattle.std.specs.Prelude.{◌≡◌}
 use Rattle.kt_link.specs.Network.{Network}
-use Rattle.kt_core.specs.declared.node.Message.{Message}
+use Rattle.kt_node.specs.declared.message.Message.{Message}
 
 -- the same messages are on their way between the same nodes
 pub record IsSameTraffic (old new : Network Message) : Type 0 where

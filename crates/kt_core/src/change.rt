@@ -1,15 +1,17 @@
 //! Changing a node, once nothing can be refused any more.
 
-ghost use Rattle.std.specs.Prelude.{◌≡◌, ◌<◌, ◌+◌, ◌^◌, Some, None, length, map, OnOk};
-ghost use Rattle.kt_core.specs.State.{body_view, row_view, body_of};
+ghost use Rattle.std.specs.Prelude.{◌≡◌, ◌<◌, ◌+◌, ◌^◌, None, length, map, OnOk, IfSome, IsTrue, unwrap_or};
+ghost use Rattle.std.specs.Option.{option_map};
+ghost use Rattle.kt_core.specs.Rows.{HasRoom, row_view};
+ghost use Rattle.kt_node.specs.Node.{Down};
+ghost use Rattle.kt_node.specs.Ready.{CanChange};
+ghost use Rattle.kt_node.specs.Turning.{changed};
 ghost use Rattle.kt_shard.specs.Table.{at, put};
-ghost use Rattle.kt_core.specs.Effect.{changed, changed_body};
-ghost use Rattle.kt_core.specs.Ready.{CanChange, BodyHasRoom, HasRoom};
 
-use crate::node::{Body, Change, Node};
+use kt_node::{Change, Node};
 use std::alloc::AllocError;
 
-/// Makes room for one more tuple in the node of this row, where it is a shard.
+/// Makes room for one more tuple and one more kept message in the node of this row.
 pub(crate) fn make_room_in_row(nodes: &mut Vec<Option<Node>>, row: usize) -> Result<(), AllocError>
     requires { row < length nodes.old.items }
     ensures room { OnOk result (HasRoom (at None nodes.new.items row)) }
@@ -22,13 +24,8 @@ fn make_room(row: &mut Option<Node>) -> Result<(), AllocError>
     ensures room { OnOk result (HasRoom row.new) }
     ensures same { row_view row.new ≡ row_view row.old }
 {
-    if let Some(
-        Node {
-            body: Some(Body::Shard(shard)),
-        },
-    ) = row
-    {
-        shard.reserve()?;
+    if let Some(node) = row {
+        node.reserve()?;
     }
     Ok(())
 }
@@ -36,20 +33,21 @@ fn make_room(row: &mut Option<Node>) -> Result<(), AllocError>
 /// Changes the node of this row, which takes no memory.
 pub(crate) fn change_node(nodes: &mut Vec<Option<Node>>, row: usize, change: Change)
     requires row { row < length nodes.old.items }
-    requires can { CanChange (body_of (at None (map row_view nodes.old.items) row)) change }
+    requires can { CanChange (unwrap_or (at None (map row_view nodes.old.items) row) Down) change }
     requires room { HasRoom (at None nodes.old.items row) }
-    ensures { map row_view nodes.new.items ≡ put None (map row_view nodes.old.items) row (changed (at None (map row_view nodes.old.items) row) change) }
+    ensures { map row_view nodes.new.items ≡
+        put None (map row_view nodes.old.items) row (option_map (changed change) (at None (map row_view nodes.old.items) row)) }
 {
     change_row(&mut nodes[row], change);
 }
 
 fn change_row(row: &mut Option<Node>, change: Change)
-    requires can { CanChange (body_of (row_view row.old)) change }
+    requires can { CanChange (unwrap_or (row_view row.old) Down) change }
     requires room { HasRoom row.old }
-    ensures { row_view row.new ≡ changed (row_view row.old) change }
+    ensures { row_view row.new ≡ option_map (changed change) (row_view row.old) }
 {
-    if let Some(Node { body: Some(body) }) = row {
-        body.change(change);
+    if let Some(node) = row {
+        node.change(change);
     }
 }
 
@@ -60,21 +58,4 @@ pub(crate) fn count(own: &mut Vec<u64>, row: usize)
     ensures { own.new.items ≡ put 0 own.old.items row (at 0 own.old.items row + 1) }
 {
     own[row] += 1;
-}
-
-impl Body {
-    fn change(&mut self, change: Change)
-        requires can { CanChange (Some (body_view self.old)) change }
-        requires room { BodyHasRoom self.old }
-        ensures { body_view self.new ≡ changed_body (body_view self.old) change }
-    {
-        match (self, change) {
-            (Body::Worker(worker), Change::Work(changed)) => *worker = changed,
-            (Body::Shard(shard), Change::Wait { worker, request }) => shard.wait(worker, request),
-            (Body::Shard(shard), Change::Serve { worker, service }) => {
-                shard.carry_out(worker, service);
-            }
-            _ => {}
-        }
-    }
 }

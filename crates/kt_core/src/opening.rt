@@ -1,55 +1,53 @@
 //! The tables of a world that was just opened.
 
-ghost use Rattle.std.specs.Prelude.{◌≡◌, map, IfOk, replicate};
-ghost use Rattle.kt_core.specs.Limits.{rows};
+ghost use Rattle.std.specs.Prelude.{◌≡◌, ℕ, map, [], IfOk, IfSome, replicate, slice_get};
+ghost use Rattle.kt_world.specs.Limits.{rows};
 ghost use Rattle.kt_shard.specs.Limits.{desks};
-ghost use Rattle.kt_core.specs.State.{row_view};
-ghost use Rattle.kt_core.specs.Reached.{opening_rows, opening_worker, opening_shard};
+ghost use Rattle.kt_core.specs.Rows.{row_view};
+ghost use Rattle.kt_world.specs.Reached.{opening_row, opening_rows};
+ghost use Rattle.kt_world.specs.Short.{IsShort};
 
-use crate::node::{Body, Node};
 use crate::scene::Scene;
-use crate::tables::{NUMBERS, ROWS};
-use kt_shard::Shard;
+use kt_node::Node;
+use kt_script::Script;
 use kt_tuple::NodeId;
-use kt_worker::Worker;
 use std::alloc::{AllocError, Global};
 
-/// The row of the worker of this number.
-fn worker_row(alloc: Global, scene: &Scene, number: u8) -> Result<Option<Node>, AllocError>
-    ensures { IfOk result (λ row. row_view row ≡ opening_worker scene.now.scripts number) }
+/// How many rows a table with one for each node has: workers and shards are numbered from 1 to 8.
+const ROWS: usize = 18;
+
+/// The numbers that workers and shards can have, 0 counted.
+const NUMBERS: u8 = 9;
+
+/// The row of the node, which is empty where the scene has no such node.
+fn row(
+    alloc: Global,
+    scene: &Scene,
+    no_script: &Script,
+    id: NodeId,
+) -> Result<Option<Node>, AllocError>
+    requires { no_script.now ≡ [] }
+    ensures { IfOk result (λ row. row_view row ≡ opening_row scene.now id) }
 {
-    match scene.script_of(NodeId::Worker(number)) {
-        Some(script) => {
-            let worker = Worker::new(alloc, script)?;
-            Ok(Some(Node {
-                body: Some(Body::Worker(worker)),
-            }))
-        }
+    match scene.role(no_script, id) {
+        Some(role) => Ok(Some(Node::open(alloc, role)?)),
         None => Ok(None),
     }
 }
 
-/// The row of the shard of this number.
-fn shard_row(alloc: Global, scene: &Scene, number: u8) -> Result<Option<Node>, AllocError>
-    ensures { IfOk result (λ row. row_view row ≡ opening_shard scene.now.shards number) }
-{
-    if !scene.has_shard(NodeId::Shard(number)) {
-        return Ok(None);
-    }
-    let shard = Shard::new(alloc)?;
-    Ok(Some(Node {
-        body: Some(Body::Shard(shard)),
-    }))
-}
-
 /// The table of nodes.
-pub(crate) fn opening_nodes(alloc: Global, scene: &Scene) -> Result<Vec<Option<Node>>, AllocError>
+pub(crate) fn opening_nodes(
+    alloc: Global,
+    scene: &Scene,
+    no_script: &Script,
+) -> Result<Vec<Option<Node>>, AllocError>
+    requires { no_script.now ≡ [] }
     ensures { IfOk result (λ nodes. map row_view nodes.items ≡ opening_rows scene.now desks) }
 {
     let mut nodes = Vec::with_capacity(alloc, ROWS)?;
     for number in 0..NUMBERS {
-        let worker = worker_row(alloc, scene, number)?;
-        let shard = shard_row(alloc, scene, number)?;
+        let worker = row(alloc, scene, no_script, NodeId::Worker(number))?;
+        let shard = row(alloc, scene, no_script, NodeId::Shard(number))?;
         nodes.push(worker)?;
         nodes.push(shard)?;
     }
@@ -61,4 +59,13 @@ pub(crate) fn no_counts(alloc: Global) -> Result<Vec<u64>, AllocError>
     ensures { IfOk result (λ own. own.items ≡ replicate rows 0) }
 {
     vec![in alloc; 0; ROWS]
+}
+
+/// Each of the scripts is within the limits that it was made with.
+pub(crate) fn scripts_are_short(scripts: &[Script])
+    ensures { (n : ℕ) → IfSome (slice_get scripts.now n) IsShort }
+{
+    for script in scripts {
+        script.commands();
+    }
 }

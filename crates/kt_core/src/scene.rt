@@ -1,8 +1,12 @@
+//! Who takes part in a world.
+
 ghost use Rattle.std.specs.Prelude.{◌≡◌, ◌↔◌, ◌≤◌, length, IsSome, IfSome};
 ghost use Rattle.std.specs.Option.{option_copied};
 
+use kt_node::Role;
 use kt_script::Script;
 use kt_tuple::NodeId;
+use kt_world::Step;
 use std::marker::Model;
 
 /// The most workers of a scene.
@@ -19,7 +23,7 @@ pub struct Scene {
 }
 
 impl Model for Scene {
-    ghost use Rattle.kt_core.specs.Cast.{Cast, IsCast};
+    ghost use Rattle.kt_world.specs.Cast.{Cast, IsCast};
 
     ghost Value = { Cast };
 
@@ -29,7 +33,10 @@ impl Model for Scene {
 }
 
 impl Scene {
-    ghost use Rattle.kt_core.specs.Cast.{Cast, IsCast, script_in, is_worker, is_shard, are_neighbours};
+    ghost use Rattle.std.specs.Prelude.{[], is_some};
+    ghost use Rattle.kt_world.specs.Cast.{Cast, IsCast, script_in, is_worker, is_shard, is_node, are_neighbours, is_in_scene};
+    ghost use Rattle.kt_world.specs.State.{role_of};
+    ghost use Rattle.kt_node.specs.Views.{role_view};
 
     /// The scene of so many shards and of a worker for each script, or `None` where there are not
     /// 1 to 8 of each.
@@ -96,5 +103,53 @@ impl Scene {
         ensures { result ≡ are_neighbours self.now p q }
     {
         self.has_worker(p) && self.has_shard(q) || self.has_shard(p) && self.has_worker(q)
+    }
+
+    /// Who the node is, where the scene has it. A shard's script is the one with no command.
+    pub(crate) fn role<'a>(&'a self, no_script: &'a Script, id: NodeId) -> Option<Role<'a>>
+        requires { no_script.now ≡ [] }
+        ensures there { is_some result ≡ is_node self.now id }
+        ensures role { IfSome result (λ r. role_view r ≡ role_of self.now id) }
+    {
+        match id {
+            NodeId::Worker(_) => {
+                let script = self.script_of(id)?;
+                let peers = self.shards;
+                Some(Role { id, peers, script })
+            }
+            NodeId::Shard(_) => {
+                if !self.has_shard(id) {
+                    return None;
+                }
+                let peers = self.scripts.len() as u8;
+                let script = no_script;
+                Some(Role { id, peers, script })
+            }
+        }
+    }
+
+    /// Whether the node is in the scene.
+    pub(crate) fn has(&self, node: NodeId) -> bool
+        ensures { result ≡ is_node self.now node }
+    {
+        self.has_worker(node) || self.has_shard(node)
+    }
+
+    /// Whether the step names nodes of the scene, of the kinds that it is for.
+    pub(crate) fn is_for(&self, step: Step) -> bool
+        ensures { result ≡ is_in_scene self.now step }
+    {
+        match step {
+            Step::Issue { node } | Step::Repeat { node } => self.has_worker(node),
+            Step::Deliver { from, to } => self.are_neighbours(from, to),
+            Step::Serve { shard, worker, .. } => self.has_shard(shard) && self.has_worker(worker),
+            Step::Take { node }
+            | Step::Check { node }
+            | Step::Decide { node }
+            | Step::Abandon { node }
+            | Step::Learn { node }
+            | Step::Fail { node }
+            | Step::Restart { node } => self.has(node),
+        }
     }
 }

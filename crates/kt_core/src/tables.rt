@@ -1,35 +1,42 @@
-//! Tables by the numbers of the nodes.
+//! What the table of nodes says of them.
 
-ghost use Rattle.std.specs.Prelude.{◌≡◌, map, None};
-ghost use Rattle.std.specs.Option.{option_copied, option_map};
-ghost use Rattle.kt_core.specs.State.{body_of, body_view, row_view, node_number};
+ghost use Rattle.std.specs.Prelude.{◌≡◌, None, map};
+ghost use Rattle.std.specs.List.{list_all};
+ghost use Rattle.std.specs.Option.{option_map};
+ghost use Rattle.kt_core.specs.Rows.{row_view};
 ghost use Rattle.kt_shard.specs.Table.{at};
 ghost use Rattle.kt_tuple.specs.Node.{node_index};
+ghost use Rattle.kt_tuple.specs.declared.node.NodeId.TheVariants as ids;
+ghost use Rattle.kt_core.specs.Rows.{is_steady_code};
+ghost use Rattle.kt_world.specs.Headline.{lent_by};
 
-use crate::node::{Body, Node};
+use kt_node::{Mode, Node};
+use kt_space::Bag;
 use kt_tuple::NodeId;
 
-/// How many rows a table with one for each node has: workers and shards are numbered from 1 to 8.
-pub(crate) const ROWS: usize = 18;
-
-/// The numbers that workers and shards can have, 0 counted.
-pub(crate) const NUMBERS: u8 = 9;
-
-/// The node's number among the workers or the shards.
-pub(crate) fn number_of(node: NodeId) -> u8
-    ensures { result ≡ node_number node }
+/// Whether there is no node in the row, or one that is not down and does not roll back.
+fn is_steady_row(row: &Option<Node>) -> bool
+    ensures { result ≡ is_steady_code row.now }
 {
-    match node {
-        NodeId::Worker(number) | NodeId::Shard(number) => number,
+    match row {
+        None => true,
+        Some(node) => matches!(node.mode(), Mode::Up | Mode::Held),
     }
 }
 
-/// What the node works with, where there is such a node and it is not down.
-pub(crate) fn body_at(nodes: &[Option<Node>], node: NodeId) -> Option<&Body>
-    ensures { option_map (λ y. body_view y.now) result ≡ body_of (at None (map row_view nodes.now) (node_index node)) }
+/// Whether no node is down or rolls back.
+pub(crate) fn are_steady(nodes: &[Option<Node>]) -> bool
+    ensures { result ≡ list_all is_steady_code nodes.now }
 {
-    match nodes.get(node.index()) {
-        Some(Some(node)) => node.body.as_ref(),
+    nodes.iter().all(|row| is_steady_row(row))
+}
+
+/// The bag of the shard of this number, where it is not down.
+pub(crate) fn bag_at(nodes: &[Option<Node>], number: u8) -> Option<&Bag>
+    ensures { option_map (λ b. b.now.tuples) result ≡ lent_by (at None (map row_view nodes.now) (node_index (ids.Shard number))) }
+{
+    match nodes.get(NodeId::Shard(number).index()) {
+        Some(Some(node)) => Some(node.shard()?.bag()),
         _ => None,
     }
 }

@@ -5,14 +5,14 @@ ghost use Rattle.std.specs.List.{AllByRecursion};
 ghost use Rattle.kt_history.specs.Chronicle.{node_of, room_of};
 ghost use Rattle.kt_history.specs.WellFormed.{MayFollow};
 ghost use Rattle.kt_link.specs.Network.{AreNeighbours, place, room};
-ghost use Rattle.kt_core.specs.Effect.{sent, taken_off, noted};
+ghost use Rattle.kt_world.specs.Effect.{sent, taken_off, noted};
 ghost use Rattle.kt_core.specs.Traffic.{IsSameTraffic};
 
-use crate::node::Message;
-use crate::step::Step;
 use kt_history::{History, Note};
 use kt_link::Links;
+use kt_node::Message;
 use kt_tuple::NodeId;
+use kt_world::Step;
 use std::alloc::AllocError;
 
 /// Makes room on the links for these messages of the owner.

@@ -1,16 +1,25 @@
-ghost use Rattle.std.specs.Prelude.{◌≡◌, ◌↔◌, IsSome, IfOk, IfErr, OnOk, OnErr, Ok, Some, None, map};
-ghost use Rattle.kt_core.specs.declared.step.Mode.TheVariants.{Up};
-ghost use Rattle.kt_core.specs.Reached.{mode_of};
-ghost use Rattle.kt_core.specs.State.{row_view};
-ghost use Rattle.kt_shard.specs.Table.{at};
-ghost use Rattle.kt_tuple.specs.Node.{node_index};
+//! The world: what its callers see of it, and its step.
 
+ghost use Rattle.std.specs.Prelude.{◌≡◌, ◌≤◌, ◌↔◌, false, true, is_some, map, IfErr, IfOk, IsTrue, Ok, OnErr, OnOk};
+ghost use Rattle.std.specs.Option.{option_map};
+ghost use Rattle.kt_store.specs.Content.{is_fresh};
+ghost use Rattle.kt_tuple.specs.Node.{node_index};
+ghost use Rattle.kt_shard.specs.Table.{at};
+ghost use Rattle.kt_core.specs.declared.world.OpenError.TheVariants as opened;
+
+use crate::judging::is_refused;
 use crate::machine::Machine;
-use crate::node::Node;
+use crate::reading::tell;
 use crate::scene::Scene;
-use crate::step::{Mode, Step, StepError};
+use crate::space::permanent_tuples;
+use crate::stepping::make;
+use crate::tables::{are_steady, bag_at};
 use kt_history::History;
-use kt_tuple::NodeId;
+use kt_node::Mode;
+use kt_space::Bag;
+use kt_store::{CkptStore, StoreError};
+use kt_tuple::{NodeId, Tuple};
+use kt_world::{Step, StepError};
 use std::alloc::Global;
 use std::marker::Model;
 use thiserror::Error;
@@ -18,100 +27,178 @@ use thiserror::Error;
 /// Why a world was not opened.
 #[derive(Clone, Copy, Debug, PartialEq, Eq, Error)]
 pub enum OpenError {
+    /// Something was stored before.
+    #[error("NotFresh")]
+    NotFresh,
+    /// A call of the store was refused.
+    #[error("Store")]
+    Store(StoreError),
     /// Memory ran out.
     #[error("OutOfMemory")]
     OutOfMemory,
 }
 
-/// A world that was not opened, and the scene that was to be its own.
+/// A world that was not opened, and what was to be its own.
 #[derive(Debug, Drop)]
-pub struct OpenRefused {
+pub struct OpenRefused<S> {
     /// Why.
     pub cause: OpenError,
-    /// What was handed in.
+    /// The scene that was handed in.
     pub scene: Scene,
+    /// The store that was handed in.
+    pub store: S,
 }
 
-/// The workers and shards of a scene, what is on its way between them, and what happened so far. Each value
-/// is what some list of steps leads to from the opening of some scene.
+/// The workers and shards of a scene, what is on its way between them, what happened so far, and the store with their
+/// checkpoints. While the store is honest, each value is what some list of steps leads to from the opening of some
+/// scene.
 #[derive(Debug, Drop)]
-pub struct World {
+pub struct World<S: CkptStore> {
     machine: Machine,
+    store: S,
 }
 
-impl Model for World {
-    ghost use Rattle.std.specs.Prelude.{◌≡◌};
-    ghost use Rattle.kt_core.specs.State.{State};
-
-    ghost Value = { State };
-
+impl<S: CkptStore> Model for World<S> {
     ghost use Rattle.kt_core.specs.Machine.{state_of};
-    ghost use Rattle.kt_core.specs.Reached.{IsWorld};
+    ghost use Rattle.kt_core.specs.World.{IsWorld, Standing};
 
-    ghost view = { λ w. state_of w.machine };
+    ghost Value = { Standing };
 
-    ghost invariant = { λ w. IsWorld (state_of w.machine) };
+    ghost view = { λ w. record {
+      state = state_of w.machine (S.content w.store);
+      is_honest = S.is_honest w.store;
+      faults = S.fault_count w.store;
+    } };
+
+    ghost invariant = { λ w. IsWorld (state_of w.machine (S.content w.store)) (S.is_honest w.store) };
 }
 
-impl World {
-    ghost use Rattle.kt_core.specs.Effect.{step_result};
-    ghost use Rattle.kt_core.specs.Machine.{Refuses};
-    ghost use Rattle.kt_core.specs.Headline.{Headline, AppendsActOf};
-    ghost use Rattle.kt_core.specs.Step.{owner};
-    ghost use Rattle.kt_core.specs.Reached.{opening};
-    ghost use Rattle.kt_core.specs.State.{IsInScene, node};
+impl<S: CkptStore> World<S> {
+    ghost use Rattle.kt_core.specs.Stepping.{IsCause, Refuses};
+    ghost use Rattle.kt_core.specs.Store.{IsFault};
+    ghost use Rattle.kt_core.specs.World.{IsOpenCause, beside};
+    ghost use Rattle.kt_world.specs.Cast.{is_node};
+    ghost use Rattle.kt_world.specs.Effect.{step_result};
+    ghost use Rattle.kt_world.specs.Cut.{permanent_tuples};
+    ghost use Rattle.kt_world.specs.Forced.{IsForced};
+    ghost use Rattle.kt_world.specs.Headline.{Headline, is_steady, lent_bags};
+    ghost use Rattle.kt_world.specs.Judge.{is_enabled, planned};
+    ghost use Rattle.kt_world.specs.Reached.{opening};
+    ghost use Rattle.kt_world.specs.State.{node};
+    ghost use Rattle.kt_node.specs.Node.{mode_of};
 
-    /// The world of the scene, in which nothing was done yet. Only want of memory refuses it, and then the
-    /// scene comes back.
-    pub fn open(alloc: Global, scene: Scene) -> Result<World, OpenRefused>
-        ensures opened { IfOk result (λ w. w ≡ opening scene) }
-        ensures headline { IfOk result (λ w. Headline w) }
-        ensures back { IfErr result (λ refused. refused.scene ≡ scene) }
+    /// The world of the scene over a store on which nothing was ever stored. Where it is refused, scene and store come
+    /// back, and the store holds what it held.
+    pub fn open(alloc: Global, scene: Scene, store: S) -> Result<World<S>, OpenRefused<S>>
+        ensures opened { IfOk result (λ w. IsTrue w.is_honest → w.state ≡ opening scene) }
+        ensures fresh { IfOk result (λ w. IsTrue w.is_honest → is_fresh (S.content store) ≡ true) }
+        ensures honest { IfOk result (λ w. IsTrue w.is_honest → IsTrue (S.is_honest store)) }
+        ensures headline { IfOk result (λ w. IsTrue w.is_honest → Headline w.state) }
+        ensures scene_back { IfErr result (λ refused. refused.scene ≡ scene) }
+        ensures content_back { IfErr result (λ refused.
+            IsTrue (S.is_honest refused.store) → S.content refused.store ≡ S.content store) }
+        ensures honest_back { IfErr result (λ refused. IsTrue (S.is_honest refused.store) → IsTrue (S.is_honest store)) }
+        ensures not_fresh { IfErr result (λ refused.
+            refused.cause ≡ opened.NotFresh → IsTrue (S.is_honest refused.store) → is_fresh (S.content store) ≡ false) }
+        ensures cause { IfErr result (λ refused.
+            IsOpenCause (S.fault_count store) (S.fault_count refused.store) (S.is_honest refused.store) refused.cause) }
+        ensures later { IfOk result (λ w. S.fault_count store ≤ w.faults) }
+        ensures later_back { IfErr result (λ refused. S.fault_count store ≤ S.fault_count refused.store) }
     {
-        match Machine::open(alloc, scene) {
-            Ok(machine) => Ok(World { machine }),
-            Err(scene) => Err(OpenRefused {
-                cause: OpenError::OutOfMemory,
+        let mut store = store;
+        match store.is_fresh() {
+            Ok(true) => World::open_fresh(alloc, scene, store),
+            Ok(false) => Err(OpenRefused {
+                cause: OpenError::NotFresh,
                 scene,
+                store,
+            }),
+            Err(refusal) => Err(OpenRefused {
+                cause: OpenError::Store(refusal),
+                scene,
+                store,
             }),
         }
     }
 
-    /// Makes the step. A refused step changes nothing; of several refusals the first that stands comes,
-    /// and `OutOfMemory` only where memory ran out.
-    pub fn step(&mut self, alloc: Global, step: Step) -> Result<(), StepError>
-        ensures effect { OnOk result (step_result self.old step ≡ Ok self.new) }
-        ensures refusal { IfErr result (λ e. Refuses e (step_result self.old step)) }
-        ensures same { OnErr result (self.new ≡ self.old) }
-
-        // What a step notes is one act of its owner.
-        ensures one_note { OnOk result (AppendsActOf (owner step) self.old.history self.new.history) }
-        ensures headline { Headline self.new }
+    /// The same over a store that says that nothing was ever stored on it.
+    fn open_fresh(alloc: Global, scene: Scene, store: S) -> Result<World<S>, OpenRefused<S>>
+        requires { IsTrue (S.is_honest store) → is_fresh (S.content store) ≡ true }
+        ensures opened { IfOk result (λ w. IsTrue w.is_honest → w.state ≡ opening scene) }
+        ensures honest { IfOk result (λ w. w.is_honest ≡ S.is_honest store) }
+        ensures headline { IfOk result (λ w. IsTrue w.is_honest → Headline w.state) }
+        ensures scene_back { IfErr result (λ refused. refused.scene ≡ scene) }
+        ensures faults { IfOk result (λ w. w.faults ≡ S.fault_count store) }
+        ensures store_back { IfErr result (λ refused. refused.store ≡ store) }
+        ensures cause { IfErr result (λ refused. refused.cause ≡ opened.OutOfMemory) }
     {
-        self.machine.step(alloc, step)
+        match Machine::open(alloc, scene) {
+            Ok(machine) => Ok(World { machine, store }),
+            Err(scene) => Err(OpenRefused {
+                cause: OpenError::OutOfMemory,
+                scene,
+                store,
+            }),
+        }
+    }
+
+    /// Makes the step. It makes a node that is up roll back, or take a checkpoint that it did not begin, only where that
+    /// has to be (`IsForced`). A refused step changes nothing; of several refusals the first that stands comes, `Store` where
+    /// a call of the store was refused or gave a checkpoint that does not fit the node, and `OutOfMemory` only where
+    /// memory ran out.
+    pub fn step(&mut self, alloc: Global, step: Step) -> Result<(), StepError>
+        ensures effect { IsTrue self.new.is_honest → OnOk result (step_result self.old.state step ≡ Ok self.new.state) }
+        ensures refusal { IsTrue self.new.is_honest → IfErr result (λ e. Refuses e (planned self.old.state step)) }
+        ensures same { IsTrue self.new.is_honest → OnErr result (self.new.state ≡ self.old.state) }
+        ensures beside { OnErr result (beside self.new.state ≡ beside self.old.state) }
+        ensures honest { IsTrue self.new.is_honest → IsTrue self.old.is_honest }
+        ensures later { self.old.faults ≤ self.new.faults }
+        ensures cause { IfErr result (IsCause self.old.faults self.new.faults self.new.is_honest (planned self.old.state step)) }
+        ensures headline { IsTrue self.new.is_honest → Headline self.new.state }
+        ensures forced { IsTrue self.new.is_honest → OnOk result (IsForced self.old.state step self.new.state) }
+    {
+        make(&mut self.machine, &mut self.store, alloc, step)
+    }
+
+    /// Whether the step is enabled: nothing but the store or want of memory would refuse it. The store's refusal, where
+    /// the store does not say what has to be known. It takes what the making of the step's plan takes.
+    pub fn can(&mut self, alloc: Global, step: Step) -> Result<bool, StoreError>
+        ensures value { IsTrue self.new.is_honest → IfOk result (λ can. can ≡ is_enabled self.old.state step) }
+        ensures same { IsTrue self.new.is_honest → self.new.state ≡ self.old.state }
+        ensures beside { beside self.new.state ≡ beside self.old.state }
+        ensures honest { IsTrue self.new.is_honest → IsTrue self.old.is_honest }
+        ensures later { self.old.faults ≤ self.new.faults }
+        ensures cause { IfErr result (IsFault self.old.faults self.new.faults self.new.is_honest) }
+    {
+        let needs = self.machine.needs(step);
+        let told = tell(&mut self.store, alloc, step.owner(), needs)?;
+        let planned = self.machine.plan(alloc, told, step);
+        Ok(!is_refused(&planned))
     }
 
     /// What happened so far.
     pub fn history(&self) -> &History
-        ensures value { result.now.notes ≡ self.now.history }
-        ensures headline { Headline self.now }
+        ensures value { result.now.notes ≡ self.now.state.history }
+        ensures headline { IsTrue self.now.is_honest → Headline self.now.state }
     {
         &self.machine.history
     }
 
     /// The scene that it was opened with.
     pub fn scene(&self) -> &Scene
-        ensures shards { result.now.shards ≡ self.now.cast.shards }
-        ensures scripts { result.now.scripts ≡ self.now.cast.scripts }
+        ensures { result.now ≡ self.now.state.cast }
     {
         &self.machine.scene
     }
 
     /// How many steps of its own the node made, 0 for a node that is not in the scene.
     pub fn steps_of(&self, id: NodeId) -> u64
-        ensures value { result ≡ at 0 self.now.own (node_index id) }
-        ensures absent { ¬ IsInScene self.now id → result ≡ 0 }
+        ensures value { IsTrue (is_node self.now.state.cast id) → result ≡ at 0 self.now.state.own (node_index id) }
+        ensures absent { is_node self.now.state.cast id ≡ false → result ≡ 0 }
     {
+        if !self.machine.scene.has(id) {
+            return 0;
+        }
         match self.machine.own.get(id.index()) {
             Some(count) => *count,
             None => 0,
@@ -120,21 +207,61 @@ impl World {
 
     /// What state the node is in, `None` for a node that is not in the scene.
     pub fn mode(&self, id: NodeId) -> Option<Mode>
-        ensures value { result ≡ mode_of (node self.now id) }
-        ensures there { IsSome result ↔ IsInScene self.now id }
-        ensures up { IsInScene self.now id → result ≡ Some Up }
+        ensures value { result ≡ option_map mode_of (node self.now.state id) }
+        ensures there { is_some result ≡ is_node self.now.state.cast id }
     {
-        mode_at(&self.machine.nodes, id)
+        match self.machine.nodes.get(id.index()) {
+            Some(Some(node)) => Some(node.mode()),
+            _ => None,
+        }
     }
-}
 
-/// What state the node is in, by the table of nodes.
-fn mode_at(nodes: &[Option<Node>], id: NodeId) -> Option<Mode>
-    ensures { result ≡ mode_of (at None (map row_view nodes.now) (node_index id)) }
-{
-    match nodes.get(id.index()) {
-        Some(Some(node)) if node.body.is_some() => Some(Mode::Up),
-        Some(Some(_)) => Some(Mode::Down),
-        _ => None,
+    /// Whether no node is down or rolls back. It takes no memory.
+    pub fn is_steady(&self) -> bool
+        ensures value { result ≡ is_steady self.now.state }
+        ensures headline { IsTrue self.now.is_honest → Headline self.now.state }
+    {
+        are_steady(&self.machine.nodes)
+    }
+
+    /// For each shard in order its bag: none while it is down, and none past the last shard. It takes no memory.
+    pub fn bags(&self) -> [Option<&Bag>; 8]
+        ensures value { map (λ bag. option_map (λ b. b.now.tuples) bag) result ≡ lent_bags self.now.state }
+        ensures headline { IsTrue self.now.is_honest → Headline self.now.state }
+    {
+        let nodes = &self.machine.nodes;
+        [
+            bag_at(nodes, 1),
+            bag_at(nodes, 2),
+            bag_at(nodes, 3),
+            bag_at(nodes, 4),
+            bag_at(nodes, 5),
+            bag_at(nodes, 6),
+            bag_at(nodes, 7),
+            bag_at(nodes, 8),
+        ]
+    }
+
+    /// The tuples of each shard's permanent checkpoint, shard after shard; a tentative one counts from the moment that
+    /// its Yes is written. The store's refusal, or `Memory`.
+    pub fn permanent_space(&mut self, alloc: Global) -> Result<Vec<Tuple>, StoreError>
+        ensures value { IsTrue self.new.is_honest → IfOk result (λ tuples. tuples.items ≡ permanent_tuples self.old.state) }
+        ensures headline { IsTrue self.new.is_honest → Headline self.old.state }
+        ensures same { IsTrue self.new.is_honest → self.new.state ≡ self.old.state }
+        ensures beside { beside self.new.state ≡ beside self.old.state }
+        ensures honest { IsTrue self.new.is_honest → IsTrue self.old.is_honest }
+        ensures later { self.old.faults ≤ self.new.faults }
+        ensures cause { IfErr result (IsFault self.old.faults self.new.faults self.new.is_honest) }
+    {
+        permanent_tuples(&mut self.store, alloc, self.machine.scene.shards())
+    }
+
+    /// Hands the store on.
+    pub fn into_store(self) -> S
+        ensures content { S.content result ≡ self.state.content }
+        ensures honest { S.is_honest result ≡ self.is_honest }
+        ensures faults { S.fault_count result ≡ self.faults }
+    {
+        self.store
     }
 }

@@ -4,18 +4,31 @@ ghost use Rattle.std.specs.Prelude.{◌<◌};
 
 /// Numbers by a linear congruential generator (Knuth, "The Art of Computer Programming", volume 2).
 #[derive(Drop)]
-pub(crate) struct Draws(pub(crate) u64);
+pub(crate) struct Draws(u64);
 
 impl Draws {
+    /// Those of this seed. Seeds that are close have others.
+    pub(crate) fn of(seed: u64) -> Draws {
+        let mut draws = Draws(seed);
+        draws.go_on();
+        draws.0 ^= draws.0 >> 29;
+        draws.go_on();
+        draws
+    }
+
+    fn go_on(&mut self) {
+        self.0 = self
+            .0
+            .wrapping_mul(6_364_136_223_846_793_005)
+            .wrapping_add(1_442_695_040_888_963_407);
+    }
+
     /// The next number below `count`.
     pub(crate) fn below(&mut self, count: u64) -> u64
         requires { 0 < count }
         ensures { result < count }
     {
-        self.0 = self
-            .0
-            .wrapping_mul(6_364_136_223_846_793_005)
-            .wrapping_add(1_442_695_040_888_963_407);
+        self.go_on();
         (self.0 >> 33) % count
     }
 

@@ -2,8 +2,10 @@
 
 use crate::making::{S1, W1, scripts};
 use crate::rows::{counts, leaves, made};
+use crate::scenes::Game;
 use crate::worlds::PUTTER_AND_TAKER;
 use kt_core::{OpenError, OpenRefused, Scene, Step, StepError, World};
+use kt_store::{MemStore, StoreError};
 use std::alloc::{AllocError, Global};
 use std::process::Abort;
 use std::test::Fail;
@@ -53,33 +55,43 @@ impl Little {
     }
 }
 
-/// The scene that came back.
-fn given_back(rt: &impl Abort, refused: OpenRefused) -> Scene {
-    let scene = refused.scene;
-    assert!(rt; refused.cause == OpenError::OutOfMemory);
+/// The scene and the store that came back.
+fn given_back(rt: &impl Abort, refused: OpenRefused<MemStore>) -> (Scene, MemStore) {
+    let OpenRefused {
+        cause,
+        scene,
+        store,
+    } = refused;
+    assert!(rt; cause == OpenError::OutOfMemory);
     assert!(rt; scene.shards() == 1 && scene.scripts().len() == 1);
-    scene
+    (scene, store)
 }
 
-/// Opens the scene with a little more memory each time. Until it is opened the scene comes back.
+/// Opens the scene with a little more memory each time. Until it is opened scene and store come back.
 fn open_with_little(
     rt: &impl Abort,
     alloc: Global,
     scene: Scene,
     little: &mut Little,
-) -> Result<World, Fail> {
-    let mut scene = scene;
+) -> Result<Game, Fail> {
+    let mut parts = (scene, MemStore::new(alloc));
     for round in 0..2000usize {
-        match World::open(alloc, scene) {
+        let (scene, store) = parts;
+        match World::open(alloc, scene, store) {
             Ok(world) => {
                 assert!(rt; round > 10, "{round}");
                 return Ok(world);
             }
-            Err(refused) => scene = given_back(rt, refused),
+            Err(refused) => parts = given_back(rt, refused),
         }
         little.give_back_one();
     }
     Err(Fail::new("never opened"))
+}
+
+/// Whether memory ran out, in the world or in its store.
+fn is_of_memory(error: StepError) -> bool {
+    error == StepError::OutOfMemory || error == StepError::Store(StoreError::Memory)
 }
 
 /// Makes the step with a little more memory each time. Until it is made nothing changes.
@@ -87,7 +99,7 @@ fn open_with_little(
 fn step_with_little(
     rt: &impl Abort,
     alloc: Global,
-    world: &mut World,
+    world: &mut Game,
     step: Step,
     little: &mut Little,
 ) -> Result<bool, Fail> {
@@ -95,7 +107,7 @@ fn step_with_little(
     for round in 0..2000usize {
         match world.step(alloc, step) {
             Ok(()) => return Ok(round > 0),
-            Err(error) => assert!(rt; error == StepError::OutOfMemory, "{step:?}"),
+            Err(error) => assert!(rt; is_of_memory(error), "{step:?}"),
         }
         assert!(rt; counts(world, step.owner()) == before, "{step:?}");
         little.give_back_one();
@@ -117,16 +129,29 @@ const SERVE: Step = Step::Serve {
     place: 0,
 };
 
-/// Steps of each kind.
-const STEPS: [Step; 10] = [
-    ISSUE, HEAR, SERVE, REPEAT, HEAR, ACCEPT, ACCEPT, ISSUE, HEAR, SERVE,
+const CHECK: Step = Step::Check { node: W1 };
+
+const DECIDE: Step = Step::Decide { node: W1 };
+
+const LEARN: Step = Step::Learn { node: W1 };
+
+const TAKE: Step = Step::Take { node: W1 };
+
+const FAIL: Step = Step::Fail { node: W1 };
+
+const RESTART: Step = Step::Restart { node: W1 };
+
+/// Two requests; a check to its end, with a reply that is kept meanwhile; a failure of the worker and its rollback.
+const STEPS: [Step; 26] = [
+    ISSUE, HEAR, SERVE, REPEAT, HEAR, ACCEPT, ACCEPT, ISSUE, HEAR, SERVE, CHECK, HEAR, ACCEPT,
+    ACCEPT, HEAR, ACCEPT, DECIDE, LEARN, TAKE, HEAR, FAIL, RESTART, HEAR, ACCEPT, ACCEPT, DECIDE,
 ];
 
 /// Makes the steps, each with all memory taken but what it needs. Some are refused before they are made.
 fn steps_with_little(
     rt: &impl Abort,
     alloc: Global,
-    world: &mut World,
+    world: &mut Game,
     steps: &[Step],
     little: &mut Little,
 ) -> Result<(), Fail> {
@@ -142,7 +167,7 @@ fn steps_with_little(
 }
 
 /// The world in which the steps were made with little memory, when the hoard is given back.
-fn played_with_little(rt: &impl Abort, alloc: Global) -> Result<World, Fail> {
+fn played_with_little(rt: &impl Abort, alloc: Global) -> Result<Game, Fail> {
     let scene = Scene::new(1, scripts(alloc, &PUTTER_AND_TAKER)?).ok_or("a scene")?;
     let mut little = Little::new(alloc)?;
     hoard_all(alloc, &mut little.hoard)?;
@@ -161,6 +186,6 @@ const SURVIVORS: [&str; 2] = [
 fn little_memory(rt: HostRuntime) -> Result<(), Fail> {
     let world = played_with_little(&rt, rt.alloc())?;
     leaves(&rt, rt.alloc(), &world, &SURVIVORS, &[])?;
-    made(&rt, &world, &[(W1, 5), (S1, 5)]);
+    made(&rt, &world, &[(W1, 17), (S1, 9)]);
     Ok(())
 }

@@ -2,8 +2,9 @@
 
 use crate::making::{S1, W1, W2, opened, scripts};
 use crate::rows::{Played, Stage, play, play_all};
+use crate::scenes::Game;
 use crate::worlds::PUTTER_AND_TAKER;
-use kt_core::{MAX_STEPS, Step, World};
+use kt_core::{MAX_STEPS, Step};
 use std::alloc::Global;
 use std::process::Abort;
 use std::test::Fail;
@@ -116,7 +117,7 @@ fn step_limit(rt: HostRuntime) -> Result<(), Fail> {
 }
 
 /// Makes as many steps as there may be: the worker asks, and asks again.
-fn use_up(rt: &impl Abort, alloc: Global, world: &mut World) {
+fn use_up(rt: &impl Abort, alloc: Global, world: &mut Game) {
     let mut step = Step::Issue { node: W1 };
     for _ in 0..MAX_STEPS {
         assert!(rt; world.step(alloc, step).is_ok());

@@ -1,9 +1,11 @@
 //! Scenes in rows: each step with what comes of it, and how the world stands then.
 
 use crate::making::{opened, scripts, step};
+use crate::scenes::Game;
 use crate::texts::{note_text, service_texts, space_texts};
-use kt_core::{Mode, Step, World};
+use kt_core::Step;
 use kt_history::Note;
+use kt_node::Mode;
 use kt_tuple::NodeId;
 use std::alloc::Global;
 use std::process::Abort;
@@ -48,7 +50,7 @@ pub(crate) fn play_all(rt: &impl Abort, alloc: Global, scenes: &[Played]) -> Res
 pub(crate) fn play(
     rt: &impl Abort,
     alloc: Global,
-    world: &mut World,
+    world: &mut Game,
     stages: &[Stage],
 ) -> Result<(), Fail> {
     for stage in stages {
@@ -60,7 +62,7 @@ pub(crate) fn play(
     Ok(())
 }
 
-fn play_rows(rt: &impl Abort, alloc: Global, world: &mut World, rows: &[Row]) -> Result<(), Fail> {
+fn play_rows(rt: &impl Abort, alloc: Global, world: &mut Game, rows: &[Row]) -> Result<(), Fail> {
     for (line, expected) in rows {
         let found = comes_of(rt, alloc, world, step(line)?)?;
         assert_eq!(rt; found.as_str(), *expected, "{line}");
@@ -69,7 +71,7 @@ fn play_rows(rt: &impl Abort, alloc: Global, world: &mut World, rows: &[Row]) ->
 }
 
 /// Makes the step, and tells its one note, or why it was refused and changed nothing.
-fn comes_of(rt: &impl Abort, alloc: Global, world: &mut World, step: Step) -> Result<String, Fail> {
+fn comes_of(rt: &impl Abort, alloc: Global, world: &mut Game, step: Step) -> Result<String, Fail> {
     let (notes, own) = counts(world, step.owner());
     let answer = world.step(alloc, step);
     let more = u8::from(answer.is_ok());
@@ -89,7 +91,7 @@ fn last_text(alloc: Global, notes: &[Note]) -> Result<String, Fail> {
 }
 
 /// How many notes there are, and how many steps the node made.
-pub(crate) fn counts(world: &World, node: NodeId) -> (usize, u64) {
+pub(crate) fn counts(world: &Game, node: NodeId) -> (usize, u64) {
     (world.history().notes().len(), world.steps_of(node))
 }
 
@@ -97,7 +99,7 @@ pub(crate) fn counts(world: &World, node: NodeId) -> (usize, u64) {
 pub(crate) fn leaves(
     rt: &impl Abort,
     alloc: Global,
-    world: &World,
+    world: &Game,
     survivors: &[&str],
     tuples: &[&str],
 ) -> Result<(), Fail> {
@@ -115,14 +117,14 @@ fn are_texts(rt: &impl Abort, found: &[String], expected: &[&str]) {
 }
 
 /// How many steps each node made, and that those and no others are there.
-pub(crate) fn made(rt: &impl Abort, world: &World, counts: &[(NodeId, u64)]) {
+pub(crate) fn made(rt: &impl Abort, world: &Game, counts: &[(NodeId, u64)]) {
     for number in 0..=u8::MAX {
         made_by(rt, world, counts, NodeId::Worker(number));
         made_by(rt, world, counts, NodeId::Shard(number));
     }
 }
 
-fn made_by(rt: &impl Abort, world: &World, counts: &[(NodeId, u64)], node: NodeId) {
+fn made_by(rt: &impl Abort, world: &Game, counts: &[(NodeId, u64)], node: NodeId) {
     let expected = match counts.iter().find(|(other, _)| *other == node) {
         Some((_, count)) => (Some(Mode::Up), *count),
         None => (None, 0),

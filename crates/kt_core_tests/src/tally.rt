@@ -1,90 +1,190 @@
-//! What was played, counted; and what must hold of each note.
+//! What was played, counted.
 
+use crate::finding::Finding;
 use crate::slowly::served;
+use kt_core::Step;
 use kt_history::{Act, Note, What};
+use kt_store::{CkptStore, MemStore, StoreError, Verdict};
 use kt_tuple::Answer;
-use std::process::Abort;
 
-/// How many notes there were of each kind, and how many refusals of each number.
-#[derive(Drop)]
-pub(crate) struct Tally {
-    pub(crate) notes: [u64; 7],
-    pub(crate) refusals: [u64; 10],
+/// How much work walks did.
+#[derive(Clone, Copy, Debug)]
+pub struct Tally {
+    pub scenes: u64,
+    /// The steps that were tried.
+    pub tried: u64,
+    /// The steps that were made, by kind: issue, repeat, deliver, take, serve, check, decide, abandon, learn, fail,
+    /// restart.
+    pub made: [u64; 11],
+    /// The refusals, by number.
+    pub refusals: [u64; 7],
+    /// The notes: issue, repeat, heard, served, again, accepted, ignored, cut.
+    pub notes: [u64; 8],
+    /// The checks that ended with Yes, and those that ended with No.
+    pub checks: [u64; 2],
+    /// The rollbacks that ended with Yes, and those that ended with No.
+    pub rollbacks: [u64; 2],
+    /// The instances that were begun while another was open.
+    pub overlapping: u64,
+    /// After how many steps the world was steady with some act lost.
+    pub steady_with_lost: u64,
+    /// The services that survive in the end, and those that do not.
+    pub survivors: u64,
+    pub lost: u64,
+}
+
+impl Tally {
+    /// Nothing was done.
+    pub const NONE: Tally = Tally {
+        scenes: 0,
+        tried: 0,
+        made: [0; 11],
+        refusals: [0; 7],
+        notes: [0; 8],
+        checks: [0; 2],
+        rollbacks: [0; 2],
+        overlapping: 0,
+        steady_with_lost: 0,
+        survivors: 0,
+        lost: 0,
+    };
+
+    /// How many steps were made.
+    pub fn steps(&self) -> u64 {
+        let mut steps = 0u64;
+        for made in &self.made {
+            steps = steps.saturating_add(*made);
+        }
+        steps
+    }
+
+    /// Whether it is as much as this, of each kind.
+    pub fn is_at_least(&self, least: &Tally) -> bool {
+        let others = [
+            least.scenes,
+            least.tried,
+            least.overlapping,
+            least.steady_with_lost,
+        ];
+        let ours = [
+            self.scenes,
+            self.tried,
+            self.overlapping,
+            self.steady_with_lost,
+        ];
+        are_at_least(&ours, &others)
+            && are_at_least(&self.made, &least.made)
+            && are_at_least(&self.refusals, &least.refusals)
+            && are_at_least(&self.notes, &least.notes)
+            && are_at_least(&self.checks, &least.checks)
+            && are_at_least(&self.rollbacks, &least.rollbacks)
+            && are_at_least(&[self.survivors, self.lost], &[least.survivors, least.lost])
+    }
+
+    pub(crate) fn add_instance(&mut self, is_check: bool, verdict: Option<Verdict>) {
+        let counts = if is_check {
+            &mut self.checks
+        } else {
+            &mut self.rollbacks
+        };
+        match verdict {
+            Some(Verdict::Yes) => count(counts, 0),
+            Some(Verdict::No) => count(counts, 1),
+            _ => {}
+        }
+    }
+}
+
+/// Whether each count is at least the other at its place.
+fn are_at_least(counts: &[u64], least: &[u64]) -> bool {
+    counts
+        .iter()
+        .zip(least)
+        .all(|(count, least)| *count >= *least)
+}
+
+/// One more.
+pub(crate) fn add_one(counted: &mut u64) {
+    *counted = counted.saturating_add(1);
 }
 
 /// One more of this number.
 pub(crate) fn count(counts: &mut [u64], number: usize) {
     if let Some(counted) = counts.get_mut(number) {
-        *counted = counted.saturating_add(1);
+        add_one(counted);
     }
 }
 
-/// The kind of the note, by number.
-fn kind_of(what: &What) -> usize {
-    match what {
-        What::Issue => 0,
-        What::Repeat => 1,
-        What::Heard => 2,
-        What::Served(_) => 3,
-        What::Again(_) => 4,
-        What::Accepted(_) => 5,
-        What::Ignored(_) => 6,
+/// The step's kind, by number.
+pub(crate) fn step_number(step: Step) -> usize {
+    match step {
+        Step::Issue { .. } => 0,
+        Step::Repeat { .. } => 1,
+        Step::Deliver { .. } => 2,
+        Step::Take { .. } => 3,
+        Step::Serve { .. } => 4,
+        Step::Check { .. } => 5,
+        Step::Decide { .. } => 6,
+        Step::Abandon { .. } => 7,
+        Step::Learn { .. } => 8,
+        Step::Fail { .. } => 9,
+        Step::Restart { .. } => 10,
     }
 }
 
-/// Whether both are about one request of one worker.
-fn is_same_request(act: &Act, other: &Act) -> bool {
-    act.worker == other.worker && act.number == other.number && act.op == other.op
+/// The note's kind, by number.
+pub(crate) fn note_number(note: &Note) -> usize {
+    match note {
+        Note::Act(act) => match &act.what {
+            What::Issue => 0,
+            What::Repeat => 1,
+            What::Heard => 2,
+            What::Served(_) => 3,
+            What::Again(_) => 4,
+            What::Accepted(_) => 5,
+            What::Ignored(_) => 6,
+        },
+        Note::Cut { .. } => 7,
+    }
 }
 
-/// Whether the note serves a request of this worker with this number.
-fn serves(note: &Note, act: &Act) -> bool {
-    match served(note) {
-        Some((other, _)) => other.worker == act.worker && other.number == act.number,
-        None => false,
+/// How many of the instances that were begun are open.
+pub(crate) fn count_open(store: &mut MemStore, begun: usize) -> Result<u64, StoreError> {
+    let mut open = 0u64;
+    for instance in 1..=begun as u64 {
+        if store.verdict(instance)? == Some(Verdict::Open) {
+            add_one(&mut open);
+        }
     }
+    Ok(open)
 }
 
 /// Whether the note serves this request with this answer.
-fn serves_so(note: &Note, act: &Act, answer: &Answer) -> bool {
+fn serves(note: &Note, act: &Act, answer: &Answer) -> bool {
     match served(note) {
-        Some((other, given)) => is_same_request(act, other) && *given == *answer,
+        Some((other, given)) => {
+            act.worker == other.worker
+                && act.number == other.number
+                && act.op == other.op
+                && *given == *answer
+        }
         None => false,
     }
 }
 
-/// No request is served twice, and what is answered again or accepted is what was served before.
-fn follows(rt: &impl Abort, earlier: &[Note], act: &Act) {
+/// What is answered again or accepted is what was served before.
+pub(crate) fn follows(earlier: &[Note], note: &Note) -> Result<(), Finding> {
+    let Note::Act(act) = note else {
+        return Ok(());
+    };
     match &act.what {
-        What::Served(_) => assert!(rt; !earlier.iter().any(|note| serves(note, act))),
         What::Again(answer) | What::Accepted(answer) => {
-            assert!(rt; earlier.iter().any(|note| serves_so(note, act, answer)));
+            if earlier.iter().any(|note| serves(note, act, answer)) {
+                Ok(())
+            } else {
+                Err(Finding::Wrong("an answer that was served"))
+            }
         }
-        _ => {}
-    }
-}
-
-/// Counts the notes, each of which follows those before it.
-pub(crate) fn count_notes(rt: &impl Abort, notes: &[Note], tally: &mut Tally) {
-    for (place, note) in notes.iter().enumerate() {
-        if let Note::Act(act) = note {
-            let (earlier, _) = notes.split_at(place);
-            follows(rt, earlier, act);
-            count(&mut tally.notes, kind_of(&act.what));
-        }
-    }
-}
-
-/// Each kind of note was made, and each refusal answered that there can be as yet.
-pub(crate) fn all_there(rt: &impl Abort, tally: &Tally) {
-    for (kind, count) in tally.notes.iter().enumerate() {
-        assert!(rt; *count >= 500, "{count} notes of kind {kind}");
-    }
-    for (number, count) in tally.refusals.iter().enumerate() {
-        let is_possible = number == 1 || number == 3 || number == 4;
-        assert!(rt;
-            is_possible == (*count >= 500),
-            "{count} refusals of number {number}"
-        );
+        _ => Ok(()),
     }
 }

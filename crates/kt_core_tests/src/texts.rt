@@ -1,6 +1,6 @@
 //! Notes, services and tuples as texts.
 
-use kt_core::World;
+use crate::scenes::Game;
 use kt_history::{Act, Note, Service, What, space_of};
 use kt_space::Bag;
 use kt_tuple::{Answer, NodeId, Tuple};
@@ -81,7 +81,7 @@ fn tuple_text(alloc: Global, tuple: &Tuple) -> Result<String, Fail> {
 }
 
 /// The surviving services, in the order made.
-pub(crate) fn service_texts(alloc: Global, world: &World) -> Result<Vec<String>, Fail> {
+pub(crate) fn service_texts(alloc: Global, world: &Game) -> Result<Vec<String>, Fail> {
     let mut texts = Vec::new(alloc);
     for service in &world.history().survivors(alloc)? {
         texts.push(service_text(alloc, service)?)?;
@@ -90,7 +90,7 @@ pub(crate) fn service_texts(alloc: Global, world: &World) -> Result<Vec<String>,
 }
 
 /// The texts of the tuples to which the surviving services lead, in rising order.
-pub(crate) fn space_texts(alloc: Global, world: &World) -> Result<Vec<String>, Fail> {
+pub(crate) fn space_texts(alloc: Global, world: &Game) -> Result<Vec<String>, Fail> {
     let services = world.history().survivors(alloc)?;
     let bag = space_of(alloc, &services)?;
     bag_texts(alloc, &bag)

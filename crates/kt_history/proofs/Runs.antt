@@ -1,5 +1,6 @@
 -- Runs of the space, whose tuples are known up to their order.
-use Rattle.std.proofs.Common.{◌≡◌, ℕ, ◌+◌, ◌<◌, ◌≤◌, Bool, true, false, cond, List, [], ◌∷◌, ◌++◌, take, drop, length, get_or, sum_by, Contains, IsPermutation, Option, Some, None, sym, refl, ap, ◌∙◌, subst, arith}
+use Rattle.std.proofs.Common.{◌≡◌, ℕ, ◌+◌, ◌<◌, ◌≤◌, Bool, true, false, cond, List, [], ◌∷◌, ◌++◌, take, drop, length, get_or, sum_by, Contains, IsPermutation, Option, Some, None, Result, Ok, Err, sym, refl, ap, ◌∙◌, subst, arith}
+use Rattle.std.specs.Prelude.{OnOk}
 use Rattle.std.specs.List.{slice_get}
 use Rattle.std.proofs.lemmas.List.{take_more, drop_more}
 use Rattle.std.proofs.lemmas.List.Sums.{sum_by-cons}
@@ -153,6 +154,21 @@ pub IsThere-inp : (old : List Tuple) (t : Template) (answer : Answer) → CanSte
 IsThere-inp old t answers.Done can = tt
 IsThere-inp old t (answers.Got u) can = withdrawn_there old u can.0 can.1.1
 IsThere-inp old t answers.None can = tt
+
+-- the step of an operation that withdraws, once its tuple is out
+pub taken_in : {X E : Type 0} (r : Result X E) (old : List Tuple) (op : Op) (t : Template) (answer : Answer) (new : List Tuple) → op ≡ In t → (IsThere old answer → OnOk r (TakesOut old answer new))
+    → CanStep old op answer → OnOk r (SpaceStep old op answer new)
+taken_in (Err e) old op t answer new is taken can = tt
+taken_in (Ok x) old op t answer new is taken can =
+    let P : Op → Type 0 = λ o. CanStep old o answer → SpaceStep old o answer new in
+    subst P (sym is) (λ can. SpaceStep-in old t answer new can (taken (IsThere-in old t answer can))) can
+
+pub taken_inp : {X E : Type 0} (r : Result X E) (old : List Tuple) (op : Op) (t : Template) (answer : Answer) (new : List Tuple) → op ≡ Inp t → (IsThere old answer → OnOk r (TakesOut old answer new))
+    → CanStep old op answer → OnOk r (SpaceStep old op answer new)
+taken_inp (Err e) old op t answer new is taken can = tt
+taken_inp (Ok x) old op t answer new is taken can =
+    let P : Op → Type 0 = λ o. CanStep old o answer → SpaceStep old o answer new in
+    subst P (sym is) (λ can. SpaceStep-inp old t answer new can (taken (IsThere-inp old t answer can))) can
 
 -- a run so far, one service further
 pub RunsFrom-more : (services : List Service) (i : ℕ) (s : Service) (old new : List Tuple) → i < length services → s ≡ get_or services i s → RunsFrom [] (take i services) old → SpaceStep old s.op s.answer new → RunsFrom [] (take (i + 1) services) new

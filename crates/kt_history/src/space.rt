@@ -6,10 +6,10 @@ use kt_space::Bag;
 use kt_tuple::{Answer, Op, Service, Template, Tuple};
 use std::alloc::{AllocError, Global};
 
-/// The tuples to which services lead from the empty space; the services must be one run of the space.
+/// The tuples to which services lead from the empty space, where they are one run of it. Of others each does what
+/// it can: a tuple that is not there is not withdrawn.
 pub fn space_of(alloc: Global, services: &[Service]) -> Result<Bag, AllocError>
-    requires { IsRun services.now }
-    ensures { IfOk result (λ bag. IsSpaceRun services.now bag.tuples) }
+    ensures { IsRun services.now → IfOk result (λ bag. IsSpaceRun services.now bag.tuples) }
 {
     let mut bag = Bag::new(alloc);
     for service in services {
@@ -20,8 +20,8 @@ pub fn space_of(alloc: Global, services: &[Service]) -> Result<Bag, AllocError>
 
 /// Adds what the service put, or takes out what it withdrew.
 fn serve(alloc: Global, bag: &mut Bag, service: &Service) -> Result<(), AllocError>
-    requires { CanStep bag.old.tuples service.now.op service.now.answer }
-    ensures { OnOk result (SpaceStep bag.old.tuples service.now.op service.now.answer bag.new.tuples) }
+    ensures { CanStep bag.old.tuples service.now.op service.now.answer
+        → OnOk result (SpaceStep bag.old.tuples service.now.op service.now.answer bag.new.tuples) }
 {
     match &service.op {
         Op::Out(tuple) => add(alloc, bag, tuple),
@@ -42,8 +42,7 @@ fn add(alloc: Global, bag: &mut Bag, tuple: &Tuple) -> Result<(), AllocError>
 
 /// Takes out the tuple that the answer names, if it names one.
 fn take_out(alloc: Global, bag: &mut Bag, answer: &Answer) -> Result<(), AllocError>
-    requires { IsThere bag.old.tuples answer.now }
-    ensures { OnOk result (TakesOut bag.old.tuples answer.now bag.new.tuples) }
+    ensures { IsThere bag.old.tuples answer.now → OnOk result (TakesOut bag.old.tuples answer.now bag.new.tuples) }
 {
     if let Answer::Got(tuple) = answer {
         withdraw(alloc, bag, tuple)?;
@@ -53,8 +52,8 @@ fn take_out(alloc: Global, bag: &mut Bag, answer: &Answer) -> Result<(), AllocEr
 
 /// Takes out the first tuple that equals this one.
 fn withdraw(alloc: Global, bag: &mut Bag, tuple: &Tuple) -> Result<(), AllocError>
-    requires { Contains bag.old.tuples tuple.now }
-    ensures { OnOk result (IsPermutation bag.old.tuples (tuple.now ∷ bag.new.tuples)) }
+    ensures { Contains bag.old.tuples tuple.now
+        → OnOk result (IsPermutation bag.old.tuples (tuple.now ∷ bag.new.tuples)) }
 {
     let alone = Template::of(alloc, tuple)?;
     drop(bag.take_nth(&alone, 0));

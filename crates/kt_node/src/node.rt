@@ -1,7 +1,7 @@
 //! A node of the scene.
 
 ghost use Rattle.std.specs.Prelude.{◌≡◌};
-ghost use Rattle.std.specs.Option.{option_copied};
+ghost use Rattle.std.specs.Option.{option_copied, option_map};
 
 use crate::live::{Body, Live, Phase};
 use kt_shard::Shard;
@@ -63,6 +63,16 @@ impl Node {
         match &self.live.as_ref()?.body {
             Body::Worker(worker) => Some(worker),
             Body::Shard(_) => None,
+        }
+    }
+
+    /// The shard that it is, unless it is down.
+    pub fn shard(&self) -> Option<&Shard>
+        ensures { option_map (λ y. y.now.state) result ≡ shard_of self.now.node }
+    {
+        match &self.live.as_ref()?.body {
+            Body::Worker(_) => None,
+            Body::Shard(shard) => Some(shard),
         }
     }
 

@@ -17,7 +17,7 @@ open-true Open e = refl
 open-true Yes e = true-false e refl
 open-true No e = true-false e refl
 
-up_to-holds : (a b : Label) → UpTo a b → up_to a b ≡ true
+pub up_to-holds : (a b : Label) → UpTo a b → up_to a b ≡ true
 up_to-holds a b u = go (cases_lt a.life b.life) where
   go : (a.life < b.life) ⊎ (b.life ≤ a.life) → up_to a b ≡ true
   go (inl less) = or_left (ltb a.life b.life) (eqb a.life b.life && leb a.count b.count) (lt-ltb a.life b.life less)
@@ -26,7 +26,7 @@ up_to-holds a b u = go (cases_lt a.life b.life) where
       or_right (ltb a.life b.life) (eqb a.life b.life && leb a.count b.count)
       (and_from (eqb a.life b.life) (leb a.count b.count) (eq-eqb a.life b.life same) (le-leb a.count b.count (u.counts same)))
 
-up_to-false : (a b : Label) → up_to a b ≡ false → Under b a
+pub up_to-false : (a b : Label) → up_to a b ≡ false → Under b a
 up_to-false a b e = elim (Label-cases a b) [ inl u ↦ true-false (up_to-holds a b u) e | inr u ↦ u ]
 
 -- the ask of a rollback

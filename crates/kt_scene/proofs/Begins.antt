@@ -1,5 +1,6 @@
 -- The lines that were read are the first of some scenario, and with a line that has a fault they are not.
-use Rattle.std.proofs.Common.{◌≡◌, ℕ, ◌+◌, false, List, [], ◌∷◌, ◌++◌, length, Ok, Err, refl, sym, ap, subst, ◌∙◌, append_assoc, append-nil, arith, length-append}
+use Rattle.std.proofs.Common.{◌≡◌, ℕ, ◌+◌, false, List, [], ◌∷◌, ◌++◌, length, Ok, Err, refl, sym, ap, subst, ◌∙◌, append_assoc, append-nil, arith}
+use Rattle.std.proofs.Common.{length-append}
 use Rattle.std.proofs.lemmas.List.Elements.{All-nil, All-cons, All-push, filter-append}
 use Rattle.std.specs.Prelude.{codes, decimal, filter, All}
 use Rattle.std.specs.List.{flat_map}
@@ -46,7 +47,8 @@ begin_leads lines h =
     (parts.0, parts.1)
 
 -- no scenario begins with these lines and one that has a fault
-pub never_begin : (before : List (List ℕ)) (line : List ℕ) (s : Sketch) (fault : SceneError) → LeadOn nothing_read before s → line_read s line ≡ Err fault → ¬ Begin (before ++ line ∷ [])
+pub never_begin : (before : List (List ℕ)) (line : List ℕ) (s : Sketch) (fault : SceneError) → LeadOn nothing_read before s → line_read s line ≡ Err fault
+    → ¬ Begin (before ++ line ∷ [])
 never_begin before line s fault leads e h =
     let u = begin_leads (before ++ line ∷ []) h in
     let parts = leads_split before (line ∷ []) nothing_read u.0 u.1 in
@@ -66,9 +68,11 @@ script_rules s is h =
       work = All-nil IsStep;
     }
 
-pub script_told : (s : Sketch) → s.stage ≡ stages.Commands → IsGood s → told_lines (play_of_scripts s.shards (s.scripts ++ s.commands ∷ []) []) ≡ told_at stages.Commands s ++ codes "steps" ∷ []
+pub script_told : (s : Sketch) → s.stage ≡ stages.Commands → IsGood s
+    → told_lines (play_of_scripts s.shards (s.scripts ++ s.commands ∷ []) []) ≡ told_at stages.Commands s ++ codes "steps" ∷ []
 script_told s is h =
-    let tail : flat_map script_lines (s.scripts ++ s.commands ∷ []) ++ codes "steps" ∷ [] ≡ (flat_map script_lines s.scripts ++ script_lines s.commands) ++ codes "steps" ∷ [] =
+    let tail : flat_map script_lines (s.scripts ++ s.commands ∷ []) ++ codes "steps" ∷ []
+    ≡ (flat_map script_lines s.scripts ++ script_lines s.commands) ++ codes "steps" ∷ [] =
     ap (λ (l : List (List ℕ)). l ++ codes "steps" ∷ []) (scripts_push s.scripts s.commands) in
     ap (λ (l : List (List ℕ)). head_lines s.shards ++ l) tail
 
@@ -93,8 +97,16 @@ least_rules shards are = record {
 }
 
 by_stage : (stage : Stage) (s : Sketch) → s.stage ≡ stage → IsGood s → is_ended stage ≡ false → Completes s (told_at stage s)
-by_stage stages.Title s is h on = record { play = least 1; rules = least_rules 1 (omega arith, omega arith); more = told_lines (least 1); plain = refl; are = refl }
-by_stage stages.Shards s is h on = record { play = least 1; rules = least_rules 1 (omega arith, omega arith); more = (codes "shards " ++ decimal 1) ∷ codes "worker" ∷ codes "steps" ∷ []; plain = refl; are = refl }
+by_stage stages.Title s is h on =
+    record { play = least 1; rules = least_rules 1 (omega arith, omega arith); more = told_lines (least 1); plain = refl; are = refl }
+by_stage stages.Shards s is h on =
+    record {
+      play = least 1;
+      rules = least_rules 1 (omega arith, omega arith);
+      more = (codes "shards " ++ decimal 1) ∷ codes "worker" ∷ codes "steps" ∷ [];
+      plain = refl;
+      are = refl;
+    }
 by_stage stages.Workers s is h on =
     let at = place_at stages.Workers s is h in
     record { play = least s.shards; rules = least_rules s.shards at.0; more = codes "worker" ∷ codes "steps" ∷ []; plain = refl; are = refl }
@@ -105,7 +117,8 @@ by_stage stages.Commands s is h on = record {
   plain = refl;
   are = script_told s is h;
 }
-by_stage stages.Steps s is h on = record { play = play_with s; rules = play_kept s is h; more = []; plain = refl; are = sym (append-nil (told_at stages.Steps s)) }
+by_stage stages.Steps s is h on =
+    record { play = play_with s; rules = play_kept s is h; more = []; plain = refl; are = sym (append-nil (told_at stages.Steps s)) }
 by_stage stages.Ended s is h on = absurd cc
 
 begins_so : (before : List (List ℕ)) (s : Sketch) → told_at s.stage s ≡ filter is_told before → Completes s (told_at s.stage s) → Begin before
@@ -113,14 +126,16 @@ begins_so before s told h = record {
   play = h.play;
   rules = h.rules;
   body = before ++ h.more;
-  told = filter-append is_told before h.more ∙ ap (λ (l : List (List ℕ)). filter is_told before ++ l) h.plain ∙ ap (λ (l : List (List ℕ)). l ++ h.more) (sym told) ∙ sym h.are;
+  told = filter-append is_told before h.more ∙ ap (λ (l : List (List ℕ)). filter is_told before ++ l) h.plain
+      ∙ ap (λ (l : List (List ℕ)). l ++ h.more) (sym told) ∙ sym h.are;
   others = h.more ++ codes "end" ∷ [];
   are = append_assoc before h.more (codes "end" ∷ []);
 }
 
 by_told : (before : List (List ℕ)) (s : Sketch) → IsTold before s → Begin before
 by_told before s (unended good goes told) = begins_so before s told (by_stage s.stage s refl good goes)
-by_told before s (whole body is ended rules told) = record { play = play_with s; rules = rules; body = body; told = told; others = []; are = sym is ∙ sym (append-nil before) }
+by_told before s (whole body is ended rules told) =
+    record { play = play_with s; rules = rules; body = body; told = told; others = []; are = sym is ∙ sym (append-nil before) }
 
 -- lines that were read are the first of some scenario
 pub reached_begin : (before : List (List ℕ)) (s : Sketch) → Reached before s → Begin before

@@ -1,5 +1,6 @@
 -- A command that is read is spelled so.
-use Rattle.std.proofs.Common.{◌≡◌, ℕ, ◌≤◌, Bool, true, false, cond, ltb, leb, List, [], ◌++◌, length, map, Option, Some, None, Result, Ok, Err, refl, sym, ap, subst, ◌∙◌, append_assoc, append-nil, arith}
+use Rattle.std.proofs.Common.{◌≡◌, ℕ, ◌≤◌, Bool, true, false, cond, ltb, leb, List, [], ◌++◌, length, map, Option, Some, None, Result, Ok, Err, refl, sym, ap}
+use Rattle.std.proofs.Common.{subst, ◌∙◌, append_assoc, append-nil, arith}
 use Rattle.std.proofs.lemmas.Bool.{leb-true, and_parts}
 use Rattle.std.specs.Prelude.{ℤ, codes, decimal}
 use Rattle.std.specs.Int.{w64}
@@ -26,7 +27,8 @@ use Rattle.kt_scene.specs.declared.command.Spelled.{Spelled}
 use Rattle.kt_scene.specs.declared.fault.SceneError.{SceneError}
 use Rattle.kt_scene.specs.declared.fault.SceneError.TheVariants as faults
 use Rattle.kt_scene.specs.Number.{◌>>=◌, behind, ended, number_at}
-use Rattle.kt_scene.specs.Commands.{name_at, slots_in, actuals_of, operation_of, verb_at, fitting, set_with, int_in, set_of, unless_with, unless_of, or_fault, asked, spelled_with, spelled_of}
+use Rattle.kt_scene.specs.Commands.{name_at, slots_in, actuals_of, operation_of, verb_at, fitting, set_with, int_in, set_of, unless_with, unless_of, or_fault}
+use Rattle.kt_scene.specs.Commands.{asked, spelled_with, spelled_of}
 use Rattle.kt_scene.specs.Text.{actual_text, pattern_text, command_text}
 use Rattle.kt_scene.specs.Faults.{verb_word}
 use Rattle.kt_scene.specs.Scenario.{IsPattern, IsCommand}
@@ -51,7 +53,8 @@ out_taken text places operation parts held e =
     let P : Operation → Type 0 = λ o. IsCommandLine (codes "out " ++ text) (Ask o) in
     subst P a.2 (text_is, (arity, actuals_held a.0 is.1))
 
-pub operation_taken : (verb : Verb) (text : List ℕ) (places : List Slot) (operation : Operation) → text ≡ pattern_text places → IsPattern places → operation_of verb places ≡ Some operation
+pub operation_taken : (verb : Verb) (text : List ℕ) (places : List Slot) (operation : Operation) → text ≡ pattern_text places → IsPattern places
+    → operation_of verb places ≡ Some operation
     → IsCommandLine (verb_word verb ++ text) (Ask operation)
 operation_taken verbs.Out text places operation parts held e = out_taken text places operation parts held e
 operation_taken verbs.In text places operation parts held e =
@@ -69,7 +72,9 @@ operation_taken verbs.Rdp text places operation parts held e =
 
 asked_taken : (verb : Verb) (text : List ℕ) (spelled : Spelled) → asked verb text ≡ Some spelled → IsCommandLine (verb_word verb ++ text) spelled.command
 asked_taken verb text spelled e =
-    let places = both_read (slots_in text) (λ (places : List Slot). option_map (λ (operation : Operation). fitting (Ask operation)) (operation_of verb places)) spelled e in
+    let places =
+    both_read (slots_in text) (λ (places : List Slot). option_map (λ (operation : Operation). fitting (Ask operation)) (operation_of verb places)) spelled
+    e in
     let operation = mapped (λ (operation : Operation). fitting (Ask operation)) (operation_of verb places.0) spelled places.2 in
     let h = slots_taken text places.0 places.1 in
     let P : Spelled → Type 0 = λ s. IsCommandLine (verb_word verb ++ text) s.command in
@@ -78,14 +83,20 @@ asked_taken verb text spelled e =
 pub verb_taken : (line : List ℕ) (read : Verb × List ℕ) → verb_at line ≡ Some read → line ≡ verb_word read.0 ++ read.1
 verb_taken line read e =
     let P : Verb × List ℕ → Type 0 = λ x. line ≡ verb_word x.0 ++ x.1 in
-    by_word (P read) line (codes "out ") (λ rest. Some (verbs.Out, rest)) _ (Some read) e (λ words parts is. let same : (verbs.Out, words) ≡ read = cc in subst P same parts) (λ e2.
-    by_word (P read) line (codes "in ") (λ rest. Some (verbs.In, rest)) _ (Some read) e2 (λ words parts is. let same : (verbs.In, words) ≡ read = cc in subst P same parts) (λ e3.
-    by_word (P read) line (codes "rd ") (λ rest. Some (verbs.Rd, rest)) _ (Some read) e3 (λ words parts is. let same : (verbs.Rd, words) ≡ read = cc in subst P same parts) (λ e4.
-    by_word (P read) line (codes "inp ") (λ rest. Some (verbs.Inp, rest)) _ (Some read) e4 (λ words parts is. let same : (verbs.Inp, words) ≡ read = cc in subst P same parts) (λ e5.
-    by_word (P read) line (codes "rdp ") (λ rest. Some (verbs.Rdp, rest)) None (Some read) e5 (λ words parts is. let same : (verbs.Rdp, words) ≡ read = cc in subst P same parts) (λ e6. absurd cc)))))
+    by_word (P read) line (codes "out ") (λ rest. Some (verbs.Out, rest)) _ (Some read) e
+    (λ words parts is. let same : (verbs.Out, words) ≡ read = cc in subst P same parts) (λ e2.
+    by_word (P read) line (codes "in ") (λ rest. Some (verbs.In, rest)) _ (Some read) e2
+    (λ words parts is. let same : (verbs.In, words) ≡ read = cc in subst P same parts) (λ e3.
+    by_word (P read) line (codes "rd ") (λ rest. Some (verbs.Rd, rest)) _ (Some read) e3
+    (λ words parts is. let same : (verbs.Rd, words) ≡ read = cc in subst P same parts) (λ e4.
+    by_word (P read) line (codes "inp ") (λ rest. Some (verbs.Inp, rest)) _ (Some read) e4
+    (λ words parts is. let same : (verbs.Inp, words) ≡ read = cc in subst P same parts) (λ e5.
+    by_word (P read) line (codes "rdp ") (λ rest. Some (verbs.Rdp, rest)) None (Some read) e5
+    (λ words parts is. let same : (verbs.Rdp, words) ≡ read = cc in subst P same parts) (λ e6. absurd cc)))))
 
 -- an int up to the end
-int_in_taken : (r : Result (List ℕ × List ℕ) (List ℕ)) (text : List ℕ) (k : ℤ) → int_at text ≡ r → int_in r ≡ Some (Some k) → (text ≡ signed_decimal k) × FitsSigned w64 k
+int_in_taken : (r : Result (List ℕ × List ℕ) (List ℕ)) (text : List ℕ) (k : ℤ) → int_at text ≡ r → int_in r ≡ Some (Some k)
+    → (text ≡ signed_decimal k) × FitsSigned w64 k
 int_in_taken (Err d) text k is e = absurd cc
 int_in_taken (Ok (p, rest)) text k is e =
     let end = ended_read (int_of p) rest (Some k) e in
@@ -95,7 +106,8 @@ int_in_taken (Ok (p, rest)) text k is e =
     (taken.0 ∙ ap (λ (t : List ℕ). p ++ t) end.0 ∙ append-nil p ∙ sym (int_spelled p k taken.1 end.1), fits)
 
 -- the parts of a line that sets a variable
-pub set_parts : (x y number : List ℕ) → codes "set " ++ x ++ codes " = " ++ y ++ codes " + " ++ number ≡ codes "set " ++ (x ++ (codes " = " ++ (y ++ (codes " + " ++ number))))
+pub set_parts : (x y number : List ℕ)
+    → codes "set " ++ x ++ codes " = " ++ y ++ codes " + " ++ number ≡ codes "set " ++ (x ++ (codes " = " ++ (y ++ (codes " + " ++ number))))
 set_parts x y number =
     append_assoc (codes "set " ++ x ++ codes " = " ++ y) (codes " + ") number
     ∙ append_assoc (codes "set " ++ x ++ codes " = ") y (codes " + " ++ number)
@@ -105,7 +117,8 @@ set_parts x y number =
 pub set_text : (x y : List ℕ) (k : ℤ) → command_text (Set x y k) ≡ codes "set " ++ (x ++ (codes " = " ++ (y ++ (codes " + " ++ signed_decimal k))))
 set_text x y k = set_parts x y (signed_decimal k)
 
-set_by_number : (number : Option ℤ) (x y : Name) (words third : List ℕ) (spelled : Spelled) → spelled.fits ≡ true → words ≡ x ++ (codes " = " ++ (y ++ (codes " + " ++ third))) → IsName x → IsName y
+set_by_number : (number : Option ℤ) (x y : Name) (words third : List ℕ) (spelled : Spelled) → spelled.fits ≡ true
+    → words ≡ x ++ (codes " = " ++ (y ++ (codes " + " ++ third))) → IsName x → IsName y
     → int_in (int_at third) ≡ Some number → set_with x y number ≡ spelled → IsCommandLine (codes "set " ++ words) spelled.command
 set_by_number None x y words third spelled fits parts x_is y_is e is =
     let never : false ≡ true = ap (λ (s : Spelled). s.fits) is ∙ fits in
@@ -117,7 +130,8 @@ set_by_number (Some k) x y words third spelled fits parts x_is y_is e is =
     ap (λ (t : List ℕ). codes "set " ++ t) (parts ∙ ap (λ (t : List ℕ). x ++ (codes " = " ++ (y ++ (codes " + " ++ t)))) number.0) ∙ sym (set_text x y k) in
     subst P is (text, (x_is, y_is, number.1))
 
-set_words : (x y words after_x second after_y third : List ℕ) → words ≡ x ++ after_x → after_x ≡ codes " = " ++ second → second ≡ y ++ after_y → after_y ≡ codes " + " ++ third
+set_words : (x y words after_x second after_y third : List ℕ) → words ≡ x ++ after_x → after_x ≡ codes " = " ++ second → second ≡ y ++ after_y
+    → after_y ≡ codes " + " ++ third
     → words ≡ x ++ (codes " = " ++ (y ++ (codes " + " ++ third)))
 set_words x y words after_x second after_y third a b c d =
     a ∙ ap (λ (t : List ℕ). x ++ t) (b ∙ ap (λ (t : List ℕ). codes " = " ++ t) (c ∙ ap (λ (t : List ℕ). y ++ t) d))
@@ -136,9 +150,13 @@ pub record SetParts (words : List ℕ) (spelled : Spelled) : Type 0 where
 
 pub set_apart : (words : List ℕ) (spelled : Spelled) → set_of words ≡ Some spelled → SetParts words spelled
 set_apart words spelled e =
-    let x = both_read (name_at words) (λ (x : Name × List ℕ). behind x.1 (codes " = ") >>= λ second. name_at second >>= λ y. behind y.1 (codes " + ") >>= λ third. option_map (set_with x.0 y.0) (int_in (int_at third))) spelled e in
-    let second = both_read (behind x.0.1 (codes " = ")) (λ (second : List ℕ). name_at second >>= λ y. behind y.1 (codes " + ") >>= λ third. option_map (set_with x.0.0 y.0) (int_in (int_at third))) spelled x.2 in
-    let y = both_read (name_at second.0) (λ (y : Name × List ℕ). behind y.1 (codes " + ") >>= λ third. option_map (set_with x.0.0 y.0) (int_in (int_at third))) spelled second.2 in
+    let x = both_read (name_at words) (λ (x : Name × List ℕ). behind x.1 (codes " = ") >>= λ second. name_at second >>= λ y. behind y.1 (codes " + ")
+    >>= λ third. option_map (set_with x.0 y.0) (int_in (int_at third))) spelled e in
+    let second =
+    both_read (behind x.0.1 (codes " = ")) (λ (second : List ℕ). name_at second >>= λ y. behind y.1 (codes " + ")
+    >>= λ third. option_map (set_with x.0.0 y.0) (int_in (int_at third))) spelled x.2 in
+    let y = both_read (name_at second.0) (λ (y : Name × List ℕ). behind y.1 (codes " + ") >>= λ third. option_map (set_with x.0.0 y.0) (int_in (int_at third)))
+    spelled second.2 in
     let third = both_read (behind y.0.1 (codes " + ")) (λ (third : List ℕ). option_map (set_with x.0.0 y.0.0) (int_in (int_at third))) spelled y.2 in
     let number = mapped (set_with x.0.0 y.0.0) (int_in (int_at third.0)) spelled third.2 in
     let x_is = name_taken words x.0.1 x.0.0 x.1 in
@@ -148,7 +166,8 @@ set_apart words spelled e =
       source = y.0.0;
       digits = third.0;
       number = number.0;
-      parts = set_words x.0.0 y.0.0 words x.0.1 second.0 y.0.1 third.0 x_is.0 (behind_taken x.0.1 (codes " = ") second.0 second.1) y_is.0 (behind_taken y.0.1 (codes " + ") third.0 third.1);
+      parts = set_words x.0.0 y.0.0 words x.0.1 second.0 y.0.1 third.0 x_is.0 (behind_taken x.0.1 (codes " = ") second.0 second.1) y_is.0
+          (behind_taken y.0.1 (codes " + ") third.0 third.1);
       variable_is = x_is.1;
       source_is = y_is.1;
       taken = number.1;
@@ -160,13 +179,15 @@ set_taken words spelled fits e =
     let h = set_apart words spelled e in
     set_by_number h.number h.variable h.source words h.digits spelled fits h.parts h.variable_is h.source_is h.taken h.is
 
-unless_fits : (b : Bool) (n : ℕ) (spelled : Spelled) → cond b (fitting (Unless n)) (record { command = Unless 0; fits = false }) ≡ spelled → spelled.fits ≡ true → fitting (Unless n) ≡ spelled
+unless_fits : (b : Bool) (n : ℕ) (spelled : Spelled) → cond b (fitting (Unless n)) (record { command = Unless 0; fits = false }) ≡ spelled → spelled.fits ≡ true
+    → fitting (Unless n) ≡ spelled
 unless_fits true n spelled e fits = e
 unless_fits false n spelled e fits =
     let never : false ≡ true = ap (λ (s : Spelled). s.fits) e ∙ fits in
     absurd cc
 
-unless_by_number : (number : Option ℕ) (words rest : List ℕ) (spelled : Spelled) → spelled.fits ≡ true → has_count spelled.command ≡ true → number_at words ≡ Some (number, rest) → rest ≡ []
+unless_by_number : (number : Option ℕ) (words rest : List ℕ) (spelled : Spelled) → spelled.fits ≡ true → has_count spelled.command ≡ true
+    → number_at words ≡ Some (number, rest) → rest ≡ []
     → unless_with number ≡ spelled → IsCommandLine (codes "unless " ++ words) spelled.command
 unless_by_number None words rest spelled fits counts e end is =
     let never : false ≡ true = ap (λ (s : Spelled). s.fits) is ∙ fits in
@@ -179,7 +200,8 @@ unless_by_number (Some n) words rest spelled fits counts e end is =
     let P : Spelled → Type 0 = λ s. IsCommandLine (codes "unless " ++ words) s.command in
     subst P same (ap (λ (t : List ℕ). codes "unless " ++ t) text, few)
 
-unless_taken : (words : List ℕ) (spelled : Spelled) → spelled.fits ≡ true → has_count spelled.command ≡ true → unless_of words ≡ Some spelled → IsCommandLine (codes "unless " ++ words) spelled.command
+unless_taken : (words : List ℕ) (spelled : Spelled) → spelled.fits ≡ true → has_count spelled.command ≡ true → unless_of words ≡ Some spelled
+    → IsCommandLine (codes "unless " ++ words) spelled.command
 unless_taken words spelled fits counts e =
     let n = both_read (number_at words) (λ (n : Option ℕ × List ℕ). ended (unless_with n.0, n.1)) spelled e in
     let end = ended_read (unless_with n.0.0) n.0.1 spelled n.2 in
@@ -192,15 +214,20 @@ faultless fault (Some y) x e = cc
 behind_line : (line word words : List ℕ) (command : Command) → line ≡ word ++ words → IsCommandLine (word ++ words) command → IsCommandLine line command
 behind_line line word words command parts h = (parts ∙ h.0, h.1)
 
-by_verb : (read : Option (Verb × List ℕ)) (line : List ℕ) (spelled : Spelled) → spelled.fits ≡ true → has_count spelled.command ≡ true → verb_at line ≡ read → spelled_with line read ≡ Ok spelled
+by_verb : (read : Option (Verb × List ℕ)) (line : List ℕ) (spelled : Spelled) → spelled.fits ≡ true → has_count spelled.command ≡ true → verb_at line ≡ read
+    → spelled_with line read ≡ Ok spelled
     → IsCommandLine line spelled.command
 by_verb (Some read) line spelled fits counts is e =
-    behind_line line (verb_word read.0) read.1 spelled.command (verb_taken line read is) (asked_taken read.0 read.1 spelled (faultless faults.Tuple (asked read.0 read.1) spelled e))
+    behind_line line (verb_word read.0) read.1 spelled.command (verb_taken line read is)
+    (asked_taken read.0 read.1 spelled (faultless faults.Tuple (asked read.0 read.1) spelled e))
 by_verb None line spelled fits counts is e =
     let P = IsCommandLine line spelled.command in
-    by_word P line (codes "set ") set_of _ (Some spelled) (faultless faults.Word _ spelled e) (λ words parts read. behind_line line (codes "set ") words spelled.command parts (set_taken words spelled fits read)) (λ e2.
-    by_word P line (codes "unless ") unless_of None (Some spelled) e2 (λ words parts read. behind_line line (codes "unless ") words spelled.command parts (unless_taken words spelled fits counts read)) (λ e3. absurd cc))
+    by_word P line (codes "set ") set_of _ (Some spelled) (faultless faults.Word _ spelled e)
+    (λ words parts read. behind_line line (codes "set ") words spelled.command parts (set_taken words spelled fits read)) (λ e2.
+    by_word P line (codes "unless ") unless_of None (Some spelled) e2
+    (λ words parts read. behind_line line (codes "unless ") words spelled.command parts (unless_taken words spelled fits counts read)) (λ e3. absurd cc))
 
 -- a command that is read, whose number is not too large, is spelled so
-pub command_taken : (line : List ℕ) (spelled : Spelled) → spelled.fits ≡ true → has_count spelled.command ≡ true → spelled_of line ≡ Ok spelled → IsCommandLine line spelled.command
+pub command_taken : (line : List ℕ) (spelled : Spelled) → spelled.fits ≡ true → has_count spelled.command ≡ true → spelled_of line ≡ Ok spelled
+    → IsCommandLine line spelled.command
 command_taken line spelled fits counts e = by_verb (verb_at line) line spelled fits counts refl e

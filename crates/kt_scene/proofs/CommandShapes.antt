@@ -1,5 +1,6 @@
 -- The reader reads the commands that lines spell, and no others; a number that is too large it reads as too large.
-use Rattle.std.proofs.Common.{◌≡◌, ℕ, ◌<◌, ◌⊎◌, inl, inr, Bool, true, false, cond, ◌&&◌, ltb, leb, List, [], ◌++◌, Option, Some, None, Result, Ok, Err, refl, sym, ap, subst, ◌∙◌, append-nil, arith}
+use Rattle.std.proofs.Common.{◌≡◌, ℕ, ◌<◌, ◌⊎◌, inl, inr, Bool, true, false, cond, ◌&&◌, ltb, leb, List, [], ◌++◌, Option, Some, None, Result, Ok, Err, refl}
+use Rattle.std.proofs.Common.{sym, ap, subst, ◌∙◌, append-nil, arith}
 use Rattle.std.proofs.lemmas.Bool.{ltb-true, leb-true, leb-false, le-leb, lt-ltb, and_parts, and_from}
 use Rattle.std.specs.Prelude.{ℤ, codes, nat_abs}
 use Rattle.std.specs.Int.{w64}
@@ -23,7 +24,8 @@ use Rattle.kt_scene.specs.declared.command.Spelled.{Spelled}
 use Rattle.kt_scene.specs.declared.fault.SceneError.{SceneError}
 use Rattle.kt_scene.specs.declared.fault.SceneError.TheVariants as faults
 use Rattle.kt_scene.specs.Number.{ended, number_at}
-use Rattle.kt_scene.specs.Commands.{slots_in, operation_of, verb_at, fitting, set_with, int_in, set_of, unless_with, unless_of, or_fault, asked, spelled_with, spelled_of}
+use Rattle.kt_scene.specs.Commands.{slots_in, operation_of, verb_at, fitting, set_with, int_in, set_of, unless_with, unless_of, or_fault, asked, spelled_with}
+use Rattle.kt_scene.specs.Commands.{spelled_of}
 use Rattle.kt_scene.specs.Faults.{verb_word, HasVerb, IsNumber, Spells, IsOutside}
 use Rattle.kt_scene.proofs.NumberLaws.{both_read, mapped, ended_read, by_word}
 use Rattle.kt_scene.proofs.PatternLaws.{slots_taken}
@@ -48,7 +50,8 @@ ask_reads operation = record {
   outside = λ e. absurd cc;
 }
 
-set_reads : (number : Option ℤ) (x y : Name) (plus : ℤ) (p : List ℕ) → IsInt p → signed_digits_value 10 p ≡ plus → int_of p ≡ number → ReadsAs (Set x y plus) (set_with x y number)
+set_reads : (number : Option ℤ) (x y : Name) (plus : ℤ) (p : List ℕ) → IsInt p → signed_digits_value 10 p ≡ plus → int_of p ≡ number
+    → ReadsAs (Set x y plus) (set_with x y number)
 set_reads None x y plus p is value e = record {
   rules = λ variables. refl;
   bound = refl;
@@ -84,11 +87,13 @@ unless_inside count = record {
       absurd cc;
 }
 
-unless_by_test : (b : Bool) (count : ℕ) → leb count 255 ≡ b → ReadsAs (Unless count) (cond b (fitting (Unless count)) (record { command = Unless 0; fits = false }))
+unless_by_test : (b : Bool) (count : ℕ) → leb count 255 ≡ b
+    → ReadsAs (Unless count) (cond b (fitting (Unless count)) (record { command = Unless 0; fits = false }))
 unless_by_test true count test = unless_inside count
 unless_by_test false count test = unless_outside count (omega (arith, leb-false count 255 test))
 
-unless_reads : (number : Option ℕ) (count : ℕ) (p : List ℕ) → IsNumber p → digits_value 10 p ≡ count → option_map nat_abs (int_of p) ≡ number → ReadsAs (Unless count) (unless_with number)
+unless_reads : (number : Option ℕ) (count : ℕ) (p : List ℕ) → IsNumber p → digits_value 10 p ≡ count → option_map nat_abs (int_of p) ≡ number
+    → ReadsAs (Unless count) (unless_with number)
 unless_reads None count p is value e = unless_outside count (omega (arith, number_huge p is e, value))
 unless_reads (Some n) count p is value e =
     let same : n ≡ count = sym (number_known p n is e) ∙ value in
@@ -126,7 +131,9 @@ SpellsSome line = (command : Command) × Spells line command
 
 asked_shape : (line text : List ℕ) (verb : Verb) (spelled : Spelled) → line ≡ verb_word verb ++ text → asked verb text ≡ Some spelled → SpellsSome line
 asked_shape line text verb spelled parts e =
-    let places = both_read (slots_in text) (λ (places : List Slot). option_map (λ (operation : Operation). fitting (Ask operation)) (operation_of verb places)) spelled e in
+    let places =
+    both_read (slots_in text) (λ (places : List Slot). option_map (λ (operation : Operation). fitting (Ask operation)) (operation_of verb places)) spelled
+    e in
     let operation = mapped (λ (operation : Operation). fitting (Ask operation)) (operation_of verb places.0) spelled places.2 in
     let h = slots_taken text places.0 places.1 in
     let is = operation_taken verb text places.0 operation.0 h.0 h.1 operation.1 in
@@ -144,7 +151,8 @@ int_by_read (Ok (p, rest)) text number is e =
 int_in_shape : (text : List ℕ) (number : Option ℤ) → int_in (int_at text) ≡ Some number → IsInt text
 int_in_shape text number e = int_by_read (int_at text) text number refl e
 
-set_spelled : (line words x y p : List ℕ) → line ≡ codes "set " ++ words → words ≡ x ++ (codes " = " ++ (y ++ (codes " + " ++ p))) → IsName x → IsName y → IsInt p → SpellsSome line
+set_spelled : (line words x y p : List ℕ) → line ≡ codes "set " ++ words → words ≡ x ++ (codes " = " ++ (y ++ (codes " + " ++ p))) → IsName x → IsName y
+    → IsInt p → SpellsSome line
 set_spelled line words x y p parts inner x_is y_is is =
     (Set x y (signed_digits_value 10 p), (p, is, refl, x_is, y_is, parts ∙ ap (λ (t : List ℕ). codes "set " ++ t) inner ∙ sym (set_parts x y p)))
 
@@ -162,10 +170,13 @@ unless_shape line words spelled parts e =
     (Unless (digits_value 10 n.number), (n.number, n.is, refl, parts ∙ ap (λ (t : List ℕ). codes "unless " ++ t) alone))
 
 by_verb : (read : Option (Verb × List ℕ)) (line : List ℕ) (spelled : Spelled) → verb_at line ≡ read → spelled_with line read ≡ Ok spelled → SpellsSome line
-by_verb (Some read) line spelled is e = asked_shape line read.1 read.0 spelled (verb_taken line read is) (faultless faults.Tuple (asked read.0 read.1) spelled e)
+by_verb (Some read) line spelled is e =
+    asked_shape line read.1 read.0 spelled (verb_taken line read is) (faultless faults.Tuple (asked read.0 read.1) spelled e)
 by_verb None line spelled is e =
-    by_word (SpellsSome line) line (codes "set ") set_of _ (Some spelled) (faultless faults.Word _ spelled e) (λ words parts read. set_shape line words spelled parts read) (λ e2.
-    by_word (SpellsSome line) line (codes "unless ") unless_of None (Some spelled) e2 (λ words parts read. unless_shape line words spelled parts read) (λ e3. absurd cc))
+    by_word (SpellsSome line) line (codes "set ") set_of _ (Some spelled) (faultless faults.Word _ spelled e)
+    (λ words parts read. set_shape line words spelled parts read) (λ e2.
+    by_word (SpellsSome line) line (codes "unless ") unless_of None (Some spelled) e2 (λ words parts read. unless_shape line words spelled parts read)
+    (λ e3. absurd cc))
 
 -- a line that is read as a command spells it
 pub read_shape : (line : List ℕ) (spelled : Spelled) → spelled_of line ≡ Ok spelled → (command : Command) × Spells line command × ReadsAs command spelled

@@ -1,5 +1,6 @@
 -- The text of a command is read as that command.
-use Rattle.std.proofs.Common.{◌≡◌, ℕ, zero, suc, ◌≤◌, true, leb, List, [], ◌∷◌, ◌++◌, length, map, Some, Ok, refl, sym, ap, ◌∙◌, append_assoc, append-nil, arith}
+use Rattle.std.proofs.Common.{◌≡◌, ℕ, zero, suc, ◌≤◌, true, leb, List, [], ◌∷◌, ◌++◌, length, map, Some, Ok, refl, sym, ap, ◌∙◌, append_assoc, append-nil}
+use Rattle.std.proofs.Common.{arith}
 use Rattle.std.proofs.lemmas.Bool.{le-leb}
 use Rattle.std.proofs.lemmas.List.Elements.{All-head, All-tail, All-map}
 use Rattle.std.specs.Prelude.{ℤ, codes, decimal, All}
@@ -40,7 +41,8 @@ unfolding slots_from
 last_slot_read n slot h =
     rw (append-nil (slot_text slot), slot_read slot (41 ∷ []) h last_apart, after_last) refl
 
-slot_read_more : (n : ℕ) (slot : Slot) (others : List Slot) → IsSlot slot → 1 ≤ length others → slots_from n (separated (map slot_text others) ++ 41 ∷ []) ≡ Some others
+slot_read_more : (n : ℕ) (slot : Slot) (others : List Slot) → IsSlot slot → 1 ≤ length others
+    → slots_from n (separated (map slot_text others) ++ 41 ∷ []) ≡ Some others
     → slots_from (suc n) (separated (map slot_text (slot ∷ others)) ++ 41 ∷ []) ≡ Some (slot ∷ others)
 unfolding slots_from
 slot_read_more n slot others h some behind =
@@ -50,7 +52,8 @@ slot_read_more n slot others h some behind =
     ∙ append_assoc (slot_text slot) (44 ∷ 32 ∷ separated (map slot_text others)) (41 ∷ []) in
     ap (slots_from (suc n)) parts ∙ rw (slot_read slot (44 ∷ 32 ∷ next) h (other_apart next), after_other next, behind) refl
 
-slots_read_from : (places : List Slot) (n : ℕ) → 1 ≤ length places → length places ≤ n → All IsSlot places → slots_from n (separated (map slot_text places) ++ 41 ∷ []) ≡ Some places
+slots_read_from : (places : List Slot) (n : ℕ) → 1 ≤ length places → length places ≤ n → All IsSlot places
+    → slots_from n (separated (map slot_text places) ++ 41 ∷ []) ≡ Some places
 slots_read_from [] n some few h = absurd (omega (arith, some))
 slots_read_from (place ∷ others) zero some few h = absurd (omega (arith, few))
 slots_read_from (place ∷ []) (suc n) some few h = last_slot_read n place (All-head IsSlot place [] h)
@@ -66,13 +69,15 @@ actuals_back : (actuals : List Actual) → actuals_of (map (λ a. slots.Actual a
 actuals_back [] = refl
 actuals_back (actual ∷ later) = rw (actuals_back later) refl
 
-actuals_read : (actuals : List Actual) → HasArity actuals → All IsActual actuals → slots_in (in_parentheses (map actual_text actuals)) ≡ Some (map (λ a. slots.Actual a) actuals)
+actuals_read : (actuals : List Actual) → HasArity actuals → All IsActual actuals
+    → slots_in (in_parentheses (map actual_text actuals)) ≡ Some (map (λ a. slots.Actual a) actuals)
 actuals_read actuals arity h =
     let places = map (λ a. slots.Actual a) actuals in
     let count : length (map (λ a. slots.Actual a) actuals) ≡ length actuals = length-actuals actuals in
     let some : 1 ≤ length (map (λ a. slots.Actual a) actuals) = omega (arith, arity.0, count) in
     let few : length (map (λ a. slots.Actual a) actuals) ≤ 8 = omega (arith, arity.1, count) in
-    ap (λ (l : List (List ℕ)). slots_in (in_parentheses l)) (sym (actuals_text actuals)) ∙ slots_read places ((some, few), All-map IsSlot (λ a. slots.Actual a) actuals h)
+    ap (λ (l : List (List ℕ)). slots_in (in_parentheses l)) (sym (actuals_text actuals))
+    ∙ slots_read places ((some, few), All-map IsSlot (λ a. slots.Actual a) actuals h)
 
 pub operation_read : (operation : Operation) → IsOperation operation → spelled_of (command_text (Ask operation)) ≡ Ok (fitting (Ask operation))
 operation_read (Out actuals) h = rw (actuals_read actuals h.0 h.1, actuals_back actuals) refl
@@ -83,12 +88,18 @@ operation_read (Rdp pattern) h = rw (slots_read pattern h) refl
 
 int_read_alone : (k : ℤ) → FitsSigned w64 k → int_in (int_at (signed_decimal k)) ≡ Some (Some k)
 int_read_alone k h =
-    let whole : int_at (signed_decimal k) ≡ Ok (signed_decimal k, []) = ap int_at (sym (append-nil (signed_decimal k))) ∙ int_at_int (signed_decimal k) [] (signed_decimal_is_int k h) refl in
+    let whole : int_at (signed_decimal k) ≡ Ok (signed_decimal k, []) =
+    ap int_at (sym (append-nil (signed_decimal k))) ∙ int_at_int (signed_decimal k) [] (signed_decimal_is_int k h) refl in
     rw (whole, int_of_decimal k h) refl
 
-set_read : (x y : List ℕ) (k : ℤ) → IsName x → IsName y → FitsSigned w64 k → set_of (x ++ (codes " = " ++ (y ++ (codes " + " ++ signed_decimal k)))) ≡ Some (fitting (Set x y k))
+set_read : (x y : List ℕ) (k : ℤ) → IsName x → IsName y → FitsSigned w64 k
+    → set_of (x ++ (codes " = " ++ (y ++ (codes " + " ++ signed_decimal k)))) ≡ Some (fitting (Set x y k))
 set_read x y k x_is y_is h =
-    rw (name_read x (codes " = " ++ (y ++ (codes " + " ++ signed_decimal k))) x_is refl, name_read y (codes " + " ++ signed_decimal k) y_is refl, int_read_alone k h) refl
+    rw (
+      name_read x (codes " = " ++ (y ++ (codes " + " ++ signed_decimal k))) x_is refl,
+      name_read y (codes " + " ++ signed_decimal k) y_is refl,
+      int_read_alone k h,
+    ) refl
 
 unless_read : (n : ℕ) → n ≤ 200 → unless_of (decimal n) ≡ Some (fitting (Unless n))
 unless_read n h =

@@ -1,5 +1,6 @@
 -- A text and its lines, and reading them one after another.
-use Rattle.std.proofs.Common.{◌≡◌, ℕ, ◌+◌, ◌≢◌, Bool, true, false, cond, ◌&&◌, eqb, List, [], ◌∷◌, ◌++◌, Result, Ok, Err, refl, sym, ap, subst, ◌∙◌, append_assoc}
+use Rattle.std.proofs.Common.{◌≡◌, ℕ, ◌+◌, ◌≢◌, Bool, true, false, cond, ◌&&◌, eqb, List, [], ◌∷◌, ◌++◌, Result, Ok, Err, refl, sym, ap, subst, ◌∙◌}
+use Rattle.std.proofs.Common.{append_assoc}
 use Rattle.std.proofs.lemmas.Bool.{eqb-true, eqb-false, and_parts, ne_eqb}
 use Rattle.std.proofs.lemmas.List.Elements.{All-nil, All-cons, All-head, All-tail}
 use Rattle.std.specs.Prelude.{All}
@@ -24,7 +25,8 @@ with_byte_lines c cs (line ∷ lines, rest) other h =
     let longer : IsLine (c ∷ line) = All-cons P c line (is_no_feed c other) (All-head IsLine line lines h.1) in
     (ap (λ (t : List ℕ). c ∷ t) h.0, All-cons IsLine (c ∷ line) lines longer (All-tail IsLine line lines h.1))
 
-lines_by_test : (b : Bool) (c : ℕ) (cs : List ℕ) (parts : List (List ℕ) × List ℕ) → eqb c 10 ≡ b → AreLines cs parts → AreLines (c ∷ cs) (cond b ([] ∷ parts.0, parts.1) (with_byte c parts))
+lines_by_test : (b : Bool) (c : ℕ) (cs : List ℕ) (parts : List (List ℕ) × List ℕ) → eqb c 10 ≡ b → AreLines cs parts
+    → AreLines (c ∷ cs) (cond b ([] ∷ parts.0, parts.1) (with_byte c parts))
 lines_by_test true c cs parts e h =
     let P : ℕ → Type 0 = λ x. x ≢ 10 in
     (ap (λ (k : ℕ). k ∷ cs) (eqb-true c 10 e) ∙ ap (λ (t : List ℕ). 10 ∷ t) h.0, All-cons IsLine [] parts.0 (All-nil P) h.1)
@@ -58,7 +60,8 @@ abbrev pub LeadOn : Sketch → List (List ℕ) → Sketch → Type 0
 LeadOn s [] t = t ≡ s
 LeadOn s (line ∷ later) t = (u : Sketch) × (line_read s line ≡ Ok u) × LeadOn u later t
 
-went : (n : ℕ) (r : Result Sketch SceneError) (more : Sketch → Result Sketch Fault) (t : Sketch) → went_on n r more ≡ Ok t → (u : Sketch) × (r ≡ Ok u) × (more u ≡ Ok t)
+went : (n : ℕ) (r : Result Sketch SceneError) (more : Sketch → Result Sketch Fault) (t : Sketch) → went_on n r more ≡ Ok t
+    → (u : Sketch) × (r ≡ Ok u) × (more u ≡ Ok t)
 went n (Ok u) more t e = (u, refl, e)
 went n (Err fault) more t e = absurd cc
 
@@ -71,7 +74,8 @@ nothing_left [] e = refl
 nothing_left (c ∷ rest) e = absurd cc
 
 -- lines that are read lead on, up to the last, behind which nothing stands
-pub read_leads : (s : Sketch) (n : ℕ) (lines : List (List ℕ)) (rest : List ℕ) (t : Sketch) → read_from s n lines rest ≡ Ok t → LeadOn s lines t × (is_ended t.stage ≡ true) × (rest ≡ [])
+pub read_leads : (s : Sketch) (n : ℕ) (lines : List (List ℕ)) (rest : List ℕ) (t : Sketch) → read_from s n lines rest ≡ Ok t
+    → LeadOn s lines t × (is_ended t.stage ≡ true) × (rest ≡ [])
 unfolding read_from
 read_leads s n [] rest t e =
     let end = end_by_test (is_ended s.stage && is_empty rest) s t _ e in

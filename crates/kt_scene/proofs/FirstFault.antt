@@ -1,5 +1,6 @@
 -- A text that is refused has the fault that is answered, on its first line that has one; and it has no other.
-use Rattle.std.proofs.Common.{◌≡◌, ℕ, zero, suc, ◌+◌, ◌<◌, ◌≤◌, Bool, true, false, cond, eqb, ltb, List, [], ◌∷◌, ◌++◌, length, Result, Ok, Err, refl, sym, ap, subst, ◌∙◌, append_assoc, append-nil, arith}
+use Rattle.std.proofs.Common.{◌≡◌, ℕ, zero, suc, ◌+◌, ◌<◌, ◌≤◌, Bool, true, false, cond, eqb, ltb, List, [], ◌∷◌, ◌++◌, length, Result, Ok, Err, refl, sym, ap}
+use Rattle.std.proofs.Common.{subst, ◌∙◌, append_assoc, append-nil, arith}
 use Rattle.std.proofs.lemmas.Bool.{ltb-true, ltb-false, le-ltb, ne_eqb}
 use Rattle.std.proofs.lemmas.Grind.{flat_map-append}
 use Rattle.std.proofs.lemmas.List.Elements.{All-nil, All-cons, All-head, All-tail, All-push}
@@ -29,7 +30,8 @@ behind_byte c ([], rest) other h =
     All-cons P c rest (is_no_feed c other) h
 behind_byte c (line ∷ lines, rest) other h = h
 
-behind_by_test : (b : Bool) (c : ℕ) (parts : List (List ℕ) × List ℕ) → eqb c 10 ≡ b → IsLine parts.1 → IsLine (cond b ([] ∷ parts.0, parts.1) (with_byte c parts)).1
+behind_by_test : (b : Bool) (c : ℕ) (parts : List (List ℕ) × List ℕ) → eqb c 10 ≡ b → IsLine parts.1
+    → IsLine (cond b ([] ∷ parts.0, parts.1) (with_byte c parts)).1
 behind_by_test true c parts test h = h
 behind_by_test false c parts test h = behind_byte c parts test h
 
@@ -74,7 +76,8 @@ found_on_line text before line later all =
       all_in_front IsLine (before ++ line ∷ []) later (subst Each lines parts.1),
     )
 
-by_failed : (text : List ℕ) (n : ℕ) (fault : SceneError) → play_of text ≡ Err (n, fault) → length text ≤ 1048576 → Failed (lines_of text).0 (lines_of text).1 n fault → HasFirstFault text n fault
+by_failed : (text : List ℕ) (n : ℕ) (fault : SceneError) → play_of text ≡ Err (n, fault) → length text ≤ 1048576
+    → Failed (lines_of text).0 (lines_of text).1 n fault → HasFirstFault text n fault
 by_failed text n fault answer short (on_line before line later u all h read count) =
     let parts = found_on_line text before line later all in
     at_line short (record {
@@ -104,16 +107,19 @@ by_failed text n fault answer short (at_end u h test count is) =
       none = none;
     }))
 
-by_length : (b : Bool) (text : List ℕ) (n : ℕ) (fault : SceneError) (long : Fault) → long ≡ (1, faults.Limit) → play_of text ≡ Err (n, fault) → ltb 1048576 (length text) ≡ b
+by_length : (b : Bool) (text : List ℕ) (n : ℕ) (fault : SceneError) (long : Fault) → long ≡ (1, faults.Limit) → play_of text ≡ Err (n, fault)
+    → ltb 1048576 (length text) ≡ b
     → cond b (Err long) (read_from nothing_read 1 (lines_of text).0 (lines_of text).1) ≡ Err (n, fault) → HasFirstFault text n fault
 by_length true text n fault long there answer test e =
     let same : (1, faults.Limit) ≡ (n, fault) = cc in
     let P : Fault → Type 0 = λ x. HasFirstFault text x.0 x.1 in
     subst P same (too_long (ltb-true 1048576 (length text) test))
 by_length false text n fault long there answer test e =
-    by_failed text n fault answer (ltb-false 1048576 (length text) test) (read_fails (lines_of text).0 [] nothing_read (lines_of text).1 1 n fault refl reached_nothing e)
+    by_failed text n fault answer (ltb-false 1048576 (length text) test)
+    (read_fails (lines_of text).0 [] nothing_read (lines_of text).1 1 n fault refl reached_nothing e)
 
-by_sketch : (r : Result Sketch Fault) (text : List ℕ) (n : ℕ) (fault : SceneError) → play_of text ≡ Err (n, fault) → sketch_of text ≡ r → played r ≡ Err (n, fault) → HasFirstFault text n fault
+by_sketch : (r : Result Sketch Fault) (text : List ℕ) (n : ℕ) (fault : SceneError) → play_of text ≡ Err (n, fault) → sketch_of text ≡ r
+    → played r ≡ Err (n, fault) → HasFirstFault text n fault
 by_sketch (Ok t) text n fault answer is e = absurd cc
 by_sketch (Err first) text n fault answer is e =
     let same : first ≡ (n, fault) = cc in
@@ -126,7 +132,10 @@ answered_is_first text n fault e = by_sketch (sketch_of text) text n fault e ref
 -- the fault of a number
 abbrev of_number : ℕ → SceneError
 of_number n =
-    cond (eqb n 1) faults.Header (cond (eqb n 2) faults.Word (cond (eqb n 3) faults.Tuple (cond (eqb n 4) faults.Variable (cond (eqb n 5) faults.Limit (cond (eqb n 6) faults.Node (cond (eqb n 7) faults.End faults.OutOfMemory))))))
+    cond (eqb n 1) faults.Header
+    (cond (eqb n 2) faults.Word
+    (cond (eqb n 3) faults.Tuple
+    (cond (eqb n 4) faults.Variable (cond (eqb n 5) faults.Limit (cond (eqb n 6) faults.Node (cond (eqb n 7) faults.End faults.OutOfMemory))))))
 
 of_its_number : (fault : SceneError) → of_number (fault_number fault) ≡ fault
 of_its_number faults.Header = refl
@@ -176,7 +185,8 @@ apart (a ∷ xs) x l (b ∷ ys) y k e =
     apart_more a b xs x ys y first (apart xs x l ys y k others)
 
 begin_front : (xs ys : List (List ℕ)) → Begin (xs ++ ys) → Begin xs
-begin_front xs ys h = record { play = h.play; rules = h.rules; body = h.body; told = h.told; others = ys ++ h.others; are = h.are ∙ append_assoc xs ys h.others }
+begin_front xs ys h =
+    record { play = h.play; rules = h.rules; body = h.body; told = h.told; others = ys ++ h.others; are = h.are ∙ append_assoc xs ys h.others }
 
 front_of : (before : List (List ℕ)) (line : List ℕ) (mid lines : List (List ℕ)) → lines ≡ before ++ line ∷ mid → Begin lines → Begin (before ++ line ∷ [])
 front_of before line mid lines is h = begin_front (before ++ line ∷ []) mid (subst Begin (is ∙ sym (append_assoc before (line ∷ []) mid)) h)
@@ -184,13 +194,16 @@ front_of before line mid lines is h = begin_front (before ++ line ∷ []) mid (s
 module _ (text : List ℕ) where
   fault_lines : {n : ℕ} (h : HasLineAt text n) → (lines_of text).0 ≡ h.before ++ h.line ∷ (lines_of h.rest).0
   fault_lines h =
-      ap (λ (t : List ℕ). (lines_of t).0) h.parts ∙ lines_front (h.before ++ h.line ∷ []) h.rest h.each ∙ append_assoc h.before (h.line ∷ []) (lines_of h.rest).0
+      ap (λ (t : List ℕ). (lines_of t).0) h.parts ∙ lines_front (h.before ++ h.line ∷ []) h.rest h.each
+      ∙ append_assoc h.before (h.line ∷ []) (lines_of h.rest).0
 
   cut_lines : {n : ℕ} (h : IsCutShort text n) → (lines_of text).0 ≡ h.before
   cut_lines h =
-      ap (λ (t : List ℕ). (lines_of t).0) h.parts ∙ lines_front h.before h.rest h.each ∙ ap (λ (l : List (List ℕ)). h.before ++ l) (no_line h.rest h.unended) ∙ append-nil h.before
+      ap (λ (t : List ℕ). (lines_of t).0) h.parts ∙ lines_front h.before h.rest h.each ∙ ap (λ (l : List (List ℕ)). h.before ++ l) (no_line h.rest h.unended)
+      ∙ append-nil h.before
 
-  by_place : {n m : ℕ} {f g : SceneError} (h : IsFaultAt text n f) (k : IsFaultAt text m g) → Apart h.place.before h.place.line k.place.before k.place.line → (n ≡ m) × (f ≡ g)
+  by_place : {n m : ℕ} {f g : SceneError} (h : IsFaultAt text n f) (k : IsFaultAt text m g) → Apart h.place.before h.place.line k.place.before k.place.line
+      → (n ≡ m) × (f ≡ g)
   by_place {f} {g} h k (one e i) =
       let count = sym h.place.number ∙ ap (λ (l : List (List ℕ)). length l + 1) e ∙ k.place.number in
       let Of : SceneError → List (List ℕ) → Type 0 = λ x l. HasFault (filter is_told l) k.place.line x in
@@ -208,7 +221,9 @@ module _ (text : List ℕ) where
   first_is_one (too_long long) (cut_short short k) = absurd (omega (arith, long, short))
   first_is_one (at_line short h) (too_long long) = absurd (omega (arith, long, short))
   first_is_one (at_line short h) (at_line shorter k) =
-      by_place h k (apart h.place.before h.place.line (lines_of h.place.rest).0 k.place.before k.place.line (lines_of k.place.rest).0 (sym (fault_lines h.place) ∙ fault_lines k.place))
+      by_place h k
+      (apart h.place.before h.place.line (lines_of h.place.rest).0 k.place.before k.place.line (lines_of k.place.rest).0
+      (sym (fault_lines h.place) ∙ fault_lines k.place))
   first_is_one (at_line short h) (cut_short shorter k) =
       absurd (h.stops (front_of h.place.before h.place.line (lines_of h.place.rest).0 k.before (sym (cut_lines k) ∙ fault_lines h.place) k.begins))
   first_is_one (cut_short short h) (too_long long) = absurd (omega (arith, long, short))
@@ -227,8 +242,10 @@ module _ (text : List ℕ) where
       let nothing : (lines_of []).0 ≡ [] = no_line [] (All-nil P) in
       let whole : (lines_of text).0 ≡ h.lines ++ codes "end" ∷ [] =
       ap (λ (t : List ℕ). (lines_of t).0) (h.is ∙ sym (append-nil (flat_map text_line (h.lines ++ codes "end" ∷ []))))
-      ∙ lines_front (h.lines ++ codes "end" ∷ []) [] Each ∙ ap (λ (l : List (List ℕ)). (h.lines ++ codes "end" ∷ []) ++ l) nothing ∙ append-nil (h.lines ++ codes "end" ∷ []) in
-      let lines : h.lines ++ codes "end" ∷ [] ≡ (k.place.before ++ k.place.line ∷ []) ++ (lines_of k.place.rest).0 = sym whole ∙ fault_lines k.place ∙ sym (append_assoc k.place.before (k.place.line ∷ []) (lines_of k.place.rest).0) in
+      ∙ lines_front (h.lines ++ codes "end" ∷ []) [] Each ∙ ap (λ (l : List (List ℕ)). (h.lines ++ codes "end" ∷ []) ++ l) nothing
+      ∙ append-nil (h.lines ++ codes "end" ∷ []) in
+      let lines : h.lines ++ codes "end" ∷ [] ≡ (k.place.before ++ k.place.line ∷ []) ++ (lines_of k.place.rest).0 =
+      sym whole ∙ fault_lines k.place ∙ sym (append_assoc k.place.before (k.place.line ∷ []) (lines_of k.place.rest).0) in
       k.stops (record { play = play; rules = h.rules; body = h.lines; told = h.told; others = (lines_of k.place.rest).0; are = lines })
 
   by_answer : {n : ℕ} {fault : SceneError} (r : Result Play Fault) → play_of text ≡ r → HasFirstFault text n fault → play_of text ≡ Err (n, fault)

@@ -10,7 +10,8 @@ end_by_test : (b : Bool) (s : Sketch) (m n : ℕ) → m < n → IsBeforeFault m 
 end_by_test true s m n lt = tt
 end_by_test false s m n lt = lt
 
-went_later : (r : Result Sketch SceneError) (m n : ℕ) (more : Sketch → Result Sketch Fault) → m < n → ((t : Sketch) → IsBeforeFault m (more t)) → IsBeforeFault m (went_on n r more)
+went_later : (r : Result Sketch SceneError) (m n : ℕ) (more : Sketch → Result Sketch Fault) → m < n → ((t : Sketch) → IsBeforeFault m (more t))
+    → IsBeforeFault m (went_on n r more)
 went_later (Ok t) m n more lt behind = behind t
 went_later (Err fault) m n more lt behind = lt
 
@@ -22,14 +23,17 @@ faults_later (line ∷ lines) s m n rest lt =
     let next : m < n + 1 = omega (arith, lt) in
     went_later (line_read s line) m n (λ t. read_from t (n + 1) lines rest) lt (λ t. faults_later lines t m (n + 1) rest next)
 
-ok_first : (r : Result Sketch SceneError) (n : ℕ) (more : Sketch → Result Sketch Fault) → IsOk r → ((t : Sketch) → IsBeforeFault n (more t)) → IsBeforeFault n (went_on n r more)
+ok_first : (r : Result Sketch SceneError) (n : ℕ) (more : Sketch → Result Sketch Fault) → IsOk r → ((t : Sketch) → IsBeforeFault n (more t))
+    → IsBeforeFault n (went_on n r more)
 ok_first (Ok t) n more ok behind = behind t
 ok_first (Err fault) n more ok behind = absurd cc
 
-err_first : (r : Result Sketch SceneError) (n : ℕ) (fault : SceneError) (more : Sketch → Result Sketch Fault) → r ≡ Err fault → went_on n r more ≡ Err (n, fault)
+err_first : (r : Result Sketch SceneError) (n : ℕ) (fault : SceneError) (more : Sketch → Result Sketch Fault) → r ≡ Err fault
+    → went_on n r more ≡ Err (n, fault)
 err_first r n fault more e = ap (λ (x : Result Sketch SceneError). went_on n x more) e
 
-first_of : (fault : SceneError) (r : Result Sketch SceneError) (n : ℕ) (more : Sketch → Result Sketch Fault) → IsFaultOf fault r → ((t : Sketch) → IsBeforeFault n (more t)) → IsFirstFault n fault (went_on n r more)
+first_of : (fault : SceneError) (r : Result Sketch SceneError) (n : ℕ) (more : Sketch → Result Sketch Fault) → IsFaultOf fault r
+    → ((t : Sketch) → IsBeforeFault n (more t)) → IsFirstFault n fault (went_on n r more)
 first_of faults.Header r n more f behind = err_first r n faults.Header more f
 first_of faults.Word r n more f behind = err_first r n faults.Word more f
 first_of faults.Tuple r n more f behind = err_first r n faults.Tuple more f
@@ -53,18 +57,23 @@ module _ (s : Sketch) (n : ℕ) (text line later : List ℕ) (total : Result Ske
       let P : Result Sketch Fault → Type 0 = λ x. IsFirstFault n fault x in
       let one : n < n + 1 = omega arith in
       subst P (sym (due_with s n text line later split) ∙ due)
-      (first_of fault (line_read s line) n (λ t. read_from t (n + 1) (lines_of later).0 (lines_of later).1) f (λ t. faults_later (lines_of later).0 t n (n + 1) (lines_of later).1 one))
+      (first_of fault (line_read s line) n (λ t. read_from t (n + 1) (lines_of later).0 (lines_of later).1) f
+      (λ t. faults_later (lines_of later).0 t n (n + 1) (lines_of later).1 one))
 
   -- the line has none
   pub line_goes_on : (t : Sketch) → line_read s line ≡ Ok t → read_from t (n + 1) (lines_of later).0 (lines_of later).1 ≡ total
-  line_goes_on t e = sym (ap (λ (r : Result Sketch SceneError). went_on n r (λ (u : Sketch). read_from u (n + 1) (lines_of later).0 (lines_of later).1)) e) ∙ sym (due_with s n text line later split) ∙ due
+  line_goes_on t e =
+      sym (ap (λ (r : Result Sketch SceneError). went_on n r (λ (u : Sketch). read_from u (n + 1) (lines_of later).0 (lines_of later).1)) e)
+      ∙ sym (due_with s n text line later split) ∙ due
 
-due_at_end : (s : Sketch) (n : ℕ) (text : List ℕ) → lines_of text ≡ ([], text) → read_from s n (lines_of text).0 (lines_of text).1 ≡ cond (is_ended s.stage && is_empty text) (Ok s) (Err (n, faults.End))
+due_at_end : (s : Sketch) (n : ℕ) (text : List ℕ) → lines_of text ≡ ([], text)
+    → read_from s n (lines_of text).0 (lines_of text).1 ≡ cond (is_ended s.stage && is_empty text) (Ok s) (Err (n, faults.End))
 unfolding read_from
 due_at_end s n text e = ap (λ (ls : List (List ℕ) × List ℕ). read_from s n ls.0 ls.1) e
 
 -- behind the last line
-pub ends_with : (b : Bool) (s : Sketch) (n : ℕ) (text : List ℕ) (total : Result Sketch Fault) → lines_of text ≡ ([], text) → (is_ended s.stage && is_empty text) ≡ b
+pub ends_with : (b : Bool) (s : Sketch) (n : ℕ) (text : List ℕ) (total : Result Sketch Fault) → lines_of text ≡ ([], text)
+    → (is_ended s.stage && is_empty text) ≡ b
     → read_from s n (lines_of text).0 (lines_of text).1 ≡ total → total ≡ cond b (Ok s) (Err (n, faults.End))
 ends_with b s n text total none test due = sym due ∙ due_at_end s n text none ∙ ap (λ (x : Bool). cond x (Ok s) (Err (n, faults.End))) test
 

@@ -1,5 +1,6 @@
 -- What is known of bytes after one write and another.
-use Rattle.std.proofs.Common.{◌≡◌, ℕ, ◌+◌, ◌<◌, length, arith, length-append, List, [], ◌++◌, take, drop, Option, Some, None, refl, sym, ap, ◌∙◌, subst, append_assoc}
+use Rattle.std.proofs.Common.{◌≡◌, ℕ, ◌+◌, ◌<◌, length, arith, length-append, List, [], ◌++◌, take, drop, Option, Some, None, refl, sym, ap, ◌∙◌, subst}
+use Rattle.std.proofs.Common.{append_assoc}
 use Rattle.std.proofs.Math.Seq.{take-add}
 use Rattle.std.specs.Io.KnownBytes.{Keeps, Appends, Consumes}
 use Rattle.std.proofs.lemmas.List.{drop-drop, append-nil}
@@ -26,10 +27,12 @@ abbrev pub IsWritten : Option (List ℕ) → Option (List ℕ) → List ℕ → 
 IsWritten old new bytes rest = (n : ℕ) × Appends old new (take n bytes) × (rest ≡ drop n bytes)
 
 -- the writer took a front of what is left
-pub written_more : (a b c : Option (List ℕ)) (bytes rest left : List ℕ) (m : ℕ) → IsWritten a b bytes rest → Appends b c (take m rest) → left ≡ drop m rest → IsWritten a c bytes left
+pub written_more : (a b c : Option (List ℕ)) (bytes rest left : List ℕ) (m : ℕ) → IsWritten a b bytes rest → Appends b c (take m rest) → left ≡ drop m rest
+    → IsWritten a c bytes left
 written_more a b c bytes rest left m (n, so_far, is) more later = (
   n + m,
-  subst (Appends a c) (sym (take-add n m bytes ∙ ap (λ (t : List ℕ). take n bytes ++ take m t) (sym is))) (appends_then a b c (take n bytes) (take m rest) so_far more),
+  subst (Appends a c) (sym (take-add n m bytes ∙ ap (λ (t : List ℕ). take n bytes ++ take m t) (sym is)))
+      (appends_then a b c (take n bytes) (take m rest) so_far more),
   later ∙ ap (drop m) is ∙ drop-drop m n bytes,
 )
 

@@ -1,5 +1,7 @@
 pub mod Known
 pub mod TupleLists
+pub mod Reports
+pub mod Causes
 pub mod Runs
 pub mod Replays
 pub mod Names

@@ -11,7 +11,9 @@ use Rattle.kt_scene.specs.declared.draft.Stage.TheVariants as stages
 use Rattle.kt_scene.specs.Fault.{fault_number}
 use Rattle.kt_scene.specs.Commands.{spelled_of}
 use Rattle.kt_scene.specs.Lines.{Sketch, nothing_read}
-use Rattle.kt_scene.specs.Faults.{HasVerb, Spells, IsNoHeader, no_title, no_shards, IsNoWord, no_worker, no_command, no_step, IsNoTuple, no_tuple, BreaksVariableRules, breaks_rules, PassesLimit, shards_outside, many_workers, many_commands, many_variables, outside, HasFault}
+use Rattle.kt_scene.specs.Faults.{HasVerb, Spells, IsNoHeader, no_title, no_shards, IsNoWord, no_worker, no_command, no_step, IsNoTuple, no_tuple}
+use Rattle.kt_scene.specs.Faults.{BreaksVariableRules, breaks_rules, PassesLimit, shards_outside, many_workers, many_commands, many_variables, outside}
+use Rattle.kt_scene.specs.Faults.{HasFault}
 use Rattle.kt_scene.proofs.Feeding.{LeadOn}
 use Rattle.kt_scene.proofs.CommandShapes.{shape_read}
 use Rattle.kt_scene.proofs.Positions.{at_title, behind_title, behind_head, in_steps, in_script}
@@ -47,7 +49,8 @@ module _ (told : List (List ℕ)) (line : List ℕ) where
   from_tuple header word faults.End h = omega arith
   from_tuple header word faults.OutOfMemory h = omega arith
 
-  pub from_variable : ¬ IsNoHeader told line → ¬ IsNoWord told line → ¬ IsNoTuple told line → (other : SceneError) → HasFault told line other → 4 ≤ fault_number other
+  pub from_variable : ¬ IsNoHeader told line → ¬ IsNoWord told line → ¬ IsNoTuple told line → (other : SceneError) → HasFault told line other
+      → 4 ≤ fault_number other
   from_variable header word tuple faults.Header h = absurd (header h)
   from_variable header word tuple faults.Word h = absurd (word h)
   from_variable header word tuple faults.Tuple h = absurd (tuple h)
@@ -57,7 +60,8 @@ module _ (told : List (List ℕ)) (line : List ℕ) where
   from_variable header word tuple faults.End h = omega arith
   from_variable header word tuple faults.OutOfMemory h = omega arith
 
-  pub from_limit : ¬ IsNoHeader told line → ¬ IsNoWord told line → ¬ IsNoTuple told line → ¬ BreaksVariableRules told line → (other : SceneError) → HasFault told line other → 5 ≤ fault_number other
+  pub from_limit : ¬ IsNoHeader told line → ¬ IsNoWord told line → ¬ IsNoTuple told line → ¬ BreaksVariableRules told line → (other : SceneError)
+      → HasFault told line other → 5 ≤ fault_number other
   from_limit header word tuple variable faults.Header h = absurd (header h)
   from_limit header word tuple variable faults.Word h = absurd (word h)
   from_limit header word tuple variable faults.Tuple h = absurd (tuple h)
@@ -112,7 +116,8 @@ module _ (told : List (List ℕ)) (line : List ℕ) (s : Sketch) (leads : LeadOn
         by (inr other) = absurd cc
 
     -- a line that is no fault of its own
-    pub no_word : ((scripts : List (List Command)) (commands : List Command) → line ≢ codes "worker" → line ≢ codes "steps" → ¬ HasVerb line → ((command : Command) → ¬ Spells line command) → ⊥) → ¬ IsNoWord told line
+    pub no_word : ((scripts : List (List Command)) (commands : List Command) → line ≢ codes "worker" → line ≢ codes "steps" → ¬ HasVerb line
+        → ((command : Command) → ¬ Spells line command) → ⊥) → ¬ IsNoWord told line
     no_word never (no_worker at other) =
         let stage = behind_head told s leads at in
         absurd cc
@@ -126,7 +131,8 @@ module _ (told : List (List ℕ)) (line : List ℕ) (s : Sketch) (leads : LeadOn
     no_tuple_there (inr command) (no_tuple scripts commands at verb spelled) = spelled command.0 command.1
 
     -- of what the line spells the rules of variables are asked
-    pub breaks_rules_there : ((spelled : Spelled) → spelled_of line ≡ Ok spelled → keeps_rules (variables_of s.commands) spelled.command ≡ true) → ¬ BreaksVariableRules told line
+    pub breaks_rules_there : ((spelled : Spelled) → spelled_of line ≡ Ok spelled → keeps_rules (variables_of s.commands) spelled.command ≡ true)
+        → ¬ BreaksVariableRules told line
     breaks_rules_there keeps (breaks_rules scripts commands command at spelled broken) =
         let read = shape_read line command spelled in
         let same = (in_script told s leads scripts commands at).2 in

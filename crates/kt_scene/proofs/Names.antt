@@ -17,6 +17,7 @@ name_ends text n e = sym (chosen (ltb (position_or_len ends_name text) (length t
 
 pub name_is_all : (text : List ℕ) → position ends_name text ≡ None → length text ≡ name_length text
 name_is_all text e =
-    let whole = ltb-false (position_or_len ends_name text) (length text) (none_chosen (ltb (position_or_len ends_name text) (length text)) (position_or_len ends_name text) e) in
+    let whole = ltb-false (position_or_len ends_name text) (length text)
+    (none_chosen (ltb (position_or_len ends_name text) (length text)) (position_or_len ends_name text) e) in
     let within : position_or_len ends_name text ≤ length text = prefix_len-le-length (λ c. not (ends_name c)) text in
     omega (arith, whole, within)

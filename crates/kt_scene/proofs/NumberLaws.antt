@@ -1,5 +1,6 @@
 -- A word or a number that is read is spelled so.
-use Rattle.std.proofs.Common.{◌≡◌, ℕ, ◌≤◌, Bool, true, false, cond, ◌&&◌, leb, List, [], ◌∷◌, ◌++◌, get_or, Option, Some, None, Result, Ok, Err, refl, sym, ap, subst, ◌∙◌}
+use Rattle.std.proofs.Common.{◌≡◌, ℕ, ◌≤◌, Bool, true, false, cond, ◌&&◌, leb, List, [], ◌∷◌, ◌++◌, get_or, Option, Some, None, Result, Ok, Err, refl, sym, ap}
+use Rattle.std.proofs.Common.{subst, ◌∙◌}
 use Rattle.std.proofs.lemmas.Bool.{leb-true, and_parts}
 use Rattle.std.specs.Prelude.{ℤ, pos, decimal, nat_abs}
 use Rattle.std.specs.Char.{is_ascii_digit}
@@ -45,7 +46,8 @@ by_found P (Some words) read other y e here there = here words refl e
 -- the word stands in front, or something other was read
 pub by_word : {A : Type 0} (P : Type 0) (line word : List ℕ) (read : List ℕ → A) (other y : A) → behind_or (behind line word) read other ≡ y
     → ((words : List ℕ) → line ≡ word ++ words → read words ≡ y → P) → (other ≡ y → P) → P
-by_word P line word read other y e here there = by_found P (behind line word) read other y e (λ words found. here words (behind_taken line word words found)) there
+by_word P line word read other y e here there =
+    by_found P (behind line word) read other y e (λ words found. here words (behind_taken line word words found)) there
 
 -- an int that begins with a digit has no sign
 unsigned : (c : ℕ) (cs p rest : List ℕ) (z : ℤ) → is_ascii_digit c ≡ true → c ∷ cs ≡ p ++ rest → IsInt p → int_of p ≡ Some z → (m : ℕ) × (pos m ≡ z)
@@ -61,7 +63,8 @@ unsigned_spelled p z n m is value spelled =
     let same : m ≡ n = ap nat_abs is ∙ value in
     ap decimal (sym same) ∙ ap signed_decimal is ∙ spelled
 
-number_by_int : (r : Result (List ℕ × List ℕ) (List ℕ)) (c : ℕ) (cs rest : List ℕ) (n : ℕ) → is_ascii_digit c ≡ true → int_at (c ∷ cs) ≡ r → number_of r ≡ Some (Some n, rest) → c ∷ cs ≡ decimal n ++ rest
+number_by_int : (r : Result (List ℕ × List ℕ) (List ℕ)) (c : ℕ) (cs rest : List ℕ) (n : ℕ) → is_ascii_digit c ≡ true → int_at (c ∷ cs) ≡ r
+    → number_of r ≡ Some (Some n, rest) → c ∷ cs ≡ decimal n ++ rest
 number_by_int (Err d) c cs rest n digit is e = absurd cc
 number_by_int (Ok (p, after)) c cs rest n digit is e =
     let taken = int_taken (c ∷ cs) p after is in
@@ -73,7 +76,8 @@ number_by_int (Ok (p, after)) c cs rest n digit is e =
     let text : decimal n ≡ p = unsigned_spelled p z.0 n plain.0 plain.1 z.2 (int_spelled p z.0 taken.1 z.1) in
     taken.0 ∙ ap (λ (t : List ℕ). p ++ t) behind ∙ ap (λ (t : List ℕ). t ++ rest) (sym text)
 
-number_by_test : (b : Bool) (c : ℕ) (cs rest : List ℕ) (n : ℕ) → is_ascii_digit c ≡ b → cond b (number_of (int_at (c ∷ cs))) None ≡ Some (Some n, rest) → c ∷ cs ≡ decimal n ++ rest
+number_by_test : (b : Bool) (c : ℕ) (cs rest : List ℕ) (n : ℕ) → is_ascii_digit c ≡ b → cond b (number_of (int_at (c ∷ cs))) None ≡ Some (Some n, rest)
+    → c ∷ cs ≡ decimal n ++ rest
 number_by_test true c cs rest n digit e = number_by_int (int_at (c ∷ cs)) c cs rest n digit refl e
 number_by_test false c cs rest n digit e = absurd cc
 
@@ -83,7 +87,8 @@ unfolding number_at
 number_taken [] rest n e = absurd cc
 number_taken (c ∷ cs) rest n e = number_by_test (is_ascii_digit c) c cs rest n refl e
 
-within_read : (low high : ℕ) (read : Option ℕ × List ℕ) (rest : List ℕ) (n : ℕ) → within low high read ≡ Some (n, rest) → (read ≡ (Some n, rest)) × (low ≤ n) × (n ≤ high)
+within_read : (low high : ℕ) (read : Option ℕ × List ℕ) (rest : List ℕ) (n : ℕ) → within low high read ≡ Some (n, rest)
+    → (read ≡ (Some n, rest)) × (low ≤ n) × (n ≤ high)
 within_read low high (None, after) rest n e = absurd cc
 within_read low high (Some m, after) rest n e =
     let h = chosen (leb low m && leb m high) (m, after) (n, rest) e in
@@ -95,7 +100,8 @@ within_read low high (Some m, after) rest n e =
     )
 
 -- a number within its bounds
-pub number_within_taken : (low high : ℕ) (text rest : List ℕ) (n : ℕ) → number_within low high text ≡ Some (n, rest) → (text ≡ decimal n ++ rest) × (low ≤ n) × (n ≤ high)
+pub number_within_taken : (low high : ℕ) (text rest : List ℕ) (n : ℕ) → number_within low high text ≡ Some (n, rest)
+    → (text ≡ decimal n ++ rest) × (low ≤ n) × (n ≤ high)
 number_within_taken low high text rest n e =
     let read = both_read (number_at text) (within low high) (n, rest) e in
     let h = within_read low high read.0 rest n read.2 in

@@ -1,5 +1,6 @@
 -- A number that is read has the shape of one, and each number of this shape is read, whatever its size.
-use Rattle.std.proofs.Common.{◌≡◌, ℕ, ◌^◌, ◌≤◌, ◌⊎◌, inl, inr, Bool, true, false, cond, ◌&&◌, eqb, ltb, leb, List, [], ◌∷◌, ◌++◌, Option, Some, None, Result, Ok, Err, refl, sym, ap, subst, ◌∙◌, append-nil, arith}
+use Rattle.std.proofs.Common.{◌≡◌, ℕ, ◌^◌, ◌≤◌, ◌⊎◌, inl, inr, Bool, true, false, cond, ◌&&◌, eqb, ltb, leb, List, [], ◌∷◌, ◌++◌, Option, Some, None, Result}
+use Rattle.std.proofs.Common.{Ok, Err, refl, sym, ap, subst, ◌∙◌, append-nil, arith}
 use Rattle.std.proofs.lemmas.Bool.{ne_eqb, ltb-true, ltb-false, le-leb, and_from}
 use Rattle.std.specs.Prelude.{ℤ, pos, codes, nat_abs, is_some}
 use Rattle.std.specs.Char.{is_ascii_digit}
@@ -96,7 +97,8 @@ pub record HasNumber (text rest : List ℕ) (value : Option ℕ) : Type 0 where
   pub parts : text ≡ number ++ rest
   pub known : option_map nat_abs (int_of number) ≡ value
 
-number_by_int : (r : Result (List ℕ × List ℕ) (List ℕ)) (c : ℕ) (cs rest : List ℕ) (value : Option ℕ) → is_ascii_digit c ≡ true → int_at (c ∷ cs) ≡ r → number_of r ≡ Some (value, rest) → HasNumber (c ∷ cs) rest value
+number_by_int : (r : Result (List ℕ × List ℕ) (List ℕ)) (c : ℕ) (cs rest : List ℕ) (value : Option ℕ) → is_ascii_digit c ≡ true → int_at (c ∷ cs) ≡ r
+    → number_of r ≡ Some (value, rest) → HasNumber (c ∷ cs) rest value
 number_by_int (Err d) c cs rest value digit is e = absurd cc
 number_by_int (Ok (p, after)) c cs rest value digit is e =
     let took = int_takes (c ∷ cs) (p, after) is in
@@ -109,7 +111,8 @@ number_by_int (Ok (p, after)) c cs rest value digit is e =
       known = ap (λ (x : Option ℕ × List ℕ). x.0) same;
     }
 
-number_by_test : (b : Bool) (c : ℕ) (cs rest : List ℕ) (value : Option ℕ) → is_ascii_digit c ≡ b → cond b (number_of (int_at (c ∷ cs))) None ≡ Some (value, rest) → HasNumber (c ∷ cs) rest value
+number_by_test : (b : Bool) (c : ℕ) (cs rest : List ℕ) (value : Option ℕ) → is_ascii_digit c ≡ b
+    → cond b (number_of (int_at (c ∷ cs))) None ≡ Some (value, rest) → HasNumber (c ∷ cs) rest value
 number_by_test true c cs rest value digit e = number_by_int (int_at (c ∷ cs)) c cs rest value digit refl e
 number_by_test false c cs rest value digit e = absurd cc
 
@@ -145,7 +148,8 @@ shape_count line n (p, is, value, parts) = (option_map nat_abs (int_of p), ap co
 
 -- a fault of the line of the shards
 abbrev IsShardsFault : List ℕ → SceneError → Type 0
-IsShardsFault line fault = ((fault ≡ faults.Header) × ((n : ℕ) → ¬ SpellsShards line n)) ⊎ ((fault ≡ faults.Limit) × (n : ℕ) × SpellsShards line n × (¬ AreShards n))
+IsShardsFault line fault =
+    ((fault ≡ faults.Header) × ((n : ℕ) → ¬ SpellsShards line n)) ⊎ ((fault ≡ faults.Limit) × (n : ℕ) × SpellsShards line n × (¬ AreShards n))
 
 not_few : (n : ℕ) → (leb 1 n && leb n 8) ≡ false → ¬ AreShards n
 not_few n test are =
@@ -155,11 +159,13 @@ not_few n test are =
 not_so_many : (n : ℕ) → 2 ^ 63 ≤ n → ¬ AreShards n
 not_so_many n much are = omega (arith, much, are.1)
 
-few_by_test : (b : Bool) (line : List ℕ) (fault : SceneError) (n : ℕ) → HasCount line (Some n) → (leb 1 n && leb n 8) ≡ b → cond {A = Result ℕ SceneError} b (Ok n) (Err faults.Limit) ≡ Err fault → IsShardsFault line fault
+few_by_test : (b : Bool) (line : List ℕ) (fault : SceneError) (n : ℕ) → HasCount line (Some n) → (leb 1 n && leb n 8) ≡ b
+    → cond {A = Result ℕ SceneError} b (Ok n) (Err faults.Limit) ≡ Err fault → IsShardsFault line fault
 few_by_test true line fault n h test e = absurd cc
 few_by_test false line fault n h test e = inr (cc, n, (h.number, h.is, number_known h.number n h.is h.known, h.parts), not_few n test)
 
-fault_by_count : (count : Option (Option ℕ)) (line : List ℕ) (fault : SceneError) → count_of line ≡ count → shards_from count ≡ Err fault → IsShardsFault line fault
+fault_by_count : (count : Option (Option ℕ)) (line : List ℕ) (fault : SceneError) → count_of line ≡ count → shards_from count ≡ Err fault
+    → IsShardsFault line fault
 fault_by_count None line fault is e = inl (
   cc,
   λ n spelled.

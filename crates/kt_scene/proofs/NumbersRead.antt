@@ -33,7 +33,8 @@ number_read n rest small end =
     number_at_digit (decimal n) f.1 rest f.0 f.2 f.3 ∙ ap number_of int ∙ ap (λ (o : Option ℤ). Some (option_map nat_abs o, rest)) value
 
 -- a number within its bounds
-pub number_within_read : (low high n : ℕ) (rest : List ℕ) → low ≤ n → n ≤ high → high < 2 ^ 63 → begins_with_digit rest ≡ false → number_within low high (decimal n ++ rest) ≡ Some (n, rest)
+pub number_within_read : (low high n : ℕ) (rest : List ℕ) → low ≤ n → n ≤ high → high < 2 ^ 63 → begins_with_digit rest ≡ false
+    → number_within low high (decimal n ++ rest) ≡ Some (n, rest)
 number_within_read low high n rest least most small end =
     let bounds : (leb low n && leb n high) ≡ true = and_from (leb low n) (leb n high) (le-leb low n least) (le-leb n high most) in
     rw (number_read n rest (omega (arith, most, small)) end, bounds) refl

@@ -1,5 +1,6 @@
 -- The places of a command that are read are spelled so.
-use Rattle.std.proofs.Common.{◌≡◌, ℕ, zero, suc, ◌≤◌, List, [], ◌∷◌, ◌++◌, length, map, Option, Some, None, Result, Ok, Err, refl, sym, ap, subst, ◌∙◌, append_assoc, append-nil, arith}
+use Rattle.std.proofs.Common.{◌≡◌, ℕ, zero, suc, ◌≤◌, List, [], ◌∷◌, ◌++◌, length, map, Option, Some, None, Result, Ok, Err, refl, sym, ap, subst, ◌∙◌}
+use Rattle.std.proofs.Common.{append_assoc, append-nil, arith}
 use Rattle.std.proofs.lemmas.List.Elements.{All-nil, All-cons, All-head, All-tail}
 use Rattle.std.specs.Prelude.{All}
 use Rattle.kt_tuple.specs.Spelling.{separated}
@@ -23,15 +24,18 @@ record IsRead (n : ℕ) (text : List ℕ) (places : List Slot) : Type 0 where
   all : All IsSlot places
   text_is : text ≡ separated (map slot_text places) ++ 41 ∷ []
 
-read_last : (n : ℕ) (text after : List ℕ) (slot : Slot) → text ≡ slot_text slot ++ after → IsSlot slot → after_place after ≡ Ok None → IsRead (suc n) text (slot ∷ [])
+read_last : (n : ℕ) (text after : List ℕ) (slot : Slot) → text ≡ slot_text slot ++ after → IsSlot slot → after_place after ≡ Ok None
+    → IsRead (suc n) text (slot ∷ [])
 read_last n text after slot parts held follows = record {
   some = omega arith;
   few = omega arith;
   all = All-cons IsSlot slot [] held (All-nil IsSlot);
-  text_is = parts ∙ ap (λ (t : List ℕ). slot_text slot ++ t) (none_follows after follows) ∙ ap (λ (t : List ℕ). t ++ 41 ∷ []) (sym (append-nil (slot_text slot)));
+  text_is = parts ∙ ap (λ (t : List ℕ). slot_text slot ++ t) (none_follows after follows)
+      ∙ ap (λ (t : List ℕ). t ++ 41 ∷ []) (sym (append-nil (slot_text slot)));
 }
 
-read_more : (n : ℕ) (text after next : List ℕ) (slot : Slot) (more : List Slot) → text ≡ slot_text slot ++ after → IsSlot slot → after_place after ≡ Ok (Some next) → IsRead n next more
+read_more : (n : ℕ) (text after next : List ℕ) (slot : Slot) (more : List Slot) → text ≡ slot_text slot ++ after → IsSlot slot
+    → after_place after ≡ Ok (Some next) → IsRead n next more
     → IsRead (suc n) text (slot ∷ more)
 read_more n text after next slot more parts held follows h = record {
   some = omega arith;
@@ -43,8 +47,10 @@ read_more n text after next slot more parts held follows h = record {
       ∙ ap (λ (t : List ℕ). t ++ 41 ∷ []) (sym (separated-cons (slot_text slot) (map slot_text more) (omega (arith, h.some, length-map_same slot_text more))));
 }
 
-by_follower : (r : Result (Option (List ℕ)) (List ℕ)) (n : ℕ) (text after : List ℕ) (slot : Slot) (places : List Slot) → text ≡ slot_text slot ++ after → IsSlot slot → after_place after ≡ r
-    → and_behind slot r (slots_from n) ≡ Some places → ((next : List ℕ) (more : List Slot) → slots_from n next ≡ Some more → IsRead n next more) → IsRead (suc n) text places
+by_follower : (r : Result (Option (List ℕ)) (List ℕ)) (n : ℕ) (text after : List ℕ) (slot : Slot) (places : List Slot) → text ≡ slot_text slot ++ after
+    → IsSlot slot → after_place after ≡ r
+    → and_behind slot r (slots_from n) ≡ Some places → ((next : List ℕ) (more : List Slot) → slots_from n next ≡ Some more → IsRead n next more)
+    → IsRead (suc n) text places
 by_follower (Err d) n text after slot places parts held is e more = absurd cc
 by_follower (Ok None) n text after slot places parts held is e more =
     let one : slot ∷ [] ≡ places = cc in

@@ -23,9 +23,11 @@ ignored_by_test false s u line ignored ended e =
     let same = rw (ended, ignored) at e in
     cc
 
-told_by_test : (b : Bool) (s t u : Sketch) (line : List ℕ) (later : List (List ℕ)) → is_ignored line ≡ b → line_read s line ≡ Ok u → LeadOn u (filter is_told later) t
+told_by_test : (b : Bool) (s t u : Sketch) (line : List ℕ) (later : List (List ℕ)) → is_ignored line ≡ b → line_read s line ≡ Ok u
+    → LeadOn u (filter is_told later) t
     → LeadOn s (cond (not b) (line ∷ filter is_told later) (filter is_told later)) t
-told_by_test true s t u line later test e h = subst (λ (x : Sketch). LeadOn x (filter is_told later) t) (ignored_by_test (is_ended s.stage) s u line test refl e) h
+told_by_test true s t u line later test e h =
+    subst (λ (x : Sketch). LeadOn x (filter is_told later) t) (ignored_by_test (is_ended s.stage) s u line test refl e) h
 told_by_test false s t u line later test e h = (u, e, h)
 
 -- without the lines that are ignored, lines lead to the same
@@ -44,7 +46,8 @@ push_parts {A} (a ∷ xs) (b ∷ ys) x y e =
     (cc, more.1)
 
 -- only within a script may the line before the steps follow
-steps_follow : (stage : Stage) (s : Sketch) (shards : ℕ) (scripts : List (List Command)) → s.stage ≡ stage → line_read s (codes "steps") ≡ Ok (among_steps shards scripts []) → (s.stage ≡ stages.Commands) × (s.scripts ++ s.commands ∷ [] ≡ scripts)
+steps_follow : (stage : Stage) (s : Sketch) (shards : ℕ) (scripts : List (List Command)) → s.stage ≡ stage
+    → line_read s (codes "steps") ≡ Ok (among_steps shards scripts []) → (s.stage ≡ stages.Commands) × (s.scripts ++ s.commands ∷ [] ≡ scripts)
 steps_follow stages.Title s shards scripts is e =
     let never = rw is at e in
     absurd cc
@@ -77,21 +80,27 @@ module _ (told : List (List ℕ)) (s : Sketch) (leads : LeadOn nothing_read told
 
   pub behind_head : IsHead told → s.stage ≡ stages.Workers
   behind_head (n, are, is) =
-      ap (λ (x : Sketch). x.stage) (leads_to (title_line ∷ (codes "shards " ++ decimal n) ∷ []) (at_workers n) is (at_shards, refl, (at_workers n, shards_line n are.0 are.1, refl)))
+      ap (λ (x : Sketch). x.stage)
+      (leads_to (title_line ∷ (codes "shards " ++ decimal n) ∷ []) (at_workers n) is (at_shards, refl, (at_workers n, shards_line n are.0 are.1, refl)))
 
   pub in_steps : IsInSteps told → s.stage ≡ stages.Steps
-  in_steps h = ap (λ (x : Sketch). x.stage) (leads_to (told_lines h.play) (among_steps h.play.cast.shards h.play.cast.scripts (steps_of h.play.work)) (sym h.are) (told_lead h.play h.rules))
+  in_steps h =
+      ap (λ (x : Sketch). x.stage)
+      (leads_to (told_lines h.play) (among_steps h.play.cast.shards h.play.cast.scripts (steps_of h.play.work)) (sym h.are) (told_lead h.play h.rules))
 
   pub at_whole : IsWhole told → s.stage ≡ stages.Ended
   at_whole h =
-      let all = leads_append nothing_read (told_lines h.play) (codes "end" ∷ []) (among_steps h.play.cast.shards h.play.cast.scripts (steps_of h.play.work)) (at_end h.play) (told_lead h.play h.rules) (at_end h.play, refl, refl) in
+      let all = leads_append nothing_read (told_lines h.play) (codes "end" ∷ []) (among_steps h.play.cast.shards h.play.cast.scripts (steps_of h.play.work))
+      (at_end h.play) (told_lead h.play h.rules) (at_end h.play, refl, refl) in
       ap (λ (x : Sketch). x.stage) (leads_to (told_lines h.play ++ codes "end" ∷ []) (at_end h.play) (sym h.are) all)
 
-  pub in_script : (scripts : List (List Command)) (commands : List Command) → IsInScript told scripts commands → (s.stage ≡ stages.Commands) × (s.scripts ≡ scripts) × (s.commands ≡ commands)
+  pub in_script : (scripts : List (List Command)) (commands : List Command) → IsInScript told scripts commands
+      → (s.stage ≡ stages.Commands) × (s.scripts ≡ scripts) × (s.commands ≡ commands)
   in_script scripts commands h =
       let t = among_steps h.shards (scripts ++ commands ∷ []) [] in
       let To : List (List ℕ) → Type 0 = λ l. LeadOn nothing_read l t in
-      let parts = leads_split told (codes "steps" ∷ []) nothing_read t (subst To h.are (told_lead (play_of_scripts h.shards (scripts ++ commands ∷ []) []) h.rules)) in
+      let parts = leads_split told (codes "steps" ∷ []) nothing_read t
+      (subst To h.are (told_lead (play_of_scripts h.shards (scripts ++ commands ∷ []) []) h.rules)) in
       let same = leads_once told nothing_read parts.0 s parts.1 leads in
       let read : line_read parts.0 (codes "steps") ≡ Ok t = parts.2.1 ∙ ap (λ (x : Sketch). Ok x) (sym parts.2.2) in
       let follow = steps_follow s.stage s h.shards (scripts ++ commands ∷ []) refl (subst (λ (x : Sketch). line_read x (codes "steps") ≡ Ok t) same read) in

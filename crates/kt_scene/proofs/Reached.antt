@@ -1,5 +1,6 @@
 -- What is known where the reading of a text's lines stops at a fault.
-use Rattle.std.proofs.Common.{◌≡◌, ℕ, ◌+◌, Bool, true, false, cond, ◌&&◌, List, [], ◌∷◌, ◌++◌, length, Result, Ok, Err, refl, sym, ap, subst, ◌∙◌, append_assoc, append-nil, arith, length-append}
+use Rattle.std.proofs.Common.{◌≡◌, ℕ, ◌+◌, Bool, true, false, cond, ◌&&◌, List, [], ◌∷◌, ◌++◌, length, Result, Ok, Err, refl, sym, ap, subst, ◌∙◌, append_assoc}
+use Rattle.std.proofs.Common.{append-nil, arith, length-append}
 use Rattle.std.proofs.lemmas.List.Elements.{filter-append}
 use Rattle.std.specs.Prelude.{codes, filter}
 use Rattle.kt_scene.specs.declared.fault.SceneError.{SceneError}
@@ -15,7 +16,8 @@ use Rattle.kt_scene.proofs.ReadLaws.{GoesOn, adds, ends, line_goes, good_at_firs
 -- what the lines told is in the sketch; the last of them is the end, or there is none yet
 pub data IsTold (before : List (List ℕ)) (s : Sketch) : Type 0 where
   unended : IsGood s → is_ended s.stage ≡ false → told_at s.stage s ≡ filter is_told before → IsTold before s
-  whole : (body : List (List ℕ)) → before ≡ body ++ codes "end" ∷ [] → is_ended s.stage ≡ true → IsPlay (play_with s) → filter is_told body ≡ told_lines (play_with s) → IsTold before s
+  whole : (body : List (List ℕ)) → before ≡ body ++ codes "end" ∷ [] → is_ended s.stage ≡ true → IsPlay (play_with s)
+      → filter is_told body ≡ told_lines (play_with s) → IsTold before s
 
 -- the lines lead to the sketch
 pub record Reached (before : List (List ℕ)) (s : Sketch) : Type 0 where
@@ -25,7 +27,8 @@ pub record Reached (before : List (List ℕ)) (s : Sketch) : Type 0 where
 pub reached_nothing : Reached [] nothing_read
 reached_nothing = record { leads = refl; told = unended good_at_first refl refl }
 
-by_going : (before : List (List ℕ)) (s : Sketch) (line : List ℕ) (u : Sketch) → told_at s.stage s ≡ filter is_told before → GoesOn s line u → IsTold (before ++ line ∷ []) u
+by_going : (before : List (List ℕ)) (s : Sketch) (line : List ℕ) (u : Sketch) → told_at s.stage s ≡ filter is_told before → GoesOn s line u
+    → IsTold (before ++ line ∷ []) u
 by_going before s line u told (adds good goes more) =
     unended good goes (more ∙ ap (λ (l : List (List ℕ)). l ++ filter is_told (line ∷ [])) told ∙ sym (filter-append is_told before (line ∷ [])))
 by_going before s line u told (ends is ended rules all) =
@@ -38,7 +41,8 @@ by_told before s line u e (whole body is ended rules told) =
     absurd cc
 
 -- a line more
-pub reached_more : (before : List (List ℕ)) (s : Sketch) (line : List ℕ) (u : Sketch) → Reached before s → line_read s line ≡ Ok u → Reached (before ++ line ∷ []) u
+pub reached_more : (before : List (List ℕ)) (s : Sketch) (line : List ℕ) (u : Sketch) → Reached before s → line_read s line ≡ Ok u
+    → Reached (before ++ line ∷ []) u
 reached_more before s line u h e = record {
   leads = leads_append nothing_read before (line ∷ []) s u h.leads (u, e, refl);
   told = by_told before s line u e h.told;
@@ -46,19 +50,23 @@ reached_more before s line u h e = record {
 
 -- of all these lines, and what stands behind them, this one has the first fault; or there is none but that the text ends
 pub data Failed (all : List (List ℕ)) (rest : List ℕ) (m : ℕ) (fault : SceneError) : Type 0 where
-  on_line : (before : List (List ℕ)) (line : List ℕ) (later : List (List ℕ)) (u : Sketch) → all ≡ before ++ line ∷ later → Reached before u → line_read u line ≡ Err fault
+  on_line : (before : List (List ℕ)) (line : List ℕ) (later : List (List ℕ)) (u : Sketch) → all ≡ before ++ line ∷ later → Reached before u
+      → line_read u line ≡ Err fault
       → length before + 1 ≡ m → Failed all rest m fault
   at_end : (u : Sketch) → Reached all u → (is_ended u.stage && is_empty rest) ≡ false → length all + 1 ≡ m → fault ≡ faults.End → Failed all rest m fault
 
-end_fails : (b : Bool) (before : List (List ℕ)) (s : Sketch) (rest : List ℕ) (n m : ℕ) (fault : SceneError) (end : Fault) → end ≡ (n, faults.End) → (is_ended s.stage && is_empty rest) ≡ b
+end_fails : (b : Bool) (before : List (List ℕ)) (s : Sketch) (rest : List ℕ) (n m : ℕ) (fault : SceneError) (end : Fault) → end ≡ (n, faults.End)
+    → (is_ended s.stage && is_empty rest) ≡ b
     → length before + 1 ≡ n → Reached before s → cond b (Ok s) (Err end) ≡ Err (m, fault) → Failed before rest m fault
 end_fails true before s rest n m fault end there test is h e = absurd cc
 end_fails false before s rest n m fault end there test is h e =
     let same : (n, faults.End) ≡ (m, fault) = cc in
     at_end s h test (is ∙ ap (λ (x : Fault). x.0) same) (ap (λ (x : Fault). x.1) (sym same))
 
-line_fails : (r : Result Sketch SceneError) (before : List (List ℕ)) (line : List ℕ) (later : List (List ℕ)) (s : Sketch) (rest : List ℕ) (n m : ℕ) (fault : SceneError) → line_read s line ≡ r → length before + 1 ≡ n
-    → Reached before s → ((u : Sketch) → Reached (before ++ line ∷ []) u → read_from u (n + 1) later rest ≡ Err (m, fault) → Failed (before ++ line ∷ later) rest m fault)
+line_fails : (r : Result Sketch SceneError) (before : List (List ℕ)) (line : List ℕ) (later : List (List ℕ)) (s : Sketch) (rest : List ℕ) (n m : ℕ)
+    (fault : SceneError) → line_read s line ≡ r → length before + 1 ≡ n
+    → Reached before s
+    → ((u : Sketch) → Reached (before ++ line ∷ []) u → read_from u (n + 1) later rest ≡ Err (m, fault) → Failed (before ++ line ∷ later) rest m fault)
     → went_on n r (λ (u : Sketch). read_from u (n + 1) later rest) ≡ Err (m, fault) → Failed (before ++ line ∷ later) rest m fault
 line_fails (Err first) before line later s rest n m fault read is h more e =
     let same : (n, first) ≡ (m, fault) = cc in
@@ -66,7 +74,8 @@ line_fails (Err first) before line later s rest n m fault read is h more e =
 line_fails (Ok u) before line later s rest n m fault read is h more e = more u (reached_more before s line u h read) e
 
 -- where reading fails
-pub read_fails : (lines before : List (List ℕ)) (s : Sketch) (rest : List ℕ) (n m : ℕ) (fault : SceneError) → length before + 1 ≡ n → Reached before s → read_from s n lines rest ≡ Err (m, fault)
+pub read_fails : (lines before : List (List ℕ)) (s : Sketch) (rest : List ℕ) (n m : ℕ) (fault : SceneError) → length before + 1 ≡ n → Reached before s
+    → read_from s n lines rest ≡ Err (m, fault)
     → Failed (before ++ lines) rest m fault
 unfolding read_from
 read_fails [] before s rest n m fault is h e =

@@ -1,5 +1,6 @@
 -- What a text is read as is the scenario that it spells.
-use Rattle.std.proofs.Common.{◌≡◌, ℕ, ◌≤◌, Bool, true, false, cond, ltb, List, [], ◌∷◌, ◌++◌, length, Result, Ok, Err, refl, sym, ap, subst, ◌∙◌, append_assoc, append-nil}
+use Rattle.std.proofs.Common.{◌≡◌, ℕ, ◌≤◌, Bool, true, false, cond, ltb, List, [], ◌∷◌, ◌++◌, length, Result, Ok, Err, refl, sym, ap, subst, ◌∙◌, append_assoc}
+use Rattle.std.proofs.Common.{append-nil}
 use Rattle.std.proofs.lemmas.Bool.{ltb-false}
 use Rattle.std.proofs.lemmas.List.Elements.{All-nil, All-cons, All-head, All-tail, filter-append}
 use Rattle.std.specs.Prelude.{codes, All, filter}
@@ -40,7 +41,8 @@ play_kept s is h =
       work = h.steps;
     }
 
-end_by_test : (b : Bool) (s : Sketch) (line : List ℕ) (u : Sketch) → IsGood s → is_ignored line ≡ false → s.stage ≡ stages.Steps → is_word line (codes "end") ≡ b
+end_by_test : (b : Bool) (s : Sketch) (line : List ℕ) (u : Sketch) → IsGood s → is_ignored line ≡ false → s.stage ≡ stages.Steps
+    → is_word line (codes "end") ≡ b
     → cond b (Ok (record s { stage = stages.Ended })) (with_step s (step_of line)) ≡ Ok u → GoesOn s line u
 end_by_test false s line u h other is test e = from_adds s line u other (step_told s line u h is e)
 end_by_test true s line u h other is test e =
@@ -48,7 +50,8 @@ end_by_test true s line u h other is test e =
     let P : Sketch → Type 0 = λ x. GoesOn s line x in
     subst P made (ends (word_is line (codes "end") test) refl (play_kept s is h) (ap (λ (g : Stage). told_at g s) is))
 
-by_stage : (stage : Stage) (s : Sketch) (line : List ℕ) (u : Sketch) → IsGood s → is_ignored line ≡ false → s.stage ≡ stage → told stage s line ≡ Ok u → GoesOn s line u
+by_stage : (stage : Stage) (s : Sketch) (line : List ℕ) (u : Sketch) → IsGood s → is_ignored line ≡ false → s.stage ≡ stage → told stage s line ≡ Ok u
+    → GoesOn s line u
 by_stage stages.Title s line u h other is e = from_adds s line u other (title_told s line u h is e)
 by_stage stages.Shards s line u h other is e = from_adds s line u other (shards_told s line u h is e)
 by_stage stages.Workers s line u h other is e = from_adds s line u other (worker_told s line u h is e)
@@ -56,7 +59,8 @@ by_stage stages.Commands s line u h other is e = from_adds s line u other (scrip
 by_stage stages.Steps s line u h other is e = end_by_test (is_word line (codes "end")) s line u h other is refl e
 by_stage stages.Ended s line u h other is e = absurd cc
 
-by_ignored : (b : Bool) (s : Sketch) (line : List ℕ) (u : Sketch) → IsGood s → is_ended s.stage ≡ false → is_ignored line ≡ b → cond b (Ok s) (told s.stage s line) ≡ Ok u → GoesOn s line u
+by_ignored : (b : Bool) (s : Sketch) (line : List ℕ) (u : Sketch) → IsGood s → is_ended s.stage ≡ false → is_ignored line ≡ b
+    → cond b (Ok s) (told s.stage s line) ≡ Ok u → GoesOn s line u
 by_ignored false s line u h on other e = by_stage s.stage s line u h other refl e
 by_ignored true s line u h on ignored e =
     let made : s ≡ u = cc in
@@ -81,7 +85,8 @@ record IsWhole (s : Sketch) (lines : List (List ℕ)) (t : Sketch) : Type 0 wher
   told : told_at s.stage s ++ filter is_told before ≡ told_lines (play_with t)
   rules : IsPlay (play_with t)
 
-whole_more : (s u t : Sketch) (line : List ℕ) (later : List (List ℕ)) → told_at u.stage u ≡ told_at s.stage s ++ filter is_told (line ∷ []) → IsWhole u later t → IsWhole s (line ∷ later) t
+whole_more : (s u t : Sketch) (line : List ℕ) (later : List (List ℕ)) → told_at u.stage u ≡ told_at s.stage s ++ filter is_told (line ∷ []) → IsWhole u later t
+    → IsWhole s (line ∷ later) t
 whole_more s u t line later more h = record {
   before = line ∷ h.before;
   split = ap (λ (l : List (List ℕ)). line ∷ l) h.split;
@@ -92,7 +97,8 @@ whole_more s u t line later more h = record {
   rules = h.rules;
 }
 
-whole_end : (s u t : Sketch) (line : List ℕ) (later : List (List ℕ)) → line ≡ codes "end" → IsPlay (play_with u) → told_at s.stage s ≡ told_lines (play_with u) → later ≡ [] → t ≡ u → IsWhole s (line ∷ later) t
+whole_end : (s u t : Sketch) (line : List ℕ) (later : List (List ℕ)) → line ≡ codes "end" → IsPlay (play_with u) → told_at s.stage s ≡ told_lines (play_with u)
+    → later ≡ [] → t ≡ u → IsWhole s (line ∷ later) t
 whole_end s u t line later is rules all nothing same =
     let P : Sketch → Type 0 = λ x. IsWhole s (line ∷ later) x in
     subst P (sym same) (record {
@@ -102,7 +108,8 @@ whole_end s u t line later is rules all nothing same =
       rules = rules;
     })
 
-lines_whole : (s : Sketch) (lines : List (List ℕ)) (t : Sketch) → IsGood s → is_ended s.stage ≡ false → LeadOn s lines t → is_ended t.stage ≡ true → IsWhole s lines t
+lines_whole : (s : Sketch) (lines : List (List ℕ)) (t : Sketch) → IsGood s → is_ended s.stage ≡ false → LeadOn s lines t → is_ended t.stage ≡ true
+    → IsWhole s lines t
 lines_whole s [] t h on leads over =
     let never : true ≡ false = sym over ∙ ap (λ (x : Sketch). is_ended x.stage) leads ∙ on in
     absurd cc
@@ -129,7 +136,8 @@ pub all_in_front : {A : Type 0} (P : A → Type 0) (xs ys : List A) → All P (x
 all_in_front P [] ys h = All-nil P
 all_in_front P (x ∷ xs) ys h = All-cons P x xs (All-head P x (xs ++ ys) h) (all_in_front P xs ys (All-tail P x (xs ++ ys) h))
 
-spelled_whole : (text : List ℕ) (t : Sketch) → length text ≤ 1048576 → read_from nothing_read 1 (lines_of text).0 (lines_of text).1 ≡ Ok t → IsScenario text (play_with t)
+spelled_whole : (text : List ℕ) (t : Sketch) → length text ≤ 1048576 → read_from nothing_read 1 (lines_of text).0 (lines_of text).1 ≡ Ok t
+    → IsScenario text (play_with t)
 spelled_whole text t short e =
     let leads = read_leads nothing_read 1 (lines_of text).0 (lines_of text).1 t e in
     let whole = lines_whole nothing_read (lines_of text).0 t good_at_first refl leads.0 leads.1 in
@@ -146,7 +154,8 @@ spelled_whole text t short e =
       short = short;
     }
 
-by_length : (b : Bool) (text : List ℕ) (t : Sketch) → ltb 1048576 (length text) ≡ b → cond b (Err (1, faults.Limit)) (read_from nothing_read 1 (lines_of text).0 (lines_of text).1) ≡ Ok t → IsScenario text (play_with t)
+by_length : (b : Bool) (text : List ℕ) (t : Sketch) → ltb 1048576 (length text) ≡ b
+    → cond b (Err (1, faults.Limit)) (read_from nothing_read 1 (lines_of text).0 (lines_of text).1) ≡ Ok t → IsScenario text (play_with t)
 by_length true text t long e = absurd cc
 by_length false text t short e = spelled_whole text t (ltb-false 1048576 (length text) short) e
 

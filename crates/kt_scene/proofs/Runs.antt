@@ -1,19 +1,25 @@
 -- Steps that were made, and one more.
-use Rattle.std.proofs.Common.{◌≡◌, ℕ, suc, ◌+◌, ◌<◌, List, [], ◌∷◌, ◌++◌, length, take, drop, get_or, Ok, refl, sym, ap, subst, ◌∙◌, arith, length-take, take-append-drop, drop-cons}
+use Rattle.std.proofs.Common.{◌≡◌, ℕ, suc, ◌+◌, ◌<◌, List, [], ◌∷◌, ◌++◌, length, take, drop, get_or, Ok, refl, sym, ap, subst, ◌∙◌, arith, length-take}
+use Rattle.std.proofs.Common.{take-append-drop, drop-cons, Bool, true, ◌≤◌}
+use Rattle.std.specs.Prelude.{IsTrue}
 use Rattle.std.proofs.lemmas.List.{take_more, get_or_default}
-use Rattle.kt_core.specs.declared.step.Step.{Step}
-use Rattle.kt_core.specs.declared.step.StepError.{StepError}
-use Rattle.kt_core.specs.State.{State}
-use Rattle.kt_core.specs.Effect.{step_result}
-use Rattle.kt_core.specs.Machine.{Refuses}
-use Rattle.kt_core.specs.Runs.{RunsTo, IsRefusedAt}
+use Rattle.kt_world.specs.declared.step.Step.{Step}
+use Rattle.kt_world.specs.declared.step.StepError.{StepError}
+use Rattle.kt_world.specs.State.{State}
+use Rattle.kt_world.specs.Effect.{step_result}
+use Rattle.kt_world.specs.Judge.{planned}
+use Rattle.kt_core.specs.Stepping.{IsCause, Refuses}
+use Rattle.kt_scene.specs.Runs.{RunsTo, IsRefusedAt}
+use Rattle.kt_scene.proofs.Causes.{cause_since, cause_honest}
 
-pub RunsTo-push : (old : State) (steps : List Step) (between : State) (step : Step) (new : State) → RunsTo old steps between → step_result between step ≡ Ok new → RunsTo old (steps ++ step ∷ []) new
+pub RunsTo-push : (old : State) (steps : List Step) (between : State) (step : Step) (new : State) → RunsTo old steps between → step_result between step ≡ Ok new
+    → RunsTo old (steps ++ step ∷ []) new
 RunsTo-push old [] between step new runs e = (new, subst (λ (s : State). step_result s step ≡ Ok new) runs e, refl)
 RunsTo-push old (first ∷ later) between step new runs e = (runs.0, runs.1, RunsTo-push runs.0 later between step new runs.2 e)
 
 -- one step more of the list was made
-pub made_more : (old : State) (steps : List Step) (i : ℕ) (between : State) (step : Step) (new : State) → i < length steps → step ≡ get_or steps i step → RunsTo old (take i steps) between → step_result between step ≡ Ok new
+pub made_more : (old : State) (steps : List Step) (i : ℕ) (between : State) (step : Step) (new : State) → i < length steps → step ≡ get_or steps i step
+    → RunsTo old (take i steps) between → step_result between step ≡ Ok new
     → RunsTo old (take (i + 1) steps) new
 made_more old steps i between step new lt at runs e =
     let more : take i steps ++ step ∷ [] ≡ take (i + 1) steps = ap (λ (s : Step). take i steps ++ s ∷ []) at ∙ sym (take_more steps i step lt) in
@@ -21,22 +27,32 @@ made_more old steps i between step new lt at runs e =
     subst P more (RunsTo-push old (take i steps) between step new runs e)
 
 -- the step at this place was the first refused
-pub refused_at : (old : State) (steps : List Step) (i : ℕ) (between : State) (step : Step) (cause : StepError) → i < length steps → step ≡ get_or steps i step → RunsTo old (take i steps) between → Refuses cause (step_result between step)
-    → IsRefusedAt old steps (i + 1) cause
-refused_at old steps i between step cause lt at runs e = record {
+pub refused_at : (old : State) (steps : List Step) (i : ℕ) (between : State) (step : Step) (cause : StepError) (before now : ℕ) → i < length steps
+    → step ≡ get_or steps i step → RunsTo old (take i steps) between → Refuses cause (planned between step)
+    → IsCause before now true (planned between step) cause → IsRefusedAt old steps (i + 1) cause before now
+refused_at old steps i between step cause before now lt at runs e why = record {
   made = take i steps;
   refused = step;
   later = drop (suc i) steps;
-  split = sym (take-append-drop i steps) ∙ ap (λ (l : List Step). take i steps ++ l) (drop-cons steps i step lt ∙ ap (λ (s : Step). s ∷ drop (suc i) steps) (sym at));
+  split = sym (take-append-drop i steps)
+      ∙ ap (λ (l : List Step). take i steps ++ l) (drop-cons steps i step lt ∙ ap (λ (s : Step). s ∷ drop (suc i) steps) (sym at));
   count = let few = length-take i steps in omega (arith, few, lt);
   reached = between;
   runs = runs;
   refusal = e;
+  why = why;
 }
 
 -- the same of the step as it is read from the list, whatever is read past its end
-pub made_next : (old : State) (steps : List Step) (i : ℕ) (between : State) (d : Step) (new : State) → i < length steps → RunsTo old (take i steps) between → step_result between (get_or steps i d) ≡ Ok new → RunsTo old (take (i + 1) steps) new
+pub made_next : (old : State) (steps : List Step) (i : ℕ) (between : State) (d : Step) (new : State) → i < length steps → RunsTo old (take i steps) between
+    → step_result between (get_or steps i d) ≡ Ok new → RunsTo old (take (i + 1) steps) new
 made_next old steps i between d new lt runs e = made_more old steps i between (get_or steps i d) new lt (get_or_default steps i d (get_or steps i d) lt) runs e
 
-pub refused_next : (old : State) (steps : List Step) (i : ℕ) (between : State) (d : Step) (cause : StepError) → i < length steps → RunsTo old (take i steps) between → Refuses cause (step_result between (get_or steps i d)) → IsRefusedAt old steps (i + 1) cause
-refused_next old steps i between d cause lt runs e = refused_at old steps i between (get_or steps i d) cause lt (get_or_default steps i d (get_or steps i d) lt) runs e
+pub refused_next : (old : State) (steps : List Step) (i : ℕ) (between : State) (d : Step) (cause : StepError) (before middle now : ℕ) (honest : Bool)
+    → i < length steps → RunsTo old (take i steps) between → Refuses cause (planned between (get_or steps i d)) → IsTrue honest → before ≤ middle
+    → IsCause middle now honest (planned between (get_or steps i d)) cause → IsRefusedAt old steps (i + 1) cause before now
+refused_next old steps i between d cause before middle now honest lt runs e is_honest later why =
+    let step = get_or steps i d in
+    let since = cause_since before middle now honest between step cause later why in
+    refused_at old steps i between step cause before now lt (get_or_default steps i d step lt) runs e
+    (cause_honest before now honest between step cause is_honest since)

@@ -24,7 +24,8 @@ goes_on_before s (line ∷ later) t h on = by (is_ended s.stage) refl h.1
         absurd cc
 
 ignored_by_test : (b : Bool) (s t : Sketch) (line : List ℕ) (later : List (List ℕ)) → is_ignored line ≡ b → is_ended t.stage ≡ false
-    → ((u : Sketch) → LeadOn u (filter is_told later) t → LeadOn u later t) → LeadOn s (cond (not b) (line ∷ filter is_told later) (filter is_told later)) t → LeadOn s (line ∷ later) t
+    → ((u : Sketch) → LeadOn u (filter is_told later) t → LeadOn u later t) → LeadOn s (cond (not b) (line ∷ filter is_told later) (filter is_told later)) t
+    → LeadOn s (line ∷ later) t
 ignored_by_test true s t line later e on behind h =
     let before : is_ended s.stage ≡ false = goes_on_before s (filter is_told later) t h on in
     let read : line_read s line ≡ Ok s = rw (before, e) refl in
@@ -51,15 +52,18 @@ pub told_lead : (play : Play) → IsPlay play → LeadOn nothing_read (told_line
 told_lead play rules =
     let steps = steps_of play.work in
     let shards = play.cast.shards in
-    let told : Work → List (List ℕ) = λ w. codes "linda-kt 1" ∷ (codes "shards " ++ decimal shards) ∷ (flat_map script_lines play.cast.scripts ++ work_lines w) in
+    let told : Work → List (List ℕ) =
+    λ w. codes "linda-kt 1" ∷ (codes "shards " ++ decimal shards) ∷ (flat_map script_lines play.cast.scripts ++ work_lines w) in
     let By : Work → Type 0 = λ w. LeadOn nothing_read (told w) (among_steps shards play.cast.scripts steps) in
     let cast = rules.cast in
-    subst By (work_is play.work) (all_lead shards play.cast.scripts steps cast.some_shards cast.few_shards cast.some_workers cast.few_workers rules.scripts rules.commands (work_steps play.work rules.work))
+    subst By (work_is play.work) (all_lead shards play.cast.scripts steps cast.some_shards cast.few_shards cast.some_workers cast.few_workers rules.scripts
+    rules.commands (work_steps play.work rules.work))
 
 pub end_is_line : IsLine (codes "end")
 end_is_line =
     let P : ℕ → Type 0 = λ c. c ≢ 10 in
-    All-cons P 101 (110 ∷ 100 ∷ []) (λ e. absurd (omega (arith, e))) (All-cons P 110 (100 ∷ []) (λ e. absurd (omega (arith, e))) (All-cons P 100 [] (λ e. absurd (omega (arith, e))) (All-nil P)))
+    All-cons P 101 (110 ∷ 100 ∷ []) (λ e. absurd (omega (arith, e)))
+    (All-cons P 110 (100 ∷ []) (λ e. absurd (omega (arith, e))) (All-cons P 100 [] (λ e. absurd (omega (arith, e))) (All-nil P)))
 
 lines_read : (text : List ℕ) (play : Play) (h : IsScenario text play) → read_from nothing_read 1 (lines_of text).0 (lines_of text).1 ≡ Ok (at_end play)
 lines_read text play h =
@@ -67,7 +71,8 @@ lines_read text play h =
     let Of : List (List ℕ) → Type 0 = λ l. LeadOn nothing_read l s in
     let before = with_ignored h.lines nothing_read s refl (subst Of (sym h.told) (told_lead play h.rules)) in
     let all = leads_append nothing_read h.lines (codes "end" ∷ []) s (at_end play) before (at_end play, refl, refl) in
-    let back : lines_of text ≡ (h.lines ++ codes "end" ∷ [], []) = ap lines_of h.is ∙ lines_read_back (h.lines ++ codes "end" ∷ []) (All-push IsLine h.lines (codes "end") h.each end_is_line) in
+    let back : lines_of text ≡ (h.lines ++ codes "end" ∷ [], []) =
+    ap lines_of h.is ∙ lines_read_back (h.lines ++ codes "end" ∷ []) (All-push IsLine h.lines (codes "end") h.each end_is_line) in
     ap (λ (p : List (List ℕ) × List ℕ). read_from nothing_read 1 p.0 p.1) back ∙ leads_read nothing_read 1 (h.lines ++ codes "end" ∷ []) (at_end play) all refl
 
 -- the text of a scenario is read as it

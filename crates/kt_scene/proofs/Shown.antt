@@ -29,8 +29,9 @@ use Rattle.kt_script.specs.declared.command.Operation.TheVariants.{Out, In, Rd, 
 use Rattle.kt_script.specs.declared.command.Command.{Command}
 use Rattle.kt_script.specs.declared.command.Command.TheVariants.{Ask, Set, Unless}
 use Rattle.kt_script.specs.Name.{is_letter, is_name_character, IsName}
-use Rattle.kt_core.specs.declared.step.Step.{Step}
-use Rattle.kt_core.specs.declared.step.Step.TheVariants.{Issue, Repeat, Deliver, Serve}
+use Rattle.kt_world.specs.declared.step.Step.{Step}
+use Rattle.kt_world.specs.declared.step.Step.TheVariants.{Issue, Repeat, Deliver, Take, Serve, Check, Decide, Abandon}
+use Rattle.kt_world.specs.declared.step.Step.TheVariants.{Learn, Fail, Restart}
 use Rattle.kt_scene.specs.Text.{actual_text, slot_text, pattern_text, operation_text, command_text, node_text, step_text}
 use Rattle.kt_scene.specs.Scenario.{IsActual, IsSlot, IsPattern, IsOperation, IsCommand, IsStepNode, IsStep}
 use Rattle.kt_scene.proofs.CommandLaws.{set_text}
@@ -76,7 +77,8 @@ letter_shown c h =
     let low = leb-true 97 c (and_parts (leb 97 c) (leb c 122) h).0 in
     le-leb 32 c (omega (arith, low))
 
-name_character_by_test : (letter digit : Bool) (c : ℕ) → is_letter c ≡ letter → is_ascii_digit c ≡ digit → (letter || digit || eqb c 95) ≡ true → is_shown c ≡ true
+name_character_by_test : (letter digit : Bool) (c : ℕ) → is_letter c ≡ letter → is_ascii_digit c ≡ digit → (letter || digit || eqb c 95) ≡ true
+    → is_shown c ≡ true
 name_character_by_test true digit c e f h = letter_shown c e
 name_character_by_test false true c e f h = digit_shown c f
 name_character_by_test false false c e f h =
@@ -118,11 +120,13 @@ texts_shown text Is each (x ∷ xs) h = All-cons AreShown (text x) (map text xs)
 
 further_shown : (texts : List (List ℕ)) → All AreShown texts → AreShown (flat_map further texts)
 further_shown [] h = refl
-further_shown (text ∷ texts) h = shown_append (further text) (flat_map further texts) (All-head AreShown text texts h) (further_shown texts (All-tail AreShown text texts h))
+further_shown (text ∷ texts) h =
+    shown_append (further text) (flat_map further texts) (All-head AreShown text texts h) (further_shown texts (All-tail AreShown text texts h))
 
 separated_shown : (texts : List (List ℕ)) → All AreShown texts → AreShown (separated texts)
 separated_shown [] h = refl
-separated_shown (first ∷ others) h = shown_append first (flat_map further others) (All-head AreShown first others h) (further_shown others (All-tail AreShown first others h))
+separated_shown (first ∷ others) h =
+    shown_append first (flat_map further others) (All-head AreShown first others h) (further_shown others (All-tail AreShown first others h))
 
 in_parentheses_shown : (texts : List (List ℕ)) → All AreShown texts → AreShown (in_parentheses texts)
 in_parentheses_shown texts h = shown_append (separated texts) (41 ∷ []) (separated_shown texts h) refl
@@ -141,7 +145,8 @@ pub command_shown : (command : Command) → IsCommand command → AreShown (comm
 command_shown (Ask operation) h = operation_shown operation h
 command_shown (Set x y k) (x_is, y_is, fits) =
     let number : AreShown (codes " + " ++ signed_decimal k) = int_shown (signed_decimal k) (signed_decimal_is_int k fits) in
-    let source : AreShown (codes " = " ++ (y ++ (codes " + " ++ signed_decimal k))) = shown_append y (codes " + " ++ signed_decimal k) (name_shown y y_is) number in
+    let source : AreShown (codes " = " ++ (y ++ (codes " + " ++ signed_decimal k))) =
+    shown_append y (codes " + " ++ signed_decimal k) (name_shown y y_is) number in
     subst AreShown (sym (set_text x y k)) (shown_append x (codes " = " ++ (y ++ (codes " + " ++ signed_decimal k))) (name_shown x x_is) source)
 command_shown (Unless n) h = decimal_shown n (omega (arith, h))
 
@@ -152,7 +157,15 @@ node_shown (nodes.Shard n) (some, few) = decimal_shown n (omega (arith, few))
 pub step_shown : (step : Step) → IsStep step → AreShown (step_text step)
 step_shown (Issue node) h = node_shown node h
 step_shown (Repeat node) h = node_shown node h
-step_shown (Deliver from to) (from_is, to_is) = shown_append (codes "deliver " ++ node_text from) (32 ∷ node_text to) (node_shown from from_is) (node_shown to to_is)
+step_shown (Deliver from to) (from_is, to_is) =
+    shown_append (codes "deliver " ++ node_text from) (32 ∷ node_text to) (node_shown from from_is) (node_shown to to_is)
+step_shown (Take node) h = node_shown node h
 step_shown (Serve shard worker place) (shard_is, worker_is, small) =
     let before = shown_append (codes "serve " ++ node_text shard) (32 ∷ node_text worker) (node_shown shard shard_is) (node_shown worker worker_is) in
     shown_append (codes "serve " ++ node_text shard ++ 32 ∷ node_text worker) (32 ∷ decimal place) before (decimal_shown place (omega (arith, small)))
+step_shown (Check node) h = node_shown node h
+step_shown (Decide node) h = node_shown node h
+step_shown (Abandon node) h = node_shown node h
+step_shown (Learn node) h = node_shown node h
+step_shown (Fail node) h = node_shown node h
+step_shown (Restart node) h = node_shown node h

@@ -1,5 +1,6 @@
 -- A name, an actual and a place that are read are spelled so.
-use Rattle.std.proofs.Common.{◌≡◌, ℕ, Bool, true, false, cond, eqb, List, [], ◌∷◌, ◌++◌, take, drop, Some, None, Result, Ok, Err, refl, sym, ap, subst, ◌∙◌, append_assoc, take-append-drop}
+use Rattle.std.proofs.Common.{◌≡◌, ℕ, Bool, true, false, cond, eqb, List, [], ◌∷◌, ◌++◌, take, drop, Some, None, Result, Ok, Err, refl, sym, ap, subst, ◌∙◌}
+use Rattle.std.proofs.Common.{append_assoc, take-append-drop}
 use Rattle.std.specs.Prelude.{codes}
 use Rattle.std.specs.Option.{option_map}
 use Rattle.kt_tuple.specs.declared.value.Value.{Value}
@@ -34,19 +35,22 @@ name_taken text rest name e =
 abbrev IsActualRead : List ℕ → Actual × List ℕ → Type 0
 IsActualRead text read = (text ≡ actual_text read.0 ++ read.1) × IsActual read.0
 
-literal_taken : (r : Result (List ℕ × List ℕ) (List ℕ)) (text : List ℕ) (read : Actual × List ℕ) → value_at text ≡ r → literal_of r ≡ Some read → IsActualRead text read
+literal_taken : (r : Result (List ℕ × List ℕ) (List ℕ)) (text : List ℕ) (read : Actual × List ℕ) → value_at text ≡ r → literal_of r ≡ Some read
+    → IsActualRead text read
 literal_taken (Err d) text read is e = absurd cc
 literal_taken (Ok (p, after)) text read is e =
     let v = mapped (λ (v : Value). (Literal v, after)) (value_of p) read e in
     let spelled : value_text v.0 ≡ p = value_read_spelled text p after v.0 is v.1 in
     subst (IsActualRead text) v.2 (value_read_front text p after is ∙ ap (λ (t : List ℕ). t ++ after) (sym spelled), value_in_range p v.0 v.1)
 
-variable_taken : (text : List ℕ) (read : Actual × List ℕ) → option_map (λ (n : Name × List ℕ). (Variable n.0, n.1)) (name_at text) ≡ Some read → IsActualRead text read
+variable_taken : (text : List ℕ) (read : Actual × List ℕ) → option_map (λ (n : Name × List ℕ). (Variable n.0, n.1)) (name_at text) ≡ Some read
+    → IsActualRead text read
 variable_taken text read e =
     let n = mapped (λ (n : Name × List ℕ). (Variable n.0, n.1)) (name_at text) read e in
     subst (IsActualRead text) n.2 (name_taken text n.0.1 n.0.0 n.1)
 
-actual_by_test : (b : Bool) (text : List ℕ) (read : Actual × List ℕ) → cond b (option_map (λ (n : Name × List ℕ). (Variable n.0, n.1)) (name_at text)) (literal_of (value_at text)) ≡ Some read → IsActualRead text read
+actual_by_test : (b : Bool) (text : List ℕ) (read : Actual × List ℕ)
+    → cond b (option_map (λ (n : Name × List ℕ). (Variable n.0, n.1)) (name_at text)) (literal_of (value_at text)) ≡ Some read → IsActualRead text read
 actual_by_test true text read e = variable_taken text read e
 actual_by_test false text read e = literal_taken (value_at text) text read refl e
 
@@ -59,8 +63,10 @@ actual_taken text rest actual e = actual_by_test (begins_with_letter text) text 
 kind_taken : (text : List ℕ) (read : Kind × List ℕ) → kind_at text ≡ Some read → text ≡ 63 ∷ kind_text read.0 ++ read.1
 kind_taken text read e =
     let P : Kind × List ℕ → Type 0 = λ x. text ≡ 63 ∷ kind_text x.0 ++ x.1 in
-    by_word (P read) text (codes "?int") (λ rest. Some (kinds.Int, rest)) _ (Some read) e (λ words parts is. let same : (kinds.Int, words) ≡ read = cc in subst P same parts) (λ e2.
-    by_word (P read) text (codes "?str") (λ rest. Some (kinds.Str, rest)) None (Some read) e2 (λ words parts is. let same : (kinds.Str, words) ≡ read = cc in subst P same parts) (λ e3. absurd cc))
+    by_word (P read) text (codes "?int") (λ rest. Some (kinds.Int, rest)) _ (Some read) e
+    (λ words parts is. let same : (kinds.Int, words) ≡ read = cc in subst P same parts) (λ e2.
+    by_word (P read) text (codes "?str") (λ rest. Some (kinds.Str, rest)) None (Some read) e2
+    (λ words parts is. let same : (kinds.Str, words) ≡ read = cc in subst P same parts) (λ e3. absurd cc))
 
 -- the text is the place's, and the rest behind it
 abbrev IsSlotRead : List ℕ → Slot × List ℕ → Type 0
@@ -78,7 +84,8 @@ named_taken kind rest read e =
     subst (IsSlotRead (63 ∷ kind_text kind ++ rest)) same (refl, tt))
 
 slot_by_test : (b : Bool) (text : List ℕ) (read : Slot × List ℕ)
-    → cond b (kind_at text >>= λ k. named k.0 k.1) (option_map (λ (a : Actual × List ℕ). (slots.Actual a.0, a.1)) (actual_at text)) ≡ Some read → IsSlotRead text read
+    → cond b (kind_at text >>= λ k. named k.0 k.1) (option_map (λ (a : Actual × List ℕ). (slots.Actual a.0, a.1)) (actual_at text)) ≡ Some read
+    → IsSlotRead text read
 slot_by_test true text read e =
     let k = both_read (kind_at text) (λ (k : Kind × List ℕ). named k.0 k.1) read e in
     let h = named_taken k.0.0 k.0.1 read k.2 in

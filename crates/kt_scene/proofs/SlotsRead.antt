@@ -1,5 +1,6 @@
 -- The text of a name, an actual and a place is read as it.
-use Rattle.std.proofs.Common.{◌≡◌, ℕ, suc, ◌+◌, Bool, true, false, not, ◌&&◌, ◌||◌, eqb, leb, List, [], ◌∷◌, ◌++◌, length, Some, None, refl, ap, ◌∙◌, append_assoc, arith}
+use Rattle.std.proofs.Common.{◌≡◌, ℕ, suc, ◌+◌, Bool, true, false, not, ◌&&◌, ◌||◌, eqb, leb, List, [], ◌∷◌, ◌++◌, length, Some, None, refl, ap, ◌∙◌}
+use Rattle.std.proofs.Common.{append_assoc, arith}
 use Rattle.std.proofs.lemmas.Bool.{and_parts, and_left, or_parts, leb-true, lt-leb, ne_eqb}
 use Rattle.std.proofs.lemmas.List.{take_at, drop_at}
 use Rattle.std.specs.Prelude.{nat_le}
@@ -89,7 +90,8 @@ value_begins (Int n) rest h = int_begins (value_text (Int n)) rest (signed_decim
 value_begins (Str s) rest h = refl
 
 -- an actual is read up to its end
-pub actual_read : (actual : Actual) (rest : List ℕ) → IsActual actual → goes_on_as_name rest ≡ false → actual_at (actual_text actual ++ rest) ≡ Some (actual, rest)
+pub actual_read : (actual : Actual) (rest : List ℕ) → IsActual actual → goes_on_as_name rest ≡ false
+    → actual_at (actual_text actual ++ rest) ≡ Some (actual, rest)
 unfolding actual_at
 actual_read (Literal v) rest h end = rw (value_begins v rest h, value_at_text v rest h (no_digit rest end), value_of_text v h) refl
 actual_read (Variable name) rest h end = rw (name_begins name rest h, name_read name rest h end) refl
@@ -106,7 +108,8 @@ actual_first : (actual : Actual) → IsActual actual → (c : ℕ) × (cs : List
 actual_first (Literal v) h = value_first (value_text v) (value_taken (value_text v ++ []) (value_text v) [] (value_at_text v [] h refl)).1
 actual_first (Variable name) h = named_first name h
 
-slot_at_plain : (p cs rest : List ℕ) (c : ℕ) → p ≡ c ∷ cs → eqb c 63 ≡ false → slot_at (p ++ rest) ≡ option_map (λ (a : Actual × List ℕ). (slots.Actual a.0, a.1)) (actual_at (p ++ rest))
+slot_at_plain : (p cs rest : List ℕ) (c : ℕ) → p ≡ c ∷ cs → eqb c 63 ≡ false
+    → slot_at (p ++ rest) ≡ option_map (λ (a : Actual × List ℕ). (slots.Actual a.0, a.1)) (actual_at (p ++ rest))
 unfolding slot_at
 slot_at_plain p cs rest c is no_mark = rw (is, no_mark) refl
 
@@ -132,14 +135,17 @@ apart_ends rest h = rw (h.is) (h.no_name)
 unnamed_read : (kind : Kind) (rest : List ℕ) → IsApart rest → named kind rest ≡ Some (slots.Formal kind None, rest)
 unnamed_read kind rest h = rw (h.is, h.no_space) refl
 
-named_read : (kind : Kind) (name rest : List ℕ) → IsName name → goes_on_as_name rest ≡ false → named kind (32 ∷ name ++ rest) ≡ Some (slots.Formal kind (Some name), rest)
+named_read : (kind : Kind) (name rest : List ℕ) → IsName name → goes_on_as_name rest ≡ false
+    → named kind (32 ∷ name ++ rest) ≡ Some (slots.Formal kind (Some name), rest)
 named_read kind name rest h end = rw (name_read name rest h end) refl
 
 -- a place is read up to its end
 pub slot_read : (slot : Slot) (rest : List ℕ) → IsSlot slot → IsApart rest → slot_at (slot_text slot ++ rest) ≡ Some (slot, rest)
 slot_read (slots.Actual actual) rest h end =
     let f = actual_first actual h in
-    slot_at_plain (actual_text actual) f.1 rest f.0 f.2 f.3 ∙ ap (option_map (λ (a : Actual × List ℕ). (slots.Actual a.0, a.1))) (actual_read actual rest h (apart_ends rest end))
+    slot_at_plain (actual_text actual) f.1 rest f.0 f.2 f.3
+    ∙ ap (option_map (λ (a : Actual × List ℕ). (slots.Actual a.0, a.1))) (actual_read actual rest h (apart_ends rest end))
 slot_read (slots.Formal kind None) rest h end = slot_at_formal kind rest ∙ unnamed_read kind rest end
 slot_read (slots.Formal kind (Some name)) rest h end =
-    ap slot_at (append_assoc (63 ∷ kind_text kind) (32 ∷ name) rest) ∙ slot_at_formal kind (32 ∷ name ++ rest) ∙ named_read kind name rest h (apart_ends rest end)
+    ap slot_at (append_assoc (63 ∷ kind_text kind) (32 ∷ name) rest) ∙ slot_at_formal kind (32 ∷ name ++ rest)
+    ∙ named_read kind name rest h (apart_ends rest end)

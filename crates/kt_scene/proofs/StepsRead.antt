@@ -4,10 +4,11 @@ use Rattle.std.specs.Prelude.{decimal}
 use Rattle.kt_tuple.specs.declared.node.NodeId.{NodeId}
 use Rattle.kt_tuple.specs.declared.node.NodeId.TheVariants as nodes
 use Rattle.kt_tuple.specs.Reading.{begins_with_digit}
-use Rattle.kt_core.specs.declared.step.Step.{Step}
-use Rattle.kt_core.specs.declared.step.Step.TheVariants.{Issue, Repeat, Deliver, Serve}
+use Rattle.kt_world.specs.declared.step.Step.{Step}
+use Rattle.kt_world.specs.declared.step.Step.TheVariants.{Issue, Repeat, Deliver, Take, Serve, Check, Decide, Abandon}
+use Rattle.kt_world.specs.declared.step.Step.TheVariants.{Learn, Fail, Restart}
 use Rattle.kt_scene.specs.Number.{number_within}
-use Rattle.kt_scene.specs.Steps.{node_at, node_before_space, issue_of, repeat_of, deliver_of, serve_of, step_of}
+use Rattle.kt_scene.specs.Steps.{node_at, node_before_space, step_by, deliver_of, serve_of, step_of}
 use Rattle.kt_scene.specs.Text.{node_text, step_text}
 use Rattle.kt_scene.specs.Scenario.{IsStepNode, IsStep}
 use Rattle.kt_scene.proofs.NumbersRead.{number_within_read}
@@ -25,17 +26,15 @@ node_read_alone node h = ap node_at (sym (append-nil (node_text node))) ∙ node
 before_space_read : (node : NodeId) (rest : List ℕ) → IsStepNode node → node_before_space (node_text node ++ 32 ∷ rest) ≡ Some (node, rest)
 before_space_read node rest h = rw (node_read node (32 ∷ rest) h refl) refl
 
-issue_read : (node : NodeId) → IsStepNode node → issue_of (node_text node) ≡ Some (Issue node)
-issue_read node h = rw (node_read_alone node h) refl
-
-repeat_read : (node : NodeId) → IsStepNode node → repeat_of (node_text node) ≡ Some (Repeat node)
-repeat_read node h = rw (node_read_alone node h) refl
+step_by_read : (make : NodeId → Step) (node : NodeId) → IsStepNode node → step_by make (node_text node) ≡ Some (make node)
+step_by_read make node h = rw (node_read_alone node h) refl
 
 deliver_read : (from to : NodeId) → IsStepNode from → IsStepNode to → deliver_of (node_text from ++ 32 ∷ node_text to) ≡ Some (Deliver from to)
 deliver_read from to h k = rw (before_space_read from (node_text to) h, node_read_alone to k) refl
 
 place_read_alone : (place : ℕ) → place ≤ 99999 → number_within 0 99999 (decimal place) ≡ Some (place, [])
-place_read_alone place h = ap (number_within 0 99999) (sym (append-nil (decimal place))) ∙ number_within_read 0 99999 place [] (omega arith) h (omega arith) refl
+place_read_alone place h =
+    ap (number_within 0 99999) (sym (append-nil (decimal place))) ∙ number_within_read 0 99999 place [] (omega arith) h (omega arith) refl
 
 serve_read : (shard worker : NodeId) (place : ℕ) → IsStepNode shard → IsStepNode worker → place ≤ 99999
     → serve_of (node_text shard ++ 32 ∷ (node_text worker ++ 32 ∷ decimal place)) ≡ Some (Serve shard worker place)
@@ -44,7 +43,14 @@ serve_read shard worker place h k most =
 
 -- the text of a step is read as that step
 pub step_read : (step : Step) → IsStep step → step_of (step_text step) ≡ Some step
-step_read (Issue node) h = issue_read node h
-step_read (Repeat node) h = repeat_read node h
+step_read (Issue node) h = step_by_read (λ (p : NodeId). Issue p) node h
+step_read (Repeat node) h = step_by_read (λ (p : NodeId). Repeat p) node h
 step_read (Deliver from to) h = deliver_read from to h.0 h.1
+step_read (Take node) h = step_by_read (λ (p : NodeId). Take p) node h
 step_read (Serve shard worker place) h = ap step_of (serve_text shard worker place) ∙ serve_read shard worker place h.0 h.1 h.2
+step_read (Check node) h = step_by_read (λ (p : NodeId). Check p) node h
+step_read (Decide node) h = step_by_read (λ (p : NodeId). Decide p) node h
+step_read (Abandon node) h = step_by_read (λ (p : NodeId). Abandon p) node h
+step_read (Learn node) h = step_by_read (λ (p : NodeId). Learn p) node h
+step_read (Fail node) h = step_by_read (λ (p : NodeId). Fail p) node h
+step_read (Restart node) h = step_by_read (λ (p : NodeId). Restart p) node h

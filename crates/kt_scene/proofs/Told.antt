@@ -6,7 +6,7 @@ use Rattle.std.specs.Prelude.{codes, decimal, All}
 use Rattle.std.specs.List.{flat_map}
 use Rattle.kt_script.specs.declared.command.Command.{Command}
 use Rattle.kt_script.specs.Rules.{IsScript}
-use Rattle.kt_core.specs.declared.step.Step.{Step}
+use Rattle.kt_world.specs.declared.step.Step.{Step}
 use Rattle.kt_scene.specs.declared.draft.Stage.{Stage}
 use Rattle.kt_scene.specs.declared.draft.Stage.TheVariants as stages
 use Rattle.kt_scene.specs.Lines.{Sketch, is_ended}
@@ -60,11 +60,13 @@ pub record Adds (s : Sketch) (line : List ℕ) (u : Sketch) : Type 0 where
 pub place_at : (stage : Stage) (s : Sketch) → s.stage ≡ stage → IsGood s → IsAt stage s
 place_at stage s is h = subst (λ (g : Stage). IsAt g s) is h.place
 
-pub told_from : (stage : Stage) (s : Sketch) (line : List ℕ) (lines : List (List ℕ)) → s.stage ≡ stage → lines ≡ told_at stage s ++ line ∷ [] → lines ≡ told_at s.stage s ++ line ∷ []
+pub told_from : (stage : Stage) (s : Sketch) (line : List ℕ) (lines : List (List ℕ)) → s.stage ≡ stage → lines ≡ told_at stage s ++ line ∷ []
+    → lines ≡ told_at s.stage s ++ line ∷ []
 told_from stage s line lines is e = e ∙ ap (λ (g : Stage). told_at g s ++ line ∷ []) (sym is)
 
 -- a worker's lines behind the others', and one line more
-pub scripts_push : (scripts : List (List Command)) (script : List Command) → flat_map script_lines (scripts ++ script ∷ []) ≡ flat_map script_lines scripts ++ script_lines script
+pub scripts_push : (scripts : List (List Command)) (script : List Command)
+    → flat_map script_lines (scripts ++ script ∷ []) ≡ flat_map script_lines scripts ++ script_lines script
 scripts_push scripts script =
     flat_map-append script_lines scripts (script ∷ []) ∙ ap (λ (l : List (List ℕ)). flat_map script_lines scripts ++ l) (append-nil (script_lines script))
 

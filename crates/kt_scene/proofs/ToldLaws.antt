@@ -1,5 +1,6 @@
 -- Each line that is read is told behind those before it.
-use Rattle.std.proofs.Common.{◌≡◌, ℕ, ◌+◌, ◌<◌, Bool, true, false, not, cond, ◌&&◌, ltb, leb, List, [], ◌∷◌, ◌++◌, length, map, Option, Some, None, Result, Ok, Err, refl, sym, ap, subst, ◌∙◌, append_assoc, append-nil, arith, length-append}
+use Rattle.std.proofs.Common.{◌≡◌, ℕ, ◌+◌, ◌<◌, Bool, true, false, not, cond, ◌&&◌, ltb, leb, List, [], ◌∷◌, ◌++◌, length, map, Option, Some, None, Result, Ok}
+use Rattle.std.proofs.Common.{Err, refl, sym, ap, subst, ◌∙◌, append_assoc, append-nil, arith, length-append}
 use Rattle.std.proofs.lemmas.Bool.{ltb-true, leb-true, and_parts}
 use Rattle.std.proofs.lemmas.List.Elements.{All-nil, All-push}
 use Rattle.std.specs.Prelude.{codes, decimal, All, nat_lt, nat_le}
@@ -9,7 +10,7 @@ use Rattle.kt_script.specs.declared.script_error.ScriptError.TheVariants as refu
 use Rattle.kt_script.specs.Command.{bindings}
 use Rattle.kt_script.specs.Variables.{variables_of, with_bindings}
 use Rattle.kt_script.specs.Rules.{has_count, keeps_rules, is_within, refusal_of, IsScript}
-use Rattle.kt_core.specs.declared.step.Step.{Step}
+use Rattle.kt_world.specs.declared.step.Step.{Step}
 use Rattle.kt_scene.specs.declared.command.Spelled.{Spelled}
 use Rattle.kt_scene.specs.declared.fault.SceneError.{SceneError}
 use Rattle.kt_scene.specs.declared.fault.SceneError.TheVariants as faults
@@ -18,7 +19,8 @@ use Rattle.kt_scene.specs.declared.draft.Stage.TheVariants as stages
 use Rattle.kt_scene.specs.Number.{◌>>=◌, behind, ended, number_at}
 use Rattle.kt_scene.specs.Commands.{spelled_of, fault_from, fault_behind}
 use Rattle.kt_scene.specs.Steps.{step_of}
-use Rattle.kt_scene.specs.Lines.{Sketch, is_word, shards_from, count_of, shards_of, titled, with_shards, with_worker, is_ended, closed, added, with_command, in_script, with_step}
+use Rattle.kt_scene.specs.Lines.{Sketch, is_word, shards_from, count_of, shards_of, titled, with_shards, with_worker, is_ended, closed, added, with_command}
+use Rattle.kt_scene.specs.Lines.{in_script, with_step}
 use Rattle.kt_scene.specs.Text.{command_text, step_text, script_lines}
 use Rattle.kt_scene.specs.Scenario.{IsCommand, IsStep}
 use Rattle.kt_scene.specs.Faults.{AreShards}
@@ -30,14 +32,22 @@ use Rattle.kt_script.proofs.Pushed.{FollowOn-push}
 use Rattle.kt_scene.proofs.Told.{head_lines, told_at, IsAt, IsGood, Adds, place_at, told_from, scripts_push, commands_push, steps_push}
 
 module _ (s : Sketch) (line : List ℕ) (u : Sketch) (h : IsGood s) where
-  title_by_test : (b : Bool) → s.stage ≡ stages.Title → is_word line (codes "linda-kt 1") ≡ b → cond b (Ok (record s { stage = stages.Shards })) (Err faults.Header) ≡ Ok u → Adds s line u
+  title_by_test : (b : Bool) → s.stage ≡ stages.Title → is_word line (codes "linda-kt 1") ≡ b
+      → cond b (Ok (record s { stage = stages.Shards })) (Err faults.Header) ≡ Ok u → Adds s line u
   title_by_test false is test e = absurd cc
   title_by_test true is test e =
       let made : record s { stage = stages.Shards } ≡ u = cc in
       let at = place_at stages.Title s is h in
       let P : Sketch → Type 0 = λ x. Adds s line x in
       subst P made (record {
-        good = record { scripts = h.scripts; held = h.held; script = h.script; commands = h.commands; steps = h.steps; place = record { scripts = at.scripts; commands = at.commands; steps = at.steps } };
+        good = record {
+          scripts = h.scripts;
+          held = h.held;
+          script = h.script;
+          commands = h.commands;
+          steps = h.steps;
+          place = record { scripts = at.scripts; commands = at.commands; steps = at.steps };
+        };
         goes_on = refl;
         told = told_from stages.Title s line _ is (ap (λ (l : List ℕ). l ∷ []) (sym (word_is line (codes "linda-kt 1") test)));
       })
@@ -76,7 +86,14 @@ module _ (s : Sketch) (line : List ℕ) (u : Sketch) (h : IsGood s) where
       let P : Sketch → Type 0 = λ x. Adds s line x in
       let text : line ≡ codes "shards " ++ decimal n = count_taken n few.1 in
       subst P made (record {
-        good = record { scripts = h.scripts; held = h.held; script = h.script; commands = h.commands; steps = h.steps; place = (few.0, record { scripts = at.scripts; commands = at.commands; steps = at.steps }) };
+        good = record {
+          scripts = h.scripts;
+          held = h.held;
+          script = h.script;
+          commands = h.commands;
+          steps = h.steps;
+          place = (few.0, record { scripts = at.scripts; commands = at.commands; steps = at.steps });
+        };
         goes_on = refl;
         told = told_from stages.Shards s line _ is (ap (λ (l : List ℕ). codes "linda-kt 1" ∷ l ∷ []) (sym text));
       })
@@ -84,7 +101,8 @@ module _ (s : Sketch) (line : List ℕ) (u : Sketch) (h : IsGood s) where
   pub shards_told : s.stage ≡ stages.Shards → with_shards s (shards_of line) ≡ Ok u → Adds s line u
   shards_told is e = shards_by_count (shards_of line) is refl e
 
-  worker_by_test : (b : Bool) → s.stage ≡ stages.Workers → is_word line (codes "worker") ≡ b → cond b (Ok (record s { stage = stages.Commands })) (Err faults.Word) ≡ Ok u → Adds s line u
+  worker_by_test : (b : Bool) → s.stage ≡ stages.Workers → is_word line (codes "worker") ≡ b
+      → cond b (Ok (record s { stage = stages.Commands })) (Err faults.Word) ≡ Ok u → Adds s line u
   worker_by_test false is test e = absurd cc
   worker_by_test true is test e =
       let made : record s { stage = stages.Commands } ≡ u = cc in
@@ -107,14 +125,17 @@ module _ (s : Sketch) (line : List ℕ) (u : Sketch) (h : IsGood s) where
   -- behind the head and the scripts, a line more
   more_told : (lines : List (List ℕ)) → lines ≡ (flat_map script_lines s.scripts ++ script_lines s.commands) ++ line ∷ []
       → head_lines s.shards ++ lines ≡ (head_lines s.shards ++ (flat_map script_lines s.scripts ++ script_lines s.commands)) ++ line ∷ []
-  more_told lines e = ap (λ (l : List (List ℕ)). head_lines s.shards ++ l) e ∙ sym (append_assoc (head_lines s.shards) (flat_map script_lines s.scripts ++ script_lines s.commands) (line ∷ []))
+  more_told lines e =
+      ap (λ (l : List (List ℕ)). head_lines s.shards ++ l) e
+      ∙ sym (append_assoc (head_lines s.shards) (flat_map script_lines s.scripts ++ script_lines s.commands) (line ∷ []))
 
   another_worker : s.stage ≡ stages.Commands → line ≡ codes "worker" → length s.scripts + 1 < 8 → closed stages.Commands s ≡ u → Adds s line u
   another_worker is word few made =
       let at = place_at stages.Commands s is h in
       let P : Sketch → Type 0 = λ x. Adds s line x in
       let fewer : length (s.scripts ++ s.commands ∷ []) < 8 = omega (arith, few, length-append s.scripts (s.commands ∷ [])) in
-      let lines : flat_map script_lines (s.scripts ++ s.commands ∷ []) ++ script_lines [] ≡ (flat_map script_lines s.scripts ++ script_lines s.commands) ++ line ∷ [] =
+      let lines : flat_map script_lines (s.scripts ++ s.commands ∷ []) ++ script_lines []
+      ≡ (flat_map script_lines s.scripts ++ script_lines s.commands) ++ line ∷ [] =
       ap (λ (l : List (List ℕ)). l ++ script_lines []) (scripts_push s.scripts s.commands)
       ∙ ap (λ (l : List ℕ). (flat_map script_lines s.scripts ++ script_lines s.commands) ++ l ∷ []) (sym word) in
       subst P made (record {
@@ -135,7 +156,8 @@ module _ (s : Sketch) (line : List ℕ) (u : Sketch) (h : IsGood s) where
       let at = place_at stages.Commands s is h in
       let P : Sketch → Type 0 = λ x. Adds s line x in
       let count : length (s.scripts ++ s.commands ∷ []) ≡ length s.scripts + 1 = length-append s.scripts (s.commands ∷ []) in
-      let lines : flat_map script_lines (s.scripts ++ s.commands ∷ []) ++ codes "steps" ∷ map step_text s.steps ≡ (flat_map script_lines s.scripts ++ script_lines s.commands) ++ line ∷ [] =
+      let lines : flat_map script_lines (s.scripts ++ s.commands ∷ []) ++ codes "steps" ∷ map step_text s.steps
+      ≡ (flat_map script_lines s.scripts ++ script_lines s.commands) ++ line ∷ [] =
       ap (λ (l : List (List ℕ)). l ++ codes "steps" ∷ map step_text s.steps) (scripts_push s.scripts s.commands)
       ∙ ap (λ (l : List Step). (flat_map script_lines s.scripts ++ script_lines s.commands) ++ codes "steps" ∷ map step_text l) at.0
       ∙ ap (λ (l : List ℕ). (flat_map script_lines s.scripts ++ script_lines s.commands) ++ l ∷ []) (sym word) in
@@ -153,7 +175,8 @@ module _ (s : Sketch) (line : List ℕ) (u : Sketch) (h : IsGood s) where
       })
 
   -- a command that may follow is not refused, and its number is not too large
-  unrefused : (rules within fits : Bool) → fault_from (cond (not rules) (Some refusals.Variable) (cond (not within) (Some refusals.Limit) None)) fits ≡ None → (rules ≡ true) × (within ≡ true) × (fits ≡ true)
+  unrefused : (rules within fits : Bool) → fault_from (cond (not rules) (Some refusals.Variable) (cond (not within) (Some refusals.Limit) None)) fits ≡ None
+      → (rules ≡ true) × (within ≡ true) × (fits ≡ true)
   unrefused true true true e = (refl, refl, refl)
   unrefused true true false e = absurd cc
   unrefused true false true e = absurd cc
@@ -161,16 +184,19 @@ module _ (s : Sketch) (line : List ℕ) (u : Sketch) (h : IsGood s) where
   unrefused false within true e = absurd cc
   unrefused false within false e = absurd cc
 
-  command_added : (spelled : Spelled) → s.stage ≡ stages.Commands → spelled_of line ≡ Ok spelled → fault_behind s.commands spelled ≡ None → record s { commands = s.commands ++ spelled.command ∷ [] } ≡ u → Adds s line u
+  command_added : (spelled : Spelled) → s.stage ≡ stages.Commands → spelled_of line ≡ Ok spelled → fault_behind s.commands spelled ≡ None
+      → record s { commands = s.commands ++ spelled.command ∷ [] } ≡ u → Adds s line u
   command_added spelled is read may made =
       let at = place_at stages.Commands s is h in
       let P : Sketch → Type 0 = λ x. Adds s line x in
       let tests = unrefused (keeps_rules (variables_of s.commands) spelled.command) (is_within s.commands spelled.command) spelled.fits may in
-      let count = and_parts (has_count spelled.command && nat_lt (length s.commands) 200) (nat_le (length (with_bindings (variables_of s.commands) (bindings spelled.command))) 64) tests.1 in
+      let count = and_parts (has_count spelled.command && nat_lt (length s.commands) 200)
+      (nat_le (length (with_bindings (variables_of s.commands) (bindings spelled.command))) 64) tests.1 in
       let counts = and_parts (has_count spelled.command) (nat_lt (length s.commands) 200) count.0 in
       let free : refusal_of s.commands spelled.command ≡ None = rw (tests.0, tests.1) refl in
       let is_line = command_taken line spelled tests.2 counts.0 read in
-      let lines : flat_map script_lines s.scripts ++ script_lines (s.commands ++ spelled.command ∷ []) ≡ (flat_map script_lines s.scripts ++ script_lines s.commands) ++ line ∷ [] =
+      let lines : flat_map script_lines s.scripts ++ script_lines (s.commands ++ spelled.command ∷ [])
+      ≡ (flat_map script_lines s.scripts ++ script_lines s.commands) ++ line ∷ [] =
       ap (λ (l : List (List ℕ)). flat_map script_lines s.scripts ++ l) (commands_push s.commands spelled.command)
       ∙ sym (append_assoc (flat_map script_lines s.scripts) (script_lines s.commands) (command_text spelled.command ∷ []))
       ∙ ap (λ (l : List ℕ). (flat_map script_lines s.scripts ++ script_lines s.commands) ++ l ∷ []) (sym is_line.0) in
@@ -192,7 +218,8 @@ module _ (s : Sketch) (line : List ℕ) (u : Sketch) (h : IsGood s) where
         told = same;
       })
 
-  command_by_fault : (spelled : Spelled) (fault : Option SceneError) → s.stage ≡ stages.Commands → spelled_of line ≡ Ok spelled → fault_behind s.commands spelled ≡ fault → added s spelled fault ≡ Ok u → Adds s line u
+  command_by_fault : (spelled : Spelled) (fault : Option SceneError) → s.stage ≡ stages.Commands → spelled_of line ≡ Ok spelled
+      → fault_behind s.commands spelled ≡ fault → added s spelled fault ≡ Ok u → Adds s line u
   command_by_fault spelled (Some fault) is read may e = absurd cc
   command_by_fault spelled None is read may e =
       let made : record s { commands = s.commands ++ spelled.command ∷ [] } ≡ u = cc in
@@ -202,14 +229,17 @@ module _ (s : Sketch) (line : List ℕ) (u : Sketch) (h : IsGood s) where
   command_by_read (Err fault) is read e = absurd cc
   command_by_read (Ok spelled) is read e = command_by_fault spelled (fault_behind s.commands spelled) is read refl e
 
-  worker_by_count : (b : Bool) → s.stage ≡ stages.Commands → line ≡ codes "worker" → ltb (length s.scripts + 1) 8 ≡ b → cond b (Ok (closed stages.Commands s)) (Err faults.Limit) ≡ Ok u → Adds s line u
+  worker_by_count : (b : Bool) → s.stage ≡ stages.Commands → line ≡ codes "worker" → ltb (length s.scripts + 1) 8 ≡ b
+      → cond b (Ok (closed stages.Commands s)) (Err faults.Limit) ≡ Ok u → Adds s line u
   worker_by_count false is word test e = absurd cc
   worker_by_count true is word test e =
       let made : closed stages.Commands s ≡ u = cc in
       another_worker is word (ltb-true (length s.scripts + 1) 8 test) made
 
-  script_by_tests : (is_worker are_steps : Bool) → s.stage ≡ stages.Commands → is_word line (codes "worker") ≡ is_worker → is_word line (codes "steps") ≡ are_steps
-      → cond is_worker (cond (ltb (length s.scripts + 1) 8) (Ok (closed stages.Commands s)) (Err faults.Limit)) (cond are_steps (Ok (closed stages.Steps s)) (with_command s (spelled_of line))) ≡ Ok u → Adds s line u
+  script_by_tests : (is_worker are_steps : Bool) → s.stage ≡ stages.Commands → is_word line (codes "worker") ≡ is_worker
+      → is_word line (codes "steps") ≡ are_steps
+      → cond is_worker (cond (ltb (length s.scripts + 1) 8) (Ok (closed stages.Commands s)) (Err faults.Limit))
+      (cond are_steps (Ok (closed stages.Steps s)) (with_command s (spelled_of line))) ≡ Ok u → Adds s line u
   script_by_tests true are_steps is worker steps e = worker_by_count (ltb (length s.scripts + 1) 8) is (word_is line (codes "worker") worker) refl e
   script_by_tests false true is worker steps e =
       let made : closed stages.Steps s ≡ u = cc in
@@ -227,7 +257,8 @@ module _ (s : Sketch) (line : List ℕ) (u : Sketch) (h : IsGood s) where
       let P : Sketch → Type 0 = λ x. Adds s line x in
       let is_line = step_taken line step read in
       let before = flat_map script_lines s.scripts ++ codes "steps" ∷ map step_text s.steps in
-      let lines : flat_map script_lines s.scripts ++ codes "steps" ∷ map step_text (s.steps ++ step ∷ []) ≡ (flat_map script_lines s.scripts ++ codes "steps" ∷ map step_text s.steps) ++ line ∷ [] =
+      let lines : flat_map script_lines s.scripts ++ codes "steps" ∷ map step_text (s.steps ++ step ∷ [])
+      ≡ (flat_map script_lines s.scripts ++ codes "steps" ∷ map step_text s.steps) ++ line ∷ [] =
       ap (λ (l : List (List ℕ)). flat_map script_lines s.scripts ++ codes "steps" ∷ l) (steps_push s.steps step)
       ∙ sym (append_assoc (flat_map script_lines s.scripts) (codes "steps" ∷ map step_text s.steps) (step_text step ∷ []))
       ∙ ap (λ (l : List ℕ). (flat_map script_lines s.scripts ++ codes "steps" ∷ map step_text s.steps) ++ l ∷ []) (sym is_line.0) in

@@ -1,5 +1,6 @@
 -- The texts of tuples, sorted, are the list that the report has of them.
-use Rattle.std.proofs.Common.{◌≡◌, ℕ, zero, suc, ◌+◌, ◌<◌, List, [], ◌∷◌, ◌++◌, length, map, get_or, take, None, Some, refl, sym, ap, subst, ◌∙◌, append_assoc, arith}
+use Rattle.std.proofs.Common.{◌≡◌, ℕ, zero, suc, ◌+◌, ◌<◌, List, [], ◌∷◌, ◌++◌, length, map, get_or, take, None, Some, refl, sym, ap, subst, ◌∙◌, append_assoc}
+use Rattle.std.proofs.Common.{arith}
 use Rattle.std.specs.Prelude.{IsPermutation, OnOk, Result, Ok, Err}
 use Rattle.std.specs.List.{flat_map, slice_get}
 use Rattle.std.specs.List.Sorted.{IsSorted}
@@ -11,7 +12,7 @@ use Rattle.std.proofs.lemmas.List.Sorted.{IsPermutation-map}
 use Rattle.std.proofs.lemmas.Option.{slice_get-get_or, slice_get_within, get_or_from_slice_get, none-some}
 use Rattle.kt_tuple.specs.declared.tuple.Tuple.{Tuple}
 use Rattle.kt_tuple.specs.Spelling.{tuple_text}
-use Rattle.kt_scene.specs.Report.{AppendsTuples, count_line, text_line, items_of}
+use Rattle.kt_scene.specs.Report.{AppendsTexts, count_line, text_line, items_of}
 
 get_or-items : (texts : List (Vec ℕ)) (k : ℕ) (v : Vec ℕ) (d : List ℕ) → k < length texts → get_or (items_of texts) k d ≡ (get_or texts k v).items
 get_or-items [] k v d h = absurd (omega arith)
@@ -28,26 +29,36 @@ rising (t ∷ ts) sorted = λ k d low high.
     ∙ ap (λ (x : List ℕ). is_lt (slice_cmp nat_cmp (get_or (t ∷ ts) (k + 1) t).items x)) (get_or-items (t ∷ ts) k t d before)
     ∙ sorted k t low within
 
-pub tuples_listed : (word old once new : List ℕ) (tuples : List Tuple) (texts sorted : List (Vec ℕ)) (count : ℕ) → items_of texts ≡ map tuple_text tuples → IsPermutation texts sorted
-    → IsSorted (λ (a b : Vec ℕ). slice_cmp nat_cmp a.items b.items) sorted → count ≡ length sorted → once ≡ old ++ count_line word count → new ≡ once ++ flat_map text_line (items_of sorted)
-    → AppendsTuples word tuples old new
-tuples_listed word old once new tuples texts sorted count are same rise many first second =
-    let P : List (List ℕ) → Type 0 = λ l. IsPermutation l (items_of sorted) in
-    record {
-      text = count_line word (length (items_of sorted)) ++ flat_map text_line (items_of sorted);
-      listed = record {
-        texts = items_of sorted;
-        same = subst P are (IsPermutation-map (λ (v : Vec ℕ). v.items) texts sorted same);
-        rising = rising sorted rise;
-        is = refl;
-      };
-      appended =
-          second ∙ ap (λ (l : List ℕ). l ++ flat_map text_line (items_of sorted)) (first ∙ ap (λ (n : ℕ). old ++ count_line word n) (many ∙ sym (length-map sorted (λ (v : Vec ℕ). v.items))))
-          ∙ append_assoc old (count_line word (length (items_of sorted))) (flat_map text_line (items_of sorted));
-    }
+pub texts_listed : (word old once new : List ℕ) (texts sorted : List (Vec ℕ)) (count : ℕ) → IsPermutation texts sorted
+    → IsSorted (λ (a b : Vec ℕ). slice_cmp nat_cmp a.items b.items) sorted → count ≡ length sorted → once ≡ old ++ count_line word count
+    → new ≡ once ++ flat_map text_line (items_of sorted)
+    → AppendsTexts word (items_of texts) old new
+texts_listed word old once new texts sorted count same rise many first second = record {
+  text = count_line word (length (items_of sorted)) ++ flat_map text_line (items_of sorted);
+  listed = record {
+    texts = items_of sorted;
+    same = IsPermutation-map (λ (v : Vec ℕ). v.items) texts sorted same;
+    rising = rising sorted rise;
+    is = refl;
+  };
+  appended =
+      second ∙ ap (λ (l : List ℕ). l ++ flat_map text_line (items_of sorted))
+      (first ∙ ap (λ (n : ℕ). old ++ count_line word n) (many ∙ sym (length-map sorted (λ (v : Vec ℕ). v.items))))
+      ∙ append_assoc old (count_line word (length (items_of sorted))) (flat_map text_line (items_of sorted));
+}
+
+-- the same of the tuples whose texts they are
+pub as_tuples : {X E : Type 0} (r : Result X E) (word old new : List ℕ) (texts : List (Vec ℕ)) (tuples : List Tuple) → items_of texts ≡ map tuple_text tuples
+    → OnOk r (AppendsTexts word (items_of texts) old new)
+    → OnOk r (AppendsTexts word (map tuple_text tuples) old new)
+as_tuples (Ok x) word old new texts tuples are held =
+    let P : List (List ℕ) → Type 0 = λ l. AppendsTexts word l old new in
+    subst P are held
+as_tuples (Err e) word old new texts tuples are held = tt
 
 -- one tuple more
-pub texts_more : (tuples : List Tuple) (i : ℕ) (u : Tuple) (texts new : List (Vec ℕ)) (text : Vec ℕ) → Some u ≡ slice_get tuples i → items_of texts ≡ map tuple_text (take i tuples)
+pub texts_more : (tuples : List Tuple) (i : ℕ) (u : Tuple) (texts new : List (Vec ℕ)) (text : Vec ℕ) → Some u ≡ slice_get tuples i
+    → items_of texts ≡ map tuple_text (take i tuples)
     → new ≡ texts ++ text ∷ [] → text.items ≡ tuple_text u → items_of new ≡ map tuple_text (take (i + 1) tuples)
 texts_more tuples i u texts new text at so_far is one =
     ap (λ (l : List (Vec ℕ)). items_of l) is ∙ map_push (λ (v : Vec ℕ). v.items) texts text ∙ ap (λ (l : List (List ℕ)). l ++ text.items ∷ []) so_far

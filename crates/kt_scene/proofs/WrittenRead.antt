@@ -7,8 +7,9 @@ use Rattle.std.specs.List.{flat_map, list_all}
 use Rattle.kt_script.specs.declared.command.Command.{Command}
 use Rattle.kt_script.specs.declared.command.Command.TheVariants.{Ask, Set, Unless}
 use Rattle.kt_script.specs.declared.command.Operation.TheVariants.{Out, In, Rd, Inp, Rdp}
-use Rattle.kt_core.specs.declared.step.Step.{Step}
-use Rattle.kt_core.specs.declared.step.Step.TheVariants.{Issue, Repeat, Deliver, Serve}
+use Rattle.kt_world.specs.declared.step.Step.{Step}
+use Rattle.kt_world.specs.declared.step.Step.TheVariants.{Issue, Repeat, Deliver, Take, Serve, Check, Decide, Abandon}
+use Rattle.kt_world.specs.declared.step.Step.TheVariants.{Learn, Fail, Restart}
 use Rattle.kt_scene.specs.Lines.{is_ignored}
 use Rattle.kt_scene.specs.Reading.{Play, Work, Steps, play_of}
 use Rattle.kt_scene.specs.Text.{command_text, step_text, script_lines, told_lines, work_lines, scenario_text}
@@ -41,7 +42,14 @@ step_told : (step : Step) → is_ignored (step_text step) ≡ false
 step_told (Issue node) = refl
 step_told (Repeat node) = refl
 step_told (Deliver from to) = refl
+step_told (Take node) = refl
 step_told (Serve shard worker place) = refl
+step_told (Check node) = refl
+step_told (Decide node) = refl
+step_told (Abandon node) = refl
+step_told (Learn node) = refl
+step_told (Fail node) = refl
+step_told (Restart node) = refl
 
 commands_told : (commands : List Command) → All IsCommand commands → All IsTold (map command_text commands)
 commands_told [] h = All-nil IsTold

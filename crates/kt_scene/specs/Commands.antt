@@ -1,5 +1,6 @@
 -- The line of a command.
-use Rattle.std.specs.Prelude.{ℕ, zero, suc, ℤ, pos, nat_le, ◌==◌, Bool, true, false, not, if◌then◌else◌, List, [], ◌∷◌, take, drop, codes, Option, Some, None, Result, Ok, Err}
+use Rattle.std.specs.Prelude.{ℕ, zero, suc, ℤ, pos, nat_le, ◌==◌, Bool, true, false, not, if◌then◌else◌, List, [], ◌∷◌}
+use Rattle.std.specs.Prelude.{take, drop, codes, Option, Some, None, Result, Ok, Err}
 use Rattle.std.specs.List.{position_or_len}
 use Rattle.std.specs.Option.{option_map}
 use Rattle.kt_tuple.specs.declared.value.Kind.{Kind}
@@ -32,7 +33,8 @@ name_length text = position_or_len (λ c. not (is_name_character c)) text
 -- a name, up to the first byte that none has
 unfoldable pub name_at : List ℕ → Option (Name × List ℕ)
 name_at text =
-    if is_name (take (name_length text) text) then Some (take (name_length text) text, drop (name_length text) text) else None
+    if is_name (take (name_length text) text) then Some (take (name_length text) text, drop (name_length text) text)
+    else None
 
 abbrev pub literal_of : Result (List ℕ × List ℕ) (List ℕ) → Option (Actual × List ℕ)
 literal_of (Err rest) = None
@@ -128,7 +130,8 @@ or_fault fault None = Err fault
 or_fault fault (Some x) = Ok x
 
 abbrev pub asked : Verb → List ℕ → Option Spelled
-asked verb text = slots_in text >>= λ places. option_map (λ operation. fitting (Ask operation)) (operation_of verb places)
+asked verb text =
+    slots_in text >>= λ places. option_map (λ operation. fitting (Ask operation)) (operation_of verb places)
 
 abbrev pub spelled_with : List ℕ → Option (Verb × List ℕ) → Result Spelled SceneError
 spelled_with line (Some read) = or_fault faults.Tuple (asked read.0 read.1)

@@ -1,7 +1,8 @@
 -- The numbers of what can be wrong with a line of a scenario.
 use Rattle.std.specs.Prelude.{ℕ}
 use Rattle.kt_scene.specs.declared.fault.SceneError.{SceneError}
-use Rattle.kt_scene.specs.declared.fault.SceneError.TheVariants.{Header, Word, Tuple, Variable, Limit, Node, End, OutOfMemory}
+use Rattle.kt_scene.specs.declared.fault.SceneError.TheVariants.{Header, Word, Tuple, Variable, Limit, Node, End}
+use Rattle.kt_scene.specs.declared.fault.SceneError.TheVariants.{OutOfMemory}
 
 abbrev pub fault_number : SceneError → ℕ
 fault_number Header = 1

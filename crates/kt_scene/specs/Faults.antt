@@ -1,6 +1,7 @@
 -- The first fault of a scenario's text, told by the lines before it and by what scenarios are spelled as; no reader is
 -- asked. Told lines are those that are not ignored.
-use Rattle.std.specs.Prelude.{◌≡◌, ◌≢◌, ◌<◌, ◌≤◌, ◌+◌, ℕ, false, List, [], ◌∷◌, ◌++◌, length, filter, codes, decimal, All}
+use Rattle.std.specs.Prelude.{◌≡◌, ◌≢◌, ◌<◌, ◌≤◌, ◌+◌, ℕ, false, List, [], ◌∷◌, ◌++◌, length, filter, codes, decimal}
+use Rattle.std.specs.Prelude.{All}
 use Rattle.std.specs.Int.{w64}
 use Rattle.std.specs.Int.RustNames.{FitsSigned}
 use Rattle.std.specs.List.{flat_map}
@@ -11,7 +12,7 @@ use Rattle.kt_script.specs.declared.command.Command.TheVariants.{Ask, Set, Unles
 use Rattle.kt_script.specs.Name.{IsName}
 use Rattle.kt_script.specs.Variables.{variables_of}
 use Rattle.kt_script.specs.Rules.{keeps_rules}
-use Rattle.kt_core.specs.declared.step.Step.{Step}
+use Rattle.kt_world.specs.declared.step.Step.{Step}
 use Rattle.kt_scene.specs.declared.command.Verb.{Verb}
 use Rattle.kt_scene.specs.declared.command.Verb.TheVariants as verbs
 use Rattle.kt_scene.specs.declared.fault.SceneError.{SceneError}
@@ -47,7 +48,8 @@ SpellsShards line n = (p : List ℕ) × IsNumber p × (digits_value 10 p ≡ n) 
 abbrev pub Spells : List ℕ → Command → Type 0
 Spells line (Ask operation) = IsOperation operation × (line ≡ operation_text operation)
 Spells line (Set variable source plus) =
-    (p : List ℕ) × IsInt p × (signed_digits_value 10 p ≡ plus) × IsName variable × IsName source × (line ≡ codes "set " ++ variable ++ codes " = " ++ source ++ codes " + " ++ p)
+    (p : List ℕ) × IsInt p × (signed_digits_value 10 p ≡ plus) × IsName variable × IsName source
+    × (line ≡ codes "set " ++ variable ++ codes " = " ++ source ++ codes " + " ++ p)
 Spells line (Unless count) = (p : List ℕ) × IsNumber p × (digits_value 10 p ≡ count) × (line ≡ codes "unless " ++ p)
 
 -- the number is outside its bounds
@@ -67,10 +69,11 @@ pub record Begin (lines : List (List ℕ)) : Type 0 where
 
 -- scripts and steps among so many shards
 abbrev pub play_of_scripts : ℕ → List (List Command) → List Step → Play
-play_of_scripts shards scripts steps = record { cast = record { shards = shards; scripts = scripts }; work = Steps steps }
+play_of_scripts shards scripts steps =
+    record { cast = record { shards = shards; scripts = scripts }; work = Steps steps }
 
--- the told lines end within a script: with the line `steps` behind them they would be all of a scenario without steps, for some
--- number of shards, with these scripts and then the one that has these commands so far
+-- the told lines end within a script: with the line `steps` behind them they would be all of a scenario without steps,
+-- for some number of shards, with these scripts and then the one that has these commands so far
 pub record IsInScript (told : List (List ℕ)) (scripts : List (List Command)) (commands : List Command) : Type 0 where
   pub shards : ℕ
   pub rules : IsPlay (play_of_scripts shards (scripts ++ commands ∷ []) [])
@@ -105,13 +108,16 @@ pub data IsNoHeader (told : List (List ℕ)) (line : List ℕ) : Type 0 where
   no_title : told ≡ [] → line ≢ title_line → IsNoHeader told line
   no_shards : told ≡ title_line ∷ [] → ((n : ℕ) → ¬ SpellsShards line n) → IsNoHeader told line
 
--- a line that no rule allows there: in the place of the first `worker`; in a script, where it begins with no operation's word and
--- is neither `worker` nor `steps` nor a command's; or among the steps, where it is no step's and not `end`
+-- a line that no rule allows there: in the place of the first `worker`; in a script, where it begins with no
+-- operation's word and is neither `worker` nor `steps` nor a command's; or among the steps, where it is no step's and
+-- not `end`
 pub data IsNoWord (told : List (List ℕ)) (line : List ℕ) : Type 0 where
   no_worker : IsHead told → line ≢ codes "worker" → IsNoWord told line
-  no_command : (scripts : List (List Command)) (commands : List Command) → IsInScript told scripts commands → line ≢ codes "worker" → line ≢ codes "steps" → ¬ HasVerb line
+  no_command : (scripts : List (List Command)) (commands : List Command) → IsInScript told scripts commands
+      → line ≢ codes "worker" → line ≢ codes "steps" → ¬ HasVerb line
       → ((command : Command) → ¬ Spells line command) → IsNoWord told line
-  no_step : IsInSteps told → line ≢ codes "end" → ((step : Step) → IsStep step → line ≢ step_text step) → IsNoWord told line
+  no_step : IsInSteps told → line ≢ codes "end" → ((step : Step) → IsStep step → line ≢ step_text step)
+      → IsNoWord told line
 
 -- behind an operation's word and its space stands no tuple or template that it may have
 pub data IsNoTuple (told : List (List ℕ)) (line : List ℕ) : Type 0 where
@@ -120,17 +126,23 @@ pub data IsNoTuple (told : List (List ℕ)) (line : List ℕ) : Type 0 where
 
 -- a command that breaks the rules of variables
 pub data BreaksVariableRules (told : List (List ℕ)) (line : List ℕ) : Type 0 where
-  breaks_rules : (scripts : List (List Command)) (commands : List Command) (command : Command) → IsInScript told scripts commands → Spells line command
+  breaks_rules : (scripts : List (List Command)) (commands : List Command) (command : Command)
+      → IsInScript told scripts commands → Spells line command
       → keeps_rules (variables_of commands) command ≡ false → BreaksVariableRules told line
 
--- a limit is passed: no shard, or more than 8; a ninth worker; a 201st command; a 65th variable; the number of a command
+-- a limit is passed: no shard, or more than 8; a ninth worker; a 201st command; a 65th variable; the number of a
+-- command
 pub data PassesLimit (told : List (List ℕ)) (line : List ℕ) : Type 0 where
   shards_outside : (n : ℕ) → told ≡ title_line ∷ [] → SpellsShards line n → ¬ AreShards n → PassesLimit told line
-  many_workers : (scripts : List (List Command)) (commands : List Command) → IsInScript told scripts commands → line ≡ codes "worker" → length scripts ≡ 7 → PassesLimit told line
-  many_commands : (scripts : List (List Command)) (commands : List Command) (command : Command) → IsInScript told scripts commands → Spells line command → 200 ≤ length commands → PassesLimit told line
-  many_variables : (scripts : List (List Command)) (commands : List Command) (command : Command) → IsInScript told scripts commands → Spells line command
+  many_workers : (scripts : List (List Command)) (commands : List Command) → IsInScript told scripts commands
+      → line ≡ codes "worker" → length scripts ≡ 7 → PassesLimit told line
+  many_commands : (scripts : List (List Command)) (commands : List Command) (command : Command)
+      → IsInScript told scripts commands → Spells line command → 200 ≤ length commands → PassesLimit told line
+  many_variables : (scripts : List (List Command)) (commands : List Command) (command : Command)
+      → IsInScript told scripts commands → Spells line command
       → 64 < length (variables_of (commands ++ command ∷ [])) → PassesLimit told line
-  outside : (scripts : List (List Command)) (commands : List Command) (command : Command) → IsInScript told scripts commands → Spells line command → IsOutside command → PassesLimit told line
+  outside : (scripts : List (List Command)) (commands : List Command) (command : Command)
+      → IsInScript told scripts commands → Spells line command → IsOutside command → PassesLimit told line
 
 -- the faults of a line behind these told lines; that the line is not itself an ignored one is for `IsFaultAt` to say
 abbrev pub HasFault : List (List ℕ) → List ℕ → SceneError → Type 0
@@ -164,8 +176,8 @@ pub record IsFaultAt (text : List ℕ) (n : ℕ) (fault : SceneError) : Type 0 w
   pub stops : ¬ Begin (place.before ++ place.line ∷ [])
   pub lowest : HasLowest (filter is_told place.before) place.line fault
 
--- all its lines are the first of some scenario, but the text is none: bytes stand behind the last line feed, or there is no
--- `end` yet
+-- all its lines are the first of some scenario, but the text is none: bytes stand behind the last line feed, or there
+-- is no `end` yet
 pub record IsCutShort (text : List ℕ) (n : ℕ) : Type 0 where
   pub before : List (List ℕ)
   pub rest : List ℕ
@@ -182,8 +194,9 @@ pub data HasFirstFault (text : List ℕ) : ℕ → SceneError → Type 0 where
   at_line : {n : ℕ} {fault : SceneError} → length text ≤ 1048576 → IsFaultAt text n fault → HasFirstFault text n fault
   cut_short : {n : ℕ} → length text ≤ 1048576 → IsCutShort text n → HasFirstFault text n faults.End
 
--- what a fault that is answered says of the text; want of memory says that the text has this line, and that the first line with
--- a fault, if there is one, is a later one
+-- what a fault that is answered says of the text; want of memory says that the text has this line, and that the first
+-- line with a fault, if there is one, is a later one
 abbrev pub Explains : List ℕ → ℕ → SceneError → Type 0
-Explains text n faults.OutOfMemory = HasLineAt text n × ((m : ℕ) (fault : SceneError) → HasFirstFault text m fault → n < m)
+Explains text n faults.OutOfMemory =
+    HasLineAt text n × ((m : ℕ) (fault : SceneError) → HasFirstFault text m fault → n < m)
 Explains text n fault = HasFirstFault text n fault

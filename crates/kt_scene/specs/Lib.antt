@@ -10,4 +10,5 @@ pub mod Report
 pub mod Text
 pub mod Scenario
 pub mod Faults
+pub mod Runs
 pub mod Run

@@ -1,8 +1,10 @@
 -- What the lines of a scenario add to what was read before them, and the first fault of a text.
-use Rattle.std.specs.Prelude.{◌≡◌, ℕ, ◌+◌, ◌<◌, ◌≤◌, nat_lt, nat_le, nat_eq, ◌==◌, ◌&&◌, Bool, true, false, if◌then◌else◌, List, [], ◌∷◌, ◌++◌, length, codes, Option, Some, None, Result, Ok, Err, IsOk}
+use Rattle.std.specs.Prelude.{◌≡◌, ℕ, ◌+◌, ◌<◌, ◌≤◌, nat_lt, nat_le, nat_eq, ◌==◌, ◌&&◌, Bool, true, false}
+use Rattle.std.specs.Prelude.{if◌then◌else◌, List, [], ◌∷◌, ◌++◌, length, codes, Option, Some, None, Result, Ok, Err}
+use Rattle.std.specs.Prelude.{IsOk}
 use Rattle.std.specs.Cmp.Lexicographic.{pointwise}
 use Rattle.kt_script.specs.declared.command.Command.{Command}
-use Rattle.kt_core.specs.declared.step.Step.{Step}
+use Rattle.kt_world.specs.declared.step.Step.{Step}
 use Rattle.kt_scene.specs.declared.fault.SceneError.{SceneError}
 use Rattle.kt_scene.specs.declared.fault.SceneError.TheVariants as faults
 use Rattle.kt_scene.specs.declared.draft.Stage.{Stage}
@@ -54,7 +56,8 @@ with_shards s (Err fault) = Err fault
 with_shards s (Ok n) = Ok (record s { stage = stages.Workers; shards = n })
 
 abbrev pub with_worker : Sketch → List ℕ → Result Sketch SceneError
-with_worker s line = if is_word line (codes "worker") then Ok (record s { stage = stages.Commands }) else Err faults.Word
+with_worker s line =
+    if is_word line (codes "worker") then Ok (record s { stage = stages.Commands }) else Err faults.Word
 
 -- this worker's script ends
 abbrev pub closed : Stage → Sketch → Sketch
@@ -71,7 +74,8 @@ with_command s (Ok spelled) = added s spelled (fault_behind s.commands spelled)
 -- another worker, the steps, or a command
 abbrev pub in_script : Sketch → List ℕ → Result Sketch SceneError
 in_script s line =
-    if is_word line (codes "worker") then (if nat_lt (length s.scripts + 1) 8 then Ok (closed stages.Commands s) else Err faults.Limit)
+    if is_word line (codes "worker")
+    then (if nat_lt (length s.scripts + 1) 8 then Ok (closed stages.Commands s) else Err faults.Limit)
     else if is_word line (codes "steps") then Ok (closed stages.Steps s)
     else with_command s (spelled_of line)
 
@@ -81,7 +85,8 @@ with_step s (Some step) = Ok (record s { steps = s.steps ++ step ∷ [] })
 
 -- a step, or the end
 abbrev pub in_steps : Sketch → List ℕ → Result Sketch SceneError
-in_steps s line = if is_word line (codes "end") then Ok (record s { stage = stages.Ended }) else with_step s (step_of line)
+in_steps s line =
+    if is_word line (codes "end") then Ok (record s { stage = stages.Ended }) else with_step s (step_of line)
 
 -- a line that is not ignored
 abbrev pub told : Stage → Sketch → List ℕ → Result Sketch SceneError

@@ -1,14 +1,20 @@
 -- What a replay of a scenario answers, and what it leaves read and written.
-use Rattle.std.specs.Prelude.{◌≡◌, ℕ, List, []}
-use Rattle.kt_core.specs.declared.step.Step.{Step}
-use Rattle.kt_core.specs.Cast.{Cast}
-use Rattle.kt_core.specs.State.{State}
-use Rattle.kt_core.specs.Reached.{opening}
-use Rattle.kt_core.specs.Runs.{RunsTo, IsRefusedAt}
+use Rattle.std.specs.Prelude.{◌≡◌, ℕ, Bool, true, false, List, IsTrue}
+use Rattle.kt_store.specs.declared.error.StoreError.{StoreError}
+use Rattle.kt_store.specs.Content.{Content, is_fresh}
+use Rattle.kt_core.specs.Store.{IsFault}
+use Rattle.kt_core.specs.declared.world.OpenError.{OpenError}
+use Rattle.kt_core.specs.declared.world.OpenError.TheVariants as opens
+use Rattle.kt_world.specs.declared.step.Step.{Step}
+use Rattle.kt_world.specs.declared.step.StepError.{StepError}
+use Rattle.kt_world.specs.Cast.{Cast}
+use Rattle.kt_world.specs.State.{State}
+use Rattle.kt_world.specs.Reached.{opening}
 use Rattle.kt_scene.specs.declared.scenario.Scenario.{Scenario}
 use Rattle.kt_scene.specs.declared.scenario.Work as written
 use Rattle.kt_scene.specs.declared.scenario.Work.TheVariants as works
 use Rattle.kt_scene.specs.Faults.{Explains}
+use Rattle.kt_scene.specs.Runs.{RunsTo, IsRefusedAt}
 use Rattle.kt_scene.specs.Reading.{Play, Work, Steps, steps_of}
 use Rattle.kt_scene.specs.Scenario.{IsScenario}
 use Rattle.kt_scene.specs.Report.{WritesReport, WritesReportFront}
@@ -17,14 +23,17 @@ use Rattle.kt_scene.specs.Stream.{IsAllRead, IsReadFault, IsReportFault}
 use Rattle.kt_scene.specs.declared.fault.ReplayFault.{ReplayFault}
 use Rattle.kt_scene.specs.declared.fault.ReplayFault.TheVariants as faults
 
--- what making steps alone answers
-abbrev pub IsStepFault : State → List Step → ReplayFault → Type 0
-IsStepFault old steps (faults.Scene line cause) = ⊥
-IsStepFault old steps (faults.Step at cause) = IsRefusedAt old steps at cause
-IsStepFault old steps (faults.Open cause) = ⊥
-IsStepFault old steps faults.Memory = ⊥
-IsStepFault old steps faults.Read = ⊥
-IsStepFault old steps faults.Write = ⊥
+-- what making steps alone answers: the first step refused, as long as the store is honest, the faults of whose device
+-- were counted before and are counted now
+abbrev pub IsStepFault : (before now : ℕ) → Bool → State → List Step → ReplayFault → Type 0
+IsStepFault before now is_honest old steps (faults.Scene line cause) = ⊥
+IsStepFault before now is_honest old steps (faults.Step at cause) =
+    IsTrue is_honest → IsRefusedAt old steps at cause before now
+IsStepFault before now is_honest old steps (faults.Open cause) = ⊥
+IsStepFault before now is_honest old steps (faults.Report cause) = ⊥
+IsStepFault before now is_honest old steps faults.Memory = ⊥
+IsStepFault before now is_honest old steps faults.Read = ⊥
+IsStepFault before now is_honest old steps faults.Write = ⊥
 
 -- what a scenario as the code has it stands for
 abbrev pub work_in : written.Work → Work
@@ -33,66 +42,129 @@ work_in (works.Steps steps) = Steps steps.items
 abbrev pub play_in : Scenario → Play
 play_in scenario = record { cast = scenario.scene; work = work_in scenario.work }
 
--- what making the steps of a scenario answers: that the world could not be opened, or the first step refused
-abbrev pub IsRunFault : Cast → List Step → ReplayFault → Type 0
-IsRunFault cast steps (faults.Scene line cause) = ⊥
-IsRunFault cast steps (faults.Step at cause) = IsRefusedAt (opening cast) steps at cause
-IsRunFault cast steps (faults.Open cause) = Unit {0}
-IsRunFault cast steps faults.Memory = ⊥
-IsRunFault cast steps faults.Read = ⊥
-IsRunFault cast steps faults.Write = ⊥
+-- a kind of stores, and what one was when a replay was given it: fresh or not, and how often its device had failed
+pub record Given (S : Type 0) : Type 0 where
+  pub is_honest : S → Bool
+  pub fault_count : S → ℕ
+  pub fresh : Bool
+  pub before : ℕ
 
--- the text is a scenario's, and its steps led to this state from the opening of its scene
-pub record LeadsTo (text : List ℕ) (s : State) : Type 0 where
+abbrev pub given_by : {S : Type 0} → (S → Content) → (S → Bool) → (S → ℕ) → S → Given S
+given_by content is_honest fault_count store = record {
+  is_honest = is_honest;
+  fault_count = fault_count;
+  fresh = is_fresh (content store);
+  before = fault_count store;
+}
+
+-- some store was left, and if it was honest, this holds of the count of its faults
+pub record IfLeftHonest {S : Type 0} (given : Given S) (P : ℕ → Type 0) : Type 0 where
+  pub left : S
+  pub holds : IsTrue (given.is_honest left) → P (given.fault_count left)
+
+-- some store was left, of which a call was refused with its cause
+pub record IsStoreFault {S : Type 0} (given : Given S) (refusal : StoreError) : Type 0 where
+  pub left : S
+  pub why : IsFault given.before (given.fault_count left) (given.is_honest left) refusal
+
+-- the world was not opened: for a store that was not fresh only where it was not, and for a refusal of the store with
+-- its cause
+abbrev pub IsOpenFault : {S : Type 0} → Given S → OpenError → Type 0
+IsOpenFault given opens.NotFresh = IfLeftHonest given (λ now. given.fresh ≡ false)
+IsOpenFault given (opens.Store refusal) = IsStoreFault given refusal
+IsOpenFault given opens.OutOfMemory = Unit {0}
+
+-- what making the steps of a scenario answers: that the world could not be opened over the store, or the first step
+-- refused
+abbrev pub IsRunFault : {S : Type 0} → Given S → Cast → List Step → ReplayFault → Type 0
+IsRunFault given cast steps (faults.Scene line cause) = ⊥
+IsRunFault given cast steps (faults.Step at cause) =
+    IfLeftHonest given (IsRefusedAt (opening cast) steps at cause given.before)
+IsRunFault given cast steps (faults.Open cause) = IsOpenFault given cause
+IsRunFault given cast steps (faults.Report cause) = ⊥
+IsRunFault given cast steps faults.Memory = ⊥
+IsRunFault given cast steps faults.Read = ⊥
+IsRunFault given cast steps faults.Write = ⊥
+
+-- the text is a scenario's, and as long as the store is honest, it was fresh and the steps led to this state from the
+-- opening of the scene
+pub record LeadsTo (text : List ℕ) (is_honest fresh : Bool) (s : State) : Type 0 where
   pub play : Play
   pub scenario : IsScenario text play
-  pub runs : RunsTo (opening play.cast) (steps_of play.work) s
+  pub was_fresh : IsTrue is_honest → fresh ≡ true
+  pub runs : IsTrue is_honest → RunsTo (opening play.cast) (steps_of play.work) s
 
--- what a text answers: its first fault, or want of memory before that; or it is a scenario's, whose world could not be opened or whose first refused
--- step this is
-abbrev pub IsTextFault : List ℕ → ReplayFault → Type 0
-IsTextFault text (faults.Scene line cause) = Explains text line cause
-IsTextFault text (faults.Step at cause) = (play : Play) × IsScenario text play × IsRefusedAt (opening play.cast) (steps_of play.work) at cause
-IsTextFault text (faults.Open cause) = (play : Play) × IsScenario text play
-IsTextFault text faults.Memory = ⊥
-IsTextFault text faults.Read = ⊥
-IsTextFault text faults.Write = ⊥
+-- the first refused step of the scenario that the text spells
+pub record IsFirstRefused {S : Type 0} (given : Given S) (text : List ℕ) (at : ℕ) (cause : StepError)
+    : Type 0 where
+  pub play : Play
+  pub scenario : IsScenario text play
+  pub refused : IfLeftHonest given (IsRefusedAt (opening play.cast) (steps_of play.work) at cause given.before)
+
+-- the text is a scenario's, and its world was not opened
+pub record IsUnopened {S : Type 0} (given : Given S) (text : List ℕ) (cause : OpenError) : Type 0 where
+  pub play : Play
+  pub scenario : IsScenario text play
+  pub refused : IsOpenFault given cause
+
+-- what a text answers: its first fault, or want of memory before that; or it is a scenario's, whose world could not be
+-- opened or whose first refused step this is
+abbrev pub IsTextFault : {S : Type 0} → Given S → List ℕ → ReplayFault → Type 0
+IsTextFault given text (faults.Scene line cause) = Explains text line cause
+IsTextFault given text (faults.Step at cause) = IsFirstRefused given text at cause
+IsTextFault given text (faults.Open cause) = IsUnopened given text cause
+IsTextFault given text (faults.Report cause) = ⊥
+IsTextFault given text faults.Memory = ⊥
+IsTextFault given text faults.Read = ⊥
+IsTextFault given text faults.Write = ⊥
 
 -- what was read is the text of a scenario whose steps led to this state
-pub record IsReplayed (before after : Reader) (s : State) : Type 0 where
+pub record IsReplayed (before after : Reader) (is_honest fresh : Bool) (s : State) : Type 0 where
   pub text : List ℕ
   pub read : IsAllRead before after text
-  pub leads : LeadsTo text s
+  pub leads : LeadsTo text is_honest fresh s
 
 -- what comes before the report answers: what reading alone answers, or what the text that was read answers
-pub data IsWorldFault (before after : Reader) (fault : ReplayFault) : Type 0 where
-  of_reading : IsReadFault before after fault → IsWorldFault before after fault
-  of_text : (text : List ℕ) → IsAllRead before after text → IsTextFault text fault → IsWorldFault before after fault
+pub data IsWorldFault {S : Type 0} (given : Given S) (before after : Reader) (fault : ReplayFault) : Type 0 where
+  of_reading : IsReadFault before after fault → IsWorldFault given before after fault
+  of_text : (text : List ℕ) → IsAllRead before after text → IsTextFault given text fault
+      → IsWorldFault given before after fault
 
--- what is written and passed on is the report of the state that the steps of the scenario that was read led to, and nothing
--- else
-pub record WritesReplayed (before after : Reader) (old new : Writer) : Type 0 where
+-- what is written and passed on is the report of the state that the steps of the scenario that was read led to, and
+-- nothing else. All this is said of the store as it was left: if it is honest then, it was so all the time.
+pub record WritesReplayed {S : Type 0} (given : Given S) (before after : Reader) (old new : Writer) : Type 0 where
+  pub left : S
   pub state : State
-  pub replayed : IsReplayed before after state
-  pub report : WritesReport state.history [] old new
+  pub replayed : IsReplayed before after (given.is_honest left) given.fresh state
+  pub report : WritesReport (given.is_honest left) state old new
 
 -- the writer failed, and a front of that report is written
-pub record WritesReplayedFront (before after : Reader) (old new : Writer) : Type 0 where
+pub record WritesReplayedFront {S : Type 0} (given : Given S) (before after : Reader) (old new : Writer) : Type 0 where
+  pub left : S
   pub state : State
-  pub replayed : IsReplayed before after state
-  pub report : WritesReportFront state.history [] old new
+  pub replayed : IsReplayed before after (given.is_honest left) given.fresh state
+  pub report : WritesReportFront (given.is_honest left) state old new
 
--- what a replay leaves of the writer where it ends with this fault: a front of the report where the writer failed, and else
--- all as it was
-abbrev pub LeavesWriter : (before after : Reader) (old new : Writer) → ReplayFault → Type 0
-LeavesWriter before after old new (faults.Scene line cause) = new ≡ old
-LeavesWriter before after old new (faults.Step at cause) = new ≡ old
-LeavesWriter before after old new (faults.Open cause) = new ≡ old
-LeavesWriter before after old new faults.Memory = new ≡ old
-LeavesWriter before after old new faults.Read = new ≡ old
-LeavesWriter before after old new faults.Write = WritesReplayedFront before after old new
+-- what a replay leaves of the writer where it ends with this fault: a front of the report where the writer failed, and
+-- else all as it was
+abbrev pub LeavesWriter : {S : Type 0} → Given S → (before after : Reader) (old new : Writer) → ReplayFault → Type 0
+LeavesWriter given before after old new (faults.Scene line cause) = new ≡ old
+LeavesWriter given before after old new (faults.Step at cause) = new ≡ old
+LeavesWriter given before after old new (faults.Open cause) = new ≡ old
+LeavesWriter given before after old new (faults.Report cause) = new ≡ old
+LeavesWriter given before after old new faults.Memory = new ≡ old
+LeavesWriter given before after old new faults.Read = new ≡ old
+LeavesWriter given before after old new faults.Write = WritesReplayedFront given before after old new
 
--- what a replay answers before it writes; or, once the steps were made, want of memory or a failure of the writer
-pub data IsReplayFault (before after : Reader) (fault : ReplayFault) : Type 0 where
-  before_report : IsWorldFault before after fault → IsReplayFault before after fault
-  in_report : (state : State) → IsReplayed before after state → IsReportFault fault → IsReplayFault before after fault
+-- the steps were made, and what a report alone answers came then
+pub record IsFaultInReport {S : Type 0} (given : Given S) (before after : Reader) (fault : ReplayFault) : Type 0 where
+  pub left : S
+  pub state : State
+  pub replayed : IsReplayed before after (given.is_honest left) given.fresh state
+  pub is : IsReportFault given.before (given.fault_count left) (given.is_honest left) fault
+
+-- what a replay answers before it writes; or, once the steps were made, a refusal of the store, want of memory or a
+-- failure of the writer
+pub data IsReplayFault {S : Type 0} (given : Given S) (before after : Reader) (fault : ReplayFault) : Type 0 where
+  before_report : IsWorldFault given before after fault → IsReplayFault given before after fault
+  in_report : IsFaultInReport given before after fault → IsReplayFault given before after fault

@@ -17,9 +17,10 @@ use Rattle.kt_script.specs.declared.command.Command.{Command}
 use Rattle.kt_script.specs.declared.command.Command.TheVariants.{Ask, Set, Unless}
 use Rattle.kt_script.specs.Name.{IsName}
 use Rattle.kt_script.specs.Rules.{IsScript}
-use Rattle.kt_core.specs.declared.step.Step.{Step}
-use Rattle.kt_core.specs.declared.step.Step.TheVariants.{Issue, Repeat, Deliver, Serve}
-use Rattle.kt_core.specs.Cast.{IsCast}
+use Rattle.kt_world.specs.declared.step.Step.{Step}
+use Rattle.kt_world.specs.declared.step.Step.TheVariants.{Issue, Repeat, Deliver, Take, Serve, Check, Decide, Abandon}
+use Rattle.kt_world.specs.declared.step.Step.TheVariants.{Learn, Fail, Restart}
+use Rattle.kt_world.specs.Cast.{IsCast}
 use Rattle.kt_scene.specs.Lines.{is_ignored}
 use Rattle.kt_scene.specs.Reading.{Play, Work, Steps}
 use Rattle.kt_scene.specs.Text.{told_lines}
@@ -64,7 +65,14 @@ abbrev pub IsStep : Step → Type 0
 IsStep (Issue node) = IsStepNode node
 IsStep (Repeat node) = IsStepNode node
 IsStep (Deliver from to) = IsStepNode from × IsStepNode to
+IsStep (Take node) = IsStepNode node
 IsStep (Serve shard worker place) = IsStepNode shard × IsStepNode worker × (place ≤ 99999)
+IsStep (Check node) = IsStepNode node
+IsStep (Decide node) = IsStepNode node
+IsStep (Abandon node) = IsStepNode node
+IsStep (Learn node) = IsStepNode node
+IsStep (Fail node) = IsStepNode node
+IsStep (Restart node) = IsStepNode node
 
 -- each step is one that a line can say
 abbrev pub IsWork : Work → Type 0

@@ -3,8 +3,9 @@ use Rattle.std.specs.Prelude.{ℕ, ◌==◌, if◌then◌else◌, List, [], ◌�
 use Rattle.std.specs.Option.{option_map}
 use Rattle.kt_tuple.specs.declared.node.NodeId.{NodeId}
 use Rattle.kt_tuple.specs.declared.node.NodeId.TheVariants as nodes
-use Rattle.kt_core.specs.declared.step.Step.{Step}
-use Rattle.kt_core.specs.declared.step.Step.TheVariants.{Issue, Repeat, Deliver, Serve}
+use Rattle.kt_world.specs.declared.step.Step.{Step}
+use Rattle.kt_world.specs.declared.step.Step.TheVariants.{Issue, Repeat, Deliver, Take, Serve, Check, Decide, Abandon}
+use Rattle.kt_world.specs.declared.step.Step.TheVariants.{Learn, Fail, Restart}
 use Rattle.kt_scene.specs.Number.{◌>>=◌, behind, behind_or, ended, number_within}
 
 -- `w` or `s`, and a number from 1 to 99
@@ -19,23 +20,33 @@ node_at (c ∷ rest) =
 abbrev pub node_before_space : List ℕ → Option (NodeId × List ℕ)
 node_before_space text = node_at text >>= λ p. option_map (λ rest. (p.0, rest)) (behind p.1 (32 ∷ []))
 
-abbrev pub issue_of : List ℕ → Option Step
-issue_of words = node_at words >>= λ p. ended (Issue p.0, p.1)
+-- the node that is all of the text
+abbrev pub node_alone : List ℕ → Option NodeId
+node_alone text = node_at text >>= ended
 
-abbrev pub repeat_of : List ℕ → Option Step
-repeat_of words = node_at words >>= λ p. ended (Repeat p.0, p.1)
+-- the step of that node
+abbrev pub step_by : (NodeId → Step) → List ℕ → Option Step
+step_by make text = option_map make (node_alone text)
 
 abbrev pub deliver_of : List ℕ → Option Step
 deliver_of words = node_before_space words >>= λ p. node_at p.1 >>= λ q. ended (Deliver p.0 q.0, q.1)
 
 abbrev pub serve_of : List ℕ → Option Step
 serve_of words =
-    node_before_space words >>= λ s. node_before_space s.1 >>= λ w. number_within 0 99999 w.1 >>= λ k. ended (Serve s.0 w.0 k.0, k.1)
+    node_before_space words >>= λ s. node_before_space s.1 >>= λ w. number_within 0 99999 w.1 >>= λ k.
+    ended (Serve s.0 w.0 k.0, k.1)
 
 -- the step that the line says
 abbrev pub step_of : List ℕ → Option Step
 step_of line =
-    behind_or (behind line (codes "issue ")) issue_of
-    (behind_or (behind line (codes "repeat ")) repeat_of
+    behind_or (behind line (codes "issue ")) (step_by Issue)
+    (behind_or (behind line (codes "repeat ")) (step_by Repeat)
     (behind_or (behind line (codes "deliver ")) deliver_of
-    (behind_or (behind line (codes "serve ")) serve_of None)))
+    (behind_or (behind line (codes "take ")) (step_by Take)
+    (behind_or (behind line (codes "serve ")) serve_of
+    (behind_or (behind line (codes "check ")) (step_by Check)
+    (behind_or (behind line (codes "decide ")) (step_by Decide)
+    (behind_or (behind line (codes "abandon ")) (step_by Abandon)
+    (behind_or (behind line (codes "learn ")) (step_by Learn)
+    (behind_or (behind line (codes "fail ")) (step_by Fail)
+    (behind_or (behind line (codes "restart ")) (step_by Restart) None))))))))))

@@ -1,6 +1,7 @@
 -- What is read of a reader and written to a writer.
-use Rattle.std.specs.Prelude.{◌≡◌, ℕ, ◌<◌, List, length, take, Option, Some, None}
+use Rattle.std.specs.Prelude.{◌≡◌, ℕ, ◌<◌, Bool, List, length, take, Option, Some, None}
 use Rattle.std.specs.Io.KnownBytes.{Appends, Consumes, IsAtEnd}
+use Rattle.kt_core.specs.Store.{IsFault}
 use Rattle.kt_scene.specs.declared.fault.SceneError.TheVariants.{Limit}
 use Rattle.kt_scene.specs.declared.fault.ReplayFault.{ReplayFault}
 use Rattle.kt_scene.specs.declared.fault.ReplayFault.TheVariants as faults
@@ -35,9 +36,11 @@ IsTooLong (Some bytes) = 1048576 < length bytes
 -- what reading alone answers: that the bytes are more than a scenario has, or want of memory, both before the end was
 -- seen; or that the reader failed
 abbrev pub IsReadFault : (before after : Reader) → ReplayFault → Type 0
-IsReadFault before after (faults.Scene line cause) = (line ≡ 1) × (cause ≡ Limit) × IsTooLong before.bytes × (after.outcome ≡ outcomes.Open)
+IsReadFault before after (faults.Scene line cause) =
+    (line ≡ 1) × (cause ≡ Limit) × IsTooLong before.bytes × (after.outcome ≡ outcomes.Open)
 IsReadFault before after (faults.Step at cause) = ⊥
 IsReadFault before after (faults.Open cause) = ⊥
+IsReadFault before after (faults.Report cause) = ⊥
 IsReadFault before after faults.Memory = after.outcome ≡ outcomes.Open
 IsReadFault before after faults.Read = after.outcome ≡ outcomes.Failed
 IsReadFault before after faults.Write = ⊥
@@ -47,15 +50,18 @@ abbrev pub UnlessWrite : ReplayFault → Type 0 → Type 0
 UnlessWrite (faults.Scene line cause) P = P
 UnlessWrite (faults.Step at cause) P = P
 UnlessWrite (faults.Open cause) P = P
+UnlessWrite (faults.Report cause) P = P
 UnlessWrite faults.Memory P = P
 UnlessWrite faults.Read P = P
 UnlessWrite faults.Write P = Unit {0}
 
--- what writing a report alone answers: want of memory, or a failure of the writer
-abbrev pub IsReportFault : ReplayFault → Type 0
-IsReportFault (faults.Scene line cause) = ⊥
-IsReportFault (faults.Step at cause) = ⊥
-IsReportFault (faults.Open cause) = ⊥
-IsReportFault faults.Memory = Unit {0}
-IsReportFault faults.Read = ⊥
-IsReportFault faults.Write = Unit {0}
+-- what writing a report alone answers: a refusal of the store with its cause, which came since the count of its faults
+-- was the first of these; want of memory; or a failure of the writer
+abbrev pub IsReportFault : (before now : ℕ) → Bool → ReplayFault → Type 0
+IsReportFault before now is_honest (faults.Scene line cause) = ⊥
+IsReportFault before now is_honest (faults.Step at cause) = ⊥
+IsReportFault before now is_honest (faults.Open cause) = ⊥
+IsReportFault before now is_honest (faults.Report cause) = IsFault before now is_honest cause
+IsReportFault before now is_honest faults.Memory = Unit {0}
+IsReportFault before now is_honest faults.Read = ⊥
+IsReportFault before now is_honest faults.Write = Unit {0}

@@ -13,8 +13,9 @@ use Rattle.kt_script.specs.declared.command.Operation.{Operation}
 use Rattle.kt_script.specs.declared.command.Operation.TheVariants.{Out, In, Rd, Inp, Rdp}
 use Rattle.kt_script.specs.declared.command.Command.{Command}
 use Rattle.kt_script.specs.declared.command.Command.TheVariants.{Ask, Set, Unless}
-use Rattle.kt_core.specs.declared.step.Step.{Step}
-use Rattle.kt_core.specs.declared.step.Step.TheVariants.{Issue, Repeat, Deliver, Serve}
+use Rattle.kt_world.specs.declared.step.Step.{Step}
+use Rattle.kt_world.specs.declared.step.Step.TheVariants.{Issue, Repeat, Deliver, Take, Serve, Check, Decide, Abandon}
+use Rattle.kt_world.specs.declared.step.Step.TheVariants.{Learn, Fail, Restart}
 use Rattle.kt_scene.specs.Reading.{Play, Work, Steps}
 use Rattle.kt_scene.specs.Report.{text_line}
 
@@ -41,7 +42,8 @@ operation_text (Rdp pattern) = codes "rdp " ++ pattern_text pattern
 
 abbrev pub command_text : Command → List ℕ
 command_text (Ask operation) = operation_text operation
-command_text (Set variable source plus) = codes "set " ++ variable ++ codes " = " ++ source ++ codes " + " ++ signed_decimal plus
+command_text (Set variable source plus) =
+    codes "set " ++ variable ++ codes " = " ++ source ++ codes " + " ++ signed_decimal plus
 command_text (Unless count) = codes "unless " ++ decimal count
 
 -- `w` or `s`, and a number
@@ -53,7 +55,14 @@ abbrev pub step_text : Step → List ℕ
 step_text (Issue node) = codes "issue " ++ node_text node
 step_text (Repeat node) = codes "repeat " ++ node_text node
 step_text (Deliver from to) = codes "deliver " ++ node_text from ++ 32 ∷ node_text to
+step_text (Take node) = codes "take " ++ node_text node
 step_text (Serve shard worker place) = codes "serve " ++ node_text shard ++ 32 ∷ node_text worker ++ 32 ∷ decimal place
+step_text (Check node) = codes "check " ++ node_text node
+step_text (Decide node) = codes "decide " ++ node_text node
+step_text (Abandon node) = codes "abandon " ++ node_text node
+step_text (Learn node) = codes "learn " ++ node_text node
+step_text (Fail node) = codes "fail " ++ node_text node
+step_text (Restart node) = codes "restart " ++ node_text node
 
 -- a worker and its commands
 abbrev pub script_lines : List Command → List (List ℕ)

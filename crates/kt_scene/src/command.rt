@@ -4,7 +4,9 @@ ghost use Rattle.std.specs.Prelude.{◌≡◌, ◌≤◌, ℕ, List, [], ◌∷�
 ghost use Rattle.std.specs.Option.{option_map};
 ghost use Rattle.kt_tuple.specs.Matching.{HasArity};
 ghost use Rattle.kt_script.specs.Name.{begins_with_letter, is_name_character};
-ghost use Rattle.kt_scene.specs.Commands.{name_length, name_at, actual_at, kind_at, named, slot_at, slots_in, actuals_of, operation_of, verb_at, set_with, set_of, unless_with, unless_of, asked, spelled_of, fault_behind};
+ghost use Rattle.kt_scene.specs.Commands.{name_length, name_at, actual_at, kind_at, named, slot_at, slots_in};
+ghost use Rattle.kt_scene.specs.Commands.{actuals_of, operation_of, verb_at, set_with, set_of, unless_with, unless_of};
+ghost use Rattle.kt_scene.specs.Commands.{asked, spelled_of, fault_behind};
 
 use crate::fault::SceneError;
 use crate::line::{behind, ended, number_at};

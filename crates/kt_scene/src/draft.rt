@@ -1,10 +1,13 @@
 //! A scenario, read line by line. Each line is judged without memory, and then kept.
 
-ghost use Rattle.std.specs.Prelude.{◌≡◌, ◌&&◌, ◌+◌, ◌<◌, ◌≤◌, ℕ, List, length, Ok, Err, OnOk, IfErr, IfOk, IsTrue, None};
+ghost use Rattle.std.specs.Prelude.{◌≡◌, ◌&&◌, ◌+◌, ◌<◌, ◌≤◌, ℕ, List, length, Ok, Err, OnOk, IfErr, IfOk, IsTrue};
+ghost use Rattle.std.specs.Prelude.{None};
 ghost use Rattle.std.specs.Option.{option_map};
 ghost use Rattle.kt_scene.specs.Reading.{is_empty, play_with};
 ghost use Rattle.kt_scene.specs.Run.{play_in};
-ghost use Rattle.kt_scene.specs.Lines.{nothing_read, is_word, is_ignored, count_of, shards_of, titled, with_shards, with_worker, in_script, with_command, in_steps, with_step, line_read, is_ended, closed, HasScripts, IsFaultOf};
+ghost use Rattle.kt_scene.specs.Lines.{nothing_read, is_word, is_ignored, count_of, shards_of, titled, with_shards};
+ghost use Rattle.kt_scene.specs.Lines.{with_worker, in_script, with_command, in_steps, with_step, line_read, is_ended};
+ghost use Rattle.kt_scene.specs.Lines.{closed, HasScripts, IsFaultOf};
 
 use crate::command::{Spelled, fault_behind, spelled_of};
 use crate::fault::SceneError;
@@ -47,9 +50,21 @@ impl Model for Draft {
 
     ghost Value = { Sketch };
 
-    ghost view = { λ d. record { stage = d.stage; shards = d.shards; scripts = d.scripts.items; commands = d.script; steps = d.steps.items } };
+    ghost view = { λ d. record {
+      stage = d.stage;
+      shards = d.shards;
+      scripts = d.scripts.items;
+      commands = d.script;
+      steps = d.steps.items;
+    } };
 
-    ghost invariant = { λ d. IsSketch (record { stage = d.stage; shards = d.shards; scripts = d.scripts.items; commands = d.script; steps = d.steps.items }) };
+    ghost invariant = { λ d. IsSketch (record {
+      stage = d.stage;
+      shards = d.shards;
+      scripts = d.scripts.items;
+      commands = d.script;
+      steps = d.steps.items;
+    }) };
 }
 
 /// Whether the line begins with `#`.

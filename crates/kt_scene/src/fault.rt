@@ -3,6 +3,7 @@
 ghost use Rattle.std.specs.Prelude.{◌≡◌};
 
 use kt_core::{OpenError, StepError};
+use kt_store::StoreError;
 use std::error::Error;
 use std::fmt;
 use std::fmt::{Display, Formatter};
@@ -88,6 +89,8 @@ pub enum ReplayFault {
     Step { at: usize, cause: StepError },
     /// The world could not be opened.
     Open(OpenError),
+    /// The store refused what the report tells of it.
+    Report(StoreError),
     /// Memory ran out for the text or for the report.
     Memory,
     /// The reader failed, or 2,000,000 calls did not bring the end of the text.
@@ -96,7 +99,18 @@ pub enum ReplayFault {
     Write,
 }
 
-/// The line that tells of the fault, as `line 4: 3 Tuple`, `step 9: 4 NoSuchMatch`, `memory`, `read` or `write`.
+/// The name of a store's refusal.
+fn store_name(cause: StoreError) -> &'static str {
+    match cause {
+        StoreError::Memory => "Memory",
+        StoreError::Device => "Device",
+        StoreError::Damaged => "Damaged",
+        StoreError::Full => "Full",
+    }
+}
+
+/// The line that tells of the fault, as `line 4: 3 Tuple`, `step 9: 4 NoSuchMatch`, `store: NotFresh`, `memory`, `read`
+/// or `write`.
 impl Display for ReplayFault {
     fn fmt<W: fmt::Write>(&self, f: &mut Formatter<W>) -> fmt::Result {
         match *self {
@@ -110,6 +124,16 @@ impl Display for ReplayFault {
                 at: _,
                 cause: StepError::OutOfMemory,
             } => write!(f, "memory"),
+            ReplayFault::Open(OpenError::NotFresh) => write!(f, "store: NotFresh"),
+            ReplayFault::Open(OpenError::Store(cause))
+            | ReplayFault::Report(cause)
+            | ReplayFault::Step {
+                at: _,
+                cause: StepError::Store(cause),
+            } => {
+                let name = store_name(cause);
+                write!(f, "store: {name}")
+            }
             ReplayFault::Step { at, cause } => {
                 let number = cause.number();
                 write!(f, "step {at}: {number} {cause}")

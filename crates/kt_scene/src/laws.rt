@@ -26,16 +26,19 @@ pub fn what_was_read_is_written()
 /// the text that `write_scene` wrote is the scenario that was written. This holds of each scenario that has a
 /// text: node numbers from 1 to 99, places of matches up to 99,999, and at most 1,048,576 bytes.
 pub fn what_is_written_is_read()
-    ensures { (play : Play) → IsPlay play → length (scenario_text play) ≤ 1048576 → play_of (scenario_text play) ≡ Ok play }
+    ensures { (play : Play) → IsPlay play → length (scenario_text play) ≤ 1048576
+        → play_of (scenario_text play) ≡ Ok play }
 {}
 
 /// The fault that a text is refused for is its first: the lines before it are the first of some scenario, with this
 /// one they are not, and of its faults it is the lowest.
 pub fn what_is_refused_has_this_fault_first()
-    ensures { (text : List ℕ) (n : ℕ) (fault : SceneError) → play_of text ≡ Err (n, fault) → HasFirstFault text n fault }
+    ensures { (text : List ℕ) (n : ℕ) (fault : SceneError) → play_of text ≡ Err (n, fault)
+        → HasFirstFault text n fault }
 {}
 
 /// A text's first fault is what it is refused for; so it has no other first fault.
 pub fn what_has_a_fault_is_refused()
-    ensures { (text : List ℕ) (n : ℕ) (fault : SceneError) → HasFirstFault text n fault → play_of text ≡ Err (n, fault) }
+    ensures { (text : List ℕ) (n : ℕ) (fault : SceneError) → HasFirstFault text n fault
+        → play_of text ≡ Err (n, fault) }
 {}

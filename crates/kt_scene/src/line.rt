@@ -5,7 +5,7 @@
 ghost use Rattle.std.specs.Prelude.{◌≡◌, ◌+◌, ◌<◌, length, List, ℕ};
 ghost use Rattle.std.specs.Option.{option_map};
 ghost use Rattle.kt_scene.specs.Number.{behind, ended, number_at, number_within};
-ghost use Rattle.kt_scene.specs.Steps.{node_at, node_before_space, issue_of, repeat_of, deliver_of, serve_of, step_of};
+ghost use Rattle.kt_scene.specs.Steps.{node_at, node_before_space, node_alone, deliver_of, serve_of, step_of};
 
 use kt_core::Step;
 use kt_tuple::{NodeId, int_at, int_of, word_at};
@@ -81,18 +81,12 @@ fn node_before_space(text: &[u8]) -> Option<(NodeId, &[u8])>
     Some((node, rest))
 }
 
-fn issue_of(words: &[u8]) -> Option<Step>
-    ensures { result ≡ issue_of words.now }
+/// The node that is all of the text.
+fn node_alone(text: &[u8]) -> Option<NodeId>
+    ensures { result ≡ node_alone text.now }
 {
-    let (node, rest) = node_at(words)?;
-    ended(Step::Issue { node }, rest)
-}
-
-fn repeat_of(words: &[u8]) -> Option<Step>
-    ensures { result ≡ repeat_of words.now }
-{
-    let (node, rest) = node_at(words)?;
-    ended(Step::Repeat { node }, rest)
+    let (node, rest) = node_at(text)?;
+    ended(node, rest)
 }
 
 fn deliver_of(words: &[u8]) -> Option<Step>
@@ -124,13 +118,36 @@ pub(crate) fn step_of(line: &[u8]) -> Option<Step>
     ensures { result ≡ step_of line.now }
 {
     if let Some(words) = behind(line, b"issue ") {
-        issue_of(words)
+        let node = node_alone(words)?;
+        Some(Step::Issue { node })
     } else if let Some(words) = behind(line, b"repeat ") {
-        repeat_of(words)
+        let node = node_alone(words)?;
+        Some(Step::Repeat { node })
     } else if let Some(words) = behind(line, b"deliver ") {
         deliver_of(words)
+    } else if let Some(words) = behind(line, b"take ") {
+        let node = node_alone(words)?;
+        Some(Step::Take { node })
     } else if let Some(words) = behind(line, b"serve ") {
         serve_of(words)
+    } else if let Some(words) = behind(line, b"check ") {
+        let node = node_alone(words)?;
+        Some(Step::Check { node })
+    } else if let Some(words) = behind(line, b"decide ") {
+        let node = node_alone(words)?;
+        Some(Step::Decide { node })
+    } else if let Some(words) = behind(line, b"abandon ") {
+        let node = node_alone(words)?;
+        Some(Step::Abandon { node })
+    } else if let Some(words) = behind(line, b"learn ") {
+        let node = node_alone(words)?;
+        Some(Step::Learn { node })
+    } else if let Some(words) = behind(line, b"fail ") {
+        let node = node_alone(words)?;
+        Some(Step::Fail { node })
+    } else if let Some(words) = behind(line, b"restart ") {
+        let node = node_alone(words)?;
+        Some(Step::Restart { node })
     } else {
         None
     }

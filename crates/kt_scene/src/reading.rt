@@ -4,7 +4,8 @@ ghost use Rattle.std.specs.Prelude.{◌≡◌, ◌≤◌, ◌<◌, ◌+◌, ◌=
 ghost use Rattle.std.specs.Option.{option_map};
 ghost use Rattle.kt_scene.specs.Faults.{Explains};
 ghost use Rattle.kt_scene.specs.Lines.{nothing_read};
-ghost use Rattle.kt_scene.specs.Reading.{lines_of, read_from, sketch_of, play_of, IsFirstFault, IsPlaceOf, HasLine, is_empty};
+ghost use Rattle.kt_scene.specs.Reading.{lines_of, read_from, sketch_of, play_of, IsFirstFault, IsPlaceOf, HasLine};
+ghost use Rattle.kt_scene.specs.Reading.{is_empty};
 ghost use Rattle.kt_scene.specs.Run.{play_in};
 ghost use Rattle.kt_scene.specs.Scenario.{IsScenario};
 
@@ -50,9 +51,11 @@ pub fn read_scene(alloc: Global, text: &[u8]) -> Result<Scenario, SceneFault>
 
 /// All lines of the text, or the first that has a fault.
 fn read_lines(alloc: Global, text: &[u8]) -> Result<Draft, SceneFault>
-    ensures read { IfOk result (λ draft. read_from nothing_read 1 (lines_of text.now).0 (lines_of text.now).1 ≡ Ok draft) }
+    ensures read { IfOk result (λ draft.
+        read_from nothing_read 1 (lines_of text.now).0 (lines_of text.now).1 ≡ Ok draft) }
     ensures ended { IfOk result (λ draft. draft.stage ≡ Stage.Ended) }
-    ensures fault { IfErr result (λ fault. IsFirstFault fault.line fault.cause (read_from nothing_read 1 (lines_of text.now).0 (lines_of text.now).1)) }
+    ensures fault { IfErr result (λ fault. IsFirstFault fault.line fault.cause
+        (read_from nothing_read 1 (lines_of text.now).0 (lines_of text.now).1)) }
     ensures place { IfErr result (λ fault. IsPlaceOf text.now fault.line fault.cause) }
 {
     let mut draft = Draft::new(alloc);

@@ -1,10 +1,12 @@
 //! From the bytes of a scenario to the bytes of its report.
 
-ghost use Rattle.std.specs.Prelude.{◌≡◌, Err, IfOk, IfErr, OnOk};
-ghost use Rattle.kt_core.specs.Reached.{opening};
-ghost use Rattle.kt_core.specs.Runs.{RunsTo};
+ghost use Rattle.std.specs.Prelude.{◌≡◌, ◌≤◌, true, Err, IfOk, IfErr, IsTrue, OnOk};
+ghost use Rattle.kt_store.specs.Content.{is_fresh};
+ghost use Rattle.kt_world.specs.Reached.{opening};
 ghost use Rattle.kt_scene.specs.Reading.{steps_of};
-ghost use Rattle.kt_scene.specs.Run.{IsRunFault, IsStepFault, play_in, LeadsTo, IsTextFault, IsReplayed, WritesReplayed, WritesReplayedFront, IsWorldFault, IsReplayFault};
+ghost use Rattle.kt_scene.specs.Runs.{RunsTo};
+ghost use Rattle.kt_scene.specs.Run.{play_in, IsStepFault, IsRunFault, LeadsTo, IsTextFault, IsReplayed, IsWorldFault};
+ghost use Rattle.kt_scene.specs.Run.{given_by, WritesReplayed, WritesReplayedFront, IsReplayFault};
 ghost use Rattle.kt_scene.specs.Stream.{UnlessWrite};
 
 use crate::fault::{ReplayFault, SceneFault};
@@ -15,75 +17,123 @@ use crate::sink::Sink;
 use crate::source::Source;
 use crate::stream::read_text;
 use kt_core::{Scene, Step, World};
+use kt_store::CkptStore;
 use std::alloc::Global;
 use std::io::{Read, Write};
 
-/// Reads a scenario, makes its steps and writes the report. It reads all, then makes all steps, then
+/// Reads a scenario, makes its steps over the store and writes the report. It reads all, then makes all steps, then
 /// writes; so a fault other than `Write` leaves nothing written. What was read before a fault is gone from
 /// the reader.
-pub fn replay<R: Read, W: Write>(
+pub fn replay<R: Read, W: Write, S: CkptStore + Drop>(
     alloc: Global,
     reader: &mut Source<R>,
     writer: &mut Sink<W>,
+    store: S,
 ) -> Result<(), ReplayFault>
-    ensures written { OnOk result (WritesReplayed reader.old reader.new writer.old writer.new) }
-    ensures front { result ≡ Err ReplayFault.Write → WritesReplayedFront reader.old reader.new writer.old writer.new }
-    ensures fault { IfErr result (IsReplayFault reader.old reader.new) }
+    ensures written { OnOk result
+        (WritesReplayed (given_by S.content S.is_honest S.fault_count store)
+        reader.old reader.new writer.old writer.new) }
+    ensures front { result ≡ Err ReplayFault.Write
+        → WritesReplayedFront (given_by S.content S.is_honest S.fault_count store)
+        reader.old reader.new writer.old writer.new }
+    ensures fault { IfErr result
+        (IsReplayFault (given_by S.content S.is_honest S.fault_count store) reader.old reader.new) }
     // Before any fault but the writer's the writer is not called.
     ensures nothing { IfErr result (λ fault. UnlessWrite fault (writer.new ≡ writer.old)) }
 {
-    match replay_world(alloc, reader) {
-        Ok(mut world) => write_report(alloc, &mut world, writer),
+    match replay_world(alloc, reader, store) {
+        Ok(mut world) => {
+            let answer = write_report(alloc, &mut world, writer);
+            drop(world.into_store());
+            answer
+        }
         Err(fault) => Err(fault),
     }
 }
 
-/// Reads a scenario and makes its steps: the world then. The first half of `replay`.
-pub fn replay_world<R: Read>(alloc: Global, reader: &mut Source<R>) -> Result<World, ReplayFault>
-    ensures replayed { IfOk result (λ world. IsReplayed reader.old reader.new world) }
-    ensures fault { IfErr result (IsWorldFault reader.old reader.new) }
+/// Reads a scenario and makes its steps over the store: the world then. The first half of `replay`.
+pub fn replay_world<R: Read, S: CkptStore + Drop>(
+    alloc: Global,
+    reader: &mut Source<R>,
+    store: S,
+) -> Result<World<S>, ReplayFault>
+    ensures replayed { IfOk result (λ world.
+        IsReplayed reader.old reader.new world.is_honest (is_fresh (S.content store)) world.state) }
+    ensures later { IfOk result (λ world. S.fault_count store ≤ world.faults) }
+    ensures fault { IfErr result
+        (IsWorldFault (given_by S.content S.is_honest S.fault_count store) reader.old reader.new) }
 {
     let text = read_text(alloc, reader)?;
-    world_told(alloc, &text)
+    world_told(alloc, &text, store)
 }
 
 /// The world after the steps of the scenario that the text spells.
-fn world_told(alloc: Global, text: &[u8]) -> Result<World, ReplayFault>
-    ensures leads { IfOk result (λ world. LeadsTo text.now world) }
-    ensures fault { IfErr result (IsTextFault text.now) }
+fn world_told<S: CkptStore + Drop>(
+    alloc: Global,
+    text: &[u8],
+    store: S,
+) -> Result<World<S>, ReplayFault>
+    ensures leads { IfOk result (λ world. LeadsTo text.now world.is_honest (is_fresh (S.content store)) world.state) }
+    ensures later { IfOk result (λ world. S.fault_count store ≤ world.faults) }
+    ensures fault { IfErr result (IsTextFault (given_by S.content S.is_honest S.fault_count store) text.now) }
 {
     match read_scene(alloc, text) {
-        Ok(scenario) => run_scenario(alloc, scenario),
+        Ok(scenario) => run_scenario(alloc, scenario, store),
         Err(SceneFault { line, cause }) => Err(ReplayFault::Scene { line, cause }),
     }
 }
 
-fn run_scenario(alloc: Global, scenario: Scenario) -> Result<World, ReplayFault>
-    ensures replayed { IfOk result (λ world. RunsTo (opening (play_in scenario).cast) (steps_of (play_in scenario).work) world) }
-    ensures fault { IfErr result (IsRunFault (play_in scenario).cast (steps_of (play_in scenario).work)) }
+fn run_scenario<S: CkptStore + Drop>(
+    alloc: Global,
+    scenario: Scenario,
+    store: S,
+) -> Result<World<S>, ReplayFault>
+    ensures replayed { IfOk result (λ world. IsTrue world.is_honest
+        → RunsTo (opening (play_in scenario).cast) (steps_of (play_in scenario).work) world.state) }
+    ensures fresh { IfOk result (λ world. IsTrue world.is_honest → is_fresh (S.content store) ≡ true) }
+    ensures later { IfOk result (λ world. S.fault_count store ≤ world.faults) }
+    ensures fault { IfErr result (IsRunFault (given_by S.content S.is_honest S.fault_count store)
+        (play_in scenario).cast (steps_of (play_in scenario).work)) }
 {
     let Scenario { scene, work } = scenario;
-    run(alloc, scene, work.steps())
+    run(alloc, scene, work.steps(), store)
 }
 
 /// The world of the scene after these steps.
-fn run(alloc: Global, scene: Scene, steps: &[Step]) -> Result<World, ReplayFault>
-    ensures replayed { IfOk result (λ world. RunsTo (opening scene) steps.now world) }
-    ensures fault { IfErr result (IsRunFault scene steps.now) }
+fn run<S: CkptStore + Drop>(
+    alloc: Global,
+    scene: Scene,
+    steps: &[Step],
+    store: S,
+) -> Result<World<S>, ReplayFault>
+    ensures replayed { IfOk result (λ world. IsTrue world.is_honest → RunsTo (opening scene) steps.now world.state) }
+    ensures fresh { IfOk result (λ world. IsTrue world.is_honest → is_fresh (S.content store) ≡ true) }
+    ensures later { IfOk result (λ world. S.fault_count store ≤ world.faults) }
+    ensures fault { IfErr result (IsRunFault (given_by S.content S.is_honest S.fault_count store) scene steps.now) }
 {
-    match World::open(alloc, scene) {
+    match World::open(alloc, scene, store) {
         Ok(mut world) => match make_steps(alloc, &mut world, steps) {
             Ok(()) => Ok(world),
-            Err(fault) => Err(fault),
+            Err(fault) => {
+                drop(world.into_store());
+                Err(fault)
+            }
         },
         Err(refused) => Err(ReplayFault::Open(refused.cause)),
     }
 }
 
 /// Makes the steps one after the other, up to the first that is refused.
-fn make_steps(alloc: Global, world: &mut World, steps: &[Step]) -> Result<(), ReplayFault>
-    ensures made { OnOk result (RunsTo world.old steps.now world.new) }
-    ensures refused { IfErr result (IsStepFault world.old steps.now) }
+fn make_steps<S: CkptStore>(
+    alloc: Global,
+    world: &mut World<S>,
+    steps: &[Step],
+) -> Result<(), ReplayFault>
+    ensures made { IsTrue world.new.is_honest → OnOk result (RunsTo world.old.state steps.now world.new.state) }
+    ensures refused { IfErr result
+        (IsStepFault world.old.faults world.new.faults world.new.is_honest world.old.state steps.now) }
+    ensures honest { IsTrue world.new.is_honest → IsTrue world.old.is_honest }
+    ensures later { world.old.faults ≤ world.new.faults }
 {
     for (i, step) in steps.iter().enumerate() {
         if let Err(cause) = world.step(alloc, *step) {

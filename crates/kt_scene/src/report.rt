@@ -1,9 +1,11 @@
 //! The report of a world: what survives, what is lost, and the tuples.
 
-ghost use Rattle.std.specs.Prelude.{◌≡◌, ◌++◌, List, [], ℕ, map, IfOk, IfErr, OnErr, OnOk, Err};
+ghost use Rattle.std.specs.Prelude.{◌≡◌, ◌≤◌, ◌++◌, List, ℕ, map, IfOk, IfErr, IsTrue, OnErr, OnOk, Err};
 ghost use Rattle.std.specs.List.{flat_map};
 ghost use Rattle.kt_tuple.specs.Spelling.{tuple_text};
-ghost use Rattle.kt_scene.specs.Report.{IsReport, WritesReport, WritesReportFront, AppendsTuples, count_line, service_line, text_line, items_of};
+ghost use Rattle.kt_core.specs.World.{beside};
+ghost use Rattle.kt_scene.specs.Report.{IsReport, WritesReport, WritesReportFront, AppendsTexts};
+ghost use Rattle.kt_scene.specs.Report.{count_line, service_line, text_line, items_of};
 ghost use Rattle.kt_scene.specs.Stream.{UnlessWrite, IsReportFault};
 
 use crate::fault::ReplayFault;
@@ -13,31 +15,45 @@ use itoa::Buffer;
 use kt_core::World;
 use kt_history::space_of;
 use kt_space::Bag;
-use kt_tuple::Service;
+use kt_store::CkptStore;
+use kt_tuple::{Service, Tuple};
 use std::alloc::{AllocError, Global};
 use std::io::Write;
 
-/// Writes the report of the world. Refused by want of memory, which leaves nothing written, or by the
-/// writer, which leaves a front of the report.
-pub fn write_report<W: Write>(
+/// Writes the report of the world. Refused by the store or by want of memory, which leaves nothing written, or by
+/// the writer, which leaves a front of the report.
+pub fn write_report<S: CkptStore, W: Write>(
     alloc: Global,
-    world: &mut World,
+    world: &mut World<S>,
     writer: &mut Sink<W>,
 ) -> Result<(), ReplayFault>
-    ensures same { world.new ≡ world.old }
-    ensures written { OnOk result (WritesReport world.old.history [] writer.old writer.new) }
-    ensures front { result ≡ Err ReplayFault.Write → WritesReportFront world.old.history [] writer.old writer.new }
+    ensures same { IsTrue world.new.is_honest → world.new.state ≡ world.old.state }
+    ensures beside { beside world.new.state ≡ beside world.old.state }
+    ensures honest { IsTrue world.new.is_honest → IsTrue world.old.is_honest }
+    ensures written { OnOk result (WritesReport world.new.is_honest world.old.state writer.old writer.new) }
+    ensures front { result ≡ Err ReplayFault.Write
+        → WritesReportFront world.new.is_honest world.old.state writer.old writer.new }
     // Before any fault but the writer's the writer is not called.
     ensures nothing { IfErr result (λ fault. UnlessWrite fault (writer.new ≡ writer.old)) }
-    ensures only { IfErr result IsReportFault }
+    ensures later { world.old.faults ≤ world.new.faults }
+    ensures only { IfErr result (IsReportFault world.old.faults world.new.faults world.new.is_honest) }
 {
-    let report = report_of(alloc, world).map_err(|_| ReplayFault::Memory)?;
-    put(writer, &report)
+    match world.permanent_space(alloc) {
+        Ok(permanent) => {
+            let report = report_of(alloc, world, &permanent).map_err(|_| ReplayFault::Memory)?;
+            put(writer, &report)
+        }
+        Err(cause) => Err(ReplayFault::Report(cause)),
+    }
 }
 
-/// The report's text.
-fn report_of(alloc: Global, world: &World) -> Result<Vec<u8>, AllocError>
-    ensures { IfOk result (λ text. IsReport world.now.history [] text.items) }
+/// The report's text, with these permanent tuples.
+fn report_of<S: CkptStore>(
+    alloc: Global,
+    world: &World<S>,
+    permanent: &[Tuple],
+) -> Result<Vec<u8>, AllocError>
+    ensures { IfOk result (λ text. IsReport world.now.is_honest world.now.state.history permanent.now text.items) }
 {
     let history = world.history();
     let survivors = history.survivors(alloc)?;
@@ -46,9 +62,8 @@ fn report_of(alloc: Global, world: &World) -> Result<Vec<u8>, AllocError>
     push_count(&mut out, b"survivors ", survivors.len())?;
     push_services(&mut out, &survivors)?;
     push_count(&mut out, b"lost ", history.lost_count() as usize)?;
-    push_tuples(alloc, &mut out, b"space ", &space)?;
-    // Until checkpoints are taken the initial ones stand, which are empty.
-    push_tuples(alloc, &mut out, b"permanent ", &Bag::new(alloc))?;
+    push_bag(alloc, &mut out, b"space ", &space)?;
+    push_tuples(alloc, &mut out, b"permanent ", permanent)?;
     Ok(out)
 }
 
@@ -91,10 +106,31 @@ fn push_services(out: &mut Vec<u8>, services: &[Service]) -> Result<(), AllocErr
 }
 
 /// How many tuples there are, and then each on a line, in rising order of their text's bytes.
-fn push_tuples(alloc: Global, out: &mut Vec<u8>, word: &[u8], bag: &Bag) -> Result<(), AllocError>
-    ensures { OnOk result (AppendsTuples word.now bag.now.tuples out.old.items out.new.items) }
+fn push_tuples(
+    alloc: Global,
+    out: &mut Vec<u8>,
+    word: &[u8],
+    tuples: &[Tuple],
+) -> Result<(), AllocError>
+    ensures { OnOk result (AppendsTexts word.now (map tuple_text tuples.now) out.old.items out.new.items) }
 {
-    let mut texts = texts_of(alloc, bag)?;
+    let texts = texts_of(alloc, tuples)?;
+    push_sorted(out, word, texts)
+}
+
+/// The same of the tuples of a bag.
+fn push_bag(alloc: Global, out: &mut Vec<u8>, word: &[u8], bag: &Bag) -> Result<(), AllocError>
+    ensures { OnOk result (AppendsTexts word.now (map tuple_text bag.now.tuples) out.old.items out.new.items) }
+{
+    let texts = texts_in(alloc, bag)?;
+    push_sorted(out, word, texts)
+}
+
+/// How many texts there are, and then each on a line, in rising order of their bytes.
+fn push_sorted(out: &mut Vec<u8>, word: &[u8], texts: Vec<Vec<u8>>) -> Result<(), AllocError>
+    ensures { OnOk result (AppendsTexts word.now (items_of texts.items) out.old.items out.new.items) }
+{
+    let mut texts = texts;
     texts.sort()?;
     push_count(out, word, texts.len())?;
     push_texts(out, &texts)
@@ -110,17 +146,34 @@ fn push_texts(out: &mut Vec<u8>, texts: &[Vec<u8>]) -> Result<(), AllocError>
     Ok(())
 }
 
-/// The text of each tuple, in order of arrival.
-fn texts_of(alloc: Global, bag: &Bag) -> Result<Vec<Vec<u8>>, AllocError>
+/// The text of each tuple.
+fn texts_of(alloc: Global, tuples: &[Tuple]) -> Result<Vec<Vec<u8>>, AllocError>
+    ensures { IfOk result (λ texts. items_of texts.items ≡ map tuple_text tuples.now) }
+{
+    let mut texts = Vec::with_capacity(alloc, tuples.len())?;
+    for tuple in tuples {
+        texts.push(text_of(alloc, tuple)?)?;
+    }
+    Ok(texts)
+}
+
+/// The text of each tuple of the bag, in order of arrival.
+fn texts_in(alloc: Global, bag: &Bag) -> Result<Vec<Vec<u8>>, AllocError>
     ensures { IfOk result (λ texts. items_of texts.items ≡ map tuple_text bag.now.tuples) }
 {
     let mut texts = Vec::with_capacity(alloc, bag.len())?;
     for place in 0..bag.len() {
         if let Some(tuple) = bag.get(place) {
-            let mut text = Vec::new(alloc);
-            tuple.write_to(&mut text)?;
-            texts.push(text)?;
+            texts.push(text_of(alloc, tuple)?)?;
         }
     }
     Ok(texts)
+}
+
+fn text_of(alloc: Global, tuple: &Tuple) -> Result<Vec<u8>, AllocError>
+    ensures { IfOk result (λ text. text.items ≡ tuple_text tuple.now) }
+{
+    let mut text = Vec::new(alloc);
+    tuple.write_to(&mut text)?;
+    Ok(text)
 }

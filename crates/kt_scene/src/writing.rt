@@ -6,7 +6,8 @@ ghost use Rattle.std.specs.List.{flat_map};
 ghost use Rattle.kt_tuple.specs.Spelling.{kind_text, in_parentheses};
 ghost use Rattle.kt_scene.specs.Report.{text_line};
 ghost use Rattle.kt_scene.specs.Run.{work_in};
-ghost use Rattle.kt_scene.specs.Text.{actual_text, slot_text, pattern_text, operation_text, command_text, node_text, step_text, script_lines, scenario_text, work_lines};
+ghost use Rattle.kt_scene.specs.Text.{actual_text, slot_text, pattern_text, operation_text, command_text, node_text};
+ghost use Rattle.kt_scene.specs.Text.{step_text, script_lines, scenario_text, work_lines};
 
 use crate::scenario::Work;
 use itoa::Buffer;
@@ -193,33 +194,38 @@ fn push_step(out: &mut Vec<u8>, step: Step) -> Result<(), AllocError>
     ensures { OnOk result (out.new.items ≡ out.old.items ++ step_text step) }
 {
     match step {
-        Step::Issue { node } => {
-            out.extend_from_slice(b"issue ")?;
-            push_node(out, node)
-        }
-        Step::Repeat { node } => {
-            out.extend_from_slice(b"repeat ")?;
-            push_node(out, node)
-        }
+        Step::Issue { node } => push_at(out, b"issue ", node),
+        Step::Repeat { node } => push_at(out, b"repeat ", node),
         Step::Deliver { from, to } => {
-            out.extend_from_slice(b"deliver ")?;
-            push_node(out, from)?;
-            out.push(b' ')?;
-            push_node(out, to)
+            push_at(out, b"deliver ", from)?;
+            push_at(out, b" ", to)
         }
+        Step::Take { node } => push_at(out, b"take ", node),
         Step::Serve {
             shard,
             worker,
             place,
         } => {
-            out.extend_from_slice(b"serve ")?;
-            push_node(out, shard)?;
-            out.push(b' ')?;
-            push_node(out, worker)?;
+            push_at(out, b"serve ", shard)?;
+            push_at(out, b" ", worker)?;
             out.push(b' ')?;
             push_number(out, place)
         }
+        Step::Check { node } => push_at(out, b"check ", node),
+        Step::Decide { node } => push_at(out, b"decide ", node),
+        Step::Abandon { node } => push_at(out, b"abandon ", node),
+        Step::Learn { node } => push_at(out, b"learn ", node),
+        Step::Fail { node } => push_at(out, b"fail ", node),
+        Step::Restart { node } => push_at(out, b"restart ", node),
     }
+}
+
+/// A word with the space behind it, and a node.
+fn push_at(out: &mut Vec<u8>, word: &[u8], node: NodeId) -> Result<(), AllocError>
+    ensures { OnOk result (out.new.items ≡ out.old.items ++ word.now ++ node_text node) }
+{
+    out.extend_from_slice(word)?;
+    push_node(out, node)
 }
 
 fn push_node(out: &mut Vec<u8>, node: NodeId) -> Result<(), AllocError>

@@ -8,6 +8,8 @@ mod mutants;
 #[cfg(test)]
 mod replays;
 #[cfg(test)]
+mod rollbacks;
+#[cfg(test)]
 mod scenes;
 #[cfg(test)]
 mod streams;

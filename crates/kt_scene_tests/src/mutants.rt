@@ -4,6 +4,7 @@
 use crate::streams::{Feed, empty, replayed, whole};
 use kt_core::{Step, World};
 use kt_scene::{ReplayFault, Scenario, SceneFault, Sink, read_scene, write_report, write_scene};
+use kt_store::MemStore;
 use std::alloc::Global;
 use std::process::Abort;
 use std::test::Fail;
@@ -15,14 +16,32 @@ const MUTANTS: usize = 20_000;
 const REPLAYED: usize = 10;
 
 /// Scenarios with all kinds of lines.
-const SEEDS: [&[u8]; 7] = [
-    b"linda-kt 1\nshards 1\nworker\nout (\"a\", 1)\nin (\"a\", ?int x)\nsteps\nissue w1\ndeliver w1 s1\nserve s1 w1 0\ndeliver s1 w1\nissue w1\ndeliver w1 s1\nserve s1 w1 0\nend\n",
-    b"# a counter\nlinda-kt 1\nshards 1\n# begins at 0\nworker\ninp (\"counter\", ?int n)\nunless 1\nset n = n + 1\nout (\"counter\", n)\nsteps\nissue w1\ndeliver w1 s1\nserve s1 w1 0\ndeliver s1 w1\nissue w1\ndeliver w1 s1\n# one is put\nserve s1 w1 0\nend\n",
-    b"linda-kt 1\nshards 1\nworker\nin (?int x, ?str s)\nrd (x, ?str t)\nout (s, x, -7)\nset y = x + 9223372036854775807\nset x = y + -9223372036854775808\nrdp (\"\", ?int, s)\nunless 200\nout (y, t)\nworker\nout (\"\\\"\\\\ ~\", 0)\nsteps\nend\n",
-    b"linda-kt 1\nshards 1\n# the results\nworker\nin (\"result\", 10, ?int ten)\nout (\"all\", ten)\n# the work\nworker\nin (\"task\", ?int n)\nset r = n + 1\nout (\"result\", n, r)\nworker\nout (\"task\", 10)\nsteps\nissue w3\ndeliver w3 s1\nserve s1 w3 0\nissue w2\ndeliver w2 s1\nserve s1 w2 0\nend\n",
-    b"linda-kt 1\nshards 1\nworker\nout (1)\nworker\nout (2)\nworker\nout (3)\nworker\ninp (?int)\nworker\nrdp (?int)\nworker\nrd (?int)\nworker\nworker\n# none is left\nin (?int, ?str)\nsteps\nissue w1\nissue w2\ndeliver w2 s1\ndeliver w1 s1\nserve s1 w1 0\nserve s1 w2 0\nissue w4\ndeliver w4 s1\nserve s1 w4 1\nend\n",
-    b"linda-kt 1\nshards 1\nworker\nunless 3\nin (?int v)\nset abcdefghijklmn_1 = v + 1\nout (abcdefghijklmn_1)\nsteps\nend\n",
-    b"linda-kt 1\nshards 3\nworker\nout (\"a\", 1)\n# its answer is lost sight of\nworker\nout (7)\nsteps\nissue w1\nrepeat w1\ndeliver w1 s3\nserve s3 w1 0\ndeliver w1 s3\nissue w2\ndeliver w2 s2\nrepeat w2\nserve s2 w2 0\ndeliver s3 w1\ndeliver s3 w1\ndeliver w2 s2\nend\n",
+const SEEDS: [&[u8]; 8] = [
+    b"linda-kt 1\nshards 1\nworker\nout (\"a\", 1)\nin (\"a\", ?int x)\nsteps\nissue w1\ndeliver w1 s1\n\
+serve s1 w1 0\ndeliver s1 w1\nissue w1\ndeliver w1 s1\nserve s1 w1 0\nend\n",
+    b"# a counter\nlinda-kt 1\nshards 1\n# begins at 0\nworker\ninp (\"counter\", ?int n)\nunless 1\n\
+set n = n + 1\nout (\"counter\", n)\nsteps\nissue w1\ndeliver w1 s1\nserve s1 w1 0\ndeliver s1 w1\n\
+issue w1\ndeliver w1 s1\n# one is put\nserve s1 w1 0\nend\n",
+    b"linda-kt 1\nshards 1\nworker\nin (?int x, ?str s)\nrd (x, ?str t)\nout (s, x, -7)\n\
+set y = x + 9223372036854775807\nset x = y + -9223372036854775808\nrdp (\"\", ?int, s)\nunless 200\n\
+out (y, t)\nworker\nout (\"\\\"\\\\ ~\", 0)\nsteps\nend\n",
+    b"linda-kt 1\nshards 1\n# the results\nworker\nin (\"result\", 10, ?int ten)\nout (\"all\", ten)\n\
+# the work\nworker\nin (\"task\", ?int n)\nset r = n + 1\nout (\"result\", n, r)\nworker\n\
+out (\"task\", 10)\nsteps\nissue w3\ndeliver w3 s1\nserve s1 w3 0\nissue w2\ndeliver w2 s1\nserve s1 w2 0\n\
+end\n",
+    b"linda-kt 1\nshards 1\nworker\nout (1)\nworker\nout (2)\nworker\nout (3)\nworker\ninp (?int)\nworker\n\
+rdp (?int)\nworker\nrd (?int)\nworker\nworker\n# none is left\nin (?int, ?str)\nsteps\nissue w1\nissue w2\n\
+deliver w2 s1\ndeliver w1 s1\nserve s1 w1 0\nserve s1 w2 0\nissue w4\ndeliver w4 s1\nserve s1 w4 1\nend\n",
+    b"linda-kt 1\nshards 1\nworker\nunless 3\nin (?int v)\nset abcdefghijklmn_1 = v + 1\n\
+out (abcdefghijklmn_1)\nsteps\nend\n",
+    b"linda-kt 1\nshards 1\nworker\nout (\"a\", 1)\nworker\nin (\"a\", ?int)\nsteps\nissue w1\n\
+deliver w1 s1\nserve s1 w1 0\ncheck w1\ndeliver s1 w1\ndecide w1\nlearn w1\ntake w1\ncheck w1\n\
+deliver w1 s1\ndeliver s1 w1\ndeliver w1 s1\ndeliver s1 w1\ndecide w1\nfail s1\nlearn s1\n\
+# the check was not in vain\nlearn w1\nrestart s1\nabandon s1\ncheck w2\nabandon w2\nlearn w2\nissue w2\n\
+check w2\nend\n",
+    b"linda-kt 1\nshards 3\nworker\nout (\"a\", 1)\n# its answer is lost sight of\nworker\nout (7)\nsteps\n\
+issue w1\nrepeat w1\ndeliver w1 s3\nserve s3 w1 0\ndeliver w1 s3\nissue w2\ndeliver w2 s2\nrepeat w2\n\
+serve s2 w2 0\ndeliver s3 w1\ndeliver s3 w1\ndeliver w2 s2\nend\n",
 ];
 
 /// Bytes that a mutant gets.
@@ -185,7 +204,9 @@ fn told_of(alloc: Global, text: &[u8]) -> Result<Told, Fail> {
 
 fn told_by(alloc: Global, scenario: Scenario) -> Result<Told, Fail> {
     let Scenario { scene, work } = scenario;
-    let mut world = World::open(alloc, scene).map_err(|_| Fail::from("no world"))?;
+    let mut world = World::open(alloc, scene, MemStore::new(alloc)).map_err(|_| Fail::from(
+        "no world",
+    ))?;
     let mut sink = Sink::new(Vec::new(alloc));
     let answer = match first_refused(alloc, &mut world, work.steps()) {
         Some(fault) => Err(fault),
@@ -195,7 +216,11 @@ fn told_by(alloc: Global, scenario: Scenario) -> Result<Told, Fail> {
 }
 
 /// Makes the steps up to the first that is refused, and says which.
-fn first_refused(alloc: Global, world: &mut World, steps: &[Step]) -> Option<ReplayFault> {
+fn first_refused(
+    alloc: Global,
+    world: &mut World<MemStore>,
+    steps: &[Step],
+) -> Option<ReplayFault> {
     let mut at = 0usize;
     for step in steps {
         at = at.saturating_add(1);

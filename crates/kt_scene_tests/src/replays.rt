@@ -5,6 +5,7 @@ use kt_scene::{
     MAX_TEXT, OpenError, Outcome, ReplayFault, SceneError, SceneFault, Source, StepError,
     read_text, replay_world,
 };
+use kt_store::{MemStore, StoreError};
 use std::alloc::Global;
 use std::process::Abort;
 use std::test::Fail;
@@ -15,7 +16,8 @@ type Row = (&'static [u8], &'static [u8], Result<(), ReplayFault>);
 const ROWS: [Row; 16] = [
     // put_and_take
     (
-        b"linda-kt 1\nshards 1\nworker\nout (\"a\", 1)\nin (\"a\", ?int x)\nsteps\nissue w1\ndeliver w1 s1\nserve s1 w1 0\ndeliver s1 w1\nissue w1\ndeliver w1 s1\nserve s1 w1 0\nend\n",
+        b"linda-kt 1\nshards 1\nworker\nout (\"a\", 1)\nin (\"a\", ?int x)\nsteps\nissue w1\ndeliver w1 s1\n\
+serve s1 w1 0\ndeliver s1 w1\nissue w1\ndeliver w1 s1\nserve s1 w1 0\nend\n",
         b"survivors 2\nw1.1 out (\"a\", 1) done\nw1.2 in (\"a\", ?int) got (\"a\", 1)\nlost 0\nspace 0\npermanent 0\n",
         Ok(()),
     ),
@@ -27,13 +29,17 @@ const ROWS: [Row; 16] = [
     ),
     // two_takers
     (
-        b"linda-kt 1\nshards 1\nworker\nin (\"t\")\nworker\nin (\"t\")\nworker\nout (\"t\")\nsteps\nissue w1\ndeliver w1 s1\nissue w2\ndeliver w2 s1\nissue w3\ndeliver w3 s1\nserve s1 w3 0\nserve s1 w2 0\nend\n",
+        b"linda-kt 1\nshards 1\nworker\nin (\"t\")\nworker\nin (\"t\")\nworker\nout (\"t\")\nsteps\n\
+issue w1\ndeliver w1 s1\nissue w2\ndeliver w2 s1\nissue w3\ndeliver w3 s1\nserve s1 w3 0\nserve s1 w2 0\n\
+end\n",
         b"survivors 2\nw3.1 out (\"t\") done\nw2.1 in (\"t\") got (\"t\")\nlost 0\nspace 0\npermanent 0\n",
         Ok(()),
     ),
     // two_takers, with a ninth step that is refused
     (
-        b"linda-kt 1\nshards 1\nworker\nin (\"t\")\nworker\nin (\"t\")\nworker\nout (\"t\")\nsteps\nissue w1\ndeliver w1 s1\nissue w2\ndeliver w2 s1\nissue w3\ndeliver w3 s1\nserve s1 w3 0\nserve s1 w2 0\nserve s1 w1 0\nend\n",
+        b"linda-kt 1\nshards 1\nworker\nin (\"t\")\nworker\nin (\"t\")\nworker\nout (\"t\")\nsteps\n\
+issue w1\ndeliver w1 s1\nissue w2\ndeliver w2 s1\nissue w3\ndeliver w3 s1\nserve s1 w3 0\nserve s1 w2 0\n\
+serve s1 w1 0\nend\n",
         b"",
         Err(ReplayFault::Step {
             at: 9,
@@ -42,20 +48,34 @@ const ROWS: [Row; 16] = [
     ),
     // tuples in rising order of their text's bytes, equal ones repeated
     (
-        b"linda-kt 1\nshards 1\nworker\nout (\"b\")\nworker\nout (10)\nworker\nout (\"b\")\nworker\nout (2)\nworker\nout (\"\\\"\")\nsteps\nissue w1\nissue w2\nissue w3\nissue w4\nissue w5\ndeliver w1 s1\ndeliver w2 s1\ndeliver w3 s1\ndeliver w4 s1\ndeliver w5 s1\nserve s1 w4 0\nserve s1 w1 0\nserve s1 w5 0\nserve s1 w2 0\nserve s1 w3 0\nend\n",
-        b"survivors 5\nw4.1 out (2) done\nw1.1 out (\"b\") done\nw5.1 out (\"\\\"\") done\nw2.1 out (10) done\nw3.1 out (\"b\") done\nlost 0\nspace 5\n(\"\\\"\")\n(\"b\")\n(\"b\")\n(10)\n(2)\npermanent 0\n",
+        b"linda-kt 1\nshards 1\nworker\nout (\"b\")\nworker\nout (10)\nworker\nout (\"b\")\nworker\n\
+out (2)\nworker\nout (\"\\\"\")\nsteps\nissue w1\nissue w2\nissue w3\nissue w4\nissue w5\ndeliver w1 s1\n\
+deliver w2 s1\ndeliver w3 s1\ndeliver w4 s1\ndeliver w5 s1\nserve s1 w4 0\nserve s1 w1 0\nserve s1 w5 0\n\
+serve s1 w2 0\nserve s1 w3 0\nend\n",
+        b"survivors 5\nw4.1 out (2) done\nw1.1 out (\"b\") done\nw5.1 out (\"\\\"\") done\n\
+w2.1 out (10) done\nw3.1 out (\"b\") done\nlost 0\nspace 5\n(\"\\\"\")\n(\"b\")\n(\"b\")\n(10)\n(2)\n\
+permanent 0\n",
         Ok(()),
     ),
     // unless_skips
     (
-        b"linda-kt 1\nshards 1\nworker\ninp (\"a\")\nunless 2\nout (\"b\")\nout (\"c\")\nout (\"d\")\nworker\nout (\"a\")\nout (\"a\")\nout (\"a\")\nrdp (\"a\")\nsteps\nissue w1\ndeliver w1 s1\nserve s1 w1 0\ndeliver s1 w1\nissue w1\ndeliver w1 s1\nserve s1 w1 0\nissue w2\ndeliver w2 s1\nserve s1 w2 0\ndeliver s1 w2\nissue w2\ndeliver w2 s1\nserve s1 w2 0\ndeliver s1 w2\nissue w2\ndeliver w2 s1\nserve s1 w2 0\ndeliver s1 w2\nissue w2\ndeliver w2 s1\nserve s1 w2 2\nend\n",
-        b"survivors 6\nw1.1 inp (\"a\") none\nw1.2 out (\"d\") done\nw2.1 out (\"a\") done\nw2.2 out (\"a\") done\nw2.3 out (\"a\") done\nw2.4 rdp (\"a\") got (\"a\")\nlost 0\nspace 4\n(\"a\")\n(\"a\")\n(\"a\")\n(\"d\")\npermanent 0\n",
+        b"linda-kt 1\nshards 1\nworker\ninp (\"a\")\nunless 2\nout (\"b\")\nout (\"c\")\nout (\"d\")\n\
+worker\nout (\"a\")\nout (\"a\")\nout (\"a\")\nrdp (\"a\")\nsteps\nissue w1\ndeliver w1 s1\nserve s1 w1 0\n\
+deliver s1 w1\nissue w1\ndeliver w1 s1\nserve s1 w1 0\nissue w2\ndeliver w2 s1\nserve s1 w2 0\n\
+deliver s1 w2\nissue w2\ndeliver w2 s1\nserve s1 w2 0\ndeliver s1 w2\nissue w2\ndeliver w2 s1\n\
+serve s1 w2 0\ndeliver s1 w2\nissue w2\ndeliver w2 s1\nserve s1 w2 2\nend\n",
+        b"survivors 6\nw1.1 inp (\"a\") none\nw1.2 out (\"d\") done\nw2.1 out (\"a\") done\n\
+w2.2 out (\"a\") done\nw2.3 out (\"a\") done\nw2.4 rdp (\"a\") got (\"a\")\nlost 0\nspace 4\n(\"a\")\n\
+(\"a\")\n(\"a\")\n(\"d\")\npermanent 0\n",
         Ok(()),
     ),
     // saturating_set
     (
-        b"linda-kt 1\nshards 1\nworker\nout (9223372036854775807)\nin (?int x)\nset y = x + 1\nout (y)\nsteps\nissue w1\ndeliver w1 s1\nserve s1 w1 0\ndeliver s1 w1\nissue w1\ndeliver w1 s1\nserve s1 w1 0\ndeliver s1 w1\nissue w1\ndeliver w1 s1\nserve s1 w1 0\nend\n",
-        b"survivors 3\nw1.1 out (9223372036854775807) done\nw1.2 in (?int) got (9223372036854775807)\nw1.3 out (9223372036854775807) done\nlost 0\nspace 1\n(9223372036854775807)\npermanent 0\n",
+        b"linda-kt 1\nshards 1\nworker\nout (9223372036854775807)\nin (?int x)\nset y = x + 1\nout (y)\n\
+steps\nissue w1\ndeliver w1 s1\nserve s1 w1 0\ndeliver s1 w1\nissue w1\ndeliver w1 s1\nserve s1 w1 0\n\
+deliver s1 w1\nissue w1\ndeliver w1 s1\nserve s1 w1 0\nend\n",
+        b"survivors 3\nw1.1 out (9223372036854775807) done\nw1.2 in (?int) got (9223372036854775807)\n\
+w1.3 out (9223372036854775807) done\nlost 0\nspace 1\n(9223372036854775807)\npermanent 0\n",
         Ok(()),
     ),
     // saturating_set, with a use before the binding
@@ -69,13 +89,15 @@ const ROWS: [Row; 16] = [
     ),
     // answered_again
     (
-        b"linda-kt 1\nshards 1\nworker\nout (\"a\", 1)\nsteps\nissue w1\ndeliver w1 s1\nserve s1 w1 0\nrepeat w1\ndeliver w1 s1\ndeliver s1 w1\ndeliver s1 w1\nend\n",
+        b"linda-kt 1\nshards 1\nworker\nout (\"a\", 1)\nsteps\nissue w1\ndeliver w1 s1\nserve s1 w1 0\n\
+repeat w1\ndeliver w1 s1\ndeliver s1 w1\ndeliver s1 w1\nend\n",
         b"survivors 1\nw1.1 out (\"a\", 1) done\nlost 0\nspace 1\n(\"a\", 1)\npermanent 0\n",
         Ok(()),
     ),
     // answered_again, with a repeat of what is answered
     (
-        b"linda-kt 1\nshards 1\nworker\nout (\"a\", 1)\nsteps\nissue w1\ndeliver w1 s1\nserve s1 w1 0\nrepeat w1\ndeliver w1 s1\ndeliver s1 w1\ndeliver s1 w1\nrepeat w1\nend\n",
+        b"linda-kt 1\nshards 1\nworker\nout (\"a\", 1)\nsteps\nissue w1\ndeliver w1 s1\nserve s1 w1 0\n\
+repeat w1\ndeliver w1 s1\ndeliver s1 w1\ndeliver s1 w1\nrepeat w1\nend\n",
         b"",
         Err(ReplayFault::Step {
             at: 8,
@@ -84,8 +106,11 @@ const ROWS: [Row; 16] = [
     ),
     // shard_of_signature
     (
-        b"linda-kt 1\nshards 2\nworker\nout (\"a\", 1)\nworker\nout (\"a\")\nworker\nout (1, 2)\nsteps\nissue w1\nissue w2\nissue w3\ndeliver w1 s2\ndeliver w2 s1\ndeliver w3 s1\nserve s2 w1 0\nserve s1 w3 0\nserve s1 w2 0\ndeliver s2 w1\ndeliver s1 w2\ndeliver s1 w3\nend\n",
-        b"survivors 3\nw1.1 out (\"a\", 1) done\nw3.1 out (1, 2) done\nw2.1 out (\"a\") done\nlost 0\nspace 3\n(\"a\")\n(\"a\", 1)\n(1, 2)\npermanent 0\n",
+        b"linda-kt 1\nshards 2\nworker\nout (\"a\", 1)\nworker\nout (\"a\")\nworker\nout (1, 2)\nsteps\n\
+issue w1\nissue w2\nissue w3\ndeliver w1 s2\ndeliver w2 s1\ndeliver w3 s1\nserve s2 w1 0\nserve s1 w3 0\n\
+serve s1 w2 0\ndeliver s2 w1\ndeliver s1 w2\ndeliver s1 w3\nend\n",
+        b"survivors 3\nw1.1 out (\"a\", 1) done\nw3.1 out (1, 2) done\nw2.1 out (\"a\") done\nlost 0\n\
+space 3\n(\"a\")\n(\"a\", 1)\n(1, 2)\npermanent 0\n",
         Ok(()),
     ),
     // shard_of_signature, with a delivery to the other shard
@@ -232,7 +257,10 @@ fn what_a_reader_came_to(rt: HostRuntime) -> Result<(), Fail> {
             good,
             ..whole(text)
         });
-        assert_eq!(rt; replay_world(alloc, &mut source).is_ok(), good == 2);
+        assert_eq!(rt;
+            replay_world(alloc, &mut source, MemStore::new(alloc)).is_ok(),
+            good == 2
+        );
         assert_eq!(rt; source.outcome(), outcome);
     }
     Ok(())
@@ -267,7 +295,7 @@ const SCENE_LINES: [(usize, SceneError, &str); 8] = [
 ];
 
 /// Why a step is refused, and the line that tells of it.
-const STEP_LINES: [(usize, StepError, &str); 8] = [
+const STEP_LINES: [(usize, StepError, &str); 10] = [
     (1, StepError::NoNode, "step 1: 1 NoNode"),
     (2, StepError::WrongMode, "step 2: 2 WrongMode"),
     (3, StepError::NothingThere, "step 3: 3 NothingThere"),
@@ -275,12 +303,22 @@ const STEP_LINES: [(usize, StepError, &str); 8] = [
     (6, StepError::NotDecided, "step 6: 5 NotDecided"),
     (8, StepError::Unresolved, "step 8: 6 Unresolved"),
     (100_001, StepError::StepLimit, "step 100001: 7 StepLimit"),
+    (7, StepError::Store(StoreError::Device), "store: Device"),
+    (4, StepError::Store(StoreError::Memory), "store: Memory"),
     (5, StepError::OutOfMemory, "memory"),
 ];
 
 /// The other faults and their lines.
-const OTHER_LINES: [(ReplayFault, &str); 4] = [
+const OTHER_LINES: [(ReplayFault, &str); 9] = [
+    (ReplayFault::Open(OpenError::NotFresh), "store: NotFresh"),
+    (
+        ReplayFault::Open(OpenError::Store(StoreError::Damaged)),
+        "store: Damaged",
+    ),
     (ReplayFault::Open(OpenError::OutOfMemory), "memory"),
+    (ReplayFault::Report(StoreError::Device), "store: Device"),
+    (ReplayFault::Report(StoreError::Memory), "store: Memory"),
+    (ReplayFault::Report(StoreError::Full), "store: Full"),
     (ReplayFault::Memory, "memory"),
     (ReplayFault::Read, "read"),
     (ReplayFault::Write, "write"),

@@ -3,7 +3,7 @@
 use crate::tables::{
     BEHIND_COMMANDS, BEHIND_NAMES, Lines, OPERATIONS, OTHER_COMMANDS, SCRIPTS, Text,
 };
-use crate::texts::{ENDS, HEADERS, SCENARIOS, STEPS};
+use crate::texts::{ENDS, HEADERS, NODE_STEPS, SCENARIOS, STEPS};
 use kt_core::Step;
 use kt_scene::{MAX_TEXT, Work, read_scene, write_scene};
 use kt_script::{Actual, Command, Operation, Slot};
@@ -115,6 +115,12 @@ fn steps(rt: HostRuntime) -> Result<(), Fail> {
 }
 
 #[test]
+fn node_steps(rt: HostRuntime) -> Result<(), Fail> {
+    let front = b"linda-kt 1\nshards 1\nworker\nsteps\n";
+    assert_faults(&rt, rt.alloc(), front, 5, &NODE_STEPS, b"\nend\n")
+}
+
+#[test]
 fn headers(rt: HostRuntime) {
     assert_texts(&rt, rt.alloc(), &HEADERS);
 }
@@ -179,11 +185,13 @@ fn written_again(rt: HostRuntime) -> Result<(), Fail> {
     let text =
         b"# a\nlinda-kt 1\n#\nshards 8\nworker\nout (-1, \"\\\"\\\\\")\nin (?int x, ?str)\nrd (x, ?str s)\n\
         inp (s)\nrdp (\"\", ?int x)\nset y = x + -9223372036854775808\nunless 200\nout (y, s)\nworker\n# b\n\
-        steps\nissue w1\nrepeat w10\ndeliver w99 s1\n#\nrepeat s99\nserve s10 w1 99999\nend\n";
+        steps\nissue w1\nrepeat w10\ndeliver w99 s1\n#\nrepeat s99\nserve s10 w1 99999\ntake w1\ncheck s2\n\
+decide w3\nabandon s4\nlearn w5\nfail s6\nrestart w77\nend\n";
     let told =
         b"linda-kt 1\nshards 8\nworker\nout (-1, \"\\\"\\\\\")\nin (?int x, ?str)\nrd (x, ?str s)\n\
         inp (s)\nrdp (\"\", ?int x)\nset y = x + -9223372036854775808\nunless 200\nout (y, s)\nworker\n\
-        steps\nissue w1\nrepeat w10\ndeliver w99 s1\nrepeat s99\nserve s10 w1 99999\nend\n";
+        steps\nissue w1\nrepeat w10\ndeliver w99 s1\nrepeat s99\nserve s10 w1 99999\ntake w1\ncheck s2\n\
+decide w3\nabandon s4\nlearn w5\nfail s6\nrestart w77\nend\n";
     for given in [text.as_slice(), told.as_slice()] {
         let scenario = read_scene(rt.alloc(), given)?;
         let written = write_scene(rt.alloc(), &scenario.scene, &scenario.work)?;

@@ -1,6 +1,7 @@
 //! Readers and writers that give and take a little at a time, are interrupted, and fail.
 
 use kt_scene::{ReplayFault, Sink, Source, replay};
+use kt_store::MemStore;
 use std::alloc::Global;
 use std::io;
 use std::io::{ErrorKind, Read, Write};
@@ -106,6 +107,6 @@ pub(crate) fn replayed(
     drain: Drain,
 ) -> (Result<(), ReplayFault>, Drain) {
     let (mut source, mut sink) = (Source::new(feed), Sink::new(drain));
-    let answer = replay(alloc, &mut source, &mut sink);
+    let answer = replay(alloc, &mut source, &mut sink, MemStore::new(alloc));
     (answer, sink.into_inner())
 }

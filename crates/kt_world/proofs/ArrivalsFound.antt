@@ -51,10 +51,10 @@ post-found s t p q post plan comes e = by (view s q).node refl e
     phase : (n : Live) → IsAlive s q n → (x : Phase) → n.phase ≡ x → Goal (post_in (view s q) n p post x)
     phase n at phases.Up is = up n at is n.kept refl
     phase n at (phases.Held b) is = plans.puts_by comes at (λ b rolls. cc)
-    phase n at (phases.Rolling b) is = plans.drops comes
+    phase n at (phases.Rolling b) is = plans.drops comes tt
 
     by : (x : Node) → (view s q).node ≡ x → planned (post_plan (view s q) p post x) ≡ Ok plan → Goal plan
-    by Down is e = this Goal _ plan (plans.drops comes) e
+    by Down is e = this Goal _ plan (plans.drops comes tt) e
     by (Alive n) is e = this Goal _ plan (phase n (alive-is s q n is) n.phase refl) e
 
 check-found : (s : State) (t : Told) (p q : NodeId) (ask : Ask) (plan : Plan) → Comes s p q (messages.CheckAsk ask)
@@ -84,14 +84,14 @@ check-found s t p q ask plan comes e = by (view s q).node refl e
 
     reacts : (n : Live) → IsAlive s q n → IsTrue fit → (r : Reaction) → check_reaction n p ask t.verdict t.permanent t.tentative ≡ r
         → planned (check_plan (view s q) n p ask t.permanent r) ≡ Ok plan → Goal plan
-    reacts n at fit (reactions.Says agreed) is e = this Goal _ plan (plans.answers_check comes at) e
+    reacts n at fit (reactions.Says agreed) is e = this Goal _ plan (plans.answers_check comes at is) e
     reacts n at fit reactions.Joins is e =
         let how = joins n (is_undecided t.verdict) is in
         let both = and_parts (fits (role_of s.cast q) (view s q).line_len t.permanent) (fits (role_of s.cast q) (view s q).line_len t.tentative) fit in
-        this Goal _ plan (plans.joins_check comes at how.1 how.0 both.0 both.1) e
+        this Goal _ plan (plans.joins_check comes at how.1 how.0 is both.0 both.1) e
 
     by : (x : Node) → (view s q).node ≡ x → unless_down x (check_fitting (view s q) p ask t.verdict t.permanent t.tentative) ≡ Ok plan → Goal plan
-    by Down is e = this Goal _ plan (plans.drops comes) e
+    by Down is e = this Goal _ plan (plans.drops comes is) e
     by (Alive n) is e =
         let passed = if-passed fit _ refusals.Damaged plan e in
         reacts n (alive-is s q n is) passed.0 (check_reaction n p ask t.verdict t.permanent t.tentative) refl passed.1
@@ -108,25 +108,26 @@ rollback-found s t p q ask plan comes e = by (view s q).node refl e
     up (phases.Held b) e = absurd cc
     up (phases.Rolling b) e = absurd cc
 
-    late : (n : Live) (b : Bool) → (if b then reactions.Says true else rollback_in ask n.phase) ≡ reactions.Joins → n.phase ≡ phases.Up
+    late : (n : Live) (b : Bool) → (if b then reactions.Says true else rollback_in ask n.phase) ≡ reactions.Joins → (b ≡ false) × (n.phase ≡ phases.Up)
     late n true e = absurd cc
-    late n false e = up n.phase e
+    late n false e = (refl, up n.phase e)
 
-    joins : (n : Live) (b : Bool) → (if b then rollback_when_open n p ask else reactions.Says false) ≡ reactions.Joins → IsTrue b × (n.phase ≡ phases.Up)
-    joins n true e = (refl, late n (up_to (label_at n.received (node_number p)) ask.label) e)
+    joins : (n : Live) (b : Bool) → (if b then rollback_when_open n p ask else reactions.Says false) ≡ reactions.Joins
+        → IsTrue b × (up_to (label_at n.received (node_number p)) ask.label ≡ false) × (n.phase ≡ phases.Up)
+    joins n true e = let how = late n (up_to (label_at n.received (node_number p)) ask.label) e in (refl, how.0, how.1)
     joins n false e = absurd cc
 
     reacts : (n : Live) → IsAlive s q n → (r : Reaction) → rollback_reaction n p ask t.verdict ≡ r
         → rollback_plan (view s q) n p ask t.permanent r ≡ Ok plan → Goal plan
-    reacts n at (reactions.Says agreed) is e = this Goal _ plan (plans.answers_rollback comes at) e
+    reacts n at (reactions.Says agreed) is e = this Goal _ plan (plans.answers_rollback comes at is) e
     reacts n at reactions.Joins is e =
         let how = joins n (is_undecided t.verdict) is in
         let passed = if-passed (fits (role_of s.cast q) (view s q).line_len t.permanent) _ refusals.Damaged plan e in
-        this Goal _ plan (plans.joins_rollback comes at how.1 how.0 passed.0) passed.1
+        this Goal _ plan (plans.joins_rollback comes at how.2 how.0 how.1 passed.0) passed.1
 
     by : (x : Node) → (view s q).node ≡ x
         → unless_down x (λ n. rollback_plan (view s q) n p ask t.permanent (rollback_reaction n p ask t.verdict)) ≡ Ok plan → Goal plan
-    by Down is e = this Goal _ plan (plans.drops comes) e
+    by Down is e = this Goal _ plan (plans.drops comes is) e
     by (Alive n) is e = reacts n (alive-is s q n is) (rollback_reaction n p ask t.verdict) refl e
 
 vote-found : (s : State) (t : Told) (p q : NodeId) (vote : Vote) (plan : Plan) → Comes s p q (messages.Vote vote) → hear_vote (view s q) p vote ≡ Ok plan
@@ -139,15 +140,15 @@ vote-found s t p q vote plan comes e = by (view s q).node refl e
     count : (n : Live) (b : Poll) (phase : Poll → Phase) → IsAlive s q n → Votes n.phase b phase → (c : Bool) → counts b p vote ≡ c
         → Goal (vote_plan phase (if c then Some (behind_own (counted b p vote.yes)) else None))
     count n b phase at is true on = plans.counts_vote comes at is on
-    count n b phase at is false on = plans.drops comes
+    count n b phase at is false on = plans.drops comes tt
 
     phase : (n : Live) → IsAlive s q n → (x : Phase) → n.phase ≡ x → Goal (vote_in p vote x)
-    phase n at phases.Up is = plans.drops comes
+    phase n at phases.Up is = plans.drops comes tt
     phase n at (phases.Held b) is = count n b phases.Held at (subst (λ x. Votes x b phases.Held) (sym is) plans.holds) (counts b p vote) refl
     phase n at (phases.Rolling b) is = count n b phases.Rolling at (subst (λ x. Votes x b phases.Rolling) (sym is) plans.rolls) (counts b p vote) refl
 
     by : (x : Node) → (view s q).node ≡ x → unless_down x (λ n. Ok (vote_in p vote n.phase)) ≡ Ok plan → Goal plan
-    by Down is e = this Goal _ plan (plans.drops comes) e
+    by Down is e = this Goal _ plan (plans.drops comes tt) e
     by (Alive n) is e = this Goal _ plan (phase n (alive-is s q n is) n.phase refl) e
 
 verdict-found : (s : State) (t : Told) (p q : NodeId) (instance : ℕ) (agreed : Bool) (plan : Plan) → Comes s p q (messages.Verdict instance agreed)
@@ -160,7 +161,7 @@ verdict-found s t p q instance agreed plan comes e = by (view s q).node refl e
     held : (n : Live) (b : Poll) → IsAlive s q n → n.phase ≡ phases.Held b → (c : Bool) → is_in b instance ≡ c
         → Goal (if c then held_learns agreed (verdict_to instance agreed b.asked) else empty_plan)
     held n b at is true same = plans.told_when_held comes at is (eqb-true b.instance instance same)
-    held n b at is false same = plans.drops comes
+    held n b at is false same = plans.drops comes tt
 
     loads : (n : Live) (b : Poll) (parent : Asker) → Comes s p q (messages.Verdict instance true) → IsAlive s q n → n.phase ≡ phases.Rolling b
         → b.parent ≡ Some parent
@@ -178,20 +179,20 @@ verdict-found s t p q instance agreed plan comes e = by (view s q).node refl e
     in_it : (n : Live) (b : Poll) (parent : Asker) → IsAlive s q n → n.phase ≡ phases.Rolling b → b.parent ≡ Some parent → (c : Bool) → is_in b instance ≡ c
         → (if c then rolling_learns (view s q) t.stored agreed (verdict_to instance agreed b.asked) else Ok empty_plan) ≡ Ok plan → Goal plan
     in_it n b parent at is asked true same e = learns n b parent agreed comes at is asked (eqb-true b.instance instance same) e
-    in_it n b parent at is asked false same e = this Goal _ plan (plans.drops comes) e
+    in_it n b parent at is asked false same e = this Goal _ plan (plans.drops comes tt) e
 
     rolling : (n : Live) (b : Poll) → IsAlive s q n → n.phase ≡ phases.Rolling b → (o : Option Asker) → b.parent ≡ o
         → verdict_by_parent (view s q) t.stored b instance agreed o ≡ Ok plan → Goal plan
-    rolling n b at is None asked e = this Goal _ plan (plans.drops comes) e
+    rolling n b at is None asked e = this Goal _ plan (plans.drops comes tt) e
     rolling n b at is (Some parent) asked e = in_it n b parent at is asked (is_in b instance) refl e
 
     phase : (n : Live) → IsAlive s q n → (x : Phase) → n.phase ≡ x → verdict_in (view s q) t.stored instance agreed x ≡ Ok plan → Goal plan
-    phase n at phases.Up is e = this Goal _ plan (plans.drops comes) e
+    phase n at phases.Up is e = this Goal _ plan (plans.drops comes tt) e
     phase n at (phases.Held b) is e = this Goal _ plan (held n b at is (is_in b instance) refl) e
     phase n at (phases.Rolling b) is e = rolling n b at is b.parent refl e
 
     by : (x : Node) → (view s q).node ≡ x → unless_down x (λ n. verdict_in (view s q) t.stored instance agreed n.phase) ≡ Ok plan → Goal plan
-    by Down is e = this Goal _ plan (plans.drops comes) e
+    by Down is e = this Goal _ plan (plans.drops comes tt) e
     by (Alive n) is e = phase n (alive-is s q n is) n.phase refl e
 
 heard-found : (s : State) (t : Told) (p q : NodeId) (message : Message) (plan : Plan) → Comes s p q message → hear (view s q) t p message ≡ Ok plan

@@ -55,14 +55,14 @@ plan-good s ready t step plan (plans.hears {p = p} {q = q} {n = n} {post = post}
     heard-good s ready q p n keeps.Stay post (there s p q _ comes) at (near s p q _ comes) (comes-ready s ready p q (messages.Post post) comes) tt
 plan-good s ready t step plan (plans.puts_by {p = p} {q = q} {n = n} {post = post} comes at rolls) =
     keep-good s ready q p n post (there s p q _ comes) at (near s p q _ comes) (comes-ready s ready p q (messages.Post post) comes)
-plan-good s ready t step plan (plans.drops {p = p} {q = q} comes) = stay-good s ready q None None (there s p q _ comes) tt tt
-plan-good s ready t step plan (plans.answers_check {p = p} {q = q} {n = n} {ask = ask} {agreed = agreed} comes at) =
+plan-good s ready t step plan (plans.drops {p = p} {q = q} comes may) = stay-good s ready q None None (there s p q _ comes) tt tt
+plan-good s ready t step plan (plans.answers_check {p = p} {q = q} {n = n} {ask = ask} {agreed = agreed} comes at says) =
     answer-good s ready q p n ask agreed (there s p q _ comes) at (near s p q _ comes)
-plan-good s ready t step plan (plans.joins_check {p = p} {q = q} {n = n} {ask = ask} comes at up open_yet fit other) =
+plan-good s ready t step plan (plans.joins_check {p = p} {q = q} {n = n} {ask = ask} comes at up open_yet joins fit other) =
     join_check-good s ready q p n ask t.permanent (there s p q _ comes) at (near s p q _ comes)
-plan-good s ready t step plan (plans.answers_rollback {p = p} {q = q} {n = n} {ask = ask} {agreed = agreed} comes at) =
+plan-good s ready t step plan (plans.answers_rollback {p = p} {q = q} {n = n} {ask = ask} {agreed = agreed} comes at says) =
     sieved-good s ready q p n ask agreed (there s p q _ comes) at (near s p q _ comes)
-plan-good s ready t step plan (plans.joins_rollback {p = p} {q = q} {n = n} {ask = ask} comes at up open_yet fit) =
+plan-good s ready t step plan (plans.joins_rollback {p = p} {q = q} {n = n} {ask = ask} comes at up open_yet above fit) =
     join_rollback-good s ready q p n ask t.permanent (there s p q _ comes) at (near s p q _ comes)
 plan-good s ready t step plan (plans.counts_vote {p = p} {q = q} {n = n} {vote = vote} {b = b} {phase = phase} comes at voting on) =
     vote-good s ready q p n b phase vote.yes (there s p q _ comes) at voting

@@ -210,12 +210,12 @@ plan-goes s ready is t step plan (plans.takes {p = p} {from = from} {n = n} {pos
 plan-goes s ready is t step plan (plans.hears {p = p} {q = q} {n = n} {post = post} comes at up kept) =
     inr (heard-calm s is q p n keeps.Stay post plan at (heard-is (view s q) n keeps.Stay p post))
 plan-goes s ready is t step plan (plans.puts_by {q = q} {n = n} comes at rolls) = inr (turn-calm s q n plan _ refl at tt (live-calm s is q n at) tt)
-plan-goes s ready is t step plan (plans.drops {q = q} comes) = inr (drop-calm s is q plan refl refl refl)
-plan-goes s ready is t step plan (plans.answers_check {q = q} {n = n} comes at) = inr (turn-calm s q n plan _ refl at tt (live-calm s is q n at) (tt, tt))
-plan-goes s ready is t step plan (plans.joins_check {p = p} {q = q} {n = n} {ask = ask} comes at up undecided fit other) =
+plan-goes s ready is t step plan (plans.drops {q = q} comes may) = inr (drop-calm s is q plan refl refl refl)
+plan-goes s ready is t step plan (plans.answers_check {q = q} {n = n} comes at says) = inr (turn-calm s q n plan _ refl at tt (live-calm s is q n at) (tt, tt))
+plan-goes s ready is t step plan (plans.joins_check {p = p} {q = q} {n = n} {ask = ask} comes at up undecided joins fit other) =
     inr (check-calm s q n (asking_poll ask.instance n.incarnation (Some (asker_of p ask)) (cohort (role_of s.cast q) t.permanent n)) _ at)
-plan-goes s ready is t step plan (plans.answers_rollback {p = p} {q = q} {ask = ask} comes at) = absurd (none-asked s is p q (messages.RollAsk ask) comes)
-plan-goes s ready is t step plan (plans.joins_rollback {p = p} {q = q} {ask = ask} comes at up undecided fit) =
+plan-goes s ready is t step plan (plans.answers_rollback {p = p} {q = q} {ask = ask} comes at says) = absurd (none-asked s is p q (messages.RollAsk ask) comes)
+plan-goes s ready is t step plan (plans.joins_rollback {p = p} {q = q} {ask = ask} comes at up undecided above fit) =
     absurd (none-asked s is p q (messages.RollAsk ask) comes)
 plan-goes s ready is t step plan (plans.counts_vote {q = q} {n = n} {b = b} {phase = phase} comes at voting on) =
     inr (turn-calm s q n plan _ refl at tt (phase-again n.phase b _ phase voting (live-calm s is q n at)) (casting-calm _))

@@ -1,4 +1,4 @@
--- The headline of a sound state: the survivors are one run and in order; and where all that is remembered survives, the
+-- Of a sound state: the survivors are one run and in order; and where all that is remembered survives, the
 -- shards hold that run's tuples.
 use Rattle.std.proofs.Common.{◌≡◌, ℕ, ◌≤◌, true, List, filter, Contains, IsPermutation, IsTrue, sym, subst, le-leb, arith}
 use Rattle.std.specs.List.{range_with_len}
@@ -25,14 +25,14 @@ use Rattle.kt_node.specs.Node.{Body, IsWorker, IsShard, Live}
 use Rattle.kt_world.specs.Cast.{is_shard}
 use Rattle.kt_world.specs.State.{State, node}
 use Rattle.kt_world.specs.Asks.{setting_of}
-use Rattle.kt_world.specs.Headline.{bag_in, bag_of, all_bags, IsNothingLost, Headline}
+use Rattle.kt_world.specs.Headline.{bag_in, bag_of, all_bags, IsNothingLost, HasOneRun}
 use Rattle.kt_world.proofs.Plans.{IsAlive}
 use Rattle.kt_world.specs.Like.{IsBodyLike}
 use Rattle.kt_world.proofs.Sound.{IsSound}
 use Rattle.kt_world.proofs.ActLeaves.{alive_like}
 
-pub headline : (s : State) → IsSound s → Headline s
-headline s sound =
+pub one_run : (s : State) → IsSound s → HasOneRun s
+one_run s sound =
     let causes = causes_come_first s.history sound.well_formed in record {
       well_formed = sound.well_formed;
       tuples = surviving_tuples s.history;

@@ -1,5 +1,5 @@
 -- What every state keeps that steps lead to from an opening: it is ready, backed by what is stored, and sound, and calm
--- while it has no cut. So each has the headline, and each step notes one thing at most.
+-- while it has no cut. So the survivors of each are one run, and each step notes one thing at most.
 use Rattle.std.proofs.Common.{◌≡◌, ℕ, length, ◌++◌, ◌<◌, List, [], ◌∷◌, Result, Ok, Err, refl, sym, subst}
 use Rattle.std.specs.Prelude.{IsTrue}
 use Rattle.kt_tuple.specs.declared.node.NodeId.{NodeId}
@@ -28,7 +28,7 @@ use Rattle.kt_world.specs.Reached.{IsReached, opening, or_as_it_was, next_state,
 use Rattle.kt_world.specs.Short.{AreShort}
 use Rattle.kt_world.specs.Ready.{IsReady}
 use Rattle.kt_world.specs.Backed.{IsBacked}
-use Rattle.kt_world.specs.Headline.{may_forget, Headline, IsWhole, NotesOneAtMost, LineAfter, HasCut, IsFailure}
+use Rattle.kt_world.specs.Headline.{may_forget, HasOneRun, IsWhole, NotesOneAtMost, LineAfter, HasCut, IsFailure}
 use Rattle.kt_world.specs.Workers.{WorkersFollowLines}
 use Rattle.kt_world.proofs.Plans.{PlanOf}
 use Rattle.kt_world.proofs.PlansFound.{plan-found, plan-few}
@@ -38,7 +38,7 @@ use Rattle.kt_world.proofs.Opened.{opening-ready, opening-backed}
 use Rattle.kt_world.proofs.Sound.{IsSound}
 use Rattle.kt_world.proofs.StepSound.{step_keeps, step_sound}
 use Rattle.kt_world.proofs.OpenedSound.{opening_sound}
-use Rattle.kt_world.proofs.Headlines.{headline, nothing_lost, survives_all, bags_held}
+use Rattle.kt_world.proofs.Headlines.{one_run, nothing_lost, survives_all, bags_held}
 use Rattle.kt_world.proofs.FirstCut.{IsCalm, shard-alive, stays_calm, failure_cuts_first, opening_calm}
 use Rattle.kt_world.proofs.LinesAfter.{notes_one, line_after, shorter_forgets}
 use Rattle.kt_world.proofs.Following.{workers_follow, service_heard}
@@ -94,8 +94,8 @@ reached-holds s is = subst Holds is.leads (steps-hold (opening is.cast) is.steps
 
 -- ---- what follows of each state that steps lead to
 
-pub headline-reached : (s : State) → IsReached s → Headline s
-headline-reached s is = headline s (reached-holds s is).sound
+pub one_run-reached : (s : State) → IsReached s → HasOneRun s
+one_run-reached s is = one_run s (reached-holds s is).sound
 
 pub workers-reached : (s : State) → IsReached s → WorkersFollowLines s
 workers-reached s is = workers_follow s (reached-holds s is).sound

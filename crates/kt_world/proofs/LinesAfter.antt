@@ -81,11 +81,11 @@ cut_forgets s t (Take p) plan (plans.takes {from = from} {n = n} {post = post} i
     absurd (hearing_cuts (view s p) n keeps.TakeFirst from post cuts)
 cut_forgets s t (Deliver p q) plan (plans.hears {n = n} {post = post} comes alive up empty) cuts = absurd (hearing_cuts (view s q) n keeps.Stay p post cuts)
 cut_forgets s t (Deliver p q) plan (plans.puts_by comes alive not_rolling) cuts = absurd (cc (cuts.2))
-cut_forgets s t (Deliver p q) plan (plans.drops comes) cuts = absurd (cc (cuts.2))
-cut_forgets s t (Deliver p q) plan (plans.answers_check comes alive) cuts = absurd (cc (cuts.2))
-cut_forgets s t (Deliver p q) plan (plans.joins_check comes alive up undecided fit fits) cuts = absurd (cc (cuts.2))
-cut_forgets s t (Deliver p q) plan (plans.answers_rollback comes alive) cuts = absurd (cc (cuts.2))
-cut_forgets s t (Deliver p q) plan (plans.joins_rollback comes alive up undecided fit) cuts = absurd (cc (cuts.2))
+cut_forgets s t (Deliver p q) plan (plans.drops comes may) cuts = absurd (cc (cuts.2))
+cut_forgets s t (Deliver p q) plan (plans.answers_check comes alive says) cuts = absurd (cc (cuts.2))
+cut_forgets s t (Deliver p q) plan (plans.joins_check comes alive up undecided joins fit fits) cuts = absurd (cc (cuts.2))
+cut_forgets s t (Deliver p q) plan (plans.answers_rollback comes alive says) cuts = absurd (cc (cuts.2))
+cut_forgets s t (Deliver p q) plan (plans.joins_rollback comes alive up undecided above fit) cuts = absurd (cc (cuts.2))
 cut_forgets s t (Deliver p q) plan (plans.counts_vote comes alive votes_so counts_it) cuts = absurd (cc (cuts.2))
 cut_forgets s t (Deliver p q) plan (plans.told_when_held comes alive holds same) cuts = told_forgets s p q _ comes refl
 cut_forgets s t (Deliver p q) plan (plans.told_to_roll comes alive rolling joined same from_store) cuts = told_forgets s p q _ comes refl

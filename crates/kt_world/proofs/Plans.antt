@@ -21,6 +21,8 @@ use Rattle.kt_node.specs.declared.live.Phase.TheVariants as phases
 use Rattle.kt_node.specs.declared.change.KeptChange.TheVariants as keeps
 use Rattle.kt_node.specs.declared.change.Change.TheVariants as changes
 use Rattle.kt_node.specs.declared.plan.Plan.{Plan}
+use Rattle.kt_node.specs.declared.reaction.Reaction.TheVariants as reactions
+use Rattle.kt_node.specs.Labels.{up_to, label_at}
 use Rattle.kt_node.specs.Node.{Live, Down, Alive, IsWorker, IsShard, node_number}
 use Rattle.kt_node.specs.Plan.{empty_plan, no_turn}
 use Rattle.kt_node.specs.Stored.{fits, is_undecided}
@@ -30,7 +32,7 @@ use Rattle.kt_node.specs.Talking.{issue_plan, repeat_plan, service_plan, heard_p
 use Rattle.kt_node.specs.Joining.{begin_check_plan, join_check_plan, join_rollback_plan}
 use Rattle.kt_node.specs.Loading.{load, marks_in}
 use Rattle.kt_node.specs.Learning.{held_learns, restoring_plan, release_plan, promote_down_plan, discard_down_plan, verdict_to}
-use Rattle.kt_node.specs.Arrivals.{answer_plan, sieved_answer_plan, voting_plan}
+use Rattle.kt_node.specs.Arrivals.{check_reaction, rollback_reaction, answer_plan, sieved_answer_plan, voting_plan}
 use Rattle.kt_node.specs.Deciding.{decide_plan, no_plan, declined_plan, settled}
 use Rattle.kt_node.specs.Failing.{fail_plan, line_left, restarting_plan}
 use Rattle.kt_world.specs.declared.step.Step.{Step}
@@ -53,6 +55,14 @@ pub record Comes (s : State) (p q : NodeId) (message : Message) : Type 0 where
   pub neighbours : IsTrue (are_neighbours s.cast p q)
   pub later : List Message
   pub on : link s p q ≡ message ∷ later
+
+-- only a node that is down drops an ask
+abbrev pub IsDroppedBy : State → NodeId → Message → Type 0
+IsDroppedBy s q (messages.CheckAsk ask) = IsDown s q
+IsDroppedBy s q (messages.RollAsk ask) = IsDown s q
+IsDroppedBy s q (messages.Post post) = Unit {0}
+IsDroppedBy s q (messages.Vote vote) = Unit {0}
+IsDroppedBy s q (messages.Verdict instance agreed) = Unit {0}
 
 -- what is known of a checkpoint that fits
 abbrev pub Fit : State → NodeId → Told → Type 0
@@ -91,21 +101,24 @@ pub data PlanOf (s : State) (t : Told) : Step → Plan → Type 0 where
       → PlanOf s t (Deliver p q) (keep_plan p post)
   -- whatever comes and is not heard: by a node that is down or rolls back, or that has no use for it
   drops : {p q : NodeId} {message : Message}
-      → Comes s p q message → PlanOf s t (Deliver p q) empty_plan
+      → Comes s p q message → IsDroppedBy s q message → PlanOf s t (Deliver p q) empty_plan
   -- an ask to take a checkpoint
   answers_check : {p q : NodeId} {n : Live} {ask : Ask} {agreed : Bool}
       → Comes s p q (messages.CheckAsk ask) → IsAlive s q n
+      → check_reaction n p ask t.verdict t.permanent t.tentative ≡ reactions.Says agreed
       → PlanOf s t (Deliver p q) (answer_plan p ask agreed)
   joins_check : {p q : NodeId} {n : Live} {ask : Ask}
       → Comes s p q (messages.CheckAsk ask) → IsAlive s q n → n.phase ≡ phases.Up → IsTrue (is_undecided t.verdict)
+      → check_reaction n p ask t.verdict t.permanent t.tentative ≡ reactions.Joins
       → Fit s q t → TentativeFits s q t
       → PlanOf s t (Deliver p q) (join_check_plan (view s q) n p ask t.permanent)
   -- an ask to roll back
   answers_rollback : {p q : NodeId} {n : Live} {ask : Ask} {agreed : Bool}
-      → Comes s p q (messages.RollAsk ask) → IsAlive s q n
+      → Comes s p q (messages.RollAsk ask) → IsAlive s q n → rollback_reaction n p ask t.verdict ≡ reactions.Says agreed
       → PlanOf s t (Deliver p q) (sieved_answer_plan p ask agreed)
   joins_rollback : {p q : NodeId} {n : Live} {ask : Ask}
-      → Comes s p q (messages.RollAsk ask) → IsAlive s q n → n.phase ≡ phases.Up → IsTrue (is_undecided t.verdict) → Fit s q t
+      → Comes s p q (messages.RollAsk ask) → IsAlive s q n → n.phase ≡ phases.Up → IsTrue (is_undecided t.verdict)
+      → up_to (label_at n.received (node_number p)) ask.label ≡ false → Fit s q t
       → PlanOf s t (Deliver p q) (join_rollback_plan (view s q) n p ask t.permanent)
   -- a vote
   counts_vote : {p q : NodeId} {n : Live} {vote : Vote} {b : Poll} {phase : Poll → Phase}

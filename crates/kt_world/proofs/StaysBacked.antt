@@ -133,16 +133,16 @@ plan-backs s is step plan (plans.takes {p = p} {from = from} {n = n} {post = pos
 plan-backs s is step plan (plans.hears {p = p} {q = q} {n = n} {post = post} comes at up kept) =
     heard-backs s is q p n keeps.Stay post plan at (heard-is (view s q) n keeps.Stay p post)
 plan-backs s is step plan (plans.puts_by {q = q} {n = n} comes at rolls) = turn-backs s q n plan _ refl at tt (phase-backed s is q n at) tt
-plan-backs s is step plan (plans.drops {q = q} comes) = stay-backs s is q plan refl refl refl
-plan-backs s is step plan (plans.answers_check {q = q} {n = n} comes at) = turn-backs s q n plan _ refl at tt (phase-backed s is q n at) (tt, tt)
-plan-backs s is step plan (plans.joins_check {p = p} {q = q} {n = n} {ask = ask} comes at up undecided fit other) =
+plan-backs s is step plan (plans.drops {q = q} comes may) = stay-backs s is q plan refl refl refl
+plan-backs s is step plan (plans.answers_check {q = q} {n = n} comes at says) = turn-backs s q n plan _ refl at tt (phase-backed s is q n at) (tt, tt)
+plan-backs s is step plan (plans.joins_check {p = p} {q = q} {n = n} {ask = ask} comes at up undecided joins fit other) =
     let b = asking_poll ask.instance n.incarnation (Some (asker_of p ask)) (cohort (role_of s.cast q) (told s step).permanent n) in
     let c = (content_after q plan.write s.content) in
     turn-backs s q n plan _ refl at (backed-in s is q n phases.Up at up)
     (record { tentative = _; is_stored = refl; is_of = sym (after-instance b (casting b)) })
     (all-append (SaysBoards c) (check_asks b.instance n b.asked) (votes (casting b)) (checks-board c b.instance n b.asked) (casting-board c b))
-plan-backs s is step plan (plans.answers_rollback {q = q} {n = n} comes at) = turn-backs s q n plan _ refl at tt (phase-backed s is q n at) (tt, tt)
-plan-backs s is step plan (plans.joins_rollback {p = p} {q = q} {n = n} {ask = ask} comes at up undecided fit) =
+plan-backs s is step plan (plans.answers_rollback {q = q} {n = n} comes at says) = turn-backs s q n plan _ refl at tt (phase-backed s is q n at) (tt, tt)
+plan-backs s is step plan (plans.joins_rollback {p = p} {q = q} {n = n} {ask = ask} comes at up undecided above fit) =
     let b = roller (role_of s.cast q) n p ask in
     let label = sent_in (told s step).permanent in
     turn-backs s q n plan _ refl at tt (backed-in s is q n phases.Up at up)

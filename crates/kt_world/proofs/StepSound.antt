@@ -32,14 +32,14 @@ step_keeps s ready backed sound (Take p) plan (plans.takes {from = from} {n = n}
     takes s ready sound p from n post later alive up first
 step_keeps s ready backed sound (Deliver p q) plan (plans.hears {n = n} {post = post} comes alive up empty) = hears s sound p q n post comes alive up
 step_keeps s ready backed sound (Deliver p q) plan (plans.puts_by {n = n} {post = post} comes alive not_rolling) = puts_by s sound p q n post comes alive
-step_keeps s ready backed sound (Deliver p q) plan (plans.drops comes) = idle_keeps s q sound
-step_keeps s ready backed sound (Deliver p q) plan (plans.answers_check {n = n} {ask = ask} {agreed = agreed} comes alive) =
+step_keeps s ready backed sound (Deliver p q) plan (plans.drops comes may) = idle_keeps s q sound
+step_keeps s ready backed sound (Deliver p q) plan (plans.answers_check {n = n} {ask = ask} {agreed = agreed} comes alive says) =
     answers_check s sound p q n ask agreed alive
-step_keeps s ready backed sound (Deliver p q) plan (plans.joins_check {n = n} {ask = ask} comes alive up undecided fit fits) =
+step_keeps s ready backed sound (Deliver p q) plan (plans.joins_check {n = n} {ask = ask} comes alive up undecided joins fit fits) =
     joins_check s sound p q n ask _ alive
-step_keeps s ready backed sound (Deliver p q) plan (plans.answers_rollback {n = n} {ask = ask} {agreed = agreed} comes alive) =
+step_keeps s ready backed sound (Deliver p q) plan (plans.answers_rollback {n = n} {ask = ask} {agreed = agreed} comes alive says) =
     answers_rollback s sound p q n ask agreed alive
-step_keeps s ready backed sound (Deliver p q) plan (plans.joins_rollback {n = n} {ask = ask} comes alive up undecided fit) =
+step_keeps s ready backed sound (Deliver p q) plan (plans.joins_rollback {n = n} {ask = ask} comes alive up undecided above fit) =
     joins_rollback s sound p q n ask _ alive
 step_keeps s ready backed sound (Deliver p q) plan (plans.counts_vote {n = n} {vote = vote} {b = b} {phase = phase} comes alive votes_so counts_it) =
     counts_vote s sound p q n vote.yes b phase alive votes_so

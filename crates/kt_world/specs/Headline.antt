@@ -1,8 +1,10 @@
--- What holds of every state that steps lead to: the surviving services are one run of a sequential tuple space, each
--- worker's requests being its script's, in order. And what a step makes of the history and of what is remembered.
-use Rattle.std.specs.Prelude.{◌≡◌, ℕ, ◌+◌, Bool, true, false, List, [], ◌∷◌}
+-- What holds of every state that steps lead to: `Headline`, at the end, and its parts: the surviving services are one run
+-- of a sequential tuple space, each worker's requests being its script's, in order; while no node is down or rolls back
+-- nothing remembered is lost; what the permanent checkpoints hold is causally closed. And what a step makes of the
+-- history and of what is remembered.
+use Rattle.std.specs.Prelude.{◌≡◌, ℕ, ◌+◌, Bool, true, false, List, [], ◌∷◌, map}
 use Rattle.std.specs.Prelude.{◌++◌, take, length, ◌≤◌, Option, None, Some, IsTrue, IsPermutation}
-use Rattle.std.specs.List.{flat_map, range_with_len}
+use Rattle.std.specs.List.{flat_map, list_all, range_with_len}
 use Rattle.kt_tuple.specs.declared.node.NodeId.{NodeId}
 use Rattle.kt_tuple.specs.declared.node.NodeId.TheVariants as ids
 use Rattle.kt_tuple.specs.declared.tuple.Tuple.{Tuple}
@@ -16,14 +18,21 @@ use Rattle.kt_history.specs.WellFormed.{IsWellFormed}
 use Rattle.kt_lines.specs.Order.{FollowsScripts}
 use Rattle.kt_node.specs.declared.message.Message.{Message}
 use Rattle.kt_node.specs.declared.message.Message.TheVariants as messages
-use Rattle.kt_node.specs.Node.{Body, IsWorker, IsShard, Node, Down, Alive}
+use Rattle.kt_node.specs.declared.node.Mode.{Mode}
+use Rattle.kt_node.specs.declared.node.Mode.TheVariants as modes
+use Rattle.kt_node.specs.Node.{Body, IsWorker, IsShard, Node, Down, Alive, mode_of}
+use Rattle.kt_world.specs.Limits.{most_of_a_kind}
 use Rattle.kt_world.specs.declared.step.Step.{Step}
 use Rattle.kt_world.specs.declared.step.Step.TheVariants.{Deliver, Learn, Fail}
 use Rattle.kt_world.specs.Step.{owner}
 use Rattle.kt_world.specs.State.{State, node, link}
 use Rattle.kt_world.specs.Asks.{setting_of}
+use Rattle.kt_world.specs.Cut.{IsCausallyClosed, permanent_length}
+use Rattle.kt_world.specs.Like.{StoresFollowLines}
+use Rattle.kt_world.specs.PermanentRun.{IsPermanentRun}
 
-pub record Headline (s : State) : Type 0 where
+-- the survivors are one run
+pub record HasOneRun (s : State) : Type 0 where
   -- each act is of a kind that its cause allows, and causes come first
   pub well_formed : IsWellFormed s.history
   -- the tuples that the surviving services lead to, as one run of a sequential space
@@ -56,6 +65,47 @@ all_bags s = flat_map (λ r. bag_of (node s (ids.Shard r))) (range_with_len 1 s.
 pub record IsWhole (s : State) : Type 0 where
   pub all_stand : IsNothingLost s.history
   pub all_survive : (n : ℕ) → IsAct s.history n → Survives s.history n
+  pub tuples : List Tuple
+  pub one_run : IsSpaceRun (services s.history) tuples
+  pub are_held : IsPermutation tuples (all_bags s)
+
+-- the bag that a shard lends, unless it is down
+abbrev pub lent_in : Body → Option (List Tuple)
+lent_in (IsWorker x) = None
+lent_in (IsShard y) = Some y.bag
+
+abbrev pub lent_by : Option Node → Option (List Tuple)
+lent_by None = None
+lent_by (Some Down) = None
+lent_by (Some (Alive n)) = lent_in n.body
+
+-- of each number that a shard can have: none past the last shard
+abbrev pub lent_bags : State → List (Option (List Tuple))
+lent_bags s = map (λ r. lent_by (node s (ids.Shard r))) (range_with_len 1 most_of_a_kind)
+
+-- ---- steady states
+
+abbrev pub is_steady_mode : Mode → Bool
+is_steady_mode modes.Up = true
+is_steady_mode modes.Held = true
+is_steady_mode modes.Rolling = false
+is_steady_mode modes.Down = false
+
+abbrev pub is_steady_row : Option Node → Bool
+is_steady_row None = true
+is_steady_row (Some n) = is_steady_mode (mode_of n)
+
+-- no node is down or rolls back
+abbrev pub IsSteady : State → Type 0
+IsSteady s = (p : NodeId) → IsTrue (is_steady_row (node s p))
+
+-- the same as a test that computes
+abbrev pub is_steady : State → Bool
+is_steady s = list_all is_steady_row s.nodes
+
+-- each act that is remembered has lost nothing of its past, and the shards hold just the tuples of the surviving run
+pub record IsSteadyRun (s : State) : Type 0 where
+  pub all_survive : (n : ℕ) → Stands s.history n → Survives s.history n
   pub tuples : List Tuple
   pub one_run : IsSpaceRun (services s.history) tuples
   pub are_held : IsPermutation tuples (all_bags s)
@@ -105,3 +155,17 @@ pub record HasCut (h : List Note) : Type 0 where
 abbrev pub IsFailure : Step → Type 0
 IsFailure (Fail p) = Unit {0}
 IsFailure step = ⊥
+
+-- ---- all of it
+
+pub record Headline (s : State) : Type 0 where
+  -- the surviving services are one run of a sequential tuple space, in the scripts' order
+  pub survivors : HasOneRun s
+  -- while no node is down or rolls back, nothing remembered is lost, and the shards hold that run's tuples
+  pub steady : IsTrue (is_steady s) → IsSteadyRun s
+  -- each stored checkpoint that may count holds the state behind the first acts of its node's line
+  pub stored : StoresFollowLines s
+  -- with each act that the permanent checkpoints hold they hold all of its past
+  pub closed : IsCausallyClosed s.history (permanent_length s.content)
+  -- what they hold is one run, in the scripts' order, and their tuples are that run's
+  pub permanent : IsPermanentRun s

@@ -13,8 +13,9 @@ pub mod Effect
 pub mod Reached
 pub mod Ready
 pub mod Backed
-pub mod Headline
 pub mod Workers
 pub mod Cut
 pub mod Like
 pub mod PermanentRun
+pub mod Headline
+pub mod Forced

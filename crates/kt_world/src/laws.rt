@@ -17,7 +17,7 @@ ghost use Rattle.kt_world.specs.Step.{owner};
 ghost use Rattle.kt_world.specs.State.{State};
 ghost use Rattle.kt_world.specs.Effect.{step_result};
 ghost use Rattle.kt_world.specs.Reached.{IsReached};
-ghost use Rattle.kt_world.specs.Headline.{Headline, IsWhole, NotesOneAtMost, LineAfter, may_forget, HasCut, IsFailure};
+ghost use Rattle.kt_world.specs.Headline.{HasOneRun, IsWhole, NotesOneAtMost, LineAfter, may_forget, HasCut, IsFailure};
 ghost use Rattle.kt_world.specs.Workers.{WorkersFollowLines};
 ghost use Rattle.kt_world.specs.Cut.{IsCausallyClosed, permanent_length};
 ghost use Rattle.kt_world.specs.Like.{StoresFollowLines};
@@ -26,7 +26,7 @@ ghost use Rattle.kt_world.specs.PermanentRun.{IsPermanentRun};
 /// The surviving services, in the order made, are one run of a sequential tuple space, each worker's requests being its
 /// script's, in order.
 pub fn survivors_are_one_run()
-    ensures headline { (s : State) → IsReached s → Headline s }
+    ensures one_run { (s : State) → IsReached s → HasOneRun s }
 {}
 
 /// Without a cut no act is lost, each survives, and the shards hold just the tuples of the surviving run.

@@ -1,5 +1,5 @@
 -- How a run ends, told from what it answers.
-use Rattle.std.proofs.Common.{◌≡◌, ℕ, [], Result, Ok, Err, inl, inr, refl, ap, subst}
+use Rattle.std.proofs.Common.{◌≡◌, ℕ, Bool, true, false, [], Result, Ok, Err, inl, inr, refl, ap, subst}
 use Rattle.std.specs.Prelude.{◌≢◌, OnOk, IfErr}
 use Rattle.clap.specs.Words.{kind_of, HasKind, Kinds}
 use Rattle.clap.specs.declared.error.Error.{Error}
@@ -7,9 +7,10 @@ use Rattle.clap.specs.declared.error.kind.ErrorKind.TheVariants as kind
 use Rattle.kt_scene.specs.declared.fault.ReplayFault.{ReplayFault}
 use Rattle.kt_scene.specs.declared.fault.ReplayFault.TheVariants as faults
 use Rattle.kt_scene.specs.Outside.{Reader, Writer}
-use Rattle.kt_scene.specs.Run.{WritesReplayed, WritesReplayedFront, LeavesWriter, IsReplayFault}
+use Rattle.kt_store.specs.Content.{Content}
+use Rattle.kt_scene.specs.Run.{Given, WritesReplayed, WritesReplayedFront, LeavesWriter, IsReplayFault}
 use Rattle.kt_scene.specs.Stream.{UnlessWrite}
-use Rattle.linda_kt.specs.Status.{IsRunStatus, answer_status, done, refused}
+use Rattle.linda_kt.specs.Status.{IsRunStatus, answer_status, done, in_memory, refused}
 
 only_memory : (e : Error) → HasKind [] e → kind_of e ≡ kind.OutOfMemory
 only_memory e (inl memory) = memory
@@ -31,17 +32,26 @@ asks_for_no_text e memory = (not_help e memory, not_version e memory)
 
 -- what a fault leaves of the writer, by its case
 pub leaves_writer : (before after : Reader) (old new : Writer) (fault : ReplayFault) → UnlessWrite fault (new ≡ old)
-    → (fault ≡ faults.Write → WritesReplayedFront before after old new) → LeavesWriter before after old new fault
+    → (fault ≡ faults.Write → WritesReplayedFront in_memory before after old new) → LeavesWriter in_memory before after old new fault
 leaves_writer before after old new (faults.Scene line cause) kept front = kept
 leaves_writer before after old new (faults.Step at cause) kept front = kept
 leaves_writer before after old new (faults.Open cause) kept front = kept
+leaves_writer before after old new (faults.Report cause) kept front = kept
 leaves_writer before after old new faults.Memory kept front = kept
 leaves_writer before after old new faults.Read kept front = kept
 leaves_writer before after old new faults.Write kept front = front refl
 
--- the status of what a replay answers
-pub status_told : {X : Type 0} (before after : Reader) (old new : Writer) (answer : Result X ReplayFault) (n : ℕ) → n ≡ answer_status answer → OnOk answer (WritesReplayed before after old new)
-    → (answer ≡ Err faults.Write → WritesReplayedFront before after old new) → IfErr answer (IsReplayFault before after) → IfErr answer (λ fault. UnlessWrite fault (new ≡ old)) → IsRunStatus before after old new n
-status_told before after old new (Ok x) n is written front fault nothing = done is written
-status_told before after old new (Err why) n is written front fault nothing =
+-- a store in memory, fresh or not
+abbrev pub memory_store : Bool → Given Content
+memory_store fresh = record { is_honest = λ store. true; fault_count = λ store. 0; fresh = fresh; before = 0 }
+
+-- the status of what a replay over a fresh store answers
+pub status_told : {X : Type 0} (fresh : Bool) (before after : Reader) (old new : Writer) (answer : Result X ReplayFault) (n : ℕ) → fresh ≡ true
+    → n ≡ answer_status answer → OnOk answer (WritesReplayed (memory_store fresh) before after old new)
+    → (answer ≡ Err faults.Write → WritesReplayedFront (memory_store fresh) before after old new)
+    → IfErr answer (IsReplayFault (memory_store fresh) before after) → IfErr answer (λ fault. UnlessWrite fault (new ≡ old))
+    → IsRunStatus before after old new n
+status_told true before after old new (Ok x) n e is written front fault nothing = done is written
+status_told true before after old new (Err why) n e is written front fault nothing =
     refused why fault (leaves_writer before after old new why nothing (λ same. front (ap (λ (f : ReplayFault). Err f) same))) is
+status_told false before after old new answer n e is written front fault nothing = absurd cc

@@ -1,10 +1,12 @@
 -- The words of the command line.
-use Rattle.std.specs.Prelude.{◌≡◌, ◌≢◌, ◌⊎◌, List, [], ◌∷◌, Some, refl, Option, codes, map, option_map, true, drop, String, string_bytes}
+use Rattle.std.specs.Prelude.{◌≡◌, ◌≢◌, ◌⊎◌, List, [], ◌∷◌, Some, refl, Option, codes, map, option_map, true, drop}
+use Rattle.std.specs.Prelude.{String, string_bytes}
 use Rattle.std.specs.Borrow.{Bor}
 use Rattle.std.specs.Global.{Global}
 use Rattle.clap.specs.Words.{App, IsAmong, Kinds, Text, fault_of, new_app, subcommand_of, with_subcommand}
 use Rattle.clap.specs.Simple.{new_shape, on_top}
-use Rattle.clap.specs.declared.error.kind.ErrorKind.TheVariants.{DisplayHelp, DisplayVersion, InvalidSubcommand, MissingSubcommand, UnknownArgument}
+use Rattle.clap.specs.declared.error.kind.ErrorKind.TheVariants.{DisplayHelp, DisplayVersion, InvalidSubcommand}
+use Rattle.clap.specs.declared.error.kind.ErrorKind.TheVariants.{MissingSubcommand, UnknownArgument}
 use Rattle.clap.proofs.OnLiterals.{clap_on_literals}
 use Rattle.linda_kt.specs.declared.words.Command.{Command}
 use Rattle.linda_kt.specs.declared.words.Command.TheVariants.{Replay}
@@ -51,7 +53,8 @@ abbrev pub AreWrong : List Text → Type 0
 AreWrong words = (words_fault words ≢ []) × (AskForHelp words → ⊥)
 
 -- `replay` has no fault and names the command
-pub replay_passes : (words_fault (codes "replay" ∷ []) ≡ []) × (named_command (codes "replay" ∷ []) ≡ Some (codes "replay"))
+pub replay_passes : (words_fault (codes "replay" ∷ []) ≡ [])
+    × (named_command (codes "replay" ∷ []) ≡ Some (codes "replay"))
 unfolding clap_on_literals
 replay_passes = (refl, refl)
 

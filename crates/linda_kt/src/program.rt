@@ -9,8 +9,8 @@ ghost use Rattle.linda_kt.specs.Words.{AreWrong, texts, words_behind, words_faul
 use crate::words::{Command, read_words, refuse_bytes};
 use clap::Error;
 use clap::error::ErrorKind;
-use kt_core::StepError;
-use kt_scene::{OpenError, Outcome, ReplayFault, SceneError, Sink, Source, replay};
+use kt_scene::{OpenError, Outcome, ReplayFault, SceneError, Sink, Source, StepError, replay};
+use kt_store::MemStore;
 use std::alloc::{AllocError, Global};
 use std::env::Args;
 use std::io;
@@ -24,6 +24,8 @@ const COMMAND_LINE: u8 = 2;
 const SCENARIO: u8 = 3;
 /// A step is not enabled.
 const STEP: u8 = 4;
+/// The store is not fresh or refused a call.
+const STORE: u8 = 5;
 /// Memory was refused.
 const MEMORY: u8 = 6;
 /// Standard input or standard output failed.
@@ -121,7 +123,10 @@ pub fn run_program<R: Read, W: Write, E: Write>(
         → reader.new ≡ reader.old }
 {
     match read_words(alloc, words) {
-        Ok(Command::Replay) => end_replay(replay(alloc, reader, writer), errors),
+        Ok(Command::Replay) => {
+            let store = MemStore::new(alloc);
+            end_replay(replay(alloc, reader, writer, store), errors)
+        }
         Err(error) => answer_words(&error, writer, errors),
     }
 }
@@ -152,7 +157,7 @@ fn answer_words<W: Write, E: Write>(error: &Error, writer: &mut Sink<W>, errors:
 }
 
 /// Says on `errors` why a replay ended early, and answers the status that tells how it ended.
-fn end_replay<E: Write>(answer: Result<(), ReplayFault>, errors: &mut E) -> u8
+pub(crate) fn end_replay<E: Write>(answer: Result<(), ReplayFault>, errors: &mut E) -> u8
     ensures status { result ≡ answer_status answer }
     ensures quiet { IsOk answer → errors.new ≡ errors.old }
 {
@@ -178,9 +183,11 @@ fn status_of(fault: ReplayFault) -> u8
         ReplayFault::Step { at: _, cause } => match cause {
             StepError::OutOfMemory => MEMORY,
             StepError::StepLimit => STEP_LIMIT,
+            StepError::Store(_) => STORE,
             _ => STEP,
         },
         ReplayFault::Open(OpenError::OutOfMemory) | ReplayFault::Memory => MEMORY,
+        ReplayFault::Open(_) | ReplayFault::Report(_) => STORE,
         ReplayFault::Read | ReplayFault::Write => STREAM,
     }
 }

@@ -1,6 +1,7 @@
 //! The program from its words to its output, its line on the errors and its status.
-use crate::program::run_program;
-use kt_scene::{Sink, Source};
+use crate::program::{end_replay, run_program};
+use kt_scene::{OpenError, ReplayFault, Sink, Source, StepError};
+use kt_store::StoreError;
 use std::alloc::{AllocError, Global};
 use std::io;
 use std::io::{ErrorKind, Read, Write};
@@ -78,7 +79,15 @@ type Row = (&'static [&'static str], &'static str, &'static str, u8);
 
 const HEAD: &str = "linda-kt 1\nshards 1\nworker\n";
 
-const ROWS: [Row; 15] = [
+/// A check with all votes and its verdict, before which the shard fails that it is told.
+const FAILS_AFTER_YES: &str = "out (\"a\", 1)\nsteps\n\
+issue w1\ndeliver w1 s1\nserve s1 w1 0\ndeliver s1 w1\ncheck w1\ndeliver w1 s1\ndeliver s1 w1\n\
+deliver w1 s1\ndeliver s1 w1\ndecide w1\nfail s1\n";
+
+const FAILS_AFTER_YES_REPORT: &str = "survivors 1\nw1.1 out (\"a\", 1) done\nlost 0\nspace 1\n\
+(\"a\", 1)\npermanent 1\n(\"a\", 1)\n";
+
+const ROWS: [Row; 19] = [
     (&[PUT_AND_TAKE], PUT_AND_TAKE_REPORT, "", 0),
     (
         &[NO_STEPS],
@@ -106,6 +115,30 @@ const ROWS: [Row; 15] = [
         "",
         "step 1: 3 NothingThere\n",
         4,
+    ),
+    (
+        &[HEAD, "steps\nfail w1\ncheck w1\nend\n"],
+        "",
+        "step 2: 2 WrongMode\n",
+        4,
+    ),
+    (
+        &[HEAD, "steps\ncheck w1\nlearn w1\nend\n"],
+        "",
+        "step 2: 5 NotDecided\n",
+        4,
+    ),
+    (
+        &[HEAD, FAILS_AFTER_YES, "restart s1\nend\n"],
+        "",
+        "step 12: 6 Unresolved\n",
+        4,
+    ),
+    (
+        &[HEAD, FAILS_AFTER_YES, "learn s1\nrestart s1\nend\n"],
+        FAILS_AFTER_YES_REPORT,
+        "",
+        0,
     ),
     (&["linda-kt 2\n"], "", "line 1: 1 Header\n", 3),
     (&[HEAD, "output (1)\n"], "", "line 4: 2 Word\n", 3),
@@ -138,6 +171,55 @@ fn assert_rows(rt: &impl Abort, alloc: Global, rows: &[Row]) -> Result<(), Fail>
 #[test]
 fn worked_scenarios(rt: HostRuntime) -> Result<(), Fail> {
     assert_rows(&rt, rt.alloc(), &ROWS)
+}
+
+/// Faults of a replay that a store in memory does not bring about, the line on the errors, and the status.
+const STORE_FAULTS: [(ReplayFault, &str, u8); 7] = [
+    (
+        ReplayFault::Open(OpenError::NotFresh),
+        "store: NotFresh\n",
+        5,
+    ),
+    (
+        ReplayFault::Open(OpenError::Store(StoreError::Device)),
+        "store: Device\n",
+        5,
+    ),
+    (ReplayFault::Open(OpenError::OutOfMemory), "memory\n", 6),
+    (
+        ReplayFault::Step {
+            at: 3,
+            cause: StepError::Store(StoreError::Damaged),
+        },
+        "store: Damaged\n",
+        5,
+    ),
+    (
+        ReplayFault::Step {
+            at: 100_001,
+            cause: StepError::StepLimit,
+        },
+        "step 100001: 7 StepLimit\n",
+        8,
+    ),
+    (
+        ReplayFault::Report(StoreError::Memory),
+        "store: Memory\n",
+        5,
+    ),
+    (ReplayFault::Report(StoreError::Full), "store: Full\n", 5),
+];
+
+#[test]
+fn faults_of_a_store(rt: HostRuntime) -> Result<(), Fail> {
+    let alloc = rt.alloc();
+    for (fault, line, expected) in &STORE_FAULTS {
+        let mut errors = Vec::new(alloc);
+        let status = end_replay(Err(*fault), &mut errors);
+        assert_eq!(rt; text_of(errors)?.as_str(), *line);
+        assert_eq!(rt; status, *expected, "{line}");
+    }
+    Ok(())
 }
 
 #[test]

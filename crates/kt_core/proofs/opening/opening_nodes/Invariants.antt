@@ -1,6 +1,6 @@
 use Rattle.std.proofs.Common.{◌≡◌, map}
-use Rattle.kt_core.specs.State.{row_view}
-use Rattle.kt_core.specs.Reached.{opening_rows}
+use Rattle.kt_core.specs.Rows.{row_view}
+use Rattle.kt_world.specs.Reached.{opening_rows}
 use Rattle.kt_core.proofs.opening.opening_nodes.Given as goal
 
 abbrev pub invariant-loop-number : goal.invariant-loop-number

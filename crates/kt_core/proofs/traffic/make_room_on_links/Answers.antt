@@ -1,7 +1,7 @@
 use Rattle.std.proofs.Common.{◌≤◌, length, take, arith, add-one}
 use Rattle.kt_tuple.specs.declared.node.NodeId.{NodeId}
 use Rattle.kt_link.specs.Network.{room}
-use Rattle.kt_core.specs.declared.node.Message.{Message}
+use Rattle.kt_node.specs.declared.message.Message.{Message}
 use Rattle.kt_core.proofs.Traffics.{Net, reserved, rooms_kept, all-map, all-next}
 use Rattle.kt_core.proofs.traffic.make_room_on_links.Goals as goal
 

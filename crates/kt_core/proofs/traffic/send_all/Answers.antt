@@ -1,6 +1,9 @@
 use Rattle.std.proofs.Common.{sym, ◌∙◌}
-use Rattle.kt_core.proofs.Traffics.{sent-next, sent-all, nothing_left}
+use Rattle.kt_core.proofs.Traffics.{sending-first, sent-next, sent-all, nothing_left}
 use Rattle.kt_core.proofs.traffic.send_all.Goals as goal
+
+pub loop-to-init : goal.loop-to-init
+loop-to-init c = sending-first c.args.links.now c.args.owner c.args.send.items c.into_iter-to-iterator.result.rest.items c.into_iter-to-iterator.ensures.into_iter_gives.0 c.requires.there c.requires.room
 
 pub loop-to-preserved : goal.loop-to-preserved
 loop-to-preserved c =

@@ -1,15 +1,8 @@
-use Rattle.std.proofs.Common.{subst}
-use Rattle.kt_tuple.specs.declared.op.Op.{Op}
-use Rattle.kt_history.specs.Run.{CanStep}
-use Rattle.kt_history.proofs.Runs.{IsThere-in, IsThere-inp}
+use Rattle.kt_history.proofs.Runs.{taken_in, taken_inp}
 use Rattle.kt_history.proofs.space.serve.Goals as goal
 
-pub take_out-requires : goal.take_out-requires
-take_out-requires c =
-    let P : Op → Type 0 = λ op. CanStep c.args.bag.now.tuples op c.args.service.now.answer in
-    IsThere-in _ _ _ (subst P c.in-In.is c.requires)
+pub returns-in-In : goal.returns-in-In
+returns-in-In c = taken_in c.take_out.result c.args.bag.now.tuples c.args.service.now.op _ c.args.service.now.answer c.take_out.new.bag.tuples c.in-In.is c.take_out.ensures
 
-pub take_out-requires-in-Inp : goal.take_out-requires-in-Inp
-take_out-requires-in-Inp c =
-    let P : Op → Type 0 = λ op. CanStep c.args.bag.now.tuples op c.args.service.now.answer in
-    IsThere-inp _ _ _ (subst P c.in-Inp.is c.requires)
+pub returns-in-Inp : goal.returns-in-Inp
+returns-in-Inp c = taken_inp c.take_out-in-Inp.result c.args.bag.now.tuples c.args.service.now.op _ c.args.service.now.answer c.take_out-in-Inp.new.bag.tuples c.in-Inp.is c.take_out-in-Inp.ensures

@@ -1,5 +1,5 @@
-use Rattle.kt_world.proofs.Holding.{headline-reached}
+use Rattle.kt_world.proofs.Holding.{one_run-reached}
 use Rattle.kt_world.proofs.laws.survivors_are_one_run.Goals as goal
 
 pub returns : goal.returns
-returns c = record { headline = headline-reached }
+returns c = record { one_run = one_run-reached }

@@ -6,12 +6,14 @@ use Rattle.linda_kt.proofs.program.run_arguments.Goals as goal
 
 pub returns-in-Ok-texts-clause-told : goal.returns-in-Ok-texts-clause-told
 returns-in-Ok-texts-clause-told g c =
-    let same : words_behind c.deref.result.now ≡ words_behind (into_iter_items c.in-Ok.arguments) = ap words_behind (c.deref.ensures.value ∙ c.in-Ok-texts.ensures) in
+    let same : words_behind c.deref.result.now ≡ words_behind (into_iter_items c.in-Ok.arguments) =
+    ap words_behind (c.deref.ensures.value ∙ c.in-Ok-texts.ensures) in
     rw c.in-Ok.is (λ none. c.run_texts.ensures.told (ap words_fault same ∙ none))
 
 pub returns-in-Ok-texts-clause-wrong_words : goal.returns-in-Ok-texts-clause-wrong_words
 returns-in-Ok-texts-clause-wrong_words g c =
-    let same : words_behind c.deref.result.now ≡ words_behind (into_iter_items c.in-Ok.arguments) = ap words_behind (c.deref.ensures.value ∙ c.in-Ok-texts.ensures) in
+    let same : words_behind c.deref.result.now ≡ words_behind (into_iter_items c.in-Ok.arguments) =
+    ap words_behind (c.deref.ensures.value ∙ c.in-Ok-texts.ensures) in
     rw c.in-Ok.is (λ wrong. c.run_texts.ensures.wrong_words (subst AreWrong (sym same) wrong))
 
 pub returns-in-Err-texts-clause-told : goal.returns-in-Err-texts-clause-told

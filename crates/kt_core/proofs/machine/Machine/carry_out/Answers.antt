@@ -3,8 +3,8 @@ use Rattle.std.specs.Prelude.{List}
 use Rattle.std.specs.List.{AllByRecursion}
 use Rattle.kt_tuple.specs.declared.node.NodeId.{NodeId}
 use Rattle.kt_link.specs.Network.{AreNeighbours, room}
-use Rattle.kt_core.specs.declared.node.Message.{Message}
-use Rattle.kt_core.specs.Step.{owner}
+use Rattle.kt_node.specs.declared.message.Message.{Message}
+use Rattle.kt_world.specs.Step.{owner}
 use Rattle.kt_core.proofs.Traffics.{wired, all-map}
 use Rattle.kt_core.proofs.machine.Machine.carry_out.Goals as goal
 

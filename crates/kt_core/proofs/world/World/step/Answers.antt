@@ -1,23 +1,38 @@
 use Rattle.std.proofs.Common.{subst}
-use Rattle.std.specs.Prelude.{OnOk}
-use Rattle.kt_core.specs.Step.{owner}
-use Rattle.kt_core.specs.Headline.{AppendsActOf}
-use Rattle.kt_core.specs.State.{State}
+use Rattle.std.specs.Prelude.{IfErr, IsTrue, OnOk}
+use Rattle.kt_world.specs.Forced.{IsForced}
+use Rattle.kt_world.specs.Judge.{planned}
 use Rattle.kt_core.specs.Machine.{state_of}
-use Rattle.kt_core.proofs.Worlds.{step-world}
-use Rattle.kt_core.proofs.OneNote.{one_note-if_made}
-use Rattle.kt_core.proofs.Headlines.{headline-reached}
+use Rattle.kt_core.specs.Stepping.{IsCause}
+use Rattle.kt_core.specs.World.{Standing}
+use Rattle.kt_world.proofs.Holding.{reached-holds}
+use Rattle.kt_refinement.proofs.Whole.{headline-reached}
+use Rattle.kt_core.proofs.Worlds.{step-forced, step-world}
 use Rattle.kt_core.proofs.world.World.step.Goals as goal
 
-pub invariant_of-self : goal.invariant_of-self
-invariant_of-self c =
-    step-world c.step.result (state_of c.self.inside.machine) (state_of c.step.new.self) c.args.step c.self.invariant c.step.ensures.effect c.step.ensures.same
+pub make-requires-clause-backed : goal.make-requires-clause-backed
+make-requires-clause-backed g c = λ h. (reached-holds _ (c.self.invariant.reached h)).backed
 
-pub returns-clause-one_note : goal.returns-clause-one_note
-returns-clause-one_note c =
-    let P : State → Type 0 = λ old. OnOk c.step.result (AppendsActOf (owner c.args.step) old.history c.step.new.self.history.notes) in
-    subst P c.self.view_is (one_note-if_made c.step.result (state_of c.self.inside.machine) (state_of c.step.new.self) c.args.step c.self.invariant.reached c.step.ensures.effect)
+pub invariant_of-self : goal.invariant_of-self
+invariant_of-self g c =
+    step-world c.make.result c.self.inside.machine c.make.new.machine (g.S.CkptStore.content c.self.inside.store) (g.S.CkptStore.content c.make.new.store)
+    (g.S.CkptStore.is_honest c.self.inside.store) (g.S.CkptStore.is_honest c.make.new.store) c.args.step c.self.invariant c.make.ensures.ready c.make.ensures.honest c.make.ensures.effect
+    c.make.ensures.same c.make.ensures.content
+
+pub returns-clause-cause : goal.returns-clause-cause
+returns-clause-cause g c =
+    let P : Standing → Type 0 = λ old. IfErr c.make.result (IsCause old.faults (g.S.CkptStore.fault_count c.make.new.store) (g.S.CkptStore.is_honest c.make.new.store) (planned old.state c.args.step)) in
+    subst P c.self.view_is c.make.ensures.cause
 
 pub returns-clause-headline : goal.returns-clause-headline
-returns-clause-headline c =
-    headline-reached _ (step-world c.step.result (state_of c.self.inside.machine) (state_of c.step.new.self) c.args.step c.self.invariant c.step.ensures.effect c.step.ensures.same).reached
+returns-clause-headline g c =
+    let world = step-world c.make.result c.self.inside.machine c.make.new.machine (g.S.CkptStore.content c.self.inside.store) (g.S.CkptStore.content c.make.new.store)
+    (g.S.CkptStore.is_honest c.self.inside.store) (g.S.CkptStore.is_honest c.make.new.store) c.args.step c.self.invariant c.make.ensures.ready c.make.ensures.honest c.make.ensures.effect
+    c.make.ensures.same c.make.ensures.content in λ h. headline-reached _ (world.reached h)
+
+pub returns-clause-forced : goal.returns-clause-forced
+returns-clause-forced g c =
+    let new = state_of c.make.new.machine (g.S.CkptStore.content c.make.new.store) in
+    let P : Standing → Type 0 = λ old. IsTrue (g.S.CkptStore.is_honest c.make.new.store) → OnOk c.make.result (IsForced old.state c.args.step new) in
+    subst P c.self.view_is (λ h. step-forced c.make.result (state_of c.self.inside.machine (g.S.CkptStore.content c.self.inside.store)) new c.args.step
+    (c.self.invariant.reached (c.make.ensures.honest h)) (c.make.ensures.effect h))

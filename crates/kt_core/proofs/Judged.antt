@@ -1,0 +1,92 @@
+-- What the parts of judging a step come to.
+use Rattle.std.proofs.Common.{◌≡◌, ℕ, ◌<◌, ◌≤◌, Bool, true, false, List, [], ◌∷◌, Option, Some, None, Result, Ok, Err, ◌⊎◌, inl, inr, refl, sym, ap, ◌∙◌, subst}
+use Rattle.std.specs.Prelude.{nat_lt, slice_get, length, IsOk}
+use Rattle.std.proofs.lemmas.Bool.{lt-ltb, le-ltb}
+use Rattle.kt_tuple.specs.declared.node.NodeId.{NodeId}
+use Rattle.kt_link.specs.Network.{place, entry_at}
+use Rattle.kt_node.specs.declared.message.Message.{Message}
+use Rattle.kt_node.specs.declared.plan.Plan.{Plan}
+use Rattle.kt_node.specs.declared.refusal.Refusal.{Refusal}
+use Rattle.kt_node.specs.declared.refusal.Refusal.TheVariants as reasons
+use Rattle.kt_node.specs.View.{View}
+use Rattle.kt_node.specs.Plan.{Gives as Plans, Planned}
+use Rattle.kt_world.specs.declared.step.Step.{Step}
+use Rattle.kt_world.specs.declared.step.Step.TheVariants as steps
+use Rattle.kt_world.specs.declared.step.StepError.{StepError}
+use Rattle.kt_world.specs.declared.step.StepError.TheVariants as refusals
+use Rattle.kt_world.specs.declared.told.Told.{Told}
+use Rattle.kt_world.specs.Limits.{most_steps}
+use Rattle.kt_world.specs.Step.{owner}
+use Rattle.kt_world.specs.State.{State, link, view}
+use Rattle.kt_world.specs.Judge.{delivery, due, hear, within_limit, unless_over}
+use Rattle.kt_core.specs.Machine.{Gives}
+use Rattle.kt_core.specs.Judged.{is_refused}
+
+delivery-first : (v : View) (t : Told) (p : NodeId) (queue : List Message) (m : Message) → slice_get queue 0 ≡ Some m → delivery v t p queue ≡ hear v t p m
+delivery-first v t p [] m e = absurd cc
+delivery-first v t p (x ∷ later) m e = let same : x ≡ m = cc in ap (hear v t p) same
+
+delivery-none : (v : View) (t : Told) (p : NodeId) (queue : List Message) → slice_get queue 0 ≡ None → delivery v t p queue ≡ Err reasons.NothingThere
+delivery-none v t p [] e = refl
+delivery-none v t p (x ∷ later) e = absurd cc
+
+pub due-first : (s : State) (t : Told) (step : Step) (p q : NodeId) (v : View) (m : Message) (r : Result Plan Refusal) → step ≡ steps.Deliver p q → v ≡ view s (owner step)
+    → slice_get (link s p q) 0 ≡ Some m → Plans r (hear v t p m) → Plans r (due s t step)
+due-first s t step p q v m r is seen first plans =
+    let Of : Step → Type 0 = λ x. v ≡ view s (owner x) in
+    let here : v ≡ view s q = subst Of is seen in
+    let P : Step → Type 0 = λ x. Plans r (due s t x) in
+    subst P (sym is) (subst (Plans r) (sym (delivery-first (view s q) t p (link s p q) m first)) (subst (λ (x : View). Plans r (hear x t p m)) here plans))
+
+pub due-none : (s : State) (t : Told) (step : Step) (p q : NodeId) → step ≡ steps.Deliver p q → slice_get (link s p q) 0 ≡ None → due s t step ≡ Err reasons.NothingThere
+due-none s t step p q is none = ap (due s t) is ∙ delivery-none (view s q) t p (link s p q) none
+
+-- the limit is asked where the step is allowed
+pub over : (made : ℕ) (r : Result Plan StepError) (due : Result Plan StepError) → Gives r due → is_refused r ≡ false → most_steps ≤ made → within_limit made due ≡ Err refusals.StepLimit
+over made r due gives not le = by r due gives not
+  where
+    past : nat_lt made most_steps ≡ false
+    past = le-ltb made most_steps le
+
+    by : (r due : Result Plan StepError) → Gives r due → is_refused r ≡ false → within_limit made due ≡ Err refusals.StepLimit
+    by (Ok x) due gives not = ap (within_limit made) gives ∙ rw past refl
+    by (Err (refusals.Store e)) due gives not = ap (within_limit made) gives ∙ rw past refl
+    by (Err refusals.OutOfMemory) (Ok x) gives not = rw past refl
+    by (Err refusals.OutOfMemory) (Err e) gives not = absurd cc
+    by (Err refusals.NoNode) due gives not = absurd cc
+    by (Err refusals.WrongMode) due gives not = absurd cc
+    by (Err refusals.NothingThere) due gives not = absurd cc
+    by (Err refusals.NoSuchMatch) due gives not = absurd cc
+    by (Err refusals.NotDecided) due gives not = absurd cc
+    by (Err refusals.Unresolved) due gives not = absurd cc
+    by (Err refusals.StepLimit) due gives not = absurd cc
+
+pub below : (made : ℕ) (r due : Result Plan StepError) → Gives r due → made < most_steps → Gives r (within_limit made due)
+below made r due gives lt = subst (Gives r) (sym (same due)) gives
+  where
+    less : nat_lt made most_steps ≡ true
+    less = lt-ltb made most_steps lt
+
+    same : (due : Result Plan StepError) → within_limit made due ≡ due
+    same (Ok x) = rw less refl
+    same (Err refusals.NoNode) = refl
+    same (Err refusals.WrongMode) = refl
+    same (Err refusals.NothingThere) = refl
+    same (Err refusals.NoSuchMatch) = refl
+    same (Err refusals.NotDecided) = refl
+    same (Err refusals.Unresolved) = refl
+    same (Err refusals.StepLimit) = refl
+    same (Err (refusals.Store e)) = rw less refl
+    same (Err refusals.OutOfMemory) = refl
+
+pub refused : (made : ℕ) (r due : Result Plan StepError) → Gives r due → is_refused r ≡ true → Gives r (within_limit made due)
+refused made (Ok x) due gives is = absurd cc
+refused made (Err (refusals.Store e)) due gives is = absurd cc
+refused made (Err refusals.OutOfMemory) due gives is = absurd cc
+refused made (Err refusals.NoNode) due gives is = ap (within_limit made) gives
+refused made (Err refusals.WrongMode) due gives is = ap (within_limit made) gives
+refused made (Err refusals.NothingThere) due gives is = ap (within_limit made) gives
+refused made (Err refusals.NoSuchMatch) due gives is = ap (within_limit made) gives
+refused made (Err refusals.NotDecided) due gives is = ap (within_limit made) gives
+refused made (Err refusals.Unresolved) due gives is = ap (within_limit made) gives
+refused made (Err refusals.StepLimit) due gives is = ap (within_limit made) gives

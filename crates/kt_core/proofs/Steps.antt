@@ -1,0 +1,199 @@
+-- What the parts of a step come to.
+use Rattle.std.proofs.Common.{◌≡◌, ℕ, ◌+◌, ◌<◌, ◌≤◌, ◌^◌, if◌then◌else◌, Bool, true, false, Result, Ok, Err, ◌⊎◌, inl, inr, refl, sym, ap, ◌∙◌, subst, arith}
+use Rattle.std.specs.Prelude.{nat_lt, not, IfErr, IfSome, IsOk, IsTrue, OnErr}
+use Rattle.kt_store.specs.declared.error.StoreError.{StoreError}
+use Rattle.kt_store.specs.declared.error.StoreError.TheVariants as stores
+use Rattle.kt_store.specs.Content.{Content, empty_content, row_of}
+use Rattle.kt_node.specs.declared.plan.Plan.{Plan}
+use Rattle.kt_world.specs.declared.step.Step.{Step}
+use Rattle.kt_world.specs.declared.step.StepError.{StepError}
+use Rattle.kt_world.specs.declared.step.StepError.TheVariants as refusals
+use Rattle.kt_world.specs.declared.told.Told.{Told}
+use Rattle.kt_world.specs.declared.needs.Needs.{Needs}
+use Rattle.kt_tuple.specs.declared.node.NodeId.{NodeId}
+use Rattle.kt_world.specs.Judge.{due, is_planned, judged, of_owner, of_scene, planned, planned_by, within_limit}
+use Rattle.kt_world.specs.Cast.{is_in_scene}
+use Rattle.kt_world.specs.Limits.{most_steps}
+use Rattle.kt_node.specs.declared.refusal.Refusal.TheVariants as reasons
+use Rattle.kt_node.specs.Plan.{Planned}
+use Rattle.kt_world.specs.Effect.{applied, applied_if, step_result}
+use Rattle.kt_world.specs.Writing.{content_after}
+use Rattle.kt_world.specs.Backed.{HasNumbers, IsAllowed, IsBacked}
+use Rattle.kt_world.proofs.Standing.{planned-allowed, planned-numbers}
+use Rattle.kt_core.specs.declared.machine.Machine.{Machine}
+use Rattle.kt_core.specs.Machine.{state_of}
+use Rattle.kt_world.specs.Needs.{needs_of, told_by}
+use Rattle.kt_world.specs.Ready.{CanApply, IsReady}
+use Rattle.kt_world.specs.State.{State}
+use Rattle.kt_world.specs.Step.{owner}
+use Rattle.kt_world.proofs.Enough.{enough}
+use Rattle.kt_world.proofs.PlansFound.{plan-found, plan-few}
+use Rattle.kt_world.proofs.CanApplies.{can_apply, stays_ready}
+use Rattle.std.specs.Result.{IsErrAnd}
+use Rattle.kt_core.specs.Machine as machine
+use Rattle.kt_core.specs.Store.{IsFault}
+use Rattle.kt_core.specs.Judged.{is_refused}
+use Rattle.kt_core.specs.Stepping.{IsCause, Refuses}
+
+-- what is asked for is what the rule of the step looks at
+pub asked : (s : State) (step : Step) (t : Told) (needs : Needs) (p : NodeId) → t ≡ told_by needs s.content p → needs ≡ needs_of s step → p ≡ owner step
+    → t ≡ told_by (needs_of s step) s.content (owner step)
+asked s step t needs p is n o = is ∙ ap (λ (x : Needs). told_by x s.content p) n ∙ ap (told_by (needs_of s step) s.content) o
+
+-- an owner that is told just what the rule looks at makes the plan that is due
+pub due-planned : (s : State) (step : Step) (t : Told) → t ≡ told_by (needs_of s step) s.content (owner step) → planned_by s t step ≡ planned s step
+due-planned s step t is = ap (λ (x : Told). planned_by s x step) is ∙ ap (within_limit s.made) (enough s step)
+
+weaker : {Y : Type 0} (e : StepError) (due : Result Y StepError) → machine.Refuses e due → Refuses e due
+weaker refusals.OutOfMemory due r = r
+weaker (refusals.Store x) due r = tt
+weaker refusals.NoNode due r = r
+weaker refusals.WrongMode due r = r
+weaker refusals.NothingThere due r = r
+weaker refusals.NoSuchMatch due r = r
+weaker refusals.NotDecided due r = r
+weaker refusals.Unresolved due r = r
+weaker refusals.StepLimit due r = r
+
+pub refused : (s : State) (step : Step) (t : Told) (e : StepError) → t ≡ told_by (needs_of s step) s.content (owner step) → machine.Gives {Y = Plan} (Err e) (planned_by s t step) → Refuses e (planned s step)
+refused s step t e is gives = weaker e (planned s step) (subst (machine.Refuses e) (due-planned s step t is) gives)
+
+fault-of : (before now : ℕ) (refusal : StoreError) → before ≤ now → (refusal ≡ stores.Damaged) → IsFault before now false refusal
+fault-of before now refusal le is = record { device = λ e. absurd (let h = is in cc); damaged = λ e. refl; full = λ e. refl }
+
+-- a checkpoint that does not fit is the store's fault, or was due
+pub caused : (honest : Bool) (before now : ℕ) (s : State) (step : Step) (t : Told) (e : StepError) → before ≤ now → (IsTrue honest → t ≡ told_by (needs_of s step) s.content (owner step))
+    → machine.Gives {Y = Plan} (Err e) (planned_by s t step) → ((x : StoreError) → e ≡ refusals.Store x → x ≡ stores.Damaged) → IsCause before now honest (planned s step) e
+caused honest before now s step t refusals.OutOfMemory le is gives only = tt
+caused true before now s step t (refusals.Store x) le is gives only = inr (sym (due-planned s step t (is refl)) ∙ gives)
+caused false before now s step t (refusals.Store x) le is gives only = inl (fault-of before now x le (only x refl))
+caused honest before now s step t refusals.NoNode le is gives only = tt
+caused honest before now s step t refusals.WrongMode le is gives only = tt
+caused honest before now s step t refusals.NothingThere le is gives only = tt
+caused honest before now s step t refusals.NoSuchMatch le is gives only = tt
+caused honest before now s step t refusals.NotDecided le is gives only = tt
+caused honest before now s step t refusals.Unresolved le is gives only = tt
+caused honest before now s step t refusals.StepLimit le is gives only = tt
+
+owner-damaged : (r : Planned) (x : StoreError) → of_owner r ≡ Err (refusals.Store x) → x ≡ stores.Damaged
+owner-damaged (Ok plan) x e = absurd cc
+owner-damaged (Err reasons.WrongMode) x e = absurd cc
+owner-damaged (Err reasons.NothingThere) x e = absurd cc
+owner-damaged (Err reasons.NoSuchMatch) x e = absurd cc
+owner-damaged (Err reasons.NotDecided) x e = absurd cc
+owner-damaged (Err reasons.Unresolved) x e = absurd cc
+owner-damaged (Err reasons.Damaged) x e = cc
+owner-damaged (Err reasons.OutOfMemory) x e = absurd cc
+
+scene-damaged : (there : Bool) (r : Planned) (x : StoreError) → of_scene there r ≡ Err (refusals.Store x) → x ≡ stores.Damaged
+scene-damaged true r x e = owner-damaged r x e
+scene-damaged false r x e = absurd cc
+
+limit-store : (made : ℕ) (r : Result Plan StepError) (x : StoreError) → within_limit made r ≡ Err (refusals.Store x) → r ≡ Err (refusals.Store x)
+limit-store made r x = by (nat_lt made most_steps) refl r
+  where
+    stored : Result Plan StepError
+    stored = Err (refusals.Store x)
+
+    Comes : Result Plan StepError → Bool → Type 0
+    Comes r b = (if b then r else Err refusals.StepLimit) ≡ stored
+
+    no-plan : (plan : Plan) → Comes (Ok plan) true → ⊥
+    no-plan plan e = cc
+
+    no-limit : (r : Result Plan StepError) → Comes r false → ⊥
+    no-limit r e = cc
+
+    by : (b : Bool) → nat_lt made most_steps ≡ b → (r : Result Plan StepError) → within_limit made r ≡ Err (refusals.Store x) → r ≡ Err (refusals.Store x)
+    by true lt (Ok plan) e = absurd (no-plan plan (subst (Comes (Ok plan)) lt e))
+    by false lt (Ok plan) e = absurd (no-limit (Ok plan) (subst (Comes (Ok plan)) lt e))
+    by true lt (Err (refusals.Store y)) e = subst (Comes (Err (refusals.Store y))) lt e
+    by false lt (Err (refusals.Store y)) e = absurd (no-limit (Err (refusals.Store y)) (subst (Comes (Err (refusals.Store y))) lt e))
+    by b lt (Err refusals.NoNode) e = e
+    by b lt (Err refusals.WrongMode) e = e
+    by b lt (Err refusals.NothingThere) e = e
+    by b lt (Err refusals.NoSuchMatch) e = e
+    by b lt (Err refusals.NotDecided) e = e
+    by b lt (Err refusals.Unresolved) e = e
+    by b lt (Err refusals.StepLimit) e = e
+    by b lt (Err refusals.OutOfMemory) e = e
+
+-- of a plan's refusals only that of a checkpoint that does not fit is the store's
+pub only-damaged : (s : State) (t : Told) (step : Step) (e : StepError) → machine.Gives {Y = Plan} (Err e) (planned_by s t step) → (x : StoreError) → e ≡ refusals.Store x → x ≡ stores.Damaged
+only-damaged s t step e gives x is =
+    let P : StepError → Type 0 = λ y. machine.Refuses y (planned_by s t step) in
+    let h : planned_by s t step ≡ Err (refusals.Store x) = subst P is gives in
+    scene-damaged (is_in_scene s.cast step) (due s t step) x (limit-store s.made (judged s t step) x h)
+
+pub is-ok : {X E : Type 0} (r : Result X E) (x : X) → r ≡ Ok x → IsOk r
+is-ok {X = X} {E = E} r x e = let P : Result X E → Type 0 = IsOk in subst P (sym e) refl
+
+pub planned-can : (s : State) (step : Step) (t : Told) (plan : Plan) → IsReady s → machine.Gives (Ok plan) (planned_by s t step) → CanApply s (owner step) plan
+planned-can s step t plan ready gives = can_apply s ready t step plan (plan-found s t step plan gives)
+
+pub planned-leads : (s : State) (step : Step) (t : Told) (plan : Plan) → IsReady s → machine.Gives (Ok plan) (planned_by s t step) → IsReady (applied s step plan)
+planned-leads s step t plan ready gives = stays_ready s ready (plan-few s t step plan gives) t step plan (plan-found s t step plan gives)
+
+-- what is said of the refusal holds of it where that follows from how it came about
+pub on-refusal : {T E : Type 0} (r : Result T E) (P Q : E → Type 0) → IsErrAnd r P → ((e : E) → P e → Q e) → IfErr r Q
+on-refusal (Ok x) P Q is f = tt
+on-refusal (Err e) P Q is f = f e is
+
+pub on-error : {X E : Type 0} (r : Result X E) (P : Type 0) → P → OnErr r P
+on-error (Ok x) P p = tt
+on-error (Err e) P p = p
+
+-- readiness does not look at what a store holds
+pub ready-beside : (s : State) (c : Content) → IsReady s → IsReady (record s { content = c })
+ready-beside s c r = record {
+  cast = r.cast;
+  scripts = r.scripts;
+  rows = r.rows;
+  counts = r.counts;
+  there = r.there;
+  nodes = r.nodes;
+  few_steps = r.few_steps;
+  few_own = r.few_own;
+  few_notes = r.few_notes;
+  causes = r.causes;
+  messages = r.messages;
+}
+
+-- what was carried out, with the write made before, is what the step is to do
+pub effect : (old mid new : Machine) (before between after : Content) (step : Step) (plan : Plan) (p : NodeId) → planned (state_of old before) step ≡ Ok plan
+    → ((c : Content) → state_of mid c ≡ state_of old c) → between ≡ before → p ≡ owner step → after ≡ content_after p plan.write between
+    → ((c : Content) → state_of new (content_after (owner step) plan.write c) ≡ applied (state_of mid c) step plan)
+    → step_result (state_of old before) step ≡ Ok (state_of new after)
+effect old mid new before between after step plan p is same read owned wrote carried =
+    let mid_is : state_of mid between ≡ state_of old before = ap (state_of mid) read ∙ same before in
+    let written : after ≡ content_after (owner step) plan.write between = wrote ∙ ap (λ (q : NodeId). content_after q plan.write between) owned in
+    let new_is : state_of new after ≡ applied (state_of old before) step plan = ap (state_of new) written ∙ carried between ∙ ap (λ (s : State). applied s step plan) mid_is in
+    ap (applied_if (state_of old before) step) is ∙ ap (λ (s : State). Ok s) (sym new_is)
+
+-- the write of what is planned is one that the store allows
+pub allowed : (s : State) (step : Step) (plan : Plan) (c : Content) (p : NodeId) → IsBacked s → planned s step ≡ Ok plan → c ≡ s.content → p ≡ owner step → IfSome plan.write (IsAllowed c p)
+allowed s step plan c p backed is read owned =
+    subst (λ (d : Content). IfSome plan.write (IsAllowed d p)) (sym read)
+    (subst (λ (q : NodeId). IfSome plan.write (IsAllowed s.content q)) (sym owned) (planned-allowed s backed step plan is))
+
+pub numbers : (s : State) (step : Step) (plan : Plan) (c : Content) (p : NodeId) → IsBacked s → planned s step ≡ Ok plan → c ≡ s.content → p ≡ owner step → HasNumbers c p
+numbers s step plan c p backed is read owned =
+    subst (λ (d : Content). HasNumbers d p) (sym read) (subst (HasNumbers s.content) (sym owned) (planned-numbers s backed step plan is))
+
+-- what is not refused is enabled
+pub enabled : (r due : Result Plan StepError) → machine.Gives r due → not (is_refused r) ≡ is_planned due
+enabled (Ok plan) due gives = ap is_planned (sym gives)
+enabled (Err (refusals.Store x)) due gives = ap is_planned (sym gives)
+enabled (Err refusals.OutOfMemory) (Ok plan) gives = refl
+enabled (Err refusals.OutOfMemory) (Err e) gives = absurd cc
+enabled (Err refusals.NoNode) due gives = ap is_planned (sym gives)
+enabled (Err refusals.WrongMode) due gives = ap is_planned (sym gives)
+enabled (Err refusals.NothingThere) due gives = ap is_planned (sym gives)
+enabled (Err refusals.NoSuchMatch) due gives = ap is_planned (sym gives)
+enabled (Err refusals.NotDecided) due gives = ap is_planned (sym gives)
+enabled (Err refusals.Unresolved) due gives = ap is_planned (sym gives)
+enabled (Err refusals.StepLimit) due gives = ap is_planned (sym gives)
+
+-- no incarnation is the greatest number of all
+pub small-incarnation : (s : State) → IsReady s → IsBacked s → (p : NodeId) → (row_of s.content p).incarnation + 1 < 2 ^ 64
+small-incarnation s ready backed p = let few = backed.few_incarnations p in let steps = ready.few_steps in omega (arith, few, steps)

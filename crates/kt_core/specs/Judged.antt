@@ -1,0 +1,29 @@
+-- How the judging of a step is split: the steps of checks and rollbacks apart from the acts, and the limit of steps last.
+use Rattle.std.specs.Prelude.{Bool, true, false, is_some, Result, Ok, Err}
+use Rattle.kt_node.specs.declared.refusal.Refusal.TheVariants as reasons
+use Rattle.kt_node.specs.View.{View}
+use Rattle.kt_node.specs.Plan.{Planned}
+use Rattle.kt_node.specs.Deciding.{check, decide, abandon, learn}
+use Rattle.kt_node.specs.Failing.{fail, restart}
+use Rattle.kt_world.specs.declared.step.Step.{Step}
+use Rattle.kt_world.specs.declared.step.Step.TheVariants.{Check, Decide, Abandon, Learn, Fail, Restart}
+use Rattle.kt_world.specs.declared.step.StepError.{StepError}
+use Rattle.kt_world.specs.declared.step.StepError.TheVariants as refusals
+use Rattle.kt_world.specs.declared.told.Told.{Told}
+use Rattle.kt_node.specs.declared.plan.Plan.{Plan}
+
+abbrev pub voting_due : View → Told → Step → Planned
+voting_due v t (Check p) = check v t.next t.permanent
+voting_due v t (Decide p) = decide v t.verdict
+voting_due v t (Abandon p) = abandon v t.verdict t.undecided
+voting_due v t (Learn p) = learn v t.stored (is_some t.tentative) t.verdict
+voting_due v t (Fail p) = fail v t.verdict t.permanent t.tentative
+voting_due v t (Restart p) = restart v t.stored t.next (is_some t.tentative) t.undecided t.verdict
+voting_due v t step = Err reasons.WrongMode
+
+-- the step is not allowed; a store's refusal and want of memory come only where it is
+abbrev pub is_refused : Result Plan StepError → Bool
+is_refused (Ok plan) = false
+is_refused (Err (refusals.Store refusal)) = false
+is_refused (Err refusals.OutOfMemory) = false
+is_refused (Err refusal) = true

@@ -1,0 +1,208 @@
+//! What a step's owner makes of it: the table of steps, over what each node plans.
+
+ghost use Rattle.std.specs.Prelude.{◌≡◌, ◌+◌, ◌<◌, ◌^◌, IfOk, IfErr, IsTrue, is_ok};
+ghost use Rattle.kt_store.specs.Content.{empty_content};
+ghost use Rattle.kt_node.specs.Plan.{Gives as Plans, Planned};
+ghost use Rattle.kt_node.specs.Ready.{CanAct};
+ghost use Rattle.kt_node.specs.Saving.{CanSaveNode};
+ghost use Rattle.kt_node.specs.View.{view_of};
+ghost use Rattle.kt_world.specs.declared.step.StepError.TheVariants.{NoNode};
+ghost use Rattle.kt_world.specs.Judge.{hear, of_owner, planned_by};
+ghost use Rattle.kt_node.specs.Node.{node_number};
+ghost use Rattle.kt_core.specs.Machine.{Gives};
+ghost use Rattle.kt_core.specs.Judged.{is_refused, voting_due};
+
+use crate::causes::cause_of_waiting;
+use crate::machine::Machine;
+use kt_node::{Message, Plan, Refusal, View};
+use kt_tuple::NodeId;
+use kt_world::{MAX_STEPS, Step, StepError, Told};
+use std::alloc::Global;
+
+/// The owner's plan or refusal, as that of the step.
+fn as_step(planned: Result<Plan, Refusal>) -> Result<Plan, StepError>
+    ensures { (due : Planned) → Plans planned due → Gives result (of_owner due) }
+{
+    Ok(planned?)
+}
+
+/// What the node makes of a message from another.
+fn heard(
+    view: View<'_>,
+    alloc: Global,
+    told: Told,
+    from: NodeId,
+    message: &Message,
+) -> Result<Plan, Refusal>
+    requires acts { CanAct (view_of view) }
+    requires saves { CanSaveNode (view_of view) view.node.now.node }
+    requires small { told.stored.incarnation + 1 < 2 ^ 64 }
+    ensures { Plans result (hear (view_of view.entry) told from message.now) }
+{
+    let Told {
+        verdict,
+        permanent,
+        tentative,
+        stored,
+        ..
+    } = told;
+    match message {
+        Message::Post(post) => view.hear_post(alloc, from, post),
+        Message::CheckAsk(ask) => {
+            let (permanent, tentative) = (permanent.as_ref(), tentative.as_ref());
+            view.hear_check(alloc, from, *ask, verdict, permanent, tentative)
+        }
+        Message::RollAsk(ask) => {
+            view.hear_rollback(alloc, from, *ask, verdict, permanent.as_ref())
+        }
+        Message::Vote(vote) => view.hear_vote(alloc, from, *vote),
+        Message::Verdict { instance, yes } => view.hear_verdict(alloc, stored, *instance, *yes),
+    }
+}
+
+/// The node's number among its kind.
+fn number_of(node: NodeId) -> u8
+    ensures { result ≡ node_number node }
+{
+    match node {
+        NodeId::Worker(number) | NodeId::Shard(number) => number,
+    }
+}
+
+/// What the owner of a step of checks or rollbacks makes of it.
+fn voting(view: View<'_>, alloc: Global, told: Told, step: Step) -> Result<Plan, Refusal>
+    requires acts { CanAct (view_of view) }
+    requires saves { CanSaveNode (view_of view) view.node.now.node }
+    requires small { told.stored.incarnation + 1 < 2 ^ 64 }
+    ensures { Plans result (voting_due (view_of view.entry) told step) }
+{
+    let Told {
+        verdict,
+        permanent,
+        tentative,
+        stored,
+        undecided,
+        next,
+    } = told;
+    match step {
+        Step::Check { .. } => view.check(alloc, next, permanent.as_ref()),
+        Step::Decide { .. } => view.decide(alloc, verdict),
+        Step::Abandon { .. } => view.abandon(alloc, verdict, undecided),
+        Step::Learn { .. } => view.learn(alloc, stored, tentative.is_some(), verdict),
+        Step::Fail { .. } => view.fail(alloc, verdict, permanent.as_ref(), tentative.as_ref()),
+        Step::Restart { .. } => {
+            view.restart(alloc, stored, next, tentative.is_some(), undecided, verdict)
+        }
+        _ => Err(Refusal::WrongMode),
+    }
+}
+
+/// Whether the step is not allowed. A store's refusal and want of memory come only where it is.
+pub(crate) fn is_refused(judged: &Result<Plan, StepError>) -> bool
+    ensures { result ≡ is_refused judged.now }
+{
+    match judged {
+        Ok(_) | Err(StepError::Store(_) | StepError::OutOfMemory) => false,
+        Err(_) => true,
+    }
+}
+
+impl Machine {
+    ghost use Rattle.kt_tuple.specs.declared.node.NodeId.{NodeId as Name};
+    ghost use Rattle.kt_world.specs.Cast.{is_node};
+    ghost use Rattle.kt_world.specs.declared.step.Step.TheVariants as steps;
+    ghost use Rattle.kt_world.specs.Judge.{due, judged};
+    ghost use Rattle.kt_world.specs.Step.{owner};
+    ghost use Rattle.kt_world.specs.Ready.{IsReady};
+    ghost use Rattle.kt_world.specs.State.{view};
+    ghost use Rattle.kt_core.specs.Machine.{state_of};
+
+    /// What the node of the scene sees.
+    fn found(&self, id: NodeId) -> Result<View<'_>, StepError>
+        requires { IsReady (state_of self.now empty_content) }
+        ensures there { is_ok result ≡ is_node self.now.scene id }
+        ensures view { IfOk result (λ v. view_of v ≡ view (state_of self.now empty_content) id) }
+        ensures absent { IfErr result (λ e. e ≡ NoNode) }
+    {
+        let Some(role) = self.scene.role(&self.no_script, id) else {
+            return Err(StepError::NoNode);
+        };
+        match self.nodes.get(id.index()) {
+            Some(Some(node)) => Ok(View {
+                role,
+                node,
+                next: self.history.notes().len() as u64 + 1,
+                line_len: self.history.line(id).len() as u64,
+            }),
+            _ => Err(StepError::NoNode),
+        }
+    }
+
+    /// The same: it can act and be saved.
+    fn seen(&self, id: NodeId) -> Result<View<'_>, StepError>
+        requires { IsReady (state_of self.now empty_content) }
+        ensures there { is_ok result ≡ is_node self.now.scene id }
+        ensures view { IfOk result (λ v. view_of v ≡ view (state_of self.now empty_content) id) }
+        ensures acts { IfOk result (λ v. CanAct (view_of v)) }
+        ensures saves { IfOk result (λ v. CanSaveNode (view_of v) v.node.now.node) }
+        ensures absent { IfErr result (λ e. e ≡ NoNode) }
+    {
+        let view = self.found(id)?;
+        Ok(view)
+    }
+
+    /// What the owner of the step, which sees this, makes of it.
+    fn due(&self, seen: View<'_>, alloc: Global, told: Told, step: Step) -> Result<Plan, Refusal>
+        requires view { view_of seen ≡ view (state_of self.now empty_content) (owner step) }
+        requires acts { CanAct (view_of seen) }
+        requires saves { CanSaveNode (view_of seen) seen.node.now.node }
+        requires small { told.stored.incarnation + 1 < 2 ^ 64 }
+        ensures { Plans result (due (state_of self.now empty_content) told step) }
+    {
+        match step {
+            Step::Issue { .. } => seen.issue(alloc),
+            Step::Repeat { .. } => seen.repeat(alloc),
+            Step::Take { .. } => seen.take(alloc),
+            Step::Deliver { from, to } => match self.links.front(from, to) {
+                Some(message) => heard(seen, alloc, told, from, message),
+                None => Err(Refusal::NothingThere),
+            },
+            Step::Serve {
+                shard,
+                worker,
+                place,
+            } => {
+                let number = number_of(worker);
+                let by = cause_of_waiting(&self.history, shard, number);
+                seen.serve(alloc, number, place, by)
+            }
+            _ => voting(seen, alloc, told, step),
+        }
+    }
+
+    /// The plan of the step whose owner is told so, or its refusal; the limit is left aside.
+    fn judged(&self, alloc: Global, told: Told, step: Step) -> Result<Plan, StepError>
+        requires ready { IsReady (state_of self.now empty_content) }
+        requires small { told.stored.incarnation + 1 < 2 ^ 64 }
+        ensures { Gives result (judged (state_of self.now empty_content) told step) }
+    {
+        if !self.scene.is_for(step) {
+            return Err(StepError::NoNode);
+        }
+        let seen = self.seen(step.owner())?;
+        as_step(self.due(seen, alloc, told, step))
+    }
+
+    /// The plan of the step whose owner is told so, or its refusal.
+    pub(crate) fn plan(&self, alloc: Global, told: Told, step: Step) -> Result<Plan, StepError>
+        requires ready { IsReady (state_of self.now empty_content) }
+        requires small { told.stored.incarnation + 1 < 2 ^ 64 }
+        ensures { Gives result (planned_by (state_of self.now empty_content) told step) }
+    {
+        let judged = self.judged(alloc, told, step);
+        if self.made < MAX_STEPS || is_refused(&judged) {
+            return judged;
+        }
+        Err(StepError::StepLimit)
+    }
+}

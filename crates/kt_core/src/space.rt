@@ -1,0 +1,103 @@
+//! The space of the permanent checkpoints.
+
+ghost use Rattle.std.specs.Prelude.{◌≡◌, ◌++◌};
+ghost use Rattle.std.specs.List.{flat_map, range_with_len};
+ghost use Rattle.kt_tuple.specs.declared.node.NodeId.TheVariants as ids;
+ghost use Rattle.kt_world.specs.Cut.{permanent_of, tuples_of};
+ghost use Rattle.kt_core.specs.Space.{counts_in, taken_by};
+ghost use Rattle.kt_core.specs.Store.{IsRead};
+
+use kt_ckpt::{Ckpt, State};
+use kt_store::{CkptStore, StoreError, Tentative, TentativeMarks, Verdict};
+use kt_tuple::{NodeId, Tuple};
+use std::alloc::Global;
+
+/// Whether the node's tentative checkpoint counts as permanent: its instance has Yes.
+fn counts<S: CkptStore>(store: &mut S, alloc: Global, node: NodeId) -> Result<bool, StoreError>
+    ensures { IsRead S.content S.is_honest S.fault_count store.old store.new (λ c counts. counts ≡ counts_in c node) result }
+{
+    match store.tentative_marks(alloc, node)? {
+        Some(TentativeMarks { instance, .. }) => {
+            Ok(matches!(store.verdict(instance)?, Some(Verdict::Yes)))
+        }
+        None => Ok(false),
+    }
+}
+
+/// The tentative checkpoint.
+fn tentative_of<S: CkptStore>(
+    store: &mut S,
+    alloc: Global,
+    node: NodeId,
+) -> Result<Option<Ckpt>, StoreError>
+    ensures { IsRead S.content S.is_honest S.fault_count store.old store.new (λ c p. p ≡ taken_by c node) result }
+{
+    match store.tentative(alloc, node)? {
+        Some(Tentative { checkpoint, .. }) => Ok(Some(checkpoint)),
+        None => Ok(None),
+    }
+}
+
+/// The node's permanent checkpoint: a tentative one counts from the moment that its Yes is written.
+fn permanent_of<S: CkptStore>(
+    store: &mut S,
+    alloc: Global,
+    node: NodeId,
+) -> Result<Option<Ckpt>, StoreError>
+    ensures { IsRead S.content S.is_honest S.fault_count store.old store.new (λ c p. p ≡ permanent_of c node) result }
+{
+    if counts(store, alloc, node)? {
+        tentative_of(store, alloc, node)
+    } else {
+        store.permanent(alloc, node)
+    }
+}
+
+/// The tuples of a stored shard.
+fn tuples_of(alloc: Global, checkpoint: Option<Ckpt>) -> Vec<Tuple>
+    ensures { result.items ≡ tuples_of checkpoint }
+{
+    let Some(checkpoint) = checkpoint else {
+        return Vec::new(alloc);
+    };
+    let (.., state) = checkpoint.into_parts();
+    match state {
+        State::Worker(_) => Vec::new(alloc),
+        State::Shard(shard) => {
+            let (bag, ..) = shard.into_parts();
+            bag
+        }
+    }
+}
+
+/// One shard's tuples behind the others.
+fn add_tuples<S: CkptStore>(
+    store: &mut S,
+    alloc: Global,
+    node: NodeId,
+    tuples: &mut Vec<Tuple>,
+) -> Result<(), StoreError>
+    ensures { IsRead S.content S.is_honest S.fault_count store.old store.new
+        (λ c x. tuples.new.items ≡ tuples.old.items ++ tuples_of (permanent_of c node)) result }
+{
+    let checkpoint = permanent_of(store, alloc, node)?;
+    let mut more = tuples_of(alloc, checkpoint);
+    tuples.append(&mut more)?;
+    Ok(())
+}
+
+/// The tuples of so many shards' permanent checkpoints.
+pub(crate) fn permanent_tuples<S: CkptStore>(
+    store: &mut S,
+    alloc: Global,
+    shards: u8,
+) -> Result<Vec<Tuple>, StoreError>
+    ensures { IsRead S.content S.is_honest S.fault_count store.old store.new
+        (λ c tuples. tuples.items ≡ flat_map (λ r. tuples_of (permanent_of c (ids.Shard r))) (range_with_len 1 shards)) result }
+{
+    let mut tuples = Vec::new(alloc);
+    for before in 0..shards {
+        add_tuples(store, alloc, NodeId::Shard(before + 1), &mut tuples)?;
+    }
+    Ok(tuples)
+}

@@ -1,0 +1,73 @@
+//! A step: all that the store says, then the plan, then all memory, then the store's write, then the change.
+
+ghost use Rattle.std.specs.Prelude.{◌≡◌, ◌≤◌, IfErr, IfOk, IsTrue, Ok, OnErr, OnOk};
+ghost use Rattle.kt_store.specs.Content.{Content, empty_content};
+ghost use Rattle.kt_world.specs.Backed.{IsBacked};
+ghost use Rattle.kt_world.specs.Effect.{applied, step_result};
+ghost use Rattle.kt_world.specs.Judge.{planned};
+ghost use Rattle.kt_world.specs.Ready.{CanApply, IsReady};
+ghost use Rattle.kt_world.specs.Step.{owner};
+ghost use Rattle.kt_core.specs.Machine.{HasRoomFor, state_of};
+ghost use Rattle.kt_core.specs.Stepping.{IsCause, Refuses};
+
+use crate::machine::Machine;
+use crate::reading::tell;
+use crate::writing::write;
+use kt_node::Plan;
+use kt_store::CkptStore;
+use kt_world::{Step, StepError};
+use std::alloc::Global;
+
+/// The plan of the step, for which there is room; nothing has changed.
+fn prepare<S: CkptStore>(
+    machine: &mut Machine,
+    store: &mut S,
+    alloc: Global,
+    step: Step,
+) -> Result<Plan, StepError>
+    requires ready { IsReady (state_of machine.old empty_content) }
+    requires backed { IsTrue (S.is_honest store.old) → IsBacked (state_of machine.old (S.content store.old)) }
+    ensures plan { IsTrue (S.is_honest store.new) → IfOk result (λ p. planned (state_of machine.old (S.content store.old)) step ≡ Ok p) }
+    ensures can { IfOk result (λ p. CanApply (state_of machine.old empty_content) (owner step) p) }
+    ensures leads { IfOk result (λ p. IsReady (applied (state_of machine.old empty_content) step p)) }
+    ensures room { IfOk result (λ p. HasRoomFor machine.new (owner step) p) }
+    ensures refusal { IsTrue (S.is_honest store.new) → IfErr result (λ e. Refuses e (planned (state_of machine.old (S.content store.old)) step)) }
+    ensures same { (c : Content) → state_of machine.new c ≡ state_of machine.old c }
+    ensures content { IsTrue (S.is_honest store.new) → S.content store.new ≡ S.content store.old }
+    ensures honest { IsTrue (S.is_honest store.new) → IsTrue (S.is_honest store.old) }
+    ensures later { S.fault_count store.old ≤ S.fault_count store.new }
+    ensures cause { IfErr result (IsCause (S.fault_count store.old) (S.fault_count store.new) (S.is_honest store.new)
+        (planned (state_of machine.old (S.content store.old)) step)) }
+{
+    let owner = step.owner();
+    let told = tell(store, alloc, owner, machine.needs(step))?;
+    let plan = machine.plan(alloc, told, step)?;
+    machine.make_room(owner, &plan)?;
+    Ok(plan)
+}
+
+/// Makes the step, or changes nothing.
+pub(crate) fn make<S: CkptStore>(
+    machine: &mut Machine,
+    store: &mut S,
+    alloc: Global,
+    step: Step,
+) -> Result<(), StepError>
+    requires ready { IsReady (state_of machine.old empty_content) }
+    requires backed { IsTrue (S.is_honest store.old) → IsBacked (state_of machine.old (S.content store.old)) }
+    ensures ready { IsReady (state_of machine.new empty_content) }
+    ensures effect { IsTrue (S.is_honest store.new) → OnOk result
+        (step_result (state_of machine.old (S.content store.old)) step ≡ Ok (state_of machine.new (S.content store.new))) }
+    ensures refusal { IsTrue (S.is_honest store.new) → IfErr result (λ e. Refuses e (planned (state_of machine.old (S.content store.old)) step)) }
+    ensures same { OnErr result (state_of machine.new empty_content ≡ state_of machine.old empty_content) }
+    ensures content { IsTrue (S.is_honest store.new) → OnErr result (S.content store.new ≡ S.content store.old) }
+    ensures honest { IsTrue (S.is_honest store.new) → IsTrue (S.is_honest store.old) }
+    ensures later { S.fault_count store.old ≤ S.fault_count store.new }
+    ensures cause { IfErr result (IsCause (S.fault_count store.old) (S.fault_count store.new) (S.is_honest store.new)
+        (planned (state_of machine.old (S.content store.old)) step)) }
+{
+    let plan = prepare(machine, store, alloc, step)?;
+    write(store, step.owner(), &plan.write)?;
+    machine.carry_out(step, plan);
+    Ok(())
+}

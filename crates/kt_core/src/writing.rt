@@ -1,0 +1,37 @@
+//! The write of a plan.
+
+ghost use Rattle.std.specs.Prelude.{IfSome, IsTrue};
+ghost use Rattle.kt_world.specs.Backed.{HasNumbers, IsAllowed};
+ghost use Rattle.kt_world.specs.Writing.{content_after};
+ghost use Rattle.kt_core.specs.Store.{IsWritten};
+
+use kt_node::Write;
+use kt_store::{CkptStore, StoreError};
+use kt_tuple::NodeId;
+
+/// Makes the write of the node's plan, if there is one.
+pub(crate) fn write<S: CkptStore>(
+    store: &mut S,
+    node: NodeId,
+    write: &Option<Write>,
+) -> Result<(), StoreError>
+    requires allowed { IsTrue (S.is_honest store.old) → IfSome write.now (IsAllowed (S.content store.old) node) }
+    requires numbers { IsTrue (S.is_honest store.old) → HasNumbers (S.content store.old) node }
+    ensures { IsWritten S.content S.is_honest S.fault_count store.old store.new (content_after node write.now) result }
+{
+    match write {
+        None => Ok(()),
+        Some(Write::BeginCheck(checkpoint)) => store.begin_check(node, checkpoint),
+        Some(
+            Write::PutTentative {
+                instance,
+                checkpoint,
+            },
+        ) => store.put_tentative(node, *instance, checkpoint),
+        Some(Write::Promote) => store.promote(node),
+        Some(Write::Discard) => store.discard(node),
+        Some(Write::BeginRestart) => store.begin_restart(node),
+        Some(Write::Bump) => store.bump(node),
+        Some(Write::Decide { instance, yes }) => store.decide(*instance, *yes),
+    }
+}

@@ -1,0 +1,74 @@
+-- Where each message that the machine's acts have heard is one that they have sent, the acts of the history that they
+-- stand for have with each act all of its past.
+use Rattle.std.proofs.Common.{◌≡◌, ◌≢◌, ℕ, List, [], ◌∷◌, ◌++◌, take, Contains, Some, inl, inr, sym, ap, subst, ◌∙◌, arith}
+use Rattle.std.proofs.lemmas.List.Elements.{Contains-append_left, Contains-append_right}
+use Rattle.kt_tuple.specs.declared.node.NodeId.{NodeId}
+use Rattle.kt_tuple.specs.Node.{node_index}
+use Rattle.kt_history.specs.declared.note.Act.{Act as Done}
+use Rattle.kt_history.specs.declared.note.Note.{Note}
+use Rattle.kt_history.specs.declared.note.Note.TheVariants as notes
+use Rattle.kt_history.specs.Line.{before, line}
+use Rattle.kt_history.specs.Past.{InPast, StoodBefore, IsCauseOf, itself, in_line, by_cause}
+use Rattle.kt_history.proofs.Lists.{slice_get-from_Contains, slice_get-take, slice_get-take_below, Contains-from_slice_get, Contains-from_take, Contains-here}
+use Rattle.kt_history.proofs.Lines.{line-own, line-stack}
+use Rattle.kt_world.specs.Cut.{IsInCut, IsCausallyClosed}
+use Rattle.kt_protocol.specs.Labels.{Label}
+use Rattle.kt_protocol.specs.Lines.{IsIn, Act, Sends, Hears}
+use Rattle.kt_refinement.proofs.Numbers.{named, index-named}
+use Rattle.kt_refinement.proofs.Mail.{in-parts}
+use Rattle.kt_refinement.proofs.Reading.{Reads, nothing, one, WasHeard}
+use Rattle.kt_refinement.proofs.Acting.{cause-heard}
+
+-- ---- what was sent stands
+
+-- what the machine's acts sent was sent by an act that stands among the numbers
+pub sent-stands : {h : List Note} {numbers : List ℕ} {acts : List Act} → Reads h numbers acts → (b y : ℕ) (l : Label) → IsIn (Sends b y l) acts
+    → Contains numbers b
+sent-stands {h} nothing b y l i = elim i [ ]
+sent-stands {h} (one {numbers} {acts} n new reads act) b y l i = elim (in-parts new acts (Sends b y l) i) [
+  | inl now ↦
+      let P : ℕ → Type 0 = λ k. Contains (numbers ++ n ∷ []) k in
+      subst P (sym (act.sends b y l now)) (Contains-append_right numbers (n ∷ []) n (Contains-here n []))
+  | inr old ↦ Contains-append_left numbers (n ∷ []) b (sent-stands reads b y l old)
+]
+
+-- ---- the cut
+
+-- an act that stood before one of the first so many is one of them
+taken-before : (h : List Note) (p : NodeId) (k g f : ℕ) → Contains (take k (line h p)) f → Contains (line (before h f) p) g → Contains (take k (line h p)) g
+taken-before h p k g f among stood =
+    let j = slice_get-from_Contains (take k (line h p)) f among in
+    let at_j = slice_get-take k (line h p) j.0 f j.1 in
+    let front : line (before h f) p ≡ take j.0 (line h p) = line-stack h p j.0 f at_j.1 in
+    let i = slice_get-from_Contains (take j.0 (line h p)) g (subst (λ (l : List ℕ). Contains l g) front stood) in
+    let at_i = slice_get-take j.0 (line h p) i.0 g i.1 in
+    Contains-from_slice_get (take k (line h p)) i.0 g (slice_get-take_below k (line h p) i.0 (omega (arith, at_i.0, at_j.0)) ∙ at_i.1)
+
+-- the machine's acts of each node, and the first acts of its line that they stand for
+pub closed-by : (h : List Note) (cut : NodeId → ℕ) (acts : ℕ → List Act) → ((p : NodeId) → Reads h (take (cut p) (line h p)) (acts (node_index p)))
+    → ((p q by : ℕ) (l : Label) → IsIn (Hears by p l) (acts q) → IsIn (Sends by q l) (acts p)) → IsCausallyClosed h cut
+closed-by h cut acts reads sent e f past among = by past among where
+  stood-in : (g f : ℕ) → StoodBefore h g f → IsInCut h cut f → IsInCut h cut g
+  stood-in g f s c =
+      let own = line-own h c.0 f (Contains-from_take (cut c.0) (line h c.0) f c.1) in
+      let both : Some (notes.Act s.act) ≡ Some (notes.Act own.act) = sym s.is_act ∙ own.is_act in
+      let same : s.act ≡ own.act = cc (both) in
+      let P : NodeId → Type 0 = λ q. Contains (line (before h f) q) g in
+      (c.0, taken-before h c.0 (cut c.0) g f c.1 (subst P (ap (λ (a : Done). a.node) same ∙ own.own) s.stood))
+
+  cause-in : (g f : ℕ) → IsCauseOf h g f → IsInCut h cut f → IsInCut h cut g
+  cause-in g f s c =
+      let some : s.act.by ≢ 0 = λ z. s.some (sym s.names ∙ z) in
+      let heard : WasHeard s.act.by (acts (node_index c.0)) = cause-heard (reads c.0) f s.act c.1 s.is_act some in
+      let from : IsIn (Sends s.act.by (node_index c.0) heard.label) (acts heard.from) =
+      sent heard.from (node_index c.0) s.act.by heard.label heard.among in
+      let x = named heard.from in
+      let A : ℕ → Type 0 = λ k. IsIn (Sends s.act.by (node_index c.0) heard.label) (acts k) in
+      let stands = sent-stands (reads x) s.act.by (node_index c.0) heard.label (subst A (sym (index-named heard.from)) from) in
+      let G : ℕ → Type 0 = λ k. Contains (take (cut x) (line h x)) k in
+      (x, subst G s.names stands)
+
+  by : {f : ℕ} → InPast h e f → IsInCut h cut f → IsInCut h cut e
+  by itself c = c
+  by (in_line {g} {f} s past) c = by past (stood-in g f s c)
+  by (by_cause {g} {f} s past) c = by past (cause-in g f s c)

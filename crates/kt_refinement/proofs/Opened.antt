@@ -1,0 +1,106 @@
+-- The opening of a scene stands for a beginning of the machine.
+use Rattle.std.proofs.Common.{◌≡◌, ℕ, zero, suc, Bool, true, false, List, [], length, replicate, Option, Some, None, refl, sym, ap, subst}
+use Rattle.std.specs.Prelude.{if◌then◌else◌}
+use Rattle.kt_tuple.specs.declared.node.NodeId.{NodeId}
+use Rattle.kt_history.proofs.Lines.{line-empty}
+use Rattle.kt_history.proofs.Lists.{Contains-none}
+use Rattle.kt_link.specs.Network.{entry_at}
+use Rattle.kt_node.specs.declared.message.Message.{Message as RealMessage}
+use Rattle.kt_node.specs.declared.message.Message.TheVariants as messages
+use Rattle.kt_node.specs.Labels.{no_label, table_size}
+use Rattle.kt_node.specs.Node.{Node as RealNode, opening_node, node_number}
+use Rattle.kt_world.specs.Cast.{Cast, IsCast, is_node}
+use Rattle.kt_world.specs.State.{role_of, node, link_place}
+use Rattle.kt_world.specs.Reached.{opening, opening_row}
+use Rattle.kt_world.proofs.Opened.{at-replicate, opening-node}
+use Rattle.kt_protocol.specs.Lines.{top_sent, top_heard}
+use Rattle.kt_protocol.specs.Machine.{Up, Open, Node, State}
+use Rattle.kt_protocol.specs.Runs.{IsBeginning}
+use Rattle.kt_protocol.proofs.Labels.{UpTo-refl}
+use Rattle.kt_refinement.proofs.Numbers.{label_of}
+use Rattle.kt_refinement.proofs.Reading.{nothing}
+use Rattle.kt_refinement.proofs.Represents.{carried, LinkIs, kept_from, StateIs, NodeIs, Represents}
+
+-- nodes are in their first incarnation
+abbrev pub new_node : Node
+new_node = record {
+  mode = Up;
+  life = 1;
+  count = 0;
+  line = [];
+  perm = [];
+  tent = None;
+  kept = λ x. [];
+  votes = [];
+  joined = [];
+  said = [];
+}
+
+abbrev pub beginning : State
+beginning = record {
+  node = λ p. new_node;
+  link = λ p q. [];
+  board = record { verdict = λ i. Open; begun = λ i. false };
+}
+
+pub beginning-begins : IsBeginning beginning
+beginning-begins = record {
+  new = λ p. record { mode = refl; line = refl; perm = refl; tent = refl; kept = λ x. refl; votes = refl; joined = refl; said = refl };
+  empty = λ p q. refl;
+  unbegun = λ i. refl;
+  undecided = λ i. refl;
+}
+
+no-labels : (k : ℕ) → label_of (Rattle.kt_node.specs.Labels.label_at (replicate table_size no_label) k) ≡ record { life = 0; count = 0 }
+no-labels k = ap label_of (at-replicate no_label table_size k)
+
+opened-state : (cast : Cast) (p : NodeId) → StateIs cast p (opening_row cast p) new_node
+unfolding top_sent top_heard kept_from
+opened-state cast p = by (is_node cast p) where
+  by : (b : Bool) → StateIs cast p (if b then Some (opening_node (role_of cast p)) else None) new_node
+  by false = refl
+  by true = record {
+    phase = refl;
+    life = refl;
+    count = refl;
+    sent = λ q near. no-labels (node_number q);
+    received = λ q near. no-labels (node_number q);
+    kept = λ q. refl;
+  }
+
+opened-node : (cast : Cast) (p : NodeId)
+    → NodeIs cast [] p [] (opening_row cast p) record { node = p; incarnation = 1; permanent = None; tentative = None } None new_node
+unfolding top_sent top_heard
+opened-node cast p = record {
+  line = nothing;
+  life = refl;
+  state = opened-state cast p;
+  perm = record { reads = nothing; sent = λ q near. refl; received = λ q near. refl };
+  tent = refl;
+  lower = λ q near. UpTo-refl _;
+}
+
+no-link : (n : ℕ) (o : Option ℕ) → entry_at {A = List RealMessage} [] (replicate n []) o ≡ []
+no-link n None = refl
+no-link n (Some k) = at-replicate {A = List RealMessage} [] n k
+
+opened-link : (q : NodeId) → LinkIs [] q [] []
+unfolding carried
+opened-link q = record { carries = refl; cast = λ v c. absurd (Contains-none (messages.Vote v) c) }
+
+length-replicate : {A : Type 0} (n : ℕ) (x : A) → length (replicate n x) ≡ n
+length-replicate zero x = refl
+length-replicate (suc n) x = ap suc (length-replicate n x)
+
+pub opening-represents : (cast : Cast) → IsCast cast → Represents (opening cast) beginning
+opening-represents cast is = record {
+  nodes = λ p.
+      let L : List ℕ → Type 0 =
+      λ l. NodeIs cast [] p l (node (opening cast) p) record { node = p; incarnation = 1; permanent = None; tentative = None } None new_node in
+      let N : Option RealNode → Type 0 =
+      λ n. NodeIs cast [] p [] n record { node = p; incarnation = 1; permanent = None; tentative = None } None new_node in
+      subst L (sym (line-empty p)) (subst N (sym (opening-node cast is p)) (opened-node cast p));
+  links = λ p q near. subst (λ l. LinkIs l q [] []) (sym (no-link _ (link_place cast p q))) (opened-link q);
+  board = λ i. record { check = refl; rollback = refl; check_begun = refl; rollback_begun = refl };
+  wide = length-replicate {A = List RealMessage} _ [];
+}

@@ -1,0 +1,87 @@
+-- Each state of a world that steps lead to stands for a state of the machine that is reached, so the machine's theorem
+-- holds of what it stands for.
+use Rattle.std.proofs.Common.{◌≡◌, List, [], ◌∷◌, Ok, Err, Result, refl, ap, subst}
+use Rattle.kt_world.specs.declared.step.Step.{Step}
+use Rattle.kt_world.specs.declared.step.StepError.{StepError}
+use Rattle.kt_world.specs.Cast.{Cast, IsCast}
+use Rattle.kt_world.specs.State.{State as World}
+use Rattle.kt_world.specs.Effect.{step_result}
+use Rattle.kt_world.specs.Reached.{IsReached, opening, or_as_it_was, next_state, after}
+use Rattle.kt_world.proofs.Scene.{neighbours-turned}
+use Rattle.kt_world.proofs.Holding.{Holds, IsMade, step-made, made-holds, opening-holds}
+use Rattle.kt_protocol.specs.Labels.{no_label}
+use Rattle.kt_protocol.specs.Machine.{State}
+use Rattle.kt_protocol.specs.Runs.{AreNeighbours, nothing_done}
+use Rattle.kt_protocol.specs.Laws.{IsReached as IsMachineReached}
+use Rattle.kt_protocol.proofs.Invariant.{Invariant}
+use Rattle.kt_protocol.proofs.Main.{holds_where_reached, reached-run}
+use Rattle.kt_refinement.proofs.Numbers.{named, peers}
+use Rattle.kt_refinement.proofs.Represents.{Represents}
+use Rattle.kt_refinement.proofs.Opened.{beginning, beginning-begins, opening-represents}
+use Rattle.kt_refinement.proofs.Letters.{a_letter, Lettered, letters-through}
+use Rattle.kt_refinement.proofs.Frames.{neighbours-apart}
+use Rattle.kt_refinement.proofs.Refining.{step-refines}
+
+-- neighbours of a scene are the machine's
+pub peers-are : (cast : Cast) → AreNeighbours (peers cast)
+peers-are cast = record {
+  two = λ m n near e. neighbours-apart cast (named m) (named n) near (ap named e);
+  both = λ m n near. neighbours-turned cast (named m) (named n) near;
+}
+
+-- what a state stands for
+pub record StandsFor (s : World) : Type 0 where
+  pub state : State
+  pub reached : IsMachineReached (peers s.cast) state
+  pub stands : Represents s state
+  pub letters : Lettered s.history state
+
+pub stands-invariant : (s : World) (f : StandsFor s) → Invariant (peers s.cast) f.state
+stands-invariant s f = holds_where_reached f.state f.reached
+
+pub opening-stands : (cast : Cast) → IsCast cast → StandsFor (opening cast)
+opening-stands cast is = record {
+  state = beginning;
+  reached = record { near = peers-are cast; start = beginning; begins = beginning-begins; run = nothing_done };
+  stands = opening-represents cast is;
+  letters = record {
+    letter = λ n. a_letter 0 0 no_label;
+    fit = record {
+      nodes = λ o. record { sent = λ by y l i. elim i [ ]; heard = λ by x l i. elim i [ ]; keeps = λ x m i. elim i [ ] };
+      links = λ p q m i. elim i [ ];
+    };
+  };
+}
+
+pub made-stands : (s : World) (step : Step) (new : World) → Holds s → StandsFor s → IsMade s step new → StandsFor new
+made-stands s step new h f m =
+    let inv = stands-invariant s f in
+    let next = step-refines s f.state inv f.stands h step m.plan m.is_plan in
+    subst StandsFor m.leads (record {
+      state = next.next;
+      reached = reached-run f.reached next.run;
+      stands = next.stands;
+      letters = letters-through (peers-are s.cast) inv s.history m.plan.note f.letters next.run next.fresh;
+    })
+
+-- what is kept through all steps
+record Keeps (s : World) : Type 0 where
+  holds : Holds s
+  stands : StandsFor s
+
+result-keeps : (s : World) (step : Step) (r : Result World StepError) → Keeps s → step_result s step ≡ r → Keeps (or_as_it_was r s)
+result-keeps s step (Ok new) k e =
+    let m = step-made s step new e in record { holds = made-holds s step new k.holds m; stands = made-stands s step new k.holds k.stands m }
+result-keeps s step (Err refusal) k e = k
+
+-- the induction
+steps-keep : (s : World) (steps : List Step) → Keeps s → Keeps (after s steps)
+unfolding after
+steps-keep s [] k = k
+steps-keep s (step ∷ later) k = steps-keep (next_state s step) later (result-keeps s step (step_result s step) k refl)
+
+pub reached-stands : (s : World) → IsReached s → StandsFor s
+reached-stands s is =
+    let first : Keeps (opening is.cast) =
+    record { holds = opening-holds is.cast is.is_cast is.are_short; stands = opening-stands is.cast is.is_cast } in
+    subst StandsFor is.leads (steps-keep (opening is.cast) is.steps first).stands

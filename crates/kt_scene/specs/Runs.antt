@@ -1,0 +1,26 @@
+-- Making steps one after the other.
+use Rattle.std.specs.Prelude.{◌≡◌, ℕ, ◌+◌, true, List, [], ◌∷◌, ◌++◌, length, Ok}
+use Rattle.kt_world.specs.declared.step.Step.{Step}
+use Rattle.kt_world.specs.declared.step.StepError.{StepError}
+use Rattle.kt_world.specs.State.{State}
+use Rattle.kt_world.specs.Judge.{planned}
+use Rattle.kt_world.specs.Effect.{step_result}
+use Rattle.kt_core.specs.Stepping.{IsCause, Refuses}
+
+-- each of the steps is made, in order, and they lead from the one state to the other
+abbrev pub RunsTo : State → List Step → State → Type 0
+RunsTo old [] new = new ≡ old
+RunsTo old (step ∷ later) new = (between : State) × (step_result old step ≡ Ok between) × RunsTo between later new
+
+-- the step with this number, counted from 1, is the first that is refused, for this cause; an honest store's refusal
+-- has its own cause, which came since the count of its faults was the first of these
+pub record IsRefusedAt (old : State) (steps : List Step) (at : ℕ) (cause : StepError) (before now : ℕ) : Type 0 where
+  pub made : List Step
+  pub refused : Step
+  pub later : List Step
+  pub split : steps ≡ made ++ refused ∷ later
+  pub count : at ≡ length made + 1
+  pub reached : State
+  pub runs : RunsTo old made reached
+  pub refusal : Refuses cause (planned reached refused)
+  pub why : IsCause before now true (planned reached refused) cause
