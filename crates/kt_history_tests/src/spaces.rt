@@ -1,28 +1,16 @@
 //! The tuples that a run leaves.
 
-ghost use Rattle.std.specs.Prelude.{◌≡◌, ◌∷◌, [], IfOk};
-ghost use Rattle.kt_tuple.specs.declared.op.Answer.TheVariants as answers;
-ghost use Rattle.kt_tuple.specs.declared.op.Op.TheVariants as ops;
-ghost use Rattle.kt_tuple.specs.declared.template.Place.TheVariants.{Formal};
-ghost use Rattle.kt_tuple.specs.declared.value.Kind.TheVariants as kinds;
-ghost use Rattle.kt_tuple.specs.declared.value.Value.TheVariants as values;
-
 use kt_history::{Service, space_of};
 use kt_tuple::{Answer, Kind, Op, Place, Template, Tuple, Value};
 use std::alloc::Global;
 use std::test::Fail;
 
-fn tuple_of(alloc: Global, int: i64) -> Result<Tuple, Fail>
-    ensures { IfOk result (λ tuple. tuple ≡ values.Int int ∷ []) }
-{
+fn tuple_of(alloc: Global, int: i64) -> Result<Tuple, Fail> {
     Ok(Tuple::new(vec![in alloc; Value::Int(int)]?).ok_or("a tuple")?)
 }
 
 /// `out` of this int, done.
-fn put(alloc: Global, int: i64) -> Result<Service, Fail>
-    ensures op { IfOk result (λ service. service.op ≡ ops.Out (values.Int int ∷ [])) }
-    ensures answer { IfOk result (λ service. service.answer ≡ answers.Done) }
-{
+fn put(alloc: Global, int: i64) -> Result<Service, Fail> {
     Ok(Service {
         worker: 1,
         number: 1,
@@ -32,10 +20,7 @@ fn put(alloc: Global, int: i64) -> Result<Service, Fail>
 }
 
 /// `in (?int)`, which got this int.
-fn take(alloc: Global, int: i64) -> Result<Service, Fail>
-    ensures op { IfOk result (λ service. service.op ≡ ops.In (Formal kinds.Int ∷ [])) }
-    ensures answer { IfOk result (λ service. service.answer ≡ answers.Got (values.Int int ∷ [])) }
-{
+fn take(alloc: Global, int: i64) -> Result<Service, Fail> {
     let places = vec![in alloc; Place::Formal(Kind::Int)]?;
     Ok(Service {
         worker: 2,
