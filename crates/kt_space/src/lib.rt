@@ -2,6 +2,7 @@
 #![tactic(auto)]
 
 mod bag;
+mod chains;
 mod laws;
 
 pub use bag::Bag;
