@@ -1,6 +1,7 @@
 pub mod Beside
 pub mod Linked
 pub mod Matched
+pub mod Numbered
 pub mod Picked
 pub mod Rechained
 pub mod Stays

@@ -1,3 +1,5 @@
 pub mod Chaining
+pub mod Grouping
+pub mod Hashing
 pub mod Holding
 pub mod Picking

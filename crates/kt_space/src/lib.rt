@@ -3,6 +3,8 @@
 
 mod bag;
 mod chains;
+mod groups;
+mod key;
 mod laws;
 
 pub use bag::Bag;
