@@ -3,3 +3,4 @@ pub mod Grouping
 pub mod Hashing
 pub mod Holding
 pub mod Picking
+pub mod Slots

@@ -4,8 +4,10 @@
 mod bag;
 mod chains;
 mod groups;
+mod index;
 mod key;
 mod laws;
+mod search;
 
 pub use bag::Bag;
 pub use laws::{
