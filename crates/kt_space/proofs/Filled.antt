@@ -39,7 +39,7 @@ keyed_without key (Some x ∷ slots) zero = refl
 keyed_without key (None ∷ slots) (suc i) = ap (λ l. None ∷ l) (keyed_without key slots i)
 keyed_without key (Some x ∷ slots) (suc i) = ap (λ l. Some (key x) ∷ l) (keyed_without key slots i)
 
-tuple_at : (slots : List (Option Tuple)) (p : ℕ) (u : Tuple) → slice_get slots p ≡ Some (Some u) → slice_get (filled slots) (length (filled (take p slots))) ≡ Some u
+pub tuple_at : (slots : List (Option Tuple)) (p : ℕ) (u : Tuple) → slice_get slots p ≡ Some (Some u) → slice_get (filled slots) (length (filled (take p slots))) ≡ Some u
 tuple_at [] p u at = absurd (none-some (Some u) at)
 tuple_at (s ∷ slots) zero u at = ap (λ (o : Option Tuple). slice_get (filled (o ∷ slots)) 0) (same_Some s (Some u) at)
 tuple_at (None ∷ slots) (suc p) u at = tuple_at slots p u at

@@ -1,4 +1,5 @@
 pub mod Asked
+pub mod Bags
 pub mod Beside
 pub mod Filled
 pub mod Linked

@@ -1,7 +1,8 @@
 ghost use Rattle.std.specs.Prelude.{◌≡◌, ◌≤◌, ◌↔◌, ◌++◌, ◌∷◌, [], length, filter, slice_get};
-ghost use Rattle.std.specs.Prelude.{IsTrue, IsOk, IfOk, IfErr, OnOk, OnErr, false};
+ghost use Rattle.std.specs.Prelude.{IsTrue, IsOk, IfOk, IfErr, OnOk, OnErr, is_some, false};
 ghost use Rattle.std.specs.Option.{option_and_then, option_copied};
 ghost use Rattle.kt_space.specs.Picking.{could_match, matching, without_match};
+ghost use Rattle.kt_space.specs.Slots.{filled};
 
 use crate::index::Index;
 use crate::search::Search;
@@ -70,9 +71,9 @@ impl Bag {
         ensures { option_copied result ≡ slice_get self.now.tuples place }
     {
         if self.len == self.slots.len() {
-            return self.slots.get(place)?.as_ref();
+            return tuple_at(&self.slots, Some(place));
         }
-        self.slots.iter().filter_map(|slot| slot.as_ref()).nth(place)
+        nth_tuple(&self.slots, place)
     }
 
     /// Puts the tuple behind all others. Where memory is wanting it comes back, and the bag stays.
@@ -117,7 +118,7 @@ impl Bag {
         ensures unchanged { OnErr result (self.new ≡ self.old) }
     {
         let index = Index::of(*self.slots.allocator(), &self.slots)?;
-        self.slots.retain(|slot| slot.is_some());
+        drop_empty(&mut self.slots);
         self.index = index;
         self.has_room = false;
         Ok(())
@@ -130,6 +131,8 @@ impl Bag {
     {
         self.index.push(&tuple);
         self.slots.push_reserved(Some(tuple));
+        // There are no more tuples than slots.
+        let _slots = self.slots.len();
         self.len += 1;
         self.has_room = false;
     }
@@ -176,15 +179,7 @@ impl Bag {
     pub fn copy(&self, alloc: Global) -> Result<Bag, AllocError>
         ensures { IfOk result (λ bag. bag.tuples ≡ self.now.tuples) }
     {
-        let mut bag = Bag::new(alloc);
-        for slot in &self.slots {
-            if let Some(tuple) = slot {
-                let copy = tuple.copy(alloc)?;
-                bag.reserve()?;
-                bag.put_reserved(copy);
-            }
-        }
-        Ok(bag)
+        copy_of(alloc, &self.slots)
     }
 }
 
@@ -193,4 +188,40 @@ fn tuple_at(slots: &[Option<Tuple>], place: Option<usize>) -> Option<&Tuple>
     ensures { option_copied result ≡ option_and_then (λ p. option_and_then (λ s. s) (slice_get slots.now p)) place }
 {
     slots.get(place?)?.as_ref()
+}
+
+fn copy_of(alloc: Global, slots: &[Option<Tuple>]) -> Result<Bag, AllocError>
+    ensures { IfOk result (λ bag. bag.tuples ≡ filled slots.now) }
+{
+    let mut bag = Bag::new(alloc);
+    for slot in slots {
+        if let Some(tuple) = slot {
+            let copy = tuple.copy(alloc)?;
+            bag.reserve()?;
+            bag.put_reserved(copy);
+        }
+    }
+    Ok(bag)
+}
+
+/// The tuple of this number, counted over the slots that are not empty.
+fn nth_tuple(slots: &[Option<Tuple>], number: usize) -> Option<&Tuple>
+    ensures { option_copied result ≡ slice_get (filled slots.now) number }
+{
+    let mut before = number;
+    for slot in slots {
+        if let Some(tuple) = slot {
+            if before == 0 {
+                return Some(tuple);
+            }
+            before -= 1;
+        }
+    }
+    None
+}
+
+fn drop_empty(slots: &mut Vec<Option<Tuple>>)
+    ensures { slots.new.items ≡ filter (λ s. is_some s) slots.old.items }
+{
+    slots.retain(|slot| slot.is_some());
 }
