@@ -91,7 +91,7 @@ pub asked_with_first : (slots : List (Option Tuple)) (keys : List (Option Key)) 
     → keys ≡ keyed first_key slots → IsAsked slots keys key t
 asked_with_first slots keys key t e f g =
     subst (λ k. IsAsked slots k key t) (sym g) (subst (λ k. IsAsked slots (keyed first_key slots) k t) (sym e)
-        (by (first_actual t) refl (sym (ap (λ (k : Key). is_some k.first) e) ∙ f)))
+    (by (first_actual t) refl (sym (ap (λ (k : Key). is_some k.first) e) ∙ f)))
   where
     by : (o : Option Value) → first_actual t ≡ o → is_some o ≡ true → IsAsked slots (keyed first_key slots) (template_key t) t
     by None e f = absurd (false≢true f)
@@ -101,7 +101,7 @@ pub asked_with_kinds : (slots : List (Option Tuple)) (keys : List (Option Key)) 
     → keys ≡ keyed kinds_key slots → IsAsked slots keys key t
 asked_with_kinds slots keys key t e f g =
     subst (λ k. IsAsked slots k key t) (sym g) (subst (λ k. IsAsked slots (keyed kinds_key slots) k t) (sym e)
-        (by (first_actual t) refl (sym (ap (λ (k : Key). is_some k.first) e) ∙ f)))
+    (by (first_actual t) refl (sym (ap (λ (k : Key). is_some k.first) e) ∙ f)))
   where
     by : (o : Option Value) → first_actual t ≡ o → is_some o ≡ false → IsAsked slots (keyed kinds_key slots) (template_key t) t
     by None e f = asked_kinds slots t e

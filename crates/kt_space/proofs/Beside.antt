@@ -71,5 +71,6 @@ one_after gs g from (Some i) (Some j) x y =
     later : (from : Option ℕ) (j : ℕ) → IsApart from (Some j) → IsAfter j from
     later None j h = tt
     later (Some i) j h = h
+
     at : (i j : ℕ) → (j < i → ⊥) → (i < j → ⊥) → i ≡ j
     at i j f h = omega (arith, f, h)

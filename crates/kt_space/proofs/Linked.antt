@@ -75,7 +75,7 @@ next_miss ends links g None to f h (Some j) in_ n = refl
 next_miss ends links g (Some i) to f h None in_ n = refl
 next_miss ends links g (Some i) to f h (Some j) in_ n =
     elsewhere (λ (l : Link). l.after) (λ (l : Link). record l { after = to }) links i j
-        (λ e. n (one_group (groups_of links) j h g in_ (subst (λ k. Has (groups_of links) k g) (sym e) f)) (ap Some e))
+    (λ e. n (one_group (groups_of links) j h g in_ (subst (λ k. Has (groups_of links) k g) (sym e) f)) (ap Some e))
 
 -- and nothing is before another place for it
 pub next_back : (ends : List Ends) (links : List Link) (g : ℕ) (at to : Option ℕ) (h : ℕ) (c : Option ℕ)
@@ -108,7 +108,7 @@ previous_miss ends links g None to f h (Some j) in_ n = refl
 previous_miss ends links g (Some i) to f h None in_ n = refl
 previous_miss ends links g (Some i) to f h (Some j) in_ n =
     elsewhere (λ (l : Link). l.before) (λ (l : Link). record l { before = to }) links i j
-        (λ e. n (one_group (groups_of links) j h g in_ (subst (λ k. Has (groups_of links) k g) (sym e) f)) (ap Some e))
+    (λ e. n (one_group (groups_of links) j h g in_ (subst (λ k. Has (groups_of links) k g) (sym e) f)) (ap Some e))
 
 pub previous_forth : (ends : List Ends) (links : List Link) (g : ℕ) (at to : Option ℕ) (h : ℕ) (c : Option ℕ)
     → after_of (last_changed ends g at to) (before_changed links at to) h c ≡ after_of ends links h c

@@ -90,6 +90,7 @@ module _ {A : Type 0} (eq : A → A → Bool) (same : (a b : A) → Decides (eq 
     where
       key : k' ≡ k
       key = sym ((same k k').0 e)
+
       by : (r : Bool) → list_any (eq k) ks ≡ r → ks' ≡ (if r then ks else ks ++ k ∷ [])
           → (length ks' ≡ max count (g + 1)) × (slice_get ks' g ≡ Some k) × ((i : ℕ) → i < length ks → slice_get ks' i ≡ slice_get ks i)
           × ((i j : ℕ) (h : A) → slice_get ks' i ≡ Some h → slice_get ks' j ≡ Some h → i ≡ j)
@@ -114,13 +115,16 @@ module _ {A : Type 0} (eq : A → A → Bool) (same : (a b : A) → Decides (eq 
           size_of : (xs : List A) → length (xs ++ k ∷ []) ≡ suc (length xs)
           size_of [] = refl
           size_of (x ∷ xs) = ap suc (size_of xs)
+
           less : (i : ℕ) (h : A) → i ≢ length ks → length ks' ≡ suc (length ks) → slice_get ks' i ≡ Some h → i < length ks
           less i h n size p = let within : i < length ks' = slice_get_within ks' i h p in omega (arith, n, size, within)
+
           last_of : length ks' ≡ suc (length ks) → slice_get ks' g ≡ Some k → ((i : ℕ) → i < length ks → slice_get ks' i ≡ slice_get ks i) → g ≡ length ks
           last_of size at_k old = elim (decide g (length ks)) [
             | inl x ↦ x
             | inr n ↦ absurd (not_among ks k a g (sym (old g (less g k n size at_k)) ∙ at_k))
           ]
+
           once : (i j : ℕ) (h : A) → (i ≡ length ks) ⊎ (i < length ks) → (j ≡ length ks) ⊎ (j < length ks)
               → ((i : ℕ) → i < length ks → slice_get ks' i ≡ slice_get ks i) → slice_get ks' (length ks) ≡ Some k
               → slice_get ks' i ≡ Some h → slice_get ks' j ≡ Some h → i ≡ j

@@ -53,6 +53,7 @@ module _ (test : Tuple → Bool) where
     where
       zero-more : (n : ℕ) → 0 + n ≡ n
       zero-more n = omega arith
+
       no_hit : (s : Option Tuple) → ((u : Tuple) → s ≡ Some u → test u ≡ false) → hit test s ≡ 0
       no_hit None f = refl
       no_hit (Some u) f = ap (λ b. cond b 1 0) (f u refl)

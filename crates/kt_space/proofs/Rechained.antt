@@ -29,38 +29,41 @@ unlinked gs count r g after before after' before' chains has hit miss hit' miss'
     was : (h : ℕ) (c : Option ℕ) → IsIn (set gs r None) count h c → IsIn gs count h c × (c ≢ Some r)
     was h None in_ = (in_, λ e. none-some r e)
     was h (Some i) in_ = ((kept_has gs r i h in_).0, λ e. (kept_has gs r i h in_).1 (same_Some i r e))
+
     of_g : (h : ℕ) → Has gs r h → h ≡ g
     of_g h there = one_group gs r h g there has
+
     forth : (h : ℕ) (c : Option ℕ) → IsIn gs count h c × (c ≢ Some r) → ((h ≡ g) × (c ≡ before g (Some r))) ⊎ (h ≡ g → c ≡ before g (Some r) → ⊥)
         → Beside (set gs r None) h c (after' h c)
     forth h c in_ (inl e) =
         let there : IsIn gs count g (before g (Some r)) = subst (λ d. IsIn gs count g d) e.1 (subst (λ k. IsIn gs count k c) e.0 in_.0) in
         let done : Beside (set gs r None) g (before g (Some r)) (after' g (before g (Some r))) =
-            subst (λ d. Beside (set gs r None) g (before g (Some r)) d) (sym (hit there))
-                (joins gs r g (before g (Some r)) (after g (Some r)) (chains.back g (Some r) has) (chains.forth g (Some r) has)) in
+        subst (λ d. Beside (set gs r None) g (before g (Some r)) d) (sym (hit there))
+        (joins gs r g (before g (Some r)) (after g (Some r)) (chains.back g (Some r) has) (chains.forth g (Some r) has)) in
         subst (λ k. Beside (set gs r None) k c (after' k c)) (sym e.0)
-            (subst (λ d. Beside (set gs r None) g d (after' g d)) (sym e.1) done)
+        (subst (λ d. Beside (set gs r None) g d (after' g d)) (sym e.1) done)
     forth h c in_ (inr n) =
         let here : Beside gs h c (after h c) = chains.forth h c in_.0 in
         subst (λ d. Beside (set gs r None) h c d) (sym (miss h c in_.0 n))
-            (stays_out gs r h c (after h c) here in_.1 (λ e. other (subst (λ d. Beside gs h c d) e here)))
+        (stays_out gs r h c (after h c) here in_.1 (λ e. other (subst (λ d. Beside gs h c d) e here)))
       where
         other : Beside gs h c (Some r) → ⊥
         other x = let is : h ≡ g = of_g h x.ends in
             n is (one_before gs g c (before g (Some r)) (Some r) (subst (λ k. Beside gs k c (Some r)) is x) (chains.back g (Some r) has))
+
     back : (h : ℕ) (c : Option ℕ) → IsIn gs count h c × (c ≢ Some r) → ((h ≡ g) × (c ≡ after g (Some r))) ⊎ (h ≡ g → c ≡ after g (Some r) → ⊥)
         → Beside (set gs r None) h (before' h c) c
     back h c in_ (inl e) =
         let there : IsIn gs count g (after g (Some r)) = subst (λ d. IsIn gs count g d) e.1 (subst (λ k. IsIn gs count k c) e.0 in_.0) in
         let done : Beside (set gs r None) g (before' g (after g (Some r))) (after g (Some r)) =
-            subst (λ d. Beside (set gs r None) g d (after g (Some r))) (sym (hit' there))
-                (joins gs r g (before g (Some r)) (after g (Some r)) (chains.back g (Some r) has) (chains.forth g (Some r) has)) in
+        subst (λ d. Beside (set gs r None) g d (after g (Some r))) (sym (hit' there))
+        (joins gs r g (before g (Some r)) (after g (Some r)) (chains.back g (Some r) has) (chains.forth g (Some r) has)) in
         subst (λ k. Beside (set gs r None) k (before' k c) c) (sym e.0)
-            (subst (λ d. Beside (set gs r None) g (before' g d) d) (sym e.1) done)
+        (subst (λ d. Beside (set gs r None) g (before' g d) d) (sym e.1) done)
     back h c in_ (inr n) =
         let here : Beside gs h (before h c) c = chains.back h c in_.0 in
         subst (λ d. Beside (set gs r None) h d c) (sym (miss' h c in_.0 n))
-            (stays_out gs r h (before h c) c here (λ e. other (subst (λ d. Beside gs h d c) e here)) in_.1)
+        (stays_out gs r h (before h c) c here (λ e. other (subst (λ d. Beside gs h d c) e here)) in_.1)
       where
         other : Beside gs h (Some r) c → ⊥
         other x = let is : h ≡ g = of_g h x.starts in
@@ -84,14 +87,18 @@ pushed gs count g after before after' before' chains lt hit miss new hit' miss' 
   where
     more : List (Option ℕ)
     more = gs ++ Some g ∷ []
+
     known : (m h : ℕ) → Has gs m h ⊎ ((m ≡ length gs) × (g ≡ h)) → h < count
     known m h (inl has) = chains.known m h has
     known m h (inr e) = subst (λ k. k < count) e.1 lt
+
     was : (h : ℕ) (c : Option ℕ) → IsIn (gs ++ Some g ∷ []) count h c → IsIn gs count h c ⊎ ((c ≡ Some (length gs)) × (g ≡ h))
     was h None in_ = inl in_
     was h (Some i) in_ = elim (pushed_has gs g i h in_) [ inl x ↦ inl x | inr e ↦ inr (ap Some e.0, e.1) ]
+
     end : Beside gs g (before g None) None
     end = chains.back g None lt
+
     forth : (h : ℕ) (c : Option ℕ) → IsIn gs count h c ⊎ ((c ≡ Some (length gs)) × (g ≡ h)) → Beside (gs ++ Some g ∷ []) h c (after' h c)
     forth h c (inl in_) = by (both h g c (before g None))
       where
@@ -99,38 +106,39 @@ pushed gs count g after before after' before' chains lt hit miss new hit' miss' 
         by (inl e) =
             let there : IsIn gs count g (before g None) = subst (λ d. IsIn gs count g d) e.1 (subst (λ k. IsIn gs count k c) e.0 in_) in
             let done : Beside (gs ++ Some g ∷ []) g (before g None) (after' g (before g None)) =
-                subst (λ d. Beside (gs ++ Some g ∷ []) g (before g None) d) (sym (hit there)) (comes_last gs g (before g None) (chains.back g None lt)) in
+            subst (λ d. Beside (gs ++ Some g ∷ []) g (before g None) d) (sym (hit there)) (comes_last gs g (before g None) (chains.back g None lt)) in
             subst (λ k. Beside (gs ++ Some g ∷ []) k c (after' k c)) (sym e.0)
-                (subst (λ d. Beside (gs ++ Some g ∷ []) g d (after' g d)) (sym e.1) done)
+            (subst (λ d. Beside (gs ++ Some g ∷ []) g d (after' g d)) (sym e.1) done)
         by (inr n) =
             let here : Beside gs h c (after h c) = chains.forth h c in_ in
             subst (λ d. Beside (gs ++ Some g ∷ []) h c d) (sym (miss h c in_ n))
-                (stays_in gs g h c (after h c) here (λ is none. last is (subst (λ d. Beside gs h c d) none here)))
+            (stays_in gs g h c (after h c) here (λ is none. last is (subst (λ d. Beside gs h c d) none here)))
           where
             last : g ≡ h → Beside gs h c None → ⊥
             last is x = n (sym is) (one_before gs g c (before g None) None (subst (λ k. Beside gs k c None) (sym is) x) (chains.back g None lt))
     forth h c (inr e) =
         let done : Beside (gs ++ Some g ∷ []) g (Some (length gs)) (after' g (Some (length gs))) =
-            subst (λ d. Beside (gs ++ Some g ∷ []) g (Some (length gs)) d) (sym new) (is_last gs g) in
+        subst (λ d. Beside (gs ++ Some g ∷ []) g (Some (length gs)) d) (sym new) (is_last gs g) in
         subst (λ k. Beside (gs ++ Some g ∷ []) k c (after' k c)) e.1
-            (subst (λ d. Beside (gs ++ Some g ∷ []) g d (after' g d)) (sym e.0) done)
+        (subst (λ d. Beside (gs ++ Some g ∷ []) g d (after' g d)) (sym e.0) done)
+
     back : (h : ℕ) (c : Option ℕ) → IsIn gs count h c ⊎ ((c ≡ Some (length gs)) × (g ≡ h)) → Beside (gs ++ Some g ∷ []) h (before' h c) c
     back h c (inl in_) = by (both h g c None)
       where
         by : ((h ≡ g) × (c ≡ None)) ⊎ (h ≡ g → c ≡ None → ⊥) → Beside (gs ++ Some g ∷ []) h (before' h c) c
         by (inl e) =
             let done : Beside (gs ++ Some g ∷ []) g (before' g None) None =
-                subst (λ d. Beside (gs ++ Some g ∷ []) g d None) (sym hit') (is_last gs g) in
+            subst (λ d. Beside (gs ++ Some g ∷ []) g d None) (sym hit') (is_last gs g) in
             subst (λ k. Beside (gs ++ Some g ∷ []) k (before' k c) c) (sym e.0)
-                (subst (λ d. Beside (gs ++ Some g ∷ []) g (before' g d) d) (sym e.1) done)
+            (subst (λ d. Beside (gs ++ Some g ∷ []) g (before' g d) d) (sym e.1) done)
         by (inr n) =
             subst (λ d. Beside (gs ++ Some g ∷ []) h d c) (sym (miss' h c in_ n))
-                (stays_in gs g h (before h c) c (chains.back h c in_) (λ is none. n (sym is) none))
+            (stays_in gs g h (before h c) c (chains.back h c in_) (λ is none. n (sym is) none))
     back h c (inr e) =
         let done : Beside (gs ++ Some g ∷ []) g (before' g (Some (length gs))) (Some (length gs)) =
-            subst (λ d. Beside (gs ++ Some g ∷ []) g d (Some (length gs))) (sym new') (comes_last gs g (before g None) (chains.back g None lt)) in
+        subst (λ d. Beside (gs ++ Some g ∷ []) g d (Some (length gs))) (sym new') (comes_last gs g (before g None) (chains.back g None lt)) in
         subst (λ k. Beside (gs ++ Some g ∷ []) k (before' k c) c) e.1
-            (subst (λ d. Beside (gs ++ Some g ∷ []) g (before' g d) d) (sym e.0) done)
+        (subst (λ d. Beside (gs ++ Some g ∷ []) g (before' g d) d) (sym e.0) done)
 
 -- one group more, of which there is no place
 pub grown : (gs : List (Option ℕ)) (count : ℕ) (after before after' before' : ℕ → Option ℕ → Option ℕ)
@@ -147,12 +155,14 @@ grown gs count after before after' before' chains same same' new new' = record {
   where
     empty : Beside gs count None None
     empty = record { starts = tt; ends = tt; apart = tt; between = λ m has above below. let lt : count < count = chains.known m count has in omega arith }
+
     forth : (h : ℕ) (c : Option ℕ) → IsIn gs (suc count) h c → Beside gs h c (after' h c)
     forth h (Some i) in_ = subst (λ d. Beside gs h (Some i) d) (sym (same h (Some i) in_)) (chains.forth h (Some i) in_)
     forth h None in_ = elim (decide h count) [
       | inl e ↦ subst (λ k. Beside gs k None (after' k None)) (sym e) (subst (λ d. Beside gs count None d) (sym new) empty)
       | inr n ↦ let lt : h < count = omega (arith, n, in_) in subst (λ d. Beside gs h None d) (sym (same h None lt)) (chains.forth h None lt)
     ]
+
     back : (h : ℕ) (c : Option ℕ) → IsIn gs (suc count) h c → Beside gs h (before' h c) c
     back h (Some i) in_ = subst (λ d. Beside gs h d (Some i)) (sym (same' h (Some i) in_)) (chains.back h (Some i) in_)
     back h None in_ = elim (decide h count) [

@@ -17,6 +17,7 @@ module _ {A : Type 0} (gs : List (Option A)) (r : ℕ) where
       gone_in [] i h e = none-some (Some h) e
       gone_in (x ∷ xs) zero h e = none-some h (same_Some None (Some h) e)
       gone_in (x ∷ xs) (suc i) h e = gone_in xs i h e
+
       gone : (h : A) → Has (set gs r None) r h → ⊥
       gone h e = gone_in gs r h e
 
@@ -48,13 +49,16 @@ module _ {A : Type 0} (gs : List (Option A)) (r : ℕ) where
       before : (c : Option ℕ) → IsApart c (Some r) → c ≢ Some r
       before None h e = none-some r e
       before (Some i) h e = let same : i ≡ r = same_Some i r e in omega arith
+
       behind : (c : Option ℕ) → IsApart (Some r) c → c ≢ Some r
       behind None h e = none-some r e
       behind (Some i) h e = let same : i ≡ r = same_Some i r e in omega arith
+
       apart : (c d : Option ℕ) → IsApart c (Some r) → IsApart (Some r) d → IsApart c d
       apart None d h k = tt
       apart (Some i) None h k = tt
       apart (Some i) (Some j) h k = omega arith
+
       order : (m : ℕ) → m ≢ r → (m < r) ⊎ (r < m)
       order m n = elim (decide_less m r) [ inl l ↦ inl l | inr l ↦ inr (omega (arith, n)) ]
         where
@@ -62,6 +66,7 @@ module _ {A : Type 0} (gs : List (Option A)) (r : ℕ) where
           decide_less m zero = inr (omega arith)
           decide_less zero (suc r) = inl (omega arith)
           decide_less (suc m) (suc r) = elim (decide_less m r) [ inl l ↦ inl (omega arith) | inr l ↦ inr (omega arith) ]
+
       at : (m : ℕ) → IsAfter m a → IsBefore m b → Has gs m g × (m ≢ r) → ⊥
       at m above below has = elim (order m has.1) [
         | inl l ↦ x.between m has.0 above l
@@ -118,6 +123,7 @@ module _ {A : Type 0} (gs : List (Option A)) (g : A) where
       apart : (c : Option ℕ) → Fits gs g c → IsApart c (Some (length gs))
       apart None f = tt
       apart (Some i) f = slice_get_within gs i (Some g) f
+
       at : (m : ℕ) → IsAfter m a → m < length gs → Has gs m g ⊎ ((m ≡ length gs) × (g ≡ g)) → ⊥
       at m above below (inl has) = x.between m has above tt
       at m above below (inr e) = let is : m ≡ length gs = e.0 in omega arith

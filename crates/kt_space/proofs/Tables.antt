@@ -17,7 +17,7 @@ AreTables ends links = AreChains (groups_of links) (length ends) (after_of ends 
 pub table_unlinked : (ends : List Ends) (links : List Link) (r g : ℕ) → AreTables ends links → Has (groups_of links) r g
     → (a b : Option ℕ) → a ≡ before_of ends links g (Some r) → b ≡ after_of ends links g (Some r)
     → AreTables (last_changed (first_changed ends g a b) g b a)
-        (changed (λ (l : Link). record l { group = None }) (before_changed (after_changed links a b) b a) r)
+    (changed (λ (l : Link). record l { group = None }) (before_changed (after_changed links a b) b a) r)
 table_unlinked ends links r g chains has a b isa isb =
     let e2 : List Ends = first_changed ends g a b in
     let l2 : List Link = after_changed links a b in
@@ -30,18 +30,18 @@ table_unlinked ends links r g chains has a b isa isb =
     let fits_b : Fits (groups_of links) g b = subst (λ c. Fits (groups_of links) g c) (sym isb) (chains.forth g (Some r) has).ends in
     let forth : (h : ℕ) (c : Option ℕ) → after_of e3 l4 h c ≡ after_of e2 l2 h c = λ h c. left_forth e3 l3 r h c ∙ previous_forth e2 l2 g b a h c in
     let there : (h : ℕ) (c : Option ℕ) → IsIn (groups_of links) (length ends) h c → IsIn (groups_of l2) (length e2) h c =
-        λ h c in_. subst (λ gs. IsIn gs (length e2) h c) (sym (next_groups links a b)) (subst (λ n. IsIn (groups_of links) n h c) (sym (next_count ends g a b)) in_) in
+    λ h c in_. subst (λ gs. IsIn gs (length e2) h c) (sym (next_groups links a b)) (subst (λ n. IsIn (groups_of links) n h c) (sym (next_count ends g a b)) in_) in
     let fits_b2 : Fits (groups_of l2) g b = subst (λ gs. Fits gs g b) (sym (next_groups links a b)) fits_b in
     let done : AreChains (set (groups_of links) r None) (length ends) (after_of e3 l4) (before_of e3 l4) =
-        unlinked (groups_of links) (length ends) r g (after_of ends links) (before_of ends links) (after_of e3 l4) (before_of e3 l4) chains has
-            (λ in_. subst (λ c. after_of e3 l4 g c ≡ after_of ends links g (Some r)) isa
-                (forth g a ∙ next_hit ends links g a b (subst (λ c. IsIn (groups_of links) (length ends) g c) (sym isa) in_) ∙ isb))
-            (λ h c in_ n. forth h c ∙ next_miss ends links g a b fits_a h c in_ (λ e i. n e (i ∙ isa)))
-            (λ in_. subst (λ c. before_of e3 l4 g c ≡ before_of ends links g (Some r)) isb
-                (left_back e3 l3 r g b ∙ previous_hit e2 l2 g b a (there g b (subst (λ c. IsIn (groups_of links) (length ends) g c) (sym isb) in_)) ∙ isa))
-            (λ h c in_ n. left_back e3 l3 r h c ∙ previous_miss e2 l2 g b a fits_b2 h c (there h c in_) (λ e i. n e (i ∙ isb)) ∙ next_back ends links g a b h c) in
+    unlinked (groups_of links) (length ends) r g (after_of ends links) (before_of ends links) (after_of e3 l4) (before_of e3 l4) chains has
+    (λ in_. subst (λ c. after_of e3 l4 g c ≡ after_of ends links g (Some r)) isa
+    (forth g a ∙ next_hit ends links g a b (subst (λ c. IsIn (groups_of links) (length ends) g c) (sym isa) in_) ∙ isb))
+    (λ h c in_ n. forth h c ∙ next_miss ends links g a b fits_a h c in_ (λ e i. n e (i ∙ isa)))
+    (λ in_. subst (λ c. before_of e3 l4 g c ≡ before_of ends links g (Some r)) isb
+    (left_back e3 l3 r g b ∙ previous_hit e2 l2 g b a (there g b (subst (λ c. IsIn (groups_of links) (length ends) g c) (sym isb) in_)) ∙ isa))
+    (λ h c in_ n. left_back e3 l3 r h c ∙ previous_miss e2 l2 g b a fits_b2 h c (there h c in_) (λ e i. n e (i ∙ isb)) ∙ next_back ends links g a b h c) in
     subst (λ gs. AreChains gs (length e3) (after_of e3 l4) (before_of e3 l4)) (sym groups)
-        (subst (λ n. AreChains (set (groups_of links) r None) n (after_of e3 l4) (before_of e3 l4)) (sym count) done)
+    (subst (λ n. AreChains (set (groups_of links) r None) n (after_of e3 l4) (before_of e3 l4)) (sym count) done)
 
 pub unlinked_groups : (links : List Link) (r : ℕ) (a b : Option ℕ)
     → groups_of (changed (λ (l : Link). record l { group = None }) (before_changed (after_changed links a b) b a) r) ≡ set (groups_of links) r None
@@ -56,7 +56,7 @@ size_of_groups (l ∷ links) = ap suc (size_of_groups links)
 pub table_pushed : (ends : List Ends) (links : List Link) (g : ℕ) → AreTables ends links → g < length ends
     → (a : Option ℕ) → a ≡ before_of ends links g None
     → AreTables (last_changed (first_changed ends g a (Some (length links))) g None (Some (length links)))
-        (after_changed links a (Some (length links)) ++ record { group = Some g; before = a; after = None } ∷ [])
+    (after_changed links a (Some (length links)) ++ record { group = Some g; before = a; after = None } ∷ [])
 table_pushed ends links g chains lt a isa =
     let n : Option ℕ = Some (length links) in
     let l : Link = record { group = Some g; before = a; after = None } in
@@ -72,25 +72,25 @@ table_pushed ends links g chains lt a isa =
     let size2 : length (groups_of links) ≡ length l2 = sym (ap length gs2) ∙ size_of_groups l2 in
     let fits_a : Fits (groups_of links) g a = subst (λ c. Fits (groups_of links) g c) (sym isa) (chains.back g None lt).starts in
     let there : (k : ℕ) (h : ℕ) (c : Option ℕ) → IsIn (groups_of links) k h c → IsIn (groups_of l2) k h c =
-        λ k h c in_. subst (λ gs. IsIn gs k h c) (sym gs2) in_ in
+    λ k h c in_. subst (λ gs. IsIn gs k h c) (sym gs2) in_ in
     let forth : (h : ℕ) (c : Option ℕ) → IsIn (groups_of links) (length ends) h c → after_of e3 l3 h c ≡ after_of e2 l2 h c =
-        λ h c in_. more_forth e3 l2 l (length ends) h c (there (length ends) h c in_) ∙ previous_forth e2 l2 g None n h c in
+    λ h c in_. more_forth e3 l2 l (length ends) h c (there (length ends) h c in_) ∙ previous_forth e2 l2 g None n h c in
     let back : (h : ℕ) (c : Option ℕ) → IsIn (groups_of links) (length ends) h c → before_of e3 l3 h c ≡ before_of e3 l2 h c =
-        λ h c in_. more_back e3 l2 l (length ends) h c (there (length ends) h c in_) in
+    λ h c in_. more_back e3 l2 l (length ends) h c (there (length ends) h c in_) in
     let in2 : (h : ℕ) (c : Option ℕ) → IsIn (groups_of links) (length ends) h c → IsIn (groups_of l2) (length e2) h c =
-        λ h c in_. subst (λ k. IsIn (groups_of l2) k h c) (sym count2) (there (length ends) h c in_) in
+    λ h c in_. subst (λ k. IsIn (groups_of l2) k h c) (sym count2) (there (length ends) h c in_) in
     let done : AreChains (groups_of links ++ Some g ∷ []) (length ends) (after_of e3 l3) (before_of e3 l3) =
-        pushed (groups_of links) (length ends) g (after_of ends links) (before_of ends links) (after_of e3 l3) (before_of e3 l3) chains lt
-            (λ in_. subst (λ c. after_of e3 l3 g c ≡ Some (length (groups_of links))) isa
-                (let here : IsIn (groups_of links) (length ends) g a = subst (λ c. IsIn (groups_of links) (length ends) g c) (sym isa) in_ in
-                forth g a here ∙ next_hit ends links g a n here ∙ ap Some (sym size)))
-            (λ h c in_ m. forth h c in_ ∙ next_miss ends links g a n fits_a h c in_ (λ e i. m e (i ∙ isa)))
-            (new e3 l2 l size2 (λ (k : Link). k.after))
-            (back g None lt ∙ previous_hit e2 l2 g None n (in2 g None lt) ∙ ap Some (sym size))
-            (λ h c in_ m. back h c in_ ∙ previous_miss e2 l2 g None n tt h c (in2 h c in_) m ∙ next_back ends links g a n h c)
-            (new e3 l2 l size2 (λ (k : Link). k.before) ∙ isa) in
+    pushed (groups_of links) (length ends) g (after_of ends links) (before_of ends links) (after_of e3 l3) (before_of e3 l3) chains lt
+    (λ in_. subst (λ c. after_of e3 l3 g c ≡ Some (length (groups_of links))) isa
+    (let here : IsIn (groups_of links) (length ends) g a = subst (λ c. IsIn (groups_of links) (length ends) g c) (sym isa) in_ in
+    forth g a here ∙ next_hit ends links g a n here ∙ ap Some (sym size)))
+    (λ h c in_ m. forth h c in_ ∙ next_miss ends links g a n fits_a h c in_ (λ e i. m e (i ∙ isa)))
+    (new e3 l2 l size2 (λ (k : Link). k.after))
+    (back g None lt ∙ previous_hit e2 l2 g None n (in2 g None lt) ∙ ap Some (sym size))
+    (λ h c in_ m. back h c in_ ∙ previous_miss e2 l2 g None n tt h c (in2 h c in_) m ∙ next_back ends links g a n h c)
+    (new e3 l2 l size2 (λ (k : Link). k.before) ∙ isa) in
     subst (λ gs. AreChains gs (length e3) (after_of e3 l3) (before_of e3 l3)) (sym groups)
-        (subst (λ k. AreChains (groups_of links ++ Some g ∷ []) k (after_of e3 l3) (before_of e3 l3)) (sym count) done)
+    (subst (λ k. AreChains (groups_of links ++ Some g ∷ []) k (after_of e3 l3) (before_of e3 l3)) (sym count) done)
   where
     new : (e : List Ends) (ls : List Link) (l : Link) → length (groups_of links) ≡ length ls → (v : Link → Option ℕ)
         → option_and_then v (slice_get (ls ++ l ∷ []) (length (groups_of links))) ≡ v l
@@ -112,19 +112,24 @@ table_opened ends links g chains le = by (nat_eq g (length ends)) refl
   where
     none : Ends
     none = record { first = None; last = None }
+
     same : (v : Ends → Option ℕ) (h : ℕ) → h < length ends
         → option_and_then v (slice_get (ends ++ record { first = None; last = None } ∷ []) h) ≡ option_and_then v (slice_get ends h)
     same v h lt = ap (λ (o : Option Ends). option_and_then v o) (read_before ends (record { first = None; last = None }) h lt)
+
     new : (v : Ends → Option ℕ) → option_and_then v (slice_get (ends ++ record { first = None; last = None } ∷ []) (length ends)) ≡ v (record { first = None; last = None })
     new v = ap (λ (o : Option Ends). option_and_then v o) (read_pushed ends (record { first = None; last = None }))
+
     forth : (h : ℕ) (c : Option ℕ) → IsIn (groups_of links) (length ends) h c
         → after_of (ends ++ record { first = None; last = None } ∷ []) links h c ≡ after_of ends links h c
     forth h None in_ = same (λ (e : Ends). e.first) h in_
     forth h (Some i) in_ = refl
+
     back : (h : ℕ) (c : Option ℕ) → IsIn (groups_of links) (length ends) h c
         → before_of (ends ++ record { first = None; last = None } ∷ []) links h c ≡ before_of ends links h c
     back h None in_ = same (λ (e : Ends). e.last) h in_
     back h (Some i) in_ = refl
+
     by : (r : Bool) → nat_eq g (length ends) ≡ r
         → AreTables (cond r (ends ++ record { first = None; last = None } ∷ []) ends) links
         × (g < length (cond r (ends ++ record { first = None; last = None } ∷ []) ends))
@@ -134,8 +139,8 @@ table_opened ends links g chains le = by (nat_eq g (length ends)) refl
         let size : length (ends ++ record { first = None; last = None } ∷ []) ≡ suc (length ends) = length-more ends (record { first = None; last = None }) in (
           subst (λ n. AreChains (groups_of links) n (after_of (ends ++ record { first = None; last = None } ∷ []) links) (before_of (ends ++ record { first = None; last = None } ∷ []) links)) (sym size)
               (grown (groups_of links) (length ends) (after_of ends links) (before_of ends links)
-                  (after_of (ends ++ record { first = None; last = None } ∷ []) links) (before_of (ends ++ record { first = None; last = None } ∷ []) links)
-                  chains forth back (new (λ (e : Ends). e.first)) (new (λ (e : Ends). e.last))),
+              (after_of (ends ++ record { first = None; last = None } ∷ []) links) (before_of (ends ++ record { first = None; last = None } ∷ []) links)
+              chains forth back (new (λ (e : Ends). e.first)) (new (λ (e : Ends). e.last))),
           omega (arith, is, size),
           omega (arith, is, size),
         )

@@ -35,7 +35,7 @@ impl Model for Bag {
     ghost invariant = { λ b. record {
       indexed : IsIndexed b.slots.items b.len b.index.by_kinds.keys b.index.by_first.keys;
       room : IsTrue b.has_room → (vec_len b.slots < vec_capacity b.slots)
-        × IsTrue (b.index.by_kinds.has_room && b.index.by_first.has_room);
+          × IsTrue (b.index.by_kinds.has_room && b.index.by_first.has_room);
     } };
 }
 

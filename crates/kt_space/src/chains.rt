@@ -146,7 +146,7 @@ impl Model for Chains {
       groups = groups_of c.table.links.items;
       count = length c.table.ends.items;
       has_room = nat_lt (vec_len c.table.links) (vec_capacity c.table.links)
-        && nat_lt (vec_len c.table.ends) (vec_capacity c.table.ends);
+          && nat_lt (vec_len c.table.ends) (vec_capacity c.table.ends);
     } };
 
     ghost invariant = { λ c. AreChains (groups_of c.table.links.items) (length c.table.ends.items)

@@ -25,7 +25,12 @@ pub(crate) struct Search {
 
 impl Search {
     /// The search for the match of this number, among the tuples that the template's key stands for.
-    pub(crate) fn new(slots: &[Option<Tuple>], index: &Index, template: &Template, number: usize) -> Search
+    pub(crate) fn new(
+        slots: &[Option<Tuple>],
+        index: &Index,
+        template: &Template,
+        number: usize,
+    ) -> Search
         requires kinds { index.now.by_kinds.keys ≡ keyed kinds_key slots.now }
         requires firsts { index.now.by_first.keys ≡ keyed first_key slots.now }
         ensures found { IfSome result.place (λ place. IsFound slots.now template.now number place) }
@@ -43,7 +48,13 @@ impl Search {
 }
 
 /// The search among the tuples that have the key.
-fn among(slots: &[Option<Tuple>], groups: &Groups, key: &Key, template: &Template, number: usize) -> Search
+fn among(
+    slots: &[Option<Tuple>],
+    groups: &Groups,
+    key: &Key,
+    template: &Template,
+    number: usize,
+) -> Search
     requires { IsAsked slots.now groups.now.keys key.now template.now }
     ensures found { IfSome result.place (λ place. IsFound slots.now template.now number place) }
     ensures fewer { IfNone result.place (length (matching template.now (filled slots.now)) + result.left ≡ number) }

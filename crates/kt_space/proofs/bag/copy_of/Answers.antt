@@ -10,7 +10,7 @@ use Rattle.kt_space.proofs.bag.copy_of.Goals.{in-Some+in_ok-copy+in_ok-reserve, 
 pub loop-slot-preserved : goal.loop-slot-preserved
 loop-slot-preserved c =
     let read : slice_get c.args.slots.now c.loop-slot.slot-index ≡ Some c.slot-item.result =
-        slice_get_read c.args.slots.now (length c.args.slots.now) c.loop-slot.slot-index c.slot-item.result refl c.loop-slot-test.true c.slot-item.is in
+    slice_get_read c.args.slots.now (length c.args.slots.now) c.loop-slot.slot-index c.slot-item.result refl c.loop-slot-test.true c.slot-item.is in
     let next = ap (λ n. filled (take n c.args.slots.now)) (sym (add-one c.loop-slot.slot-index)) in
     elim c.match-slot.branch [
       | in-Some+in_ok-copy+in_ok-reserve w ↦

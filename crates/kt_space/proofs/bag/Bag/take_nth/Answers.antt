@@ -18,7 +18,7 @@ pub returns-in_err-place-clause-left : goal.returns-in_err-place-clause-left
 returns-in_err-place-clause-left c =
     subst (λ (v : Holding). v.tuples ≡ without_match c.args.template.now c.args.number v.tuples) c.self.view_is
     (subst (λ l. filled l ≡ without_match c.args.template.now c.args.number (filled l)) c.deref.ensures.value
-        (nothing_found c.deref.result.now c.args.template.now c.args.number c.new.result.left c.new.result.place c.in_err-place.was c.new.ensures.fewer))
+    (nothing_found c.deref.result.now c.args.template.now c.args.number c.new.result.left c.new.result.place c.in_err-place.was c.new.ensures.fewer))
 
 pub index_mut-requires : goal.index_mut-requires
 index_mut-requires c =
@@ -37,8 +37,11 @@ invariant_of-self c =
     record {
       indexed = subst (λ s. IsIndexed (set c.self.inside.slots.items c.in_ok-place.place s) (c.self.inside.len - 1) c.remove.new.self.by_kinds.keys c.remove.new.self.by_first.keys) (sym c.take-taken.ensures.after)
           (indexed_without c.self.inside.slots.items c.self.inside.len c.in_ok-place.place _ _ _ _ h.tuple c.self.invariant.indexed h.there c.remove.ensures.kinds c.remove.ensures.firsts);
-      room = λ r. let was = c.self.invariant.room r in (was.0, subst (λ b. IsTrue (b && c.remove.new.self.by_first.has_room)) (sym c.remove.ensures.kinds_room)
-          (subst (λ b. IsTrue (c.self.inside.index.by_kinds.has_room && b)) (sym c.remove.ensures.firsts_room) was.1));
+      room = λ r. let was = c.self.invariant.room r in (
+        was.0,
+        subst (λ b. IsTrue (b && c.remove.new.self.by_first.has_room)) (sym c.remove.ensures.kinds_room)
+            (subst (λ b. IsTrue (c.self.inside.index.by_kinds.has_room && b)) (sym c.remove.ensures.firsts_room) was.1),
+      );
     }
 
 pub returns-clause-taken : goal.returns-clause-taken
@@ -47,7 +50,7 @@ returns-clause-taken c =
     let lt = slice_get_within c.self.inside.slots.items c.in_ok-place.place (Some h.tuple) h.there in
     c.take-taken.ensures.value
     ∙ same_Some c.index_mut.result.now (Some h.tuple)
-        (sym (slice_get_read c.self.inside.slots.items (length c.self.inside.slots.items) c.in_ok-place.place c.index_mut.result.now refl lt c.index_mut.ensures.value) ∙ h.there)
+    (sym (slice_get_read c.self.inside.slots.items (length c.self.inside.slots.items) c.in_ok-place.place c.index_mut.result.now refl lt c.index_mut.ensures.value) ∙ h.there)
     ∙ sym (found_match c.self.inside.slots.items c.args.template.now c.args.number c.in_ok-place.place h)
     ∙ ap (λ (v : Holding). slice_get (matching c.args.template.now v.tuples) c.args.number) c.self.view_is
 

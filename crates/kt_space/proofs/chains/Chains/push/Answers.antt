@@ -15,9 +15,9 @@ after_all ends e1 e2 e3 links l1 l2 l3 g n a tables le ie1 il1 in_ ia ie2 il2 ie
     let open_ = table_opened ends links g tables le in
     let t1 : AreTables e1 l1 = tables_as (opened ends g) e1 links l1 ie1 il1 open_.0 in
     let e : e3 ≡ last_changed (first_changed e1 g a (Some (length l1))) g None (Some (length l1)) =
-        ie3 ∙ ap (λ es. last_changed es g None (Some n)) ie2 ∙ ap (λ k. last_changed (first_changed e1 g a (Some k)) g None (Some k)) in_ in
+    ie3 ∙ ap (λ es. last_changed es g None (Some n)) ie2 ∙ ap (λ k. last_changed (first_changed e1 g a (Some k)) g None (Some k)) in_ in
     let l : l3 ≡ after_changed l1 a (Some (length l1)) ++ record { group = Some g; before = a; after = None } ∷ [] =
-        il3 ∙ ap (λ ls. ls ++ record { group = Some g; before = a; after = None } ∷ []) (il2 ∙ ap (λ k. after_changed l1 a (Some k)) in_) in (
+    il3 ∙ ap (λ ls. ls ++ record { group = Some g; before = a; after = None } ∷ []) (il2 ∙ ap (λ k. after_changed l1 a (Some k)) in_) in (
       tables_as _ e3 _ l3 e l (table_pushed e1 l1 g t1 (subst (λ es. g < length es) (sym ie1) open_.1) a ia),
       ap groups_of l ∙ pushed_groups l1 g a (Some (length l1)) ∙ ap (λ ls. groups_of ls ++ Some g ∷ []) il1,
     )

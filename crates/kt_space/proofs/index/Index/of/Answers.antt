@@ -28,17 +28,17 @@ same key slots i old at was =
 pub loop-slot-preserved : goal.loop-slot-preserved
 loop-slot-preserved c =
     let read : slice_get c.args.slots.now c.loop-slot.slot-index ≡ Some c.slot-item.result =
-        slice_get_read c.args.slots.now (length c.args.slots.now) c.loop-slot.slot-index c.slot-item.result refl c.loop-slot-test.true c.slot-item.is in
+    slice_get_read c.args.slots.now (length c.args.slots.now) c.loop-slot.slot-index c.slot-item.result refl c.loop-slot-test.true c.slot-item.is in
     elim c.match-slot.branch [
       | in-Some+in_ok-reserve w ↦
           let at : slice_get c.args.slots.now c.loop-slot.slot-index ≡ Some (Some w.in-Some.tuple) = read ∙ ap Some w.in-Some.is in
           record {
             kinds = ap (λ (i : Index). i.by_kinds.keys) w.index-is
                 ∙ more kinds_key c.args.slots.now c.loop-slot.slot-index w.in-Some.tuple w.reserve.new.self.by_kinds.keys w.push.new.self.by_kinds.keys at w.push.ensures.kinds
-                    (w.in_ok-reserve.ensures.kinds ∙ c.loop-slot.invariant.kinds);
+                (w.in_ok-reserve.ensures.kinds ∙ c.loop-slot.invariant.kinds);
             firsts = ap (λ (i : Index). i.by_first.keys) w.index-is
                 ∙ more first_key c.args.slots.now c.loop-slot.slot-index w.in-Some.tuple w.reserve.new.self.by_first.keys w.push.new.self.by_first.keys at w.push.ensures.firsts
-                    (w.in_ok-reserve.ensures.firsts ∙ c.loop-slot.invariant.firsts);
+                (w.in_ok-reserve.ensures.firsts ∙ c.loop-slot.invariant.firsts);
           }
       | in_default w ↦
           let at : slice_get c.args.slots.now c.loop-slot.slot-index ≡ Some None = read ∙ ap Some w.in_default.is in
