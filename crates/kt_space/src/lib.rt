@@ -1,4 +1,5 @@
-//! A bag: tuples in order of arrival, from which a template picks.
+//! A bag: tuples in order of arrival, from which a template picks. Those that it may match are found without a
+//! look at the others.
 #![tactic(auto)]
 
 mod bag;
@@ -14,6 +15,3 @@ pub use laws::{
     a_bag_makes_steps_of_the_space, a_match_is_taken_from_its_place,
     no_match_is_given_where_fewer_match,
 };
-
-#[cfg(test)]
-mod tests;

@@ -1,5 +1,7 @@
-use super::*;
-use kt_tuple::{Template, Tuple};
+//! What a template picks from a few tuples.
+
+use kt_space::Bag;
+use kt_tuple::{Str, Template, Tuple, Value};
 use std::alloc::Global;
 use std::test::Fail;
 
@@ -80,5 +82,22 @@ fn what_is_taken_leaves_the_others_in_order(rt: HostRuntime) -> Result<(), Fail>
         br#"(1)(2)("x")(3)"#.as_slice()
     );
     assert!(rt; Bag::new(alloc).is_empty());
+    Ok(())
+}
+
+#[test]
+fn a_template_is_compared_with_its_own_group_alone(rt: HostRuntime) -> Result<(), Fail> {
+    let alloc = rt.alloc();
+    let mut bag = Bag::new(alloc);
+    for number in 0..1000i64 {
+        let key = Value::Str(Str::new(b"k".as_slice()).ok_or("text")?);
+        let values = vec![in alloc; key, Value::Int(number)]?;
+        bag.put(Tuple::new(values).ok_or("arity")?)?;
+    }
+    bag.put(Tuple::parse(alloc, br#"("m", 5)"#.as_slice())?)?;
+    let template = Template::parse(alloc, br#"("m", ?int)"#.as_slice())?;
+    let (found, compared) = bag.nth_match_counted(&template, 0);
+    assert_eq!(rt; text_of_one(alloc, found)?.as_slice(), br#"("m", 5)"#.as_slice());
+    assert_eq!(rt; compared, 1);
     Ok(())
 }
