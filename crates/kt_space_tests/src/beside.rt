@@ -73,7 +73,7 @@ fn agree_on_call(
     plain: &mut Plain,
 ) -> Result<bool, Fail> {
     let kind = draws.below(8);
-    if kind < 3 {
+    if kind < 2 {
         let tuple = tuple(alloc, draws)?;
         plain.tuples.push(tuple.copy(alloc)?)?;
         bag.put(tuple)?;
@@ -82,8 +82,8 @@ fn agree_on_call(
     let template = template(alloc, draws)?;
     let number = draws.below(3) as usize;
     Ok(match kind {
-        3 => bag.count_matches(&template) == plain.count_matches(&template),
-        4 => are_equal(
+        2 => bag.count_matches(&template) == plain.count_matches(&template),
+        3 => are_equal(
             bag.nth_match(&template, number),
             plain.nth_match(&template, number),
         ),
