@@ -18,11 +18,13 @@ length-more : {A : Type 0} (xs : List A) (y : A) → length (xs ++ y ∷ []) ≡
 length-more [] y = refl
 length-more (x ∷ xs) y = ap suc (length-more xs y)
 
-pub indexed_pushed : (slots slots' : List (Option Tuple)) (len : ℕ) (kinds firsts kinds' firsts' : List (Option Key)) (u : Tuple) → IsIndexed slots len kinds firsts
+pub indexed_pushed : (slots slots' : List (Option Tuple)) (len : ℕ) (kinds firsts kinds' firsts' : List (Option Key)) (u : Tuple)
+    → IsIndexed slots len kinds firsts
     → slots' ≡ slots ++ Some u ∷ [] → kinds' ≡ kinds ++ Some (kinds_key u) ∷ [] → firsts' ≡ firsts ++ Some (first_key u) ∷ []
     → IsIndexed slots' (len + 1) kinds' firsts'
 indexed_pushed slots slots' len kinds firsts kinds' firsts' u h e k f = record {
-  counted = (let size : length (filled slots') ≡ suc (length (filled slots)) = ap (λ l. length (filled l)) e ∙ ap length (filled_pushed slots u) ∙ length-more (filled slots) u in
+  counted = (let size : length (filled slots') ≡ suc (length (filled slots)) = ap (λ l. length (filled l)) e ∙ ap length (filled_pushed slots u)
+      ∙ length-more (filled slots) u in
       let was = h.counted in omega (arith, size, was));
   by_kinds = k ∙ ap (λ l. l ++ Some (kinds_key u) ∷ []) h.by_kinds ∙ sym (keyed_pushed kinds_key slots u) ∙ ap (keyed kinds_key) (sym e);
   by_first = f ∙ ap (λ l. l ++ Some (first_key u) ∷ []) h.by_first ∙ sym (keyed_pushed first_key slots u) ∙ ap (keyed first_key) (sym e);
@@ -62,7 +64,8 @@ indexed_tidied slots slots' len kinds firsts kinds' firsts' h e k f = record {
 pub read_full : (slots : List (Option Tuple)) (p : ℕ) → length (filled slots) ≡ length slots
     → option_and_then (λ s. s) (slice_get slots p) ≡ slice_get (filled slots) p
 read_full slots p e =
-    ap (λ l. option_and_then (λ s. s) (slice_get l p)) (all_filled slots e) ∙ ap (option_and_then (λ s. s)) (slice_get-map (λ u. Some u) (filled slots) p) ∙ join (slice_get (filled slots) p)
+    ap (λ l. option_and_then (λ s. s) (slice_get l p)) (all_filled slots e) ∙ ap (option_and_then (λ s. s)) (slice_get-map (λ u. Some u) (filled slots) p)
+    ∙ join (slice_get (filled slots) p)
   where
     join : (o : Option Tuple) → option_and_then (λ s. s) (option_map (λ u. Some u) o) ≡ o
     join None = refl

@@ -10,7 +10,8 @@ use Rattle.kt_space.specs.Picking.{matching, without_match}
 use Rattle.kt_space.specs.Slots.{IsFound, filled, keyed, passing}
 use Rattle.kt_space.proofs.Picked.{match_here, without_here}
 
-pub filled_some : (slots : List (Option Tuple)) (i : ℕ) (u : Tuple) → slice_get slots i ≡ Some (Some u) → filled (take (suc i) slots) ≡ filled (take i slots) ++ u ∷ []
+pub filled_some : (slots : List (Option Tuple)) (i : ℕ) (u : Tuple) → slice_get slots i ≡ Some (Some u)
+    → filled (take (suc i) slots) ≡ filled (take i slots) ++ u ∷ []
 filled_some [] i u at = absurd (none-some (Some u) at)
 filled_some (s ∷ slots) zero u at = ap (λ (o : Option Tuple). filled (o ∷ [])) (same_Some s (Some u) at)
 filled_some (None ∷ slots) (suc i) u at = filled_some slots i u at
@@ -39,7 +40,8 @@ keyed_without key (Some x ∷ slots) zero = refl
 keyed_without key (None ∷ slots) (suc i) = ap (λ l. None ∷ l) (keyed_without key slots i)
 keyed_without key (Some x ∷ slots) (suc i) = ap (λ l. Some (key x) ∷ l) (keyed_without key slots i)
 
-pub tuple_at : (slots : List (Option Tuple)) (p : ℕ) (u : Tuple) → slice_get slots p ≡ Some (Some u) → slice_get (filled slots) (length (filled (take p slots))) ≡ Some u
+pub tuple_at : (slots : List (Option Tuple)) (p : ℕ) (u : Tuple) → slice_get slots p ≡ Some (Some u)
+    → slice_get (filled slots) (length (filled (take p slots))) ≡ Some u
 tuple_at [] p u at = absurd (none-some (Some u) at)
 tuple_at (s ∷ slots) zero u at = ap (λ (o : Option Tuple). slice_get (filled (o ∷ slots)) 0) (same_Some s (Some u) at)
 tuple_at (None ∷ slots) (suc p) u at = tuple_at slots p u at
@@ -69,13 +71,15 @@ length_without (Some x ∷ slots) (suc p) u at = ap suc (length_without slots p 
 -- what is found is the match of the number, and without it are the others
 pub found_match : (slots : List (Option Tuple)) (t : Template) (k p : ℕ) (h : IsFound slots t k p) → slice_get (matching t (filled slots)) k ≡ Some h.tuple
 found_match slots t k p h =
-    let before : length (matching t (take (length (filled (take p slots))) (filled slots))) ≡ k = ap (λ l. length (matching t l)) (tuples_before slots p) ∙ h.before in
+    let before : length (matching t (take (length (filled (take p slots))) (filled slots))) ≡ k = ap (λ l. length (matching t l)) (tuples_before slots p)
+    ∙ h.before in
     ap (slice_get (matching t (filled slots))) (sym before)
     ∙ match_here t (filled slots) (length (filled (take p slots))) h.tuple (tuple_at slots p h.tuple h.there) h.fits
 
 pub found_others : (slots : List (Option Tuple)) (t : Template) (k p : ℕ) → IsFound slots t k p → filled (set slots p None) ≡ without_match t k (filled slots)
 found_others slots t k p h =
-    let before : length (matching t (take (length (filled (take p slots))) (filled slots))) ≡ k = ap (λ l. length (matching t l)) (tuples_before slots p) ∙ h.before in
+    let before : length (matching t (take (length (filled (take p slots))) (filled slots))) ≡ k = ap (λ l. length (matching t l)) (tuples_before slots p)
+    ∙ h.before in
     sym (tuples_without slots p h.tuple h.there)
     ∙ without_here t (filled slots) (length (filled (take p slots))) h.tuple (tuple_at slots p h.tuple h.there) h.fits
     ∙ ap (λ n. without_match t n (filled slots)) before

@@ -25,7 +25,8 @@ map-changed v f same [] i = refl
 map-changed v f same (x ∷ xs) zero = ap (λ y. y ∷ map v xs) (same x)
 map-changed v f same (x ∷ xs) (suc i) = ap (map v) (changed_later f x xs i) ∙ ap (λ ys. v x ∷ ys) (map-changed v f same xs i)
 
-pub map-changed_to : {A B : Type 0} (v : A → B) (f : A → A) (b : B) → ((x : A) → v (f x) ≡ b) → (xs : List A) (i : ℕ) → map v (changed f xs i) ≡ set (map v xs) i b
+pub map-changed_to : {A B : Type 0} (v : A → B) (f : A → A) (b : B) → ((x : A) → v (f x) ≡ b) → (xs : List A) (i : ℕ)
+    → map v (changed f xs i) ≡ set (map v xs) i b
 map-changed_to v f b is [] i = refl
 map-changed_to v f b is (x ∷ xs) zero = ap (λ y. y ∷ map v xs) (is x)
 map-changed_to v f b is (x ∷ xs) (suc i) = ap (map v) (changed_later f x xs i) ∙ ap (λ ys. v x ∷ ys) (map-changed_to v f b is xs i)
@@ -50,7 +51,8 @@ elsewhere v f [] i j n = refl
 elsewhere v f (x ∷ xs) zero zero n = absurd (n refl)
 elsewhere v f (x ∷ xs) zero (suc j) n = refl
 elsewhere v f (x ∷ xs) (suc i) zero n = ap (λ ys. option_and_then v (slice_get ys zero)) (changed_later f x xs i)
-elsewhere v f (x ∷ xs) (suc i) (suc j) n = ap (λ ys. option_and_then v (slice_get ys (suc j))) (changed_later f x xs i) ∙ elsewhere v f xs i j (λ e. n (ap suc e))
+elsewhere v f (x ∷ xs) (suc i) (suc j) n = ap (λ ys. option_and_then v (slice_get ys (suc j))) (changed_later f x xs i)
+    ∙ elsewhere v f xs i j (λ e. n (ap suc e))
 
 size_of_groups : (links : List Link) → length (groups_of links) ≡ length links
 size_of_groups [] = refl
@@ -97,7 +99,8 @@ next_count ends g (Some i) to = refl
 pub previous_hit : (ends : List Ends) (links : List Link) (g : ℕ) (at to : Option ℕ) → IsIn (groups_of links) (length ends) g at
     → before_of (last_changed ends g at to) (before_changed links at to) g at ≡ to
 previous_hit ends links g None to in_ = wrote (λ (e : Ends). e.last) (λ (e : Ends). record e { last = to }) to (λ _. refl) ends g in_
-previous_hit ends links g (Some i) to in_ = wrote (λ (l : Link). l.before) (λ (l : Link). record l { before = to }) to (λ _. refl) links i (in_links links i g in_)
+previous_hit ends links g (Some i) to in_ = wrote (λ (l : Link). l.before) (λ (l : Link). record l { before = to }) to (λ _. refl) links i (in_links links i
+    g in_)
 
 pub previous_miss : (ends : List Ends) (links : List Link) (g : ℕ) (at to : Option ℕ) → Fits (groups_of links) g at → (h : ℕ) (c : Option ℕ)
     → IsIn (groups_of links) (length ends) h c → (h ≡ g → c ≡ at → ⊥)

@@ -82,7 +82,8 @@ module _ {A : Type 0} (eq : A → A → Bool) (same : (a b : A) → Decides (eq 
       right true b e = absurd (false≢true (sym e))
       right false b e = e
 
-  pub inserted : (ks ks' : List A) (k k' : A) (g count : ℕ) → length ks ≡ count → ((i j : ℕ) (h : A) → slice_get ks i ≡ Some h → slice_get ks j ≡ Some h → i ≡ j)
+  pub inserted : (ks ks' : List A) (k k' : A) (g count : ℕ) → length ks ≡ count → ((i j : ℕ) (h : A) → slice_get ks i ≡ Some h → slice_get ks j ≡ Some h
+      → i ≡ j)
       → ks' ≡ insert_key eq ks k → g < length ks' → slice_get ks' g ≡ Some k' → eq k k' ≡ true
       → (length ks' ≡ max count (g + 1)) × (slice_get ks' g ≡ Some k) × ((i : ℕ) → i < length ks → slice_get ks' i ≡ slice_get ks i)
       × ((i j : ℕ) (h : A) → slice_get ks' i ≡ Some h → slice_get ks' j ≡ Some h → i ≡ j)
@@ -108,7 +109,11 @@ module _ {A : Type 0} (eq : A → A → Bool) (same : (a b : A) → Decides (eq 
             omega (arith, size, counted, last),
             at_k,
             old,
-            (λ i j h p q. once i j h (elim (decide i (length ks)) [ inl x ↦ inl x | inr n ↦ inr (less i h n size p) ]) (elim (decide j (length ks)) [ inl x ↦ inl x | inr n ↦ inr (less j h n size q) ])
+            (λ i j h p q. once i j h (elim (decide i (length ks)) [ inl x ↦ inl x | inr n ↦ inr (less i h n size p) ]) (elim (decide j (length ks)) [
+              | inl x ↦
+                  inl x
+              | inr n ↦ inr (less j h n size q)
+            ])
                 old (subst (λ n. slice_get ks' n ≡ Some k) last at_k) p q),
           )
         where

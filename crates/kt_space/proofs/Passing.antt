@@ -16,12 +16,14 @@ module _ (test : Tuple → Bool) where
   head None slots n = omega arith
   head (Some u) slots n = by (test u)
     where
-      by : (r : Bool) → length (cond r (u ∷ filter test (filled (take n slots))) (filter test (filled (take n slots)))) ≡ cond r 1 0 + length (filter test (filled (take n slots)))
+      by : (r : Bool) → length (cond r (u ∷ filter test (filled (take n slots))) (filter test (filled (take n slots)))) ≡ cond r 1 0 + length (filter test
+          (filled (take n slots)))
       by true = omega arith
       by false = omega arith
 
   -- one slot more
-  pub step : (slots : List (Option Tuple)) (n : ℕ) (s : Option Tuple) → slice_get slots n ≡ Some s → passing test slots (suc n) ≡ hit test s + passing test slots n
+  pub step : (slots : List (Option Tuple)) (n : ℕ) (s : Option Tuple) → slice_get slots n ≡ Some s
+      → passing test slots (suc n) ≡ hit test s + passing test slots n
   step [] n s at = absurd (none-some s at)
   step (x ∷ slots) zero s at = head x slots zero ∙ ap (λ o. hit test o + 0) (same_Some x s at)
   step (x ∷ slots) (suc n) s at = let h1 = head x slots (suc n) in let h2 = head x slots n in let h3 = step slots n s at in omega (arith, h1, h2, h3)

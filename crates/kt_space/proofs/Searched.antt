@@ -53,9 +53,11 @@ module _ (slots : List (Option Tuple)) (keys : List (Option Key)) (key : Key) (t
 
   -- from a place to the next
   onward : (p : ℕ) (next : Option ℕ) → Beside keys key (Some p) next → passing (matches t) slots (before_place slots next) ≡ passing (matches t) slots (suc p)
-  onward p next x = gap (matches t) slots (suc p) (before_place slots next) (after_this p next x.starts x.apart) (none_from (Some p) (suc p) next x (λ m le. omega (arith, le)))
+  onward p next x = gap (matches t) slots (suc p) (before_place slots next) (after_this p next x.starts x.apart) (none_from (Some p) (suc p) next x (λ m le.
+      omega (arith, le)))
 
-  more : (p : ℕ) (next : Option ℕ) → Beside keys key (Some p) next → suc (passing (could_match t) slots p) ≤ passing (could_match t) slots (before_place slots next)
+  more : (p : ℕ) (next : Option ℕ) → Beside keys key (Some p) next → suc (passing (could_match t) slots p) ≤ passing (could_match t) slots (before_place
+      slots next)
   more p next x =
       let h = asked.only p x.starts in
       let one = step (could_match t) slots p (Some h.0) h.1 in
@@ -66,7 +68,8 @@ module _ (slots : List (Option Tuple)) (keys : List (Option Key)) (key : Key) (t
   pub matched : (p : ℕ) → Has keys p key → slot_matches t (slice_get slots p) ≡ true → (u : Tuple) × (slice_get slots p ≡ Some (Some u)) × (matches t u ≡ true)
   matched p has e = let h = asked.only p has in (h.0, h.1, sym (ap (slot_matches t) h.1) ∙ e)
 
-  pub passed_match : (number p left compared compared' : ℕ) (next : Option ℕ) → compared' ≤ compared + 1 → IsPassed slots keys key t number (Some p) left compared → Beside keys key (Some p) next
+  pub passed_match : (number p left compared compared' : ℕ) (next : Option ℕ) → compared' ≤ compared + 1
+      → IsPassed slots keys key t number (Some p) left compared → Beside keys key (Some p) next
       → slot_matches t (slice_get slots p) ≡ true → left ≢ 0 → IsPassed slots keys key t number next (left - 1) compared'
   passed_match number p left compared compared' next le h x e n =
       let m = matched p h.stands e in
@@ -78,7 +81,8 @@ module _ (slots : List (Option Tuple)) (keys : List (Option Key)) (key : Key) (t
       let few = h.few in
       record { stands = x.ends; passed = omega (arith, one, is, on, was, n); few = omega (arith, up, few, le) }
 
-  pub passed_other : (number p left compared compared' : ℕ) (next : Option ℕ) → compared' ≤ compared + 1 → IsPassed slots keys key t number (Some p) left compared → Beside keys key (Some p) next
+  pub passed_other : (number p left compared compared' : ℕ) (next : Option ℕ) → compared' ≤ compared + 1
+      → IsPassed slots keys key t number (Some p) left compared → Beside keys key (Some p) next
       → slot_matches t (slice_get slots p) ≡ false → IsPassed slots keys key t number next left compared'
   passed_other number p left compared compared' next le h x e =
       let m = asked.only p h.stands in
@@ -97,7 +101,8 @@ module _ (slots : List (Option Tuple)) (keys : List (Option Key)) (key : Key) (t
       let was = h.passed in
       record { tuple = m.0; there = m.1; fits = m.2; before = omega (arith, was, n) }
 
-  pub few_here : (number p left compared compared' : ℕ) → compared' ≤ compared + 1 → IsPassed slots keys key t number (Some p) left compared → compared' ≤ length (filter (could_match t) (filled slots))
+  pub few_here : (number p left compared compared' : ℕ) → compared' ≤ compared + 1 → IsPassed slots keys key t number (Some p) left compared
+      → compared' ≤ length (filter (could_match t) (filled slots))
   few_here number p left compared compared' le h =
       let m = asked.only p h.stands in
       let one = step (could_match t) slots p (Some m.0) m.1 in

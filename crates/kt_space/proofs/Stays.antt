@@ -9,7 +9,8 @@ use Rattle.kt_space.proofs.Beside.{read_pushed, read_before, read_same, read_oth
 module _ {A : Type 0} (gs : List (Option A)) (r : ℕ) where
   pub kept_has : (m : ℕ) (h : A) → Has (set gs r None) m h → Has gs m h × (m ≢ r)
   kept_has m h has = elim (decide m r) [
-    | inl e ↦ let there : r < length (set gs r None) = subst (λ i. i < length (set gs r None)) e (slice_get_within (set gs r None) m (Some h) has) in absurd (gone h (subst (λ i. Has (set gs r None) i h) e has))
+    | inl e ↦ let there : r < length (set gs r None) = subst (λ i. i < length (set gs r None)) e (slice_get_within (set gs r None) m (Some h) has) in absurd
+        (gone h (subst (λ i. Has (set gs r None) i h) e has))
     | inr n ↦ (sym (read_other gs r m None n) ∙ has, n)
   ]
     where

@@ -30,7 +30,8 @@ table_unlinked ends links r g chains has a b isa isb =
     let fits_b : Fits (groups_of links) g b = subst (λ c. Fits (groups_of links) g c) (sym isb) (chains.forth g (Some r) has).ends in
     let forth : (h : ℕ) (c : Option ℕ) → after_of e3 l4 h c ≡ after_of e2 l2 h c = λ h c. left_forth e3 l3 r h c ∙ previous_forth e2 l2 g b a h c in
     let there : (h : ℕ) (c : Option ℕ) → IsIn (groups_of links) (length ends) h c → IsIn (groups_of l2) (length e2) h c =
-    λ h c in_. subst (λ gs. IsIn gs (length e2) h c) (sym (next_groups links a b)) (subst (λ n. IsIn (groups_of links) n h c) (sym (next_count ends g a b)) in_) in
+    λ h c in_. subst (λ gs. IsIn gs (length e2) h c) (sym (next_groups links a b)) (subst (λ n. IsIn (groups_of links) n h c) (sym (next_count ends g a b))
+    in_) in
     let fits_b2 : Fits (groups_of l2) g b = subst (λ gs. Fits gs g b) (sym (next_groups links a b)) fits_b in
     let done : AreChains (set (groups_of links) r None) (length ends) (after_of e3 l4) (before_of e3 l4) =
     unlinked (groups_of links) (length ends) r g (after_of ends links) (before_of ends links) (after_of e3 l4) (before_of e3 l4) chains has
@@ -117,7 +118,10 @@ table_opened ends links g chains le = by (nat_eq g (length ends)) refl
         → option_and_then v (slice_get (ends ++ record { first = None; last = None } ∷ []) h) ≡ option_and_then v (slice_get ends h)
     same v h lt = ap (λ (o : Option Ends). option_and_then v o) (read_before ends (record { first = None; last = None }) h lt)
 
-    new : (v : Ends → Option ℕ) → option_and_then v (slice_get (ends ++ record { first = None; last = None } ∷ []) (length ends)) ≡ v (record { first = None; last = None })
+    new : (v : Ends → Option ℕ) → option_and_then v (slice_get (ends ++ record { first = None; last = None } ∷ []) (length ends)) ≡ v (record {
+      first = None;
+      last = None;
+    })
     new v = ap (λ (o : Option Ends). option_and_then v o) (read_pushed ends (record { first = None; last = None }))
 
     forth : (h : ℕ) (c : Option ℕ) → IsIn (groups_of links) (length ends) h c
@@ -137,7 +141,11 @@ table_opened ends links g chains le = by (nat_eq g (length ends)) refl
     by true e =
         let is : g ≡ length ends = eqb-true g (length ends) e in
         let size : length (ends ++ record { first = None; last = None } ∷ []) ≡ suc (length ends) = length-more ends (record { first = None; last = None }) in (
-          subst (λ n. AreChains (groups_of links) n (after_of (ends ++ record { first = None; last = None } ∷ []) links) (before_of (ends ++ record { first = None; last = None } ∷ []) links)) (sym size)
+          subst (λ n. AreChains (groups_of links) n (after_of (ends ++ record { first = None; last = None } ∷ []) links) (before_of (ends ++ record {
+            first =
+                None;
+            last = None;
+          } ∷ []) links)) (sym size)
               (grown (groups_of links) (length ends) (after_of ends links) (before_of ends links)
               (after_of (ends ++ record { first = None; last = None } ∷ []) links) (before_of (ends ++ record { first = None; last = None } ∷ []) links)
               chains forth back (new (λ (e : Ends). e.first)) (new (λ (e : Ends). e.last))),

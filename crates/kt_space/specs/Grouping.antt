@@ -46,14 +46,19 @@ pub first_eq_decides : (a b : Option Value) → Decides (first_eq a b) (a ≡ b)
 first_eq_decides None None = (λ _. refl, λ _. refl)
 first_eq_decides None (Some w) = (λ e. absurd cc, λ e. absurd cc)
 first_eq_decides (Some v) None = (λ e. absurd cc, λ e. absurd cc)
-first_eq_decides (Some v) (Some w) = (λ e. ap Some ((value_eq_decides v w).0 e), λ (e : Some v ≡ Some w). (value_eq_decides v w).1 cc)
+first_eq_decides (Some v) (Some w) = (
+  λ e. ap Some ((value_eq_decides v w).0 e),
+  λ (e : Some v ≡ Some w).
+      (value_eq_decides v w).1 cc,
+)
 
 pub key_eq_decides : (a b : Key) → Decides (key_eq a b) (a ≡ b)
 key_eq_decides a b = (
   λ e. let h = and_parts (nat_eq a.signature b.signature) (first_eq a.first b.first) e in
       same ((unsigned_Decides a.signature b.signature).0 h.0) ((first_eq_decides a.first b.first).0 h.1),
   λ e. and_from (nat_eq a.signature b.signature) (first_eq a.first b.first)
-      ((unsigned_Decides a.signature b.signature).1 (ap (λ (k : Key). k.signature) e)) ((first_eq_decides a.first b.first).1 (ap (λ (k : Key). k.first) e)),
+      ((unsigned_Decides a.signature b.signature).1 (ap (λ (k : Key). k.signature) e)) ((first_eq_decides a.first
+      b.first).1 (ap (λ (k : Key). k.first) e)),
 )
   where
     same : a.signature ≡ b.signature → a.first ≡ b.first → a ≡ b

@@ -27,7 +27,8 @@ slot_matches t (Some (Some u)) = matches t u
 -- the tuples that match have the key, and those that have it may match
 pub record IsAsked (slots : List (Option Tuple)) (keys : List (Option Key)) (key : Key) (t : Template) : Type 0 where
   pub all : (place : ℕ) (u : Tuple) → slice_get slots place ≡ Some (Some u) → matches t u ≡ true → Has keys place key
-  pub only : (place : ℕ) → Has keys place key → (u : Tuple) × (slice_get slots place ≡ Some (Some u)) × (could_match t u ≡ true)
+  pub only : (place : ℕ) → Has keys place key → (u : Tuple) × (slice_get slots place ≡ Some (Some u))
+      × (could_match t u ≡ true)
 
 -- the slots before a place, or all
 abbrev pub before_place : List (Option Tuple) → Option ℕ → ℕ

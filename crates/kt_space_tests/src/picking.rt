@@ -97,7 +97,10 @@ fn a_template_is_compared_with_its_own_group_alone(rt: HostRuntime) -> Result<()
     bag.put(Tuple::parse(alloc, br#"("m", 5)"#.as_slice())?)?;
     let template = Template::parse(alloc, br#"("m", ?int)"#.as_slice())?;
     let (found, compared) = bag.nth_match_counted(&template, 0);
-    assert_eq!(rt; text_of_one(alloc, found)?.as_slice(), br#"("m", 5)"#.as_slice());
+    assert_eq!(rt;
+        text_of_one(alloc, found)?.as_slice(),
+        br#"("m", 5)"#.as_slice()
+    );
     assert_eq!(rt; compared, 1);
     Ok(())
 }

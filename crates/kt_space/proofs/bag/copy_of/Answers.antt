@@ -15,8 +15,10 @@ loop-slot-preserved c =
     elim c.match-slot.branch [
       | in-Some+in_ok-copy+in_ok-reserve w ↦
           let more = filled_some c.args.slots.now c.loop-slot.slot-index w.in-Some.tuple (read ∙ ap Some w.in-Some.is) in
-          ap (λ (v : Holding). v.tuples) w.bag-is ∙ w.put_reserved.ensures ∙ ap (λ l. l ++ w.in_ok-copy.copy ∷ []) (w.in_ok-reserve.ensures.tuples ∙ c.loop-slot.invariant)
+          ap (λ (v : Holding). v.tuples) w.bag-is ∙ w.put_reserved.ensures ∙ ap (λ l. l ++ w.in_ok-copy.copy ∷ []) (w.in_ok-reserve.ensures.tuples
+          ∙ c.loop-slot.invariant)
           ∙ ap (λ u. filled (take c.loop-slot.slot-index c.args.slots.now) ++ u ∷ []) w.in_ok-copy.ensures ∙ sym more ∙ next
       | in_default w ↦
-          ap (λ (v : Holding). v.tuples) w.bag-is ∙ c.loop-slot.invariant ∙ sym (filled_none c.args.slots.now c.loop-slot.slot-index (read ∙ ap Some w.in_default.is)) ∙ next
+          ap (λ (v : Holding). v.tuples) w.bag-is ∙ c.loop-slot.invariant ∙ sym (filled_none c.args.slots.now c.loop-slot.slot-index (read
+          ∙ ap Some w.in_default.is)) ∙ next
     ]

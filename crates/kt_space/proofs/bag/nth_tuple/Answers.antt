@@ -30,8 +30,10 @@ loop-slot-preserved c =
     ap (λ n. length (filled (take n c.args.slots.now))) (add-one c.loop-slot.slot-index) in
     elim c.match-slot.branch [
       | in-Some+else-before-eq0 w ↦
-          let more : length (filled (take (suc c.loop-slot.slot-index) c.args.slots.now)) ≡ suc (length (filled (take c.loop-slot.slot-index c.args.slots.now))) =
-          ap length (filled_some c.args.slots.now c.loop-slot.slot-index w.in-Some.tuple (read ∙ ap Some w.in-Some.is)) ∙ size-more (filled (take c.loop-slot.slot-index c.args.slots.now)) w.in-Some.tuple in
+          let more : length (filled (take (suc c.loop-slot.slot-index) c.args.slots.now)) ≡ suc (length (filled (take c.loop-slot.slot-index
+          c.args.slots.now))) =
+          ap length (filled_some c.args.slots.now c.loop-slot.slot-index w.in-Some.tuple (read ∙ ap Some w.in-Some.is))
+          ∙ size-more (filled (take c.loop-slot.slot-index c.args.slots.now)) w.in-Some.tuple in
           let is = w.before-is in
           let some_left = w.if-before-eq0.false in
           omega (arith, was, next, more, is, some_left)
@@ -45,6 +47,7 @@ loop-slot-preserved c =
 pub returns : goal.returns
 returns c =
     let was : length (filled (take c.loop-slot.slot-index c.args.slots.now)) + c.loop-slot.before ≡ c.args.number = c.loop-slot.invariant in
-    let all : filled (take c.loop-slot.slot-index c.args.slots.now) ≡ filled c.args.slots.now = ap filled (take_all c.loop-slot.slot-index c.args.slots.now c.loop-slot-test.false) in
+    let all : filled (take c.loop-slot.slot-index c.args.slots.now) ≡ filled c.args.slots.now = ap filled (take_all c.loop-slot.slot-index c.args.slots.now
+    c.loop-slot-test.false) in
     let size = ap length all in
     sym (slice_get_past (filled c.args.slots.now) c.args.number (omega (arith, was, size)))

@@ -8,7 +8,8 @@ use Rattle.kt_space.proofs.bag.Bag.get.Goals as goal
 
 pub returns-then-self-len : goal.returns-then-self-len
 returns-then-self-len c =
-    let size : length (filled c.self.inside.slots.items) ≡ length c.self.inside.slots.items = c.self.invariant.indexed.counted ∙ c.if-self-len.true ∙ c.len.ensures ∙ search rules in
+    let size : length (filled c.self.inside.slots.items) ≡ length c.self.inside.slots.items = c.self.invariant.indexed.counted ∙ c.if-self-len.true
+    ∙ c.len.ensures ∙ search rules in
     c.tuple_at.ensures ∙ ap (λ l. option_and_then (λ s. s) (slice_get l c.args.place)) c.deref.ensures.value
     ∙ read_full c.self.inside.slots.items c.args.place size ∙ ap (λ (v : Holding). slice_get v.tuples c.args.place) c.self.view_is
 

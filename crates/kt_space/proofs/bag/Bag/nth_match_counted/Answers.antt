@@ -11,6 +11,7 @@ pub returns-clause-value : goal.returns-clause-value
 returns-clause-value c =
     c.tuple_at.ensures
     ∙ ap (λ l. option_and_then (λ p. option_and_then (λ s. s) (slice_get l p)) c.new-search.result.place) (c.deref-2.ensures.value ∙ sym c.deref.ensures.value)
-    ∙ match_found c.deref.result.now c.args.template.now c.args.number c.new-search.result.left c.new-search.result.place c.new-search.ensures.found c.new-search.ensures.fewer
+    ∙ match_found c.deref.result.now c.args.template.now c.args.number c.new-search.result.left c.new-search.result.place c.new-search.ensures.found
+    c.new-search.ensures.fewer
     ∙ ap (λ l. slice_get (matching c.args.template.now (filled l)) c.args.number) c.deref.ensures.value
     ∙ ap (λ (v : Holding). slice_get (matching c.args.template.now v.tuples) c.args.number) c.self.view_is

@@ -10,7 +10,8 @@ use Rattle.kt_space.proofs.bag.Bag.put_reserved.Goals as goal
 pub overflow_add-self : goal.overflow_add-self
 overflow_add-self c =
     let few = filled_at_most c.push_reserved.new.self.items in
-    let more = (indexed_pushed c.self.inside.slots.items c.push_reserved.new.self.items c.self.inside.len _ _ _ _ c.args.tuple c.self.invariant.indexed c.push_reserved.ensures.items c.push.ensures.kinds c.push.ensures.firsts).counted in
+    let more = (indexed_pushed c.self.inside.slots.items c.push_reserved.new.self.items c.self.inside.len _ _ _ _ c.args.tuple c.self.invariant.indexed
+    c.push_reserved.ensures.items c.push.ensures.kinds c.push.ensures.firsts).counted in
     let all : c.len-slots.result ≡ length c.push_reserved.new.self.items = c.len-slots.ensures ∙ search rules in
     let le : c.self.inside.len + 1 ≤ c.len-slots.result = omega (arith, few, more, all) in
     Fits-le le (search rules)

@@ -15,4 +15,5 @@ invariant_of-self c = record {
 }
 
 pub returns-clause-tuples : goal.returns-clause-tuples
-returns-clause-tuples c = tidied_filled c.self.inside.slots.items c.drop_empty.new.slots.items c.drop_empty.ensures ∙ ap (λ (v : Holding). v.tuples) c.self.view_is
+returns-clause-tuples c = tidied_filled c.self.inside.slots.items c.drop_empty.new.slots.items c.drop_empty.ensures
+    ∙ ap (λ (v : Holding). v.tuples) c.self.view_is

@@ -23,14 +23,18 @@ after_all ends e1 e2 e3 links l1 l2 l3 g n a tables le ie1 il1 in_ ia ie2 il2 ie
     )
 
 pub invariant_of-self : goal.invariant_of-self
-invariant_of-self c = (after_all c.self.inside.table.ends.items _ _ _ c.self.inside.table.links.items _ _ _ c.args.group c.len-place.result c.before-last.result c.self.invariant
+invariant_of-self c = (after_all c.self.inside.table.ends.items _ _ _ c.self.inside.table.links.items _ _ _ c.args.group c.len-place.result
+    c.before-last.result c.self.invariant
     (subst (λ (v : Chained). c.args.group ≤ v.count) (sym c.self.view_is) c.requires.known)
     c.open.ensures.ends c.open.ensures.links (search rules) c.before-last.ensures c.set_after.ensures.ends c.set_after.ensures.links c.set_before.ensures.ends
-    (c.push_reserved.ensures.items ∙ ap (λ (ls : List Link). ls ++ record { group = Some c.args.group; before = c.before-last.result; after = None } ∷ []) c.set_before.ensures.links)).0
+    (c.push_reserved.ensures.items ∙ ap (λ (ls : List Link). ls ++ record { group = Some c.args.group; before = c.before-last.result; after = None } ∷ [])
+    c.set_before.ensures.links)).0
 
 pub returns-clause-groups : goal.returns-clause-groups
-returns-clause-groups c = (after_all c.self.inside.table.ends.items _ _ _ c.self.inside.table.links.items _ _ _ c.args.group c.len-place.result c.before-last.result c.self.invariant
+returns-clause-groups c = (after_all c.self.inside.table.ends.items _ _ _ c.self.inside.table.links.items _ _ _ c.args.group c.len-place.result
+    c.before-last.result c.self.invariant
     (subst (λ (v : Chained). c.args.group ≤ v.count) (sym c.self.view_is) c.requires.known)
     c.open.ensures.ends c.open.ensures.links (search rules) c.before-last.ensures c.set_after.ensures.ends c.set_after.ensures.links c.set_before.ensures.ends
-    (c.push_reserved.ensures.items ∙ ap (λ (ls : List Link). ls ++ record { group = Some c.args.group; before = c.before-last.result; after = None } ∷ []) c.set_before.ensures.links)).1
+    (c.push_reserved.ensures.items ∙ ap (λ (ls : List Link). ls ++ record { group = Some c.args.group; before = c.before-last.result; after = None } ∷ [])
+    c.set_before.ensures.links)).1
     ∙ ap (λ (v : Chained). v.groups ++ Some c.args.group ∷ []) c.self.view_is

@@ -14,15 +14,18 @@ links_are links l2 l3 l4 a b place e f h = h ∙ ap (λ ls. changed (λ (l : Lin
 pub invariant_of-self : goal.invariant_of-self
 invariant_of-self c =
     tables_as _ _ _ _
-    (c.leave_group.ensures.ends ∙ c.set_before.ensures.ends ∙ ap (λ (es : List Ends). last_changed es c.in-Some.group c.after-after.result c.before-before.result) c.set_after.ensures.ends)
-    (links_are c.self.inside.table.links.items _ _ _ c.before-before.result c.after-after.result c.args.place c.set_after.ensures.links c.set_before.ensures.links c.leave_group.ensures.links)
+    (c.leave_group.ensures.ends ∙ c.set_before.ensures.ends ∙ ap (λ (es : List Ends). last_changed es c.in-Some.group c.after-after.result
+    c.before-before.result) c.set_after.ensures.ends)
+    (links_are c.self.inside.table.links.items _ _ _ c.before-before.result c.after-after.result c.args.place c.set_after.ensures.links
+    c.set_before.ensures.links c.leave_group.ensures.links)
     (table_unlinked c.self.inside.table.ends.items c.self.inside.table.links.items c.args.place c.in-Some.group c.self.invariant
     (group_at c.self.inside.table.links.items c.args.place c.in-Some.group (sym c.in-Some.ensures))
     c.before-before.result c.after-after.result c.before-before.ensures c.after-after.ensures)
 
 pub returns-in-Some-clause-groups : goal.returns-in-Some-clause-groups
 returns-in-Some-clause-groups c =
-    ap groups_of (links_are c.self.inside.table.links.items _ _ _ c.before-before.result c.after-after.result c.args.place c.set_after.ensures.links c.set_before.ensures.links c.leave_group.ensures.links)
+    ap groups_of (links_are c.self.inside.table.links.items _ _ _ c.before-before.result c.after-after.result c.args.place c.set_after.ensures.links
+    c.set_before.ensures.links c.leave_group.ensures.links)
     ∙ unlinked_groups c.self.inside.table.links.items c.args.place c.before-before.result c.after-after.result
     ∙ ap (λ (v : Chained). set v.groups c.args.place None) c.self.view_is
 

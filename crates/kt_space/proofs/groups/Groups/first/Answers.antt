@@ -17,6 +17,7 @@ pub returns : goal.returns
 returns c =
     let at = position_found key_eq key_eq_decides c.self.inside.keys.keys c.args.key.now c.in_ok-group.group (sym c.in_ok-group.ensures.index) in
     subst (λ (v : Grouped). Beside v.keys c.args.key.now None c.first.result) c.self.view_is
-    (beside_key c.self.inside.keys.keys c.self.inside.chains.groups c.self.inside.chains.count c.self.invariant c.in_ok-group.group c.args.key.now at None c.first.result
+    (beside_key c.self.inside.keys.keys c.self.inside.chains.groups c.self.inside.chains.count c.self.invariant c.in_ok-group.group c.args.key.now at None
+    c.first.result
     (c.first.ensures (subst (λ n. c.in_ok-group.group < n) c.self.invariant.counted
     (slice_get_within c.self.inside.keys.keys c.in_ok-group.group c.args.key.now at))))

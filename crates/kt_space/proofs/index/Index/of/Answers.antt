@@ -34,16 +34,20 @@ loop-slot-preserved c =
           let at : slice_get c.args.slots.now c.loop-slot.slot-index ≡ Some (Some w.in-Some.tuple) = read ∙ ap Some w.in-Some.is in
           record {
             kinds = ap (λ (i : Index). i.by_kinds.keys) w.index-is
-                ∙ more kinds_key c.args.slots.now c.loop-slot.slot-index w.in-Some.tuple w.reserve.new.self.by_kinds.keys w.push.new.self.by_kinds.keys at w.push.ensures.kinds
+                ∙ more kinds_key c.args.slots.now c.loop-slot.slot-index w.in-Some.tuple w.reserve.new.self.by_kinds.keys w.push.new.self.by_kinds.keys at
+                w.push.ensures.kinds
                 (w.in_ok-reserve.ensures.kinds ∙ c.loop-slot.invariant.kinds);
             firsts = ap (λ (i : Index). i.by_first.keys) w.index-is
-                ∙ more first_key c.args.slots.now c.loop-slot.slot-index w.in-Some.tuple w.reserve.new.self.by_first.keys w.push.new.self.by_first.keys at w.push.ensures.firsts
+                ∙ more first_key c.args.slots.now c.loop-slot.slot-index w.in-Some.tuple w.reserve.new.self.by_first.keys w.push.new.self.by_first.keys at
+                w.push.ensures.firsts
                 (w.in_ok-reserve.ensures.firsts ∙ c.loop-slot.invariant.firsts);
           }
       | in_default w ↦
           let at : slice_get c.args.slots.now c.loop-slot.slot-index ≡ Some None = read ∙ ap Some w.in_default.is in
           record {
-            kinds = ap (λ (i : Index). i.by_kinds.keys) w.index-is ∙ same kinds_key c.args.slots.now c.loop-slot.slot-index c.loop-slot.index.by_kinds.keys at c.loop-slot.invariant.kinds;
-            firsts = ap (λ (i : Index). i.by_first.keys) w.index-is ∙ same first_key c.args.slots.now c.loop-slot.slot-index c.loop-slot.index.by_first.keys at c.loop-slot.invariant.firsts;
+            kinds = ap (λ (i : Index). i.by_kinds.keys) w.index-is ∙ same kinds_key c.args.slots.now c.loop-slot.slot-index c.loop-slot.index.by_kinds.keys
+                at c.loop-slot.invariant.kinds;
+            firsts = ap (λ (i : Index). i.by_first.keys) w.index-is ∙ same first_key c.args.slots.now c.loop-slot.slot-index c.loop-slot.index.by_first.keys
+                at c.loop-slot.invariant.firsts;
           }
     ]
