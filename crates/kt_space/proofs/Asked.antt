@@ -1,5 +1,5 @@
 -- What the tuples of a key have to do with a template.
-use Rattle.std.proofs.Common.{◌≡◌, ℕ, zero, suc, Bool, true, false, cond, nat_eq, ◌&&◌, List, [], ◌∷◌, map, Option, None, Some, refl, sym, ap, subst, ◌∙◌, is_some}
+use Rattle.std.proofs.Common.{◌≡◌, ℕ, zero, suc, true, false, nat_eq, List, [], ◌∷◌, Option, None, Some, refl, sym, ap, subst, ◌∙◌, is_some}
 use Rattle.std.specs.List.{slice_get}
 use Rattle.std.specs.Option.{option_map}
 use Rattle.std.specs.Cmp.{unsigned_Decides}
@@ -7,17 +7,16 @@ use Rattle.std.proofs.lemmas.Bool.{false≢true, and_parts, and_from}
 use Rattle.std.proofs.lemmas.Option.{none-some, same_Some}
 use Rattle.kt_tuple.specs.declared.value.Value.{Value}
 use Rattle.kt_tuple.specs.declared.tuple.Tuple.{Tuple}
-use Rattle.kt_tuple.specs.declared.template.Place.{Place}
 use Rattle.kt_tuple.specs.declared.template.Place.TheVariants.{Actual, Formal}
 use Rattle.kt_tuple.specs.declared.template.Template.{Template}
 use Rattle.kt_tuple.specs.Equality.{value_eq, value_eq_decides}
-use Rattle.kt_tuple.specs.Matching.{matches, admits}
+use Rattle.kt_tuple.specs.Matching.{matches}
 use Rattle.kt_tuple.specs.Signature.{kinds_of, kinds_of_places, signature_of}
 use Rattle.kt_tuple.proofs.Homes.{Matches-signature}
 use Rattle.kt_space.specs.declared.key.Key.{Key}
 use Rattle.kt_space.specs.Chaining.{Has}
 use Rattle.kt_space.specs.Grouping.{kinds_key, first_key, template_key, first_actual}
-use Rattle.kt_space.specs.Picking.{could_match, begins_alike}
+use Rattle.kt_space.specs.Picking.{begins_alike}
 use Rattle.kt_space.specs.Slots.{IsAsked, keyed}
 use Rattle.kt_space.proofs.Matched.{Matches-from_test}
 

@@ -1,8 +1,8 @@
 -- The slots of a bag and its index, after a tuple more, without one, and moved together.
-use Rattle.std.proofs.Common.{◌≡◌, ℕ, zero, suc, ◌+◌, ◌-◌, ◌<◌, ◌≤◌, Bool, true, false, cond, List, [], ◌∷◌, ◌++◌, length, map, filter, set, is_some, Option, None, Some, refl, sym, ap, subst, ◌∙◌, arith}
+use Rattle.std.proofs.Common.{◌≡◌, ℕ, suc, ◌+◌, ◌-◌, ◌≤◌, List, [], ◌∷◌, ◌++◌, length, map, filter, set, is_some, Option, None, Some, refl, sym, ap, subst, ◌∙◌, arith}
 use Rattle.std.specs.List.{slice_get}
 use Rattle.std.specs.Option.{option_and_then, option_map, IfSome, IfNone}
-use Rattle.std.proofs.lemmas.Option.{none-some, same_Some, slice_get-map, slice_get_past, slice_get_within}
+use Rattle.std.proofs.lemmas.Option.{slice_get-map, slice_get_past, slice_get_within}
 use Rattle.kt_tuple.specs.declared.tuple.Tuple.{Tuple}
 use Rattle.kt_tuple.specs.declared.template.Template.{Template}
 use Rattle.kt_tuple.specs.Matching.{matches}
@@ -10,7 +10,7 @@ use Rattle.kt_space.specs.declared.key.Key.{Key}
 use Rattle.kt_space.specs.Grouping.{kinds_key, first_key}
 use Rattle.kt_space.specs.Picking.{matching, without_match}
 use Rattle.kt_space.specs.Slots.{IsFound, IsIndexed, filled, keyed, passing}
-use Rattle.kt_space.proofs.Filled.{filled_pushed, keyed_pushed, keyed_without, length_without, found_match, found_others, filled_filled, keyed_filled, filled_at_most, all_filled}
+use Rattle.kt_space.proofs.Filled.{filled_pushed, keyed_pushed, keyed_without, length_without, found_match, filled_filled, keyed_filled, all_filled}
 use Rattle.kt_space.proofs.Passing.{at_most}
 use Rattle.kt_space.proofs.Picked.{without_none}
 

@@ -1,8 +1,8 @@
 -- What stands beside a place, and what becomes of it where a place is put behind all others, and where one is taken out.
-use Rattle.std.proofs.Common.{◌≡◌, ◌≢◌, ℕ, zero, suc, ◌<◌, ◌≤◌, List, [], ◌∷◌, ◌++◌, length, set, Option, None, Some, refl, sym, ap, subst, ◌∙◌, arith, ◌⊎◌, inl, inr}
+use Rattle.std.proofs.Common.{◌≡◌, ◌≢◌, ℕ, zero, suc, ◌<◌, List, [], ◌∷◌, ◌++◌, length, set, Option, None, Some, refl, sym, ap, ◌∙◌, arith, ◌⊎◌, inl, inr}
 use Rattle.std.specs.List.{slice_get}
-use Rattle.std.proofs.lemmas.Option.{none-some, same_Some, slice_get_within, slice_get_past}
-use Rattle.kt_space.specs.Chaining.{Has, Fits, IsAfter, IsBefore, IsApart, Beside, IsIn, AreChains}
+use Rattle.std.proofs.lemmas.Option.{none-some, same_Some}
+use Rattle.kt_space.specs.Chaining.{Has, IsAfter, IsApart, Beside}
 
 -- reading a list with one item more, or one other item
 pub read_pushed : {A : Type 0} (xs : List A) (y : A) → slice_get (xs ++ y ∷ []) (length xs) ≡ Some y

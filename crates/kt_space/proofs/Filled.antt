@@ -1,13 +1,12 @@
 -- The tuples of slots, from the place of one of them.
-use Rattle.std.proofs.Common.{◌≡◌, ℕ, zero, suc, ◌+◌, ◌<◌, ◌≤◌, List, [], ◌∷◌, ◌++◌, length, map, take, remove, set, Option, None, Some, refl, sym, ap, subst, ◌∙◌, arith}
-use Rattle.std.specs.List.{slice_get, filter_map}
+use Rattle.std.proofs.Common.{◌≡◌, ℕ, zero, suc, ◌≤◌, List, [], ◌∷◌, ◌++◌, length, map, take, remove, set, Option, None, Some, refl, sym, ap, ◌∙◌, arith}
+use Rattle.std.specs.List.{slice_get}
 use Rattle.std.proofs.lemmas.Option.{none-some, same_Some}
 use Rattle.kt_tuple.specs.declared.tuple.Tuple.{Tuple}
 use Rattle.kt_tuple.specs.declared.template.Template.{Template}
-use Rattle.kt_tuple.specs.Matching.{matches}
 use Rattle.kt_space.specs.declared.key.Key.{Key}
 use Rattle.kt_space.specs.Picking.{matching, without_match}
-use Rattle.kt_space.specs.Slots.{IsFound, filled, keyed, passing}
+use Rattle.kt_space.specs.Slots.{IsFound, filled, keyed}
 use Rattle.kt_space.proofs.Picked.{match_here, without_here}
 
 pub filled_some : (slots : List (Option Tuple)) (i : ℕ) (u : Tuple) → slice_get slots i ≡ Some (Some u)

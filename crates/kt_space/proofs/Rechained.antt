@@ -1,10 +1,9 @@
 -- Chains stay chains where a place is taken out, and where one is put behind all others.
-use Rattle.std.proofs.Common.{◌≡◌, ◌≢◌, ℕ, zero, suc, ◌+◌, ◌<◌, ◌≤◌, max, List, [], ◌∷◌, ◌++◌, length, set, Option, None, Some, refl, sym, ap, subst, ◌∙◌, arith, ◌⊎◌, inl, inr}
-use Rattle.std.specs.List.{slice_get}
-use Rattle.std.proofs.lemmas.Option.{none-some, same_Some, slice_get_within, slice_get_past}
-use Rattle.kt_space.specs.Chaining.{Has, Fits, IsAfter, IsBefore, IsApart, Beside, IsIn, AreChains}
-use Rattle.kt_space.proofs.Beside.{read_pushed, read_before, read_same, read_other, one_group, decide, decide_at, one_before, one_after}
-use Rattle.kt_space.proofs.Stays.{kept_has, keeps_has, stays_out, joins, pushed_has, more_has, stays_in, comes_last, is_last}
+use Rattle.std.proofs.Common.{◌≡◌, ◌≢◌, ℕ, suc, ◌<◌, List, [], ◌∷◌, ◌++◌, length, set, Option, None, Some, sym, ap, subst, arith, ◌⊎◌, inl, inr}
+use Rattle.std.proofs.lemmas.Option.{none-some, same_Some}
+use Rattle.kt_space.specs.Chaining.{Has, Beside, IsIn, AreChains}
+use Rattle.kt_space.proofs.Beside.{one_group, decide, decide_at, one_before, one_after}
+use Rattle.kt_space.proofs.Stays.{kept_has, stays_out, joins, pushed_has, stays_in, comes_last, is_last}
 
 both : (h g : ℕ) (c a : Option ℕ) → ((h ≡ g) × (c ≡ a)) ⊎ (h ≡ g → c ≡ a → ⊥)
 both h g c a = elim (decide h g) [

@@ -1,8 +1,7 @@
 -- A search goes from one place of the key to the next and passes no match.
-use Rattle.std.proofs.Common.{◌≡◌, ◌≢◌, ℕ, zero, suc, ◌+◌, ◌-◌, ◌<◌, ◌≤◌, Bool, true, false, cond, List, [], ◌∷◌, length, filter, Option, None, Some, refl, sym, ap, subst, ◌∙◌, arith, ◌⊎◌, inl, inr}
+use Rattle.std.proofs.Common.{◌≡◌, ◌≢◌, ℕ, suc, ◌+◌, ◌-◌, ◌<◌, ◌≤◌, Bool, true, false, List, length, filter, Option, None, Some, refl, sym, ap, ◌∙◌, arith}
 use Rattle.std.specs.List.{slice_get}
-use Rattle.std.proofs.lemmas.Bool.{false≢true}
-use Rattle.std.proofs.lemmas.Option.{none-some, same_Some, slice_get_within}
+use Rattle.std.proofs.lemmas.Option.{slice_get_within}
 use Rattle.kt_tuple.specs.declared.tuple.Tuple.{Tuple}
 use Rattle.kt_tuple.specs.declared.template.Template.{Template}
 use Rattle.kt_tuple.specs.Matching.{matches}
@@ -10,7 +9,7 @@ use Rattle.kt_space.specs.declared.key.Key.{Key}
 use Rattle.kt_space.specs.Chaining.{Has, Fits, Beside, IsAfter, IsBefore, IsApart}
 use Rattle.kt_space.specs.Picking.{could_match}
 use Rattle.kt_space.specs.Slots.{IsAsked, IsFound, IsPassed, before_place, filled, passing, slot_matches}
-use Rattle.kt_space.proofs.Passing.{hit, step, whole, gap, mono, at_most, hit_true, hit_false}
+use Rattle.kt_space.proofs.Passing.{step, whole, gap, mono, hit_true, hit_false}
 
 abbrev pub to_come : ℕ → Option ℕ → ℕ
 to_come size None = 0

@@ -1,9 +1,8 @@
 -- Chains with a place put behind all others, and with a place taken out.
-use Rattle.std.proofs.Common.{◌≡◌, ◌≢◌, ℕ, zero, suc, ◌+◌, ◌<◌, ◌≤◌, max, List, [], ◌∷◌, ◌++◌, length, set, Option, None, Some, refl, sym, ap, subst, ◌∙◌, arith, ◌⊎◌, inl, inr}
-use Rattle.std.specs.List.{slice_get}
-use Rattle.std.proofs.lemmas.Option.{none-some, same_Some, slice_get_within, slice_get_past}
-use Rattle.kt_space.specs.Chaining.{Has, Fits, IsAfter, IsBefore, IsApart, Beside, IsIn, AreChains}
-use Rattle.kt_space.proofs.Beside.{read_pushed, read_before, read_same, read_other, one_group, decide, decide_at, one_before, one_after}
+use Rattle.std.proofs.Common.{◌≡◌, ◌≢◌, ℕ, zero, suc, ◌<◌, ◌≤◌, List, [], ◌∷◌, ◌++◌, length, set, Option, None, Some, refl, sym, ap, subst, ◌∙◌, arith, ◌⊎◌, inl, inr}
+use Rattle.std.proofs.lemmas.Option.{none-some, same_Some, slice_get_within}
+use Rattle.kt_space.specs.Chaining.{Has, Fits, IsAfter, IsBefore, IsApart, Beside}
+use Rattle.kt_space.proofs.Beside.{read_pushed, read_before, read_other, decide}
 
 -- taking a place out
 module _ {A : Type 0} (gs : List (Option A)) (r : ℕ) where

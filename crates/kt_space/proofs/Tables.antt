@@ -1,15 +1,15 @@
 -- The tables of chains stay so, whatever is written.
-use Rattle.std.proofs.Common.{◌≡◌, ◌≢◌, ℕ, zero, suc, ◌+◌, ◌<◌, ◌≤◌, max, Bool, true, false, cond, nat_eq, if◌then◌else◌, List, [], ◌∷◌, ◌++◌, length, set, map, Option, None, Some, refl, sym, ap, subst, ◌∙◌, arith, ◌⊎◌, inl, inr, eqb-true}
+use Rattle.std.proofs.Common.{◌≡◌, ◌≢◌, ℕ, zero, suc, ◌+◌, ◌<◌, ◌≤◌, max, Bool, true, false, cond, nat_eq, List, [], ◌∷◌, ◌++◌, length, set, Option, None, Some, refl, sym, ap, subst, ◌∙◌, arith, eqb-true}
 use Rattle.std.proofs.lemmas.Bool.{eqb-false}
 use Rattle.std.specs.List.{slice_get}
-use Rattle.std.specs.Option.{option_map_or, option_and_then}
-use Rattle.std.proofs.lemmas.Option.{none-some, same_Some, slice_get_within, slice_get_past}
+use Rattle.std.specs.Option.{option_and_then}
+use Rattle.std.proofs.lemmas.Option.{none-some}
 use Rattle.kt_space.specs.declared.chains.Ends.{Ends}
 use Rattle.kt_space.specs.declared.chains.Link.{Link}
 use Rattle.kt_space.specs.Chaining.{Has, Fits, IsIn, AreChains, after_of, before_of, changed, groups_of, after_changed, first_changed, before_changed, last_changed, opened}
-use Rattle.kt_space.proofs.Beside.{read_before, read_pushed, one_group, decide}
+use Rattle.kt_space.proofs.Beside.{read_before, read_pushed}
 use Rattle.kt_space.proofs.Rechained.{unlinked, pushed, grown}
-use Rattle.kt_space.proofs.Linked.{next_hit, next_miss, next_back, next_groups, next_count, previous_hit, previous_miss, previous_forth, previous_groups, previous_count, left_forth, left_back, left_groups, more_forth, more_back, more_groups, in_links}
+use Rattle.kt_space.proofs.Linked.{next_hit, next_miss, next_back, next_groups, next_count, previous_hit, previous_miss, previous_forth, previous_groups, previous_count, left_forth, left_back, left_groups, more_forth, more_back, more_groups}
 
 abbrev pub AreTables : List Ends → List Link → Type 0
 AreTables ends links = AreChains (groups_of links) (length ends) (after_of ends links) (before_of ends links)

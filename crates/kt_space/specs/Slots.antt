@@ -1,5 +1,5 @@
 -- Slots, some of them empty, and the tuples that stand in them.
-use Rattle.std.specs.Prelude.{◌≡◌, ℕ, ◌+◌, ◌<◌, ◌≤◌, Bool, true, false, List, length, map, filter, take, Option, Some, None, IsTrue, vec_len, vec_capacity}
+use Rattle.std.specs.Prelude.{◌≡◌, ℕ, ◌+◌, ◌≤◌, Bool, true, false, List, length, map, filter, take, Option, Some, None}
 use Rattle.std.specs.List.{slice_get, filter_map}
 use Rattle.std.specs.Option.{option_map}
 use Rattle.kt_tuple.specs.declared.tuple.Tuple.{Tuple}
@@ -8,7 +8,7 @@ use Rattle.kt_tuple.specs.Matching.{matches}
 use Rattle.kt_space.specs.declared.key.Key.{Key}
 use Rattle.kt_space.specs.Chaining.{Has, Fits}
 use Rattle.kt_space.specs.Grouping.{kinds_key, first_key}
-use Rattle.kt_space.specs.Picking.{matching, could_match}
+use Rattle.kt_space.specs.Picking.{could_match}
 
 -- the tuples of the slots, in order
 abbrev pub filled : List (Option Tuple) → List Tuple

@@ -1,8 +1,6 @@
-use Rattle.std.proofs.Common.{◌≡◌, ℕ, suc, ◌-◌, ◌+◌, ◌<◌, ◌≤◌, Option, None, Some, length, sym, subst, ap, ◌∙◌, arith, rules}
-use Rattle.std.specs.List.{slice_get}
-use Rattle.kt_space.specs.Chaining.{Beside}
-use Rattle.kt_space.specs.Slots.{IsPassed, slot_matches}
-use Rattle.kt_space.proofs.Searched.{to_come, started, passed_match, passed_other, found_here, few_here, falls}
+use Rattle.std.proofs.Common.{◌<◌, Some, length, sym, subst, ◌∙◌, arith}
+use Rattle.kt_space.specs.Slots.{IsPassed}
+use Rattle.kt_space.proofs.Searched.{to_come, started, passed_match, passed_other, few_here, falls}
 use Rattle.kt_space.proofs.search.among.Goals as goal
 use Rattle.kt_space.proofs.search.among.Goals.{then-fits+else-left-eq0, else-fits}
 

@@ -1,4 +1,4 @@
-use Rattle.std.proofs.Common.{◌≡◌, length, sym, ap, ◌∙◌, rules}
+use Rattle.std.proofs.Common.{◌≡◌, length, ap, ◌∙◌, rules}
 use Rattle.kt_space.specs.Holding.{Holding}
 use Rattle.kt_space.specs.Picking.{matching}
 use Rattle.kt_space.specs.Slots.{filled}

@@ -1,8 +1,8 @@
-use Rattle.std.proofs.Common.{◌≡◌, ◌≤◌, ◌+◌, Some, [], ◌∷◌, ◌++◌, List, Option, length, sym, subst, ap, ◌∙◌, arith, rules}
+use Rattle.std.proofs.Common.{◌≡◌, ◌≤◌, ◌+◌, [], ◌∷◌, ◌++◌, length, ap, ◌∙◌, arith, rules}
 use Rattle.std.proofs.Math.Facts.{Fits-le}
 use Rattle.std.proofs.lemmas.Bool.{false≢true}
 use Rattle.kt_space.specs.Holding.{Holding}
-use Rattle.kt_space.specs.Slots.{filled, keyed}
+use Rattle.kt_space.specs.Slots.{filled}
 use Rattle.kt_space.proofs.Filled.{filled_pushed, filled_at_most}
 use Rattle.kt_space.proofs.Bags.{indexed_pushed}
 use Rattle.kt_space.proofs.bag.Bag.put_reserved.Goals as goal

@@ -1,4 +1,4 @@
-use Rattle.std.proofs.Common.{ℕ, Some, subst}
+use Rattle.std.proofs.Common.{Some, subst}
 use Rattle.kt_space.specs.declared.key.Key.{Key}
 use Rattle.kt_space.specs.Chaining.{Beside, Has}
 use Rattle.kt_space.specs.Grouping.{Grouped}
