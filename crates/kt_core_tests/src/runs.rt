@@ -90,10 +90,5 @@ pub(crate) fn are_same(tuples: &[Tuple], others: &[Tuple]) -> bool {
 
 /// Adds equal tuples to those that the bag holds.
 pub(crate) fn add_all(alloc: Global, tuples: &mut Vec<Tuple>, bag: &Bag) -> Result<(), AllocError> {
-    for place in 0..bag.len() {
-        if let Some(tuple) = bag.get(place) {
-            tuples.push(tuple.copy(alloc)?)?;
-        }
-    }
-    Ok(())
+    tuples.append(&mut bag.to_vec(alloc)?)
 }

@@ -66,7 +66,8 @@ impl Bag {
         self.len == 0
     }
 
-    /// The tuple at this place, counted from 0 in order of arrival.
+    /// The tuple at this place, counted from 0 in order of arrival. After a `take_nth` it goes through the slots
+    /// up to the place, so a whole bag is read by `to_vec`.
     pub fn get(&self, place: usize) -> Option<&Tuple>
         ensures { option_copied result ≡ slice_get self.now.tuples place }
     {
@@ -175,6 +176,13 @@ impl Bag {
         taken
     }
 
+    /// Equal tuples in the same order.
+    pub fn to_vec(&self, alloc: Global) -> Result<Vec<Tuple>, AllocError>
+        ensures { IfOk result (λ tuples. tuples.items ≡ self.now.tuples) }
+    {
+        tuples_of(alloc, &self.slots, self.len)
+    }
+
     /// A bag of equal tuples in the same order.
     pub fn copy(&self, alloc: Global) -> Result<Bag, AllocError>
         ensures { IfOk result (λ bag. bag.tuples ≡ self.now.tuples) }
@@ -188,6 +196,19 @@ fn tuple_at(slots: &[Option<Tuple>], place: Option<usize>) -> Option<&Tuple>
     ensures { option_copied result ≡ option_and_then (λ p. option_and_then (λ s. s) (slice_get slots.now p)) place }
 {
     slots.get(place?)?.as_ref()
+}
+
+/// Equal tuples, of which there are so many.
+fn tuples_of(alloc: Global, slots: &[Option<Tuple>], len: usize) -> Result<Vec<Tuple>, AllocError>
+    ensures { IfOk result (λ tuples. tuples.items ≡ filled slots.now) }
+{
+    let mut tuples = Vec::with_capacity(alloc, len)?;
+    for slot in slots {
+        if let Some(tuple) = slot {
+            tuples.push(tuple.copy(alloc)?)?;
+        }
+    }
+    Ok(tuples)
 }
 
 fn copy_of(alloc: Global, slots: &[Option<Tuple>]) -> Result<Bag, AllocError>

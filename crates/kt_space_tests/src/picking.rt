@@ -16,10 +16,8 @@ fn bag_of(alloc: Global, texts: &[&str]) -> Result<Bag, Fail> {
 /// The texts of the tuples, one behind the other.
 fn text_of(alloc: Global, bag: &Bag) -> Result<Vec<u8>, Fail> {
     let mut text = Vec::new(alloc);
-    for place in 0..bag.len() {
-        if let Some(tuple) = bag.get(place) {
-            tuple.write_to(&mut text)?;
-        }
+    for tuple in &bag.to_vec(alloc)? {
+        tuple.write_to(&mut text)?;
     }
     Ok(text)
 }
