@@ -71,7 +71,7 @@ fn agree_on_call(
     bag: &mut Bag,
     plain: &mut Plain,
 ) -> Result<bool, Fail> {
-    let kind = draws.below(8);
+    let kind = draws.below(9);
     if kind < 3 {
         let tuple = tuple(alloc, draws)?;
         plain.tuples.push(tuple.copy(alloc)?)?;
