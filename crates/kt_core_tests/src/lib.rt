@@ -41,6 +41,8 @@ mod shapes;
 #[cfg(test)]
 mod slowly;
 #[cfg(test)]
+mod states;
+#[cfg(test)]
 mod tally;
 #[cfg(test)]
 mod texts;

@@ -1,12 +1,12 @@
 //! Worked scenarios with failures: after each of their steps all that is promised holds, worked out slowly.
 
 use crate::cast::Cast;
-use crate::cuts;
 use crate::finding::Finding;
 use crate::fronts::agrees;
 use crate::making::{opened, scripts, step};
 use crate::scenes::Game;
 use crate::slowly::Pasts;
+use crate::{cuts, states};
 use kt_store::MemStore;
 use kt_tuple::Tuple;
 use std::alloc::Global;
@@ -237,7 +237,8 @@ fn all_agrees(
     let mut pasts = Pasts::new(alloc)?;
     pasts.go_on(alloc, notes)?;
     agrees(alloc, world, &pasts)?;
-    cuts::agrees(alloc, store, permanent, notes, cast, &pasts)
+    cuts::agrees(alloc, store, permanent, notes, cast, &pasts)?;
+    states::agree(alloc, store, notes, world.scene().scripts(), cast)
 }
 
 fn holds_after(

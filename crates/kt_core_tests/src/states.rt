@@ -1,0 +1,183 @@
+//! What a stored checkpoint must hold: what the acts of its node's line up to its length make of a node, worked out
+//! act by act.
+
+use crate::cast::Cast;
+use crate::finding::{Finding, holds};
+use crate::runs::{are_same, space_after};
+use crate::slowly::{line_after, note_at};
+use kt_ckpt::{Ckpt, ShardState, State, WorkerState};
+use kt_history::{Act, Note, What};
+use kt_script::Script;
+use kt_shard::{Kept, Request};
+use kt_store::{CkptStore, MemStore, Verdict};
+use kt_tuple::{Answer, NodeId};
+use kt_worker::Worker;
+use std::alloc::Global;
+
+/// The act of this number.
+fn act_at(notes: &[Note], number: usize) -> Option<&Act> {
+    match note_at(notes, number) {
+        Some(Note::Act(act)) => Some(act),
+        _ => None,
+    }
+}
+
+/// The worker asks, or hears what it accepts.
+fn follow(alloc: Global, worker: &mut Worker, script: &Script, act: &Act) -> Result<(), Finding> {
+    match &act.what {
+        What::Issue => holds(worker.issue(alloc, script)?.is_some(), "it asks"),
+        What::Accepted(answer) => holds(
+            worker.hear(alloc, script, act.number, &act.op, answer)?,
+            "it accepts",
+        ),
+        _ => Ok(()),
+    }
+}
+
+/// The worker that begins the script anew and does these acts.
+fn worker_after(
+    alloc: Global,
+    script: &Script,
+    notes: &[Note],
+    acts: &[usize],
+) -> Result<Worker, Finding> {
+    let mut worker = Worker::new(alloc, script)?;
+    for number in acts {
+        if let Some(act) = act_at(notes, *number) {
+            follow(alloc, &mut worker, script, act)?;
+        }
+    }
+    Ok(worker)
+}
+
+/// Whether the state is where the worker stands.
+fn is_worker(state: &WorkerState, worker: &Worker) -> bool {
+    usize::from(state.pc()) == worker.pc()
+        && state.number() == worker.number()
+        && state.was_none() == worker.was_none()
+        && state.asked() == worker.asked()
+        && *state.variables() == *worker.values()
+}
+
+/// The request of the worker that waits after these acts, and the one that was served last, with its answer.
+fn desk_after<'a>(
+    notes: &'a [Note],
+    acts: &[usize],
+    worker: u8,
+) -> (Option<&'a Act>, Option<(&'a Act, &'a Answer)>) {
+    let mut waiting = None;
+    let mut kept = None;
+    for number in acts {
+        if let Some(act) = act_at(notes, *number) {
+            if act.worker == worker {
+                match &act.what {
+                    What::Heard => waiting = Some(act),
+                    What::Served(answer) => {
+                        waiting = None;
+                        kept = Some((act, answer));
+                    }
+                    _ => {}
+                }
+            }
+        }
+    }
+    (waiting, kept)
+}
+
+fn is_request(act: &Act, request: &Request) -> bool {
+    act.number == request.number && act.op == request.op
+}
+
+fn is_waiting(found: Option<&Act>, stored: Option<&(u8, Request)>) -> bool {
+    match (found, stored) {
+        (Some(act), Some((_, request))) => is_request(act, request),
+        (None, None) => true,
+        _ => false,
+    }
+}
+
+fn is_kept(found: Option<(&Act, &Answer)>, stored: Option<&(u8, Kept)>) -> bool {
+    match (found, stored) {
+        (Some((act, answer)), Some((_, kept))) => {
+            is_request(act, &kept.request) && *answer == kept.answer
+        }
+        (None, None) => true,
+        _ => false,
+    }
+}
+
+/// Whether the state has of each worker what these acts leave of it.
+fn are_desks(state: &ShardState, notes: &[Note], acts: &[usize]) -> bool {
+    (1..=8u8).all(|worker| {
+        let (waiting, kept) = desk_after(notes, acts, worker);
+        is_waiting(waiting, state.waiting().iter().find(|it| it.0 == worker))
+            && is_kept(kept, state.kept().iter().find(|it| it.0 == worker))
+    })
+}
+
+/// The shard's state is what these acts leave, its tuples in any order.
+fn holds_shard(
+    alloc: Global,
+    state: &ShardState,
+    notes: &[Note],
+    acts: &[usize],
+) -> Result<(), Finding> {
+    let mut services = Vec::new(alloc);
+    for number in acts {
+        if note_at(notes, *number).is_some_and(|note| note.is_service()) {
+            services.push(*number)?;
+        }
+    }
+    let space = space_after(alloc, notes, &services)?;
+    holds(are_same(state.bag(), &space), "the tuples of a checkpoint")?;
+    holds(
+        are_desks(state, notes, acts),
+        "the requests of a checkpoint",
+    )
+}
+
+/// The checkpoint holds what its acts make of its node.
+fn holds_state(
+    alloc: Global,
+    checkpoint: &Ckpt,
+    notes: &[Note],
+    scripts: &[Script],
+) -> Result<(), Finding> {
+    let line = line_after(alloc, notes, checkpoint.node())?;
+    let length = checkpoint.line_len() as usize;
+    holds(length <= line.len(), "a checkpoint within its line")?;
+    let (acts, _) = line.split_at(length);
+    match (checkpoint.node(), checkpoint.state()) {
+        (NodeId::Worker(number), State::Worker(state)) => {
+            let place = usize::from(number).saturating_sub(1);
+            let script = scripts.get(place).ok_or(Finding::NotMade("a script"))?;
+            let worker = worker_after(alloc, script, notes, acts)?;
+            holds(is_worker(state, &worker), "where a worker stood")
+        }
+        (NodeId::Shard(_), State::Shard(state)) => holds_shard(alloc, state, notes, acts),
+        _ => Err(Finding::Wrong("a state of another kind")),
+    }
+}
+
+/// Each permanent checkpoint, and each tentative one whose instance did not get No, holds the state that the acts of
+/// its node's line up to its length lead to.
+pub(crate) fn agree(
+    alloc: Global,
+    store: &mut MemStore,
+    notes: &[Note],
+    scripts: &[Script],
+    cast: Cast,
+) -> Result<(), Finding> {
+    for place in 0..cast.count() {
+        let node = cast.node(place);
+        if let Some(checkpoint) = store.permanent(alloc, node)? {
+            holds_state(alloc, &checkpoint, notes, scripts)?;
+        }
+        if let Some(tentative) = store.tentative(alloc, node)? {
+            if store.verdict(tentative.instance)? != Some(Verdict::No) {
+                holds_state(alloc, &tentative.checkpoint, notes, scripts)?;
+            }
+        }
+    }
+    Ok(())
+}
