@@ -52,16 +52,42 @@ fn are_equal(left: Option<&Tuple>, right: Option<&Tuple>) -> bool {
     }
 }
 
+/// Whether the bag's calls that read it say what the list does, of which these tuples are a copy of the bag's.
+fn is_read_as(bag: &Bag, tuples: &[Tuple], plain: &Plain) -> bool {
+    let size = plain.tuples.len();
+    tuples == plain.tuples.as_slice()
+        && bag.len() == size
+        && bag.is_empty() == plain.tuples.is_empty()
+        && are_equal(bag.get(size / 2), plain.tuples.get(size / 2))
+        && bag.get(size).is_none()
+}
+
 /// Whether the bag reads as the list.
 fn reads_as(alloc: Global, bag: &Bag, plain: &Plain) -> Result<bool, Fail> {
-    let size = plain.tuples.len();
-    Ok(
-        bag.len() == size
-            && bag.is_empty() == plain.tuples.is_empty()
-            && bag.to_vec(alloc)? == plain.tuples
-            && are_equal(bag.get(size / 2), plain.tuples.get(size / 2))
-            && bag.get(size).is_none(),
-    )
+    let tuples = bag.to_vec(alloc)?;
+    Ok(is_read_as(bag, &tuples, plain))
+}
+
+/// A tuple more in both.
+fn put(alloc: Global, draws: &mut Draws, bag: &mut Bag, plain: &mut Plain) -> Result<(), Fail> {
+    let tuple = tuple(alloc, draws)?;
+    plain.tuples.push(tuple.copy(alloc)?)?;
+    bag.put(tuple)?;
+    Ok(())
+}
+
+/// Whether both give the same match, and so many.
+fn agree_on_reads(bag: &Bag, plain: &Plain, template: &Template, number: usize) -> bool {
+    let given = bag.nth_match(template, number);
+    let expected = plain.nth_match(template, number);
+    are_equal(given, expected) && bag.count_matches(template) == plain.count_matches(template)
+}
+
+/// Whether the same is taken from both.
+fn agree_on_take(bag: &mut Bag, plain: &mut Plain, template: &Template, number: usize) -> bool {
+    let taken = bag.take_nth(template, number);
+    let expected = plain.take_nth(template, number);
+    are_equal(taken.as_ref(), expected.as_ref())
 }
 
 /// One call of some kind, and whether both answered the same.
@@ -73,39 +99,39 @@ fn agree_on_call(
 ) -> Result<bool, Fail> {
     let kind = draws.below(9);
     if kind < 3 {
-        let tuple = tuple(alloc, draws)?;
-        plain.tuples.push(tuple.copy(alloc)?)?;
-        bag.put(tuple)?;
+        put(alloc, draws, bag, plain)?;
         return Ok(true);
     }
     let template = template(alloc, draws)?;
     let number = draws.below(3) as usize;
-    Ok(match kind {
-        3 => bag.count_matches(&template) == plain.count_matches(&template),
-        4 => are_equal(
-            bag.nth_match(&template, number),
-            plain.nth_match(&template, number),
-        ),
-        _ => {
-            let taken = bag.take_nth(&template, number);
-            let expected = plain.take_nth(&template, number);
-            are_equal(taken.as_ref(), expected.as_ref())
-        }
+    Ok(if kind < 5 {
+        agree_on_reads(bag, plain, &template, number)
+    } else {
+        agree_on_take(bag, plain, &template, number)
     })
+}
+
+/// Whether both agree on 50,000 calls, and read alike after every fiftieth and at the end.
+fn agree_on_calls(alloc: Global, bag: &mut Bag, plain: &mut Plain) -> Result<bool, Fail> {
+    let mut draws = Draws(7);
+    for turn in 0..50_000u32 {
+        if !agree_on_call(alloc, &mut draws, bag, plain)? {
+            return Ok(false);
+        }
+        if turn % 50 == 0 && !reads_as(alloc, bag, plain)? {
+            return Ok(false);
+        }
+    }
+    reads_as(alloc, bag, plain)
 }
 
 #[test]
 fn a_bag_answers_as_the_list_does(rt: HostRuntime) -> Result<(), Fail> {
     let alloc = rt.alloc();
-    let mut draws = Draws(7);
     let mut bag = Bag::new(alloc);
     let mut plain = Plain::new(alloc);
-    for turn in 0..50_000u32 {
-        assert!(rt; agree_on_call(alloc, &mut draws, &mut bag, &mut plain)?);
-        if turn % 50 == 0 {
-            assert!(rt; reads_as(alloc, &bag, &plain)?);
-        }
-    }
-    assert!(rt; reads_as(alloc, &bag.copy(alloc)?, &plain)?);
+    assert!(rt; agree_on_calls(alloc, &mut bag, &mut plain)?);
+    let copy = bag.copy(alloc)?;
+    assert!(rt; reads_as(alloc, &copy, &plain)?);
     Ok(())
 }

@@ -13,12 +13,18 @@ fn bag_of(alloc: Global, texts: &[&str]) -> Result<Bag, Fail> {
     Ok(bag)
 }
 
+fn push_texts(text: &mut Vec<u8>, tuples: &[Tuple]) -> Result<(), Fail> {
+    for tuple in tuples {
+        tuple.write_to(text)?;
+    }
+    Ok(())
+}
+
 /// The texts of the tuples, one behind the other.
 fn text_of(alloc: Global, bag: &Bag) -> Result<Vec<u8>, Fail> {
+    let tuples = bag.to_vec(alloc)?;
     let mut text = Vec::new(alloc);
-    for tuple in &bag.to_vec(alloc)? {
-        tuple.write_to(&mut text)?;
-    }
+    push_texts(&mut text, &tuples)?;
     Ok(text)
 }
 
