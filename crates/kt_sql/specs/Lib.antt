@@ -1,0 +1,4 @@
+pub mod Rows
+pub mod Schema
+pub mod Settled
+pub mod Text

@@ -1,0 +1,2 @@
+//! The store in SQL: checkpoints, incarnations and verdicts in tables that a person can read.
+#![tactic(auto)]
