@@ -72,7 +72,7 @@ module _ {X : Type 0} (number : X → ℕ) where
   abbrev pub greatest_of : List X → ℕ
   greatest_of xs = fold max 0 (map number xs)
 
-  abbrev first_or_0 : List X → ℕ
+  abbrev pub first_or_0 : List X → ℕ
   first_or_0 [] = 0
   first_or_0 (x ∷ xs) = number x
 

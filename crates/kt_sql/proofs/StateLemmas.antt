@@ -11,76 +11,80 @@ use Rattle.sqlite_schema.specs.declared.schema.Schema.{Schema}
 use Rattle.sqlite.specs.State.{State, Shows, Writes, IsUnchanged, IsRolledBack, Fails, RunsCommand, RunsAlone, shows_rows, IsNotRun, Executes, ExecutesIn, FailsToShow, FailsToQuery, ShowsRows, Shown}
 use Rattle.sqlite.specs.Listing.{understood}
 use Rattle.sqlite.proofs.Callers.{IsPlain}
+use Rattle.kt_sql.specs.Schema.{kt_schema}
 use Rattle.kt_sql.specs.Settled.{IsSettled}
 
--- all that is seen is as it was
+-- the connection was open, and, where it was settled over the tables of a store, all that is seen is as it was
 pub record Stays (old new : State) : Type 0 where
   pub was_open : IsTrue old.is_open
-  pub now : new.now ≡ old.now
-  pub settled : IsSettled new
+  pub rest : IsSettled old → old.now.schema ≡ kt_schema → (new.now ≡ old.now) × IsSettled new
 
 abbrev Leaves : State → State → Type 0
 Leaves old new = IsTrue new.is_open → Stays old new
 
-unchanged : (old new : State) → IsSettled old → IsUnchanged old new → Leaves old new
-unchanged old new was h is_open = record {
+unchanged : (old new : State) → IsUnchanged old new → Stays old new
+unchanged old new h = record {
   was_open = h.0.was_open;
-  now = h.0.now_is;
-  settled = record { autocommit = h.0.mode ∙ was.autocommit; same = h.0.now_is ∙ was.same ∙ sym h.0.committed_is };
+  rest = λ was _. (h.0.now_is, record { autocommit = h.0.mode ∙ was.autocommit; same = h.0.now_is ∙ was.same ∙ sym h.0.committed_is });
 }
 
-rolled_back : (old new : State) → IsSettled old → IsRolledBack old new → Leaves old new
-rolled_back old new was h is_open =
+rolled_back : (old new : State) → IsRolledBack old new → Leaves old new
+rolled_back old new h is_open =
     let back = h.undone is_open in
-    record { was_open = h.was_open is_open; now = back.0 ∙ sym was.same; settled = record { autocommit = h.autocommit; same = back.0 ∙ sym back.1 } }
+    record { was_open = h.was_open is_open; rest = λ was _. (back.0 ∙ sym was.same, record { autocommit = h.autocommit; same = back.0 ∙ sym back.1 }) }
 
-fails : {U : Type 0} (old new : State) (e : Error) → IsSettled old → Fails old new U e → Leaves old new
-fails old new e was h = rolled_back old new was h.3
+fails : {U : Type 0} (old new : State) (e : Error) → Fails old new U e → Leaves old new
+fails old new e h = rolled_back old new h.3
 
-not_run : (old new : State) (sql : List ℕ) (params : Row) (e : Error) → IsSettled old → IsNotRun old new sql params e → Leaves old new
+not_run : (old new : State) (sql : List ℕ) (params : Row) (e : Error) → IsNotRun old new sql params e → Leaves old new
 unfolding IsNotRun
-not_run old new sql params e was (inl h) = unchanged old new was h.1
-not_run old new sql params e was (inr h) = fails old new e was h
+not_run old new sql params e (inl h) = λ _. unchanged old new h.1
+not_run old new sql params e (inr h) = fails old new e h
 
-refused : (old new : State) (sql : List ℕ) (c : Compiled) (params : Row) (e : Error) → IsSettled old → RunsCommand old new sql c params (Err e) → Leaves old new
-refused old new sql c params e was (inl h) = unchanged old new was h.1
-refused old new sql c params e was (inr h) = fails old new e was h
+refused : (old new : State) (sql : List ℕ) (c : Compiled) (params : Row) (e : Error) → RunsCommand old new sql c params (Err e) → Leaves old new
+refused old new sql c params e (inl h) = λ _. unchanged old new h.1
+refused old new sql c params e (inr h) = fails old new e h
 
-alone : (b : Bool) (old new : State) (sql : List ℕ) (c : Compiled) (params : Row) (e : Error) (P : Type 0) → IsSettled old
+alone : (b : Bool) (old new : State) (sql : List ℕ) (c : Compiled) (params : Row) (e : Error) (P : Type 0)
     → MatchBool b (P × IsUnchanged old new) (RunsCommand old new sql c params (Err e)) → Leaves old new
-alone true old new sql c params e P was h = unchanged old new was h.1
-alone false old new sql c params e P was h = refused old new sql c params e was h
+alone true old new sql c params e P h = λ _. unchanged old new h.1
+alone false old new sql c params e P h = refused old new sql c params e h
 
 -- a statement that was refused
-pub refused_stays : (sql : List ℕ) (params : Row) (old new : State) (e : Error) → IsSettled old → Executes sql params old new (Err e) → IsTrue new.is_open → Stays old new
+pub refused_stays : (sql : List ℕ) (params : Row) (old new : State) (e : Error) → Executes sql params old new (Err e) → IsTrue new.is_open → Stays old new
 unfolding ExecutesIn
-refused_stays sql params old new e was (inl h) = not_run old new sql params e was h
-refused_stays sql params old new e was (inr h) = alone (shows_rows false h.0) old new sql h.0 _ e _ was h.2
+refused_stays sql params old new e (inl h) = not_run old new sql params e h
+refused_stays sql params old new e (inr h) = alone (shows_rows false h.0) old new sql h.0 _ e _ h.2
 
-to_show : (old new : State) (sql : List ℕ) (c : Compiled) (params : Row) (e : Error) (what : Option Returning) → IsSettled old
+to_show : (old new : State) (sql : List ℕ) (c : Compiled) (params : Row) (e : Error) (what : Option Returning)
     → FailsToShow old new sql c params e what → Leaves old new
-to_show old new sql c params e None was h = unchanged old new was h.3
-to_show old new sql c params e (Some what) was h = refused old new sql c params e was h
+to_show old new sql c params e None h = λ _. unchanged old new h.3
+to_show old new sql c params e (Some what) h = refused old new sql c params e h
 
 -- a query that was refused
-pub query_refused_stays : (sql : List ℕ) (params : Row) (old new : State) (e : Error) → IsSettled old → FailsToQuery sql params old new e → IsTrue new.is_open → Stays old new
+pub query_refused_stays : (sql : List ℕ) (params : Row) (old new : State) (e : Error) → FailsToQuery sql params old new e → IsTrue new.is_open → Stays old new
 unfolding FailsToQuery
-query_refused_stays sql params old new e was (inl h) = not_run old new sql params e was h
-query_refused_stays sql params old new e was (inr h) = to_show old new sql h.0 _ e h.0.returning was h.2
+query_refused_stays sql params old new e (inl h) = not_run old new sql params e h
+query_refused_stays sql params old new e (inr h) = to_show old new sql h.0 _ e h.0.returning h.2
 
 none_of : (c : Compiled) {r : Result Compiled CompileError} → r ≡ Ok c → IsPlain r → c.returning ≡ None
 none_of c is plain = (subst IsPlain is plain).0
 
+shows : (old new : State) (sql : List ℕ) (c : Compiled) (params : Row) (rows : List Row) (what : Option Returning) → ShowsRows old new sql c params rows what
+    → IsTrue old.is_open × ((what ≡ None) → IsUnchanged old new)
+shows old new sql c params rows None h = (h.3.0.was_open, λ _. h.3)
+shows old new sql c params rows (Some what) h = (h.1.shown.was_open, λ some. absurd cc)
+
 -- a query that gave its rows
-pub query_stays : (sql : List ℕ) (params : Row) (old new : State) (rows : List Row) → IsSettled old → IsPlain (understood old.now.schema sql) → Shown sql params old new rows → Stays old new
+pub query_stays : (sql : List ℕ) (params : Row) (old new : State) (rows : List Row) → IsPlain (understood kt_schema sql) → Shown sql params old new rows → Stays old new
 unfolding Shown
-query_stays sql params old new rows was plain h =
-    let it = subst (ShowsRows old new sql h.0 _ rows) (none_of h.0 h.1.is plain) h.2 in
-    unchanged old new was it.3 it.3.0.is_open
+query_stays sql params old new rows plain h =
+    let it = shows old new sql h.0 _ rows h.0.returning h.2 in
+    let none = λ (has : old.now.schema ≡ kt_schema). none_of h.0 (ap (λ s. understood s sql) (sym has) ∙ h.1.is) plain in
+    record { was_open = it.0; rest = λ was has. (unchanged old new (it.1 (none has))).rest was has }
 
 -- a write that was made
-pub written_settled : (old new : State) → IsSettled old → Shows old new new.now (cond old.in_transaction old.committed new.now) old.in_transaction
-    → IsSettled new × IsTrue old.is_open
+pub written_settled : (old new : State) → IsSettled old → Shows old new new.now (cond old.in_transaction old.committed new.now) old.in_transaction → IsSettled new
 written_settled old new was h =
     let committed : new.committed ≡ new.now = h.committed_is ∙ ap (λ b. cond b old.committed new.now) was.autocommit in
-    (record { autocommit = h.mode ∙ was.autocommit; same = sym committed }, h.was_open)
+    record { autocommit = h.mode ∙ was.autocommit; same = sym committed }

@@ -1,4 +1,5 @@
 pub mod Rows
 pub mod Schema
 pub mod Settled
+pub mod Store
 pub mod Text

@@ -1,5 +1,5 @@
 -- How the rows of a store stand in the tables.
-use Rattle.std.specs.Prelude.{◌≡◌, ℕ, ◌+◌, ◌-◌, ◌<◌, ◌≤◌, ℤ, pos, nat_lt, Bool, true, if◌then◌else◌, List, [], ◌∷◌, map, Option, None, Some, IfSome, Result, Ok, Err, ⊤}
+use Rattle.std.specs.Prelude.{◌≡◌, ◌⊎◌, ℕ, ◌+◌, ◌-◌, ◌<◌, ◌≤◌, ℤ, pos, nat_lt, Bool, true, if◌then◌else◌, List, [], ◌∷◌, map, Option, None, Some, IfSome, Result, Ok, Err, ⊤}
 use Rattle.std.specs.Option.{option_map, option_and_then}
 use Rattle.std.specs.List.{AllByRecursion}
 use Rattle.sqlite.specs.declared.types.Value.{Value}
@@ -13,6 +13,8 @@ use Rattle.kt_tuple.specs.declared.node.NodeId.TheVariants.{Worker, Shard}
 use Rattle.kt_ckpt.specs.declared.error.CkptError.{CkptError}
 use Rattle.kt_ckpt.specs.Checkpoint.{Checkpoint, IsCheckpoint, spelling, read}
 use Rattle.kt_ckpt.specs.declared.ckpt.Ckpt.{Ckpt}
+use Rattle.kt_store.specs.declared.error.StoreError.{StoreError}
+use Rattle.kt_store.specs.declared.error.StoreError.TheVariants.{Memory, Damaged}
 use Rattle.kt_store.specs.declared.rows.NodeRow.{NodeRow}
 use Rattle.kt_store.specs.declared.rows.Tentative.{Tentative}
 use Rattle.kt_store.specs.declared.rows.Posted.{Posted}
@@ -64,11 +66,17 @@ bytes_of c = spelling c
 abbrev pub spelled : Option Ckpt → Value
 spelled = or_null (λ c. Blob (bytes_of c))
 
-abbrev pub instance_value : Option Tentative → Value
-instance_value = or_null (λ (t : Tentative). whole t.instance)
+abbrev pub taken_checkpoint : Option Tentative → Option Ckpt
+taken_checkpoint = option_map (λ (t : Tentative). t.checkpoint)
+
+abbrev pub taken_instance : Option Tentative → Option ℕ
+taken_instance = option_map (λ (t : Tentative). t.instance)
 
 abbrev pub checkpoint_value : Option Tentative → Value
-checkpoint_value = or_null (λ (t : Tentative). Blob (bytes_of t.checkpoint))
+checkpoint_value t = spelled (taken_checkpoint t)
+
+abbrev pub instance_value : Option Tentative → Value
+instance_value t = or_null whole (taken_instance t)
 
 -- as it is given to a statement and as a query shows it
 abbrev pub node_given : NodeRow → Row
@@ -142,9 +150,12 @@ abbrev pub IsSpelled : Option Ckpt → Type 0
 IsSpelled None = ⊤
 IsSpelled (Some c) = IsCheckpoint c
 
+abbrev pub IsLow : Option ℕ → Type 0
+IsLow None = ⊤
+IsLow (Some n) = n ≤ greatest
+
 abbrev pub IsTaken : Option Tentative → Type 0
-IsTaken None = ⊤
-IsTaken (Some t) = IsCheckpoint t.checkpoint × (t.instance ≤ greatest)
+IsTaken t = IsSpelled (taken_checkpoint t) × IsLow (taken_instance t)
 
 pub record IsNodeRow (r : NodeRow) : Type 0 where
   pub node : HasId r.node
@@ -170,3 +181,34 @@ pub record Holds (db : Trees) (c : Content) : Type 0 where
   pub nodes : db 0 ≡ map node_stored c.nodes
   pub board : db 1 ≡ map posted_stored c.board
   pub said : IsSaid c
+
+-- ---- what is read of a row
+
+-- the row shows this node, column by column
+pub record ShowsNode (row : Row) (r : NodeRow) : Type 0 where
+  pub id : column row 0 ≡ whole (id_of r.node)
+  pub incarnation : column row 1 ≡ whole r.incarnation
+  pub permanent : column row 2 ≡ spelled r.permanent
+  pub tentative : column row 3 ≡ checkpoint_value r.tentative
+  pub instance : column row 4 ≡ instance_value r.tentative
+
+-- the row shows this instance
+pub record ShowsPosted (row : Row) (p : Posted) : Type 0 where
+  pub instance : column row 0 ≡ whole p.instance
+  pub initiator : column row 1 ≡ whole (id_of p.initiator)
+  pub purpose : column row 2 ≡ whole (purpose_code p.purpose)
+  pub verdict : column row 3 ≡ whole (verdict_code p.verdict)
+
+-- this is read, unless memory runs out
+abbrev pub Gives : {X : Type 0} → X → Result X StoreError → Type 0
+Gives x (Ok read) = read ≡ x
+Gives x (Err e) = e ≡ Memory
+
+-- what is refused for what the row has
+abbrev pub IsReadError : StoreError → Type 0
+IsReadError e = (e ≡ Memory) ⊎ (e ≡ Damaged)
+
+-- the number of the instance, 0 where there is none
+abbrev pub number_of : Option Posted → ℕ
+number_of None = 0
+number_of (Some p) = p.instance

@@ -1,2 +1,8 @@
 //! The store in SQL: checkpoints, incarnations and verdicts in tables that a person can read.
 #![tactic(auto)]
+
+mod ids;
+mod number;
+mod reads;
+mod rows;
+mod store;

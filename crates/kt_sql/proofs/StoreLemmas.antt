@@ -1,0 +1,61 @@
+-- A store over a connection, from one call to the next.
+use Rattle.std.proofs.Common.{◌≡◌, ℕ, ◌≤◌, Bool, true, false, ◌&&◌, refl, sym, ap, subst, ◌∙◌, arith}
+use Rattle.std.specs.Prelude.{IsTrue}
+use Rattle.sqlite.specs.Store.{Ghosts}
+use Rattle.sqlite.specs.Held.{Held, state}
+use Rattle.sqlite.specs.State.{State, HasCleanDisk}
+use Rattle.sqlite_trees.specs.View.{doubt}
+use Rattle.sqlite_trees.proofs.Doubt.{no_doubt, clean_of}
+use Rattle.sqlite.specs.Effect.{Database}
+use Rattle.kt_sql.specs.Schema.{kt_schema}
+use Rattle.kt_sql.specs.Settled.{IsSettled}
+use Rattle.kt_sql.specs.Rows.{Holds, content_in}
+use Rattle.kt_sql.specs.Store.{Stored, is_sure, IsKept}
+use Rattle.kt_sql.proofs.StateLemmas.{Stays}
+
+three : (a b c : Bool) → IsTrue (a && (b && c)) → IsTrue a × IsTrue b × IsTrue c
+three true true true h = (refl, refl, refl)
+three true true false h = absurd cc
+three true false c h = absurd cc
+three false b c h = absurd cc
+
+all_three : (a b c : Bool) → IsTrue a → IsTrue b → IsTrue c → IsTrue (a && (b && c))
+all_three true true true p q r = refl
+all_three true true false p q r = absurd cc
+all_three true false c p q r = absurd cc
+all_three false b c p q r = absurd cc
+
+module _ {S : Type 0} (g : Ghosts S) where
+  pub record IsSure (s : Stored S) : Type 0 where
+    pub trusted : IsTrue s.is_trusted
+    pub is_open : IsTrue (state g s.conn).is_open
+    pub clean : HasCleanDisk (state g s.conn)
+
+  pub sure_parts : (s : Stored S) → IsTrue (is_sure g s) → IsSure s
+  sure_parts s h =
+      let parts = three s.is_trusted (state g s.conn).is_open (state g s.conn).is_clean h in
+      record { trusted = parts.0; is_open = parts.1; clean = no_doubt _ parts.2 }
+
+  pub sure_whole : (s : Stored S) → IsSure s → IsTrue (is_sure g s)
+  sure_whole s h = all_three s.is_trusted (state g s.conn).is_open (state g s.conn).is_clean h.trusted h.is_open (clean_of _ h.clean)
+
+  -- a call after which the store is sure, and which changed nothing
+  pub stayed : (s : Stored S) (h : Held S) (f : ℕ) → (IsTrue (is_sure g s) → IsKept g s) → doubt (state g s.conn).is_clean ≤ doubt (state g h).is_clean
+      → (HasCleanDisk (state g h) → IsTrue (state g h).is_open → Stays (state g s.conn) (state g h))
+      → let after : Stored S = record { conn = h; is_trusted = s.is_trusted; faults = f } in
+      IsTrue (is_sure g after) → IsTrue (is_sure g s) × ((state g h).now ≡ (state g s.conn).now) × IsKept g after
+  stayed s h f kept clean stays sure =
+      let is = sure_parts (record { conn = h; is_trusted = s.is_trusted; faults = f }) sure in
+      let on = stays is.clean is.is_open in
+      let was = sure_whole s (record { trusted = is.trusted; is_open = on.was_open; clean = omega (arith, clean, is.clean) }) in
+      let k = kept was in
+      let now = on.rest k.settled k.schema in
+      (
+        was,
+        now.0,
+        record {
+          settled = now.1;
+          schema = ap (λ (d : Database). d.schema) now.0 ∙ k.schema;
+          holds = subst (λ (d : Database). Holds d.trees (content_in d.trees)) (sym now.0) k.holds;
+        },
+      )

@@ -1,0 +1,79 @@
+//! A store over a connection.
+
+ghost use Rattle.std.specs.Prelude.{◌≡◌, ◌⊎◌, ◌<◌, ◌≤◌, ℕ, Option, IfOk, IfErr, IsTrue};
+ghost use Rattle.sqlite.specs.Values.{bound};
+ghost use Rattle.sqlite.specs.Held.{state};
+ghost use Rattle.sqlite.specs.Listing.{understood};
+ghost use Rattle.sqlite.specs.State.{Shown};
+ghost use Rattle.sqlite.specs.Given.{IsPlain};
+ghost use Rattle.kt_store.specs.Calls.{HasCause, most_faults};
+ghost use Rattle.kt_sql.specs.Schema.{kt_schema};
+ghost use Rattle.kt_sql.specs.Store.{is_sure, content_of, IsKept};
+
+use kt_store::StoreError;
+use sqlite::types::ValueRef;
+use sqlite::{Alter, Connection, Error, ErrorCode, Row};
+use std::alloc::Global;
+use std::marker::Model;
+
+/// A store in the tables of a database. It is honest while its connection is open, the disk has returned what was
+/// written, and each row was as said when it was opened.
+pub struct SqlStore<S: Alter> {
+    conn: Connection<S>,
+    is_trusted: bool,
+    faults: u64,
+    alloc: Global,
+}
+
+impl<S: Alter> Model for SqlStore<S> {
+    ghost use Rattle.std.specs.Prelude.{IsTrue};
+    ghost use Rattle.kt_sql.specs.Store.{IsKept, Stored, is_sure, stored_code};
+
+    ghost Value = { Stored S };
+
+    ghost coded = { stored_code S.code };
+
+    ghost view = { λ s. record { conn = s.conn; is_trusted = s.is_trusted; faults = s.faults } };
+
+    ghost invariant = { λ s. IsTrue (is_sure S.Store (record { conn = s.conn; is_trusted = s.is_trusted; faults = s.faults }))
+        → IsKept S.Store (record { conn = s.conn; is_trusted = s.is_trusted; faults = s.faults }) };
+}
+
+/// Why a statement was refused, where it was: for memory, or for a fault, which is counted.
+fn refused(faults: &mut u64, error: Error) -> StoreError
+    ensures later { faults.old ≤ faults.new }
+    ensures counted { result ≡ StoreError.Device → (faults.old < faults.new) ⊎ (faults.new ≡ most_faults) }
+    ensures named { (result ≡ StoreError.Memory) ⊎ (result ≡ StoreError.Device) }
+{
+    match error {
+        Error::SqliteFailure(ErrorCode::OutOfMemory) => StoreError::Memory,
+        _ => {
+            *faults = faults.saturating_add(1);
+            StoreError::Device
+        }
+    }
+}
+
+impl<S: Alter> SqlStore<S> {
+    /// Where the store takes its memory from.
+    pub(crate) fn allocator(&self) -> Global
+        ensures kept { IsTrue (is_sure S.Store self.now) → IsKept S.Store self.now }
+    {
+        self.alloc
+    }
+
+    /// All rows of the answer to a query.
+    pub(crate) fn ask(&mut self, sql: &str, params: &[ValueRef<'_>]) -> Result<Vec<Row>, StoreError>
+        requires { IsPlain (understood kt_schema sql.now) }
+        ensures shown { IsTrue (is_sure S.Store self.new) → IfOk result (λ rows. Shown sql.now (bound params.now) (state S.Store self.old.conn) (state S.Store self.new.conn) rows.items) }
+        ensures same { IsTrue (is_sure S.Store self.new) → (state S.Store self.new.conn).now ≡ (state S.Store self.old.conn).now }
+        ensures honest { IsTrue (is_sure S.Store self.new) → IsTrue (is_sure S.Store self.old) }
+        ensures kept { IsTrue (is_sure S.Store self.new) → IsKept S.Store self.new }
+        ensures cause { HasCause self.old.faults self.new.faults (is_sure S.Store self.new) ⊥ result }
+    {
+        match self.conn.query_all(sql, params) {
+            Ok(rows) => Ok(rows),
+            Err(error) => Err(refused(&mut self.faults, error)),
+        }
+    }
+}
