@@ -19,9 +19,17 @@ use Rattle.kt_store.specs.Verdict.{is_open}
 use Rattle.kt_store.specs.Content.{Content, greatest, is_empty}
 use Rattle.kt_store.specs.Calls.{HasCause}
 use Rattle.kt_sql.specs.Schema.{kt_schema}
-use Rattle.kt_sql.specs.Text.{get_node_text, first_node_text, get_posted_text, last_posted_text, open_posted_text}
-use Rattle.kt_sql.specs.Rows.{whole, id_of, HasId, node_given, posted_given, IsNodeRow, IsPosted, Holds, Gives, IsReadError, content_in, number_of}
+use Rattle.kt_sql.specs.Text.{put_node_text, put_posted_text, get_node_text, first_node_text, get_posted_text, last_posted_text, open_posted_text}
+use Rattle.kt_sql.specs.Rows.{whole, id_of, HasId, node_given, posted_given, IsNodeRow, IsPosted, Holds, Gives, IsReadError, content_in, number_of, placing}
 use Rattle.kt_sql.specs.Store.{Stored, is_sure, content_of, IsKept}
+use Rattle.sqlite.specs.Held.{Held}
+use Rattle.sqlite.specs.State.{HasCleanDisk, Executes}
+use Rattle.sqlite.specs.declared.error.Error.{Error}
+use Rattle.sqlite_trees.specs.View.{doubt}
+use Rattle.kt_store.specs.Changes.{storing}
+use Rattle.kt_sql.proofs.StateLemmas.{executed_open, refused_stays}
+use Rattle.kt_sql.proofs.StoreLemmas.{stayed, wrote}
+use Rattle.kt_sql.proofs.WriteLemmas.{put_node_does, put_posted_does}
 use Rattle.kt_sql.proofs.FoundLemmas.{node_found, some_node_found, posted_found, open_found, last_found, found_is}
 use Rattle.kt_sql.proofs.ReadLemmas.{downwards, first_or_0, first_is_greatest}
 use Rattle.sqlite_keyed.specs.Lists.{sort_by, insert_sorted}
@@ -150,3 +158,27 @@ module _ {S : Type 0} (g : Ghosts S) (s n : Stored S) (kept : IsKept g n) (same 
 
   pub nodes_read : (rows : List Row) → Shown first_node_text [] (state g s.conn) (state g n.conn) rows → (length rows == 0) ≡ is_empty was.nodes
   nodes_read rows h = empty_where was.nodes rows (some_node_found (state g s.conn) (state g n.conn) was (was_schema g s n kept same) (was_held g s n kept same) rows h)
+
+-- ---- writes
+
+module _ {S : Type 0} (g : Ghosts S) (s : Stored S) (h : Held S) (f : ℕ) (kept : IsTrue (is_sure g s) → IsKept g s) (clean : doubt (state g s.conn).is_clean ≤ doubt (state g h).is_clean) where
+  abbrev after : Stored S
+  after = record { conn = h; is_trusted = s.is_trusted; faults = f }
+
+  pub node_wrote : (r : NodeRow) (count : ℕ) → IsNodeRow r → (HasCleanDisk (state g h) → Executes put_node_text (node_given r) (state g s.conn) (state g h) (Ok count))
+      → IsTrue (is_sure g after) → IsTrue (is_sure g s) × (content_of g after ≡ storing r (content_of g s)) × IsKept g after
+  node_wrote r count good ran =
+      wrote g s h f (storing r (content_of g s)) kept clean (λ cl on. executed_open put_node_text (node_given r) _ _ count (ran cl) on)
+      (λ cl k. put_node_does _ _ r (content_of g s) count good k.schema k.holds k.settled (ran cl))
+
+  pub posted_wrote : (p : Posted) (count : ℕ) → IsPosted p → (HasCleanDisk (state g h) → Executes put_posted_text (posted_given p) (state g s.conn) (state g h) (Ok count))
+      → IsTrue (is_sure g after) → IsTrue (is_sure g s) × (content_of g after ≡ placing p (content_of g s)) × IsKept g after
+  posted_wrote p count good ran =
+      wrote g s h f (placing p (content_of g s)) kept clean (λ cl on. executed_open put_posted_text (posted_given p) _ _ count (ran cl) on)
+      (λ cl k. put_posted_does _ _ p (content_of g s) count good k.schema k.holds k.settled (ran cl))
+
+  pub not_wrote : (sql : List ℕ) (params : Row) (e : Error) → (HasCleanDisk (state g h) → Executes sql params (state g s.conn) (state g h) (Err e))
+      → IsTrue (is_sure g after) → IsTrue (is_sure g s) × (content_of g after ≡ content_of g s) × IsKept g after
+  not_wrote sql params e ran sure =
+      let it = stayed g s h f kept clean (λ cl on. refused_stays sql params _ _ e (ran cl) on) sure in
+      (it.0, ap (λ (d : Database). content_in d.trees) it.1, it.2)

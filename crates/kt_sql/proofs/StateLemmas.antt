@@ -4,11 +4,14 @@ use Rattle.std.specs.Prelude.{IsTrue, MatchBool}
 use Rattle.std.proofs.lemmas.Bool.{cases_Bool}
 use Rattle.sqlite.specs.Order.{Row}
 use Rattle.sqlite.specs.declared.error.Error.{Error}
+use Rattle.sqlite.specs.declared.error.Error.TheVariants.{ExecuteReturnedResults}
+use Rattle.sqlite.specs.Command.{Command}
+use Rattle.sqlite.specs.Command.TheVariants.{Select, Insert, InsertOr, Update, Delete, CreateTable, CreateIndex, DropTable, DropIndex, Begin, Commit, Rollback, Savepoint, Release, RollbackTo, Nothing, CreateView, DropView, Rows}
 use Rattle.sqlite_resolve.specs.declared.error.CompileError.{CompileError}
 use Rattle.sqlite_resolve.specs.declared.compiled.Compiled.{Compiled}
 use Rattle.sqlite_schema.specs.declared.command.Returning.{Returning}
 use Rattle.sqlite_schema.specs.declared.schema.Schema.{Schema}
-use Rattle.sqlite.specs.State.{State, Shows, Writes, IsUnchanged, IsRolledBack, Fails, RunsCommand, RunsAlone, shows_rows, IsNotRun, Executes, ExecutesIn, FailsToShow, FailsToQuery, ShowsRows, Shown}
+use Rattle.sqlite.specs.State.{State, Shows, Runs, Writes, IsUnchanged, IsRolledBack, Fails, RunsCommand, RunsAlone, shows_rows, IsNotRun, Executes, ExecutesIn, FailsToShow, FailsToQuery, ShowsRows, Shown}
 use Rattle.sqlite.specs.Listing.{understood}
 use Rattle.sqlite.proofs.Callers.{IsPlain}
 use Rattle.kt_sql.specs.Schema.{kt_schema}
@@ -88,3 +91,37 @@ pub written_settled : (old new : State) → IsSettled old → Shows old new new.
 written_settled old new was h =
     let committed : new.committed ≡ new.now = h.committed_is ∙ ap (λ b. cond b old.committed new.now) was.autocommit in
     record { autocommit = h.mode ∙ was.autocommit; same = sym committed }
+
+-- ---- a statement that ran on an open connection
+
+runs_open : (old new : State) (returning : Option Returning) (command : Command) (text : List ℕ) (params : Row) (count : ℕ) → Runs old new returning command text params count
+    → IsTrue new.is_open → IsTrue old.is_open
+runs_open old new returning (Select q names) text params count h on = absurd h
+runs_open old new returning (Insert at from) text params count h on = h.shown.was_open
+runs_open old new returning (InsertOr at way from clauses) text params count h on = h.shown.was_open
+runs_open old new returning (Update at q) text params count h on = h.shown.was_open
+runs_open old new returning (Delete at q) text params count h on = h.shown.was_open
+runs_open old new returning CreateTable text params count h on = h.shown.was_open
+runs_open old new returning (CreateIndex at) text params count h on = h.shown.was_open
+runs_open old new returning (DropTable at) text params count h on = h.shown.was_open
+runs_open old new returning (DropIndex at) text params count h on = h.shown.was_open
+runs_open old new returning Begin text params count h on = h.1.was_open
+runs_open old new returning Commit text params count h on = h.1.was_open
+runs_open old new returning Rollback text params count h on = h.1.was_open on
+runs_open old new returning (Savepoint name) text params count h on = h.0.0.was_open
+runs_open old new returning (Release name) text params count (at, newest, inl done, none) on = done.1.0.was_open
+runs_open old new returning (Release name) text params count (at, newest, inr done, none) on = done.1.0.was_open
+runs_open old new returning (RollbackTo name) text params count h on = h.2.2.was_open
+runs_open old new returning (Rows values width names) text params count h on = h.0.0.was_open
+runs_open old new returning Nothing text params count h on = h.0.0.was_open
+runs_open old new returning CreateView text params count h on = h.shown.was_open
+runs_open old new returning (DropView at) text params count h on = h.shown.was_open
+
+alone_open : (b : Bool) (old new : State) (sql : List ℕ) (c : Compiled) (params : Row) (count : ℕ) (P : Type 0)
+    → MatchBool b ((◌≡◌ {A = Result ℕ Error} (Ok count) (Err ExecuteReturnedResults)) × P) (RunsCommand old new sql c params (Ok count)) → IsTrue new.is_open → IsTrue old.is_open
+alone_open true old new sql c params count P h on = absurd (let e = h.0 in cc)
+alone_open false old new sql c params count P h on = runs_open old new c.returning c.command _ params count h on
+
+pub executed_open : (sql : List ℕ) (params : Row) (old new : State) (count : ℕ) → Executes sql params old new (Ok count) → IsTrue new.is_open → IsTrue old.is_open
+unfolding ExecutesIn
+executed_open sql params old new count h on = alone_open (shows_rows false h.0) old new sql h.0 _ count _ h.2 on

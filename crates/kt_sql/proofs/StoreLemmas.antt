@@ -1,5 +1,5 @@
 -- A store over a connection, from one call to the next.
-use Rattle.std.proofs.Common.{◌≡◌, ℕ, ◌≤◌, Bool, true, false, ◌&&◌, refl, sym, ap, subst, ◌∙◌, arith}
+use Rattle.std.proofs.Common.{◌≡◌, ℕ, ◌≤◌, Bool, true, false, ◌&&◌, List, map, refl, sym, ap, ap₂, subst, ◌∙◌, arith}
 use Rattle.std.specs.Prelude.{IsTrue}
 use Rattle.sqlite.specs.Store.{Ghosts}
 use Rattle.sqlite.specs.Held.{Held, state}
@@ -9,8 +9,13 @@ use Rattle.sqlite_trees.proofs.Doubt.{no_doubt, clean_of}
 use Rattle.sqlite.specs.Effect.{Database}
 use Rattle.kt_sql.specs.Schema.{kt_schema}
 use Rattle.kt_sql.specs.Settled.{IsSettled}
-use Rattle.kt_sql.specs.Rows.{Holds, content_in}
-use Rattle.kt_sql.specs.Store.{Stored, is_sure, IsKept}
+use Rattle.kt_sql.specs.Rows.{Holds, content_in, node_in, node_stored, posted_in, posted_stored, IsNodeRow, IsPosted}
+use Rattle.kt_store.specs.declared.rows.NodeRow.{NodeRow}
+use Rattle.kt_store.specs.declared.rows.Posted.{Posted}
+use Rattle.kt_store.specs.Content.{Content}
+use Rattle.sqlite.specs.Tree.{Trees}
+use Rattle.kt_sql.proofs.RowLemmas.{map_back, row_back, posted_back}
+use Rattle.kt_sql.specs.Store.{Stored, is_sure, content_of, IsKept}
 use Rattle.kt_sql.proofs.StateLemmas.{Stays}
 
 three : (a b c : Bool) → IsTrue (a && (b && c)) → IsTrue a × IsTrue b × IsTrue c
@@ -24,6 +29,13 @@ all_three true true true p q r = refl
 all_three true true false p q r = absurd cc
 all_three true false c p q r = absurd cc
 all_three false b c p q r = absurd cc
+
+-- what the tables hold is read back
+pub holds_content : {db : Trees} (c : Content) → Holds db c → content_in db ≡ c
+holds_content c h =
+    let nodes = ap (map node_in) h.nodes ∙ map_back IsNodeRow node_stored node_in row_back c.nodes h.said.nodes in
+    let board = ap (map posted_in) h.board ∙ map_back IsPosted posted_stored posted_in posted_back c.board h.said.board in
+    ap₂ (λ (ns : List NodeRow) (ps : List Posted). let whole : Content = record { nodes = ns; board = ps } in whole) nodes board
 
 module _ {S : Type 0} (g : Ghosts S) where
   pub record IsSure (s : Stored S) : Type 0 where
@@ -59,3 +71,16 @@ module _ {S : Type 0} (g : Ghosts S) where
           holds = subst (λ (d : Database). Holds d.trees (content_in d.trees)) (sym now.0) k.holds;
         },
       )
+
+  -- a call after which the store is sure, and which changed its tables
+  pub wrote : (s : Stored S) (h : Held S) (f : ℕ) (c : Content) → (IsTrue (is_sure g s) → IsKept g s) → doubt (state g s.conn).is_clean ≤ doubt (state g h).is_clean
+      → (HasCleanDisk (state g h) → IsTrue (state g h).is_open → IsTrue (state g s.conn).is_open)
+      → (HasCleanDisk (state g h) → IsKept g s → IsSettled (state g h) × ((state g h).now.schema ≡ kt_schema) × Holds (state g h).now.trees c)
+      → let after : Stored S = record { conn = h; is_trusted = s.is_trusted; faults = f } in
+      IsTrue (is_sure g after) → IsTrue (is_sure g s) × (content_of g after ≡ c) × IsKept g after
+  wrote s h f c kept clean opened does sure =
+      let is = sure_parts (record { conn = h; is_trusted = s.is_trusted; faults = f }) sure in
+      let was = sure_whole s (record { trusted = is.trusted; is_open = opened is.clean is.is_open; clean = omega (arith, clean, is.clean) }) in
+      let done = does is.clean (kept was) in
+      let same = holds_content c done.2 in
+      (was, same, record { settled = done.0; schema = done.1; holds = subst (Holds (state g h).now.trees) (sym same) done.2 })

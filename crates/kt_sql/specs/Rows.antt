@@ -23,6 +23,7 @@ use Rattle.kt_store.specs.declared.rows.Purpose.TheVariants.{Check, Rollback}
 use Rattle.kt_store.specs.declared.rows.Verdict.{Verdict}
 use Rattle.kt_store.specs.declared.rows.Verdict.TheVariants.{Open, Yes, No}
 use Rattle.kt_store.specs.Content.{Content, greatest, node_lt}
+use Rattle.kt_store.specs.Changes.{with_posted}
 
 -- ---- numbers
 
@@ -212,3 +213,7 @@ IsReadError e = (e ≡ Memory) ⊎ (e ≡ Damaged)
 abbrev pub number_of : Option Posted → ℕ
 number_of None = 0
 number_of (Some p) = p.instance
+
+-- the instance's row is this one
+abbrev pub placing : Posted → Content → Content
+placing p c = record c { board = with_posted p c.board }

@@ -1,6 +1,7 @@
 //! The store in SQL: checkpoints, incarnations and verdicts in tables that a person can read.
 #![tactic(auto)]
 
+mod cells;
 mod ids;
 mod number;
 mod reads;

@@ -1,20 +1,30 @@
 //! A store over a connection.
 
-ghost use Rattle.std.specs.Prelude.{◌≡◌, ◌⊎◌, ◌<◌, ◌≤◌, ℕ, Option, IfOk, IfErr, IsTrue};
+ghost use Rattle.std.specs.Prelude.{◌≡◌, ◌⊎◌, ◌<◌, ◌≤◌, ℕ, Option, IfOk, IfErr, OnOk, OnErr, IsTrue};
 ghost use Rattle.sqlite.specs.Values.{bound};
 ghost use Rattle.sqlite.specs.Held.{state};
 ghost use Rattle.sqlite.specs.Listing.{understood};
-ghost use Rattle.sqlite.specs.State.{Shown};
+ghost use Rattle.sqlite.specs.State.{HasCleanDisk, Executes, Shown};
+ghost use Rattle.sqlite_trees.specs.View.{doubt};
+ghost use Rattle.kt_store.specs.declared.rows.NodeRow.{NodeRow as NodeFields};
+ghost use Rattle.kt_store.specs.declared.rows.Posted.{Posted as PostedFields};
+ghost use Rattle.kt_store.specs.Changes.{storing};
+ghost use Rattle.kt_sql.specs.Text.{put_node_text};
+ghost use Rattle.kt_sql.specs.Rows.{IsNodeRow, IsPosted, node_given, posted_given, placing};
+ghost use Rattle.kt_sql.specs.Cells.{SpellsNode, SpellsPosted};
 ghost use Rattle.sqlite.specs.Given.{IsPlain};
 ghost use Rattle.kt_store.specs.Calls.{HasCause, most_faults};
 ghost use Rattle.kt_sql.specs.Schema.{kt_schema};
 ghost use Rattle.kt_sql.specs.Store.{is_sure, content_of, IsKept};
 
-use kt_store::StoreError;
+use crate::cells::{NodeCells, node_cells};
+use kt_store::{NodeRow, StoreError};
 use sqlite::types::ValueRef;
-use sqlite::{Alter, Connection, Error, ErrorCode, Row};
+use sqlite::{Alter, Connection, Error, ErrorCode, Row, params};
 use std::alloc::Global;
 use std::marker::Model;
+
+const PUT_NODE: &str = "INSERT OR REPLACE INTO kt_node VALUES (?1, ?2, ?3, ?4, ?5)";
 
 /// A store in the tables of a database. It is honest while its connection is open, the disk has returned what was
 /// written, and each row was as said when it was opened.
@@ -76,4 +86,52 @@ impl<S: Alter> SqlStore<S> {
             Err(error) => Err(refused(&mut self.faults, error)),
         }
     }
+
+    /// Counts a fault, for a number that the tables do not hold.
+    fn fault(&mut self) -> StoreError
+        ensures same { (self.new.conn ≡ self.old.conn) × (self.new.is_trusted ≡ self.old.is_trusted) }
+        ensures later { self.old.faults ≤ self.new.faults }
+        ensures counted { (self.old.faults < self.new.faults) ⊎ (self.new.faults ≡ most_faults) }
+        ensures named { result ≡ StoreError.Device }
+    {
+        self.faults = self.faults.saturating_add(1);
+        StoreError::Device
+    }
+
+    /// Stores the row, in place of the one that the node has.
+    pub(crate) fn put_node(&mut self, row: &NodeRow) -> Result<(), StoreError>
+        requires { 1 ≤ row.now.incarnation }
+        ensures written { IsTrue (is_sure S.Store self.new) → OnOk result (content_of S.Store self.new ≡ storing row.now (content_of S.Store self.old)) }
+        ensures unchanged { IsTrue (is_sure S.Store self.new) → OnErr result (content_of S.Store self.new ≡ content_of S.Store self.old) }
+        ensures honest { IsTrue (is_sure S.Store self.new) → IsTrue (is_sure S.Store self.old) }
+        ensures cause { HasCause self.old.faults self.new.faults (is_sure S.Store self.new) ⊥ result }
+    {
+        match node_cells(self.alloc, row)? {
+            Some(cells) => self.write_node(&cells),
+            None => Err(self.fault()),
+        }
+    }
+
+    fn write_node(&mut self, cells: &NodeCells) -> Result<(), StoreError>
+        requires { (r : NodeFields) × IsNodeRow r × SpellsNode cells.now r }
+        ensures written { (r : NodeFields) → IsNodeRow r → SpellsNode cells.now r → IsTrue (is_sure S.Store self.new) → OnOk result (content_of S.Store self.new ≡ storing r (content_of S.Store self.old)) }
+        ensures unchanged { IsTrue (is_sure S.Store self.new) → OnErr result (content_of S.Store self.new ≡ content_of S.Store self.old) }
+        ensures honest { IsTrue (is_sure S.Store self.new) → IsTrue (is_sure S.Store self.old) }
+        ensures cause { HasCause self.old.faults self.new.faults (is_sure S.Store self.new) ⊥ result }
+    {
+        match execute_node(&mut self.conn, cells) {
+            Ok(_) => Ok(()),
+            Err(error) => Err(refused(&mut self.faults, error)),
+        }
+    }
+}
+
+fn execute_node<S: Alter>(conn: &mut Connection<S>, cells: &NodeCells) -> Result<usize, Error>
+    ensures runs { HasCleanDisk (state S.Store conn.new) → (r : NodeFields) → SpellsNode cells.now r → Executes put_node_text (node_given r) (state S.Store conn.old) (state S.Store conn.new) result }
+    ensures clean { doubt (state S.Store conn.old).is_clean ≤ doubt (state S.Store conn.new).is_clean }
+{
+    conn.execute(
+        PUT_NODE,
+        params![cells.id, cells.incarnation, &cells.permanent, &cells.tentative, cells.instance],
+    )
 }
