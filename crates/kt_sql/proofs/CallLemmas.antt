@@ -27,7 +27,8 @@ use Rattle.sqlite.specs.State.{HasCleanDisk, Executes}
 use Rattle.sqlite.specs.declared.error.Error.{Error}
 use Rattle.sqlite_trees.specs.View.{doubt}
 use Rattle.kt_store.specs.Changes.{storing}
-use Rattle.kt_sql.proofs.StateLemmas.{executed_open, refused_stays}
+use Rattle.kt_sql.proofs.StateLemmas.{Stays, executed_open, refused_stays, written_settled}
+use Rattle.kt_sql.specs.Both.{RanBoth}
 use Rattle.kt_sql.proofs.StoreLemmas.{stayed, wrote}
 use Rattle.kt_sql.proofs.WriteLemmas.{put_node_does, put_posted_does}
 use Rattle.kt_sql.proofs.FoundLemmas.{node_found, some_node_found, posted_found, open_found, last_found, found_is}
@@ -130,6 +131,24 @@ empty_where [] (r ∷ rows) h = absurd cc
 empty_where (c ∷ cs) [] h = absurd cc
 empty_where (c ∷ cs) (r ∷ rows) h = grind arith
 
+never_empty : (x : Posted) (xs : List Posted) → is_empty (insert_sorted (downwards (λ (q : Posted). q.instance)) x xs) ≡ false
+never_empty x [] = refl
+never_empty x (y ∷ ys) = there (is_gt (downwards (λ (q : Posted). q.instance) x y))
+  where
+    there : (b : Bool) → is_empty (cond b (y ∷ insert_sorted (downwards (λ (q : Posted). q.instance)) x ys) (x ∷ y ∷ ys)) ≡ false
+    there true = refl
+    there false = refl
+
+sorted_empty : (ps : List Posted) → is_empty (sorted_board ps) ≡ is_empty ps
+sorted_empty [] = refl
+sorted_empty (p ∷ ps) = never_empty p (sorted_board ps)
+
+none_posted : (ps : List Posted) (rows : List Row) → slice_get rows 0 ≡ option_map posted_given (slice_get ps 0) → (length rows == 0) ≡ is_empty ps
+none_posted [] [] h = refl
+none_posted [] (r ∷ rows) h = absurd cc
+none_posted (c ∷ cs) [] h = absurd cc
+none_posted (c ∷ cs) (r ∷ rows) h = grind arith
+
 module _ {S : Type 0} (g : Ghosts S) (s n : Stored S) (kept : IsKept g n) (same : (state g n.conn).now ≡ (state g s.conn).now) where
   abbrev was : Content
   was = content_of g s
@@ -159,6 +178,9 @@ module _ {S : Type 0} (g : Ghosts S) (s n : Stored S) (kept : IsKept g n) (same 
   pub nodes_read : (rows : List Row) → Shown first_node_text [] (state g s.conn) (state g n.conn) rows → (length rows == 0) ≡ is_empty was.nodes
   nodes_read rows h = empty_where was.nodes rows (some_node_found (state g s.conn) (state g n.conn) was (was_schema g s n kept same) (was_held g s n kept same) rows h)
 
+  pub board_read : (rows : List Row) → Shown last_posted_text [] (state g s.conn) (state g n.conn) rows → (length rows == 0) ≡ is_empty was.board
+  board_read rows h = none_posted (sorted_board was.board) rows (last_read rows h).0 ∙ sorted_empty was.board
+
 -- ---- writes
 
 module _ {S : Type 0} (g : Ghosts S) (s : Stored S) (h : Held S) (f : ℕ) (kept : IsTrue (is_sure g s) → IsKept g s) (clean : doubt (state g s.conn).is_clean ≤ doubt (state g h).is_clean) where
@@ -169,16 +191,36 @@ module _ {S : Type 0} (g : Ghosts S) (s : Stored S) (h : Held S) (f : ℕ) (kept
       → IsTrue (is_sure g after) → IsTrue (is_sure g s) × (content_of g after ≡ storing r (content_of g s)) × IsKept g after
   node_wrote r count good ran =
       wrote g s h f (storing r (content_of g s)) kept clean (λ cl on. executed_open put_node_text (node_given r) _ _ count (ran cl) on)
-      (λ cl k. put_node_does _ _ r (content_of g s) count good k.schema k.holds k.settled (ran cl))
+      (λ cl k. let it = put_node_does _ _ r (content_of g s) count good k.schema k.holds (ran cl) in (written_settled _ _ k.settled it.0, it.1, it.2))
 
   pub posted_wrote : (p : Posted) (count : ℕ) → IsPosted p → (HasCleanDisk (state g h) → Executes put_posted_text (posted_given p) (state g s.conn) (state g h) (Ok count))
       → IsTrue (is_sure g after) → IsTrue (is_sure g s) × (content_of g after ≡ placing p (content_of g s)) × IsKept g after
   posted_wrote p count good ran =
       wrote g s h f (placing p (content_of g s)) kept clean (λ cl on. executed_open put_posted_text (posted_given p) _ _ count (ran cl) on)
-      (λ cl k. put_posted_does _ _ p (content_of g s) count good k.schema k.holds k.settled (ran cl))
+      (λ cl k. let it = put_posted_does _ _ p (content_of g s) count good k.schema k.holds (ran cl) in (written_settled _ _ k.settled it.0, it.1, it.2))
 
   pub not_wrote : (sql : List ℕ) (params : Row) (e : Error) → (HasCleanDisk (state g h) → Executes sql params (state g s.conn) (state g h) (Err e))
       → IsTrue (is_sure g after) → IsTrue (is_sure g s) × (content_of g after ≡ content_of g s) × IsKept g after
   not_wrote sql params e ran sure =
       let it = stayed g s h f kept clean (λ cl on. refused_stays sql params _ _ e (ran cl) on) sure in
+      (it.0, ap (λ (d : Database). content_in d.trees) it.1, it.2)
+
+  pub both_wrote : (r : NodeRow) (p : Posted) → IsNodeRow r → IsPosted p → (HasCleanDisk (state g h) → RanBoth g r p s.conn h)
+      → IsTrue (is_sure g after) → IsTrue (is_sure g s) × (content_of g after ≡ placing p (storing r (content_of g s))) × IsKept g after
+  both_wrote r p good fine ran =
+      wrote g s h f (placing p (storing r (content_of g s))) kept clean (λ cl _. (ran cl).was_open)
+      (λ cl k.
+      let it = ran cl in
+      let one = put_node_does (state g (record s.conn { in_transaction = true })) (state g it.mid) r (content_of g s) it.counts.0 good k.schema k.holds it.one in
+      let two = put_posted_does (state g it.mid) (state g it.last) p (storing r (content_of g s)) it.counts.1 fine one.1 one.2 it.two in
+      (
+        it.settled,
+        ap (λ (d : Database). d.schema) it.now ∙ two.1,
+        subst (λ (d : Database). Holds d.trees (placing p (storing r (content_of g s)))) (sym it.now) two.2,
+      ))
+
+  pub neither_wrote : (HasCleanDisk (state g h) → IsTrue (state g h).is_open → Stays (state g s.conn) (state g h))
+      → IsTrue (is_sure g after) → IsTrue (is_sure g s) × (content_of g after ≡ content_of g s) × IsKept g after
+  neither_wrote stays sure =
+      let it = stayed g s h f kept clean stays sure in
       (it.0, ap (λ (d : Database). content_in d.trees) it.1, it.2)

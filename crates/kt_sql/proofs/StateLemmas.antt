@@ -1,5 +1,5 @@
 -- What a statement leaves of a connection, whether it ran or not.
-use Rattle.std.proofs.Common.{◌≡◌, ◌⊎◌, inl, inr, ℕ, Bool, true, false, cond, List, Option, None, Some, Ok, Err, Result, IfOk, refl, sym, ap, subst, ◌∙◌}
+use Rattle.std.proofs.Common.{◌≡◌, ◌⊎◌, inl, inr, ℕ, Bool, true, false, cond, List, Option, None, Some, Ok, Err, Result, IfOk, OnOk, refl, sym, ap, subst, ◌∙◌}
 use Rattle.std.specs.Prelude.{IsTrue, MatchBool}
 use Rattle.std.proofs.lemmas.Bool.{cases_Bool}
 use Rattle.sqlite.specs.Order.{Row}
@@ -11,7 +11,7 @@ use Rattle.sqlite_resolve.specs.declared.error.CompileError.{CompileError}
 use Rattle.sqlite_resolve.specs.declared.compiled.Compiled.{Compiled}
 use Rattle.sqlite_schema.specs.declared.command.Returning.{Returning}
 use Rattle.sqlite_schema.specs.declared.schema.Schema.{Schema}
-use Rattle.sqlite.specs.State.{State, Shows, Runs, Writes, IsUnchanged, IsRolledBack, Fails, RunsCommand, RunsAlone, shows_rows, IsNotRun, Executes, ExecutesIn, FailsToShow, FailsToQuery, ShowsRows, Shown}
+use Rattle.sqlite.specs.State.{State, Shows, Runs, Writes, IsUnchanged, IsRolledBack, Fails, RunsCommand, RunsAlone, shows_rows, IsNotRun, Executes, ExecutesIn, ExecutesInside, FailsToShow, FailsToQuery, ShowsRows, Shown}
 use Rattle.sqlite.specs.Listing.{understood}
 use Rattle.sqlite.proofs.Callers.{IsPlain}
 use Rattle.kt_sql.specs.Schema.{kt_schema}
@@ -125,3 +125,12 @@ alone_open false old new sql c params count P h on = runs_open old new c.returni
 pub executed_open : (sql : List ℕ) (params : Row) (old new : State) (count : ℕ) → Executes sql params old new (Ok count) → IsTrue new.is_open → IsTrue old.is_open
 unfolding ExecutesIn
 executed_open sql params old new count h on = alone_open (shows_rows false h.0) old new sql h.0 _ count _ h.2 on
+
+-- a statement inside a transaction leaves it open
+pub stays_inside : (held : ℕ) (sql : List ℕ) (params : Row) (old new : State) (r : Result ℕ Error) → ExecutesInside held sql params old new r → OnOk r (IsTrue new.in_transaction)
+stays_inside held sql params old new (Ok count) h = h.1.mode
+stays_inside held sql params old new (Err e) h = tt
+
+-- both of two statements were undone
+pub undone_stays : (old new : State) → IsTrue old.is_open → (new.now ≡ old.now) × (new.committed ≡ old.committed) → new.in_transaction ≡ false → Stays old new
+undone_stays old new on same ended = record { was_open = on; rest = λ was _. (same.0, record { autocommit = ended; same = same.0 ∙ was.same ∙ sym same.1 }) }

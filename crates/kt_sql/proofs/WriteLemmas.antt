@@ -21,7 +21,7 @@ use Rattle.sqlite_schema.specs.declared.command.Command.{Command}
 use Rattle.sqlite.specs.Rows.{Written, mended}
 use Rattle.sqlite.specs.Does.{Tally, Does}
 use Rattle.sqlite.specs.Effect.{Database}
-use Rattle.sqlite.specs.State.{State, mode_of, Writes, Executes}
+use Rattle.sqlite.specs.State.{State, mode_of, Shows, Writes, Executes}
 use Rattle.sqlite.specs.Listing.{understood}
 use Rattle.sqlite.proofs.Callers.{statement_of, runs_as}
 use Rattle.sqlite_keyed.specs.Keyed.{insert_by}
@@ -40,8 +40,6 @@ use Rattle.kt_store.proofs.Tables.{placed, IsOrder}
 use Rattle.kt_sql.specs.Schema.{kt_schema, node_table, board_table}
 use Rattle.kt_sql.specs.Text.{put_node_text, put_posted_text}
 use Rattle.kt_sql.specs.Rows.{placing, whole, id_of, HasId, spelled, checkpoint_value, instance_value, node_given, node_stored, posted_given, posted_stored, IsNodeRow, IsPosted, IsSaid, Holds, purpose_code, verdict_code}
-use Rattle.kt_sql.specs.Settled.{IsSettled}
-use Rattle.kt_sql.proofs.StateLemmas.{written_settled}
 use Rattle.kt_sql.proofs.PutLemmas.{went, same_value, AreNumbered, replaces}
 use Rattle.kt_sql.proofs.Texts.{node_terms, posted_terms, put_node, put_posted, put_node_is, put_node_plain, put_posted_is, put_posted_plain}
 
@@ -172,8 +170,8 @@ cast_posted : (p : Posted) → cast_row board_table (posted_stored p) ≡ posted
 cast_posted p = rw (cast_whole p.instance, cast_null, cast_whole (id_of p.initiator), cast_whole (purpose_code p.purpose), cast_whole (verdict_code p.verdict)) refl
 
 pub put_node_does : (old new : State) (r : NodeRow) (c : Content) (count : ℕ) → IsNodeRow r → old.now.schema ≡ kt_schema → Holds old.now.trees c
-    → IsSettled old → Executes put_node_text (node_given r) old new (Ok count) → IsSettled new × (new.now.schema ≡ kt_schema) × Holds new.now.trees (storing r c)
-put_node_does old new r c count good has held was h =
+    → Executes put_node_text (node_given r) old new (Ok count) → Shows old new new.now (cond old.in_transaction old.committed new.now) old.in_transaction × (new.now.schema ≡ kt_schema) × Holds new.now.trees (storing r c)
+put_node_does old new r c count good has held h =
     let params = node_given r in
     let db = old.now.trees in
     let w = runs_as put_node_text params old new kt_schema has put_node put_node_is put_node_plain count h in
@@ -196,11 +194,11 @@ put_node_does old new r c count good has held was h =
       nodes_rise = placed_rises node_before node_order r c.nodes held.said.nodes_rise;
       board_rises = held.said.board_rises;
     } in
-    (written_settled old new was w.shown, ap (λ (d : Database). d.schema) now, subst (λ (d : Database). Holds d.trees (storing r c)) (sym now) record { nodes = nodes; board = board; said = said })
+    (w.shown, ap (λ (d : Database). d.schema) now, subst (λ (d : Database). Holds d.trees (storing r c)) (sym now) record { nodes = nodes; board = board; said = said })
 
 pub put_posted_does : (old new : State) (p : Posted) (c : Content) (count : ℕ) → IsPosted p → old.now.schema ≡ kt_schema → Holds old.now.trees c
-    → IsSettled old → Executes put_posted_text (posted_given p) old new (Ok count) → IsSettled new × (new.now.schema ≡ kt_schema) × Holds new.now.trees (placing p c)
-put_posted_does old new p c count good has held was h =
+    → Executes put_posted_text (posted_given p) old new (Ok count) → Shows old new new.now (cond old.in_transaction old.committed new.now) old.in_transaction × (new.now.schema ≡ kt_schema) × Holds new.now.trees (placing p c)
+put_posted_does old new p c count good has held h =
     let params = posted_given p in
     let db = old.now.trees in
     let w = runs_as put_posted_text params old new kt_schema has put_posted put_posted_is put_posted_plain count h in
@@ -223,4 +221,4 @@ put_posted_does old new p c count good has held was h =
       nodes_rise = held.said.nodes_rise;
       board_rises = placed_rises posted_before posted_order p c.board held.said.board_rises;
     } in
-    (written_settled old new was w.shown, ap (λ (d : Database). d.schema) now, subst (λ (d : Database). Holds d.trees (placing p c)) (sym now) record { nodes = nodes; board = board; said = said })
+    (w.shown, ap (λ (d : Database). d.schema) now, subst (λ (d : Database). Holds d.trees (placing p c)) (sym now) record { nodes = nodes; board = board; said = said })

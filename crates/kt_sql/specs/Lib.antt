@@ -1,3 +1,4 @@
+pub mod Both
 pub mod Cells
 pub mod Rows
 pub mod Schema

@@ -147,4 +147,15 @@ impl<S: Alter> SqlStore<S> {
         let rows = self.ask(FIRST_NODE, params![])?;
         Ok(has_no_row(&rows))
     }
+
+    /// Whether the board has no row.
+    pub(crate) fn has_no_posted(&mut self) -> Result<bool, StoreError>
+        ensures value { IsTrue (is_sure S.Store self.new) → IfOk result (λ b. b ≡ is_empty (content_of S.Store self.old).board) }
+        ensures same { IsTrue (is_sure S.Store self.new) → content_of S.Store self.new ≡ content_of S.Store self.old }
+        ensures honest { IsTrue (is_sure S.Store self.new) → IsTrue (is_sure S.Store self.old) }
+        ensures cause { HasCause self.old.faults self.new.faults (is_sure S.Store self.new) ⊥ result }
+    {
+        let rows = self.ask(LAST_POSTED, params![])?;
+        Ok(has_no_row(&rows))
+    }
 }

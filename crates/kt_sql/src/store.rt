@@ -17,14 +17,13 @@ ghost use Rattle.kt_store.specs.Calls.{HasCause, most_faults};
 ghost use Rattle.kt_sql.specs.Schema.{kt_schema};
 ghost use Rattle.kt_sql.specs.Store.{is_sure, content_of, IsKept};
 
-use crate::cells::{NodeCells, node_cells};
-use kt_store::{NodeRow, StoreError};
+use crate::cells::{NodeCells, PostedCells, node_cells, posted_cells};
+use crate::statements::{execute_both, execute_node, execute_posted};
+use kt_store::{NodeRow, Posted, StoreError};
 use sqlite::types::ValueRef;
-use sqlite::{Alter, Connection, Error, ErrorCode, Row, params};
+use sqlite::{Alter, Connection, Error, ErrorCode, Row};
 use std::alloc::Global;
 use std::marker::Model;
-
-const PUT_NODE: &str = "INSERT OR REPLACE INTO kt_node VALUES (?1, ?2, ?3, ?4, ?5)";
 
 /// A store in the tables of a database. It is honest while its connection is open, the disk has returned what was
 /// written, and each row was as said when it was opened.
@@ -70,6 +69,13 @@ impl<S: Alter> SqlStore<S> {
         ensures kept { IsTrue (is_sure S.Store self.now) → IsKept S.Store self.now }
     {
         self.alloc
+    }
+
+    /// How many faults were counted.
+    pub(crate) fn counted(&self) -> u64
+        ensures { result ≡ self.now.faults }
+    {
+        self.faults
     }
 
     /// All rows of the answer to a query.
@@ -124,14 +130,61 @@ impl<S: Alter> SqlStore<S> {
             Err(error) => Err(refused(&mut self.faults, error)),
         }
     }
-}
 
-fn execute_node<S: Alter>(conn: &mut Connection<S>, cells: &NodeCells) -> Result<usize, Error>
-    ensures runs { HasCleanDisk (state S.Store conn.new) → (r : NodeFields) → SpellsNode cells.now r → Executes put_node_text (node_given r) (state S.Store conn.old) (state S.Store conn.new) result }
-    ensures clean { doubt (state S.Store conn.old).is_clean ≤ doubt (state S.Store conn.new).is_clean }
-{
-    conn.execute(
-        PUT_NODE,
-        params![cells.id, cells.incarnation, &cells.permanent, &cells.tentative, cells.instance],
-    )
+    /// Stores the row, in place of the one that the instance has.
+    pub(crate) fn put_posted(&mut self, row: Posted) -> Result<(), StoreError>
+        requires { 1 ≤ row.instance }
+        ensures written { IsTrue (is_sure S.Store self.new) → OnOk result (content_of S.Store self.new ≡ placing row (content_of S.Store self.old)) }
+        ensures unchanged { IsTrue (is_sure S.Store self.new) → OnErr result (content_of S.Store self.new ≡ content_of S.Store self.old) }
+        ensures honest { IsTrue (is_sure S.Store self.new) → IsTrue (is_sure S.Store self.old) }
+        ensures cause { HasCause self.old.faults self.new.faults (is_sure S.Store self.new) ⊥ result }
+    {
+        match posted_cells(row) {
+            Some(cells) => self.write_posted(cells),
+            None => Err(self.fault()),
+        }
+    }
+
+    fn write_posted(&mut self, cells: PostedCells) -> Result<(), StoreError>
+        requires { (p : PostedFields) × IsPosted p × SpellsPosted cells p }
+        ensures written { (p : PostedFields) → IsPosted p → SpellsPosted cells p → IsTrue (is_sure S.Store self.new) → OnOk result (content_of S.Store self.new ≡ placing p (content_of S.Store self.old)) }
+        ensures unchanged { IsTrue (is_sure S.Store self.new) → OnErr result (content_of S.Store self.new ≡ content_of S.Store self.old) }
+        ensures honest { IsTrue (is_sure S.Store self.new) → IsTrue (is_sure S.Store self.old) }
+        ensures cause { HasCause self.old.faults self.new.faults (is_sure S.Store self.new) ⊥ result }
+    {
+        match execute_posted(&mut self.conn, cells) {
+            Ok(_) => Ok(()),
+            Err(error) => Err(refused(&mut self.faults, error)),
+        }
+    }
+
+    /// Stores both rows in one transaction.
+    pub(crate) fn put_both(&mut self, row: &NodeRow, posted: Posted) -> Result<(), StoreError>
+        requires incarnation { 1 ≤ row.now.incarnation }
+        requires instance { 1 ≤ posted.instance }
+        ensures written { IsTrue (is_sure S.Store self.new) → OnOk result (content_of S.Store self.new ≡ placing posted (storing row.now (content_of S.Store self.old))) }
+        ensures unchanged { IsTrue (is_sure S.Store self.new) → OnErr result (content_of S.Store self.new ≡ content_of S.Store self.old) }
+        ensures honest { IsTrue (is_sure S.Store self.new) → IsTrue (is_sure S.Store self.old) }
+        ensures cause { HasCause self.old.faults self.new.faults (is_sure S.Store self.new) ⊥ result }
+    {
+        match (node_cells(self.alloc, row)?, posted_cells(posted)) {
+            (Some(node), Some(posted)) => self.write_both(&node, posted),
+            _ => Err(self.fault()),
+        }
+    }
+
+    fn write_both(&mut self, node: &NodeCells, posted: PostedCells) -> Result<(), StoreError>
+        requires { (r : NodeFields) × (p : PostedFields) × IsNodeRow r × IsPosted p × SpellsNode node.now r × SpellsPosted posted p }
+        ensures written { (r : NodeFields) (p : PostedFields) → IsNodeRow r → IsPosted p → SpellsNode node.now r → SpellsPosted posted p
+            → IsTrue (is_sure S.Store self.new) → OnOk result (content_of S.Store self.new ≡ placing p (storing r (content_of S.Store self.old))) }
+        ensures unchanged { IsTrue (is_sure S.Store self.new) → OnErr result (content_of S.Store self.new ≡ content_of S.Store self.old) }
+        ensures honest { IsTrue (is_sure S.Store self.new) → IsTrue (is_sure S.Store self.old) }
+        ensures cause { HasCause self.old.faults self.new.faults (is_sure S.Store self.new) ⊥ result }
+    {
+        match execute_both(&mut self.conn, node, posted) {
+            Ok(true) => Ok(()),
+            Ok(false) => Err(self.fault()),
+            Err(error) => Err(refused(&mut self.faults, error)),
+        }
+    }
 }
