@@ -1,5 +1,5 @@
 -- What the calls of a store answer.
-use Rattle.std.proofs.Common.{◌≡◌, ◌⊎◌, inl, inr, ℕ, ◌≤◌, Bool, true, false, List, Option, None, Some, Ok, Err, Result, IfOk, IfErr, IfSome, arith, option_map, slice_get, refl, sym, ap, subst, ◌∙◌, ◌==◌, ◌&&◌, map, [], ◌∷◌, cond, length, fold, max, Ordering, ◌<◌}
+use Rattle.std.proofs.Common.{◌≡◌, ◌⊎◌, inl, inr, ℕ, ◌+◌, ◌≤◌, OnOk, Bool, true, false, List, Option, None, Some, Ok, Err, Result, IfOk, IfErr, IfSome, arith, option_map, slice_get, refl, sym, ap, subst, ◌∙◌, ◌==◌, ◌&&◌, map, [], ◌∷◌, cond, length, fold, max, Ordering, ◌<◌}
 use Rattle.std.specs.Prelude.{IsTrue, IsErrOf}
 use Rattle.std.specs.List.{find, AllByRecursion}
 use Rattle.sqlite.specs.Store.{Ghosts}
@@ -16,7 +16,7 @@ use Rattle.kt_store.specs.declared.error.StoreError.TheVariants.{Memory, Device,
 use Rattle.kt_store.specs.declared.rows.NodeRow.{NodeRow}
 use Rattle.kt_store.specs.declared.rows.Posted.{Posted}
 use Rattle.kt_store.specs.Verdict.{is_open}
-use Rattle.kt_store.specs.Content.{Content, greatest, is_empty}
+use Rattle.kt_store.specs.Content.{Content, greatest, is_empty, row_of}
 use Rattle.kt_store.specs.Calls.{HasCause}
 use Rattle.kt_sql.specs.Schema.{kt_schema}
 use Rattle.kt_sql.specs.Text.{put_node_text, put_posted_text, get_node_text, first_node_text, get_posted_text, last_posted_text, open_posted_text}
@@ -26,7 +26,9 @@ use Rattle.sqlite.specs.Held.{Held}
 use Rattle.sqlite.specs.State.{HasCleanDisk, Executes}
 use Rattle.sqlite.specs.declared.error.Error.{Error}
 use Rattle.sqlite_trees.specs.View.{doubt}
-use Rattle.kt_store.specs.Changes.{storing}
+use Rattle.kt_store.specs.Changes.{storing, restart_begun}
+use Rattle.kt_store.specs.declared.rows.Purpose.TheVariants.{Rollback}
+use Rattle.kt_store.specs.declared.rows.Verdict.TheVariants.{Open}
 use Rattle.kt_sql.proofs.StateLemmas.{Stays, executed_open, refused_stays, written_settled}
 use Rattle.kt_sql.specs.Both.{RanBoth}
 use Rattle.kt_sql.proofs.StoreLemmas.{stayed, wrote}
@@ -224,3 +226,12 @@ module _ {S : Type 0} (g : Ghosts S) (s : Stored S) (h : Held S) (f : ℕ) (kept
   neither_wrote stays sure =
       let it = stayed g s h f kept clean stays sure in
       (it.0, ap (λ (d : Database). content_in d.trees) it.1, it.2)
+
+pub then_ok : {T E A B : Type 0} (r : Result T E) → (A → B) → OnOk r A → OnOk r B
+then_ok (Ok t) f h = f h
+then_ok (Err e) f h = tt
+
+-- what a restart writes
+pub restarts : (c one two : Content) (node : NodeId) (row : NodeRow) (last : ℕ) → row ≡ row_of one node → two ≡ one → one ≡ c → last ≡ fold max 0 (map (λ (p : Posted). p.instance) c.board)
+    → placing record { instance = last + 1; initiator = node; purpose = Rollback; verdict = Open } (storing record row { incarnation = row.incarnation + 1 } two) ≡ restart_begun node c
+restarts c one two node row last is same before number = rw (is, same, before, number) refl
