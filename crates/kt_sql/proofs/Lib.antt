@@ -1,5 +1,6 @@
 pub mod CallLemmas
 pub mod FoundLemmas
+pub mod MadeLemmas
 pub mod PutLemmas
 pub mod ReadLemmas
 pub mod RowLemmas

@@ -37,7 +37,7 @@ use Rattle.kt_store.specs.declared.rows.Tentative.{Tentative}
 use Rattle.kt_store.specs.Content.{Content, node_lt}
 use Rattle.kt_store.specs.Changes.{with_row, with_posted, storing}
 use Rattle.kt_store.proofs.Tables.{placed, IsOrder}
-use Rattle.kt_sql.specs.Schema.{kt_schema, node_table, board_table}
+use Rattle.kt_sql.specs.Schema.{kt_schema, node_table, board_table, meta_table}
 use Rattle.kt_sql.specs.Text.{put_node_text, put_posted_text}
 use Rattle.kt_sql.specs.Rows.{placing, whole, id_of, HasId, spelled, checkpoint_value, instance_value, node_given, node_stored, posted_given, posted_stored, IsNodeRow, IsPosted, IsSaid, Holds, purpose_code, verdict_code}
 use Rattle.kt_sql.proofs.PutLemmas.{went, same_value, AreNumbered, replaces}
@@ -165,6 +165,9 @@ cast_instance (Some t) = cast_whole t.instance
 
 cast_node : (r : NodeRow) → cast_row node_table (node_stored r) ≡ node_stored r
 cast_node r = rw (cast_whole (id_of r.node), cast_null, cast_whole r.incarnation, cast_instance r.tentative) refl
+
+pub cast_meta : cast_row meta_table (whole 1 ∷ Null ∷ whole 1 ∷ []) ≡ whole 1 ∷ Null ∷ whole 1 ∷ []
+cast_meta = rw (cast_whole 1, cast_null) refl
 
 cast_posted : (p : Posted) → cast_row board_table (posted_stored p) ≡ posted_stored p
 cast_posted p = rw (cast_whole p.instance, cast_null, cast_whole (id_of p.initiator), cast_whole (purpose_code p.purpose), cast_whole (verdict_code p.verdict)) refl

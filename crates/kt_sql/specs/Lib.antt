@@ -1,5 +1,6 @@
 pub mod Both
 pub mod Cells
+pub mod Made
 pub mod Rows
 pub mod Schema
 pub mod Settled

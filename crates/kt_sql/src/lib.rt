@@ -3,9 +3,14 @@
 
 mod calls;
 mod cells;
+mod error;
 mod ids;
 mod number;
+mod open;
 mod reads;
 mod rows;
 mod statements;
 mod store;
+
+pub use error::SqlOpenError;
+pub use store::SqlStore;

@@ -1,6 +1,6 @@
 //! A store over a connection.
 
-ghost use Rattle.std.specs.Prelude.{◌≡◌, ◌⊎◌, ◌<◌, ◌≤◌, ℕ, Option, IfOk, IfErr, OnOk, OnErr, IsTrue};
+ghost use Rattle.std.specs.Prelude.{◌≡◌, ◌⊎◌, ◌<◌, ◌≤◌, true, ℕ, Option, IfOk, IfErr, OnOk, OnErr, IsTrue};
 ghost use Rattle.sqlite.specs.Values.{bound};
 ghost use Rattle.sqlite.specs.Held.{state};
 ghost use Rattle.sqlite.specs.Listing.{understood};
@@ -11,6 +11,7 @@ ghost use Rattle.kt_store.specs.declared.rows.Posted.{Posted as PostedFields};
 ghost use Rattle.kt_store.specs.Changes.{storing};
 ghost use Rattle.kt_sql.specs.Text.{put_node_text};
 ghost use Rattle.kt_sql.specs.Rows.{IsNodeRow, IsPosted, node_given, posted_given, placing};
+ghost use Rattle.kt_sql.specs.Made.{IsMade};
 ghost use Rattle.kt_sql.specs.Cells.{SpellsNode, SpellsPosted};
 ghost use Rattle.sqlite.specs.Given.{IsPlain};
 ghost use Rattle.kt_store.specs.Calls.{HasCause, most_faults};
@@ -48,6 +49,17 @@ impl<S: Alter> Model for SqlStore<S> {
         → IsKept S.Store (record { conn = s.conn; is_trusted = s.is_trusted; faults = s.faults }) };
 }
 
+impl<S: Alter + Drop> Drop for SqlStore<S> {
+    fn drop(self) {
+        let SqlStore {
+            conn: _,
+            is_trusted: _,
+            faults: _,
+            alloc: _,
+        } = self;
+    }
+}
+
 /// Why a statement was refused, where it was: for memory, or for a fault, which is counted.
 fn refused(faults: &mut u64, error: Error) -> StoreError
     ensures later { faults.old ≤ faults.new }
@@ -64,6 +76,32 @@ fn refused(faults: &mut u64, error: Error) -> StoreError
 }
 
 impl<S: Alter> SqlStore<S> {
+    /// The store over a connection in which its tables were just made.
+    pub(crate) fn made(alloc: Global, conn: Connection<S>) -> SqlStore<S>
+        requires { HasCleanDisk (state S.Store conn) → IsMade (state S.Store conn) }
+        ensures { result ≡ record { conn = conn; is_trusted = true; faults = 0 } }
+    {
+        SqlStore {
+            conn,
+            is_trusted: true,
+            faults: 0,
+            alloc,
+        }
+    }
+
+    /// Its connection.
+    pub fn into_connection(self) -> Connection<S>
+        ensures { result ≡ self.conn }
+    {
+        let SqlStore {
+            conn,
+            is_trusted: _,
+            faults: _,
+            alloc: _,
+        } = self;
+        conn
+    }
+
     /// Where the store takes its memory from.
     pub(crate) fn allocator(&self) -> Global
         ensures kept { IsTrue (is_sure S.Store self.now) → IsKept S.Store self.now }
