@@ -1,6 +1,6 @@
 -- A store over a connection, from one call to the next.
-use Rattle.std.proofs.Common.{◌≡◌, ℕ, ◌≤◌, Bool, true, false, ◌&&◌, List, map, refl, sym, ap, ap₂, subst, ◌∙◌, arith}
-use Rattle.std.specs.Prelude.{IsTrue}
+use Rattle.std.proofs.Common.{◌≡◌, ℕ, ◌≤◌, Bool, true, false, ◌&&◌, List, [], map, refl, sym, ap, ap₂, subst, ◌∙◌, arith}
+use Rattle.std.specs.Prelude.{IsTrue, nat_lt}
 use Rattle.sqlite.specs.Store.{Ghosts}
 use Rattle.sqlite.specs.Held.{Held, state}
 use Rattle.sqlite.specs.State.{State, HasCleanDisk}
@@ -12,7 +12,11 @@ use Rattle.kt_sql.specs.Settled.{IsSettled}
 use Rattle.kt_sql.specs.Rows.{Holds, content_in, node_in, node_stored, posted_in, posted_stored, IsNodeRow, IsPosted}
 use Rattle.kt_store.specs.declared.rows.NodeRow.{NodeRow}
 use Rattle.kt_store.specs.declared.rows.Posted.{Posted}
-use Rattle.kt_store.specs.Content.{Content}
+use Rattle.kt_store.specs.Content.{Content, empty_content, node_lt}
+use Rattle.std.specs.List.{AllByRecursion}
+use Rattle.sqlite.specs.Order.{Row}
+use Rattle.sqlite_trees.specs.Tree.{IsAscending}
+use Rattle.kt_sql.specs.Made.{IsMade}
 use Rattle.sqlite.specs.Tree.{Trees}
 use Rattle.kt_sql.proofs.RowLemmas.{map_back, row_back, posted_back}
 use Rattle.kt_sql.specs.Store.{Stored, is_sure, content_of, IsKept}
@@ -37,6 +41,23 @@ holds_content c h =
     let board = ap (map posted_in) h.board ∙ map_back IsPosted posted_stored posted_in posted_back c.board h.said.board in
     ap₂ (λ (ns : List NodeRow) (ps : List Posted). let whole : Content = record { nodes = ns; board = ps } in whole) nodes board
 
+-- two tables without rows
+empty_holds : (db : Trees) → db 0 ≡ [] → db 1 ≡ [] → Holds db (content_in db)
+empty_holds db none bare = record {
+  nodes = none ∙ sym (ap (λ rows. map node_stored (map node_in rows)) none);
+  board = bare ∙ sym (ap (λ rows. map posted_stored (map posted_in rows)) bare);
+  said = record {
+    nodes = subst (λ rows. AllByRecursion IsNodeRow (map node_in rows)) (sym none) tt;
+    board = subst (λ rows. AllByRecursion IsPosted (map posted_in rows)) (sym bare) tt;
+    nodes_rise = subst (λ rows. IsAscending (λ (a b : NodeRow). node_lt a.node b.node ≡ true) (map node_in rows)) (sym none) tt;
+    board_rises = subst (λ rows. IsAscending (λ (a b : Posted). nat_lt a.instance b.instance ≡ true) (map posted_in rows)) (sym bare) tt;
+  };
+}
+
+pub empty_content_in : (db : Trees) → db 0 ≡ [] → db 1 ≡ [] → content_in db ≡ empty_content
+empty_content_in db none bare =
+    ap₂ (λ (ns ps : List Row). let whole : Content = record { nodes = map node_in ns; board = map posted_in ps } in whole) none bare
+
 module _ {S : Type 0} (g : Ghosts S) where
   pub record IsSure (s : Stored S) : Type 0 where
     pub trusted : IsTrue s.is_trusted
@@ -50,6 +71,10 @@ module _ {S : Type 0} (g : Ghosts S) where
 
   pub sure_whole : (s : Stored S) → IsSure s → IsTrue (is_sure g s)
   sure_whole s h = all_three s.is_trusted (state g s.conn).is_open (state g s.conn).is_clean h.trusted h.is_open (clean_of _ h.clean)
+
+  -- a store whose tables were just made
+  pub made_kept : (s : Stored S) → IsMade (state g s.conn) → IsKept g s
+  made_kept s m = record { settled = m.settled; schema = m.schema; holds = empty_holds (state g s.conn).now.trees m.nodes m.board }
 
   -- a call after which the store is sure, and which changed nothing
   pub stayed : (s : Stored S) (h : Held S) (f : ℕ) → (IsTrue (is_sure g s) → IsKept g s) → doubt (state g s.conn).is_clean ≤ doubt (state g h).is_clean
