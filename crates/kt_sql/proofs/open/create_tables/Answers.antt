@@ -6,8 +6,8 @@ use Rattle.kt_sql.specs.Made.{IsMade}
 use Rattle.kt_sql.proofs.MadeLemmas.{node_made, board_made, meta_made, meta_put}
 use Rattle.kt_sql.proofs.open.create_tables.Goals as goal
 
-pub returns-clause-made : goal.returns-clause-made
-returns-clause-made g c clean has _ =
+pub returns : goal.returns
+returns g c = record { made = λ clean has _.
     let old = c.args.conn.now in
     let end = c.commit.new.self.0 in
     let begun = c.transaction-tx.ensures.begun in
@@ -33,3 +33,4 @@ returns-clause-made g c clean has _ =
       board = ap (λ (d : Database). d.trees 1) done.now_is ∙ whole.2;
     } in
     subst (λ h. IsMade (state g.S.Store h)) same made
+}
