@@ -214,8 +214,7 @@ module _ {S : Type 0} (g : Ghosts S) (s : Stored S) (h : Held S) (f : ℕ) (kept
       (λ cl k.
       let it = ran cl in
       let one = put_node_does (state g (record s.conn { in_transaction = true })) (state g it.mid) r (content_of g s) it.counts.0 good k.schema k.holds it.one in
-      let two = put_posted_does (state g it.mid) (state g it.last) p (storing r (content_of g s)) it.counts.1 fine one.1 one.2 it.two in
-      (
+      let two = put_posted_does (state g it.mid) (state g it.last) p (storing r (content_of g s)) it.counts.1 fine one.1 one.2 it.two in (
         it.settled,
         ap (λ (d : Database). d.schema) it.now ∙ two.1,
         subst (λ (d : Database). Holds d.trees (placing p (storing r (content_of g s)))) (sym it.now) two.2,

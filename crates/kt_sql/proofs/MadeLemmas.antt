@@ -58,8 +58,7 @@ made old new count schema sql table makes none has h =
     let same : made.table ≡ table = same_value (sym made.defined ∙ makes.defines) in
     let after : first.0.schema ≡ created schema table = made.is ∙ ap (λ s. created s made.table) has ∙ ap (created schema) same in
     let plain : lacks_sequence first.0.schema ≡ false = ap lacks_sequence after ∙ none in
-    let now : new.now ≡ first.0 = ap (λ (p : Tally × Database). p.1) (same_value all.2) ∙ same_value (rw plain at first.2) in
-    (
+    let now : new.now ≡ first.0 = ap (λ (p : Tally × Database). p.1) (same_value all.2) ∙ same_value (rw plain at first.2) in (
       ap (λ (d : Database). d.schema) now ∙ after,
       ap (λ (d : Database). d.trees (next_tree schema)) now ∙ subst (λ s. first.0.trees (next_tree s) ≡ []) has made.empty,
       subst (λ (d : Database). KeepsRows schema.tables old.now.trees d.trees) (sym now) (subst (λ (s : Schema). KeepsRows s.tables old.now.trees first.0.trees) has made.others),
@@ -104,8 +103,7 @@ meta_put old new count has none bare empty h =
     let done = went (subst (λ s. Does old.step_limit (mode_of old) [] (record old.now { schema = s }) text None put_meta (Ok (w.tally, new.now))) has w.changed) in
     let now = ap (λ (p : Tally × Database). p.1) (same_value (went (went done.2).2).2) in
     let numbers = subst AreNumbered (sym empty) (λ r has. absurd has) in
-    let next = replaces meta_table.name 2 meta_table.columns old.step_limit [] meta_row (pos 1) refl meta_terms 3 meta_row refl cast_meta cast_meta db numbers done.0 done.1 in
-    (
+    let next = replaces meta_table.name 2 meta_table.columns old.step_limit [] meta_row (pos 1) refl meta_terms 3 meta_row refl cast_meta cast_meta db numbers done.0 done.1 in (
       ap (λ (d : Database). d.schema) now,
       ap (λ (d : Database). d.trees 0) now ∙ next.1 0 (λ same. absurd cc) ∙ none,
       ap (λ (d : Database). d.trees 1) now ∙ next.1 1 (λ same. absurd cc) ∙ bare,

@@ -74,8 +74,7 @@ module _ (name : List ℕ) (tree : ℕ) (columns : List Column) (limit : Option 
         let put = went h in
         let trees : w.trees ≡ put.0 = ap (λ (it : Written). it.trees) (same_value put.2) in
         let edit = edit_of db table [] Given 0 (row ∷ []) in
-        let made = one_step kt_schema Enforced db put.0 edit refl put.1 in
-        (
+        let made = one_step kt_schema Enforced db put.0 edit refl put.1 in (
           ap (λ (t : Trees). t tree) trees ∙ made.rows ∙ ap (λ (r : Row). put_row r (db tree)) fixed,
           λ m apart. ap (λ (t : Trees). t m) trees ∙ made.others m apart tt,
         )
@@ -109,7 +108,7 @@ module _ (name : List ℕ) (tree : ℕ) (columns : List Column) (limit : Option 
     cleared : (rows found : List Row) → AreNumbered rows → AreConflicts None [] table rows row found → without_all rows (ids_of found) ≡ without_rowid key rows
     cleared rows [] numbered h =
         let kept : (r : Row) → Has rows r → not (has_rowid key r) ≡ true =
-            λ r has. let id = numbered r has in rw (id.1, value_cmp-Int) (none_has rows h r has id.0 id.1) in
+        λ r has. let id = numbered r has in rw (id.1, value_cmp-Int) (none_has rows h r has id.0 id.1) in
         sym (filter_all _ rows (all_had (λ r. not (has_rowid key r) ≡ true) rows kept))
     cleared rows (x ∷ found) numbered h =
         let all = all_this rows (x ∷ found) numbered h.sound in
@@ -152,8 +151,8 @@ module _ (name : List ℕ) (tree : ℕ) (columns : List Column) (limit : Option 
         let each = subst (λ rows. TriesEach task Replace [] rows (count_of counted.0) (nothing db) (Ok tried.0)) (sourced.1.1 ∙ given) tried.1 in
         let one = went each in
         let new : with_rowid Chosen (db tree) (cast_row table (mended Replace table source)) ≡ row =
-            ap (with_rowid Chosen (db tree)) cast ∙ ap (λ v. cond (is_null v) (Int (next_rowid (db tree)) ∷ drop 1 row) row) is in
+        ap (with_rowid Chosen (db tree)) cast ∙ ap (λ v. cond (is_null v) (Int (next_rowid (db tree)) ∷ drop 1 row) row) is in
         let put = tries fixed db numbered one.0 (subst (λ r. Tries task Replace [] r db (Ok one.0)) new one.1) in
         let trees : w.trees ≡ one.0.trees =
-            ap (λ (it : Written). it.trees) (same_value last.2) ∙ same_value last.1 ∙ ap (λ (p : Written × ℤ). p.0.trees) (same_value one.2) in
+        ap (λ (it : Written). it.trees) (same_value last.2) ∙ same_value last.1 ∙ ap (λ (p : Written × ℤ). p.0.trees) (same_value one.2) in
         (ap (λ (t : Trees). t tree) trees ∙ put.0, λ m apart. ap (λ (t : Trees). t m) trees ∙ put.1 m apart)

@@ -86,8 +86,7 @@ module _ {S : Type 0} (g : Ghosts S) where
       let on = stays is.clean is.is_open in
       let was = sure_whole s (record { trusted = is.trusted; is_open = on.was_open; clean = omega (arith, clean, is.clean) }) in
       let k = kept was in
-      let now = on.rest k.settled k.schema in
-      (
+      let now = on.rest k.settled k.schema in (
         was,
         now.0,
         record {

@@ -38,15 +38,15 @@ keyed_table name tree columns = record {
 
 abbrev pub node_table : Table
 node_table = keyed_table (codes "kt_node") 0 (
-  column (codes "id") Integer false ∷ column (codes "incarnation") Integer true ∷ column (codes "permanent") Blob false
-  ∷ column (codes "tentative") Blob false ∷ column (codes "instance") Integer false ∷ []
-)
+    column (codes "id") Integer false ∷ column (codes "incarnation") Integer true ∷ column (codes "permanent") Blob false
+    ∷ column (codes "tentative") Blob false ∷ column (codes "instance") Integer false ∷ []
+    )
 
 abbrev pub board_table : Table
 board_table = keyed_table (codes "kt_board") 1 (
-  column (codes "instance") Integer false ∷ column (codes "initiator") Integer true ∷ column (codes "purpose") Integer true
-  ∷ column (codes "verdict") Integer true ∷ []
-)
+    column (codes "instance") Integer false ∷ column (codes "initiator") Integer true ∷ column (codes "purpose") Integer true
+    ∷ column (codes "verdict") Integer true ∷ []
+    )
 
 abbrev pub meta_table : Table
 meta_table = keyed_table (codes "kt_meta") 2 (column (codes "id") Integer false ∷ column (codes "version") Integer true ∷ [])

@@ -115,12 +115,15 @@ impl<S: Alter> CkptStore for SqlStore<S> {
             instance,
             checkpoint: ckpt.copy(self.allocator())?,
         });
-        self.put_both(&row, Posted {
-            instance,
-            initiator: node,
-            purpose: Purpose::Check,
-            verdict: Verdict::Open,
-        })
+        self.put_both(
+            &row,
+            Posted {
+                instance,
+                initiator: node,
+                purpose: Purpose::Check,
+                verdict: Verdict::Open,
+            },
+        )
     }
 
     fn put_tentative(
@@ -158,12 +161,15 @@ impl<S: Alter> CkptStore for SqlStore<S> {
             return Err(StoreError::Full);
         }
         row.incarnation += 1;
-        self.put_both(&row, Posted {
-            instance: last + 1,
-            initiator: node,
-            purpose: Purpose::Rollback,
-            verdict: Verdict::Open,
-        })
+        self.put_both(
+            &row,
+            Posted {
+                instance: last + 1,
+                initiator: node,
+                purpose: Purpose::Rollback,
+                verdict: Verdict::Open,
+            },
+        )
     }
 
     fn bump(&mut self, node: NodeId) -> Result<(), StoreError> {

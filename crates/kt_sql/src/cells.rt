@@ -40,10 +40,7 @@ fn encoded(alloc: Global, checkpoint: &Ckpt) -> Result<Vec<u8>, AllocError>
     checkpoint.encode(alloc)
 }
 
-fn permanent_cell(
-    alloc: Global,
-    checkpoint: &Option<Ckpt>,
-) -> Result<Option<Vec<u8>>, AllocError>
+fn permanent_cell(alloc: Global, checkpoint: &Option<Ckpt>) -> Result<Option<Vec<u8>>, AllocError>
     ensures { IfOk result (λ v. IsSpelled checkpoint.now × (or_null (λ b. Blob b.items) v ≡ spelled checkpoint.now)) }
 {
     match checkpoint {

@@ -1,6 +1,6 @@
 //! Rows of an answer, read.
 
-ghost use Rattle.std.specs.Prelude.{◌≡◌, ◌<◌, ◌≤◌, ℕ, Option,  IfOk, IfErr, length};
+ghost use Rattle.std.specs.Prelude.{◌≡◌, ◌<◌, ◌≤◌, ℕ, Option, IfOk, IfErr, length};
 ghost use Rattle.sqlite.specs.Order.{column};
 ghost use Rattle.sqlite.specs.Values.{or_null};
 ghost use Rattle.kt_tuple.specs.declared.node.NodeId.{NodeId as NodeName};
@@ -100,12 +100,10 @@ fn paired(checkpoint: Option<Ckpt>, instance: Option<u64>) -> Result<Option<Tent
 {
     match (checkpoint, instance) {
         (None, None) => Ok(None),
-        (Some(checkpoint), Some(instance)) if instance <= GREATEST => Ok(Some(
-            Tentative {
-                instance,
-                checkpoint,
-            },
-        )),
+        (Some(checkpoint), Some(instance)) if instance <= GREATEST => Ok(Some(Tentative {
+            instance,
+            checkpoint,
+        })),
         _ => Err(StoreError::Damaged),
     }
 }

@@ -28,7 +28,13 @@ pub(crate) fn execute_node<S: Alter>(
 {
     conn.execute(
         PUT_NODE,
-        params![cells.id, cells.incarnation, &cells.permanent, &cells.tentative, cells.instance],
+        params![
+            cells.id,
+            cells.incarnation,
+            &cells.permanent,
+            &cells.tentative,
+            cells.instance
+        ],
     )
 }
 
@@ -42,7 +48,12 @@ pub(crate) fn execute_posted<S: Alter>(
 {
     conn.execute(
         PUT_POSTED,
-        params![cells.instance, cells.initiator, cells.purpose, cells.verdict],
+        params![
+            cells.instance,
+            cells.initiator,
+            cells.purpose,
+            cells.verdict
+        ],
     )
 }
 
@@ -56,7 +67,13 @@ fn put_node<S: Alter>(tx: &mut Transaction<'_, S>, cells: &NodeCells) -> Result<
 {
     tx.execute(
         PUT_NODE,
-        params![cells.id, cells.incarnation, &cells.permanent, &cells.tentative, cells.instance],
+        params![
+            cells.id,
+            cells.incarnation,
+            &cells.permanent,
+            &cells.tentative,
+            cells.instance
+        ],
     )
 }
 
@@ -70,7 +87,12 @@ fn put_posted<S: Alter>(tx: &mut Transaction<'_, S>, cells: PostedCells) -> Resu
 {
     tx.execute(
         PUT_POSTED,
-        params![cells.instance, cells.initiator, cells.purpose, cells.verdict],
+        params![
+            cells.instance,
+            cells.initiator,
+            cells.purpose,
+            cells.verdict
+        ],
     )
 }
 

@@ -6,8 +6,8 @@ use crate::plain::{Plain, Row};
 use kt_ckpt::{Ckpt, Marks};
 use kt_sql::SqlStore;
 use kt_store::{CkptStore, StoreError};
-use sqlite::MemStore;
 use kt_tuple::NodeId;
+use sqlite::MemStore;
 use std::alloc::Global;
 use std::test::*;
 
@@ -57,7 +57,7 @@ fn call(
     let place = draws.below(6) as usize;
     let next = plain.next_instance();
     // Mostly one of the newest: the older ones have their verdict.
-    let instance = next.wrapping_sub(draws.below(6));
+    let instance = next.saturating_sub(draws.below(6));
     match kind {
         0 => return calls::begin_check(store, alloc, plain, place, ckpt),
         1 => return calls::begin_restart(store, plain, place),
@@ -100,7 +100,11 @@ fn is_marked(marks: &Marks, line_len: u64) -> bool {
 }
 
 /// Whether the store reads of the node's checkpoints without their states what the map has.
-fn agrees_on_marks(alloc: Global, store: &mut SqlStore<MemStore>, row: &Row) -> Result<bool, StoreError> {
+fn agrees_on_marks(
+    alloc: Global,
+    store: &mut SqlStore<MemStore>,
+    row: &Row,
+) -> Result<bool, StoreError> {
     let permanent = match (store.permanent_marks(alloc, row.node)?, row.permanent) {
         (Some(marks), Some(line_len)) => is_marked(&marks, line_len),
         (marks, line_len) => marks.is_none() && line_len.is_none(),

@@ -82,7 +82,11 @@ pub(crate) fn put_tentative<C: CkptStore>(
     Ok(())
 }
 
-pub(crate) fn settle<C: CkptStore>(store: &mut C, alloc: Global, row: &mut Row) -> Result<(), StoreError> {
+pub(crate) fn settle<C: CkptStore>(
+    store: &mut C,
+    alloc: Global,
+    row: &mut Row,
+) -> Result<(), StoreError> {
     match verdict_on(store, alloc, row.node)? {
         Some(Verdict::Yes) => {
             store.promote(row.node)?;

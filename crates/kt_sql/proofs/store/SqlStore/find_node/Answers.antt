@@ -20,7 +20,7 @@ returns-in_default-clause-value g c sure = sym (no_node_read g.S.Store c.args.se
 pub returns-clause-value : goal.returns-clause-value
 returns-clause-value g c sure =
     let shown : Shown get_node_text (whole (id_of c.args.node) ∷ []) (state g.S.Store c.args.self.now.conn) (state g.S.Store c.ask.new.self.conn) c.in_ok-rows.rows.items =
-        rw (c.params-to_sql.ensures, c.in-Some.ensures.1) at (c.in_ok-rows.ensures.shown sure) in
+    rw (c.params-to_sql.ensures, c.in-Some.ensures.1) at (c.in_ok-rows.ensures.shown sure) in
     let read = node_read g.S.Store c.args.self.now c.ask.new.self (c.in_ok-rows.ensures.kept sure) (c.in_ok-rows.ensures.same sure) c.args.node c.in_ok-rows.rows.items c.in-Some.ensures.0 shown in
     gives_value _ c.first_node.result (c.first_node.ensures.exact _ read.1 (ap (λ rows. slice_get rows 0) c.deref.ensures.value ∙ read.0))
 
@@ -29,6 +29,6 @@ returns-clause-cause g c =
     let later : c.args.self.now.faults ≤ c.ask.new.self.faults = c.in_ok-rows.ensures.cause.later in
     read_cause _ _ (is_sure g.S.Store c.ask.new.self) c.first_node.result later c.first_node.ensures.named (λ sure.
     let shown : Shown get_node_text (whole (id_of c.args.node) ∷ []) (state g.S.Store c.args.self.now.conn) (state g.S.Store c.ask.new.self.conn) c.in_ok-rows.rows.items =
-        rw (c.params-to_sql.ensures, c.in-Some.ensures.1) at (c.in_ok-rows.ensures.shown sure) in
+    rw (c.params-to_sql.ensures, c.in-Some.ensures.1) at (c.in_ok-rows.ensures.shown sure) in
     let read = node_read g.S.Store c.args.self.now c.ask.new.self (c.in_ok-rows.ensures.kept sure) (c.in_ok-rows.ensures.same sure) c.args.node c.in_ok-rows.rows.items c.in-Some.ensures.0 shown in
     gives_memory _ c.first_node.result (c.first_node.ensures.exact _ read.1 (ap (λ rows. slice_get rows 0) c.deref.ensures.value ∙ read.0)))

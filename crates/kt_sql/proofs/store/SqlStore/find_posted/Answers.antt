@@ -17,8 +17,8 @@ returns-in_default-clause-value g c sure = sym (no_posted_read g.S.Store c.args.
 pub returns-clause-value : goal.returns-clause-value
 returns-clause-value g c sure =
     let shown : Shown get_posted_text (whole c.args.instance ∷ []) (state g.S.Store c.args.self.now.conn) (state g.S.Store c.ask.new.self.conn) c.in_ok-rows.rows.items =
-        rw (c.params-to_sql.ensures, c.in-Some.ensures) at (c.in_ok-rows.ensures.shown sure) in
-    let read = posted_read g.S.Store c.args.self.now c.ask.new.self (c.in_ok-rows.ensures.kept sure) (c.in_ok-rows.ensures.same sure) c.args.instance c.in_ok-rows.rows.items  shown in
+    rw (c.params-to_sql.ensures, c.in-Some.ensures) at (c.in_ok-rows.ensures.shown sure) in
+    let read = posted_read g.S.Store c.args.self.now c.ask.new.self (c.in_ok-rows.ensures.kept sure) (c.in_ok-rows.ensures.same sure) c.args.instance c.in_ok-rows.rows.items shown in
     gives_value _ c.first_posted.result (c.first_posted.ensures.exact _ read.1 (ap (λ rows. slice_get rows 0) c.deref.ensures.value ∙ read.0))
 
 pub returns-clause-cause : goal.returns-clause-cause
@@ -26,6 +26,6 @@ returns-clause-cause g c =
     let later : c.args.self.now.faults ≤ c.ask.new.self.faults = c.in_ok-rows.ensures.cause.later in
     read_cause _ _ (is_sure g.S.Store c.ask.new.self) c.first_posted.result later c.first_posted.ensures.named (λ sure.
     let shown : Shown get_posted_text (whole c.args.instance ∷ []) (state g.S.Store c.args.self.now.conn) (state g.S.Store c.ask.new.self.conn) c.in_ok-rows.rows.items =
-        rw (c.params-to_sql.ensures, c.in-Some.ensures) at (c.in_ok-rows.ensures.shown sure) in
-    let read = posted_read g.S.Store c.args.self.now c.ask.new.self (c.in_ok-rows.ensures.kept sure) (c.in_ok-rows.ensures.same sure) c.args.instance c.in_ok-rows.rows.items  shown in
+    rw (c.params-to_sql.ensures, c.in-Some.ensures) at (c.in_ok-rows.ensures.shown sure) in
+    let read = posted_read g.S.Store c.args.self.now c.ask.new.self (c.in_ok-rows.ensures.kept sure) (c.in_ok-rows.ensures.same sure) c.args.instance c.in_ok-rows.rows.items shown in
     gives_memory _ c.first_posted.result (c.first_posted.ensures.exact _ read.1 (ap (λ rows. slice_get rows 0) c.deref.ensures.value ∙ read.0)))
