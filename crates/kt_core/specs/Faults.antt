@@ -1,5 +1,5 @@
 -- Fault lines: which nodes shall fail, or begin a check, and when; and which of these lines a step spends.
-use Rattle.std.specs.Prelude.{ℕ, ◌==◌, min, nat_le, Bool, true, false, not, ◌&&◌, List, [], ◌∷◌, filter, map, set, slice_get, position}
+use Rattle.std.specs.Prelude.{ℕ, ◌==◌, min, nat_le, Bool, true, false, not, ◌&&◌, List, [], ◌∷◌, filter, fold, map, set, slice_get, position}
 use Rattle.std.specs.Prelude.{Option, None, Some}
 use Rattle.std.specs.List.{list_any}
 use Rattle.kt_tuple.specs.declared.node.NodeId.{NodeId}
@@ -37,14 +37,13 @@ is_due kind p own lines = list_any (is_due_line kind p own) lines
 
 -- ---- spending
 
-abbrev pub lesser : ℕ → Option ℕ → Option ℕ
-lesser n None = Some n
-lesser n (Some m) = Some (min n m)
+abbrev pub lesser : Option ℕ → ℕ → Option ℕ
+lesser None n = Some n
+lesser (Some m) n = Some (min m n)
 
--- the least number of the list
+-- the least number of the list, if it has one
 abbrev pub least : List ℕ → Option ℕ
-least [] = None
-least (n ∷ later) = lesser n (least later)
+least numbers = fold lesser None numbers
 
 -- the numbers of steps in the lines of this kind and node that are not marked
 abbrev pub open_afters : FaultKind → NodeId → List FaultLine → List ℕ

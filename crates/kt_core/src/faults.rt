@@ -72,6 +72,16 @@ impl FaultLine {
     }
 }
 
+/// The lesser of both, where there are two.
+fn lesser(least: Option<u64>, number: u64) -> Option<u64>
+    ensures { result ≡ lesser least number }
+{
+    match least {
+        None => Some(number),
+        Some(least) => Some(least.min(number)),
+    }
+}
+
 /// The fault lines of a scenario in its order, and which of them were spent.
 #[derive(Debug, Drop)]
 pub struct Faults {
@@ -142,7 +152,7 @@ impl Faults {
         let mut least = None;
         for line in &self.lines {
             if line.is_open(kind, node) {
-                least = lesser(line.fault.after, least);
+                least = lesser(least, line.fault.after);
             }
         }
         least
@@ -152,9 +162,7 @@ impl Faults {
     fn place_of(&self, kind: FaultKind, node: NodeId, after: u64) -> Option<usize>
         ensures value { result ≡ position (λ line. is_open kind node line && (line.fault.after == after)) self.now }
     {
-        self.lines
-            .iter()
-            .position(|line| line.is_open(kind, node) && line.fault.after == after)
+        self.lines.iter().position(|line| line.is_open(kind, node) && line.fault.after == after)
     }
 
     /// Marks the line of this kind and node that is spent next, if there is one.
@@ -182,15 +190,5 @@ impl Faults {
             Step::Check { node } => self.mark(FaultKind::Check, *node),
             _ => {}
         }
-    }
-}
-
-/// The lesser of both, where there is another.
-fn lesser(number: u64, other: Option<u64>) -> Option<u64>
-    ensures { result ≡ lesser number other }
-{
-    match other {
-        None => Some(number),
-        Some(other) => Some(number.min(other)),
     }
 }
