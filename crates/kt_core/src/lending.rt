@@ -1,12 +1,12 @@
 //! What a machine lends of its nodes and of what is on its way.
 
-ghost use Rattle.std.specs.Prelude.{◌≡◌, slice_get, unwrap_or};
+ghost use Rattle.std.specs.Prelude.{◌≡◌, length, slice_get, unwrap_or};
 ghost use Rattle.std.specs.Option.{option_copied, option_map};
 ghost use Rattle.kt_store.specs.Content.{empty_content};
 ghost use Rattle.kt_core.specs.Lent.{kept, message_at, shard, worker};
 ghost use Rattle.kt_core.specs.Machine.{state_of};
 ghost use Rattle.kt_node.specs.Node.{Down};
-ghost use Rattle.kt_world.specs.State.{view};
+ghost use Rattle.kt_world.specs.State.{link, view};
 
 use crate::machine::Machine;
 use kt_node::{Message, Mode, Node, Post};
@@ -37,6 +37,23 @@ impl Machine {
         ensures { option_copied result ≡ slice_get (kept (state_of self.now empty_content) id) index }
     {
         self.node_at(id)?.kept(index)
+    }
+
+    /// How many messages it keeps back.
+    pub(crate) fn kept_len(&self, id: NodeId) -> usize
+        ensures { result ≡ length (kept (state_of self.now empty_content) id) }
+    {
+        match self.node_at(id) {
+            None => 0,
+            Some(node) => node.kept_len(),
+        }
+    }
+
+    /// How many messages are on their way from one to the other.
+    pub(crate) fn link_len(&self, from: NodeId, to: NodeId) -> usize
+        ensures { result ≡ length (link (state_of self.now empty_content) from to) }
+    {
+        self.links.len(from, to)
     }
 
     /// The worker that the node is, while it is up.

@@ -1,6 +1,6 @@
 //! The world: what its callers see of it, and its step.
 
-ghost use Rattle.std.specs.Prelude.{◌≡◌, ◌≤◌, ◌↔◌, false, true, is_some, map, slice_get, IfErr, IfOk, IsTrue, Ok, OnErr, OnOk};
+ghost use Rattle.std.specs.Prelude.{◌≡◌, ◌≤◌, ◌↔◌, false, true, is_some, length, map, slice_get, IfErr, IfOk, IsTrue, Ok, OnErr, OnOk};
 ghost use Rattle.std.specs.Option.{option_copied, option_map};
 ghost use Rattle.kt_store.specs.Content.{is_fresh};
 ghost use Rattle.kt_tuple.specs.Node.{node_index};
@@ -89,7 +89,7 @@ impl<S: CkptStore> World<S> {
     ghost use Rattle.kt_world.specs.Judge.{is_enabled, planned};
     ghost use Rattle.kt_world.specs.Needs.{poll_at};
     ghost use Rattle.kt_world.specs.Reached.{opening};
-    ghost use Rattle.kt_world.specs.State.{node};
+    ghost use Rattle.kt_world.specs.State.{link, node};
     ghost use Rattle.kt_node.specs.Node.{mode_of};
 
     /// The world of the scene over a store on which nothing was ever stored. Where it is refused, scene and store come
@@ -244,11 +244,25 @@ impl<S: CkptStore> World<S> {
         self.machine.message_at(from, to, index)
     }
 
+    /// How many messages are on their way from one to the other.
+    pub fn link_len(&self, from: NodeId, to: NodeId) -> usize
+        ensures { result ≡ length (link self.now.state from to) }
+    {
+        self.machine.link_len(from, to)
+    }
+
     /// The message with so many before it of those that the node keeps back, and who sent it.
     pub fn kept_at(&self, id: NodeId, index: usize) -> Option<&(NodeId, Post)>
         ensures { option_copied result ≡ slice_get (kept self.now.state id) index }
     {
         self.machine.kept_at(id, index)
+    }
+
+    /// How many messages the node keeps back.
+    pub fn kept_len(&self, id: NodeId) -> usize
+        ensures { result ≡ length (kept self.now.state id) }
+    {
+        self.machine.kept_len(id)
     }
 
     /// The node's ballot, while it votes.

@@ -1,6 +1,6 @@
 //! A node of the scene.
 
-ghost use Rattle.std.specs.Prelude.{◌≡◌, slice_get};
+ghost use Rattle.std.specs.Prelude.{◌≡◌, length, slice_get};
 ghost use Rattle.std.specs.Option.{option_copied, option_map};
 
 use crate::live::{Body, Live, Phase};
@@ -95,5 +95,14 @@ impl Node {
         ensures { option_copied result ≡ slice_get (kept_of self.now.node) index }
     {
         self.live.as_ref()?.kept.get(index)
+    }
+    /// How many messages it keeps back.
+    pub fn kept_len(&self) -> usize
+        ensures { result ≡ length (kept_of self.now.node) }
+    {
+        match &self.live {
+            None => 0,
+            Some(live) => live.kept.len(),
+        }
     }
 }

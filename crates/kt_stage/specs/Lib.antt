@@ -1,0 +1,4 @@
+pub mod Order
+pub mod Traffic
+pub mod Policy
+pub mod Asking
