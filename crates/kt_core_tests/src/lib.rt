@@ -11,11 +11,15 @@ mod cuts;
 #[cfg(test)]
 mod draws;
 #[cfg(test)]
+mod fault_lines;
+#[cfg(test)]
 mod finding;
 #[cfg(test)]
 mod fronts;
 #[cfg(test)]
 mod kinds;
+#[cfg(test)]
+mod lending;
 #[cfg(test)]
 mod making;
 #[cfg(test)]

@@ -56,7 +56,7 @@ or_else (Some x) other = Some x
 or_else None other = other
 
 -- the first that there is, in the order of the list
-unfoldable pub first_some : {A B : Type 0} → (A → Option B) → List A → Option B
+abbrev pub first_some : {A B : Type 0} → (A → Option B) → List A → Option B
 first_some f [] = None
 first_some f (x ∷ later) = or_else (f x) (first_some f later)
 
@@ -218,9 +218,12 @@ owes_vote s p b x =
 abbrev pub is_silent : State → NodeId → Poll → NodeId → Bool
 is_silent s p b x = is_awaited b x && not (owes_vote s p b x)
 
+abbrev pub has_silent : State → NodeId → Poll → Bool
+has_silent s p b = list_any (is_silent s p b) b.asked
+
 abbrev pub waits_in_vain : State → NodeId → Option Poll → Bool
 waits_in_vain s p None = false
-waits_in_vain s p (Some b) = list_any (is_silent s p b) b.asked
+waits_in_vain s p (Some b) = has_silent s p b
 
 abbrev pub gives_up : State → NodeId → Option Step
 gives_up s p = step_if (is_allowed s (Abandon p) && waits_in_vain s p (poll_at s p)) (Abandon p)

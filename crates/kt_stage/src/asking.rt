@@ -1,14 +1,15 @@
 //! What can be told of a world for the rules of the policy.
 
-ghost use Rattle.std.specs.Prelude.{◌≡◌};
+ghost use Rattle.std.specs.Prelude.{◌≡◌, false, IsTrue};
 ghost use Rattle.std.specs.Option.{option_copied};
 ghost use Rattle.kt_tuple.specs.Node.{node_index};
 ghost use Rattle.kt_node.specs.Node.{node_number};
 ghost use Rattle.kt_node.specs.Talking.{home};
 ghost use Rattle.kt_stage.specs.Asking.{IsAsked};
-ghost use Rattle.kt_stage.specs.Policy.{got_no, if_allowed, is_down, is_forgotten, is_in_traffic, is_lost_request, is_silent};
+ghost use Rattle.kt_stage.specs.Policy.{got_no, has_silent, if_allowed, is_down, is_forgotten, is_in_traffic, is_lost_request, is_silent};
 ghost use Rattle.kt_stage.specs.Policy.{is_up, lets_restart, owes_vote, unanswered, waits_in, waits_in_vain, will_vote};
 ghost use Rattle.kt_core.specs.Lent.{shard, worker};
+ghost use Rattle.kt_world.specs.Cast.{is_node};
 ghost use Rattle.kt_world.specs.Needs.{poll_at};
 
 use crate::order::is_before;
@@ -22,14 +23,16 @@ use std::alloc::Global;
 
 /// Whether the node is up.
 pub(crate) fn is_up<S: CkptStore>(world: &World<S>, node: NodeId) -> bool
-    ensures { result ≡ is_up world.now.state node }
+    ensures value { result ≡ is_up world.now.state node }
+    ensures there { IsTrue result → IsTrue (is_node world.now.state.cast node) }
 {
     matches!(world.mode(node), Some(Mode::Up))
 }
 
 /// Whether the node is down, or not in the scene.
 pub(crate) fn is_down<S: CkptStore>(world: &World<S>, node: NodeId) -> bool
-    ensures { result ≡ is_down world.now.state node }
+    ensures value { result ≡ is_down world.now.state node }
+    ensures there { result ≡ false → IsTrue (is_node world.now.state.cast node) }
 {
     matches!(world.mode(node), None | Some(Mode::Down))
 }
@@ -172,14 +175,21 @@ fn owes_vote<S: CkptStore>(
 }
 
 /// Whether a node that this one awaits owes it no vote.
-pub(crate) fn waits_in_vain<S: CkptStore>(world: &World<S>, node: NodeId) -> bool
-    ensures { result ≡ waits_in_vain world.now.state node (poll_at world.now.state node) }
+fn has_silent<S: CkptStore>(world: &World<S>, node: NodeId, ballot: &Ballot) -> bool
+    ensures { result ≡ has_silent world.now.state node ballot.now }
 {
-    let Some(ballot) = world.ballot(node) else {
-        return false;
-    };
     ballot
         .asked()
         .iter()
         .any(|other| ballot.awaits(*other) && !owes_vote(world, node, ballot, *other))
+}
+
+/// The same, where the node votes.
+pub(crate) fn waits_in_vain<S: CkptStore>(world: &World<S>, node: NodeId) -> bool
+    ensures { result ≡ waits_in_vain world.now.state node (poll_at world.now.state node) }
+{
+    match world.ballot(node) {
+        None => false,
+        Some(ballot) => has_silent(world, node, ballot),
+    }
 }

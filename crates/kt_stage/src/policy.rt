@@ -1,9 +1,10 @@
 //! What a node does next of itself, while a scenario of fault lines is run.
 
 ghost use Rattle.std.specs.Prelude.{◌≡◌};
+ghost use Rattle.std.specs.List.{list_all};
 ghost use Rattle.kt_stage.specs.Asking.{IsAsked};
-ghost use Rattle.kt_stage.specs.Policy.{asks, by_rule, checks, comes_back, fails, first_unfinished, gives_up, has_sent, hears};
-ghost use Rattle.kt_stage.specs.Policy.{if_unfinished, next_step, repeats, serves, tries_again};
+ghost use Rattle.kt_stage.specs.Policy.{asks, by_rule, checks, comes_back, fails, first_some, first_unfinished, gives_up, has_sent, hears};
+ghost use Rattle.kt_stage.specs.Policy.{if_unfinished, lets_restart, next_step, repeats, serves_with_first, tries_again};
 
 use crate::asking::{got_no, if_allowed, is_down, is_lost_request, is_up, lets_restart, waits_in_vain};
 use crate::order::{NAMES, WORKERS};
@@ -93,6 +94,25 @@ fn comes_back<S: CkptStore>(
     }
 }
 
+/// Whether none of these stands in the way of the node's restart.
+fn all_let_restart<S: CkptStore>(
+    others: &[NodeId],
+    world: &mut World<S>,
+    alloc: Global,
+    node: NodeId,
+) -> Result<bool, StoreError>
+    ensures { IsAsked world.old world.new (λ s x. x ≡ list_all (lets_restart s node) others.now) result }
+{
+    let Some((other, later)) = others.split_first() else {
+        return Ok(true);
+    };
+    if lets_restart(world, alloc, node, *other)? {
+        all_let_restart(later, world, alloc, node)
+    } else {
+        Ok(false)
+    }
+}
+
 /// A node whose rollback got No restarts, where every other node is up, or began a rollback that got No and comes
 /// later.
 fn tries_again<S: CkptStore>(
@@ -105,12 +125,11 @@ fn tries_again<S: CkptStore>(
     if !got_no(world, alloc, node)? {
         return Ok(None);
     }
-    for other in NAMES {
-        if !lets_restart(world, alloc, node, other)? {
-            return Ok(None);
-        }
+    if all_let_restart(&NAMES, world, alloc, node)? {
+        Ok(Some(Step::Restart { node }))
+    } else {
+        Ok(None)
     }
-    Ok(Some(Step::Restart { node }))
 }
 
 /// The node hears the first node that has sent it something.
@@ -155,25 +174,27 @@ fn asks<S: CkptStore>(
     }
 }
 
-/// A shard serves the first worker that it can serve with the first match.
-fn serves<S: CkptStore>(
+/// The shard serves the first of these workers that it can serve with the first match.
+fn first_served<S: CkptStore>(
+    workers: &[NodeId],
     world: &mut World<S>,
     alloc: Global,
     node: NodeId,
 ) -> Result<Option<Step>, StoreError>
-    ensures { IsAsked world.old world.new (λ s x. x ≡ serves s node) result }
+    ensures { IsAsked world.old world.new (λ s x. x ≡ first_some (serves_with_first s node) workers.now) result }
 {
-    for worker in WORKERS {
-        let step = Step::Serve {
-            shard: node,
-            worker,
-            place: 0,
-        };
-        if let Some(step) = if_allowed(world, alloc, step)? {
-            return Ok(Some(step));
-        }
+    let Some((worker, later)) = workers.split_first() else {
+        return Ok(None);
+    };
+    let step = Step::Serve {
+        shard: node,
+        worker: *worker,
+        place: 0,
+    };
+    match if_allowed(world, alloc, step)? {
+        Some(step) => Ok(Some(step)),
+        None => first_served(later, world, alloc, node),
     }
-    Ok(None)
 }
 
 /// A node that votes gives up, where one that it awaits owes it no vote.
@@ -212,9 +233,28 @@ impl Rule {
             Rule::Hears => Ok(hears(world, node)),
             Rule::Takes => if_allowed(world, alloc, Step::Take { node }),
             Rule::Asks => asks(world, alloc, node),
-            Rule::Serves => serves(world, alloc, node),
+            Rule::Serves => first_served(&WORKERS, world, alloc, node),
             Rule::GivesUp => gives_up(world, alloc, node),
         }
+    }
+}
+
+/// The step that the first of these rules gives that applies.
+fn first_by<S: CkptStore>(
+    rules: &[Rule],
+    world: &mut World<S>,
+    alloc: Global,
+    faults: &Faults,
+    node: NodeId,
+) -> Result<Option<Step>, StoreError>
+    ensures { IsAsked world.old world.new (λ s x. x ≡ first_some (by_rule s faults.now node) rules.now) result }
+{
+    let Some((rule, later)) = rules.split_first() else {
+        return Ok(None);
+    };
+    match rule.step(world, alloc, faults, node)? {
+        Some(step) => Ok(Some(step)),
+        None => first_by(later, world, alloc, faults, node),
     }
 }
 
@@ -228,10 +268,34 @@ pub fn next_for<S: CkptStore>(
 ) -> Result<Option<Step>, StoreError>
     ensures { IsAsked world.old world.new (λ s x. x ≡ next_step s faults.now node) result }
 {
-    for rule in POLICY {
-        if let Some(step) = rule.step(world, alloc, faults, node)? {
-            return Ok(Some(step));
-        }
+    first_by(&POLICY, world, alloc, faults, node)
+}
+
+/// The first of these nodes that has a next step.
+fn first_with_step<S: CkptStore>(
+    nodes: &[NodeId],
+    world: &mut World<S>,
+    alloc: Global,
+    faults: &Faults,
+) -> Result<Option<NodeId>, StoreError>
+    ensures { IsAsked world.old world.new (λ s x. x ≡ first_some (if_unfinished s faults.now) nodes.now) result }
+{
+    let Some((node, later)) = nodes.split_first() else {
+        return Ok(None);
+    };
+    match next_for(world, alloc, faults, *node)? {
+        Some(_) => Ok(Some(*node)),
+        None => first_with_step(later, world, alloc, faults),
     }
-    Ok(None)
+}
+
+/// The first node, in node order, that has a next step, where the fault lines are spent so. The world stays.
+pub(crate) fn first_unfinished<S: CkptStore>(
+    world: &mut World<S>,
+    alloc: Global,
+    faults: &Faults,
+) -> Result<Option<NodeId>, StoreError>
+    ensures { IsAsked world.old world.new (λ s x. x ≡ first_unfinished s faults.now) result }
+{
+    first_with_step(&NAMES, world, alloc, faults)
 }

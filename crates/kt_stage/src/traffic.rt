@@ -1,7 +1,9 @@
 //! What is sought among the messages that are on their way, and among those that nodes keep back.
 
-ghost use Rattle.std.specs.Prelude.{◌≡◌};
-ghost use Rattle.kt_stage.specs.Traffic.{is_about, is_ask, is_kept, is_kept_of, is_on_link, is_sought, number_in};
+ghost use Rattle.std.specs.Prelude.{◌≡◌, slice_get};
+ghost use Rattle.kt_core.specs.Lent.{kept};
+ghost use Rattle.kt_world.specs.State.{link};
+ghost use Rattle.kt_stage.specs.Traffic.{is_about, is_ask, is_found, is_kept, is_kept_of, is_on_link, is_sought, number_in};
 
 use kt_core::World;
 use kt_node::{Ask, Message, Post, Talk};
@@ -62,6 +64,22 @@ impl Sought {
     }
 }
 
+/// Whether the message that has so many before it is such a one.
+fn is_met_at<S: CkptStore>(
+    world: &World<S>,
+    from: NodeId,
+    to: NodeId,
+    index: usize,
+    sought: Sought,
+) -> bool
+    ensures { result ≡ is_found (is_sought sought) (slice_get (link world.now.state from to) index) }
+{
+    match world.link_at(from, to, index) {
+        None => false,
+        Some(message) => sought.is_met(message),
+    }
+}
+
 /// Whether such a message is on its way from one to the other.
 pub(crate) fn is_on_link<S: CkptStore>(
     world: &World<S>,
@@ -72,10 +90,8 @@ pub(crate) fn is_on_link<S: CkptStore>(
     ensures { result ≡ is_on_link world.now.state from to sought }
 {
     for index in 0..world.link_len(from, to) {
-        if let Some(message) = world.link_at(from, to, index) {
-            if sought.is_met(message) {
-                return true;
-            }
+        if is_met_at(world, from, to, index, sought) {
+            return true;
         }
     }
     false
@@ -88,6 +104,22 @@ fn is_kept_of(from: NodeId, number: u64, kept: &(NodeId, Post)) -> bool
     kept.0 == from && is_about(number, &kept.1)
 }
 
+/// Whether what the node keeps back with so many before it is from the other, and has the number.
+fn is_kept_at<S: CkptStore>(
+    world: &World<S>,
+    node: NodeId,
+    index: usize,
+    from: NodeId,
+    number: u64,
+) -> bool
+    ensures { result ≡ is_found (is_kept_of from number) (slice_get (kept world.now.state node) index) }
+{
+    match world.kept_at(node, index) {
+        None => false,
+        Some(kept) => is_kept_of(from, number, kept),
+    }
+}
+
 /// Whether the node keeps back an underlying message of the other with this number.
 pub(crate) fn is_kept<S: CkptStore>(
     world: &World<S>,
@@ -98,10 +130,8 @@ pub(crate) fn is_kept<S: CkptStore>(
     ensures { result ≡ is_kept world.now.state node from number }
 {
     for index in 0..world.kept_len(node) {
-        if let Some(kept) = world.kept_at(node, index) {
-            if is_kept_of(from, number, kept) {
-                return true;
-            }
+        if is_kept_at(world, node, index, from, number) {
+            return true;
         }
     }
     false
