@@ -2,3 +2,4 @@ pub mod Order
 pub mod Traffic
 pub mod Policy
 pub mod Asking
+pub mod Journal

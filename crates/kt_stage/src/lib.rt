@@ -2,9 +2,17 @@
 #![tactic(auto)]
 
 mod asking;
+mod desk;
+mod journal;
+mod naming;
 mod order;
 mod policy;
+mod seat;
 mod traffic;
 
+pub use desk::{ActError, Desk};
+pub use journal::Journal;
+pub use naming::Naming;
 pub use policy::{Rule, next_for};
+pub use seat::{Receipt, Seat};
 pub use traffic::Sought;
