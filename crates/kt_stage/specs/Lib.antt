@@ -3,3 +3,4 @@ pub mod Traffic
 pub mod Policy
 pub mod Asking
 pub mod Journal
+pub mod Acting

@@ -2,10 +2,12 @@
 
 ghost use Rattle.std.specs.Prelude.{◌≡◌, ◌++◌, ◌∷◌, [], length, true, vec_len, IfErr, IfOk, IsTrue, Ok, OnErr, OnOk};
 ghost use Rattle.kt_core.specs.World.{beside};
+ghost use Rattle.kt_stage.specs.Acting.{IsOthers};
 ghost use Rattle.kt_stage.specs.Journal.{Replays, are_owned, receipt};
 ghost use Rattle.kt_world.specs.Effect.{step_result};
 ghost use Rattle.kt_world.specs.Step.{owner};
 
+use crate::error::ActError;
 use crate::journal::Journal;
 use crate::naming::Naming;
 use crate::seat::{Receipt, Seat};
@@ -13,18 +15,6 @@ use kt_core::{Step, StepError};
 use kt_store::CkptStore;
 use std::alloc::Global;
 use std::sync::ledger::Book;
-use thiserror::Error;
-
-/// Why a node did not act.
-#[derive(Clone, Copy, Debug, PartialEq, Eq, Error)]
-pub enum ActError {
-    /// The step is another node's.
-    #[error("NotOwner")]
-    NotOwner,
-    /// The step was refused.
-    #[error("Step")]
-    Step(StepError),
-}
 
 /// The journal of the stage that L names, and the book of its ledger. While the store is honest the world is what the
 /// steps lead to from the state that the stage was opened with; the book's total is their number.
@@ -66,6 +56,12 @@ impl<S: CkptStore, L: Naming> Desk<S, L> {
         ensures effect { IsTrue self.new.journal.world.is_honest
             → OnOk result (step_result self.old.journal.world.state step ≡ Ok self.new.journal.world.state) }
         ensures node { seat.new.node ≡ seat.old.node }
+        ensures not_owner { IfErr result (IsOthers seat.old.node step) }
+        ensures same_seat { OnErr result (seat.new.receipts ≡ seat.old.receipts) }
+        ensures same_steps { OnErr result (self.new.journal.steps ≡ self.old.journal.steps) }
+        ensures same { IsTrue self.new.journal.world.is_honest
+            → OnErr result (self.new.journal.world.state ≡ self.old.journal.world.state) }
+        ensures beside { OnErr result (beside self.new.journal.world.state ≡ beside self.old.journal.world.state) }
     {
         if step.owner() != seat.node {
             return Err(ActError::NotOwner);

@@ -3,16 +3,20 @@
 
 mod asking;
 mod desk;
+mod error;
 mod journal;
 mod naming;
 mod order;
 mod policy;
 mod seat;
+mod stage;
 mod traffic;
 
-pub use desk::{ActError, Desk};
+pub use desk::Desk;
+pub use error::ActError;
 pub use journal::Journal;
 pub use naming::Naming;
 pub use policy::{Rule, next_for};
 pub use seat::{Receipt, Seat};
+pub use stage::Stage;
 pub use traffic::Sought;

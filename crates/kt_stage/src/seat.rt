@@ -1,6 +1,6 @@
 //! Seats: who acts on a stage, and what each keeps of it.
 
-ghost use Rattle.std.specs.Prelude.{◌≡◌, IsTrue, vec_len};
+ghost use Rattle.std.specs.Prelude.{◌≡◌, IsTrue};
 ghost use Rattle.kt_world.specs.Cast.{is_node};
 
 use crate::naming::Naming;
@@ -26,7 +26,9 @@ pub struct Seat<L: Naming> {
 }
 
 impl<L: Naming> Model for Seat<L> {
+    ghost use Rattle.std.specs.Prelude.{◌≡◌, IsTrue, vec_len};
     ghost use Rattle.kt_stage.specs.Journal.{Held};
+    ghost use Rattle.kt_world.specs.Cast.{is_node};
 
     ghost Value = { Held };
 
