@@ -49,6 +49,7 @@ impl<S: CkptStore> Journal<S> {
 impl<S: CkptStore, L: Naming> Desk<S, L> {
     /// Makes the step of the seat's node, and gives the receipt that the seat keeps then. A refusal leaves the seat and
     /// the journal: `NotOwner` comes only where the step is another node's.
+    #[tactic(auto, using(crate::proofs::Making::replays_more, crate::proofs::Making::replays_still, crate::proofs::Making::owned_more))]
     pub fn act(&mut self, alloc: Global, seat: &mut Seat<L>, step: Step) -> Result<Receipt, ActError>
         ensures receipt { IfOk result (λ r. r ≡ receipt (length self.new.journal.steps) step) }
         ensures seat { IfOk result (λ r. seat.new.receipts ≡ seat.old.receipts ++ r ∷ []) }
@@ -69,11 +70,12 @@ impl<S: CkptStore, L: Naming> Desk<S, L> {
         if seat.receipts.reserve(1).is_err() {
             return Err(ActError::Step(StepError::OutOfMemory));
         }
-        self.journal.make(alloc, step).map_err(ActError::Step)?;
-        let number = self.journal.steps.len() as u64;
+        let Desk { journal, book } = self;
+        journal.make(alloc, step).map_err(ActError::Step)?;
+        let number = journal.steps.len() as u64;
         let receipt = Receipt { number, step };
         seat.receipts.push_reserved(receipt);
-        self.book.add(&mut seat.share, 1);
+        book.add(&mut seat.share, 1);
         Ok(receipt)
     }
 }
