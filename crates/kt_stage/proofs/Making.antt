@@ -1,5 +1,5 @@
 -- What one step more makes of a journal.
-use Rattle.std.proofs.Common.{◌≡◌, Bool, true, false, List, [], ◌∷◌, ◌++◌, Result, Ok, Err, refl, sym, ap, ◌∙◌}
+use Rattle.std.proofs.Common.{◌≡◌, ℕ, ◌+◌, length, length-append, arith, Bool, true, false, List, [], ◌∷◌, ◌++◌, Result, Ok, Err, refl, sym, ap, ◌∙◌}
 use Rattle.std.specs.Prelude.{◌&&◌, IsTrue}
 use Rattle.std.specs.List.{list_all}
 use Rattle.kt_tuple.specs.declared.node.NodeId.{NodeId}
@@ -39,3 +39,8 @@ all-more p (y ∷ xs) x all one = by (p y) (λ e. all-more p xs x e one) all
 pub owned_more : (cast : Cast) (steps more : List Step) (step : Step) (p : NodeId) → are_owned cast steps ≡ true → more ≡ steps ++ step ∷ [] → owner step ≡ p → is_node cast p ≡ true → are_owned cast more ≡ true
 owned_more cast steps more step p owned is own there =
     ap (are_owned cast) is ∙ all-more (λ (s : Step). is_node cast (owner s)) steps step owned (ap (is_node cast) own ∙ there)
+
+pub counted_more : (old new : ℕ) (steps more : List Step) (step : Step) → old ≡ length steps → new ≡ old + 1 → more ≡ steps ++ step ∷ [] → new ≡ length more
+counted_more old new steps more step before one is =
+    let longer : length (steps ++ step ∷ []) ≡ length steps + 1 = omega (arith, length-append steps (step ∷ [])) in
+    one ∙ ap (λ (n : ℕ). n + 1) before ∙ sym longer ∙ ap length (sym is)

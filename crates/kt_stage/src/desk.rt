@@ -49,7 +49,6 @@ impl<S: CkptStore> Journal<S> {
 impl<S: CkptStore, L: Naming> Desk<S, L> {
     /// Makes the step of the seat's node, and gives the receipt that the seat keeps then. A refusal leaves the seat and
     /// the journal: `NotOwner` comes only where the step is another node's.
-    #[tactic(auto, using(crate::proofs::Making::replays_more, crate::proofs::Making::replays_still, crate::proofs::Making::owned_more))]
     pub fn act(&mut self, alloc: Global, seat: &mut Seat<L>, step: Step) -> Result<Receipt, ActError>
         ensures receipt { IfOk result (λ r. r ≡ receipt (length self.new.journal.steps) step) }
         ensures seat { IfOk result (λ r. seat.new.receipts ≡ seat.old.receipts ++ r ∷ []) }
@@ -71,7 +70,7 @@ impl<S: CkptStore, L: Naming> Desk<S, L> {
             return Err(ActError::Step(StepError::OutOfMemory));
         }
         let Desk { journal, book } = self;
-        journal.make(alloc, step).map_err(ActError::Step)?;
+        journal.make(alloc, step)?;
         let number = journal.steps.len() as u64;
         let receipt = Receipt { number, step };
         seat.receipts.push_reserved(receipt);
