@@ -25,12 +25,30 @@ type Row = (Step, [bool; 6]);
 /// Of equal lines the first is spent, a greater number later; a step of another kind or node spends none of them.
 const ROWS: [Row; 7] = [
     (Step::Issue { node: W1 }, [false; 6]),
-    (Step::Fail { node: W1 }, [false, true, false, false, false, false]),
-    (Step::Fail { node: W1 }, [false, true, false, true, false, false]),
-    (Step::Check { node: W1 }, [false, true, true, true, false, false]),
-    (Step::Fail { node: W1 }, [true, true, true, true, false, false]),
-    (Step::Fail { node: W1 }, [true, true, true, true, false, false]),
-    (Step::Fail { node: S1 }, [true, true, true, true, true, false]),
+    (
+        Step::Fail { node: W1 },
+        [false, true, false, false, false, false],
+    ),
+    (
+        Step::Fail { node: W1 },
+        [false, true, false, true, false, false],
+    ),
+    (
+        Step::Check { node: W1 },
+        [false, true, true, true, false, false],
+    ),
+    (
+        Step::Fail { node: W1 },
+        [true, true, true, true, false, false],
+    ),
+    (
+        Step::Fail { node: W1 },
+        [true, true, true, true, false, false],
+    ),
+    (
+        Step::Fail { node: S1 },
+        [true, true, true, true, true, false],
+    ),
 ];
 
 fn made(alloc: Global) -> Result<Faults, Fail> {

@@ -39,7 +39,11 @@ fn is_asked(rt: &impl Abort, alloc: Global, world: &mut Game) -> Result<(), Fail
     assert!(rt; world.worker(W1).is_some() && world.worker(S1).is_none());
     make(rt, alloc, world, &["deliver w1 s1"])?;
     assert!(rt; world.link_len(W1, S1) == 0);
-    let waiting = world.shard(S1).ok_or("a shard")?.waiting(1).ok_or("a request")?;
+    let waiting = world
+        .shard(S1)
+        .ok_or("a shard")?
+        .waiting(1)
+        .ok_or("a request")?;
     assert!(rt; waiting.number == 1 && world.shard(W1).is_none());
     Ok(())
 }
@@ -47,7 +51,12 @@ fn is_asked(rt: &impl Abort, alloc: Global, world: &mut Game) -> Result<(), Fail
 /// The worker takes a checkpoint, keeps back the answer, and the shard fails.
 fn is_kept(rt: &impl Abort, alloc: Global, world: &mut Game) -> Result<(), Fail> {
     assert!(rt; world.ballot(W1).is_none() && world.kept_len(W1) == 0);
-    make(rt, alloc, world, &["serve s1 w1 0", "check w1", "deliver s1 w1"])?;
+    make(
+        rt,
+        alloc,
+        world,
+        &["serve s1 w1 0", "check w1", "deliver s1 w1"],
+    )?;
     assert!(rt; world.worker(W1).is_none());
     assert!(rt; world.ballot(W1).ok_or("a ballot")?.instance() == 1);
     assert!(rt; world.kept_len(W1) == 1 && world.kept_at(W1, 1).is_none());

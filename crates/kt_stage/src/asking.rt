@@ -159,29 +159,36 @@ fn will_vote(node: NodeId, ballot: &Ballot, other: Option<&Ballot>) -> bool
 }
 
 /// Whether the other owes the node a vote.
-fn owes_vote<S: CkptStore>(
-    world: &World<S>,
-    node: NodeId,
-    ballot: &Ballot,
-    other: NodeId,
-) -> bool
+fn owes_vote<S: CkptStore>(world: &World<S>, node: NodeId, ballot: &Ballot, other: NodeId) -> bool
     ensures { result ≡ owes_vote world.now.state node ballot.now other }
 {
     let instance = ballot.instance();
     let incarnation = ballot.incarnation();
-    is_on_link(world, node, other, Sought::Ask { instance, incarnation })
-        || is_on_link(world, other, node, Sought::Vote { instance, incarnation })
-        || will_vote(node, ballot, world.ballot(other))
+    is_on_link(
+        world,
+        node,
+        other,
+        Sought::Ask {
+            instance,
+            incarnation,
+        },
+    ) || is_on_link(
+        world,
+        other,
+        node,
+        Sought::Vote {
+            instance,
+            incarnation,
+        },
+    ) || will_vote(node, ballot, world.ballot(other))
 }
 
 /// Whether a node that this one awaits owes it no vote.
 fn has_silent<S: CkptStore>(world: &World<S>, node: NodeId, ballot: &Ballot) -> bool
     ensures { result ≡ has_silent world.now.state node ballot.now }
 {
-    ballot
-        .asked()
-        .iter()
-        .any(|other| ballot.awaits(*other) && !owes_vote(world, node, ballot, *other))
+    ballot.asked().iter().any(|other| ballot.awaits(*other)
+        && !owes_vote(world, node, ballot, *other))
 }
 
 /// The same, where the node votes.

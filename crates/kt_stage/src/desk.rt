@@ -49,7 +49,12 @@ impl<S: CkptStore> Journal<S> {
 impl<S: CkptStore, L: Naming> Desk<S, L> {
     /// Makes the step of the seat's node, and gives the receipt that the seat keeps then. A refusal leaves the seat and
     /// the journal: `NotOwner` comes only where the step is another node's.
-    pub fn act(&mut self, alloc: Global, seat: &mut Seat<L>, step: Step) -> Result<Receipt, ActError>
+    pub fn act(
+        &mut self,
+        alloc: Global,
+        seat: &mut Seat<L>,
+        step: Step,
+    ) -> Result<Receipt, ActError>
         ensures receipt { IfOk result (λ r. r ≡ receipt (length self.new.journal.steps) step) }
         ensures seat { IfOk result (λ r. seat.new.receipts ≡ seat.old.receipts ++ r ∷ []) }
         ensures journal { OnOk result (self.new.journal.steps ≡ self.old.journal.steps ++ step ∷ []) }

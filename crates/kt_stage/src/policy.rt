@@ -6,7 +6,9 @@ ghost use Rattle.kt_stage.specs.Asking.{IsAsked};
 ghost use Rattle.kt_stage.specs.Policy.{asks, by_rule, checks, comes_back, fails, first_some, first_unfinished, gives_up, has_sent, hears};
 ghost use Rattle.kt_stage.specs.Policy.{if_unfinished, lets_restart, next_step, repeats, serves_with_first, tries_again};
 
-use crate::asking::{got_no, if_allowed, is_down, is_lost_request, is_up, lets_restart, waits_in_vain};
+use crate::asking::{
+    got_no, if_allowed, is_down, is_lost_request, is_up, lets_restart, waits_in_vain,
+};
 use crate::order::{NAMES, WORKERS};
 use kt_core::{FaultKind, Faults, Step, World};
 use kt_store::{CkptStore, StoreError};

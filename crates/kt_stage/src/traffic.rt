@@ -50,15 +50,27 @@ impl Sought {
     {
         match (self, message) {
             (Sought::Number(number), Message::Post(post)) => is_about(number, post),
-            (Sought::Ask { instance, incarnation }, Message::CheckAsk(ask)) => {
-                is_ask(instance, incarnation, ask)
-            }
-            (Sought::Ask { instance, incarnation }, Message::RollAsk(ask)) => {
-                is_ask(instance, incarnation, ask)
-            }
-            (Sought::Vote { instance, incarnation }, Message::Vote(vote)) => {
-                vote.instance == instance && vote.incarnation == incarnation
-            }
+            (
+                Sought::Ask {
+                    instance,
+                    incarnation,
+                },
+                Message::CheckAsk(ask),
+            ) => { is_ask(instance, incarnation, ask) }
+            (
+                Sought::Ask {
+                    instance,
+                    incarnation,
+                },
+                Message::RollAsk(ask),
+            ) => { is_ask(instance, incarnation, ask) }
+            (
+                Sought::Vote {
+                    instance,
+                    incarnation,
+                },
+                Message::Vote(vote),
+            ) => { vote.instance == instance && vote.incarnation == incarnation }
             _ => false,
         }
     }
