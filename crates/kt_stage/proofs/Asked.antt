@@ -1,6 +1,6 @@
 -- One asking after another.
-use Rattle.std.proofs.Common.{◌≡◌, ℕ, ◌+◌, ◌≤◌, List, ◌∷◌, Result, Ok, Err, sym, ap, ◌∙◌, arith}
-use Rattle.std.specs.Prelude.{Option, None, Some, IfErr, IfOk, IsTrue}
+use Rattle.std.proofs.Common.{◌≡◌, List, ◌∷◌, Result, Ok, Err, sym, ap, ◌∙◌, arith}
+use Rattle.std.specs.Prelude.{Option, None, IfErr, IfOk}
 use Rattle.kt_store.specs.declared.error.StoreError.{StoreError}
 use Rattle.kt_world.specs.State.{State}
 use Rattle.kt_core.specs.Store.{IsFault}

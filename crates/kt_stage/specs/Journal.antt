@@ -1,7 +1,7 @@
 -- The journal of a stage: all steps that were made, each at its place; and what its seats keep of them.
-use Rattle.std.specs.Prelude.{◌≡◌, ℕ, ◌+◌, Bool, true, false, not, ◌&&◌, ◌||◌, if◌then◌else◌, List, [], ◌∷◌, length}
-use Rattle.std.specs.Prelude.{Option, None, Some, Result, Ok, Err, IsTrue, nat_lt, filter}
-use Rattle.std.specs.List.{find, list_any, list_all}
+use Rattle.std.specs.Prelude.{◌≡◌, ℕ, ◌+◌, Bool, if◌then◌else◌, List, [], ◌∷◌}
+use Rattle.std.specs.Prelude.{Result, Ok, Err, IsTrue}
+use Rattle.std.specs.List.{list_all}
 use Rattle.kt_tuple.specs.declared.node.NodeId.{NodeId}
 use Rattle.kt_tuple.specs.Node.{node_eq}
 use Rattle.kt_world.specs.declared.step.Step.{Step}
@@ -12,7 +12,6 @@ use Rattle.kt_world.specs.State.{State}
 use Rattle.kt_world.specs.Step.{owner}
 use Rattle.kt_core.specs.World.{Standing}
 use Rattle.kt_stage.specs.declared.seat.Receipt.{Receipt}
-use Rattle.kt_stage.specs.Order.{names}
 
 -- what a journal is to its callers
 pub record Journal : Type 0 where

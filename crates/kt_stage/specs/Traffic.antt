@@ -1,9 +1,8 @@
 -- What is sought among the messages that are on their way, and among those that nodes keep back.
-use Rattle.std.specs.Prelude.{ℕ, ◌==◌, Bool, false, ◌&&◌, List, Option, None, Some}
+use Rattle.std.specs.Prelude.{ℕ, ◌==◌, Bool, false, ◌&&◌, Option, None, Some}
 use Rattle.std.specs.List.{list_any}
 use Rattle.kt_tuple.specs.declared.node.NodeId.{NodeId}
 use Rattle.kt_tuple.specs.Node.{node_eq}
-use Rattle.kt_vote.specs.Poll.{Poll, is_on}
 use Rattle.kt_node.specs.declared.message.Ask.{Ask}
 use Rattle.kt_node.specs.declared.message.Talk.{Talk}
 use Rattle.kt_node.specs.declared.message.Talk.TheVariants as talks
