@@ -143,18 +143,18 @@ fn holds_state(
     notes: &[Note],
     scripts: &[Script],
 ) -> Result<(), Finding> {
-    let line = line_after(alloc, notes, checkpoint.node())?;
+    let mut acts = line_after(alloc, notes, checkpoint.node())?;
     let length = checkpoint.line_len() as usize;
-    holds(length <= line.len(), "a checkpoint within its line")?;
-    let (acts, _) = line.split_at(length);
+    holds(length <= acts.len(), "a checkpoint within its line")?;
+    acts.truncate(length);
     match (checkpoint.node(), checkpoint.state()) {
         (NodeId::Worker(number), State::Worker(state)) => {
             let place = usize::from(number).saturating_sub(1);
             let script = scripts.get(place).ok_or(Finding::NotMade("a script"))?;
-            let worker = worker_after(alloc, script, notes, acts)?;
+            let worker = worker_after(alloc, script, notes, &acts)?;
             holds(is_worker(state, &worker), "where a worker stood")
         }
-        (NodeId::Shard(_), State::Shard(state)) => holds_shard(alloc, state, notes, acts),
+        (NodeId::Shard(_), State::Shard(state)) => holds_shard(alloc, state, notes, &acts),
         _ => Err(Finding::Wrong("a state of another kind")),
     }
 }
