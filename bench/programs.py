@@ -24,8 +24,8 @@ def crates(stands_on):
     return found
 
 
-def build(name, stands_on, of=None, modules=()):
-    """Proves and builds the program, with these modules of a crate, over what the crates are now, and gives its path."""
+def build(name, stands_on):
+    """Proves and builds the program over what the crates are now, and gives its path."""
     below = crates(stands_on)
     for crate in [*below, name]:
         kept = f"{PLACE}/crates/{crate}"
@@ -38,8 +38,6 @@ def build(name, stands_on, of=None, modules=()):
             shutil.copytree(f"{ROOT}/crates/{crate}/out", f"{kept}/out", symlinks=True)
     os.makedirs(f"{PLACE}/crates/{name}/src")
     shutil.copy(f"{ROOT}/bench/{name}.txt", f"{PLACE}/crates/{name}/src/main.rt")
-    for module in modules:
-        shutil.copy(f"{ROOT}/crates/{of}/src/{module}.rt", f"{PLACE}/crates/{name}/src/{module}.rt")
     shutil.copy(f"{ROOT}/HANDLES", f"{PLACE}/HANDLES")
     with open(f"{PLACE}/crates.txt", "w", encoding="ascii") as file:
         file.writelines(f"{crate}: {others}\n" for crate, others in below.items())

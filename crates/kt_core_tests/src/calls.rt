@@ -2,13 +2,13 @@
 //! used before.
 
 use crate::making::{S1, S2, W1, W2, opened, scripts};
-use crate::scenes::Game;
 use crate::worlds::PUTTER_AND_TAKER;
 use kt_core::{OpenError, OpenRefused, Scene, Step, World};
 use kt_node::Mode;
 use kt_space::Bag;
 use kt_store::{CkptStore, MemStore};
 use kt_tuple::NodeId;
+use kt_walk::scenes::Game;
 use std::alloc::Global;
 use std::process::Abort;
 use std::test::Fail;

@@ -1,27 +1,13 @@
 //! Worlds step by step, through the public calls of kt_core. They stand in a crate of their own, so that
-//! kt_core is proved once; `bench/walk` takes the modules of the random walks as its own.
+//! kt_core is proved once; the random walks are those of kt_walk.
 #![tactic(auto)]
 
 #[cfg(test)]
 mod calls;
 #[cfg(test)]
-mod cast;
-#[cfg(test)]
-mod cuts;
-#[cfg(test)]
-mod draws;
-#[cfg(test)]
-mod finding;
-#[cfg(test)]
-mod fronts;
-#[cfg(test)]
-mod kinds;
-#[cfg(test)]
 mod making;
 #[cfg(test)]
 mod memory;
-#[cfg(test)]
-mod numbers;
 #[cfg(test)]
 mod orders;
 #[cfg(test)]
@@ -31,25 +17,9 @@ mod repeats;
 #[cfg(test)]
 mod rows;
 #[cfg(test)]
-mod runs;
-#[cfg(test)]
-mod scenes;
-#[cfg(test)]
-mod scripts;
-#[cfg(test)]
-mod shapes;
-#[cfg(test)]
-mod slowly;
-#[cfg(test)]
 mod states;
 #[cfg(test)]
-mod tally;
-#[cfg(test)]
 mod texts;
-#[cfg(test)]
-mod variables;
-#[cfg(test)]
-mod walking;
 #[cfg(test)]
 mod worked_rows;
 #[cfg(test)]

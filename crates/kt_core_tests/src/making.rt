@@ -1,11 +1,11 @@
 //! Scripts, worlds and steps, made of their texts.
 
-use crate::scenes::Game;
-use crate::scripts::script;
 use kt_core::{Scene, Step, World};
 use kt_script::Script;
 use kt_store::MemStore;
 use kt_tuple::NodeId;
+use kt_walk::scenes::Game;
+use kt_walk::scripts::script;
 use std::alloc::Global;
 use std::test::Fail;
 

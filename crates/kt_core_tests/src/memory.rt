@@ -2,10 +2,10 @@
 
 use crate::making::{S1, W1, scripts};
 use crate::rows::{counts, leaves, made};
-use crate::scenes::Game;
 use crate::worlds::PUTTER_AND_TAKER;
 use kt_core::{OpenError, OpenRefused, Scene, Step, StepError, World};
 use kt_store::{MemStore, StoreError};
+use kt_walk::scenes::Game;
 use std::alloc::{AllocError, Global};
 use std::process::Abort;
 use std::test::Fail;

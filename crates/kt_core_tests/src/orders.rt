@@ -1,14 +1,14 @@
 //! Many orders of the steps of three requests.
 
-use crate::draws::Draws;
-use crate::finding::Finding;
-use crate::fronts::agrees;
 use crate::making::{S1, opened, scripts};
-use crate::scenes::Game;
-use crate::slowly::Pasts;
 use crate::texts::space_texts;
 use kt_core::{Step, StepError};
 use kt_tuple::NodeId;
+use kt_walk::draws::Draws;
+use kt_walk::finding::Finding;
+use kt_walk::fronts::agrees;
+use kt_walk::scenes::Game;
+use kt_walk::slowly::Pasts;
 use std::alloc::Global;
 use std::process::Abort;
 use std::test::Fail;

@@ -1,7 +1,7 @@
 //! 400 random walks, in two halves.
 
-use crate::tally::Tally;
-use crate::walking::walk;
+use kt_walk::tally::Tally;
+use kt_walk::walking::walk;
 use std::alloc::Global;
 use std::process::Abort;
 

@@ -2,9 +2,9 @@
 
 use crate::making::{S1, W1, W2, opened, scripts};
 use crate::rows::{Played, Stage, play, play_all};
-use crate::scenes::Game;
 use crate::worlds::PUTTER_AND_TAKER;
 use kt_core::{MAX_STEPS, Step};
+use kt_walk::scenes::Game;
 use std::alloc::Global;
 use std::process::Abort;
 use std::test::Fail;

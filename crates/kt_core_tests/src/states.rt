@@ -1,16 +1,16 @@
 //! What a stored checkpoint must hold: what the acts of its node's line up to its length make of a node, worked out
 //! act by act.
 
-use crate::cast::Cast;
-use crate::finding::{Finding, holds};
-use crate::runs::{are_same, space_after};
-use crate::slowly::{line_after, note_at};
 use kt_ckpt::{Ckpt, ShardState, State, WorkerState};
 use kt_history::{Act, Note, What};
 use kt_script::Script;
 use kt_shard::{Kept, Request};
 use kt_store::{CkptStore, MemStore, Verdict};
 use kt_tuple::{Answer, NodeId};
+use kt_walk::cast::Cast;
+use kt_walk::finding::{Finding, holds};
+use kt_walk::runs::{are_same, space_after};
+use kt_walk::slowly::{line_after, note_at};
 use kt_worker::Worker;
 use std::alloc::Global;
 

@@ -1,9 +1,8 @@
 //! Notes, services and tuples as texts.
 
-use crate::scenes::Game;
 use kt_history::{Act, Note, Service, What, space_of};
-use kt_space::Bag;
 use kt_tuple::{Answer, NodeId, Tuple};
+use kt_walk::scenes::Game;
 use std::alloc::Global;
 use std::test::Fail;
 
@@ -93,15 +92,5 @@ pub(crate) fn service_texts(alloc: Global, world: &Game) -> Result<Vec<String>, 
 pub(crate) fn space_texts(alloc: Global, world: &Game) -> Result<Vec<String>, Fail> {
     let services = world.history().survivors(alloc)?;
     let bag = space_of(alloc, &services)?;
-    bag_texts(alloc, &bag)
-}
-
-fn bag_texts(alloc: Global, bag: &Bag) -> Result<Vec<String>, Fail> {
-    let mut texts = Vec::new(alloc);
-    for place in 0..bag.len() {
-        let tuple = bag.get(place).ok_or("a tuple")?;
-        texts.push(tuple_text(alloc, tuple)?)?;
-    }
-    texts.sort()?;
-    Ok(texts)
+    sorted_texts(alloc, &bag.to_vec(alloc)?)
 }

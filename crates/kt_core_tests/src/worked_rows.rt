@@ -1,14 +1,15 @@
 //! Worked scenarios with failures: after each of their steps all that is promised holds, worked out slowly.
 
-use crate::cast::Cast;
-use crate::finding::Finding;
-use crate::fronts::agrees;
 use crate::making::{opened, scripts, step};
-use crate::scenes::Game;
-use crate::slowly::Pasts;
-use crate::{cuts, states};
+use crate::states;
 use kt_store::MemStore;
 use kt_tuple::Tuple;
+use kt_walk::cast::Cast;
+use kt_walk::cuts;
+use kt_walk::finding::Finding;
+use kt_walk::fronts::agrees;
+use kt_walk::scenes::Game;
+use kt_walk::slowly::Pasts;
 use std::alloc::Global;
 use std::process::Abort;
 use std::test::Fail;

@@ -41,9 +41,7 @@ fn the_tuple_that_was_answered_is_gone(rt: HostRuntime) -> Result<(), Fail> {
         take(alloc, 2)?,
     ];
     let space = space_of(alloc, &services)?;
-    assert_eq!(rt; space.len(), 2);
-    for (place, int) in [1, 2].iter().enumerate() {
-        assert_eq!(rt; space.get(place), Some(&tuple_of(alloc, *int)?));
-    }
+    let left = vec![in alloc; tuple_of(alloc, 1)?, tuple_of(alloc, 2)?]?;
+    assert_eq!(rt; space.to_vec(alloc)?, left);
     Ok(())
 }

@@ -2,5 +2,4 @@ pub mod Numbers
 pub mod Neighbours
 pub mod Tables
 pub mod Sieving
-pub mod Fronts
 pub mod Acting

@@ -1,7 +1,6 @@
 //! The checkpoint of a moment.
 
 ghost use Rattle.std.specs.Prelude.{◌≡◌, ◌≤◌, ◌++◌, IfOk, OnOk};
-ghost use Rattle.std.specs.Option.{option_copied, option_to_list};
 ghost use Rattle.kt_ckpt.specs.Checkpoint.{HasCounts, IsCountedState};
 ghost use Rattle.kt_ckpt.specs.Limits.{max_pc};
 ghost use Rattle.kt_shard.specs.Shard.{desk_of};
@@ -14,7 +13,7 @@ use crate::role::Role;
 use kt_ckpt::{Ckpt, ShardState, State, WorkerState};
 use kt_link::Label;
 use kt_shard::{Kept, MAX_WORKERS, Request, Shard};
-use kt_tuple::{Op, Tuple, Value};
+use kt_tuple::{Op, Value};
 use kt_worker::Worker;
 use std::alloc::{AllocError, Global};
 
@@ -97,32 +96,10 @@ fn copy_values(alloc: Global, values: &[Value]) -> Result<Vec<Value>, AllocError
 fn shard_state(alloc: Global, shard: &Shard) -> Result<ShardState, AllocError>
     ensures { IfOk result (λ s. s ≡ shard_fields shard.now.state) }
 {
-    let bag = copy_tuples(alloc, shard)?;
+    let bag = shard.bag().to_vec(alloc)?;
     let waiting = waiting_entries(alloc, shard)?;
     let kept = kept_entries(alloc, shard)?;
     Ok(ShardState::new(bag, waiting, kept))
-}
-
-/// A copy of the tuple, if there is one.
-fn add_copy(alloc: Global, copies: &mut Vec<Tuple>, tuple: Option<&Tuple>) -> Result<(), AllocError>
-    ensures { OnOk result (copies.new.items ≡ copies.old.items ++ option_to_list (option_copied tuple.entry)) }
-{
-    if let Some(tuple) = tuple {
-        copies.push(tuple.copy(alloc)?)?;
-    }
-    Ok(())
-}
-
-#[tactic(auto, using(crate::proofs::Fronts::take_more))]
-fn copy_tuples(alloc: Global, shard: &Shard) -> Result<Vec<Tuple>, AllocError>
-    ensures { IfOk result (λ v. v.items ≡ shard.now.state.bag) }
-{
-    let bag = shard.bag();
-    let mut copies = Vec::with_capacity(alloc, bag.len())?;
-    for place in 0..bag.len() {
-        add_copy(alloc, &mut copies, bag.get(place))?;
-    }
-    Ok(copies)
 }
 
 /// The worker's entry, where it waits.

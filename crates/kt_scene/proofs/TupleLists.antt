@@ -1,15 +1,14 @@
 -- The texts of tuples, sorted, are the list that the report has of them.
-use Rattle.std.proofs.Common.{◌≡◌, ℕ, zero, suc, ◌+◌, ◌<◌, List, [], ◌∷◌, ◌++◌, length, map, get_or, take, None, Some, refl, sym, ap, subst, ◌∙◌, append_assoc}
+use Rattle.std.proofs.Common.{◌≡◌, ℕ, zero, suc, ◌+◌, ◌<◌, List, [], ◌∷◌, ◌++◌, length, map, get_or, refl, sym, ap, subst, ◌∙◌, append_assoc}
 use Rattle.std.proofs.Common.{arith}
 use Rattle.std.specs.Prelude.{IsPermutation, OnOk, Result, Ok, Err}
-use Rattle.std.specs.List.{flat_map, slice_get}
+use Rattle.std.specs.List.{flat_map}
 use Rattle.std.specs.List.Sorted.{IsSorted}
 use Rattle.std.specs.Ordering.{nat_cmp, is_lt}
 use Rattle.std.specs.Cmp.Lexicographic.{slice_cmp}
 use Rattle.std.specs.Global.{Vec}
-use Rattle.std.proofs.lemmas.List.{length-map, map_push, map_more}
+use Rattle.std.proofs.lemmas.List.{length-map}
 use Rattle.std.proofs.lemmas.List.Sorted.{IsPermutation-map}
-use Rattle.std.proofs.lemmas.Option.{slice_get-get_or, slice_get_within, get_or_from_slice_get, none-some}
 use Rattle.kt_tuple.specs.declared.tuple.Tuple.{Tuple}
 use Rattle.kt_tuple.specs.Spelling.{tuple_text}
 use Rattle.kt_scene.specs.Report.{AppendsTexts, count_line, text_line, items_of}
@@ -55,19 +54,6 @@ as_tuples (Ok x) word old new texts tuples are held =
     let P : List (List ℕ) → Type 0 = λ l. AppendsTexts word l old new in
     subst P are held
 as_tuples (Err e) word old new texts tuples are held = tt
-
--- one tuple more
-pub texts_more : (tuples : List Tuple) (i : ℕ) (u : Tuple) (texts new : List (Vec ℕ)) (text : Vec ℕ) → Some u ≡ slice_get tuples i
-    → items_of texts ≡ map tuple_text (take i tuples)
-    → new ≡ texts ++ text ∷ [] → text.items ≡ tuple_text u → items_of new ≡ map tuple_text (take (i + 1) tuples)
-texts_more tuples i u texts new text at so_far is one =
-    ap (λ (l : List (Vec ℕ)). items_of l) is ∙ map_push (λ (v : Vec ℕ). v.items) texts text ∙ ap (λ (l : List (List ℕ)). l ++ text.items ∷ []) so_far
-    ∙ ap (λ (x : List ℕ). map tuple_text (take i tuples) ++ x ∷ []) (one ∙ ap tuple_text (sym (get_or_from_slice_get tuples i u u (sym at))))
-    ∙ sym (map_more tuple_text tuples i u (slice_get_within tuples i u (sym at)))
-
--- there is a tuple at each place before the end
-pub no_tuple_past : (tuples : List Tuple) (i : ℕ) → None ≡ slice_get tuples i → i < length tuples → ⊥
-no_tuple_past tuples i none within = none-some (get_or tuples i []) (none ∙ slice_get-get_or tuples i [] within)
 
 -- what follows at Ok
 pub ok_then : {X E : Type 0} {P Q : Type 0} (r : Result X E) → (P → Q) → OnOk r P → OnOk r Q

@@ -122,8 +122,8 @@ fn push_tuples(
 fn push_bag(alloc: Global, out: &mut Vec<u8>, word: &[u8], bag: &Bag) -> Result<(), AllocError>
     ensures { OnOk result (AppendsTexts word.now (map tuple_text bag.now.tuples) out.old.items out.new.items) }
 {
-    let texts = texts_in(alloc, bag)?;
-    push_sorted(out, word, texts)
+    let tuples = bag.to_vec(alloc)?;
+    push_tuples(alloc, out, word, &tuples)
 }
 
 /// How many texts there are, and then each on a line, in rising order of their bytes.
@@ -153,19 +153,6 @@ fn texts_of(alloc: Global, tuples: &[Tuple]) -> Result<Vec<Vec<u8>>, AllocError>
     let mut texts = Vec::with_capacity(alloc, tuples.len())?;
     for tuple in tuples {
         texts.push(text_of(alloc, tuple)?)?;
-    }
-    Ok(texts)
-}
-
-/// The text of each tuple of the bag, in order of arrival.
-fn texts_in(alloc: Global, bag: &Bag) -> Result<Vec<Vec<u8>>, AllocError>
-    ensures { IfOk result (λ texts. items_of texts.items ≡ map tuple_text bag.now.tuples) }
-{
-    let mut texts = Vec::with_capacity(alloc, bag.len())?;
-    for place in 0..bag.len() {
-        if let Some(tuple) = bag.get(place) {
-            texts.push(text_of(alloc, tuple)?)?;
-        }
     }
     Ok(texts)
 }

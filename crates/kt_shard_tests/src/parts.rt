@@ -71,11 +71,8 @@ fn is_kept_alike(one: Option<&Kept>, other: Option<&Kept>) -> bool {
     }
 }
 
+/// Each worker waits with the same and has the same kept.
 fn assert_alike(rt: &impl Abort, one: &Shard, other: &Shard) {
-    assert_eq!(rt; one.bag().len(), other.bag().len());
-    for place in 0..one.bag().len() {
-        assert!(rt; one.bag().get(place) == other.bag().get(place));
-    }
     for worker in 0..=MAX_WORKERS {
         assert!(rt;
             waits_alike(one.waiting(worker), other.waiting(worker)),
@@ -95,6 +92,10 @@ fn is_made_again_of_its_parts(rt: HostRuntime) -> Result<(), Fail> {
     let made = made_again(rt.alloc(), &shard)?;
     assert_alike(&rt, &shard, &made);
     assert_eq!(rt; made.bag().len(), 2);
+    assert_eq!(rt;
+        made.bag().to_vec(rt.alloc())?,
+        shard.bag().to_vec(rt.alloc())?
+    );
     for (worker, waits, is_kept) in [(1, true, true), (3, true, false), (8, false, true)] {
         assert_eq!(rt; made.waiting(worker).is_some(), waits, "{worker}");
         assert_eq!(rt; made.kept(worker).is_some(), is_kept, "{worker}");

@@ -1,3 +1,14 @@
+pub mod Asked
+pub mod Bags
+pub mod Beside
+pub mod Filled
+pub mod Linked
 pub mod Matched
+pub mod Numbered
+pub mod Passing
 pub mod Picked
+pub mod Rechained
+pub mod Searched
+pub mod Stays
+pub mod Tables
 pub mod Taken

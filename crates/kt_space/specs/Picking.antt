@@ -1,7 +1,12 @@
 -- What a template picks from tuples in order of arrival.
-use Rattle.std.specs.Prelude.{◌≡◌, ℕ, zero, suc, if◌then◌else◌, List, [], ◌∷◌, ◌++◌, length, filter}
+use Rattle.std.specs.Prelude.{◌≡◌, ℕ, zero, suc, Bool, true, false, nat_eq, ◌&&◌, if◌then◌else◌, List, [], ◌∷◌, ◌++◌, length, filter}
 use Rattle.kt_tuple.specs.declared.tuple.Tuple.{Tuple}
+use Rattle.kt_tuple.specs.declared.value.Value.{Value}
+use Rattle.kt_tuple.specs.declared.template.Place.{Place}
+use Rattle.kt_tuple.specs.declared.template.Place.TheVariants.{Actual, Formal}
 use Rattle.kt_tuple.specs.declared.template.Template.{Template}
+use Rattle.kt_tuple.specs.Equality.{value_eq}
+use Rattle.kt_tuple.specs.Signature.{kinds_of, kinds_of_places, signature_of}
 use Rattle.kt_tuple.specs.Matching.{Matches, matches}
 
 -- the tuples that match, in order of arrival
@@ -22,3 +27,14 @@ pub record TakesOut (t : Template) (k : ℕ) (old : List Tuple) (u : Tuple) (new
   pub left : new ≡ before ++ later
   pub fits : Matches t u
   pub number : length (matching t before) ≡ k
+
+-- the first value is the one that the first place asks for, or it asks for none
+abbrev pub begins_alike : List Place → List Value → Bool
+begins_alike [] u = true
+begins_alike (Formal k ∷ places) u = true
+begins_alike (Actual v ∷ places) [] = false
+begins_alike (Actual v ∷ places) (w ∷ values) = value_eq v w
+
+-- the tuple has the template's kinds and, where the template's first place is an actual, that first value
+abbrev pub could_match : Template → Tuple → Bool
+could_match t u = nat_eq (signature_of (kinds_of_places t)) (signature_of (kinds_of u)) && begins_alike t u

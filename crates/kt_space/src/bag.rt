@@ -1,8 +1,11 @@
-ghost use Rattle.std.specs.Prelude.{◌≡◌, ◌<◌, ◌↔◌, ◌++◌, ◌∷◌, [], length, remove, slice_get, None};
-ghost use Rattle.std.specs.Prelude.{IsTrue, IsOk, IfOk, IfErr, IfSome, IfNone, OnOk, OnErr};
-ghost use Rattle.std.specs.Option.{option_copied};
-ghost use Rattle.kt_space.specs.Picking.{matching, without_match};
+ghost use Rattle.std.specs.Prelude.{◌≡◌, ◌≤◌, ◌↔◌, ◌++◌, ◌∷◌, [], length, filter, slice_get};
+ghost use Rattle.std.specs.Prelude.{IsTrue, IsOk, IfOk, IfErr, OnOk, OnErr, is_some, false};
+ghost use Rattle.std.specs.Option.{option_and_then, option_copied};
+ghost use Rattle.kt_space.specs.Picking.{could_match, matching, without_match};
+ghost use Rattle.kt_space.specs.Slots.{filled};
 
+use crate::index::Index;
+use crate::search::Search;
 use kt_tuple::{Template, Tuple};
 use std::alloc::{AllocError, AllocFailed, Global};
 use std::marker::Model;
@@ -10,18 +13,29 @@ use std::marker::Model;
 /// Tuples in order of arrival.
 #[derive(Debug, Drop)]
 pub struct Bag {
-    tuples: Vec<Tuple>,
+    /// The tuples in order of arrival. A slot whose tuple was taken stays, until the slots move together.
+    slots: Vec<Option<Tuple>>,
+    len: usize,
+    index: Index,
+    has_room: bool,
 }
 
 impl Model for Bag {
-    ghost use Rattle.std.specs.Prelude.{nat_lt, vec_len, vec_capacity};
+    ghost use Rattle.std.specs.Prelude.{◌<◌, ◌&&◌, IsTrue, vec_len, vec_capacity};
     ghost use Rattle.kt_space.specs.Holding.{Holding};
+    ghost use Rattle.kt_space.specs.Slots.{IsIndexed, filled};
 
     ghost Value = { Holding };
 
     ghost view = { λ b. record {
-      tuples = b.tuples.items;
-      has_room = nat_lt (vec_len b.tuples) (vec_capacity b.tuples);
+      tuples = filled b.slots.items;
+      has_room = b.has_room;
+    } };
+
+    ghost invariant = { λ b. record {
+      indexed : IsIndexed b.slots.items b.len b.index.by_kinds.keys b.index.by_first.keys;
+      room : IsTrue b.has_room → (vec_len b.slots < vec_capacity b.slots)
+          × IsTrue (b.index.by_kinds.has_room && b.index.by_first.has_room);
     } };
 }
 
@@ -31,7 +45,10 @@ impl Bag {
         ensures { result.tuples ≡ [] }
     {
         Bag {
-            tuples: Vec::new(alloc),
+            slots: Vec::new(alloc),
+            len: 0,
+            index: Index::new(alloc),
+            has_room: false,
         }
     }
 
@@ -39,21 +56,25 @@ impl Bag {
     pub fn len(&self) -> usize
         ensures { result ≡ length self.now.tuples }
     {
-        self.tuples.len()
+        self.len
     }
 
     /// Whether there is no tuple.
     pub fn is_empty(&self) -> bool
         ensures { IsTrue result ↔ (self.now.tuples ≡ []) }
     {
-        self.tuples.is_empty()
+        self.len == 0
     }
 
-    /// The tuple at this place, counted from 0 in order of arrival.
+    /// The tuple at this place, counted from 0 in order of arrival. After a `take_nth` it goes through the slots
+    /// up to the place, so a whole bag is read by `to_vec`.
     pub fn get(&self, place: usize) -> Option<&Tuple>
         ensures { option_copied result ≡ slice_get self.now.tuples place }
     {
-        self.tuples.get(place)
+        if self.len == self.slots.len() {
+            return tuple_at(&self.slots, Some(place));
+        }
+        nth_tuple(&self.slots, place)
     }
 
     /// Puts the tuple behind all others. Where memory is wanting it comes back, and the bag stays.
@@ -79,7 +100,29 @@ impl Bag {
         ensures unchanged { OnErr result (self.new ≡ self.old) }
         ensures succeeds { IsTrue self.old.has_room → IsOk result }
     {
-        self.tuples.reserve(1)
+        if self.has_room {
+            return Ok(());
+        }
+        if self.slots.len() == self.slots.capacity() && self.len <= self.slots.len() / 2 {
+            self.tidy()?;
+        }
+        self.slots.reserve(1)?;
+        self.index.reserve()?;
+        self.has_room = true;
+        Ok(())
+    }
+
+    /// Moves the slots together, and forgets what was only asked for by tuples that are gone.
+    fn tidy(&mut self) -> Result<(), AllocError>
+        ensures tuples { self.new.tuples ≡ self.old.tuples }
+        ensures room { OnOk result (self.new.has_room ≡ false) }
+        ensures unchanged { OnErr result (self.new ≡ self.old) }
+    {
+        let index = Index::of(*self.slots.allocator(), &self.slots)?;
+        drop_empty(&mut self.slots);
+        self.index = index;
+        self.has_room = false;
+        Ok(())
     }
 
     /// Puts the tuple behind all others, where room was made for it.
@@ -87,25 +130,37 @@ impl Bag {
         requires { IsTrue self.old.has_room }
         ensures { self.new.tuples ≡ self.old.tuples ++ tuple ∷ [] }
     {
-        self.tuples.push_reserved(tuple);
+        self.index.push(&tuple);
+        self.slots.push_reserved(Some(tuple));
+        // There are no more tuples than slots.
+        let _slots = self.slots.len();
+        self.len += 1;
+        self.has_room = false;
     }
 
     /// How many tuples match.
     pub fn count_matches(&self, template: &Template) -> usize
         ensures { result ≡ length (matching template.now self.now.tuples) }
     {
-        self.tuples
-            .iter()
-            .filter(|tuple| template.matches(tuple))
-            .count()
+        let most = self.slots.len();
+        most - Search::new(&self.slots, &self.index, template, most).left
     }
 
     /// The match of this number, counted from 0 in order of arrival, or `None` where there are fewer.
     pub fn nth_match(&self, template: &Template, number: usize) -> Option<&Tuple>
         ensures { option_copied result ≡ slice_get (matching template.now self.now.tuples) number }
     {
-        let place = place_of(&self.tuples, template, number)?;
-        Some(&self.tuples[place])
+        self.nth_match_counted(template, number).0
+    }
+
+    /// The match of this number, and how many tuples were compared with the template: at most those with
+    /// the template's kinds and, where its first place is an actual, that first value.
+    pub fn nth_match_counted(&self, template: &Template, number: usize) -> (Option<&Tuple>, u64)
+        ensures value { option_copied result.0 ≡ slice_get (matching template.now self.now.tuples) number }
+        ensures few { result.1 ≤ length (filter (could_match template.now) self.now.tuples) }
+    {
+        let search = Search::new(&self.slots, &self.index, template, number);
+        (tuple_at(&self.slots, search.place), search.compared)
     }
 
     /// Takes out what `nth_match` gives. The others keep their order.
@@ -114,34 +169,71 @@ impl Bag {
         ensures left { self.new.tuples ≡ without_match template.now number self.old.tuples }
         ensures room { IsTrue self.old.has_room → IsTrue self.new.has_room }
     {
-        let place = place_of(&self.tuples, template, number)?;
-        Some(self.tuples.remove(place))
+        let place = Search::new(&self.slots, &self.index, template, number).place?;
+        let taken = self.slots[place].take();
+        self.index.remove(place);
+        self.len -= 1;
+        taken
+    }
+
+    /// Equal tuples in the same order.
+    pub fn to_vec(&self, alloc: Global) -> Result<Vec<Tuple>, AllocError>
+        ensures { IfOk result (λ tuples. tuples.items ≡ self.now.tuples) }
+    {
+        tuples_of(alloc, &self.slots, self.len)
     }
 
     /// A bag of equal tuples in the same order.
     pub fn copy(&self, alloc: Global) -> Result<Bag, AllocError>
         ensures { IfOk result (λ bag. bag.tuples ≡ self.now.tuples) }
     {
-        Ok(Bag {
-            tuples: copy_tuples(alloc, &self.tuples)?,
-        })
+        copy_of(alloc, &self.slots)
     }
 }
 
-/// Where the match of this number stands.
-fn place_of(tuples: &[Tuple], template: &Template, number: usize) -> Option<usize>
-    ensures within { IfSome result (λ place. place < length tuples.now) }
-    ensures match_there { IfSome result (λ place.
-        slice_get tuples.now place ≡ slice_get (matching template.now tuples.now) number) }
-    ensures others { IfSome result (λ place. remove tuples.now place ≡ without_match template.now number tuples.now) }
-    ensures fewer { IfNone result (slice_get (matching template.now tuples.now) number ≡ None) }
-    ensures all { IfNone result (without_match template.now number tuples.now ≡ tuples.now) }
+/// The tuple of the slot, where there is a slot.
+fn tuple_at(slots: &[Option<Tuple>], place: Option<usize>) -> Option<&Tuple>
+    ensures { option_copied result ≡ option_and_then (λ p. option_and_then (λ s. s) (slice_get slots.now p)) place }
+{
+    slots.get(place?)?.as_ref()
+}
+
+/// Equal tuples, of which there are so many.
+fn tuples_of(alloc: Global, slots: &[Option<Tuple>], len: usize) -> Result<Vec<Tuple>, AllocError>
+    ensures { IfOk result (λ tuples. tuples.items ≡ filled slots.now) }
+{
+    let mut tuples = Vec::with_capacity(alloc, len)?;
+    for slot in slots {
+        if let Some(tuple) = slot {
+            tuples.push(tuple.copy(alloc)?)?;
+        }
+    }
+    Ok(tuples)
+}
+
+fn copy_of(alloc: Global, slots: &[Option<Tuple>]) -> Result<Bag, AllocError>
+    ensures { IfOk result (λ bag. bag.tuples ≡ filled slots.now) }
+{
+    let mut bag = Bag::new(alloc);
+    for slot in slots {
+        if let Some(tuple) = slot {
+            let copy = tuple.copy(alloc)?;
+            bag.reserve()?;
+            bag.put_reserved(copy);
+        }
+    }
+    Ok(bag)
+}
+
+/// The tuple of this number, counted over the slots that are not empty.
+fn nth_tuple(slots: &[Option<Tuple>], number: usize) -> Option<&Tuple>
+    ensures { option_copied result ≡ slice_get (filled slots.now) number }
 {
     let mut before = number;
-    for (place, tuple) in tuples.iter().enumerate() {
-        if template.matches(tuple) {
+    for slot in slots {
+        if let Some(tuple) = slot {
             if before == 0 {
-                return Some(place);
+                return Some(tuple);
             }
             before -= 1;
         }
@@ -149,12 +241,8 @@ fn place_of(tuples: &[Tuple], template: &Template, number: usize) -> Option<usiz
     None
 }
 
-fn copy_tuples(alloc: Global, tuples: &[Tuple]) -> Result<Vec<Tuple>, AllocError>
-    ensures { IfOk result (λ copies. copies.items ≡ tuples.now) }
+fn drop_empty(slots: &mut Vec<Option<Tuple>>)
+    ensures { slots.new.items ≡ filter (λ s. is_some s) slots.old.items }
 {
-    let mut copies = Vec::with_capacity(alloc, tuples.len())?;
-    for tuple in tuples {
-        copies.push(tuple.copy(alloc)?)?;
-    }
-    Ok(copies)
+    slots.retain(|slot| slot.is_some());
 }

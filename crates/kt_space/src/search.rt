@@ -1,0 +1,96 @@
+//! The search for a match.
+
+ghost use Rattle.std.specs.Prelude.{◌≡◌, ◌+◌, ◌≤◌, length, filter, true, Some, IfSome, IfNone};
+ghost use Rattle.std.specs.List.{slice_get};
+ghost use Rattle.kt_tuple.specs.Matching.{matches};
+ghost use Rattle.kt_space.specs.Grouping.{first_key, kinds_key};
+ghost use Rattle.kt_space.specs.Picking.{could_match, matching};
+ghost use Rattle.kt_space.specs.Slots.{IsAsked, IsFound, filled, keyed, passing, slot_matches};
+
+use crate::groups::Groups;
+use crate::index::Index;
+use crate::key::Key;
+use kt_tuple::{Template, Tuple};
+
+/// What a search came to.
+#[derive(Clone, Copy, Debug)]
+pub(crate) struct Search {
+    /// Where the match stands.
+    pub(crate) place: Option<usize>,
+    /// How many matches more it would have had to pass, where there are too few.
+    pub(crate) left: usize,
+    /// How many tuples it compared with the template.
+    pub(crate) compared: u64,
+}
+
+impl Search {
+    /// The search for the match of this number, among the tuples that the template's key stands for.
+    pub(crate) fn new(
+        slots: &[Option<Tuple>],
+        index: &Index,
+        template: &Template,
+        number: usize,
+    ) -> Search
+        requires kinds { index.now.by_kinds.keys ≡ keyed kinds_key slots.now }
+        requires firsts { index.now.by_first.keys ≡ keyed first_key slots.now }
+        ensures found { IfSome result.place (λ place. IsFound slots.now template.now number place) }
+        ensures fewer { IfNone result.place (length (matching template.now (filled slots.now)) + result.left ≡ number) }
+        ensures none_left { IfSome result.place (λ place. result.left ≡ 0) }
+        ensures few { result.compared ≤ length (filter (could_match template.now) (filled slots.now)) }
+    {
+        let key = Key::of_template(template);
+        if key.has_first() {
+            among(slots, &index.by_first, &key, template, number)
+        } else {
+            among(slots, &index.by_kinds, &key, template, number)
+        }
+    }
+}
+
+/// The search among the tuples that have the key.
+fn among(
+    slots: &[Option<Tuple>],
+    groups: &Groups,
+    key: &Key,
+    template: &Template,
+    number: usize,
+) -> Search
+    requires { IsAsked slots.now groups.now.keys key.now template.now }
+    ensures found { IfSome result.place (λ place. IsFound slots.now template.now number place) }
+    ensures fewer { IfNone result.place (length (matching template.now (filled slots.now)) + result.left ≡ number) }
+    ensures none_left { IfSome result.place (λ place. result.left ≡ 0) }
+    ensures few { result.compared ≤ length (filter (could_match template.now) (filled slots.now)) }
+{
+    let mut left = number;
+    let mut compared: u64 = 0;
+    let mut next = groups.first(key);
+    while let Some(place) = next {
+        compared = compared.saturating_add(1);
+        if fits(template, slots, place) {
+            if left == 0 {
+                return Search {
+                    place: Some(place),
+                    left,
+                    compared,
+                };
+            }
+            left -= 1;
+        }
+        next = groups.next(place);
+    }
+    Search {
+        place: None,
+        left,
+        compared,
+    }
+}
+
+/// The one call that compares a tuple with a template.
+fn fits(template: &Template, slots: &[Option<Tuple>], place: usize) -> bool
+    ensures { result ≡ slot_matches template.now (slice_get slots.now place) }
+{
+    match slots.get(place) {
+        Some(Some(tuple)) => template.matches(tuple),
+        _ => false,
+    }
+}
