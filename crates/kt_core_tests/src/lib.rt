@@ -5,6 +5,10 @@
 #[cfg(test)]
 mod calls;
 #[cfg(test)]
+mod fault_lines;
+#[cfg(test)]
+mod lending;
+#[cfg(test)]
 mod making;
 #[cfg(test)]
 mod memory;

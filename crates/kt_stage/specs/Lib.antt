@@ -1,0 +1,6 @@
+pub mod Order
+pub mod Traffic
+pub mod Policy
+pub mod Asking
+pub mod Journal
+pub mod Acting

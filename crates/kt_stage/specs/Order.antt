@@ -1,0 +1,22 @@
+-- Node order: first the workers, then the shards, each by their numbers.
+use Rattle.std.specs.Prelude.{Bool, true, false, nat_lt, List, [], ◌∷◌, ◌++◌}
+use Rattle.kt_tuple.specs.declared.node.NodeId.{NodeId}
+use Rattle.kt_tuple.specs.declared.node.NodeId.TheVariants.{Worker, Shard}
+
+-- the names that a scene can have, in node order
+abbrev pub workers : List NodeId
+workers =
+    Worker 1 ∷ Worker 2 ∷ Worker 3 ∷ Worker 4 ∷ Worker 5 ∷ Worker 6 ∷ Worker 7 ∷ Worker 8 ∷ []
+
+abbrev pub shards : List NodeId
+shards = Shard 1 ∷ Shard 2 ∷ Shard 3 ∷ Shard 4 ∷ Shard 5 ∷ Shard 6 ∷ Shard 7 ∷ Shard 8 ∷ []
+
+abbrev pub names : List NodeId
+names = workers ++ shards
+
+-- p comes before q
+abbrev pub is_before : NodeId → NodeId → Bool
+is_before (Worker m) (Worker n) = nat_lt m n
+is_before (Worker m) (Shard n) = true
+is_before (Shard m) (Worker n) = false
+is_before (Shard m) (Shard n) = nat_lt m n
