@@ -1,0 +1,10 @@
+pub mod CallLemmas
+pub mod FoundLemmas
+pub mod MadeLemmas
+pub mod PutLemmas
+pub mod ReadLemmas
+pub mod RowLemmas
+pub mod StateLemmas
+pub mod StoreLemmas
+pub mod Texts
+pub mod WriteLemmas

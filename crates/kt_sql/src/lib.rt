@@ -1,0 +1,16 @@
+//! The store in SQL: checkpoints, incarnations and verdicts in tables that a person can read.
+#![tactic(auto)]
+
+mod calls;
+mod cells;
+mod error;
+mod ids;
+mod number;
+mod open;
+mod reads;
+mod rows;
+mod statements;
+mod store;
+
+pub use error::SqlOpenError;
+pub use store::SqlStore;
