@@ -31,9 +31,10 @@ made_from so_far (step ∷ later) = made_from (then_made so_far step) later
 abbrev pub all_made : State → List Step → Result State StepError
 all_made s steps = made_from (Ok s) steps
 
--- the steps were made, one after the other, from the first state to the world as it is, while its store is honest
-abbrev pub Replays : State → Standing → List Step → Type 0
-Replays opening world steps = IsTrue world.is_honest → all_made opening steps ≡ Ok world.state
+-- while the store is honest, as it was then too, the steps lead from the one world to the other, each of them made
+abbrev pub Replays : Standing → Standing → List Step → Type 0
+Replays opening world steps =
+    IsTrue world.is_honest → IsTrue opening.is_honest × (all_made opening.state steps ≡ Ok world.state)
 
 -- each step is of a node of the scene
 abbrev pub are_owned : Cast → List Step → Bool
@@ -55,3 +56,7 @@ receipts_of p number (step ∷ later) =
 pub record Held : Type 0 where
   pub node : NodeId
   pub receipts : List Receipt
+
+-- the seat of a node that has made no step
+abbrev pub empty_seat : NodeId → Held
+empty_seat p = record { node = p; receipts = [] }

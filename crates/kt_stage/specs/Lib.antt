@@ -4,3 +4,4 @@ pub mod Policy
 pub mod Asking
 pub mod Journal
 pub mod Acting
+pub mod Closing

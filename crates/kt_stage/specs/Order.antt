@@ -1,7 +1,8 @@
 -- Node order: first the workers, then the shards, each by their numbers.
-use Rattle.std.specs.Prelude.{Bool, true, false, nat_lt, List, [], ◌∷◌, ◌++◌}
+use Rattle.std.specs.Prelude.{Bool, true, false, nat_lt, filter, List, [], ◌∷◌, ◌++◌}
 use Rattle.kt_tuple.specs.declared.node.NodeId.{NodeId}
 use Rattle.kt_tuple.specs.declared.node.NodeId.TheVariants.{Worker, Shard}
+use Rattle.kt_world.specs.Cast.{Cast, is_node}
 
 -- the names that a scene can have, in node order
 abbrev pub workers : List NodeId
@@ -13,6 +14,10 @@ shards = Shard 1 ∷ Shard 2 ∷ Shard 3 ∷ Shard 4 ∷ Shard 5 ∷ Shard 6 ∷
 
 abbrev pub names : List NodeId
 names = workers ++ shards
+
+-- the nodes of a scene, in node order
+abbrev pub nodes_of : Cast → List NodeId
+nodes_of cast = filter (is_node cast) names
 
 -- p comes before q
 abbrev pub is_before : NodeId → NodeId → Bool

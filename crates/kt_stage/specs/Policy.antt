@@ -1,7 +1,7 @@
 -- What a node does next of itself, while a scenario of fault lines is run: the step of the first rule that applies to
 -- it. A step is allowed where it is enabled, the limit of steps left aside.
 use Rattle.std.specs.Prelude.{ℕ, ◌==◌, Bool, true, false, not, ◌&&◌, ◌||◌, if◌then◌else◌, List, [], ◌∷◌}
-use Rattle.std.specs.Prelude.{Option, None, Some, is_some}
+use Rattle.std.specs.Prelude.{Option, None, Some, fold, is_some}
 use Rattle.std.specs.List.{find, list_all, list_any}
 use Rattle.std.specs.Option.{option_map}
 use Rattle.kt_tuple.specs.declared.node.NodeId.{NodeId}
@@ -32,7 +32,7 @@ use Rattle.kt_world.specs.Cast.{is_node}
 use Rattle.kt_world.specs.State.{State, view}
 use Rattle.kt_core.specs.declared.faults.FaultKind.TheVariants as kinds
 use Rattle.kt_core.specs.declared.faults.FaultLine.{FaultLine}
-use Rattle.kt_core.specs.Faults.{is_due}
+use Rattle.kt_core.specs.Faults.{is_due, spent}
 use Rattle.kt_core.specs.Lent.{is_allowed, message_at, shard, worker}
 use Rattle.kt_stage.specs.declared.traffic.Sought.TheVariants as soughts
 use Rattle.kt_stage.specs.declared.policy.Rule.{Rule}
@@ -260,3 +260,7 @@ if_unfinished s lines p = if is_some (next_step s lines p) then Some p else None
 -- the first node, in node order, that has a next step
 abbrev pub first_unfinished : State → List FaultLine → Option NodeId
 first_unfinished s lines = first_some (if_unfinished s lines) names
+
+-- the fault lines that are left after these steps
+abbrev pub spent_by : List FaultLine → List Step → List FaultLine
+spent_by lines steps = fold spent lines steps

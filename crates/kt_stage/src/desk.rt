@@ -3,28 +3,32 @@
 ghost use Rattle.std.specs.Prelude.{◌≡◌, ◌++◌, ◌∷◌, [], length, true, vec_len, IfErr, IfOk, IsTrue, Ok, OnErr, OnOk};
 ghost use Rattle.kt_core.specs.World.{beside};
 ghost use Rattle.kt_stage.specs.Acting.{IsOthers};
+ghost use Rattle.kt_stage.specs.Asking.{IsAsked};
 ghost use Rattle.kt_stage.specs.Journal.{Replays, are_owned, receipt};
+ghost use Rattle.kt_stage.specs.Policy.{next_step};
 ghost use Rattle.kt_world.specs.Effect.{step_result};
 ghost use Rattle.kt_world.specs.Step.{owner};
 
 use crate::error::ActError;
 use crate::journal::Journal;
 use crate::naming::Naming;
+use crate::policy::next_for;
 use crate::seat::{Receipt, Seat};
-use kt_core::{Step, StepError};
-use kt_store::CkptStore;
+use kt_core::{Faults, Step, StepError};
+use kt_store::{CkptStore, StoreError};
+use kt_tuple::NodeId;
 use std::alloc::Global;
 use std::sync::ledger::Book;
 
 /// The journal of the stage that L names, and the book of its ledger. While the store is honest the world is what the
-/// steps lead to from the state that the stage was opened with; the book's total is their number.
+/// steps lead to from the world that the stage was opened with; the book's total is their number.
 #[derive(Drop)]
 pub struct Desk<S: CkptStore, L: Naming> {
     pub(crate) journal: Journal<S>,
     pub(crate) book: Book<L>,
     ghost replays: { Replays L.opening journal.world journal.steps },
     ghost counted: { book.total ≡ length journal.steps },
-    ghost owned: { are_owned L.opening.cast journal.steps ≡ true },
+    ghost owned: { are_owned L.opening.state.cast journal.steps ≡ true },
 }
 
 impl<S: CkptStore> Journal<S> {
@@ -47,6 +51,20 @@ impl<S: CkptStore> Journal<S> {
 }
 
 impl<S: CkptStore, L: Naming> Desk<S, L> {
+    /// What the policy gives the node next, where the fault lines are spent so. The journal stays.
+    pub(crate) fn next_for(
+        &mut self,
+        alloc: Global,
+        faults: &Faults,
+        node: NodeId,
+    ) -> Result<Option<Step>, StoreError>
+        ensures next { IsAsked self.old.journal.world self.new.journal.world (λ s x. x ≡ next_step s faults.now node) result }
+        ensures steps { self.new.journal.steps ≡ self.old.journal.steps }
+    {
+        let Desk { journal, .. } = self;
+        next_for(&mut journal.world, alloc, faults, node)
+    }
+
     /// Makes the step of the seat's node, and gives the receipt that the seat keeps then. A refusal leaves the seat and
     /// the journal: `NotOwner` comes only where the step is another node's.
     pub fn act(

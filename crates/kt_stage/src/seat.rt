@@ -35,14 +35,14 @@ impl<L: Naming> Model for Seat<L> {
     ghost view = { λ s. record { node = s.node; receipts = s.receipts.items } };
 
     ghost invariant = { λ s. (s.share.parts ≡ 1) × (s.share.amount ≡ vec_len s.receipts)
-        × IsTrue (is_node L.opening.cast s.node) };
+        × IsTrue (is_node L.opening.state.cast s.node) };
 }
 
 impl<L: Naming> Seat<L> {
     /// Whose seat it is.
     pub fn node(&self) -> NodeId
         ensures value { result ≡ self.now.node }
-        ensures there { IsTrue (is_node L.opening.cast self.now.node) }
+        ensures there { IsTrue (is_node L.opening.state.cast self.now.node) }
     {
         self.node
     }
