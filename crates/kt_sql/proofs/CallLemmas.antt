@@ -32,6 +32,7 @@ use Rattle.kt_store.specs.declared.rows.Verdict.TheVariants.{Open}
 use Rattle.kt_sql.proofs.StateLemmas.{Stays, executed_open, refused_stays, written_settled}
 use Rattle.kt_sql.specs.Both.{RanBoth}
 use Rattle.kt_sql.proofs.StoreLemmas.{stayed, wrote}
+use Rattle.kt_sql.proofs.OrderLemmas.{all_inserted}
 use Rattle.kt_sql.proofs.WriteLemmas.{put_node_does, put_posted_does}
 use Rattle.kt_sql.proofs.FoundLemmas.{node_found, some_node_found, posted_found, open_found, last_found, found_is}
 use Rattle.kt_sql.proofs.ReadLemmas.{downwards, first_or_0, first_is_greatest}
@@ -100,14 +101,6 @@ module _ {S : Type 0} (g : Ghosts S) (s : Stored S) (kept : IsKept g s) where
       (all_weaker _ _ (λ p good. ap (λ b. b && is_open p.verdict) (other p.initiator node good.initiator none)) _ kept.holds.said.board)
 
 -- ---- the first of the rows, where the greatest number comes first
-
-all_inserted : {X : Type 0} (P : X → Type 0) (cmp : X → X → Ordering) (x : X) (xs : List X) → P x → AllByRecursion P xs → AllByRecursion P (insert_sorted cmp x xs)
-all_inserted P cmp x [] h all = (h, tt)
-all_inserted {X} P cmp x (y ∷ ys) h all = there (is_gt (cmp x y)) (all_inserted P cmp x ys h all.1)
-  where
-    there : (b : Bool) → AllByRecursion P (insert_sorted cmp x ys) → AllByRecursion P (cond b (y ∷ insert_sorted cmp x ys) (x ∷ y ∷ ys))
-    there true later = (all.0, later)
-    there false later = (h, all)
 
 all_sorted : {X : Type 0} (P : X → Type 0) (cmp : X → X → Ordering) (xs : List X) → AllByRecursion P xs → AllByRecursion P (sort_by cmp xs)
 all_sorted P cmp [] h = tt

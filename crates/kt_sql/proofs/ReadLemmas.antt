@@ -1,5 +1,5 @@
 -- What the queries give of what the tables hold.
-use Rattle.std.proofs.Common.{◌≡◌, ℕ, zero, suc, ◌+◌, ◌<◌, ◌≤◌, ℤ, pos, negsuc, max, ltb, Bool, true, false, ◌&&◌, cond, List, [], ◌∷◌, map, map-id, filter, fold, find, take, slice_get, option_map, Option, None, Some, refl, sym, ap, ap₂, subst, ◌∙◌, arith, Less, Equal, Greater, int_cmp, Ordering}
+use Rattle.std.proofs.Common.{◌≡◌, ℕ, zero, suc, ◌+◌, ◌<◌, ◌≤◌, ℤ, pos, negsuc, max, ltb, Bool, true, false, ◌&&◌, cond, List, [], ◌∷◌, map, map-id, filter, fold, find, take, slice_get, option_map, flat_map, Option, None, Some, refl, sym, ap, ap₂, subst, ◌∙◌, arith, Less, Equal, Greater, int_cmp, Ordering, IsPermutation}
 use Rattle.std.specs.Prelude.{nat_lt}
 use Rattle.std.specs.List.{AllByRecursion, list_all}
 use Rattle.std.specs.Ordering.{int_eq, is_eq, is_gt}
@@ -8,23 +8,25 @@ use Rattle.sqlite_value.specs.declared.value.Value.{Value}
 use Rattle.sqlite_value.specs.declared.value.Value.TheVariants.{Null, Int}
 use Rattle.sqlite_value.specs.declared.keys.Key.{Key}
 use Rattle.sqlite_value.specs.Order.{Row, column}
+use Rattle.sqlite_value.specs.Order.{value_cmp}
 use Rattle.sqlite_value.proofs.OrderLemmas.{value_cmp-Int}
+use Rattle.std.proofs.lemmas.List.Sorted.{IsPermutation-trans, IsPermutation-map}
 use Rattle.sqlite_trees.specs.Tree.{Trees, IsAscending}
 use Rattle.sqlite_sql.specs.declared.ops.CompareOp.TheVariants.{Eq}
 use Rattle.sqlite_sql.specs.Term.{Term, holds, eval_all}
-use Rattle.sqlite_sql.specs.Query.{Query, IsAnswer, output, output_cmp, page, inner, end}
+use Rattle.sqlite_sql.specs.Query.{Query, IsAnswer, Output, matches, output, output_cmp, page, inner, end}
 use Rattle.std.proofs.lemmas.Option.{slice_get-map}
 use Rattle.sqlite_sql.specs.Program.{overlay}
 use Rattle.sqlite.specs.State.{State, Shown}
 use Rattle.sqlite.proofs.Callers.{reads_as}
 use Rattle.sqlite_keyed.specs.Keyed.{IsKeyedBy}
 use Rattle.sqlite_keyed.specs.Lists.{sort_by, insert_sorted}
-use Rattle.sqlite_keyed.proofs.ListLemmas.{ascending_weaker, filter_all, all_of, slice_get-filter}
+use Rattle.sqlite_keyed.proofs.ListLemmas.{ascending_weaker, filter_all, all_of, slice_get-filter, map-map, map_same, map-flat_map, flat_map-map, flat_map_same_on, IsPermutation-flat_map}
 use Rattle.sqlite_typed.proofs.TestLemmas.{at_ints, last_key}
 use Rattle.sqlite_typed.proofs.AnswerLemmas.{Source, last_table, at_end, answer_by_keys, answer_sorted, no_tie, IsNoTie}
 use Rattle.kt_sql.specs.Schema.{kt_schema}
-use Rattle.kt_sql.specs.Rows.{whole, id_of}
 use Rattle.kt_sql.proofs.Texts.{Asks, from_table, rising, falling}
+use Rattle.kt_sql.proofs.Tables.{Table, widened}
 
 -- the rows of a query are an answer to it
 pub answered : (sql : List ℕ) (params : Row) (old new : State) (q : Query) (names : List (List ℕ)) → Asks sql q names → old.now.schema ≡ kt_schema
@@ -36,28 +38,91 @@ answered sql params old new q names asks has rows h =
 turned : (a b : ℤ) → int_cmp a b ≡ Less → is_eq (int_cmp b a) ≡ false
 turned a b h = grind (arith, ints, h)
 
-module _ {X : Type 0} (tree : ℕ) (stored given : X → Row) (key : X → ℤ) (keyed : (x : X) → column (stored x) 0 ≡ Int (key x)) (columns : List Term)
-    (shows : (params : Row) (x : X) → eval_all columns (params ∷ stored x ∷ []) ≡ given x) (db : Trees) (xs : List X) (is : db tree ≡ map stored xs) (rise : IsKeyedBy key xs) where
+-- ---- an answer is that of the rows in any order
+
+if_passed : {A B : Type 0} (f : A → B) (b : Bool) (a : A) → map f (cond b (a ∷ []) []) ≡ cond b (f a ∷ []) []
+if_passed f true a = refl
+if_passed f false a = refl
+
+module _ {X : Type 0} (t : Table X) (db : Trees) (xs : List X) (bag : IsPermutation (map t.given xs) (map t.shown (db t.tree))) where
+  abbrev seen : Row → Row
+  seen r = widened (t.shown r)
+
+  pub stored_bag : IsPermutation (map t.stored xs) (map seen (db t.tree))
+  stored_bag =
+      subst (λ l. IsPermutation l (map seen (db t.tree))) (map-map widened t.given xs ∙ map_same (λ x. widened (t.given x)) t.stored t.opens xs)
+      (subst (IsPermutation (map widened (map t.given xs))) (map-map widened t.shown (db t.tree)) (IsPermutation-map widened _ _ bag))
+
+  module _ (tests : List Term) (key : Key) (limit : ℤ) (params : Row)
+      (alike : (r : Row) → list_all (holds (params ∷ r ∷ [])) tests ≡ list_all (holds (params ∷ seen r ∷ [])) tests) where
+    abbrev asked : Query
+    asked = from_table t.tree tests t.columns key limit
+
+    abbrev sorted_db : Trees
+    sorted_db tree = map t.stored xs
+
+    abbrev outs : Row → List Output
+    outs r = cond (list_all (holds (params ∷ r ∷ [])) tests) (output asked (params ∷ r ∷ []) ∷ []) []
+
+    same_outs : (r : Row) → outs r ≡ outs (seen r)
+    same_outs r =
+        ap₂ (λ b (o : Output). cond b (o ∷ []) []) (alike r) (ap₂ (λ v (row : Row). let out : Output = (v ∷ [], row) in out) (t.first r) (t.seen params r))
+
+    all_outs : (d : Trees) → map (output asked) (matches d tests (inner t.tree end) (params ∷ [])) ≡ flat_map outs (d t.tree)
+    all_outs d = map-flat_map (output asked) _ (d t.tree) ∙ flat_map_same_on _ outs (λ r. if_passed (output asked) _ _) (d t.tree)
+
+    pub answer_of : (rows : List Row) → IsAnswer asked db params rows → IsAnswer asked sorted_db params rows
+    answer_of rows answer =
+        let mixed = IsPermutation-flat_map outs (map t.stored xs) (map seen (db t.tree)) stored_bag in
+        let whole_bag : map (output asked) (matches db tests (inner t.tree end) (params ∷ [])) ≡ flat_map outs (map seen (db t.tree)) =
+        all_outs db ∙ flat_map_same_on outs (λ r. outs (seen r)) same_outs (db t.tree) ∙ sym (flat_map-map outs seen (db t.tree)) in
+        let kept = answer.distinct ∙ ap (map (output asked)) answer.grouped ∙ whole_bag in
+        record {
+          staged = matches sorted_db tests (inner t.tree end) (params ∷ []);
+          grouped = refl;
+          kept = map (output asked) (matches sorted_db tests (inner t.tree end) (params ∷ []));
+          distinct = refl;
+          ordered = answer.ordered;
+          same = IsPermutation-trans _ _ _ (subst (λ l. IsPermutation l (flat_map outs (map seen (db t.tree)))) (sym (all_outs sorted_db)) mixed)
+          (subst (λ l. IsPermutation l answer.ordered) kept answer.same);
+          sorted = answer.sorted;
+          shown = answer.shown;
+        }
+
+module _ {X : Type 0} (t : Table X) (db : Trees) (xs : List X) (bag : IsPermutation (map t.given xs) (map t.shown (db t.tree))) (rise : IsKeyedBy (λ x. pos (t.number x)) xs) where
+  abbrev key_of : X → ℤ
+  key_of x = pos (t.number x)
+
+  abbrev in_place : Trees
+  in_place tree = map t.stored xs
+
+  by_keys : (a b : X) → int_cmp (key_of a) (key_of b) ≡ value_cmp (column (t.stored a) 0) (column (t.stored b) 0)
+  by_keys a b = sym (rw (t.numbered a, t.numbered b) (value_cmp-Int (key_of a) (key_of b)))
+
   -- those that pass, in the order of their keys
-  pub in_order : (tests : List Term) (limit : ℤ) (params : Row) (p : X → Bool) → ((x : X) → list_all (holds (params ∷ stored x ∷ [])) tests ≡ p x)
-      → (rows : List Row) → IsAnswer (from_table tree tests columns rising limit) db params rows
-      → rows ≡ page (from_table tree tests columns rising limit) params (map given (filter p xs))
-  in_order tests limit params p passes rows answer =
-      let q = from_table tree tests columns rising limit in
-      let source = last_table db tree stored key xs is rise (at_end db) in
-      sym (map-id rows) ∙ answer_by_keys q db params source p passes (λ r. r) given (shows params) refl refl (λ a b. last_key (rw (keyed a, keyed b) (value_cmp-Int (key a) (key b)))) rows answer
+  pub in_order : (tests : List Term) (limit : ℤ) (params : Row) (p : X → Bool)
+      → ((r : Row) → list_all (holds (params ∷ r ∷ [])) tests ≡ list_all (holds (params ∷ widened (t.shown r) ∷ [])) tests)
+      → ((x : X) → list_all (holds (params ∷ t.stored x ∷ [])) tests ≡ p x)
+      → (rows : List Row) → IsAnswer (from_table t.tree tests t.columns rising limit) db params rows
+      → rows ≡ page (from_table t.tree tests t.columns rising limit) params (map t.given (filter p xs))
+  in_order tests limit params p alike passes rows answer =
+      let q = from_table t.tree tests t.columns rising limit in
+      let source = last_table in_place t.tree t.stored key_of xs refl rise (at_end in_place) in
+      let sorted = answer_of t db xs bag tests rising limit params alike rows answer in
+      sym (map-id rows) ∙ answer_by_keys q in_place params source p passes (λ r. r) t.given (t.shows params) refl refl (λ a b. last_key (sym (by_keys a b))) rows sorted
 
   -- all of them, the last key first
-  pub from_last : (limit : ℤ) (params : Row) (rows : List Row) → IsAnswer (from_table tree [] columns falling limit) db params rows
-      → rows ≡ page (from_table tree [] columns falling limit) params (map given (sort_by (λ a b. int_cmp (key b) (key a)) xs))
+  pub from_last : (limit : ℤ) (params : Row) (rows : List Row) → IsAnswer (from_table t.tree [] t.columns falling limit) db params rows
+      → rows ≡ page (from_table t.tree [] t.columns falling limit) params (map t.given (sort_by (λ a b. int_cmp (key_of b) (key_of a)) xs))
   from_last limit params rows answer =
-      let q = from_table tree [] columns falling limit in
-      let source = last_table db tree stored key xs is rise (at_end db) in
-      let order : X → X → Ordering = λ a b. int_cmp (key b) (key a) in
-      let untied : (a b : X) → int_cmp (key a) (key b) ≡ Less → IsNoTie (order a b) = λ a b h. record { apart = turned (key a) (key b) h } in
-      sym (map-id rows) ∙ answer_sorted q db params source (λ _. true) (λ _. refl) (λ r. r) given (shows params) refl refl order untied
-      (λ a b. last_key (rw (keyed a, keyed b) (value_cmp-Int (key b) (key a)))) rows answer
-      ∙ ap (λ l. page q params (map given (sort_by order l))) (filter_all (λ _. true) xs (all_of _ (λ _. refl) xs))
+      let q = from_table t.tree [] t.columns falling limit in
+      let source = last_table in_place t.tree t.stored key_of xs refl rise (at_end in_place) in
+      let order : X → X → Ordering = λ a b. int_cmp (key_of b) (key_of a) in
+      let untied : (a b : X) → int_cmp (key_of a) (key_of b) ≡ Less → IsNoTie (order a b) = λ a b h. record { apart = turned (key_of a) (key_of b) h } in
+      let sorted = answer_of t db xs bag [] falling limit params (λ r. refl) rows answer in
+      sym (map-id rows) ∙ answer_sorted q in_place params source (λ _. true) (λ _. refl) (λ r. r) t.given (t.shows params) refl refl order untied
+      (λ a b. last_key (sym (by_keys b a))) rows sorted
+      ∙ ap (λ l. page q params (map t.given (sort_by order l))) (filter_all (λ _. true) xs (all_of _ (λ _. refl) xs))
 
 -- ---- the first of the rows
 

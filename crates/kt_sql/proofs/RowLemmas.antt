@@ -16,7 +16,7 @@ use Rattle.kt_store.specs.declared.rows.Purpose.{Purpose}
 use Rattle.kt_store.specs.declared.rows.Purpose.TheVariants.{Check, Rollback}
 use Rattle.kt_store.specs.declared.rows.Verdict.{Verdict}
 use Rattle.kt_store.specs.declared.rows.Verdict.TheVariants.{Open, Yes, No}
-use Rattle.kt_sql.specs.Rows.{id_of, node_of, HasId, purpose_code, purpose_of, verdict_code, verdict_of, spelled, checkpoint_value, instance_value, checkpoint_in, number_in, tentative_of, node_in, node_stored, posted_in, posted_stored, IsSpelled, IsTaken, IsNodeRow, IsPosted, when_ok, bytes_of}
+use Rattle.kt_sql.specs.Rows.{id_of, node_of, HasId, purpose_code, purpose_of, verdict_code, verdict_of, spelled, checkpoint_value, instance_value, checkpoint_in, number_in, tentative_of, node_in, node_given, posted_in, posted_given, IsSpelled, IsTaken, IsNodeRow, IsPosted, when_ok, bytes_of}
 
 pub node_back : (n : NodeId) → HasId n → node_of (id_of n) ≡ n
 node_back (Worker n) low = ap (λ b. cond b (Worker n) (Shard (n - 100))) (lt-ltb n 100 low)
@@ -47,10 +47,10 @@ tentative_back : (t : Option Tentative) → IsTaken t → tentative_of (checkpoi
 tentative_back None h = refl
 tentative_back (Some t) h = ap (λ r. tentative_of (when_ok r) t.instance) (bytes_back t.checkpoint h.0)
 
-pub row_back : (r : NodeRow) → IsNodeRow r → node_in (node_stored r) ≡ r
+pub row_back : (r : NodeRow) → IsNodeRow r → node_in (node_given r) ≡ r
 row_back r h = rw (node_back r.node h.node, checkpoint_back r.permanent h.permanent, tentative_back r.tentative h.tentative) refl
 
-pub posted_back : (p : Posted) → IsPosted p → posted_in (posted_stored p) ≡ p
+pub posted_back : (p : Posted) → IsPosted p → posted_in (posted_given p) ≡ p
 posted_back p h = rw (node_back p.initiator h.initiator, purpose_back p.purpose, verdict_back p.verdict) refl
 
 pub map_back : {X : Type 0} (P : X → Type 0) (out : X → Row) (back : Row → X) → ((x : X) → P x → back (out x) ≡ x) → (xs : List X) → AllByRecursion P xs

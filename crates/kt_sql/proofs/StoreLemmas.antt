@@ -1,5 +1,10 @@
 -- A store over a connection, from one call to the next.
-use Rattle.std.proofs.Common.{◌≡◌, ℕ, ◌≤◌, Bool, true, false, ◌&&◌, List, [], map, refl, sym, ap, ap₂, subst, ◌∙◌, arith}
+use Rattle.std.proofs.Common.{◌≡◌, ℕ, ◌≤◌, Bool, true, false, ◌&&◌, List, [], ◌∷◌, map, refl, sym, ap, ap₂, subst, ◌∙◌, arith, Less, IsPermutation}
+use Rattle.std.specs.Ordering.{on, nat_cmp}
+use Rattle.std.proofs.lemmas.Cmp.{nat_cmp_total, on_total}
+use Rattle.std.proofs.lemmas.List.Sorted.{IsPermutation-map}
+use Rattle.sqlite_keyed.specs.Lists.{sort_by}
+use Rattle.sqlite_keyed.proofs.ListLemmas.{all_both, IsPermutation-same}
 use Rattle.std.specs.Prelude.{IsTrue, nat_lt}
 use Rattle.sqlite.specs.Store.{Ghosts}
 use Rattle.sqlite.specs.Held.{Held, state}
@@ -9,7 +14,9 @@ use Rattle.sqlite_trees.proofs.Doubt.{no_doubt, clean_of}
 use Rattle.sqlite.specs.Effect.{Database}
 use Rattle.kt_sql.specs.Schema.{kt_schema}
 use Rattle.kt_sql.specs.Settled.{IsSettled}
-use Rattle.kt_sql.specs.Rows.{Holds, content_in, node_in, node_stored, posted_in, posted_stored, IsNodeRow, IsPosted}
+use Rattle.kt_sql.specs.Rows.{Holds, content_in, id_of, by_node, by_instance, node_in, node_given, node_shown, posted_in, posted_given, posted_shown, IsNodeRow, IsPosted}
+use Rattle.kt_sql.proofs.OrderLemmas.{sorted_again}
+use Rattle.kt_sql.proofs.WriteLemmas.{by_id}
 use Rattle.kt_store.specs.declared.rows.NodeRow.{NodeRow}
 use Rattle.kt_store.specs.declared.rows.Posted.{Posted}
 use Rattle.kt_store.specs.Content.{Content, empty_content, node_lt}
@@ -35,28 +42,41 @@ all_three true false c p q r = absurd cc
 all_three false b c p q r = absurd cc
 
 -- what the tables hold is read back
+module _ {X : Type 0} (P : X → Type 0) (number : X → ℕ) (lt : X → X → Bool) (less : (a b : X) → P a → P b → lt a b ≡ true → nat_cmp (number a) (number b) ≡ Less)
+    (out : X → Row) (back : Row → X) (same : (x : X) → P x → back (out x) ≡ x) where
+  rises_by : (xs : List X) → AllByRecursion P xs → IsAscending (λ a b. lt a b ≡ true) xs → IsAscending (λ a b. on number nat_cmp a b ≡ Less) xs
+  rises_by [] good up = tt
+  rises_by (x ∷ xs) good up = (all_both _ _ _ (λ y is first. less x y good.0 is first) xs good.1 up.0, rises_by xs good.1 up.1)
+
+  read_back : (xs : List X) (rows : List Row) → AllByRecursion P xs → IsAscending (λ a b. lt a b ≡ true) xs → IsPermutation (map out xs) rows → sort_by (on number nat_cmp) (map back rows) ≡ xs
+  read_back xs rows good up bag =
+      sorted_again (on number nat_cmp) (on_total number nat_cmp_total) (map back rows) xs (rises_by xs good up)
+      (subst (λ l. IsPermutation l (map back rows)) (map_back P out back same xs good) (IsPermutation-map back _ _ bag))
+
+node_less : (a b : NodeRow) → IsNodeRow a → IsNodeRow b → node_lt a.node b.node ≡ true → nat_cmp (id_of a.node) (id_of b.node) ≡ Less
+node_less a b h g less = let n = sym (by_id a.node b.node h.node g.node) ∙ less in grind (arith, n)
+
+posted_less : (a b : Posted) → IsPosted a → IsPosted b → nat_lt a.instance b.instance ≡ true → nat_cmp a.instance b.instance ≡ Less
+posted_less a b h g less = grind (arith, less)
+
 pub holds_content : {db : Trees} (c : Content) → Holds db c → content_in db ≡ c
 holds_content c h =
-    let nodes = ap (map node_in) h.nodes ∙ map_back IsNodeRow node_stored node_in row_back c.nodes h.said.nodes in
-    let board = ap (map posted_in) h.board ∙ map_back IsPosted posted_stored posted_in posted_back c.board h.said.board in
+    let nodes = read_back IsNodeRow (λ (r : NodeRow). id_of r.node) (λ (a b : NodeRow). node_lt a.node b.node) node_less node_given node_in row_back c.nodes _ h.said.nodes h.said.nodes_rise h.nodes in
+    let board = read_back IsPosted (λ (p : Posted). p.instance) (λ (a b : Posted). nat_lt a.instance b.instance) posted_less posted_given posted_in posted_back c.board _ h.said.board h.said.board_rises h.board in
     ap₂ (λ (ns : List NodeRow) (ps : List Posted). let whole : Content = record { nodes = ns; board = ps } in whole) nodes board
-
--- two tables without rows
-empty_holds : (db : Trees) → db 0 ≡ [] → db 1 ≡ [] → Holds db (content_in db)
-empty_holds db none bare = record {
-  nodes = none ∙ sym (ap (λ rows. map node_stored (map node_in rows)) none);
-  board = bare ∙ sym (ap (λ rows. map posted_stored (map posted_in rows)) bare);
-  said = record {
-    nodes = subst (λ rows. AllByRecursion IsNodeRow (map node_in rows)) (sym none) tt;
-    board = subst (λ rows. AllByRecursion IsPosted (map posted_in rows)) (sym bare) tt;
-    nodes_rise = subst (λ rows. IsAscending (λ (a b : NodeRow). node_lt a.node b.node ≡ true) (map node_in rows)) (sym none) tt;
-    board_rises = subst (λ rows. IsAscending (λ (a b : Posted). nat_lt a.instance b.instance ≡ true) (map posted_in rows)) (sym bare) tt;
-  };
-}
 
 pub empty_content_in : (db : Trees) → db 0 ≡ [] → db 1 ≡ [] → content_in db ≡ empty_content
 empty_content_in db none bare =
-    ap₂ (λ (ns ps : List Row). let whole : Content = record { nodes = map node_in ns; board = map posted_in ps } in whole) none bare
+    ap₂ (λ (ns ps : List Row). let whole : Content = record { nodes = sort_by by_node (map node_in (map node_shown ns)); board = sort_by by_instance (map posted_in (map posted_shown ps)) } in whole) none bare
+
+-- two tables without rows
+empty_holds : (db : Trees) → db 0 ≡ [] → db 1 ≡ [] → Holds db (content_in db)
+empty_holds db none bare =
+    subst (Holds db) (sym (empty_content_in db none bare)) record {
+      nodes = IsPermutation-same [] _ (sym (ap (map node_shown) none));
+      board = IsPermutation-same [] _ (sym (ap (map posted_shown) bare));
+      said = record { nodes = tt; board = tt; nodes_rise = tt; board_rises = tt };
+    }
 
 module _ {S : Type 0} (g : Ghosts S) where
   pub record IsSure (s : Stored S) : Type 0 where

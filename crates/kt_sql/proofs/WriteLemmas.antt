@@ -1,17 +1,18 @@
 -- What a write of one row makes of what the tables hold.
-use Rattle.std.proofs.Common.{◌≡◌, ◌≢◌, ◌⊎◌, inl, inr, ℕ, ◌<◌, ◌≤◌, ℤ, pos, ltb, lt-ltb, Bool, true, false, not, cond, List, [], ◌∷◌, ◌++◌, map, filter, Option, None, Some, Ok, Err, Result, refl, sym, ap, ap₂, subst, ◌∙◌, arith, Less, Equal, Greater, int_cmp, AllPairs, All}
+use Rattle.std.proofs.Common.{◌≡◌, ◌≢◌, ◌⊎◌, inl, inr, ℕ, ◌<◌, ◌≤◌, ℤ, pos, ltb, lt-ltb, Bool, true, false, not, cond, List, [], ◌∷◌, ◌++◌, map, filter, Option, None, Some, Ok, Err, Result, refl, sym, ap, ap₂, subst, subst₂, ◌∙◌, arith, Ordering, Less, Equal, Greater, int_cmp, AllPairs, All, IsPermutation}
 use Rattle.std.specs.Prelude.{nat_lt}
 use Rattle.std.specs.List.{AllByRecursion}
-use Rattle.std.specs.Ordering.{match_ordering, int_eq}
+use Rattle.std.specs.Ordering.{match_ordering, int_eq, is_eq}
 use Rattle.std.proofs.lemmas.Int.{ints}
+use Rattle.std.proofs.lemmas.List.Sorted.{IsPermutation-refl, IsPermutation-trans, IsPermutation-sym, IsPermutation-cons, IsPermutation-middle, IsPermutation-map}
 use Rattle.sqlite.specs.declared.types.Value.{Value}
 use Rattle.sqlite.specs.declared.types.Value.TheVariants.{Null, Int, Blob}
 use Rattle.sqlite.specs.Values.{or_null}
-use Rattle.sqlite.specs.Order.{Row}
+use Rattle.sqlite.specs.Order.{Row, value_cmp}
 use Rattle.sqlite.specs.Kind.TheVariants.{Integer}
 use Rattle.sqlite.specs.Ops.{unary}
 use Rattle.sqlite.specs.Tree.{Trees}
-use Rattle.sqlite_trees.specs.Tree.{IsAscending, rowid, put_row, without_rowid}
+use Rattle.sqlite_trees.specs.Tree.{IsAscending, rowid, has_rowid, put_row, without_rowid}
 use Rattle.sqlite.specs.Cast.{cast}
 use Rattle.sqlite_rules.specs.Cast.{cast_row}
 use Rattle.sqlite_rules.specs.Lists.{Has}
@@ -26,7 +27,8 @@ use Rattle.sqlite.specs.Listing.{understood}
 use Rattle.sqlite.proofs.Callers.{statement_of, runs_as}
 use Rattle.sqlite_keyed.specs.Keyed.{insert_by}
 use Rattle.sqlite_keyed.specs.Lists.{without_key}
-use Rattle.sqlite_keyed.proofs.ListLemmas.{filter_all, filter_none, all_of, all_both, all_weaker, all-append, all-filter, ascending-append, ascending-filter}
+use Rattle.sqlite_keyed.proofs.ListLemmas.{filter_all, filter_none, filter_same, filter-map, all_map, all_unmap, all_of, all_both, all_weaker, all-append, all-filter, ascending-append, ascending-filter, IsPermutation-filter}
+use Rattle.sqlite_trees.proofs.ListLemmas.{all-permutation}
 use Rattle.sqlite_typed.proofs.RowLemmas.{puts-map, deletes-map}
 use Rattle.kt_tuple.specs.declared.node.NodeId.{NodeId}
 use Rattle.kt_tuple.specs.declared.node.NodeId.TheVariants.{Worker, Shard}
@@ -39,8 +41,9 @@ use Rattle.kt_store.specs.Changes.{with_row, with_posted, storing}
 use Rattle.kt_store.proofs.Tables.{placed, IsOrder}
 use Rattle.kt_sql.specs.Schema.{kt_schema, node_table, board_table, meta_table}
 use Rattle.kt_sql.specs.Text.{put_node_text, put_posted_text}
-use Rattle.kt_sql.specs.Rows.{placing, whole, id_of, HasId, spelled, checkpoint_value, instance_value, node_given, node_stored, posted_given, posted_stored, IsNodeRow, IsPosted, IsSaid, Holds, purpose_code, verdict_code}
+use Rattle.kt_sql.specs.Rows.{placing, whole, id_of, HasId, spelled, checkpoint_value, instance_value, node_given, node_stored, node_shown, posted_given, posted_stored, posted_shown, IsNodeRow, IsPosted, IsSaid, Holds, purpose_code, verdict_code}
 use Rattle.kt_sql.proofs.PutLemmas.{went, same_value, AreNumbered, replaces}
+use Rattle.kt_sql.proofs.Tables.{Table, nodes_table, posted_table}
 use Rattle.kt_sql.proofs.Texts.{node_terms, posted_terms, put_node, put_posted, put_node_is, put_node_plain, put_posted_is, put_posted_plain}
 
 -- ---- a row in its place
@@ -140,10 +143,64 @@ by_id (Shard m) (Shard n) h g = grind arith
 goes_by_id : (new : NodeRow) → IsNodeRow new → (x : NodeRow) → IsNodeRow x → GoesBy node_before (λ (r : NodeRow). id_of r.node) x new
 goes_by_id new h x g = (by_id x.node new.node g.node h.node, by_id new.node x.node h.node g.node)
 
-numbered_rows : {X : Type 0} (key : X → ℤ) (stored : X → Row) → ((x : X) → rowid (stored x) ≡ Int (key x)) → (xs : List X) → AreNumbered (map stored xs)
-numbered_rows key stored is [] r has = absurd has
-numbered_rows key stored is (x ∷ xs) r (inl here) = (key x, ap rowid here ∙ is x)
-numbered_rows key stored is (x ∷ xs) r (inr later) = numbered_rows key stored is xs r later
+-- ---- a row is put into a table, whose rows stand in some order
+
+had : {X : Type 0} (P : X → Type 0) (xs : List X) → AllByRecursion P xs → (x : X) → Has xs x → P x
+had P [] all x has = absurd has
+had P (y ∷ ys) all x (inl here) = subst P here all.0
+had P (y ∷ ys) all x (inr later) = had P ys all.1 x later
+
+is_not : (b : Bool) → not b ≡ true → b ≡ false
+is_not true h = absurd cc
+is_not false h = refl
+
+put_front : (new : Row) (key : ℤ) → rowid new ≡ Int key → (rows : List Row) → AllByRecursion (λ r. has_rowid key r ≡ false) rows → IsPermutation (new ∷ rows) (put_row new rows)
+put_front new key at [] none = IsPermutation-refl _
+put_front new key at (r ∷ rows) none =
+    there (value_cmp (rowid r) (rowid new)) (ap (λ v. is_eq (value_cmp (rowid r) v)) at ∙ none.0) (put_front new key at rows none.1)
+  where
+    there : (o : Ordering) → is_eq o ≡ false → IsPermutation (new ∷ rows) (put_row new rows)
+        → IsPermutation (new ∷ r ∷ rows) (match_ordering o (r ∷ put_row new rows) (new ∷ rows) (new ∷ r ∷ rows))
+    there Less apart later = IsPermutation-trans _ _ _ (IsPermutation-sym _ _ (IsPermutation-middle (r ∷ []) new rows)) (IsPermutation-cons r _ _ later)
+    there Equal apart later = absurd cc
+    there Greater apart later = IsPermutation-refl _
+
+module _ {X : Type 0} (t : Table X) where
+  abbrev key_in : X → ℤ
+  key_in x = pos (t.number x)
+
+  -- each row has a rowid
+  numbered_rows : (xs : List X) (rows : List Row) → IsPermutation (map t.given xs) (map t.shown rows) → AreNumbered rows
+  numbered_rows xs rows bag =
+      let P : Row → Type 0 = λ r. (k : ℤ) × (rowid r ≡ Int k) in
+      let given = all_map P t.given xs (all_of _ (λ x. (key_in x, t.given_number x)) xs) in
+      let shown = all_unmap P t.shown rows (all-permutation P _ _ bag given) in
+      had P rows (all_weaker _ P (λ r it. (it.0, sym (t.same_number r) ∙ it.1)) rows shown)
+
+  kept_shown : (key : ℤ) (rows : List Row) → map t.shown (without_rowid key rows) ≡ without_rowid key (map t.shown rows)
+  kept_shown key rows =
+      ap (map t.shown) (filter_same (λ r. not (has_rowid key r)) (λ r. not (has_rowid key (t.shown r))) (λ r. ap (λ v. not (is_eq (value_cmp v (Int key)))) (sym (t.same_number r))) rows)
+      ∙ sym (filter-map (λ r. not (has_rowid key r)) t.shown rows)
+
+  gone : (key : ℤ) (rows : List Row) → AllByRecursion (λ r. has_rowid key r ≡ false) (without_rowid key rows)
+  gone key rows = all_weaker _ _ (λ r is. is_not (has_rowid key r) is) _ (passing (λ r. not (has_rowid key r)) rows)
+
+  -- what the table shows then
+  put_shown : (new : X) (xs : List X) (rows : List Row) → IsPermutation (map t.given xs) (map t.shown rows)
+      → IsPermutation (map t.given (insert_by key_in (without_key key_in xs (key_in new)) new)) (map t.shown (put_row (t.stored new) (without_rowid (key_in new) rows)))
+  put_shown new xs rows bag =
+      let key = key_in new in
+      let left = without_rowid key (map t.given xs) in
+      let right = without_rowid key (map t.shown rows) in
+      let inserted : map t.given (insert_by key_in (without_key key_in xs key) new) ≡ put_row (t.given new) left =
+      sym (puts-map key_in t.given t.given_number (new ∷ []) (without_key key_in xs key))
+      ∙ ap (put_row (t.given new)) (sym (deletes-map key_in t.given t.given_number (key ∷ []) xs)) in
+      let first = IsPermutation-sym _ _ (put_front (t.given new) key (t.given_number new) left (gone key (map t.given xs))) in
+      let next = IsPermutation-cons (t.given new) left right (IsPermutation-filter (λ r. not (has_rowid key r)) _ _ bag) in
+      let last = IsPermutation-map t.shown _ _ (put_front (t.stored new) key (t.numbered new) (without_rowid key rows) (gone key rows)) in
+      let same : map t.shown (t.stored new ∷ without_rowid key rows) ≡ t.given new ∷ right = ap₂ ◌∷◌ (t.back new) (kept_shown key rows) in
+      subst (λ l. IsPermutation l (map t.shown (put_row (t.stored new) (without_rowid key rows)))) (sym inserted)
+      (IsPermutation-trans _ _ _ first (IsPermutation-trans _ _ _ next (subst (λ l. IsPermutation l (map t.shown (put_row (t.stored new) (without_rowid key rows)))) same last)))
 
 -- ---- what the columns keep
 
@@ -181,16 +238,14 @@ put_node_does old new r c count good has held h =
     let text = statement_of put_node_text (understood kt_schema put_node_text) in
     let done = went (subst (λ s. Does old.step_limit (mode_of old) params (record old.now { schema = s }) text None put_node (Ok (w.tally, new.now))) has w.changed) in
     let now = ap (λ (p : Tally × Database). p.1) (same_value (went (went done.2).2).2) in
-    let numbers = subst AreNumbered (sym held.nodes) (numbered_rows (λ (x : NodeRow). pos (id_of x.node)) node_stored (λ x. refl) c.nodes) in
     let next = replaces node_table.name 0 node_table.columns old.step_limit params (node_stored r) (pos (id_of r.node)) refl node_terms 6 (node_stored r) refl (cast_node r) (cast_node r) db
-    numbers done.0 done.1 in
-    let number : NodeRow → ℤ = λ x. pos (id_of x.node) in
-    let nodes : done.0.trees 0 ≡ map node_stored (with_row r c.nodes) = next.0
-    ∙ ap (λ rows. put_row (node_stored r) (without_rowid (number r) rows)) held.nodes
-    ∙ ap (put_row (node_stored r)) (deletes-map number node_stored (λ x. refl) (number r ∷ []) c.nodes)
-    ∙ puts-map number node_stored (λ x. refl) (r ∷ []) (without_key number c.nodes (number r))
-    ∙ ap (map node_stored) (placed_by node_before node_order (λ (x : NodeRow). id_of x.node) r c.nodes (all_weaker _ _ (goes_by_id r good) c.nodes held.said.nodes) held.said.nodes_rise) in
-    let board : done.0.trees 1 ≡ map posted_stored c.board = next.1 1 (λ same. absurd cc) ∙ held.board in
+    (numbered_rows nodes_table c.nodes (db 0) held.nodes) done.0 done.1 in
+    let placed_is : insert_by (λ (x : NodeRow). pos (id_of x.node)) (without_key (λ (x : NodeRow). pos (id_of x.node)) c.nodes (pos (id_of r.node))) r ≡ with_row r c.nodes =
+    placed_by node_before node_order (λ (x : NodeRow). id_of x.node) r c.nodes (all_weaker _ _ (goes_by_id r good) c.nodes held.said.nodes) held.said.nodes_rise in
+    let nodes : IsPermutation (map node_given (with_row r c.nodes)) (map node_shown (done.0.trees 0)) =
+    subst₂ (λ (l : List NodeRow) (rows : List Row). IsPermutation (map node_given l) (map node_shown rows)) placed_is (sym next.0) (put_shown nodes_table r c.nodes (db 0) held.nodes) in
+    let board : IsPermutation (map posted_given c.board) (map posted_shown (done.0.trees 1)) =
+    subst (λ (rows : List Row). IsPermutation (map posted_given c.board) (map posted_shown rows)) (sym (next.1 1 (λ same. absurd cc))) held.board in
     let said : IsSaid (storing r c) = record {
       nodes = placed_all node_before node_order IsNodeRow r c.nodes good held.said.nodes;
       board = held.said.board;
@@ -208,16 +263,14 @@ put_posted_does old new p c count good has held h =
     let text = statement_of put_posted_text (understood kt_schema put_posted_text) in
     let done = went (subst (λ s. Does old.step_limit (mode_of old) params (record old.now { schema = s }) text None put_posted (Ok (w.tally, new.now))) has w.changed) in
     let now = ap (λ (p : Tally × Database). p.1) (same_value (went (went done.2).2).2) in
-    let number : Posted → ℤ = λ x. pos x.instance in
-    let numbers = subst AreNumbered (sym held.board) (numbered_rows number posted_stored (λ x. refl) c.board) in
-    let next = replaces board_table.name 1 board_table.columns old.step_limit params (posted_stored p) (number p) refl posted_terms 5 (posted_stored p) refl (cast_posted p) (cast_posted p) db
-    numbers done.0 done.1 in
-    let board : done.0.trees 1 ≡ map posted_stored (with_posted p c.board) = next.0
-    ∙ ap (λ rows. put_row (posted_stored p) (without_rowid (number p) rows)) held.board
-    ∙ ap (put_row (posted_stored p)) (deletes-map number posted_stored (λ x. refl) (number p ∷ []) c.board)
-    ∙ puts-map number posted_stored (λ x. refl) (p ∷ []) (without_key number c.board (number p))
-    ∙ ap (map posted_stored) (placed_by posted_before posted_order (λ (x : Posted). x.instance) p c.board (all_of _ (λ x. (refl, refl)) c.board) held.said.board_rises) in
-    let nodes : done.0.trees 0 ≡ map node_stored c.nodes = next.1 0 (λ same. absurd cc) ∙ held.nodes in
+    let next = replaces board_table.name 1 board_table.columns old.step_limit params (posted_stored p) (pos p.instance) refl posted_terms 5 (posted_stored p) refl (cast_posted p) (cast_posted p) db
+    (numbered_rows posted_table c.board (db 1) held.board) done.0 done.1 in
+    let placed_is : insert_by (λ (x : Posted). pos x.instance) (without_key (λ (x : Posted). pos x.instance) c.board (pos p.instance)) p ≡ with_posted p c.board =
+    placed_by posted_before posted_order (λ (x : Posted). x.instance) p c.board (all_of _ (λ x. (refl, refl)) c.board) held.said.board_rises in
+    let board : IsPermutation (map posted_given (with_posted p c.board)) (map posted_shown (done.0.trees 1)) =
+    subst₂ (λ (l : List Posted) (rows : List Row). IsPermutation (map posted_given l) (map posted_shown rows)) placed_is (sym next.0) (put_shown posted_table p c.board (db 1) held.board) in
+    let nodes : IsPermutation (map node_given c.nodes) (map node_shown (done.0.trees 0)) =
+    subst (λ (rows : List Row). IsPermutation (map node_given c.nodes) (map node_shown rows)) (sym (next.1 0 (λ same. absurd cc))) held.nodes in
     let said : IsSaid (placing p c) = record {
       nodes = held.said.nodes;
       board = placed_all posted_before posted_order IsPosted p c.board good held.said.board;

@@ -1,13 +1,16 @@
 -- How the rows of a store stand in the tables.
-use Rattle.std.specs.Prelude.{◌≡◌, ◌⊎◌, ℕ, ◌+◌, ◌-◌, ◌<◌, ◌≤◌, ℤ, pos, nat_lt, Bool, true, if◌then◌else◌, List, [], ◌∷◌, map, Option, None, Some, IfSome, Result, Ok, Err, ⊤}
+use Rattle.std.specs.Prelude.{◌≡◌, ◌⊎◌, ℕ, ◌+◌, ◌-◌, ◌<◌, ◌≤◌, ℤ, pos, nat_lt, Bool, true, if◌then◌else◌, List, [], ◌∷◌, map, Option, None, Some, IfSome, Result, Ok, Err, ⊤, IsPermutation}
 use Rattle.std.specs.Option.{option_map, option_and_then}
 use Rattle.std.specs.List.{AllByRecursion}
+use Rattle.std.specs.Ordering.{on, nat_cmp}
+use Rattle.std.specs.declared.cmp.Ordering.{Ordering}
 use Rattle.sqlite.specs.declared.types.Value.{Value}
 use Rattle.sqlite.specs.declared.types.Value.TheVariants.{Null, Int, Real, Text, Blob}
 use Rattle.sqlite.specs.Values.{or_null}
 use Rattle.sqlite.specs.Order.{Row, column}
 use Rattle.sqlite.specs.Tree.{Trees}
 use Rattle.sqlite_trees.specs.Tree.{IsAscending}
+use Rattle.sqlite_keyed.specs.Lists.{sort_by}
 use Rattle.kt_tuple.specs.declared.node.NodeId.{NodeId}
 use Rattle.kt_tuple.specs.declared.node.NodeId.TheVariants.{Worker, Shard}
 use Rattle.kt_ckpt.specs.declared.error.CkptError.{CkptError}
@@ -91,6 +94,10 @@ node_stored r =
     whole (id_of r.node) ∷ Null ∷ whole r.incarnation ∷ spelled r.permanent ∷ checkpoint_value r.tentative
     ∷ instance_value r.tentative ∷ []
 
+-- what a query shows of a row that the table keeps
+abbrev pub node_shown : Row → Row
+node_shown r = column r 0 ∷ column r 2 ∷ column r 3 ∷ column r 4 ∷ column r 5 ∷ []
+
 -- ---- an instance
 
 abbrev pub posted_given : Posted → Row
@@ -99,6 +106,9 @@ posted_given p = whole p.instance ∷ whole (id_of p.initiator) ∷ whole (purpo
 abbrev pub posted_stored : Posted → Row
 posted_stored p =
     whole p.instance ∷ Null ∷ whole (id_of p.initiator) ∷ whole (purpose_code p.purpose) ∷ whole (verdict_code p.verdict) ∷ []
+
+abbrev pub posted_shown : Row → Row
+posted_shown r = column r 0 ∷ column r 2 ∷ column r 3 ∷ column r 4 ∷ []
 
 -- ---- and back
 
@@ -128,22 +138,32 @@ tentative_of (Some c) i = Some record { instance = i; checkpoint = c }
 abbrev pub node_in : Row → NodeRow
 node_in r = record {
   node = node_of (number_in (column r 0));
-  incarnation = number_in (column r 2);
-  permanent = checkpoint_in (column r 3);
-  tentative = tentative_of (checkpoint_in (column r 4)) (number_in (column r 5));
+  incarnation = number_in (column r 1);
+  permanent = checkpoint_in (column r 2);
+  tentative = tentative_of (checkpoint_in (column r 3)) (number_in (column r 4));
 }
 
 abbrev pub posted_in : Row → Posted
 posted_in r = record {
   instance = number_in (column r 0);
-  initiator = node_of (number_in (column r 2));
-  purpose = purpose_of (number_in (column r 3));
-  verdict = verdict_of (number_in (column r 4));
+  initiator = node_of (number_in (column r 1));
+  purpose = purpose_of (number_in (column r 2));
+  verdict = verdict_of (number_in (column r 3));
 }
 
--- what the tables hold
+-- the orders of the two tables
+abbrev pub by_node : NodeRow → NodeRow → Ordering
+by_node = on (λ (r : NodeRow). id_of r.node) nat_cmp
+
+abbrev pub by_instance : Posted → Posted → Ordering
+by_instance = on (λ (p : Posted). p.instance) nat_cmp
+
+-- what the tables hold, each in its order
 abbrev pub content_in : Trees → Content
-content_in db = record { nodes = map node_in (db 0); board = map posted_in (db 1) }
+content_in db = record {
+  nodes = sort_by by_node (map node_in (map node_shown (db 0)));
+  board = sort_by by_instance (map posted_in (map posted_shown (db 1)));
+}
 
 -- ---- the numbers and bytes that are as said
 
@@ -177,10 +197,10 @@ pub record IsSaid (c : Content) : Type 0 where
   pub nodes_rise : IsAscending (λ (a b : NodeRow). node_lt a.node b.node ≡ true) c.nodes
   pub board_rises : IsAscending (λ (a b : Posted). nat_lt a.instance b.instance ≡ true) c.board
 
--- the tables hold this content, row by row
+-- the tables hold this content: its rows, in some order
 pub record Holds (db : Trees) (c : Content) : Type 0 where
-  pub nodes : db 0 ≡ map node_stored c.nodes
-  pub board : db 1 ≡ map posted_stored c.board
+  pub nodes : IsPermutation (map node_given c.nodes) (map node_shown (db 0))
+  pub board : IsPermutation (map posted_given c.board) (map posted_shown (db 1))
   pub said : IsSaid c
 
 -- ---- what is read of a row
