@@ -1,3 +1,4 @@
 pub mod Finding
 pub mod Asked
 pub mod Making
+pub mod Closing
