@@ -130,7 +130,7 @@ impl<S: CkptStore, L: Naming> Stage<S, L> {
     /// memory and waits for nobody.
     pub fn close(self, seats: Vec<Seat<L>>) -> Result<Journal<S>, (CloseError, Journal<S>)>
         ensures replays { IfOk result (λ j. Replays L.opening j.world j.steps) }
-        ensures seats { IfOk result (λ j.
+        ensures kept { IfOk result (λ j.
             All (λ seat. seat.receipts ≡ receipts_of seat.node 1 j.steps) seats.items) }
         ensures one_each { IfOk result (λ j. All (IsMatched j.steps seats.items) (nodes_of L.opening.state.cast)) }
         ensures each_step { IfOk result (λ j. IsPermutation (numbered 1 j.steps) (receipts_in seats.items)) }
