@@ -154,8 +154,12 @@ impl<S: CkptStore, L: Naming> Stage<S, L> {
         ensures not_owner { IfErr result (IsOthers seat.old.node step) }
         ensures node { seat.new.node ≡ seat.old.node }
     {
-        let acted = self.floor.lock(rt).desk.act(alloc, seat, step);
-        self.moved.notify_all();
+        let mut floor = self.floor.lock(rt);
+        let acted = floor.desk.act(alloc, seat, step);
+        if acted.is_ok() {
+            floor.idle = 0;
+            self.moved.notify_all();
+        }
         acted
     }
 }
