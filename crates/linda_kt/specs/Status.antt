@@ -1,5 +1,6 @@
 -- How a run ends.
-use Rattle.std.specs.Prelude.{◌≡◌, ◌⊎◌, ℕ, Bool, true, Result, Ok, Err}
+use Rattle.std.specs.Prelude.{◌≡◌, ◌⊎◌, ℕ, Bool, true, List, Result, Ok, Err, Some}
+use Rattle.clap.specs.Words.{Text}
 use Rattle.kt_store.specs.Content.{Content}
 use Rattle.kt_world.specs.declared.step.StepError.{StepError}
 use Rattle.kt_world.specs.declared.step.StepError.TheVariants as step
@@ -11,6 +12,15 @@ use Rattle.kt_scene.specs.Outside.{Reader, Writer}
 use Rattle.kt_scene.specs.Run.{Given, WritesReplayed, IsReplayFault, LeavesWriter}
 use Rattle.kt_scene.specs.declared.fault.ReplayFault.{ReplayFault}
 use Rattle.kt_scene.specs.declared.fault.ReplayFault.TheVariants.{Scene, Step, Open, Report, Memory, Read, Write}
+use Rattle.kt_stage.specs.declared.running.RunFault.{RunFault}
+use Rattle.kt_stage.specs.declared.running.RunFault.TheVariants as runs
+use Rattle.kt_run.specs.declared.fault.RunTextFault.{RunTextFault}
+use Rattle.kt_run.specs.declared.fault.RunTextFault.TheVariants as texts
+use Rattle.kt_run.specs.declared.running.Output.{Output}
+use Rattle.kt_run.specs.Run.{WritesRun, WritesRunFront, IsRunTextFault}
+use Rattle.linda_kt.specs.declared.words.Command.{Command}
+use Rattle.linda_kt.specs.declared.words.Command.TheVariants.{Replay, Run}
+use Rattle.linda_kt.specs.Words.{asked_by}
 
 -- 3 for a fault of the scenario, but 6 where memory ran out
 abbrev pub scene_status : SceneError → ℕ
@@ -54,11 +64,56 @@ IsWordsStatus n = (n ≡ 0) ⊎ ((n ≡ 2) ⊎ ((n ≡ 6) ⊎ (n ≡ 7)))
 abbrev pub in_memory : Given Content
 in_memory = record { is_honest = λ store. true; fault_count = λ store. 0; fresh = true; before = 0 }
 
--- the exit status of a command: that of what a replay over a fresh store answers here, which is 0 where what was read
--- was replayed and its report written, and else that of the fault, before which nothing is written, or of the writer's
--- a front of the report; or 6, with nothing read and nothing written, where memory ran out before the command was known
-pub data IsRunStatus (before after : Reader) (old new : Writer) (n : ℕ) : Type 0 where
-  done : n ≡ 0 → WritesReplayed in_memory before after old new → IsRunStatus before after old new n
+-- the exit status of a replay over a fresh store: 0 where what was read was replayed and its report written, and else
+-- that of the fault, before which nothing is written, or of the writer's a front of the report
+pub data EndsReplay (before after : Reader) (old new : Writer) (n : ℕ) : Type 0 where
+  done : n ≡ 0 → WritesReplayed in_memory before after old new → EndsReplay before after old new n
   refused : (fault : ReplayFault) → IsReplayFault in_memory before after fault
-      → LeavesWriter in_memory before after old new fault → n ≡ status_of fault → IsRunStatus before after old new n
-  unread : n ≡ 6 → after ≡ before → new ≡ old → IsRunStatus before after old new n
+      → LeavesWriter in_memory before after old new fault → n ≡ status_of fault → EndsReplay before after old new n
+
+-- the exit status that tells of a run's fault: 5 too where the seats do not fit the journal, or a node has a step left
+abbrev pub run_status : RunFault → ℕ
+run_status (runs.Open cause) = open_status cause
+run_status (runs.Step at cause) = step_status cause
+run_status (runs.Close cause) = 5
+run_status runs.Memory = 6
+run_status (runs.Unfinished node) = 5
+
+abbrev pub run_text_status : RunTextFault → ℕ
+run_text_status (texts.Text fault) = status_of fault
+run_text_status (texts.Run fault) = run_status fault
+
+abbrev pub run_answer_status : {X : Type 0} → Result X RunTextFault → ℕ
+run_answer_status (Ok done) = 0
+run_answer_status (Err fault) = run_text_status fault
+
+-- a store in memory is always honest, and its device never fails
+abbrev pub is_honest : Content → Bool
+is_honest store = true
+
+abbrev pub fault_count : Content → ℕ
+fault_count store = 0
+
+-- what a run leaves of the writer where it ends with this fault: a front of what was to be there where the writer
+-- failed, and else all as it was
+abbrev pub LeavesRunWriter : Output → (before after : Reader) (old new : Writer) → RunTextFault → Type 0
+LeavesRunWriter output before after old new (texts.Text Write) = WritesRunFront is_honest output before after old new
+LeavesRunWriter output before after old new fault = new ≡ old
+
+-- the exit status of a run over a fresh store, in the same way
+pub data EndsRun (output : Output) (before after : Reader) (old new : Writer) (n : ℕ) : Type 0 where
+  done : n ≡ 0 → WritesRun is_honest output before after old new → EndsRun output before after old new n
+  refused : (fault : RunTextFault) → IsRunTextFault is_honest fault_count before after fault
+      → LeavesRunWriter output before after old new fault → n ≡ run_text_status fault
+      → EndsRun output before after old new n
+
+abbrev pub Ends : Command → (before after : Reader) (old new : Writer) → ℕ → Type 0
+Ends Replay before after old new n = EndsReplay before after old new n
+Ends (Run output) before after old new n = EndsRun output before after old new n
+
+-- the exit status of words without a fault: that of the command that they name; or 6, with nothing read and nothing
+-- written, where memory ran out before the command was known
+pub data IsRunStatus (words : List Text) (before after : Reader) (old new : Writer) (n : ℕ) : Type 0 where
+  did : (command : Command) → asked_by words ≡ Some command → Ends command before after old new n
+      → IsRunStatus words before after old new n
+  unread : n ≡ 6 → after ≡ before → new ≡ old → IsRunStatus words before after old new n

@@ -3,13 +3,16 @@ ghost use Rattle.std.specs.Prelude.{◌≡◌, ◌≢◌, ◌⊎◌, [], IsOk, I
 ghost use Rattle.std.specs.Vec.Iter.{into_iter_items};
 ghost use Rattle.clap.specs.Words.{kind_of};
 ghost use Rattle.clap.specs.declared.error.kind.ErrorKind.TheVariants as kind;
-ghost use Rattle.linda_kt.specs.Status.{IsRunStatus, IsWordsStatus, answer_status, status_of};
+ghost use Rattle.linda_kt.specs.Status.{IsRunStatus, IsWordsStatus, answer_status, open_status, run_answer_status};
+ghost use Rattle.linda_kt.specs.Status.{run_text_status, status_of, step_status};
 ghost use Rattle.linda_kt.specs.Words.{AreWrong, texts, words_behind, words_fault};
 
 use crate::words::{Command, read_words, refuse_bytes};
 use clap::Error;
 use clap::error::ErrorKind;
+use kt_run::{RunTextFault, run_text};
 use kt_scene::{OpenError, Outcome, ReplayFault, SceneError, Sink, Source, StepError, replay};
+use kt_stage::RunFault;
 use kt_store::MemStore;
 use std::alloc::{AllocError, Global};
 use std::env::Args;
@@ -36,7 +39,7 @@ const STEP_LIMIT: u8 = 8;
 /// Runs the program on the arguments of its process, of which the first is its name. Arguments that
 /// are not text are wrong words.
 pub fn run_arguments<R: Read, W: Write, E: Write>(
-    alloc: Global,
+    rt: &HostRuntime,
     arguments: io::Result<Args>,
     reader: &mut Source<R>,
     writer: &mut Sink<W>,
@@ -46,11 +49,12 @@ pub fn run_arguments<R: Read, W: Write, E: Write>(
     ensures no_text_reads_nothing { IsErr arguments → reader.new ≡ reader.old }
     ensures no_text_prints_nothing { IsErr arguments → writer.new ≡ writer.old }
     ensures told { IfOk arguments (λ a. words_fault (words_behind (into_iter_items a)) ≡ []
-        → IsRunStatus reader.old reader.new writer.old writer.new result) }
+        → IsRunStatus (words_behind (into_iter_items a)) reader.old reader.new writer.old writer.new result) }
     ensures wrong_words { IfOk arguments (λ a. AreWrong (words_behind (into_iter_items a))
         → (result ≡ COMMAND_LINE) ⊎ (result ≡ MEMORY)) }
     ensures done_without_a_word { result ≡ DONE → errors.new ≡ errors.old }
 {
+    let alloc = rt.alloc();
     let texts = match arguments {
         Ok(arguments) => texts_of(alloc, arguments),
         Err(error) if error.kind() == io::ErrorKind::OutOfMemory => {
@@ -59,7 +63,7 @@ pub fn run_arguments<R: Read, W: Write, E: Write>(
         Err(_) => return answer_words(&refuse_bytes(alloc), writer, errors),
     };
     match texts {
-        Ok(texts) => run_texts(alloc, &texts, reader, writer, errors),
+        Ok(texts) => run_texts(rt, &texts, reader, writer, errors),
         Err(AllocError) => end_by("memory", MEMORY, errors),
     }
 }
@@ -73,19 +77,19 @@ fn texts_of(alloc: Global, arguments: Args) -> Result<Vec<String>, AllocError>
 
 /// Runs the program on these texts, of which the first is its name.
 fn run_texts<R: Read, W: Write, E: Write>(
-    alloc: Global,
+    rt: &HostRuntime,
     arguments: &[String],
     reader: &mut Source<R>,
     writer: &mut Sink<W>,
     errors: &mut E,
 ) -> u8
     ensures told { words_fault (words_behind arguments.now) ≡ []
-        → IsRunStatus reader.old reader.new writer.old writer.new result }
+        → IsRunStatus (words_behind arguments.now) reader.old reader.new writer.old writer.new result }
     ensures wrong_words { AreWrong (words_behind arguments.now) → (result ≡ COMMAND_LINE) ⊎ (result ≡ MEMORY) }
     ensures done_without_a_word { result ≡ DONE → errors.new ≡ errors.old }
 {
-    match words_behind(alloc, arguments) {
-        Ok(words) => run_program(alloc, words.as_slice(), reader, writer, errors),
+    match words_behind(rt.alloc(), arguments) {
+        Ok(words) => run_program(rt, words.as_slice(), reader, writer, errors),
         Err(AllocError) => end_by("memory", MEMORY, errors),
     }
 }
@@ -106,14 +110,14 @@ fn words_behind<'a>(alloc: Global, arguments: &'a [String]) -> Result<Vec<&'a st
 /// Does what the words ask, which are those after the program's name, and answers the exit status.
 /// A fault is one line on `errors`; of wrong words it is the text of `clap`.
 pub fn run_program<R: Read, W: Write, E: Write>(
-    alloc: Global,
+    rt: &HostRuntime,
     words: &[&str],
     reader: &mut Source<R>,
     writer: &mut Sink<W>,
     errors: &mut E,
 ) -> u8
     ensures told { words_fault (texts words.now) ≡ []
-        → IsRunStatus reader.old reader.new writer.old writer.new result }
+        → IsRunStatus (texts words.now) reader.old reader.new writer.old writer.new result }
     ensures done_without_a_word { result ≡ DONE → errors.new ≡ errors.old }
     ensures wrong_words { AreWrong (texts words.now)
         → (result ≡ COMMAND_LINE) ⊎ (result ≡ MEMORY) }
@@ -122,10 +126,15 @@ pub fn run_program<R: Read, W: Write, E: Write>(
     ensures no_command_reads_nothing { words_fault (texts words.now) ≢ []
         → reader.new ≡ reader.old }
 {
+    let alloc = rt.alloc();
     match read_words(alloc, words) {
         Ok(Command::Replay) => {
             let store = MemStore::new(alloc);
             end_replay(replay(alloc, reader, writer, store), errors)
+        }
+        Ok(Command::Run(output)) => {
+            let store = MemStore::new(alloc);
+            end_run(run_text(rt, alloc, reader, writer, store, output), errors)
         }
         Err(error) => answer_words(&error, writer, errors),
     }
@@ -171,6 +180,58 @@ pub(crate) fn end_replay<E: Write>(answer: Result<(), ReplayFault>, errors: &mut
     }
 }
 
+/// The same of a run.
+pub(crate) fn end_run<E: Write>(answer: Result<(), RunTextFault>, errors: &mut E) -> u8
+    ensures status { result ≡ run_answer_status answer }
+    ensures quiet { IsOk answer → errors.new ≡ errors.old }
+{
+    match answer {
+        Ok(()) => DONE,
+        Err(fault) => {
+            // A standard error that is closed leaves the status alone to tell.
+            let _ = writeln!(errors, "{fault}");
+            run_status_of(fault)
+        }
+    }
+}
+
+/// The status that tells of a run's fault.
+fn run_status_of(fault: RunTextFault) -> u8
+    ensures { result ≡ run_text_status fault }
+{
+    match fault {
+        RunTextFault::Text(fault) => status_of(fault),
+        RunTextFault::Run(fault) => match fault {
+            RunFault::Open(cause) => open_status(cause),
+            RunFault::Step { at: _, cause } => step_status(cause),
+            RunFault::Close(_) | RunFault::Unfinished { node: _ } => STORE,
+            RunFault::Memory => MEMORY,
+        },
+    }
+}
+
+/// The status that tells of a refused step.
+fn step_status(cause: StepError) -> u8
+    ensures { result ≡ step_status cause }
+{
+    match cause {
+        StepError::OutOfMemory => MEMORY,
+        StepError::StepLimit => STEP_LIMIT,
+        StepError::Store(_) => STORE,
+        _ => STEP,
+    }
+}
+
+/// The status that tells of a world that was not opened.
+fn open_status(cause: OpenError) -> u8
+    ensures { result ≡ open_status cause }
+{
+    match cause {
+        OpenError::OutOfMemory => MEMORY,
+        _ => STORE,
+    }
+}
+
 /// The status that tells of a fault.
 fn status_of(fault: ReplayFault) -> u8
     ensures { result ≡ status_of fault }
@@ -180,14 +241,10 @@ fn status_of(fault: ReplayFault) -> u8
             SceneError::OutOfMemory => MEMORY,
             _ => SCENARIO,
         },
-        ReplayFault::Step { at: _, cause } => match cause {
-            StepError::OutOfMemory => MEMORY,
-            StepError::StepLimit => STEP_LIMIT,
-            StepError::Store(_) => STORE,
-            _ => STEP,
-        },
-        ReplayFault::Open(OpenError::OutOfMemory) | ReplayFault::Memory => MEMORY,
-        ReplayFault::Open(_) | ReplayFault::Report(_) => STORE,
+        ReplayFault::Step { at: _, cause } => step_status(cause),
+        ReplayFault::Open(cause) => open_status(cause),
+        ReplayFault::Memory => MEMORY,
+        ReplayFault::Report(_) => STORE,
         ReplayFault::Read | ReplayFault::Write => STREAM,
     }
 }

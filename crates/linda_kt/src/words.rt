@@ -1,10 +1,13 @@
 //! The words of the command line.
-ghost use Rattle.std.specs.Prelude.{◌≡◌, ◌⊎◌, IfOk, IfSome};
-ghost use Rattle.clap.specs.Words.{app_of, FailsBy, kind_of};
-ghost use Rattle.linda_kt.specs.Words.{command_line_app, name_of, named_command, program_app, texts, words_fault};
+ghost use Rattle.std.specs.Prelude.{◌≡◌, ◌⊎◌, false, IfOk, Some};
+ghost use Rattle.clap.specs.Words.{app_of, FailsBy, fields_of, kind_of, rule_of, rows_of, found_of};
+ghost use Rattle.clap.specs.Simple.{shape_of};
+ghost use Rattle.linda_kt.specs.Words.{asked_by, command_line_app, command_of, has_flag, journal_rule, program_app};
+ghost use Rattle.linda_kt.specs.Words.{replay_shape, run_shape, texts, words_fault};
 
-use clap::Error;
 use clap::error::ErrorKind;
+use clap::{Arg, ArgAction, ArgMatches, Error};
+use kt_run::Output;
 use std::alloc::{AllocError, Global};
 
 /// What the program is asked to do.
@@ -12,17 +15,22 @@ use std::alloc::{AllocError, Global};
 pub enum Command {
     /// Make the steps of a scenario and write the report.
     Replay,
+    /// Run a scenario of fault lines by threads, and write this of it.
+    Run(Output),
 }
 
 impl Command {
-    /// The command of that name.
-    fn of_name(name: &str) -> Option<Command>
-        ensures known { (c : Command) → name.now ≡ name_of c → result ≡ Some c }
-        ensures given { IfSome result (λ c. name.now ≡ name_of c) }
+    /// The command of that name, with or without its flag.
+    fn of_name(name: &str, has_flag: bool) -> Option<Command>
+        ensures { result ≡ command_of name.now has_flag }
     {
-        match name {
-            "replay" => Some(Command::Replay),
-            _ => None,
+        if name == "replay" {
+            Some(Command::Replay)
+        } else if name == "run" {
+            let output = if has_flag { Output::Journal } else { Output::Report };
+            Some(Command::Run(output))
+        } else {
+            None
         }
     }
 }
@@ -30,28 +38,70 @@ impl Command {
 /// The command that the words name, which are those after the program's name. Any other words are
 /// an error of `clap`, whose text is for the user.
 pub fn read_words<'a>(alloc: Global, words: &'a [&'a str]) -> Result<Command, Error>
-    ensures command { IfOk result (λ c. named_command (texts words.entry.now) ≡ Some (name_of c)) }
+    ensures command { IfOk result (λ c. asked_by (texts words.entry.now) ≡ Some c) }
     ensures refused { FailsBy (words_fault (texts words.entry.now)) result }
 {
     let matches = command_line(alloc)?.try_get_matches_from(words)?;
     // Words that pass have one of the names.
-    let name = matches.subcommand_name().unwrap();
-    Ok(Command::of_name(name).unwrap())
+    let (name, options) = matches.subcommand().unwrap();
+    Ok(Command::of_name(name, has_journal(options)).unwrap())
+}
+
+/// Whether `--journal` stands among a command's words.
+fn has_journal(options: &ArgMatches<'_>) -> bool
+    ensures { result ≡ has_flag (rows_of (found_of options.now)) }
+{
+    // Of a flag that stands there the text is that of `true`.
+    match options.get_str("journal") {
+        Some(text) => text == "true",
+        None => false,
+    }
 }
 
 /// The grammar of the command line: one subcommand, which must be there.
 fn command_line<'a>(alloc: Global) -> Result<clap::Command<'a>, AllocError>
     ensures { IfOk result (λ c. app_of c ≡ command_line_app) }
 {
-    let replay = clap::Command::new(alloc, "replay").about(
-        "Makes the steps of the scenario on standard input and writes the report to standard output",
-    );
+    let run = run_command(alloc)?;
     described(alloc)
         .bin_name("linda_kt")?
         .no_binary_name(true)
         .subcommand_required(true)
         .disable_help_subcommand(true)
-        .subcommand(replay)
+        .subcommand(replay_command(alloc))?
+        .subcommand(run)
+}
+
+/// `replay`, which has no words of its own.
+fn replay_command<'a>(alloc: Global) -> clap::Command<'a>
+    ensures shape { shape_of result ≡ replay_shape }
+    ensures local { (fields_of result).has_globals ≡ false }
+{
+    clap::Command::new(alloc, "replay").about(
+        "Makes the steps of the scenario on standard input and writes the report to standard output",
+    )
+}
+
+/// `run` with its flag.
+fn run_command<'a>(alloc: Global) -> Result<clap::Command<'a>, AllocError>
+    ensures shape { IfOk result (λ c. shape_of c ≡ run_shape) }
+    ensures local { IfOk result (λ c. (fields_of c).has_globals ≡ false) }
+{
+    let run = clap::Command::new(alloc, "run").about(
+        "Runs the scenario on standard input, by a thread for each node, and writes the report to standard output",
+    );
+    run.arg(journal_flag(alloc))
+}
+
+/// `--journal`.
+fn journal_flag<'a>(alloc: Global) -> Arg<'a>
+    ensures rule { rule_of result ≡ journal_rule }
+    ensures local { result.global ≡ false }
+{
+    Arg::new(alloc, "journal")
+        .long("journal")
+        .action(ArgAction::SetTrue)
+        .help("Writes the report as remarks, and then the steps that were made, as a scenario for replay")
 }
 
 /// The program's name, what it is, and its version.
