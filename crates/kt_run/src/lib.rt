@@ -2,7 +2,9 @@
 #![tactic(auto)]
 
 mod fault;
+mod laws;
 mod running;
 
 pub use fault::RunTextFault;
+pub use laws::{what_a_run_tells_is_replayed, what_was_made_can_be_said};
 pub use running::{Output, run_text};

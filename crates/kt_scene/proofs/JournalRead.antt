@@ -36,7 +36,7 @@ remarks_lines (line ∷ later) h =
     All-cons IsLine (remarked line) (map remarked later) first (remarks_lines later (All-tail IsLine line later h))
 
 -- the text of a journal is that of a scenario, whose ignored lines are the report's
-journal_is_scenario : (report : List ℕ) (cast : Cast) (steps : List Step) → IsPlay (play_of_steps cast steps) → length (journal_text report cast steps) ≤ 1048576
+pub journal_is_scenario : (report : List ℕ) (cast : Cast) (steps : List Step) → IsPlay (play_of_steps cast steps) → length (journal_text report cast steps) ≤ 1048576
     → IsScenario (journal_text report cast steps) (play_of_steps cast steps)
 journal_is_scenario report cast steps rules short =
     let play = play_of_steps cast steps in

@@ -40,5 +40,4 @@ pub mod WrittenRead
 pub mod FirstFault
 pub mod OtherKind
 pub mod JournalRead
-pub mod Said
 pub mod Remarks

@@ -1,11 +1,8 @@
 //! Laws about the definitions, each the contract of a function with nothing to do.
 
-ghost use Rattle.std.specs.Prelude.{◌≡◌, ◌≢◌, ℕ, ◌≤◌, All, List, length, Ok, Err};
-ghost use Rattle.kt_script.specs.Rules.{IsScript};
+ghost use Rattle.std.specs.Prelude.{◌≡◌, ◌≢◌, ℕ, ◌≤◌, List, length, Ok, Err};
 ghost use Rattle.kt_world.specs.declared.step.Step.{Step};
-ghost use Rattle.kt_world.specs.Cast.{Cast, IsCast};
-ghost use Rattle.kt_world.specs.Reached.{opening};
-ghost use Rattle.kt_world.specs.State.{State};
+ghost use Rattle.kt_world.specs.Cast.{Cast};
 ghost use Rattle.kt_scene.specs.declared.fault.SceneError.{SceneError};
 ghost use Rattle.kt_scene.specs.declared.fault.SceneError.TheVariants.{Word};
 ghost use Rattle.kt_scene.specs.declared.scenario.WorkKind.{WorkKind};
@@ -13,8 +10,7 @@ ghost use Rattle.kt_scene.specs.declared.scenario.WorkKind.TheVariants as kinds;
 ghost use Rattle.kt_scene.specs.Faults.{HasFirstFault, IsWordOfWork};
 ghost use Rattle.kt_scene.specs.Journal.{journal_text, play_of_steps};
 ghost use Rattle.kt_scene.specs.Reading.{Play, play_of};
-ghost use Rattle.kt_scene.specs.Runs.{RunsTo};
-ghost use Rattle.kt_scene.specs.Scenario.{IsPlay, IsScenario, IsStep, IsTextOf};
+ghost use Rattle.kt_scene.specs.Scenario.{IsPlay, IsScenario, IsTextOf};
 ghost use Rattle.kt_scene.specs.Text.{scenario_text};
 ghost use Rattle.kt_scene.specs.Work.{kind_of};
 
@@ -50,12 +46,6 @@ pub fn what_was_read_is_written()
 pub fn what_is_written_is_read()
     ensures { (play : Play) → IsPlay play → length (scenario_text play) ≤ 1048576
         → play_of (kind_of play.work) (scenario_text play) ≡ Ok play }
-{}
-
-/// Steps that lead from the opening of a scene to some state can be said by lines: so a journal of them has a text.
-pub fn what_was_made_can_be_said()
-    ensures { (cast : Cast) (steps : List Step) (s : State) → IsCast cast → All IsScript cast.scripts
-        → RunsTo (opening cast) steps s → All IsStep steps }
 {}
 
 /// A journal's text, where it is not too long, is read as the scenario of its steps, whatever report it begins with.
