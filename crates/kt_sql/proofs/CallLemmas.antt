@@ -29,7 +29,8 @@ use Rattle.sqlite_trees.specs.View.{doubt}
 use Rattle.kt_store.specs.Changes.{storing, restart_begun}
 use Rattle.kt_store.specs.declared.rows.Purpose.TheVariants.{Rollback}
 use Rattle.kt_store.specs.declared.rows.Verdict.TheVariants.{Open}
-use Rattle.kt_sql.proofs.StateLemmas.{Stays, executed_open, refused_stays, written_settled}
+use Rattle.kt_sql.specs.Settled.{Stays}
+use Rattle.kt_sql.proofs.StateLemmas.{executed_open, refused_stays, written_settled}
 use Rattle.kt_sql.specs.Both.{RanBoth}
 use Rattle.kt_sql.proofs.StoreLemmas.{stayed, wrote}
 use Rattle.kt_sql.proofs.OrderLemmas.{all_inserted}
@@ -72,7 +73,7 @@ module _ {S : Type 0} (g : Ghosts S) (s n : Stored S) (kept : IsKept g n) (same 
       × IfSome (find (λ (r : NodeRow). node_eq r.node node) (content_of g s).nodes) IsNodeRow
   node_read node rows low h = (
     node_found (state g s.conn) (state g n.conn) (content_of g s) was_schema was_held node low rows h,
-    found_is IsNodeRow (λ (r : NodeRow). node_eq r.node node) (content_of g s).nodes was_held.said.nodes,
+    found_is IsNodeRow (λ (r : NodeRow). node_eq r.node node) (content_of g s).nodes was_held.nodes.said,
   )
 
 -- a node that has no number there has no row
@@ -89,16 +90,16 @@ none_found p (x ∷ xs) h = rw h.0 (none_found p xs h.1)
 module _ {S : Type 0} (g : Ghosts S) (s : Stored S) (kept : IsKept g s) where
   pub no_node_read : (node : NodeId) → ¬ HasId node → find (λ (r : NodeRow). node_eq r.node node) (content_of g s).nodes ≡ None
   no_node_read node none =
-      none_found (λ (r : NodeRow). node_eq r.node node) (content_of g s).nodes (all_weaker _ _ (λ r good. other r.node node good.node none) _ kept.holds.said.nodes)
+      none_found (λ (r : NodeRow). node_eq r.node node) (content_of g s).nodes (all_weaker _ _ (λ r good. other r.node node good.node none) _ kept.holds.nodes.said)
 
   pub no_posted_read : (i : ℕ) → greatest < i → find (λ (p : Posted). p.instance == i) (content_of g s).board ≡ None
   no_posted_read i high =
-      none_found (λ (p : Posted). p.instance == i) (content_of g s).board (all_weaker _ _ (λ p good. let low = good.last in grind (arith, high, low)) _ kept.holds.said.board)
+      none_found (λ (p : Posted). p.instance == i) (content_of g s).board (all_weaker _ _ (λ p good. let low = good.last in grind (arith, high, low)) _ kept.holds.board.said)
 
   pub no_open_read : (node : NodeId) → ¬ HasId node → find (λ (p : Posted). node_eq p.initiator node && is_open p.verdict) (content_of g s).board ≡ None
   no_open_read node none =
       none_found (λ (p : Posted). node_eq p.initiator node && is_open p.verdict) (content_of g s).board
-      (all_weaker _ _ (λ p good. ap (λ b. b && is_open p.verdict) (other p.initiator node good.initiator none)) _ kept.holds.said.board)
+      (all_weaker _ _ (λ p good. ap (λ b. b && is_open p.verdict) (other p.initiator node good.initiator none)) _ kept.holds.board.said)
 
 -- ---- the first of the rows, where the greatest number comes first
 
@@ -152,7 +153,7 @@ module _ {S : Type 0} (g : Ghosts S) (s n : Stored S) (kept : IsKept g n) (same 
       → (slice_get rows 0 ≡ option_map posted_given (find (λ (p : Posted). p.instance == i) was.board)) × IfSome (find (λ (p : Posted). p.instance == i) was.board) IsPosted
   posted_read i rows h = (
     posted_found (state g s.conn) (state g n.conn) was (was_schema g s n kept same) (was_held g s n kept same) i rows h,
-    found_is IsPosted (λ (p : Posted). p.instance == i) was.board (was_held g s n kept same).said.board,
+    found_is IsPosted (λ (p : Posted). p.instance == i) was.board (was_held g s n kept same).board.said,
   )
 
   pub open_read : (node : NodeId) (rows : List Row) → HasId node → Shown open_posted_text (whole (id_of node) ∷ []) (state g s.conn) (state g n.conn) rows
@@ -160,14 +161,14 @@ module _ {S : Type 0} (g : Ghosts S) (s n : Stored S) (kept : IsKept g n) (same 
       × IfSome (find (λ (p : Posted). node_eq p.initiator node && is_open p.verdict) was.board) IsPosted
   open_read node rows low h = (
     open_found (state g s.conn) (state g n.conn) was (was_schema g s n kept same) (was_held g s n kept same) node low rows h,
-    found_is IsPosted (λ (p : Posted). node_eq p.initiator node && is_open p.verdict) was.board (was_held g s n kept same).said.board,
+    found_is IsPosted (λ (p : Posted). node_eq p.initiator node && is_open p.verdict) was.board (was_held g s n kept same).board.said,
   )
 
   pub last_read : (rows : List Row) → Shown last_posted_text [] (state g s.conn) (state g n.conn) rows
       → (slice_get rows 0 ≡ option_map posted_given (slice_get (sorted_board was.board) 0)) × IfSome (slice_get (sorted_board was.board) 0) IsPosted
   last_read rows h = (
     last_found (state g s.conn) (state g n.conn) was (was_schema g s n kept same) (was_held g s n kept same) rows h,
-    first_is IsPosted (sorted_board was.board) (all_sorted IsPosted _ was.board (was_held g s n kept same).said.board),
+    first_is IsPosted (sorted_board was.board) (all_sorted IsPosted _ was.board (was_held g s n kept same).board.said),
   )
 
   pub nodes_read : (rows : List Row) → Shown first_node_text [] (state g s.conn) (state g n.conn) rows → (length rows == 0) ≡ is_empty was.nodes

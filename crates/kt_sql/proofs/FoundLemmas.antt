@@ -87,10 +87,10 @@ open_code No = refl
 
 module _ (old new : State) (c : Content) (has : old.now.schema ≡ kt_schema) (held : Holds old.now.trees c) where
   abbrev nodes_rise : IsKeyedBy (λ (r : NodeRow). pos (id_of r.node)) c.nodes
-  nodes_rise = nodes_keyed c.nodes held.said.nodes held.said.nodes_rise
+  nodes_rise = nodes_keyed c.nodes held.nodes.said held.nodes.rise
 
   abbrev board_rises : IsKeyedBy (λ (p : Posted). pos p.instance) c.board
-  board_rises = board_keyed c.board held.said.board held.said.board_rises
+  board_rises = board_keyed c.board held.board.said held.board.rise
 
   pub node_found : (node : NodeId) → HasId node → (rows : List Row) → Shown get_node_text (whole (id_of node) ∷ []) old new rows
       → slice_get rows 0 ≡ option_map node_given (find (λ (r : NodeRow). node_eq r.node node) c.nodes)
@@ -98,28 +98,28 @@ module _ (old new : State) (c : Content) (has : old.now.schema ≡ kt_schema) (h
       let params = whole (id_of node) ∷ [] in
       let p = λ (r : NodeRow). int_eq (pos (id_of r.node)) (pos (id_of node)) in
       let answer = answered get_node_text params old new get_node node_names get_node_is has rows h in
-      let is = in_order nodes_table (overlay old.now.trees []) c.nodes held.nodes nodes_rise (equals (col 1 0) (col 0 0) ∷ []) (negsuc 0) params p (λ r. refl)
+      let is = in_order nodes_table (overlay old.now.trees []) c.nodes held.nodes.shown nodes_rise (equals (col 1 0) (col 0 0) ∷ []) (negsuc 0) params p (λ r. refl)
       (λ r. last_term (at_ints false Eq (pos (id_of r.node)) (pos (id_of node)))) rows answer in
       first_given node_given p c.nodes is
-      ∙ ap (option_map node_given) (find_same p (λ (r : NodeRow). node_eq r.node node) c.nodes (all_weaker _ _ (λ r good. same_id r.node node good.node low) c.nodes held.said.nodes))
+      ∙ ap (option_map node_given) (find_same p (λ (r : NodeRow). node_eq r.node node) c.nodes (all_weaker _ _ (λ r good. same_id r.node node good.node low) c.nodes held.nodes.said))
 
   -- all of them, in their order
   pub all_nodes_found : (rows : List Row) → Shown all_nodes_text [] old new rows → rows ≡ map node_given c.nodes
   all_nodes_found rows h =
       let answer = answered all_nodes_text [] old new all_nodes node_names all_nodes_is has rows h in
-      in_order nodes_table (overlay old.now.trees []) c.nodes held.nodes nodes_rise [] (negsuc 0) [] (λ _. true) (λ r. refl) (λ r. refl) rows answer
+      in_order nodes_table (overlay old.now.trees []) c.nodes held.nodes.shown nodes_rise [] (negsuc 0) [] (λ _. true) (λ r. refl) (λ r. refl) rows answer
       ∙ ap (map node_given) (filter_all (λ _. true) c.nodes (all_of _ (λ _. refl) c.nodes))
 
   pub all_posted_found : (rows : List Row) → Shown all_posted_text [] old new rows → rows ≡ map posted_given c.board
   all_posted_found rows h =
       let answer = answered all_posted_text [] old new all_posted posted_names all_posted_is has rows h in
-      in_order posted_table (overlay old.now.trees []) c.board held.board board_rises [] (negsuc 0) [] (λ _. true) (λ p. refl) (λ p. refl) rows answer
+      in_order posted_table (overlay old.now.trees []) c.board held.board.shown board_rises [] (negsuc 0) [] (λ _. true) (λ p. refl) (λ p. refl) rows answer
       ∙ ap (map posted_given) (filter_all (λ _. true) c.board (all_of _ (λ _. refl) c.board))
 
   pub some_node_found : (rows : List Row) → Shown first_node_text [] old new rows → slice_get rows 0 ≡ option_map node_given (slice_get c.nodes 0)
   some_node_found rows h =
       let answer = answered first_node_text [] old new first_node node_names first_node_is has rows h in
-      let is = in_order nodes_table (overlay old.now.trees []) c.nodes held.nodes nodes_rise [] (pos 1) [] (λ _. true) (λ r. refl) (λ r. refl) rows answer in
+      let is = in_order nodes_table (overlay old.now.trees []) c.nodes held.nodes.shown nodes_rise [] (pos 1) [] (λ _. true) (λ r. refl) (λ r. refl) rows answer in
       first_of _ is ∙ slice_get-map node_given _ 0
       ∙ ap (λ (l : List NodeRow). option_map node_given (slice_get l 0)) (filter_all (λ _. true) c.nodes (all_of _ (λ _. refl) c.nodes))
 
@@ -129,7 +129,7 @@ module _ (old new : State) (c : Content) (has : old.now.schema ≡ kt_schema) (h
       let params = whole i ∷ [] in
       let p = λ (r : Posted). int_eq (pos r.instance) (pos i) in
       let answer = answered get_posted_text params old new get_posted posted_names get_posted_is has rows h in
-      let is = in_order posted_table (overlay old.now.trees []) c.board held.board board_rises (equals (col 1 0) (col 0 0) ∷ []) (negsuc 0) params p (λ r. refl)
+      let is = in_order posted_table (overlay old.now.trees []) c.board held.board.shown board_rises (equals (col 1 0) (col 0 0) ∷ []) (negsuc 0) params p (λ r. refl)
       (λ r. last_term (at_ints false Eq (pos r.instance) (pos i))) rows answer in
       first_given posted_given p c.board is
       ∙ ap (option_map posted_given) (find_same p (λ (r : Posted). r.instance == i) c.board (all_of _ (λ r. same_number r.instance i) c.board))
@@ -140,16 +140,16 @@ module _ (old new : State) (c : Content) (has : old.now.schema ≡ kt_schema) (h
       let params = whole (id_of node) ∷ [] in
       let p = λ (r : Posted). int_eq (pos (id_of r.initiator)) (pos (id_of node)) && int_eq (whole_of r.verdict) (pos 0) in
       let answer = answered open_posted_text params old new open_posted posted_names open_posted_is has rows h in
-      let is = in_order posted_table (overlay old.now.trees []) c.board held.board board_rises
+      let is = in_order posted_table (overlay old.now.trees []) c.board held.board.shown board_rises
       (equals (col 1 2) (col 0 0) ∷ equals (col 1 4) (lit (Int (pos 0))) ∷ []) (pos 1) params p (λ r. refl)
       (λ r. then_term (at_ints false Eq (pos (id_of r.initiator)) (pos (id_of node))) (last_term (at_ints false Eq (whole_of r.verdict) (pos 0)))) rows answer in
       first_shown posted_given p c.board is
       ∙ ap (option_map posted_given) (find_same p (λ (r : Posted). node_eq r.initiator node && is_open r.verdict) c.board
-      (all_weaker _ _ (λ r good. ap₂ ◌&&◌ (same_id r.initiator node good.initiator low) (open_code r.verdict)) c.board held.said.board))
+      (all_weaker _ _ (λ r good. ap₂ ◌&&◌ (same_id r.initiator node good.initiator low) (open_code r.verdict)) c.board held.board.said))
 
   pub last_found : (rows : List Row) → Shown last_posted_text [] old new rows
       → slice_get rows 0 ≡ option_map posted_given (slice_get (sort_by (downwards (λ (p : Posted). p.instance)) c.board) 0)
   last_found rows h =
       let answer = answered last_posted_text [] old new last_posted posted_names last_posted_is has rows h in
-      let is = from_last posted_table (overlay old.now.trees []) c.board held.board board_rises (pos 1) [] rows answer in
+      let is = from_last posted_table (overlay old.now.trees []) c.board held.board.shown board_rises (pos 1) [] rows answer in
       first_of _ is ∙ slice_get-map posted_given _ 0

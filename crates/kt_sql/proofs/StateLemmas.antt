@@ -15,12 +15,7 @@ use Rattle.sqlite.specs.State.{State, Shows, Runs, Writes, IsUnchanged, IsRolled
 use Rattle.sqlite.specs.Listing.{understood}
 use Rattle.sqlite.proofs.Callers.{IsPlain}
 use Rattle.kt_sql.specs.Schema.{kt_schema}
-use Rattle.kt_sql.specs.Settled.{IsSettled}
-
--- the connection was open, and, where it was settled over the tables of a store, all that is seen is as it was
-pub record Stays (old new : State) : Type 0 where
-  pub was_open : IsTrue old.is_open
-  pub rest : IsSettled old → old.now.schema ≡ kt_schema → (new.now ≡ old.now) × IsSettled new
+use Rattle.kt_sql.specs.Settled.{IsSettled, Stays, Looks}
 
 abbrev Leaves : State → State → Type 0
 Leaves old new = IsTrue new.is_open → Stays old new

@@ -27,7 +27,7 @@ use Rattle.kt_sql.specs.Made.{IsMade}
 use Rattle.sqlite.specs.Tree.{Trees}
 use Rattle.kt_sql.proofs.RowLemmas.{map_back, row_back, posted_back}
 use Rattle.kt_sql.specs.Store.{Stored, is_sure, content_of, IsKept}
-use Rattle.kt_sql.proofs.StateLemmas.{Stays}
+use Rattle.kt_sql.specs.Settled.{Stays}
 
 three : (a b c : Bool) → IsTrue (a && (b && c)) → IsTrue a × IsTrue b × IsTrue c
 three true true true h = (refl, refl, refl)
@@ -61,8 +61,8 @@ posted_less a b h g less = grind (arith, less)
 
 pub holds_content : {db : Trees} (c : Content) → Holds db c → content_in db ≡ c
 holds_content c h =
-    let nodes = read_back IsNodeRow (λ (r : NodeRow). id_of r.node) (λ (a b : NodeRow). node_lt a.node b.node) node_less node_given node_in row_back c.nodes _ h.said.nodes h.said.nodes_rise h.nodes in
-    let board = read_back IsPosted (λ (p : Posted). p.instance) (λ (a b : Posted). nat_lt a.instance b.instance) posted_less posted_given posted_in posted_back c.board _ h.said.board h.said.board_rises h.board in
+    let nodes = read_back IsNodeRow (λ (r : NodeRow). id_of r.node) (λ (a b : NodeRow). node_lt a.node b.node) node_less node_given node_in row_back c.nodes _ h.nodes.said h.nodes.rise h.nodes.shown in
+    let board = read_back IsPosted (λ (p : Posted). p.instance) (λ (a b : Posted). nat_lt a.instance b.instance) posted_less posted_given posted_in posted_back c.board _ h.board.said h.board.rise h.board.shown in
     ap₂ (λ (ns : List NodeRow) (ps : List Posted). let whole : Content = record { nodes = ns; board = ps } in whole) nodes board
 
 pub empty_content_in : (db : Trees) → db 0 ≡ [] → db 1 ≡ [] → content_in db ≡ empty_content
@@ -73,9 +73,8 @@ empty_content_in db none bare =
 empty_holds : (db : Trees) → db 0 ≡ [] → db 1 ≡ [] → Holds db (content_in db)
 empty_holds db none bare =
     subst (Holds db) (sym (empty_content_in db none bare)) record {
-      nodes = IsPermutation-same [] _ (sym (ap (map node_shown) none));
-      board = IsPermutation-same [] _ (sym (ap (map posted_shown) bare));
-      said = record { nodes = tt; board = tt; nodes_rise = tt; board_rises = tt };
+      nodes = record { shown = IsPermutation-same [] _ (sym (ap (map node_shown) none)); said = tt; rise = tt };
+      board = record { shown = IsPermutation-same [] _ (sym (ap (map posted_shown) bare)); said = tt; rise = tt };
     }
 
 module _ {S : Type 0} (g : Ghosts S) where

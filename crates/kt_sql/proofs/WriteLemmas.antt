@@ -41,7 +41,7 @@ use Rattle.kt_store.specs.Changes.{with_row, with_posted, storing}
 use Rattle.kt_store.proofs.Tables.{placed, IsOrder}
 use Rattle.kt_sql.specs.Schema.{kt_schema, node_table, board_table, meta_table}
 use Rattle.kt_sql.specs.Text.{put_node_text, put_posted_text}
-use Rattle.kt_sql.specs.Rows.{placing, whole, id_of, HasId, spelled, checkpoint_value, instance_value, node_given, node_stored, node_shown, posted_given, posted_stored, posted_shown, IsNodeRow, IsPosted, IsSaid, Holds, purpose_code, verdict_code}
+use Rattle.kt_sql.specs.Rows.{placing, whole, id_of, HasId, spelled, checkpoint_value, instance_value, node_given, node_stored, node_shown, posted_given, posted_stored, posted_shown, IsNodeRow, IsPosted, HoldsNodes, HoldsBoard, Holds, purpose_code, verdict_code}
 use Rattle.kt_sql.proofs.PutLemmas.{went, same_value, AreNumbered, replaces}
 use Rattle.kt_sql.proofs.Tables.{Table, nodes_table, posted_table}
 use Rattle.kt_sql.proofs.Texts.{node_terms, posted_terms, put_node, put_posted, put_node_is, put_node_plain, put_posted_is, put_posted_plain}
@@ -239,20 +239,20 @@ put_node_does old new r c count good has held h =
     let done = went (subst (λ s. Does old.step_limit (mode_of old) params (record old.now { schema = s }) text None put_node (Ok (w.tally, new.now))) has w.changed) in
     let now = ap (λ (p : Tally × Database). p.1) (same_value (went (went done.2).2).2) in
     let next = replaces node_table.name 0 node_table.columns old.step_limit params (node_stored r) (pos (id_of r.node)) refl node_terms 6 (node_stored r) refl (cast_node r) (cast_node r) db
-    (numbered_rows nodes_table c.nodes (db 0) held.nodes) done.0 done.1 in
+    (numbered_rows nodes_table c.nodes (db 0) held.nodes.shown) done.0 done.1 in
     let placed_is : insert_by (λ (x : NodeRow). pos (id_of x.node)) (without_key (λ (x : NodeRow). pos (id_of x.node)) c.nodes (pos (id_of r.node))) r ≡ with_row r c.nodes =
-    placed_by node_before node_order (λ (x : NodeRow). id_of x.node) r c.nodes (all_weaker _ _ (goes_by_id r good) c.nodes held.said.nodes) held.said.nodes_rise in
+    placed_by node_before node_order (λ (x : NodeRow). id_of x.node) r c.nodes (all_weaker _ _ (goes_by_id r good) c.nodes held.nodes.said) held.nodes.rise in
     let nodes : IsPermutation (map node_given (with_row r c.nodes)) (map node_shown (done.0.trees 0)) =
-    subst₂ (λ (l : List NodeRow) (rows : List Row). IsPermutation (map node_given l) (map node_shown rows)) placed_is (sym next.0) (put_shown nodes_table r c.nodes (db 0) held.nodes) in
-    let board : IsPermutation (map posted_given c.board) (map posted_shown (done.0.trees 1)) =
-    subst (λ (rows : List Row). IsPermutation (map posted_given c.board) (map posted_shown rows)) (sym (next.1 1 (λ same. absurd cc))) held.board in
-    let said : IsSaid (storing r c) = record {
-      nodes = placed_all node_before node_order IsNodeRow r c.nodes good held.said.nodes;
-      board = held.said.board;
-      nodes_rise = placed_rises node_before node_order r c.nodes held.said.nodes_rise;
-      board_rises = held.said.board_rises;
+    subst₂ (λ (l : List NodeRow) (rows : List Row). IsPermutation (map node_given l) (map node_shown rows)) placed_is (sym next.0) (put_shown nodes_table r c.nodes (db 0) held.nodes.shown) in
+    let holds : Holds done.0.trees (storing r c) = record {
+      nodes = record {
+        shown = nodes;
+        said = placed_all node_before node_order IsNodeRow r c.nodes good held.nodes.said;
+        rise = placed_rises node_before node_order r c.nodes held.nodes.rise;
+      };
+      board = subst (λ (rows : List Row). HoldsBoard rows c.board) (sym (next.1 1 (λ same. absurd cc))) held.board;
     } in
-    (w.shown, ap (λ (d : Database). d.schema) now, subst (λ (d : Database). Holds d.trees (storing r c)) (sym now) record { nodes = nodes; board = board; said = said })
+    (w.shown, ap (λ (d : Database). d.schema) now, subst (λ (d : Database). Holds d.trees (storing r c)) (sym now) holds)
 
 pub put_posted_does : (old new : State) (p : Posted) (c : Content) (count : ℕ) → IsPosted p → old.now.schema ≡ kt_schema → Holds old.now.trees c
     → Executes put_posted_text (posted_given p) old new (Ok count) → Shows old new new.now (cond old.in_transaction old.committed new.now) old.in_transaction × (new.now.schema ≡ kt_schema) × Holds new.now.trees (placing p c)
@@ -264,17 +264,17 @@ put_posted_does old new p c count good has held h =
     let done = went (subst (λ s. Does old.step_limit (mode_of old) params (record old.now { schema = s }) text None put_posted (Ok (w.tally, new.now))) has w.changed) in
     let now = ap (λ (p : Tally × Database). p.1) (same_value (went (went done.2).2).2) in
     let next = replaces board_table.name 1 board_table.columns old.step_limit params (posted_stored p) (pos p.instance) refl posted_terms 5 (posted_stored p) refl (cast_posted p) (cast_posted p) db
-    (numbered_rows posted_table c.board (db 1) held.board) done.0 done.1 in
+    (numbered_rows posted_table c.board (db 1) held.board.shown) done.0 done.1 in
     let placed_is : insert_by (λ (x : Posted). pos x.instance) (without_key (λ (x : Posted). pos x.instance) c.board (pos p.instance)) p ≡ with_posted p c.board =
-    placed_by posted_before posted_order (λ (x : Posted). x.instance) p c.board (all_of _ (λ x. (refl, refl)) c.board) held.said.board_rises in
+    placed_by posted_before posted_order (λ (x : Posted). x.instance) p c.board (all_of _ (λ x. (refl, refl)) c.board) held.board.rise in
     let board : IsPermutation (map posted_given (with_posted p c.board)) (map posted_shown (done.0.trees 1)) =
-    subst₂ (λ (l : List Posted) (rows : List Row). IsPermutation (map posted_given l) (map posted_shown rows)) placed_is (sym next.0) (put_shown posted_table p c.board (db 1) held.board) in
-    let nodes : IsPermutation (map node_given c.nodes) (map node_shown (done.0.trees 0)) =
-    subst (λ (rows : List Row). IsPermutation (map node_given c.nodes) (map node_shown rows)) (sym (next.1 0 (λ same. absurd cc))) held.nodes in
-    let said : IsSaid (placing p c) = record {
-      nodes = held.said.nodes;
-      board = placed_all posted_before posted_order IsPosted p c.board good held.said.board;
-      nodes_rise = held.said.nodes_rise;
-      board_rises = placed_rises posted_before posted_order p c.board held.said.board_rises;
+    subst₂ (λ (l : List Posted) (rows : List Row). IsPermutation (map posted_given l) (map posted_shown rows)) placed_is (sym next.0) (put_shown posted_table p c.board (db 1) held.board.shown) in
+    let holds : Holds done.0.trees (placing p c) = record {
+      nodes = subst (λ (rows : List Row). HoldsNodes rows c.nodes) (sym (next.1 0 (λ same. absurd cc))) held.nodes;
+      board = record {
+        shown = board;
+        said = placed_all posted_before posted_order IsPosted p c.board good held.board.said;
+        rise = placed_rises posted_before posted_order p c.board held.board.rise;
+      };
     } in
-    (w.shown, ap (λ (d : Database). d.schema) now, subst (λ (d : Database). Holds d.trees (placing p c)) (sym now) record { nodes = nodes; board = board; said = said })
+    (w.shown, ap (λ (d : Database). d.schema) now, subst (λ (d : Database). Holds d.trees (placing p c)) (sym now) holds)

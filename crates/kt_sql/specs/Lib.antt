@@ -1,6 +1,7 @@
 pub mod Both
 pub mod Cells
 pub mod Made
+pub mod Opened
 pub mod Rows
 pub mod Schema
 pub mod Settled

@@ -190,18 +190,26 @@ pub record IsPosted (p : Posted) : Type 0 where
   pub last : p.instance ≤ greatest
   pub initiator : HasId p.initiator
 
--- each row of the content is as said, and they rise by their keys
-pub record IsSaid (c : Content) : Type 0 where
-  pub nodes : AllByRecursion IsNodeRow c.nodes
-  pub board : AllByRecursion IsPosted c.board
-  pub nodes_rise : IsAscending (λ (a b : NodeRow). node_lt a.node b.node ≡ true) c.nodes
-  pub board_rises : IsAscending (λ (a b : Posted). nat_lt a.instance b.instance ≡ true) c.board
+-- these are the nodes of the table, whose rows stand in some order: each is as said, and they rise by their keys
+pub record HoldsNodes (rows : List Row) (nodes : List NodeRow) : Type 0 where
+  pub shown : IsPermutation (map node_given nodes) (map node_shown rows)
+  pub said : AllByRecursion IsNodeRow nodes
+  pub rise : IsAscending (λ (a b : NodeRow). node_lt a.node b.node ≡ true) nodes
 
--- the tables hold this content: its rows, in some order
+-- these are the instances of the board
+pub record HoldsBoard (rows : List Row) (board : List Posted) : Type 0 where
+  pub shown : IsPermutation (map posted_given board) (map posted_shown rows)
+  pub said : AllByRecursion IsPosted board
+  pub rise : IsAscending (λ (a b : Posted). nat_lt a.instance b.instance ≡ true) board
+
+-- the tables hold this content
 pub record Holds (db : Trees) (c : Content) : Type 0 where
-  pub nodes : IsPermutation (map node_given c.nodes) (map node_shown (db 0))
-  pub board : IsPermutation (map posted_given c.board) (map posted_shown (db 1))
-  pub said : IsSaid c
+  pub nodes : HoldsNodes (db 0) c.nodes
+  pub board : HoldsBoard (db 1) c.board
+
+-- each row of the two tables is as said
+abbrev pub AreAsSaid : Trees → Type 0
+AreAsSaid db = (c : Content) × Holds db c
 
 -- ---- what is read of a row
 

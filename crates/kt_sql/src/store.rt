@@ -11,7 +11,7 @@ ghost use Rattle.kt_store.specs.declared.rows.Posted.{Posted as PostedFields};
 ghost use Rattle.kt_store.specs.Changes.{storing};
 ghost use Rattle.kt_sql.specs.Text.{put_node_text};
 ghost use Rattle.kt_sql.specs.Rows.{IsNodeRow, IsPosted, node_given, posted_given, placing};
-ghost use Rattle.kt_sql.specs.Made.{IsMade};
+ghost use Rattle.kt_sql.specs.Opened.{IsReady};
 ghost use Rattle.kt_sql.specs.Cells.{SpellsNode, SpellsPosted};
 ghost use Rattle.sqlite.specs.Given.{IsPlain};
 ghost use Rattle.kt_store.specs.Calls.{HasCause, most_faults};
@@ -76,14 +76,14 @@ fn refused(faults: &mut u64, error: Error) -> StoreError
 }
 
 impl<S: Alter> SqlStore<S> {
-    /// The store over a connection in which its tables were just made.
-    pub(crate) fn made(alloc: Global, conn: Connection<S>) -> SqlStore<S>
-        requires { HasCleanDisk (state S.Store conn) → IsMade (state S.Store conn) }
-        ensures { result ≡ record { conn = conn; is_trusted = true; faults = 0 } }
+    /// The store over a connection whose tables were made or tested.
+    pub(crate) fn over(alloc: Global, conn: Connection<S>, is_trusted: bool) -> SqlStore<S>
+        requires { HasCleanDisk (state S.Store conn) → IsReady (state S.Store conn) is_trusted }
+        ensures { result ≡ record { conn = conn; is_trusted = is_trusted; faults = 0 } }
     {
         SqlStore {
             conn,
-            is_trusted: true,
+            is_trusted,
             faults: 0,
             alloc,
         }
