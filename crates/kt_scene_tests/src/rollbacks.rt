@@ -1,10 +1,11 @@
-//! Scenarios with checkpoints, failures and rollbacks, over a store in memory, and their reports.
+//! Scenarios with checkpoints, failures and rollbacks, over a store in memory and one in SQL, and their reports.
 
 use kt_core::{StepError, World};
 use kt_history::Note;
 use kt_node::Mode;
 use kt_scene::{OpenError, ReplayFault, Sink, Source, replay, replay_world};
-use kt_store::MemStore;
+use kt_sql::SqlStore;
+use kt_store::{CkptStore, MemStore};
 use kt_tuple::NodeId;
 use std::alloc::Global;
 use std::process::Abort;
@@ -103,7 +104,17 @@ type Row = (
     Result<(), ReplayFault>,
 );
 
-const ROWS: [Row; 19] = [
+const ROWS: [Row; 20] = [
+    // answered_again
+    (
+        &[
+            ONE_WORKER,
+            "issue w1\ndeliver w1 s1\nserve s1 w1 0\nrepeat w1\ndeliver w1 s1\n\
+deliver s1 w1\ndeliver s1 w1\n",
+        ],
+        ONCE,
+        Ok(()),
+    ),
     // refused_and_late_votes: an abandoned check, whose ask comes after its verdict
     (
         &[
@@ -230,15 +241,32 @@ fn text_of(alloc: Global, parts: &[&str]) -> Result<Vec<u8>, Fail> {
     Ok(text)
 }
 
+/// Over this store the scenario ends so, with this report.
+fn assert_row<S: CkptStore + Drop>(rt: &impl Abort, alloc: Global, row: &Row, store: S) -> Result<(), Fail> {
+    let (parts, report, expected) = row;
+    let text = text_of(alloc, parts)?;
+    let (mut source, mut sink) = (Source::new(text.as_slice()), Sink::new(Vec::new(alloc)));
+    let answer = replay(alloc, &mut source, &mut sink, store);
+    assert_eq!(rt; answer, *expected, "{text:?}");
+    assert_eq!(rt; sink.into_inner().as_slice(), report.as_bytes(), "{text:?}");
+    Ok(())
+}
+
 #[test]
 fn rows(rt: HostRuntime) -> Result<(), Fail> {
     let alloc = rt.alloc();
-    for (parts, report, expected) in &ROWS {
-        let text = text_of(alloc, parts)?;
-        let (mut source, mut sink) = (Source::new(text.as_slice()), Sink::new(Vec::new(alloc)));
-        let answer = replay(alloc, &mut source, &mut sink, MemStore::new(alloc));
-        assert_eq!(rt; answer, *expected, "{text:?}");
-        assert_eq!(rt; sink.into_inner().as_slice(), report.as_bytes(), "{text:?}");
+    for row in &ROWS {
+        assert_row(&rt, alloc, row, MemStore::new(alloc))?;
+    }
+    Ok(())
+}
+
+#[test]
+fn rows_in_sql(rt: HostRuntime) -> Result<(), Fail> {
+    let alloc = rt.alloc();
+    for row in &ROWS {
+        let store = SqlStore::in_memory(alloc).ok().ok_or("a store")?;
+        assert_row(&rt, alloc, row, store)?;
     }
     Ok(())
 }

@@ -2,6 +2,8 @@
 #![tactic(auto)]
 
 #[cfg(test)]
+mod adopted;
+#[cfg(test)]
 mod beside;
 #[cfg(test)]
 mod calls;
@@ -9,3 +11,5 @@ mod calls;
 mod draws;
 #[cfg(test)]
 mod plain;
+#[cfg(test)]
+mod walks;

@@ -96,10 +96,14 @@ pub(crate) fn cast_of(seed: u64) -> Cast {
     random_cast(&mut Draws::of(seed))
 }
 
+/// The scene of this seed.
+pub fn scene_of(alloc: Global, seed: u64) -> Result<Scene, Finding> {
+    random_scene(alloc, &mut Draws::of(seed))
+}
+
 /// The world of this seed, in which nothing was done.
 pub(crate) fn opened_by(alloc: Global, seed: u64) -> Result<Game, Finding> {
-    let scene = random_scene(alloc, &mut Draws::of(seed))?;
-    let world = World::open(alloc, scene, MemStore::new(alloc));
+    let world = World::open(alloc, scene_of(alloc, seed)?, MemStore::new(alloc));
     world.ok().ok_or(Finding::NotMade("a world"))
 }
 

@@ -231,13 +231,28 @@ fn note_new(notes: &[Note], noted: usize, tally: &mut Tally) -> Result<(), Findi
     Ok(())
 }
 
-/// Walks through the scene of this number, of those of the seed: 60 to 200 turns.
-pub fn walk(alloc: Global, seed: u64, scene: u64, tally: &mut Tally) -> Result<(), Finding> {
-    let seed = seed.wrapping_mul(0x9e37_79b9_7f4a_7c15).wrapping_add(scene);
+/// The seed of the scene of this number, of those of the seed.
+pub fn seed_of(seed: u64, scene: u64) -> u64 {
+    seed.wrapping_mul(0x9e37_79b9_7f4a_7c15).wrapping_add(scene)
+}
+
+/// Goes through 60 to 200 turns of the scene of this seed.
+fn walked(alloc: Global, seed: u64, tally: &mut Tally) -> Result<Walker, Finding> {
     let mut walker = Walker::open(alloc, seed)?;
     let turns = 60 + walker.draws.below(141);
     for _ in 0..turns {
         walker.turn(alloc, tally)?;
     }
-    walker.end(alloc, tally)
+    Ok(walker)
+}
+
+/// Walks through the scene of this number, of those of the seed: 60 to 200 turns.
+pub fn walk(alloc: Global, seed: u64, scene: u64, tally: &mut Tally) -> Result<(), Finding> {
+    walked(alloc, seed_of(seed, scene), tally)?.end(alloc, tally)
+}
+
+/// The steps that a walk through the scene of this seed tries, those that are refused too.
+pub fn tried_steps(alloc: Global, seed: u64) -> Result<Vec<Step>, Finding> {
+    let mut tally = Tally::NONE;
+    Ok(walked(alloc, seed, &mut tally)?.tried)
 }
