@@ -28,11 +28,11 @@ use Rattle.kt_store.specs.declared.rows.Verdict.TheVariants.{Open, Yes, No}
 use Rattle.kt_store.specs.Verdict.{is_open}
 use Rattle.kt_store.specs.Content.{Content, node_lt}
 use Rattle.kt_sql.specs.Schema.{kt_schema}
-use Rattle.kt_sql.specs.Text.{get_node_text, all_nodes_text, first_node_text, get_posted_text, all_posted_text, last_posted_text, open_posted_text}
+use Rattle.kt_sql.specs.Text.{get_node_text, first_node_text, get_posted_text, last_posted_text, open_posted_text}
 use Rattle.kt_sql.specs.Rows.{whole, id_of, HasId, verdict_code, node_given, posted_given, IsNodeRow, IsPosted, Holds}
-use Rattle.kt_sql.proofs.Texts.{equals, get_node, get_node_is, all_nodes, all_nodes_is, first_node, first_node_is, get_posted, get_posted_is, last_posted, last_posted_is, open_posted, open_posted_is, all_posted, all_posted_is, node_names, posted_names}
+use Rattle.kt_sql.proofs.Texts.{equals, get_node, get_node_is, first_node, first_node_is, get_posted, get_posted_is, last_posted, last_posted_is, open_posted, open_posted_is, node_names, posted_names}
 use Rattle.kt_sql.proofs.WriteLemmas.{by_id}
-use Rattle.kt_sql.proofs.Tables.{nodes_table, posted_table}
+use Rattle.kt_sql.proofs.Layout.{nodes_table, posted_table}
 use Rattle.kt_sql.proofs.ReadLemmas.{answered, in_order, from_last, first_given, greatest_of, downwards, first_is_greatest}
 
 -- ---- lists
@@ -59,11 +59,11 @@ keyed_by P lt number rises (x ∷ xs) h r =
 
 -- ---- the two tables
 
-nodes_keyed : (c : List NodeRow) → AllByRecursion IsNodeRow c → IsAscending (λ (a b : NodeRow). node_lt a.node b.node ≡ true) c → IsKeyedBy (λ (r : NodeRow). pos (id_of r.node)) c
+pub nodes_keyed : (c : List NodeRow) → AllByRecursion IsNodeRow c → IsAscending (λ (a b : NodeRow). node_lt a.node b.node ≡ true) c → IsKeyedBy (λ (r : NodeRow). pos (id_of r.node)) c
 nodes_keyed = keyed_by IsNodeRow (λ (a b : NodeRow). node_lt a.node b.node) (λ (r : NodeRow). id_of r.node)
     (λ a b g h less. let n = sym (by_id a.node b.node g.node h.node) ∙ less in grind (arith, n))
 
-board_keyed : (c : List Posted) → AllByRecursion IsPosted c → IsAscending (λ (a b : Posted). nat_lt a.instance b.instance ≡ true) c → IsKeyedBy (λ (p : Posted). pos p.instance) c
+pub board_keyed : (c : List Posted) → AllByRecursion IsPosted c → IsAscending (λ (a b : Posted). nat_lt a.instance b.instance ≡ true) c → IsKeyedBy (λ (p : Posted). pos p.instance) c
 board_keyed = keyed_by IsPosted (λ (a b : Posted). nat_lt a.instance b.instance) (λ (p : Posted). p.instance) (λ a b g h less. grind (arith, less))
 
 same_id : (a b : NodeId) → HasId a → HasId b → int_eq (pos (id_of a)) (pos (id_of b)) ≡ node_eq a b
@@ -102,19 +102,6 @@ module _ (old new : State) (c : Content) (has : old.now.schema ≡ kt_schema) (h
       (λ r. last_term (at_ints false Eq (pos (id_of r.node)) (pos (id_of node)))) rows answer in
       first_given node_given p c.nodes is
       ∙ ap (option_map node_given) (find_same p (λ (r : NodeRow). node_eq r.node node) c.nodes (all_weaker _ _ (λ r good. same_id r.node node good.node low) c.nodes held.nodes.said))
-
-  -- all of them, in their order
-  pub all_nodes_found : (rows : List Row) → Shown all_nodes_text [] old new rows → rows ≡ map node_given c.nodes
-  all_nodes_found rows h =
-      let answer = answered all_nodes_text [] old new all_nodes node_names all_nodes_is has rows h in
-      in_order nodes_table (overlay old.now.trees []) c.nodes held.nodes.shown nodes_rise [] (negsuc 0) [] (λ _. true) (λ r. refl) (λ r. refl) rows answer
-      ∙ ap (map node_given) (filter_all (λ _. true) c.nodes (all_of _ (λ _. refl) c.nodes))
-
-  pub all_posted_found : (rows : List Row) → Shown all_posted_text [] old new rows → rows ≡ map posted_given c.board
-  all_posted_found rows h =
-      let answer = answered all_posted_text [] old new all_posted posted_names all_posted_is has rows h in
-      in_order posted_table (overlay old.now.trees []) c.board held.board.shown board_rises [] (negsuc 0) [] (λ _. true) (λ p. refl) (λ p. refl) rows answer
-      ∙ ap (map posted_given) (filter_all (λ _. true) c.board (all_of _ (λ _. refl) c.board))
 
   pub some_node_found : (rows : List Row) → Shown first_node_text [] old new rows → slice_get rows 0 ≡ option_map node_given (slice_get c.nodes 0)
   some_node_found rows h =

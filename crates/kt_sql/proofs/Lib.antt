@@ -1,12 +1,13 @@
 pub mod CallLemmas
 pub mod FoundLemmas
+pub mod Layout
 pub mod MadeLemmas
+pub mod OpenedLemmas
 pub mod OrderLemmas
 pub mod PutLemmas
 pub mod ReadLemmas
 pub mod RowLemmas
 pub mod StateLemmas
 pub mod StoreLemmas
-pub mod Tables
 pub mod Texts
 pub mod WriteLemmas

@@ -4,6 +4,7 @@ use Rattle.sqlite.specs.declared.types.Value.TheVariants.{Null, Int}
 use Rattle.sqlite.specs.Order.{Row}
 use Rattle.sqlite.specs.Term.{Term, lit}
 use Rattle.sqlite.specs.Tree.{Trees}
+use Rattle.sqlite_trees.specs.Tree.{put_row, without_rowid}
 use Rattle.sqlite.specs.Table.{Table}
 use Rattle.sqlite.specs.Schema.{Schema}
 use Rattle.sqlite.specs.Compile.{table_defined_by}
@@ -19,6 +20,7 @@ use Rattle.sqlite.specs.State.{State, mode_of, Writes, Executes}
 use Rattle.sqlite.proofs.Callers.{IsPlain, command_of, statement_of, runs_as}
 use Rattle.sqlite_tied.specs.Compute.{everything}
 use Rattle.kt_sql.specs.Schema.{kt_schema, no_schema, node_table, board_table, meta_table}
+use Rattle.kt_sql.specs.Opened.{meta_shown, IsVersion1}
 use Rattle.kt_sql.specs.Text.{create_node_text, create_board_text, create_meta_text, first_meta_text}
 use Rattle.kt_sql.proofs.PutLemmas.{went, same_value, replaces, AreNumbered}
 use Rattle.kt_sql.proofs.WriteLemmas.{cast_meta}
@@ -95,7 +97,7 @@ abbrev meta_row : Row
 meta_row = Int (pos 1) ∷ Null ∷ Int (pos 1) ∷ []
 
 pub meta_put : (old new : State) (count : ℕ) → old.now.schema ≡ kt_schema → old.now.trees 0 ≡ [] → old.now.trees 1 ≡ [] → old.now.trees 2 ≡ [] → Executes first_meta_text [] old new (Ok count)
-    → (new.now.schema ≡ kt_schema) × (new.now.trees 0 ≡ []) × (new.now.trees 1 ≡ [])
+    → IsVersion1 new.now × (new.now.trees 0 ≡ []) × (new.now.trees 1 ≡ [])
 meta_put old new count has none bare empty h =
     let db = old.now.trees in
     let w = runs_as first_meta_text [] old new kt_schema has put_meta put_meta_is put_meta_plain count h in
@@ -104,7 +106,10 @@ meta_put old new count has none bare empty h =
     let now = ap (λ (p : Tally × Database). p.1) (same_value (went (went done.2).2).2) in
     let numbers = subst AreNumbered (sym empty) (λ r has. absurd has) in
     let next = replaces meta_table.name 2 meta_table.columns old.step_limit [] meta_row (pos 1) refl meta_terms 3 meta_row refl cast_meta cast_meta db numbers done.0 done.1 in (
-      ap (λ (d : Database). d.schema) now,
+      record {
+        schema = ap (λ (d : Database). d.schema) now;
+        meta = ap (map meta_shown) (ap (λ (d : Database). d.trees 2) now ∙ next.0 ∙ ap (λ rows. put_row meta_row (without_rowid (pos 1) rows)) empty);
+      },
       ap (λ (d : Database). d.trees 0) now ∙ next.1 0 (λ same. absurd cc) ∙ none,
       ap (λ (d : Database). d.trees 1) now ∙ next.1 1 (λ same. absurd cc) ∙ bare,
     )

@@ -1,5 +1,5 @@
 -- What a statement leaves of a connection, whether it ran or not.
-use Rattle.std.proofs.Common.{◌≡◌, ◌⊎◌, inl, inr, ℕ, Bool, true, false, cond, List, Option, None, Some, Ok, Err, Result, IfOk, OnOk, refl, sym, ap, subst, ◌∙◌}
+use Rattle.std.proofs.Common.{◌≡◌, ◌⊎◌, inl, inr, ℕ, Bool, true, false, cond, List, Option, None, Some, Ok, Err, Result, IfOk, OnOk, refl, sym, ap, subst, ◌∙◌, arith}
 use Rattle.std.specs.Prelude.{IsTrue, MatchBool}
 use Rattle.std.proofs.lemmas.Bool.{cases_Bool}
 use Rattle.sqlite.specs.Order.{Row}
@@ -11,7 +11,7 @@ use Rattle.sqlite_resolve.specs.declared.error.CompileError.{CompileError}
 use Rattle.sqlite_resolve.specs.declared.compiled.Compiled.{Compiled}
 use Rattle.sqlite_schema.specs.declared.command.Returning.{Returning}
 use Rattle.sqlite_schema.specs.declared.schema.Schema.{Schema}
-use Rattle.sqlite.specs.State.{State, Shows, Runs, Writes, IsUnchanged, IsRolledBack, Fails, RunsCommand, RunsAlone, shows_rows, IsNotRun, Executes, ExecutesIn, ExecutesInside, FailsToShow, FailsToQuery, ShowsRows, Shown}
+use Rattle.sqlite.specs.State.{State, Shows, Runs, Writes, IsUnchanged, IsRolledBack, Fails, RunsCommand, RunsAlone, shows_rows, IsNotRun, Executes, ExecutesIn, ExecutesInside, FailsToShow, FailsToQuery, ShowsRows, Shown, HasCleanDisk}
 use Rattle.sqlite.specs.Listing.{understood}
 use Rattle.sqlite.proofs.Callers.{IsPlain}
 use Rattle.kt_sql.specs.Schema.{kt_schema}
@@ -81,6 +81,14 @@ query_stays sql params old new rows plain h =
     let none = λ (has : old.now.schema ≡ kt_schema). none_of h.0 (ap (λ s. understood s sql) (sym has) ∙ h.1.is) plain in
     record { was_open = it.0; rest = λ was has. (unchanged old new (it.1 (none has))).rest was has }
 
+shows_open : (old new : State) (sql : List ℕ) (c : Compiled) (params : Row) (rows : List Row) (what : Option Returning) → ShowsRows old new sql c params rows what → IsTrue new.is_open
+shows_open old new sql c params rows None h = h.3.0.is_open
+shows_open old new sql c params rows (Some what) h = h.1.shown.is_open
+
+pub query_open : (sql : List ℕ) (params : Row) (old new : State) (rows : List Row) → Shown sql params old new rows → IsTrue new.is_open
+unfolding Shown
+query_open sql params old new rows h = shows_open old new sql h.0 _ rows h.0.returning h.2
+
 -- a write that was made
 pub written_settled : (old new : State) → IsSettled old → Shows old new new.now (cond old.in_transaction old.committed new.now) old.in_transaction → IsSettled new
 written_settled old new was h =
@@ -129,3 +137,16 @@ stays_inside held sql params old new (Err e) h = tt
 -- both of two statements were undone
 pub undone_stays : (old new : State) → IsTrue old.is_open → (new.now ≡ old.now) × (new.committed ≡ old.committed) → new.in_transaction ≡ false → Stays old new
 undone_stays old new on same ended = record { was_open = on; rest = λ was _. (same.0, record { autocommit = ended; same = same.0 ∙ was.same ∙ sym same.1 }) }
+
+-- ---- one look after another
+
+pub no_look : (s : State) → Looks s s
+no_look s = record { clean = omega arith; mode = λ is. is; stays = λ clean on. record { was_open = on; rest = λ was has. (refl, was) } }
+
+-- after a look at the tables of a store
+pub looked : (old new : State) → Looks old new → HasCleanDisk new → IsTrue new.is_open → (IsTrue old.is_open → IsSettled old) → (IsTrue old.is_open → old.now.schema ≡ kt_schema)
+    → IsTrue old.is_open × (new.now ≡ old.now) × IsSettled new
+looked old new h clean on settled has =
+    let stays = h.stays clean on in
+    let rest = stays.rest (settled stays.was_open) (has stays.was_open) in
+    (stays.was_open, rest.0, rest.1)

@@ -5,7 +5,7 @@ use Rattle.std.proofs.lemmas.Cmp.{nat_cmp_total, on_total}
 use Rattle.std.proofs.lemmas.List.Sorted.{IsPermutation-map}
 use Rattle.sqlite_keyed.specs.Lists.{sort_by}
 use Rattle.sqlite_keyed.proofs.ListLemmas.{all_both, IsPermutation-same}
-use Rattle.std.specs.Prelude.{IsTrue, nat_lt}
+use Rattle.std.specs.Prelude.{◌↔◌, IsTrue, nat_lt}
 use Rattle.sqlite.specs.Store.{Ghosts}
 use Rattle.sqlite.specs.Held.{Held, state}
 use Rattle.sqlite.specs.State.{State, HasCleanDisk}
@@ -14,7 +14,8 @@ use Rattle.sqlite_trees.proofs.Doubt.{no_doubt, clean_of}
 use Rattle.sqlite.specs.Effect.{Database}
 use Rattle.kt_sql.specs.Schema.{kt_schema}
 use Rattle.kt_sql.specs.Settled.{IsSettled}
-use Rattle.kt_sql.specs.Rows.{Holds, content_in, id_of, by_node, by_instance, node_in, node_given, node_shown, posted_in, posted_given, posted_shown, IsNodeRow, IsPosted}
+use Rattle.kt_sql.specs.Opened.{IsReady}
+use Rattle.kt_sql.specs.Rows.{AreAsSaid, Holds, content_in, id_of, by_node, by_instance, node_in, node_given, node_shown, posted_in, posted_given, posted_shown, IsNodeRow, IsPosted}
 use Rattle.kt_sql.proofs.OrderLemmas.{sorted_again}
 use Rattle.kt_sql.proofs.WriteLemmas.{by_id}
 use Rattle.kt_store.specs.declared.rows.NodeRow.{NodeRow}
@@ -70,12 +71,21 @@ empty_content_in db none bare =
     ap₂ (λ (ns ps : List Row). let whole : Content = record { nodes = sort_by by_node (map node_in (map node_shown ns)); board = sort_by by_instance (map posted_in (map posted_shown ps)) } in whole) none bare
 
 -- two tables without rows
-empty_holds : (db : Trees) → db 0 ≡ [] → db 1 ≡ [] → Holds db (content_in db)
+pub empty_holds : (db : Trees) → db 0 ≡ [] → db 1 ≡ [] → Holds db (content_in db)
 empty_holds db none bare =
     subst (Holds db) (sym (empty_content_in db none bare)) record {
       nodes = record { shown = IsPermutation-same [] _ (sym (ap (map node_shown) none)); said = tt; rise = tt };
       board = record { shown = IsPermutation-same [] _ (sym (ap (map posted_shown) bare)); said = tt; rise = tt };
     }
+
+-- tables that were just made
+pub made_ready : (s : State) → IsMade s → IsReady s true
+made_ready s m = record {
+  is_open = m.is_open;
+  settled = m.settled;
+  version = m.version;
+  trusted = (λ _. (content_in s.now.trees, empty_holds s.now.trees m.nodes m.board), λ _. refl);
+}
 
 module _ {S : Type 0} (g : Ghosts S) where
   pub record IsSure (s : Stored S) : Type 0 where
@@ -91,9 +101,19 @@ module _ {S : Type 0} (g : Ghosts S) where
   pub sure_whole : (s : Stored S) → IsSure s → IsTrue (is_sure g s)
   sure_whole s h = all_three s.is_trusted (state g s.conn).is_open (state g s.conn).is_clean h.trusted h.is_open (clean_of _ h.clean)
 
-  -- a store whose tables were just made
-  pub made_kept : (s : Stored S) → IsMade (state g s.conn) → IsKept g s
-  made_kept s m = record { settled = m.settled; schema = m.schema; holds = empty_holds (state g s.conn).now.trees m.nodes m.board }
+  -- a store whose tables were made or tested
+  pub ready_kept : (s : Stored S) → IsReady (state g s.conn) s.is_trusted → IsTrue s.is_trusted → IsKept g s
+  ready_kept s r trusted =
+      let held = r.trusted.0 trusted in
+      record { settled = r.settled; schema = r.version.schema; holds = subst (Holds (state g s.conn).now.trees) (sym (holds_content held.0 held.1)) held.1 }
+
+  -- it is honest just where each row is as said
+  pub ready_sure : (h : Held S) (trusted : Bool) → HasCleanDisk (state g h) → IsReady (state g h) trusted
+      → IsTrue (is_sure g (record { conn = h; is_trusted = trusted; faults = 0 })) ↔ AreAsSaid (state g h).now.trees
+  ready_sure h trusted clean r = (
+    λ sure. r.trusted.0 (sure_parts (record { conn = h; is_trusted = trusted; faults = 0 }) sure).trusted,
+    λ said. sure_whole (record { conn = h; is_trusted = trusted; faults = 0 }) (record { trusted = r.trusted.1 said; is_open = r.is_open; clean = clean }),
+  )
 
   -- a call after which the store is sure, and which changed nothing
   pub stayed : (s : Stored S) (h : Held S) (f : ℕ) → (IsTrue (is_sure g s) → IsKept g s) → doubt (state g s.conn).is_clean ≤ doubt (state g h).is_clean

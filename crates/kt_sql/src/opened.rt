@@ -1,6 +1,6 @@
 //! What is read of tables that are there where a store is opened.
 
-ghost use Rattle.std.specs.Prelude.{◌≡◌, ◌≢◌, ◌↔◌, ◌⊎◌, ◌<◌, [], ◌∷◌, List, length, IfOk, IfErr, OnOk, IsTrue, MatchOption};
+ghost use Rattle.std.specs.Prelude.{◌≡◌, ◌≢◌, ◌↔◌, ◌<◌, [], ◌∷◌, List, length, IfOk, IfErr, OnOk, IsTrue, MatchOption};
 ghost use Rattle.sqlite.specs.Order.{column};
 ghost use Rattle.sqlite.specs.Given.{IsPlain};
 ghost use Rattle.sqlite.specs.Held.{state};
@@ -9,7 +9,7 @@ ghost use Rattle.sqlite.specs.State.{HasCleanDisk, Shown};
 ghost use Rattle.kt_store.specs.declared.rows.NodeRow.{NodeRow as NodeFields};
 ghost use Rattle.kt_store.specs.declared.rows.Posted.{Posted as PostedFields};
 ghost use Rattle.kt_sql.specs.Schema.{kt_schema};
-ghost use Rattle.kt_sql.specs.Settled.{Looks};
+ghost use Rattle.kt_sql.specs.Settled.{IsSettled, Looks};
 ghost use Rattle.kt_sql.specs.Rows.{whole, HoldsNodes, HoldsBoard};
 ghost use Rattle.kt_sql.specs.Opened.{meta_given, IsVersion1, IsNoNode, IsNodeWith, IsNoInstance, IsInstanceWith, AreNodesFrom, AreInstancesFrom};
 
@@ -74,7 +74,9 @@ fn is_first_meta(rows: &[Row]) -> bool
 /// Whether the tables are those of a store of version 1.
 pub(crate) fn is_version_1<S: Alter>(conn: &mut Connection<S>) -> Result<bool, SqlOpenError>
     ensures value { HasCleanDisk (state S.Store conn.new) → IfOk result (λ yes. IsTrue yes ↔ IsVersion1 (state S.Store conn.old).now) }
-    ensures looks { Looks (state S.Store conn.old) (state S.Store conn.new) ⊎ (conn.new ≡ conn.old) }
+    ensures looks { Looks (state S.Store conn.old) (state S.Store conn.new) }
+    ensures same { HasCleanDisk (state S.Store conn.new) → IsTrue (state S.Store conn.new).is_open → IsSettled (state S.Store conn.old)
+        → ((state S.Store conn.new).now ≡ (state S.Store conn.old).now) × IsSettled (state S.Store conn.new) }
     ensures whole { IfErr result (λ e. e ≢ SqlOpenError.Damaged) }
 {
     if !is_kt_schema(conn.schema()) {

@@ -1,5 +1,9 @@
 -- How a run ends.
-use Rattle.std.specs.Prelude.{◌≡◌, ◌⊎◌, ℕ, Bool, true, Result, Ok, Err}
+use Rattle.std.specs.Prelude.{◌≡◌, ◌⊎◌, ℕ, Bool, true, Result, Ok, Err, Option, None, Some}
+use Rattle.clap.specs.Words.{Text}
+use Rattle.sqlite_std_file.specs.File.{File, file_ghosts}
+use Rattle.sqlite.specs.Files.{over_files}
+use Rattle.sqlite_store.specs.declared.store.FileStore.{FileStore}
 use Rattle.kt_store.specs.Content.{Content}
 use Rattle.kt_world.specs.declared.step.StepError.{StepError}
 use Rattle.kt_world.specs.declared.step.StepError.TheVariants as step
@@ -8,7 +12,8 @@ use Rattle.kt_core.specs.declared.world.OpenError.TheVariants as opens
 use Rattle.kt_scene.specs.declared.fault.SceneError.{SceneError}
 use Rattle.kt_scene.specs.declared.fault.SceneError.TheVariants as scene
 use Rattle.kt_scene.specs.Outside.{Reader, Writer}
-use Rattle.kt_scene.specs.Run.{Given, WritesReplayed, IsReplayFault, LeavesWriter}
+use Rattle.kt_scene.specs.Run.{Given, given_by, WritesReplayed, IsReplayFault, LeavesWriter}
+use Rattle.kt_sql.specs.Store.{Stored, content_of, is_sure}
 use Rattle.kt_scene.specs.declared.fault.ReplayFault.{ReplayFault}
 use Rattle.kt_scene.specs.declared.fault.ReplayFault.TheVariants.{Scene, Step, Open, Report, Memory, Read, Write}
 
@@ -50,15 +55,35 @@ answer_status (Err fault) = status_of fault
 abbrev pub IsWordsStatus : ℕ → Type 0
 IsWordsStatus n = (n ≡ 0) ⊎ ((n ≡ 2) ⊎ ((n ≡ 6) ⊎ (n ≡ 7)))
 
--- the store of the program is in memory, with nothing stored on it: it is always honest, and its device never fails
+-- a store in memory with nothing stored on it: it is always honest, and its device never fails
 abbrev pub in_memory : Given Content
 in_memory = record { is_honest = λ store. true; fault_count = λ store. 0; fresh = true; before = 0 }
 
--- the exit status of a command: that of what a replay over a fresh store answers here, which is 0 where what was read
--- was replayed and its report written, and else that of the fault, before which nothing is written, or of the writer's
--- a front of the report; or 6, with nothing read and nothing written, where memory ran out before the command was known
-pub data IsRunStatus (before after : Reader) (old new : Writer) (n : ℕ) : Type 0 where
-  done : n ≡ 0 → WritesReplayed in_memory before after old new → IsRunStatus before after old new n
-  refused : (fault : ReplayFault) → IsReplayFault in_memory before after fault
-      → LeavesWriter in_memory before after old new fault → n ≡ status_of fault → IsRunStatus before after old new n
-  unread : n ≡ 6 → after ≡ before → new ≡ old → IsRunStatus before after old new n
+-- a store in SQL over a file
+abbrev pub FileStored : Type 0
+FileStored = Stored (FileStore File file_ghosts)
+
+abbrev pub in_file : FileStored → Given FileStored
+in_file = given_by (content_of over_files) (is_sure over_files) (λ (s : FileStored). s.faults)
+
+-- the exit status of a replay over a store: 0 where what was read was replayed and its report written, and else that
+-- of the fault, before which nothing is written, or of the writer's a front of the report
+pub data EndsOver {S : Type 0} (given : Given S) (before after : Reader) (old new : Writer) (n : ℕ) : Type 0 where
+  done : n ≡ 0 → WritesReplayed given before after old new → EndsOver given before after old new n
+  refused : (fault : ReplayFault) → IsReplayFault given before after fault
+      → LeavesWriter given before after old new fault → n ≡ status_of fault → EndsOver given before after old new n
+
+-- the same over a store in a file, no fault of which was counted before; or 5, with nothing read and nothing written,
+-- where it was not opened
+pub data EndsInFile (before after : Reader) (old new : Writer) (n : ℕ) : Type 0 where
+  opened : (store : FileStored) → store.faults ≡ 0 → EndsOver (in_file store) before after old new n
+      → EndsInFile before after old new n
+  unopened : n ≡ 5 → after ≡ before → new ≡ old → EndsInFile before after old new n
+
+-- the exit status of a command, by the file that its words name for the store, none or one; or 6, with nothing read and
+-- nothing written, where memory ran out before the command was known
+pub data IsRunStatus (file : Option Text) (before after : Reader) (old new : Writer) (n : ℕ) : Type 0 where
+  here : file ≡ None → EndsOver in_memory before after old new n → IsRunStatus file before after old new n
+  there : (path : Text) → file ≡ Some path → EndsInFile before after old new n
+      → IsRunStatus file before after old new n
+  unread : n ≡ 6 → after ≡ before → new ≡ old → IsRunStatus file before after old new n

@@ -1,57 +1,78 @@
 //! The words of the command line.
-ghost use Rattle.std.specs.Prelude.{◌≡◌, ◌⊎◌, IfOk, IfSome};
-ghost use Rattle.clap.specs.Words.{app_of, FailsBy, kind_of};
-ghost use Rattle.linda_kt.specs.Words.{command_line_app, name_of, named_command, program_app, texts, words_fault};
+ghost use Rattle.std.specs.Prelude.{◌≡◌, ◌⊎◌, false, IfOk, IfSome, Some, codes, option_map};
+ghost use Rattle.clap.specs.Words.{app_of, FailsBy, fields_of, kind_of, rule_of};
+ghost use Rattle.clap.specs.Simple.{shape_of};
+ghost use Rattle.linda_kt.specs.Words.{asked, asked_by, command_line_app, program_app, replay_shape, store_rule, texts, words_fault};
 
-use clap::Error;
 use clap::error::ErrorKind;
+use clap::{Arg, Error};
 use std::alloc::{AllocError, Global};
 
 /// What the program is asked to do.
 #[derive(Clone, Copy, Debug, PartialEq, Eq)]
-pub enum Command {
-    /// Make the steps of a scenario and write the report.
-    Replay,
+pub enum Command<'a> {
+    /// Make the steps of a scenario and write the report, over a store in memory or in the file of this name.
+    Replay { store: Option<&'a str> },
 }
 
-impl Command {
-    /// The command of that name.
-    fn of_name(name: &str) -> Option<Command>
-        ensures known { (c : Command) → name.now ≡ name_of c → result ≡ Some c }
-        ensures given { IfSome result (λ c. name.now ≡ name_of c) }
+impl<'a> Command<'a> {
+    /// The command of that name, with the file of its store.
+    fn of_name(name: &str, store: Option<&'a str>) -> Option<Command<'a>>
+        ensures known { name.now ≡ codes "replay" → result ≡ Some (Command.Replay store) }
+        ensures given { IfSome result (λ c. (name.now, option_map (λ s. s.now) store) ≡ asked c) }
     {
         match name {
-            "replay" => Some(Command::Replay),
+            "replay" => Some(Command::Replay { store }),
             _ => None,
         }
     }
 }
 
-/// The command that the words name, which are those after the program's name. Any other words are
+/// The command that the words name, with its file; they are those after the program's name. Any other words are
 /// an error of `clap`, whose text is for the user.
-pub fn read_words<'a>(alloc: Global, words: &'a [&'a str]) -> Result<Command, Error>
-    ensures command { IfOk result (λ c. named_command (texts words.entry.now) ≡ Some (name_of c)) }
+pub fn read_words<'a>(alloc: Global, words: &'a [&'a str]) -> Result<Command<'a>, Error>
+    ensures command { IfOk result (λ c. asked_by (texts words.entry.now) ≡ Some (asked c)) }
     ensures refused { FailsBy (words_fault (texts words.entry.now)) result }
 {
     let matches = command_line(alloc)?.try_get_matches_from(words)?;
     // Words that pass have one of the names.
-    let name = matches.subcommand_name().unwrap();
-    Ok(Command::of_name(name).unwrap())
+    let (name, options) = matches.subcommand().unwrap();
+    Ok(Command::of_name(name, options.get_str("store")).unwrap())
 }
 
 /// The grammar of the command line: one subcommand, which must be there.
 fn command_line<'a>(alloc: Global) -> Result<clap::Command<'a>, AllocError>
     ensures { IfOk result (λ c. app_of c ≡ command_line_app) }
 {
-    let replay = clap::Command::new(alloc, "replay").about(
-        "Makes the steps of the scenario on standard input and writes the report to standard output",
-    );
+    let replay = replay_command(alloc)?;
     described(alloc)
         .bin_name("linda_kt")?
         .no_binary_name(true)
         .subcommand_required(true)
         .disable_help_subcommand(true)
         .subcommand(replay)
+}
+
+/// `replay` with its option.
+fn replay_command<'a>(alloc: Global) -> Result<clap::Command<'a>, AllocError>
+    ensures shape { IfOk result (λ c. shape_of c ≡ replay_shape) }
+    ensures local { IfOk result (λ c. (fields_of c).has_globals ≡ false) }
+{
+    let replay = clap::Command::new(alloc, "replay").about(
+        "Makes the steps of the scenario on standard input and writes the report to standard output",
+    );
+    replay.arg(store_option(alloc))
+}
+
+/// `--store FILE`.
+fn store_option<'a>(alloc: Global) -> Arg<'a>
+    ensures rule { rule_of result ≡ store_rule }
+    ensures local { result.global ≡ false }
+{
+    Arg::new(alloc, "store")
+        .long("store")
+        .value_name("FILE")
+        .help("Keeps what is stored in FILE, which is absent, empty or a fresh store")
 }
 
 /// The program's name, what it is, and its version.
