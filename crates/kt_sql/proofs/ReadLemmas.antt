@@ -13,7 +13,7 @@ use Rattle.sqlite_value.proofs.OrderLemmas.{value_cmp-Int}
 use Rattle.std.proofs.lemmas.List.Sorted.{IsPermutation-trans, IsPermutation-map}
 use Rattle.sqlite_trees.specs.Tree.{Trees, IsAscending}
 use Rattle.sqlite_sql.specs.declared.ops.CompareOp.TheVariants.{Eq}
-use Rattle.sqlite_sql.specs.Term.{Term, holds, eval_all}
+use Rattle.sqlite_sql.specs.Term.{Term, Env, holds, eval_all}
 use Rattle.sqlite_sql.specs.Query.{Query, IsAnswer, Output, matches, output, output_cmp, page, inner, end}
 use Rattle.std.proofs.lemmas.Option.{slice_get-map}
 use Rattle.sqlite_sql.specs.Program.{overlay}
@@ -69,7 +69,10 @@ module _ {X : Type 0} (t : Table X) (db : Trees) (xs : List X) (bag : IsPermutat
         ap₂ (λ b (o : Output). cond b (o ∷ []) []) (alike r) (ap₂ (λ v (row : Row). let out : Output = (v ∷ [], row) in out) (t.first r) (t.seen params r))
 
     all_outs : (d : Trees) → map (output asked) (matches d tests (inner t.tree end) (params ∷ [])) ≡ flat_map outs (d t.tree)
-    all_outs d = map-flat_map (output asked) _ (d t.tree) ∙ flat_map_same_on _ outs (λ r. if_passed (output asked) _ _) (d t.tree)
+    all_outs d =
+        let below : Row → List Env = λ r. matches d tests end (params ∷ r ∷ []) in
+        map-flat_map (output asked) below (d t.tree)
+        ∙ flat_map_same_on (λ r. map (output asked) (below r)) outs (λ r. if_passed (output asked) (list_all (holds (params ∷ r ∷ [])) tests) (params ∷ r ∷ [])) (d t.tree)
 
     pub answer_of : (rows : List Row) → IsAnswer asked db params rows → IsAnswer asked sorted_db params rows
     answer_of rows answer =
@@ -96,8 +99,8 @@ module _ {X : Type 0} (t : Table X) (db : Trees) (xs : List X) (bag : IsPermutat
   abbrev in_place : Trees
   in_place tree = map t.stored xs
 
-  by_keys : (a b : X) → int_cmp (key_of a) (key_of b) ≡ value_cmp (column (t.stored a) 0) (column (t.stored b) 0)
-  by_keys a b = sym (rw (t.numbered a, t.numbered b) (value_cmp-Int (key_of a) (key_of b)))
+  by_keys : (a b : X) → value_cmp (column (t.stored a) 0) (column (t.stored b) 0) ≡ int_cmp (key_of a) (key_of b)
+  by_keys a b = ap₂ value_cmp (t.numbered a) (t.numbered b) ∙ value_cmp-Int (key_of a) (key_of b)
 
   -- those that pass, in the order of their keys
   pub in_order : (tests : List Term) (limit : ℤ) (params : Row) (p : X → Bool)
@@ -109,7 +112,7 @@ module _ {X : Type 0} (t : Table X) (db : Trees) (xs : List X) (bag : IsPermutat
       let q = from_table t.tree tests t.columns rising limit in
       let source = last_table in_place t.tree t.stored key_of xs refl rise (at_end in_place) in
       let sorted = answer_of t db xs bag tests rising limit params alike rows answer in
-      sym (map-id rows) ∙ answer_by_keys q in_place params source p passes (λ r. r) t.given (t.shows params) refl refl (λ a b. last_key (sym (by_keys a b))) rows sorted
+      sym (map-id rows) ∙ answer_by_keys q in_place params source p passes (λ r. r) t.given (t.shows params) refl refl (λ a b. last_key (by_keys a b)) rows sorted
 
   -- all of them, the last key first
   pub from_last : (limit : ℤ) (params : Row) (rows : List Row) → IsAnswer (from_table t.tree [] t.columns falling limit) db params rows
@@ -121,7 +124,7 @@ module _ {X : Type 0} (t : Table X) (db : Trees) (xs : List X) (bag : IsPermutat
       let untied : (a b : X) → int_cmp (key_of a) (key_of b) ≡ Less → IsNoTie (order a b) = λ a b h. record { apart = turned (key_of a) (key_of b) h } in
       let sorted = answer_of t db xs bag [] falling limit params (λ r. refl) rows answer in
       sym (map-id rows) ∙ answer_sorted q in_place params source (λ _. true) (λ _. refl) (λ r. r) t.given (t.shows params) refl refl order untied
-      (λ a b. last_key (sym (by_keys b a))) rows sorted
+      (λ a b. last_key (by_keys b a)) rows sorted
       ∙ ap (λ l. page q params (map t.given (sort_by order l))) (filter_all (λ _. true) xs (all_of _ (λ _. refl) xs))
 
 -- ---- the first of the rows

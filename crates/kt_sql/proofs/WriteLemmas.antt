@@ -147,7 +147,7 @@ goes_by_id new h x g = (by_id x.node new.node g.node h.node, by_id new.node x.no
 
 had : {X : Type 0} (P : X → Type 0) (xs : List X) → AllByRecursion P xs → (x : X) → Has xs x → P x
 had P [] all x has = absurd has
-had P (y ∷ ys) all x (inl here) = subst P here all.0
+had P (y ∷ ys) all x (inl here) = subst P (sym here) all.0
 had P (y ∷ ys) all x (inr later) = had P ys all.1 x later
 
 is_not : (b : Bool) → not b ≡ true → b ≡ false
