@@ -43,6 +43,7 @@ fn can_be_made(change: &Change) -> bool
     let Change::Turn(turn) = change else {
         return true;
     };
+    let turn = turn.get();
     let is_heard = match turn.heard {
         Some((from, _)) => is_placed(from),
         None => true,
