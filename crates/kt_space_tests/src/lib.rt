@@ -5,6 +5,8 @@
 #[cfg(test)]
 mod beside;
 #[cfg(test)]
+mod churn;
+#[cfg(test)]
 mod draws;
 #[cfg(test)]
 mod picking;
