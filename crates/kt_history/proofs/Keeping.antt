@@ -1,8 +1,10 @@
 -- What a history keeps goes on agreeing with its notes.
-use Rattle.std.proofs.Common.{◌≡◌, ℕ, zero, suc, ◌+◌, ◌-◌, ◌<◌, ◌≤◌, ◌==◌, ◌&&◌, ◌||◌, not, Bool, true, false, cond, List, [], ◌∷◌, ◌++◌, take, drop, set, length, get_or, Option, None, Some, refl, sym, ap, ◌∙◌, subst, inl, inr, arith, Contains, ◌↔◌, IsTrue, add-zero}
+use Rattle.std.proofs.Common.{◌≡◌, ℕ, zero, suc, ◌+◌, ◌-◌, ◌<◌, ◌≤◌, ◌==◌, ◌&&◌, ◌||◌, not, Bool, true, false, cond, List, [], ◌∷◌, ◌++◌, take, drop}
+use Rattle.std.proofs.Common.{set, length, get_or, Option, None, Some, refl, sym, ap, ◌∙◌, subst, inl, inr, arith, Contains, ◌↔◌, IsTrue, add-zero}
 use Rattle.std.specs.List.{slice_get, list_any, cons_option}
 use Rattle.std.specs.Option.{option_to_list}
-use Rattle.std.proofs.lemmas.List.{length_push, length-map, length-take-le, get_or_append_left, get_or_push, get_or-set_same, get_or-set_other, take_all, take_more, set_past, get_or_past}
+use Rattle.std.proofs.lemmas.List.{length_push, length-map, length-take-le, get_or_append_left, get_or_push}
+use Rattle.std.proofs.lemmas.List.{get_or-set_same, get_or-set_other, take_all, take_more, set_past, get_or_past}
 use Rattle.std.proofs.lemmas.List.Elements.{filter_map-append, Contains-get_or}
 use Rattle.std.proofs.lemmas.Bool.{cases_Bool, cases_eq, cases_lt, ne_eqb, eqb-false}
 use Rattle.std.proofs.lemmas.Option.{slice_get-get_or, none-some}
@@ -21,9 +23,11 @@ use Rattle.kt_history.specs.WellFormed.{MayFollow, CausesComeFirst}
 use Rattle.std.specs.declared.vec.Vec.{Vec}
 use Rattle.std.specs.declared.alloc.Global.{Global}
 use Rattle.kt_history.proofs.RowSteps.{row_at-rows_of}
-use Rattle.kt_history.specs.Marks.{rows_of, last_of, lasts, note_service, is_served, no_mark, mark_at, lasts_in, unmarked, renewed, LooksBack, AreMarksOf, AreLost, HasLost, act_mark, is_lost, lost_among, row_at, Agrees}
+use Rattle.kt_history.specs.Marks.{rows_of, last_of, lasts, note_service, is_served, no_mark, mark_at, lasts_in, unmarked, renewed}
+use Rattle.kt_history.specs.Marks.{LooksBack, AreMarksOf, AreLost, HasLost, act_mark, is_lost, lost_among, row_at, Agrees}
 use Rattle.kt_history.proofs.Lists.{slice_get-drop, slice_get-from_Contains, Contains-from_slice_get}
-use Rattle.kt_history.proofs.Lines.{same_node-true, line-empty, line-own, line-own_act, line-own_cut, line-other_act, line-other_cut, note_at-old, note_at-new, note_at-within, note_at-push_cases, before-old, before-new, length-before_note}
+use Rattle.kt_history.proofs.Lines.{same_node-true, line-empty, line-own, line-own_act, line-own_cut, line-other_act, line-other_cut}
+use Rattle.kt_history.proofs.Lines.{note_at-old, note_at-new, note_at-within, note_at-push_cases, before-old, before-new, length-before_note}
 use Rattle.kt_history.proofs.Pasts.{CausesComeFirst-empty, CausesComeFirst-push}
 use Rattle.kt_history.proofs.Survivors.{survives-decides, Survives-act}
 use Rattle.kt_history.proofs.Changes.{last_of-within, cause_within, survives-act_old, survives-act_new, survives-cut, survives-cut_before, drop-line-from_first}
@@ -58,12 +62,14 @@ Agrees-marks_of h rows marks lost a = record {
 }
 
 -- what the marks say of a number is what the history says
-pub Agrees-lasts : (h : List Note) (rows : List (List ℕ)) (marks : List Mark) (lost : ℕ) → Agrees h rows marks lost → (n : ℕ) → n ≤ length h → lasts_in marks n ≡ lasts h n
+pub Agrees-lasts : (h : List Note) (rows : List (List ℕ)) (marks : List Mark) (lost : ℕ) → Agrees h rows marks lost → (n : ℕ) → n ≤ length h
+    → lasts_in marks n ≡ lasts h n
 Agrees-lasts h rows marks lost a zero le = refl
 Agrees-lasts h rows marks lost a (suc k) le =
     a.survive k (omega (arith, le)) ∙ ap (λ b. b || survives h (suc k)) (sym (ne_eqb (suc k) 0 (λ e. omega (arith, e))))
 
-pub lasts-step : (h : List Note) (marks : List Mark) (n : ℕ) → ((k : ℕ) → suc k ≡ n → (mark_at marks k).survives ≡ survives h (suc k)) → lasts_in marks n ≡ lasts h n
+pub lasts-step : (h : List Note) (marks : List Mark) (n : ℕ) → ((k : ℕ) → suc k ≡ n → (mark_at marks k).survives ≡ survives h (suc k))
+    → lasts_in marks n ≡ lasts h n
 lasts-step h marks zero same = refl
 lasts-step h marks (suc k) same =
     same k refl ∙ ap (λ b. b || survives h (suc k)) (sym (ne_eqb (suc k) 0 (λ e. omega (arith, e))))
@@ -82,22 +88,26 @@ never : (b : Bool) → ◌≡◌ {A = ℕ} (cond (b && false) 1 0) 0
 never true = refl
 never false = refl
 
-pub lost_among-services : (m : ℕ → Bool) (n : ℕ) (h : List Note) (ms : List Mark) → length ms ≡ length h → ((k : ℕ) → k < length h → (mark_at ms k).survives ≡ m (n + k)) → lost_among h ms ≡ length (services_of (marked_from (λ j. not (m j)) n h))
+pub lost_among-services : (m : ℕ → Bool) (n : ℕ) (h : List Note) (ms : List Mark) → length ms ≡ length h
+    → ((k : ℕ) → k < length h → (mark_at ms k).survives ≡ m (n + k)) → lost_among h ms ≡ length (services_of (marked_from (λ j. not (m j)) n h))
 unfolding marked_from
 lost_among-services m n [] ms e same = refl
 lost_among-services m n (x ∷ h) [] e same = absurd (omega (arith, e))
 lost_among-services m n (notes.Cut p keep ∷ h) (k ∷ ms) e same =
     let len : length ms ≡ length h = omega (arith, e) in
-    let rest = lost_among-services m (suc n) h ms len (λ j lt. let there : n + suc j ≡ suc n + j = omega arith in same (suc j) (omega (arith, lt)) ∙ ap m there) in
+    let rest =
+    lost_among-services m (suc n) h ms len (λ j lt. let there : n + suc j ≡ suc n + j = omega arith in same (suc j) (omega (arith, lt)) ∙ ap m there) in
     omega (arith, never (not k.survives), rest)
 lost_among-services m n (notes.Act a ∷ h) (k ∷ ms) e same =
     let len : length ms ≡ length h = omega (arith, e) in
-    let rest = lost_among-services m (suc n) h ms len (λ j lt. let there : n + suc j ≡ suc n + j = omega arith in same (suc j) (omega (arith, lt)) ∙ ap m there) in
+    let rest =
+    lost_among-services m (suc n) h ms len (λ j lt. let there : n + suc j ≡ suc n + j = omega arith in same (suc j) (omega (arith, lt)) ∙ ap m there) in
     let first : k.survives ≡ m n = same 0 (omega arith) ∙ ap m (add-zero n) in
     ap (λ b. cond (not b && is_served a.what) 1 0 + lost_among h ms) first
     ∙ ap (λ t. cond (not (m n) && is_served a.what) 1 0 + t) rest
     ∙ go (not (m n)) where
-      go : (b : Bool) → cond (b && is_served a.what) 1 0 + length (services_of (marked_from (λ j. not (m j)) (suc n) h)) ≡ length (services_of (cond b (a ∷ marked_from (λ j. not (m j)) (suc n) h) (marked_from (λ j. not (m j)) (suc n) h)))
+      go : (b : Bool) → cond (b && is_served a.what) 1 0 + length (services_of (marked_from (λ j. not (m j)) (suc n) h)) ≡ length
+          (services_of (cond b (a ∷ marked_from (λ j. not (m j)) (suc n) h) (marked_from (λ j. not (m j)) (suc n) h)))
       go true = sym (count_served a a.what (services_of (marked_from (λ j. not (m j)) (suc n) h)))
       go false = omega arith
 
@@ -123,7 +133,8 @@ one_service m n (notes.Act a) = go (m n) where
   go true = single (service_of a a.what)
   go false = refl
 
-pub services-more : (m : ℕ → Bool) (h : List Note) (i : ℕ) (x : Note) → i < length h → x ≡ get_or h i x → services_of (marked_acts m (take (i + 1) h)) ≡ services_of (marked_acts m (take i h)) ++ cond (m (suc i)) (option_to_list (note_service x)) []
+pub services-more : (m : ℕ → Bool) (h : List Note) (i : ℕ) (x : Note) → i < length h → x ≡ get_or h i x
+    → services_of (marked_acts m (take (i + 1) h)) ≡ services_of (marked_acts m (take i h)) ++ cond (m (suc i)) (option_to_list (note_service x)) []
 services-more m h i x lt e =
     let len : 1 + length (take i h) ≡ suc i = omega (arith, len_take) in
     ap (λ g. services_of (marked_acts m g)) (take_more h i x lt ∙ ap (λ y. take i h ++ y ∷ []) (sym e))
@@ -134,7 +145,8 @@ services-more m h i x lt e =
       len_take = length-take-le i h (omega (arith, lt))
 
 -- the answer of the history is survival
-pub survives-answer : (h : List Note) (rows : List (List ℕ)) (marks : List Mark) (lost : ℕ) → Agrees h rows marks lost → (n : ℕ) (r : Bool) → 1 ≤ n → n ≤ length h → r ≡ (mark_at marks (n - 1)).survives → IsTrue r ↔ Survives h n
+pub survives-answer : (h : List Note) (rows : List (List ℕ)) (marks : List Mark) (lost : ℕ) → Agrees h rows marks lost → (n : ℕ) (r : Bool) → 1 ≤ n
+    → n ≤ length h → r ≡ (mark_at marks (n - 1)).survives → IsTrue r ↔ Survives h n
 survives-answer h rows marks lost a n r low high e =
     let there : suc (n - 1) ≡ n = omega (arith, low) in
     let same : r ≡ survives h n = e ∙ a.survive (n - 1) (omega (arith, low, high)) ∙ ap (survives h) there in
@@ -142,13 +154,15 @@ survives-answer h rows marks lost a n r low high e =
     (λ t. d.0 (sym same ∙ t), λ s. same ∙ d.1 s)
 
 -- a number that names no note survives nowhere
-pub survives-none : (h : List Note) (rows : List (List ℕ)) (marks : List Mark) (lost : ℕ) → Agrees h rows marks lost → (n : ℕ) → ((1 ≤ n) × (n ≤ length h) → ⊥) → Survives h n → ⊥
+pub survives-none : (h : List Note) (rows : List (List ℕ)) (marks : List Mark) (lost : ℕ) → Agrees h rows marks lost → (n : ℕ) → ((1 ≤ n) × (n ≤ length h) → ⊥)
+    → Survives h n → ⊥
 survives-none h rows marks lost a n out s =
     let act = Survives-act h a.causes n s in
     out (note_at-within h n (notes.Act act.0) act.1)
 
 -- the same rows in a table that grew
-pub Agrees-same_rows : (h : List Note) (rows more : List (List ℕ)) (marks : List Mark) (lost : ℕ) → Agrees h rows marks lost → ((i : ℕ) → row_at more i ≡ row_at rows i) → Agrees h more marks lost
+pub Agrees-same_rows : (h : List Note) (rows more : List (List ℕ)) (marks : List Mark) (lost : ℕ) → Agrees h rows marks lost
+    → ((i : ℕ) → row_at more i ≡ row_at rows i) → Agrees h more marks lost
 Agrees-same_rows h rows more marks lost a same = record {
   causes = a.causes;
   lines = λ p. same (node_index p) ∙ a.lines p;
@@ -160,7 +174,11 @@ Agrees-same_rows h rows more marks lost a same = record {
 }
 
 -- one act more
-pub Agrees-act : (h : List Note) (rows : List (List ℕ)) (marks : List Mark) (lost : ℕ) (act : Act) → Agrees h rows marks lost → MayFollow h (notes.Act act) → node_index act.node < length rows → Agrees (h ++ notes.Act act ∷ []) (set rows (node_index act.node) (row_at rows (node_index act.node) ++ suc (length h) ∷ [])) (marks ++ act_mark marks (last_of (line h act.node)) act.by ∷ []) (lost + cond (is_lost (notes.Act act) (act_mark marks (last_of (line h act.node)) act.by)) 1 0)
+pub Agrees-act : (h : List Note) (rows : List (List ℕ)) (marks : List Mark) (lost : ℕ) (act : Act) → Agrees h rows marks lost → MayFollow h (notes.Act act)
+    → node_index act.node < length rows → Agrees (h ++ notes.Act act ∷ [])
+    (set rows (node_index act.node) (row_at rows (node_index act.node) ++ suc (length h) ∷ []))
+    (marks ++ act_mark marks (last_of (line h act.node)) act.by ∷ [])
+    (lost + cond (is_lost (notes.Act act) (act_mark marks (last_of (line h act.node)) act.by)) 1 0)
 Agrees-act h rows marks lost act a may lt = record {
   causes = w';
   lines = lines;
@@ -175,7 +193,8 @@ Agrees-act h rows marks lost act a may lt = record {
   previous = λ k b e. elim (note_at-push_cases h (notes.Act act) (suc k) (notes.Act b) e) [
     | inl old ↦
         let small : k < length h = omega (arith, old.0) in
-        ap (λ (m : Mark). m.previous) (old_mark k small) ∙ a.previous k b old.1 ∙ ap (λ past. last_of (line past b.node)) (sym (before-old h (notes.Act act ∷ []) (suc k) (omega (arith, small))))
+        ap (λ (m : Mark). m.previous) (old_mark k small) ∙ a.previous k b old.1
+        ∙ ap (λ past. last_of (line past b.node)) (sym (before-old h (notes.Act act ∷ []) (suc k) (omega (arith, small))))
     | inr new ↦
         let here : k ≡ length h = omega (arith, new.0) in
         let same : act ≡ b = let both = new.1 in cc in
@@ -211,16 +230,19 @@ Agrees-act h rows marks lost act a may lt = record {
       ap (λ b. b && lasts_in marks act.by) (Agrees-lasts h rows marks lost a (last_of (line h act.node)) (last_of-within h act.node))
       ∙ ap (λ b. lasts h (last_of (line h act.node)) && b) (Agrees-lasts h rows marks lost a act.by (cause_within h act may))
 
-  lines : (p : NodeId) → row_at (set rows (node_index act.node) (row_at rows (node_index act.node) ++ suc (length h) ∷ [])) (node_index p) ≡ line (h ++ notes.Act act ∷ []) p
+  lines : (p : NodeId) → row_at (set rows (node_index act.node) (row_at rows (node_index act.node) ++ suc (length h) ∷ [])) (node_index p) ≡ line
+      (h ++ notes.Act act ∷ []) p
   lines p = elim (cases_Bool (same_node act.node p)) [
     | inl own_line ↦
-        let P : NodeId → Type 0 = λ q. row_at (set rows (node_index act.node) (row_at rows (node_index act.node) ++ suc (length h) ∷ [])) (node_index q) ≡ line (h ++ notes.Act act ∷ []) q in
+        let P : NodeId → Type 0 = λ q. row_at (set rows (node_index act.node) (row_at rows (node_index act.node) ++ suc (length h) ∷ [])) (node_index q) ≡ line
+        (h ++ notes.Act act ∷ []) q in
         subst P (same_node-true act.node p own_line)
         (get_or-set_same rows (node_index act.node) (row_at rows (node_index act.node) ++ suc (length h) ∷ []) [] lt
         ∙ ap (λ xs. xs ++ suc (length h) ∷ []) (a.lines act.node)
         ∙ sym (line-own_act h act))
     | inr other ↦
-        get_or-set_other rows (node_index act.node) (node_index p) (row_at rows (node_index act.node) ++ suc (length h) ∷ []) [] (λ e. eqb-false (node_index act.node) (node_index p) other (sym e))
+        get_or-set_other rows (node_index act.node) (node_index p) (row_at rows (node_index act.node) ++ suc (length h) ∷ []) []
+        (λ e. eqb-false (node_index act.node) (node_index p) other (sym e))
         ∙ a.lines p
         ∙ sym (line-other_act h act p other)
   ]
@@ -258,11 +280,14 @@ survives-no_act h w n p keep e = elim (cases_Bool (survives h n)) [
 ]
 
 -- the marks say what survives once nothing was cut off
-cut_survive_none : (h : List Note) (p : NodeId) (keep : ℕ) → CausesComeFirst h → CausesComeFirst (h ++ notes.Cut p keep ∷ []) → length (drop keep (line h p)) ≡ 0 → (n : ℕ) → n ≤ length h → survives (h ++ notes.Cut p keep ∷ []) n ≡ survives h n
+cut_survive_none : (h : List Note) (p : NodeId) (keep : ℕ) → CausesComeFirst h → CausesComeFirst (h ++ notes.Cut p keep ∷ [])
+    → length (drop keep (line h p)) ≡ 0 → (n : ℕ) → n ≤ length h → survives (h ++ notes.Cut p keep ∷ []) n ≡ survives h n
 cut_survive_none h p keep w w' none n le = survives-cut_before h p keep w w' n le (λ e c. absurd (omega (arith, c.1, none)))
 
 -- the marks say what survives once some acts were cut off
-cut_survive_some : (h : List Note) (rows : List (List ℕ)) (marks new : List Mark) (lost : ℕ) (p : NodeId) (keep : ℕ) → Agrees h rows marks lost → CausesComeFirst (h ++ notes.Cut p keep ∷ []) → AreLost h (drop keep (line h p)) → HasLost h (drop keep (line h p)) marks new → (bound k : ℕ) → k < bound → k < length h → (mark_at new k).survives ≡ survives (h ++ notes.Cut p keep ∷ []) (suc k)
+cut_survive_some : (h : List Note) (rows : List (List ℕ)) (marks new : List Mark) (lost : ℕ) (p : NodeId) (keep : ℕ) → Agrees h rows marks lost
+    → CausesComeFirst (h ++ notes.Cut p keep ∷ []) → AreLost h (drop keep (line h p)) → HasLost h (drop keep (line h p)) marks new → (bound k : ℕ) → k < bound
+    → k < length h → (mark_at new k).survives ≡ survives (h ++ notes.Cut p keep ∷ []) (suc k)
 cut_survive_some h rows marks new lost p keep a w' some l zero k small within = absurd (omega (arith, small))
 cut_survive_some h rows marks new lost p keep a w' some l (suc bound) k small within =
     elim (cases_lt (suc k) (get_or (drop keep (line h p)) 0 0)) [
@@ -272,9 +297,11 @@ cut_survive_some h rows marks new lost p keep a w' some l (suc bound) k small wi
           ∙ sym (survives-cut_before h p keep a.causes w' (suc k) (omega (arith, within)) (λ e c. omega (arith, before_all, some.least e c)))
       | inr behind ↦
           ap (λ (m : Mark). m.survives) (l.above k behind within)
-          ∙ go (slice_get h k) refl (λ j lt. cut_survive_some h rows marks new lost p keep a w' some l bound j (omega (arith, lt, small)) (omega (arith, lt, within)))
+          ∙ go (slice_get h k) refl (λ j lt. cut_survive_some h rows marks new lost p keep a w' some l bound j (omega (arith, lt, small))
+          (omega (arith, lt, within)))
     ] where
-      go : (o : Option Note) → slice_get h k ≡ o → ((j : ℕ) → j < k → (mark_at new j).survives ≡ survives (h ++ notes.Cut p keep ∷ []) (suc j)) → (renewed o (unmarked (drop keep (line h p)) k (mark_at marks k)) new).survives ≡ survives (h ++ notes.Cut p keep ∷ []) (suc k)
+      go : (o : Option Note) → slice_get h k ≡ o → ((j : ℕ) → j < k → (mark_at new j).survives ≡ survives (h ++ notes.Cut p keep ∷ []) (suc j))
+          → (renewed o (unmarked (drop keep (line h p)) k (mark_at marks k)) new).survives ≡ survives (h ++ notes.Cut p keep ∷ []) (suc k)
       go None e ih = absurd (none-some (get_or h k (notes.Cut p keep)) (sym e ∙ slice_get-get_or h k (notes.Cut p keep) within))
       go (Some (notes.Cut q kept)) e ih =
           ap (λ b. b && not (list_any (λ m. m == suc k) (drop keep (line h p)))) (a.survive k within ∙ survives-no_act h a.causes (suc k) q kept e)
@@ -286,7 +313,8 @@ cut_survive_some h rows marks new lost p keep a w' some l (suc bound) k small wi
           let old = mark_at marks k in
           let is_last : old.previous ≡ last = a.previous k b e in
           let back : last ≤ k = omega (arith, is_last, a.back k within) in
-          let cause_back : b.by ≤ k = omega (arith, cause_within (before h (suc k)) b (a.causes.follows (suc k) (notes.Act b) e), length-before_note h (suc k) (notes.Act b) e) in
+          let cause_back : b.by ≤ k =
+          omega (arith, cause_within (before h (suc k)) b (a.causes.follows (suc k) (notes.Act b) e), length-before_note h (suc k) (notes.Act b) e) in
           ap (λ t. (t && not gone) && (lasts_in new old.previous && lasts_in new b.by)) (a.survive k within)
           ∙ ap (λ n. (survives h (suc k) && not gone) && (lasts_in new n && lasts_in new b.by)) is_last
           ∙ ap (λ t. (survives h (suc k) && not gone) && (t && lasts_in new b.by)) (lasts-step g new last (λ j same. ih j (omega (arith, same, back))))
@@ -294,7 +322,11 @@ cut_survive_some h rows marks new lost p keep a w' some l (suc bound) k small wi
           ∙ sym (survives-cut h p keep a.causes w' (suc k) b e)
 
 -- one cut more, with marks that say what survives then
-cut_agrees : (h : List Note) (rows : List (List ℕ)) (marks new : List Mark) (lost more : ℕ) (p : NodeId) (keep : ℕ) → Agrees h rows marks lost → CausesComeFirst (h ++ notes.Cut p keep ∷ []) → length new ≡ length marks → ((k : ℕ) → k < length h → (mark_at new k).survives ≡ survives (h ++ notes.Cut p keep ∷ []) (suc k)) → ((k : ℕ) → k < length h → (mark_at new k).previous ≡ (mark_at marks k).previous) → more ≡ lost_among h new → Agrees (h ++ notes.Cut p keep ∷ []) (set rows (node_index p) (take keep (row_at rows (node_index p)))) (new ++ no_mark ∷ []) more
+cut_agrees : (h : List Note) (rows : List (List ℕ)) (marks new : List Mark) (lost more : ℕ) (p : NodeId) (keep : ℕ) → Agrees h rows marks lost
+    → CausesComeFirst (h ++ notes.Cut p keep ∷ []) → length new ≡ length marks
+    → ((k : ℕ) → k < length h → (mark_at new k).survives ≡ survives (h ++ notes.Cut p keep ∷ []) (suc k))
+    → ((k : ℕ) → k < length h → (mark_at new k).previous ≡ (mark_at marks k).previous) → more ≡ lost_among h new
+    → Agrees (h ++ notes.Cut p keep ∷ []) (set rows (node_index p) (take keep (row_at rows (node_index p)))) (new ++ no_mark ∷ []) more
 cut_agrees h rows marks new lost more p keep a w' len survive previous counted = record {
   causes = w';
   lines = lines;
@@ -304,12 +336,14 @@ cut_agrees h rows marks new lost more p keep a w' len survive previous counted =
     | inr late ↦
         let here : k ≡ length h = omega (arith, late, within, length_push h (notes.Cut p keep)) in
         let P : ℕ → Type 0 = λ j. (mark_at (new ++ no_mark ∷ []) j).survives ≡ survives (h ++ notes.Cut p keep ∷ []) (suc j) in
-        subst P (sym here) (ap (λ (m : Mark). m.survives) new_mark ∙ sym (survives-no_act (h ++ notes.Cut p keep ∷ []) w' (suc (length h)) p keep (note_at-new h (notes.Cut p keep))))
+        subst P (sym here) (ap (λ (m : Mark). m.survives) new_mark
+        ∙ sym (survives-no_act (h ++ notes.Cut p keep ∷ []) w' (suc (length h)) p keep (note_at-new h (notes.Cut p keep))))
   ];
   previous = λ k b e. elim (note_at-push_cases h (notes.Cut p keep) (suc k) (notes.Act b) e) [
     | inl old ↦
         let small : k < length h = omega (arith, old.0) in
-        ap (λ (m : Mark). m.previous) (old_mark k small) ∙ previous k small ∙ a.previous k b old.1 ∙ ap (λ past. last_of (line past b.node)) (sym (before-old h (notes.Cut p keep ∷ []) (suc k) (omega (arith, small))))
+        ap (λ (m : Mark). m.previous) (old_mark k small) ∙ previous k small ∙ a.previous k b old.1
+        ∙ ap (λ past. last_of (line past b.node)) (sym (before-old h (notes.Cut p keep ∷ []) (suc k) (omega (arith, small))))
     | inr late ↦ let both = late.1 in cc
   ];
   back = λ k within. elim (cases_lt k (length h)) [
@@ -339,16 +373,21 @@ cut_agrees h rows marks new lost more p keep a w' len survive previous counted =
   lines : (q : NodeId) → row_at (set rows (node_index p) (take keep (row_at rows (node_index p)))) (node_index q) ≡ line (h ++ notes.Cut p keep ∷ []) q
   lines q = elim (cases_Bool (same_node p q)) [
     | inl own_line ↦
-        let P : NodeId → Type 0 = λ r. row_at (set rows (node_index p) (take keep (row_at rows (node_index p)))) (node_index r) ≡ line (h ++ notes.Cut p keep ∷ []) r in
+        let P : NodeId → Type 0 =
+        λ r. row_at (set rows (node_index p) (take keep (row_at rows (node_index p)))) (node_index r) ≡ line (h ++ notes.Cut p keep ∷ []) r in
         subst P (same_node-true p q own_line) (own_row (node_index p) ∙ ap (take keep) (a.lines p) ∙ sym (line-own_cut h p keep))
     | inr other ↦
-        get_or-set_other rows (node_index p) (node_index q) (take keep (row_at rows (node_index p))) [] (λ e. eqb-false (node_index p) (node_index q) other (sym e))
+        get_or-set_other rows (node_index p) (node_index q) (take keep (row_at rows (node_index p))) []
+        (λ e. eqb-false (node_index p) (node_index q) other (sym e))
         ∙ a.lines q
         ∙ sym (line-other_cut h p keep q other)
   ]
 
 -- one cut more
-pub Agrees-cut : (h : List Note) (rows : List (List ℕ)) (marks new : List Mark) (lost more : ℕ) (p : NodeId) (keep : ℕ) → Agrees h rows marks lost → MayFollow h (notes.Cut p keep) → (length (drop keep (line h p)) ≡ 0 → new ≡ marks) → (0 < length (drop keep (line h p)) → HasLost h (drop keep (line h p)) marks new) → more ≡ lost_among h new → Agrees (h ++ notes.Cut p keep ∷ []) (set rows (node_index p) (take keep (row_at rows (node_index p)))) (new ++ no_mark ∷ []) more
+pub Agrees-cut : (h : List Note) (rows : List (List ℕ)) (marks new : List Mark) (lost more : ℕ) (p : NodeId) (keep : ℕ) → Agrees h rows marks lost
+    → MayFollow h (notes.Cut p keep) → (length (drop keep (line h p)) ≡ 0 → new ≡ marks)
+    → (0 < length (drop keep (line h p)) → HasLost h (drop keep (line h p)) marks new) → more ≡ lost_among h new
+    → Agrees (h ++ notes.Cut p keep ∷ []) (set rows (node_index p) (take keep (row_at rows (node_index p)))) (new ++ no_mark ∷ []) more
 Agrees-cut h rows marks new lost more p keep a may none some counted = elim (cases_eq (length (drop keep (line h p))) 0) [
   | inl nothing ↦
       let same : new ≡ marks = none nothing in
@@ -363,7 +402,8 @@ Agrees-cut h rows marks new lost more p keep a may none some counted = elim (cas
       (λ k lt. cut_survive_some h rows marks new lost p keep a w' (AreLost-from_cut h p keep positive) lose (suc k) k (omega arith) lt)
       (λ k lt. elim (cases_lt (suc k) (get_or (drop keep (line h p)) 0 0)) [
         | inl before_all ↦ ap (λ (m : Mark). m.previous) (lose.below k before_all)
-        | inr behind ↦ ap (λ (m : Mark). m.previous) (lose.above k behind lt) ∙ renewed-previous (slice_get h k) (unmarked (drop keep (line h p)) k (mark_at marks k)) new
+        | inr behind ↦ ap (λ (m : Mark). m.previous) (lose.above k behind lt)
+            ∙ renewed-previous (slice_get h k) (unmarked (drop keep (line h p)) k (mark_at marks k)) new
       ])
       counted
 ] where
@@ -371,7 +411,8 @@ Agrees-cut h rows marks new lost more p keep a may none some counted = elim (cas
   w' = CausesComeFirst-push h (notes.Cut p keep) a.causes may
 
 -- the same with other names
-pub Agrees-at : (h h' : List Note) (rows rows' : List (List ℕ)) (marks marks' : List Mark) (lost lost' : ℕ) → h' ≡ h → rows' ≡ rows → marks' ≡ marks → lost' ≡ lost → Agrees h rows marks lost → Agrees h' rows' marks' lost'
+pub Agrees-at : (h h' : List Note) (rows rows' : List (List ℕ)) (marks marks' : List Mark) (lost lost' : ℕ) → h' ≡ h → rows' ≡ rows → marks' ≡ marks
+    → lost' ≡ lost → Agrees h rows marks lost → Agrees h' rows' marks' lost'
 Agrees-at h h' rows rows' marks marks' lost lost' e f g k a =
     let P : List Note → Type 0 = λ x. Agrees x rows' marks' lost' in
     let Q : List (List ℕ) → Type 0 = λ x. Agrees h x marks' lost' in
@@ -383,18 +424,26 @@ pub MayFollow-at : (h h' : List Note) (note : Note) → h' ≡ h → MayFollow h
 MayFollow-at h h' note e m = let P : List Note → Type 0 = λ x. MayFollow x note in subst P (sym e) m
 
 -- the vector at a node's place holds the node's line
-pub Agrees-row : (h : List Note) (table more : List (Vec ℕ Global)) (marks : List Mark) (lost : ℕ) → Agrees h (rows_of table) marks lost → ((i : ℕ) → row_at (rows_of more) i ≡ row_at (rows_of table) i) → (p : NodeId) (i : ℕ) (v : Vec ℕ Global) → i ≡ node_index p → i < length more → v ≡ get_or more i v → v.items ≡ line h p
+pub Agrees-row : (h : List Note) (table more : List (Vec ℕ Global)) (marks : List Mark) (lost : ℕ) → Agrees h (rows_of table) marks lost
+    → ((i : ℕ) → row_at (rows_of more) i ≡ row_at (rows_of table) i) → (p : NodeId) (i : ℕ) (v : Vec ℕ Global) → i ≡ node_index p → i < length more
+    → v ≡ get_or more i v → v.items ≡ line h p
 Agrees-row h table more marks lost a same p i v is_place lt at =
     sym (row_at-rows_of more i v lt at) ∙ same i ∙ ap (row_at (rows_of table)) is_place ∙ a.lines p
 
 -- an act more, as it is written down
-pub Agrees-pushed_act : (h : List Note) (table more : List (Vec ℕ Global)) (marks : List Mark) (lost : ℕ) (act : Act) → Agrees h (rows_of table) marks lost → MayFollow h (notes.Act act) → ((i : ℕ) → row_at (rows_of more) i ≡ row_at (rows_of table) i) → (i number previous : ℕ) (mark : Mark) (table' : List (Vec ℕ Global)) → i ≡ node_index act.node → i < length more → number ≡ suc (length h) → previous ≡ last_of (line h act.node) → mark ≡ act_mark marks previous act.by → rows_of table' ≡ set (rows_of more) i (row_at (rows_of more) i ++ number ∷ []) → Agrees (h ++ notes.Act act ∷ []) (rows_of table') (marks ++ mark ∷ []) (lost + cond (is_lost (notes.Act act) mark) 1 0)
+pub Agrees-pushed_act : (h : List Note) (table more : List (Vec ℕ Global)) (marks : List Mark) (lost : ℕ) (act : Act) → Agrees h (rows_of table) marks lost
+    → MayFollow h (notes.Act act) → ((i : ℕ) → row_at (rows_of more) i ≡ row_at (rows_of table) i)
+    → (i number previous : ℕ) (mark : Mark) (table' : List (Vec ℕ Global)) → i ≡ node_index act.node → i < length more → number ≡ suc (length h)
+    → previous ≡ last_of (line h act.node) → mark ≡ act_mark marks previous act.by
+    → rows_of table' ≡ set (rows_of more) i (row_at (rows_of more) i ++ number ∷ [])
+    → Agrees (h ++ notes.Act act ∷ []) (rows_of table') (marks ++ mark ∷ []) (lost + cond (is_lost (notes.Act act) mark) 1 0)
 Agrees-pushed_act h table more marks lost act a may same i number previous mark table' place lt is_number is_previous is_mark is_table =
     let b = Agrees-same_rows h (rows_of table) (rows_of more) marks lost a same in
     let len = length-map more (λ (row : Vec ℕ Global). row.items) in
     let marked : mark ≡ act_mark marks (last_of (line h act.node)) act.by = is_mark ∙ ap (λ n. act_mark marks n act.by) is_previous in
     Agrees-at _ _ _ _ _ _ _ _ refl
-    (is_table ∙ ap (λ n. set (rows_of more) i (row_at (rows_of more) i ++ n ∷ [])) is_number ∙ ap (λ j. set (rows_of more) j (row_at (rows_of more) j ++ suc (length h) ∷ [])) place)
+    (is_table ∙ ap (λ n. set (rows_of more) i (row_at (rows_of more) i ++ n ∷ [])) is_number
+    ∙ ap (λ j. set (rows_of more) j (row_at (rows_of more) j ++ suc (length h) ∷ [])) place)
     (ap (λ m. marks ++ m ∷ []) marked)
     (ap (λ m. lost + cond (is_lost (notes.Act act) m) 1 0) marked)
     (Agrees-act h (rows_of more) marks lost act b may (omega (arith, lt, len, place)))
@@ -410,18 +459,23 @@ AreMarksOf-at h h' marks marks' e f a =
     subst P (sym e) (subst Q (sym f) a)
 
 -- what stands behind the keep in the table is what the cut takes out of the line
-pub behind-is : (h : List Note) (rows : List (List ℕ)) (marks : List Mark) (lost : ℕ) → Agrees h rows marks lost → (p : NodeId) (i keep : ℕ) (numbers : List ℕ) → i ≡ node_index p → numbers ≡ drop keep (row_at rows i) → numbers ≡ drop keep (line h p)
+pub behind-is : (h : List Note) (rows : List (List ℕ)) (marks : List Mark) (lost : ℕ) → Agrees h rows marks lost → (p : NodeId) (i keep : ℕ) (numbers : List ℕ)
+    → i ≡ node_index p → numbers ≡ drop keep (row_at rows i) → numbers ≡ drop keep (line h p)
 behind-is h rows marks lost a p i keep numbers place e =
     e ∙ ap (λ j. drop keep (row_at rows j)) place ∙ ap (drop keep) (a.lines p)
 
-pub AreLost-at : (h h' : List Note) (p : NodeId) (keep : ℕ) (numbers : List ℕ) → h' ≡ h → numbers ≡ drop keep (line h p) → 0 < length numbers → AreLost h' numbers
+pub AreLost-at : (h h' : List Note) (p : NodeId) (keep : ℕ) (numbers : List ℕ) → h' ≡ h → numbers ≡ drop keep (line h p) → 0 < length numbers
+    → AreLost h' numbers
 AreLost-at h h' p keep numbers e f some =
     let P : List Note → Type 0 = λ x. AreLost x numbers in
     let Q : List ℕ → Type 0 = λ xs. AreLost h xs in
     subst P (sym e) (subst Q (sym f) (AreLost-from_cut h p keep (omega (arith, some, ap length f))))
 
 -- a cut more, as it is written down
-pub Agrees-pushed_cut : (h h' : List Note) (rows rows' : List (List ℕ)) (marks marks' new : List Mark) (lost more : ℕ) (p : NodeId) (i keep : ℕ) (numbers : List ℕ) → Agrees h rows marks lost → MayFollow h (notes.Cut p keep) → h' ≡ h → marks' ≡ marks → i ≡ node_index p → numbers ≡ drop keep (line h p) → rows' ≡ set rows i (take keep (row_at rows i)) → (length numbers ≡ 0 → new ≡ marks') → (0 < length numbers → HasLost h' numbers marks' new) → more ≡ lost_among h' new → Agrees (h ++ notes.Cut p keep ∷ []) rows' (new ++ no_mark ∷ []) more
+pub Agrees-pushed_cut : (h h' : List Note) (rows rows' : List (List ℕ)) (marks marks' new : List Mark) (lost more : ℕ) (p : NodeId) (i keep : ℕ)
+    (numbers : List ℕ) → Agrees h rows marks lost → MayFollow h (notes.Cut p keep) → h' ≡ h → marks' ≡ marks → i ≡ node_index p → numbers ≡ drop keep (line h p)
+    → rows' ≡ set rows i (take keep (row_at rows i)) → (length numbers ≡ 0 → new ≡ marks') → (0 < length numbers → HasLost h' numbers marks' new)
+    → more ≡ lost_among h' new → Agrees (h ++ notes.Cut p keep ∷ []) rows' (new ++ no_mark ∷ []) more
 Agrees-pushed_cut h h' rows rows' marks marks' new lost more p i keep numbers a may e f place is_numbers is_rows none some counted =
     Agrees-at _ _ _ _ _ _ _ _ refl
     (is_rows ∙ ap (λ j. set rows j (take keep (row_at rows j))) place)

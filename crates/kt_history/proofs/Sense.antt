@@ -73,7 +73,9 @@ Stands-no_cut h n = snoc_ind (λ g. HasNoCut g → IsAct g n → Stands g n) (λ
   step g (notes.Cut p keep) ih none a = absurd (none.none (suc (length g)) p keep (note_at-new g (notes.Cut p keep)))
   step g (notes.Act b) ih none a = elim (note_at-push_cases g (notes.Act b) n (notes.Act a.0) a.1) [
     | inl old ↦
-        Stands-act_old g b n (ih (record { none = λ k p keep e. none.none k p keep (note_at-old g (notes.Act b ∷ []) k (note_at-within g k (notes.Cut p keep) e).1 ∙ e) }) (a.0, old.1))
+        Stands-act_old g b n
+        (ih (record { none = λ k p keep e. none.none k p keep (note_at-old g (notes.Act b ∷ []) k (note_at-within g k (notes.Cut p keep) e).1 ∙ e) })
+        (a.0, old.1))
     | inr new ↦
         let P : ℕ → Type 0 = λ k. Contains (line (g ++ notes.Act b ∷ []) b.node) k in
         let Q : List ℕ → Type 0 = λ xs. Contains xs (suc (length g)) in

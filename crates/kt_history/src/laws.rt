@@ -1,6 +1,7 @@
 //! Laws about the definitions, each the contract of a function with nothing to do.
 
-ghost use Rattle.std.specs.Prelude.{◌≡◌, ◌≢◌, ◌⊎◌, ◌↔◌, ◌++◌, ◌∷◌, [], ℕ, Bool, IsTrue, List, Some, take, slice_get, IsPermutation};
+ghost use Rattle.std.specs.Prelude.{◌≡◌, ◌≢◌, ◌⊎◌, ◌↔◌, ◌++◌, ◌∷◌, [], ℕ, Bool, IsTrue};
+ghost use Rattle.std.specs.Prelude.{List, Some, take, slice_get, IsPermutation};
 ghost use Rattle.kt_tuple.specs.declared.node.NodeId.{NodeId};
 ghost use Rattle.kt_tuple.specs.declared.service.Service.{Service};
 ghost use Rattle.kt_tuple.specs.declared.tuple.Tuple.{Tuple};

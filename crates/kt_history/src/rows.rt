@@ -33,7 +33,8 @@ pub(crate) fn reserve_row(rows: &mut Rows, place: usize) -> Result<(), AllocErro
 /// Appends the number to the row at this place.
 pub(crate) fn append(rows: &mut Rows, place: usize, number: u64)
     requires { HasRoom rows.old place }
-    ensures { rows_of rows.new.items ≡ slice_set (rows_of rows.old.items) place (row_at (rows_of rows.old.items) place ++ number ∷ []) }
+    ensures { rows_of rows.new.items ≡ slice_set (rows_of rows.old.items) place
+        (row_at (rows_of rows.old.items) place ++ number ∷ []) }
 {
     rows[place].push_reserved(number);
 }
@@ -50,7 +51,8 @@ pub(crate) fn behind(rows: &Rows, place: usize, keep: usize) -> &[u64]
 
 /// Keeps the first numbers of the row at this place.
 pub(crate) fn shorten(rows: &mut Rows, place: usize, keep: usize)
-    ensures { rows_of rows.new.items ≡ slice_set (rows_of rows.old.items) place (take keep (row_at (rows_of rows.old.items) place)) }
+    ensures { rows_of rows.new.items ≡ slice_set (rows_of rows.old.items) place
+        (take keep (row_at (rows_of rows.old.items) place)) }
 {
     if place < rows.len() {
         shorten_at(rows, place, keep);
@@ -59,7 +61,8 @@ pub(crate) fn shorten(rows: &mut Rows, place: usize, keep: usize)
 
 fn shorten_at(rows: &mut Rows, place: usize, keep: usize)
     requires { place < vec_len rows.old }
-    ensures { rows_of rows.new.items ≡ slice_set (rows_of rows.old.items) place (take keep (row_at (rows_of rows.old.items) place)) }
+    ensures { rows_of rows.new.items ≡ slice_set (rows_of rows.old.items) place
+        (take keep (row_at (rows_of rows.old.items) place)) }
 {
     rows[place].truncate(keep);
 }

@@ -50,7 +50,9 @@ pub(crate) fn change_row(
 ) -> Result<(), AllocError>
     requires nodes { IsNodes rows.old.items }
     requires within { IsWithin change }
-    ensures written { OnOk result (rows.new.items ≡ with_row (changed change (row_or node (find (λ (row : NodeRow). node_eq row.node node) rows.old.items))) rows.old.items) }
+    ensures written { OnOk result (rows.new.items ≡ with_row
+        (changed change (row_or node (find (λ (row : NodeRow). node_eq row.node node) rows.old.items)))
+        rows.old.items) }
     ensures unchanged { OnErr result (rows.new.items ≡ rows.old.items) }
     ensures kept { IsNodes rows.new.items }
 {

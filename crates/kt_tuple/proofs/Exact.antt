@@ -1,5 +1,6 @@
 -- Each fault, and none, is just where the grammar says so.
-use Rattle.std.proofs.Common.{◌≡◌, ℕ, ◌+◌, ◌≤◌, inl, inr, Bool, true, false, List, [], ◌∷◌, ◌++◌, length, map, Option, Some, None, Result, Ok, Err, refl, sym, ap, subst, ◌∙◌, arith}
+use Rattle.std.proofs.Common.{◌≡◌, ℕ, ◌+◌, ◌≤◌, inl, inr, Bool, true, false, List, [], ◌∷◌, ◌++◌, length}
+use Rattle.std.proofs.Common.{map, Option, Some, None, Result, Ok, Err, refl, sym, ap, subst, ◌∙◌, arith}
 use Rattle.std.proofs.lemmas.Bool.{and_parts}
 use Rattle.std.specs.List.{flat_map, list_all}
 use Rattle.kt_tuple.specs.declared.parse_error.ParseError.{ParseError}
@@ -34,15 +35,18 @@ all_fine (place ∷ found) i h =
     (omega (arith, h.few), range.0, short.0, all_fine found (i + 1) (record { inside = range.1; few = omega (arith, h.few); short = short.1 }))
 
 -- a place out of range is not among places in range
-not_inside : (before : List (List ℕ)) (number : List ℕ) (others : List (List ℕ)) → has_range number ≡ false → list_all has_range (before ++ number ∷ others) ≡ true → ⊥
+not_inside : (before : List (List ℕ)) (number : List ℕ) (others : List (List ℕ)) → has_range number ≡ false
+    → list_all has_range (before ++ number ∷ others) ≡ true → ⊥
 not_inside [] number others out all =
     let h = and_parts (has_range number) (list_all has_range others) all in
     let never : true ≡ false = sym h.0 ∙ out in
     absurd cc
-not_inside (p ∷ before) number others out all = not_inside before number others out (and_parts (has_range p) (list_all has_range (before ++ number ∷ others)) all).1
+not_inside (p ∷ before) number others out all =
+    not_inside before number others out (and_parts (has_range p) (list_all has_range (before ++ number ∷ others)) all).1
 
 -- a row has one first place out of range
-one_front : (before : List (List ℕ)) (number : List ℕ) (others before' : List (List ℕ)) (number' : List ℕ) (others' : List (List ℕ)) → before ++ number ∷ others ≡ before' ++ number' ∷ others'
+one_front : (before : List (List ℕ)) (number : List ℕ) (others before' : List (List ℕ)) (number' : List ℕ) (others' : List (List ℕ))
+    → before ++ number ∷ others ≡ before' ++ number' ∷ others'
     → list_all has_range before ≡ true → has_range number ≡ false → list_all has_range before' ≡ true → has_range number' ≡ false → before ≡ before'
 one_front [] number others [] number' others' e all out all' out' = refl
 one_front [] number others (q ∷ before') number' others' e all out all' out' =
@@ -58,7 +62,8 @@ one_front (p ∷ before) number others [] number' others' e all out all' out' =
 one_front (p ∷ before) number others (q ∷ before') number' others' e all out all' out' =
     let first : p ≡ q = cc in
     let rest : before ++ number ∷ others ≡ before' ++ number' ∷ others' = cc in
-    let fronts = one_front before number others before' number' others' rest (and_parts (has_range p) (list_all has_range before) all).1 out (and_parts (has_range q) (list_all has_range before') all').1 out' in
+    let fronts = one_front before number others before' number' others' rest (and_parts (has_range p) (list_all has_range before) all).1 out
+    (and_parts (has_range q) (list_all has_range before') all').1 out' in
     ap (λ k. k ∷ before) first ∙ ap (λ (ps : List (List ℕ)). q ∷ ps) fronts
 
 no_memory : (o : Option ℕ) (b : Bool) → fault_found o b ≡ Some faults.OutOfMemory → ⊥

@@ -33,13 +33,15 @@ fine_places text (place ∷ places) found i e =
     (range.0, short.0, (leb-false 8 i long.1, range.1, not-false (is_short place.0) short.1, behind.2))
 
 -- where the places are fine, no fault is found
-pub none_found : (text : List ℕ) (places : List (List ℕ × List ℕ)) (found : Findings) (i : ℕ) → found.out_of_range ≡ None → found.too_long ≡ false → AreFine i places
+pub none_found : (text : List ℕ) (places : List (List ℕ × List ℕ)) (found : Findings) (i : ℕ) → found.out_of_range ≡ None → found.too_long ≡ false
+    → AreFine i places
     → fault_found (with_places text found i places).out_of_range (with_places text found i places).too_long ≡ None
 none_found text [] found i range short fine = rw (range, short) refl
 none_found text (place ∷ places) found i range short fine =
     none_found text places (with_place text found i place) (i + 1)
     (rw (range, fine.1) refl)
-    (or_from (found.too_long || not (is_short place.0)) (leb 8 i) (or_from found.too_long (not (is_short place.0)) short (not_from_true (is_short place.0) fine.2)) (lt-leb 8 i fine.0))
+    (or_from (found.too_long || not (is_short place.0)) (leb 8 i)
+    (or_from found.too_long (not (is_short place.0)) short (not_from_true (is_short place.0) fine.2)) (lt-leb 8 i fine.0))
     fine.3
 
 pub found_fine : (text : List ℕ) (r : Result (List (List ℕ × List ℕ)) (List ℕ)) → fault_of_found text (found_with text nothing_found 0 r) ≡ None

@@ -22,12 +22,17 @@ module _ (read : Reader) (IsOne : List ℕ → Type 0) (g : IsReaderOf read IsOn
   one_front text n at e h = by_order n at (λ lt. syntax_longest read IsOne g text n at e lt h.within h.begins)
       (λ lt. h.longest n lt (syntax_within read IsOne g text n e) (syntax_begins read IsOne g text n e))
 
-  syntax_by : (o : Option ParseError) (text : List ℕ) (at : ℕ) → fault_with read text ≡ o → ¬ IsTextOf IsOne text → IsLongestFront (IsTextOf IsOne) text at → o ≡ Some (faults.Syntax at)
+  syntax_by : (o : Option ParseError) (text : List ℕ) (at : ℕ) → fault_with read text ≡ o → ¬ IsTextOf IsOne text → IsLongestFront (IsTextOf IsOne) text at
+      → o ≡ Some (faults.Syntax at)
   syntax_by (Some (faults.Syntax n)) text at e none h = ap (λ k. Some (faults.Syntax k)) (one_front text n at e h)
-  syntax_by None text at e none h = absurd (none (no_syntax_shape read IsOne g text (λ n is. let never : None ≡ Some (faults.Syntax n) = sym e ∙ is in absurd cc)))
-  syntax_by (Some (faults.Range m)) text at e none h = absurd (none (no_syntax_shape read IsOne g text (λ n is. let never : Some (faults.Range m) ≡ Some (faults.Syntax n) = sym e ∙ is in absurd cc)))
-  syntax_by (Some faults.TooLong) text at e none h = absurd (none (no_syntax_shape read IsOne g text (λ n is. let never : Some faults.TooLong ≡ Some (faults.Syntax n) = sym e ∙ is in absurd cc)))
-  syntax_by (Some faults.OutOfMemory) text at e none h = absurd (none (no_syntax_shape read IsOne g text (λ n is. let never : Some faults.OutOfMemory ≡ Some (faults.Syntax n) = sym e ∙ is in absurd cc)))
+  syntax_by None text at e none h =
+      absurd (none (no_syntax_shape read IsOne g text (λ n is. let never : None ≡ Some (faults.Syntax n) = sym e ∙ is in absurd cc)))
+  syntax_by (Some (faults.Range m)) text at e none h =
+      absurd (none (no_syntax_shape read IsOne g text (λ n is. let never : Some (faults.Range m) ≡ Some (faults.Syntax n) = sym e ∙ is in absurd cc)))
+  syntax_by (Some faults.TooLong) text at e none h =
+      absurd (none (no_syntax_shape read IsOne g text (λ n is. let never : Some faults.TooLong ≡ Some (faults.Syntax n) = sym e ∙ is in absurd cc)))
+  syntax_by (Some faults.OutOfMemory) text at e none h =
+      absurd (none (no_syntax_shape read IsOne g text (λ n is. let never : Some faults.OutOfMemory ≡ Some (faults.Syntax n) = sym e ∙ is in absurd cc)))
 
   pub syntax_only : (text : List ℕ) (at : ℕ) → ¬ IsTextOf IsOne text → IsLongestFront (IsTextOf IsOne) text at → fault_with read text ≡ Some (faults.Syntax at)
   syntax_only text at none h = syntax_by (fault_with read text) text at refl none h

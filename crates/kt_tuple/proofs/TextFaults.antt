@@ -1,5 +1,6 @@
 -- What the other faults of a text say of its places.
-use Rattle.std.proofs.Common.{◌≡◌, ℕ, ◌+◌, ◌-◌, ◌<◌, ◌⊎◌, inl, inr, Bool, true, false, cond, leb, List, [], ◌∷◌, ◌++◌, length, map, Option, Some, None, Result, Ok, Err, refl, sym, ap, subst, ◌∙◌, append_assoc, arith, length-append}
+use Rattle.std.proofs.Common.{◌≡◌, ℕ, ◌+◌, ◌-◌, ◌<◌, ◌⊎◌, inl, inr, Bool, true, false, cond, leb, List, [], ◌∷◌, ◌++◌, length, map}
+use Rattle.std.proofs.Common.{Option, Some, None, Result, Ok, Err, refl, sym, ap, subst, ◌∙◌, append_assoc, arith, length-append}
 use Rattle.std.proofs.lemmas.Bool.{leb-true}
 use Rattle.std.proofs.lemmas.List.{append-nil, length-map}
 use Rattle.std.specs.List.{flat_map, list_all}
@@ -14,7 +15,8 @@ use Rattle.kt_tuple.proofs.Layouts.{Laid, last, next, spelling, laid_consists}
 use Rattle.kt_tuple.proofs.TextShapes.{fault_with, read_shape}
 
 -- the first int out of range stays the first
-stays : (whole : List ℕ) (found : List (List ℕ × List ℕ)) (s : Findings) (i m : ℕ) → s.out_of_range ≡ Some m → (with_places whole s i found).out_of_range ≡ Some m
+stays : (whole : List ℕ) (found : List (List ℕ × List ℕ)) (s : Findings) (i m : ℕ) → s.out_of_range ≡ Some m
+    → (with_places whole s i found).out_of_range ≡ Some m
 stays whole [] s i m e = e
 stays whole (place ∷ found) s i m e = stays whole found (with_place whole s i place) (i + 1) m (rw e refl)
 
@@ -31,11 +33,13 @@ record Outside (whole front : List ℕ) (ps : List (List ℕ)) (at : ℕ) : Type
   outside : has_range number ≡ false
 
 -- the place itself is out of range
-outside_here : (whole front p behind : List ℕ) (found : List (List ℕ × List ℕ)) (s : Findings) (i at : ℕ) → whole ≡ front ++ (p ++ behind) → s.out_of_range ≡ None → has_range p ≡ false
+outside_here : (whole front p behind : List ℕ) (found : List (List ℕ × List ℕ)) (s : Findings) (i at : ℕ) → whole ≡ front ++ (p ++ behind)
+    → s.out_of_range ≡ None → has_range p ≡ false
     → (with_places whole s i ((p, p ++ behind) ∷ found)).out_of_range ≡ Some at → Outside whole front (p ∷ map spelling found) at
 outside_here whole front p behind found s i at parts none out e =
     let here : (with_place whole s i (p, p ++ behind)).out_of_range ≡ Some (length whole - length (p ++ behind)) = rw (none, out) refl in
-    let both : Some (length whole - length (p ++ behind)) ≡ Some at = sym (stays whole found (with_place whole s i (p, p ++ behind)) (i + 1) (length whole - length (p ++ behind)) here) ∙ e in
+    let both : Some (length whole - length (p ++ behind)) ≡ Some at =
+    sym (stays whole found (with_place whole s i (p, p ++ behind)) (i + 1) (length whole - length (p ++ behind)) here) ∙ e in
     let same : length whole - length (p ++ behind) ≡ at = cc in
     record {
       before = [];
@@ -50,9 +54,11 @@ outside_here whole front p behind found s i at parts none out e =
     }
 
 -- it comes later
-outside_later : (whole front p : List ℕ) (ps : List (List ℕ)) (at : ℕ) → has_range p ≡ true → Outside whole (front ++ followed p) ps at → Outside whole front (p ∷ ps) at
+outside_later : (whole front p : List ℕ) (ps : List (List ℕ)) (at : ℕ) → has_range p ≡ true → Outside whole (front ++ followed p) ps at
+    → Outside whole front (p ∷ ps) at
 outside_later whole front p ps at range h =
-    let fronts : (front ++ followed p) ++ flat_map followed h.before ≡ front ++ flat_map followed (p ∷ h.before) = append_assoc front (followed p) (flat_map followed h.before) in
+    let fronts : (front ++ followed p) ++ flat_map followed h.before ≡ front ++ flat_map followed (p ∷ h.before) =
+    append_assoc front (followed p) (flat_map followed h.before) in
     record {
       before = p ∷ h.before;
       number = h.number;
@@ -74,8 +80,10 @@ module _ (whole : List ℕ) where
       absurd cc
   outside_last false front p s i at range parts none e = outside_here whole front p (41 ∷ []) [] s i at parts none range e
 
-  outside_next : (b : Bool) (front p behind : List ℕ) (found : List (List ℕ × List ℕ)) (s : Findings) (i at : ℕ) → has_range p ≡ b → whole ≡ front ++ (p ++ 44 ∷ 32 ∷ behind) → s.out_of_range ≡ None
-      → ((t : Findings) → whole ≡ (front ++ followed p) ++ behind → t.out_of_range ≡ None → (with_places whole t (i + 1) found).out_of_range ≡ Some at → Outside whole (front ++ followed p) (map spelling found) at)
+  outside_next : (b : Bool) (front p behind : List ℕ) (found : List (List ℕ × List ℕ)) (s : Findings) (i at : ℕ) → has_range p ≡ b
+      → whole ≡ front ++ (p ++ 44 ∷ 32 ∷ behind) → s.out_of_range ≡ None
+      → ((t : Findings) → whole ≡ (front ++ followed p) ++ behind → t.out_of_range ≡ None → (with_places whole t (i + 1) found).out_of_range ≡ Some at
+      → Outside whole (front ++ followed p) (map spelling found) at)
       → (with_places whole s i ((p, p ++ 44 ∷ 32 ∷ behind) ∷ found)).out_of_range ≡ Some at → Outside whole front (p ∷ map spelling found) at
   outside_next true front p behind found s i at range parts none more e =
       let nothing : (with_place whole s i (p, p ++ 44 ∷ 32 ∷ behind)).out_of_range ≡ None = rw (none, range) refl in
@@ -84,7 +92,8 @@ module _ (whole : List ℕ) where
       outside_later whole front p (map spelling found) at range (more (with_place whole s i (p, p ++ 44 ∷ 32 ∷ behind)) (parts ∙ joined) nothing e)
   outside_next false front p behind found s i at range parts none more e = outside_here whole front p (44 ∷ 32 ∷ behind) found s i at parts none range e
 
-  outside_from : {IsOne : List ℕ → Type 0} (front text : List ℕ) (found : List (List ℕ × List ℕ)) (s : Findings) (i at : ℕ) → Laid IsOne found text → whole ≡ front ++ text → s.out_of_range ≡ None
+  outside_from : {IsOne : List ℕ → Type 0} (front text : List ℕ) (found : List (List ℕ × List ℕ)) (s : Findings) (i at : ℕ) → Laid IsOne found text
+      → whole ≡ front ++ text → s.out_of_range ≡ None
       → (with_places whole s i found).out_of_range ≡ Some at → Outside whole front (map spelling found) at
   outside_from front text found s i at (last {p} h) parts none e = outside_last (has_range p) front p s i at refl parts none e
   outside_from front text found s i at (next {p} {text = behind} {found = others} h l) parts none e =
@@ -96,7 +105,8 @@ keeps_none None true n e = (refl, refl)
 keeps_none None false n e = absurd cc
 keeps_none (Some m) b n e = absurd cc
 
-all_inside : (whole : List ℕ) (found : List (List ℕ × List ℕ)) (s : Findings) (i : ℕ) → (with_places whole s i found).out_of_range ≡ None → (s.out_of_range ≡ None) × (list_all has_range (map spelling found) ≡ true)
+all_inside : (whole : List ℕ) (found : List (List ℕ × List ℕ)) (s : Findings) (i : ℕ) → (with_places whole s i found).out_of_range ≡ None
+    → (s.out_of_range ≡ None) × (list_all has_range (map spelling found) ≡ true)
 all_inside whole [] s i e = (e, refl)
 all_inside whole (place ∷ found) s i e =
     let behind = all_inside whole found (with_place whole s i place) (i + 1) e in
@@ -104,7 +114,8 @@ all_inside whole (place ∷ found) s i e =
     (here.0, rw here.1 behind.1)
 
 -- what was too long
-too_long_by : (b d : Bool) (whole : List ℕ) (place : List ℕ × List ℕ) (found : List (List ℕ × List ℕ)) (s : Findings) (i : ℕ) → is_short place.0 ≡ b → leb 8 i ≡ d → s.too_long ≡ false
+too_long_by : (b d : Bool) (whole : List ℕ) (place : List ℕ × List ℕ) (found : List (List ℕ × List ℕ)) (s : Findings) (i : ℕ) → is_short place.0 ≡ b
+    → leb 8 i ≡ d → s.too_long ≡ false
     → ((with_place whole s i place).too_long ≡ false → (8 < (i + 1) + length found) ⊎ (list_all is_short (map spelling found) ≡ false))
     → (8 < i + length (place ∷ found)) ⊎ (list_all is_short (map spelling (place ∷ found)) ≡ false)
 too_long_by false d whole place found s i short few none more = inr (rw short refl)
@@ -120,7 +131,8 @@ was_too_long : (whole : List ℕ) (found : List (List ℕ × List ℕ)) (s : Fin
     → (8 < i + length found) ⊎ (list_all is_short (map spelling found) ≡ false)
 was_too_long whole [] s i none e = let never : false ≡ true = sym none ∙ e in absurd cc
 was_too_long whole (place ∷ found) s i none e =
-    too_long_by (is_short place.0) (leb 8 i) whole place found s i refl refl none (λ so_far. was_too_long whole found (with_place whole s i place) (i + 1) so_far e)
+    too_long_by (is_short place.0) (leb 8 i) whole place found s i refl refl none
+    (λ so_far. was_too_long whole found (with_place whole s i place) (i + 1) so_far e)
 
 -- which fault was found
 range_found : (o : Option ℕ) (b : Bool) (at : ℕ) → fault_found o b ≡ Some (faults.Range at) → o ≡ Some at
@@ -133,13 +145,16 @@ too_long_found (Some n) b e = absurd cc
 too_long_found None true e = (refl, refl)
 too_long_found None false e = absurd cc
 
-range_ok : (text : List ℕ) (r : Result (List (List ℕ × List ℕ)) (List ℕ)) (at : ℕ) → fault_of_found text (found_with text nothing_found 0 r) ≡ Some (faults.Range at)
+range_ok : (text : List ℕ) (r : Result (List (List ℕ × List ℕ)) (List ℕ)) (at : ℕ)
+    → fault_of_found text (found_with text nothing_found 0 r) ≡ Some (faults.Range at)
     → (found : List (List ℕ × List ℕ)) × (r ≡ Ok found) × ((with_places text nothing_found 0 found).out_of_range ≡ Some at)
 range_ok text (Err rest) at e = absurd cc
-range_ok text (Ok found) at e = (found, refl, range_found (with_places text nothing_found 0 found).out_of_range (with_places text nothing_found 0 found).too_long at e)
+range_ok text (Ok found) at e =
+    (found, refl, range_found (with_places text nothing_found 0 found).out_of_range (with_places text nothing_found 0 found).too_long at e)
 
 too_long_ok : (text : List ℕ) (r : Result (List (List ℕ × List ℕ)) (List ℕ)) → fault_of_found text (found_with text nothing_found 0 r) ≡ Some faults.TooLong
-    → (found : List (List ℕ × List ℕ)) × (r ≡ Ok found) × ((with_places text nothing_found 0 found).out_of_range ≡ None) × ((with_places text nothing_found 0 found).too_long ≡ true)
+    → (found : List (List ℕ × List ℕ)) × (r ≡ Ok found) × ((with_places text nothing_found 0 found).out_of_range ≡ None)
+    × ((with_places text nothing_found 0 found).too_long ≡ true)
 too_long_ok text (Err rest) e = absurd cc
 too_long_ok text (Ok found) e =
     let h = too_long_found (with_places text nothing_found 0 found).out_of_range (with_places text nothing_found 0 found).too_long e in

@@ -1,5 +1,6 @@
 -- The faults of a text's shape are those of the grammar.
-use Rattle.std.proofs.Common.{◌≡◌, ℕ, zero, suc, ◌-◌, ◌<◌, ◌≤◌, Bool, true, false, cond, eqb, List, [], ◌∷◌, ◌++◌, length, take, map, Option, Some, None, Result, Ok, Err, refl, sym, ap, subst, ◌∙◌, append_assoc, arith, length-append}
+use Rattle.std.proofs.Common.{◌≡◌, ℕ, zero, suc, ◌-◌, ◌<◌, ◌≤◌, Bool, true, false, cond, eqb, List, [], ◌∷◌, ◌++◌, length, take, map}
+use Rattle.std.proofs.Common.{Option, Some, None, Result, Ok, Err, refl, sym, ap, subst, ◌∙◌, append_assoc, arith, length-append}
 use Rattle.std.proofs.lemmas.Bool.{eqb-true, eqb-false}
 use Rattle.std.proofs.lemmas.List.{take_at}
 use Rattle.kt_tuple.specs.declared.parse_error.ParseError.{ParseError}
@@ -37,25 +38,30 @@ found_no_syntax (Some n) b at e = absurd cc
 found_no_syntax None true at e = absurd cc
 found_no_syntax None false at e = absurd cc
 
-syntax_err : (text : List ℕ) (r : Result (List (List ℕ × List ℕ)) (List ℕ)) (at : ℕ) → fault_of_found text (found_with text nothing_found 0 r) ≡ Some (faults.Syntax at)
+syntax_err : (text : List ℕ) (r : Result (List (List ℕ × List ℕ)) (List ℕ)) (at : ℕ)
+    → fault_of_found text (found_with text nothing_found 0 r) ≡ Some (faults.Syntax at)
     → (rest : List ℕ) × (r ≡ Err rest) × (length text - length rest ≡ at)
 syntax_err text (Err rest) at e = (rest, refl, cc)
-syntax_err text (Ok places) at e = absurd (found_no_syntax (with_places text nothing_found 0 places).out_of_range (with_places text nothing_found 0 places).too_long at e)
+syntax_err text (Ok places) at e =
+    absurd (found_no_syntax (with_places text nothing_found 0 places).out_of_range (with_places text nothing_found 0 places).too_long at e)
 
-no_syntax_ok : (text : List ℕ) (r : Result (List (List ℕ × List ℕ)) (List ℕ)) → ((at : ℕ) → fault_of_found text (found_with text nothing_found 0 r) ≡ Some (faults.Syntax at) → ⊥)
+no_syntax_ok : (text : List ℕ) (r : Result (List (List ℕ × List ℕ)) (List ℕ))
+    → ((at : ℕ) → fault_of_found text (found_with text nothing_found 0 r) ≡ Some (faults.Syntax at) → ⊥)
     → (places : List (List ℕ × List ℕ)) × (r ≡ Ok places)
 no_syntax_ok text (Err rest) h = absurd (h (length text - length rest) refl)
 no_syntax_ok text (Ok places) h = (places, refl)
 
 module _ (read : Reader) (IsOne : List ℕ → Type 0) (g : IsReaderOf read IsOne) where
   -- what is laid out so is read, and what is read is laid out so
-  pub shape_read : (ps : List (List ℕ)) (text : List ℕ) → Consists IsOne ps text → (found : List (List ℕ × List ℕ)) × (places_in read text ≡ Ok found) × (map spelling found ≡ ps)
+  pub shape_read : (ps : List (List ℕ)) (text : List ℕ) → Consists IsOne ps text → (found : List (List ℕ × List ℕ)) × (places_in read text ≡ Ok found)
+      × (map spelling found ≡ ps)
   shape_read ps text h =
       let l = consists_laid ps text h in
       let found : places_in read (40 ∷ l.0) ≡ Ok l.1 = laid_places read IsOne g (suc (length l.0)) l.0 l.1 l.3 (omega (arith, laid_length l.1 l.0 l.3)) in
       (l.1, ap (places_in read) l.2 ∙ found, l.4)
 
-  pub read_shape : (text : List ℕ) (found : List (List ℕ × List ℕ)) → places_in read text ≡ Ok found → (start : List ℕ) × (text ≡ 40 ∷ start) × Laid IsOne found start
+  pub read_shape : (text : List ℕ) (found : List (List ℕ × List ℕ)) → places_in read text ≡ Ok found → (start : List ℕ) × (text ≡ 40 ∷ start)
+      × Laid IsOne found start
   read_shape text found e =
       let start = bound (word_at text (40 ∷ [])) (λ start. places_from read (length text) start) found e in
       (start.0, word_taken text (40 ∷ []) start.0 start.1, places_laid read IsOne g (length text) start.0 found start.2)
@@ -80,7 +86,8 @@ module _ (read : Reader) (IsOne : List ℕ → Type 0) (g : IsReaderOf read IsOn
     never_behind h.0 rest h.3,
   )
 
-  text_by_test : (b : Bool) (c : ℕ) (cs rest : List ℕ) → eqb 40 c ≡ b → (cond b (Ok cs) (Err (c ∷ cs)) >>= λ start. places_from read (length (c ∷ cs)) start) ≡ Err rest → StopsText IsOne (c ∷ cs) rest
+  text_by_test : (b : Bool) (c : ℕ) (cs rest : List ℕ) → eqb 40 c ≡ b
+      → (cond b (Ok cs) (Err (c ∷ cs)) >>= λ start. places_from read (length (c ∷ cs)) start) ≡ Err rest → StopsText IsOne (c ∷ cs) rest
   text_by_test true c cs rest e stops =
       subst (λ k. StopsText IsOne (k ∷ cs) rest) (eqb-true 40 c e) (text_behind cs rest (stops_from read IsOne g (length (c ∷ cs)) cs rest (omega arith) stops))
   text_by_test false c cs rest e stops =
@@ -135,17 +142,21 @@ module _ (read : Reader) (IsOne : List ℕ → Type 0) (g : IsReaderOf read IsOn
       let front : take at text ≡ h.1.0 = ap (λ n. take n text) (sym h.2) ∙ ap (take (length h.1.0)) h.1.1 ∙ take_at h.1.0 h.0 (length h.1.0) refl in
       subst (Begins (IsShape IsOne)) (sym front) h.1.2
 
-  longer : (front rest : List ℕ) (n : ℕ) → NeverShape IsOne front rest → length front < n → n ≤ length (front ++ rest) → Begins (IsShape IsOne) (take n (front ++ rest)) → ⊥
+  longer : (front rest : List ℕ) (n : ℕ) → NeverShape IsOne front rest → length front < n → n ≤ length (front ++ rest)
+      → Begins (IsShape IsOne) (take n (front ++ rest)) → ⊥
   longer front [] n never lt le begins = absurd (omega (arith, lt, le, length-append front []))
   longer front (c ∷ cs) n never lt le begins =
       let w = take_beyond front c cs n lt in
-      let whole : take n (front ++ c ∷ cs) ++ begins.0 ≡ front ++ c ∷ (w.0 ++ begins.0) = ap (λ (t : List ℕ). t ++ begins.0) w.1 ∙ append_assoc front (c ∷ w.0) begins.0 in
+      let whole : take n (front ++ c ∷ cs) ++ begins.0 ≡ front ++ c ∷ (w.0 ++ begins.0) =
+      ap (λ (t : List ℕ). t ++ begins.0) w.1 ∙ append_assoc front (c ∷ w.0) begins.0 in
       never (w.0 ++ begins.0) (subst (IsShape IsOne) whole begins.1)
 
-  pub syntax_longest : (text : List ℕ) (at n : ℕ) → fault_with read text ≡ Some (faults.Syntax at) → at < n → n ≤ length text → Begins (IsShape IsOne) (take n text) → ⊥
+  pub syntax_longest : (text : List ℕ) (at n : ℕ) → fault_with read text ≡ Some (faults.Syntax at) → at < n → n ≤ length text
+      → Begins (IsShape IsOne) (take n text) → ⊥
   syntax_longest text at n e lt le begins =
       let h = stops_at text at e in
-      longer h.1.0 h.0 n h.1.3 (omega (arith, h.2, lt)) (omega (arith, le, ap length h.1.1)) (subst (λ (t : List ℕ). Begins (IsShape IsOne) (take n t)) h.1.1 begins)
+      longer h.1.0 h.0 n h.1.3 (omega (arith, h.2, lt)) (omega (arith, le, ap length h.1.1))
+      (subst (λ (t : List ℕ). Begins (IsShape IsOne) (take n t)) h.1.1 begins)
 
   -- a text has one row of places
   pub one_row : (ps qs : List (List ℕ)) (text : List ℕ) → Consists IsOne ps text → Consists IsOne qs text → ps ≡ qs

@@ -1,5 +1,6 @@
 -- What is read of the text of a tuple or a template, and the lowest fault of the text.
-use Rattle.std.specs.Prelude.{ℕ, zero, suc, ◌+◌, ◌-◌, ◌||◌, not, nat_le, Bool, true, false, if◌then◌else◌, List, [], ◌∷◌, ◌++◌, length, Option, Some, None, option_to_list, Result, Ok, Err}
+use Rattle.std.specs.Prelude.{ℕ, zero, suc, ◌+◌, ◌-◌, ◌||◌, not, nat_le, Bool, true, false, if◌then◌else◌}
+use Rattle.std.specs.Prelude.{List, [], ◌∷◌, ◌++◌, length, Option, Some, None, option_to_list, Result, Ok, Err}
 use Rattle.kt_tuple.specs.declared.value.Value.{Value}
 use Rattle.kt_tuple.specs.declared.template.Place.{Place}
 use Rattle.kt_tuple.specs.declared.parse_error.ParseError.{ParseError}
@@ -7,7 +8,8 @@ use Rattle.kt_tuple.specs.declared.parse_error.ParseError.TheVariants as faults
 use Rattle.kt_tuple.specs.declared.parsing.Findings.{Findings}
 use Rattle.kt_tuple.specs.declared.parsing.Form.{Form}
 use Rattle.kt_tuple.specs.declared.parsing.Form.TheVariants as forms
-use Rattle.kt_tuple.specs.Reading.{◌>>=◌, word_at, value_at, place_at, after_place, has_range, is_short, value_of, place_of}
+use Rattle.kt_tuple.specs.Reading.{◌>>=◌, word_at, value_at, place_at, after_place}
+use Rattle.kt_tuple.specs.Reading.{has_range, is_short, value_of, place_of}
 
 -- a function that reads one place
 abbrev pub Reader : Type 0
@@ -19,7 +21,8 @@ reader_of forms.Tuple = value_at
 reader_of forms.Template = place_at
 
 -- a place that was read, and those behind it where one follows
-abbrev pub and_behind : {A : Type 0} → A → Option (List ℕ) → (List ℕ → Result (List A) (List ℕ)) → Result (List A) (List ℕ)
+abbrev pub and_behind : {A : Type 0} → A → Option (List ℕ) → (List ℕ → Result (List A) (List ℕ))
+    → Result (List A) (List ℕ)
 and_behind first None others = Ok (first ∷ [])
 and_behind first (Some next) others = others next >>= λ behind. Ok (first ∷ behind)
 
@@ -80,7 +83,8 @@ made_behind (Ok None) more = []
 made_behind (Ok (Some next)) more = more next
 
 -- what is made of a place that was read, and of those behind it
-abbrev pub made_with : {A : Type 0} → Result (List ℕ × List ℕ) (List ℕ) → (List ℕ → Option A) → (List ℕ → List A) → List A
+abbrev pub made_with : {A : Type 0} → Result (List ℕ × List ℕ) (List ℕ) → (List ℕ → Option A) → (List ℕ → List A)
+    → List A
 made_with (Err rest) make more = []
 made_with (Ok place) make more = option_to_list (make place.0) ++ made_behind (after_place place.1) more
 

@@ -1,9 +1,11 @@
 //! Tuples and templates from their text: first judged without memory, then built.
 
-ghost use Rattle.std.specs.Prelude.{◌≡◌, ◌-◌, ◌+◌, ℕ, Bool, List, [], ◌∷◌, ◌++◌, length, IfOk, IfErr, OnOk, option_to_list, IfSome, Option, None, Err};
+ghost use Rattle.std.specs.Prelude.{◌≡◌, ◌-◌, ◌+◌, ℕ, Bool, List, [], ◌∷◌, ◌++◌, length, IfOk};
+ghost use Rattle.std.specs.Prelude.{IfErr, OnOk, option_to_list, IfSome, Option, None, Err};
 ghost use Rattle.kt_tuple.specs.Grammar.{IsValueText, IsPlaceText, Explains, IsAccepted};
 ghost use Rattle.kt_tuple.specs.Reading.{Gives, word_at, value_at, place_at, value_of, place_of};
-ghost use Rattle.kt_tuple.specs.Parsing.{reader_of, nothing_found, with_place, fault_found, found_in, fault_of, made_in, tuple_fault, tuple_values, template_fault, template_places};
+ghost use Rattle.kt_tuple.specs.Parsing.{reader_of, nothing_found, with_place, fault_found, found_in, fault_of};
+ghost use Rattle.kt_tuple.specs.Parsing.{made_in, tuple_fault, tuple_values, template_fault, template_places};
 ghost use Rattle.kt_tuple.specs.Spelling.{tuple_text, template_text};
 
 use crate::parse_error::ParseError;

@@ -1,13 +1,15 @@
 //! The one text of each value, tuple, template, operation and answer, written at the end of bytes.
 
-ghost use Rattle.std.specs.Prelude.{◌≡◌, ◌≤◌, ◌++◌, List, ℕ, [], ◌∷◌, length, take, vec_len, OnOk, OnErr, codes, None, All};
+ghost use Rattle.std.specs.Prelude.{◌≡◌, ◌≤◌, ◌++◌, List, ℕ, [], ◌∷◌, length};
+ghost use Rattle.std.specs.Prelude.{take, vec_len, OnOk, OnErr, codes, None, All};
 ghost use Rattle.std.specs.Fmt.{signed_decimal};
 ghost use Rattle.std.specs.Int.{w64};
 ghost use Rattle.std.specs.Int.RustNames.{FitsSigned};
 ghost use Rattle.std.specs.Io.{StartsWith};
 ghost use Rattle.kt_tuple.specs.Matching.{HasArity};
 ghost use Rattle.kt_tuple.specs.Parsing.{tuple_fault, tuple_values, template_fault, template_places};
-ghost use Rattle.kt_tuple.specs.Spelling.{character_text, string_text, value_text, place_text, tuple_text, template_text, op_text, answer_text};
+ghost use Rattle.kt_tuple.specs.Spelling.{character_text, string_text, value_text, place_text};
+ghost use Rattle.kt_tuple.specs.Spelling.{tuple_text, template_text, op_text, answer_text};
 ghost use Rattle.kt_tuple.specs.Valid.{IsValue, IsPlace};
 
 use crate::op::{Answer, Op};

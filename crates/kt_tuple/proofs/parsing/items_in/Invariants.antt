@@ -5,4 +5,5 @@ use Rattle.kt_tuple.proofs.parsing.items_in.Given as goal
 
 abbrev pub invariant-loop : goal.invariant-loop
 invariant-loop g l =
-    l.items.items ++ made_from (reader_of l.form) g.I.Item.of_spelling (8 - l.counter) l.rest ≡ made_in (reader_of l.form) g.I.Item.of_spelling (word_at l.text (40 ∷ []))
+    l.items.items ++ made_from (reader_of l.form) g.I.Item.of_spelling (8 - l.counter) l.rest ≡ made_in (reader_of l.form) g.I.Item.of_spelling
+    (word_at l.text (40 ∷ []))

@@ -11,7 +11,9 @@ returns-in_err-push_place-clause-front c =
 
 pub loop-place-preserved : goal.loop-place-preserved
 loop-place-preserved c = record {
-  written = written_more place_text c.places-place-items.result.now c.loop-place.place-index c.place-item.result _ _ _ _ _ c.loop-place-test.true c.place-item.is c.loop-place.invariant.written c.loop-place.invariant.between c.in_ok-extend_from_slice.ensures.items c.in_ok-push_place.ensures.ok;
+  written = written_more place_text c.places-place-items.result.now c.loop-place.place-index c.place-item.result _ _ _ _ _ c.loop-place-test.true
+      c.place-item.is c.loop-place.invariant.written c.loop-place.invariant.between c.in_ok-extend_from_slice.ensures.items c.in_ok-push_place.ensures.ok;
   between = sym (separator_after_more c.places-place-items.result.now c.loop-place.place-index c.place-item.result c.loop-place-test.true);
-  held = All-more IsPlace c.places-place-items.result.now c.loop-place.place-index c.place-item.result c.loop-place-test.true c.loop-place.invariant.held (subst IsPlace c.place-item.is c.push_place.ensures.held);
+  held = All-more IsPlace c.places-place-items.result.now c.loop-place.place-index c.place-item.result c.loop-place-test.true c.loop-place.invariant.held
+      (subst IsPlace c.place-item.is c.push_place.ensures.held);
 }

@@ -11,7 +11,9 @@ returns-in_err-push_value-clause-front c =
 
 pub loop-value-preserved : goal.loop-value-preserved
 loop-value-preserved c = record {
-  written = written_more value_text c.values-value-items.result.now c.loop-value.value-index c.value-item.result _ _ _ _ _ c.loop-value-test.true c.value-item.is c.loop-value.invariant.written c.loop-value.invariant.between c.in_ok-extend_from_slice.ensures.items c.in_ok-push_value.ensures.ok;
+  written = written_more value_text c.values-value-items.result.now c.loop-value.value-index c.value-item.result _ _ _ _ _ c.loop-value-test.true
+      c.value-item.is c.loop-value.invariant.written c.loop-value.invariant.between c.in_ok-extend_from_slice.ensures.items c.in_ok-push_value.ensures.ok;
   between = sym (separator_after_more c.values-value-items.result.now c.loop-value.value-index c.value-item.result c.loop-value-test.true);
-  held = All-more IsValue c.values-value-items.result.now c.loop-value.value-index c.value-item.result c.loop-value-test.true c.loop-value.invariant.held (subst IsValue c.value-item.is c.push_value.ensures.held);
+  held = All-more IsValue c.values-value-items.result.now c.loop-value.value-index c.value-item.result c.loop-value-test.true c.loop-value.invariant.held
+      (subst IsValue c.value-item.is c.push_value.ensures.held);
 }

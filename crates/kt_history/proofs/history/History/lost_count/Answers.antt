@@ -11,4 +11,5 @@ returns-clause-count c = lost_count-is _ _ _ _ c.self.invariant ∙ ap lost_coun
 pub returns-clause-lost : goal.returns-clause-lost
 returns-clause-lost c =
     let same = shown_notes c.self.view_is in
-    IsLostCount-from c.self.inside.notes.items c.args.self.now.notes c.self.inside.lost same c.self.invariant.causes (lost_count-is _ _ _ _ c.self.invariant ∙ ap lost_count same)
+    IsLostCount-from c.self.inside.notes.items c.args.self.now.notes c.self.inside.lost same c.self.invariant.causes
+    (lost_count-is _ _ _ _ c.self.invariant ∙ ap lost_count same)

@@ -33,11 +33,13 @@ unfolding services
 found_is c =
     let h = c.self.inside.notes.items in
     let le : length h ≤ c.loop-place.place = omega (arith, c.loop-place-test.false, ap length c.deref-note-items.ensures.value) in
-    c.loop-place.invariant ∙ ap (λ g. services_of (marked_acts (survives c.args.self.now.notes) g)) (take_all c.loop-place.place h le ∙ shown_notes c.self.view_is)
+    c.loop-place.invariant ∙ ap (λ g. services_of (marked_acts (survives c.args.self.now.notes) g))
+    (take_all c.loop-place.place h le ∙ shown_notes c.self.view_is)
 
 pub returns-clause-services : goal.returns-clause-services
 returns-clause-services c = found_is c
 
 pub returns-clause-survive : goal.returns-clause-survive
 returns-clause-survive c =
-    AreSurvivors-from c.self.inside.notes.items c.args.self.now.notes c.loop-place.services.items (shown_notes c.self.view_is) c.self.invariant.causes (found_is c)
+    AreSurvivors-from c.self.inside.notes.items c.args.self.now.notes c.loop-place.services.items (shown_notes c.self.view_is) c.self.invariant.causes
+    (found_is c)
