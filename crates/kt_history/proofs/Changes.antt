@@ -11,11 +11,11 @@ use Rattle.kt_tuple.specs.declared.node.NodeId.{NodeId}
 use Rattle.kt_history.specs.declared.note.Act.{Act}
 use Rattle.kt_history.specs.declared.note.Note.{Note}
 use Rattle.kt_history.specs.declared.note.Note.TheVariants as notes
-use Rattle.kt_history.specs.Line.{note_at, before, IsAct, same_node, line}
+use Rattle.kt_history.specs.Line.{note_at, before, IsAct, same_node, line, last_of}
 use Rattle.kt_history.specs.Past.{StoodBefore, itself, in_line, by_cause}
 use Rattle.kt_history.specs.WellFormed.{MayFollow, CausesComeFirst}
 use Rattle.kt_history.specs.Survival.{Stands, Survives, note_stands, survives}
-use Rattle.kt_history.specs.Marks.{last_of, lasts}
+use Rattle.kt_history.specs.inner.Marks.{lasts}
 use Rattle.kt_history.proofs.Lists.{slice_get-take, slice_get-take_below, slice_get-drop, slice_get-from_Contains}
 use Rattle.kt_history.proofs.Lists.{Contains-from_slice_get, Contains-from_take, list_any-from_Contains, Contains-from_list_any}
 use Rattle.kt_history.proofs.Lines.{same_node-true, line-own, line-stack, line-rises, line-own_act, line-own_cut, line-other_act, line-other_cut}

@@ -10,8 +10,8 @@ use Rattle.std.proofs.Math.Bool.{and-true}
 use Rattle.kt_history.specs.declared.note.Note.{Note}
 use Rattle.kt_history.specs.declared.note.Note.TheVariants as notes
 use Rattle.kt_history.specs.declared.mark.Mark.{Mark}
-use Rattle.kt_history.specs.Marks.{mark_at, no_mark, lasts_in, unmarked, renewed, LooksBack, AreMarksOf}
-use Rattle.kt_history.specs.Marks.{IsRenewed, IsUnmarked, AreLost, HasLost, lost_among, is_lost}
+use Rattle.kt_history.specs.inner.Marks.{mark_at, no_mark, lasts_in, unmarked, renewed, LooksBack, AreMarksOf}
+use Rattle.kt_history.specs.inner.Marks.{IsRenewed, IsUnmarked, AreLost, HasLost, lost_among, is_lost}
 
 pub unmarked-none : (k : ℕ) (m : Mark) → unmarked [] k m ≡ m
 unmarked-none k m = ap (λ b. let n : Mark = record { previous = m.previous; survives = b } in n) (and-true m.survives)

@@ -5,7 +5,7 @@ use Rattle.std.specs.declared.alloc.Global.{Global}
 use Rattle.std.proofs.lemmas.List.{map-set, map_push, get_or-map, get_or-set_same, get_or-set_other}
 use Rattle.std.proofs.lemmas.List.{get_or_past, get_or_push, get_or_append_left, length-map, length_push}
 use Rattle.std.proofs.lemmas.Bool.{cases_eq, cases_lt}
-use Rattle.kt_history.specs.Marks.{rows_of, row_at}
+use Rattle.kt_history.specs.inner.Marks.{rows_of, row_at}
 
 -- the row at a place is that of the vector there
 pub row_at-rows_of : (xs : List (Vec ℕ Global)) (i : ℕ) (v : Vec ℕ Global) → i < length xs → v ≡ get_or xs i v → row_at (rows_of xs) i ≡ v.items

@@ -9,11 +9,10 @@ use Rattle.kt_history.specs.declared.note.What.TheVariants as whats
 use Rattle.kt_history.specs.declared.note.Act.{Act}
 use Rattle.kt_history.specs.declared.note.Note.{Note}
 use Rattle.kt_history.specs.declared.note.Note.TheVariants as notes
-use Rattle.kt_history.specs.Line.{note_at, before, IsAct, line}
+use Rattle.kt_history.specs.Line.{note_at, before, IsAct, line, last_of}
 use Rattle.kt_history.specs.Past.{InPast, itself, in_line, by_cause}
 use Rattle.kt_history.specs.WellFormed.{MayFollow, CausesComeFirst, HeardRequest, HeardReply, IgnoredFits, ActFits, Fits, IsWellFormed, HasNoCut}
 use Rattle.kt_history.specs.Survival.{Stands, Survives}
-use Rattle.kt_history.specs.Marks.{last_of}
 use Rattle.kt_history.proofs.Lists.{snoc_ind}
 use Rattle.kt_history.proofs.Lines.{line-own_act, note_at-old, note_at-new, note_at-within, note_at-push_cases, before-old, before-new}
 use Rattle.kt_history.proofs.Pasts.{InPast-back}

@@ -1,7 +1,9 @@
+//! What a history keeps of each note, so that it knows what survives without a look at the past.
+
 ghost use Rattle.std.specs.Prelude.{◌≡◌, if◌then◌else◌, false, ◌+◌, ◌-◌, ◌^◌, ◌<◌, ◌≤◌, ℕ};
 ghost use Rattle.std.specs.Prelude.{length, Contains, slice_get, slice_set, slice_index};
-ghost use Rattle.kt_history.specs.Marks.{act_mark, lasts_in, mark_at, renewed, is_lost, lost_among};
-ghost use Rattle.kt_history.specs.Marks.{LooksBack, AreMarksOf, AreLost, IsUnmarked, IsRenewed, HasLost};
+ghost use Rattle.kt_history.specs.inner.Marks.{act_mark, lasts_in, mark_at, renewed, is_lost, lost_among};
+ghost use Rattle.kt_history.specs.inner.Marks.{LooksBack, AreMarksOf, AreLost, IsUnmarked, IsRenewed, HasLost};
 
 use crate::note::Note;
 

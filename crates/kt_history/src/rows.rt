@@ -1,6 +1,9 @@
+//! The lines of the nodes, a row for each.
+
 ghost use Rattle.std.specs.Prelude.{◌≡◌, ◌∷◌, ◌++◌, [], ℕ, ◌<◌, take, drop, length, slice_set, vec_len, OnOk};
 ghost use Rattle.kt_tuple.specs.Node.{names};
-ghost use Rattle.kt_history.specs.Marks.{last_of, rows_of, row_at, HasRoom, SameRows};
+ghost use Rattle.kt_history.specs.Line.{last_of};
+ghost use Rattle.kt_history.specs.inner.Marks.{rows_of, row_at, HasRoom, SameRows};
 
 use std::alloc::AllocError;
 

@@ -6,7 +6,7 @@ use Rattle.kt_tuple.specs.declared.value.Kind.{Kind}
 use Rattle.kt_script.specs.declared.name.Name.{Name}
 use Rattle.kt_script.specs.Name.{same_name}
 use Rattle.kt_script.specs.Variables.{kind_in, with_bindings}
-use Rattle.kt_script.specs.Counting.{count_new}
+use Rattle.kt_script.specs.inner.Counting.{count_new}
 use Rattle.kt_script.proofs.Held.{same_is, same_refl}
 
 abbrev pub known : List (Name × Kind) → Name → Bool

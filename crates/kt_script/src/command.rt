@@ -1,3 +1,5 @@
+//! The commands of a script.
+
 ghost use Rattle.std.specs.Prelude.{◌≡◌, ◌↔◌, IsSome, IfSome, IfOk, flat_map};
 ghost use Rattle.kt_script.specs.Command.{slot_bindings};
 ghost use Rattle.kt_tuple.specs.Matching.{HasArity};

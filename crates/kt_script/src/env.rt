@@ -1,3 +1,5 @@
+//! What a worker keeps of its script between two operations.
+
 ghost use Rattle.std.specs.Prelude.{◌≡◌, ◌++◌, ◌∷◌, [], List, IfOk, Some, map};
 ghost use Rattle.kt_script.specs.Asks.{is_none_answer};
 ghost use Rattle.kt_script.specs.Meaning.{zero_of};

@@ -1,5 +1,7 @@
+//! The operation that a script makes next.
+
 ghost use Rattle.std.specs.Prelude.{◌≡◌, ◌+◌, ◌<◌, ◌^◌, IfOk, length};
-ghost use Rattle.kt_script.specs.Left.{has_next_from};
+ghost use Rattle.kt_script.specs.inner.Left.{has_next_from};
 ghost use Rattle.kt_script.specs.Meaning.{op_of};
 ghost use Rattle.kt_script.specs.Memory.{held};
 ghost use Rattle.kt_script.specs.Next.{next_from, assigned};

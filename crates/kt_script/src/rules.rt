@@ -6,7 +6,7 @@ ghost use Rattle.kt_script.specs.Command.{slot_bindings, bindings};
 ghost use Rattle.kt_script.specs.Variables.{kind_in};
 ghost use Rattle.kt_script.specs.Rules.{is_bound, is_slot_bound, are_slots_bound, are_actuals_bound};
 ghost use Rattle.kt_script.specs.Rules.{agrees, are_uses_bound, are_kinds_kept, keeps_rules, has_count};
-ghost use Rattle.kt_script.specs.Counting.{count_new};
+ghost use Rattle.kt_script.specs.inner.Counting.{count_new};
 
 use crate::command::{Actual, Command, Operation, Slot};
 use crate::name::Name;

@@ -1,3 +1,5 @@
+//! Scripts: commands that keep the rules of variables and the limits.
+
 ghost use Rattle.std.specs.Prelude.{◌≡◌, ◌↔◌, [], ◌∷◌, ◌++◌, List, IfOk, OnOk, OnErr};
 ghost use Rattle.std.specs.Prelude.{None, Some, Err, is_some, ◌+◌, ◌<◌, ◌^◌, length, drop};
 

@@ -1,3 +1,5 @@
+//! What a shard makes of a request that arrives.
+
 ghost use Rattle.std.specs.Prelude.{◌≡◌, max, IfOk};
 ghost use Rattle.std.specs.Option.{option_copied};
 ghost use Rattle.kt_shard.specs.Desk.{number_or_0, kept_request, answer_unless_waiting};

@@ -1,3 +1,5 @@
+//! Shards: their tuples, and a desk for each worker.
+
 ghost use Rattle.std.specs.Prelude.{◌≡◌, ◌<◌, ◌↔◌, length, replicate, IsTrue, IsOk, IfOk, IfErr, OnOk, OnErr};
 ghost use Rattle.std.specs.Option.{option_copied, option_map};
 ghost use Rattle.kt_shard.specs.Limits.{desks};

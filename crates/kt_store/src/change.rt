@@ -6,7 +6,7 @@ ghost use Rattle.kt_tuple.specs.Node.{node_eq};
 ghost use Rattle.kt_store.specs.declared.rows.NodeRow.{NodeRow};
 ghost use Rattle.kt_store.specs.Content.{IsNodes, node_lt, row_or};
 ghost use Rattle.kt_store.specs.Changes.{with_row};
-ghost use Rattle.kt_store.specs.Row.{changed, IsWithin};
+ghost use Rattle.kt_store.specs.inner.Row.{changed, IsWithin};
 
 use crate::rows::{NodeRow, Tentative};
 use kt_tuple::NodeId;

@@ -1,3 +1,5 @@
+//! A store in memory.
+
 ghost use Rattle.std.specs.Prelude.{◌≡◌, ◌+◌, ℕ, None, OnOk, OnErr, vec_len, vec_capacity, IfOk, IfSome};
 ghost use Rattle.std.specs.Prelude.{IfNone, slice_get, length, fold, map, max, All, ◌<◌, ◌≤◌, ◌==◌, ◌&&◌};
 ghost use Rattle.std.specs.Option.{option_copied};
@@ -10,7 +12,7 @@ ghost use Rattle.kt_store.specs.Verdict.{is_open};
 ghost use Rattle.kt_store.specs.Content.{IsBoard, row_of, verdict_of, initiator_of, open_of, next_instance};
 ghost use Rattle.kt_store.specs.Content.{is_fresh, greatest, permanent_marks, tentative_marks};
 ghost use Rattle.kt_store.specs.Changes.{decided, opening, storing, with_posted};
-ghost use Rattle.kt_store.specs.Row.{changed, IsWithin};
+ghost use Rattle.kt_store.specs.inner.Row.{changed, IsWithin};
 
 use crate::change::{Change, change_row};
 use crate::error::StoreError;

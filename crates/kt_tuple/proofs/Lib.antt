@@ -16,6 +16,7 @@ pub mod ValuesRead
 pub mod PlaceLaws
 pub mod PlacesRead
 pub mod Faults
+pub mod Findings
 pub mod Wholes
 pub mod WholesRead
 pub mod Texts

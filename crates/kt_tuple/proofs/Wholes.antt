@@ -8,7 +8,7 @@ use Rattle.std.specs.Prelude.{All, codes}
 use Rattle.kt_tuple.specs.Spelling.{separated, in_parentheses}
 use Rattle.kt_tuple.specs.Matching.{HasArity}
 use Rattle.kt_tuple.specs.Reading.{◌>>=◌, word_at, after_place, has_range, is_short, begins_with_digit}
-use Rattle.kt_tuple.specs.Parsing.{Reader, and_behind, places_from, places_in, nothing_found, found_with, fault_of_found, made_from, made_in}
+use Rattle.kt_tuple.specs.Parsing.{Reader, and_behind, places_from, places_in, fault_of, made_from, made_in}
 use Rattle.kt_tuple.proofs.ValueLaws.{bound, word_taken}
 use Rattle.kt_tuple.proofs.Made.{made_step}
 use Rattle.kt_tuple.proofs.Faults.{AreFine, found_fine}
@@ -140,10 +140,10 @@ module _ {A : Type 0} (read : Reader) (make : List ℕ → Option A) (spell : A 
       made_by next.0 n i text place.0.0 place.0.1 places place.1 next.1 next.2 fine (λ following behind. places_made n (i + 1) following behind)
 
   -- what is made of a text without a fault
-  pub text_made : (text : List ℕ) → fault_of_found text (found_with text nothing_found 0 (places_in read text)) ≡ None
-      → HasArity (made_in read make (word_at text (40 ∷ [])))
-      × All IsHeld (made_in read make (word_at text (40 ∷ [])))
-      × (in_parentheses (map spell (made_in read make (word_at text (40 ∷ [])))) ≡ text)
+  pub text_made : (text : List ℕ) → fault_of read text ≡ None
+      → HasArity (made_in read make text)
+      × All IsHeld (made_in read make text)
+      × (in_parentheses (map spell (made_in read make text)) ≡ text)
   text_made text e =
       let places = found_fine text (places_in read text) e in
       let start = bound (word_at text (40 ∷ [])) (λ start. places_from read (length text) start) places.0 places.1 in

@@ -8,7 +8,7 @@ use Rattle.std.specs.Prelude.{All}
 use Rattle.kt_tuple.specs.Spelling.{further, separated, in_parentheses}
 use Rattle.kt_tuple.specs.Matching.{HasArity}
 use Rattle.kt_tuple.specs.Reading.{word_at, after_place}
-use Rattle.kt_tuple.specs.Parsing.{Reader, places_from, places_in, nothing_found, found_with, fault_of_found, made_from, made_in}
+use Rattle.kt_tuple.specs.Parsing.{Reader, places_from, fault_of, made_from, made_in}
 use Rattle.kt_tuple.proofs.Made.{made_step}
 use Rattle.kt_tuple.proofs.Faults.{AreFine, fine_found}
 use Rattle.kt_tuple.proofs.Wholes.{IsReader, separated-cons, length-map_same}
@@ -86,12 +86,11 @@ module _ {A : Type 0} (read : Reader) (make : List ℕ → Option A) (spell : A 
 
   -- no fault is found in it
   pub text_faultless : (xs : List A) → HasArity xs → All IsHeld xs
-      → fault_of_found (in_parentheses (map spell xs))
-      (found_with (in_parentheses (map spell xs)) nothing_found 0 (places_in read (in_parentheses (map spell xs)))) ≡ None
+      → fault_of read (in_parentheses (map spell xs)) ≡ None
   text_faultless xs arity held =
       let h = whole_read xs arity held in
       rw h.found (fine_found (in_parentheses (map spell xs)) h.places h.fine)
 
   -- and it is made again of it
-  pub text_remade : (xs : List A) → HasArity xs → All IsHeld xs → made_in read make (word_at (in_parentheses (map spell xs)) (40 ∷ [])) ≡ xs
+  pub text_remade : (xs : List A) → HasArity xs → All IsHeld xs → made_in read make (in_parentheses (map spell xs)) ≡ xs
   text_remade xs arity held = (whole_read xs arity held).made

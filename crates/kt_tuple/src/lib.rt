@@ -2,12 +2,13 @@
 #![tactic(auto)]
 
 mod equality;
-mod laws;
+mod item;
+pub mod laws;
 mod node;
 mod op;
 mod parse_error;
 mod parsing;
-mod reading;
+pub mod reading;
 mod service;
 mod signature;
 mod string;

@@ -1,18 +1,19 @@
-//! The one text of each value, tuple, template, operation and answer, written at the end of bytes.
+//! The one text of each value, tuple, template, operation, answer, node and service, written at the end of bytes.
 
-ghost use Rattle.std.specs.Prelude.{◌≡◌, ◌≤◌, ◌++◌, List, ℕ, [], ◌∷◌, length};
-ghost use Rattle.std.specs.Prelude.{take, vec_len, OnOk, OnErr, codes, None, All};
+ghost use Rattle.std.specs.Prelude.{◌≡◌, ◌++◌, take, map, decimal, OnOk, OnErr, None, All};
 ghost use Rattle.std.specs.Fmt.{signed_decimal};
 ghost use Rattle.std.specs.Int.{w64};
 ghost use Rattle.std.specs.Int.RustNames.{FitsSigned};
 ghost use Rattle.std.specs.Io.{StartsWith};
-ghost use Rattle.kt_tuple.specs.Matching.{HasArity};
 ghost use Rattle.kt_tuple.specs.Parsing.{tuple_fault, tuple_values, template_fault, template_places};
-ghost use Rattle.kt_tuple.specs.Spelling.{character_text, string_text, value_text, place_text};
-ghost use Rattle.kt_tuple.specs.Spelling.{tuple_text, template_text, op_text, answer_text};
+ghost use Rattle.kt_tuple.specs.Spelling.{character_text, string_text, value_text, place_text, in_parentheses};
+ghost use Rattle.kt_tuple.specs.Spelling.{tuple_text, template_text, op_text, answer_text, node_text, service_text};
 ghost use Rattle.kt_tuple.specs.Valid.{IsValue, IsPlace};
 
+use crate::item::Item;
+use crate::node::NodeId;
 use crate::op::{Answer, Op};
+use crate::service::Service;
 use crate::template::{Place, Template};
 use crate::tuple::Tuple;
 use crate::value::{Kind, Value};
@@ -41,7 +42,7 @@ impl Tuple {
         ensures read_back { OnOk result (tuple_values (tuple_text self.now) ≡ self.now) }
     {
         let start = out.len();
-        let written = push_tuple(out, self);
+        let written = push_items(out, self.values());
         cut_back(out, start, written)
     }
 }
@@ -56,7 +57,31 @@ impl Template {
         ensures read_back { OnOk result (template_places (template_text self.now) ≡ self.now) }
     {
         let start = out.len();
-        let written = push_template(out, self);
+        let written = push_items(out, self.places());
+        cut_back(out, start, written)
+    }
+}
+
+impl NodeId {
+    /// Appends its text, as `w1` or `s1`. A refused call leaves the bytes as they were.
+    pub fn write_to(self, out: &mut Vec<u8>) -> Result<(), AllocError>
+        ensures ok { OnOk result (out.new.items ≡ out.old.items ++ node_text self) }
+        ensures err { OnErr result (out.new.items ≡ out.old.items) }
+    {
+        let start = out.len();
+        let written = push_node(out, self);
+        cut_back(out, start, written)
+    }
+}
+
+impl Service {
+    /// Appends its text, as `w1.2 in ("a", ?int) got ("a", 1)`. A refused call leaves the bytes as they were.
+    pub fn write_to(&self, out: &mut Vec<u8>) -> Result<(), AllocError>
+        ensures ok { OnOk result (out.new.items ≡ out.old.items ++ service_text self.now) }
+        ensures err { OnErr result (out.new.items ≡ out.old.items) }
+    {
+        let start = out.len();
+        let written = push_service(out, self);
         cut_back(out, start, written)
     }
 }
@@ -101,6 +126,35 @@ fn cut_back(
     written
 }
 
+fn push_service(out: &mut Vec<u8>, service: &Service) -> Result<(), AllocError>
+    ensures ok { OnOk result (out.new.items ≡ out.old.items ++ service_text service.now) }
+    ensures front { StartsWith out.new.items out.old.items }
+{
+    push_node(out, NodeId::Worker(service.worker))?;
+    out.push(b'.')?;
+    push_number(out, service.number)?;
+    out.push(b' ')?;
+    push_op(out, &service.op)?;
+    out.push(b' ')?;
+    push_answer(out, &service.answer)
+}
+
+fn push_node(out: &mut Vec<u8>, node: NodeId) -> Result<(), AllocError>
+    ensures ok { OnOk result (out.new.items ≡ out.old.items ++ node_text node) }
+    ensures front { StartsWith out.new.items out.old.items }
+{
+    match node {
+        NodeId::Worker(number) => {
+            out.push(b'w')?;
+            push_number(out, u64::from(number))
+        }
+        NodeId::Shard(number) => {
+            out.push(b's')?;
+            push_number(out, u64::from(number))
+        }
+    }
+}
+
 fn push_op(out: &mut Vec<u8>, op: &Op) -> Result<(), AllocError>
     ensures ok { OnOk result (out.new.items ≡ out.old.items ++ op_text op.now) }
     ensures front { StartsWith out.new.items out.old.items }
@@ -108,23 +162,23 @@ fn push_op(out: &mut Vec<u8>, op: &Op) -> Result<(), AllocError>
     match op {
         Op::Out(tuple) => {
             out.extend_from_slice(b"out ")?;
-            push_tuple(out, tuple)
+            push_items(out, tuple.values())
         }
         Op::In(template) => {
             out.extend_from_slice(b"in ")?;
-            push_template(out, template)
+            push_items(out, template.places())
         }
         Op::Rd(template) => {
             out.extend_from_slice(b"rd ")?;
-            push_template(out, template)
+            push_items(out, template.places())
         }
         Op::Inp(template) => {
             out.extend_from_slice(b"inp ")?;
-            push_template(out, template)
+            push_items(out, template.places())
         }
         Op::Rdp(template) => {
             out.extend_from_slice(b"rdp ")?;
-            push_template(out, template)
+            push_items(out, template.places())
         }
     }
 }
@@ -137,47 +191,30 @@ fn push_answer(out: &mut Vec<u8>, answer: &Answer) -> Result<(), AllocError>
         Answer::Done => out.extend_from_slice(b"done"),
         Answer::Got(tuple) => {
             out.extend_from_slice(b"got ")?;
-            push_tuple(out, tuple)
+            push_items(out, tuple.values())
         }
         Answer::None => out.extend_from_slice(b"none"),
     }
 }
 
-fn push_tuple(out: &mut Vec<u8>, tuple: &Tuple) -> Result<(), AllocError>
-    ensures ok { OnOk result (out.new.items ≡ out.old.items ++ tuple_text tuple.now) }
+/// The items in parentheses, each but the first behind a comma and a space.
+fn push_items<I: Item>(out: &mut Vec<u8>, items: &[I]) -> Result<(), AllocError>
+    ensures ok { OnOk result (out.new.items ≡ out.old.items ++ in_parentheses (map I.text_of items.now)) }
     ensures front { StartsWith out.new.items out.old.items }
-    ensures arity { OnOk result (HasArity tuple.now) }
-    ensures held { OnOk result (All IsValue tuple.now) }
+    ensures held { OnOk result (All I.is_held items.now) }
 {
     out.push(b'(')?;
     let mut separator: &[u8] = b"";
-    for value in tuple.values() {
+    for item in items {
         out.extend_from_slice(separator)?;
-        push_value(out, value)?;
+        item.push_to(out)?;
         separator = b", ";
     }
     out.push(b')')?;
     Ok(())
 }
 
-fn push_template(out: &mut Vec<u8>, template: &Template) -> Result<(), AllocError>
-    ensures ok { OnOk result (out.new.items ≡ out.old.items ++ template_text template.now) }
-    ensures front { StartsWith out.new.items out.old.items }
-    ensures arity { OnOk result (HasArity template.now) }
-    ensures held { OnOk result (All IsPlace template.now) }
-{
-    out.push(b'(')?;
-    let mut separator: &[u8] = b"";
-    for place in template.places() {
-        out.extend_from_slice(separator)?;
-        push_place(out, place)?;
-        separator = b", ";
-    }
-    out.push(b')')?;
-    Ok(())
-}
-
-fn push_place(out: &mut Vec<u8>, place: &Place) -> Result<(), AllocError>
+pub(crate) fn push_place(out: &mut Vec<u8>, place: &Place) -> Result<(), AllocError>
     ensures ok { OnOk result (out.new.items ≡ out.old.items ++ place_text place.now) }
     ensures front { StartsWith out.new.items out.old.items }
     ensures held { IsPlace place.now }
@@ -189,7 +226,7 @@ fn push_place(out: &mut Vec<u8>, place: &Place) -> Result<(), AllocError>
     }
 }
 
-fn push_value(out: &mut Vec<u8>, value: &Value) -> Result<(), AllocError>
+pub(crate) fn push_value(out: &mut Vec<u8>, value: &Value) -> Result<(), AllocError>
     ensures ok { OnOk result (out.new.items ≡ out.old.items ++ value_text value.now) }
     ensures front { StartsWith out.new.items out.old.items }
     ensures held { IsValue value.now }
@@ -204,6 +241,14 @@ fn push_int(out: &mut Vec<u8>, number: i64) -> Result<(), AllocError>
     ensures ok { OnOk result (out.new.items ≡ out.old.items ++ signed_decimal number) }
     ensures front { StartsWith out.new.items out.old.items }
     ensures held { FitsSigned w64 number }
+{
+    let mut buffer = Buffer::new();
+    out.extend_from_slice(buffer.format(number).as_bytes())
+}
+
+fn push_number(out: &mut Vec<u8>, number: u64) -> Result<(), AllocError>
+    ensures ok { OnOk result (out.new.items ≡ out.old.items ++ decimal number) }
+    ensures front { StartsWith out.new.items out.old.items }
 {
     let mut buffer = Buffer::new();
     out.extend_from_slice(buffer.format(number).as_bytes())

@@ -1,3 +1,5 @@
+//! Ballots: whom a node asked, and the votes that came.
+
 ghost use Rattle.std.specs.Prelude.{◌≡◌, ◌↔◌, ◌∷◌, ◌++◌, [], if◌then◌else◌, List, All, Any, Contains, filter, not};
 ghost use Rattle.std.specs.Prelude.{None, Some, true, false, IsTrue, IsSome, IfOk, OnOk, OnErr};
 ghost use Rattle.kt_tuple.specs.declared.node.NodeId.{NodeId};

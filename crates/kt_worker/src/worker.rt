@@ -1,3 +1,5 @@
+//! Workers: their numbered requests, at most one unanswered.
+
 ghost use Rattle.std.specs.Prelude.{◌≡◌, ◌↔◌, List, suc, length, [], ◌∷◌, ◌++◌, if◌then◌else◌, ◌+◌, ◌<◌};
 ghost use Rattle.std.specs.Prelude.{◌≤◌, Some, None, not, is_some, IsTrue, IfOk, IfErr, IfSome, OnOk, OnErr};
 ghost use Rattle.std.specs.Option.{option_copied, option_map};

@@ -1,10 +1,12 @@
 use Rattle.std.proofs.Common.{◌≡◌, ◌+◌, ap, ◌∙◌, length, suc, arith, refl}
 use Rattle.kt_history.specs.declared.note.Note.TheVariants as notes
-use Rattle.kt_history.specs.Marks.{last_of, act_mark}
-use Rattle.kt_history.specs.Line.{line}
+use Rattle.kt_history.specs.Line.{last_of, line}
+use Rattle.kt_history.specs.inner.Marks.{act_mark}
 use Rattle.kt_history.proofs.Room.{shown_notes, HasPlace, HasPlace-of}
 use Rattle.kt_history.proofs.Changes.{last_of-within, cause_within}
-use Rattle.kt_history.proofs.Keeping.{Agrees-at, Agrees-row, Agrees-pushed_act, MayFollow-at, lost_with_room}
+use Rattle.kt_history.proofs.Keeping.{Agrees-at, Agrees-row, MayFollow-at}
+use Rattle.kt_history.proofs.KeepingActs.{Agrees-pushed_act}
+use Rattle.kt_history.proofs.Counts.{lost_with_room}
 use Rattle.kt_history.proofs.history.History.add_act.Goals as goal
 
 has_place : (c : goal.After-last_number) → HasPlace c.self.inside.notes c.self.inside.marks c.self.inside.lines.items c.index-place.result

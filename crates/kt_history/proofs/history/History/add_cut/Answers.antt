@@ -1,9 +1,10 @@
 use Rattle.std.proofs.Common.{◌≡◌, ◌++◌, ◌∷◌, [], ap, ◌∙◌, length, arith, refl}
 use Rattle.std.proofs.lemmas.List.{take_at}
 use Rattle.kt_history.specs.declared.note.Note.TheVariants as notes
-use Rattle.kt_history.specs.Marks.{no_mark}
+use Rattle.kt_history.specs.inner.Marks.{no_mark}
 use Rattle.kt_history.proofs.Room.{shown_notes, HasPlace-of}
-use Rattle.kt_history.proofs.Keeping.{Agrees-at, Agrees-marks_of, AreMarksOf-at, AreLost-at, behind-is, Agrees-pushed_cut, MayFollow-at}
+use Rattle.kt_history.proofs.Keeping.{Agrees-at, Agrees-marks_of, AreMarksOf-at, MayFollow-at}
+use Rattle.kt_history.proofs.KeepingCuts.{AreLost-at, behind-is, Agrees-pushed_cut}
 use Rattle.kt_history.proofs.history.History.add_cut.Goals as goal
 
 pub lose-self-inside-requires-clause-marks_of : goal.lose-self-inside-requires-clause-marks_of

@@ -2,7 +2,7 @@ use Rattle.std.proofs.Common.{ap, ◌∙◌}
 use Rattle.kt_history.specs.Survival.{lost_count}
 use Rattle.kt_history.proofs.Room.{shown_notes}
 use Rattle.kt_history.proofs.Survivors.{IsLostCount-from}
-use Rattle.kt_history.proofs.Keeping.{lost_count-is}
+use Rattle.kt_history.proofs.Counts.{lost_count-is}
 use Rattle.kt_history.proofs.history.History.lost_count.Goals as goal
 
 pub returns-clause-count : goal.returns-clause-count

@@ -10,10 +10,10 @@ pub returns-clause-faultless : goal.returns-clause-faultless
 returns-clause-faultless c =
     let us = c.args.self.now in
     rw c.cut_back.ensures.same (both_ok _ (HasArity us) (All IsPlace us) (template_fault (template_text us) ≡ None)
-    (template_faultless us) c.push_template-written.ensures.arity c.push_template-written.ensures.held)
+    (template_faultless us) c.push_items-written.ensures.arity c.push_items-written.ensures.held)
 
 pub returns-clause-read_back : goal.returns-clause-read_back
 returns-clause-read_back c =
     let us = c.args.self.now in
     rw c.cut_back.ensures.same (both_ok _ (HasArity us) (All IsPlace us) (template_places (template_text us) ≡ us)
-    (template_remade us) c.push_template-written.ensures.arity c.push_template-written.ensures.held)
+    (template_remade us) c.push_items-written.ensures.arity c.push_items-written.ensures.held)

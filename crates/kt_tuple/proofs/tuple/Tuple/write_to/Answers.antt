@@ -10,10 +10,10 @@ pub returns-clause-faultless : goal.returns-clause-faultless
 returns-clause-faultless c =
     let us = c.args.self.now in
     rw c.cut_back.ensures.same (both_ok _ (HasArity us) (All IsValue us) (tuple_fault (tuple_text us) ≡ None)
-    (tuple_faultless us) c.push_tuple-written.ensures.arity c.push_tuple-written.ensures.held)
+    (tuple_faultless us) c.push_items-written.ensures.arity c.push_items-written.ensures.held)
 
 pub returns-clause-read_back : goal.returns-clause-read_back
 returns-clause-read_back c =
     let us = c.args.self.now in
     rw c.cut_back.ensures.same (both_ok _ (HasArity us) (All IsValue us) (tuple_values (tuple_text us) ≡ us)
-    (tuple_remade us) c.push_tuple-written.ensures.arity c.push_tuple-written.ensures.held)
+    (tuple_remade us) c.push_items-written.ensures.arity c.push_items-written.ensures.held)

@@ -1,5 +1,5 @@
 -- What a history keeps of each note, so that survival is known without a look at the past.
-use Rattle.std.specs.Prelude.{◌≡◌, ℕ, zero, suc, ◌+◌, ◌-◌, ◌<◌, ◌≤◌, ◌==◌, Bool, true, false, not, ◌&&◌}
+use Rattle.std.specs.Prelude.{◌≡◌, ℕ, zero, suc, ◌+◌, ◌<◌, ◌≤◌, ◌==◌, Bool, true, false, not, ◌&&◌}
 use Rattle.std.specs.Prelude.{◌||◌, if◌then◌else◌, List, [], ◌∷◌, Option, None, Some, length, map}
 use Rattle.std.specs.Prelude.{Contains, slice_get, slice_index, slice_index_or, vec_len, vec_capacity}
 use Rattle.std.specs.List.{list_any}
@@ -9,37 +9,17 @@ use Rattle.std.specs.declared.alloc.Global.{Global}
 use Rattle.kt_tuple.specs.declared.node.NodeId.{NodeId}
 use Rattle.kt_tuple.specs.declared.service.Service.{Service}
 use Rattle.kt_tuple.specs.Node.{node_index}
-use Rattle.kt_history.specs.declared.note.What.{What}
-use Rattle.kt_history.specs.declared.note.What.TheVariants as whats
 use Rattle.kt_history.specs.declared.note.Act.{Act}
 use Rattle.kt_history.specs.declared.note.Note.{Note}
 use Rattle.kt_history.specs.declared.note.Note.TheVariants as notes
 use Rattle.kt_history.specs.declared.mark.Mark.{Mark}
-use Rattle.kt_history.specs.Line.{note_at, before, line}
-use Rattle.kt_history.specs.Survival.{survives, service_of}
+use Rattle.kt_history.specs.Line.{note_at, before, line, last_of}
+use Rattle.kt_history.specs.Survival.{survives, note_service, is_service}
 use Rattle.kt_history.specs.WellFormed.{CausesComeFirst}
-
--- the number at the end of a line, or 0
-abbrev pub last_of : List ℕ → ℕ
-last_of numbers = slice_index numbers (length numbers - 1)
 
 -- nothing is lost with this number: it survives, or is 0 and names nothing
 abbrev pub lasts : List Note → ℕ → Bool
 lasts h n = n == 0 || survives h n
-
--- the service that a note is, if it is one
-abbrev pub note_service : Note → Option Service
-note_service (notes.Act a) = service_of a a.what
-note_service (notes.Cut p keep) = None
-
-abbrev pub is_served : What → Bool
-is_served (whats.Served answer) = true
-is_served _ = false
-
--- whether the note is a service
-abbrev pub is_service : Note → Bool
-is_service (notes.Act a) = is_served a.what
-is_service (notes.Cut p keep) = false
 
 -- the mark of a note that is no act
 abbrev pub no_mark : Mark
