@@ -214,7 +214,7 @@ fn run_on<R, S, L>(
 ) -> Result<Journal<S>, RunFault>
 where
     R: Threads + Wait + Sync,
-    S: CkptStore + Send,
+    S: CkptStore + Send + Drop,
     L: Naming + Send + Sync,
     requires name { blank.name ≡ L.name }
     requires parts { blank.parts ≡ L.parts }
@@ -241,7 +241,7 @@ pub fn run_threads<R, S>(
 ) -> Result<Journal<S>, RunFault>
 where
     R: Threads + Wait + Sync,
-    S: CkptStore + Send,
+    S: CkptStore + Send + Drop,
     ensures replays { IfOk result (λ j. IsTrue j.world.is_honest → all_made (opening scene) j.steps ≡ Ok j.world.state) }
     ensures finished { IfOk result (λ j. IsTrue j.world.is_honest → first_unfinished j.world.state (spent_by faults j.steps) ≡ None) }
 {

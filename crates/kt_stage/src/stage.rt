@@ -115,6 +115,8 @@ impl<S: CkptStore, L: Naming> Stage<S, L> {
         world: World<S>,
         blank: Blank,
     ) -> Result<(Stage<S, L>, Vec<Seat<L>>), AllocError>
+    where
+        S: Drop,
         requires name { blank.name ≡ L.name }
         requires parts { blank.parts ≡ L.parts }
         requires one_each { blank.parts ≡ length (nodes_of world.state.cast) }
