@@ -129,8 +129,8 @@ pub data IsNoHeader (told : List (List ℕ)) (line : List ℕ) : Type 0 where
   no_shards : told ≡ title_line ∷ [] → ((n : ℕ) → ¬ SpellsShards line n) → IsNoHeader told line
 
 -- a line that no rule allows there: in the place of the first `worker`; in a script, where it begins with no
--- operation's word and is neither `worker` nor the line before the work nor a command's; or within the work, where it is
--- none of a step, or of a fault, and not `end`
+-- operation's word and is neither `worker` nor the line before the work nor a command's; or within the work, where it
+-- is none of a step, or of a fault, and not `end`
 pub data IsNoWord (kind : WorkKind) (told : List (List ℕ)) (line : List ℕ) : Type 0 where
   no_worker : IsHead told → line ≢ codes "worker" → IsNoWord kind told line
   no_command : (scripts : List (List Command)) (commands : List Command) → IsInScript kind told scripts commands

@@ -265,7 +265,8 @@ fn add_to_work(
     scripts: &[Script],
     line: &[u8],
 ) -> Result<(), SceneError>
-    ensures read { OnOk result (work_with (record { shards = shards; scripts = scripts.now }) (work_in work.old) line.now
+    ensures read { OnOk result
+        (work_with (record { shards = shards; scripts = scripts.now }) (work_in work.old) line.now
         ≡ Ok (work_in work.new)) }
     ensures fault { IfErr result (λ fault. IsFaultOf fault
         (work_with (record { shards = shards; scripts = scripts.now }) (work_in work.old) line.now)) }

@@ -37,10 +37,10 @@ fn line_end(text: &[u8]) -> Option<usize>
     text.iter().position(|c| *c == b'\n')
 }
 
-/// The scenario that the text spells and that has work of this kind, or its first line that has a fault: of several
-/// faults of that line the one with the lowest number. In a text with work of the other kind that is the line before the
-/// work, on which no rule allows it, if none before has a fault. Want of memory is answered only on a line that has no
-/// other fault, and before the first that has one.
+/// The scenario that the text spells, with work of this kind, or its first line that has a fault: of several faults
+/// of that line the one with the lowest number. A text with work of the other kind has one on the line before the
+/// work, on which no rule allows that word. Want of memory is answered only on a line that has no other fault, and
+/// before the first that has one.
 pub fn read_scene(alloc: Global, text: &[u8], kind: WorkKind) -> Result<Scenario, SceneFault>
     ensures read { IfOk result (λ scenario. play_of kind text.now ≡ Ok (play_in scenario)) }
     ensures spelled { IfOk result (λ scenario. IsScenario text.now (play_in scenario)) }
