@@ -5,11 +5,12 @@ use Rattle.std.specs.List.{list_all}
 use Rattle.kt_tuple.specs.declared.node.NodeId.{NodeId}
 use Rattle.kt_world.specs.declared.step.Step.{Step}
 use Rattle.kt_world.specs.declared.step.StepError.{StepError}
-use Rattle.kt_world.specs.Cast.{Cast, is_node}
+use Rattle.kt_world.specs.Cast.{Cast}
 use Rattle.kt_world.specs.Effect.{step_result}
 use Rattle.kt_world.specs.State.{State}
 use Rattle.kt_world.specs.Step.{owner}
 use Rattle.kt_core.specs.World.{Standing}
+use Rattle.kt_stage.specs.Order.{has_node}
 use Rattle.kt_stage.specs.Journal.{Replays, all_made, are_owned, made_from, then_made}
 
 made-more : (so_far : Result State StepError) (steps : List Step) (step : Step) → made_from so_far (steps ++ step ∷ []) ≡ then_made (made_from so_far steps) step
@@ -18,15 +19,22 @@ made-more so_far [] step = refl
 made-more so_far (first ∷ later) step = made-more (then_made so_far first) later step
 
 -- a step that was made
-pub replays_more : (opening : State) (old new : Standing) (steps more : List Step) (step : Step) → Replays opening old steps → more ≡ steps ++ step ∷ []
+pub replays_more : (opening old new : Standing) (steps more : List Step) (step : Step) → Replays opening old steps → more ≡ steps ++ step ∷ []
     → (IsTrue new.is_honest → IsTrue old.is_honest) → (IsTrue new.is_honest → step_result old.state step ≡ Ok new.state) → Replays opening new more
 replays_more opening old new steps more step before is honest made h =
-    ap (all_made opening) is ∙ made-more (Ok opening) steps step ∙ ap (λ (s : Result State StepError). then_made s step) (before (honest h)) ∙ made h
+    let b = before (honest h) in
+    (b.0, ap (all_made opening.state) is ∙ made-more (Ok opening.state) steps step ∙ ap (λ (s : Result State StepError). then_made s step) b.1 ∙ made h)
 
--- a step that was refused
-pub replays_still : (opening : State) (old new : Standing) (steps same : List Step) → Replays opening old steps → same ≡ steps
+-- the world stays
+pub replays_still : (opening old new : Standing) (steps same : List Step) → Replays opening old steps → same ≡ steps
     → (IsTrue new.is_honest → IsTrue old.is_honest) → (IsTrue new.is_honest → new.state ≡ old.state) → Replays opening new same
-replays_still opening old new steps same before is honest stays h = ap (all_made opening) is ∙ before (honest h) ∙ ap Ok (sym (stays h))
+replays_still opening old new steps same before is honest stays h =
+    let b = before (honest h) in (b.0, ap (all_made opening.state) is ∙ b.1 ∙ ap Ok (sym (stays h)))
+
+-- nothing is made at the opening
+pub replays_none : (opening : Standing) → Replays opening opening []
+unfolding made_from
+replays_none opening h = (h, refl)
 
 all-more : {A : Type 0} (p : A → Bool) (xs : List A) (x : A) → list_all p xs ≡ true → p x ≡ true → list_all p (xs ++ x ∷ []) ≡ true
 all-more p [] x all one = rw one refl
@@ -36,9 +44,9 @@ all-more p (y ∷ xs) x all one = by (p y) (λ e. all-more p xs x e one) all
     by true later e = later e
     by false later e = e
 
-pub owned_more : (cast : Cast) (steps more : List Step) (step : Step) (p : NodeId) → are_owned cast steps ≡ true → more ≡ steps ++ step ∷ [] → owner step ≡ p → is_node cast p ≡ true → are_owned cast more ≡ true
+pub owned_more : (cast : Cast) (steps more : List Step) (step : Step) (p : NodeId) → are_owned cast steps ≡ true → more ≡ steps ++ step ∷ [] → owner step ≡ p → has_node cast p ≡ true → are_owned cast more ≡ true
 owned_more cast steps more step p owned is own there =
-    ap (are_owned cast) is ∙ all-more (λ (s : Step). is_node cast (owner s)) steps step owned (ap (is_node cast) own ∙ there)
+    ap (are_owned cast) is ∙ all-more (λ (s : Step). has_node cast (owner s)) steps step owned (ap (has_node cast) own ∙ there)
 
 pub counted_more : (old new : ℕ) (steps more : List Step) (step : Step) → old ≡ length steps → new ≡ old + 1 → more ≡ steps ++ step ∷ [] → new ≡ length more
 counted_more old new steps more step before one is =

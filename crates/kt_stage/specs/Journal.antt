@@ -1,16 +1,17 @@
 -- The journal of a stage: all steps that were made, each at its place; and what its seats keep of them.
-use Rattle.std.specs.Prelude.{◌≡◌, ℕ, ◌+◌, Bool, if◌then◌else◌, List, [], ◌∷◌}
+use Rattle.std.specs.Prelude.{◌≡◌, ℕ, ◌+◌, Bool, if◌then◌else◌, List, [], ◌∷◌, ◌++◌}
 use Rattle.std.specs.Prelude.{Result, Ok, Err, IsTrue}
 use Rattle.std.specs.List.{list_all}
 use Rattle.kt_tuple.specs.declared.node.NodeId.{NodeId}
 use Rattle.kt_tuple.specs.Node.{node_eq}
 use Rattle.kt_world.specs.declared.step.Step.{Step}
 use Rattle.kt_world.specs.declared.step.StepError.{StepError}
-use Rattle.kt_world.specs.Cast.{Cast, is_node}
+use Rattle.kt_world.specs.Cast.{Cast}
 use Rattle.kt_world.specs.Effect.{step_result}
 use Rattle.kt_world.specs.State.{State}
 use Rattle.kt_world.specs.Step.{owner}
 use Rattle.kt_core.specs.World.{Standing}
+use Rattle.kt_stage.specs.Order.{has_node}
 use Rattle.kt_stage.specs.declared.seat.Receipt.{Receipt}
 
 -- what a journal is to its callers
@@ -38,19 +39,21 @@ Replays opening world steps =
 
 -- each step is of a node of the scene
 abbrev pub are_owned : Cast → List Step → Bool
-are_owned cast steps = list_all (λ step. is_node cast (owner step)) steps
+are_owned cast steps = list_all (λ step. has_node cast (owner step)) steps
 
 -- ---- what the seats keep
 
 abbrev pub receipt : ℕ → Step → Receipt
 receipt number step = record { number = number; step = step }
 
--- the receipts of one node for these steps, of which the first has this place
+-- what a node keeps of a step with this place: a receipt, where the step is its own
+abbrev pub kept_of : NodeId → ℕ → Step → List Receipt
+kept_of p number step = if node_eq (owner step) p then receipt number step ∷ [] else []
+
+-- what it keeps of these steps, of which the first has this place
 unfoldable pub receipts_of : NodeId → ℕ → List Step → List Receipt
 receipts_of p number [] = []
-receipts_of p number (step ∷ later) =
-    if node_eq (owner step) p then receipt number step ∷ receipts_of p (number + 1) later
-    else receipts_of p (number + 1) later
+receipts_of p number (step ∷ later) = kept_of p number step ++ receipts_of p (number + 1) later
 
 -- what a seat is to its callers: whose it is, and what it keeps
 pub record Held : Type 0 where

@@ -1,5 +1,7 @@
 -- Node order: first the workers, then the shards, each by their numbers.
 use Rattle.std.specs.Prelude.{Bool, true, false, nat_lt, filter, List, [], ◌∷◌, ◌++◌}
+use Rattle.std.specs.List.{list_any}
+use Rattle.kt_tuple.specs.Node.{node_eq}
 use Rattle.kt_tuple.specs.declared.node.NodeId.{NodeId}
 use Rattle.kt_tuple.specs.declared.node.NodeId.TheVariants.{Worker, Shard}
 use Rattle.kt_world.specs.Cast.{Cast, is_node}
@@ -18,6 +20,10 @@ names = workers ++ shards
 -- the nodes of a scene, in node order
 abbrev pub nodes_of : Cast → List NodeId
 nodes_of cast = filter (is_node cast) names
+
+-- p is one of them
+abbrev pub has_node : Cast → NodeId → Bool
+has_node cast p = list_any (node_eq p) (nodes_of cast)
 
 -- p comes before q
 abbrev pub is_before : NodeId → NodeId → Bool

@@ -1,6 +1,10 @@
 //! A run: a thread for each node, each by the policy, until no node has a next step.
 
-ghost use Rattle.std.specs.Prelude.{◌≡◌, IfOk, IsTrue, None};
+ghost use Rattle.std.specs.Prelude.{◌≡◌, length, IfOk, IsTrue, None, Ok};
+ghost use Rattle.kt_stage.specs.Journal.{Replays, all_made};
+ghost use Rattle.kt_stage.specs.Order.{nodes_of};
+ghost use Rattle.kt_stage.specs.Policy.{first_unfinished, spent_by};
+ghost use Rattle.kt_world.specs.Reached.{opening};
 
 use crate::closing::CloseError;
 use crate::ending::unfinished;
@@ -53,6 +57,7 @@ struct Player<L: Naming> {
 }
 
 /// What came of a node's turn.
+#[derive(Clone, Copy, Debug, PartialEq, Eq)]
 enum Turn {
     /// It made a step.
     Made,
@@ -73,7 +78,7 @@ impl<S: CkptStore, L: Naming> Floor<S, L> {
             cause: StepError::Store(refusal),
         })?;
         let Some(step) = next else {
-            *idle += 1;
+            *idle = idle.saturating_add(1);
             return Ok(Turn::Idle);
         };
         match desk.act(alloc, seat, step) {
@@ -116,9 +121,9 @@ fn play<R: Wait, S: CkptStore, L: Naming>(
             Ok(Turn::Made) => stage.moved.notify_all(),
             Ok(Turn::Idle) if floor.idle < stage.nodes.len() => {
                 let seen = floor.desk.journal.steps.len();
-                stage.moved.wait_while(rt, floor, |floor| {
+                drop(stage.moved.wait_while(rt, floor, |floor| {
                     !floor.is_over && floor.desk.journal.steps.len() == seen
-                });
+                }));
             }
             ended => {
                 floor.is_over = true;
@@ -168,14 +173,13 @@ where
     S: CkptStore + Send,
     L: Naming + Send + Sync,
 {
-    let count = players.len();
-    let mut seats = Vec::with_capacity(alloc, count).map_err(|_| RunFault::Memory)?;
-    let mut handles = Vec::with_capacity(alloc, count).map_err(|_| RunFault::Memory)?;
     thread::scope(
         thread::scope_env(),
         rt,
         move |scope| -> Result<Vec<Seat<L>>, RunFault>
         {
+            let mut seats = Vec::new(alloc);
+            let mut handles = Vec::new(alloc);
             let mut ended = Ok(());
             for player in players {
                 let started = scope.spawn(move || play_to_end(rt, alloc, stage, player));
@@ -210,7 +214,7 @@ fn run_on<R, S, L>(
 ) -> Result<Journal<S>, RunFault>
 where
     R: Threads + Wait + Sync,
-    S: CkptStore + Send,
+    S: CkptStore + Send + Drop,
     L: Naming + Send + Sync,
     requires name { blank.name ≡ L.name }
     requires parts { blank.parts ≡ L.parts }
@@ -237,7 +241,7 @@ pub fn run_threads<R, S>(
 ) -> Result<Journal<S>, RunFault>
 where
     R: Threads + Wait + Sync,
-    S: CkptStore + Send,
+    S: CkptStore + Send + Drop,
     ensures replays { IfOk result (λ j. IsTrue j.world.is_honest → all_made (opening scene) j.steps ≡ Ok j.world.state) }
     ensures finished { IfOk result (λ j. IsTrue j.world.is_honest → first_unfinished j.world.state (spent_by faults j.steps) ≡ None) }
 {

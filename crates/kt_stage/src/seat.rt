@@ -1,7 +1,7 @@
 //! Seats: who acts on a stage, and what each keeps of it.
 
 ghost use Rattle.std.specs.Prelude.{◌≡◌, IsTrue};
-ghost use Rattle.kt_world.specs.Cast.{is_node};
+ghost use Rattle.kt_stage.specs.Order.{has_node};
 
 use crate::naming::Naming;
 use kt_core::Step;
@@ -28,21 +28,21 @@ pub struct Seat<L: Naming> {
 impl<L: Naming> Model for Seat<L> {
     ghost use Rattle.std.specs.Prelude.{◌≡◌, IsTrue, vec_len};
     ghost use Rattle.kt_stage.specs.Journal.{Held};
-    ghost use Rattle.kt_world.specs.Cast.{is_node};
+    ghost use Rattle.kt_stage.specs.Order.{has_node};
 
     ghost Value = { Held };
 
     ghost view = { λ s. record { node = s.node; receipts = s.receipts.items } };
 
     ghost invariant = { λ s. (s.share.parts ≡ 1) × (s.share.amount ≡ vec_len s.receipts)
-        × IsTrue (is_node L.opening.state.cast s.node) };
+        × IsTrue (has_node L.opening.state.cast s.node) };
 }
 
 impl<L: Naming> Seat<L> {
     /// Whose seat it is.
     pub fn node(&self) -> NodeId
         ensures value { result ≡ self.now.node }
-        ensures there { IsTrue (is_node L.opening.state.cast self.now.node) }
+        ensures there { IsTrue (has_node L.opening.state.cast self.now.node) }
     {
         self.node
     }

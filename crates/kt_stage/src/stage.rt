@@ -1,9 +1,9 @@
 //! The stage: a journal under a lock, and a seat for each node.
 
-ghost use Rattle.std.specs.Prelude.{◌≡◌, ◌++◌, ◌∷◌, [], length, map, All, IfErr, IfOk, IsTrue, OnErr};
+ghost use Rattle.std.specs.Prelude.{◌≡◌, ◌≤◌, ◌++◌, ◌∷◌, [], filter, length, map, All, IfErr, IfOk, IsTrue, OnErr};
 ghost use Rattle.kt_stage.specs.Acting.{IsOthers};
 ghost use Rattle.kt_stage.specs.Journal.{empty_seat};
-ghost use Rattle.kt_stage.specs.Order.{nodes_of};
+ghost use Rattle.kt_stage.specs.Order.{has_node, nodes_of};
 ghost use Rattle.kt_world.specs.Cast.{is_node};
 
 use crate::desk::Desk;
@@ -40,6 +40,7 @@ pub struct Stage<S: CkptStore, L: Naming> {
 
 /// How many of these nodes are in the world's scene.
 fn count_among<S: CkptStore>(names: &[NodeId], world: &World<S>) -> u64
+    requires { length names.now ≤ 16 }
     ensures { result ≡ length (filter (is_node world.now.state.cast) names.now) }
 {
     match names.split_first() {
@@ -56,12 +57,16 @@ pub fn node_count<S: CkptStore>(world: &World<S>) -> u64
     count_among(&NAMES, world)
 }
 
-/// The nodes of the world's scene, in node order.
-fn nodes_of<S: CkptStore>(alloc: Global, world: &World<S>) -> Result<Vec<NodeId>, AllocError>
-    ensures { IfOk result (λ nodes. nodes.items ≡ nodes_of world.now.state.cast) }
+/// Those of these nodes that are in the world's scene.
+fn nodes_among<S: CkptStore>(
+    alloc: Global,
+    names: &[NodeId],
+    world: &World<S>,
+) -> Result<Vec<NodeId>, AllocError>
+    ensures { IfOk result (λ nodes. nodes.items ≡ filter (is_node world.now.state.cast) names.now) }
 {
-    let mut nodes = Vec::with_capacity(alloc, NAMES.len())?;
-    for name in &NAMES {
+    let mut nodes = Vec::new(alloc);
+    for name in names {
         if world.mode(*name).is_some() {
             nodes.push(*name)?;
         }
@@ -73,7 +78,7 @@ fn nodes_of<S: CkptStore>(alloc: Global, world: &World<S>) -> Result<Vec<NodeId>
 fn seat_of<L: Naming>(alloc: Global, node: NodeId, share: Share<L>) -> Seat<L>
     requires part { share.parts ≡ 1 }
     requires none { share.amount ≡ 0 }
-    requires there { IsTrue (is_node L.opening.state.cast node) }
+    requires there { IsTrue (has_node L.opening.state.cast node) }
     ensures { result ≡ empty_seat node }
 {
     Seat {
@@ -91,7 +96,7 @@ fn seats_of<L: Naming>(
 ) -> Result<Vec<Seat<L>>, AllocError>
     requires parts { share.parts ≡ length nodes.now }
     requires none { share.amount ≡ 0 }
-    requires there { All (λ p. IsTrue (is_node L.opening.state.cast p)) nodes.now }
+    requires there { All (λ p. IsTrue (has_node L.opening.state.cast p)) nodes.now }
     ensures { IfOk result (λ seats. seats.items ≡ map empty_seat nodes.now) }
 {
     let mut rest = share;
@@ -110,13 +115,15 @@ impl<S: CkptStore, L: Naming> Stage<S, L> {
         world: World<S>,
         blank: Blank,
     ) -> Result<(Stage<S, L>, Vec<Seat<L>>), AllocError>
+    where
+        S: Drop,
         requires name { blank.name ≡ L.name }
         requires parts { blank.parts ≡ L.parts }
         requires one_each { blank.parts ≡ length (nodes_of world.state.cast) }
         requires opening { L.opening ≡ world }
         ensures { IfOk result (λ r. r.1.items ≡ map empty_seat (nodes_of world.state.cast)) }
     {
-        let nodes = nodes_of(alloc, &world)?;
+        let nodes = nodes_among(alloc, &NAMES, &world)?;
         let (book, share) = blank.open::<L>();
         let seats = seats_of(alloc, &nodes, share)?;
         let steps = Vec::new(alloc);
@@ -149,8 +156,12 @@ impl<S: CkptStore, L: Naming> Stage<S, L> {
         ensures not_owner { IfErr result (IsOthers seat.old.node step) }
         ensures node { seat.new.node ≡ seat.old.node }
     {
-        let acted = self.floor.lock(rt).desk.act(alloc, seat, step);
-        self.moved.notify_all();
+        let mut floor = self.floor.lock(rt);
+        let acted = floor.desk.act(alloc, seat, step);
+        if acted.is_ok() {
+            floor.idle = 0;
+            self.moved.notify_all();
+        }
         acted
     }
 }

@@ -1,5 +1,8 @@
 //! Seats, and what a stage is closed with.
 
+ghost use Rattle.std.specs.Prelude.{◌≡◌, length};
+ghost use Rattle.kt_stage.specs.Order.{nodes_of};
+
 use crate::making::{Game, S1, W1, opened};
 use kt_core::Step;
 use kt_stage::{ActError, CloseError, Naming, Receipt, Stage, node_count};
@@ -49,10 +52,51 @@ fn close<R: Wait + Abort, L: Naming>(
     Ok(())
 }
 
-fn close_anew(rt: &(impl Wait + Abort), alloc: Global, with_all: bool) -> Result<(), Fail> {
+fn close_anew<R: Wait + Abort>(rt: &R, alloc: Global, with_all: bool) -> Result<(), Fail> {
     let world = opened(alloc, PUT_AND_TAKE)?;
     let blank = Blank::new(node_count(&world));
-    close::<_, Brand>(rt, alloc, world, blank, with_all)
+    close::<R, Brand>(rt, alloc, world, blank, with_all)
+}
+
+/// Two stages side by side, each with its own seats: one worker acts twice, the other not at all.
+fn close_both<R: Wait + Abort, L: Naming, M: Naming>(
+    rt: &R,
+    alloc: Global,
+    (world, blank): (Game, Blank),
+    (other_world, other_blank): (Game, Blank),
+) -> Result<(), Fail>
+    requires name { blank.name ≡ L.name }
+    requires parts { blank.parts ≡ L.parts }
+    requires one_each { blank.parts ≡ length (nodes_of world.state.cast) }
+    requires opening { L.opening ≡ world }
+    requires other_name { other_blank.name ≡ M.name }
+    requires other_parts { other_blank.parts ≡ M.parts }
+    requires other_one_each { other_blank.parts ≡ length (nodes_of other_world.state.cast) }
+    requires other_opening { M.opening ≡ other_world }
+{
+    let (stage, mut seats) = Stage::<MemStore, L>::open(alloc, world, blank)?;
+    let (other_stage, other_seats) = Stage::<MemStore, M>::open(alloc, other_world, other_blank)?;
+    let worker = seats.get_mut(0).ok_or("a seat")?;
+    let (ask, again) = (Step::Issue { node: W1 }, Step::Repeat { node: W1 });
+    stage.act(rt, alloc, worker, ask).ok().ok_or("a step")?;
+    stage.act(rt, alloc, worker, again).ok().ok_or("a step")?;
+    let other = other_stage.close(other_seats).ok().ok_or("a journal")?;
+    let journal = stage.close(seats).ok().ok_or("a journal")?;
+    assert!(rt; journal.steps() == [ask, again].as_slice() && other.steps().is_empty());
+    Ok(())
+}
+
+fn open_both<R: Wait + Abort>(rt: &R, alloc: Global) -> Result<(), Fail> {
+    let world = opened(alloc, PUT_AND_TAKE)?;
+    let other = opened(alloc, PUT_AND_TAKE)?;
+    let blank = Blank::new(node_count(&world));
+    let other_blank = Blank::new(node_count(&other));
+    close_both::<R, Brand, Brand>(rt, alloc, (world, blank), (other, other_blank))
+}
+
+#[test]
+fn two_stages(rt: HostRuntime) -> Result<(), Fail> {
+    open_both(&rt, rt.alloc())
 }
 
 #[test]

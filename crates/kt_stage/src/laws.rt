@@ -1,4 +1,3 @@
-// DRAFT, not checked yet: goes to src/laws.rt.
 //! Laws of the policy, each the contract of a function with nothing to do.
 
 ghost use Rattle.std.specs.Prelude.{◌≡◌, List, Some, IsTrue};

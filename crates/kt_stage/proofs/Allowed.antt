@@ -1,4 +1,3 @@
--- DRAFT, not checked yet: goes to proofs/Allowed.antt, for the law of laws.rt.
 -- What the policy gives is a step of the node itself, and allowed.
 use Rattle.std.proofs.Common.{◌≡◌, ℕ, suc, ◌+◌, ◌-◌, ◌*◌, length, Bool, true, false, List, [], ◌∷◌, Result, Ok, Err, refl, sym, ap, subst, ◌∙◌}
 use Rattle.std.specs.Prelude.{Option, None, Some, cond, is_some, not, ◌&&◌, if◌then◌else◌, slice_get, unwrap_or, IfSome, IsTrue}
@@ -143,15 +142,15 @@ load-fine : (v : View) (saved : Saved) → Fine (load v saved)
 load-fine v saved = by (fits v.role v.line_len (marks_in saved)) saved.permanent
   where
     loaded : (c : Option Ckpt) (n : ℕ) (r : Result Body Refusal) → Fine r → Fine (loaded_by c n r)
-        loaded c n (Ok body) f = tt
+    loaded c n (Ok body) f = tt
     loaded c n (Err refusal) f = f
 
     found : (c : Option Ckpt) → Fine (body_at v.role c)
-        found None = tt
+    found None = tt
     found (Some c) = body-fine v.role c.line_len v.role.id c.state
 
     by : (b : Bool) (c : Option Ckpt) → Fine (if b then loaded_by c (saved.incarnation + 1) (body_at v.role c) else Err reasons.Damaged)
-        by true c = loaded c (saved.incarnation + 1) (body_at v.role c) (found c)
+    by true c = loaded c (saved.incarnation + 1) (body_at v.role c) (found c)
     by false c = refl
 
 restarted-or : (v : View) (saved : Saved) (next : ℕ) (r : Result Live Refusal) → Fine r → is_planned (of_owner (restarted v saved next r)) ≡ true
