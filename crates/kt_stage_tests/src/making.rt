@@ -1,7 +1,7 @@
 //! Scenes, fault lines, and the reports of worlds.
 
 use kt_core::{Fault, FaultKind, Faults, Scene, Step, World};
-use kt_scene::{Sink, read_scene, write_report};
+use kt_scene::{Sink, WorkKind, read_scene, write_report};
 use kt_store::MemStore;
 use kt_tuple::NodeId;
 use std::alloc::Global;
@@ -19,7 +19,7 @@ pub(crate) type Line = (FaultKind, NodeId, u64);
 
 /// The scene of a scenario with no step.
 pub(crate) fn scene(alloc: Global, text: &str) -> Result<Scene, Fail> {
-    Ok(read_scene(alloc, text.as_bytes()).ok().ok_or("a scene")?.scene)
+    Ok(read_scene(alloc, text.as_bytes(), WorkKind::Steps).ok().ok_or("a scene")?.scene)
 }
 
 pub(crate) fn faults(alloc: Global, lines: &[Line]) -> Result<Faults, Fail> {
