@@ -69,7 +69,7 @@ template_faultless = text_faultless place_at place_of place_text IsPlace places_
 pub template_remade : (ts : List Place) → HasArity ts → All IsPlace ts → template_places (template_text ts) ≡ ts
 template_remade = text_remade place_at place_of place_text IsPlace places_read
 
--- what two facts show that hold at success
-pub both_ok : {A E : Type 0} (r : Result A E) (P Q R : Type 0) → (P → Q → R) → OnOk r P → OnOk r Q → OnOk r R
-both_ok (Ok x) P Q R show p q = show p q
-both_ok (Err e) P Q R show p q = tt
+-- what holds at success shows another thing there
+pub when_ok : {A E : Type 0} (r : Result A E) (P Q : Type 0) → (P → Q) → OnOk r P → OnOk r Q
+when_ok (Ok x) P Q show p = show p
+when_ok (Err e) P Q show p = tt

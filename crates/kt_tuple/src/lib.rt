@@ -15,7 +15,7 @@ mod string;
 mod template;
 mod tuple;
 mod value;
-mod writing;
+pub mod writing;
 
 pub use equality::Equality;
 pub use node::NodeId;

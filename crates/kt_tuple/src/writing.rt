@@ -1,6 +1,6 @@
 //! The one text of each value, tuple, template, operation, answer, node and service, written at the end of bytes.
 
-ghost use Rattle.std.specs.Prelude.{◌≡◌, ◌++◌, take, map, decimal, OnOk, OnErr, None, All};
+ghost use Rattle.std.specs.Prelude.{◌≡◌, ◌++◌, ℕ, List, take, map, decimal, OnOk, OnErr, None, All};
 ghost use Rattle.std.specs.Fmt.{signed_decimal};
 ghost use Rattle.std.specs.Int.{w64};
 ghost use Rattle.std.specs.Int.RustNames.{FitsSigned};
@@ -10,7 +10,6 @@ ghost use Rattle.kt_tuple.specs.Spelling.{character_text, string_text, value_tex
 ghost use Rattle.kt_tuple.specs.Spelling.{tuple_text, template_text, op_text, answer_text, node_text, service_text};
 ghost use Rattle.kt_tuple.specs.Valid.{IsValue, IsPlace};
 
-use crate::item::Item;
 use crate::node::NodeId;
 use crate::op::{Answer, Op};
 use crate::service::Service;
@@ -19,6 +18,39 @@ use crate::tuple::Tuple;
 use crate::value::{Kind, Value};
 use itoa::Buffer;
 use std::alloc::AllocError;
+
+/// A type with one text for each of its values.
+pub trait Spelled {
+    ghost text_of: { Self → List ℕ };
+    ghost is_held: { Self → Type 0 };
+
+    /// Appends its text, or where memory runs out a front of it.
+    fn push_to(&self, out: &mut Vec<u8>) -> Result<(), AllocError>
+        ensures ok { OnOk result (out.new.items ≡ out.old.items ++ text_of self.now) }
+        ensures front { StartsWith out.new.items out.old.items }
+        // What the type keeps of its values.
+        ensures held { is_held self.now };
+}
+
+impl Spelled for Value {
+    ghost text_of = { value_text };
+
+    ghost is_held = { IsValue };
+
+    fn push_to(&self, out: &mut Vec<u8>) -> Result<(), AllocError> {
+        push_value(out, self)
+    }
+}
+
+impl Spelled for Place {
+    ghost text_of = { place_text };
+
+    ghost is_held = { IsPlace };
+
+    fn push_to(&self, out: &mut Vec<u8>) -> Result<(), AllocError> {
+        push_place(out, self)
+    }
+}
 
 impl Value {
     /// Appends its text, as `"a"`. A refused call leaves the bytes as they were.
@@ -42,7 +74,7 @@ impl Tuple {
         ensures read_back { OnOk result (tuple_values (tuple_text self.now) ≡ self.now) }
     {
         let start = out.len();
-        let written = push_items(out, self.values());
+        let written = push_in_parentheses(out, self.values());
         cut_back(out, start, written)
     }
 }
@@ -57,7 +89,7 @@ impl Template {
         ensures read_back { OnOk result (template_places (template_text self.now) ≡ self.now) }
     {
         let start = out.len();
-        let written = push_items(out, self.places());
+        let written = push_in_parentheses(out, self.places());
         cut_back(out, start, written)
     }
 }
@@ -110,8 +142,8 @@ impl Answer {
     }
 }
 
-/// Takes away what was appended, where not all of it was.
-fn cut_back(
+/// Takes away what was appended behind the first so many bytes, where not all of it was.
+pub fn cut_back(
     out: &mut Vec<u8>,
     start: usize,
     written: Result<(), AllocError>,
@@ -162,23 +194,23 @@ fn push_op(out: &mut Vec<u8>, op: &Op) -> Result<(), AllocError>
     match op {
         Op::Out(tuple) => {
             out.extend_from_slice(b"out ")?;
-            push_items(out, tuple.values())
+            push_in_parentheses(out, tuple.values())
         }
         Op::In(template) => {
             out.extend_from_slice(b"in ")?;
-            push_items(out, template.places())
+            push_in_parentheses(out, template.places())
         }
         Op::Rd(template) => {
             out.extend_from_slice(b"rd ")?;
-            push_items(out, template.places())
+            push_in_parentheses(out, template.places())
         }
         Op::Inp(template) => {
             out.extend_from_slice(b"inp ")?;
-            push_items(out, template.places())
+            push_in_parentheses(out, template.places())
         }
         Op::Rdp(template) => {
             out.extend_from_slice(b"rdp ")?;
-            push_items(out, template.places())
+            push_in_parentheses(out, template.places())
         }
     }
 }
@@ -191,17 +223,18 @@ fn push_answer(out: &mut Vec<u8>, answer: &Answer) -> Result<(), AllocError>
         Answer::Done => out.extend_from_slice(b"done"),
         Answer::Got(tuple) => {
             out.extend_from_slice(b"got ")?;
-            push_items(out, tuple.values())
+            push_in_parentheses(out, tuple.values())
         }
         Answer::None => out.extend_from_slice(b"none"),
     }
 }
 
-/// The items in parentheses, each but the first behind a comma and a space.
-fn push_items<I: Item>(out: &mut Vec<u8>, items: &[I]) -> Result<(), AllocError>
-    ensures ok { OnOk result (out.new.items ≡ out.old.items ++ in_parentheses (map I.text_of items.now)) }
+/// Appends the texts in parentheses, each but the first behind a comma and a space; where memory runs out a front of
+/// that.
+pub fn push_in_parentheses<T: Spelled>(out: &mut Vec<u8>, items: &[T]) -> Result<(), AllocError>
+    ensures ok { OnOk result (out.new.items ≡ out.old.items ++ in_parentheses (map T.text_of items.now)) }
     ensures front { StartsWith out.new.items out.old.items }
-    ensures held { OnOk result (All I.is_held items.now) }
+    ensures held { OnOk result (All T.is_held items.now) }
 {
     out.push(b'(')?;
     let mut separator: &[u8] = b"";
@@ -214,7 +247,7 @@ fn push_items<I: Item>(out: &mut Vec<u8>, items: &[I]) -> Result<(), AllocError>
     Ok(())
 }
 
-pub(crate) fn push_place(out: &mut Vec<u8>, place: &Place) -> Result<(), AllocError>
+fn push_place(out: &mut Vec<u8>, place: &Place) -> Result<(), AllocError>
     ensures ok { OnOk result (out.new.items ≡ out.old.items ++ place_text place.now) }
     ensures front { StartsWith out.new.items out.old.items }
     ensures held { IsPlace place.now }
@@ -226,7 +259,7 @@ pub(crate) fn push_place(out: &mut Vec<u8>, place: &Place) -> Result<(), AllocEr
     }
 }
 
-pub(crate) fn push_value(out: &mut Vec<u8>, value: &Value) -> Result<(), AllocError>
+fn push_value(out: &mut Vec<u8>, value: &Value) -> Result<(), AllocError>
     ensures ok { OnOk result (out.new.items ≡ out.old.items ++ value_text value.now) }
     ensures front { StartsWith out.new.items out.old.items }
     ensures held { IsValue value.now }
@@ -237,7 +270,8 @@ pub(crate) fn push_value(out: &mut Vec<u8>, value: &Value) -> Result<(), AllocEr
     }
 }
 
-fn push_int(out: &mut Vec<u8>, number: i64) -> Result<(), AllocError>
+/// Appends an int in decimal, or where memory runs out a front of that.
+pub fn push_int(out: &mut Vec<u8>, number: i64) -> Result<(), AllocError>
     ensures ok { OnOk result (out.new.items ≡ out.old.items ++ signed_decimal number) }
     ensures front { StartsWith out.new.items out.old.items }
     ensures held { FitsSigned w64 number }
@@ -246,7 +280,8 @@ fn push_int(out: &mut Vec<u8>, number: i64) -> Result<(), AllocError>
     out.extend_from_slice(buffer.format(number).as_bytes())
 }
 
-fn push_number(out: &mut Vec<u8>, number: u64) -> Result<(), AllocError>
+/// Appends a number in decimal, or where memory runs out a front of that.
+pub fn push_number(out: &mut Vec<u8>, number: u64) -> Result<(), AllocError>
     ensures ok { OnOk result (out.new.items ≡ out.old.items ++ decimal number) }
     ensures front { StartsWith out.new.items out.old.items }
 {
