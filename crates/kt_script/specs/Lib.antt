@@ -7,4 +7,5 @@ pub mod Asks
 pub mod Memory
 pub mod Next
 pub mod Equality
+pub mod Spelling
 pub mod inner

@@ -12,6 +12,7 @@ mod rules;
 mod script;
 mod script_error;
 mod variables;
+mod writing;
 
 pub use command::{Actual, Actuals, Command, Operation, Pattern, Slot};
 pub use env::Env;

@@ -1,12 +1,12 @@
 //! The one text of each value, tuple, template, operation, answer, node and service, written at the end of bytes.
 
-ghost use Rattle.std.specs.Prelude.{◌≡◌, ◌++◌, ℕ, List, take, map, decimal, OnOk, OnErr, None, All};
+ghost use Rattle.std.specs.Prelude.{◌≡◌, ◌++◌, ℕ, List, take, map, decimal, OnOk, OnErr, None, All, ⊤};
 ghost use Rattle.std.specs.Fmt.{signed_decimal};
 ghost use Rattle.std.specs.Int.{w64};
 ghost use Rattle.std.specs.Int.RustNames.{FitsSigned};
 ghost use Rattle.std.specs.Io.{StartsWith};
 ghost use Rattle.kt_tuple.specs.Parsing.{tuple_fault, tuple_values, template_fault, template_places};
-ghost use Rattle.kt_tuple.specs.Spelling.{character_text, string_text, value_text, place_text, in_parentheses};
+ghost use Rattle.kt_tuple.specs.Spelling.{character_text, string_text, value_text, kind_text, place_text, in_parentheses};
 ghost use Rattle.kt_tuple.specs.Spelling.{tuple_text, template_text, op_text, answer_text, node_text, service_text};
 ghost use Rattle.kt_tuple.specs.Valid.{IsValue, IsPlace};
 
@@ -39,6 +39,19 @@ impl Spelled for Value {
 
     fn push_to(&self, out: &mut Vec<u8>) -> Result<(), AllocError> {
         push_value(out, self)
+    }
+}
+
+impl Spelled for Kind {
+    ghost text_of = { kind_text };
+
+    ghost is_held = { λ _. ⊤ };
+
+    fn push_to(&self, out: &mut Vec<u8>) -> Result<(), AllocError> {
+        match self {
+            Kind::Int => out.extend_from_slice(b"int"),
+            Kind::Str => out.extend_from_slice(b"str"),
+        }
     }
 }
 
@@ -254,8 +267,10 @@ fn push_place(out: &mut Vec<u8>, place: &Place) -> Result<(), AllocError>
 {
     match place {
         Place::Actual(value) => push_value(out, value),
-        Place::Formal(Kind::Int) => out.extend_from_slice(b"?int"),
-        Place::Formal(Kind::Str) => out.extend_from_slice(b"?str"),
+        Place::Formal(kind) => {
+            out.push(b'?')?;
+            kind.push_to(out)
+        }
     }
 }
 
