@@ -13,3 +13,4 @@ pub mod KeepingCuts
 pub mod Runs
 pub mod Sense
 pub mod Room
+pub mod Shared

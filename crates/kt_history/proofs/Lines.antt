@@ -12,7 +12,7 @@ use Rattle.kt_history.specs.declared.note.Act.{Act}
 use Rattle.kt_history.specs.declared.note.Note.{Note}
 use Rattle.kt_history.specs.declared.note.Note.TheVariants as notes
 use Rattle.kt_history.specs.Line.{note_at, before, same_node, line_step, line_from, line}
-use Rattle.kt_tuple.proofs.Nodes.{node_index-injective}
+use Rattle.kt_tuple.proofs.Shared.{node_index-injective}
 use Rattle.kt_history.proofs.Lists.{snoc_ind, slice_get-append_left, slice_get-push, slice_get-push_cases, slice_get-take}
 use Rattle.kt_history.proofs.Lists.{slice_get-take_below, Contains-from_slice_get, Contains-from_take, Contains-none}
 

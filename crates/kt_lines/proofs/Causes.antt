@@ -11,8 +11,7 @@ use Rattle.kt_history.specs.Line.{note_at, before}
 use Rattle.kt_history.specs.Survival.{marked_acts, marked_from}
 use Rattle.kt_history.specs.Closed.{IsClosed}
 use Rattle.kt_history.specs.WellFormed.{IsAnswering, SameRequest, WasServed, ActFits, IsWellFormed}
-use Rattle.kt_history.proofs.Lists.{slice_get-take, Contains-here}
-use Rattle.kt_history.proofs.Lines.{note_at-within}
+use Rattle.kt_history.proofs.Shared.{slice_get-take, Contains-here, note_at-within}
 use Rattle.kt_lines.proofs.Bags.{Contains-there}
 use Rattle.kt_lines.proofs.Follows.{IsServed, IsCaused, CausedFrom}
 

@@ -25,7 +25,7 @@ use Rattle.kt_shard.specs.Desk.{number_or_0, kept_request}
 use Rattle.kt_lines.specs.Order.{Setting, of_worker, OrderFrom, FollowsScripts}
 use Rattle.kt_lines.specs.ShardLine.{MadeShard, request_of, ShardMay, ShardMakes, desk_after, shard_after, put_row}
 use Rattle.kt_lines.specs.WorkerLine.{MadeWorker, WorkerMay, worker_after, worker_after_what}
-use Rattle.kt_history.proofs.Lists.{Contains-none}
+use Rattle.kt_history.proofs.Shared.{Contains-none}
 use Rattle.kt_lines.proofs.Bags.{Contains-cases, Contains-unfilter}
 use Rattle.kt_lines.proofs.Numbered.{put_row_holds, put_row-same}
 use Rattle.kt_lines.proofs.Orders.{answers_in, split_same, service_after, place_of, OrderFrom-push, of_worker_own, of_worker_holds, Contains-of_worker}

@@ -9,8 +9,7 @@ use Rattle.kt_history.specs.declared.note.Note.{Note}
 use Rattle.kt_history.specs.declared.note.Note.TheVariants as notes
 use Rattle.kt_history.specs.Line.{same_node}
 use Rattle.kt_history.specs.Closed.{acts_at, acts_in_line}
-use Rattle.kt_history.proofs.Lines.{line-empty, same_node-true}
-use Rattle.kt_history.proofs.Fronts.{acts_in_line-own_act, acts_in_line-other_act, acts_in_line-own_cut, acts_in_line-other_cut}
+use Rattle.kt_history.proofs.Shared.{line-empty, same_node-true, acts_in_line-own_act, acts_in_line-other_act, acts_in_line-own_cut, acts_in_line-other_cut}
 use Rattle.kt_lines.specs.Order.{Setting}
 use Rattle.kt_lines.specs.ShardLine.{MadeShard, ShardMakes, ShardLine, shard_after, shard_of_acts, new_shard}
 use Rattle.kt_lines.specs.WorkerLine.{MadeWorker, WorkerMakes, WorkerLine, worker_after, worker_of_acts, new_worker}

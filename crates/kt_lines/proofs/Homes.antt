@@ -15,7 +15,7 @@ use Rattle.kt_tuple.specs.Matching.{Admits, Matches}
 use Rattle.kt_tuple.specs.Signature.{kind_of_place, kinds_of, kinds_of_places, kinds_of_op, shard_of}
 use Rattle.kt_tuple.specs.Space.{SpaceStep}
 use Rattle.kt_lines.specs.Bag.{without, served_bag}
-use Rattle.kt_history.proofs.Lists.{Contains-here}
+use Rattle.kt_history.proofs.Shared.{Contains-here}
 use Rattle.kt_lines.proofs.Bags.{takes, Contains-filter, Contains-unfilter, filter-without_kept, filter-without_other}
 
 -- the shard that is a tuple's home

@@ -5,7 +5,7 @@ use Rattle.kt_tuple.specs.declared.node.NodeId.TheVariants as nodes
 use Rattle.kt_history.specs.declared.note.Act.{Act}
 use Rattle.kt_history.specs.Line.{same_node}
 use Rattle.kt_history.specs.Closed.{own}
-use Rattle.kt_history.proofs.Lines.{same_node-refl, same_node-true}
+use Rattle.kt_history.proofs.Shared.{same_node-refl, same_node-true}
 use Rattle.kt_lines.specs.Order.{Setting}
 use Rattle.kt_lines.specs.ShardLine.{MadeShard, ShardMakes, ShardLine, shard_after, shard_of_acts, put_row, new_shard}
 use Rattle.kt_lines.specs.WorkerLine.{MadeWorker, WorkerMakes, WorkerLine, worker_after, worker_of_acts, new_worker}

@@ -10,7 +10,7 @@ use Rattle.kt_history.specs.declared.note.Note.TheVariants as notes
 use Rattle.kt_history.specs.Line.{note_at, line, IsAct}
 use Rattle.kt_history.specs.WellFormed.{CausesComeFirst}
 use Rattle.kt_history.specs.Closed.{act_of, acts_at}
-use Rattle.kt_history.proofs.Lines.{note_before}
+use Rattle.kt_history.proofs.Shared.{note_before}
 use Rattle.kt_lines.specs.Cause.{hears_worker, cause_of, cause_of_waiting}
 
 -- the cause of an act of the history is an act of it

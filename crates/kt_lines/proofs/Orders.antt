@@ -7,7 +7,7 @@ use Rattle.kt_tuple.specs.declared.op.Op.{Op}
 use Rattle.kt_tuple.specs.declared.op.Answer.{Answer}
 use Rattle.kt_tuple.specs.declared.service.Service.{Service}
 use Rattle.kt_lines.specs.Order.{of_worker, OrderFrom}
-use Rattle.kt_history.proofs.Lists.{Contains-here, Contains-none}
+use Rattle.kt_history.proofs.Shared.{Contains-here, Contains-none}
 use Rattle.kt_lines.proofs.Bags.{Contains-there, Contains-cases, Contains-filter}
 
 abbrev pub answers_in : List Service → List Answer

@@ -10,8 +10,7 @@ use Rattle.kt_tuple.specs.declared.op.Answer.TheVariants as answers
 use Rattle.kt_tuple.specs.Matching.{Matches}
 use Rattle.kt_tuple.specs.Space.{SpaceStep}
 use Rattle.kt_lines.specs.Bag.{without, served_bag}
-use Rattle.kt_history.proofs.Lists.{Contains-here}
-use Rattle.kt_history.proofs.Runs.{IsPermutation-uncons}
+use Rattle.kt_history.proofs.Shared.{Contains-here, IsPermutation-uncons}
 use Rattle.kt_lines.proofs.Bags.{takes}
 
 -- one is the other with u

@@ -10,7 +10,7 @@ use Rattle.kt_tuple.specs.declared.service.Service.{Service}
 use Rattle.kt_tuple.specs.Signature.{kinds_of, signature_of}
 use Rattle.kt_tuple.specs.Space.{RunsFrom}
 use Rattle.kt_lines.specs.Bag.{served_bag}
-use Rattle.kt_history.proofs.Lists.{Contains-here, Contains-none}
+use Rattle.kt_history.proofs.Shared.{Contains-here, Contains-none}
 use Rattle.kt_lines.proofs.Bags.{Contains-there, Contains-cases}
 use Rattle.kt_lines.proofs.Homes.{home_of, is_home}
 use Rattle.kt_lines.proofs.Permutations.{step_like}

@@ -13,13 +13,11 @@ use Rattle.kt_history.specs.Line.{line}
 use Rattle.kt_history.specs.Survival.{services_of, marked_acts, survives, services}
 use Rattle.kt_history.specs.Closed.{IsClosed, acts_at, acts_in_line, own}
 use Rattle.kt_history.specs.WellFormed.{CausesComeFirst, IsWellFormed}
-use Rattle.kt_history.proofs.Survivors.{survives-closed}
-use Rattle.kt_history.proofs.Fronts.{marked_front, acts_at-append}
+use Rattle.kt_history.proofs.Shared.{survives-closed, marked_front, acts_at-append, Contains-here}
 use Rattle.kt_lines.specs.Order.{Setting, FollowsScripts}
 use Rattle.kt_lines.specs.ShardLine.{MadeShard, ShardLine, shard_after, shard_of_acts, new_shard}
 use Rattle.kt_lines.specs.WorkerLine.{MadeWorker, WorkerLine, worker_after}
 use Rattle.kt_lines.specs.Legal.{IsLine, AreLegal}
-use Rattle.kt_history.proofs.Lists.{Contains-here}
 use Rattle.kt_lines.proofs.Homes.{is_home}
 use Rattle.kt_lines.proofs.OneRun.{tuples_after, one_run}
 use Rattle.kt_lines.proofs.Follows.{follows_scripts}

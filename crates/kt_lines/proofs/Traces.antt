@@ -19,7 +19,7 @@ use Rattle.kt_shard.specs.declared.request.Kept.{Kept}
 use Rattle.kt_shard.specs.declared.desk.Desk.{Desk}
 use Rattle.kt_lines.specs.ShardLine.{MadeShard, request_of, desk_after, cause_after, shard_after, shard_of_acts, ShardLine, new_shard}
 use Rattle.kt_lines.specs.Cause.{is_hearing, hears_worker, cause_of}
-use Rattle.kt_history.proofs.Lists.{Contains-here, Contains-none}
+use Rattle.kt_history.proofs.Shared.{Contains-here, Contains-none}
 use Rattle.kt_lines.proofs.Bags.{Contains-there, Contains-cases}
 use Rattle.kt_lines.proofs.Numbered.{put_row-same, put_row-other}
 

@@ -36,3 +36,4 @@ pub mod ByShape
 pub mod Explained
 pub mod Only
 pub mod Actuals
+pub mod Shared

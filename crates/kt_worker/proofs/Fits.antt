@@ -10,7 +10,7 @@ use Rattle.kt_script.specs.Memory.{are_values_of}
 use Rattle.kt_script.specs.Next.{Position, IsInScript, next_at, position_after}
 use Rattle.kt_script.specs.Rules.{IsScript}
 use Rattle.kt_script.specs.Variables.{variables_of}
-use Rattle.kt_script.proofs.InScript.{in_script-after, in_script-next}
+use Rattle.kt_script.proofs.Shared.{in_script-after, in_script-next}
 use Rattle.kt_worker.specs.declared.misfit.Misfit.{Misfit}
 use Rattle.kt_worker.specs.declared.misfit.Misfit.TheVariants as misfits
 use Rattle.kt_worker.specs.Standing.{Standing}

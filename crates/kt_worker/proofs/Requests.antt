@@ -11,7 +11,7 @@ use Rattle.kt_script.specs.declared.next.Next.{Next}
 use Rattle.kt_script.specs.declared.command.Command.{Command}
 use Rattle.kt_script.specs.Asks.{asks}
 use Rattle.kt_script.specs.Next.{Position, next_at, bound, answered, after_one, opening_position, position_after, op_of_next}
-use Rattle.kt_script.proofs.Reaches.{reaches}
+use Rattle.kt_script.proofs.Shared.{reaches}
 use Rattle.kt_worker.specs.Standing.{Standing, opening_standing, unless_asked, next_of, next_request}
 use Rattle.kt_worker.specs.Standing.{numbered, behind, asking, issued, awaits_op, awaits, heard, is_left}
 use Rattle.kt_worker.specs.After.{last_number, behind_next, position_when, IsAfter}
