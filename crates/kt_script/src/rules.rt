@@ -59,11 +59,11 @@ fn are_actuals_bound(variables: &Variables, operation: &Operation) -> bool
     ensures { result ≡ are_actuals_bound variables.now.entries operation.now }
 {
     match operation {
-        Operation::Out(actuals) => are_bound(variables, actuals.actuals()),
+        Operation::Out(actuals) => are_bound(variables, actuals.as_slice()),
         Operation::In(pattern)
         | Operation::Rd(pattern)
         | Operation::Inp(pattern)
-        | Operation::Rdp(pattern) => are_slots_bound(variables, pattern.slots()),
+        | Operation::Rdp(pattern) => are_slots_bound(variables, pattern.as_slice()),
     }
 }
 

@@ -87,23 +87,23 @@ fn push_operation(out: &mut Vec<u8>, operation: &Operation) -> Result<(), AllocE
     match operation {
         Operation::Out(actuals) => {
             out.extend_from_slice(b"out ")?;
-            push_in_parentheses(out, actuals.actuals())
+            push_in_parentheses(out, actuals.as_slice())
         }
         Operation::In(pattern) => {
             out.extend_from_slice(b"in ")?;
-            push_in_parentheses(out, pattern.slots())
+            push_in_parentheses(out, pattern.as_slice())
         }
         Operation::Rd(pattern) => {
             out.extend_from_slice(b"rd ")?;
-            push_in_parentheses(out, pattern.slots())
+            push_in_parentheses(out, pattern.as_slice())
         }
         Operation::Inp(pattern) => {
             out.extend_from_slice(b"inp ")?;
-            push_in_parentheses(out, pattern.slots())
+            push_in_parentheses(out, pattern.as_slice())
         }
         Operation::Rdp(pattern) => {
             out.extend_from_slice(b"rdp ")?;
-            push_in_parentheses(out, pattern.slots())
+            push_in_parentheses(out, pattern.as_slice())
         }
     }
 }
