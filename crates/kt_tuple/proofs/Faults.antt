@@ -42,7 +42,7 @@ all_inside : (text : List ℕ) (places : List (List ℕ × List ℕ)) (i : ℕ) 
 all_inside text [] i fine = refl
 all_inside text (place ∷ places) i fine = rw fine.1 (all_inside text places (i + 1) fine.3)
 
-at_most_8 : (places : List (List ℕ × List ℕ)) (i : ℕ) → i ≤ 8 → AreFine i places → i + length places ≤ 8
+pub at_most_8 : (places : List (List ℕ × List ℕ)) (i : ℕ) → i ≤ 8 → AreFine i places → i + length places ≤ 8
 at_most_8 [] i le fine = omega (arith, le)
 at_most_8 (place ∷ places) i le fine = omega (arith, at_most_8 places (i + 1) (omega (arith, fine.0)) fine.3)
 

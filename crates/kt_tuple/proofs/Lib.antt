@@ -17,6 +17,7 @@ pub mod PlaceLaws
 pub mod PlacesRead
 pub mod Faults
 pub mod Findings
+pub mod Making
 pub mod Wholes
 pub mod WholesRead
 pub mod Texts

@@ -3,7 +3,8 @@ use Rattle.std.proofs.Common.{◌≡◌, ℕ, suc, ◌+◌, ◌-◌, ◌<◌, �
 use Rattle.std.specs.Prelude.{option_to_list}
 use Rattle.std.proofs.lemmas.List.{append-nil}
 use Rattle.kt_tuple.specs.Reading.{after_place}
-use Rattle.kt_tuple.specs.Parsing.{Reader, made_with, made_from}
+use Rattle.kt_tuple.specs.Parsing.{Reader}
+use Rattle.kt_tuple.specs.inner.Making.{made_with, made_from}
 
 pub made_step : {A : Type 0} (read : Reader) (make : List ℕ → Option A) (i : ℕ) (text : List ℕ) → i < 8
     → made_from read make (8 - i) text ≡ made_with (read text) make (made_from read make (8 - (i + 1)))

@@ -8,7 +8,8 @@ use Rattle.std.specs.Prelude.{All, codes}
 use Rattle.kt_tuple.specs.Spelling.{separated, in_parentheses}
 use Rattle.kt_tuple.specs.Matching.{HasArity}
 use Rattle.kt_tuple.specs.Reading.{◌>>=◌, word_at, after_place, has_range, is_short, begins_with_digit}
-use Rattle.kt_tuple.specs.Parsing.{Reader, and_behind, places_from, places_in, fault_of, made_from, made_in}
+use Rattle.kt_tuple.specs.Parsing.{Reader, and_behind, places_from, places_in, fault_of}
+use Rattle.kt_tuple.specs.inner.Making.{made_from, made_in}
 use Rattle.kt_tuple.proofs.ValueLaws.{bound, word_taken}
 use Rattle.kt_tuple.proofs.Made.{made_step}
 use Rattle.kt_tuple.proofs.Faults.{AreFine, found_fine}

@@ -8,7 +8,8 @@ use Rattle.std.specs.Prelude.{All}
 use Rattle.kt_tuple.specs.Spelling.{further, separated, in_parentheses}
 use Rattle.kt_tuple.specs.Matching.{HasArity}
 use Rattle.kt_tuple.specs.Reading.{word_at, after_place}
-use Rattle.kt_tuple.specs.Parsing.{Reader, places_from, fault_of, made_from, made_in}
+use Rattle.kt_tuple.specs.Parsing.{Reader, places_from, fault_of}
+use Rattle.kt_tuple.specs.inner.Making.{made_from, made_in}
 use Rattle.kt_tuple.proofs.Made.{made_step}
 use Rattle.kt_tuple.proofs.Faults.{AreFine, fine_found}
 use Rattle.kt_tuple.proofs.Wholes.{IsReader, separated-cons, length-map_same}

@@ -1,7 +1,7 @@
 -- What is read of the text of a tuple or a template, and the lowest fault of the text.
 use Rattle.std.specs.Prelude.{ℕ, zero, suc, ◌-◌, ◌||◌, not, nat_lt, Bool, true, false, if◌then◌else◌}
-use Rattle.std.specs.Prelude.{List, [], ◌∷◌, ◌++◌, length, Option, Some, None, option_to_list, Result, Ok, Err}
-use Rattle.std.specs.List.{list_any}
+use Rattle.std.specs.Prelude.{List, [], ◌∷◌, length, Option, Some, None, Result, Ok, Err}
+use Rattle.std.specs.List.{list_any, filter_map}
 use Rattle.kt_tuple.specs.declared.value.Value.{Value}
 use Rattle.kt_tuple.specs.declared.template.Place.{Place}
 use Rattle.kt_tuple.specs.declared.parse_error.ParseError.{ParseError}
@@ -54,40 +54,20 @@ fault_of_places text (Ok places) = lower_fault (first_outside text places) (are_
 abbrev pub fault_of : Reader → List ℕ → Option ParseError
 fault_of read text = fault_of_places text (places_in read text)
 
--- the things behind a place, as far as the text goes on
-abbrev pub made_behind : {A : Type 0} → Result (Option (List ℕ)) (List ℕ) → (List ℕ → List A) → List A
-made_behind (Err rest) more = []
-made_behind (Ok None) more = []
-made_behind (Ok (Some next)) more = more next
-
--- what is made of a place that was read, and of those behind it
-abbrev pub made_with : {A : Type 0} → Result (List ℕ × List ℕ) (List ℕ) → (List ℕ → Option A) → (List ℕ → List A)
-    → List A
-made_with (Err rest) make more = []
-made_with (Ok place) make more = option_to_list (make place.0) ++ made_behind (after_place place.1) more
-
--- at most so many things, made of the spellings of the places, as far as the text goes on
-unfoldable pub made_from : {A : Type 0} → Reader → (List ℕ → Option A) → ℕ → List ℕ → List A
-made_from read make zero text = []
-made_from read make (suc n) text = made_with (read text) make (made_from read make n)
-
-abbrev pub made_after : {A : Type 0} → Reader → (List ℕ → Option A) → Result (List ℕ) (List ℕ) → List A
-made_after read make (Err rest) = []
-made_after read make (Ok start) = made_from read make 8 start
-
--- the things that are made of the places of a text
-abbrev pub made_in : {A : Type 0} → Reader → (List ℕ → Option A) → List ℕ → List A
-made_in read make text = made_after read make (word_at text (40 ∷ []))
+-- what is made of the spellings of these places, in their order, and nothing of a text that stops
+abbrev pub made_of : {A : Type 0} → (List ℕ → Option A) → Result (List (List ℕ × List ℕ)) (List ℕ) → List A
+made_of make (Err rest) = []
+made_of make (Ok places) = filter_map (λ place. make place.0) places
 
 -- the lowest fault of the text of a tuple, and its values; the lowest fault of that of a template, and its places
 abbrev pub tuple_fault : List ℕ → Option ParseError
 tuple_fault text = fault_of value_at text
 
 abbrev pub tuple_values : List ℕ → List Value
-tuple_values text = made_in value_at value_of text
+tuple_values text = made_of value_of (places_in value_at text)
 
 abbrev pub template_fault : List ℕ → Option ParseError
 template_fault text = fault_of place_at text
 
 abbrev pub template_places : List ℕ → List Place
-template_places text = made_in place_at place_of text
+template_places text = made_of place_of (places_in place_at text)

@@ -4,9 +4,10 @@ ghost use Rattle.std.specs.Prelude.{◌≡◌, ◌++◌, IfOk, IfErr, OnOk, opti
 ghost use Rattle.kt_tuple.specs.Grammar.{IsValueText, IsPlaceText, Explains, IsAccepted};
 ghost use Rattle.kt_tuple.specs.Reading.{Gives};
 ghost use Rattle.kt_tuple.specs.Parsing.{tuple_fault, tuple_values, template_fault, template_places};
-ghost use Rattle.kt_tuple.specs.Parsing.{fault_of, lower_fault, made_in};
+ghost use Rattle.kt_tuple.specs.Parsing.{fault_of, lower_fault, made_of, places_in};
 ghost use Rattle.kt_tuple.specs.Spelling.{tuple_text, template_text};
 ghost use Rattle.kt_tuple.specs.inner.Findings.{nothing_found, with_place, found_in};
+ghost use Rattle.kt_tuple.specs.inner.Making.{made_in};
 
 use crate::item::Item;
 use crate::parse_error::ParseError;
@@ -66,9 +67,10 @@ impl Template {
 }
 
 /// The items that the text spells, or its lowest fault.
+#[tactic(auto, using(crate::proofs::Making::made_of_text))]
 fn parsed<I: Item>(alloc: Global, text: &[u8]) -> Result<Vec<I>, ParseError>
     ensures fault { IfSome (fault_of I.reader text.now) (λ fault. result ≡ Err fault) }
-    ensures value { IfOk result (λ items. items.items ≡ made_in I.reader I.of_spelling text.now) }
+    ensures value { IfOk result (λ items. items.items ≡ made_of I.of_spelling (places_in I.reader text.now)) }
     ensures memory { fault_of I.reader text.now ≡ None → IfErr result (λ e. e ≡ ParseError.OutOfMemory) }
 {
     match fault_of::<I>(text) {
