@@ -62,8 +62,10 @@ fn close_anew<R: Wait + Abort>(rt: &R, alloc: Global, with_all: bool) -> Result<
 fn close_both<R: Wait + Abort, L: Naming, M: Naming>(
     rt: &R,
     alloc: Global,
-    (world, blank): (Game, Blank),
-    (other_world, other_blank): (Game, Blank),
+    world: Game,
+    blank: Blank,
+    other_world: Game,
+    other_blank: Blank,
 ) -> Result<(), Fail>
     requires name { blank.name ≡ L.name }
     requires parts { blank.parts ≡ L.parts }
@@ -91,7 +93,7 @@ fn open_both<R: Wait + Abort>(rt: &R, alloc: Global) -> Result<(), Fail> {
     let other = opened(alloc, PUT_AND_TAKE)?;
     let blank = Blank::new(node_count(&world));
     let other_blank = Blank::new(node_count(&other));
-    close_both::<R, Brand, Brand>(rt, alloc, (world, blank), (other, other_blank))
+    close_both::<R, Brand, Brand>(rt, alloc, world, blank, other, other_blank)
 }
 
 #[test]
