@@ -8,7 +8,9 @@ ghost use Rattle.kt_scene.specs.Run.{play_in};
 ghost use Rattle.kt_scene.specs.Lines.{nothing_read, is_word, is_ignored, count_of, shards_of, titled, with_shards};
 ghost use Rattle.kt_scene.specs.Lines.{with_worker, in_script, with_command, in_work, work_with, line_read, is_ended};
 ghost use Rattle.kt_scene.specs.Lines.{closed, HasScripts, IsFaultOf, cast_of, with_step, with_fault};
-ghost use Rattle.kt_scene.specs.Work.{kind_of, work_in, work_word};
+ghost use Rattle.kt_scene.specs.FaultLines.{fault_read};
+ghost use Rattle.kt_scene.specs.Steps.{step_of};
+ghost use Rattle.kt_scene.specs.Work.{work_in};
 
 use crate::command::{Spelled, fault_behind, spelled_of};
 use crate::fault::SceneError;

@@ -1,7 +1,7 @@
 //! The lines of faults, read without memory.
 
-ghost use Rattle.std.specs.Prelude.{◌≡◌};
-ghost use Rattle.kt_world.specs.Cast.{is_node, is_shard, is_worker};
+ghost use Rattle.std.specs.Prelude.{◌≡◌, ℕ, Some};
+ghost use Rattle.kt_world.specs.Cast.{is_node, is_worker};
 ghost use Rattle.kt_scene.specs.FaultLines.{asked_by, asked_of, fault_from, fault_read};
 
 use crate::fault::SceneError;
