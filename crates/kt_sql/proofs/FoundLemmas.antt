@@ -32,7 +32,7 @@ use Rattle.kt_sql.specs.Text.{get_node_text, first_node_text, get_posted_text, l
 use Rattle.kt_sql.specs.Rows.{whole, id_of, HasId, verdict_code, node_given, posted_given, IsNodeRow, IsPosted, Holds}
 use Rattle.kt_sql.proofs.Texts.{equals, get_node, get_node_is, first_node, first_node_is, get_posted, get_posted_is, last_posted, last_posted_is, open_posted, open_posted_is, node_names, posted_names}
 use Rattle.kt_sql.proofs.WriteLemmas.{by_id}
-use Rattle.kt_sql.proofs.Layout.{nodes_table, posted_table}
+use Rattle.kt_sql.proofs.TableRows.{nodes_table, posted_table}
 use Rattle.kt_sql.proofs.ReadLemmas.{answered, in_order, from_last, first_given, greatest_of, downwards, first_is_greatest}
 
 -- ---- lists

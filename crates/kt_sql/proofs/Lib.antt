@@ -1,6 +1,5 @@
 pub mod CallLemmas
 pub mod FoundLemmas
-pub mod Layout
 pub mod MadeLemmas
 pub mod OpenedLemmas
 pub mod OrderLemmas
@@ -9,5 +8,6 @@ pub mod ReadLemmas
 pub mod RowLemmas
 pub mod StateLemmas
 pub mod StoreLemmas
+pub mod TableRows
 pub mod Texts
 pub mod WriteLemmas

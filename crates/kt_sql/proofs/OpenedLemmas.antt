@@ -10,19 +10,22 @@ use Rattle.sqlite_sql.specs.Term.{Term, Env, col, eval_all}
 use Rattle.sqlite_sql.specs.Query.{IsAnswer, Output, output, matches, inner, end}
 use Rattle.sqlite_sql.specs.Program.{overlay}
 use Rattle.sqlite.specs.State.{State, HasCleanDisk, Shown}
+use Rattle.sqlite.specs.Effect.{Database}
 use Rattle.sqlite.proofs.Callers.{one_permutation}
 use Rattle.sqlite_keyed.proofs.ListLemmas.{all_both, all_of, all_weaker, filter_all, map-map}
 use Rattle.kt_tuple.specs.declared.node.NodeId.{NodeId}
+use Rattle.kt_tuple.specs.declared.node.NodeId.TheVariants.{Worker, Shard}
 use Rattle.kt_store.specs.declared.rows.NodeRow.{NodeRow}
 use Rattle.kt_store.specs.declared.rows.Posted.{Posted}
-use Rattle.kt_store.specs.Content.{Content, node_lt}
+use Rattle.kt_store.specs.Content.{Content, greatest, node_lt}
 use Rattle.kt_sql.specs.Schema.{kt_schema}
 use Rattle.kt_sql.specs.Text.{all_nodes_text, all_posted_text, meta_text}
 use Rattle.kt_sql.specs.Rows.{whole, id_of, HasId, node_given, node_shown, posted_given, posted_shown, IsNodeRow, IsPosted, ShowsNode, ShowsPosted, HoldsNodes, HoldsBoard, AreAsSaid}
-use Rattle.kt_sql.specs.Opened.{meta_shown, meta_given, IsNodeWith, IsNoNode, IsInstanceWith, IsNoInstance, AreNodesFrom, AreInstancesFrom}
+use Rattle.kt_sql.specs.Settled.{IsSettled}
+use Rattle.kt_sql.specs.Opened.{meta_shown, meta_given, IsVersion1, IsReady, IsNodeWith, IsNoNode, IsInstanceWith, IsNoInstance, AreNodesFrom, AreInstancesFrom}
 use Rattle.kt_sql.proofs.WriteLemmas.{by_id}
 use Rattle.kt_sql.proofs.Texts.{from_table, rising, all_nodes, all_nodes_is, all_posted, all_posted_is, meta, meta_is, node_names, posted_names}
-use Rattle.kt_sql.proofs.Layout.{nodes_table, posted_table}
+use Rattle.kt_sql.proofs.TableRows.{nodes_table, posted_table}
 use Rattle.kt_sql.proofs.ReadLemmas.{answered, in_order}
 use Rattle.kt_sql.proofs.FoundLemmas.{nodes_keyed, board_keyed}
 
@@ -103,6 +106,14 @@ no_first_node row rest none (r ∷ rs) shown said = none r said.0 (let here : ro
 pub node_not : (low : ℕ) (row : Row) (rest : List Row) → IsNoNode row → AreNodesFrom low (row ∷ rest) → ⊥
 node_not low row rest none a = no_first_node row rest none a.nodes a.shown a.said
 
+-- the number of a node is low
+low_id : (n : NodeId) → HasId n → id_of n < 200
+low_id (Worker n) h = omega arith
+low_id (Shard n) h = omega arith
+
+pub node_number : (row : Row) (id : ℕ) → IsNodeWith row id → id < 200
+node_number row id w = let low = low_id w.node.node w.said.node in let is = w.number in omega arith
+
 -- ---- rows of instances
 
 pub no_instances : (low : ℕ) → AreInstancesFrom low []
@@ -142,6 +153,9 @@ module _ (low instance : ℕ) (row : Row) (rest : List Row) (w : IsInstanceWith 
 
   pub instance_too_low : instance < low → AreInstancesFrom low (row ∷ rest) → ⊥
   instance_too_low under a = low_instance under a.board a.shown a.above
+
+pub instance_number : (row : Row) (instance : ℕ) → IsInstanceWith row instance → instance ≤ greatest
+instance_number row instance w = let last = w.said.last in let is = w.number in omega arith
 
 no_first_instance : (row : Row) (rest : List Row) → IsNoInstance row → (board : List Posted) → row ∷ rest ≡ map posted_given board → AllByRecursion IsPosted board → ⊥
 no_first_instance row rest none [] shown said = absurd cc
@@ -215,3 +229,16 @@ both_said db true b h g = (
   λ it. g.1 (it.0.board, it.1.board),
 )
 both_said db false b h g = (λ is. absurd cc, λ it. absurd (let bad : IsTrue false = h.1 (it.0.nodes, it.1.nodes) in cc))
+
+-- the tables were tested, by three looks one after the other
+pub tested_ready : (v n last : State) (a b : Bool) → IsTrue last.is_open → IsSettled last → IsVersion1 last.now → v.now ≡ last.now → n.now ≡ last.now
+    → (IsTrue a ↔ ((nodes : List NodeRow) × HoldsNodes (v.now.trees 0) nodes)) → (IsTrue b ↔ ((board : List Posted) × HoldsBoard (n.now.trees 1) board))
+    → IsReady last (a && b)
+tested_ready v n last a b on settled version first second nodes board = record {
+  is_open = on;
+  settled = settled;
+  version = version;
+  trusted = both_said last.now.trees a b
+  (subst (λ (d : Database). IsTrue a ↔ ((nodes : List NodeRow) × HoldsNodes (d.trees 0) nodes)) first nodes)
+  (subst (λ (d : Database). IsTrue b ↔ ((board : List Posted) × HoldsBoard (d.trees 1) board)) second board);
+}

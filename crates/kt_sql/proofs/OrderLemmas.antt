@@ -1,5 +1,5 @@
 -- Rows in any order, sorted.
-use Rattle.std.proofs.Common.{◌≡◌, ℕ, zero, suc, ◌+◌, ◌<◌, ◌≤◌, Bool, true, false, cond, List, [], ◌∷◌, length, slice_index_or, refl, sym, ap, ◌∙◌, arith, add-one, Ordering, Less, Equal, Greater, is_lt, is_gt, IsPermutation, IsSorted}
+use Rattle.std.proofs.Common.{◌≡◌, zero, suc, Bool, true, false, cond, List, [], ◌∷◌, refl, sym, ap, ◌∙◌, arith, Ordering, Less, Equal, Greater, is_lt, is_gt, IsPermutation, IsSorted}
 use Rattle.std.specs.List.{AllByRecursion}
 use Rattle.std.specs.Cmp.{IsTotalOrder}
 use Rattle.std.specs.Ordering.{ordering_reverse}

@@ -26,7 +26,7 @@ use Rattle.sqlite_typed.proofs.TestLemmas.{at_ints, last_key}
 use Rattle.sqlite_typed.proofs.AnswerLemmas.{Source, last_table, at_end, answer_by_keys, answer_sorted, no_tie, IsNoTie}
 use Rattle.kt_sql.specs.Schema.{kt_schema}
 use Rattle.kt_sql.proofs.Texts.{Asks, from_table, rising, falling}
-use Rattle.kt_sql.proofs.Layout.{Table, widened}
+use Rattle.kt_sql.proofs.TableRows.{Table, widened}
 
 -- the rows of a query are an answer to it
 pub answered : (sql : List ℕ) (params : Row) (old new : State) (q : Query) (names : List (List ℕ)) → Asks sql q names → old.now.schema ≡ kt_schema

@@ -13,6 +13,7 @@ use Rattle.sqlite_schema.specs.declared.command.Returning.{Returning}
 use Rattle.sqlite_schema.specs.declared.schema.Schema.{Schema}
 use Rattle.sqlite.specs.State.{State, Shows, Runs, Writes, IsUnchanged, IsRolledBack, Fails, RunsCommand, RunsAlone, shows_rows, IsNotRun, Executes, ExecutesIn, ExecutesInside, FailsToShow, FailsToQuery, ShowsRows, Shown, HasCleanDisk}
 use Rattle.sqlite.specs.Listing.{understood}
+use Rattle.sqlite.specs.Effect.{Database}
 use Rattle.sqlite.proofs.Callers.{IsPlain}
 use Rattle.kt_sql.specs.Schema.{kt_schema}
 use Rattle.kt_sql.specs.Settled.{IsSettled, Stays, Looks}
@@ -143,10 +144,19 @@ undone_stays old new on same ended = record { was_open = on; rest = λ was _. (s
 pub no_look : (s : State) → Looks s s
 no_look s = record { clean = omega arith; mode = λ is. is; stays = λ clean on. record { was_open = on; rest = λ was has. (refl, was) } }
 
--- after a look at the tables of a store
-pub looked : (old new : State) → Looks old new → HasCleanDisk new → IsTrue new.is_open → (IsTrue old.is_open → IsSettled old) → (IsTrue old.is_open → old.now.schema ≡ kt_schema)
-    → IsTrue old.is_open × (new.now ≡ old.now) × IsSettled new
-looked old new h clean on settled has =
+-- where a look leaves the connection open, it was open
+pub look_open : (old new : State) → Looks old new → HasCleanDisk new → IsTrue new.is_open → IsTrue old.is_open
+look_open old new h clean on = (h.stays clean on).was_open
+
+pub look_clean : (old new : State) → Looks old new → HasCleanDisk new → HasCleanDisk old
+look_clean old new h clean = omega (arith, h.clean, clean)
+
+-- what was seen at first and stands before a look at the tables of a store stands behind it
+pub look_again : (old mid new : State) → Looks mid new → (HasCleanDisk mid → IsTrue mid.is_open → (mid.now ≡ old.now) × IsSettled mid) → (HasCleanDisk mid → old.now.schema ≡ kt_schema)
+    → HasCleanDisk new → IsTrue new.is_open → (new.now ≡ old.now) × IsSettled new
+look_again old mid new h same has clean on =
+    let was = look_clean mid new h clean in
     let stays = h.stays clean on in
-    let rest = stays.rest (settled stays.was_open) (has stays.was_open) in
-    (stays.was_open, rest.0, rest.1)
+    let first = same was stays.was_open in
+    let rest = stays.rest first.1 (ap (λ (d : Database). d.schema) first.0 ∙ has was) in
+    (rest.0 ∙ first.0, rest.1)

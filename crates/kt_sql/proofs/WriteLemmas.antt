@@ -8,7 +8,8 @@ use Rattle.std.proofs.lemmas.List.Sorted.{IsPermutation-refl, IsPermutation-tran
 use Rattle.sqlite.specs.declared.types.Value.{Value}
 use Rattle.sqlite.specs.declared.types.Value.TheVariants.{Null, Int, Blob}
 use Rattle.sqlite.specs.Values.{or_null}
-use Rattle.sqlite.specs.Order.{Row, value_cmp}
+use Rattle.sqlite.specs.Order.{Row}
+use Rattle.sqlite_value.specs.Order.{value_cmp}
 use Rattle.sqlite.specs.Kind.TheVariants.{Integer}
 use Rattle.sqlite.specs.Ops.{unary}
 use Rattle.sqlite.specs.Tree.{Trees}
@@ -38,12 +39,12 @@ use Rattle.kt_store.specs.declared.rows.Posted.{Posted}
 use Rattle.kt_store.specs.declared.rows.Tentative.{Tentative}
 use Rattle.kt_store.specs.Content.{Content, node_lt}
 use Rattle.kt_store.specs.Changes.{with_row, with_posted, storing}
-use Rattle.kt_store.proofs.Layout.{placed, IsOrder}
+use Rattle.kt_store.proofs.TableRows.{placed, IsOrder}
 use Rattle.kt_sql.specs.Schema.{kt_schema, node_table, board_table, meta_table}
 use Rattle.kt_sql.specs.Text.{put_node_text, put_posted_text}
 use Rattle.kt_sql.specs.Rows.{placing, whole, id_of, HasId, spelled, checkpoint_value, instance_value, node_given, node_stored, node_shown, posted_given, posted_stored, posted_shown, IsNodeRow, IsPosted, HoldsNodes, HoldsBoard, Holds, purpose_code, verdict_code}
 use Rattle.kt_sql.proofs.PutLemmas.{went, same_value, AreNumbered, replaces}
-use Rattle.kt_sql.proofs.Layout.{Table, nodes_table, posted_table}
+use Rattle.kt_sql.proofs.TableRows.{Table, nodes_table, posted_table}
 use Rattle.kt_sql.proofs.Texts.{node_terms, posted_terms, put_node, put_posted, put_node_is, put_node_plain, put_posted_is, put_posted_plain}
 
 -- ---- a row in its place

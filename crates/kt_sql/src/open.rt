@@ -13,7 +13,7 @@ ghost use Rattle.kt_sql.specs.Made.{IsMade};
 ghost use Rattle.kt_sql.specs.Store.{is_sure, content_of};
 
 use crate::error::SqlOpenError;
-use crate::opened::{holds_board, holds_nodes, is_version_1, statement_error};
+use crate::opened::{statement_error, tested};
 use crate::schema::is_no_schema;
 use crate::store::SqlStore;
 use crate::tables::create_tables;
@@ -51,12 +51,7 @@ fn readied<S: Alter>(alloc: Global, conn: &mut Connection<S>) -> Result<bool, Sq
             Err(error) => Err(statement_error(error)),
         };
     }
-    if !is_version_1(conn)? {
-        return Err(SqlOpenError::Damaged);
-    }
-    let are_nodes = holds_nodes(alloc, conn)?;
-    let are_posted = holds_board(conn)?;
-    Ok(are_nodes && are_posted)
+    tested(alloc, conn)
 }
 
 impl<S: Alter> SqlStore<S> {

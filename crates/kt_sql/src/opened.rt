@@ -1,6 +1,6 @@
 //! What is read of tables that are there where a store is opened.
 
-ghost use Rattle.std.specs.Prelude.{◌≡◌, ◌≢◌, ◌↔◌, ◌<◌, [], ◌∷◌, List, length, IfOk, IfErr, OnOk, IsTrue, MatchOption};
+ghost use Rattle.std.specs.Prelude.{◌≡◌, ◌≢◌, ◌↔◌, ◌<◌, [], ◌∷◌, Err, List, length, IfOk, IfErr, OnOk, IsTrue, MatchOption};
 ghost use Rattle.sqlite.specs.Order.{column};
 ghost use Rattle.sqlite.specs.Given.{IsPlain};
 ghost use Rattle.sqlite.specs.Held.{state};
@@ -11,7 +11,7 @@ ghost use Rattle.kt_store.specs.declared.rows.Posted.{Posted as PostedFields};
 ghost use Rattle.kt_sql.specs.Schema.{kt_schema};
 ghost use Rattle.kt_sql.specs.Settled.{IsSettled, Looks};
 ghost use Rattle.kt_sql.specs.Rows.{whole, HoldsNodes, HoldsBoard};
-ghost use Rattle.kt_sql.specs.Opened.{meta_given, IsVersion1, IsNoNode, IsNodeWith, IsNoInstance, IsInstanceWith, AreNodesFrom, AreInstancesFrom};
+ghost use Rattle.kt_sql.specs.Opened.{meta_given, IsVersion1, IsReady, IsNoNode, IsNodeWith, IsNoInstance, IsInstanceWith, AreNodesFrom, AreInstancesFrom};
 
 use crate::error::SqlOpenError;
 use crate::ids::id_of;
@@ -72,7 +72,7 @@ fn is_first_meta(rows: &[Row]) -> bool
 }
 
 /// Whether the tables are those of a store of version 1.
-pub(crate) fn is_version_1<S: Alter>(conn: &mut Connection<S>) -> Result<bool, SqlOpenError>
+fn is_version_1<S: Alter>(conn: &mut Connection<S>) -> Result<bool, SqlOpenError>
     ensures value { HasCleanDisk (state S.Store conn.new) → IfOk result (λ yes. IsTrue yes ↔ IsVersion1 (state S.Store conn.old).now) }
     ensures looks { Looks (state S.Store conn.old) (state S.Store conn.new) }
     ensures same { HasCleanDisk (state S.Store conn.new) → IsTrue (state S.Store conn.new).is_open → IsSettled (state S.Store conn.old)
@@ -124,10 +124,13 @@ fn are_nodes(alloc: Global, rows: &[Row]) -> Result<bool, SqlOpenError>
     let mut low = 0;
     let mut rest = rows;
     while let Some((row, more)) = rest.split_first() {
-        match node_id(alloc, row)? {
-            Some(id) if low <= id => low = id + 1,
-            _ => return Ok(false),
+        let Some(id) = node_id(alloc, row)? else {
+            return Ok(false);
+        };
+        if id < low {
+            return Ok(false);
         }
+        low = id + 1;
         rest = more;
     }
     Ok(true)
@@ -141,17 +144,20 @@ fn are_posted(rows: &[Row]) -> Result<bool, SqlOpenError>
     let mut low = 0;
     let mut rest = rows;
     while let Some((row, more)) = rest.split_first() {
-        match instance_in(row)? {
-            Some(instance) if low <= instance => low = instance + 1,
-            _ => return Ok(false),
+        let Some(instance) = instance_in(row)? else {
+            return Ok(false);
+        };
+        if instance < low {
+            return Ok(false);
         }
+        low = instance + 1;
         rest = more;
     }
     Ok(true)
 }
 
 /// Whether all that the table of nodes holds is as said.
-pub(crate) fn holds_nodes<S: Alter>(
+fn holds_nodes<S: Alter>(
     alloc: Global,
     conn: &mut Connection<S>,
 ) -> Result<bool, SqlOpenError>
@@ -166,7 +172,7 @@ pub(crate) fn holds_nodes<S: Alter>(
 }
 
 /// Whether all that the board holds is as said.
-pub(crate) fn holds_board<S: Alter>(conn: &mut Connection<S>) -> Result<bool, SqlOpenError>
+fn holds_board<S: Alter>(conn: &mut Connection<S>) -> Result<bool, SqlOpenError>
     ensures value { HasCleanDisk (state S.Store conn.new) → (state S.Store conn.old).now.schema ≡ kt_schema
         → IfOk result (λ yes. IsTrue yes ↔ ((board : List PostedFields) × HoldsBoard ((state S.Store conn.old).now.trees 1) board)) }
     ensures looks { Looks (state S.Store conn.old) (state S.Store conn.new) }
@@ -175,4 +181,24 @@ pub(crate) fn holds_board<S: Alter>(conn: &mut Connection<S>) -> Result<bool, Sq
 {
     let rows = ask(conn, ALL_POSTED)?;
     are_posted(&rows)
+}
+
+/// Tests tables that are there, and answers whether each row is as said.
+pub(crate) fn tested<S: Alter>(
+    alloc: Global,
+    conn: &mut Connection<S>,
+) -> Result<bool, SqlOpenError>
+    ensures ready { HasCleanDisk (state S.Store conn.new) → (IsTrue (state S.Store conn.old).is_open → IsSettled (state S.Store conn.old))
+        → IfOk result (IsReady (state S.Store conn.new)) }
+    ensures same { HasCleanDisk (state S.Store conn.new) → IsTrue (state S.Store conn.new).is_open → (IsTrue (state S.Store conn.old).is_open → IsSettled (state S.Store conn.old))
+        → (state S.Store conn.new).now ≡ (state S.Store conn.old).now }
+    ensures damaged { HasCleanDisk (state S.Store conn.new) → result ≡ Err SqlOpenError.Damaged → IsVersion1 (state S.Store conn.old).now → ⊥ }
+    ensures mode { (state S.Store conn.old).in_transaction ≡ false → (state S.Store conn.new).in_transaction ≡ false }
+{
+    if !is_version_1(conn)? {
+        return Err(SqlOpenError::Damaged);
+    }
+    let are_nodes = holds_nodes(alloc, conn)?;
+    let are_posted = holds_board(conn)?;
+    Ok(are_nodes && are_posted)
 }
