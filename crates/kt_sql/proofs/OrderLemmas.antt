@@ -23,8 +23,8 @@ module _ {X : Type 0} (cmp : X → X → Ordering) (total : IsTotalOrder cmp) wh
   AtMost a b = is_gt (cmp a b) ≡ false
 
   above : (o : Ordering) → is_gt o ≡ true → is_gt (ordering_reverse o) ≡ false
-  above Less h = refl
-  above Equal h = refl
+  above Less h = absurd cc
+  above Equal h = absurd cc
   above Greater h = refl
 
   not_less : (o : Ordering) → is_gt o ≡ false → is_lt (ordering_reverse o) ≡ false
@@ -47,11 +47,11 @@ module _ {X : Type 0} (cmp : X → X → Ordering) (total : IsTotalOrder cmp) wh
   rising_sorted : (xs : List X) → IsAscending AtMost xs → IsSorted cmp xs
   rising_sorted [] up = λ k d low within. absurd (omega arith)
   rising_sorted (x ∷ []) up = λ k d low within. absurd (omega arith)
-  rising_sorted (x ∷ y ∷ ys) up = there
+  rising_sorted (x ∷ y ∷ ys) up = there (rising_sorted (y ∷ ys) up.1)
     where
-      there : IsSorted cmp (x ∷ y ∷ ys)
-      there zero d low within = ap is_lt (total.antisymm y x) ∙ not_less _ up.0.0
-      there (suc k) d low within = rw Rattle.std.proofs.Common.add-one (rw Rattle.std.proofs.Common.add-one at (rising_sorted (y ∷ ys) up.1 k d (omega arith) (omega arith)))
+      there : IsSorted cmp (y ∷ ys) → IsSorted cmp (x ∷ y ∷ ys)
+      there later zero d low within = ap is_lt (total.antisymm y x) ∙ not_less _ up.0.0
+      there later (suc k) d low within = rw Rattle.std.proofs.Common.add-one (rw Rattle.std.proofs.Common.add-one at (later k d (omega arith) (omega arith)))
 
   -- a list that rises is what sorting gives of its elements in any order
   pub sorted_again : (xs ys : List X) → IsAscending (λ a b. cmp a b ≡ Less) ys → IsPermutation ys xs → sort_by cmp xs ≡ ys

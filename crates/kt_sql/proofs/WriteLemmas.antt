@@ -39,7 +39,7 @@ use Rattle.kt_store.specs.declared.rows.Posted.{Posted}
 use Rattle.kt_store.specs.declared.rows.Tentative.{Tentative}
 use Rattle.kt_store.specs.Content.{Content, node_lt}
 use Rattle.kt_store.specs.Changes.{with_row, with_posted, storing}
-use Rattle.kt_store.proofs.TableRows.{placed, IsOrder}
+use Rattle.kt_store.proofs.Tables.{placed, IsOrder}
 use Rattle.kt_sql.specs.Schema.{kt_schema, node_table, board_table, meta_table}
 use Rattle.kt_sql.specs.Text.{put_node_text, put_posted_text}
 use Rattle.kt_sql.specs.Rows.{placing, whole, id_of, HasId, spelled, checkpoint_value, instance_value, node_given, node_stored, node_shown, posted_given, posted_stored, posted_shown, IsNodeRow, IsPosted, HoldsNodes, HoldsBoard, Holds, purpose_code, verdict_code}
