@@ -1,6 +1,6 @@
 -- What the parser finds place by place is what the definitions say of all places together.
 use Rattle.std.proofs.Common.{◌≡◌, ℕ, ◌+◌, ◌-◌, ◌≤◌, Bool, true, false, not, cond, ◌||◌, ltb, leb, List, [], ◌∷◌, length}
-use Rattle.std.proofs.Common.{Option, Some, None, Result, Ok, Err, refl, sym, ap, subst, ◌∙◌, arith}
+use Rattle.std.proofs.Common.{Option, Some, None, Result, Ok, Err, refl, sym, ap, subst, ◌∙◌, arith, zero-add}
 use Rattle.std.proofs.lemmas.Bool.{or_left, or_right, leb-true, leb-false, lt-ltb, le-ltb}
 use Rattle.kt_tuple.specs.declared.parse_error.ParseError.TheVariants as faults
 use Rattle.kt_tuple.specs.declared.parsing.Findings.{Findings}
@@ -74,7 +74,8 @@ ok_by text (Ok places) found e =
     let same : with_places text nothing_found 0 places ≡ found = cc in
     subst (λ (s : Findings). lower_fault s.out_of_range s.too_long ≡ lower_fault (first_outside text places) (are_too_long places)) same
     (ap (λ o. lower_fault o (with_places text nothing_found 0 places).too_long) (outside_found text nothing_found 0 places)
-    ∙ ap (λ b. lower_fault (first_outside text places) b) (long_found text nothing_found 0 places (omega arith)))
+    ∙ ap (λ b. lower_fault (first_outside text places) b) (long_found text nothing_found 0 places (omega arith))
+    ∙ ap (λ n. lower_fault (first_outside text places) (ltb 8 n || is_one_long places)) (zero-add (length places)))
 
 err_by : (text : List ℕ) (r : Result (List (List ℕ × List ℕ)) (List ℕ)) (rest : List ℕ) → found_with text nothing_found 0 r ≡ Err rest
     → Some (faults.Syntax (length text - length rest)) ≡ fault_of_places text r

@@ -1,6 +1,6 @@
 -- What the parser makes of a text, place by place, is what the definitions make of all its places.
 use Rattle.std.proofs.Common.{◌≡◌, ℕ, zero, suc, ◌+◌, ◌-◌, ◌<◌, ◌≤◌, List, [], ◌∷◌, ◌++◌, length}
-use Rattle.std.proofs.Common.{Option, Some, None, Ok, refl, sym, ap, ◌∙◌, arith}
+use Rattle.std.proofs.Common.{Option, Some, None, Ok, refl, sym, ap, subst, ◌∙◌, arith}
 use Rattle.std.specs.List.{filter_map, cons_option}
 use Rattle.std.specs.Prelude.{option_to_list}
 use Rattle.kt_tuple.specs.Reading.{◌>>=◌, word_at, after_place}
@@ -29,7 +29,9 @@ module _ {A : Type 0} (read : Reader) (make : List ℕ → Option A) where
       let whole : (p, text) ∷ behind.0 ≡ places = cc (behind.2) in
       let lt : i < 8 = omega (arith, few, ap length whole) in
       let others = more next behind.0 behind.1 (omega (arith, few, ap length whole)) in
-      rw (made_step read make i text lt, place, follows, others, sym whole) (cons_made (make p) (filter_map (λ place. make place.0) behind.0))
+      let Made : List (List ℕ × List ℕ) → Type 0 = λ ps. made_from read make (8 - i) text ≡ filter_map (λ place. make place.0) ps in
+      subst Made whole
+      (rw (made_step read make i text lt, place, follows, others) (cons_made (make p) (filter_map (λ place. make place.0) behind.0)))
 
   places_made : (n i : ℕ) (text : List ℕ) (places : List (List ℕ × List ℕ)) → places_from read n text ≡ Ok places → i + length places ≤ 8
       → made_from read make (8 - i) text ≡ filter_map (λ place. make place.0) places

@@ -1,7 +1,7 @@
 -- What the other faults of a text say of its places.
 use Rattle.std.proofs.Common.{◌≡◌, ℕ, ◌-◌, ◌<◌, ◌⊎◌, inl, inr, Bool, true, false, ltb, List, [], ◌∷◌, ◌++◌, length, map}
 use Rattle.std.proofs.Common.{Option, Some, None, Result, Ok, Err, refl, sym, ap, subst, ◌∙◌, append_assoc, arith, length-append}
-use Rattle.std.proofs.lemmas.Bool.{ltb-true, or_cases}
+use Rattle.std.proofs.lemmas.Bool.{ltb-true, or_cases, cases_Bool}
 use Rattle.std.proofs.lemmas.List.{append-nil, length-map}
 use Rattle.std.specs.List.{flat_map, list_all}
 use Rattle.kt_tuple.specs.declared.parse_error.ParseError.TheVariants as faults
@@ -96,11 +96,10 @@ all_inside whole (place ∷ found) e =
 -- a place is too long
 one_long : (found : List (List ℕ × List ℕ)) → is_one_long found ≡ true → list_all is_short (map spelling found) ≡ false
 one_long [] e = absurd cc
-one_long (place ∷ found) e = by (is_short place.0) refl
-  where
-    by : (b : Bool) → is_short place.0 ≡ b → list_all is_short (map spelling (place ∷ found)) ≡ false
-    by false short = rw short refl
-    by true short = rw short (one_long found (rw short at e))
+one_long (place ∷ found) e = elim (cases_Bool (is_short place.0)) [
+  | inl short ↦ rw short (one_long found (rw short at e))
+  | inr long ↦ rw long refl
+]
 
 too_long_by : (found : List (List ℕ × List ℕ)) → are_too_long found ≡ true → (8 < length found) ⊎ (list_all is_short (map spelling found) ≡ false)
 too_long_by found e = elim (or_cases (ltb 8 (length found)) (is_one_long found) e) [

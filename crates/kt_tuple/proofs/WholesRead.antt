@@ -7,7 +7,7 @@ use Rattle.std.specs.List.{flat_map}
 use Rattle.std.specs.Prelude.{All}
 use Rattle.kt_tuple.specs.Spelling.{further, separated, in_parentheses}
 use Rattle.kt_tuple.specs.Matching.{HasArity}
-use Rattle.kt_tuple.specs.Reading.{word_at, after_place}
+use Rattle.kt_tuple.specs.Reading.{after_place}
 use Rattle.kt_tuple.specs.Parsing.{Reader, places_from, fault_of}
 use Rattle.kt_tuple.specs.inner.Making.{made_from, made_in}
 use Rattle.kt_tuple.proofs.Made.{made_step}

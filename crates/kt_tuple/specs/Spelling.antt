@@ -75,8 +75,10 @@ abbrev pub node_text : NodeId → List ℕ
 node_text (Worker n) = 119 ∷ decimal n
 node_text (Shard n) = 115 ∷ decimal n
 
--- the worker, the number of its request, the operation and the answer
+-- the worker, a dot, and the number of its request
+abbrev pub request_text : Service → List ℕ
+request_text s = node_text (Worker s.worker) ++ 46 ∷ decimal s.number
+
+-- the request, the operation and the answer, with spaces between them
 abbrev pub service_text : Service → List ℕ
-service_text s =
-    node_text (Worker s.worker) ++ codes "." ++ decimal s.number ++ codes " " ++ op_text s.op ++ codes " "
-    ++ answer_text s.answer
+service_text s = request_text s ++ 32 ∷ op_text s.op ++ 32 ∷ answer_text s.answer

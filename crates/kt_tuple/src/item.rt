@@ -11,6 +11,7 @@ use crate::value::Value;
 /// A value, as a tuple has them, or a place, as a template has them.
 pub(crate) trait Item: Sized + Drop {
     ghost reader: { Reader };
+
     ghost of_spelling: { List ℕ → Option Self };
 
     /// Reads the one that stands in front.

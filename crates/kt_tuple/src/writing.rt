@@ -7,7 +7,8 @@ ghost use Rattle.std.specs.Int.RustNames.{FitsSigned};
 ghost use Rattle.std.specs.Io.{StartsWith};
 ghost use Rattle.kt_tuple.specs.Parsing.{tuple_fault, tuple_values, template_fault, template_places};
 ghost use Rattle.kt_tuple.specs.Spelling.{character_text, string_text, value_text, kind_text, place_text, in_parentheses};
-ghost use Rattle.kt_tuple.specs.Spelling.{tuple_text, template_text, op_text, answer_text, node_text, service_text};
+ghost use Rattle.kt_tuple.specs.Spelling.{tuple_text, template_text, op_text, answer_text, node_text};
+ghost use Rattle.kt_tuple.specs.Spelling.{request_text, service_text};
 ghost use Rattle.kt_tuple.specs.Valid.{IsValue, IsPlace};
 
 use crate::node::NodeId;
@@ -22,6 +23,7 @@ use std::alloc::AllocError;
 /// A type with one text for each of its values.
 pub trait Spelled {
     ghost text_of: { Self → List ℕ };
+
     ghost is_held: { Self → Type 0 };
 
     /// Appends its text, or where memory runs out a front of it.
@@ -175,13 +177,21 @@ fn push_service(out: &mut Vec<u8>, service: &Service) -> Result<(), AllocError>
     ensures ok { OnOk result (out.new.items ≡ out.old.items ++ service_text service.now) }
     ensures front { StartsWith out.new.items out.old.items }
 {
-    push_node(out, NodeId::Worker(service.worker))?;
-    out.push(b'.')?;
-    push_number(out, service.number)?;
+    push_request(out, service)?;
     out.push(b' ')?;
     push_op(out, &service.op)?;
     out.push(b' ')?;
     push_answer(out, &service.answer)
+}
+
+/// The worker, a dot, and the number of its request.
+fn push_request(out: &mut Vec<u8>, service: &Service) -> Result<(), AllocError>
+    ensures ok { OnOk result (out.new.items ≡ out.old.items ++ request_text service.now) }
+    ensures front { StartsWith out.new.items out.old.items }
+{
+    push_node(out, NodeId::Worker(service.worker))?;
+    out.push(b'.')?;
+    push_number(out, service.number)
 }
 
 fn push_node(out: &mut Vec<u8>, node: NodeId) -> Result<(), AllocError>

@@ -1,4 +1,4 @@
-use Rattle.std.proofs.Common.{◌≡◌, ◌-◌, ◌++◌, ◌∷◌, []}
+use Rattle.std.proofs.Common.{◌≡◌, ◌-◌, ◌++◌}
 use Rattle.kt_tuple.specs.inner.Making.{made_from, made_in}
 use Rattle.kt_tuple.proofs.parsing.items_in.Given as goal
 

@@ -1,4 +1,5 @@
-use Rattle.std.specs.Prelude.{◌≡◌, All, None}
+use Rattle.std.specs.Prelude.{◌≡◌, All, None, OnOk}
+use Rattle.std.proofs.Common.{subst}
 use Rattle.kt_tuple.specs.Parsing.{tuple_fault, tuple_values}
 use Rattle.kt_tuple.specs.Spelling.{tuple_text}
 use Rattle.kt_tuple.specs.Valid.{IsValue}
@@ -9,10 +10,12 @@ pub returns-clause-faultless : goal.returns-clause-faultless
 returns-clause-faultless c =
     let us = c.args.self.now in
     rw c.cut_back.ensures.same (when_ok _ (All IsValue us) (tuple_fault (tuple_text us) ≡ None)
-    (tuple_faultless us c.arity) c.push_in_parentheses-written.ensures.held)
+    (tuple_faultless us c.values.ensures.arity)
+    (subst (λ xs. OnOk c.push_in_parentheses-written.result (All IsValue xs)) c.values.ensures.value c.push_in_parentheses-written.ensures.held))
 
 pub returns-clause-read_back : goal.returns-clause-read_back
 returns-clause-read_back c =
     let us = c.args.self.now in
     rw c.cut_back.ensures.same (when_ok _ (All IsValue us) (tuple_values (tuple_text us) ≡ us)
-    (tuple_remade us c.arity) c.push_in_parentheses-written.ensures.held)
+    (tuple_remade us c.values.ensures.arity)
+    (subst (λ xs. OnOk c.push_in_parentheses-written.result (All IsValue xs)) c.values.ensures.value c.push_in_parentheses-written.ensures.held))
