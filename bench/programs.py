@@ -13,8 +13,10 @@ PLACE = f"{ROOT}/out/bench"
 
 def crates(stands_on):
     """What each of these crates and those below them stands on, as crates.txt has it."""
-    with open(f"{ROOT}/crates.txt", encoding="ascii") as file:
-        lines = dict(line.strip().split(":", 1) for line in file if not line.startswith("#"))
+    lines = {}
+    for path in ("crates.txt", "tests/crates/crates.list"):
+        with open(f"{ROOT}/{path}", encoding="ascii") as file:
+            lines |= dict(line.strip().split(":", 1) for line in file if not line.startswith("#"))
     found, left = {}, list(stands_on)
     while left:
         crate = left.pop()
@@ -22,6 +24,11 @@ def crates(stands_on):
             found[crate] = lines[crate].strip()
             left += found[crate].split()
     return found
+
+
+def copied_as_rt(old, new):
+    """The sources of tests end in `.rs`."""
+    return shutil.copy(old, f"{new.removesuffix('.rs')}.rt")
 
 
 def build(name, stands_on):
@@ -33,6 +40,8 @@ def build(name, stands_on):
             shutil.rmtree(f"{kept}/{part}", ignore_errors=True)
             if crate != name and os.path.isdir(f"{ROOT}/crates/{crate}/{part}"):
                 shutil.copytree(f"{ROOT}/crates/{crate}/{part}", f"{kept}/{part}")
+        if os.path.isdir(f"{ROOT}/tests/crates/{crate}"):
+            shutil.copytree(f"{ROOT}/tests/crates/{crate}/src", f"{kept}/src", copy_function=copied_as_rt)
         # What was checked already need not be checked again; `rt` takes of it what fits these sources.
         if not os.path.isdir(f"{kept}/out") and os.path.isdir(f"{ROOT}/crates/{crate}/out"):
             shutil.copytree(f"{ROOT}/crates/{crate}/out", f"{kept}/out", symlinks=True)

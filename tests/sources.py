@@ -221,8 +221,26 @@ def type_of(crate, module, word):
 
 
 def edits():
-    """The wrong bodies and rules, each with its crate."""
-    return {(crate, name) for crate in CRATES for name in files(f"crates/{crate}/must-fail", ".edit")}
+    """The wrong bodies and rules, each with its crate: its file."""
+    folders = [(crate, folder) for crate in CRATES for folder in (f"crates/{crate}/must-fail", f"tests/edits/{crate}")]
+    return {(crate, name): path for crate, folder in folders for name, path in files(folder, ".edit").items()}
+
+
+def is_applicable(crate, edit):
+    """Whether each text that the edit replaces, one after the other, stands once in the file that it names."""
+    path, old, texts = "", "", {}
+    for line in text_of(edit).splitlines():
+        kind, _, text = line.partition(": ")
+        if kind == "file":
+            path = f"crates/{crate}/{text.strip()}"
+        elif kind == "old":
+            old = text
+        elif kind == "new" or line == "new:":
+            whole = texts.get(path) or (text_of(path) if is_there(path) else "")
+            if whole.count(old) != 1:
+                return False
+            texts[path] = whole.replace(old, text)
+    return True
 
 
 def names_of(crate):
@@ -251,9 +269,9 @@ def clauses_of(crate):
 
 def words_there():
     """All words of the sources, and the names of their files."""
-    found = set(CRATES)
-    for folder in ("crates", "scenarios", "tests/turned"):
-        for ending in (".rt", ".antt", ".edit", ".scn"):
+    found = {*CRATES, *os.listdir(f"{ROOT}/tests/crates")}
+    for folder in ("crates", "scenarios", "tests/crates", "tests/edits", "tests/turned"):
+        for ending in (".rt", ".rs", ".antt", ".edit", ".scn"):
             for name, path in files(folder, ending).items():
                 found.add(name.split("/")[-1])
                 found |= set(re.findall(r"[^\W\d]\w*", text_of(path)))

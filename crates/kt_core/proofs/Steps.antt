@@ -23,6 +23,7 @@ use Rattle.kt_world.proofs.Standing.{planned-allowed, planned-numbers}
 use Rattle.kt_core.specs.declared.machine.Machine.{Machine}
 use Rattle.kt_core.specs.Machine.{state_of}
 use Rattle.kt_world.specs.Needs.{needs_of, told_by}
+use Rattle.kt_world.specs.Told.{told}
 use Rattle.kt_world.specs.Ready.{CanApply, IsReady}
 use Rattle.kt_world.specs.State.{State}
 use Rattle.kt_world.specs.Step.{owner}
@@ -43,6 +44,10 @@ asked s step t needs p is n o = is ∙ ap (λ (x : Needs). told_by x s.content p
 -- an owner that is told just what the rule looks at makes the plan that is due
 pub due-planned : (s : State) (step : Step) (t : Told) → t ≡ told_by (needs_of s step) s.content (owner step) → planned_by s t step ≡ planned s step
 due-planned s step t is = ap (λ (x : Told). planned_by s x step) is ∙ ap (within_limit s.made) (enough s step)
+
+-- the same where the limit is left aside
+pub due-judged : (s : State) (step : Step) (t : Told) → t ≡ told_by (needs_of s step) s.content (owner step) → judged s t step ≡ judged s (told s step) step
+due-judged s step t is = ap (λ (x : Told). judged s x step) is ∙ enough s step
 
 weaker : {Y : Type 0} (e : StepError) (due : Result Y StepError) → machine.Refuses e due → Refuses e due
 weaker refusals.OutOfMemory due r = r

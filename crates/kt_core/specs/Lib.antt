@@ -6,3 +6,5 @@ pub mod Store
 pub mod Space
 pub mod Stepping
 pub mod World
+pub mod Faults
+pub mod Lent

@@ -181,7 +181,7 @@ impl Machine {
     }
 
     /// The plan of the step whose owner is told so, or its refusal; the limit is left aside.
-    fn judged(&self, alloc: Global, told: Told, step: Step) -> Result<Plan, StepError>
+    pub(crate) fn judged(&self, alloc: Global, told: Told, step: Step) -> Result<Plan, StepError>
         requires ready { IsReady (state_of self.now empty_content) }
         requires small { told.stored.incarnation + 1 < 2 ^ 64 }
         ensures { Gives result (judged (state_of self.now empty_content) told step) }

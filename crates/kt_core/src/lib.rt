@@ -3,7 +3,9 @@
 
 mod causes;
 mod change;
+mod faults;
 mod judging;
+mod lending;
 mod machine;
 mod needing;
 mod opening;
@@ -16,6 +18,7 @@ mod traffic;
 mod world;
 mod writing;
 
+pub use faults::{Fault, FaultKind, FaultLine, Faults};
 pub use kt_script::{
     Actual, Actuals, Command, MAX_COMMANDS, Name, Operation, Pattern, Script, ScriptError, Slot,
 };

@@ -167,7 +167,7 @@ impl Machine {
     }
 
     /// The node's ballot, while it votes.
-    fn ballot_at(&self, id: NodeId) -> Option<&Ballot>
+    pub(crate) fn ballot_at(&self, id: NodeId) -> Option<&Ballot>
         ensures { option_copied result ≡ poll_at (state_of self.now empty_content) id }
     {
         match self.nodes.get(id.index()) {

@@ -1,7 +1,8 @@
 //! The world: what its callers see of it, and its step.
 
-ghost use Rattle.std.specs.Prelude.{◌≡◌, ◌≤◌, ◌↔◌, false, true, is_some, map, IfErr, IfOk, IsTrue, Ok, OnErr, OnOk};
-ghost use Rattle.std.specs.Option.{option_map};
+ghost use Rattle.std.specs.Prelude.{◌≡◌, ◌≤◌, ◌↔◌, false, true, is_some, length, map, slice_get};
+ghost use Rattle.std.specs.Prelude.{IfErr, IfOk, IsTrue, Ok, OnErr, OnOk};
+ghost use Rattle.std.specs.Option.{option_copied, option_map};
 ghost use Rattle.kt_store.specs.Content.{is_fresh};
 ghost use Rattle.kt_tuple.specs.Node.{node_index};
 ghost use Rattle.kt_shard.specs.Table.{at};
@@ -15,10 +16,13 @@ use crate::space::permanent_tuples;
 use crate::stepping::make;
 use crate::tables::{are_steady, bag_at};
 use kt_history::History;
-use kt_node::Mode;
+use kt_node::{Message, Mode, Post};
+use kt_shard::Shard;
 use kt_space::Bag;
 use kt_store::{CkptStore, StoreError};
 use kt_tuple::{NodeId, Tuple};
+use kt_vote::Ballot;
+use kt_worker::Worker;
 use kt_world::{Step, StepError};
 use std::alloc::Global;
 use std::marker::Model;
@@ -74,6 +78,7 @@ impl<S: CkptStore> Model for World<S> {
 }
 
 impl<S: CkptStore> World<S> {
+    ghost use Rattle.kt_core.specs.Lent.{is_allowed, kept, message_at, shard, worker};
     ghost use Rattle.kt_core.specs.Stepping.{IsCause, Refuses};
     ghost use Rattle.kt_core.specs.Store.{IsFault};
     ghost use Rattle.kt_core.specs.World.{IsOpenCause, beside};
@@ -83,8 +88,9 @@ impl<S: CkptStore> World<S> {
     ghost use Rattle.kt_world.specs.Forced.{IsForced};
     ghost use Rattle.kt_world.specs.Headline.{Headline, is_steady, lent_bags};
     ghost use Rattle.kt_world.specs.Judge.{is_enabled, planned};
+    ghost use Rattle.kt_world.specs.Needs.{poll_at};
     ghost use Rattle.kt_world.specs.Reached.{opening};
-    ghost use Rattle.kt_world.specs.State.{node};
+    ghost use Rattle.kt_world.specs.State.{link, node};
     ghost use Rattle.kt_node.specs.Node.{mode_of};
 
     /// The world of the scene over a store on which nothing was ever stored. Where it is refused, scene and store come
@@ -176,6 +182,22 @@ impl<S: CkptStore> World<S> {
         Ok(!is_refused(&planned))
     }
 
+    /// Whether the step is enabled, the limit of steps left aside: nothing but the limit, the store or want of memory
+    /// would refuse it. All else is as of `can`.
+    pub fn is_allowed(&mut self, alloc: Global, step: Step) -> Result<bool, StoreError>
+        ensures value { IsTrue self.new.is_honest → IfOk result (λ can. can ≡ is_allowed self.old.state step) }
+        ensures same { IsTrue self.new.is_honest → self.new.state ≡ self.old.state }
+        ensures beside { beside self.new.state ≡ beside self.old.state }
+        ensures honest { IsTrue self.new.is_honest → IsTrue self.old.is_honest }
+        ensures later { self.old.faults ≤ self.new.faults }
+        ensures cause { IfErr result (IsFault self.old.faults self.new.faults self.new.is_honest) }
+    {
+        let needs = self.machine.needs(step);
+        let told = tell(&mut self.store, alloc, step.owner(), needs)?;
+        let judged = self.machine.judged(alloc, told, step);
+        Ok(!is_refused(&judged))
+    }
+
     /// What happened so far.
     pub fn history(&self) -> &History
         ensures value { result.now.notes ≡ self.now.state.history }
@@ -214,6 +236,55 @@ impl<S: CkptStore> World<S> {
             Some(Some(node)) => Some(node.mode()),
             _ => None,
         }
+    }
+
+    /// The message on its way from one to the other that has so many before it.
+    pub fn link_at(&self, from: NodeId, to: NodeId, index: usize) -> Option<&Message>
+        ensures { option_copied result ≡ message_at self.now.state from to index }
+    {
+        self.machine.message_at(from, to, index)
+    }
+
+    /// How many messages are on their way from one to the other.
+    pub fn link_len(&self, from: NodeId, to: NodeId) -> usize
+        ensures { result ≡ length (link self.now.state from to) }
+    {
+        self.machine.link_len(from, to)
+    }
+
+    /// The message with so many before it of those that the node keeps back, and who sent it.
+    pub fn kept_at(&self, id: NodeId, index: usize) -> Option<&(NodeId, Post)>
+        ensures { option_copied result ≡ slice_get (kept self.now.state id) index }
+    {
+        self.machine.kept_at(id, index)
+    }
+
+    /// How many messages the node keeps back.
+    pub fn kept_len(&self, id: NodeId) -> usize
+        ensures { result ≡ length (kept self.now.state id) }
+    {
+        self.machine.kept_len(id)
+    }
+
+    /// The node's ballot, while it votes.
+    pub fn ballot(&self, id: NodeId) -> Option<&Ballot>
+        ensures { option_copied result ≡ poll_at self.now.state id }
+    {
+        self.machine.ballot_at(id)
+    }
+
+    /// The worker that the node is, while it is up.
+    pub fn worker(&self, id: NodeId) -> Option<&Worker>
+        ensures { option_copied result ≡ worker self.now.state id }
+    {
+        self.machine.worker_at(id)
+    }
+
+    /// The shard that the node is, while it is up.
+    pub fn shard(&self, id: NodeId) -> Option<&Shard>
+        ensures { option_map (λ y. y.now.state) result ≡ shard self.now.state id }
+    {
+        self.machine.shard_at(id)
     }
 
     /// Whether no node is down or rolls back. It takes no memory.

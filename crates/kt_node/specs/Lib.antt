@@ -1,5 +1,6 @@
 pub mod Labels
 pub mod Node
+pub mod Kept
 pub mod Views
 pub mod View
 pub mod Plan

@@ -34,7 +34,7 @@ fn answer_plan(alloc: Global, from: NodeId, ask: Ask, yes: bool) -> Result<Plan,
 {
     let vote = vote_for(ask.instance, asker_of(from, ask), yes);
     let send = vote_alone(alloc, Some(vote))?;
-    Ok(Plan::of(Turn::none(), send, None))
+    Plan::of(alloc, Turn::none(), send, None)
 }
 
 /// A vote at once; what is kept from the asker above the label is dropped.
@@ -54,7 +54,7 @@ fn sieved_answer_plan(alloc: Global, from: NodeId, ask: Ask, yes: bool) -> Resul
         promoted: false,
         phase: None,
     };
-    Ok(Plan::of(turn, send, None))
+    Plan::of(alloc, turn, send, None)
 }
 
 /// A ballot with one vote more, and the vote that its node has to cast now.
@@ -79,7 +79,7 @@ fn voting_plan(alloc: Global, phase: Phase, own: Option<(NodeId, Vote)>) -> Resu
     ensures { IfOk result (λ p. p ≡ voting_plan phase own) }
 {
     let send = vote_alone(alloc, own)?;
-    Ok(Plan::of(Turn::to(phase), send, None))
+    Plan::of(alloc, Turn::to(phase), send, None)
 }
 
 /// What a vote makes of a node in this phase, which has this ballot.
@@ -122,7 +122,7 @@ fn verdict_when_held(
         return Ok(Plan::empty(alloc));
     }
     let send = verdict_to(alloc, instance, yes, ballot.asked())?;
-    Ok(held_learns(yes, send))
+    Ok(held_learns(alloc, yes, send)?)
 }
 
 impl View<'_> {

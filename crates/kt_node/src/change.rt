@@ -1,11 +1,13 @@
 //! What becomes of a node.
 
+use crate::boxed::Boxed;
 use crate::live::{Live, Phase};
 use crate::message::Post;
 use kt_link::Label;
 use kt_shard::{Prepared, Request};
 use kt_tuple::NodeId;
 use kt_worker::Worker;
+use std::alloc::{AllocError, Global};
 use std::marker::Model;
 
 /// What becomes of a worker or a shard.
@@ -72,11 +74,30 @@ pub enum Change {
     /// It stays as it is: a node that is down, too.
     Stay,
     /// It goes on, with these parts changed.
-    Turn(Turn),
+    Turn(Boxed<Turn>),
     /// It fails.
     Fall,
     /// It becomes this one: its permanent checkpoint is loaded.
-    Load(Loaded),
+    Load(Boxed<Loaded>),
+}
+
+impl Change {
+    ghost use Rattle.std.specs.Prelude.{◌≡◌, IfOk};
+    ghost use Rattle.kt_node.specs.declared.change.Change.TheVariants as changes;
+
+    /// It goes on with this turn.
+    pub(crate) fn turning(alloc: Global, turn: Turn) -> Result<Change, AllocError>
+        ensures { IfOk result (λ c. c ≡ changes.Turn turn) }
+    {
+        Ok(Change::Turn(Boxed::new(alloc, turn)?))
+    }
+
+    /// It becomes this one.
+    pub(crate) fn loading(alloc: Global, loaded: Loaded) -> Result<Change, AllocError>
+        ensures { IfOk result (λ c. c ≡ changes.Load loaded) }
+    {
+        Ok(Change::Load(Boxed::new(alloc, loaded)?))
+    }
 }
 
 impl Turn {

@@ -26,12 +26,12 @@ use kt_vote::{Asker, Ballot};
 use std::alloc::{AllocError, Global};
 
 /// What becomes of a node in this phase that writes the verdict: a rollback that got Yes is over for it.
-fn decided_change(phase: &Phase, yes: bool) -> Change
-    ensures { result ≡ decided_change phase.now yes }
+fn decided_change(alloc: Global, phase: &Phase, yes: bool) -> Result<Change, AllocError>
+    ensures { IfOk result (λ c. c ≡ decided_change phase.now yes) }
 {
     match phase {
-        Phase::Rolling(_) if yes => Change::Turn(Turn::to(Phase::Up)),
-        _ => Change::Turn(Turn::none()),
+        Phase::Rolling(_) if yes => Change::turning(alloc, Turn::to(Phase::Up)),
+        _ => Change::turning(alloc, Turn::none()),
     }
 }
 
@@ -51,9 +51,10 @@ fn decide_plan(alloc: Global, phase: &Phase, ballot: &Ballot, yes: bool) -> Resu
     ensures { IfOk result (λ p. p ≡ decide_plan phase.now ballot.now yes) }
 {
     let instance = ballot.instance();
+    let change = decided_change(alloc, phase, yes)?;
     let send = verdict_to(alloc, instance, yes, ballot.asked())?;
     let write = Write::Decide { instance, yes };
-    Ok(Plan::writing(decided_change(phase, yes), send, write))
+    Ok(Plan::writing(change, send, write))
 }
 
 /// Who began an open instance decides it as soon as the votes do.
@@ -84,7 +85,7 @@ fn declined_plan(
     ensures { IfOk result (λ p. p ≡ declined_plan phase instance parent) }
 {
     let send = vote_alone(alloc, Some(vote_for(instance, parent, false)))?;
-    Ok(Plan::of(Turn::to(phase), send, None))
+    Plan::of(alloc, Turn::to(phase), send, None)
 }
 
 /// The verdict that there is.
@@ -106,8 +107,9 @@ fn abandon_open(alloc: Global, ballot: &Ballot, verdict: Option<Verdict>) -> Res
         return Err(Refusal::NothingThere);
     }
     let instance = ballot.instance();
+    let change = Change::turning(alloc, Turn::none())?;
     let send = verdict_to(alloc, instance, false, ballot.asked())?;
-    Ok(no_plan(Change::Turn(Turn::none()), instance, send))
+    Ok(no_plan(change, instance, send))
 }
 
 /// What a held node learns from the board.
@@ -115,7 +117,7 @@ fn learn_held(alloc: Global, verdict: Option<bool>) -> Result<Plan, Refusal>
     ensures { Gives result (learn_held verdict) }
 {
     match verdict {
-        Some(yes) => Ok(held_learns(yes, Outbox::empty(alloc))),
+        Some(yes) => Ok(held_learns(alloc, yes, Outbox::empty(alloc))?),
         None => Err(Refusal::NotDecided),
     }
 }

@@ -110,7 +110,7 @@ fn restarting_plan(
     let mut loaded = loaded;
     let (ballot, send) = restarting(alloc, role, &loaded.live.sent, next, incarnation)?;
     loaded.live.phase = Phase::Rolling(ballot);
-    let change = Change::Load(loaded);
+    let change = Change::loading(alloc, loaded)?;
     Ok(Plan::writing(change, send, Write::BeginRestart))
 }
 

@@ -51,7 +51,7 @@ impl View<'_> {
             promoted: false,
             phase: None,
         };
-        Ok(Plan::of(turn, send, note))
+        Plan::of(alloc, turn, send, note)
     }
 
     /// The request that the worker waits with, and the note that the shard heard it.
@@ -84,7 +84,7 @@ impl View<'_> {
         let worker = number_of(from);
         let (request, note) = self.waiting(alloc, post.by, worker, request)?;
         let body = BodyChange::Wait { worker, request };
-        Ok(hearing(alloc, kept, from, post.label, body, note))
+        hearing(alloc, kept, from, post.label, body, note)
     }
 
     /// The note of what is ignored about a request of the worker of this number: an answer, or the request.
@@ -121,7 +121,7 @@ impl View<'_> {
             (note_of self.entry.role.id post.now.by worker request.now (Ignored (option_copied answer.entry)))) }
     {
         let note = self.note_ignored(alloc, post.by, worker, request, answer)?;
-        Ok(hearing(alloc, kept, from, post.label, BodyChange::Stay, note))
+        hearing(alloc, kept, from, post.label, BodyChange::Stay, note)
     }
 
     /// A shard hears a request, and this comes of it.
@@ -203,14 +203,14 @@ impl View<'_> {
             (Accepted answer.now))) }
     {
         let note = self.note_accepted(alloc, post.by, request, answer)?;
-        Ok(hearing(
+        hearing(
             alloc,
             kept,
             from,
             post.label,
             BodyChange::Work(hearer),
             note,
-        ))
+        )
     }
 
     /// A worker hears a reply.
@@ -277,8 +277,8 @@ fn hearing(
     label: Label,
     body: BodyChange,
     note: Option<Note>,
-) -> Plan
-    ensures { result ≡ hearing kept from label body note }
+) -> Result<Plan, AllocError>
+    ensures { IfOk result (λ p. p ≡ hearing kept from label body note) }
 {
     let turn = Turn {
         body,
@@ -288,5 +288,5 @@ fn hearing(
         promoted: false,
         phase: None,
     };
-    Plan::of(turn, Outbox::empty(alloc), note)
+    Plan::of(alloc, turn, Outbox::empty(alloc), note)
 }

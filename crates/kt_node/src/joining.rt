@@ -107,11 +107,12 @@ fn held_ballot(alloc: Global, live: &Live, ballot: Ballot) -> Result<(Ballot, Ou
 }
 
 /// The node is held with this ballot and sends these, and its tentative checkpoint is stored.
-fn held_plan(ballot: Ballot, send: Outbox, write: Write) -> Plan
-    ensures { result ≡ record { change = turning_to (Held ballot); send = send; note = None; write = Some write } }
+fn held_plan(alloc: Global, ballot: Ballot, send: Outbox, write: Write) -> Result<Plan, AllocError>
+    ensures { IfOk result (λ p. p ≡
+        record { change = turning_to (Held ballot); send = send; note = None; write = Some write }) }
 {
-    let turn = Turn::to(Phase::Held(ballot));
-    Plan::writing(Change::Turn(turn), send, write)
+    let change = Change::turning(alloc, Turn::to(Phase::Held(ballot)))?;
+    Ok(Plan::writing(change, send, write))
 }
 
 /// The node rolls with this ballot and asks all neighbours; what it keeps from the asker above the label is
@@ -142,7 +143,7 @@ fn rolling_plan(
         promoted: false,
         phase: Some(Phase::Rolling(ballot)),
     };
-    Ok(Plan::of(turn, send, None))
+    Plan::of(alloc, turn, send, None)
 }
 
 impl View<'_> {
@@ -162,7 +163,7 @@ impl View<'_> {
         let ballot = Ballot::asking(alloc, instance, live.incarnation, None, asked)?;
         let (ballot, send) = held_ballot(alloc, live, ballot)?;
         let checkpoint = checkpoint_of(alloc, self.role, live, self.line_len)?;
-        Ok(held_plan(ballot, send, Write::BeginCheck(checkpoint)))
+        held_plan(alloc, ballot, send, Write::BeginCheck(checkpoint))
     }
 
     /// The node takes part in the check of the ask.
@@ -188,7 +189,7 @@ impl View<'_> {
             instance,
             checkpoint,
         };
-        Ok(held_plan(ballot, send, write))
+        held_plan(alloc, ballot, send, write)
     }
 
     /// The node takes part in the rollback of the ask.

@@ -45,8 +45,8 @@ pub(crate) fn cut_of(node: NodeId, keep: u64) -> Option<Note>
 
 /// What a held node does with the verdict; `send` is what it passes on. With Yes the tentative checkpoint is
 /// permanent and nothing was sent since, with No it is given up.
-pub(crate) fn held_learns(yes: bool, send: Outbox) -> Plan
-    ensures { result ≡ held_learns yes send }
+pub(crate) fn held_learns(alloc: Global, yes: bool, send: Outbox) -> Result<Plan, AllocError>
+    ensures { IfOk result (λ p. p ≡ held_learns yes send) }
 {
     let turn = Turn {
         body: BodyChange::Stay,
@@ -57,7 +57,7 @@ pub(crate) fn held_learns(yes: bool, send: Outbox) -> Plan
         phase: Some(Phase::Up),
     };
     let write = if yes { Write::Promote } else { Write::Discard };
-    Plan::writing(Change::Turn(turn), send, write)
+    Ok(Plan::writing(Change::turning(alloc, turn)?, send, write))
 }
 
 /// The rollback got No, which goes on to these: the node goes on as it is.
@@ -65,19 +65,24 @@ fn release_plan(alloc: Global, instance: u64, asked: &[NodeId]) -> Result<Plan, 
     ensures { Gives result (Ok (release_plan (verdict_to instance false asked.now))) }
 {
     let send = verdict_to(alloc, instance, false, asked)?;
-    Ok(Plan::of(Turn::to(Phase::Up), send, None))
+    Ok(Plan::of(alloc, Turn::to(Phase::Up), send, None)?)
 }
 
 /// The rollback got Yes: the node becomes this one, and its line is cut.
-fn restoring_plan(loaded: Loaded, note: Option<Note>, send: Outbox) -> Plan
-    ensures { result ≡ record { change = Load loaded; send = send; note = note; write = Some Bump } }
+fn restoring_plan(
+    alloc: Global,
+    loaded: Loaded,
+    note: Option<Note>,
+    send: Outbox,
+) -> Result<Plan, AllocError>
+    ensures { IfOk result (λ p. p ≡ record { change = Load loaded; send = send; note = note; write = Some Bump }) }
 {
-    Plan {
-        change: Change::Load(loaded),
+    Ok(Plan {
+        change: Change::loading(alloc, loaded)?,
         send,
         note,
         write: Some(Write::Bump),
-    }
+    })
 }
 
 impl View<'_> {
@@ -115,7 +120,8 @@ impl View<'_> {
         let keep = stored.acts();
         let loaded = self.load(alloc, stored)?;
         let send = verdict_to(alloc, instance, true, asked)?;
-        Ok(restoring_plan(loaded, cut_of(self.role.id, keep), send))
+        let note = cut_of(self.role.id, keep);
+        Ok(restoring_plan(alloc, loaded, note, send)?)
     }
 
     /// What a node that is down with a tentative checkpoint does with the verdict; it stays down. With No its line

@@ -3,6 +3,7 @@
 
 mod arrivals;
 mod asking;
+mod boxed;
 mod change;
 mod deciding;
 mod failing;
@@ -27,6 +28,7 @@ mod talking;
 mod turning;
 mod voting;
 
+pub use boxed::Boxed;
 pub use change::{BodyChange, Change, KeptChange, Loaded, Turn};
 pub use laws::plans_can_be_carried_out;
 pub use live::{Body, Phase};

@@ -1,10 +1,12 @@
 //! A node of the scene.
 
-ghost use Rattle.std.specs.Prelude.{◌≡◌};
+ghost use Rattle.std.specs.Prelude.{◌≡◌, length, slice_get};
 ghost use Rattle.std.specs.Option.{option_copied, option_map};
 
 use crate::live::{Body, Live, Phase};
+use crate::message::Post;
 use kt_shard::Shard;
+use kt_tuple::NodeId;
 use kt_vote::Ballot;
 use kt_worker::Worker;
 use std::marker::Model;
@@ -40,6 +42,7 @@ impl Model for Node {
 }
 
 impl Node {
+    ghost use Rattle.kt_node.specs.Kept.{kept_of};
     ghost use Rattle.kt_node.specs.Node.{mode_of, worker_of, shard_of, poll_of};
 
     /// Its mode.
@@ -84,6 +87,23 @@ impl Node {
             Phase::Up => None,
             Phase::Held(ballot) => Some(ballot),
             Phase::Rolling(ballot) => Some(ballot),
+        }
+    }
+
+    /// The message with so many before it of those that it keeps back, and who sent it.
+    pub fn kept(&self, index: usize) -> Option<&(NodeId, Post)>
+        ensures { option_copied result ≡ slice_get (kept_of self.now.node) index }
+    {
+        self.live.as_ref()?.kept.get(index)
+    }
+
+    /// How many messages it keeps back.
+    pub fn kept_len(&self) -> usize
+        ensures { result ≡ length (kept_of self.now.node) }
+    {
+        match &self.live {
+            None => 0,
+            Some(live) => live.kept.len(),
         }
     }
 }

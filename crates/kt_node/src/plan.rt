@@ -112,15 +112,21 @@ impl Plan {
     }
 
     /// The node goes on with this turn and sends these; this is noted.
-    pub(crate) fn of(turn: Turn, send: Outbox, note: Option<Note>) -> Plan
-        ensures { result ≡ record { change = changes.Turn turn; send = send; note = note; write = None } }
+    pub(crate) fn of(
+        alloc: Global,
+        turn: Turn,
+        send: Outbox,
+        note: Option<Note>,
+    ) -> Result<Plan, AllocError>
+        ensures { IfOk result (λ p. p ≡
+            record { change = changes.Turn turn; send = send; note = note; write = None }) }
     {
-        Plan {
-            change: Change::Turn(turn),
+        Ok(Plan {
+            change: Change::turning(alloc, turn)?,
             send,
             note,
             write: None,
-        }
+        })
     }
 
     /// This becomes of the node, it sends these, and this is written.

@@ -28,7 +28,7 @@ fn keep_plan(alloc: Global, from: NodeId, post: &Post) -> Result<Plan, AllocErro
         promoted: false,
         phase: None,
     };
-    Ok(Plan::of(turn, Outbox::empty(alloc), None))
+    Plan::of(alloc, turn, Outbox::empty(alloc), None)
 }
 
 impl View<'_> {

@@ -132,7 +132,7 @@ impl View<'_> {
     {
         let (send, note) = self.asking(alloc, live, request, What::Issue)?;
         let turn = Turn::saying(BodyChange::Work(asker), self.home(&request.op));
-        Ok(Plan::of(turn, send, note))
+        Plan::of(alloc, turn, send, note)
     }
 
     /// The worker asks once more.
@@ -149,7 +149,7 @@ impl View<'_> {
     {
         let (send, note) = self.asking(alloc, live, request, What::Repeat)?;
         let turn = Turn::saying(BodyChange::Stay, self.home(&request.op));
-        Ok(Plan::of(turn, send, note))
+        Plan::of(alloc, turn, send, note)
     }
 
     /// The message in which the shard answers.
@@ -234,7 +234,7 @@ impl View<'_> {
         let to = NodeId::Worker(worker);
         let (send, note) = self.serving(alloc, live, to, by, &service)?;
         let turn = Turn::saying(BodyChange::Serve { worker, service }, to);
-        Ok(Plan::of(turn, send, note))
+        Plan::of(alloc, turn, send, note)
     }
 
     /// What a shard says that sends a kept answer again, and the note of it.

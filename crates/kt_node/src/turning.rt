@@ -43,9 +43,9 @@ impl Node {
     {
         match change {
             Change::Stay => {}
-            Change::Turn(turn) => self.turn(turn),
+            Change::Turn(turn) => self.turn(turn.into_inner()),
             Change::Fall => self.fall(),
-            Change::Load(loaded) => self.become_this(loaded),
+            Change::Load(loaded) => self.become_this(loaded.into_inner()),
         }
     }
 

@@ -1,5 +1,6 @@
 -- What the tuples of a key have to do with a template.
-use Rattle.std.proofs.Common.{◌≡◌, ℕ, zero, suc, true, false, nat_eq, List, [], ◌∷◌, Option, None, Some, refl, sym, ap, subst, ◌∙◌, is_some}
+use Rattle.std.proofs.Common.{◌≡◌, ℕ, zero, suc, Bool, true, false, nat_eq, List, [], ◌∷◌, Option, None, Some}
+use Rattle.std.proofs.Common.{refl, sym, ap, subst, ◌∙◌, is_some}
 use Rattle.std.specs.List.{slice_get}
 use Rattle.std.specs.Option.{option_map}
 use Rattle.std.specs.Cmp.{unsigned_Decides}
@@ -16,7 +17,7 @@ use Rattle.kt_tuple.proofs.Homes.{Matches-signature}
 use Rattle.kt_space.specs.declared.key.Key.{Key}
 use Rattle.kt_space.specs.Chaining.{Has}
 use Rattle.kt_space.specs.Grouping.{kinds_key, first_key, template_key, first_actual}
-use Rattle.kt_space.specs.Picking.{begins_alike}
+use Rattle.kt_space.specs.Picking.{begins_alike, could_match}
 use Rattle.kt_space.specs.Slots.{IsAsked, keyed}
 use Rattle.kt_space.proofs.Matched.{Matches-from_test}
 
@@ -32,18 +33,35 @@ keyed_of key (None ∷ slots) zero k has = absurd (none-some k (same_Some None (
 keyed_of key (Some u ∷ slots) zero k has = (u, refl, same_Some (key u) k (same_Some (Some (key u)) (Some k) has))
 keyed_of key (s ∷ slots) (suc m) k has = keyed_of key slots m k has
 
-signature_same : (t : Template) (u : Tuple) → matches t u ≡ true → signature_of (kinds_of u) ≡ signature_of (kinds_of_places t)
-signature_same t u m = sym (Matches-signature t u (Matches-from_test t u m))
+abbrev same_kinds : Template → Tuple → Bool
+same_kinds t u = nat_eq (signature_of (kinds_of_places t)) (signature_of (kinds_of u))
+
+signature_same : (t : Template) (u : Tuple) → could_match t u ≡ true → signature_of (kinds_of u) ≡ signature_of (kinds_of_places t)
+signature_same t u m =
+    sym ((unsigned_Decides (signature_of (kinds_of_places t)) (signature_of (kinds_of u))).0 (and_parts (same_kinds t u) (begins_alike t u) m).0)
+
+begins_matching : (t : Template) (u : Tuple) → matches t u ≡ true → begins_alike t u ≡ true
+begins_matching [] u m = refl
+begins_matching (Formal k ∷ t) u m = refl
+begins_matching (Actual w ∷ t) [] m = absurd (false≢true m)
+begins_matching (Actual w ∷ t) (x ∷ u) m = (and_parts (value_eq w x) (matches t u) m).0
+
+-- what matches may match
+pub could_from_match : (t : Template) (u : Tuple) → matches t u ≡ true → could_match t u ≡ true
+could_from_match t u m =
+    and_from (same_kinds t u) (begins_alike t u)
+    ((unsigned_Decides (signature_of (kinds_of_places t)) (signature_of (kinds_of u))).1 (Matches-signature t u (Matches-from_test t u m)))
+    (begins_matching t u m)
 
 key_of : (a b : ℕ) (v w : Option Value) → a ≡ b → v ≡ w → ◌≡◌ {A = Key} (record { signature = a; first = v }) (record { signature = b; first = w })
 key_of a b v w e f = λ i. record { signature = e i; first = f i }
 
 -- where the first place is an actual
-begins : (t : Template) (u : Tuple) (v : Value) → first_actual t ≡ Some v → matches t u ≡ true → slice_get u 0 ≡ first_actual t
+begins : (t : Template) (u : Tuple) (v : Value) → first_actual t ≡ Some v → begins_alike t u ≡ true → slice_get u 0 ≡ first_actual t
 begins [] u v e m = absurd (none-some v e)
 begins (Formal k ∷ t) u v e m = absurd (none-some v e)
 begins (Actual w ∷ t) [] v e m = absurd (false≢true m)
-begins (Actual w ∷ t) (x ∷ u) v e m = ap Some (sym ((value_eq_decides w x).0 (and_parts (value_eq w x) (matches t u) m).0))
+begins (Actual w ∷ t) (x ∷ u) v e m = ap Some (sym ((value_eq_decides w x).0 m))
 
 begun : (t : Template) (u : Tuple) (v : Value) → first_actual t ≡ Some v → slice_get u 0 ≡ first_actual t → begins_alike t u ≡ true
 begun [] u v e f = refl
@@ -54,7 +72,8 @@ begun (Actual w ∷ t) (x ∷ u) v e f = (value_eq_decides w x).1 (sym (same_Som
 pub asked_first : (slots : List (Option Tuple)) (t : Template) (v : Value) → first_actual t ≡ Some v → IsAsked slots (keyed first_key slots) (template_key t) t
 asked_first slots t v e = record {
   all = λ m u at fits. subst (Has (keyed first_key slots) m)
-      (key_of (signature_of (kinds_of u)) (signature_of (kinds_of_places t)) (slice_get u 0) (first_actual t) (signature_same t u fits) (begins t u v e fits))
+      (key_of (signature_of (kinds_of u)) (signature_of (kinds_of_places t)) (slice_get u 0) (first_actual t) (signature_same t u fits)
+      (begins t u v e (and_parts (same_kinds t u) (begins_alike t u) fits).1))
       (keyed_has first_key slots m u at);
   only = λ m has. let h = keyed_of first_key slots m (template_key t) has in (
     h.0,

@@ -1,5 +1,6 @@
 -- The slots of a bag and its index, after a tuple more, without one, and moved together.
-use Rattle.std.proofs.Common.{◌≡◌, ℕ, suc, ◌+◌, ◌-◌, ◌≤◌, List, [], ◌∷◌, ◌++◌, length, map, filter, set, is_some, Option, None, Some, refl, sym, ap, subst, ◌∙◌, arith}
+use Rattle.std.proofs.Common.{◌≡◌, ℕ, suc, ◌+◌, ◌-◌, ◌≤◌, List, [], ◌∷◌, ◌++◌, length, map, filter, set, is_some, Option, None, Some}
+use Rattle.std.proofs.Common.{refl, sym, ap, subst, ◌∙◌, arith}
 use Rattle.std.specs.List.{slice_get}
 use Rattle.std.specs.Option.{option_and_then, option_map, IfSome, IfNone}
 use Rattle.std.proofs.lemmas.Option.{slice_get-map, slice_get_past, slice_get_within}
@@ -8,11 +9,12 @@ use Rattle.kt_tuple.specs.declared.template.Template.{Template}
 use Rattle.kt_tuple.specs.Matching.{matches}
 use Rattle.kt_space.specs.declared.key.Key.{Key}
 use Rattle.kt_space.specs.Grouping.{kinds_key, first_key}
-use Rattle.kt_space.specs.Picking.{matching, without_match}
-use Rattle.kt_space.specs.Slots.{IsFound, IsIndexed, filled, keyed, passing}
-use Rattle.kt_space.proofs.Filled.{filled_pushed, keyed_pushed, keyed_without, length_without, found_match, filled_filled, keyed_filled, all_filled}
-use Rattle.kt_space.proofs.Passing.{at_most}
-use Rattle.kt_space.proofs.Picked.{without_none}
+use Rattle.kt_space.specs.Picking.{could_match, matching, without_match, up_to_match}
+use Rattle.kt_space.specs.Slots.{IsFound, IsIndexed, filled, keyed, passing, through_place}
+use Rattle.kt_space.proofs.Filled.{filled_pushed, keyed_pushed, keyed_without, length_without, found_match, found_up_to}
+use Rattle.kt_space.proofs.Filled.{filled_filled, keyed_filled, all_filled}
+use Rattle.kt_space.proofs.Passing.{at_most, mono, whole}
+use Rattle.kt_space.proofs.Picked.{without_none, up_to_all}
 
 length-more : {A : Type 0} (xs : List A) (y : A) → length (xs ++ y ∷ []) ≡ suc (length xs)
 length-more [] y = refl
@@ -83,6 +85,24 @@ pub nothing_found : (slots : List (Option Tuple)) (t : Template) (k left : ℕ) 
 nothing_found slots t k left o e n =
     let is : length (matching t (filled slots)) + left ≡ k = subst (λ o. IfNone o (length (matching t (filled slots)) + left ≡ k)) e n in
     sym (without_none t (filled slots) k (omega (arith, is)))
+
+-- a search goes through the tuples up to the match
+pub searched : (slots : List (Option Tuple)) (t : Template) (k left : ℕ) (o : Option ℕ) → IfSome o (λ p. IsFound slots t k p)
+    → IfNone o (length (matching t (filled slots)) + left ≡ k)
+    → passing (could_match t) slots (through_place slots o) ≡ length (filter (could_match t) (up_to_match t k (filled slots)))
+searched slots t k left None f n =
+    whole (could_match t) slots (length slots) (omega arith)
+    ∙ ap (λ l. length (filter (could_match t) l)) (sym (up_to_all t (filled slots) k (omega (arith, n))))
+searched slots t k left (Some p) f n = ap (λ l. length (filter (could_match t) l)) (found_up_to slots t k p f)
+
+pub searched_at_most : (slots : List (Option Tuple)) (t : Template) (k : ℕ) (o : Option ℕ) → IfSome o (λ p. IsFound slots t k p)
+    → passing (could_match t) slots (through_place slots o) ≤ length (filter (could_match t) (filled slots))
+searched_at_most slots t k None f = let all = whole (could_match t) slots (length slots) (omega arith) in omega (arith, all)
+searched_at_most slots t k (Some p) f =
+    let lt = slice_get_within slots p (Some f.tuple) f.there in
+    let up = mono (could_match t) slots (suc p) (length slots) (omega (arith, lt)) in
+    let all = whole (could_match t) slots (length slots) (omega arith) in
+    omega (arith, up, all)
 
 -- how many match, from a search for more than there are
 pub counted : (slots : List (Option Tuple)) (t : Template) (k left : ℕ) (o : Option ℕ) → k ≡ length slots → IfSome o (λ p. IsFound slots t k p)

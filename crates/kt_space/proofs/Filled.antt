@@ -1,13 +1,14 @@
 -- The tuples of slots, from the place of one of them.
-use Rattle.std.proofs.Common.{◌≡◌, ℕ, zero, suc, ◌≤◌, List, [], ◌∷◌, ◌++◌, length, map, take, remove, set, Option, None, Some, refl, sym, ap, ◌∙◌, arith}
+use Rattle.std.proofs.Common.{◌≡◌, ℕ, zero, suc, ◌≤◌, List, [], ◌∷◌, ◌++◌, length, map, take, remove, set, Option, None, Some}
+use Rattle.std.proofs.Common.{refl, sym, ap, ◌∙◌, arith}
 use Rattle.std.specs.List.{slice_get}
 use Rattle.std.proofs.lemmas.Option.{none-some, same_Some}
 use Rattle.kt_tuple.specs.declared.tuple.Tuple.{Tuple}
 use Rattle.kt_tuple.specs.declared.template.Template.{Template}
 use Rattle.kt_space.specs.declared.key.Key.{Key}
-use Rattle.kt_space.specs.Picking.{matching, without_match}
+use Rattle.kt_space.specs.Picking.{matching, without_match, up_to_match}
 use Rattle.kt_space.specs.Slots.{IsFound, filled, keyed}
-use Rattle.kt_space.proofs.Picked.{match_here, without_here}
+use Rattle.kt_space.proofs.Picked.{match_here, without_here, up_to_here}
 
 pub filled_some : (slots : List (Option Tuple)) (i : ℕ) (u : Tuple) → slice_get slots i ≡ Some (Some u)
     → filled (take (suc i) slots) ≡ filled (take i slots) ++ u ∷ []
@@ -27,7 +28,8 @@ filled_pushed [] u = refl
 filled_pushed (None ∷ slots) u = filled_pushed slots u
 filled_pushed (Some x ∷ slots) u = ap (λ l. x ∷ l) (filled_pushed slots u)
 
-pub keyed_pushed : (key : Tuple → Key) (slots : List (Option Tuple)) (u : Tuple) → keyed key (slots ++ Some u ∷ []) ≡ keyed key slots ++ Some (key u) ∷ []
+pub keyed_pushed : (key : Tuple → Key) (slots : List (Option Tuple)) (u : Tuple)
+    → keyed key (slots ++ Some u ∷ []) ≡ keyed key slots ++ Some (key u) ∷ []
 keyed_pushed key [] u = refl
 keyed_pushed key (None ∷ slots) u = ap (λ l. None ∷ l) (keyed_pushed key slots u)
 keyed_pushed key (Some x ∷ slots) u = ap (λ l. Some (key x) ∷ l) (keyed_pushed key slots u)
@@ -68,20 +70,35 @@ length_without (None ∷ slots) (suc p) u at = length_without slots p u at
 length_without (Some x ∷ slots) (suc p) u at = ap suc (length_without slots p u at)
 
 -- what is found is the match of the number, and without it are the others
-pub found_match : (slots : List (Option Tuple)) (t : Template) (k p : ℕ) (h : IsFound slots t k p) → slice_get (matching t (filled slots)) k ≡ Some h.tuple
+abbrev matching_before : List (Option Tuple) → Template → ℕ → ℕ
+matching_before slots t p = length (matching t (take (length (filled (take p slots))) (filled slots)))
+
+as_many_before : (slots : List (Option Tuple)) (t : Template) (k p : ℕ) → IsFound slots t k p → matching_before slots t p ≡ k
+as_many_before slots t k p h = ap (λ l. length (matching t l)) (tuples_before slots p) ∙ h.before
+
+pub found_match : (slots : List (Option Tuple)) (t : Template) (k p : ℕ) (h : IsFound slots t k p)
+    → slice_get (matching t (filled slots)) k ≡ Some h.tuple
 found_match slots t k p h =
-    let before : length (matching t (take (length (filled (take p slots))) (filled slots))) ≡ k = ap (λ l. length (matching t l)) (tuples_before slots p)
-    ∙ h.before in
+    let before : matching_before slots t p ≡ k = as_many_before slots t k p h in
     ap (slice_get (matching t (filled slots))) (sym before)
     ∙ match_here t (filled slots) (length (filled (take p slots))) h.tuple (tuple_at slots p h.tuple h.there) h.fits
 
-pub found_others : (slots : List (Option Tuple)) (t : Template) (k p : ℕ) → IsFound slots t k p → filled (set slots p None) ≡ without_match t k (filled slots)
+pub found_others : (slots : List (Option Tuple)) (t : Template) (k p : ℕ) → IsFound slots t k p
+    → filled (set slots p None) ≡ without_match t k (filled slots)
 found_others slots t k p h =
-    let before : length (matching t (take (length (filled (take p slots))) (filled slots))) ≡ k = ap (λ l. length (matching t l)) (tuples_before slots p)
-    ∙ h.before in
+    let before : matching_before slots t p ≡ k = as_many_before slots t k p h in
     sym (tuples_without slots p h.tuple h.there)
     ∙ without_here t (filled slots) (length (filled (take p slots))) h.tuple (tuple_at slots p h.tuple h.there) h.fits
     ∙ ap (λ n. without_match t n (filled slots)) before
+
+-- up to it stand the tuples of the slots through its own
+pub found_up_to : (slots : List (Option Tuple)) (t : Template) (k p : ℕ) → IsFound slots t k p
+    → filled (take (suc p) slots) ≡ up_to_match t k (filled slots)
+found_up_to slots t k p h =
+    filled_some slots p h.tuple h.there
+    ∙ ap (λ l. l ++ h.tuple ∷ []) (sym (tuples_before slots p))
+    ∙ up_to_here t (filled slots) (length (filled (take p slots))) h.tuple (tuple_at slots p h.tuple h.there) h.fits
+    ∙ ap (λ n. up_to_match t n (filled slots)) (as_many_before slots t k p h)
 
 -- the tuples alone
 pub filled_filled : (us : List Tuple) → filled (map (λ u. Some u) us) ≡ us

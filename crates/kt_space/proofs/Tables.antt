@@ -1,15 +1,19 @@
 -- The tables of chains stay so, whatever is written.
-use Rattle.std.proofs.Common.{◌≡◌, ◌≢◌, ℕ, zero, suc, ◌+◌, ◌<◌, ◌≤◌, max, Bool, true, false, cond, nat_eq, List, [], ◌∷◌, ◌++◌, length, set, Option, None, Some, refl, sym, ap, subst, ◌∙◌, arith, eqb-true}
+use Rattle.std.proofs.Common.{◌≡◌, ◌≢◌, ℕ, zero, suc, ◌+◌, ◌<◌, ◌≤◌, max, Bool, true, false, cond, nat_eq, List}
+use Rattle.std.proofs.Common.{[], ◌∷◌, ◌++◌, length, set, Option, None, Some, refl, sym, ap, subst, ◌∙◌, arith, eqb-true}
 use Rattle.std.proofs.lemmas.Bool.{eqb-false}
 use Rattle.std.specs.List.{slice_get}
 use Rattle.std.specs.Option.{option_and_then}
 use Rattle.std.proofs.lemmas.Option.{none-some}
 use Rattle.kt_space.specs.declared.chains.Ends.{Ends}
 use Rattle.kt_space.specs.declared.chains.Link.{Link}
-use Rattle.kt_space.specs.Chaining.{Has, Fits, IsIn, AreChains, after_of, before_of, changed, groups_of, after_changed, first_changed, before_changed, last_changed, opened}
+use Rattle.kt_space.specs.Chaining.{Has, Fits, IsIn, AreChains, after_of, before_of, changed, groups_of, opened}
+use Rattle.kt_space.specs.Chaining.{after_changed, first_changed, before_changed, last_changed}
 use Rattle.kt_space.proofs.Beside.{read_before, read_pushed}
 use Rattle.kt_space.proofs.Rechained.{unlinked, pushed, grown}
-use Rattle.kt_space.proofs.Linked.{next_hit, next_miss, next_back, next_groups, next_count, previous_hit, previous_miss, previous_forth, previous_groups, previous_count, left_forth, left_back, left_groups, more_forth, more_back, more_groups}
+use Rattle.kt_space.proofs.Linked.{next_hit, next_miss, next_back, next_groups, next_count}
+use Rattle.kt_space.proofs.Linked.{previous_hit, previous_miss, previous_forth, previous_groups, previous_count}
+use Rattle.kt_space.proofs.Linked.{left_forth, left_back, left_groups, more_forth, more_back, more_groups}
 
 abbrev pub AreTables : List Ends → List Link → Type 0
 AreTables ends links = AreChains (groups_of links) (length ends) (after_of ends links) (before_of ends links)

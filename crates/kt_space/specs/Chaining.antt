@@ -1,5 +1,6 @@
 -- Places in a row, each in a group or in none, and which two places of a group stand beside each other.
-use Rattle.std.specs.Prelude.{◌≡◌, ℕ, ◌<◌, Bool, List, Option, Some, None, [], ◌∷◌, ◌++◌, nat_eq, if◌then◌else◌, length, set, map}
+use Rattle.std.specs.Prelude.{◌≡◌, ℕ, ◌<◌, Bool, List, Option, Some, None}
+use Rattle.std.specs.Prelude.{[], ◌∷◌, ◌++◌, nat_eq, if◌then◌else◌, length, set, map}
 use Rattle.std.specs.List.{slice_get}
 use Rattle.std.specs.Option.{option_map_or, option_and_then}
 use Rattle.kt_space.specs.declared.chains.Ends.{Ends}

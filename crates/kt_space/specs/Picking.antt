@@ -1,5 +1,6 @@
 -- What a template picks from tuples in order of arrival.
-use Rattle.std.specs.Prelude.{◌≡◌, ℕ, zero, suc, Bool, true, false, nat_eq, ◌&&◌, if◌then◌else◌, List, [], ◌∷◌, ◌++◌, length, filter}
+use Rattle.std.specs.Prelude.{◌≡◌, ℕ, zero, suc, Bool, true, false, nat_eq, ◌&&◌, if◌then◌else◌}
+use Rattle.std.specs.Prelude.{List, [], ◌∷◌, ◌++◌, length, filter}
 use Rattle.kt_tuple.specs.declared.tuple.Tuple.{Tuple}
 use Rattle.kt_tuple.specs.declared.value.Value.{Value}
 use Rattle.kt_tuple.specs.declared.template.Place.{Place}
@@ -18,6 +19,12 @@ unfoldable pub without_match : Template → ℕ → List Tuple → List Tuple
 without_match t k [] = []
 without_match t zero (u ∷ later) = if matches t u then later else u ∷ without_match t zero later
 without_match t (suc k) (u ∷ later) = u ∷ without_match t (if matches t u then k else suc k) later
+
+-- the tuples up to the k-th that matches, that one among them; all where fewer match
+unfoldable pub up_to_match : Template → ℕ → List Tuple → List Tuple
+up_to_match t k [] = []
+up_to_match t zero (u ∷ later) = u ∷ (if matches t u then [] else up_to_match t zero later)
+up_to_match t (suc k) (u ∷ later) = u ∷ up_to_match t (if matches t u then k else suc k) later
 
 -- u matches, k that match came before it, and it alone is taken out of old, which leaves new
 pub record TakesOut (t : Template) (k : ℕ) (old : List Tuple) (u : Tuple) (new : List Tuple) : Type 0 where

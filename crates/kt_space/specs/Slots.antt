@@ -1,5 +1,6 @@
 -- Slots, some of them empty, and the tuples that stand in them.
-use Rattle.std.specs.Prelude.{◌≡◌, ℕ, ◌+◌, ◌≤◌, Bool, true, false, List, length, map, filter, take, Option, Some, None}
+use Rattle.std.specs.Prelude.{◌≡◌, ℕ, suc, ◌+◌, Bool, true, false, List, length, map, filter, take}
+use Rattle.std.specs.Prelude.{Option, Some, None}
 use Rattle.std.specs.List.{slice_get, filter_map}
 use Rattle.std.specs.Option.{option_map}
 use Rattle.kt_tuple.specs.declared.tuple.Tuple.{Tuple}
@@ -24,9 +25,10 @@ slot_matches t None = false
 slot_matches t (Some None) = false
 slot_matches t (Some (Some u)) = matches t u
 
--- the tuples that match have the key, and those that have it may match
+-- the tuples that may match have the key, and no others
 pub record IsAsked (slots : List (Option Tuple)) (keys : List (Option Key)) (key : Key) (t : Template) : Type 0 where
-  pub all : (place : ℕ) (u : Tuple) → slice_get slots place ≡ Some (Some u) → matches t u ≡ true → Has keys place key
+  pub all : (place : ℕ) (u : Tuple) → slice_get slots place ≡ Some (Some u) → could_match t u ≡ true
+      → Has keys place key
   pub only : (place : ℕ) → Has keys place key → (u : Tuple) × (slice_get slots place ≡ Some (Some u))
       × (could_match t u ≡ true)
 
@@ -34,6 +36,11 @@ pub record IsAsked (slots : List (Option Tuple)) (keys : List (Option Key)) (key
 abbrev pub before_place : List (Option Tuple) → Option ℕ → ℕ
 before_place slots None = length slots
 before_place slots (Some place) = place
+
+-- the slots up to a place, with it, or all
+abbrev pub through_place : List (Option Tuple) → Option ℕ → ℕ
+through_place slots None = length slots
+through_place slots (Some place) = suc place
 
 -- how many of the first slots' tuples pass a test
 abbrev pub passing : (Tuple → Bool) → List (Option Tuple) → ℕ → ℕ
@@ -44,7 +51,7 @@ pub record IsPassed (slots : List (Option Tuple)) (keys : List (Option Key)) (ke
     (next : Option ℕ) (left compared : ℕ) : Type 0 where
   pub stands : Fits keys key next
   pub passed : passing (matches t) slots (before_place slots next) + left ≡ number
-  pub few : compared ≤ passing (could_match t) slots (before_place slots next)
+  pub counted : compared ≡ passing (could_match t) slots (before_place slots next)
 
 -- the match of the number stands at the place
 pub record IsFound (slots : List (Option Tuple)) (t : Template) (number place : ℕ) : Type 0 where

@@ -1,7 +1,7 @@
 ghost use Rattle.std.specs.Prelude.{◌≡◌, ◌≤◌, ◌↔◌, ◌++◌, ◌∷◌, [], length, filter, slice_get};
 ghost use Rattle.std.specs.Prelude.{IsTrue, IsOk, IfOk, IfErr, OnOk, OnErr, is_some, false};
 ghost use Rattle.std.specs.Option.{option_and_then, option_copied};
-ghost use Rattle.kt_space.specs.Picking.{could_match, matching, without_match};
+ghost use Rattle.kt_space.specs.Picking.{could_match, matching, up_to_match, without_match};
 ghost use Rattle.kt_space.specs.Slots.{filled};
 
 use crate::index::Index;
@@ -130,18 +130,19 @@ impl Bag {
         requires { IsTrue self.old.has_room }
         ensures { self.new.tuples ≡ self.old.tuples ++ tuple ∷ [] }
     {
-        self.index.push(&tuple);
-        self.slots.push_reserved(Some(tuple));
-        // There are no more tuples than slots.
-        let _slots = self.slots.len();
+        // There are fewer tuples than there is room for slots, and that is a `usize`.
+        let _most = self.slots.capacity();
         self.len += 1;
         self.has_room = false;
+        self.index.push(&tuple);
+        self.slots.push_reserved(Some(tuple));
     }
 
     /// How many tuples match.
     pub fn count_matches(&self, template: &Template) -> usize
         ensures { result ≡ length (matching template.now self.now.tuples) }
     {
+        // There is no match of so high a number: the search passes all, and tells how many too few they are.
         let most = self.slots.len();
         most - Search::new(&self.slots, &self.index, template, most).left
     }
@@ -153,14 +154,16 @@ impl Bag {
         self.nth_match_counted(template, number).0
     }
 
-    /// The match of this number, and how many tuples were compared with the template: at most those with
-    /// the template's kinds and, where its first place is an actual, that first value.
+    /// The match of this number, and how many tuples were compared with the template: those with its kinds and,
+    /// where its first place is an actual, that first value, up to the match; all of them where there is none.
     pub fn nth_match_counted(&self, template: &Template, number: usize) -> (Option<&Tuple>, u64)
         ensures value { option_copied result.0 ≡ slice_get (matching template.now self.now.tuples) number }
+        ensures counted { result.1 ≡
+            length (filter (could_match template.now) (up_to_match template.now number self.now.tuples)) }
         ensures few { result.1 ≤ length (filter (could_match template.now) self.now.tuples) }
     {
         let search = Search::new(&self.slots, &self.index, template, number);
-        (tuple_at(&self.slots, search.place), search.compared)
+        (tuple_at(&self.slots, search.place), search.compared as u64)
     }
 
     /// Takes out what `nth_match` gives. The others keep their order.

@@ -60,6 +60,7 @@ impl Groups {
     {
         match self.keys.insert_full(key) {
             Ok((group, _)) => self.chains.push(group),
+            // There is room for one key more.
             Err(_) => {}
         }
     }

@@ -1,11 +1,11 @@
 //! The search for a match.
 
-ghost use Rattle.std.specs.Prelude.{◌≡◌, ◌+◌, ◌≤◌, length, filter, true, Some, IfSome, IfNone};
+ghost use Rattle.std.specs.Prelude.{◌≡◌, ◌+◌, length, true, Some, IfSome, IfNone};
 ghost use Rattle.std.specs.List.{slice_get};
 ghost use Rattle.kt_tuple.specs.Matching.{matches};
 ghost use Rattle.kt_space.specs.Grouping.{first_key, kinds_key};
 ghost use Rattle.kt_space.specs.Picking.{could_match, matching};
-ghost use Rattle.kt_space.specs.Slots.{IsAsked, IsFound, filled, keyed, passing, slot_matches};
+ghost use Rattle.kt_space.specs.Slots.{IsAsked, IsFound, filled, keyed, passing, slot_matches, through_place};
 
 use crate::groups::Groups;
 use crate::index::Index;
@@ -20,7 +20,7 @@ pub(crate) struct Search {
     /// How many matches more it would have had to pass, where there are too few.
     pub(crate) left: usize,
     /// How many tuples it compared with the template.
-    pub(crate) compared: u64,
+    pub(crate) compared: usize,
 }
 
 impl Search {
@@ -36,7 +36,8 @@ impl Search {
         ensures found { IfSome result.place (λ place. IsFound slots.now template.now number place) }
         ensures fewer { IfNone result.place (length (matching template.now (filled slots.now)) + result.left ≡ number) }
         ensures none_left { IfSome result.place (λ place. result.left ≡ 0) }
-        ensures few { result.compared ≤ length (filter (could_match template.now) (filled slots.now)) }
+        ensures counted { result.compared ≡
+            passing (could_match template.now) slots.now (through_place slots.now result.place) }
     {
         let key = Key::of_template(template);
         if key.has_first() {
@@ -59,13 +60,16 @@ fn among(
     ensures found { IfSome result.place (λ place. IsFound slots.now template.now number place) }
     ensures fewer { IfNone result.place (length (matching template.now (filled slots.now)) + result.left ≡ number) }
     ensures none_left { IfSome result.place (λ place. result.left ≡ 0) }
-    ensures few { result.compared ≤ length (filter (could_match template.now) (filled slots.now)) }
+    ensures counted { result.compared ≡
+        passing (could_match template.now) slots.now (through_place slots.now result.place) }
 {
     let mut left = number;
-    let mut compared: u64 = 0;
+    let mut compared = 0usize;
     let mut next = groups.first(key);
     while let Some(place) = next {
-        compared = compared.saturating_add(1);
+        // No more tuples are compared than there are slots.
+        prove!(compared < slots.len());
+        compared += 1;
         if fits(template, slots, place) {
             if left == 0 {
                 return Search {

@@ -1,6 +1,6 @@
-use Rattle.std.proofs.Common.{◌<◌, Some, length, sym, subst, ◌∙◌, arith}
+use Rattle.std.proofs.Common.{◌<◌, ◌+◌, Some, length, refl, sym, subst, ◌∙◌, arith, rules}
 use Rattle.kt_space.specs.Slots.{IsPassed}
-use Rattle.kt_space.proofs.Searched.{to_come, started, passed_match, passed_other, few_here, falls}
+use Rattle.kt_space.proofs.Searched.{to_come, started, passed_match, passed_other, counted_here, counts_slots, falls}
 use Rattle.kt_space.proofs.search.among.Goals as goal
 use Rattle.kt_space.proofs.search.among.Goals.{then-fits+else-left-eq0, else-fits}
 
@@ -8,11 +8,18 @@ pub loop-next-init : goal.loop-next-init
 loop-next-init c =
     started c.args.slots.now c.args.groups.now.keys c.args.key.now c.args.template.now c.requires c.args.number c.first-next.result c.first-next.ensures
 
-pub returns-then-left-eq0-clause-few : goal.returns-then-left-eq0-clause-few
-returns-then-left-eq0-clause-few c =
-    few_here c.args.slots.now c.args.groups.now.keys c.args.key.now c.args.template.now c.requires c.args.number c.in-Some.place c.loop-next.left
-    c.loop-next.compared c.saturating_add-compared.result
-    (grind (arith, c.saturating_add-compared.ensures))
+pub prove-unreachable-requires : goal.prove-unreachable-requires
+prove-unreachable-requires c =
+    let h = subst (λ n. IsPassed c.args.slots.now c.args.groups.now.keys c.args.key.now c.args.template.now c.args.number n c.loop-next.left
+    c.loop-next.compared) c.in-Some.is c.loop-next.invariant in
+    let few = counts_slots c.args.slots.now c.args.groups.now.keys c.args.key.now c.args.template.now c.requires c.args.number c.in-Some.place
+    c.loop-next.left c.loop-next.compared h in
+    omega (arith, few, c.if-prove.true)
+
+pub returns-then-left-eq0-clause-counted : goal.returns-then-left-eq0-clause-counted
+returns-then-left-eq0-clause-counted c =
+    counted_here c.args.slots.now c.args.groups.now.keys c.args.key.now c.args.template.now c.requires c.args.number c.in-Some.place c.loop-next.left
+    c.loop-next.compared _ (search rules)
     (subst (λ n. IsPassed c.args.slots.now c.args.groups.now.keys c.args.key.now c.args.template.now c.args.number n c.loop-next.left c.loop-next.compared)
     c.in-Some.is c.loop-next.invariant)
 
@@ -33,14 +40,13 @@ loop-next-preserved c =
     elim c.if-fits.branch [
       | then-fits+else-left-eq0 w ↦
           subst (λ n. IsPassed c.args.slots.now c.args.groups.now.keys c.args.key.now c.args.template.now c.args.number c.next-next.result n
-          c.saturating_add-compared.result) (sym w.left-is)
+          (c.loop-next.compared + 1)) (sym w.left-is)
           (passed_match c.args.slots.now c.args.groups.now.keys c.args.key.now c.args.template.now c.requires c.args.number c.in-Some.place c.loop-next.left
-          c.loop-next.compared c.saturating_add-compared.result c.next-next.result
-          (grind (arith, c.saturating_add-compared.ensures)) h x (sym c.fits.ensures ∙ w.if-fits.true) (λ e. omega (arith, w.if-left-eq0.false, e)))
+          c.loop-next.compared (c.loop-next.compared + 1) c.next-next.result refl h x (sym c.fits.ensures ∙ w.if-fits.true)
+          (λ e. omega (arith, w.if-left-eq0.false, e)))
       | else-fits w ↦
           subst (λ n. IsPassed c.args.slots.now c.args.groups.now.keys c.args.key.now c.args.template.now c.args.number c.next-next.result n
-          c.saturating_add-compared.result) (sym w.left-is)
+          (c.loop-next.compared + 1)) (sym w.left-is)
           (passed_other c.args.slots.now c.args.groups.now.keys c.args.key.now c.args.template.now c.requires c.args.number c.in-Some.place c.loop-next.left
-          c.loop-next.compared c.saturating_add-compared.result c.next-next.result
-          (grind (arith, c.saturating_add-compared.ensures)) h x (sym c.fits.ensures ∙ w.if-fits.false))
+          c.loop-next.compared (c.loop-next.compared + 1) c.next-next.result refl h x (sym c.fits.ensures ∙ w.if-fits.false))
     ]

@@ -1,4 +1,4 @@
-use Rattle.std.proofs.Common.{◌≡◌, ◌≤◌, ◌+◌, [], ◌∷◌, ◌++◌, length, ap, ◌∙◌, arith, rules}
+use Rattle.std.proofs.Common.{◌≤◌, ◌+◌, [], ◌∷◌, ◌++◌, IsTrue, sym, subst, ap, ◌∙◌, arith, rules}
 use Rattle.std.proofs.Math.Facts.{Fits-le}
 use Rattle.std.proofs.lemmas.Bool.{false≢true}
 use Rattle.kt_space.specs.Holding.{Holding}
@@ -9,11 +9,10 @@ use Rattle.kt_space.proofs.bag.Bag.put_reserved.Goals as goal
 
 pub overflow_add-self : goal.overflow_add-self
 overflow_add-self c =
-    let few = filled_at_most c.push_reserved.new.self.items in
-    let more = (indexed_pushed c.self.inside.slots.items c.push_reserved.new.self.items c.self.inside.len _ _ _ _ c.args.tuple c.self.invariant.indexed
-    c.push_reserved.ensures.items c.push.ensures.kinds c.push.ensures.firsts).counted in
-    let all : c.len-slots.result ≡ length c.push_reserved.new.self.items = c.len-slots.ensures ∙ search rules in
-    let le : c.self.inside.len + 1 ≤ c.len-slots.result = omega (arith, few, more, all) in
+    let few = filled_at_most c.self.inside.slots.items in
+    let counted = c.self.invariant.indexed.counted in
+    let room = (c.self.invariant.room (subst (λ (v : Holding). IsTrue v.has_room) (sym c.self.view_is) c.requires)).0 in
+    let le : c.self.inside.len + 1 ≤ c.capacity-most.result = omega (arith, few, counted, room, c.capacity-most.ensures) in
     Fits-le le (search rules)
 
 pub invariant_of-self : goal.invariant_of-self

@@ -1,0 +1,80 @@
+//! What a machine lends of its nodes and of what is on its way.
+
+ghost use Rattle.std.specs.Prelude.{◌≡◌, length, slice_get, unwrap_or};
+ghost use Rattle.std.specs.Option.{option_copied, option_map};
+ghost use Rattle.kt_store.specs.Content.{empty_content};
+ghost use Rattle.kt_core.specs.Lent.{kept, message_at, shard, worker};
+ghost use Rattle.kt_core.specs.Machine.{state_of};
+ghost use Rattle.kt_node.specs.Node.{Down};
+ghost use Rattle.kt_world.specs.State.{link, view};
+
+use crate::machine::Machine;
+use kt_node::{Message, Mode, Node, Post};
+use kt_shard::Shard;
+use kt_tuple::NodeId;
+use kt_worker::Worker;
+
+impl Machine {
+    /// The node, where the scene has it.
+    fn node_at(&self, id: NodeId) -> Option<&Node>
+        ensures { unwrap_or (option_map (λ n. n.now.node) result) Down ≡ (view (state_of self.now empty_content) id).node }
+    {
+        match self.nodes.get(id.index()) {
+            Some(Some(node)) => Some(node),
+            _ => None,
+        }
+    }
+
+    /// The message from one to the other that has so many before it.
+    pub(crate) fn message_at(&self, from: NodeId, to: NodeId, index: usize) -> Option<&Message>
+        ensures { option_copied result ≡ message_at (state_of self.now empty_content) from to index }
+    {
+        self.links.get(from, to, index)
+    }
+
+    /// The kept message that has so many before it, with its sender.
+    pub(crate) fn kept_at(&self, id: NodeId, index: usize) -> Option<&(NodeId, Post)>
+        ensures { option_copied result ≡ slice_get (kept (state_of self.now empty_content) id) index }
+    {
+        self.node_at(id)?.kept(index)
+    }
+
+    /// How many messages it keeps back.
+    pub(crate) fn kept_len(&self, id: NodeId) -> usize
+        ensures { result ≡ length (kept (state_of self.now empty_content) id) }
+    {
+        match self.node_at(id) {
+            None => 0,
+            Some(node) => node.kept_len(),
+        }
+    }
+
+    /// How many messages are on their way from one to the other.
+    pub(crate) fn link_len(&self, from: NodeId, to: NodeId) -> usize
+        ensures { result ≡ length (link (state_of self.now empty_content) from to) }
+    {
+        self.links.len(from, to)
+    }
+
+    /// The worker that the node is, while it is up.
+    pub(crate) fn worker_at(&self, id: NodeId) -> Option<&Worker>
+        ensures { option_copied result ≡ worker (state_of self.now empty_content) id }
+    {
+        let node = self.node_at(id)?;
+        match node.mode() {
+            Mode::Up => node.worker(),
+            Mode::Held | Mode::Rolling | Mode::Down => None,
+        }
+    }
+
+    /// The shard that the node is, while it is up.
+    pub(crate) fn shard_at(&self, id: NodeId) -> Option<&Shard>
+        ensures { option_map (λ y. y.now.state) result ≡ shard (state_of self.now empty_content) id }
+    {
+        let node = self.node_at(id)?;
+        match node.mode() {
+            Mode::Up => node.shard(),
+            Mode::Held | Mode::Rolling | Mode::Down => None,
+        }
+    }
+}

@@ -1,0 +1,26 @@
+//! A hoard of memory.
+
+use std::alloc::{AllocError, Global};
+
+/// How many blocks the hoard may have.
+pub(crate) const BLOCKS: usize = 200_000;
+
+/// Takes all the memory that is left, in blocks that nothing touches.
+pub(crate) fn hoard_all(alloc: Global, hoard: &mut Vec<Vec<u8>>) -> Result<(), AllocError> {
+    let mut size = 1usize << 45;
+    for _ in 0..42usize {
+        hoard_size(alloc, hoard, size)?;
+        size /= 2;
+    }
+    Ok(())
+}
+
+fn hoard_size(alloc: Global, hoard: &mut Vec<Vec<u8>>, size: usize) -> Result<(), AllocError> {
+    for _ in 0..BLOCKS {
+        let Ok(block) = Vec::with_capacity(alloc, size) else {
+            break;
+        };
+        hoard.push(block)?;
+    }
+    Ok(())
+}

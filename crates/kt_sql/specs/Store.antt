@@ -1,0 +1,36 @@
+-- A store over a connection: what it holds, and when that is said.
+use Rattle.std.specs.Prelude.{◌≡◌, ℕ, Bool, ◌&&◌, refl}
+use Rattle.std.specs.Coded.{Coded, code_by, coded×, coded_ℕ, coded_bool}
+use Rattle.sqlite.specs.Store.{Ghosts}
+use Rattle.sqlite.specs.Held.{Held, held_code, state}
+use Rattle.kt_store.specs.Content.{Content}
+use Rattle.kt_sql.specs.Schema.{kt_schema}
+use Rattle.kt_sql.specs.Settled.{IsSettled}
+use Rattle.kt_sql.specs.Rows.{Holds, content_in}
+
+pub record Stored (S : Type 0) : Type 0 where
+  pub conn : Held S
+  -- each row was as said when the store was opened
+  pub is_trusted : Bool
+  pub faults : ℕ
+
+abbrev pub stored_code : {S : Type 0} → Coded S → Coded (Stored S)
+stored_code {S} store =
+    code_by (Held S × (Bool × ℕ)) (coded× (held_code store) (coded× coded_bool coded_ℕ))
+    (λ s. (s.conn, (s.is_trusted, s.faults)))
+    (λ p. record { conn = p.0; is_trusted = p.1.0; faults = p.1.1 }) (λ _. refl)
+
+module _ {S : Type 0} (g : Ghosts S) where
+  -- the connection is open, the disk has returned what was written, and the rows were as said at the start
+  abbrev pub is_sure : Stored S → Bool
+  is_sure s = s.is_trusted && ((state g s.conn).is_open && (state g s.conn).is_clean)
+
+  -- what its tables hold
+  abbrev pub content_of : Stored S → Content
+  content_of s = content_in (state g s.conn).now.trees
+
+  -- the tables are those of a store, and each row is as said
+  pub record IsKept (s : Stored S) : Type 0 where
+    pub settled : IsSettled (state g s.conn)
+    pub schema : (state g s.conn).now.schema ≡ kt_schema
+    pub holds : Holds (state g s.conn).now.trees (content_of s)

@@ -1,0 +1,126 @@
+//! How a store is opened.
+
+ghost use Rattle.std.specs.Prelude.{◌≡◌, ◌≢◌, ◌↔◌, ◌⊎◌, false, codes, Err, IfOk, IfErr, OnOk, OnErr, IsTrue};
+ghost use Rattle.sqlite.specs.Files.{over_files, file_state};
+ghost use Rattle.sqlite.specs.Held.{state};
+ghost use Rattle.sqlite.specs.State.{HasCleanDisk};
+ghost use Rattle.sqlite.specs.Steps.{over_memory};
+ghost use Rattle.kt_store.specs.Content.{empty_content};
+ghost use Rattle.kt_sql.specs.Schema.{no_schema};
+ghost use Rattle.kt_sql.specs.Rows.{AreAsSaid};
+ghost use Rattle.kt_sql.specs.Opened.{IsVersion1, IsReady};
+ghost use Rattle.kt_sql.specs.Made.{IsMade};
+ghost use Rattle.kt_sql.specs.Store.{is_sure, content_of};
+
+use crate::error::SqlOpenError;
+use crate::opened::{statement_error, tested};
+use crate::schema::is_no_schema;
+use crate::store::SqlStore;
+use crate::tables::create_tables;
+use sqlite::{Alter, Connection, Error, ErrorCode, File, FileStore, MemStore};
+use std::alloc::Global;
+
+/// Why a file was not opened. One that is no database has no such tables.
+fn file_error(error: Error) -> SqlOpenError
+    ensures { error ≡ Error.SqliteFailure ErrorCode.CannotOpen → result ≡ SqlOpenError.Device }
+{
+    match error {
+        Error::SqliteFailure(ErrorCode::OutOfMemory) => SqlOpenError::Memory,
+        Error::SqliteFailure(ErrorCode::NotADatabase | ErrorCode::DatabaseCorrupt) =>
+            SqlOpenError::Damaged,
+        _ => SqlOpenError::Device,
+    }
+}
+
+/// Makes the tables where there are none, and else tests those that are there. It answers whether each row is as said.
+fn readied<S: Alter>(alloc: Global, conn: &mut Connection<S>) -> Result<bool, SqlOpenError>
+    requires { conn.old.in_transaction ≡ false }
+    ensures ready { HasCleanDisk (state S.Store conn.new) → IfOk result (IsReady (state S.Store conn.new)) }
+    ensures fresh { HasCleanDisk (state S.Store conn.new) → (state S.Store conn.old).now.schema ≡ no_schema
+        → OnOk result (IsMade (state S.Store conn.new)) }
+    ensures found { HasCleanDisk (state S.Store conn.new) → (state S.Store conn.old).now.schema ≢ no_schema
+        → OnOk result ((state S.Store conn.new).now ≡ (state S.Store conn.old).now) }
+    ensures damaged { HasCleanDisk (state S.Store conn.new) → result ≡ Err SqlOpenError.Damaged
+        → ((state S.Store conn.old).now.schema ≢ no_schema) × (IsVersion1 (state S.Store conn.old).now → ⊥) }
+    ensures unchanged { HasCleanDisk (state S.Store conn.new) → IsTrue (state S.Store conn.new).is_open
+        → OnErr result ((state S.Store conn.new).now ≡ (state S.Store conn.old).now) }
+    ensures ended { conn.new.in_transaction ≡ false }
+{
+    // Outside a transaction what is seen is what was committed.
+    let is_settled = conn.is_autocommit();
+    prove!(is_settled);
+    if is_no_schema(conn.schema()) {
+        return match create_tables(conn) {
+            Ok(()) => Ok(true),
+            Err(error) => Err(statement_error(error)),
+        };
+    }
+    tested(alloc, conn)
+}
+
+impl<S: Alter> SqlStore<S> {
+    /// The store in the tables of the connection, which has no transaction open. Where there are no tables they are
+    /// made. Where they are those of a store, each row is read, and the store is honest where all are as said. A
+    /// refusal hands the connection back.
+    pub fn adopt(
+        alloc: Global,
+        mut conn: Connection<S>,
+    ) -> Result<SqlStore<S>, (SqlOpenError, Connection<S>)>
+        requires { conn.in_transaction ≡ false }
+        ensures fresh { IfOk result (λ s. HasCleanDisk (state S.Store s.conn)
+            → (state S.Store conn).now.schema ≡ no_schema
+            → IsTrue (is_sure S.Store s) × (content_of S.Store s ≡ empty_content)) }
+        ensures found { IfOk result (λ s. HasCleanDisk (state S.Store s.conn)
+            → (state S.Store conn).now.schema ≢ no_schema → (state S.Store s.conn).now ≡ (state S.Store conn).now) }
+        ensures version { IfOk result (λ s. HasCleanDisk (state S.Store s.conn)
+            → IsVersion1 (state S.Store s.conn).now) }
+        ensures honest { IfOk result (λ s. HasCleanDisk (state S.Store s.conn)
+            → (IsTrue (is_sure S.Store s) ↔ AreAsSaid (state S.Store s.conn).now.trees)) }
+        ensures faults { IfOk result (λ s. s.faults ≡ 0) }
+        ensures damaged { IfErr result (λ e. e.0 ≡ SqlOpenError.Damaged → HasCleanDisk (state S.Store e.1)
+            → ((state S.Store conn).now.schema ≢ no_schema) × (IsVersion1 (state S.Store conn).now → ⊥)) }
+        ensures unchanged { IfErr result (λ e. HasCleanDisk (state S.Store e.1)
+            → IsTrue (state S.Store e.1).is_open → (state S.Store e.1).now ≡ (state S.Store conn).now) }
+        ensures ended { IfErr result (λ e. e.1.in_transaction ≡ false) }
+    {
+        match readied(alloc, &mut conn) {
+            Ok(is_trusted) => Ok(SqlStore::over(alloc, conn, is_trusted)),
+            Err(error) => Err((error, conn)),
+        }
+    }
+}
+
+impl SqlStore<MemStore> {
+    /// A fresh store in memory.
+    pub fn in_memory(alloc: Global) -> Result<SqlStore<MemStore>, SqlOpenError>
+        ensures honest { IfOk result (λ s. IsTrue (is_sure over_memory s)) }
+        ensures fresh { IfOk result (λ s. content_of over_memory s ≡ empty_content) }
+        ensures faults { IfOk result (λ s. s.faults ≡ 0) }
+    {
+        match SqlStore::adopt(alloc, Connection::open_in_memory(alloc)?) {
+            Ok(store) => Ok(store),
+            Err((error, _)) => Err(error),
+        }
+    }
+}
+
+impl SqlStore<FileStore<File>> {
+    /// The store in the database at the path, which is made where no file or an empty one is there. The file is locked
+    /// while the store lives.
+    pub fn open(rt: &HostRuntime, path: &str) -> Result<SqlStore<FileStore<File>>, SqlOpenError>
+        ensures version { IfOk result (λ s. HasCleanDisk (file_state s.conn) → IsVersion1 (file_state s.conn).now) }
+        ensures honest { IfOk result (λ s. HasCleanDisk (file_state s.conn)
+            → (IsTrue (is_sure over_files s) ↔ AreAsSaid (file_state s.conn).now.trees)) }
+        ensures faults { IfOk result (λ s. s.faults ≡ 0) }
+        ensures memory { path.now ≡ codes ":memory:" → result ≡ Err SqlOpenError.Device }
+    {
+        let conn = match Connection::open(rt, path) {
+            Ok(conn) => conn,
+            Err(error) => return Err(file_error(error)),
+        };
+        match SqlStore::adopt(rt.alloc(), conn) {
+            Ok(store) => Ok(store),
+            Err((error, _)) => Err(error),
+        }
+    }
+}

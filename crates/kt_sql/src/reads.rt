@@ -1,0 +1,176 @@
+//! What is read of the tables.
+
+ghost use Rattle.std.specs.Prelude.{◌≡◌, ◌==◌, ◌&&◌, ◌≤◌, Option, option_map, fold, map, max, IfOk, IfErr, IfSome};
+ghost use Rattle.std.specs.Prelude.{IsTrue, length, slice_get};
+ghost use Rattle.std.specs.List.{find};
+ghost use Rattle.kt_tuple.specs.Node.{node_eq};
+ghost use Rattle.kt_store.specs.declared.rows.NodeRow.{NodeRow as NodeFields};
+ghost use Rattle.kt_store.specs.declared.rows.Posted.{Posted as PostedFields};
+ghost use Rattle.kt_store.specs.Verdict.{is_open};
+ghost use Rattle.kt_store.specs.Content.{greatest, is_empty};
+ghost use Rattle.kt_store.specs.Calls.{HasCause};
+ghost use Rattle.kt_sql.specs.Rows.{node_given, posted_given, IsNodeRow, IsPosted, Gives, IsReadError, number_of};
+ghost use Rattle.kt_sql.specs.Store.{is_sure, content_of};
+
+use crate::ids::id_of;
+use crate::number::Number;
+use crate::rows::{node_row, posted_row};
+use crate::store::SqlStore;
+use kt_store::{NodeRow, Posted, StoreError};
+use kt_tuple::NodeId;
+use sqlite::{Alter, Row, params};
+use std::alloc::Global;
+
+const GET_NODE: &str =
+    "SELECT id, incarnation, permanent, tentative, instance FROM kt_node WHERE id = ?1 ORDER BY id";
+
+const FIRST_NODE: &str =
+    "SELECT id, incarnation, permanent, tentative, instance FROM kt_node ORDER BY id LIMIT 1";
+
+const GET_POSTED: &str =
+    "SELECT instance, initiator, purpose, verdict FROM kt_board WHERE instance = ?1 ORDER BY instance";
+
+const LAST_POSTED: &str =
+    "SELECT instance, initiator, purpose, verdict FROM kt_board ORDER BY instance DESC LIMIT 1";
+
+const OPEN_POSTED: &str =
+    "SELECT instance, initiator, purpose, verdict FROM kt_board WHERE initiator = ?1 AND verdict = 0 \
+     ORDER BY instance LIMIT 1";
+
+/// The node of the first row.
+fn first_node(alloc: Global, rows: &[Row]) -> Result<Option<NodeRow>, StoreError>
+    ensures found { IfOk result (λ o. IfSome o IsNodeRow) }
+    ensures exact { (o : Option NodeFields) → IfSome o IsNodeRow → slice_get rows.now 0 ≡ option_map node_given o
+        → Gives o result }
+    ensures named { IfErr result IsReadError }
+{
+    match rows.first() {
+        Some(row) => Ok(Some(node_row(alloc, row)?)),
+        None => Ok(None),
+    }
+}
+
+/// The instance of the first row.
+fn first_posted(rows: &[Row]) -> Result<Option<Posted>, StoreError>
+    ensures found { IfOk result (λ o. IfSome o IsPosted) }
+    ensures exact { (o : Option PostedFields) → IfSome o IsPosted → slice_get rows.now 0 ≡ option_map posted_given o
+        → Gives o result }
+    ensures named { IfErr result IsReadError }
+{
+    match rows.first() {
+        Some(row) => Ok(Some(posted_row(row)?)),
+        None => Ok(None),
+    }
+}
+
+fn has_no_row(rows: &[Row]) -> bool
+    ensures { result ≡ (length rows.now == 0) }
+{
+    rows.is_empty()
+}
+
+/// The number of the instance of the first row, 0 where there is none.
+fn first_number(rows: &[Row]) -> Result<u64, StoreError>
+    ensures found { IfOk result (λ n. n ≤ greatest) }
+    ensures exact { (o : Option PostedFields) → IfSome o IsPosted → slice_get rows.now 0 ≡ option_map posted_given o
+        → Gives (number_of o) result }
+    ensures named { IfErr result IsReadError }
+{
+    match first_posted(rows)? {
+        Some(posted) => Ok(posted.instance),
+        None => Ok(0),
+    }
+}
+
+impl<S: Alter> SqlStore<S> {
+    /// The row of the node, where it has one.
+    pub(crate) fn find_node(&mut self, node: NodeId) -> Result<Option<NodeRow>, StoreError>
+        ensures value { IsTrue (is_sure S.Store self.new)
+            → IfOk result (λ o.
+            o ≡ find (λ (r : NodeFields). node_eq r.node node) (content_of S.Store self.old).nodes) }
+        ensures found { IfOk result (λ o. IfSome o IsNodeRow) }
+        ensures same { IsTrue (is_sure S.Store self.new) → content_of S.Store self.new ≡ content_of S.Store self.old }
+        ensures honest { IsTrue (is_sure S.Store self.new) → IsTrue (is_sure S.Store self.old) }
+        ensures cause { HasCause self.old.faults self.new.faults (is_sure S.Store self.new) ⊥ result }
+    {
+        let alloc = self.allocator();
+        let Some(id) = id_of(node) else {
+            return Ok(None);
+        };
+        let rows = self.ask(GET_NODE, params![id])?;
+        first_node(alloc, &rows)
+    }
+
+    /// The row of the instance, where it was begun.
+    pub(crate) fn find_posted(&mut self, instance: u64) -> Result<Option<Posted>, StoreError>
+        ensures value { IsTrue (is_sure S.Store self.new)
+            → IfOk result (λ o.
+            o ≡ find (λ (p : PostedFields). p.instance == instance) (content_of S.Store self.old).board) }
+        ensures found { IfOk result (λ o. IfSome o IsPosted) }
+        ensures same { IsTrue (is_sure S.Store self.new) → content_of S.Store self.new ≡ content_of S.Store self.old }
+        ensures honest { IsTrue (is_sure S.Store self.new) → IsTrue (is_sure S.Store self.old) }
+        ensures cause { HasCause self.old.faults self.new.faults (is_sure S.Store self.new) ⊥ result }
+    {
+        let _ = self.allocator();
+        let Some(number) = Number::new(instance) else {
+            return Ok(None);
+        };
+        let rows = self.ask(GET_POSTED, params![number])?;
+        first_posted(&rows)
+    }
+
+    /// The first instance that the node began and that is open.
+    pub(crate) fn find_open(&mut self, node: NodeId) -> Result<Option<Posted>, StoreError>
+        ensures value { IsTrue (is_sure S.Store self.new)
+            → IfOk result (λ o. o ≡ find (λ (p : PostedFields). node_eq p.initiator node && is_open p.verdict)
+            (content_of S.Store self.old).board) }
+        ensures same { IsTrue (is_sure S.Store self.new) → content_of S.Store self.new ≡ content_of S.Store self.old }
+        ensures honest { IsTrue (is_sure S.Store self.new) → IsTrue (is_sure S.Store self.old) }
+        ensures cause { HasCause self.old.faults self.new.faults (is_sure S.Store self.new) ⊥ result }
+    {
+        let _ = self.allocator();
+        let Some(id) = id_of(node) else {
+            return Ok(None);
+        };
+        let rows = self.ask(OPEN_POSTED, params![id])?;
+        first_posted(&rows)
+    }
+
+    /// The greatest number of an instance, 0 where there is none.
+    pub(crate) fn last_instance(&mut self) -> Result<u64, StoreError>
+        ensures value { IsTrue (is_sure S.Store self.new)
+            → IfOk result (λ n.
+            n ≡ fold max 0 (map (λ (p : PostedFields). p.instance) (content_of S.Store self.old).board)) }
+        ensures within { IfOk result (λ n. n ≤ greatest) }
+        ensures same { IsTrue (is_sure S.Store self.new) → content_of S.Store self.new ≡ content_of S.Store self.old }
+        ensures honest { IsTrue (is_sure S.Store self.new) → IsTrue (is_sure S.Store self.old) }
+        ensures cause { HasCause self.old.faults self.new.faults (is_sure S.Store self.new) ⊥ result }
+    {
+        let rows = self.ask(LAST_POSTED, params![])?;
+        first_number(&rows)
+    }
+
+    /// Whether the table of nodes has no row.
+    pub(crate) fn has_no_node(&mut self) -> Result<bool, StoreError>
+        ensures value { IsTrue (is_sure S.Store self.new)
+            → IfOk result (λ b. b ≡ is_empty (content_of S.Store self.old).nodes) }
+        ensures same { IsTrue (is_sure S.Store self.new) → content_of S.Store self.new ≡ content_of S.Store self.old }
+        ensures honest { IsTrue (is_sure S.Store self.new) → IsTrue (is_sure S.Store self.old) }
+        ensures cause { HasCause self.old.faults self.new.faults (is_sure S.Store self.new) ⊥ result }
+    {
+        let rows = self.ask(FIRST_NODE, params![])?;
+        Ok(has_no_row(&rows))
+    }
+
+    /// Whether the board has no row.
+    pub(crate) fn has_no_posted(&mut self) -> Result<bool, StoreError>
+        ensures value { IsTrue (is_sure S.Store self.new)
+            → IfOk result (λ b. b ≡ is_empty (content_of S.Store self.old).board) }
+        ensures same { IsTrue (is_sure S.Store self.new) → content_of S.Store self.new ≡ content_of S.Store self.old }
+        ensures honest { IsTrue (is_sure S.Store self.new) → IsTrue (is_sure S.Store self.old) }
+        ensures cause { HasCause self.old.faults self.new.faults (is_sure S.Store self.new) ⊥ result }
+    {
+        let rows = self.ask(LAST_POSTED, params![])?;
+        Ok(has_no_row(&rows))
+    }
+}

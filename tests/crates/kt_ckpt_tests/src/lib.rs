@@ -1,0 +1,13 @@
+//! The bytes of checkpoints worked out by hand from the format, and of 500 drawn at random, both ways.
+#![tactic(auto)]
+
+#[cfg(test)]
+mod bytes;
+#[cfg(test)]
+mod drawn;
+#[cfg(test)]
+mod draws;
+#[cfg(test)]
+mod random;
+#[cfg(test)]
+mod seen;

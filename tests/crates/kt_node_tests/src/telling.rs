@@ -1,0 +1,184 @@
+//! What comes of a call to a node by itself.
+
+use crate::line::Line;
+use crate::making::{Call, call_of};
+use crate::named::named;
+use crate::solo::Solo;
+use crate::words::{first_word, number};
+use kt_history::Note;
+use kt_node::{BodyChange, Change, Plan, Write};
+use kt_store::{Tentative, Verdict};
+use kt_tuple::NodeId;
+use std::alloc::{AllocError, Global};
+use std::process::Abort;
+use std::test::Fail;
+
+/// Whether the node has a place in a neighbour's tables.
+fn is_placed(node: NodeId) -> bool {
+    let (NodeId::Worker(number) | NodeId::Shard(number)) = node;
+    number < 9
+}
+
+fn has_desk(change: &BodyChange) -> bool {
+    match change {
+        BodyChange::Wait { worker, .. } => *worker < 9,
+        BodyChange::Serve { worker, .. } => *worker < 9,
+        BodyChange::Stay | BodyChange::Work(_) => true,
+    }
+}
+
+/// Whether all whom the change names have their places.
+fn can_be_made(change: &Change) -> bool {
+    let Change::Turn(turn) = change else {
+        return true;
+    };
+    let turn = turn.get();
+    let is_heard = match turn.heard {
+        Some((from, _)) => is_placed(from),
+        None => true,
+    };
+    let is_said = match turn.said {
+        Some(to) => is_placed(to),
+        None => true,
+    };
+    is_heard && is_said && has_desk(&turn.body)
+}
+
+impl Solo {
+    /// The node begins an instance.
+    fn begin(&mut self) -> Result<u64, AllocError> {
+        let instance = self.instances.saturating_add(1);
+        self.post(instance, Verdict::Open)?;
+        self.own = Some(instance);
+        Ok(instance)
+    }
+
+    fn write(&mut self, write: Write) -> Result<(), AllocError> {
+        match write {
+            Write::BeginCheck(checkpoint) => {
+                let instance = self.begin()?;
+                self.tentative = Some(Tentative {
+                    instance,
+                    checkpoint,
+                });
+            }
+            Write::PutTentative {
+                instance,
+                checkpoint,
+            } => {
+                self.tentative = Some(Tentative {
+                    instance,
+                    checkpoint,
+                });
+            }
+            Write::Promote => {
+                if let Some(tentative) = self.tentative.take() {
+                    self.permanent = Some(tentative.checkpoint);
+                }
+            }
+            Write::Discard => self.tentative = None,
+            Write::BeginRestart => {
+                self.begin()?;
+                self.incarnation = self.incarnation.saturating_add(1);
+            }
+            Write::Bump => self.incarnation = self.incarnation.saturating_add(1),
+            Write::Decide { instance, yes } => self.post(instance, Verdict::of(yes))?,
+        }
+        Ok(())
+    }
+
+    /// A line has no more acts than the node went through changes.
+    fn note(&mut self, note: &Note) {
+        self.next = self.next.saturating_add(1);
+        let acts = match note {
+            Note::Act(_) => self.line_len.saturating_add(1),
+            Note::Cut { keep, .. } => *keep,
+        };
+        self.line_len = acts.min(self.made);
+    }
+
+    #[tactic(auto, using(crate::proofs::Bounds::can_change, crate::proofs::Bounds::sends, crate::proofs::Bounds::puts))]
+    fn change(&mut self, change: Change) -> Result<(), Fail> {
+        if !can_be_made(&change) {
+            return Err(Fail::from("a number that no node has"));
+        }
+        self.node.reserve()?;
+        self.node.change(change);
+        self.made += 1;
+        Ok(())
+    }
+
+    /// Carries the plan out.
+    fn carry_out(&mut self, plan: Plan) -> Result<(), Fail> {
+        let Plan {
+            change,
+            note,
+            write,
+            ..
+        } = plan;
+        self.change(change)?;
+        if let Some(note) = &note {
+            self.note(note);
+        }
+        match write {
+            Some(write) => Ok(self.write(write)?),
+            None => Ok(()),
+        }
+    }
+
+    /// Makes the steps, with `; ` between them. None of them is refused.
+    pub(crate) fn does(&mut self, rt: &impl Abort, alloc: Global, steps: &str) -> Result<(), Fail> {
+        for step in steps.split("; ") {
+            self.does_named(rt, alloc, named(step))?;
+        }
+        Ok(())
+    }
+
+    fn does_named(&mut self, rt: &impl Abort, alloc: Global, steps: &str) -> Result<(), Fail> {
+        for step in steps.split("; ") {
+            let found = self.tell(alloc, step)?;
+            assert!(rt; !found.as_str().starts_with("refused"), "{step}: {found}");
+        }
+        Ok(())
+    }
+
+    /// What comes of the text: `board 7 no` writes on the board, `worker` reads the worker, all else is a call.
+    pub(crate) fn tell(&mut self, alloc: Global, text: &str) -> Result<String, Fail> {
+        let mut line = Line::new(alloc);
+        if let Some(entry) = text.strip_prefix("board ") {
+            self.post_text(entry)?;
+        } else if text == "worker" {
+            line.worker(&self.node)?;
+        } else {
+            let call = call_of(alloc, text)?;
+            self.make(alloc, &call, &mut line)?;
+        }
+        line.into_text()
+    }
+
+    fn post_text(&mut self, text: &str) -> Result<(), Fail> {
+        let (instance, word) = first_word(text)?;
+        let verdict = match word {
+            "open" => Verdict::Open,
+            "yes" => Verdict::Yes,
+            "no" => Verdict::No,
+            _ => return Err(Fail::from("another verdict")),
+        };
+        Ok(self.post(number(instance)?, verdict)?)
+    }
+
+    /// Makes the call, and tells what comes of it, or why it is refused.
+    fn make(&mut self, alloc: Global, call: &Call, line: &mut Line) -> Result<(), Fail> {
+        if self.made >= 1000 {
+            return Err(Fail::from("too many steps"));
+        }
+        match self.plan(alloc, call) {
+            Ok(plan) => {
+                line.plan(&plan)?;
+                self.carry_out(plan)?;
+                Ok(line.stands(&self.node)?)
+            }
+            Err(refusal) => Ok(line.refusal(alloc, refusal)?),
+        }
+    }
+}

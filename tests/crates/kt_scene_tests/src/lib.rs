@@ -1,0 +1,17 @@
+//! Tests of kt_scene's public calls.
+#![tactic(auto)]
+
+#[cfg(test)]
+mod mutants;
+#[cfg(test)]
+mod replays;
+#[cfg(test)]
+mod rollbacks;
+#[cfg(test)]
+mod scenes;
+#[cfg(test)]
+mod streams;
+#[cfg(test)]
+mod tables;
+#[cfg(test)]
+mod texts;

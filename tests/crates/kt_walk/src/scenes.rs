@@ -1,0 +1,127 @@
+//! Random scenes. Each is told by its seed.
+
+use crate::cast::Cast;
+use crate::draws::Draws;
+use crate::finding::Finding;
+use crate::scripts::command;
+use crate::variables::with_variable;
+use kt_core::{Scene, Step, StepError, World};
+use kt_script::{Command, Script};
+use kt_store::MemStore;
+use std::alloc::Global;
+
+/// A world over a store in memory.
+pub type Game = World<MemStore>;
+
+/// How many commands are drawn for a worker.
+const COMMANDS: u32 = 24;
+
+/// Tuples of five signatures are put.
+const PUTS: [&str; 6] = [
+    "out (\"a\")",
+    "out (\"b\")",
+    "out (5)",
+    "out (\"a\", 1)",
+    "out (1, 2)",
+    "out (\"a\", \"b\", 1)",
+];
+
+/// Each template matches one of these tuples or two.
+const OTHERS: [&str; 16] = [
+    "in (?str)",
+    "in (?int)",
+    "rd (?str)",
+    "rd (?int)",
+    "inp (?str)",
+    "inp (\"b\")",
+    "inp (?int)",
+    "inp (\"a\", ?int)",
+    "inp (?int, 2)",
+    "inp (?str, ?str, 1)",
+    "rdp (?str)",
+    "rdp (?int)",
+    "rdp (\"a\", ?int)",
+    "rdp (?int, 2)",
+    "unless 1",
+    "unless 2",
+];
+
+/// One of these texts.
+fn one_of(draws: &mut Draws, texts: &[&'static str]) -> &'static str {
+    let place = draws.below((texts.len() as u64).max(1)) as usize;
+    match texts.get(place) {
+        Some(text) => text,
+        None => "",
+    }
+}
+
+/// A command; half of them put a tuple, and every sixth has a variable.
+fn random_command(alloc: Global, draws: &mut Draws) -> Result<Command, Finding> {
+    match draws.below(6) {
+        0 => with_variable(draws.below(4)),
+        1..=3 => command(alloc, one_of(draws, &PUTS)),
+        _ => command(alloc, one_of(draws, &OTHERS)),
+    }
+}
+
+/// A script; commands that may not follow those before them are left out.
+fn random_script(alloc: Global, draws: &mut Draws) -> Result<Script, Finding> {
+    let mut script = Script::new(alloc);
+    for _ in 0..COMMANDS {
+        let command = random_command(alloc, draws)?;
+        if script.refusal_of(&command).is_none() {
+            script.push(command).ok().ok_or(Finding::OutOfMemory)?;
+        }
+    }
+    Ok(script)
+}
+
+/// A scene of one to three workers and shards.
+fn random_scene(alloc: Global, draws: &mut Draws) -> Result<Scene, Finding> {
+    let cast = random_cast(draws);
+    let mut scripts = Vec::new(alloc);
+    for _ in 0..cast.workers {
+        scripts.push(random_script(alloc, draws)?)?;
+    }
+    Scene::new(cast.shards, scripts).ok_or(Finding::NotMade("a scene"))
+}
+
+fn random_cast(draws: &mut Draws) -> Cast {
+    let (workers, shards) = (draws.number_to(3), draws.number_to(3));
+    Cast { workers, shards }
+}
+
+/// Who takes part in the scene of this seed.
+pub(crate) fn cast_of(seed: u64) -> Cast {
+    random_cast(&mut Draws::of(seed))
+}
+
+/// The scene of this seed.
+pub fn scene_of(alloc: Global, seed: u64) -> Result<Scene, Finding> {
+    random_scene(alloc, &mut Draws::of(seed))
+}
+
+/// The world of this seed, in which nothing was done.
+pub(crate) fn opened_by(alloc: Global, seed: u64) -> Result<Game, Finding> {
+    let world = World::open(alloc, scene_of(alloc, seed)?, MemStore::new(alloc));
+    world.ok().ok_or(Finding::NotMade("a world"))
+}
+
+/// The world of this seed in which these steps were tried, one after the other.
+pub(crate) fn played(alloc: Global, seed: u64, steps: &[Step]) -> Result<Game, Finding> {
+    let mut world = opened_by(alloc, seed)?;
+    if are_tried(alloc, &mut world, steps) {
+        Ok(world)
+    } else {
+        Err(Finding::OutOfMemory)
+    }
+}
+
+/// Tries the steps, and answers whether memory was there for them.
+fn are_tried(alloc: Global, world: &mut Game, steps: &[Step]) -> bool {
+    let mut was_there = true;
+    for step in steps {
+        was_there = was_there && world.step(alloc, *step) != Err(StepError::OutOfMemory);
+    }
+    was_there
+}
