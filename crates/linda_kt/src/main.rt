@@ -17,7 +17,7 @@ fn main(rt: HostRuntime) -> ExitCode {
     let mut writer = Sink::new(rt.stdout());
     let mut errors = rt.stderr();
     let status = program::run_arguments(
-        rt.alloc(),
+        &rt,
         arguments,
         &mut reader,
         &mut writer,
