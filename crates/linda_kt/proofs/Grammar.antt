@@ -90,10 +90,14 @@ pub name_is : (o : Option Command) (c : Command) (n : Text) → o ≡ Some c →
 name_is None c n some given = cc
 name_is (Some d) c n some given = cc
 
+some_is : {X : Type 0} (a b : X) → Some a ≡ Some b → a ≡ b
+some_is a b e = cc
+
 -- a pair that may be there is known by its parts
 both : (o : Option (Text × List Row)) (x : Text) (y : List Row) → option_map (λ p. p.0) o ≡ Some x → option_map (λ p. p.1) o ≡ Some y → o ≡ Some (x, y)
 both None x y first second = cc
-both (Some p) x y first second = cc
+both (Some p) x y first second =
+    ap (λ (a : Text). Some (a, p.1)) (some_is _ _ first) ∙ ap (λ (b : List Row). Some (x, b)) (some_is _ _ second)
 
 abbrev with_file : Text × List Row → Text × Option Text
 with_file p = (p.0, first_of (codes "store") p.1)
