@@ -1,5 +1,5 @@
 -- How a run ends, told from what it answers.
-use Rattle.std.proofs.Common.{◌≡◌, ℕ, Bool, true, List, [], Result, Ok, Err, inl, inr, refl, ap, subst, codes}
+use Rattle.std.proofs.Common.{◌≡◌, ℕ, Bool, true, List, [], Option, None, Some, Result, Ok, Err, option_map, inl, inr, refl, sym, ap, subst, codes, Bor}
 use Rattle.std.specs.Prelude.{◌≢◌, OnOk, IfErr, IfOk}
 use Rattle.clap.specs.Words.{kind_of, HasKind, Kinds, Text}
 use Rattle.clap.specs.declared.error.Error.{Error}
@@ -13,7 +13,9 @@ use Rattle.kt_scene.specs.Run.{Given, WritesReplayed, WritesReplayedFront, Leave
 use Rattle.kt_scene.specs.Stream.{UnlessWrite}
 use Rattle.kt_sql.specs.declared.error.SqlOpenError.{SqlOpenError}
 use Rattle.kt_sql.specs.declared.error.SqlOpenError.TheVariants.{Device}
-use Rattle.linda_kt.specs.Status.{EndsInFile, EndsOver, IsRunStatus, answer_status, done, given_of, in_memory, opened, refused, unopened}
+use Rattle.linda_kt.specs.declared.words.Command.{Command}
+use Rattle.linda_kt.specs.declared.words.Command.TheVariants.{Replay}
+use Rattle.linda_kt.specs.Status.{Ends, EndsInFile, EndsOver, IsRunStatus, answer_status, done, given_of, in_memory, opened, refused, unopened}
 use Rattle.linda_kt.specs.Words.{words_fault}
 
 only_memory : (e : Error) → HasKind [] e → kind_of e ≡ kind.OutOfMemory
@@ -77,6 +79,18 @@ pub file_told : {S : Type 0} (files : Ghosts S) (path : Text) (before after : Re
 file_told files path before after old new n (Ok store) memory faultless ends status unread unwritten =
     opened (λ same. refused_is_not_opened store Device (memory same)) store faultless ends
 file_told files path before after old new n (Err why) memory faultless ends status unread unwritten = unopened status unread unwritten
+
+module _ {S : Type 0} (files : Ghosts S) (before after : Reader) (old new : Writer) (n : ℕ) where
+  -- how a replay ends where no file is named, and where one is
+  pub ends_in_memory : (command : Command) (store : Option (Bor Text)) → store ≡ None → EndsOver in_memory before after old new n
+      → Ends files command (option_map (λ (s : Bor Text). s.now) store) before after old new n
+  ends_in_memory Replay store none ends =
+      subst (λ (o : Option (Bor Text)). Ends files Replay (option_map (λ (s : Bor Text). s.now) o) before after old new n) (sym none) ends
+
+  pub ends_in_file : (command : Command) (store : Option (Bor Text)) (path : Bor Text) → store ≡ Some path
+      → EndsInFile files path.now before after old new n → Ends files command (option_map (λ (s : Bor Text). s.now) store) before after old new n
+  ends_in_file Replay store path some ends =
+      subst (λ (o : Option (Bor Text)). Ends files Replay (option_map (λ (s : Bor Text). s.now) o) before after old new n) (sym some) ends
 
 -- what is told of words is told of the same words
 pub told_of_same : {S : Type 0} (files : Ghosts S) (u v : List Text) (before after : Reader) (old new : Writer) (n : ℕ) → u ≡ v

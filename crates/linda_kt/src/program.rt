@@ -3,9 +3,8 @@ ghost use Rattle.std.specs.Prelude.{◌≡◌, ◌≢◌, ◌⊎◌, [], IsOk, I
 ghost use Rattle.std.specs.Vec.Iter.{into_iter_items};
 ghost use Rattle.clap.specs.Words.{kind_of};
 ghost use Rattle.clap.specs.declared.error.kind.ErrorKind.TheVariants as kind;
-ghost use Rattle.kt_scene.specs.Run.{given_by};
 ghost use Rattle.linda_kt.specs.Status.{Ends, EndsInFile, EndsOver, IsRunStatus, IsWordsStatus, answer_status};
-ghost use Rattle.linda_kt.specs.Status.{in_memory, status_of};
+ghost use Rattle.linda_kt.specs.Status.{given_of, in_memory, status_of};
 ghost use Rattle.linda_kt.specs.Words.{AreWrong, texts, words_behind, words_fault};
 
 use crate::words::{Command, Request, read_words, refuse_bytes};
@@ -14,7 +13,7 @@ use clap::error::ErrorKind;
 use kt_scene::{OpenError, Outcome, ReplayFault, SceneError, Sink, Source, StepError, replay};
 use kt_sql::{SqlOpenError, SqlStore};
 use kt_store::{CkptStore, MemStore};
-use sqlite::{File, FileStore};
+use sqlite::{Alter, File, FileStore};
 use std::alloc::{AllocError, Global};
 use std::env::Args;
 use std::io;
@@ -143,8 +142,8 @@ fn run_request<R: Read, W: Write, E: Write>(
     writer: &mut Sink<W>,
     errors: &mut E,
 ) -> u8
-    ensures told { Ends ⟦<SqlStore<FileStore<File>> as CkptStore>⟧ request.command
-        (option_map (λ s. s.now) request.store) reader.old reader.new writer.old writer.new result }
+    ensures told { Ends ⟦<SqlStore<FileStore<File>> as CkptStore>⟧ request.entry.command
+        (option_map (λ s. s.now) request.entry.store) reader.old reader.new writer.old writer.new result }
     ensures done_without_a_word { result ≡ DONE → errors.new ≡ errors.old }
 {
     match (request.command, request.store) {
@@ -182,15 +181,15 @@ fn replay_in<R: Read, W: Write, E: Write>(
     replay_opened(rt.alloc(), opened, reader, writer, errors)
 }
 
-/// Replays over the store that was opened. Where it was not, nothing is read.
-fn replay_opened<R: Read, W: Write, E: Write, S: CkptStore + Drop>(
+/// Replays over the store in SQL that was opened. Where it was not, nothing is read.
+fn replay_opened<R: Read, W: Write, E: Write, S: Alter + Drop>(
     alloc: Global,
-    opened: Result<S, SqlOpenError>,
+    opened: Result<SqlStore<S>, SqlOpenError>,
     reader: &mut Source<R>,
     writer: &mut Sink<W>,
     errors: &mut E,
 ) -> u8
-    ensures told { IfOk opened (λ store. EndsOver (given_by S.content S.is_honest S.fault_count store)
+    ensures told { IfOk opened (λ store. EndsOver (given_of ⟦<SqlStore<S> as CkptStore>⟧ store)
         reader.old reader.new writer.old writer.new result) }
     ensures unopened { IfErr opened (λ error. result ≡ STORE) }
     ensures unread { IfErr opened (λ error. reader.new ≡ reader.old) }
@@ -211,8 +210,7 @@ fn replay_over<R: Read, W: Write, E: Write, S: CkptStore + Drop>(
     writer: &mut Sink<W>,
     errors: &mut E,
 ) -> u8
-    ensures told { EndsOver (given_by S.content S.is_honest S.fault_count store)
-        reader.old reader.new writer.old writer.new result }
+    ensures told { EndsOver (given_of S.CkptStore store) reader.old reader.new writer.old writer.new result }
     ensures done_without_a_word { result ≡ DONE → errors.new ≡ errors.old }
 {
     end_replay(replay(alloc, reader, writer, store), errors)
