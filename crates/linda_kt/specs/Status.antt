@@ -84,10 +84,10 @@ abbrev pub Ends : {S : Type 0} → Ghosts S → Command → Option Text → (bef
 Ends files Replay None before after old new n = EndsOver in_memory before after old new n
 Ends files Replay (Some path) before after old new n = EndsInFile files path before after old new n
 
--- the exit status of words without a fault: that of the command that they name over the store that they name; or 6, with
--- nothing read and nothing written, where memory ran out before the command was known
-pub data IsRunStatus {S : Type 0} (files : Ghosts S) (words : List Text) (before after : Reader) (old new : Writer) (n : ℕ)
-    : Type 0 where
+-- the exit status of words without a fault: that of the command that they name over the store that they name; or 6,
+-- with nothing read and nothing written, where memory ran out before the command was known
+pub data IsRunStatus {S : Type 0} (files : Ghosts S) (words : List Text) (before after : Reader) (old new : Writer)
+    (n : ℕ) : Type 0 where
   did : (command : Command) (file : Option Text) → asked_by words ≡ Some (name_of command, file)
       → Ends files command file before after old new n → IsRunStatus files words before after old new n
   unread : n ≡ 6 → after ≡ before → new ≡ old → IsRunStatus files words before after old new n

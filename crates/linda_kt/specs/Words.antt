@@ -1,6 +1,6 @@
 -- The words of the command line.
-use Rattle.std.specs.Prelude.{◌≡◌, ◌≢◌, ◌⊎◌, List, [], ◌∷◌, None, Some, refl, Option, codes, map, option_map, true, drop}
-use Rattle.std.specs.Prelude.{String, string_bytes}
+use Rattle.std.specs.Prelude.{◌≡◌, ◌≢◌, ◌⊎◌, List, [], ◌∷◌, Option, None, Some, refl, codes, map, option_map, true}
+use Rattle.std.specs.Prelude.{String, string_bytes, drop}
 use Rattle.std.specs.Borrow.{Bor}
 use Rattle.std.specs.Global.{Global}
 use Rattle.clap.specs.Words.{App, IsAmong, Kinds, Rule, Shape, Text, fault_of, first_of, new_app, new_rule}

@@ -119,7 +119,8 @@ pub fn run_program<R: Read, W: Write, E: Write>(
     errors: &mut E,
 ) -> u8
     ensures told { words_fault (texts words.now) ≡ []
-        → IsRunStatus ⟦<SqlStore<FileStore<File>> as CkptStore>⟧ (texts words.now) reader.old reader.new writer.old writer.new result }
+        → IsRunStatus ⟦<SqlStore<FileStore<File>> as CkptStore>⟧ (texts words.now)
+        reader.old reader.new writer.old writer.new result }
     ensures done_without_a_word { result ≡ DONE → errors.new ≡ errors.old }
     ensures wrong_words { AreWrong (texts words.now)
         → (result ≡ COMMAND_LINE) ⊎ (result ≡ MEMORY) }
