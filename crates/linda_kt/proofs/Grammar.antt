@@ -1,15 +1,18 @@
 -- What a parse by the program's own command line can give.
 use Rattle.std.proofs.Common.{◌≡◌, Bool, true, false, cond, List, [], ◌∷◌, Option, Some, None, option_map, codes, ap, refl, sym, ◌∙◌}
-use Rattle.std.specs.Prelude.{is_some}
+use Rattle.std.specs.Prelude.{is_some, IfSome}
 use Rattle.std.specs.Borrow.{Bor}
-use Rattle.clap.specs.Words.{App, HasMatchesOf, Kinds, Row, Shape, Text, built, fault_of, is_simple, subcommand_of, subcommand_name_of, subcommand_rows_of}
+use Rattle.clap.specs.Words.{App, HasMatchesOf, Kinds, Row, Shape, Text, built, fault_of, first_of, first_value, found_of, is_simple, rows_of}
+use Rattle.clap.specs.Words.{subcommand_of, subcommand_name_of, subcommand_rows_of}
 use Rattle.clap.specs.Kinds.{or_else}
 use Rattle.clap.specs.Walk.{Held, Names, finished, nothing_held, settled, walk, walk_from}
 use Rattle.clap.specs.Simple.{entered, names_of, rows_at}
 use Rattle.clap.specs.Faults.{check_fault, defaults_fault, entered_fault, level_fault, settle_fault, walk_fault}
 use Rattle.clap.specs.declared.parser.matches.ArgMatches.{ArgMatches}
 use Rattle.clap.specs.declared.parser.matches.ArgMatches.TheViews.{out-ArgMatches}
-use Rattle.linda_kt.specs.Words.{command_line_app}
+use Rattle.clap.proofs.WalkLemmas.{first_value-rows}
+use Rattle.linda_kt.specs.declared.words.Command.{Command}
+use Rattle.linda_kt.specs.Words.{asked_by, command_line_app, name_of, words_fault}
 
 -- where two steps have no fault, the second has none
 rest_empty : (a b : Kinds) → or_else a b ≡ [] → b ≡ []
@@ -70,6 +73,51 @@ met_replay a words m same has none =
     sym (fused _ _ (out-ArgMatches m).subcommand) ∙ ap (option_map (λ p. p.0)) rows
     ∙ names_replay words (sym (ap (λ x. fault_of x words) same) ∙ none)
 
+-- a parse of words without a fault is one of the program's own command line
+pub has_no_fault : (a : App) (words : List Text) → a ≡ command_line_app → fault_of a words ≡ [] → words_fault words ≡ []
+has_no_fault a words same none = sym (ap (λ x. fault_of x words) same) ∙ none
+
+-- a subcommand as `clap` lends it: its name, and the matches of its own words
+abbrev pub Lent : Type 0
+Lent = Bor Text × Bor ArgMatches
+
 -- the name that was met is that one
-pub is_that : (o : Option (Bor Text)) (s : Bor Text) (n : Text) → option_map (λ s. s.now) o ≡ Some n → o ≡ Some s → s.now ≡ n
-is_that o s n e some = let same : Some s.now ≡ Some n = ap (option_map (λ s. s.now)) (sym some) ∙ e in cc
+pub is_that : (o : Option Lent) (p : Lent) (n : Text) → option_map (λ (q : Lent). q.0.now) o ≡ Some n → o ≡ Some p → p.0.now ≡ n
+is_that o p n e some = let same : Some p.0.now ≡ Some n = ap (option_map (λ (q : Lent). q.0.now)) (sym some) ∙ e in cc
+
+-- the command that was found has that name
+pub name_is : (o : Option Command) (c : Command) (n : Text) → o ≡ Some c → IfSome o (λ c. n ≡ name_of c) → n ≡ name_of c
+name_is None c n some given = cc
+name_is (Some d) c n some given = cc
+
+some_is : {X : Type 0} (a b : X) → Some a ≡ Some b → a ≡ b
+some_is a b e = cc
+
+-- a pair that may be there is known by its parts
+both : (o : Option (Text × List Row)) (x : Text) (y : List Row) → option_map (λ p. p.0) o ≡ Some x → option_map (λ p. p.1) o ≡ Some y → o ≡ Some (x, y)
+both None x y first second = cc
+both (Some p) x y first second =
+    ap (λ (a : Text). Some (a, p.1)) (some_is _ _ first) ∙ ap (λ (b : List Row). Some (x, b)) (some_is _ _ second)
+
+abbrev with_file : Text × List Row → Text × Option Text
+with_file p = (p.0, first_of (codes "store") p.1)
+
+-- the word and the file that were met are those that the words name
+pub asked_is : (a : App) (words : List Text) (m : ArgMatches) (o : Option Lent) (p : Lent) (command : Command) (store : Option (Bor Text))
+    → a ≡ command_line_app → HasMatchesOf a words m → option_map (λ (q : Lent). q.0.now) o ≡ subcommand_name_of m
+    → option_map (λ (q : Lent). rows_of (found_of q.1.now)) o ≡ option_map (λ p. p.1) (subcommand_rows_of m) → o ≡ Some p → p.0.now ≡ name_of command
+    → option_map (λ (s : Bor Text). s.now) store ≡ first_value (found_of p.1.now) (codes "store")
+    → asked_by words ≡ Some (name_of command, option_map (λ (s : Bor Text). s.now) store)
+asked_is a words m o p command store same has name rows some is file =
+    let met : subcommand_rows_of m ≡ subcommand_of command_line_app words =
+    (has (ap is_simple same)).1 ∙ ap (λ x. subcommand_of x words) same in
+    let first : option_map (λ p. p.0) (subcommand_rows_of m) ≡ Some p.0.now =
+    fused _ _ (out-ArgMatches m).subcommand ∙ sym name ∙ ap (option_map (λ (q : Lent). q.0.now)) some in
+    let second : option_map (λ p. p.1) (subcommand_rows_of m) ≡ Some (rows_of (found_of p.1.now)) =
+    sym rows ∙ ap (option_map (λ (q : Lent). rows_of (found_of q.1.now))) some in
+    let whole : subcommand_of command_line_app words ≡ Some (p.0.now, rows_of (found_of p.1.now)) =
+    sym met ∙ both (subcommand_rows_of m) _ _ first second in
+    let of_file : first_of (codes "store") (rows_of (found_of p.1.now)) ≡ option_map (λ (s : Bor Text). s.now) store =
+    sym (file ∙ first_value-rows (found_of p.1.now) (codes "store")) in
+    ap (option_map with_file) whole ∙ ap (λ (n : Text). Some (n, first_of (codes "store") (rows_of (found_of p.1.now)))) is
+    ∙ ap (λ (f : Option Text). Some (name_of command, f)) of_file

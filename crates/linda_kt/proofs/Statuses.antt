@@ -1,16 +1,22 @@
 -- How a run ends, told from what it answers.
-use Rattle.std.proofs.Common.{◌≡◌, ℕ, Bool, true, false, [], Result, Ok, Err, inl, inr, refl, ap, subst}
-use Rattle.std.specs.Prelude.{◌≢◌, OnOk, IfErr}
-use Rattle.clap.specs.Words.{kind_of, HasKind, Kinds}
+use Rattle.std.proofs.Common.{◌≡◌, ℕ, Bool, true, List, [], Option, None, Some, Result, Ok, Err, option_map, inl, inr, refl, sym, ap, subst, codes, Bor}
+use Rattle.std.specs.Prelude.{◌≢◌, OnOk, IfErr, IfOk}
+use Rattle.clap.specs.Words.{kind_of, HasKind, Kinds, Text}
 use Rattle.clap.specs.declared.error.Error.{Error}
 use Rattle.clap.specs.declared.error.kind.ErrorKind.TheVariants as kind
 use Rattle.kt_scene.specs.declared.fault.ReplayFault.{ReplayFault}
 use Rattle.kt_scene.specs.declared.fault.ReplayFault.TheVariants as faults
 use Rattle.kt_scene.specs.Outside.{Reader, Writer}
 use Rattle.kt_store.specs.Content.{Content}
+use Rattle.kt_store.specs.declared.store.CkptStore.{Ghosts}
 use Rattle.kt_scene.specs.Run.{Given, WritesReplayed, WritesReplayedFront, LeavesWriter, IsReplayFault}
 use Rattle.kt_scene.specs.Stream.{UnlessWrite}
-use Rattle.linda_kt.specs.Status.{IsRunStatus, answer_status, done, in_memory, refused}
+use Rattle.kt_sql.specs.declared.error.SqlOpenError.{SqlOpenError}
+use Rattle.kt_sql.specs.declared.error.SqlOpenError.TheVariants.{Device}
+use Rattle.linda_kt.specs.declared.words.Command.{Command}
+use Rattle.linda_kt.specs.declared.words.Command.TheVariants.{Replay}
+use Rattle.linda_kt.specs.Status.{Ends, EndsInFile, EndsOver, IsRunStatus, answer_status, done, given_of, in_memory, opened, refused, unopened}
+use Rattle.linda_kt.specs.Words.{words_fault}
 
 only_memory : (e : Error) → HasKind [] e → kind_of e ≡ kind.OutOfMemory
 only_memory e (inl memory) = memory
@@ -30,28 +36,64 @@ not_version e memory version = cc
 pub asks_for_no_text : (e : Error) → kind_of e ≡ kind.OutOfMemory → (kind_of e ≢ kind.DisplayHelp) × (kind_of e ≢ kind.DisplayVersion)
 asks_for_no_text e memory = (not_help e memory, not_version e memory)
 
--- what a fault leaves of the writer, by its case
-pub leaves_writer : (before after : Reader) (old new : Writer) (fault : ReplayFault) → UnlessWrite fault (new ≡ old)
-    → (fault ≡ faults.Write → WritesReplayedFront in_memory before after old new) → LeavesWriter in_memory before after old new fault
-leaves_writer before after old new (faults.Scene line cause) kept front = kept
-leaves_writer before after old new (faults.Step at cause) kept front = kept
-leaves_writer before after old new (faults.Open cause) kept front = kept
-leaves_writer before after old new (faults.Report cause) kept front = kept
-leaves_writer before after old new faults.Memory kept front = kept
-leaves_writer before after old new faults.Read kept front = kept
-leaves_writer before after old new faults.Write kept front = front refl
+module _ {S : Type 0} (given : Given S) where
+  -- what a fault leaves of the writer, by its case
+  leaves_writer : (before after : Reader) (old new : Writer) (fault : ReplayFault) → UnlessWrite fault (new ≡ old)
+      → (fault ≡ faults.Write → WritesReplayedFront given before after old new) → LeavesWriter given before after old new fault
+  leaves_writer before after old new (faults.Scene line cause) kept front = kept
+  leaves_writer before after old new (faults.Step at cause) kept front = kept
+  leaves_writer before after old new (faults.Open cause) kept front = kept
+  leaves_writer before after old new (faults.Report cause) kept front = kept
+  leaves_writer before after old new faults.Memory kept front = kept
+  leaves_writer before after old new faults.Read kept front = kept
+  leaves_writer before after old new faults.Write kept front = front refl
+
+  -- the status of what a replay over a store answers
+  pub status_told : {X : Type 0} (before after : Reader) (old new : Writer) (answer : Result X ReplayFault) (n : ℕ)
+      → n ≡ answer_status answer → OnOk answer (WritesReplayed given before after old new)
+      → (answer ≡ Err faults.Write → WritesReplayedFront given before after old new)
+      → IfErr answer (IsReplayFault given before after) → IfErr answer (λ fault. UnlessWrite fault (new ≡ old))
+      → EndsOver given before after old new n
+  status_told before after old new (Ok x) n is written front fault nothing = done is written
+  status_told before after old new (Err why) n is written front fault nothing =
+      refused why fault (leaves_writer before after old new why nothing (λ same. front (ap (λ (f : ReplayFault). Err f) same))) is
 
 -- a store in memory, fresh or not
 abbrev pub memory_store : Bool → Given Content
 memory_store fresh = record { is_honest = λ store. true; fault_count = λ store. 0; fresh = fresh; before = 0 }
 
--- the status of what a replay over a fresh store answers
-pub status_told : {X : Type 0} (fresh : Bool) (before after : Reader) (old new : Writer) (answer : Result X ReplayFault) (n : ℕ) → fresh ≡ true
-    → n ≡ answer_status answer → OnOk answer (WritesReplayed (memory_store fresh) before after old new)
-    → (answer ≡ Err faults.Write → WritesReplayedFront (memory_store fresh) before after old new)
-    → IfErr answer (IsReplayFault (memory_store fresh) before after) → IfErr answer (λ fault. UnlessWrite fault (new ≡ old))
-    → IsRunStatus before after old new n
-status_told true before after old new (Ok x) n e is written front fault nothing = done is written
-status_told true before after old new (Err why) n e is written front fault nothing =
-    refused why fault (leaves_writer before after old new why nothing (λ same. front (ap (λ (f : ReplayFault). Err f) same))) is
-status_told false before after old new answer n e is written front fault nothing = absurd cc
+-- a fresh one is the program's
+pub in_memory_told : (fresh : Bool) (before after : Reader) (old new : Writer) (n : ℕ) → fresh ≡ true
+    → EndsOver (memory_store fresh) before after old new n → EndsOver in_memory before after old new n
+in_memory_told fresh before after old new n e ends = subst (λ (b : Bool). EndsOver (memory_store b) before after old new n) e ends
+
+refused_is_not_opened : {S : Type 0} (store : S) (why : SqlOpenError) → Ok store ≡ Err why → ⊥
+refused_is_not_opened store why e = cc
+
+-- the status over the store that an opening answers
+pub file_told : {S : Type 0} (files : Ghosts S) (path : Text) (before after : Reader) (old new : Writer) (n : ℕ) (answer : Result S SqlOpenError)
+    → (path ≡ codes ":memory:" → answer ≡ Err Device) → IfOk answer (λ store. files.fault_count store ≡ 0)
+    → IfOk answer (λ store. EndsOver (given_of files store) before after old new n)
+    → IfErr answer (λ e. n ≡ 5) → IfErr answer (λ e. after ≡ before) → IfErr answer (λ e. new ≡ old)
+    → EndsInFile files path before after old new n
+file_told files path before after old new n (Ok store) memory faultless ends status unread unwritten =
+    opened (λ same. refused_is_not_opened store Device (memory same)) store faultless ends
+file_told files path before after old new n (Err why) memory faultless ends status unread unwritten = unopened status unread unwritten
+
+module _ {S : Type 0} (files : Ghosts S) (before after : Reader) (old new : Writer) (n : ℕ) where
+  -- how a replay ends where no file is named, and where one is
+  pub ends_in_memory : (command : Command) (store : Option (Bor Text)) → store ≡ None → EndsOver in_memory before after old new n
+      → Ends files command (option_map (λ (s : Bor Text). s.now) store) before after old new n
+  ends_in_memory Replay store none ends =
+      subst (λ (o : Option (Bor Text)). Ends files Replay (option_map (λ (s : Bor Text). s.now) o) before after old new n) (sym none) ends
+
+  pub ends_in_file : (command : Command) (store : Option (Bor Text)) (path : Bor Text) → store ≡ Some path
+      → EndsInFile files path.now before after old new n → Ends files command (option_map (λ (s : Bor Text). s.now) store) before after old new n
+  ends_in_file Replay store path some ends =
+      subst (λ (o : Option (Bor Text)). Ends files Replay (option_map (λ (s : Bor Text). s.now) o) before after old new n) (sym some) ends
+
+-- what is told of words is told of the same words
+pub told_of_same : {S : Type 0} (files : Ghosts S) (u v : List Text) (before after : Reader) (old new : Writer) (n : ℕ) → u ≡ v
+    → (words_fault u ≡ [] → IsRunStatus files u before after old new n) → words_fault v ≡ [] → IsRunStatus files v before after old new n
+told_of_same files u v before after old new n same told =
+    subst (λ (ws : List Text). words_fault ws ≡ [] → IsRunStatus files ws before after old new n) same told

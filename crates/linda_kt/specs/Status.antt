@@ -1,6 +1,8 @@
 -- How a run ends.
-use Rattle.std.specs.Prelude.{◌≡◌, ◌⊎◌, ℕ, Bool, true, Result, Ok, Err}
+use Rattle.std.specs.Prelude.{◌≡◌, ◌≢◌, ◌⊎◌, ℕ, Bool, true, List, Result, Ok, Err, Option, None, Some, codes}
+use Rattle.clap.specs.Words.{Text}
 use Rattle.kt_store.specs.Content.{Content}
+use Rattle.kt_store.specs.declared.store.CkptStore.{Ghosts}
 use Rattle.kt_world.specs.declared.step.StepError.{StepError}
 use Rattle.kt_world.specs.declared.step.StepError.TheVariants as step
 use Rattle.kt_core.specs.declared.world.OpenError.{OpenError}
@@ -8,9 +10,12 @@ use Rattle.kt_core.specs.declared.world.OpenError.TheVariants as opens
 use Rattle.kt_scene.specs.declared.fault.SceneError.{SceneError}
 use Rattle.kt_scene.specs.declared.fault.SceneError.TheVariants as scene
 use Rattle.kt_scene.specs.Outside.{Reader, Writer}
-use Rattle.kt_scene.specs.Run.{Given, WritesReplayed, IsReplayFault, LeavesWriter}
+use Rattle.kt_scene.specs.Run.{Given, given_by, WritesReplayed, IsReplayFault, LeavesWriter}
 use Rattle.kt_scene.specs.declared.fault.ReplayFault.{ReplayFault}
 use Rattle.kt_scene.specs.declared.fault.ReplayFault.TheVariants.{Scene, Step, Open, Report, Memory, Read, Write}
+use Rattle.linda_kt.specs.declared.words.Command.{Command}
+use Rattle.linda_kt.specs.declared.words.Command.TheVariants.{Replay}
+use Rattle.linda_kt.specs.Words.{name_of, asked_by}
 
 -- 3 for a fault of the scenario, but 6 where memory ran out
 abbrev pub scene_status : SceneError → ℕ
@@ -50,15 +55,39 @@ answer_status (Err fault) = status_of fault
 abbrev pub IsWordsStatus : ℕ → Type 0
 IsWordsStatus n = (n ≡ 0) ⊎ ((n ≡ 2) ⊎ ((n ≡ 6) ⊎ (n ≡ 7)))
 
--- the store of the program is in memory, with nothing stored on it: it is always honest, and its device never fails
+-- a store in memory with nothing stored on it: it is always honest, and its device never fails
 abbrev pub in_memory : Given Content
 in_memory = record { is_honest = λ store. true; fault_count = λ store. 0; fresh = true; before = 0 }
 
--- the exit status of a command: that of what a replay over a fresh store answers here, which is 0 where what was read
--- was replayed and its report written, and else that of the fault, before which nothing is written, or of the writer's
--- a front of the report; or 6, with nothing read and nothing written, where memory ran out before the command was known
-pub data IsRunStatus (before after : Reader) (old new : Writer) (n : ℕ) : Type 0 where
-  done : n ≡ 0 → WritesReplayed in_memory before after old new → IsRunStatus before after old new n
-  refused : (fault : ReplayFault) → IsReplayFault in_memory before after fault
-      → LeavesWriter in_memory before after old new fault → n ≡ status_of fault → IsRunStatus before after old new n
-  unread : n ≡ 6 → after ≡ before → new ≡ old → IsRunStatus before after old new n
+-- how a replay over a store ends: with 0 where what was read was replayed and its report written, and else with the
+-- status of the fault, before which nothing is written, or of the writer's a front of the report
+pub data EndsOver {S : Type 0} (given : Given S) (before after : Reader) (old new : Writer) (n : ℕ) : Type 0 where
+  done : n ≡ 0 → WritesReplayed given before after old new → EndsOver given before after old new n
+  refused : (fault : ReplayFault) → IsReplayFault given before after fault
+      → LeavesWriter given before after old new fault → n ≡ status_of fault → EndsOver given before after old new n
+
+-- what stores of a kind say of one that a replay is given
+abbrev pub given_of : {S : Type 0} → Ghosts S → S → Given S
+given_of kind store = given_by kind.content kind.is_honest kind.fault_count store
+
+-- how a replay over the store in a file ends: as one over the store that was opened there, of whose device no fault was
+-- counted yet; or with 5, nothing read and nothing written, where none was opened. `:memory:` names no file.
+pub data EndsInFile {S : Type 0} (files : Ghosts S) (path : Text) (before after : Reader) (old new : Writer) (n : ℕ)
+    : Type 0 where
+  opened : path ≢ codes ":memory:" → (store : S) → files.fault_count store ≡ 0
+      → EndsOver (given_of files store) before after old new n → EndsInFile files path before after old new n
+  unopened : n ≡ 5 → after ≡ before → new ≡ old → EndsInFile files path before after old new n
+
+-- how a command ends, by the file that is named for its store, or none
+abbrev pub Ends : {S : Type 0} → Ghosts S → Command → Option Text → (before after : Reader) (old new : Writer) → ℕ
+    → Type 0
+Ends files Replay None before after old new n = EndsOver in_memory before after old new n
+Ends files Replay (Some path) before after old new n = EndsInFile files path before after old new n
+
+-- the exit status of words without a fault: that of the command that they name over the store that they name; or 6,
+-- with nothing read and nothing written, where memory ran out before the command was known
+pub data IsRunStatus {S : Type 0} (files : Ghosts S) (words : List Text) (before after : Reader) (old new : Writer)
+    (n : ℕ) : Type 0 where
+  did : (command : Command) (file : Option Text) → asked_by words ≡ Some (name_of command, file)
+      → Ends files command file before after old new n → IsRunStatus files words before after old new n
+  unread : n ≡ 6 → after ≡ before → new ≡ old → IsRunStatus files words before after old new n

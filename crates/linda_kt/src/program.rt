@@ -1,16 +1,19 @@
 //! What the program does with its words and its three streams.
-ghost use Rattle.std.specs.Prelude.{◌≡◌, ◌≢◌, ◌⊎◌, [], IsOk, IsErr, IfOk};
+ghost use Rattle.std.specs.Prelude.{◌≡◌, ◌≢◌, ◌⊎◌, [], IsOk, IsErr, IfOk, IfErr, option_map};
 ghost use Rattle.std.specs.Vec.Iter.{into_iter_items};
 ghost use Rattle.clap.specs.Words.{kind_of};
 ghost use Rattle.clap.specs.declared.error.kind.ErrorKind.TheVariants as kind;
-ghost use Rattle.linda_kt.specs.Status.{IsRunStatus, IsWordsStatus, answer_status, status_of};
+ghost use Rattle.linda_kt.specs.Status.{Ends, EndsInFile, EndsOver, IsRunStatus, IsWordsStatus, answer_status};
+ghost use Rattle.linda_kt.specs.Status.{given_of, in_memory, status_of};
 ghost use Rattle.linda_kt.specs.Words.{AreWrong, texts, words_behind, words_fault};
 
-use crate::words::{Command, read_words, refuse_bytes};
+use crate::words::{Command, Request, read_words, refuse_bytes};
 use clap::Error;
 use clap::error::ErrorKind;
 use kt_scene::{OpenError, Outcome, ReplayFault, SceneError, Sink, Source, StepError, replay};
-use kt_store::MemStore;
+use kt_sql::{SqlOpenError, SqlStore};
+use kt_store::{CkptStore, MemStore};
+use sqlite::{Alter, File, FileStore};
 use std::alloc::{AllocError, Global};
 use std::env::Args;
 use std::io;
@@ -24,7 +27,7 @@ const COMMAND_LINE: u8 = 2;
 const SCENARIO: u8 = 3;
 /// A step is not enabled.
 const STEP: u8 = 4;
-/// The store is not fresh or refused a call.
+/// The store was not opened, is not fresh or refused a call.
 const STORE: u8 = 5;
 /// Memory was refused.
 const MEMORY: u8 = 6;
@@ -36,7 +39,7 @@ const STEP_LIMIT: u8 = 8;
 /// Runs the program on the arguments of its process, of which the first is its name. Arguments that
 /// are not text are wrong words.
 pub fn run_arguments<R: Read, W: Write, E: Write>(
-    alloc: Global,
+    rt: &HostRuntime,
     arguments: io::Result<Args>,
     reader: &mut Source<R>,
     writer: &mut Sink<W>,
@@ -46,11 +49,13 @@ pub fn run_arguments<R: Read, W: Write, E: Write>(
     ensures no_text_reads_nothing { IsErr arguments → reader.new ≡ reader.old }
     ensures no_text_prints_nothing { IsErr arguments → writer.new ≡ writer.old }
     ensures told { IfOk arguments (λ a. words_fault (words_behind (into_iter_items a)) ≡ []
-        → IsRunStatus reader.old reader.new writer.old writer.new result) }
+        → IsRunStatus ⟦<SqlStore<FileStore<File>> as CkptStore>⟧ (words_behind (into_iter_items a))
+        reader.old reader.new writer.old writer.new result) }
     ensures wrong_words { IfOk arguments (λ a. AreWrong (words_behind (into_iter_items a))
         → (result ≡ COMMAND_LINE) ⊎ (result ≡ MEMORY)) }
     ensures done_without_a_word { result ≡ DONE → errors.new ≡ errors.old }
 {
+    let alloc = rt.alloc();
     let texts = match arguments {
         Ok(arguments) => texts_of(alloc, arguments),
         Err(error) if error.kind() == io::ErrorKind::OutOfMemory => {
@@ -59,7 +64,7 @@ pub fn run_arguments<R: Read, W: Write, E: Write>(
         Err(_) => return answer_words(&refuse_bytes(alloc), writer, errors),
     };
     match texts {
-        Ok(texts) => run_texts(alloc, &texts, reader, writer, errors),
+        Ok(texts) => run_texts(rt, &texts, reader, writer, errors),
         Err(AllocError) => end_by("memory", MEMORY, errors),
     }
 }
@@ -73,19 +78,20 @@ fn texts_of(alloc: Global, arguments: Args) -> Result<Vec<String>, AllocError>
 
 /// Runs the program on these texts, of which the first is its name.
 fn run_texts<R: Read, W: Write, E: Write>(
-    alloc: Global,
+    rt: &HostRuntime,
     arguments: &[String],
     reader: &mut Source<R>,
     writer: &mut Sink<W>,
     errors: &mut E,
 ) -> u8
     ensures told { words_fault (words_behind arguments.now) ≡ []
-        → IsRunStatus reader.old reader.new writer.old writer.new result }
+        → IsRunStatus ⟦<SqlStore<FileStore<File>> as CkptStore>⟧ (words_behind arguments.now)
+        reader.old reader.new writer.old writer.new result }
     ensures wrong_words { AreWrong (words_behind arguments.now) → (result ≡ COMMAND_LINE) ⊎ (result ≡ MEMORY) }
     ensures done_without_a_word { result ≡ DONE → errors.new ≡ errors.old }
 {
-    match words_behind(alloc, arguments) {
-        Ok(words) => run_program(alloc, words.as_slice(), reader, writer, errors),
+    match words_behind(rt.alloc(), arguments) {
+        Ok(words) => run_program(rt, words.as_slice(), reader, writer, errors),
         Err(AllocError) => end_by("memory", MEMORY, errors),
     }
 }
@@ -106,14 +112,15 @@ fn words_behind<'a>(alloc: Global, arguments: &'a [String]) -> Result<Vec<&'a st
 /// Does what the words ask, which are those after the program's name, and answers the exit status.
 /// A fault is one line on `errors`; of wrong words it is the text of `clap`.
 pub fn run_program<R: Read, W: Write, E: Write>(
-    alloc: Global,
+    rt: &HostRuntime,
     words: &[&str],
     reader: &mut Source<R>,
     writer: &mut Sink<W>,
     errors: &mut E,
 ) -> u8
     ensures told { words_fault (texts words.now) ≡ []
-        → IsRunStatus reader.old reader.new writer.old writer.new result }
+        → IsRunStatus ⟦<SqlStore<FileStore<File>> as CkptStore>⟧ (texts words.now)
+        reader.old reader.new writer.old writer.new result }
     ensures done_without_a_word { result ≡ DONE → errors.new ≡ errors.old }
     ensures wrong_words { AreWrong (texts words.now)
         → (result ≡ COMMAND_LINE) ⊎ (result ≡ MEMORY) }
@@ -122,12 +129,100 @@ pub fn run_program<R: Read, W: Write, E: Write>(
     ensures no_command_reads_nothing { words_fault (texts words.now) ≢ []
         → reader.new ≡ reader.old }
 {
-    match read_words(alloc, words) {
-        Ok(Command::Replay) => {
-            let store = MemStore::new(alloc);
-            end_replay(replay(alloc, reader, writer, store), errors)
-        }
+    match read_words(rt.alloc(), words) {
+        Ok(request) => run_request(rt, request, reader, writer, errors),
         Err(error) => answer_words(&error, writer, errors),
+    }
+}
+
+/// Does what is asked, over a store in memory or in the file that is named.
+fn run_request<R: Read, W: Write, E: Write>(
+    rt: &HostRuntime,
+    request: Request<'_>,
+    reader: &mut Source<R>,
+    writer: &mut Sink<W>,
+    errors: &mut E,
+) -> u8
+    ensures told { Ends ⟦<SqlStore<FileStore<File>> as CkptStore>⟧ request.entry.command
+        (option_map (λ s. s.now) request.entry.store) reader.old reader.new writer.old writer.new result }
+    ensures done_without_a_word { result ≡ DONE → errors.new ≡ errors.old }
+{
+    match (request.command, request.store) {
+        (Command::Replay, None) => replay_in_memory(rt.alloc(), reader, writer, errors),
+        (Command::Replay, Some(path)) => replay_in(rt, path, reader, writer, errors),
+    }
+}
+
+/// Replays over a store in memory, which is fresh.
+fn replay_in_memory<R: Read, W: Write, E: Write>(
+    alloc: Global,
+    reader: &mut Source<R>,
+    writer: &mut Sink<W>,
+    errors: &mut E,
+) -> u8
+    ensures told { EndsOver in_memory reader.old reader.new writer.old writer.new result }
+    ensures done_without_a_word { result ≡ DONE → errors.new ≡ errors.old }
+{
+    replay_over(alloc, MemStore::new(alloc), reader, writer, errors)
+}
+
+/// Replays over the store in the file, which is opened before anything is read.
+fn replay_in<R: Read, W: Write, E: Write>(
+    rt: &HostRuntime,
+    path: &str,
+    reader: &mut Source<R>,
+    writer: &mut Sink<W>,
+    errors: &mut E,
+) -> u8
+    ensures told { EndsInFile ⟦<SqlStore<FileStore<File>> as CkptStore>⟧ path.now
+        reader.old reader.new writer.old writer.new result }
+    ensures done_without_a_word { result ≡ DONE → errors.new ≡ errors.old }
+{
+    let opened = SqlStore::open(rt, path);
+    replay_opened(rt.alloc(), opened, reader, writer, errors)
+}
+
+/// Replays over the store in SQL that was opened. Where it was not, nothing is read.
+fn replay_opened<R: Read, W: Write, E: Write, S: Alter + Drop>(
+    alloc: Global,
+    opened: Result<SqlStore<S>, SqlOpenError>,
+    reader: &mut Source<R>,
+    writer: &mut Sink<W>,
+    errors: &mut E,
+) -> u8
+    ensures told { IfOk opened (λ store. EndsOver (given_of ⟦<SqlStore<S> as CkptStore>⟧ store)
+        reader.old reader.new writer.old writer.new result) }
+    ensures unopened { IfErr opened (λ error. result ≡ STORE) }
+    ensures unread { IfErr opened (λ error. reader.new ≡ reader.old) }
+    ensures unwritten { IfErr opened (λ error. writer.new ≡ writer.old) }
+    ensures done_without_a_word { result ≡ DONE → errors.new ≡ errors.old }
+{
+    match opened {
+        Ok(store) => replay_over(alloc, store, reader, writer, errors),
+        Err(error) => end_by(opening_fault(error), STORE, errors),
+    }
+}
+
+/// Replays over the store.
+fn replay_over<R: Read, W: Write, E: Write, S: CkptStore + Drop>(
+    alloc: Global,
+    store: S,
+    reader: &mut Source<R>,
+    writer: &mut Sink<W>,
+    errors: &mut E,
+) -> u8
+    ensures told { EndsOver (given_of S.CkptStore store) reader.old reader.new writer.old writer.new result }
+    ensures done_without_a_word { result ≡ DONE → errors.new ≡ errors.old }
+{
+    end_replay(replay(alloc, reader, writer, store), errors)
+}
+
+/// The line that tells why a store was not opened.
+fn opening_fault(error: SqlOpenError) -> &'static str {
+    match error {
+        SqlOpenError::Memory => "store: Memory",
+        SqlOpenError::Device => "store: Device",
+        SqlOpenError::Damaged => "store: Damaged",
     }
 }
 
@@ -192,10 +287,10 @@ fn status_of(fault: ReplayFault) -> u8
     }
 }
 
-/// Writes a fault that is one word, and answers `status`.
-fn end_by<E: Write>(word: &str, status: u8, errors: &mut E) -> u8
+/// Writes the line of a fault, and answers `status`.
+fn end_by<E: Write>(line: &str, status: u8, errors: &mut E) -> u8
     ensures { result ≡ status }
 {
-    let _ = writeln!(errors, "{word}");
+    let _ = writeln!(errors, "{line}");
     status
 }

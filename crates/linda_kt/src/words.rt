@@ -1,10 +1,11 @@
 //! The words of the command line.
-ghost use Rattle.std.specs.Prelude.{◌≡◌, ◌⊎◌, IfOk, IfSome};
-ghost use Rattle.clap.specs.Words.{app_of, FailsBy, kind_of};
-ghost use Rattle.linda_kt.specs.Words.{command_line_app, name_of, named_command, program_app, texts, words_fault};
+ghost use Rattle.std.specs.Prelude.{◌≡◌, ◌⊎◌, false, IfOk, IfSome, Some};
+ghost use Rattle.clap.specs.Words.{app_of, FailsBy, kind_of, rule_of};
+ghost use Rattle.linda_kt.specs.Words.{asked, asked_by, command_line_app, name_of, program_app, store_rule};
+ghost use Rattle.linda_kt.specs.Words.{texts, words_fault};
 
-use clap::Error;
 use clap::error::ErrorKind;
+use clap::{Arg, Error};
 use std::alloc::{AllocError, Global};
 
 /// What the program is asked to do.
@@ -12,6 +13,14 @@ use std::alloc::{AllocError, Global};
 pub enum Command {
     /// Make the steps of a scenario and write the report.
     Replay,
+}
+
+/// A command, and the file that it is to keep its store in.
+#[derive(Clone, Copy, Debug, PartialEq, Eq)]
+pub struct Request<'a> {
+    pub command: Command,
+    /// None for a store in memory.
+    pub store: Option<&'a str>,
 }
 
 impl Command {
@@ -27,16 +36,18 @@ impl Command {
     }
 }
 
-/// The command that the words name, which are those after the program's name. Any other words are
-/// an error of `clap`, whose text is for the user.
-pub fn read_words<'a>(alloc: Global, words: &'a [&'a str]) -> Result<Command, Error>
-    ensures command { IfOk result (λ c. named_command (texts words.entry.now) ≡ Some (name_of c)) }
+/// The command that the words name, and the file of its store; the words are those after the program's
+/// name. Any other words are an error of `clap`, whose text is for the user.
+pub fn read_words<'a>(alloc: Global, words: &'a [&'a str]) -> Result<Request<'a>, Error>
+    ensures command { IfOk result (λ r. asked_by (texts words.entry.now) ≡ Some (asked r)) }
     ensures refused { FailsBy (words_fault (texts words.entry.now)) result }
 {
     let matches = command_line(alloc)?.try_get_matches_from(words)?;
     // Words that pass have one of the names.
-    let name = matches.subcommand_name().unwrap();
-    Ok(Command::of_name(name).unwrap())
+    let (name, options) = matches.subcommand().unwrap();
+    let command = Command::of_name(name).unwrap();
+    let store = options.get_str("store");
+    Ok(Request { command, store })
 }
 
 /// The grammar of the command line: one subcommand, which must be there.
@@ -46,12 +57,24 @@ fn command_line<'a>(alloc: Global) -> Result<clap::Command<'a>, AllocError>
     let replay = clap::Command::new(alloc, "replay").about(
         "Makes the steps of the scenario on standard input and writes the report to standard output",
     );
+    let replay = replay.arg(store_option(alloc))?;
     described(alloc)
         .bin_name("linda_kt")?
         .no_binary_name(true)
         .subcommand_required(true)
         .disable_help_subcommand(true)
         .subcommand(replay)
+}
+
+/// `--store FILE`.
+fn store_option<'a>(alloc: Global) -> Arg<'a>
+    ensures rule { rule_of result ≡ store_rule }
+    ensures local { result.global ≡ false }
+{
+    Arg::new(alloc, "store")
+        .long("store")
+        .value_name("FILE")
+        .help("Keeps the checkpoints in FILE, which is absent, empty or a fresh store")
 }
 
 /// The program's name, what it is, and its version.

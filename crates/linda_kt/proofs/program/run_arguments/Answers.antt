@@ -1,14 +1,15 @@
 use Rattle.std.proofs.Common.{◌≡◌, ◌∙◌, refl, sym, ap, subst}
 use Rattle.std.specs.Vec.Iter.{into_iter_items}
-use Rattle.linda_kt.specs.Words.{AreWrong, words_behind, words_fault}
+use Rattle.linda_kt.specs.Words.{AreWrong, words_behind}
 use Rattle.linda_kt.specs.Status.{unread}
+use Rattle.linda_kt.proofs.Statuses.{told_of_same}
 use Rattle.linda_kt.proofs.program.run_arguments.Goals as goal
 
 pub returns-in-Ok-texts-clause-told : goal.returns-in-Ok-texts-clause-told
 returns-in-Ok-texts-clause-told g c =
     let same : words_behind c.deref.result.now ≡ words_behind (into_iter_items c.in-Ok.arguments) =
     ap words_behind (c.deref.ensures.value ∙ c.in-Ok-texts.ensures) in
-    rw c.in-Ok.is (λ none. c.run_texts.ensures.told (ap words_fault same ∙ none))
+    rw c.in-Ok.is (told_of_same _ _ _ _ _ _ _ _ same c.run_texts.ensures.told)
 
 pub returns-in-Ok-texts-clause-wrong_words : goal.returns-in-Ok-texts-clause-wrong_words
 returns-in-Ok-texts-clause-wrong_words g c =
