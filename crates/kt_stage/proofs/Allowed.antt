@@ -1,6 +1,6 @@
 -- What the policy gives is a step of the node itself, and allowed.
 use Rattle.std.proofs.Common.{◌≡◌, ℕ, suc, ◌+◌, ◌-◌, ◌*◌, length, Bool, true, false, List, [], ◌∷◌, Result, Ok, Err, refl, sym, ap, subst, ◌∙◌}
-use Rattle.std.specs.Prelude.{Option, None, Some, cond, is_some, not, ◌&&◌, if◌then◌else◌, slice_get, unwrap_or, IfSome, IsTrue}
+use Rattle.std.specs.Prelude.{Option, None, Some, cond, is_some, not, ◌&&◌, ◌||◌, if◌then◌else◌, slice_get, unwrap_or, IfOk, IfSome, IsTrue}
 use Rattle.std.specs.List.{find}
 use Rattle.std.specs.Option.{option_map}
 use Rattle.std.proofs.lemmas.Bool.{and_parts}
@@ -13,6 +13,7 @@ use Rattle.kt_ckpt.specs.declared.state.State.TheVariants as states
 use Rattle.kt_store.specs.declared.rows.Verdict.{Verdict}
 use Rattle.kt_store.specs.declared.rows.Verdict.TheVariants as verdicts
 use Rattle.kt_store.specs.Content.{Content, verdict_of}
+use Rattle.kt_store.specs.declared.error.StoreError.{StoreError}
 use Rattle.kt_link.specs.Network.{entry_at}
 use Rattle.kt_vote.specs.declared.asker.Asker.{Asker}
 use Rattle.kt_vote.specs.Poll.{Poll}
@@ -41,7 +42,7 @@ use Rattle.kt_world.specs.declared.step.Step.{Step}
 use Rattle.kt_world.specs.declared.step.Step.TheVariants.{Issue, Repeat, Deliver, Take, Serve, Check, Decide, Abandon}
 use Rattle.kt_world.specs.declared.step.Step.TheVariants.{Learn, Fail, Restart}
 use Rattle.kt_world.specs.declared.told.Told.{Told}
-use Rattle.kt_world.specs.Cast.{are_neighbours, is_among, is_node}
+use Rattle.kt_world.specs.Cast.{Cast, are_neighbours, is_among, is_in_scene, is_node, is_shard, is_worker}
 use Rattle.kt_world.specs.Judge.{delivery, hear, is_planned, of_owner, of_scene}
 use Rattle.kt_world.specs.Ready.{AreNeighbours}
 use Rattle.kt_world.specs.State.{State, link, node, view}
@@ -336,3 +337,63 @@ allowed-rule s lines p found rules.GivesUp x e = allowed-if s _ (Abandon p) x e
 
 pub next-allowed : (s : State) (lines : List FaultLine) (p : NodeId) (x : Step) → is_some (node s p) ≡ is_node s.cast p → next_step s lines p ≡ Some x → is_allowed s x ≡ true
 next-allowed s lines p x found e = first-of (by_rule s lines p) policy x (is_allowed s x ≡ true) (λ rule. allowed-rule s lines p found rule x) e
+
+-- ---- a node that is not in the scene has no next step
+
+in-there : (there : Bool) (r : Planned) → is_planned (of_scene there r) ≡ true → there ≡ true
+in-there true r e = refl
+in-there false r e = absurd cc
+
+-- the one who hears is a node of the scene, on whichever side it stands
+hearer : (a b c d : Bool) → (a && b || c && d) ≡ true → (d || b) ≡ true
+hearer a b c true e = refl
+hearer a true c false e = refl
+hearer true false true false e = absurd cc
+hearer true false false false e = absurd cc
+hearer false false true false e = absurd cc
+hearer false false false false e = absurd cc
+
+of-worker : (a b : Bool) → a ≡ true → (a || b) ≡ true
+of-worker true b e = refl
+of-worker false b e = absurd cc
+
+of-shard : (a b : Bool) → b ≡ true → (a || b) ≡ true
+of-shard true b e = refl
+of-shard false b e = e
+
+owner-in-scene : (cast : Cast) (step : Step) → is_in_scene cast step ≡ true → is_node cast (owner step) ≡ true
+owner-in-scene cast (Issue p) e = of-worker (is_worker cast p) (is_shard cast p) e
+owner-in-scene cast (Repeat p) e = of-worker (is_worker cast p) (is_shard cast p) e
+owner-in-scene cast (Deliver p q) e = hearer (is_worker cast p) (is_shard cast q) (is_shard cast p) (is_worker cast q) e
+owner-in-scene cast (Serve p w place) e = of-shard (is_worker cast p) (is_shard cast p) (and_parts (is_shard cast p) (is_worker cast w) e).0
+owner-in-scene cast (Take p) e = e
+owner-in-scene cast (Check p) e = e
+owner-in-scene cast (Decide p) e = e
+owner-in-scene cast (Abandon p) e = e
+owner-in-scene cast (Learn p) e = e
+owner-in-scene cast (Fail p) e = e
+owner-in-scene cast (Restart p) e = e
+
+pub next-none : (s : State) (lines : List FaultLine) (p : NodeId) → is_some (node s p) ≡ is_node s.cast p → is_some (node s p) ≡ false → next_step s lines p ≡ None
+next-none s lines p found none = by (next_step s lines p) refl
+  where
+    by : (o : Option Step) → next_step s lines p ≡ o → next_step s lines p ≡ None
+    by None e = e
+    by (Some x) e = absurd (
+      let there : is_node s.cast (owner x) ≡ true = owner-in-scene s.cast x (in-there (is_in_scene s.cast x) _ (next-allowed s lines p x found e)) in
+      let off : false ≡ true = sym none ∙ found ∙ ap (is_node s.cast) (sym (next-own s lines p x e)) ∙ there in
+      cc
+    )
+
+-- ---- what a node that is in the scene is given
+
+pub given-own : (s : State) (lines : List FaultLine) (p : NodeId) (r : Result (Option Step) StoreError) → IfOk r (λ x. x ≡ next_step s lines p) → IfOk r (λ x. IfSome x (λ step. owner step ≡ p))
+given-own s lines p (Ok None) is = tt
+given-own s lines p (Ok (Some x)) is = next-own s lines p x (sym is)
+given-own s lines p (Err e) is = tt
+
+pub given-allowed : (s : State) (lines : List FaultLine) (p : NodeId) (r : Result (Option Step) StoreError) → is_some (node s p) ≡ is_node s.cast p
+    → IfOk r (λ x. x ≡ next_step s lines p) → IfOk r (λ x. IfSome x (λ step. IsTrue (is_allowed s step)))
+given-allowed s lines p (Ok None) found is = tt
+given-allowed s lines p (Ok (Some x)) found is = next-allowed s lines p x found (sym is)
+given-allowed s lines p (Err e) found is = tt

@@ -1,12 +1,14 @@
 //! What lies under a stage's lock.
 
 ghost use Rattle.std.specs.Prelude.{◌≡◌, ◌++◌, ◌∷◌, [], length, true, vec_len, IfErr, IfOk, IsTrue, Ok, OnErr, OnOk};
+ghost use Rattle.kt_core.specs.Stepping.{IsCause};
 ghost use Rattle.kt_core.specs.World.{beside};
-ghost use Rattle.kt_stage.specs.Acting.{IsOthers};
+ghost use Rattle.kt_stage.specs.Acting.{IsActCause, IsOthers, RefusesAct, RefusesStep};
 ghost use Rattle.kt_stage.specs.Asking.{IsAsked};
 ghost use Rattle.kt_stage.specs.Journal.{Replays, are_owned, receipt};
 ghost use Rattle.kt_stage.specs.Policy.{next_step};
 ghost use Rattle.kt_world.specs.Effect.{step_result};
+ghost use Rattle.kt_world.specs.Judge.{planned};
 ghost use Rattle.kt_world.specs.Step.{owner};
 
 use crate::error::ActError;
@@ -40,6 +42,10 @@ impl<S: CkptStore> Journal<S> {
         ensures same { IsTrue self.new.world.is_honest → OnErr result (self.new.world.state ≡ self.old.world.state) }
         ensures beside { OnErr result (beside self.new.world.state ≡ beside self.old.world.state) }
         ensures honest { IsTrue self.new.world.is_honest → IsTrue self.old.world.is_honest }
+        ensures refusal { IsTrue self.new.world.is_honest
+            → IfErr result (λ e. RefusesStep e (planned self.old.world.state step)) }
+        ensures cause { IfErr result (IsCause self.old.world.faults self.new.world.faults self.new.world.is_honest
+            (planned self.old.world.state step)) }
     {
         if self.steps.reserve(1).is_err() {
             return Err(StepError::OutOfMemory);
@@ -66,7 +72,8 @@ impl<S: CkptStore, L: Naming> Desk<S, L> {
     }
 
     /// Makes the step of the seat's node, and gives the receipt that the seat keeps then. A refusal leaves the seat and
-    /// the journal: `NotOwner` comes only where the step is another node's.
+    /// the journal: `NotOwner` comes only where the step is another node's, and `Step` where the world refuses the step,
+    /// or memory runs out.
     pub fn act(
         &mut self,
         alloc: Global,
@@ -80,6 +87,10 @@ impl<S: CkptStore, L: Naming> Desk<S, L> {
             → OnOk result (step_result self.old.journal.world.state step ≡ Ok self.new.journal.world.state) }
         ensures node { seat.new.node ≡ seat.old.node }
         ensures not_owner { IfErr result (IsOthers seat.old.node step) }
+        ensures refusal { IsTrue self.new.journal.world.is_honest
+            → IfErr result (λ e. RefusesAct e (planned self.old.journal.world.state step)) }
+        ensures cause { IfErr result (IsActCause self.old.journal.world.faults self.new.journal.world.faults
+            self.new.journal.world.is_honest (planned self.old.journal.world.state step)) }
         ensures same_seat { OnErr result (seat.new.receipts ≡ seat.old.receipts) }
         ensures same_steps { OnErr result (self.new.journal.steps ≡ self.old.journal.steps) }
         ensures same { IsTrue self.new.journal.world.is_honest

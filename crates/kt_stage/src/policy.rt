@@ -1,7 +1,9 @@
 //! What a node does next of itself, while a scenario of fault lines is run.
 
-ghost use Rattle.std.specs.Prelude.{◌≡◌};
+ghost use Rattle.std.specs.Prelude.{◌≡◌, IfOk, IfSome, IsTrue};
 ghost use Rattle.std.specs.List.{list_all};
+ghost use Rattle.kt_core.specs.Lent.{is_allowed};
+ghost use Rattle.kt_world.specs.Step.{owner};
 ghost use Rattle.kt_stage.specs.Asking.{IsAsked};
 ghost use Rattle.kt_stage.specs.Policy.{asks, by_rule, checks, comes_back, fails, first_some, first_unfinished, gives_up, has_sent, hears};
 ghost use Rattle.kt_stage.specs.Policy.{if_unfinished, lets_restart, next_step, repeats, serves_with_first, tries_again};
@@ -261,16 +263,23 @@ fn first_by<S: CkptStore>(
 }
 
 /// The step that the first rule of the policy gives that applies to the node, where the fault lines are spent so;
-/// `None` where none applies. The store's refusal, where the store does not say what has to be known. The world stays.
+/// `None` where none applies, and for a node that is not in the scene. It is a step of the node itself, and enabled but
+/// for the limit of steps. The store's refusal, where the store does not say what has to be known. The world stays.
 pub fn next_for<S: CkptStore>(
     world: &mut World<S>,
     alloc: Global,
     faults: &Faults,
     node: NodeId,
 ) -> Result<Option<Step>, StoreError>
-    ensures { IsAsked world.old world.new (λ s x. x ≡ next_step s faults.now node) result }
+    ensures next { IsAsked world.old world.new (λ s x. x ≡ next_step s faults.now node) result }
+    ensures own { IsTrue world.new.is_honest → IfOk result (λ x. IfSome x (λ step. owner step ≡ node)) }
+    ensures allowed { IsTrue world.new.is_honest
+        → IfOk result (λ x. IfSome x (λ step. IsTrue (is_allowed world.old.state step))) }
 {
-    first_by(&POLICY, world, alloc, faults, node)
+    match world.mode(node) {
+        None => Ok(None),
+        Some(_) => first_by(&POLICY, world, alloc, faults, node),
+    }
 }
 
 /// The first of these nodes that has a next step.
