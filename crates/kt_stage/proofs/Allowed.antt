@@ -380,10 +380,10 @@ next-none s lines p found none = by (next_step s lines p) refl
     by : (o : Option Step) → next_step s lines p ≡ o → next_step s lines p ≡ None
     by None e = e
     by (Some x) e = absurd (
-      let there : is_node s.cast (owner x) ≡ true = owner-in-scene s.cast x (in-there (is_in_scene s.cast x) _ (next-allowed s lines p x found e)) in
-      let off : false ≡ true = sym none ∙ found ∙ ap (is_node s.cast) (sym (next-own s lines p x e)) ∙ there in
-      cc
-    )
+        let there : is_node s.cast (owner x) ≡ true = owner-in-scene s.cast x (in-there (is_in_scene s.cast x) _ (next-allowed s lines p x found e)) in
+        let off : false ≡ true = sym none ∙ found ∙ ap (is_node s.cast) (sym (next-own s lines p x e)) ∙ there in
+        cc
+        )
 
 -- ---- what a node that is in the scene is given
 

@@ -291,8 +291,8 @@ unfolding receipts_of
 receipts-append p number [] back = ap (λ (n : ℕ). receipts_of p n back) (let e : number ≡ number + 0 = omega arith in e)
 receipts-append p number (step ∷ front) back =
     ap (λ (xs : List Receipt). kept_of p number step ++ xs) (
-      receipts-append p (number + 1) front back
-      ∙ ap (λ (n : ℕ). receipts_of p (number + 1) front ++ receipts_of p n back) (let e : number + 1 + length front ≡ number + suc (length front) = omega arith in e)
+    receipts-append p (number + 1) front back
+    ∙ ap (λ (n : ℕ). receipts_of p (number + 1) front ++ receipts_of p n back) (let e : number + 1 + length front ≡ number + suc (length front) = omega arith in e)
     )
     ∙ sym (append_assoc (kept_of p number step) (receipts_of p (number + 1) front) (receipts_of p (number + suc (length front)) back))
 

@@ -21,14 +21,10 @@ use thiserror::Error;
 pub enum CloseError {
     /// A seat of this node keeps other receipts than those of the journal's steps of the node, or is a second one.
     #[error("Unmatched")]
-    Unmatched {
-        node: NodeId,
-    },
+    Unmatched { node: NodeId },
     /// There is no seat of this node.
     #[error("SeatMissing")]
-    SeatMissing {
-        node: NodeId,
-    },
+    SeatMissing { node: NodeId },
 }
 
 /// What the node keeps behind the receipt of this step; `None` where the step is its own and has another receipt.
@@ -83,11 +79,7 @@ fn is_matched<L: Naming>(node: NodeId, seats: &[Seat<L>], steps: &[Step]) -> boo
 }
 
 /// The first of these seats' nodes, in node order, that is not matched by all seats.
-fn first_unmatched<L: Naming>(
-    some: &[Seat<L>],
-    seats: &[Seat<L>],
-    steps: &[Step],
-) -> Option<NodeId>
+fn first_unmatched<L: Naming>(some: &[Seat<L>], seats: &[Seat<L>], steps: &[Step]) -> Option<NodeId>
     ensures { IsFirstUnmatched steps.now seats.now some.now result }
 {
     let (seat, later) = some.split_first()?;
@@ -110,11 +102,7 @@ fn first_missing<L: Naming>(nodes: &[NodeId], seats: &[Seat<L>]) -> Option<NodeI
 }
 
 /// Why a stage of these nodes is not closed. It takes no memory.
-fn refusal_of<L: Naming>(
-    nodes: &[NodeId],
-    seats: &[Seat<L>],
-    steps: &[Step],
-) -> Option<CloseError>
+fn refusal_of<L: Naming>(nodes: &[NodeId], seats: &[Seat<L>], steps: &[Step]) -> Option<CloseError>
     ensures { MatchOption result (IsClosed nodes.now steps.now seats.now) (IsCloseCause nodes.now steps.now seats.now) }
 {
     if let Some(node) = first_unmatched(seats, seats, steps) {

@@ -20,8 +20,8 @@ use std::alloc::{AllocError, Global};
 use std::marker::Brand;
 use std::sync::Wait;
 use std::sync::ledger::Blank;
-use std::thread::Threads;
 use std::thread;
+use std::thread::Threads;
 use thiserror::Error;
 
 /// Why a run did not come to its end.
@@ -32,10 +32,7 @@ pub enum RunFault {
     Open(OpenError),
     /// A step was refused. Counted from 1, `at` is the place in the journal that it would have had.
     #[error("Step")]
-    Step {
-        at: u64,
-        cause: StepError,
-    },
+    Step { at: u64, cause: StepError },
     /// The seats do not fit the journal.
     #[error("Close")]
     Close(CloseError),
@@ -44,9 +41,7 @@ pub enum RunFault {
     Memory,
     /// The run has ended, and this node has a next step.
     #[error("Unfinished")]
-    Unfinished {
-        node: NodeId,
-    },
+    Unfinished { node: NodeId },
 }
 
 /// What a node has in a run: its seat, and the fault lines, of which it alone looks at its own, and spends them.
@@ -121,9 +116,11 @@ fn play<R: Wait, S: CkptStore, L: Naming>(
             Ok(Turn::Made) => stage.moved.notify_all(),
             Ok(Turn::Idle) if floor.idle < stage.nodes.len() => {
                 let seen = floor.desk.journal.steps.len();
-                drop(stage.moved.wait_while(rt, floor, |floor| {
-                    !floor.is_over && floor.desk.journal.steps.len() == seen
-                }));
+                drop(
+                    stage.moved.wait_while(rt, floor, |floor| {
+                        !floor.is_over && floor.desk.journal.steps.len() == seen
+                    }),
+                );
             }
             ended => {
                 floor.is_over = true;
@@ -176,8 +173,7 @@ where
     thread::scope(
         thread::scope_env(),
         rt,
-        move |scope| -> Result<Vec<Seat<L>>, RunFault>
-        {
+        move |scope| -> Result<Vec<Seat<L>>, RunFault> {
             let mut seats = Vec::new(alloc);
             let mut handles = Vec::new(alloc);
             let mut ended = Ok(());
@@ -225,7 +221,9 @@ where
     let (stage, seats) = Stage::<S, L>::open(alloc, world, blank).map_err(|_| RunFault::Memory)?;
     let players = players_of(alloc, seats, faults).map_err(|_| RunFault::Memory)?;
     let seats = perform(rt, alloc, &stage, players)?;
-    stage.close(seats).map_err(|(cause, _)| RunFault::Close(cause))
+    stage
+        .close(seats)
+        .map_err(|(cause, _)| RunFault::Close(cause))
 }
 
 /// Runs the scene: a thread for each node, each by the policy with these fault lines, until no node has a next step. Every

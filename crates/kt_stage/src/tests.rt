@@ -1,10 +1,10 @@
-//! A receipt that is altered, which no caller can do.
+//! A receipt that is altered, which no caller can do; and a run over a store in memory.
 
 ghost use Rattle.std.specs.Prelude.{◌≡◌, length};
 ghost use Rattle.kt_stage.specs.Order.{nodes_of};
 
-use crate::{CloseError, Naming, Stage, node_count};
-use kt_core::{Scene, Script, Step, World};
+use crate::{CloseError, Naming, Stage, node_count, run_threads};
+use kt_core::{Faults, Scene, Script, Step, World};
 use kt_store::MemStore;
 use kt_tuple::NodeId;
 use std::alloc::Global;
@@ -17,12 +17,10 @@ use std::test::Fail;
 const W1: NodeId = NodeId::Worker(1);
 
 /// A worker with nothing to ask, and a shard.
-fn opened(alloc: Global) -> Result<World<MemStore>, Fail> {
+fn scene(alloc: Global) -> Result<Scene, Fail> {
     let mut scripts = Vec::new(alloc);
     scripts.push(Script::new(alloc))?;
-    let scene = Scene::new(1, scripts).ok_or("a scene")?;
-    let world = World::open(alloc, scene, MemStore::new(alloc)).ok();
-    Ok(world.ok_or("a world")?)
+    Ok(Scene::new(1, scripts).ok_or("a scene")?)
 }
 
 /// The worker makes a step, and its receipt then names another place.
@@ -51,7 +49,18 @@ fn close_altered<R: Wait + Abort, L: Naming>(
 #[test]
 fn an_altered_receipt(rt: HostRuntime) -> Result<(), Fail> {
     let alloc = rt.alloc();
-    let world = opened(alloc)?;
+    let world = World::open(alloc, scene(alloc)?, MemStore::new(alloc));
+    let world = world.ok().ok_or("a world")?;
     let blank = Blank::new(node_count(&world));
     close_altered::<HostRuntime, Brand>(&rt, alloc, world, blank)
+}
+
+#[test]
+fn a_run_with_nothing_to_do(rt: HostRuntime) -> Result<(), Fail> {
+    let alloc = rt.alloc();
+    let faults = Faults::new(alloc);
+    let run = run_threads(&rt, alloc, scene(alloc)?, faults, MemStore::new(alloc));
+    let journal = run.ok().ok_or("a run")?;
+    assert!(rt; journal.steps().is_empty());
+    Ok(())
 }

@@ -101,9 +101,9 @@ pub(crate) fn make_all(alloc: Global, world: &mut Game, steps: &[Step]) -> Resul
     Ok(())
 }
 
-/// Makes the steps of these lines.
-pub(crate) fn make_lines(alloc: Global, world: &mut Game, lines: &[&str]) -> Result<(), Fail> {
-    for line in lines {
+/// Makes the steps of this text, which has commas between them.
+pub(crate) fn make_lines(alloc: Global, world: &mut Game, lines: &str) -> Result<(), Fail> {
+    for line in lines.split(", ").filter(|line| !line.is_empty()) {
         world.step(alloc, step(line)?).ok().ok_or("a step")?;
     }
     Ok(())
@@ -111,6 +111,8 @@ pub(crate) fn make_lines(alloc: Global, world: &mut Game, lines: &[&str]) -> Res
 
 pub(crate) fn report(alloc: Global, world: &mut Game) -> Result<Vec<u8>, Fail> {
     let mut sink = Sink::new(Vec::new(alloc));
-    write_report(alloc, world, &mut sink).ok().ok_or("a report")?;
+    write_report(alloc, world, &mut sink)
+        .ok()
+        .ok_or("a report")?;
     Ok(sink.into_inner())
 }

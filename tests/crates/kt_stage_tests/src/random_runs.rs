@@ -16,7 +16,11 @@ fn random_faults(alloc: Global, seed: u64) -> Result<Faults, Fail> {
     let mut faults = Faults::new(alloc);
     for _ in 0..draws.below(7) {
         let place = draws.number_to(cast.count()) - 1;
-        let kind = if draws.below(2) == 0 { FaultKind::Fail } else { FaultKind::Check };
+        let kind = if draws.below(2) == 0 {
+            FaultKind::Fail
+        } else {
+            FaultKind::Check
+        };
         faults.push(Fault {
             kind,
             node: cast.node(place),
@@ -31,7 +35,13 @@ fn random_scenes(rt: HostRuntime) -> Result<(), Fail> {
     let alloc = rt.alloc();
     for seed in 1..=SCENES {
         let faults = random_faults(alloc, seed)?;
-        reported(&rt, alloc, scene_of(alloc, seed)?, scene_of(alloc, seed)?, faults)?;
+        reported(
+            &rt,
+            alloc,
+            scene_of(alloc, seed)?,
+            scene_of(alloc, seed)?,
+            faults,
+        )?;
     }
     Ok(())
 }

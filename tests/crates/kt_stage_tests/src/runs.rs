@@ -76,7 +76,11 @@ fn run<R: Threads + Wait + Sync + Abort>(
 ) -> Result<(), Fail> {
     let faults = faults(alloc, lines)?;
     let reported = reported(rt, alloc, scene(alloc, cast)?, scene(alloc, cast)?, faults)?;
-    assert!(rt; reported.starts_with(expected), "{:?}", String::from_utf8(reported));
+    assert!(rt;
+        reported.starts_with(expected),
+        "{:?}",
+        String::from_utf8(reported)
+    );
     Ok(())
 }
 

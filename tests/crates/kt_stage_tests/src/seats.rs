@@ -2,7 +2,9 @@
 
 use crate::making::{Cast, S1, W1, faults, opened, scene};
 use kt_core::{FaultKind, Step, StepError};
-use kt_stage::{ActError, CloseError, Journal, Naming, Receipt, Seat, Stage, node_count, unfinished};
+use kt_stage::{
+    ActError, CloseError, Journal, Naming, Receipt, Seat, Stage, node_count, unfinished,
+};
 use kt_store::MemStore;
 use kt_walk::scenes::Game;
 use std::alloc::Global;
@@ -28,7 +30,10 @@ fn ask<R: Wait + Abort, L: Naming>(
     assert!(rt; stage.act(rt, alloc, worker, step) == Ok(receipt));
     assert!(rt; stage.act(rt, alloc, shard, step) == Err(ActError::NotOwner));
     let again = stage.act(rt, alloc, worker, step);
-    assert!(rt; again == Err(ActError::Step(StepError::NothingThere)), "{again:?}");
+    assert!(rt;
+        again == Err(ActError::Step(StepError::NothingThere)),
+        "{again:?}"
+    );
     assert!(rt; worker.receipts() == [receipt].as_slice() && shard.receipts().is_empty());
     step
 }
