@@ -1,5 +1,5 @@
 -- What the policy gives is a step of the node itself, and allowed.
-use Rattle.std.proofs.Common.{◌≡◌, ℕ, suc, ◌+◌, ◌-◌, ◌*◌, length, Bool, true, false, List, [], ◌∷◌, Result, Ok, Err, refl, sym, ap, subst, ◌∙◌}
+use Rattle.std.proofs.Common.{◌≡◌, ℕ, suc, ◌+◌, ◌-◌, ◌*◌, length, Bool, true, false, List, [], ◌∷◌, Result, Ok, Err, refl, sym, ap, subst, ◌∙◌, arith}
 use Rattle.std.specs.Prelude.{Option, None, Some, cond, is_some, not, ◌&&◌, ◌||◌, if◌then◌else◌, slice_get, unwrap_or, IfOk, IfSome, IsTrue}
 use Rattle.std.specs.List.{find}
 use Rattle.std.specs.Option.{option_map}
@@ -37,6 +37,7 @@ use Rattle.kt_node.specs.Deciding.{check_in, check_of}
 use Rattle.kt_node.specs.Failing.{fail_of, restart_after, restart_by, restart_in, restart_of, restarted}
 use Rattle.kt_node.specs.State.{body_at, body_from, if_fits}
 use Rattle.kt_node.specs.View.{View}
+use Rattle.kt_node.specs.declared.node.Mode.{Mode}
 use Rattle.kt_node.specs.declared.node.Mode.TheVariants as modes
 use Rattle.kt_world.specs.declared.step.Step.{Step}
 use Rattle.kt_world.specs.declared.step.Step.TheVariants.{Issue, Repeat, Deliver, Take, Serve, Check, Decide, Abandon}
@@ -51,6 +52,8 @@ use Rattle.kt_world.proofs.Scene.{among-some, from_ends, to_shard, to_worker}
 use Rattle.kt_world.specs.Step.{owner}
 use Rattle.kt_core.specs.declared.faults.FaultLine.{FaultLine}
 use Rattle.kt_core.specs.Lent.{is_allowed, message_at}
+use Rattle.kt_core.specs.World.{Standing}
+use Rattle.kt_stage.specs.Asking.{IsAsked}
 use Rattle.kt_stage.specs.declared.policy.Rule.{Rule}
 use Rattle.kt_stage.specs.declared.policy.Rule.TheVariants as rules
 use Rattle.kt_stage.specs.Order.{names, workers}
@@ -310,7 +313,7 @@ allowed-checks : (s : State) (p : NodeId) → IsFound s p → is_up s p ≡ true
 allowed-checks s p found e = in-scene (is_node s.cast p) _ (stands s p (λ n. is_mode (mode_of n) modes.Up) refl found e) (check-or (view s p) _ _ (view s p).node e)
 
 allowed-restart : (s : State) (p : NodeId) → IsFound s p → got_no s p ≡ true → is_allowed s (Restart p) ≡ true
-allowed-restart s p found e = in-scene (is_node s.cast p) _ (stands s p (node_got_no s.content) refl found e) (restart-or (view s p) _ _ _ _ s.content (view s p).node e)
+allowed-restart s p found e = in-scene (is_node s.cast p) _ (stands s p (node_got_no s.content) refl found e) (restart-or (view s p) (told s (Restart p)).stored (told s (Restart p)).next (is_some (told s (Restart p)).tentative) (told s (Restart p)).undecided s.content (view s p).node e)
 
 not-true : (b : Bool) → not b ≡ true → b ≡ false
 not-true true e = absurd cc
@@ -397,3 +400,23 @@ pub given-allowed : (s : State) (lines : List FaultLine) (p : NodeId) (r : Resul
 given-allowed s lines p (Ok None) found is = tt
 given-allowed s lines p (Ok (Some x)) found is = next-allowed s lines p x found (sym is)
 given-allowed s lines p (Err e) found is = tt
+
+-- ---- of a node that has no mode
+
+mapped : {A B : Type 0} (f : A → B) (o : Option A) → is_some (option_map f o) ≡ is_some o
+mapped f None = refl
+mapped f (Some x) = refl
+
+pub found-by-mode : (s : State) (p : NodeId) (mode : Option Mode) → mode ≡ option_map mode_of (node s p) → is_some mode ≡ is_node s.cast p → is_some (node s p) ≡ is_node s.cast p
+found-by-mode s p mode value there = sym (mapped mode_of (node s p)) ∙ sym (ap is_some value) ∙ there
+
+pub asked-nobody : (w : Standing) (lines : List FaultLine) (p : NodeId) (mode : Option Mode) → mode ≡ option_map mode_of (node w.state p) → is_some mode ≡ is_node w.state.cast p → mode ≡ None
+    → IsAsked w w (λ s x. x ≡ next_step s lines p) (Ok None)
+asked-nobody w lines p mode value there none = record {
+  value = λ h. sym (next-none w.state lines p (found-by-mode w.state p mode value there) (sym (mapped mode_of (node w.state p)) ∙ sym (ap is_some value) ∙ ap is_some none));
+  same = λ h. refl;
+  beside = refl;
+  honest = λ h. h;
+  later = omega arith;
+  cause = tt;
+}

@@ -1,7 +1,7 @@
 pub mod Finding
 pub mod Asked
 pub mod Making
-pub mod Closing
+pub mod Seats
 pub mod Opening
-pub mod Running
+pub mod Ended
 pub mod Allowed

@@ -5,7 +5,7 @@ use Rattle.kt_tuple.specs.declared.node.NodeId.{NodeId}
 use Rattle.kt_tuple.specs.Node.{node_eq}
 use Rattle.kt_world.specs.Cast.{Cast}
 use Rattle.kt_stage.specs.Order.{has_node, nodes_of}
-use Rattle.kt_stage.proofs.Closing.{same_node}
+use Rattle.kt_stage.proofs.Seats.{same_node}
 
 found-at : (xs : List NodeId) (k : ℕ) (d : NodeId) → k < length xs → list_any (node_eq (get_or xs k d)) xs ≡ true
 found-at [] k d lt = absurd (omega (arith, lt))

@@ -64,6 +64,13 @@ fn has_seat<L: Naming>(seats: &[Seat<L>], node: NodeId) -> bool
     seats.iter().any(|seat| node == seat.node)
 }
 
+/// Whether the seat is the node's.
+fn is_of<L: Naming>(seat: &Seat<L>, node: NodeId) -> bool
+    ensures { IsTrue result ↔ (seat.now.node ≡ node) }
+{
+    seat.node() == node
+}
+
 /// Whether the node has one seat, and that keeps the receipts of just the node's steps.
 fn is_matched<L: Naming>(node: NodeId, seats: &[Seat<L>], steps: &[Step]) -> bool
     ensures { IsTrue result ↔ IsMatched steps.now seats.now node }
@@ -71,8 +78,8 @@ fn is_matched<L: Naming>(node: NodeId, seats: &[Seat<L>], steps: &[Step]) -> boo
     let Some((seat, later)) = seats.split_first() else {
         return false;
     };
-    if seat.node == node {
-        fits(node, &seat.receipts, steps) && !has_seat(later, node)
+    if is_of(seat, node) {
+        fits(node, seat.receipts(), steps) && !has_seat(later, node)
     } else {
         is_matched(node, later, steps)
     }
@@ -97,8 +104,12 @@ fn first_unmatched<L: Naming>(some: &[Seat<L>], seats: &[Seat<L>], steps: &[Step
 fn first_missing<L: Naming>(nodes: &[NodeId], seats: &[Seat<L>]) -> Option<NodeId>
     ensures { result ≡ first_missing nodes.now seats.now }
 {
-    let node = nodes.iter().find(|node| !has_seat(seats, **node))?;
-    Some(*node)
+    let (node, later) = nodes.split_first()?;
+    if has_seat(seats, *node) {
+        first_missing(later, seats)
+    } else {
+        Some(*node)
+    }
 }
 
 /// Why a stage of these nodes is not closed. It takes no memory.

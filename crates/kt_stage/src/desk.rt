@@ -1,6 +1,6 @@
 //! What lies under a stage's lock.
 
-ghost use Rattle.std.specs.Prelude.{◌≡◌, ◌++◌, ◌∷◌, [], length, true, vec_len, IfErr, IfOk, IsTrue, Ok, OnErr, OnOk};
+ghost use Rattle.std.specs.Prelude.{◌≡◌, ◌↔◌, ◌++◌, ◌∷◌, [], length, true, vec_len, IfErr, IfOk, IsTrue, Ok, OnErr, OnOk};
 ghost use Rattle.kt_core.specs.Stepping.{IsCause};
 ghost use Rattle.kt_core.specs.World.{beside};
 ghost use Rattle.kt_stage.specs.Acting.{IsActCause, IsOthers, RefusesAct, RefusesStep};
@@ -33,8 +33,15 @@ pub struct Desk<S: CkptStore, L: Naming> {
     ghost owned: { are_owned L.opening.state.cast journal.steps ≡ true },
 }
 
+/// Whether the step is the node's own.
+fn is_own(node: NodeId, step: Step) -> bool
+    ensures { IsTrue result ↔ (owner step ≡ node) }
+{
+    step.owner() == node
+}
+
 impl<S: CkptStore> Journal<S> {
-    /// Makes the step, for which the list has room.
+    /// Makes the step, and adds it to the list.
     fn make(&mut self, alloc: Global, step: Step) -> Result<(), StepError>
         ensures made { OnOk result (self.new.steps ≡ self.old.steps ++ step ∷ []) }
         ensures effect { IsTrue self.new.world.is_honest → OnOk result (step_result self.old.world.state step ≡ Ok self.new.world.state) }
@@ -50,9 +57,13 @@ impl<S: CkptStore> Journal<S> {
         if self.steps.reserve(1).is_err() {
             return Err(StepError::OutOfMemory);
         }
-        self.world.step(alloc, step)?;
-        self.steps.push_reserved(step);
-        Ok(())
+        match self.world.step(alloc, step) {
+            Ok(()) => {
+                self.steps.push_reserved(step);
+                Ok(())
+            }
+            Err(refusal) => Err(refusal),
+        }
     }
 }
 
@@ -97,7 +108,7 @@ impl<S: CkptStore, L: Naming> Desk<S, L> {
             → OnErr result (self.new.journal.world.state ≡ self.old.journal.world.state) }
         ensures beside { OnErr result (beside self.new.journal.world.state ≡ beside self.old.journal.world.state) }
     {
-        if step.owner() != seat.node {
+        if !is_own(seat.node, step) {
             return Err(ActError::NotOwner);
         }
         if seat.receipts.reserve(1).is_err() {

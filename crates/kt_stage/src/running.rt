@@ -1,6 +1,7 @@
 //! A run: a thread for each node, each by the policy, until no node has a next step.
 
 ghost use Rattle.std.specs.Prelude.{◌≡◌, length, IfOk, IsTrue, None, Ok};
+ghost use denote.Param.Send.{IsSend, IsSync};
 ghost use Rattle.kt_stage.specs.Journal.{Replays, all_made};
 ghost use Rattle.kt_stage.specs.Order.{nodes_of};
 ghost use Rattle.kt_stage.specs.Policy.{first_unfinished, spent_by};
@@ -173,7 +174,9 @@ where
     thread::scope(
         thread::scope_env(),
         rt,
-        move |scope| -> Result<Vec<Seat<L>>, RunFault> {
+        move |scope| -> Result<Vec<Seat<L>>, RunFault>
+            requires { IsSync R.row × IsSend S.row × IsSend L.row × IsSync L.row }
+        {
             let mut seats = Vec::new(alloc);
             let mut handles = Vec::new(alloc);
             let mut ended = Ok(());

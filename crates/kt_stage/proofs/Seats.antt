@@ -62,18 +62,18 @@ or-later true b e = refl
 or-later false b e = e
 
 module _ (steps : List Step) (seats : List Held) where
-  Before : NodeId → Held → Type 0
+  abbrev Before : NodeId → Held → Type 0
   Before p seat = IsTrue (is_before seat.node p) → IsMatched steps seats seat.node
 
   pub first-none : (some : List Held) → some ≡ [] → IsFirstUnmatched steps seats some None
-  first-none some split = subst (All (λ seat. IsMatched steps seats seat.node)) (sym split) All-nil
+  first-none some split = subst (All (λ seat. IsMatched steps seats seat.node)) (sym split) (All-nil (λ seat. IsMatched steps seats seat.node))
 
   -- its node is matched, so the others decide
   matched-on : (seat : Held) (later : List Held) (r : Option NodeId) → IsMatched steps seats seat.node → IsFirstUnmatched steps seats later r
       → IsFirstUnmatched steps seats (seat ∷ later) r
-  matched-on seat later None is first = All-cons seat later is first
+  matched-on seat later None is first = All-cons (λ seat. IsMatched steps seats seat.node) seat later is first
   matched-on seat later (Some p) is first =
-      (or-later (node_eq p seat.node) (has_seat later p) first.0, first.1, All-cons seat later (λ before. is) first.2)
+      (or-later (node_eq p seat.node) (has_seat later p) first.0, first.1, All-cons (Before p) seat later (λ before. is) first.2)
 
   pub first-matched : (some : List Held) (seat : Held) (later : List Held) (r : Option NodeId) → some ≡ seat ∷ later → IsMatched steps seats seat.node
       → IsFirstUnmatched steps seats later r → IsFirstUnmatched steps seats some r
@@ -86,7 +86,7 @@ module _ (steps : List Step) (seats : List Held) where
       subst (λ xs. IsFirstUnmatched steps seats xs (Some q)) (sym split) (
         or-later (node_eq q seat.node) (has_seat later q) first.0,
         first.1,
-        All-cons seat later (λ back. absurd (not-both q seat.node before back)) first.2,
+        All-cons (Before q) seat later (λ back. absurd (not-both q seat.node before back)) first.2,
       )
 
   -- the others that are not matched come later
@@ -102,7 +102,7 @@ module _ (steps : List Step) (seats : List Held) where
       subst (λ xs. IsFirstUnmatched steps seats xs (Some seat.node)) (sym split) (
         or-first (node_eq seat.node seat.node) (has_seat later seat.node) (same_node seat.node),
         isnt,
-        All-cons seat later (λ back. absurd (not-before-itself seat.node back)) (others seat.node later r first late),
+        All-cons (Before seat.node) seat later (λ back. absurd (not-before-itself seat.node back)) (others seat.node later r first late),
       )
 
 -- ---- the seats of one node
@@ -194,19 +194,19 @@ matched-none p steps seats none = (λ e. absurd cc, λ one. absurd (let e : [] �
 -- what holds of all nodes of a list holds of each that is found in it
 pub of-found : {A : Type 0} (node : A → NodeId) (P : NodeId → Type 0) (p : NodeId) (xs : List A) → list_any (λ x. node_eq p (node x)) xs ≡ true → All (λ x. P (node x)) xs → P p
 of-found node P p [] e all = absurd cc
-of-found {A} node P p (x ∷ xs) e all = by (node_eq p (node x)) refl e
+of-found {A} node P p (x ∷ xs) e all = by (node_eq p (node x)) refl (λ f. of-found node P p xs f (All-tail (λ y. P (node y)) x xs all)) e
   where
-    by : (b : Bool) → node_eq p (node x) ≡ b → (b || list_any (λ y. node_eq p (node y)) xs) ≡ true → P p
-    by true is e = subst P (sym ((node_eq_decides p (node x)).0 is)) (All-head x xs all)
-    by false is e = of-found node P p xs e (All-tail x xs all)
+    by : (b : Bool) → node_eq p (node x) ≡ b → (list_any (λ y. node_eq p (node y)) xs ≡ true → P p) → (b || list_any (λ y. node_eq p (node y)) xs) ≡ true → P p
+    by true is later e = subst P (sym ((node_eq_decides p (node x)).0 is)) (All-head (λ y. P (node y)) x xs all)
+    by false is later e = later e
 
 pub one-each : (steps : List Step) (seats : List Held) (nodes : List NodeId) → All (λ seat. IsMatched steps seats seat.node) seats → first_missing nodes seats ≡ None → All (IsMatched steps seats) nodes
-one-each steps seats [] are none = All-nil
-one-each steps seats (p ∷ later) are none = by (has_seat seats p) refl none
+one-each steps seats [] are none = All-nil (IsMatched steps seats)
+one-each steps seats (p ∷ later) are none = by (has_seat seats p) refl (λ f. one-each steps seats later are f) none
   where
-    by : (b : Bool) → has_seat seats p ≡ b → cond (not b) (Some p) (first_missing later seats) ≡ None → All (IsMatched steps seats) (p ∷ later)
-    by true is none = All-cons p later (of-found (λ (s : Held). s.node) (IsMatched steps seats) p seats is are) (one-each steps seats later are none)
-    by false is none = absurd cc
+    by : (b : Bool) → has_seat seats p ≡ b → (first_missing later seats ≡ None → All (IsMatched steps seats) later) → cond (not b) (Some p) (first_missing later seats) ≡ None → All (IsMatched steps seats) (p ∷ later)
+    by true is rest none = All-cons (IsMatched steps seats) p later (of-found (λ (s : Held). s.node) (IsMatched steps seats) p seats is are) (rest none)
+    by false is rest none = absurd cc
 
 pub kept : (steps : List Step) (seats : List Held) → All (λ seat. IsMatched steps seats seat.node) seats → All (λ seat. seat.receipts ≡ receipts_of seat.node 1 steps) seats
 kept steps seats are k d lt =
@@ -217,7 +217,7 @@ kept steps seats are k d lt =
 
 flat-same : {A B : Type 0} (f g : A → List B) (xs : List A) → All (λ x. f x ≡ g x) xs → flat_map f xs ≡ flat_map g xs
 flat-same f g [] are = refl
-flat-same f g (x ∷ xs) are = ap (λ ys. ys ++ flat_map f xs) (All-head x xs are) ∙ ap (λ ys. g x ++ ys) (flat-same f g xs (All-tail x xs are))
+flat-same f g (x ∷ xs) are = ap (λ ys. ys ++ flat_map f xs) (All-head (λ y. f y ≡ g y) x xs are) ∙ ap (λ ys. g x ++ ys) (flat-same f g xs (All-tail (λ y. f y ≡ g y) x xs are))
 
 flat-none : {A B : Type 0} (f : A → List B) (xs : List A) → ((x : A) → f x ≡ []) → flat_map f xs ≡ []
 flat-none f [] none = refl
@@ -241,16 +241,17 @@ module _ {A B : Type 0} (test : A → Bool) (r : B) (f g : A → List B) (is : (
 
   one-more : (xs : List A) (one : A) → filter test xs ≡ one ∷ [] → IsPermutation (r ∷ flat_map g xs) (flat_map f xs)
   one-more [] one found = absurd cc
-  one-more (x ∷ xs) one found = by (test x) (is x) found
+  one-more (x ∷ xs) one found = by (test x) (is x) (λ f. one-more xs one f) found
     where
-      by : (b : Bool) → f x ≡ (if b then r ∷ [] else []) ++ g x → cond b (x ∷ filter test xs) (filter test xs) ≡ one ∷ [] → IsPermutation (r ∷ (g x ++ flat_map g xs)) (f x ++ flat_map f xs)
-      by true here found =
+      by : (b : Bool) → f x ≡ (if b then r ∷ [] else []) ++ g x → (filter test xs ≡ one ∷ [] → IsPermutation (r ∷ flat_map g xs) (flat_map f xs)) → cond b (x ∷ filter test xs) (filter test xs) ≡ one ∷ []
+          → IsPermutation (r ∷ (g x ++ flat_map g xs)) (f x ++ flat_map f xs)
+      by true here more found =
           let none : filter test xs ≡ [] = cc in
           subst (IsPermutation (r ∷ (g x ++ flat_map g xs))) (sym (ap (λ ys. ys ++ flat_map f xs) here ∙ ap (λ ys. (r ∷ g x) ++ ys) (as-before xs none))) (IsPermutation-refl (r ∷ (g x ++ flat_map g xs)))
-      by false here found =
+      by false here more found =
           subst (IsPermutation (r ∷ (g x ++ flat_map g xs))) (sym (ap (λ ys. ys ++ flat_map f xs) here))
           (IsPermutation-trans (r ∷ (g x ++ flat_map g xs)) (g x ++ r ∷ flat_map g xs) (g x ++ flat_map f xs) (middle r (g x) (flat_map g xs))
-          (IsPermutation-append_right (g x) (r ∷ flat_map g xs) (flat_map f xs) (one-more xs one found)))
+          (IsPermutation-append_right (g x) (r ∷ flat_map g xs) (flat_map f xs) (more found)))
 
 spread : (cast : Cast) (seats : List Held) → ((p : NodeId) → has_node cast p ≡ true → (one : Held) × (seats_of p seats ≡ one ∷ []))
     → (number : ℕ) (steps : List Step) → are_owned cast steps ≡ true → IsPermutation (numbered number steps) (flat_map (λ seat. receipts_of seat.node number steps) seats)
@@ -276,11 +277,25 @@ each-step cast steps seats owned closed =
     have : (p : NodeId) → has_node cast p ≡ true → (one : Held) × (seats_of p seats ≡ one ∷ [])
     have p e = (full_seat steps p, of-found (λ (q : NodeId). q) (IsMatched steps seats) p (nodes_of cast) e are)
 
+-- the same of equal lists
+pub closed-of : (nodes : List NodeId) (steps : List Step) (seats : List Held) (others : List NodeId) (more : List Step) (held : List Held) → nodes ≡ others → steps ≡ more → seats ≡ held
+    → IsClosed nodes steps seats → IsClosed others more held
+closed-of nodes steps seats others more held n s h closed =
+    subst (λ (xs : List NodeId). IsClosed xs more held) n (subst (λ (xs : List Step). IsClosed nodes xs held) s (subst (λ (xs : List Held). IsClosed nodes steps xs) h closed))
+
+-- an equation with the same side
+pub same-side : {A : Type 0} (b : Bool) (x y z : A) → x ≡ y → IsTrue b ↔ (x ≡ z) → IsTrue b ↔ (y ≡ z)
+same-side b x y z is f = (λ e. sym is ∙ f.0 e, λ e. f.1 (is ∙ e))
+
 -- ---- the receipts of one node, step by step
 
 pub no-receipts : (p : NodeId) (number : ℕ) → receipts_of p number [] ≡ []
 unfolding receipts_of
 no-receipts p number = refl
+
+pub nothing-passed : (p : NodeId) (receipts : List Receipt) → receipts ≡ receipts_of p 1 [] ++ receipts
+unfolding receipts_of
+nothing-passed p receipts = refl
 
 receipts-one : (p : NodeId) (number : ℕ) (step : Step) → receipts_of p number (step ∷ []) ≡ kept_of p number step
 unfolding receipts_of
