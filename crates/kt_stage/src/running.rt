@@ -246,16 +246,23 @@ where
     ensures replays { IfOk result (λ j. IsTrue j.world.is_honest → all_made (opening scene) j.steps ≡ Ok j.world.state) }
     ensures finished { IfOk result (λ j. IsTrue j.world.is_honest → first_unfinished j.world.state (spent_by faults j.steps) ≡ None) }
 {
-    let world = World::open(alloc, scene, store).map_err(|refused| RunFault::Open(refused.cause))?;
+    let world = match World::open(alloc, scene, store) {
+        Ok(world) => world,
+        Err(refused) => return Err(RunFault::Open(refused.cause)),
+    };
     let blank = Blank::new(node_count(&world));
     let mut journal = run_on::<R, S, Brand>(rt, alloc, world, blank, &faults)?;
     let mut faults = faults;
-    match unfinished(alloc, &mut journal, &mut faults) {
-        Ok(None) => Ok(journal),
-        Ok(Some(node)) => Err(RunFault::Unfinished { node }),
-        Err(refusal) => Err(RunFault::Step {
-            at: journal.steps.len() as u64 + 1,
-            cause: StepError::Store(refusal),
-        }),
+    let left = match unfinished(alloc, &mut journal, &mut faults) {
+        Ok(left) => left,
+        Err(refusal) => {
+            let at = journal.steps.len() as u64 + 1;
+            let cause = StepError::Store(refusal);
+            return Err(RunFault::Step { at, cause });
+        }
+    };
+    match left {
+        None => Ok(journal),
+        Some(node) => Err(RunFault::Unfinished { node }),
     }
 }

@@ -1,4 +1,5 @@
-use Rattle.std.proofs.Common.{◌≡◌, ◌↔◌, [], IsTrue, arith, common_steps}
+use Rattle.std.proofs.Common.{◌≡◌, ◌↔◌, [], IsTrue, arith}
+use Rattle.std.proofs.lemmas.Grind.{common_steps}
 use Rattle.kt_stage.proofs.Seats.{all-kept, kept-more, not-kept, nothing-passed}
 use Rattle.kt_stage.proofs.closing.fits.Goals as goal
 
