@@ -1,7 +1,7 @@
 //! What else a world answers: `can`, `mode`, `is_steady`, `bags`, `permanent_space`, `into_store`; and a store that was
 //! used before.
 
-use crate::making::{S1, S2, W1, W2, opened, scripts};
+use crate::making::{SHARD_1, SHARD_2, WORKER_1, WORKER_2, opened, scripts};
 use crate::worlds::PUTTER_AND_TAKER;
 use kt_core::{OpenError, OpenRefused, Scene, Step, World};
 use kt_node::Mode;
@@ -16,35 +16,35 @@ use std::test::Fail;
 /// A step, and whether it can be made.
 type Row = (Step, bool);
 
-const ISSUE: Step = Step::Issue { node: W1 };
+const ISSUE: Step = Step::Issue { node: WORKER_1 };
 
-const HEAR: Step = Step::Deliver { from: W1, to: S1 };
+const HEAR: Step = Step::Deliver { from: WORKER_1, to: SHARD_1 };
 
-const REPLY: Step = Step::Deliver { from: S1, to: W1 };
+const REPLY: Step = Step::Deliver { from: SHARD_1, to: WORKER_1 };
 
 const SERVE: Step = Step::Serve {
-    shard: S1,
-    worker: W1,
+    shard: SHARD_1,
+    worker: WORKER_1,
     place: 0,
 };
 
-const CHECK: Step = Step::Check { node: W1 };
+const CHECK: Step = Step::Check { node: WORKER_1 };
 
-const DECIDE: Step = Step::Decide { node: W1 };
+const DECIDE: Step = Step::Decide { node: WORKER_1 };
 
-const LEARN: Step = Step::Learn { node: W1 };
+const LEARN: Step = Step::Learn { node: WORKER_1 };
 
-const FAIL: Step = Step::Fail { node: S1 };
+const FAIL: Step = Step::Fail { node: SHARD_1 };
 
 /// The worker puts its tuple, and hears that it is there.
 const PUT: [Row; 8] = [
-    (Step::Take { node: W1 }, false),
+    (Step::Take { node: WORKER_1 }, false),
     (HEAR, false),
     (ISSUE, true),
     (ISSUE, false),
     (HEAR, true),
     (SERVE, true),
-    (Step::Restart { node: W1 }, false),
+    (Step::Restart { node: WORKER_1 }, false),
     (REPLY, true),
 ];
 
@@ -74,10 +74,10 @@ fn try_rows(rt: &impl Abort, alloc: Global, world: &mut Game, rows: &[Row]) {
 /// The modes of the worker and the shard; there are no others.
 fn are_in(rt: &impl Abort, world: &Game, worker: Mode, shard: Mode) {
     let expected = [
-        (W1, Some(worker)),
-        (S1, Some(shard)),
-        (W2, None),
-        (S2, None),
+        (WORKER_1, Some(worker)),
+        (SHARD_1, Some(shard)),
+        (WORKER_2, None),
+        (SHARD_2, None),
         (NodeId::Worker(0), None),
         (NodeId::Shard(255), None),
     ];
@@ -135,8 +135,8 @@ fn a_world_is_asked(rt: HostRuntime) -> Result<(), Fail> {
 fn has_one_check(rt: &impl Abort, alloc: Global, store: &mut MemStore) {
     assert!(rt; store.is_fresh() == Ok(false));
     assert!(rt; store.next_instance() == Ok(2));
-    assert!(rt; store.open_of(W1) == Ok(Some(1)));
-    match store.tentative_marks(alloc, W1) {
+    assert!(rt; store.open_of(WORKER_1) == Ok(Some(1)));
+    match store.tentative_marks(alloc, WORKER_1) {
         Ok(Some(taken)) => assert!(rt; taken.instance == 1 && taken.marks.line_len() == 2),
         _ => assert!(rt; false, "a checkpoint"),
     }

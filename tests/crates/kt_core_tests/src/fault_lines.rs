@@ -1,6 +1,6 @@
 //! Fault lines, and which of them a step spends.
 
-use crate::making::{S1, W1, W2};
+use crate::making::{SHARD_1, WORKER_1, WORKER_2};
 use kt_core::{Fault, FaultKind, Faults, Step};
 use kt_tuple::NodeId;
 use std::alloc::Global;
@@ -11,12 +11,12 @@ use std::test::Fail;
 type Line = (FaultKind, NodeId, u64);
 
 const LINES: [Line; 6] = [
-    (FaultKind::Fail, W1, 5),
-    (FaultKind::Fail, W1, 2),
-    (FaultKind::Check, W1, 2),
-    (FaultKind::Fail, W1, 2),
-    (FaultKind::Fail, S1, 0),
-    (FaultKind::Check, W2, 1),
+    (FaultKind::Fail, WORKER_1, 5),
+    (FaultKind::Fail, WORKER_1, 2),
+    (FaultKind::Check, WORKER_1, 2),
+    (FaultKind::Fail, WORKER_1, 2),
+    (FaultKind::Fail, SHARD_1, 0),
+    (FaultKind::Check, WORKER_2, 1),
 ];
 
 /// A step, and the lines that are marked once it was made, by their places.
@@ -24,29 +24,29 @@ type Row = (Step, [bool; 6]);
 
 /// Of equal lines the first is spent, a greater number later; a step of another kind or node spends none of them.
 const ROWS: [Row; 7] = [
-    (Step::Issue { node: W1 }, [false; 6]),
+    (Step::Issue { node: WORKER_1 }, [false; 6]),
     (
-        Step::Fail { node: W1 },
+        Step::Fail { node: WORKER_1 },
         [false, true, false, false, false, false],
     ),
     (
-        Step::Fail { node: W1 },
+        Step::Fail { node: WORKER_1 },
         [false, true, false, true, false, false],
     ),
     (
-        Step::Check { node: W1 },
+        Step::Check { node: WORKER_1 },
         [false, true, true, true, false, false],
     ),
     (
-        Step::Fail { node: W1 },
+        Step::Fail { node: WORKER_1 },
         [true, true, true, true, false, false],
     ),
     (
-        Step::Fail { node: W1 },
+        Step::Fail { node: WORKER_1 },
         [true, true, true, true, false, false],
     ),
     (
-        Step::Fail { node: S1 },
+        Step::Fail { node: SHARD_1 },
         [true, true, true, true, true, false],
     ),
 ];
@@ -75,18 +75,18 @@ fn lines_are_spent_by_their_numbers(rt: HostRuntime) -> Result<(), Fail> {
         faults.spend(step);
         are_marked(&rt, &faults, expected, *step);
     }
-    are_marked(&rt, &left, &[false; 6], Step::Take { node: W1 });
+    are_marked(&rt, &left, &[false; 6], Step::Take { node: WORKER_1 });
     Ok(())
 }
 
 #[test]
 fn a_line_is_due_from_its_number_on(rt: HostRuntime) -> Result<(), Fail> {
     let mut faults = made(rt.alloc())?;
-    assert!(rt; !faults.is_due(FaultKind::Fail, W1, 1) && faults.is_due(FaultKind::Fail, W1, 2));
-    assert!(rt; faults.is_due(FaultKind::Fail, S1, 0) && !faults.is_due(FaultKind::Check, S1, 9));
-    assert!(rt; !faults.is_due(FaultKind::Check, W2, 0) && faults.is_due(FaultKind::Check, W2, 1));
-    faults.spend(&Step::Check { node: W2 });
-    assert!(rt; !faults.is_due(FaultKind::Check, W2, 9));
+    assert!(rt; !faults.is_due(FaultKind::Fail, WORKER_1, 1) && faults.is_due(FaultKind::Fail, WORKER_1, 2));
+    assert!(rt; faults.is_due(FaultKind::Fail, SHARD_1, 0) && !faults.is_due(FaultKind::Check, SHARD_1, 9));
+    assert!(rt; !faults.is_due(FaultKind::Check, WORKER_2, 0) && faults.is_due(FaultKind::Check, WORKER_2, 1));
+    faults.spend(&Step::Check { node: WORKER_2 });
+    assert!(rt; !faults.is_due(FaultKind::Check, WORKER_2, 9));
     Ok(())
 }
 
@@ -94,9 +94,9 @@ fn a_line_is_due_from_its_number_on(rt: HostRuntime) -> Result<(), Fail> {
 fn a_line_asks_for_its_step(rt: HostRuntime) -> Result<(), Fail> {
     let fault = Fault {
         kind: FaultKind::Check,
-        node: W2,
+        node: WORKER_2,
         after: 3,
     };
-    assert!(rt; fault.step() == Step::Check { node: W2 });
+    assert!(rt; fault.step() == Step::Check { node: WORKER_2 });
     Ok(())
 }

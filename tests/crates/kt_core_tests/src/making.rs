@@ -9,15 +9,15 @@ use kt_walk::scripts::script;
 use std::alloc::Global;
 use std::test::Fail;
 
-pub(crate) const W1: NodeId = NodeId::Worker(1);
+pub(crate) const WORKER_1: NodeId = NodeId::Worker(1);
 
-pub(crate) const W2: NodeId = NodeId::Worker(2);
+pub(crate) const WORKER_2: NodeId = NodeId::Worker(2);
 
-pub(crate) const W3: NodeId = NodeId::Worker(3);
+pub(crate) const WORKER_3: NodeId = NodeId::Worker(3);
 
-pub(crate) const S1: NodeId = NodeId::Shard(1);
+pub(crate) const SHARD_1: NodeId = NodeId::Shard(1);
 
-pub(crate) const S2: NodeId = NodeId::Shard(2);
+pub(crate) const SHARD_2: NodeId = NodeId::Shard(2);
 
 /// The scripts of these commands, one for each worker.
 pub(crate) fn scripts(alloc: Global, workers: &[&[&str]]) -> Result<Vec<Script>, Fail> {

@@ -1,6 +1,6 @@
 //! Many orders of the steps of three requests.
 
-use crate::making::{S1, opened, scripts};
+use crate::making::{SHARD_1, opened, scripts};
 use crate::texts::space_texts;
 use kt_core::{Step, StepError};
 use kt_tuple::NodeId;
@@ -28,14 +28,14 @@ fn step_of(number: u64) -> Step {
         0 => Step::Issue { node: worker },
         1 => Step::Deliver {
             from: worker,
-            to: S1,
+            to: SHARD_1,
         },
         2 => Step::Deliver {
-            from: S1,
+            from: SHARD_1,
             to: worker,
         },
         place => Step::Serve {
-            shard: S1,
+            shard: SHARD_1,
             worker,
             place: place - 3,
         },

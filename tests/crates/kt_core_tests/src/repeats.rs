@@ -1,6 +1,6 @@
 //! Requests that are asked again.
 
-use crate::making::{S1, W1, W2, opened, scripts};
+use crate::making::{SHARD_1, WORKER_1, WORKER_2, opened, scripts};
 use crate::rows::{Played, Stage, play, play_all};
 use crate::worlds::PUTTER_AND_TAKER;
 use kt_core::{MAX_STEPS, Step};
@@ -34,7 +34,7 @@ const ANSWERED_AGAIN: [Stage; 1] = [Stage {
     survivors: &["w1.1 out (\"a\", 1) done"],
     tuples: &["(\"a\", 1)"],
     notes: 7,
-    made: &[(W1, 4), (S1, 3)],
+    made: &[(WORKER_1, 4), (SHARD_1, 3)],
 }];
 
 /// A request that waits is not heard twice; one that was served before the next is answered again behind it.
@@ -71,7 +71,7 @@ const ASKED_WHILE_IT_WAITS: [Stage; 1] = [Stage {
     survivors: &["w2.1 out (\"t\") done", "w1.1 in (?str) got (\"t\")"],
     tuples: &[],
     notes: 15,
-    made: &[(W1, 7), (W2, 1), (S1, 7)],
+    made: &[(WORKER_1, 7), (WORKER_2, 1), (SHARD_1, 7)],
 }];
 
 const SCENES: [Played; 2] = [
@@ -105,7 +105,7 @@ const AT_THE_LIMIT: [Stage; 1] = [Stage {
     survivors: &[],
     tuples: &[],
     notes: 100_000,
-    made: &[(W1, 100_000), (S1, 0)],
+    made: &[(WORKER_1, 100_000), (SHARD_1, 0)],
 }];
 
 /// 100,000 steps are made and no more. A step that is not allowed is refused by its own number then too.
@@ -118,9 +118,9 @@ fn step_limit(rt: HostRuntime) -> Result<(), Fail> {
 
 /// Makes as many steps as there may be: the worker asks, and asks again.
 fn use_up(rt: &impl Abort, alloc: Global, world: &mut Game) {
-    let mut step = Step::Issue { node: W1 };
+    let mut step = Step::Issue { node: WORKER_1 };
     for _ in 0..MAX_STEPS {
         assert!(rt; world.step(alloc, step).is_ok());
-        step = Step::Repeat { node: W1 };
+        step = Step::Repeat { node: WORKER_1 };
     }
 }

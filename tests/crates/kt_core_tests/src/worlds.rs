@@ -1,6 +1,6 @@
 //! Worked scenarios, step by step.
 
-use crate::making::{S1, S2, W1, W2, W3, opened, scripts};
+use crate::making::{SHARD_1, SHARD_2, WORKER_1, WORKER_2, WORKER_3, opened, scripts};
 use crate::rows::{Played, Row, Stage, play, play_all};
 use arrayvec::ArrayVec;
 use kt_core::{OpenError, Scene, StepError};
@@ -20,7 +20,7 @@ const PUT_AND_TAKE: [Stage; 2] = [
         survivors: &PUT_AND_TAKEN,
         tuples: &[],
         notes: 7,
-        made: &[(W1, 3), (S1, 4)],
+        made: &[(WORKER_1, 3), (SHARD_1, 4)],
     },
     Stage {
         rows: &[
@@ -33,7 +33,7 @@ const PUT_AND_TAKE: [Stage; 2] = [
         survivors: &PUT_AND_TAKEN,
         tuples: &[],
         notes: 8,
-        made: &[(W1, 4), (S1, 4)],
+        made: &[(WORKER_1, 4), (SHARD_1, 4)],
     },
 ];
 
@@ -92,7 +92,7 @@ const NO_STEPS: [Stage; 1] = [Stage {
     survivors: &[],
     tuples: &[],
     notes: 0,
-    made: &[(W1, 0), (S1, 0)],
+    made: &[(WORKER_1, 0), (SHARD_1, 0)],
 }];
 
 /// The scene is that which the world was opened with.
@@ -161,7 +161,7 @@ const TWO_TAKERS: [Stage; 2] = [
         survivors: &["w3.1 out (\"t\") done"],
         tuples: &["(\"t\")"],
         notes: 7,
-        made: &[(W1, 1), (W2, 1), (W3, 1), (S1, 4)],
+        made: &[(WORKER_1, 1), (WORKER_2, 1), (WORKER_3, 1), (SHARD_1, 4)],
     },
     Stage {
         rows: &[
@@ -176,7 +176,7 @@ const TWO_TAKERS: [Stage; 2] = [
         survivors: &["w3.1 out (\"t\") done", "w2.1 in (\"t\") got (\"t\")"],
         tuples: &[],
         notes: 8,
-        made: &[(W1, 1), (W2, 1), (W3, 1), (S1, 5)],
+        made: &[(WORKER_1, 1), (WORKER_2, 1), (WORKER_3, 1), (SHARD_1, 5)],
     },
 ];
 
@@ -250,7 +250,7 @@ const READER_AND_PUTTER: [Stage; 1] = [Stage {
     ],
     tuples: &["(5, 7)", "(7)"],
     notes: 14,
-    made: &[(W1, 5), (W2, 1), (S1, 8)],
+    made: &[(WORKER_1, 5), (WORKER_2, 1), (SHARD_1, 8)],
 }];
 
 #[test]
@@ -293,7 +293,7 @@ const TWO_SHARDS: [Stage; 1] = [Stage {
     ],
     tuples: &["(\"a\", 1)"],
     notes: 10,
-    made: &[(W1, 2), (W2, 1), (W3, 1), (S1, 4), (S2, 2)],
+    made: &[(WORKER_1, 2), (WORKER_2, 1), (WORKER_3, 1), (SHARD_1, 4), (SHARD_2, 2)],
 }];
 
 /// Scenes of which each is played from its beginning.

@@ -1,6 +1,6 @@
 //! Giving up: an initiator writes No, a participant votes no.
 
-use crate::cases::{W1, tells};
+use crate::cases::{WORKER_1, tells};
 use std::test::Fail;
 
 /// It stays what it is, and tells all that it asked.
@@ -9,7 +9,7 @@ fn an_initiator_writes_no(rt: HostRuntime) -> Result<(), Fail> {
     tells(
         &rt,
         rt.alloc(),
-        W1,
+        WORKER_1,
         ". answered by both; check
         > abandon
         to s1: verdict 1 no
@@ -45,7 +45,7 @@ fn an_initiator_whose_instance_has_a_verdict_has_nothing_to_give_up(
     tells(
         &rt,
         rt.alloc(),
-        W1,
+        WORKER_1,
         ". answered by both; check; abandon
         > abandon
         refused: NothingThere
@@ -66,7 +66,7 @@ fn a_node_that_is_down_writes_no(rt: HostRuntime) -> Result<(), Fail> {
     tells(
         &rt,
         rt.alloc(),
-        W1,
+        WORKER_1,
         ". answered by both; check; fail
         > abandon
         decides 1 no
@@ -88,7 +88,7 @@ fn a_node_that_is_down_gives_up_its_own_instance_alone(rt: HostRuntime) -> Resul
     tells(
         &rt,
         rt.alloc(),
-        W1,
+        WORKER_1,
         ". answered; fail
         > abandon
         refused: NothingThere
@@ -117,7 +117,7 @@ fn a_participant_that_has_not_voted_votes_no(rt: HostRuntime) -> Result<(), Fail
     tells(
         &rt,
         rt.alloc(),
-        W1,
+        WORKER_1,
         ". answered by both; board 7 open; s1: check-ask 7 1.1 3
         > abandon
         to s1: vote 7 3 no
@@ -145,7 +145,7 @@ fn a_participant_that_has_voted_has_nothing_to_give_up(rt: HostRuntime) -> Resul
     tells(
         &rt,
         rt.alloc(),
-        W1,
+        WORKER_1,
         ". issue; board 7 open; s1: check-ask 7 1.1 3
         > abandon
         refused: NothingThere

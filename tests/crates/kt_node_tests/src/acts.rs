@@ -1,7 +1,7 @@
 //! What workers and shards do of themselves, and what they make of each other's messages, while they are up and nothing
 //! is kept.
 
-use crate::cases::{IDLE, S1, W1, tells};
+use crate::cases::{IDLE, SHARD_1, WORKER_1, tells};
 use std::test::Fail;
 
 /// The next operation gets the next number and goes to its home. Labels count the messages to all shards together.
@@ -10,7 +10,7 @@ fn issue_asks_the_home_of_the_next_operation(rt: HostRuntime) -> Result<(), Fail
     tells(
         &rt,
         rt.alloc(),
-        W1,
+        WORKER_1,
         "> worker
         number 0 answered
         > issue
@@ -32,7 +32,7 @@ fn issue_wants_an_operation_and_nothing_unanswered(rt: HostRuntime) -> Result<()
     tells(
         &rt,
         rt.alloc(),
-        W1,
+        WORKER_1,
         "> issue
         to s1: request 1 1.1 by 1 out (1, 1)
         w1 by 0: w1.1 out (1, 1) issue
@@ -57,7 +57,7 @@ fn repeat_asks_once_more_for_what_is_unanswered(rt: HostRuntime) -> Result<(), F
     tells(
         &rt,
         rt.alloc(),
-        W1,
+        WORKER_1,
         "> repeat
         refused: NothingThere
         . issue
@@ -80,14 +80,14 @@ fn a_shard_is_no_worker_and_what_is_down_has_none(rt: HostRuntime) -> Result<(),
     tells(
         &rt,
         rt.alloc(),
-        S1,
+        SHARD_1,
         "> worker
         none",
     )?;
     tells(
         &rt,
         rt.alloc(),
-        W1,
+        WORKER_1,
         ". answered; fail
         > worker
         none
@@ -102,14 +102,14 @@ fn take_wants_a_kept_message(rt: HostRuntime) -> Result<(), Fail> {
     tells(
         &rt,
         rt.alloc(),
-        W1,
+        WORKER_1,
         "> take
         refused: NothingThere",
     )?;
     tells(
         &rt,
         rt.alloc(),
-        S1,
+        SHARD_1,
         "> take
         refused: NothingThere",
     )
@@ -121,7 +121,7 @@ fn serve_answers_who_waits(rt: HostRuntime) -> Result<(), Fail> {
     tells(
         &rt,
         rt.alloc(),
-        S1,
+        SHARD_1,
         "> serve w1 0 by 1
         refused: NothingThere
         . asked
@@ -147,7 +147,7 @@ fn serve_wants_the_match(rt: HostRuntime) -> Result<(), Fail> {
     tells(
         &rt,
         rt.alloc(),
-        S1,
+        SHARD_1,
         "> serve w1 3 by 1
         refused: NothingThere
 
@@ -172,7 +172,7 @@ fn what_does_not_wait_is_answered_none_only_where_nothing_matches(
     tells(
         &rt,
         rt.alloc(),
-        S1,
+        SHARD_1,
         ". w1: request 1 1.1 by 1 inp (?int)
         > serve w1 1 by 1
         refused: NoSuchMatch
@@ -204,7 +204,7 @@ fn matches_count_in_order_of_arrival(rt: HostRuntime) -> Result<(), Fail> {
     tells(
         &rt,
         rt.alloc(),
-        S1,
+        SHARD_1,
         ". served; w1: request 2 1.2 by 4 out (1, 2); serve w1 0 by 4; w2: request 1 1.1 by 6 in (?int, ?int)
         > serve w2 2 by 6
         refused: NoSuchMatch
@@ -227,7 +227,7 @@ fn what_is_read_stays(rt: HostRuntime) -> Result<(), Fail> {
     tells(
         &rt,
         rt.alloc(),
-        S1,
+        SHARD_1,
         ". served; w2: request 1 1.1 by 6 rd (?int, ?int); serve w2 0 by 6; w2: request 2 1.2 by 8 rdp (1, ?int)
         > serve w2 0 by 8
         to w2: reply 2 1.3 by 6 got (1, 1) to rdp (1, ?int)
@@ -247,7 +247,7 @@ fn a_new_request_waits(rt: HostRuntime) -> Result<(), Fail> {
     tells(
         &rt,
         rt.alloc(),
-        S1,
+        SHARD_1,
         "> w1: request 1 1.1 by 1 out (1, 1)
         s1 by 1: w1.1 out (1, 1) heard
         Up
@@ -271,7 +271,7 @@ fn a_served_request_is_answered_again(rt: HostRuntime) -> Result<(), Fail> {
     tells(
         &rt,
         rt.alloc(),
-        S1,
+        SHARD_1,
         ". served
         > w1: request 1 1.2 by 4 out (1, 1)
         to w1: reply 1 1.2 by 3 done to out (1, 1)
@@ -305,7 +305,7 @@ fn a_reply_to_what_is_unanswered_is_accepted(rt: HostRuntime) -> Result<(), Fail
     tells(
         &rt,
         rt.alloc(),
-        W1,
+        WORKER_1,
         "> s1: reply 1 1.1 by 3 done to out (1, 1)
         w1 by 3: w1.1 out (1, 1) ignored done
         Up
@@ -336,7 +336,7 @@ fn what_is_heard_and_sent_shows_in_a_checkpoint(rt: HostRuntime) -> Result<(), F
     tells(
         &rt,
         rt.alloc(),
-        W1,
+        WORKER_1,
         ". issue; s1: reply 2 1.3 by 3 done to out (1, 1)
         > check
         to s1: check-ask 1 1.3 1
@@ -346,7 +346,7 @@ fn what_is_heard_and_sent_shows_in_a_checkpoint(rt: HostRuntime) -> Result<(), F
     tells(
         &rt,
         rt.alloc(),
-        S1,
+        SHARD_1,
         ". served; w1: request 1 1.2 by 4 out (1, 1)
         > check
         to w1: check-ask 1 1.2 1

@@ -1,6 +1,6 @@
 //! Asks to take a tentative checkpoint. The label is the last one that the asker received from the asked node.
 
-use crate::cases::{S1, W1, tells};
+use crate::cases::{SHARD_1, WORKER_1, tells};
 use std::test::Fail;
 
 /// It votes at once: there is nobody to ask. The vote repeats the incarnation of the ask.
@@ -9,7 +9,7 @@ fn a_joiner_with_an_empty_cohort_votes_yes_at_once(rt: HostRuntime) -> Result<()
     tells(
         &rt,
         rt.alloc(),
-        W1,
+        WORKER_1,
         ". issue; board 7 open
         > s1: check-ask 7 1.1 3
         to s1: vote 7 3 yes
@@ -24,7 +24,7 @@ fn a_joiner_asks_its_cohort(rt: HostRuntime) -> Result<(), Fail> {
     tells(
         &rt,
         rt.alloc(),
-        W1,
+        WORKER_1,
         ". answered; board 7 open
         > s1: check-ask 7 1.1 3
         to s1: check-ask 7 1.1 1
@@ -59,7 +59,7 @@ fn a_joiner_asks_its_cohort(rt: HostRuntime) -> Result<(), Fail> {
     tells(
         &rt,
         rt.alloc(),
-        S1,
+        SHARD_1,
         ". served; board 7 open
         > w1: check-ask 7 1.1 1
         to w1: check-ask 7 1.1 1
@@ -74,7 +74,7 @@ fn a_joiner_does_not_ask_for_what_it_keeps(rt: HostRuntime) -> Result<(), Fail> 
     tells(
         &rt,
         rt.alloc(),
-        W1,
+        WORKER_1,
         ". issue; check; s1: reply 1 1.1 by 3 done to out (1, 1); abandon; learn; board 7 open
         > s1: check-ask 7 1.1 1
         to s1: vote 7 1 yes
@@ -89,7 +89,7 @@ fn a_node_joins_between_its_first_label_and_its_last(rt: HostRuntime) -> Result<
     tells(
         &rt,
         rt.alloc(),
-        W1,
+        WORKER_1,
         ". issue; repeat; repeat; board 7 open
         > s1: check-ask 7 1.4 1
         to s1: vote 7 1 no
@@ -119,7 +119,7 @@ fn below_the_first_label_is_a_no(rt: HostRuntime) -> Result<(), Fail> {
     tells(
         &rt,
         rt.alloc(),
-        W1,
+        WORKER_1,
         ". issue; board 7 open
         > s2: check-ask 7 1.1 1
         to s2: vote 7 1 no
@@ -148,7 +148,7 @@ fn what_the_permanent_checkpoint_has_sent_is_a_yes(rt: HostRuntime) -> Result<()
     tells(
         &rt,
         rt.alloc(),
-        W1,
+        WORKER_1,
         ". issue; board 7 open
         > s1: check-ask 7 0.0 2
         to s1: vote 7 2 yes
@@ -177,7 +177,7 @@ fn a_check_with_a_verdict_is_a_no(rt: HostRuntime) -> Result<(), Fail> {
     tells(
         &rt,
         rt.alloc(),
-        W1,
+        WORKER_1,
         ". issue; board 7 yes; board 8 no
         > s1: check-ask 7 0.0 1
         to s1: vote 7 1 no
@@ -217,7 +217,7 @@ fn a_held_node_says_yes_in_its_instance_up_to_what_its_checkpoint_has_sent(
     tells(
         &rt,
         rt.alloc(),
-        W1,
+        WORKER_1,
         ". issue; check
         > s1: check-ask 1 1.1 1
         to s1: vote 1 1 yes
@@ -248,7 +248,7 @@ fn a_held_node_says_no_in_another_instance(rt: HostRuntime) -> Result<(), Fail> 
     tells(
         &rt,
         rt.alloc(),
-        W1,
+        WORKER_1,
         ". issue; check; board 8 open
         > s1: check-ask 8 1.1 1
         to s1: vote 8 1 no
@@ -281,7 +281,7 @@ fn a_rolling_node_says_no(rt: HostRuntime) -> Result<(), Fail> {
     tells(
         &rt,
         rt.alloc(),
-        W1,
+        WORKER_1,
         ". answered; board 7 open; board 8 open; s1: roll-ask 7 0.0 2
         > s1: check-ask 8 1.1 1
         to s1: vote 8 1 no
@@ -310,7 +310,7 @@ fn a_node_that_is_down_drops_the_ask(rt: HostRuntime) -> Result<(), Fail> {
     tells(
         &rt,
         rt.alloc(),
-        W1,
+        WORKER_1,
         ". issue; fail; board 7 open
         > s1: check-ask 7 1.1 1
         Down
@@ -328,7 +328,7 @@ fn labels_compare_by_incarnation_first(rt: HostRuntime) -> Result<(), Fail> {
     tells(
         &rt,
         rt.alloc(),
-        W1,
+        WORKER_1,
         ". worker back; issue; board 7 open
         > s1: check-ask 7 1.9 1
         to s1: vote 7 1 no

@@ -1,6 +1,6 @@
 //! Asks to roll back. The label is the last one that the asker sent to the asked node before its permanent checkpoint.
 
-use crate::cases::{S1, W1, tells};
+use crate::cases::{SHARD_1, WORKER_1, tells};
 use std::test::Fail;
 
 /// The node has heard nothing that is undone, be the label equal to what it heard last or above.
@@ -9,7 +9,7 @@ fn up_to_the_label_is_a_yes(rt: HostRuntime) -> Result<(), Fail> {
     tells(
         &rt,
         rt.alloc(),
-        S1,
+        SHARD_1,
         ". asked; board 7 open
         > w1: roll-ask 7 1.1 2
         to w1: vote 7 2 yes
@@ -29,7 +29,7 @@ fn above_the_label_a_node_joins_and_asks_all_neighbours(rt: HostRuntime) -> Resu
     tells(
         &rt,
         rt.alloc(),
-        S1,
+        SHARD_1,
         ". asked; board 7 open
         > w1: roll-ask 7 1.0 2
         to w1: roll-ask 7 0.0 1
@@ -57,7 +57,7 @@ fn above_the_label_a_node_joins_and_asks_all_neighbours(rt: HostRuntime) -> Resu
     tells(
         &rt,
         rt.alloc(),
-        W1,
+        WORKER_1,
         ". answered by both; board 7 open
         > s2: roll-ask 7 1.3 5
         to s1: roll-ask 7 0.0 1
@@ -71,7 +71,7 @@ fn labels_compare_by_incarnation_first(rt: HostRuntime) -> Result<(), Fail> {
     tells(
         &rt,
         rt.alloc(),
-        S1,
+        SHARD_1,
         ". w1: request 1 2.1 by 1 out (1, 1); board 7 open
         > w1: roll-ask 7 3.0 3
         to w1: vote 7 3 yes
@@ -89,7 +89,7 @@ fn a_rollback_with_a_verdict_is_a_no(rt: HostRuntime) -> Result<(), Fail> {
     tells(
         &rt,
         rt.alloc(),
-        S1,
+        SHARD_1,
         ". asked; board 7 no; board 8 yes
         > w1: roll-ask 7 1.1 2
         to w1: vote 7 2 no
@@ -122,7 +122,7 @@ fn a_held_node_says_no(rt: HostRuntime) -> Result<(), Fail> {
     tells(
         &rt,
         rt.alloc(),
-        S1,
+        SHARD_1,
         ". asked; check; board 7 open
         > w1: roll-ask 7 1.1 2
         to w1: vote 7 2 yes
@@ -150,7 +150,7 @@ fn a_rolling_node_says_yes_in_its_instance(rt: HostRuntime) -> Result<(), Fail> 
     tells(
         &rt,
         rt.alloc(),
-        S1,
+        SHARD_1,
         ". asked; w2: request 1 1.1 by 2 out (2, 2); board 7 open; board 8 open; w1: roll-ask 7 0.0 2
         > w1: roll-ask 7 0.0 3
         to w1: vote 7 3 yes
@@ -183,7 +183,7 @@ fn a_node_that_is_down_drops_the_ask(rt: HostRuntime) -> Result<(), Fail> {
     tells(
         &rt,
         rt.alloc(),
-        S1,
+        SHARD_1,
         ". asked; fail; board 7 open
         > w1: roll-ask 7 0.0 2
         Down

@@ -8,14 +8,14 @@ use std::process::Abort;
 use std::test::Fail;
 
 /// A worker with two shards. The home of `(1, 1)` is s1, that of `(1)` is s2.
-pub(crate) const W1: Setting = Setting {
+pub(crate) const WORKER_1: Setting = Setting {
     id: NodeId::Worker(1),
     peers: 2,
     script: &["out (1, 1)", "out (1)", "in (?int, ?int)", "in (?int)"],
 };
 
 /// A shard with two workers.
-pub(crate) const S1: Setting = Setting {
+pub(crate) const SHARD_1: Setting = Setting {
     id: NodeId::Shard(1),
     peers: 2,
     script: &[],

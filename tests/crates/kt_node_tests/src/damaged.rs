@@ -1,6 +1,6 @@
 //! Stored checkpoints that do not fit the node. What a step is refused for without them comes before.
 
-use crate::cases::{S1, W1, tells_of};
+use crate::cases::{SHARD_1, WORKER_1, tells_of};
 use crate::solo::{Setting, Solo};
 use kt_ckpt::Ckpt;
 use kt_store::Tentative;
@@ -15,7 +15,7 @@ type Behind = (Setting, &'static str);
 /// The script of w1.
 const SCRIPT: &[&str] = &["out (1, 1)", "out (1)"];
 
-const W2: Setting = Setting {
+const WORKER_2: Setting = Setting {
     id: NodeId::Worker(2),
     peers: 2,
     script: SCRIPT,
@@ -36,9 +36,9 @@ const WITH_A_SHORT_SCRIPT: Setting = Setting {
 /// Who takes a checkpoint that does not fit w1 behind two acts: another node, one with other neighbours, and one that
 /// has made more acts.
 const MISFITS: [Behind; 3] = [
-    (W2, "check"),
+    (WORKER_2, "check"),
     (WITH_THREE_SHARDS, "check"),
-    (W1, "answered; issue; check"),
+    (WORKER_1, "answered; issue; check"),
 ];
 
 /// The node behind the steps.
@@ -74,7 +74,7 @@ fn tells_with_misfits(
     case: &str,
 ) -> Result<(), Fail> {
     for taker in &MISFITS {
-        tells_with(rt, alloc, *taker, (W1, steps), case)?;
+        tells_with(rt, alloc, *taker, (WORKER_1, steps), case)?;
     }
     Ok(())
 }
@@ -87,7 +87,7 @@ fn tells_with_tentative_misfits(
     case: &str,
 ) -> Result<(), Fail> {
     for taker in &MISFITS {
-        let mut solo = stands(rt, alloc, (W1, steps))?;
+        let mut solo = stands(rt, alloc, (WORKER_1, steps))?;
         let checkpoint = taken(rt, alloc, *taker)?;
         solo.tentative = Some(Tentative {
             instance: 1,
@@ -231,7 +231,7 @@ fn a_state_that_does_not_fit_is_not_loaded(rt: HostRuntime) -> Result<(), Fail> 
     tells_with(
         &rt,
         rt.alloc(),
-        (W1, "answered by both; check"),
+        (WORKER_1, "answered by both; check"),
         (WITH_A_SHORT_SCRIPT, "issue; repeat; repeat; repeat"),
         "> fail
         w1 is cut to 4
@@ -242,8 +242,8 @@ fn a_state_that_does_not_fit_is_not_loaded(rt: HostRuntime) -> Result<(), Fail> 
     tells_with(
         &rt,
         rt.alloc(),
-        (S1, "w3: request 1 1.1 by 1 out (1, 1); check"),
-        (S1, "asked; board 7 open; w1: roll-ask 7 0.0 2"),
+        (SHARD_1, "w3: request 1 1.1 by 1 out (1, 1); check"),
+        (SHARD_1, "asked; board 7 open; w1: roll-ask 7 0.0 2"),
         "> w1: verdict 7 yes
         refused: Damaged
         . board 7 yes

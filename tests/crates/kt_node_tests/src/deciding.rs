@@ -1,6 +1,6 @@
 //! Checks that are begun, and verdicts that initiators write.
 
-use crate::cases::{S1, W1, tells};
+use crate::cases::{SHARD_1, WORKER_1, tells};
 use std::test::Fail;
 
 /// The check has the next number.
@@ -9,7 +9,7 @@ fn a_check_asks_the_cohort(rt: HostRuntime) -> Result<(), Fail> {
     tells(
         &rt,
         rt.alloc(),
-        W1,
+        WORKER_1,
         "> check
         begins check: w1 acts 0 sent 0.0 0.0 received 0.0 0.0 number 0 answered
         Held in 1, asked
@@ -41,7 +41,7 @@ fn a_check_asks_the_cohort(rt: HostRuntime) -> Result<(), Fail> {
     tells(
         &rt,
         rt.alloc(),
-        S1,
+        SHARD_1,
         ". asked; w2: request 5 1.3 by 4 out (2, 2); serve w2 0 by 4
         > check
         to w1: check-ask 1 1.1 1
@@ -56,7 +56,7 @@ fn a_check_with_nobody_to_ask_is_decided_at_once(rt: HostRuntime) -> Result<(), 
     tells(
         &rt,
         rt.alloc(),
-        W1,
+        WORKER_1,
         ". issue; check
         > decide
         decides 1 yes
@@ -71,7 +71,7 @@ fn a_check_is_decided_when_all_have_voted_or_one_refused(rt: HostRuntime) -> Res
     tells(
         &rt,
         rt.alloc(),
-        W1,
+        WORKER_1,
         ". answered by both; check
         > decide
         refused: NotDecided
@@ -107,7 +107,7 @@ fn a_rollback_is_decided_when_all_have_voted_or_one_refused(rt: HostRuntime) -> 
     tells(
         &rt,
         rt.alloc(),
-        W1,
+        WORKER_1,
         ". fail; restart
         > decide
         refused: NotDecided
@@ -142,7 +142,7 @@ fn what_has_a_verdict_is_not_decided(rt: HostRuntime) -> Result<(), Fail> {
     tells(
         &rt,
         rt.alloc(),
-        W1,
+        WORKER_1,
         ". answered by both; check; abandon
         > decide
         refused: NothingThere
@@ -166,7 +166,7 @@ fn participants_decide_nothing(rt: HostRuntime) -> Result<(), Fail> {
     tells(
         &rt,
         rt.alloc(),
-        W1,
+        WORKER_1,
         ". answered by both; board 7 open; s1: check-ask 7 1.1 3
         > decide
         refused: NothingThere

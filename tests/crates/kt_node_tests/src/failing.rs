@@ -1,7 +1,7 @@
 //! Nodes that fail. The line is cut to the tentative checkpoint if there is one whose verdict is not No, else to the
 //! permanent one.
 
-use crate::cases::{S1, W1, tells};
+use crate::cases::{SHARD_1, WORKER_1, tells};
 use std::test::Fail;
 
 #[test]
@@ -9,7 +9,7 @@ fn what_is_up_is_cut_to_the_permanent_checkpoint(rt: HostRuntime) -> Result<(), 
     tells(
         &rt,
         rt.alloc(),
-        W1,
+        WORKER_1,
         "> fail
         w1 is cut to 0
         Down
@@ -27,7 +27,7 @@ fn what_is_up_is_cut_to_the_permanent_checkpoint(rt: HostRuntime) -> Result<(), 
     tells(
         &rt,
         rt.alloc(),
-        S1,
+        SHARD_1,
         ". served; saved by w1; w1: request 2 1.2 by 9 in (?int, ?int)
         > fail
         s1 is cut to 2
@@ -43,7 +43,7 @@ fn what_is_held_is_cut_to_the_tentative_checkpoint_unless_there_is_a_no(
     tells(
         &rt,
         rt.alloc(),
-        W1,
+        WORKER_1,
         ". answered; check
         > fail
         w1 is cut to 2
@@ -92,7 +92,7 @@ fn what_rolls_is_cut_to_the_permanent_checkpoint(rt: HostRuntime) -> Result<(), 
     tells(
         &rt,
         rt.alloc(),
-        W1,
+        WORKER_1,
         ". answered; saved by s1; issue; fail; restart
         > fail
         w1 is cut to 2

@@ -1,6 +1,6 @@
 //! Underlying messages that come while a node is not simply up.
 
-use crate::cases::{S1, W1, tells};
+use crate::cases::{SHARD_1, WORKER_1, tells};
 use std::test::Fail;
 
 /// They are taken in the order in which they came, once the node is up, whatever the verdict.
@@ -9,7 +9,7 @@ fn what_comes_while_held_is_kept(rt: HostRuntime) -> Result<(), Fail> {
     tells(
         &rt,
         rt.alloc(),
-        S1,
+        SHARD_1,
         ". check
         > w1: request 1 1.1 by 1 out (1, 1)
         Held in 1, asked
@@ -47,7 +47,7 @@ fn what_comes_while_something_is_kept_is_kept_too(rt: HostRuntime) -> Result<(),
     tells(
         &rt,
         rt.alloc(),
-        S1,
+        SHARD_1,
         ". check; w1: request 1 1.1 by 1 out (1, 1); abandon; learn
         > w2: request 1 1.1 by 2 out (2, 2)
         Up
@@ -73,7 +73,7 @@ fn what_is_kept_was_not_received(rt: HostRuntime) -> Result<(), Fail> {
     tells(
         &rt,
         rt.alloc(),
-        S1,
+        SHARD_1,
         ". check; w1: request 1 1.1 by 1 out (1, 1); abandon; learn
         > check
         begins check: s1 acts 0 sent 0.0 0.0 received 0.0 0.0 tuples 0 waiting 0 kept 0
@@ -91,7 +91,7 @@ fn a_kept_message_is_heard_as_it_would_have_been(rt: HostRuntime) -> Result<(), 
     tells(
         &rt,
         rt.alloc(),
-        S1,
+        SHARD_1,
         ". served; check; w1: request 1 1.2 by 4 out (1, 1); abandon; learn
         > take
         to w1: reply 1 1.2 by 3 done to out (1, 1)
@@ -101,7 +101,7 @@ fn a_kept_message_is_heard_as_it_would_have_been(rt: HostRuntime) -> Result<(), 
     tells(
         &rt,
         rt.alloc(),
-        W1,
+        WORKER_1,
         ". issue; check; s1: reply 1 1.1 by 3 done to out (1, 1); abandon; learn
         > take
         w1 by 3: w1.1 out (1, 1) accepted done
@@ -118,7 +118,7 @@ fn issue_alone_waits_for_what_is_kept(rt: HostRuntime) -> Result<(), Fail> {
     tells(
         &rt,
         rt.alloc(),
-        W1,
+        WORKER_1,
         ". answered; check; s1: reply 1 1.2 by 5 done to out (1, 1); abandon; learn
         > issue
         refused: NothingThere
@@ -142,7 +142,7 @@ fn issue_alone_waits_for_what_is_kept(rt: HostRuntime) -> Result<(), Fail> {
     tells(
         &rt,
         rt.alloc(),
-        S1,
+        SHARD_1,
         ". asked; check; w2: request 1 1.1 by 9 out (2, 2); abandon; learn
         > serve w1 0 by 1
         to w1: reply 1 1.1 by 2 done to out (1, 1)
@@ -160,7 +160,7 @@ fn what_comes_while_rolling_is_dropped(rt: HostRuntime) -> Result<(), Fail> {
     tells(
         &rt,
         rt.alloc(),
-        S1,
+        SHARD_1,
         ". served; board 7 open; w1: roll-ask 7 0.0 2
         > w2: request 1 1.1 by 9 out (2, 2)
         Rolling in 7 for w1.2, asked w1 w2, awaits w1 w2
@@ -197,7 +197,7 @@ fn what_comes_while_down_is_dropped(rt: HostRuntime) -> Result<(), Fail> {
     tells(
         &rt,
         rt.alloc(),
-        S1,
+        SHARD_1,
         ". fail
         > w2: request 1 1.1 by 9 out (2, 2)
         Down
@@ -212,7 +212,7 @@ fn loading_and_failing_empty_what_is_kept(rt: HostRuntime) -> Result<(), Fail> {
     tells(
         &rt,
         rt.alloc(),
-        S1,
+        SHARD_1,
         ". asked; check; w2: request 1 1.1 by 9 out (2, 2); abandon; learn; board 7 open; w1: roll-ask 7 0.0 2
         . board 7 yes; learn
         > take

@@ -1,6 +1,6 @@
 //! Verdicts that a node reads from the board. Nothing is sent.
 
-use crate::cases::{W1, tells};
+use crate::cases::{WORKER_1, tells};
 use std::test::Fail;
 
 #[test]
@@ -8,7 +8,7 @@ fn a_held_node_learns(rt: HostRuntime) -> Result<(), Fail> {
     tells(
         &rt,
         rt.alloc(),
-        W1,
+        WORKER_1,
         ". answered; check
         > learn
         refused: NotDecided
@@ -48,7 +48,7 @@ fn a_rolling_initiator_learns_nothing(rt: HostRuntime) -> Result<(), Fail> {
     tells(
         &rt,
         rt.alloc(),
-        W1,
+        WORKER_1,
         ". fail; restart
         > learn
         refused: WrongMode
@@ -65,7 +65,7 @@ fn a_rolling_participant_learns(rt: HostRuntime) -> Result<(), Fail> {
     tells(
         &rt,
         rt.alloc(),
-        W1,
+        WORKER_1,
         ". answered by both; board 7 open; s1: roll-ask 7 0.0 3
         > learn
         refused: NotDecided
@@ -109,7 +109,7 @@ fn a_node_that_is_down_learns_of_its_tentative_checkpoint(rt: HostRuntime) -> Re
     tells(
         &rt,
         rt.alloc(),
-        W1,
+        WORKER_1,
         ". answered; check; fail
         > learn
         refused: NotDecided
@@ -149,7 +149,7 @@ fn a_node_that_is_down_with_nothing_tentative_learns_nothing(rt: HostRuntime) ->
     tells(
         &rt,
         rt.alloc(),
-        W1,
+        WORKER_1,
         ". answered; fail
         > learn
         refused: NothingThere

@@ -1,6 +1,6 @@
 //! What a node is when it has loaded its permanent checkpoint.
 
-use crate::cases::{S1, W1, tells};
+use crate::cases::{SHARD_1, WORKER_1, tells};
 use std::test::Fail;
 
 #[test]
@@ -8,7 +8,7 @@ fn a_worker_asks_for_what_it_had_asked_for(rt: HostRuntime) -> Result<(), Fail> 
     tells(
         &rt,
         rt.alloc(),
-        W1,
+        WORKER_1,
         ". issue; check; decide; learn; s1: reply 1 1.1 by 3 done to out (1, 1); issue
         . fail; restart; s1: vote 2 2 yes; s2: vote 2 2 yes; decide
         > worker
@@ -34,7 +34,7 @@ fn a_worker_without_a_checkpoint_begins_anew(rt: HostRuntime) -> Result<(), Fail
     tells(
         &rt,
         rt.alloc(),
-        W1,
+        WORKER_1,
         ". answered by both; issue; worker back
         > repeat
         refused: NothingThere
@@ -50,7 +50,7 @@ fn a_shard_has_its_tuples_and_answers_again(rt: HostRuntime) -> Result<(), Fail>
     tells(
         &rt,
         rt.alloc(),
-        S1,
+        SHARD_1,
         ". served; w2: request 1 1.1 by 2 in (7, 7); check; w1: vote 1 1 yes; w2: vote 1 1 yes; decide; learn
         . w1: request 2 1.2 by 9 in (?int, ?int); serve w1 0 by 9
         . fail; restart; w1: vote 2 2 yes; w2: vote 2 2 yes; decide
@@ -75,7 +75,7 @@ fn a_shard_without_a_checkpoint_begins_anew(rt: HostRuntime) -> Result<(), Fail>
     tells(
         &rt,
         rt.alloc(),
-        S1,
+        SHARD_1,
         ". served; asked; shard back
         > serve w1 0 by 1
         refused: NothingThere
@@ -95,7 +95,7 @@ fn labels_are_those_of_the_checkpoint(rt: HostRuntime) -> Result<(), Fail> {
     tells(
         &rt,
         rt.alloc(),
-        W1,
+        WORKER_1,
         ". answered; saved by s1; issue; s2: reply 2 1.4 by 9 done to out (1); fail; restart
         . s1: vote 2 2 yes; s2: vote 2 2 yes; decide; board 7 open; board 8 open
         > s2: check-ask 8 1.2 1

@@ -1,6 +1,6 @@
 //! What a node does of itself only while it is up.
 
-use crate::cases::{S1, W1, tells};
+use crate::cases::{SHARD_1, WORKER_1, tells};
 use std::test::Fail;
 
 /// Held or rolling, as initiator or participant, and down.
@@ -9,7 +9,7 @@ fn workers_ask_and_take_only_while_up(rt: HostRuntime) -> Result<(), Fail> {
     tells(
         &rt,
         rt.alloc(),
-        W1,
+        WORKER_1,
         ". answered by both; issue; check
         > issue
         refused: WrongMode
@@ -57,7 +57,7 @@ fn shards_serve_and_take_only_while_up(rt: HostRuntime) -> Result<(), Fail> {
     tells(
         &rt,
         rt.alloc(),
-        S1,
+        SHARD_1,
         ". served; w2: request 1 1.1 by 8 out (2, 2); check
         > serve w2 0 by 8
         refused: WrongMode
@@ -95,7 +95,7 @@ fn checks_begin_only_while_up(rt: HostRuntime) -> Result<(), Fail> {
     tells(
         &rt,
         rt.alloc(),
-        W1,
+        WORKER_1,
         ". answered by both; check
         > check
         refused: WrongMode
@@ -119,7 +119,7 @@ fn checks_begin_only_while_up(rt: HostRuntime) -> Result<(), Fail> {
     tells(
         &rt,
         rt.alloc(),
-        S1,
+        SHARD_1,
         ". served; check
         > check
         refused: WrongMode
@@ -147,7 +147,7 @@ fn only_what_is_down_or_rolls_as_initiator_restarts(rt: HostRuntime) -> Result<(
     tells(
         &rt,
         rt.alloc(),
-        W1,
+        WORKER_1,
         ". answered by both; check
         > restart
         refused: WrongMode
@@ -171,7 +171,7 @@ fn only_what_votes_decides(rt: HostRuntime) -> Result<(), Fail> {
     tells(
         &rt,
         rt.alloc(),
-        W1,
+        WORKER_1,
         ". answered
         > decide
         refused: WrongMode
@@ -187,7 +187,7 @@ fn what_is_up_abandons_and_learns_nothing(rt: HostRuntime) -> Result<(), Fail> {
     tells(
         &rt,
         rt.alloc(),
-        W1,
+        WORKER_1,
         ". answered
         > abandon
         refused: WrongMode
@@ -213,7 +213,7 @@ fn what_is_down_does_not_fail(rt: HostRuntime) -> Result<(), Fail> {
     tells(
         &rt,
         rt.alloc(),
-        W1,
+        WORKER_1,
         ". answered by both; fail
         > fail
         refused: WrongMode

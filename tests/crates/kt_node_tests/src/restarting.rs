@@ -1,6 +1,6 @@
 //! Nodes that come back.
 
-use crate::cases::{IDLE, S1, W1, tells};
+use crate::cases::{IDLE, SHARD_1, WORKER_1, tells};
 use std::test::Fail;
 
 /// In the next incarnation, each with what the permanent checkpoint has sent to it. Nothing is noted.
@@ -9,7 +9,7 @@ fn what_is_down_asks_all_neighbours(rt: HostRuntime) -> Result<(), Fail> {
     tells(
         &rt,
         rt.alloc(),
-        W1,
+        WORKER_1,
         ". answered; fail
         > restart
         to s1: roll-ask 1 0.0 2
@@ -41,7 +41,7 @@ fn what_is_down_asks_all_neighbours(rt: HostRuntime) -> Result<(), Fail> {
     tells(
         &rt,
         rt.alloc(),
-        S1,
+        SHARD_1,
         ". served; fail
         > restart
         to w1: roll-ask 1 0.0 2
@@ -67,7 +67,7 @@ fn a_tentative_checkpoint_stands_in_the_way(rt: HostRuntime) -> Result<(), Fail>
     tells(
         &rt,
         rt.alloc(),
-        W1,
+        WORKER_1,
         ". answered; check; fail
         > restart
         refused: Unresolved
@@ -102,7 +102,7 @@ fn an_open_instance_of_its_own_stands_in_the_way(rt: HostRuntime) -> Result<(), 
     tells(
         &rt,
         rt.alloc(),
-        W1,
+        WORKER_1,
         ". fail; restart; fail
         > restart
         refused: Unresolved
@@ -120,7 +120,7 @@ fn who_began_a_rollback_that_got_no_begins_another(rt: HostRuntime) -> Result<()
     tells(
         &rt,
         rt.alloc(),
-        W1,
+        WORKER_1,
         ". fail; restart
         > restart
         refused: NotDecided

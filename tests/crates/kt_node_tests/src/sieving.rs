@@ -1,7 +1,7 @@
 //! What an ask to roll back drops of the kept messages: those from the asker above the label, whatever is answered.
 //! s1 has heard 1.1 of w1 and keeps 1.2 of w1, 1.1 of w2 and 1.3 of w1, in this order.
 
-use crate::cases::{S1, tells};
+use crate::cases::{SHARD_1, tells};
 use std::test::Fail;
 
 #[test]
@@ -9,7 +9,7 @@ fn a_yes_while_held_drops_what_is_above_the_label(rt: HostRuntime) -> Result<(),
     tells(
         &rt,
         rt.alloc(),
-        S1,
+        SHARD_1,
         ". keeps three; board 7 open
         > w1: roll-ask 7 1.2 2
         to w1: vote 7 2 yes
@@ -63,7 +63,7 @@ fn a_no_drops_it_too(rt: HostRuntime) -> Result<(), Fail> {
     tells(
         &rt,
         rt.alloc(),
-        S1,
+        SHARD_1,
         ". keeps three; board 7 no
         > w1: roll-ask 7 1.2 2
         to w1: vote 7 2 no
@@ -96,7 +96,7 @@ fn a_node_that_is_up_drops_it_whatever_it_answers(rt: HostRuntime) -> Result<(),
     tells(
         &rt,
         rt.alloc(),
-        S1,
+        SHARD_1,
         ". keeps three; abandon; learn; board 7 open
         > w1: roll-ask 7 1.1 2
         to w1: vote 7 2 yes
@@ -139,7 +139,7 @@ fn a_node_that_rolls_drops_it_whatever_it_answers(rt: HostRuntime) -> Result<(),
     tells(
         &rt,
         rt.alloc(),
-        S1,
+        SHARD_1,
         ". w2: request 1 1.0 by 7 in (9); keeps three; abandon; learn; board 7 open; board 8 open; w2: roll-ask 7 0.0 2
         > w1: roll-ask 7 1.2 2
         to w1: vote 7 2 yes
@@ -175,7 +175,7 @@ fn what_is_kept_does_not_make_a_node_join(rt: HostRuntime) -> Result<(), Fail> {
     tells(
         &rt,
         rt.alloc(),
-        S1,
+        SHARD_1,
         ". check; w1: request 1 1.1 by 1 out (1, 1); abandon; learn; board 7 open
         > w1: roll-ask 7 0.0 2
         to w1: vote 7 2 yes

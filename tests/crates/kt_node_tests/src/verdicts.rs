@@ -1,6 +1,6 @@
 //! Verdicts that a node is told.
 
-use crate::cases::{W1, tells};
+use crate::cases::{WORKER_1, tells};
 use std::test::Fail;
 
 /// To all that it asked, the one that it has the verdict of among them, and to nobody else. Yes makes the tentative
@@ -10,7 +10,7 @@ fn a_held_node_learns_the_verdict_and_passes_it_on(rt: HostRuntime) -> Result<()
     tells(
         &rt,
         rt.alloc(),
-        W1,
+        WORKER_1,
         ". answered by both; board 7 open; s1: check-ask 7 1.1 3
         > s1: verdict 7 yes
         to s1: verdict 7 yes
@@ -44,7 +44,7 @@ fn yes_clears_what_was_sent_first_and_no_does_not(rt: HostRuntime) -> Result<(),
     tells(
         &rt,
         rt.alloc(),
-        W1,
+        WORKER_1,
         ". answered; board 7 open; board 8 open; s1: check-ask 7 1.1 3; s1: verdict 7 yes
         . issue; s2: reply 2 1.4 by 9 done to out (1); issue
         > s1: check-ask 8 1.2 1
@@ -66,7 +66,7 @@ fn a_held_initiator_learns_the_verdict_too(rt: HostRuntime) -> Result<(), Fail> 
     tells(
         &rt,
         rt.alloc(),
-        W1,
+        WORKER_1,
         ". answered by both; check; s1: vote 1 1 yes; s2: vote 1 1 yes; decide
         > s1: verdict 1 yes
         to s1: verdict 1 yes
@@ -89,7 +89,7 @@ fn a_rolling_participant_learns_the_verdict_and_passes_it_on(rt: HostRuntime) ->
     tells(
         &rt,
         rt.alloc(),
-        W1,
+        WORKER_1,
         ". answered by both; board 7 open; s1: roll-ask 7 0.0 3
         > s2: verdict 7 yes
         to s1: verdict 7 yes
@@ -119,7 +119,7 @@ fn a_rolling_initiator_ignores_verdicts(rt: HostRuntime) -> Result<(), Fail> {
     tells(
         &rt,
         rt.alloc(),
-        W1,
+        WORKER_1,
         ". fail; restart
         > s1: verdict 1 yes
         Rolling in 1, asked s1 s2, awaits s1 s2
@@ -138,7 +138,7 @@ fn a_verdict_of_another_instance_is_ignored(rt: HostRuntime) -> Result<(), Fail>
     tells(
         &rt,
         rt.alloc(),
-        W1,
+        WORKER_1,
         ". answered by both; board 7 open; s1: check-ask 7 1.1 3
         > s1: verdict 6 yes
         Held in 7 for s1.3, asked s1 s2, awaits s1 s2
@@ -162,7 +162,7 @@ fn a_node_that_does_not_vote_ignores_verdicts(rt: HostRuntime) -> Result<(), Fai
     tells(
         &rt,
         rt.alloc(),
-        W1,
+        WORKER_1,
         ". answered; saved by s1
         > s1: verdict 1 yes
         Up

@@ -1,6 +1,6 @@
 //! Votes on what a node asked.
 
-use crate::cases::{W1, tells};
+use crate::cases::{WORKER_1, tells};
 use std::test::Fail;
 
 /// An initiator has nobody to vote to.
@@ -9,7 +9,7 @@ fn an_initiator_counts(rt: HostRuntime) -> Result<(), Fail> {
     tells(
         &rt,
         rt.alloc(),
-        W1,
+        WORKER_1,
         ". answered by both; check
         > s1: vote 1 1 yes
         Held in 1, asked s1 s2, awaits s2
@@ -42,7 +42,7 @@ fn a_held_participant_votes_as_its_cohort_does(rt: HostRuntime) -> Result<(), Fa
     tells(
         &rt,
         rt.alloc(),
-        W1,
+        WORKER_1,
         ". answered by both; board 7 open; s1: check-ask 7 1.1 3
         > s2: vote 7 1 yes
         Held in 7 for s1.3, asked s1 s2, awaits s1
@@ -75,7 +75,7 @@ fn a_rolling_participant_votes_as_its_neighbours_do(rt: HostRuntime) -> Result<(
     tells(
         &rt,
         rt.alloc(),
-        W1,
+        WORKER_1,
         ". answered by both; board 7 open; s1: roll-ask 7 0.0 3
         > s2: vote 7 1 yes
         Rolling in 7 for s1.3, asked s1 s2, awaits s1
@@ -109,7 +109,7 @@ fn a_vote_that_is_not_awaited_is_ignored(rt: HostRuntime) -> Result<(), Fail> {
     tells(
         &rt,
         rt.alloc(),
-        W1,
+        WORKER_1,
         ". answered by both; check
         > s1: vote 2 1 no
         Held in 1, asked s1 s2, awaits s1 s2
@@ -177,7 +177,7 @@ fn a_node_that_has_abandoned_votes_no_more(rt: HostRuntime) -> Result<(), Fail> 
     tells(
         &rt,
         rt.alloc(),
-        W1,
+        WORKER_1,
         ". answered by both; board 7 open; s1: check-ask 7 1.1 3; abandon
         > s1: vote 7 1 yes
         Held in 7 for s1.3, asked s1 s2, awaits s2, voted
@@ -196,7 +196,7 @@ fn a_vote_behind_the_verdict_is_a_vote(rt: HostRuntime) -> Result<(), Fail> {
     tells(
         &rt,
         rt.alloc(),
-        W1,
+        WORKER_1,
         ". answered by both; board 7 open; s1: check-ask 7 1.1 3; board 7 no; s1: vote 7 1 yes
         > s2: vote 7 1 yes
         to s1: vote 7 3 yes
@@ -218,7 +218,7 @@ fn a_node_that_asks_nothing_ignores_votes(rt: HostRuntime) -> Result<(), Fail> {
     tells(
         &rt,
         rt.alloc(),
-        W1,
+        WORKER_1,
         ". answered by both; check; abandon; learn
         > s1: vote 1 1 yes
         Up

@@ -12,11 +12,11 @@ use kt_walk::scripts;
 use std::alloc::Global;
 use std::test::Fail;
 
-pub(crate) const W1: NodeId = NodeId::Worker(1);
+pub(crate) const WORKER_1: NodeId = NodeId::Worker(1);
 
-pub(crate) const W2: NodeId = NodeId::Worker(2);
+pub(crate) const WORKER_2: NodeId = NodeId::Worker(2);
 
-pub(crate) const S1: NodeId = NodeId::Shard(1);
+pub(crate) const SHARD_1: NodeId = NodeId::Shard(1);
 
 /// How many shards there are, and the commands of each worker.
 pub(crate) type Cast = (u8, &'static [&'static [&'static str]]);

@@ -1,6 +1,6 @@
 //! What each rule of the policy gives, worked out by hand.
 
-use crate::making::{Cast, Line, S1, W1, W2, faults, make_lines, opened, scene};
+use crate::making::{Cast, Line, SHARD_1, WORKER_1, WORKER_2, faults, make_lines, opened, scene};
 use kt_core::FaultKind::{Check, Fail as Failure};
 use kt_stage::next_for;
 use kt_tuple::NodeId;
@@ -27,27 +27,27 @@ const REQUESTS: [Row; 5] = [
     Row {
         steps: "",
         lines: &[],
-        next: &[(W1, "issue w1"), (S1, "none"), (W2, "none")],
+        next: &[(WORKER_1, "issue w1"), (SHARD_1, "none"), (WORKER_2, "none")],
     },
     Row {
         steps: "issue w1",
         lines: &[],
-        next: &[(W1, "none"), (S1, "deliver w1 s1")],
+        next: &[(WORKER_1, "none"), (SHARD_1, "deliver w1 s1")],
     },
     Row {
         steps: "issue w1, deliver w1 s1",
         lines: &[],
-        next: &[(W1, "none"), (S1, "serve s1 w1 0")],
+        next: &[(WORKER_1, "none"), (SHARD_1, "serve s1 w1 0")],
     },
     Row {
         steps: "issue w1, deliver w1 s1, serve s1 w1 0",
         lines: &[],
-        next: &[(W1, "deliver s1 w1"), (S1, "none")],
+        next: &[(WORKER_1, "deliver s1 w1"), (SHARD_1, "none")],
     },
     Row {
         steps: "issue w1, deliver w1 s1, serve s1 w1 0, deliver s1 w1",
         lines: &[],
-        next: &[(W1, "none"), (S1, "none")],
+        next: &[(WORKER_1, "none"), (SHARD_1, "none")],
     },
 ];
 
@@ -55,35 +55,35 @@ const REQUESTS: [Row; 5] = [
 const DUE: [Row; 6] = [
     Row {
         steps: "",
-        lines: &[(Check, W1, 0), (Failure, W1, 0)],
-        next: &[(W1, "fail w1")],
+        lines: &[(Check, WORKER_1, 0), (Failure, WORKER_1, 0)],
+        next: &[(WORKER_1, "fail w1")],
     },
     Row {
         steps: "",
-        lines: &[(Check, W1, 0), (Failure, W1, 1)],
-        next: &[(W1, "check w1")],
+        lines: &[(Check, WORKER_1, 0), (Failure, WORKER_1, 1)],
+        next: &[(WORKER_1, "check w1")],
     },
     Row {
         steps: "",
-        lines: &[(Check, W1, 1), (Failure, W1, 1), (Failure, S1, 0)],
-        next: &[(W1, "issue w1"), (S1, "fail s1")],
+        lines: &[(Check, WORKER_1, 1), (Failure, WORKER_1, 1), (Failure, SHARD_1, 0)],
+        next: &[(WORKER_1, "issue w1"), (SHARD_1, "fail s1")],
     },
     // one that is down does not fail
     Row {
         steps: "fail w1",
-        lines: &[(Failure, W1, 0)],
-        next: &[(W1, "restart w1")],
+        lines: &[(Failure, WORKER_1, 0)],
+        next: &[(WORKER_1, "restart w1")],
     },
     // one that takes a checkpoint begins no other, but fails
     Row {
         steps: "check w1",
-        lines: &[(Check, W1, 0)],
-        next: &[(W1, "decide w1")],
+        lines: &[(Check, WORKER_1, 0)],
+        next: &[(WORKER_1, "decide w1")],
     },
     Row {
         steps: "check w1",
-        lines: &[(Failure, W1, 0)],
-        next: &[(W1, "fail w1")],
+        lines: &[(Failure, WORKER_1, 0)],
+        next: &[(WORKER_1, "fail w1")],
     },
 ];
 
@@ -92,33 +92,33 @@ const VERDICTS: [Row; 6] = [
     Row {
         steps: "issue w1, deliver w1 s1, serve s1 w1 0, check w1, deliver s1 w1",
         lines: &[],
-        next: &[(W1, "decide w1")],
+        next: &[(WORKER_1, "decide w1")],
     },
     Row {
         steps: "issue w1, deliver w1 s1, serve s1 w1 0, check w1, deliver s1 w1, decide w1",
         lines: &[],
-        next: &[(W1, "learn w1")],
+        next: &[(WORKER_1, "learn w1")],
     },
     Row {
         steps: "issue w1, deliver w1 s1, serve s1 w1 0, check w1, deliver s1 w1, decide w1, learn w1",
         lines: &[],
-        next: &[(W1, "take w1")],
+        next: &[(WORKER_1, "take w1")],
     },
     // one that is down gives up what it began, learns that, and restarts
     Row {
         steps: "check w1, fail w1",
         lines: &[],
-        next: &[(W1, "abandon w1")],
+        next: &[(WORKER_1, "abandon w1")],
     },
     Row {
         steps: "check w1, fail w1, abandon w1",
         lines: &[],
-        next: &[(W1, "learn w1")],
+        next: &[(WORKER_1, "learn w1")],
     },
     Row {
         steps: "check w1, fail w1, abandon w1, learn w1",
         lines: &[],
-        next: &[(W1, "restart w1")],
+        next: &[(WORKER_1, "restart w1")],
     },
 ];
 
@@ -127,36 +127,36 @@ const ANEW: [Row; 6] = [
     Row {
         steps: "fail w1, restart w1, abandon w1",
         lines: &[],
-        next: &[(W1, "restart w1"), (S1, "deliver w1 s1")],
+        next: &[(WORKER_1, "restart w1"), (SHARD_1, "deliver w1 s1")],
     },
     // both got No: the first in node order restarts, the other hears
     Row {
         steps: "fail w1, fail s1, restart w1, restart s1, abandon w1, abandon s1",
         lines: &[],
-        next: &[(W1, "restart w1"), (S1, "deliver w1 s1")],
+        next: &[(WORKER_1, "restart w1"), (SHARD_1, "deliver w1 s1")],
     },
     // the other is down
     Row {
         steps: "fail w1, restart w1, abandon w1, fail s1",
         lines: &[],
-        next: &[(W1, "none"), (S1, "restart s1")],
+        next: &[(WORKER_1, "none"), (SHARD_1, "restart s1")],
     },
     // the vote of s1 may still come: the ask is on its way, and then that of s1
     Row {
         steps: "issue w1, deliver w1 s1, serve s1 w1 0, deliver s1 w1, check w1",
         lines: &[],
-        next: &[(W1, "none"), (S1, "deliver w1 s1")],
+        next: &[(WORKER_1, "none"), (SHARD_1, "deliver w1 s1")],
     },
     Row {
         steps: "issue w1, deliver w1 s1, serve s1 w1 0, deliver s1 w1, check w1, deliver w1 s1",
         lines: &[],
-        next: &[(W1, "deliver s1 w1"), (S1, "none")],
+        next: &[(WORKER_1, "deliver s1 w1"), (SHARD_1, "none")],
     },
     // s1 was down when the ask came
     Row {
         steps: "issue w1, deliver w1 s1, serve s1 w1 0, deliver s1 w1, check w1, fail s1, deliver w1 s1",
         lines: &[],
-        next: &[(W1, "abandon w1"), (S1, "restart s1")],
+        next: &[(WORKER_1, "abandon w1"), (SHARD_1, "restart s1")],
     },
 ];
 
@@ -166,13 +166,13 @@ const LOST: [Row; 2] = [
         steps: "issue w1, check w1, decide w1, learn w1, deliver w1 s1, serve s1 w1 0, deliver s1 w1, fail w1, \
 restart w1, deliver w1 s1, deliver s1 w1, decide w1",
         lines: &[],
-        next: &[(W1, "repeat w1"), (S1, "deliver w1 s1")],
+        next: &[(WORKER_1, "repeat w1"), (SHARD_1, "deliver w1 s1")],
     },
     Row {
         steps: "issue w1, check w1, decide w1, learn w1, deliver w1 s1, serve s1 w1 0, deliver s1 w1, fail w1, \
 restart w1, deliver w1 s1, deliver s1 w1, decide w1, repeat w1",
         lines: &[],
-        next: &[(W1, "none"), (S1, "deliver w1 s1")],
+        next: &[(WORKER_1, "none"), (SHARD_1, "deliver w1 s1")],
     },
 ];
 
@@ -181,17 +181,17 @@ const TWO: [Row; 3] = [
     Row {
         steps: "issue w2, issue w1",
         lines: &[],
-        next: &[(S1, "deliver w1 s1")],
+        next: &[(SHARD_1, "deliver w1 s1")],
     },
     Row {
         steps: "issue w1, deliver w1 s1, issue w2, deliver w2 s1",
         lines: &[],
-        next: &[(W1, "none"), (W2, "none"), (S1, "serve s1 w2 0")],
+        next: &[(WORKER_1, "none"), (WORKER_2, "none"), (SHARD_1, "serve s1 w2 0")],
     },
     Row {
         steps: "issue w1, deliver w1 s1, issue w2, deliver w2 s1, serve s1 w2 0",
         lines: &[],
-        next: &[(W2, "deliver s1 w2"), (S1, "serve s1 w1 0")],
+        next: &[(WORKER_2, "deliver s1 w2"), (SHARD_1, "serve s1 w1 0")],
     },
 ];
 

@@ -1,6 +1,6 @@
 //! Runs by threads.
 
-use crate::making::{Cast, Line, S1, W1, faults, make_all, opened, report, scene};
+use crate::making::{Cast, Line, SHARD_1, WORKER_1, faults, make_all, opened, report, scene};
 use kt_core::{FaultKind, Faults, OpenError, Scene, Step};
 use kt_stage::{RunFault, run_threads, unfinished};
 use kt_store::MemStore;
@@ -24,7 +24,7 @@ const THREADS_AND_A_FAULT: Row = (
             "rd (\"k\")",
         ]],
     ),
-    &[(FaultKind::Fail, S1, 3)],
+    &[(FaultKind::Fail, SHARD_1, 3)],
     b"survivors 5\nw1.1 out (\"k\") done\nw1.2 out (\"k\", 7) done\nw1.3 in (\"k\", ?int) got (\"k\", 7)\n\
 w1.4 out (\"done\", 7) done\nw1.5 rd (\"k\") got (\"k\")\nlost 4\nspace 2\n(\"done\", 7)\n(\"k\")\npermanent 0\n",
 );
@@ -38,7 +38,7 @@ const NOTHING_TO_DO: Row = (
 
 const TWO_CHECKS: Row = (
     (1, &[&["out (\"k\")", "out (\"k\")"]]),
-    &[(FaultKind::Check, W1, 4), (FaultKind::Check, S1, 5)],
+    &[(FaultKind::Check, WORKER_1, 4), (FaultKind::Check, SHARD_1, 5)],
     b"survivors 2\nw1.1 out (\"k\") done\nw1.2 out (\"k\") done\nlost 0\nspace 2\n(\"k\")\n(\"k\")\n",
 );
 
@@ -110,7 +110,7 @@ fn a_store_that_was_used(rt: HostRuntime) -> Result<(), Fail> {
     let alloc = rt.alloc();
     let (cast, _, _) = TWO_CHECKS;
     let mut world = opened(alloc, scene(alloc, cast)?)?;
-    make_all(alloc, &mut world, &[Step::Check { node: W1 }])?;
+    make_all(alloc, &mut world, &[Step::Check { node: WORKER_1 }])?;
     let store = world.into_store();
     let faults = Faults::new(alloc);
     let fault = run_threads(&rt, alloc, scene(alloc, cast)?, faults, store).err();

@@ -1,6 +1,6 @@
 //! Seats, and what a stage is closed with.
 
-use crate::making::{Cast, S1, W1, faults, opened, scene};
+use crate::making::{Cast, SHARD_1, WORKER_1, faults, opened, scene};
 use kt_core::{FaultKind, Step, StepError};
 use kt_stage::{
     ActError, CloseError, Journal, Naming, Receipt, Seat, Stage, node_count, unfinished,
@@ -24,9 +24,9 @@ fn ask<R: Wait + Abort, L: Naming>(
     worker: &mut Seat<L>,
     shard: &mut Seat<L>,
 ) -> Step {
-    let step = Step::Issue { node: W1 };
+    let step = Step::Issue { node: WORKER_1 };
     let receipt = Receipt { number: 1, step };
-    assert!(rt; worker.node() == W1 && shard.node() == S1);
+    assert!(rt; worker.node() == WORKER_1 && shard.node() == SHARD_1);
     assert!(rt; stage.act(rt, alloc, worker, step) == Ok(receipt));
     assert!(rt; stage.act(rt, alloc, shard, step) == Err(ActError::NotOwner));
     let again = stage.act(rt, alloc, worker, step);
@@ -46,10 +46,10 @@ fn is_unfinished(
     step: Step,
 ) -> Result<(), Fail> {
     let mut none = faults(alloc, &[])?;
-    let mut due = faults(alloc, &[(FaultKind::Fail, W1, 1)])?;
-    assert!(rt; journal.steps() == [step].as_slice() && journal.world().steps_of(W1) == 1);
-    assert!(rt; unfinished(alloc, journal, &mut none) == Ok(Some(S1)));
-    assert!(rt; unfinished(alloc, journal, &mut due) == Ok(Some(W1)));
+    let mut due = faults(alloc, &[(FaultKind::Fail, WORKER_1, 1)])?;
+    assert!(rt; journal.steps() == [step].as_slice() && journal.world().steps_of(WORKER_1) == 1);
+    assert!(rt; unfinished(alloc, journal, &mut none) == Ok(Some(SHARD_1)));
+    assert!(rt; unfinished(alloc, journal, &mut due) == Ok(Some(WORKER_1)));
     assert!(rt; journal.steps() == [step].as_slice());
     Ok(())
 }
@@ -76,7 +76,7 @@ fn close<R: Wait + Abort, L: Naming>(
         Ok(journal) => (None, journal),
         Err((cause, journal)) => (Some(cause), journal),
     };
-    let missing = CloseError::SeatMissing { node: S1 };
+    let missing = CloseError::SeatMissing { node: SHARD_1 };
     assert!(rt; cause == if with_all { None } else { Some(missing) });
     is_unfinished(rt, alloc, &mut journal, step)
 }
@@ -97,7 +97,7 @@ fn close_both<R: Wait + Abort, L: Naming, M: Naming>(
     let (stage, mut seats) = Stage::<MemStore, L>::open(alloc, world, blank)?;
     let (other_stage, other_seats) = Stage::<MemStore, M>::open(alloc, other_world, other_blank)?;
     let worker = seats.get_mut(0).ok_or("a seat")?;
-    let (ask, again) = (Step::Issue { node: W1 }, Step::Repeat { node: W1 });
+    let (ask, again) = (Step::Issue { node: WORKER_1 }, Step::Repeat { node: WORKER_1 });
     stage.act(rt, alloc, worker, ask).ok().ok_or("a step")?;
     stage.act(rt, alloc, worker, again).ok().ok_or("a step")?;
     let other = other_stage.close(other_seats).ok().ok_or("a journal")?;
