@@ -1,9 +1,10 @@
 //! What a world lends of its links and nodes, and what it allows.
 
-use crate::making::{S1, S2, W1, opened, scripts, step};
+use crate::making::{S1, S2, W1, opened, scripts};
 use crate::worlds::PUTTER_AND_TAKER;
 use kt_core::Step;
 use kt_node::{Message, Talk};
+use kt_walk::lines::step;
 use kt_walk::scenes::Game;
 use std::alloc::Global;
 use std::process::Abort;

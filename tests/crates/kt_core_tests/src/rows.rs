@@ -1,11 +1,12 @@
 //! Scenes in rows: each step with what comes of it, and how the world stands then.
 
-use crate::making::{opened, scripts, step};
+use crate::making::{opened, scripts};
 use crate::texts::{note_text, service_texts, space_texts};
 use kt_core::Step;
 use kt_history::Note;
 use kt_node::Mode;
 use kt_tuple::NodeId;
+use kt_walk::lines::step;
 use kt_walk::scenes::Game;
 use std::alloc::Global;
 use std::process::Abort;

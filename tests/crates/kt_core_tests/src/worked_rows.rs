@@ -1,6 +1,6 @@
 //! Worked scenarios with failures: after each of their steps all that is promised holds, worked out slowly.
 
-use crate::making::{opened, scripts, step};
+use crate::making::{opened, scripts};
 use crate::states;
 use kt_store::MemStore;
 use kt_tuple::Tuple;
@@ -8,6 +8,7 @@ use kt_walk::cast::Cast;
 use kt_walk::cuts;
 use kt_walk::finding::Finding;
 use kt_walk::fronts::agrees;
+use kt_walk::lines::step;
 use kt_walk::scenes::Game;
 use kt_walk::slowly::Pasts;
 use std::alloc::Global;

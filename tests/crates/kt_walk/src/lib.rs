@@ -1,5 +1,5 @@
 //! Random walks through scenes, and slow computations from notes, nodes and store of what must hold after each step.
-//! They have no contract: the tests of kt_core_tests and the program of `bench/walk` stand on them.
+//! They have no contract: the tests of kt_core_tests and kt_stage_tests and the program of `bench/walk` stand on them.
 #![tactic(auto)]
 
 pub mod cast;
@@ -8,6 +8,7 @@ pub mod draws;
 pub mod finding;
 pub mod fronts;
 mod kinds;
+pub mod lines;
 pub mod numbers;
 pub mod runs;
 pub mod scenes;

@@ -92,7 +92,7 @@ fn random_cast(draws: &mut Draws) -> Cast {
 }
 
 /// Who takes part in the scene of this seed.
-pub(crate) fn cast_of(seed: u64) -> Cast {
+pub fn cast_of(seed: u64) -> Cast {
     random_cast(&mut Draws::of(seed))
 }
 

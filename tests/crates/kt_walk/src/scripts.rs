@@ -59,7 +59,7 @@ fn operation(alloc: Global, word: &str, text: &str) -> Result<Operation, Finding
 }
 
 /// The command of this text: an operation without variables, or `unless`.
-pub(crate) fn command(alloc: Global, text: &str) -> Result<Command, Finding> {
+pub fn command(alloc: Global, text: &str) -> Result<Command, Finding> {
     let (word, rest) = text.split_once(' ').ok_or(NO_COMMAND)?;
     if word == "unless" {
         let skipped = rest.parse::<u8>().ok().ok_or(NO_COMMAND)?;

@@ -1,0 +1,73 @@
+-- What one step more makes of a journal.
+use Rattle.std.proofs.Common.{◌≡◌, ℕ, ◌+◌, length, length-append, arith, Bool, true, false, List, [], ◌∷◌, ◌++◌, Result, Ok, refl, sym, ap, subst, ◌∙◌}
+use Rattle.std.specs.Prelude.{◌&&◌, IsTrue}
+use Rattle.std.specs.List.{list_all}
+use Rattle.kt_tuple.specs.declared.node.NodeId.{NodeId}
+use Rattle.kt_world.specs.declared.step.Step.{Step}
+use Rattle.kt_world.specs.declared.step.StepError.{StepError}
+use Rattle.kt_world.specs.declared.step.StepError.TheVariants as refusals
+use Rattle.kt_world.specs.Cast.{Cast}
+use Rattle.kt_world.specs.Effect.{step_result}
+use Rattle.kt_world.specs.State.{State}
+use Rattle.kt_world.specs.Step.{owner}
+use Rattle.kt_core.specs.Stepping.{Refuses}
+use Rattle.kt_core.specs.World.{Standing}
+use Rattle.kt_stage.specs.Acting.{RefusesStep}
+use Rattle.kt_stage.specs.Order.{has_node}
+use Rattle.kt_stage.specs.Journal.{Replays, all_made, are_owned, made_from, then_made}
+
+made-more : (so_far : Result State StepError) (steps : List Step) (step : Step) → made_from so_far (steps ++ step ∷ []) ≡ then_made (made_from so_far steps) step
+unfolding made_from
+made-more so_far [] step = refl
+made-more so_far (first ∷ later) step = made-more (then_made so_far first) later step
+
+-- a step that was made
+pub replays_more : (opening old new : Standing) (steps more : List Step) (step : Step) → Replays opening old steps → more ≡ steps ++ step ∷ []
+    → (IsTrue new.is_honest → IsTrue old.is_honest) → (IsTrue new.is_honest → step_result old.state step ≡ Ok new.state) → Replays opening new more
+replays_more opening old new steps more step before is honest made h =
+    let b = before (honest h) in
+    (b.0, ap (all_made opening.state) is ∙ made-more (Ok opening.state) steps step ∙ ap (λ (s : Result State StepError). then_made s step) b.1 ∙ made h)
+
+-- the world stays
+pub replays_still : (opening old new : Standing) (steps same : List Step) → Replays opening old steps → same ≡ steps
+    → (IsTrue new.is_honest → IsTrue old.is_honest) → (IsTrue new.is_honest → new.state ≡ old.state) → Replays opening new same
+replays_still opening old new steps same before is honest stays h =
+    let b = before (honest h) in (b.0, ap (all_made opening.state) is ∙ b.1 ∙ ap Ok (sym (stays h)))
+
+-- nothing is made at the opening
+pub replays_none : (opening : Standing) → Replays opening opening []
+unfolding made_from
+replays_none opening h = (h, refl)
+
+-- at the opening
+pub replays_opened : (opening world : Standing) (steps : List Step) → opening ≡ world → steps ≡ [] → Replays opening world steps
+replays_opened opening world steps is none = subst (λ (w : Standing). Replays opening w steps) is (subst (λ (xs : List Step). Replays opening opening xs) (sym none) (replays_none opening))
+
+all-more : {A : Type 0} (p : A → Bool) (xs : List A) (x : A) → list_all p xs ≡ true → p x ≡ true → list_all p (xs ++ x ∷ []) ≡ true
+all-more p [] x all one = rw one refl
+all-more p (y ∷ xs) x all one = by (p y) (λ e. all-more p xs x e one) all
+  where
+    by : (b : Bool) → (list_all p xs ≡ true → list_all p (xs ++ x ∷ []) ≡ true) → (b && list_all p xs) ≡ true → (b && list_all p (xs ++ x ∷ [])) ≡ true
+    by true later e = later e
+    by false later e = e
+
+pub owned_more : (cast : Cast) (steps more : List Step) (step : Step) (p : NodeId) → are_owned cast steps ≡ true → more ≡ steps ++ step ∷ [] → owner step ≡ p → has_node cast p ≡ true → are_owned cast more ≡ true
+owned_more cast steps more step p owned is own there =
+    ap (are_owned cast) is ∙ all-more (λ (s : Step). has_node cast (owner s)) steps step owned (ap (has_node cast) own ∙ there)
+
+pub counted_more : (old new : ℕ) (steps more : List Step) (step : Step) → old ≡ length steps → new ≡ old + 1 → more ≡ steps ++ step ∷ [] → new ≡ length more
+counted_more old new steps more step before one is =
+    let longer : length (steps ++ step ∷ []) ≡ length steps + 1 = omega (arith, length-append steps (step ∷ [])) in
+    one ∙ ap (λ (n : ℕ). n + 1) before ∙ sym longer ∙ ap length (sym is)
+
+-- a step's refusal is the one that is due
+pub refuses_step : {Y : Type 0} (e : StepError) (due : Result Y StepError) → Refuses e due → RefusesStep e due
+refuses_step refusals.NoNode due is = is
+refuses_step refusals.WrongMode due is = is
+refuses_step refusals.NothingThere due is = is
+refuses_step refusals.NoSuchMatch due is = is
+refuses_step refusals.NotDecided due is = is
+refuses_step refusals.Unresolved due is = is
+refuses_step refusals.StepLimit due is = is
+refuses_step (refusals.Store refusal) due is = is
+refuses_step refusals.OutOfMemory due is = tt

@@ -1,0 +1,29 @@
+-- Why a node does not act.
+use Rattle.std.specs.Prelude.{◌≢◌, ℕ, Bool, Result}
+use Rattle.kt_tuple.specs.declared.node.NodeId.{NodeId}
+use Rattle.kt_world.specs.declared.step.Step.{Step}
+use Rattle.kt_world.specs.declared.step.StepError.{StepError}
+use Rattle.kt_world.specs.declared.step.StepError.TheVariants as refusals
+use Rattle.kt_world.specs.Step.{owner}
+use Rattle.kt_core.specs.Stepping.{IsCause, Refuses}
+use Rattle.kt_stage.specs.declared.error.ActError.{ActError}
+use Rattle.kt_stage.specs.declared.error.ActError.TheVariants as errors
+
+-- it is said to be another node's only where it is
+abbrev pub IsOthers : NodeId → Step → ActError → Type 0
+IsOthers p step errors.NotOwner = owner step ≢ p
+IsOthers p step (errors.Step refusal) = Unit {0}
+
+-- the step is refused for the reason that is due; want of memory may come before that is known
+abbrev pub RefusesStep : {Y : Type 0} → StepError → Result Y StepError → Type 0
+RefusesStep refusals.OutOfMemory due = Unit {0}
+RefusesStep refusal due = Refuses refusal due
+
+abbrev pub RefusesAct : {Y : Type 0} → ActError → Result Y StepError → Type 0
+RefusesAct errors.NotOwner due = Unit {0}
+RefusesAct (errors.Step refusal) due = RefusesStep refusal due
+
+-- a store's refusal comes where a call of the store was refused, or gave a checkpoint that does not fit the node
+abbrev pub IsActCause : {Y : Type 0} → ℕ → ℕ → Bool → Result Y StepError → ActError → Type 0
+IsActCause before now is_honest due errors.NotOwner = Unit {0}
+IsActCause before now is_honest due (errors.Step refusal) = IsCause before now is_honest due refusal

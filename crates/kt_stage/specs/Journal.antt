@@ -1,0 +1,65 @@
+-- The journal of a stage: all steps that were made, each at its place; and what its seats keep of them.
+use Rattle.std.specs.Prelude.{◌≡◌, ℕ, ◌+◌, Bool, if◌then◌else◌, List, [], ◌∷◌, ◌++◌}
+use Rattle.std.specs.Prelude.{Result, Ok, Err, IsTrue}
+use Rattle.std.specs.List.{list_all}
+use Rattle.kt_tuple.specs.declared.node.NodeId.{NodeId}
+use Rattle.kt_tuple.specs.Node.{node_eq}
+use Rattle.kt_world.specs.declared.step.Step.{Step}
+use Rattle.kt_world.specs.declared.step.StepError.{StepError}
+use Rattle.kt_world.specs.Cast.{Cast}
+use Rattle.kt_world.specs.Effect.{step_result}
+use Rattle.kt_world.specs.State.{State}
+use Rattle.kt_world.specs.Step.{owner}
+use Rattle.kt_core.specs.World.{Standing}
+use Rattle.kt_stage.specs.Order.{has_node}
+use Rattle.kt_stage.specs.declared.seat.Receipt.{Receipt}
+
+-- what a journal is to its callers
+pub record Journal : Type 0 where
+  pub world : Standing
+  pub steps : List Step
+
+-- the step is made, if what came before it was
+abbrev pub then_made : Result State StepError → Step → Result State StepError
+then_made (Ok s) step = step_result s step
+then_made (Err refusal) step = Err refusal
+
+-- the state that these steps lead to, each of them made
+unfoldable pub made_from : Result State StepError → List Step → Result State StepError
+made_from so_far [] = so_far
+made_from so_far (step ∷ later) = made_from (then_made so_far step) later
+
+abbrev pub all_made : State → List Step → Result State StepError
+all_made s steps = made_from (Ok s) steps
+
+-- while the store is honest, as it was then too, the steps lead from the one world to the other, each of them made
+abbrev pub Replays : Standing → Standing → List Step → Type 0
+Replays opening world steps =
+    IsTrue world.is_honest → IsTrue opening.is_honest × (all_made opening.state steps ≡ Ok world.state)
+
+-- each step is of a node of the scene
+abbrev pub are_owned : Cast → List Step → Bool
+are_owned cast steps = list_all (λ step. has_node cast (owner step)) steps
+
+-- ---- what the seats keep
+
+abbrev pub receipt : ℕ → Step → Receipt
+receipt number step = record { number = number; step = step }
+
+-- what a node keeps of a step with this place: a receipt, where the step is its own
+abbrev pub kept_of : NodeId → ℕ → Step → List Receipt
+kept_of p number step = if node_eq (owner step) p then receipt number step ∷ [] else []
+
+-- what it keeps of these steps, of which the first has this place
+unfoldable pub receipts_of : NodeId → ℕ → List Step → List Receipt
+receipts_of p number [] = []
+receipts_of p number (step ∷ later) = kept_of p number step ++ receipts_of p (number + 1) later
+
+-- what a seat is to its callers: whose it is, and what it keeps
+pub record Held : Type 0 where
+  pub node : NodeId
+  pub receipts : List Receipt
+
+-- the seat of a node that has made no step
+abbrev pub empty_seat : NodeId → Held
+empty_seat p = record { node = p; receipts = [] }

@@ -1,0 +1,125 @@
+//! What lies under a stage's lock.
+
+ghost use Rattle.std.specs.Prelude.{◌≡◌, ◌↔◌, ◌++◌, ◌∷◌, [], length, true, vec_len, IfErr, IfOk, IsTrue, Ok, OnErr, OnOk};
+ghost use Rattle.kt_core.specs.Stepping.{IsCause};
+ghost use Rattle.kt_core.specs.World.{beside};
+ghost use Rattle.kt_stage.specs.Acting.{IsActCause, IsOthers, RefusesAct, RefusesStep};
+ghost use Rattle.kt_stage.specs.Asking.{IsAsked};
+ghost use Rattle.kt_stage.specs.Journal.{Replays, are_owned, receipt};
+ghost use Rattle.kt_stage.specs.Policy.{next_step};
+ghost use Rattle.kt_world.specs.Effect.{step_result};
+ghost use Rattle.kt_world.specs.Judge.{planned};
+ghost use Rattle.kt_world.specs.Step.{owner};
+
+use crate::error::ActError;
+use crate::journal::Journal;
+use crate::naming::Naming;
+use crate::policy::next_for;
+use crate::seat::{Receipt, Seat};
+use kt_core::{Faults, Step, StepError};
+use kt_store::{CkptStore, StoreError};
+use kt_tuple::NodeId;
+use std::alloc::Global;
+use std::sync::ledger::Book;
+
+/// The journal of the stage that L names, and the book of its ledger. While the store is honest the world is what the
+/// steps lead to from the world that the stage was opened with; the book's total is their number.
+#[derive(Drop)]
+pub struct Desk<S: CkptStore, L: Naming> {
+    pub(crate) journal: Journal<S>,
+    pub(crate) book: Book<L>,
+    ghost replays: { Replays L.opening journal.world journal.steps },
+    ghost counted: { book.total ≡ length journal.steps },
+    ghost owned: { are_owned L.opening.state.cast journal.steps ≡ true },
+}
+
+/// Whether the step is the node's own.
+fn is_own(node: NodeId, step: Step) -> bool
+    ensures { IsTrue result ↔ (owner step ≡ node) }
+{
+    step.owner() == node
+}
+
+impl<S: CkptStore> Journal<S> {
+    /// Makes the step, and adds it to the list.
+    fn make(&mut self, alloc: Global, step: Step) -> Result<(), StepError>
+        ensures made { OnOk result (self.new.steps ≡ self.old.steps ++ step ∷ []) }
+        ensures effect { IsTrue self.new.world.is_honest → OnOk result (step_result self.old.world.state step ≡ Ok self.new.world.state) }
+        ensures steps { OnErr result (self.new.steps ≡ self.old.steps) }
+        ensures same { IsTrue self.new.world.is_honest → OnErr result (self.new.world.state ≡ self.old.world.state) }
+        ensures beside { OnErr result (beside self.new.world.state ≡ beside self.old.world.state) }
+        ensures honest { IsTrue self.new.world.is_honest → IsTrue self.old.world.is_honest }
+        ensures refusal { IsTrue self.new.world.is_honest
+            → IfErr result (λ e. RefusesStep e (planned self.old.world.state step)) }
+        ensures cause { IfErr result (IsCause self.old.world.faults self.new.world.faults self.new.world.is_honest
+            (planned self.old.world.state step)) }
+    {
+        if self.steps.reserve(1).is_err() {
+            return Err(StepError::OutOfMemory);
+        }
+        match self.world.step(alloc, step) {
+            Ok(()) => {
+                self.steps.push_reserved(step);
+                Ok(())
+            }
+            Err(refusal) => Err(refusal),
+        }
+    }
+}
+
+impl<S: CkptStore, L: Naming> Desk<S, L> {
+    /// What the policy gives the node next, where the fault lines are spent so. The journal stays.
+    pub(crate) fn next_for(
+        &mut self,
+        alloc: Global,
+        faults: &Faults,
+        node: NodeId,
+    ) -> Result<Option<Step>, StoreError>
+        ensures next { IsAsked self.old.journal.world self.new.journal.world (λ s x. x ≡ next_step s faults.now node) result }
+        ensures steps { self.new.journal.steps ≡ self.old.journal.steps }
+    {
+        let Desk { journal, .. } = self;
+        next_for(&mut journal.world, alloc, faults, node)
+    }
+
+    /// Makes the step of the seat's node, and gives the receipt that the seat keeps then. A refusal leaves the seat and
+    /// the journal: `NotOwner` comes only where the step is another node's, and `Step` where the world refuses the step,
+    /// or memory runs out.
+    pub fn act(
+        &mut self,
+        alloc: Global,
+        seat: &mut Seat<L>,
+        step: Step,
+    ) -> Result<Receipt, ActError>
+        ensures receipt { IfOk result (λ r. r ≡ receipt (length self.new.journal.steps) step) }
+        ensures seat { IfOk result (λ r. seat.new.receipts ≡ seat.old.receipts ++ r ∷ []) }
+        ensures journal { OnOk result (self.new.journal.steps ≡ self.old.journal.steps ++ step ∷ []) }
+        ensures effect { IsTrue self.new.journal.world.is_honest
+            → OnOk result (step_result self.old.journal.world.state step ≡ Ok self.new.journal.world.state) }
+        ensures node { seat.new.node ≡ seat.old.node }
+        ensures not_owner { IfErr result (IsOthers seat.old.node step) }
+        ensures refusal { IsTrue self.new.journal.world.is_honest
+            → IfErr result (λ e. RefusesAct e (planned self.old.journal.world.state step)) }
+        ensures cause { IfErr result (IsActCause self.old.journal.world.faults self.new.journal.world.faults
+            self.new.journal.world.is_honest (planned self.old.journal.world.state step)) }
+        ensures same_seat { OnErr result (seat.new.receipts ≡ seat.old.receipts) }
+        ensures same_steps { OnErr result (self.new.journal.steps ≡ self.old.journal.steps) }
+        ensures same { IsTrue self.new.journal.world.is_honest
+            → OnErr result (self.new.journal.world.state ≡ self.old.journal.world.state) }
+        ensures beside { OnErr result (beside self.new.journal.world.state ≡ beside self.old.journal.world.state) }
+    {
+        if !is_own(seat.node, step) {
+            return Err(ActError::NotOwner);
+        }
+        if seat.receipts.reserve(1).is_err() {
+            return Err(ActError::Step(StepError::OutOfMemory));
+        }
+        let Desk { journal, book } = self;
+        journal.make(alloc, step)?;
+        let number = journal.steps.len() as u64;
+        let receipt = Receipt { number, step };
+        seat.receipts.push_reserved(receipt);
+        book.add(&mut seat.share, 1);
+        Ok(receipt)
+    }
+}

@@ -1,0 +1,26 @@
+//! Why a node did not act.
+
+use kt_core::StepError;
+use thiserror::Error;
+
+/// Why a node did not act.
+#[derive(Clone, Copy, Debug, PartialEq, Eq, Error)]
+pub enum ActError {
+    /// The step is another node's.
+    #[error("NotOwner")]
+    NotOwner,
+    /// The step was refused.
+    #[error("Step")]
+    Step(StepError),
+}
+
+impl From<StepError> for ActError {
+    ghost use Rattle.std.specs.Prelude.{◌≡◌};
+    ghost use Rattle.kt_stage.specs.declared.error.ActError.TheVariants.{Step};
+
+    ghost from_gives = { λ refusal e. e ≡ Step refusal };
+
+    fn from(refusal: StepError) -> ActError {
+        ActError::Step(refusal)
+    }
+}

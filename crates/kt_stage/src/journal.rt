@@ -1,0 +1,45 @@
+//! The journal: a world, and all steps that were made in it.
+
+ghost use Rattle.std.specs.Prelude.{◌≡◌};
+
+use kt_core::{Step, World};
+use kt_store::CkptStore;
+use std::marker::Model;
+
+/// A world, and all steps that were made in it on a stage.
+#[derive(Debug, Drop)]
+pub struct Journal<S: CkptStore> {
+    pub(crate) world: World<S>,
+    pub(crate) steps: Vec<Step>,
+}
+
+impl<S: CkptStore> Model for Journal<S> {
+    ghost use Rattle.kt_stage.specs.Journal.{Journal};
+
+    ghost Value = { Journal };
+
+    ghost view = { λ j. record { world = j.world; steps = j.steps.items } };
+}
+
+impl<S: CkptStore> Journal<S> {
+    /// The world.
+    pub fn world(&self) -> &World<S>
+        ensures { result.now ≡ self.now.world }
+    {
+        &self.world
+    }
+
+    /// The steps, the first first.
+    pub fn steps(&self) -> &[Step]
+        ensures { result.now ≡ self.now.steps }
+    {
+        &self.steps
+    }
+
+    /// Hands the world on.
+    pub fn into_world(self) -> World<S>
+        ensures { result ≡ self.world }
+    {
+        self.world
+    }
+}

@@ -1,0 +1,312 @@
+//! What a node does next of itself, while a scenario of fault lines is run.
+
+ghost use Rattle.std.specs.Prelude.{◌≡◌, IfOk, IfSome, IsTrue};
+ghost use Rattle.std.specs.List.{list_all};
+ghost use Rattle.kt_core.specs.Lent.{is_allowed};
+ghost use Rattle.kt_world.specs.Step.{owner};
+ghost use Rattle.kt_stage.specs.Asking.{IsAsked};
+ghost use Rattle.kt_stage.specs.Policy.{asks, by_rule, checks, comes_back, fails, first_some, first_unfinished, gives_up, has_sent, hears};
+ghost use Rattle.kt_stage.specs.Policy.{if_unfinished, lets_restart, next_step, repeats, serves_with_first, tries_again};
+
+use crate::asking::{
+    got_no, if_allowed, is_down, is_lost_request, is_up, lets_restart, waits_in_vain,
+};
+use crate::order::{NAMES, WORKERS};
+use kt_core::{FaultKind, Faults, Step, World};
+use kt_store::{CkptStore, StoreError};
+use kt_tuple::NodeId;
+use std::alloc::Global;
+
+/// A rule of the policy: what a node does where it applies.
+#[derive(Clone, Copy, Debug, PartialEq, Eq)]
+pub enum Rule {
+    /// It fails, where that is due.
+    Fails,
+    /// It begins a check, where that is due.
+    Checks,
+    /// It learns a verdict.
+    Learns,
+    /// It is down, and gives up the instance that it began, or restarts.
+    ComesBack,
+    /// Its rollback got No, and it restarts.
+    TriesAgain,
+    /// It decides.
+    Decides,
+    /// It hears the first node that has sent it something.
+    Hears,
+    /// It takes what it keeps back.
+    Takes,
+    /// It asks for the next operation, or once more for the last one.
+    Asks,
+    /// It serves the first worker that it can serve.
+    Serves,
+    /// It gives up, where it waits in vain for a vote.
+    GivesUp,
+}
+
+/// The rules in the order in which they are tried.
+const POLICY: [Rule; 11] = [
+    Rule::Fails,
+    Rule::Checks,
+    Rule::Learns,
+    Rule::ComesBack,
+    Rule::TriesAgain,
+    Rule::Decides,
+    Rule::Hears,
+    Rule::Takes,
+    Rule::Asks,
+    Rule::Serves,
+    Rule::GivesUp,
+];
+
+/// A failure that is due, of a node that is not down.
+fn fails<S: CkptStore>(world: &World<S>, faults: &Faults, node: NodeId) -> Option<Step>
+    ensures { result ≡ fails world.now.state faults.now node }
+{
+    if !is_down(world, node) && faults.is_due(FaultKind::Fail, node, world.steps_of(node)) {
+        Some(Step::Fail { node })
+    } else {
+        None
+    }
+}
+
+/// A check that is due, of a node that is up.
+fn checks<S: CkptStore>(world: &World<S>, faults: &Faults, node: NodeId) -> Option<Step>
+    ensures { result ≡ checks world.now.state faults.now node }
+{
+    if is_up(world, node) && faults.is_due(FaultKind::Check, node, world.steps_of(node)) {
+        Some(Step::Check { node })
+    } else {
+        None
+    }
+}
+
+/// A node that is down gives up the instance that it began and that is open, or else restarts.
+fn comes_back<S: CkptStore>(
+    world: &mut World<S>,
+    alloc: Global,
+    node: NodeId,
+) -> Result<Option<Step>, StoreError>
+    ensures { IsAsked world.old world.new (λ s x. x ≡ comes_back s node) result }
+{
+    if !is_down(world, node) {
+        return Ok(None);
+    }
+    match if_allowed(world, alloc, Step::Abandon { node })? {
+        Some(step) => Ok(Some(step)),
+        None => if_allowed(world, alloc, Step::Restart { node }),
+    }
+}
+
+/// Whether none of these stands in the way of the node's restart.
+fn all_let_restart<S: CkptStore>(
+    others: &[NodeId],
+    world: &mut World<S>,
+    alloc: Global,
+    node: NodeId,
+) -> Result<bool, StoreError>
+    ensures { IsAsked world.old world.new (λ s x. x ≡ list_all (lets_restart s node) others.now) result }
+{
+    let Some((other, later)) = others.split_first() else {
+        return Ok(true);
+    };
+    if lets_restart(world, alloc, node, *other)? {
+        all_let_restart(later, world, alloc, node)
+    } else {
+        Ok(false)
+    }
+}
+
+/// A node whose rollback got No restarts, where every other node is up, or began a rollback that got No and comes
+/// later.
+fn tries_again<S: CkptStore>(
+    world: &mut World<S>,
+    alloc: Global,
+    node: NodeId,
+) -> Result<Option<Step>, StoreError>
+    ensures { IsAsked world.old world.new (λ s x. x ≡ tries_again s node) result }
+{
+    if !got_no(world, alloc, node)? {
+        return Ok(None);
+    }
+    if all_let_restart(&NAMES, world, alloc, node)? {
+        Ok(Some(Step::Restart { node }))
+    } else {
+        Ok(None)
+    }
+}
+
+/// The node hears the first node that has sent it something.
+fn hears<S: CkptStore>(world: &World<S>, node: NodeId) -> Option<Step>
+    ensures { result ≡ hears world.now.state node }
+{
+    let from = NAMES
+        .iter()
+        .find(|from| world.link_at(**from, node, 0).is_some())?;
+    Some(Step::Deliver {
+        from: *from,
+        to: node,
+    })
+}
+
+/// A worker asks once more for what is unanswered, where its request has come to nothing.
+fn repeats<S: CkptStore>(
+    world: &mut World<S>,
+    alloc: Global,
+    node: NodeId,
+) -> Result<Option<Step>, StoreError>
+    ensures { IsAsked world.old world.new (λ s x. x ≡ repeats s node) result }
+{
+    if is_lost_request(world, node) {
+        if_allowed(world, alloc, Step::Repeat { node })
+    } else {
+        Ok(None)
+    }
+}
+
+/// A worker asks for its next operation, or once more for the last one.
+fn asks<S: CkptStore>(
+    world: &mut World<S>,
+    alloc: Global,
+    node: NodeId,
+) -> Result<Option<Step>, StoreError>
+    ensures { IsAsked world.old world.new (λ s x. x ≡ asks s node) result }
+{
+    match if_allowed(world, alloc, Step::Issue { node })? {
+        Some(step) => Ok(Some(step)),
+        None => repeats(world, alloc, node),
+    }
+}
+
+/// The shard serves the first of these workers that it can serve with the first match.
+fn first_served<S: CkptStore>(
+    workers: &[NodeId],
+    world: &mut World<S>,
+    alloc: Global,
+    node: NodeId,
+) -> Result<Option<Step>, StoreError>
+    ensures { IsAsked world.old world.new (λ s x. x ≡ first_some (serves_with_first s node) workers.now) result }
+{
+    let Some((worker, later)) = workers.split_first() else {
+        return Ok(None);
+    };
+    let step = Step::Serve {
+        shard: node,
+        worker: *worker,
+        place: 0,
+    };
+    match if_allowed(world, alloc, step)? {
+        Some(step) => Ok(Some(step)),
+        None => first_served(later, world, alloc, node),
+    }
+}
+
+/// A node that votes gives up, where one that it awaits owes it no vote.
+fn gives_up<S: CkptStore>(
+    world: &mut World<S>,
+    alloc: Global,
+    node: NodeId,
+) -> Result<Option<Step>, StoreError>
+    ensures { IsAsked world.old world.new (λ s x. x ≡ gives_up s node) result }
+{
+    if waits_in_vain(world, node) {
+        if_allowed(world, alloc, Step::Abandon { node })
+    } else {
+        Ok(None)
+    }
+}
+
+impl Rule {
+    /// What the rule gives.
+    fn step<S: CkptStore>(
+        self,
+        world: &mut World<S>,
+        alloc: Global,
+        faults: &Faults,
+        node: NodeId,
+    ) -> Result<Option<Step>, StoreError>
+        ensures { IsAsked world.old world.new (λ s x. x ≡ by_rule s faults.now node self) result }
+    {
+        match self {
+            Rule::Fails => Ok(fails(world, faults, node)),
+            Rule::Checks => Ok(checks(world, faults, node)),
+            Rule::Learns => if_allowed(world, alloc, Step::Learn { node }),
+            Rule::ComesBack => comes_back(world, alloc, node),
+            Rule::TriesAgain => tries_again(world, alloc, node),
+            Rule::Decides => if_allowed(world, alloc, Step::Decide { node }),
+            Rule::Hears => Ok(hears(world, node)),
+            Rule::Takes => if_allowed(world, alloc, Step::Take { node }),
+            Rule::Asks => asks(world, alloc, node),
+            Rule::Serves => first_served(&WORKERS, world, alloc, node),
+            Rule::GivesUp => gives_up(world, alloc, node),
+        }
+    }
+}
+
+/// The step that the first of these rules gives that applies.
+fn first_by<S: CkptStore>(
+    rules: &[Rule],
+    world: &mut World<S>,
+    alloc: Global,
+    faults: &Faults,
+    node: NodeId,
+) -> Result<Option<Step>, StoreError>
+    ensures { IsAsked world.old world.new (λ s x. x ≡ first_some (by_rule s faults.now node) rules.now) result }
+{
+    let Some((rule, later)) = rules.split_first() else {
+        return Ok(None);
+    };
+    match rule.step(world, alloc, faults, node)? {
+        Some(step) => Ok(Some(step)),
+        None => first_by(later, world, alloc, faults, node),
+    }
+}
+
+/// The step that the first rule of the policy gives that applies to the node, where the fault lines are spent so;
+/// `None` where none applies, and for a node that is not in the scene. It is a step of the node itself, and enabled but
+/// for the limit of steps. The store's refusal, where the store does not say what has to be known. The world stays.
+pub fn next_for<S: CkptStore>(
+    world: &mut World<S>,
+    alloc: Global,
+    faults: &Faults,
+    node: NodeId,
+) -> Result<Option<Step>, StoreError>
+    ensures next { IsAsked world.old world.new (λ s x. x ≡ next_step s faults.now node) result }
+    ensures own { IsTrue world.new.is_honest → IfOk result (λ x. IfSome x (λ step. owner step ≡ node)) }
+    ensures allowed { IsTrue world.new.is_honest
+        → IfOk result (λ x. IfSome x (λ step. IsTrue (is_allowed world.old.state step))) }
+{
+    match world.mode(node) {
+        None => Ok(None),
+        Some(_) => first_by(&POLICY, world, alloc, faults, node),
+    }
+}
+
+/// The first of these nodes that has a next step.
+fn first_with_step<S: CkptStore>(
+    nodes: &[NodeId],
+    world: &mut World<S>,
+    alloc: Global,
+    faults: &Faults,
+) -> Result<Option<NodeId>, StoreError>
+    ensures { IsAsked world.old world.new (λ s x. x ≡ first_some (if_unfinished s faults.now) nodes.now) result }
+{
+    let Some((node, later)) = nodes.split_first() else {
+        return Ok(None);
+    };
+    match next_for(world, alloc, faults, *node)? {
+        Some(_) => Ok(Some(*node)),
+        None => first_with_step(later, world, alloc, faults),
+    }
+}
+
+/// The first node, in node order, that has a next step, where the fault lines are spent so. The world stays.
+pub(crate) fn first_unfinished<S: CkptStore>(
+    world: &mut World<S>,
+    alloc: Global,
+    faults: &Faults,
+) -> Result<Option<NodeId>, StoreError>
+    ensures { IsAsked world.old world.new (λ s x. x ≡ first_unfinished s faults.now) result }
+{
+    first_with_step(&NAMES, world, alloc, faults)
+}

@@ -1,0 +1,268 @@
+//! A run: a thread for each node, each by the policy, until no node has a next step.
+
+ghost use Rattle.std.specs.Prelude.{◌≡◌, length, IfOk, IsTrue, None, Ok};
+ghost use denote.Param.Send.{IsSend, IsSync};
+ghost use Rattle.kt_stage.specs.Journal.{Replays, all_made};
+ghost use Rattle.kt_stage.specs.Order.{nodes_of};
+ghost use Rattle.kt_stage.specs.Policy.{first_unfinished, spent_by};
+ghost use Rattle.kt_world.specs.Reached.{opening};
+
+use crate::closing::CloseError;
+use crate::ending::unfinished;
+use crate::error::ActError;
+use crate::journal::Journal;
+use crate::naming::Naming;
+use crate::seat::Seat;
+use crate::stage::{Floor, Stage, node_count};
+use kt_core::{Faults, OpenError, Scene, StepError, World};
+use kt_store::CkptStore;
+use kt_tuple::NodeId;
+use std::alloc::{AllocError, Global};
+use std::marker::Brand;
+use std::sync::Wait;
+use std::sync::ledger::Blank;
+use std::thread;
+use std::thread::Threads;
+use thiserror::Error;
+
+/// Why a run did not come to its end.
+#[derive(Clone, Copy, Debug, PartialEq, Eq, Error)]
+pub enum RunFault {
+    /// The world was not opened.
+    #[error("Open")]
+    Open(OpenError),
+    /// A step was refused. Counted from 1, `at` is the place in the journal that it would have had.
+    #[error("Step")]
+    Step { at: u64, cause: StepError },
+    /// The seats do not fit the journal.
+    #[error("Close")]
+    Close(CloseError),
+    /// Memory ran out, or a thread could not be started.
+    #[error("Memory")]
+    Memory,
+    /// The run has ended, and this node has a next step.
+    #[error("Unfinished")]
+    Unfinished { node: NodeId },
+}
+
+/// What a node has in a run: its seat, and the fault lines, of which it alone looks at its own, and spends them.
+#[derive(Drop)]
+struct Player<L: Naming> {
+    seat: Seat<L>,
+    faults: Faults,
+}
+
+/// What came of a node's turn.
+#[derive(Clone, Copy, Debug, PartialEq, Eq)]
+enum Turn {
+    /// It made a step.
+    Made,
+    /// It has no next step at present.
+    Idle,
+}
+
+impl<S: CkptStore, L: Naming> Floor<S, L> {
+    /// Makes the next step of the player's node, if it has one. It is chosen and made under one lock: another node's step
+    /// between the two could make it one that is not allowed.
+    fn turn(&mut self, alloc: Global, player: &mut Player<L>) -> Result<Turn, RunFault> {
+        let Floor { desk, idle, .. } = self;
+        let Player { seat, faults } = player;
+        let at = desk.journal.steps.len() as u64 + 1;
+        let next = desk.next_for(alloc, faults, seat.node);
+        let next = next.map_err(|refusal| RunFault::Step {
+            at,
+            cause: StepError::Store(refusal),
+        })?;
+        let Some(step) = next else {
+            *idle = idle.saturating_add(1);
+            return Ok(Turn::Idle);
+        };
+        match desk.act(alloc, seat, step) {
+            Ok(_) => {}
+            Err(ActError::Step(cause)) => return Err(RunFault::Step { at, cause }),
+            Err(ActError::NotOwner) => {
+                let cause = StepError::NoNode;
+                return Err(RunFault::Step { at, cause });
+            }
+        }
+        faults.spend(&step);
+        *idle = 0;
+        Ok(Turn::Made)
+    }
+}
+
+impl<S: CkptStore, L: Naming> Stage<S, L> {
+    /// Ends the run, of whose end each waiting thread is told.
+    fn end(&self, rt: &impl Wait) {
+        self.floor.lock(rt).is_over = true;
+        self.moved.notify_all();
+    }
+}
+
+/// What a node's thread does: turn after turn, until the run has ended. The lock is let go after each turn. Where it has
+/// nothing to do it sleeps until the journal has grown. Nodes that found nothing to do since the last step are counted,
+/// and the last of them ends the run.
+fn play<R: Wait, S: CkptStore, L: Naming>(
+    rt: &R,
+    alloc: Global,
+    stage: &Stage<S, L>,
+    player: &mut Player<L>,
+) -> Result<(), RunFault> {
+    for _ in rt.forever() {
+        let mut floor = stage.floor.lock(rt);
+        if floor.is_over {
+            return Ok(());
+        }
+        match floor.turn(alloc, player) {
+            Ok(Turn::Made) => stage.moved.notify_all(),
+            Ok(Turn::Idle) if floor.idle < stage.nodes.len() => {
+                let seen = floor.desk.journal.steps.len();
+                drop(
+                    stage.moved.wait_while(rt, floor, |floor| {
+                        !floor.is_over && floor.desk.journal.steps.len() == seen
+                    }),
+                );
+            }
+            ended => {
+                floor.is_over = true;
+                stage.moved.notify_all();
+                return ended.map(|_| ());
+            }
+        }
+    }
+    unreachable!()
+}
+
+/// The same, and gives the seat back.
+fn play_to_end<R: Wait, S: CkptStore, L: Naming>(
+    rt: &R,
+    alloc: Global,
+    stage: &Stage<S, L>,
+    player: Player<L>,
+) -> (Seat<L>, Result<(), RunFault>) {
+    let mut player = player;
+    let ended = play(rt, alloc, stage, &mut player);
+    (player.seat, ended)
+}
+
+/// A player for each seat, each with a copy of the fault lines.
+fn players_of<L: Naming>(
+    alloc: Global,
+    seats: Vec<Seat<L>>,
+    faults: &Faults,
+) -> Result<Vec<Player<L>>, AllocError> {
+    let mut players = Vec::with_capacity(alloc, seats.len())?;
+    for seat in seats {
+        let faults = faults.copy(alloc)?;
+        players.push(Player { seat, faults })?;
+    }
+    Ok(players)
+}
+
+/// Starts a thread for each player, and joins them all. Where one could not be started the others are told to end.
+fn perform<R, S, L>(
+    rt: &R,
+    alloc: Global,
+    stage: &Stage<S, L>,
+    players: Vec<Player<L>>,
+) -> Result<Vec<Seat<L>>, RunFault>
+where
+    R: Threads + Wait + Sync,
+    S: CkptStore + Send,
+    L: Naming + Send + Sync,
+{
+    thread::scope(
+        thread::scope_env(),
+        rt,
+        move |scope| -> Result<Vec<Seat<L>>, RunFault>
+            requires { IsSync R.row × IsSend S.row × IsSend L.row × IsSync L.row }
+        {
+            let mut seats = Vec::new(alloc);
+            let mut handles = Vec::new(alloc);
+            let mut ended = Ok(());
+            for player in players {
+                let started = scope.spawn(move || play_to_end(rt, alloc, stage, player));
+                let is_started = match started {
+                    Ok(handle) => handles.push(handle).is_ok(),
+                    Err(_) => false,
+                };
+                if !is_started {
+                    stage.end(rt);
+                    ended = Err(RunFault::Memory);
+                }
+            }
+            for handle in handles {
+                let (seat, how) = handle.join(rt);
+                ended = ended.and(how);
+                if seats.push(seat).is_err() {
+                    ended = Err(RunFault::Memory);
+                }
+            }
+            ended.map(|()| seats)
+        },
+    )
+}
+
+/// Runs the world on the stage that L names, and closes it.
+fn run_on<R, S, L>(
+    rt: &R,
+    alloc: Global,
+    world: World<S>,
+    blank: Blank,
+    faults: &Faults,
+) -> Result<Journal<S>, RunFault>
+where
+    R: Threads + Wait + Sync,
+    S: CkptStore + Send + Drop,
+    L: Naming + Send + Sync,
+    requires name { blank.name ≡ L.name }
+    requires parts { blank.parts ≡ L.parts }
+    requires one_each { blank.parts ≡ length (nodes_of world.state.cast) }
+    requires opening { L.opening ≡ world }
+    ensures { IfOk result (λ j. Replays L.opening j.world j.steps) }
+{
+    let (stage, seats) = Stage::<S, L>::open(alloc, world, blank).map_err(|_| RunFault::Memory)?;
+    let players = players_of(alloc, seats, faults).map_err(|_| RunFault::Memory)?;
+    let seats = perform(rt, alloc, &stage, players)?;
+    stage
+        .close(seats)
+        .map_err(|(cause, _)| RunFault::Close(cause))
+}
+
+/// Runs the scene: a thread for each node, each by the policy with these fault lines, until no node has a next step. Every
+/// thread is joined. The run ends early with the first step that is refused. It may wait for its threads.
+///
+/// Which steps are made, and in what order, is not promised; nor that the run ends.
+pub fn run_threads<R, S>(
+    rt: &R,
+    alloc: Global,
+    scene: Scene,
+    faults: Faults,
+    store: S,
+) -> Result<Journal<S>, RunFault>
+where
+    R: Threads + Wait + Sync,
+    S: CkptStore + Send + Drop,
+    ensures replays { IfOk result (λ j. IsTrue j.world.is_honest → all_made (opening scene) j.steps ≡ Ok j.world.state) }
+    ensures finished { IfOk result (λ j. IsTrue j.world.is_honest → first_unfinished j.world.state (spent_by faults j.steps) ≡ None) }
+{
+    let world = match World::open(alloc, scene, store) {
+        Ok(world) => world,
+        Err(refused) => return Err(RunFault::Open(refused.cause)),
+    };
+    let blank = Blank::new(node_count(&world));
+    let mut journal = run_on::<R, S, Brand>(rt, alloc, world, blank, &faults)?;
+    let mut faults = faults;
+    let left = match unfinished(alloc, &mut journal, &mut faults) {
+        Ok(left) => left,
+        Err(refusal) => {
+            let at = journal.steps.len() as u64 + 1;
+            let cause = StepError::Store(refusal);
+            return Err(RunFault::Step { at, cause });
+        }
+    };
+    match left {
+        None => Ok(journal),
+        Some(node) => Err(RunFault::Unfinished { node }),
+    }
+}

@@ -1,0 +1,167 @@
+//! The stage: a journal under a lock, and a seat for each node.
+
+ghost use Rattle.std.specs.Prelude.{◌≡◌, ◌≤◌, ◌++◌, ◌∷◌, [], filter, length, map, All, IfErr, IfOk, IsTrue, OnErr};
+ghost use Rattle.kt_stage.specs.Acting.{IsOthers};
+ghost use Rattle.kt_stage.specs.Journal.{empty_seat};
+ghost use Rattle.kt_stage.specs.Order.{has_node, nodes_of};
+ghost use Rattle.kt_world.specs.Cast.{is_node};
+
+use crate::desk::Desk;
+use crate::error::ActError;
+use crate::journal::Journal;
+use crate::naming::Naming;
+use crate::order::NAMES;
+use crate::seat::{Receipt, Seat};
+use kt_core::{Step, World};
+use kt_store::CkptStore;
+use kt_tuple::NodeId;
+use std::alloc::{AllocError, Global};
+use std::sync::ledger::{Blank, Share};
+use std::sync::{Condvar, Mutex, Wait};
+
+/// What the lock keeps: the desk, and how near a run by threads is to its end.
+#[derive(Drop)]
+pub(crate) struct Floor<S: CkptStore, L: Naming> {
+    pub(crate) desk: Desk<S, L>,
+    /// How many nodes have found since the last step that they have none to make.
+    pub(crate) idle: usize,
+    /// Whether the run has ended.
+    pub(crate) is_over: bool,
+}
+
+/// The stage that L names: the journal, which one node at a time changes, and what tells the others that it has grown.
+#[derive(Drop)]
+pub struct Stage<S: CkptStore, L: Naming> {
+    pub(crate) floor: Mutex<Floor<S, L>>,
+    pub(crate) moved: Condvar,
+    pub(crate) nodes: Vec<NodeId>,
+    ghost all: { nodes.items ≡ nodes_of L.opening.state.cast },
+}
+
+/// How many of these nodes are in the world's scene.
+fn count_among<S: CkptStore>(names: &[NodeId], world: &World<S>) -> u64
+    requires { length names.now ≤ 16 }
+    ensures { result ≡ length (filter (is_node world.now.state.cast) names.now) }
+{
+    match names.split_first() {
+        None => 0,
+        Some((name, later)) if world.mode(*name).is_some() => 1 + count_among(later, world),
+        Some((_, later)) => count_among(later, world),
+    }
+}
+
+/// How many nodes the world's scene has, and so how many parts the ledger of its stage.
+pub fn node_count<S: CkptStore>(world: &World<S>) -> u64
+    ensures { result ≡ length (nodes_of world.now.state.cast) }
+{
+    count_among(&NAMES, world)
+}
+
+/// Those of these nodes that are in the world's scene.
+fn nodes_among<S: CkptStore>(
+    alloc: Global,
+    names: &[NodeId],
+    world: &World<S>,
+) -> Result<Vec<NodeId>, AllocError>
+    ensures { IfOk result (λ nodes. nodes.items ≡ filter (is_node world.now.state.cast) names.now) }
+{
+    let mut nodes = Vec::new(alloc);
+    for name in names {
+        if world.mode(*name).is_some() {
+            nodes.push(*name)?;
+        }
+    }
+    Ok(nodes)
+}
+
+/// A seat of the node, which has made no step yet.
+fn seat_of<L: Naming>(alloc: Global, node: NodeId, share: Share<L>) -> Seat<L>
+    requires part { share.parts ≡ 1 }
+    requires none { share.amount ≡ 0 }
+    requires there { IsTrue (has_node L.opening.state.cast node) }
+    ensures { result ≡ empty_seat node }
+{
+    Seat {
+        node,
+        receipts: Vec::new(alloc),
+        share,
+    }
+}
+
+/// A seat for each of these nodes, each with a part of the share.
+fn seats_of<L: Naming>(
+    alloc: Global,
+    nodes: &[NodeId],
+    share: Share<L>,
+) -> Result<Vec<Seat<L>>, AllocError>
+    requires parts { share.parts ≡ length nodes.now }
+    requires none { share.amount ≡ 0 }
+    requires there { All (λ p. IsTrue (has_node L.opening.state.cast p)) nodes.now }
+    ensures { IfOk result (λ seats. seats.items ≡ map empty_seat nodes.now) }
+{
+    let mut rest = share;
+    let mut seats = Vec::with_capacity(alloc, nodes.len())?;
+    for node in nodes {
+        seats.push(seat_of(alloc, *node, rest.split_off(1, 0)))?;
+    }
+    Ok(seats)
+}
+
+impl<S: CkptStore, L: Naming> Stage<S, L> {
+    /// The stage of the world, and a seat for each node of its scene, in node order. The caller makes the blank, with a
+    /// part for each node (`node_count`). Where memory runs out the world is gone.
+    pub fn open(
+        alloc: Global,
+        world: World<S>,
+        blank: Blank,
+    ) -> Result<(Stage<S, L>, Vec<Seat<L>>), AllocError>
+    where
+        S: Drop,
+        requires name { blank.name ≡ L.name }
+        requires parts { blank.parts ≡ L.parts }
+        requires one_each { blank.parts ≡ length (nodes_of world.state.cast) }
+        requires opening { L.opening ≡ world }
+        ensures { IfOk result (λ r. r.1.items ≡ map empty_seat (nodes_of world.state.cast)) }
+    {
+        let nodes = nodes_among(alloc, &NAMES, &world)?;
+        let (book, share) = blank.open::<L>();
+        let seats = seats_of(alloc, &nodes, share)?;
+        let steps = Vec::new(alloc);
+        let journal = Journal { world, steps };
+        let desk = Desk { journal, book };
+        let floor = Floor {
+            desk,
+            idle: 0,
+            is_over: false,
+        };
+        let stage = Stage {
+            floor: Mutex::new(floor),
+            moved: Condvar::new(),
+            nodes,
+        };
+        Ok((stage, seats))
+    }
+
+    /// Makes the step of the seat's node under the lock; the rest is as of `Desk::act`. It may wait for the lock.
+    pub fn act(
+        &self,
+        rt: &impl Wait,
+        alloc: Global,
+        seat: &mut Seat<L>,
+        step: Step,
+    ) -> Result<Receipt, ActError>
+        ensures step { IfOk result (λ r. r.step ≡ step) }
+        ensures seat { IfOk result (λ r. seat.new.receipts ≡ seat.old.receipts ++ r ∷ []) }
+        ensures same { OnErr result (seat.new.receipts ≡ seat.old.receipts) }
+        ensures not_owner { IfErr result (IsOthers seat.old.node step) }
+        ensures node { seat.new.node ≡ seat.old.node }
+    {
+        let mut floor = self.floor.lock(rt);
+        let acted = floor.desk.act(alloc, seat, step);
+        if acted.is_ok() {
+            floor.idle = 0;
+            self.moved.notify_all();
+        }
+        acted
+    }
+}

@@ -1,0 +1,119 @@
+//! Runs by threads.
+
+use crate::making::{Cast, Line, S1, W1, faults, make_all, opened, report, scene};
+use kt_core::{FaultKind, Faults, OpenError, Scene, Step};
+use kt_stage::{RunFault, run_threads, unfinished};
+use kt_store::MemStore;
+use std::alloc::Global;
+use std::process::Abort;
+use std::sync::Wait;
+use std::test::Fail;
+use std::thread::Threads;
+
+/// Who takes part, fault lines, and what the report begins with however the threads run.
+type Row = (Cast, &'static [Line], &'static [u8]);
+
+const THREADS_AND_A_FAULT: Row = (
+    (
+        2,
+        &[&[
+            "out (\"k\")",
+            "out (\"k\", 7)",
+            "in (\"k\", ?int x)",
+            "out (\"done\", x)",
+            "rd (\"k\")",
+        ]],
+    ),
+    &[(FaultKind::Fail, S1, 3)],
+    b"survivors 5\nw1.1 out (\"k\") done\nw1.2 out (\"k\", 7) done\nw1.3 in (\"k\", ?int) got (\"k\", 7)\n\
+w1.4 out (\"done\", 7) done\nw1.5 rd (\"k\") got (\"k\")\nlost 4\nspace 2\n(\"done\", 7)\n(\"k\")\npermanent 0\n",
+);
+
+/// Whoever waits for a tuple that nobody puts ends with the others.
+const NOTHING_TO_DO: Row = (
+    (8, &[&["in (\"k\")"], &["in (\"k\")"]]),
+    &[],
+    b"survivors 0\nlost 0\nspace 0\npermanent 0\n",
+);
+
+const TWO_CHECKS: Row = (
+    (1, &[&["out (\"k\")", "out (\"k\")"]]),
+    &[(FaultKind::Check, W1, 4), (FaultKind::Check, S1, 5)],
+    b"survivors 2\nw1.1 out (\"k\") done\nw1.2 out (\"k\") done\nlost 0\nspace 2\n(\"k\")\n(\"k\")\n",
+);
+
+/// The report of these steps, made once more on one thread.
+fn replayed(alloc: Global, scene: Scene, steps: &[Step]) -> Result<Vec<u8>, Fail> {
+    let mut world = opened(alloc, scene)?;
+    make_all(alloc, &mut world, steps)?;
+    report(alloc, &mut world)
+}
+
+/// Runs the scene, which is handed in twice, and gives the report, which is that of the journal's steps too. No node has
+/// a next step then.
+pub(crate) fn reported<R: Threads + Wait + Sync + Abort>(
+    rt: &R,
+    alloc: Global,
+    scene: Scene,
+    again: Scene,
+    faults: Faults,
+) -> Result<Vec<u8>, Fail> {
+    let mut left = faults.copy(alloc)?;
+    let run = run_threads(rt, alloc, scene, faults, MemStore::new(alloc));
+    let mut journal = run.ok().ok_or("a run")?;
+    assert!(rt; unfinished(alloc, &mut journal, &mut left) == Ok(None));
+    let replayed = replayed(alloc, again, journal.steps())?;
+    let mut world = journal.into_world();
+    let reported = report(alloc, &mut world)?;
+    assert!(rt; reported == replayed);
+    Ok(reported)
+}
+
+fn run<R: Threads + Wait + Sync + Abort>(
+    rt: &R,
+    alloc: Global,
+    (cast, lines, expected): Row,
+) -> Result<(), Fail> {
+    let faults = faults(alloc, lines)?;
+    let reported = reported(rt, alloc, scene(alloc, cast)?, scene(alloc, cast)?, faults)?;
+    assert!(rt;
+        reported.starts_with(expected),
+        "{:?}",
+        String::from_utf8(reported)
+    );
+    Ok(())
+}
+
+#[test]
+fn threads_and_a_fault(rt: HostRuntime) -> Result<(), Fail> {
+    for _ in 0..200u32 {
+        run(&rt, rt.alloc(), THREADS_AND_A_FAULT)?;
+    }
+    Ok(())
+}
+
+#[test]
+fn waiting_threads_end(rt: HostRuntime) -> Result<(), Fail> {
+    run(&rt, rt.alloc(), NOTHING_TO_DO)
+}
+
+#[test]
+fn checks_while_it_runs(rt: HostRuntime) -> Result<(), Fail> {
+    for _ in 0..20u32 {
+        run(&rt, rt.alloc(), TWO_CHECKS)?;
+    }
+    Ok(())
+}
+
+#[test]
+fn a_store_that_was_used(rt: HostRuntime) -> Result<(), Fail> {
+    let alloc = rt.alloc();
+    let (cast, _, _) = TWO_CHECKS;
+    let mut world = opened(alloc, scene(alloc, cast)?)?;
+    make_all(alloc, &mut world, &[Step::Check { node: W1 }])?;
+    let store = world.into_store();
+    let faults = Faults::new(alloc);
+    let fault = run_threads(&rt, alloc, scene(alloc, cast)?, faults, store).err();
+    assert!(rt; fault == Some(RunFault::Open(OpenError::NotFresh)));
+    Ok(())
+}
