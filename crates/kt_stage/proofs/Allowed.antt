@@ -1,5 +1,5 @@
 -- What the policy gives is a step of the node itself, and allowed.
-use Rattle.std.proofs.Common.{◌≡◌, ℕ, suc, ◌+◌, ◌-◌, ◌*◌, length, Bool, true, false, List, [], ◌∷◌, Result, Ok, Err, refl, sym, ap, subst, ◌∙◌, arith}
+use Rattle.std.proofs.Common.{◌≡◌, ℕ, suc, ◌+◌, ◌-◌, ◌*◌, length, Bool, true, false, List, [], ◌∷◌, Result, Ok, Err, refl, sym, ap, ◌∙◌, arith}
 use Rattle.std.specs.Prelude.{Option, None, Some, cond, is_some, not, ◌&&◌, ◌||◌, if◌then◌else◌, slice_get, unwrap_or, IfOk, IfSome, IsTrue}
 use Rattle.std.specs.List.{find}
 use Rattle.std.specs.Option.{option_map}

@@ -1,8 +1,6 @@
 -- What a run has come to.
-use Rattle.std.proofs.Common.{◌≡◌, List, Result, Ok, Err, Option, None, Some, IsTrue, refl, sym, ap, ◌∙◌}
-use Rattle.kt_tuple.specs.declared.node.NodeId.{NodeId}
+use Rattle.std.proofs.Common.{◌≡◌, List, Ok, None, IsTrue, sym, ap, ◌∙◌}
 use Rattle.kt_world.specs.declared.step.Step.{Step}
-use Rattle.kt_world.specs.declared.step.StepError.{StepError}
 use Rattle.kt_world.specs.Cast.{Cast}
 use Rattle.kt_world.specs.Reached.{opening}
 use Rattle.kt_world.specs.State.{State}

@@ -28,12 +28,6 @@ replays_more opening old new steps more step before is honest made h =
     let b = before (honest h) in
     (b.0, ap (all_made opening.state) is ∙ made-more (Ok opening.state) steps step ∙ ap (λ (s : Result State StepError). then_made s step) b.1 ∙ made h)
 
--- the world stays
-pub replays_still : (opening old new : Standing) (steps same : List Step) → Replays opening old steps → same ≡ steps
-    → (IsTrue new.is_honest → IsTrue old.is_honest) → (IsTrue new.is_honest → new.state ≡ old.state) → Replays opening new same
-replays_still opening old new steps same before is honest stays h =
-    let b = before (honest h) in (b.0, ap (all_made opening.state) is ∙ b.1 ∙ ap Ok (sym (stays h)))
-
 -- nothing is made at the opening
 pub replays_none : (opening : Standing) → Replays opening opening []
 unfolding made_from

@@ -1,109 +1,23 @@
 -- What the seats of a closed stage keep.
-use Rattle.std.proofs.Common.{◌≡◌, ◌≢◌, ℕ, zero, suc, ◌+◌, ◌<◌, ◌≤◌, Bool, true, false, cond, not, ◌||◌, ◌&&◌, ◌↔◌, nat_lt, List, [], ◌∷◌, ◌++◌, take, drop, length, get_or, refl, sym, ap, subst, ◌∙◌, add-one, arith}
-use Rattle.std.proofs.Common.{Option, None, Some, All, IsTrue, IsPermutation, filter, find, flat_map, if◌then◌else◌, ltb-true, ltb-false, lt-ltb}
-use Rattle.std.specs.List.{list_all, list_any}
+use Rattle.std.proofs.Common.{◌≡◌, ℕ, zero, suc, ◌+◌, ◌<◌, ◌≤◌, Bool, true, false, cond, not, ◌||◌, ◌&&◌, ◌↔◌, List, [], ◌∷◌, ◌++◌, take, drop, length, get_or, refl, sym, ap, subst, ◌∙◌, arith}
+use Rattle.std.proofs.Common.{None, Some, All, IsTrue, IsPermutation, filter, flat_map, if◌then◌else◌}
+use Rattle.std.specs.List.{list_any}
 use Rattle.std.proofs.lemmas.List.{append_assoc, append-nil, append_cancel_left, length-take-le, take_all, take_more, take-append-drop}
 use Rattle.std.proofs.lemmas.List.Elements.{All-nil, All-cons, All-head, All-tail}
 use Rattle.std.proofs.lemmas.List.Sorted.{IsPermutation-refl, IsPermutation-sym, IsPermutation-trans, IsPermutation-cons, IsPermutation-to_front, IsPermutation-append_left, IsPermutation-append_right}
 use Rattle.std.proofs.lemmas.Bool.{and_parts}
 use Rattle.kt_tuple.specs.declared.node.NodeId.{NodeId}
-use Rattle.kt_tuple.specs.declared.node.NodeId.TheVariants.{Worker, Shard}
 use Rattle.kt_tuple.specs.Node.{node_eq, node_eq_decides}
 use Rattle.kt_world.specs.declared.step.Step.{Step}
 use Rattle.kt_world.specs.Cast.{Cast}
 use Rattle.kt_world.specs.Step.{owner}
 use Rattle.kt_stage.specs.declared.seat.Receipt.{Receipt}
-use Rattle.kt_stage.specs.Closing.{IsClosed, IsFirstUnmatched, IsMatched, first_missing, full_seat, has_seat, numbered, receipts_in, seats_of}
+use Rattle.kt_stage.specs.Closing.{IsClosed, IsMatched, first_missing, full_seat, has_seat, numbered, receipts_in, seats_of}
 use Rattle.kt_stage.specs.Journal.{Held, are_owned, kept_of, receipt, receipts_of}
-use Rattle.kt_stage.specs.Order.{has_node, is_before, nodes_of}
+use Rattle.kt_stage.specs.Order.{has_node, nodes_of}
 
 pub same_node : (p : NodeId) → node_eq p p ≡ true
 same_node p = (node_eq_decides p p).1 refl
-
--- ---- node order
-
-never : (n : ℕ) → nat_lt n n ≡ true → ⊥
-never n e = let lt = ltb-true n n e in omega (arith, lt)
-
-not-before-itself : (p : NodeId) → is_before p p ≡ true → ⊥
-not-before-itself (Worker n) e = never n e
-not-before-itself (Shard n) e = never n e
-
-turned : (m n : ℕ) → nat_lt m n ≡ true → nat_lt n m ≡ true → ⊥
-turned m n e f = let one = ltb-true m n e in let two = ltb-true n m f in omega (arith, one, two)
-
-not-both : (p q : NodeId) → is_before p q ≡ true → is_before q p ≡ true → ⊥
-not-both (Worker m) (Worker n) e f = turned m n e f
-not-both (Worker m) (Shard n) e f = absurd cc
-not-both (Shard m) (Worker n) e f = absurd cc
-not-both (Shard m) (Shard n) e f = turned m n e f
-
-lower : (a b c : ℕ) → nat_lt a b ≡ true → nat_lt c b ≡ false → nat_lt a c ≡ true
-lower a b c e f = let one = ltb-true a b e in let two = ltb-false c b f in lt-ltb a c (omega (arith, one, two))
-
--- before a node is before what does not come before it
-before-later : (p q r : NodeId) → is_before p q ≡ true → is_before r q ≡ false → is_before p r ≡ true
-before-later (Worker a) (Worker b) (Worker c) e f = lower a b c e f
-before-later (Worker a) (Worker b) (Shard c) e f = refl
-before-later (Worker a) (Shard b) (Worker c) e f = absurd cc
-before-later (Worker a) (Shard b) (Shard c) e f = refl
-before-later (Shard a) (Worker b) r e f = absurd cc
-before-later (Shard a) (Shard b) (Worker c) e f = absurd cc
-before-later (Shard a) (Shard b) (Shard c) e f = lower a b c e f
-
--- ---- the first node that is not matched
-
-or-first : (a b : Bool) → a ≡ true → (a || b) ≡ true
-or-first true b e = refl
-or-first false b e = absurd cc
-
-or-later : (a b : Bool) → b ≡ true → (a || b) ≡ true
-or-later true b e = refl
-or-later false b e = e
-
-module _ (steps : List Step) (seats : List Held) where
-  abbrev Before : NodeId → Held → Type 0
-  Before p seat = IsTrue (is_before seat.node p) → IsMatched steps seats seat.node
-
-  pub first-none : (some : List Held) → some ≡ [] → IsFirstUnmatched steps seats some None
-  first-none some split = subst (All (λ seat. IsMatched steps seats seat.node)) (sym split) (All-nil (λ seat. IsMatched steps seats seat.node))
-
-  -- its node is matched, so the others decide
-  matched-on : (seat : Held) (later : List Held) (r : Option NodeId) → IsMatched steps seats seat.node → IsFirstUnmatched steps seats later r
-      → IsFirstUnmatched steps seats (seat ∷ later) r
-  matched-on seat later None is first = All-cons (λ seat. IsMatched steps seats seat.node) seat later is first
-  matched-on seat later (Some p) is first =
-      (or-later (node_eq p seat.node) (has_seat later p) first.0, first.1, All-cons (Before p) seat later (λ before. is) first.2)
-
-  pub first-matched : (some : List Held) (seat : Held) (later : List Held) (r : Option NodeId) → some ≡ seat ∷ later → IsMatched steps seats seat.node
-      → IsFirstUnmatched steps seats later r → IsFirstUnmatched steps seats some r
-  first-matched some seat later r split is first = subst (λ xs. IsFirstUnmatched steps seats xs r) (sym split) (matched-on seat later r is first)
-
-  -- one that is not matched comes before it
-  pub first-earlier : (some : List Held) (seat : Held) (later : List Held) (q : NodeId) → some ≡ seat ∷ later → IsTrue (is_before q seat.node)
-      → IsFirstUnmatched steps seats later (Some q) → IsFirstUnmatched steps seats some (Some q)
-  first-earlier some seat later q split before first =
-      subst (λ xs. IsFirstUnmatched steps seats xs (Some q)) (sym split) (
-        or-later (node_eq q seat.node) (has_seat later q) first.0,
-        first.1,
-        All-cons (Before q) seat later (λ back. absurd (not-both q seat.node before back)) first.2,
-      )
-
-  -- the others that are not matched come later
-  others : (p : NodeId) (later : List Held) (r : Option NodeId) → IsFirstUnmatched steps seats later r → ((q : NodeId) → r ≡ Some q → is_before q p ≡ false)
-      → All (Before p) later
-  others p later None first late = λ k d lt before. first k d lt
-  others p later (Some q) first late = λ k d lt before. first.2 k d lt (before-later (get_or later k d).node p q before (late q refl))
-
-  pub first-here : (some : List Held) (seat : Held) (later : List Held) (r : Option NodeId) → some ≡ seat ∷ later
-      → (IsMatched steps seats seat.node → ⊥) → IsFirstUnmatched steps seats later r → ((q : NodeId) → r ≡ Some q → is_before q seat.node ≡ false)
-      → IsFirstUnmatched steps seats some (Some seat.node)
-  first-here some seat later r split isnt first late =
-      subst (λ xs. IsFirstUnmatched steps seats xs (Some seat.node)) (sym split) (
-        or-first (node_eq seat.node seat.node) (has_seat later seat.node) (same_node seat.node),
-        isnt,
-        All-cons (Before seat.node) seat later (λ back. absurd (not-before-itself seat.node back)) (others seat.node later r first late),
-      )
 
 -- ---- the seats of one node
 
