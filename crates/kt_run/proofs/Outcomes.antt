@@ -1,6 +1,6 @@
 -- What a run came to, and what is written of it.
 use Rattle.std.proofs.Common.{◌≡◌, ℕ, Bool, List, Option, Some, None, Result, Ok, Err, refl, sym, ap, subst, ◌∙◌}
-use Rattle.std.specs.Prelude.{IfErr, IsTrue}
+use Rattle.std.specs.Prelude.{IfErr, OnOk, IsTrue}
 use Rattle.kt_core.specs.World.{Standing}
 use Rattle.kt_core.specs.declared.faults.FaultLine.{FaultLine}
 use Rattle.kt_world.specs.declared.step.Step.{Step}
@@ -103,3 +103,28 @@ never_written before after _ (of_reading {fault} h) e =
     let same : fault ≡ faults.Write = cc in
     read_by_name before after fault h same
 never_written before after fault (of_text text read h) e = subst (IsTextFault text) e h
+
+pub never_front : {X A : Type 0} (before after : Reader) (r : Result X RunTextFault) (fault : RunTextFault) → IsRunFault before after fault → r ≡ Err fault
+    → r ≡ Err (Text faults.Write) → A
+never_front before after r fault h is e =
+    let same : fault ≡ Text faults.Write = cc in
+    absurd (never_written before after fault h same)
+
+-- ---- what is known of an answer by which of both it is
+
+pub on_ok : {X E P : Type 0} (r : Result X E) (x : X) → r ≡ Ok x → OnOk r P → P
+on_ok (Ok y) x e h = h
+on_ok (Err f) x e h = absurd cc
+
+pub if_err : {X E : Type 0} (P : E → Type 0) (r : Result X E) (fault : E) → r ≡ Err fault → IfErr r P → P fault
+if_err P (Ok y) fault e h = absurd cc
+if_err P (Err f) fault e h =
+    let same : f ≡ fault = cc in
+    subst P same h
+
+-- the fault of a text is told as it is
+pub err_named : {X : Type 0} (r : Result X ReplayFault) (told : Result X RunTextFault) (fault other : ReplayFault) → r ≡ Err fault → told ≡ Err (Text fault)
+    → told ≡ Err (Text other) → r ≡ Err other
+err_named r told fault other is same_told e =
+    let same : fault ≡ other = cc in
+    is ∙ ap (λ (f : ReplayFault). Err f) same
