@@ -1,5 +1,5 @@
 -- What a run came to, and what is written of it.
-use Rattle.std.proofs.Common.{◌≡◌, ℕ, Bool, List, Option, Some, None, Result, Ok, Err, refl, sym, ap, subst, ◌∙◌}
+use Rattle.std.proofs.Common.{◌≡◌, ℕ, Bool, List, Some, None, Result, Ok, Err, ap, subst, ◌∙◌}
 use Rattle.std.specs.Prelude.{IfErr, OnOk, IsTrue}
 use Rattle.kt_core.specs.World.{Standing}
 use Rattle.kt_core.specs.declared.faults.FaultLine.{FaultLine}
@@ -16,7 +16,7 @@ use Rattle.kt_scene.specs.Work.{Work, Steps, Faults, lines_of_faults}
 use Rattle.kt_stage.specs.Journal.{all_made}
 use Rattle.kt_stage.specs.Policy.{first_unfinished, spent_by}
 use Rattle.kt_run.specs.declared.fault.RunTextFault.{RunTextFault}
-use Rattle.kt_run.specs.declared.fault.RunTextFault.TheVariants.{Text, Run}
+use Rattle.kt_run.specs.declared.fault.RunTextFault.TheVariants.{Text}
 use Rattle.kt_run.specs.declared.running.Output.{Output}
 use Rattle.kt_run.specs.Run.{IsRunOf, IsRun, Writes, WritesFront, WritesRun, WritesRunFront, IsTextFault, IsRunFault, of_reading, of_text, IsRunTextFault, in_writing}
 use Rattle.kt_run.proofs.Made.{all_made_runs}

@@ -1,7 +1,6 @@
 -- The journal of a run is a scenario, and its replay leads to the state of the run.
-use Rattle.std.proofs.Common.{◌≡◌, ℕ, ◌≤◌, Bool, true, List, [], length, Result, Ok, refl, sym, ap, subst, ◌∙◌}
+use Rattle.std.proofs.Common.{◌≡◌, ℕ, ◌≤◌, Bool, true, List, [], length, Ok, refl, sym, subst}
 use Rattle.std.proofs.lemmas.List.Elements.{All-nil}
-use Rattle.std.specs.Prelude.{All}
 use Rattle.kt_world.specs.declared.step.Step.{Step}
 use Rattle.kt_world.specs.Cast.{Cast}
 use Rattle.kt_world.specs.Reached.{opening}
@@ -13,7 +12,7 @@ use Rattle.kt_scene.specs.Reading.{Play, play_of}
 use Rattle.kt_scene.specs.Run.{LeadsTo}
 use Rattle.kt_scene.specs.Runs.{RunsTo}
 use Rattle.kt_scene.specs.Scenario.{IsPlay, IsScenario, IsStep}
-use Rattle.kt_scene.specs.Work.{Work, Steps, steps_of}
+use Rattle.kt_scene.specs.Work.{Steps, steps_of}
 use Rattle.kt_scene.proofs.JournalRead.{journal_is_scenario}
 use Rattle.kt_scene.proofs.ScenarioRead.{wanted_is_read}
 use Rattle.kt_stage.specs.Journal.{all_made}

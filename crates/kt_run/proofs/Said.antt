@@ -1,11 +1,11 @@
 -- Each step that is made can be said by a line: its nodes are of the scene, and its place is below the number of steps made.
-use Rattle.std.proofs.Common.{◌≡◌, ℕ, zero, suc, ◌<◌, ◌≤◌, Bool, true, false, cond, ◌&&◌, eqb, ltb, List, [], ◌∷◌, length, Option, Some, None, Result, Ok, Err, refl}
-use Rattle.std.proofs.Common.{sym, ap, subst, ◌∙◌, arith}
+use Rattle.std.proofs.Common.{◌≡◌, ℕ, zero, suc, ◌<◌, ◌≤◌, Bool, true, false, cond, eqb, ltb, List, [], ◌∷◌, length, Option, Some, None, Result, Ok, Err, refl}
+use Rattle.std.proofs.Common.{ap, subst, arith}
 use Rattle.std.proofs.lemmas.Bool.{eqb-true, ltb-true, and_parts}
 use Rattle.std.proofs.lemmas.List.Elements.{All-nil, All-cons, All-head, All-tail}
 use Rattle.std.proofs.lemmas.List.Filters.{length-filter_both}
 use Rattle.std.proofs.lemmas.Option.{slice_get_within}
-use Rattle.std.specs.Prelude.{All, IfSome, filter, not, slice_get, unwrap_or}
+use Rattle.std.specs.Prelude.{All, IfSome, not, slice_get, unwrap_or}
 use Rattle.std.specs.Option.{option_map}
 use Rattle.kt_tuple.specs.declared.node.NodeId.{NodeId}
 use Rattle.kt_tuple.specs.declared.node.NodeId.TheVariants as ids
@@ -22,22 +22,21 @@ use Rattle.kt_script.specs.Rules.{IsScript}
 use Rattle.kt_script.proofs.Limits.{keeps_limits}
 use Rattle.kt_shard.specs.declared.request.Request.{Request}
 use Rattle.kt_shard.specs.Shard.{Shard, desk_of}
-use Rattle.kt_shard.specs.Service.{Service, at_first, got_or_none, answer_at, service_if, service_of, service}
+use Rattle.kt_shard.specs.Service.{Service, got_or_none, answer_at, service_if, service_of, service}
 use Rattle.kt_node.specs.declared.live.Phase.{Phase}
 use Rattle.kt_node.specs.declared.live.Phase.TheVariants as phases
 use Rattle.kt_node.specs.declared.plan.Plan.{Plan}
 use Rattle.kt_node.specs.Node.{Body, IsWorker, IsShard, Live, Node, Down, Alive, node_number, shard_in}
 use Rattle.kt_node.specs.Plan.{Planned}
 use Rattle.kt_node.specs.Steps.{up_in, up_of, by_up, serve_by, serve_found}
-use Rattle.kt_node.specs.View.{View}
 use Rattle.kt_world.specs.declared.step.Step.{Step}
 use Rattle.kt_world.specs.declared.step.Step.TheVariants.{Issue, Repeat, Deliver, Take, Serve, Check, Decide, Abandon}
 use Rattle.kt_world.specs.declared.step.Step.TheVariants.{Learn, Fail, Restart}
 use Rattle.kt_world.specs.declared.step.StepError.{StepError}
 use Rattle.kt_world.specs.declared.step.StepError.TheVariants as refusals
-use Rattle.kt_world.specs.Cast.{Cast, IsCast, script_at, is_worker, is_shard, is_node, are_neighbours, is_in_scene}
+use Rattle.kt_world.specs.Cast.{Cast, IsCast, is_worker, is_shard, is_in_scene}
 use Rattle.kt_world.specs.Effect.{applied_if, step_result}
-use Rattle.kt_world.specs.Judge.{of_owner, of_scene, due, judged, unless_over, within_limit, planned}
+use Rattle.kt_world.specs.Judge.{of_owner, of_scene, due, judged, within_limit, planned}
 use Rattle.kt_world.specs.Limits.{most_steps}
 use Rattle.kt_lines.specs.Cause.{cause_of_waiting}
 use Rattle.kt_world.specs.Reached.{opening}
