@@ -1,0 +1,4 @@
+pub mod Said
+pub mod Replayed
+pub mod Made
+pub mod Outcomes

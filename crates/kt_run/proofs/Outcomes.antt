@@ -1,0 +1,130 @@
+-- What a run came to, and what is written of it.
+use Rattle.std.proofs.Common.{◌≡◌, ℕ, Bool, List, Some, None, Result, Ok, Err, ap, subst, ◌∙◌}
+use Rattle.std.specs.Prelude.{IfErr, OnOk, IsTrue}
+use Rattle.kt_core.specs.World.{Standing}
+use Rattle.kt_core.specs.declared.faults.FaultLine.{FaultLine}
+use Rattle.kt_world.specs.declared.step.Step.{Step}
+use Rattle.kt_world.specs.Reached.{opening}
+use Rattle.kt_world.specs.State.{State}
+use Rattle.kt_scene.specs.declared.fault.ReplayFault.{ReplayFault}
+use Rattle.kt_scene.specs.declared.fault.ReplayFault.TheVariants as faults
+use Rattle.kt_scene.specs.Outside.{Reader, Writer}
+use Rattle.kt_scene.specs.Reading.{Play}
+use Rattle.kt_scene.specs.Scenario.{IsScenario}
+use Rattle.kt_scene.specs.Stream.{IsAllRead, IsReadFault, IsReportFault}
+use Rattle.kt_scene.specs.Work.{Work, Steps, Faults, lines_of_faults}
+use Rattle.kt_stage.specs.Journal.{all_made}
+use Rattle.kt_stage.specs.Policy.{first_unfinished, spent_by}
+use Rattle.kt_run.specs.declared.fault.RunTextFault.{RunTextFault}
+use Rattle.kt_run.specs.declared.fault.RunTextFault.TheVariants.{Text}
+use Rattle.kt_run.specs.declared.running.Output.{Output}
+use Rattle.kt_run.specs.Run.{IsRunOf, IsRun, Writes, WritesFront, WritesRun, WritesRunFront, IsTextFault, IsRunFault, of_reading, of_text, IsRunTextFault, in_writing}
+use Rattle.kt_run.proofs.Made.{all_made_runs}
+
+work_is : (work : Work) (lines : List FaultLine) → lines_of_faults work ≡ Some lines → work ≡ Faults lines
+work_is (Steps steps) lines e = absurd cc
+work_is (Faults given) lines e =
+    let same : given ≡ lines = cc in
+    ap (λ (l : List FaultLine). Faults l) same
+
+-- the run of a scenario that was read
+pub run_of : (text : List ℕ) (is_honest : Bool) (steps : List Step) (s : State) (play : Play) (lines : List FaultLine) → IsScenario text play
+    → lines_of_faults play.work ≡ Some lines → (IsTrue is_honest → all_made (opening play.cast) steps ≡ Ok s)
+    → (IsTrue is_honest → first_unfinished s (spent_by lines steps) ≡ None)
+    → IsRunOf text is_honest steps s
+run_of text is_honest steps s play lines scenario are made ended = record {
+  play = play;
+  lines = lines;
+  trial = record { scenario = scenario; faults = work_is play.work lines are };
+  runs = λ honest. all_made_runs (opening play.cast) steps s (made honest);
+  ended = ended;
+}
+
+-- what the text that was read answers comes before the writing
+pub told_before : {X : Type 0} (before after : Reader) (text held : List ℕ) (r : Result X RunTextFault) → IsAllRead before after text → held ≡ text
+    → IfErr r (IsTextFault held) → IfErr r (IsRunFault before after)
+told_before before after text held (Ok x) read same f = tt
+told_before before after text held (Err fault) read same f =
+    let P : List ℕ → Type 0 = λ t. IsTextFault t fault in
+    of_text text read (subst P same f)
+
+-- a store that is honest when it is left was so when the run ended
+run_left : (before after : Reader) (ended left : Bool) (steps : List Step) (s : State) → (IsTrue left → IsTrue ended) → IsRun before after ended steps s
+    → IsRun before after left steps s
+run_left before after ended left steps s honest h = record {
+  text = h.text;
+  read = h.read;
+  run = record {
+    play = h.run.play;
+    lines = h.run.lines;
+    trial = h.run.trial;
+    runs = λ now. h.run.runs (honest now);
+    ended = λ now. h.run.ended (honest now);
+  };
+}
+
+pub run_written : {S : Type 0} (is_honest : S → Bool) (output : Output) (before after : Reader) (old new : Writer) (left : S) (world : Standing)
+    (steps : List Step)
+    → IsRun before after world.is_honest steps world.state → (IsTrue (is_honest left) → IsTrue world.is_honest)
+    → Writes output (is_honest left) world.state steps old new → WritesRun is_honest output before after old new
+run_written is_honest output before after old new left world steps run honest written = record {
+  left = left;
+  steps = steps;
+  state = world.state;
+  run = run_left before after world.is_honest (is_honest left) steps world.state honest run;
+  written = written;
+}
+
+pub run_front : {S : Type 0} (is_honest : S → Bool) (output : Output) (before after : Reader) (old new : Writer) (left : S) (world : Standing)
+    (steps : List Step)
+    → IsRun before after world.is_honest steps world.state → (IsTrue (is_honest left) → IsTrue world.is_honest)
+    → WritesFront output (is_honest left) world.state steps old new → WritesRunFront is_honest output before after old new
+run_front is_honest output before after old new left world steps run honest written = record {
+  left = left;
+  steps = steps;
+  state = world.state;
+  run = run_left before after world.is_honest (is_honest left) steps world.state honest run;
+  written = written;
+}
+
+pub fault_in_writing : {S : Type 0} (is_honest : S → Bool) (fault_count : S → ℕ) (before after : Reader) (left : S) (world : Standing) (steps : List Step)
+    (fault : ReplayFault)
+    → IsRun before after world.is_honest steps world.state → IsReportFault world.faults (fault_count left) (is_honest left) fault
+    → IsRunTextFault is_honest fault_count before after (Text fault)
+fault_in_writing is_honest fault_count before after left world steps fault run is =
+    in_writing (record { left = left; steps = steps; world = world; run = run; is = is })
+
+read_by_name : (before after : Reader) (fault : ReplayFault) → IsReadFault before after fault → fault ≡ faults.Write → ⊥
+read_by_name before after fault h e = subst (IsReadFault before after) e h
+
+-- before the writing nothing is answered of the writer
+pub never_written : (before after : Reader) (fault : RunTextFault) → IsRunFault before after fault → fault ≡ Text faults.Write → ⊥
+never_written before after _ (of_reading {fault} h) e =
+    let same : fault ≡ faults.Write = cc in
+    read_by_name before after fault h same
+never_written before after fault (of_text text read h) e = subst (IsTextFault text) e h
+
+pub never_front : {X A : Type 0} (before after : Reader) (r : Result X RunTextFault) (fault : RunTextFault) → IsRunFault before after fault → r ≡ Err fault
+    → r ≡ Err (Text faults.Write) → A
+never_front before after r fault h is e =
+    let same : fault ≡ Text faults.Write = cc in
+    absurd (never_written before after fault h same)
+
+-- ---- what is known of an answer by which of both it is
+
+pub on_ok : {X E P : Type 0} (r : Result X E) (x : X) → r ≡ Ok x → OnOk r P → P
+on_ok (Ok y) x e h = h
+on_ok (Err f) x e h = absurd cc
+
+pub if_err : {X E : Type 0} (P : E → Type 0) (r : Result X E) (fault : E) → r ≡ Err fault → IfErr r P → P fault
+if_err P (Ok y) fault e h = absurd cc
+if_err P (Err f) fault e h =
+    let same : f ≡ fault = cc in
+    subst P same h
+
+-- the fault of a text is told as it is
+pub err_named : {X : Type 0} (r : Result X ReplayFault) (told : Result X RunTextFault) (fault other : ReplayFault) → r ≡ Err fault → told ≡ Err (Text fault)
+    → told ≡ Err (Text other) → r ≡ Err other
+err_named r told fault other is same_told e =
+    let same : fault ≡ other = cc in
+    is ∙ ap (λ (f : ReplayFault). Err f) same

@@ -1,0 +1,87 @@
+-- The journal of a run is a scenario, and its replay leads to the state of the run.
+use Rattle.std.proofs.Common.{◌≡◌, ℕ, ◌≤◌, Bool, true, List, [], length, Ok, refl, sym, subst}
+use Rattle.std.proofs.lemmas.List.Elements.{All-nil}
+use Rattle.kt_world.specs.declared.step.Step.{Step}
+use Rattle.kt_world.specs.Cast.{Cast}
+use Rattle.kt_world.specs.Reached.{opening}
+use Rattle.kt_world.specs.State.{State}
+use Rattle.kt_scene.specs.declared.scenario.WorkKind.{WorkKind}
+use Rattle.kt_scene.specs.declared.scenario.WorkKind.TheVariants as kinds
+use Rattle.kt_scene.specs.Journal.{journal_text, play_of_steps}
+use Rattle.kt_scene.specs.Reading.{Play, play_of}
+use Rattle.kt_scene.specs.Run.{LeadsTo}
+use Rattle.kt_scene.specs.Runs.{RunsTo}
+use Rattle.kt_scene.specs.Scenario.{IsPlay, IsScenario, IsStep}
+use Rattle.kt_scene.specs.Work.{Steps, steps_of}
+use Rattle.kt_scene.proofs.JournalRead.{journal_is_scenario}
+use Rattle.kt_scene.proofs.ScenarioRead.{wanted_is_read}
+use Rattle.kt_stage.specs.Journal.{all_made}
+use Rattle.kt_run.specs.Run.{IsRunOf}
+use Rattle.kt_run.proofs.Made.{all_made_runs, runs_cast, runs_once}
+use Rattle.kt_run.proofs.Said.{made_is_said}
+
+-- ---- steps that lead from the opening of a scene
+
+-- they are the work of a scenario
+steps_rules : (cast : Cast) (steps : List Step) (s : State) → IsPlay (play_of_steps cast []) → RunsTo (opening cast) steps s
+    → IsPlay (play_of_steps cast steps)
+steps_rules cast steps s h runs =
+    record { cast = h.cast; scripts = h.scripts; commands = h.commands; work = made_is_said cast steps s h.cast h.scripts runs }
+
+steps_are_scenario : (cast : Cast) (steps : List Step) (s : State) (report : List ℕ) → IsPlay (play_of_steps cast []) → RunsTo (opening cast) steps s
+    → length (journal_text report cast steps) ≤ 1048576
+    → IsScenario (journal_text report cast steps) (play_of_steps cast steps)
+steps_are_scenario cast steps s report h runs few = journal_is_scenario report cast steps (steps_rules cast steps s h runs) few
+
+-- a text is that of one scenario
+one_play : (text : List ℕ) (kind : WorkKind) (p q : Play) → play_of kind text ≡ Ok p → play_of kind text ≡ Ok q → p ≡ q
+one_play text kind p q h k = cc
+
+steps_lead_there : (cast : Cast) (steps : List Step) (s : State) (report : List ℕ) → IsPlay (play_of_steps cast []) → RunsTo (opening cast) steps s
+    → (fresh : Bool) (t : State) → LeadsTo (journal_text report cast steps) true fresh t → t ≡ s
+steps_lead_there cast steps s report h made fresh t leads =
+    let journal = journal_text report cast steps in
+    let play = play_of_steps cast steps in
+    let own = steps_are_scenario cast steps s report h made leads.scenario.short in
+    let same : leads.play ≡ play =
+    one_play journal kinds.Steps leads.play play (wanted_is_read kinds.Steps journal leads.play leads.scenario leads.is_kind)
+    (wanted_is_read kinds.Steps journal play own refl) in
+    let To : Play → Type 0 = λ p. RunsTo (opening p.cast) (steps_of p.work) t in
+    let runs : RunsTo (opening cast) steps t = subst To same (leads.runs refl) in
+    runs_once steps (opening cast) t s runs made
+
+pub made_is_scenario : (cast : Cast) (steps : List Step) (s : State) (report : List ℕ) → IsPlay (play_of_steps cast [])
+    → all_made (opening cast) steps ≡ Ok s → length (journal_text report cast steps) ≤ 1048576
+    → IsScenario (journal_text report cast steps) (play_of_steps cast steps)
+made_is_scenario cast steps s report h made few = steps_are_scenario cast steps s report h (all_made_runs (opening cast) steps s made) few
+
+pub made_leads_there : (cast : Cast) (steps : List Step) (s : State) (report : List ℕ) → IsPlay (play_of_steps cast [])
+    → all_made (opening cast) steps ≡ Ok s → (fresh : Bool) (t : State) → LeadsTo (journal_text report cast steps) true fresh t → t ≡ s
+made_leads_there cast steps s report h made fresh t leads =
+    steps_lead_there cast steps s report h (all_made_runs (opening cast) steps s made) fresh t leads
+
+-- ---- a run
+
+-- the scene of the state is the one that was read
+same_scene : (text : List ℕ) (steps : List Step) (s : State) (h : IsRunOf text true steps s) → s.cast ≡ h.play.cast
+same_scene text steps s h = runs_cast steps (opening h.play.cast) s (h.runs refl)
+
+pub run_is_made : (text : List ℕ) (steps : List Step) (s : State) → IsRunOf text true steps s → RunsTo (opening s.cast) steps s
+run_is_made text steps s h = subst (λ (c : Cast). RunsTo (opening c) steps s) (sym (same_scene text steps s h)) (h.runs refl)
+
+run_scene : (text : List ℕ) (steps : List Step) (s : State) → IsRunOf text true steps s → IsPlay (play_of_steps s.cast [])
+run_scene text steps s h =
+    let rules = h.trial.scenario.rules in
+    let there : IsPlay (play_of_steps h.play.cast []) =
+    record { cast = rules.cast; scripts = rules.scripts; commands = rules.commands; work = All-nil IsStep } in
+    subst (λ (c : Cast). IsPlay (play_of_steps c [])) (sym (same_scene text steps s h)) there
+
+pub run_is_scenario : (text : List ℕ) (steps : List Step) (s : State) (report : List ℕ) → IsRunOf text true steps s
+    → length (journal_text report s.cast steps) ≤ 1048576
+    → IsScenario (journal_text report s.cast steps) (play_of_steps s.cast steps)
+run_is_scenario text steps s report h few = steps_are_scenario s.cast steps s report (run_scene text steps s h) (run_is_made text steps s h) few
+
+pub replay_is_same : (text : List ℕ) (steps : List Step) (s : State) (report : List ℕ) → IsRunOf text true steps s
+    → (fresh : Bool) (t : State) → LeadsTo (journal_text report s.cast steps) true fresh t → t ≡ s
+replay_is_same text steps s report h fresh t leads =
+    steps_lead_there s.cast steps s report (run_scene text steps s h) (run_is_made text steps s h) fresh t leads

@@ -1,0 +1,123 @@
+-- What a run from bytes to bytes answers, and what it leaves read and written.
+use Rattle.std.specs.Prelude.{◌≡◌, ℕ, Bool, List, IsTrue, None}
+use Rattle.kt_core.specs.World.{Standing}
+use Rattle.kt_core.specs.declared.faults.FaultLine.{FaultLine}
+use Rattle.kt_world.specs.declared.step.Step.{Step}
+use Rattle.kt_world.specs.State.{State}
+use Rattle.kt_world.specs.Reached.{opening}
+use Rattle.kt_scene.specs.declared.fault.ReplayFault.{ReplayFault}
+use Rattle.kt_scene.specs.declared.fault.ReplayFault.TheVariants as faults
+use Rattle.kt_scene.specs.declared.scenario.WorkKind.TheVariants as kinds
+use Rattle.kt_scene.specs.Faults.{Explains}
+use Rattle.kt_scene.specs.Journal.{WritesJournal, WritesJournalFront}
+use Rattle.kt_scene.specs.Outside.{Reader, Writer}
+use Rattle.kt_scene.specs.Reading.{Play}
+use Rattle.kt_scene.specs.Report.{WritesReport, WritesReportFront}
+use Rattle.kt_scene.specs.Runs.{RunsTo}
+use Rattle.kt_scene.specs.Scenario.{IsScenario}
+use Rattle.kt_scene.specs.Stream.{IsAllRead, IsReadFault, IsReportFault, UnlessWrite}
+use Rattle.kt_scene.specs.Work.{Faults}
+use Rattle.kt_stage.specs.Policy.{first_unfinished, spent_by}
+use Rattle.kt_run.specs.declared.fault.RunTextFault.{RunTextFault}
+use Rattle.kt_run.specs.declared.fault.RunTextFault.TheVariants.{Text, Run}
+use Rattle.kt_run.specs.declared.running.Output.{Output}
+use Rattle.kt_run.specs.declared.running.Output.TheVariants as outputs
+
+-- the text is that of a scenario of these fault lines
+pub record IsTrial (text : List ℕ) (play : Play) (lines : List FaultLine) : Type 0 where
+  pub scenario : IsScenario text play
+  pub faults : play.work ≡ Faults lines
+
+-- the text is that of a scenario of fault lines; as long as the store is honest, these steps led from the opening of its
+-- scene to this state, and there no node has a next step, the fault lines being spent by the steps
+pub record IsRunOf (text : List ℕ) (is_honest : Bool) (steps : List Step) (s : State) : Type 0 where
+  pub play : Play
+  pub lines : List FaultLine
+  pub trial : IsTrial text play lines
+  pub runs : IsTrue is_honest → RunsTo (opening play.cast) steps s
+  pub ended : IsTrue is_honest → first_unfinished s (spent_by lines steps) ≡ None
+
+-- what was read is such a text
+pub record IsRun (before after : Reader) (is_honest : Bool) (steps : List Step) (s : State) : Type 0 where
+  pub text : List ℕ
+  pub read : IsAllRead before after text
+  pub run : IsRunOf text is_honest steps s
+
+-- ---- what is written
+
+abbrev pub Writes : Output → Bool → State → List Step → Writer → Writer → Type 0
+Writes outputs.Report is_honest s steps old new = WritesReport is_honest s old new
+Writes outputs.Journal is_honest s steps old new = WritesJournal is_honest s steps old new
+
+abbrev pub WritesFront : Output → Bool → State → List Step → Writer → Writer → Type 0
+WritesFront outputs.Report is_honest s steps old new = WritesReportFront is_honest s old new
+WritesFront outputs.Journal is_honest s steps old new = WritesJournalFront is_honest s steps old new
+
+-- what is written and passed on is the report of the state that some run of the scenario that was read ended in, or that
+-- report with the steps of the run, and nothing else. All this is said of the store as it was left: if it is honest
+-- then, it was so all the time.
+pub record WritesRun {S : Type 0} (is_honest : S → Bool) (output : Output) (before after : Reader) (old new : Writer)
+    : Type 0 where
+  pub left : S
+  pub steps : List Step
+  pub state : State
+  pub run : IsRun before after (is_honest left) steps state
+  pub written : Writes output (is_honest left) state steps old new
+
+-- the writer failed, and a front of that is written
+pub record WritesRunFront {S : Type 0} (is_honest : S → Bool) (output : Output) (before after : Reader) (old new : Writer)
+    : Type 0 where
+  pub left : S
+  pub steps : List Step
+  pub state : State
+  pub run : IsRun before after (is_honest left) steps state
+  pub written : WritesFront output (is_honest left) state steps old new
+
+-- ---- faults
+
+-- P, unless the fault is the writer's
+abbrev pub UnlessFront : RunTextFault → Type 0 → Type 0
+UnlessFront (Text fault) P = UnlessWrite fault P
+UnlessFront (Run fault) P = P
+
+-- the text is that of some scenario of fault lines
+pub record IsSomeTrial (text : List ℕ) : Type 0 where
+  pub play : Play
+  pub lines : List FaultLine
+  pub trial : IsTrial text play lines
+
+-- what a text answers: its first fault, or want of memory before that; or it is that of a scenario of fault lines, whose
+-- run did not come to its end
+abbrev pub IsTextFault : List ℕ → RunTextFault → Type 0
+IsTextFault text (Text (faults.Scene line cause)) = Explains kinds.Faults text line cause
+IsTextFault text (Text (faults.Step at cause)) = ⊥
+IsTextFault text (Text (faults.Open cause)) = ⊥
+IsTextFault text (Text (faults.Report cause)) = ⊥
+IsTextFault text (Text faults.Memory) = ⊥
+IsTextFault text (Text faults.Read) = ⊥
+IsTextFault text (Text faults.Write) = ⊥
+IsTextFault text (Run fault) = IsSomeTrial text
+
+-- what comes before the writing answers: what reading alone answers, or what the text that was read answers
+pub data IsRunFault (before after : Reader) : RunTextFault → Type 0 where
+  of_reading : {fault : ReplayFault} → IsReadFault before after fault → IsRunFault before after (Text fault)
+  of_text : {fault : RunTextFault} (text : List ℕ) → IsAllRead before after text → IsTextFault text fault
+      → IsRunFault before after fault
+
+-- the run ended in this world, and what a report alone answers came then
+pub record IsFaultInWriting {S : Type 0} (is_honest : S → Bool) (fault_count : S → ℕ) (before after : Reader)
+    (fault : ReplayFault) : Type 0 where
+  pub left : S
+  pub steps : List Step
+  pub world : Standing
+  pub run : IsRun before after world.is_honest steps world.state
+  pub is : IsReportFault world.faults (fault_count left) (is_honest left) fault
+
+-- what a run from bytes to bytes answers before it writes; or, once the run has ended, a refusal of the store, want of
+-- memory or a failure of the writer
+pub data IsRunTextFault {S : Type 0} (is_honest : S → Bool) (fault_count : S → ℕ) (before after : Reader)
+    : RunTextFault → Type 0 where
+  before_writing : {fault : RunTextFault} → IsRunFault before after fault
+      → IsRunTextFault is_honest fault_count before after fault
+  in_writing : {fault : ReplayFault} → IsFaultInWriting is_honest fault_count before after fault
+      → IsRunTextFault is_honest fault_count before after (Text fault)

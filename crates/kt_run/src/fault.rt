@@ -1,0 +1,69 @@
+//! What ends a run from bytes to bytes early.
+
+use kt_scene::{ReplayFault, SceneFault};
+use kt_stage::RunFault;
+use std::error::Error;
+use std::fmt;
+use std::fmt::{Display, Formatter};
+
+/// Why a run ended early. All but `Text(Write)` leave nothing written.
+#[derive(Clone, Copy, Debug, PartialEq, Eq)]
+pub enum RunTextFault {
+    /// Reading, the scenario or writing, as of a replay: `Scene`, `Report`, `Memory`, `Read` or `Write`.
+    Text(ReplayFault),
+    /// The run itself.
+    Run(RunFault),
+}
+
+impl From<SceneFault> for RunTextFault {
+    ghost use Rattle.std.specs.Prelude.{◌≡◌};
+    ghost use Rattle.kt_run.specs.declared.fault.RunTextFault.TheVariants.{Text};
+    ghost use Rattle.kt_scene.specs.declared.fault.ReplayFault.TheVariants.{Scene};
+
+    ghost from_gives = { λ fault e. e ≡ Text (Scene fault.line fault.cause) };
+
+    fn from(fault: SceneFault) -> RunTextFault {
+        let SceneFault { line, cause } = fault;
+        RunTextFault::Text(ReplayFault::Scene { line, cause })
+    }
+}
+
+impl From<RunFault> for RunTextFault {
+    ghost use Rattle.std.specs.Prelude.{◌≡◌};
+    ghost use Rattle.kt_run.specs.declared.fault.RunTextFault.TheVariants.{Run};
+
+    ghost from_gives = { λ fault e. e ≡ Run fault };
+
+    fn from(fault: RunFault) -> RunTextFault {
+        RunTextFault::Run(fault)
+    }
+}
+
+/// The line that tells of the fault, as that of a replay, or as `close: Unmatched`.
+impl Display for RunTextFault {
+    fn fmt<W: fmt::Write>(&self, f: &mut Formatter<W>) -> fmt::Result {
+        match *self {
+            RunTextFault::Text(fault) => write!(f, "{fault}"),
+            RunTextFault::Run(fault) => tell_run(f, fault),
+        }
+    }
+}
+
+fn tell_run<W: fmt::Write>(f: &mut Formatter<W>, fault: RunFault) -> fmt::Result {
+    match fault {
+        RunFault::Open(cause) => {
+            let fault = ReplayFault::Open(cause);
+            write!(f, "{fault}")
+        }
+        RunFault::Step { at, cause } => {
+            let at = at as usize;
+            let fault = ReplayFault::Step { at, cause };
+            write!(f, "{fault}")
+        }
+        RunFault::Close(cause) => write!(f, "close: {cause}"),
+        RunFault::Memory => write!(f, "memory"),
+        RunFault::Unfinished { .. } => write!(f, "close: Unfinished"),
+    }
+}
+
+impl Error for RunTextFault {}

@@ -1,0 +1,46 @@
+//! Laws about runs and their journals, each the contract of a function with nothing to do.
+
+ghost use Rattle.std.specs.Prelude.{◌≡◌, ℕ, ◌≤◌, [], All, Bool, List, Ok, length, true};
+ghost use Rattle.kt_script.specs.Rules.{IsScript};
+ghost use Rattle.kt_world.specs.declared.step.Step.{Step};
+ghost use Rattle.kt_world.specs.Cast.{Cast, IsCast};
+ghost use Rattle.kt_world.specs.Reached.{opening};
+ghost use Rattle.kt_world.specs.State.{State};
+ghost use Rattle.kt_scene.specs.Journal.{journal_text, play_of_steps};
+ghost use Rattle.kt_scene.specs.Run.{LeadsTo};
+ghost use Rattle.kt_scene.specs.Runs.{RunsTo};
+ghost use Rattle.kt_scene.specs.Scenario.{IsPlay, IsScenario, IsStep};
+ghost use Rattle.kt_stage.specs.Journal.{all_made};
+ghost use Rattle.kt_run.specs.Run.{IsRunOf};
+
+/// Steps that lead from the opening of a scene to some state can be said by lines: each names nodes of the scene, and the
+/// place of a match below 100,000.
+pub fn what_was_made_can_be_said()
+    ensures { (cast : Cast) (steps : List Step) (s : State) → IsCast cast → All IsScript cast.scripts
+        → RunsTo (opening cast) steps s → All IsStep steps }
+{}
+
+/// The steps of a journal that began with the opening of a scene are told by a scenario of steps, where its text is not
+/// too long, whatever report stands before it; and its replay over an honest store leads to the state that the journal
+/// has, and to no other. So both report the same survivors, the same that is lost, and the same permanent tuples.
+pub fn what_was_made_is_replayed()
+    ensures scenario { (cast : Cast) (steps : List Step) (s : State) (report : List ℕ) → IsPlay (play_of_steps cast [])
+        → all_made (opening cast) steps ≡ Ok s → length (journal_text report cast steps) ≤ 1048576
+        → IsScenario (journal_text report cast steps) (play_of_steps cast steps) }
+    ensures same { (cast : Cast) (steps : List Step) (s : State) (report : List ℕ) → IsPlay (play_of_steps cast [])
+        → all_made (opening cast) steps ≡ Ok s → (fresh : Bool) (t : State)
+        → LeadsTo (journal_text report cast steps) true fresh t → t ≡ s }
+{}
+
+/// What a run over an honest store tells as its journal, where that is not too long, is the text of a scenario of steps;
+/// and its replay over an honest store leads to the state that the run ended in, and to no other. So both report the same
+/// survivors, the same that is lost, and the same permanent tuples.
+pub fn what_a_run_tells_is_replayed()
+    ensures scenario { (text : List ℕ) (steps : List Step) (s : State) (report : List ℕ) → IsRunOf text true steps s
+        → length (journal_text report s.cast steps) ≤ 1048576
+        → IsScenario (journal_text report s.cast steps) (play_of_steps s.cast steps) }
+    ensures made { (text : List ℕ) (steps : List Step) (s : State) → IsRunOf text true steps s
+        → RunsTo (opening s.cast) steps s }
+    ensures same { (text : List ℕ) (steps : List Step) (s : State) (report : List ℕ) → IsRunOf text true steps s
+        → (fresh : Bool) (t : State) → LeadsTo (journal_text report s.cast steps) true fresh t → t ≡ s }
+{}

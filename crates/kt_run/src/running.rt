@@ -1,0 +1,151 @@
+//! From the bytes of a scenario to the bytes that tell of its run.
+
+ghost use Rattle.std.specs.Prelude.{◌≡◌, Err, IfErr, IfOk, IsTrue, None, OnOk, Some};
+ghost use Rattle.kt_scene.specs.declared.fault.ReplayFault.TheVariants as text_faults;
+ghost use Rattle.kt_scene.specs.Journal.{WritesJournal, WritesJournalFront};
+ghost use Rattle.kt_scene.specs.Stream.{IsReportFault, UnlessWrite};
+ghost use Rattle.kt_run.specs.Run.{IsRun, IsRunFault, IsRunOf, IsRunTextFault, IsTextFault, UnlessFront, Writes, WritesFront};
+ghost use Rattle.kt_run.specs.Run.{WritesRun, WritesRunFront};
+
+use crate::fault::RunTextFault;
+use kt_scene::{
+    ReplayFault, Scenario, Sink, Source, WorkKind, read_scene, read_text, write_journal,
+    write_report,
+};
+use kt_stage::{Journal, run_threads};
+use kt_store::CkptStore;
+use std::alloc::{AllocError, Global};
+use std::io::{Read, Write};
+use std::sync::Wait;
+use std::thread::Threads;
+
+/// What is written of a run.
+#[derive(Clone, Copy, Debug, PartialEq, Eq)]
+pub enum Output {
+    /// The report.
+    Report,
+    /// The report with `# ` before each line, and then the scenario whose steps are those of the run.
+    Journal,
+}
+
+/// Reads a scenario of fault lines, runs it by a thread for each node over the store, and writes the report of the world
+/// then, or the journal. It reads all, then runs, then writes; so a fault other than `Text(Write)` leaves nothing
+/// written. What was read before a fault is gone from the reader. It may wait for its threads.
+pub fn run_text<T, R, W, S>(
+    rt: &T,
+    alloc: Global,
+    reader: &mut Source<R>,
+    writer: &mut Sink<W>,
+    store: S,
+    output: Output,
+) -> Result<(), RunTextFault>
+where
+    T: Threads + Wait + Sync,
+    R: Read,
+    W: Write,
+    S: CkptStore + Send + Drop,
+    ensures written { OnOk result
+        (WritesRun S.is_honest output reader.old reader.new writer.old writer.new) }
+    ensures front { result ≡ Err (RunTextFault.Text text_faults.Write)
+        → WritesRunFront S.is_honest output reader.old reader.new writer.old writer.new }
+    ensures fault { IfErr result (IsRunTextFault S.is_honest S.fault_count reader.old reader.new) }
+    // Before any fault but the writer's the writer is not called.
+    ensures nothing { IfErr result (λ fault. UnlessFront fault (writer.new ≡ writer.old)) }
+{
+    match run_read(rt, alloc, reader, store) {
+        Ok(journal) => {
+            let (answer, left) = write_run(alloc, journal, writer, output);
+            drop(left);
+            match answer {
+                Ok(()) => Ok(()),
+                Err(fault) => Err(RunTextFault::Text(fault)),
+            }
+        }
+        Err(fault) => Err(fault),
+    }
+}
+
+/// Reads a scenario of fault lines and runs it: the journal then.
+fn run_read<T, R, S>(
+    rt: &T,
+    alloc: Global,
+    reader: &mut Source<R>,
+    store: S,
+) -> Result<Journal<S>, RunTextFault>
+where
+    T: Threads + Wait + Sync,
+    R: Read,
+    S: CkptStore + Send + Drop,
+    ensures run { IfOk result (λ j. IsRun reader.old reader.new j.world.is_honest j.steps j.world.state) }
+    ensures fault { IfErr result (IsRunFault reader.old reader.new) }
+{
+    match read_text(alloc, reader) {
+        Ok(text) => run_told(rt, alloc, &text, store),
+        Err(fault) => Err(RunTextFault::Text(fault)),
+    }
+}
+
+/// Runs the scenario that the text spells.
+fn run_told<T, S>(rt: &T, alloc: Global, text: &[u8], store: S) -> Result<Journal<S>, RunTextFault>
+where
+    T: Threads + Wait + Sync,
+    S: CkptStore + Send + Drop,
+    ensures run { IfOk result (λ j. IsRunOf text.now j.world.is_honest j.steps j.world.state) }
+    ensures fault { IfErr result (IsTextFault text.now) }
+{
+    let Scenario { scene, work } = read_scene(alloc, text, WorkKind::Faults)?;
+    // The work is of the kind that was asked for.
+    let faults = work.into_faults().unwrap();
+    let journal = run_threads(rt, alloc, scene, faults, store)?;
+    Ok(journal)
+}
+
+/// Writes what is asked for of the run: the store as it is left then.
+fn write_run<W: Write, S: CkptStore + Drop>(
+    alloc: Global,
+    journal: Journal<S>,
+    writer: &mut Sink<W>,
+    output: Output,
+) -> (Result<(), ReplayFault>, S)
+    ensures honest { IsTrue (S.is_honest result.1) → IsTrue journal.world.is_honest }
+    ensures written { OnOk result.0
+        (Writes output (S.is_honest result.1) journal.world.state journal.steps writer.old writer.new) }
+    ensures front { result.0 ≡ Err ReplayFault.Write
+        → WritesFront output (S.is_honest result.1) journal.world.state journal.steps writer.old writer.new }
+    ensures nothing { IfErr result.0 (λ fault. UnlessWrite fault (writer.new ≡ writer.old)) }
+    ensures only { IfErr result.0
+        (IsReportFault journal.world.faults (S.fault_count result.1) (S.is_honest result.1)) }
+{
+    match output {
+        Output::Report => {
+            let mut world = journal.into_world();
+            let answer = write_report(alloc, &mut world, writer);
+            (answer, world.into_store())
+        }
+        Output::Journal => write_steps(alloc, journal, writer),
+    }
+}
+
+/// Writes the journal.
+fn write_steps<W: Write, S: CkptStore + Drop>(
+    alloc: Global,
+    journal: Journal<S>,
+    writer: &mut Sink<W>,
+) -> (Result<(), ReplayFault>, S)
+    ensures honest { IsTrue (S.is_honest result.1) → IsTrue journal.world.is_honest }
+    ensures written { OnOk result.0
+        (WritesJournal (S.is_honest result.1) journal.world.state journal.steps writer.old writer.new) }
+    ensures front { result.0 ≡ Err ReplayFault.Write
+        → WritesJournalFront (S.is_honest result.1) journal.world.state journal.steps writer.old writer.new }
+    ensures nothing { IfErr result.0 (λ fault. UnlessWrite fault (writer.new ≡ writer.old)) }
+    ensures only { IfErr result.0
+        (IsReportFault journal.world.faults (S.fault_count result.1) (S.is_honest result.1)) }
+{
+    let steps = match Vec::from_slice(alloc, journal.steps()) {
+        Ok(steps) => steps,
+        Err(AllocError) => return (Err(ReplayFault::Memory), journal.into_world().into_store()),
+    };
+    let mut world = journal.into_world();
+    let answer = write_journal(alloc, &mut world, &steps, writer);
+    (answer, world.into_store())
+}

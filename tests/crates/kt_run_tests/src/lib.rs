@@ -1,0 +1,7 @@
+//! Tests of kt_run's public calls.
+#![tactic(auto)]
+
+#[cfg(test)]
+mod faults;
+#[cfg(test)]
+mod runs;
