@@ -1,6 +1,6 @@
 use Rattle.std.proofs.Common.{rules, ◌≡◌, ◌∷◌, ◌++◌, [], arith}
 use Rattle.kt_tuple.specs.declared.node.NodeId.TheVariants.{Worker}
-use Rattle.kt_vote.proofs.Before.{before_next}
+use Rattle.kt_vote.proofs.Shared.{before_next}
 use Rattle.kt_vote_tests.proofs.ballots.asking_workers.Goals as goal
 
 pub loop-number-preserved : goal.loop-number-preserved
