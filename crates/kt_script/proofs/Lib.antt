@@ -9,3 +9,4 @@ pub mod Remains
 pub mod OneKind
 pub mod InScript
 pub mod Limits
+pub mod Shared
