@@ -9,7 +9,7 @@ use Rattle.kt_history.specs.declared.note.Note.TheVariants as notes
 use Rattle.kt_history.specs.Line.{note_at, before, IsAct, line}
 use Rattle.kt_history.specs.Past.{StoodBefore, IsCauseOf, InPast, itself, in_line, by_cause}
 use Rattle.kt_history.specs.WellFormed.{CausesComeFirst}
-use Rattle.kt_history.specs.Survival.{Stands, IsUndone, Survives, note_stands, note_causes, stands_back}
+use Rattle.kt_history.specs.Survival.{Stands, IsLost, Survives, note_stands, note_causes, stands_back}
 use Rattle.kt_history.specs.Survival.{survives, services, lost_count, AreSurvivors, IsLostCount}
 use Rattle.kt_history.specs.Closed.{IsClosed}
 use Rattle.kt_history.proofs.Lists.{Contains-none, Contains-here, Contains-there, Contains-cons_cases}
@@ -125,7 +125,7 @@ Survives-past h e f s p = λ d q. s d (InPast-trans h d q p)
 pub Survives-step : (h : List Note) (f : ℕ) → Stands h f → ((g : ℕ) → StoodBefore h g f → Survives h g) → ((g : ℕ) → IsCauseOf h g f → Survives h g)
     → Survives h f
 Survives-step h f stands stood cause = λ e p. go e stands stood cause p where
-  go : (e : ℕ) {f : ℕ} → Stands h f → ((g : ℕ) → StoodBefore h g f → Survives h g) → ((g : ℕ) → IsCauseOf h g f → Survives h g) → InPast h e f → ¬ IsUndone h e
+  go : (e : ℕ) {f : ℕ} → Stands h f → ((g : ℕ) → StoodBefore h g f → Survives h g) → ((g : ℕ) → IsCauseOf h g f → Survives h g) → InPast h e f → ¬ IsLost h e
   go e here by_line by_act itself = λ lost. lost here
   go e here by_line by_act (in_line {g} s q) = by_line g s e q
   go e here by_line by_act (by_cause {g} s q) = by_act g s e q

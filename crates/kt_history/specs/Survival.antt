@@ -16,13 +16,13 @@ use Rattle.kt_history.specs.Past.{InPast}
 abbrev pub Stands : List Note → ℕ → Type 0
 Stands h e = (p : NodeId) × Contains (line h p) e
 
--- the act e is undone: a cut took it out of its line, and it stands in none
-abbrev pub IsUndone : List Note → ℕ → Type 0
-IsUndone h e = ¬ Stands h e
+-- the act e is lost: a cut took it out of its line, and it stands in none
+abbrev pub IsLost : List Note → ℕ → Type 0
+IsLost h e = ¬ Stands h e
 
--- nothing in the past of f is undone
+-- nothing in the past of f is lost
 abbrev pub Survives : List Note → ℕ → Type 0
-Survives h f = (e : ℕ) → InPast h e f → ¬ IsUndone h e
+Survives h f = (e : ℕ) → InPast h e f → ¬ IsLost h e
 
 -- the act of this number stands in its node's line: a test that computes
 abbrev pub note_stands : List Note → ℕ → Option Note → Bool
