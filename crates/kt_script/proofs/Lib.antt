@@ -1,4 +1,4 @@
-pub mod Places
+pub mod PlaceLemmas
 pub mod Held
 pub mod Known
 pub mod Reaches
