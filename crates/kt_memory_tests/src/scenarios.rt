@@ -1,7 +1,7 @@
 //! Scenarios that are read while memory is refused.
 
 use crate::hoard::{BLOCKS, hoard_all};
-use kt_scene::read_scene;
+use kt_scene::{WorkKind, read_scene};
 use std::alloc::Global;
 use std::process::Abort;
 use std::test::Fail;
@@ -11,7 +11,7 @@ type Text = (&'static [u8], usize, u8);
 
 /// The fault of the text as line and number; 0 and 0 is none.
 fn fault_of(alloc: Global, text: &[u8]) -> (usize, u8) {
-    match read_scene(alloc, text) {
+    match read_scene(alloc, text, WorkKind::Steps) {
         Ok(_) => (0, 0),
         Err(fault) => (fault.line, fault.cause.number()),
     }

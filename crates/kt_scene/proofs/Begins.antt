@@ -9,15 +9,17 @@ use Rattle.kt_scene.specs.declared.fault.SceneError.{SceneError}
 use Rattle.kt_scene.specs.declared.draft.Stage.{Stage}
 use Rattle.kt_scene.specs.declared.draft.Stage.TheVariants as stages
 use Rattle.kt_scene.specs.Lines.{Sketch, nothing_read, is_ended, line_read}
-use Rattle.kt_scene.specs.Reading.{Play, steps_of, play_with}
-use Rattle.kt_scene.specs.Text.{script_lines, told_lines}
-use Rattle.kt_scene.specs.Scenario.{IsCommand, IsStep, IsPlay, is_told}
+use Rattle.kt_scene.specs.declared.scenario.WorkKind.{WorkKind}
+use Rattle.kt_scene.specs.declared.scenario.WorkKind.TheVariants as kinds
+use Rattle.kt_scene.specs.Reading.{Play, play_with}
+use Rattle.kt_scene.specs.Work.{kind_of, no_work, work_word}
+use Rattle.kt_scene.specs.Text.{script_lines, told_lines, work_lines}
+use Rattle.kt_scene.specs.Scenario.{IsCommand, IsPlay, is_told}
 use Rattle.kt_scene.specs.Faults.{AreShards, Begin, play_of_scripts}
 use Rattle.kt_scene.proofs.Feeding.{LeadOn, leads_append}
-use Rattle.kt_scene.proofs.Told.{head_lines, told_at, IsGood, place_at, scripts_push}
+use Rattle.kt_scene.proofs.Told.{head_lines, told_at, IsGood, place_at, scripts_push, none_kind, none_kept, none_lines}
 use Rattle.kt_scene.proofs.ReadLaws.{play_kept}
-use Rattle.kt_scene.proofs.LinesRead.{among_steps}
-use Rattle.kt_scene.proofs.ScenarioRead.{with_ignored, at_end, told_lead}
+use Rattle.kt_scene.proofs.ScenarioRead.{with_ignored, at_end, before_end, told_lead}
 use Rattle.kt_scene.proofs.Reached.{IsTold, unended, whole, Reached}
 
 -- lines lead to one sketch
@@ -35,95 +37,135 @@ leads_split (x ∷ xs) ys s t h =
     let more = leads_split xs ys h.0 t h.2 in
     (more.0, (h.0, h.1, more.1), more.2)
 
+-- what leads on to a scenario leads on from nothing of the kind that is wanted
+pub wanted_lead : (kind : WorkKind) (play : Play) → kind_of play.work ≡ kind → IsPlay play → LeadOn (nothing_read kind) (told_lines play) (before_end play)
+wanted_lead kind play is rules = subst (λ (k : WorkKind). LeadOn (nothing_read k) (told_lines play) (before_end play)) is (told_lead play rules)
+
 -- the first lines of a scenario are read
-pub begin_leads : (lines : List (List ℕ)) → Begin lines → (u : Sketch) × LeadOn nothing_read lines u
-begin_leads lines h =
-    let s = among_steps h.play.cast.shards h.play.cast.scripts (steps_of h.play.work) in
-    let Of : List (List ℕ) → Type 0 = λ l. LeadOn nothing_read l s in
-    let body = with_ignored h.body nothing_read s refl (subst Of (sym h.told) (told_lead h.play h.rules)) in
-    let all = leads_append nothing_read h.body (codes "end" ∷ []) s (at_end h.play) body (at_end h.play, refl, refl) in
-    let To : List (List ℕ) → Type 0 = λ l. LeadOn nothing_read l (at_end h.play) in
-    let parts = leads_split lines h.others nothing_read (at_end h.play) (subst To h.are all) in
+pub begin_leads : (kind : WorkKind) (lines : List (List ℕ)) → Begin kind lines → (u : Sketch) × LeadOn (nothing_read kind) lines u
+begin_leads kind lines h =
+    let nothing = nothing_read kind in
+    let s = before_end h.play in
+    let Of : List (List ℕ) → Type 0 = λ l. LeadOn nothing l s in
+    let body = with_ignored h.body nothing s refl (subst Of (sym h.told) (wanted_lead kind h.play h.is_kind h.rules)) in
+    let all = leads_append nothing h.body (codes "end" ∷ []) s (at_end h.play) body (at_end h.play, refl, refl) in
+    let To : List (List ℕ) → Type 0 = λ l. LeadOn nothing l (at_end h.play) in
+    let parts = leads_split lines h.others nothing (at_end h.play) (subst To h.are all) in
     (parts.0, parts.1)
 
 -- no scenario begins with these lines and one that has a fault
-pub never_begin : (before : List (List ℕ)) (line : List ℕ) (s : Sketch) (fault : SceneError) → LeadOn nothing_read before s → line_read s line ≡ Err fault
-    → ¬ Begin (before ++ line ∷ [])
-never_begin before line s fault leads e h =
-    let u = begin_leads (before ++ line ∷ []) h in
-    let parts = leads_split before (line ∷ []) nothing_read u.0 u.1 in
-    let same = leads_once before nothing_read parts.0 s parts.1 leads in
+pub never_begin : (kind : WorkKind) (before : List (List ℕ)) (line : List ℕ) (s : Sketch) (fault : SceneError) → LeadOn (nothing_read kind) before s
+    → line_read s line ≡ Err fault
+    → ¬ Begin kind (before ++ line ∷ [])
+never_begin kind before line s fault leads e h =
+    let nothing = nothing_read kind in
+    let u = begin_leads kind (before ++ line ∷ []) h in
+    let parts = leads_split before (line ∷ []) nothing u.0 u.1 in
+    let same = leads_once before nothing parts.0 s parts.1 leads in
     let read : line_read s line ≡ Ok parts.2.0 = subst (λ (x : Sketch). line_read x line ≡ Ok parts.2.0) same parts.2.1 in
     absurd cc
 
--- the scenario of these scripts, the last of them open, and no steps
-pub script_rules : (s : Sketch) → s.stage ≡ stages.Commands → IsGood s → IsPlay (play_of_scripts s.shards (s.scripts ++ s.commands ∷ []) [])
-script_rules s is h =
+-- the scenario of these scripts, the last of them open, and no work
+pub script_rules : (kind : WorkKind) (s : Sketch) → s.stage ≡ stages.Commands → IsGood s
+    → IsPlay (play_of_scripts kind s.shards (s.scripts ++ s.commands ∷ []))
+script_rules kind s is h =
     let at = place_at stages.Commands s is h in
     let count : length (s.scripts ++ s.commands ∷ []) ≡ length s.scripts + 1 = length-append s.scripts (s.commands ∷ []) in
     record {
       cast = record { some_shards = at.1.0; few_shards = at.1.1; some_workers = omega (arith, count); few_workers = omega (arith, count, at.2) };
       scripts = All-push IsScript s.scripts s.commands h.scripts h.script;
       commands = All-push (All IsCommand) s.scripts s.commands h.held h.commands;
-      work = All-nil IsStep;
+      work = none_kept _ kind;
     }
 
-pub script_told : (s : Sketch) → s.stage ≡ stages.Commands → IsGood s
-    → told_lines (play_of_scripts s.shards (s.scripts ++ s.commands ∷ []) []) ≡ told_at stages.Commands s ++ codes "steps" ∷ []
-script_told s is h =
-    let tail : flat_map script_lines (s.scripts ++ s.commands ∷ []) ++ codes "steps" ∷ []
-    ≡ (flat_map script_lines s.scripts ++ script_lines s.commands) ++ codes "steps" ∷ [] =
-    ap (λ (l : List (List ℕ)). l ++ codes "steps" ∷ []) (scripts_push s.scripts s.commands) in
+pub script_told : (kind : WorkKind) (s : Sketch)
+    → told_lines (play_of_scripts kind s.shards (s.scripts ++ s.commands ∷ [])) ≡ told_at stages.Commands s ++ work_word kind ∷ []
+script_told kind s =
+    let front = flat_map script_lines s.scripts ++ script_lines s.commands in
+    let tail : flat_map script_lines (s.scripts ++ s.commands ∷ []) ++ work_lines (no_work kind)
+    ≡ (flat_map script_lines s.scripts ++ script_lines s.commands) ++ work_word kind ∷ [] =
+    ap (λ (l : List (List ℕ)). l ++ work_lines (no_work kind)) (scripts_push s.scripts s.commands)
+    ∙ ap (λ (l : List (List ℕ)). front ++ l) (none_lines kind) in
     ap (λ (l : List (List ℕ)). head_lines s.shards ++ l) tail
 
 -- a scenario that goes on as the sketch begins
-record Completes (s : Sketch) (lines : List (List ℕ)) : Type 0 where
+record Completes (kind : WorkKind) (lines : List (List ℕ)) : Type 0 where
   play : Play
+  is_kind : kind_of play.work ≡ kind
   rules : IsPlay play
   more : List (List ℕ)
   plain : filter is_told more ≡ more
   are : told_lines play ≡ lines ++ more
 
 -- a worker without commands
-abbrev least : ℕ → Play
-least shards = play_of_scripts shards ([] ∷ []) []
+abbrev least : WorkKind → ℕ → Play
+least kind shards = play_of_scripts kind shards ([] ∷ [])
 
-least_rules : (shards : ℕ) → AreShards shards → IsPlay (least shards)
-least_rules shards are = record {
+least_rules : (kind : WorkKind) (shards : ℕ) → AreShards shards → IsPlay (least kind shards)
+least_rules kind shards are = record {
   cast = record { some_shards = are.0; few_shards = are.1; some_workers = omega arith; few_workers = omega arith };
   scripts = All-cons IsScript [] [] tt (All-nil IsScript);
   commands = All-cons (All IsCommand) [] [] (All-nil IsCommand) (All-nil (All IsCommand));
-  work = All-nil IsStep;
+  work = none_kept _ kind;
 }
 
-by_stage : (stage : Stage) (s : Sketch) → s.stage ≡ stage → IsGood s → is_ended stage ≡ false → Completes s (told_at stage s)
-by_stage stages.Title s is h on =
-    record { play = least 1; rules = least_rules 1 (omega arith, omega arith); more = told_lines (least 1); plain = refl; are = refl }
-by_stage stages.Shards s is h on =
-    record {
-      play = least 1;
-      rules = least_rules 1 (omega arith, omega arith);
-      more = (codes "shards " ++ decimal 1) ∷ codes "worker" ∷ codes "steps" ∷ [];
-      plain = refl;
-      are = refl;
-    }
-by_stage stages.Workers s is h on =
+-- the line before the work is told
+word_plain : (kind : WorkKind) → filter is_told (work_word kind ∷ []) ≡ work_word kind ∷ []
+word_plain kinds.Steps = refl
+word_plain kinds.Faults = refl
+
+-- the line of the first worker, and the one before the work
+abbrev first_worker : WorkKind → List (List ℕ)
+first_worker kind = codes "worker" ∷ work_word kind ∷ []
+
+least_told : (kind : WorkKind) (shards : ℕ) → told_lines (least kind shards) ≡ head_lines shards ++ first_worker kind
+least_told kind shards = ap (λ (l : List (List ℕ)). head_lines shards ++ codes "worker" ∷ l) (none_lines kind)
+
+by_stage : (stage : Stage) (kind : WorkKind) (s : Sketch) → s.stage ≡ stage → kind_of s.work ≡ kind → IsGood s → is_ended stage ≡ false
+    → Completes kind (told_at stage s)
+by_stage stages.Title kind s is of h on = record {
+  play = least kind 1;
+  is_kind = none_kind kind;
+  rules = least_rules kind 1 (omega arith, omega arith);
+  more = head_lines 1 ++ first_worker kind;
+  plain = ap (λ (l : List (List ℕ)). head_lines 1 ++ codes "worker" ∷ l) (word_plain kind);
+  are = least_told kind 1;
+}
+by_stage stages.Shards kind s is of h on = record {
+  play = least kind 1;
+  is_kind = none_kind kind;
+  rules = least_rules kind 1 (omega arith, omega arith);
+  more = (codes "shards " ++ decimal 1) ∷ first_worker kind;
+  plain = ap (λ (l : List (List ℕ)). (codes "shards " ++ decimal 1) ∷ codes "worker" ∷ l) (word_plain kind);
+  are = least_told kind 1;
+}
+by_stage stages.Workers kind s is of h on =
     let at = place_at stages.Workers s is h in
-    record { play = least s.shards; rules = least_rules s.shards at.0; more = codes "worker" ∷ codes "steps" ∷ []; plain = refl; are = refl }
-by_stage stages.Commands s is h on = record {
-  play = play_of_scripts s.shards (s.scripts ++ s.commands ∷ []) [];
-  rules = script_rules s is h;
-  more = codes "steps" ∷ [];
-  plain = refl;
-  are = script_told s is h;
+    record {
+      play = least kind s.shards;
+      is_kind = none_kind kind;
+      rules = least_rules kind s.shards at.0;
+      more = first_worker kind;
+      plain = ap (λ (l : List (List ℕ)). codes "worker" ∷ l) (word_plain kind);
+      are = least_told kind s.shards;
+    }
+by_stage stages.Commands kind s is of h on = record {
+  play = play_of_scripts kind s.shards (s.scripts ++ s.commands ∷ []);
+  is_kind = none_kind kind;
+  rules = script_rules kind s is h;
+  more = work_word kind ∷ [];
+  plain = word_plain kind;
+  are = script_told kind s;
 }
-by_stage stages.Steps s is h on =
-    record { play = play_with s; rules = play_kept s is h; more = []; plain = refl; are = sym (append-nil (told_at stages.Steps s)) }
-by_stage stages.Ended s is h on = absurd cc
+by_stage stages.Work kind s is of h on =
+    record { play = play_with s; is_kind = of; rules = play_kept s is h; more = []; plain = refl; are = sym (append-nil (told_at stages.Work s)) }
+by_stage stages.Ended kind s is of h on = absurd cc
 
-begins_so : (before : List (List ℕ)) (s : Sketch) → told_at s.stage s ≡ filter is_told before → Completes s (told_at s.stage s) → Begin before
-begins_so before s told h = record {
+begins_so : (kind : WorkKind) (before : List (List ℕ)) (s : Sketch) → told_at s.stage s ≡ filter is_told before → Completes kind (told_at s.stage s)
+    → Begin kind before
+begins_so kind before s told h = record {
   play = h.play;
+  is_kind = h.is_kind;
   rules = h.rules;
   body = before ++ h.more;
   told = filter-append is_told before h.more ∙ ap (λ (l : List (List ℕ)). filter is_told before ++ l) h.plain
@@ -132,11 +174,11 @@ begins_so before s told h = record {
   are = append_assoc before h.more (codes "end" ∷ []);
 }
 
-by_told : (before : List (List ℕ)) (s : Sketch) → IsTold before s → Begin before
-by_told before s (unended good goes told) = begins_so before s told (by_stage s.stage s refl good goes)
-by_told before s (whole body is ended rules told) =
-    record { play = play_with s; rules = rules; body = body; told = told; others = []; are = sym is ∙ sym (append-nil before) }
+by_told : (kind : WorkKind) (before : List (List ℕ)) (s : Sketch) → kind_of s.work ≡ kind → IsTold before s → Begin kind before
+by_told kind before s of (unended good goes told) = begins_so kind before s told (by_stage s.stage kind s refl of good goes)
+by_told kind before s of (whole body is ended rules told) =
+    record { play = play_with s; is_kind = of; rules = rules; body = body; told = told; others = []; are = sym is ∙ sym (append-nil before) }
 
 -- lines that were read are the first of some scenario
-pub reached_begin : (before : List (List ℕ)) (s : Sketch) → Reached before s → Begin before
-reached_begin before s h = by_told before s h.told
+pub reached_begin : (kind : WorkKind) (before : List (List ℕ)) (s : Sketch) → Reached kind before s → Begin kind before
+reached_begin kind before s h = by_told kind before s h.of h.told

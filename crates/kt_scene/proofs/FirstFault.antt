@@ -9,15 +9,17 @@ use Rattle.std.specs.List.{flat_map}
 use Rattle.kt_scene.specs.declared.fault.SceneFault.{SceneFault}
 use Rattle.kt_scene.specs.declared.fault.SceneError.{SceneError}
 use Rattle.kt_scene.specs.declared.fault.SceneError.TheVariants as faults
+use Rattle.kt_scene.specs.declared.scenario.WorkKind.{WorkKind}
 use Rattle.kt_scene.specs.Fault.{fault_number}
+use Rattle.kt_scene.specs.Work.{kind_of}
 use Rattle.kt_scene.specs.Lines.{Sketch, nothing_read}
 use Rattle.kt_scene.specs.Reading.{Play, Fault, with_byte, lines_of, read_from, sketch_of, played, play_of, IsBeforeFault, IsFirstFault, IsPlaceOf}
 use Rattle.kt_scene.specs.Report.{text_line}
 use Rattle.kt_scene.specs.Scenario.{IsLine, IsScenario, is_told}
 use Rattle.kt_scene.specs.Faults.{Begin, HasFault, IsFaultAt, IsCutShort, HasFirstFault, too_long, at_line, cut_short, HasLineAt, Explains}
 use Rattle.kt_scene.proofs.Feeding.{text_has_lines, line_in_front, is_no_feed}
-use Rattle.kt_scene.proofs.ReadLaws.{all_in_front, read_is_spelled}
-use Rattle.kt_scene.proofs.ScenarioRead.{end_is_line, spelled_is_read}
+use Rattle.kt_scene.proofs.ReadLaws.{all_in_front, read_is_spelled, read_is_kind}
+use Rattle.kt_scene.proofs.ScenarioRead.{end_is_line, wanted_is_read}
 use Rattle.kt_scene.proofs.Reached.{Failed, on_line, at_end, reached_nothing, read_fails}
 use Rattle.kt_scene.proofs.Begins.{never_begin, reached_begin}
 use Rattle.kt_scene.proofs.Positions.{told_leads}
@@ -64,7 +66,7 @@ no_line (c ∷ rest) h =
     let other : eqb c 10 ≡ false = ne_eqb c 10 (All-head P c rest h) in
     rw other (alone_by_parts c (lines_of rest) (no_line rest (All-tail P c rest h)))
 
-found_on_line : (text : List ℕ) (before : List (List ℕ)) (line : List ℕ) (later : List (List ℕ)) → (lines_of text).0 ≡ before ++ line ∷ later
+pub found_on_line : (text : List ℕ) (before : List (List ℕ)) (line : List ℕ) (later : List (List ℕ)) → (lines_of text).0 ≡ before ++ line ∷ later
     → (text ≡ flat_map text_line (before ++ line ∷ []) ++ (flat_map text_line later ++ (lines_of text).1)) × All IsLine (before ++ line ∷ [])
 found_on_line text before line later all =
     let parts = text_has_lines text in
@@ -76,9 +78,9 @@ found_on_line text before line later all =
       all_in_front IsLine (before ++ line ∷ []) later (subst Each lines parts.1),
     )
 
-by_failed : (text : List ℕ) (n : ℕ) (fault : SceneError) → play_of text ≡ Err (n, fault) → length text ≤ 1048576
-    → Failed (lines_of text).0 (lines_of text).1 n fault → HasFirstFault text n fault
-by_failed text n fault answer short (on_line before line later u all h read count) =
+by_failed : (kind : WorkKind) (text : List ℕ) (n : ℕ) (fault : SceneError) → play_of kind text ≡ Err (n, fault) → length text ≤ 1048576
+    → Failed kind (lines_of text).0 (lines_of text).1 n fault → HasFirstFault kind text n fault
+by_failed kind text n fault answer short (on_line before line later u all h read count) =
     let parts = found_on_line text before line later all in
     at_line short (record {
       place = record {
@@ -89,45 +91,46 @@ by_failed text n fault answer short (on_line before line later u all h read coun
         parts = parts.0;
         number = count;
       };
-      begins = reached_begin before u h;
-      stops = never_begin before line u fault h.leads read;
-      lowest = line_fault before line u fault (told_leads before nothing_read u h.leads) h.told read;
+      begins = reached_begin kind before u h;
+      stops = never_begin kind before line u fault h.leads read;
+      lowest = line_fault kind before line u fault (told_leads before (nothing_read kind) u h.leads) h.of h.told read;
     })
-by_failed text n fault answer short (at_end u h test count is) =
+by_failed kind text n fault answer short (at_end u h test count is) =
     let parts = text_has_lines text in
-    let none : (play : Play) → ¬ IsScenario text play = λ play scenario. (let read = spelled_is_read text play scenario in absurd cc) in
-    subst (HasFirstFault text n) (sym is) (cut_short short (record {
+    let none : (play : Play) → kind_of play.work ≡ kind → ¬ IsScenario text play =
+    λ play of scenario. (let read = wanted_is_read kind text play scenario of in absurd cc) in
+    subst (HasFirstFault kind text n) (sym is) (cut_short short (record {
       before = (lines_of text).0;
       rest = (lines_of text).1;
       each = parts.1;
       unended = behind_is_line text;
       parts = parts.0;
       number = count;
-      begins = reached_begin (lines_of text).0 u h;
+      begins = reached_begin kind (lines_of text).0 u h;
       none = none;
     }))
 
-by_length : (b : Bool) (text : List ℕ) (n : ℕ) (fault : SceneError) (long : Fault) → long ≡ (1, faults.Limit) → play_of text ≡ Err (n, fault)
-    → ltb 1048576 (length text) ≡ b
-    → cond b (Err long) (read_from nothing_read 1 (lines_of text).0 (lines_of text).1) ≡ Err (n, fault) → HasFirstFault text n fault
-by_length true text n fault long there answer test e =
+by_length : (b : Bool) (kind : WorkKind) (text : List ℕ) (n : ℕ) (fault : SceneError) (long : Fault) → long ≡ (1, faults.Limit)
+    → play_of kind text ≡ Err (n, fault) → ltb 1048576 (length text) ≡ b
+    → cond b (Err long) (read_from (nothing_read kind) 1 (lines_of text).0 (lines_of text).1) ≡ Err (n, fault) → HasFirstFault kind text n fault
+by_length true kind text n fault long there answer test e =
     let same : (1, faults.Limit) ≡ (n, fault) = cc in
-    let P : Fault → Type 0 = λ x. HasFirstFault text x.0 x.1 in
+    let P : Fault → Type 0 = λ x. HasFirstFault kind text x.0 x.1 in
     subst P same (too_long (ltb-true 1048576 (length text) test))
-by_length false text n fault long there answer test e =
-    by_failed text n fault answer (ltb-false 1048576 (length text) test)
-    (read_fails (lines_of text).0 [] nothing_read (lines_of text).1 1 n fault refl reached_nothing e)
+by_length false kind text n fault long there answer test e =
+    by_failed kind text n fault answer (ltb-false 1048576 (length text) test)
+    (read_fails kind (lines_of text).0 [] (nothing_read kind) (lines_of text).1 1 n fault refl (reached_nothing kind) e)
 
-by_sketch : (r : Result Sketch Fault) (text : List ℕ) (n : ℕ) (fault : SceneError) → play_of text ≡ Err (n, fault) → sketch_of text ≡ r
-    → played r ≡ Err (n, fault) → HasFirstFault text n fault
-by_sketch (Ok t) text n fault answer is e = absurd cc
-by_sketch (Err first) text n fault answer is e =
+by_sketch : (r : Result Sketch Fault) (kind : WorkKind) (text : List ℕ) (n : ℕ) (fault : SceneError) → play_of kind text ≡ Err (n, fault)
+    → sketch_of kind text ≡ r → played r ≡ Err (n, fault) → HasFirstFault kind text n fault
+by_sketch (Ok t) kind text n fault answer is e = absurd cc
+by_sketch (Err first) kind text n fault answer is e =
     let same : first ≡ (n, fault) = cc in
-    by_length (ltb 1048576 (length text)) text n fault (1, faults.Limit) refl answer refl (is ∙ ap (λ (x : Fault). Err x) same)
+    by_length (ltb 1048576 (length text)) kind text n fault (1, faults.Limit) refl answer refl (is ∙ ap (λ (x : Fault). Err x) same)
 
 -- the fault that is answered is the text's first
-pub answered_is_first : (text : List ℕ) (n : ℕ) (fault : SceneError) → play_of text ≡ Err (n, fault) → HasFirstFault text n fault
-answered_is_first text n fault e = by_sketch (sketch_of text) text n fault e refl e
+pub answered_is_first : (kind : WorkKind) (text : List ℕ) (n : ℕ) (fault : SceneError) → play_of kind text ≡ Err (n, fault) → HasFirstFault kind text n fault
+answered_is_first kind text n fault e = by_sketch (sketch_of kind text) kind text n fault e refl e
 
 -- the fault of a number
 abbrev of_number : ℕ → SceneError
@@ -184,38 +187,48 @@ apart (a ∷ xs) x l (b ∷ ys) y k e =
     let others : xs ++ x ∷ l ≡ ys ++ y ∷ k = cc in
     apart_more a b xs x ys y first (apart xs x l ys y k others)
 
-begin_front : (xs ys : List (List ℕ)) → Begin (xs ++ ys) → Begin xs
-begin_front xs ys h =
-    record { play = h.play; rules = h.rules; body = h.body; told = h.told; others = ys ++ h.others; are = h.are ∙ append_assoc xs ys h.others }
+begin_front : (kind : WorkKind) (xs ys : List (List ℕ)) → Begin kind (xs ++ ys) → Begin kind xs
+begin_front kind xs ys h = record {
+  play = h.play;
+  is_kind = h.is_kind;
+  rules = h.rules;
+  body = h.body;
+  told = h.told;
+  others = ys ++ h.others;
+  are = h.are ∙ append_assoc xs ys h.others;
+}
 
-front_of : (before : List (List ℕ)) (line : List ℕ) (mid lines : List (List ℕ)) → lines ≡ before ++ line ∷ mid → Begin lines → Begin (before ++ line ∷ [])
-front_of before line mid lines is h = begin_front (before ++ line ∷ []) mid (subst Begin (is ∙ sym (append_assoc before (line ∷ []) mid)) h)
+front_of : (kind : WorkKind) (before : List (List ℕ)) (line : List ℕ) (mid lines : List (List ℕ)) → lines ≡ before ++ line ∷ mid → Begin kind lines
+    → Begin kind (before ++ line ∷ [])
+front_of kind before line mid lines is h =
+    begin_front kind (before ++ line ∷ []) mid (subst (Begin kind) (is ∙ sym (append_assoc before (line ∷ []) mid)) h)
 
-module _ (text : List ℕ) where
+module _ (kind : WorkKind) (text : List ℕ) where
   fault_lines : {n : ℕ} (h : HasLineAt text n) → (lines_of text).0 ≡ h.before ++ h.line ∷ (lines_of h.rest).0
   fault_lines h =
       ap (λ (t : List ℕ). (lines_of t).0) h.parts ∙ lines_front (h.before ++ h.line ∷ []) h.rest h.each
       ∙ append_assoc h.before (h.line ∷ []) (lines_of h.rest).0
 
-  cut_lines : {n : ℕ} (h : IsCutShort text n) → (lines_of text).0 ≡ h.before
+  cut_lines : {n : ℕ} (h : IsCutShort kind text n) → (lines_of text).0 ≡ h.before
   cut_lines h =
       ap (λ (t : List ℕ). (lines_of t).0) h.parts ∙ lines_front h.before h.rest h.each ∙ ap (λ (l : List (List ℕ)). h.before ++ l) (no_line h.rest h.unended)
       ∙ append-nil h.before
 
-  by_place : {n m : ℕ} {f g : SceneError} (h : IsFaultAt text n f) (k : IsFaultAt text m g) → Apart h.place.before h.place.line k.place.before k.place.line
+  by_place : {n m : ℕ} {f g : SceneError} (h : IsFaultAt kind text n f) (k : IsFaultAt kind text m g)
+      → Apart h.place.before h.place.line k.place.before k.place.line
       → (n ≡ m) × (f ≡ g)
   by_place {f} {g} h k (one e i) =
       let count = sym h.place.number ∙ ap (λ (l : List (List ℕ)). length l + 1) e ∙ k.place.number in
-      let Of : SceneError → List (List ℕ) → Type 0 = λ x l. HasFault (filter is_told l) k.place.line x in
-      let To : SceneError → List ℕ → Type 0 = λ x l. HasFault (filter is_told h.place.before) l x in
-      let here : HasFault (filter is_told h.place.before) h.place.line g = subst (To g) (sym i) (subst (Of g) (sym e) k.lowest.has) in
-      let there : HasFault (filter is_told k.place.before) k.place.line f = subst (Of f) e (subst (To f) i h.lowest.has) in
+      let Of : SceneError → List (List ℕ) → Type 0 = λ x l. HasFault kind (filter is_told l) k.place.line x in
+      let To : SceneError → List ℕ → Type 0 = λ x l. HasFault kind (filter is_told h.place.before) l x in
+      let here : HasFault kind (filter is_told h.place.before) h.place.line g = subst (To g) (sym i) (subst (Of g) (sym e) k.lowest.has) in
+      let there : HasFault kind (filter is_told k.place.before) k.place.line f = subst (Of f) e (subst (To f) i h.lowest.has) in
       (count, one_fault f g (h.lowest.lowest g here) (k.lowest.lowest f there))
-  by_place h k (first_before mid e) = absurd (h.stops (front_of h.place.before h.place.line mid k.place.before e k.begins))
-  by_place h k (first_behind mid e) = absurd (k.stops (front_of k.place.before k.place.line mid h.place.before e h.begins))
+  by_place h k (first_before mid e) = absurd (h.stops (front_of kind h.place.before h.place.line mid k.place.before e k.begins))
+  by_place h k (first_behind mid e) = absurd (k.stops (front_of kind k.place.before k.place.line mid h.place.before e h.begins))
 
   -- the first fault is one
-  first_is_one : {n m : ℕ} {f g : SceneError} → HasFirstFault text n f → HasFirstFault text m g → (n ≡ m) × (f ≡ g)
+  first_is_one : {n m : ℕ} {f g : SceneError} → HasFirstFault kind text n f → HasFirstFault kind text m g → (n ≡ m) × (f ≡ g)
   first_is_one (too_long long) (too_long longer) = (refl, refl)
   first_is_one (too_long long) (at_line short k) = absurd (omega (arith, long, short))
   first_is_one (too_long long) (cut_short short k) = absurd (omega (arith, long, short))
@@ -225,18 +238,18 @@ module _ (text : List ℕ) where
       (apart h.place.before h.place.line (lines_of h.place.rest).0 k.place.before k.place.line (lines_of k.place.rest).0
       (sym (fault_lines h.place) ∙ fault_lines k.place))
   first_is_one (at_line short h) (cut_short shorter k) =
-      absurd (h.stops (front_of h.place.before h.place.line (lines_of h.place.rest).0 k.before (sym (cut_lines k) ∙ fault_lines h.place) k.begins))
+      absurd (h.stops (front_of kind h.place.before h.place.line (lines_of h.place.rest).0 k.before (sym (cut_lines k) ∙ fault_lines h.place) k.begins))
   first_is_one (cut_short short h) (too_long long) = absurd (omega (arith, long, short))
   first_is_one (cut_short short h) (at_line shorter k) =
-      absurd (k.stops (front_of k.place.before k.place.line (lines_of k.place.rest).0 h.before (sym (cut_lines h) ∙ fault_lines k.place) h.begins))
+      absurd (k.stops (front_of kind k.place.before k.place.line (lines_of k.place.rest).0 h.before (sym (cut_lines h) ∙ fault_lines k.place) h.begins))
   first_is_one (cut_short short h) (cut_short shorter k) =
       (sym h.number ∙ ap (λ (l : List (List ℕ)). length l + 1) (sym (cut_lines h) ∙ cut_lines k) ∙ k.number, refl)
 
-  -- a scenario's text has no fault
-  faultless : {n : ℕ} {fault : SceneError} (play : Play) → IsScenario text play → HasFirstFault text n fault → ⊥
-  faultless play h (too_long long) = omega (arith, long, h.short)
-  faultless play h (cut_short short k) = k.none play h
-  faultless play h (at_line short k) =
+  -- the text of a scenario of this kind has no fault
+  faultless : {n : ℕ} {fault : SceneError} (play : Play) → kind_of play.work ≡ kind → IsScenario text play → HasFirstFault kind text n fault → ⊥
+  faultless play of h (too_long long) = omega (arith, long, h.short)
+  faultless play of h (cut_short short k) = k.none play of h
+  faultless play of h (at_line short k) =
       let Each : All IsLine (h.lines ++ codes "end" ∷ []) = All-push IsLine h.lines (codes "end") h.each end_is_line in
       let P : ℕ → Type 0 = λ x. x ≢ 10 in
       let nothing : (lines_of []).0 ≡ [] = no_line [] (All-nil P) in
@@ -246,18 +259,19 @@ module _ (text : List ℕ) where
       ∙ append-nil (h.lines ++ codes "end" ∷ []) in
       let lines : h.lines ++ codes "end" ∷ [] ≡ (k.place.before ++ k.place.line ∷ []) ++ (lines_of k.place.rest).0 =
       sym whole ∙ fault_lines k.place ∙ sym (append_assoc k.place.before (k.place.line ∷ []) (lines_of k.place.rest).0) in
-      k.stops (record { play = play; rules = h.rules; body = h.lines; told = h.told; others = (lines_of k.place.rest).0; are = lines })
+      k.stops (record { play = play; is_kind = of; rules = h.rules; body = h.lines; told = h.told; others = (lines_of k.place.rest).0; are = lines })
 
-  by_answer : {n : ℕ} {fault : SceneError} (r : Result Play Fault) → play_of text ≡ r → HasFirstFault text n fault → play_of text ≡ Err (n, fault)
-  by_answer (Ok play) is h = absurd (faultless play (read_is_spelled text play is) h)
+  by_answer : {n : ℕ} {fault : SceneError} (r : Result Play Fault) → play_of kind text ≡ r → HasFirstFault kind text n fault
+      → play_of kind text ≡ Err (n, fault)
+  by_answer (Ok play) is h = absurd (faultless play (read_is_kind kind text play is) (read_is_spelled kind text play is) h)
   by_answer {n} {fault} (Err first) is h =
-      let same = first_is_one h (answered_is_first text first.0 first.1 is) in
+      let same = first_is_one h (answered_is_first kind text first.0 first.1 is) in
       let pair : first ≡ (n, fault) = ap (λ (k : ℕ). (k, first.1)) (sym same.0) ∙ ap (λ (x : SceneError). (n, x)) (sym same.1) in
       is ∙ ap (λ (x : Fault). Err x) pair
 
   -- the text's first fault is answered
-  pub first_is_answered : (n : ℕ) (fault : SceneError) → HasFirstFault text n fault → play_of text ≡ Err (n, fault)
-  first_is_answered n fault h = by_answer (play_of text) refl h
+  pub first_is_answered : (n : ℕ) (fault : SceneError) → HasFirstFault kind text n fault → play_of kind text ≡ Err (n, fault)
+  first_is_answered n fault h = by_answer (play_of kind text) refl h
 
 -- a fault of a sketch is one of what is played
 before_fault : (n : ℕ) (r : Result Sketch Fault) → IsBeforeFault n r → IsBeforeFault n (played r)
@@ -279,7 +293,7 @@ placed (x ∷ xs) (suc n) lt =
     let p = placed xs n (omega (arith, lt)) in
     record { before = x ∷ p.before; here = p.here; later = p.later; split = ap (λ l. x ∷ l) p.split; count = ap suc p.count }
 
-has_line : (text : List ℕ) (n : ℕ) → (1 ≤ n) × (n ≤ length (lines_of text).0) → HasLineAt text n
+pub has_line : (text : List ℕ) (n : ℕ) → (1 ≤ n) × (n ≤ length (lines_of text).0) → HasLineAt text n
 has_line text zero h = absurd (omega (arith, h.0))
 has_line text (suc n) h =
     let p = placed (lines_of text).0 n (omega (arith, h.1)) in
@@ -294,24 +308,29 @@ has_line text (suc n) h =
     }
 
 -- what is answered explains itself
-explains : (text : List ℕ) (n : ℕ) (fault : SceneError) → IsFirstFault n fault (sketch_of text) → IsPlaceOf text n fault → Explains text n fault
-explains text n faults.Header h place = answered_is_first text n faults.Header (ap played h)
-explains text n faults.Word h place = answered_is_first text n faults.Word (ap played h)
-explains text n faults.Tuple h place = answered_is_first text n faults.Tuple (ap played h)
-explains text n faults.Variable h place = answered_is_first text n faults.Variable (ap played h)
-explains text n faults.Limit h place = answered_is_first text n faults.Limit (ap played h)
-explains text n faults.Node h place = answered_is_first text n faults.Node (ap played h)
-explains text n faults.End h place = answered_is_first text n faults.End (ap played h)
-explains text n faults.OutOfMemory h place =
-    (has_line text n (place refl), λ m fault first. subst (IsBeforeFault n) (first_is_answered text m fault first) (before_fault n (sketch_of text) h))
+explains : (kind : WorkKind) (text : List ℕ) (n : ℕ) (fault : SceneError) → IsFirstFault n fault (sketch_of kind text) → IsPlaceOf text n fault
+    → Explains kind text n fault
+explains kind text n faults.Header h place = answered_is_first kind text n faults.Header (ap played h)
+explains kind text n faults.Word h place = answered_is_first kind text n faults.Word (ap played h)
+explains kind text n faults.Tuple h place = answered_is_first kind text n faults.Tuple (ap played h)
+explains kind text n faults.Variable h place = answered_is_first kind text n faults.Variable (ap played h)
+explains kind text n faults.Limit h place = answered_is_first kind text n faults.Limit (ap played h)
+explains kind text n faults.Node h place = answered_is_first kind text n faults.Node (ap played h)
+explains kind text n faults.End h place = answered_is_first kind text n faults.End (ap played h)
+explains kind text n faults.OutOfMemory h place = (
+  has_line text n (place refl),
+  λ m fault first. subst (IsBeforeFault n) (first_is_answered kind text m fault first) (before_fault n (sketch_of kind text) h),
+)
 
-read_is_sketch : (text : List ℕ) → length text ≤ 1048576 → read_from nothing_read 1 (lines_of text).0 (lines_of text).1 ≡ sketch_of text
-read_is_sketch text short =
+read_is_sketch : (kind : WorkKind) (text : List ℕ) → length text ≤ 1048576
+    → read_from (nothing_read kind) 1 (lines_of text).0 (lines_of text).1 ≡ sketch_of kind text
+read_is_sketch kind text short =
     let fits : ltb 1048576 (length text) ≡ false = le-ltb 1048576 (length text) short in
     rw fits refl
 
-pub answer_explains : {A : Type 0} (text : List ℕ) (r : Result A SceneFault) → length text ≤ 1048576
-    → IfErr r (λ f. IsFirstFault f.line f.cause (read_from nothing_read 1 (lines_of text).0 (lines_of text).1)) → IfErr r (λ f. IsPlaceOf text f.line f.cause)
-    → IfErr r (λ f. Explains text f.line f.cause)
-answer_explains text (Ok x) short h place = tt
-answer_explains text (Err f) short h place = explains text f.line f.cause (subst (IsFirstFault f.line f.cause) (read_is_sketch text short) h) place
+pub answer_explains : {A : Type 0} (kind : WorkKind) (text : List ℕ) (r : Result A SceneFault) → length text ≤ 1048576
+    → IfErr r (λ f. IsFirstFault f.line f.cause (read_from (nothing_read kind) 1 (lines_of text).0 (lines_of text).1))
+    → IfErr r (λ f. IsPlaceOf text f.line f.cause) → IfErr r (λ f. Explains kind text f.line f.cause)
+answer_explains kind text (Ok x) short h place = tt
+answer_explains kind text (Err f) short h place =
+    explains kind text f.line f.cause (subst (IsFirstFault f.line f.cause) (read_is_sketch kind text short) h) place

@@ -16,6 +16,9 @@ pub mod CommandLaws
 pub mod Feeding
 pub mod Words
 pub mod Told
+pub mod WorkKinds
+pub mod FaultLaws
+pub mod FaultShapes
 pub mod ToldLaws
 pub mod ReadLaws
 pub mod NumbersRead
@@ -35,3 +38,8 @@ pub mod LineFaults
 pub mod Shown
 pub mod WrittenRead
 pub mod FirstFault
+pub mod OtherKind
+pub mod JournalRead
+pub mod Entries
+pub mod ScenarioText
+pub mod JournalWritten

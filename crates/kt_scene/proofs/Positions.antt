@@ -5,14 +5,17 @@ use Rattle.kt_script.specs.declared.command.Command.{Command}
 use Rattle.kt_scene.specs.declared.draft.Stage.{Stage}
 use Rattle.kt_scene.specs.declared.draft.Stage.TheVariants as stages
 use Rattle.kt_scene.specs.Lines.{Sketch, nothing_read, is_ignored, is_ended, closed, line_read}
-use Rattle.kt_scene.specs.Reading.{steps_of}
+use Rattle.kt_scene.specs.declared.scenario.WorkKind.{WorkKind}
+use Rattle.kt_scene.specs.declared.scenario.WorkKind.TheVariants as kinds
+use Rattle.kt_scene.specs.Work.{Work, Steps, Faults, no_work, work_word}
 use Rattle.kt_scene.specs.Text.{told_lines}
 use Rattle.kt_scene.specs.Scenario.{is_told}
-use Rattle.kt_scene.specs.Faults.{play_of_scripts, IsInScript, IsInSteps, IsWhole, title_line, IsHead}
+use Rattle.kt_scene.specs.Faults.{play_of_scripts, IsInScript, IsInWork, IsWhole, title_line, IsHead}
 use Rattle.kt_scene.proofs.Feeding.{LeadOn, leads_append}
-use Rattle.kt_scene.proofs.LinesRead.{among_steps, at_shards, at_workers, shards_line}
-use Rattle.kt_scene.proofs.ScenarioRead.{at_end, told_lead}
-use Rattle.kt_scene.proofs.Begins.{leads_once, leads_split}
+use Rattle.kt_scene.proofs.LinesRead.{at_work, at_shards, at_workers, shards_line}
+use Rattle.kt_scene.proofs.ScenarioRead.{at_end, before_end}
+use Rattle.kt_scene.proofs.Told.{none_kind}
+use Rattle.kt_scene.proofs.Begins.{leads_once, leads_split, wanted_lead}
 
 -- a line that is ignored changes nothing
 ignored_by_test : (b : Bool) (s u : Sketch) (line : List ℕ) → is_ignored line ≡ true → is_ended s.stage ≡ b → line_read s line ≡ Ok u → u ≡ s
@@ -45,64 +48,107 @@ push_parts {A} (a ∷ xs) (b ∷ ys) x y e =
     let more = push_parts xs ys x y others in
     (cc, more.1)
 
--- only within a script may the line before the steps follow
-steps_follow : (stage : Stage) (s : Sketch) (shards : ℕ) (scripts : List (List Command)) → s.stage ≡ stage
-    → line_read s (codes "steps") ≡ Ok (among_steps shards scripts []) → (s.stage ≡ stages.Commands) × (s.scripts ++ s.commands ∷ [] ≡ scripts)
-steps_follow stages.Title s shards scripts is e =
-    let never = rw is at e in
+-- only within a script may the line before the work follow
+word_by_kind : (kind : WorkKind) (work : Work) (s : Sketch) (t : Sketch) → s.stage ≡ stages.Commands → s.work ≡ work → line_read s (work_word kind) ≡ Ok t
+    → closed stages.Work s ≡ t
+word_by_kind kinds.Steps (Steps steps) s t is work e =
+    let read = rw (is, work) at e in
+    cc
+word_by_kind kinds.Faults (Faults lines) s t is work e =
+    let read = rw (is, work) at e in
+    cc
+word_by_kind kinds.Steps (Faults lines) s t is work e =
+    let never = rw (is, work) at e in
     absurd cc
-steps_follow stages.Shards s shards scripts is e =
-    let never = rw is at e in
+word_by_kind kinds.Faults (Steps steps) s t is work e =
+    let never = rw (is, work) at e in
     absurd cc
-steps_follow stages.Workers s shards scripts is e =
-    let never = rw is at e in
+
+-- within the work it is no entry
+word_in_work : (kind : WorkKind) (work : Work) (s : Sketch) (t : Sketch) → s.stage ≡ stages.Work → s.work ≡ work → line_read s (work_word kind) ≡ Ok t → ⊥
+word_in_work kinds.Steps (Steps steps) s t is work e =
+    let never = rw (is, work) at e in
     absurd cc
-steps_follow stages.Commands s shards scripts is e =
-    let read = rw is at e in
-    let same : closed stages.Steps s ≡ among_steps shards scripts [] = cc in
+word_in_work kinds.Faults (Faults lines) s t is work e =
+    let never = rw (is, work) at e in
+    absurd cc
+word_in_work kinds.Steps (Faults lines) s t is work e =
+    let never = rw (is, work) at e in
+    absurd cc
+word_in_work kinds.Faults (Steps steps) s t is work e =
+    let never = rw (is, work) at e in
+    absurd cc
+
+pub work_follows : (stage : Stage) (kind : WorkKind) (s : Sketch) (shards : ℕ) (scripts : List (List Command)) → s.stage ≡ stage
+    → line_read s (work_word kind) ≡ Ok (at_work (no_work kind) shards scripts) → (s.stage ≡ stages.Commands) × (s.scripts ++ s.commands ∷ [] ≡ scripts)
+work_follows stages.Commands kind s shards scripts is e =
+    let same = word_by_kind kind s.work s (at_work (no_work kind) shards scripts) is refl e in
     (is, ap (λ (x : Sketch). x.scripts) same)
-steps_follow stages.Steps s shards scripts is e =
+work_follows stages.Title kinds.Steps s shards scripts is e =
     let never = rw is at e in
     absurd cc
-steps_follow stages.Ended s shards scripts is e =
+work_follows stages.Title kinds.Faults s shards scripts is e =
+    let never = rw is at e in
+    absurd cc
+work_follows stages.Shards kinds.Steps s shards scripts is e =
+    let never = rw is at e in
+    absurd cc
+work_follows stages.Shards kinds.Faults s shards scripts is e =
+    let never = rw is at e in
+    absurd cc
+work_follows stages.Workers kinds.Steps s shards scripts is e =
+    let never = rw is at e in
+    absurd cc
+work_follows stages.Workers kinds.Faults s shards scripts is e =
+    let never = rw is at e in
+    absurd cc
+work_follows stages.Work kind s shards scripts is e = absurd (word_in_work kind s.work s (at_work (no_work kind) shards scripts) is refl e)
+work_follows stages.Ended kinds.Steps s shards scripts is e =
+    let never = rw is at e in
+    absurd cc
+work_follows stages.Ended kinds.Faults s shards scripts is e =
     let never = rw is at e in
     absurd cc
 
-module _ (told : List (List ℕ)) (s : Sketch) (leads : LeadOn nothing_read told s) where
-  leads_to : (lines : List (List ℕ)) (t : Sketch) → told ≡ lines → LeadOn nothing_read lines t → s ≡ t
-  leads_to lines t is h = leads_once lines nothing_read s t (subst (λ (l : List (List ℕ)). LeadOn nothing_read l s) is leads) h
+module _ (kind : WorkKind) (told : List (List ℕ)) (s : Sketch) (leads : LeadOn (nothing_read kind) told s) where
+  leads_to : (lines : List (List ℕ)) (t : Sketch) → told ≡ lines → LeadOn (nothing_read kind) lines t → s ≡ t
+  leads_to lines t is h =
+      leads_once lines (nothing_read kind) s t (subst (λ (l : List (List ℕ)). LeadOn (nothing_read kind) l s) is leads) h
 
   pub at_title : told ≡ [] → s.stage ≡ stages.Title
-  at_title is = ap (λ (x : Sketch). x.stage) (leads_to [] nothing_read is refl)
+  at_title is = ap (λ (x : Sketch). x.stage) (leads_to [] (nothing_read kind) is refl)
 
   pub behind_title : told ≡ title_line ∷ [] → s.stage ≡ stages.Shards
-  behind_title is = ap (λ (x : Sketch). x.stage) (leads_to (title_line ∷ []) at_shards is (at_shards, refl, refl))
+  behind_title is =
+      let work = no_work kind in
+      ap (λ (x : Sketch). x.stage) (leads_to (title_line ∷ []) (at_shards work) is (at_shards work, refl, refl))
 
   pub behind_head : IsHead told → s.stage ≡ stages.Workers
   behind_head (n, are, is) =
+      let work = no_work kind in
       ap (λ (x : Sketch). x.stage)
-      (leads_to (title_line ∷ (codes "shards " ++ decimal n) ∷ []) (at_workers n) is (at_shards, refl, (at_workers n, shards_line n are.0 are.1, refl)))
+      (leads_to (title_line ∷ (codes "shards " ++ decimal n) ∷ []) (at_workers work n) is
+      (at_shards work, refl, (at_workers work n, shards_line work n are.0 are.1, refl)))
 
-  pub in_steps : IsInSteps told → s.stage ≡ stages.Steps
-  in_steps h =
-      ap (λ (x : Sketch). x.stage)
-      (leads_to (told_lines h.play) (among_steps h.play.cast.shards h.play.cast.scripts (steps_of h.play.work)) (sym h.are) (told_lead h.play h.rules))
+  pub in_work : IsInWork kind told → s.stage ≡ stages.Work
+  in_work h = ap (λ (x : Sketch). x.stage) (leads_to (told_lines h.play) (before_end h.play) (sym h.are) (wanted_lead kind h.play h.is_kind h.rules))
 
-  pub at_whole : IsWhole told → s.stage ≡ stages.Ended
+  pub at_whole : IsWhole kind told → s.stage ≡ stages.Ended
   at_whole h =
-      let all = leads_append nothing_read (told_lines h.play) (codes "end" ∷ []) (among_steps h.play.cast.shards h.play.cast.scripts (steps_of h.play.work))
-      (at_end h.play) (told_lead h.play h.rules) (at_end h.play, refl, refl) in
+      let all = leads_append (nothing_read kind) (told_lines h.play) (codes "end" ∷ []) (before_end h.play) (at_end h.play)
+      (wanted_lead kind h.play h.is_kind h.rules) (at_end h.play, refl, refl) in
       ap (λ (x : Sketch). x.stage) (leads_to (told_lines h.play ++ codes "end" ∷ []) (at_end h.play) (sym h.are) all)
 
-  pub in_script : (scripts : List (List Command)) (commands : List Command) → IsInScript told scripts commands
+  pub in_script : (scripts : List (List Command)) (commands : List Command) → IsInScript kind told scripts commands
       → (s.stage ≡ stages.Commands) × (s.scripts ≡ scripts) × (s.commands ≡ commands)
   in_script scripts commands h =
-      let t = among_steps h.shards (scripts ++ commands ∷ []) [] in
-      let To : List (List ℕ) → Type 0 = λ l. LeadOn nothing_read l t in
-      let parts = leads_split told (codes "steps" ∷ []) nothing_read t
-      (subst To h.are (told_lead (play_of_scripts h.shards (scripts ++ commands ∷ []) []) h.rules)) in
-      let same = leads_once told nothing_read parts.0 s parts.1 leads in
-      let read : line_read parts.0 (codes "steps") ≡ Ok t = parts.2.1 ∙ ap (λ (x : Sketch). Ok x) (sym parts.2.2) in
-      let follow = steps_follow s.stage s h.shards (scripts ++ commands ∷ []) refl (subst (λ (x : Sketch). line_read x (codes "steps") ≡ Ok t) same read) in
+      let play = play_of_scripts kind h.shards (scripts ++ commands ∷ []) in
+      let t = before_end play in
+      let To : List (List ℕ) → Type 0 = λ l. LeadOn (nothing_read kind) l t in
+      let parts = leads_split told (work_word kind ∷ []) (nothing_read kind) t (subst To h.are (wanted_lead kind play (none_kind kind) h.rules)) in
+      let same = leads_once told (nothing_read kind) parts.0 s parts.1 leads in
+      let read : line_read parts.0 (work_word kind) ≡ Ok t = parts.2.1 ∙ ap (λ (x : Sketch). Ok x) (sym parts.2.2) in
+      let follow = work_follows s.stage kind s h.shards (scripts ++ commands ∷ []) refl
+      (subst (λ (x : Sketch). line_read x (work_word kind) ≡ Ok t) same read) in
       let both = push_parts s.scripts scripts s.commands commands follow.1 in
       (follow.0, both.0, both.1)

@@ -9,16 +9,19 @@ use Rattle.kt_script.specs.Rules.{IsScript}
 use Rattle.kt_scene.specs.declared.fault.SceneError.TheVariants as faults
 use Rattle.kt_scene.specs.declared.draft.Stage.{Stage}
 use Rattle.kt_scene.specs.declared.draft.Stage.TheVariants as stages
-use Rattle.kt_scene.specs.Steps.{step_of}
-use Rattle.kt_scene.specs.Lines.{Sketch, nothing_read, is_word, is_ignored, is_ended, with_step, told, line_read}
+use Rattle.kt_scene.specs.declared.scenario.WorkKind.{WorkKind}
+use Rattle.kt_scene.specs.declared.scenario.WorkKind.TheVariants as kinds
+use Rattle.kt_scene.specs.Lines.{Sketch, nothing_read, cast_of, is_word, is_ignored, is_ended, work_with, with_work, told, line_read}
+use Rattle.kt_scene.specs.Work.{kind_of, no_work}
 use Rattle.kt_scene.specs.Reading.{Play, Fault, lines_of, read_from, sketch_of, play_with, played, play_of}
 use Rattle.kt_scene.specs.Report.{text_line}
 use Rattle.kt_scene.specs.Text.{told_lines}
-use Rattle.kt_scene.specs.Scenario.{IsCommand, IsStep, IsPlay, IsLine, IsScenario, is_told}
+use Rattle.kt_scene.specs.Scenario.{IsCommand, IsPlay, IsLine, IsScenario, is_told}
 use Rattle.kt_scene.proofs.Feeding.{LeadOn, read_leads, text_has_lines}
 use Rattle.kt_scene.proofs.Words.{word_is}
-use Rattle.kt_scene.proofs.Told.{told_at, IsGood, Adds, place_at}
-use Rattle.kt_scene.proofs.ToldLaws.{title_told, shards_told, worker_told, script_told, step_told}
+use Rattle.kt_scene.proofs.Told.{told_at, IsNoWork, IsGood, Adds, place_at, none_kind, none_kept}
+use Rattle.kt_scene.proofs.ToldLaws.{title_told, shards_told, worker_told, script_told, entry_told}
+use Rattle.kt_scene.proofs.WorkKinds.{leads_keep}
 
 -- the line is told behind the others, or ignored; or it is the end of a scenario
 pub data GoesOn (s : Sketch) (line : List ℕ) (u : Sketch) : Type 0 where
@@ -31,20 +34,20 @@ told_is_kept line other = rw other refl
 from_adds : (s : Sketch) (line : List ℕ) (u : Sketch) → is_ignored line ≡ false → Adds s line u → GoesOn s line u
 from_adds s line u other h = adds h.good h.goes_on (h.told ∙ ap (λ (l : List (List ℕ)). told_at s.stage s ++ l) (told_is_kept line other))
 
-pub play_kept : (s : Sketch) → s.stage ≡ stages.Steps → IsGood s → IsPlay (play_with s)
+pub play_kept : (s : Sketch) → s.stage ≡ stages.Work → IsGood s → IsPlay (play_with s)
 play_kept s is h =
-    let at = place_at stages.Steps s is h in
+    let at = place_at stages.Work s is h in
     record {
       cast = record { some_shards = at.0.0; few_shards = at.0.1; some_workers = at.1; few_workers = at.2 };
       scripts = h.scripts;
       commands = h.held;
-      work = h.steps;
+      work = h.work;
     }
 
-end_by_test : (b : Bool) (s : Sketch) (line : List ℕ) (u : Sketch) → IsGood s → is_ignored line ≡ false → s.stage ≡ stages.Steps
+end_by_test : (b : Bool) (s : Sketch) (line : List ℕ) (u : Sketch) → IsGood s → is_ignored line ≡ false → s.stage ≡ stages.Work
     → is_word line (codes "end") ≡ b
-    → cond b (Ok (record s { stage = stages.Ended })) (with_step s (step_of line)) ≡ Ok u → GoesOn s line u
-end_by_test false s line u h other is test e = from_adds s line u other (step_told s line u h is e)
+    → cond b (Ok (record s { stage = stages.Ended })) (with_work s (work_with (cast_of s) s.work line)) ≡ Ok u → GoesOn s line u
+end_by_test false s line u h other is test e = from_adds s line u other (entry_told s line u h is e)
 end_by_test true s line u h other is test e =
     let made : record s { stage = stages.Ended } ≡ u = cc in
     let P : Sketch → Type 0 = λ x. GoesOn s line x in
@@ -56,7 +59,7 @@ by_stage stages.Title s line u h other is e = from_adds s line u other (title_to
 by_stage stages.Shards s line u h other is e = from_adds s line u other (shards_told s line u h is e)
 by_stage stages.Workers s line u h other is e = from_adds s line u other (worker_told s line u h is e)
 by_stage stages.Commands s line u h other is e = from_adds s line u other (script_told s line u h is e)
-by_stage stages.Steps s line u h other is e = end_by_test (is_word line (codes "end")) s line u h other is refl e
+by_stage stages.Work s line u h other is e = end_by_test (is_word line (codes "end")) s line u h other is refl e
 by_stage stages.Ended s line u h other is e = absurd cc
 
 by_ignored : (b : Bool) (s : Sketch) (line : List ℕ) (u : Sketch) → IsGood s → is_ended s.stage ≡ false → is_ignored line ≡ b
@@ -122,28 +125,36 @@ lines_whole s (line ∷ later) t h on leads over =
         let end = nothing_more leads.0 later t ended leads.2 in
         whole_end s leads.0 t line later is rules all end.0 end.1
 
-pub good_at_first : IsGood nothing_read
-good_at_first = record {
+nothing_yet : (kind : WorkKind) → IsNoWork (no_work kind)
+nothing_yet kinds.Steps = refl
+nothing_yet kinds.Faults = refl
+
+pub good_at_first : (kind : WorkKind) → IsGood (nothing_read kind)
+good_at_first kind = record {
   scripts = All-nil IsScript;
   held = All-nil (All IsCommand);
   script = tt;
   commands = All-nil IsCommand;
-  steps = All-nil IsStep;
-  place = record { scripts = refl; commands = refl; steps = refl };
+  work = none_kept _ kind;
+  place = record { scripts = refl; commands = refl; work = nothing_yet kind };
 }
 
 pub all_in_front : {A : Type 0} (P : A → Type 0) (xs ys : List A) → All P (xs ++ ys) → All P xs
 all_in_front P [] ys h = All-nil P
 all_in_front P (x ∷ xs) ys h = All-cons P x xs (All-head P x (xs ++ ys) h) (all_in_front P xs ys (All-tail P x (xs ++ ys) h))
 
-spelled_whole : (text : List ℕ) (t : Sketch) → length text ≤ 1048576 → read_from nothing_read 1 (lines_of text).0 (lines_of text).1 ≡ Ok t
-    → IsScenario text (play_with t)
-spelled_whole text t short e =
-    let leads = read_leads nothing_read 1 (lines_of text).0 (lines_of text).1 t e in
-    let whole = lines_whole nothing_read (lines_of text).0 t good_at_first refl leads.0 leads.1 in
+-- the text is a scenario's, of the kind that is wanted
+abbrev pub IsWanted : WorkKind → List ℕ → Play → Type 0
+IsWanted kind text play = IsScenario text play × (kind_of play.work ≡ kind)
+
+spelled_whole : (kind : WorkKind) (text : List ℕ) (t : Sketch) → length text ≤ 1048576
+    → read_from (nothing_read kind) 1 (lines_of text).0 (lines_of text).1 ≡ Ok t → IsWanted kind text (play_with t)
+spelled_whole kind text t short e =
+    let leads = read_leads (nothing_read kind) 1 (lines_of text).0 (lines_of text).1 t e in
+    let whole = lines_whole (nothing_read kind) (lines_of text).0 t (good_at_first kind) refl leads.0 leads.1 in
     let parts = text_has_lines text in
     let Each : List (List ℕ) → Type 0 = λ l. All IsLine l in
-    record {
+    let scenario : IsScenario text (play_with t) = record {
       rules = whole.rules;
       lines = whole.before;
       each = all_in_front IsLine whole.before (codes "end" ∷ []) (subst Each whole.split parts.1);
@@ -152,20 +163,28 @@ spelled_whole text t short e =
           parts.0 ∙ ap (λ (r : List ℕ). flat_map text_line (lines_of text).0 ++ r) leads.2 ∙ append-nil (flat_map text_line (lines_of text).0)
           ∙ ap (flat_map text_line) whole.split;
       short = short;
-    }
+    } in
+    (scenario, leads_keep (lines_of text).0 (nothing_read kind) t leads.0 ∙ none_kind kind)
 
-by_length : (b : Bool) (text : List ℕ) (t : Sketch) → ltb 1048576 (length text) ≡ b
-    → cond b (Err (1, faults.Limit)) (read_from nothing_read 1 (lines_of text).0 (lines_of text).1) ≡ Ok t → IsScenario text (play_with t)
-by_length true text t long e = absurd cc
-by_length false text t short e = spelled_whole text t (ltb-false 1048576 (length text) short) e
+by_length : (b : Bool) (kind : WorkKind) (text : List ℕ) (t : Sketch) → ltb 1048576 (length text) ≡ b
+    → cond b (Err (1, faults.Limit)) (read_from (nothing_read kind) 1 (lines_of text).0 (lines_of text).1) ≡ Ok t → IsWanted kind text (play_with t)
+by_length true kind text t long e = absurd cc
+by_length false kind text t short e = spelled_whole kind text t (ltb-false 1048576 (length text) short) e
 
-by_sketch : (r : Result Sketch Fault) (text : List ℕ) (play : Play) → sketch_of text ≡ r → played r ≡ Ok play → IsScenario text play
-by_sketch (Err fault) text play is e = absurd cc
-by_sketch (Ok t) text play is e =
+by_sketch : (r : Result Sketch Fault) (kind : WorkKind) (text : List ℕ) (play : Play) → sketch_of kind text ≡ r → played r ≡ Ok play
+    → IsWanted kind text play
+by_sketch (Err fault) kind text play is e = absurd cc
+by_sketch (Ok t) kind text play is e =
     let same : play_with t ≡ play = cc in
-    let P : Play → Type 0 = λ p. IsScenario text p in
-    subst P same (by_length (ltb 1048576 (length text)) text t refl is)
+    let P : Play → Type 0 = λ p. IsWanted kind text p in
+    subst P same (by_length (ltb 1048576 (length text)) kind text t refl is)
 
--- what a text is read as is the scenario that it spells
-pub read_is_spelled : (text : List ℕ) (play : Play) → play_of text ≡ Ok play → IsScenario text play
-read_is_spelled text play e = by_sketch (sketch_of text) text play refl e
+-- what a text is read as is the scenario that it spells, of the kind that is wanted
+pub read_is_wanted : (kind : WorkKind) (text : List ℕ) (play : Play) → play_of kind text ≡ Ok play → IsWanted kind text play
+read_is_wanted kind text play e = by_sketch (sketch_of kind text) kind text play refl e
+
+pub read_is_spelled : (kind : WorkKind) (text : List ℕ) (play : Play) → play_of kind text ≡ Ok play → IsScenario text play
+read_is_spelled kind text play e = (read_is_wanted kind text play e).0
+
+pub read_is_kind : (kind : WorkKind) (text : List ℕ) (play : Play) → play_of kind text ≡ Ok play → kind_of play.work ≡ kind
+read_is_kind kind text play e = (read_is_wanted kind text play e).1

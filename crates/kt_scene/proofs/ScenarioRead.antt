@@ -1,16 +1,17 @@
 -- The text of a scenario is read as that scenario.
-use Rattle.std.proofs.Common.{All, ◌≡◌, ℕ, Bool, true, false, not, cond, ltb, List, [], ◌∷◌, ◌++◌, length, Ok, refl, sym, ap, subst, ◌∙◌, arith}
+use Rattle.std.proofs.Common.{◌≡◌, ℕ, Bool, true, false, not, cond, ltb, List, [], ◌∷◌, ◌++◌, length, Ok, refl, sym, ap, subst, ◌∙◌, arith}
 use Rattle.std.proofs.lemmas.Bool.{le-ltb}
 use Rattle.std.proofs.lemmas.List.Elements.{All-nil, All-cons, All-push}
-use Rattle.std.specs.Prelude.{◌≢◌, codes, decimal, filter}
-use Rattle.std.specs.List.{flat_map}
+use Rattle.std.specs.Prelude.{◌≢◌, codes, filter}
 use Rattle.kt_scene.specs.declared.draft.Stage.TheVariants as stages
+use Rattle.kt_scene.specs.declared.scenario.WorkKind.{WorkKind}
 use Rattle.kt_scene.specs.Lines.{Sketch, nothing_read, is_ignored, is_ended, line_read}
-use Rattle.kt_scene.specs.Reading.{Play, Work, Steps, steps_of, lines_of, read_from, play_with, play_of}
-use Rattle.kt_scene.specs.Text.{script_lines, told_lines, work_lines}
-use Rattle.kt_scene.specs.Scenario.{IsStep, IsWork, IsLine, IsPlay, IsScenario, is_told}
+use Rattle.kt_scene.specs.Reading.{Play, lines_of, read_from, play_of}
+use Rattle.kt_scene.specs.Work.{kind_of}
+use Rattle.kt_scene.specs.Text.{told_lines}
+use Rattle.kt_scene.specs.Scenario.{IsLine, IsPlay, IsScenario, is_told}
 use Rattle.kt_scene.proofs.Feeding.{LeadOn, leads_append, leads_read, lines_read_back}
-use Rattle.kt_scene.proofs.LinesRead.{among_steps, all_lead}
+use Rattle.kt_scene.proofs.LinesRead.{at_work, all_lead}
 
 -- nothing is read behind the end
 pub goes_on_before : (s : Sketch) (lines : List (List ℕ)) (t : Sketch) → LeadOn s lines t → is_ended t.stage ≡ false → is_ended s.stage ≡ false
@@ -39,25 +40,14 @@ with_ignored (line ∷ later) s t on h = ignored_by_test (is_ignored line) s t l
 
 -- the end of a scenario was read
 abbrev pub at_end : Play → Sketch
-at_end play = record { stage = stages.Ended; shards = play.cast.shards; scripts = play.cast.scripts; commands = []; steps = steps_of play.work }
+at_end play = record { stage = stages.Ended; shards = play.cast.shards; scripts = play.cast.scripts; commands = []; work = play.work }
 
--- work is its steps
-pub work_is : (work : Work) → Steps (steps_of work) ≡ work
-work_is (Steps steps) = refl
+-- all was read but the end
+abbrev pub before_end : Play → Sketch
+before_end play = at_work play.work play.cast.shards play.cast.scripts
 
-pub work_steps : (work : Work) → IsWork work → All IsStep (steps_of work)
-work_steps (Steps steps) h = h
-
-pub told_lead : (play : Play) → IsPlay play → LeadOn nothing_read (told_lines play) (among_steps play.cast.shards play.cast.scripts (steps_of play.work))
-told_lead play rules =
-    let steps = steps_of play.work in
-    let shards = play.cast.shards in
-    let told : Work → List (List ℕ) =
-    λ w. codes "linda-kt 1" ∷ (codes "shards " ++ decimal shards) ∷ (flat_map script_lines play.cast.scripts ++ work_lines w) in
-    let By : Work → Type 0 = λ w. LeadOn nothing_read (told w) (among_steps shards play.cast.scripts steps) in
-    let cast = rules.cast in
-    subst By (work_is play.work) (all_lead shards play.cast.scripts steps cast.some_shards cast.few_shards cast.some_workers cast.few_workers rules.scripts
-    rules.commands (work_steps play.work rules.work))
+pub told_lead : (play : Play) → IsPlay play → LeadOn (nothing_read (kind_of play.work)) (told_lines play) (before_end play)
+told_lead play rules = all_lead play.work play.cast.shards play.cast.scripts rules.cast rules.scripts rules.commands rules.work
 
 pub end_is_line : IsLine (codes "end")
 end_is_line =
@@ -65,19 +55,23 @@ end_is_line =
     All-cons P 101 (110 ∷ 100 ∷ []) (λ e. absurd (omega (arith, e)))
     (All-cons P 110 (100 ∷ []) (λ e. absurd (omega (arith, e))) (All-cons P 100 [] (λ e. absurd (omega (arith, e))) (All-nil P)))
 
-lines_read : (text : List ℕ) (play : Play) (h : IsScenario text play) → read_from nothing_read 1 (lines_of text).0 (lines_of text).1 ≡ Ok (at_end play)
+lines_read : (text : List ℕ) (play : Play) (h : IsScenario text play)
+    → read_from (nothing_read (kind_of play.work)) 1 (lines_of text).0 (lines_of text).1 ≡ Ok (at_end play)
 lines_read text play h =
-    let s = among_steps play.cast.shards play.cast.scripts (steps_of play.work) in
-    let Of : List (List ℕ) → Type 0 = λ l. LeadOn nothing_read l s in
-    let before = with_ignored h.lines nothing_read s refl (subst Of (sym h.told) (told_lead play h.rules)) in
-    let all = leads_append nothing_read h.lines (codes "end" ∷ []) s (at_end play) before (at_end play, refl, refl) in
+    let nothing = nothing_read (kind_of play.work) in
+    let s = before_end play in
+    let Of : List (List ℕ) → Type 0 = λ l. LeadOn nothing l s in
+    let before = with_ignored h.lines nothing s refl (subst Of (sym h.told) (told_lead play h.rules)) in
+    let all = leads_append nothing h.lines (codes "end" ∷ []) s (at_end play) before (at_end play, refl, refl) in
     let back : lines_of text ≡ (h.lines ++ codes "end" ∷ [], []) =
     ap lines_of h.is ∙ lines_read_back (h.lines ++ codes "end" ∷ []) (All-push IsLine h.lines (codes "end") h.each end_is_line) in
-    ap (λ (p : List (List ℕ) × List ℕ). read_from nothing_read 1 p.0 p.1) back ∙ leads_read nothing_read 1 (h.lines ++ codes "end" ∷ []) (at_end play) all refl
+    ap (λ (p : List (List ℕ) × List ℕ). read_from nothing 1 p.0 p.1) back ∙ leads_read nothing 1 (h.lines ++ codes "end" ∷ []) (at_end play) all refl
 
--- the text of a scenario is read as it
-pub spelled_is_read : (text : List ℕ) (play : Play) → IsScenario text play → play_of text ≡ Ok play
+-- the text of a scenario is read as it, where its kind is wanted
+pub spelled_is_read : (text : List ℕ) (play : Play) → IsScenario text play → play_of (kind_of play.work) text ≡ Ok play
 spelled_is_read text play h =
     let fits : ltb 1048576 (length text) ≡ false = le-ltb 1048576 (length text) h.short in
-    let same : play_with (at_end play) ≡ play = ap (λ (w : Work). record { cast = play.cast; work = w }) (work_is play.work) in
-    rw (fits, lines_read text play h) (ap (λ (p : Play). Ok p) same)
+    rw (fits, lines_read text play h) refl
+
+pub wanted_is_read : (kind : WorkKind) (text : List ℕ) (play : Play) → IsScenario text play → kind_of play.work ≡ kind → play_of kind text ≡ Ok play
+wanted_is_read kind text play h is = subst (λ (k : WorkKind). play_of k text ≡ Ok play) is (spelled_is_read text play h)

@@ -1,5 +1,6 @@
 -- The text of a value, a name, a place, a command and a step has no control character.
-use Rattle.std.proofs.Common.{◌≡◌, ℕ, ◌^◌, ◌<◌, Bool, true, false, cond, ◌||◌, eqb, leb, List, [], ◌∷◌, ◌++◌, map, Some, None, refl, sym, subst, ◌∙◌, arith}
+use Rattle.std.proofs.Common.{◌≡◌, ℕ, ◌^◌, ◌<◌, ◌≤◌, Bool, true, false, cond, ◌||◌, eqb, leb, List, [], ◌∷◌, ◌++◌, map, Some, None, refl, sym, subst, ◌∙◌}
+use Rattle.std.proofs.Common.{arith}
 use Rattle.std.proofs.lemmas.Bool.{and_parts, and_from, leb-true, le-leb, eqb-true}
 use Rattle.std.proofs.lemmas.Fmt.{digits_decimal}
 use Rattle.std.proofs.lemmas.List.Elements.{All-nil, All-cons, All-head, All-tail}
@@ -32,7 +33,10 @@ use Rattle.kt_script.specs.Name.{is_letter, is_name_character, IsName}
 use Rattle.kt_world.specs.declared.step.Step.{Step}
 use Rattle.kt_world.specs.declared.step.Step.TheVariants.{Issue, Repeat, Deliver, Take, Serve, Check, Decide, Abandon}
 use Rattle.kt_world.specs.declared.step.Step.TheVariants.{Learn, Fail, Restart}
-use Rattle.kt_scene.specs.Text.{actual_text, slot_text, pattern_text, operation_text, command_text, node_text, step_text}
+use Rattle.kt_core.specs.declared.faults.FaultKind.{FaultKind}
+use Rattle.kt_core.specs.declared.faults.FaultKind.TheVariants as kinds_of_faults
+use Rattle.kt_core.specs.declared.faults.Fault.{Fault}
+use Rattle.kt_scene.specs.Text.{actual_text, slot_text, pattern_text, operation_text, command_text, node_text, step_text, kind_word, fault_text}
 use Rattle.kt_scene.specs.Scenario.{IsActual, IsSlot, IsPattern, IsOperation, IsCommand, IsStepNode, IsStep}
 use Rattle.kt_scene.proofs.CommandLaws.{set_text}
 use Rattle.kt_scene.proofs.SlotsRead.{name_is}
@@ -169,3 +173,15 @@ step_shown (Abandon node) h = node_shown node h
 step_shown (Learn node) h = node_shown node h
 step_shown (Fail node) h = node_shown node h
 step_shown (Restart node) h = node_shown node h
+
+kind_shown : (kind : FaultKind) → AreShown (kind_word kind)
+kind_shown kinds_of_faults.Fail = refl
+kind_shown kinds_of_faults.Check = refl
+
+pub fault_shown : (fault : Fault) → IsStepNode fault.node → fault.after ≤ 100000 → AreShown (fault_text fault)
+fault_shown fault said soon =
+    let word = kind_word fault.kind in
+    let node = node_text fault.node in
+    let named = shown_append word node (kind_shown fault.kind) (node_shown fault.node said) in
+    let behind = shown_append (word ++ node) (codes " after ") named refl in
+    shown_append (word ++ node ++ codes " after ") (decimal fault.after) behind (decimal_shown fault.after (omega (arith, soon)))

@@ -15,7 +15,7 @@ use Rattle.kt_scene.proofs.NumbersRead.{number_within_read}
 use Rattle.kt_scene.proofs.StepLaws.{serve_text}
 
 -- a node is read up to its last digit
-node_read : (node : NodeId) (rest : List ℕ) → IsStepNode node → begins_with_digit rest ≡ false → node_at (node_text node ++ rest) ≡ Some (node, rest)
+pub node_read : (node : NodeId) (rest : List ℕ) → IsStepNode node → begins_with_digit rest ≡ false → node_at (node_text node ++ rest) ≡ Some (node, rest)
 unfolding node_at
 node_read (nodes.Worker n) rest h end = rw (number_within_read 1 99 n rest h.0 h.1 (omega arith) end) refl
 node_read (nodes.Shard n) rest h end = rw (number_within_read 1 99 n rest h.0 h.1 (omega arith) end) refl

@@ -1,17 +1,24 @@
 -- The lines that were told so far, by what was read of them.
-use Rattle.std.proofs.Common.{◌≡◌, ℕ, ◌<◌, ◌≤◌, false, List, [], ◌∷◌, ◌++◌, length, map, sym, ap, subst, ◌∙◌, append-nil}
+use Rattle.std.proofs.Common.{◌≡◌, ℕ, ◌<◌, ◌≤◌, false, List, [], ◌∷◌, ◌++◌, length, refl, sym, ap, subst, ◌∙◌, append-nil}
 use Rattle.std.proofs.lemmas.Grind.{flat_map-append}
 use Rattle.std.proofs.lemmas.List.{map-append}
+use Rattle.std.proofs.lemmas.List.Elements.{All-nil}
 use Rattle.std.specs.Prelude.{codes, decimal, All}
 use Rattle.std.specs.List.{flat_map}
 use Rattle.kt_script.specs.declared.command.Command.{Command}
 use Rattle.kt_script.specs.Rules.{IsScript}
 use Rattle.kt_world.specs.declared.step.Step.{Step}
+use Rattle.kt_world.specs.Cast.{Cast}
+use Rattle.kt_core.specs.declared.faults.Fault.{Fault}
+use Rattle.kt_core.specs.declared.faults.FaultLine.{FaultLine}
+use Rattle.kt_scene.specs.declared.scenario.WorkKind.{WorkKind}
+use Rattle.kt_scene.specs.declared.scenario.WorkKind.TheVariants as kinds
 use Rattle.kt_scene.specs.declared.draft.Stage.{Stage}
 use Rattle.kt_scene.specs.declared.draft.Stage.TheVariants as stages
-use Rattle.kt_scene.specs.Lines.{Sketch, is_ended}
-use Rattle.kt_scene.specs.Text.{command_text, step_text, script_lines}
-use Rattle.kt_scene.specs.Scenario.{IsCommand, IsStep}
+use Rattle.kt_scene.specs.Lines.{Sketch, cast_of, is_ended}
+use Rattle.kt_scene.specs.Work.{Work, Steps, Faults, kind_of, no_work, unspent, work_word}
+use Rattle.kt_scene.specs.Text.{command_text, step_text, fault_text, fault_line_text, script_lines, work_lines}
+use Rattle.kt_scene.specs.Scenario.{IsCommand, IsStep, IsFaultLine, IsWork}
 use Rattle.kt_scene.specs.Faults.{AreShards}
 
 -- the title, and the number of shards
@@ -24,22 +31,26 @@ told_at stages.Title s = []
 told_at stages.Shards s = codes "linda-kt 1" ∷ []
 told_at stages.Workers s = head_lines s.shards
 told_at stages.Commands s = head_lines s.shards ++ (flat_map script_lines s.scripts ++ script_lines s.commands)
-told_at stages.Steps s = head_lines s.shards ++ (flat_map script_lines s.scripts ++ codes "steps" ∷ map step_text s.steps)
-told_at stages.Ended s = head_lines s.shards ++ (flat_map script_lines s.scripts ++ codes "steps" ∷ map step_text s.steps)
+told_at stages.Work s = head_lines s.shards ++ (flat_map script_lines s.scripts ++ work_lines s.work)
+told_at stages.Ended s = head_lines s.shards ++ (flat_map script_lines s.scripts ++ work_lines s.work)
+
+-- nothing is done yet
+abbrev pub IsNoWork : Work → Type 0
+IsNoWork work = work ≡ no_work (kind_of work)
 
 -- nothing but the head was read
 pub record IsBare (s : Sketch) : Type 0 where
   pub scripts : s.scripts ≡ []
   pub commands : s.commands ≡ []
-  pub steps : s.steps ≡ []
+  pub work : IsNoWork s.work
 
 -- what is known at each stage
 abbrev pub IsAt : Stage → Sketch → Type 0
 IsAt stages.Title s = IsBare s
 IsAt stages.Shards s = IsBare s
 IsAt stages.Workers s = AreShards s.shards × IsBare s
-IsAt stages.Commands s = (s.steps ≡ []) × AreShards s.shards × (length s.scripts < 8)
-IsAt stages.Steps s = AreShards s.shards × (1 ≤ length s.scripts) × (length s.scripts ≤ 8)
+IsAt stages.Commands s = IsNoWork s.work × AreShards s.shards × (length s.scripts < 8)
+IsAt stages.Work s = AreShards s.shards × (1 ≤ length s.scripts) × (length s.scripts ≤ 8)
 IsAt stages.Ended s = AreShards s.shards × (1 ≤ length s.scripts) × (length s.scripts ≤ 8)
 
 -- what was read keeps the rules
@@ -48,7 +59,7 @@ pub record IsGood (s : Sketch) : Type 0 where
   pub held : All (All IsCommand) s.scripts
   pub script : IsScript s.commands
   pub commands : All IsCommand s.commands
-  pub steps : All IsStep s.steps
+  pub work : IsWork (cast_of s) s.work
   pub place : IsAt s.stage s
 
 -- the line is told behind the others
@@ -73,5 +84,30 @@ scripts_push scripts script =
 pub commands_push : (commands : List Command) (command : Command) → script_lines (commands ++ command ∷ []) ≡ script_lines commands ++ command_text command ∷ []
 commands_push commands command = ap (λ (l : List (List ℕ)). codes "worker" ∷ l) (map-append command_text commands (command ∷ []))
 
-pub steps_push : (steps : List Step) (step : Step) → map step_text (steps ++ step ∷ []) ≡ map step_text steps ++ step_text step ∷ []
-steps_push steps step = map-append step_text steps (step ∷ [])
+-- a step or a fault behind the others
+pub steps_push : (steps : List Step) (step : Step) → work_lines (Steps (steps ++ step ∷ [])) ≡ work_lines (Steps steps) ++ step_text step ∷ []
+steps_push steps step = ap (λ (l : List (List ℕ)). codes "steps" ∷ l) (map-append step_text steps (step ∷ []))
+
+pub faults_push : (lines : List FaultLine) (fault : Fault)
+    → work_lines (Faults (lines ++ unspent fault ∷ [])) ≡ work_lines (Faults lines) ++ fault_text fault ∷ []
+faults_push lines fault = ap (λ (l : List (List ℕ)). codes "faults" ∷ l) (map-append fault_line_text lines (unspent fault ∷ []))
+
+pub none_kind : (kind : WorkKind) → kind_of (no_work kind) ≡ kind
+none_kind kinds.Steps = refl
+none_kind kinds.Faults = refl
+
+-- no work keeps the rules, whoever takes part
+pub none_kept : (cast : Cast) (kind : WorkKind) → IsWork cast (no_work kind)
+none_kept cast kinds.Steps = All-nil IsStep
+none_kept cast kinds.Faults = All-nil (IsFaultLine cast)
+
+pub nothing_kept : (cast : Cast) (work : Work) → IsNoWork work → IsWork cast work
+nothing_kept cast work none = subst (IsWork cast) (sym none) (none_kept cast (kind_of work))
+
+-- it has no line but the one before it
+pub none_lines : (kind : WorkKind) → work_lines (no_work kind) ≡ work_word kind ∷ []
+none_lines kinds.Steps = refl
+none_lines kinds.Faults = refl
+
+pub nothing_lines : (work : Work) → IsNoWork work → work_lines work ≡ work_word (kind_of work) ∷ []
+nothing_lines work none = ap work_lines none ∙ none_lines (kind_of work)

@@ -1,5 +1,5 @@
 -- Each line that is read is told behind those before it.
-use Rattle.std.proofs.Common.{◌≡◌, ℕ, ◌+◌, ◌<◌, Bool, true, false, not, cond, ◌&&◌, ltb, leb, List, [], ◌∷◌, ◌++◌, length, map, Option, Some, None, Result, Ok}
+use Rattle.std.proofs.Common.{◌≡◌, ℕ, ◌+◌, ◌<◌, Bool, true, false, not, cond, ◌&&◌, ltb, leb, List, [], ◌∷◌, ◌++◌, length, Option, Some, None, Result, Ok}
 use Rattle.std.proofs.Common.{Err, refl, sym, ap, subst, ◌∙◌, append_assoc, append-nil, arith, length-append}
 use Rattle.std.proofs.lemmas.Bool.{ltb-true, leb-true, and_parts}
 use Rattle.std.proofs.lemmas.List.Elements.{All-nil, All-push}
@@ -11,6 +11,8 @@ use Rattle.kt_script.specs.Command.{bindings}
 use Rattle.kt_script.specs.Variables.{variables_of, with_bindings}
 use Rattle.kt_script.specs.Rules.{has_count, keeps_rules, is_within, refusal_of, IsScript}
 use Rattle.kt_world.specs.declared.step.Step.{Step}
+use Rattle.kt_core.specs.declared.faults.Fault.{Fault}
+use Rattle.kt_core.specs.declared.faults.FaultLine.{FaultLine}
 use Rattle.kt_scene.specs.declared.command.Spelled.{Spelled}
 use Rattle.kt_scene.specs.declared.fault.SceneError.{SceneError}
 use Rattle.kt_scene.specs.declared.fault.SceneError.TheVariants as faults
@@ -19,17 +21,21 @@ use Rattle.kt_scene.specs.declared.draft.Stage.TheVariants as stages
 use Rattle.kt_scene.specs.Number.{◌>>=◌, behind, ended, number_at}
 use Rattle.kt_scene.specs.Commands.{spelled_of, fault_from, fault_behind}
 use Rattle.kt_scene.specs.Steps.{step_of}
+use Rattle.kt_scene.specs.FaultLines.{fault_read}
 use Rattle.kt_scene.specs.Lines.{Sketch, is_word, shards_from, count_of, shards_of, titled, with_shards, with_worker, is_ended, closed, added, with_command}
-use Rattle.kt_scene.specs.Lines.{in_script, with_step}
-use Rattle.kt_scene.specs.Text.{command_text, step_text, script_lines}
-use Rattle.kt_scene.specs.Scenario.{IsCommand, IsStep}
+use Rattle.kt_scene.specs.Lines.{in_script, cast_of, with_step, with_fault, as_work, work_with, with_work}
+use Rattle.kt_scene.specs.Text.{command_text, step_text, fault_text, script_lines, work_lines}
+use Rattle.kt_scene.specs.Work.{Work, Steps, Faults, kind_of, unspent, work_word}
+use Rattle.kt_scene.specs.Scenario.{IsCommand, IsStep, IsFaultLine, IsWork}
 use Rattle.kt_scene.specs.Faults.{AreShards}
 use Rattle.kt_scene.proofs.NumberLaws.{both_read, ended_read, behind_taken, number_taken}
 use Rattle.kt_scene.proofs.CommandLaws.{command_taken}
 use Rattle.kt_scene.proofs.StepLaws.{step_taken}
+use Rattle.kt_scene.proofs.FaultLaws.{fault_taken}
 use Rattle.kt_scene.proofs.Words.{word_is}
 use Rattle.kt_script.proofs.Pushed.{FollowOn-push}
-use Rattle.kt_scene.proofs.Told.{head_lines, told_at, IsAt, IsGood, Adds, place_at, told_from, scripts_push, commands_push, steps_push}
+use Rattle.kt_scene.proofs.Told.{head_lines, told_at, IsAt, IsGood, Adds, place_at, told_from, scripts_push, commands_push, steps_push, faults_push}
+use Rattle.kt_scene.proofs.Told.{nothing_kept, nothing_lines}
 
 module _ (s : Sketch) (line : List ℕ) (u : Sketch) (h : IsGood s) where
   title_by_test : (b : Bool) → s.stage ≡ stages.Title → is_word line (codes "linda-kt 1") ≡ b
@@ -45,8 +51,8 @@ module _ (s : Sketch) (line : List ℕ) (u : Sketch) (h : IsGood s) where
           held = h.held;
           script = h.script;
           commands = h.commands;
-          steps = h.steps;
-          place = record { scripts = at.scripts; commands = at.commands; steps = at.steps };
+          work = h.work;
+          place = record { scripts = at.scripts; commands = at.commands; work = at.work };
         };
         goes_on = refl;
         told = told_from stages.Title s line _ is (ap (λ (l : List ℕ). l ∷ []) (sym (word_is line (codes "linda-kt 1") test)));
@@ -91,8 +97,8 @@ module _ (s : Sketch) (line : List ℕ) (u : Sketch) (h : IsGood s) where
           held = h.held;
           script = h.script;
           commands = h.commands;
-          steps = h.steps;
-          place = (few.0, record { scripts = at.scripts; commands = at.commands; steps = at.steps });
+          work = nothing_kept _ s.work at.work;
+          place = (few.0, record { scripts = at.scripts; commands = at.commands; work = at.work });
         };
         goes_on = refl;
         told = told_from stages.Shards s line _ is (ap (λ (l : List ℕ). codes "linda-kt 1" ∷ l ∷ []) (sym text));
@@ -114,7 +120,7 @@ module _ (s : Sketch) (line : List ℕ) (u : Sketch) (h : IsGood s) where
       ap (λ (l : List (List Command)). flat_map script_lines l ++ script_lines s.commands) at.1.scripts
       ∙ ap script_lines at.1.commands ∙ ap (λ (l : List ℕ). l ∷ []) word in
       subst P made (record {
-        good = record { scripts = h.scripts; held = h.held; script = h.script; commands = h.commands; steps = h.steps; place = (at.1.steps, at.0, few) };
+        good = record { scripts = h.scripts; held = h.held; script = h.script; commands = h.commands; work = h.work; place = (at.1.work, at.0, few) };
         goes_on = refl;
         told = told_from stages.Workers s line _ is (ap (λ (l : List (List ℕ)). head_lines s.shards ++ l) lines);
       })
@@ -144,22 +150,22 @@ module _ (s : Sketch) (line : List ℕ) (u : Sketch) (h : IsGood s) where
           held = All-push (All IsCommand) s.scripts s.commands h.held h.commands;
           script = tt;
           commands = All-nil IsCommand;
-          steps = h.steps;
+          work = nothing_kept _ s.work at.0;
           place = (at.0, at.1, fewer);
         };
         goes_on = refl;
         told = told_from stages.Commands s line _ is (more_told _ lines);
       })
 
-  steps_begin : s.stage ≡ stages.Commands → line ≡ codes "steps" → closed stages.Steps s ≡ u → Adds s line u
-  steps_begin is word made =
+  work_begins : s.stage ≡ stages.Commands → line ≡ work_word (kind_of s.work) → closed stages.Work s ≡ u → Adds s line u
+  work_begins is word made =
       let at = place_at stages.Commands s is h in
       let P : Sketch → Type 0 = λ x. Adds s line x in
       let count : length (s.scripts ++ s.commands ∷ []) ≡ length s.scripts + 1 = length-append s.scripts (s.commands ∷ []) in
-      let lines : flat_map script_lines (s.scripts ++ s.commands ∷ []) ++ codes "steps" ∷ map step_text s.steps
+      let lines : flat_map script_lines (s.scripts ++ s.commands ∷ []) ++ work_lines s.work
       ≡ (flat_map script_lines s.scripts ++ script_lines s.commands) ++ line ∷ [] =
-      ap (λ (l : List (List ℕ)). l ++ codes "steps" ∷ map step_text s.steps) (scripts_push s.scripts s.commands)
-      ∙ ap (λ (l : List Step). (flat_map script_lines s.scripts ++ script_lines s.commands) ++ codes "steps" ∷ map step_text l) at.0
+      ap (λ (l : List (List ℕ)). l ++ work_lines s.work) (scripts_push s.scripts s.commands)
+      ∙ ap (λ (l : List (List ℕ)). (flat_map script_lines s.scripts ++ script_lines s.commands) ++ l) (nothing_lines s.work at.0)
       ∙ ap (λ (l : List ℕ). (flat_map script_lines s.scripts ++ script_lines s.commands) ++ l ∷ []) (sym word) in
       subst P made (record {
         good = record {
@@ -167,7 +173,7 @@ module _ (s : Sketch) (line : List ℕ) (u : Sketch) (h : IsGood s) where
           held = All-push (All IsCommand) s.scripts s.commands h.held h.commands;
           script = tt;
           commands = All-nil IsCommand;
-          steps = h.steps;
+          work = nothing_kept _ s.work at.0;
           place = (at.1, omega (arith, count), omega (arith, count, at.2));
         };
         goes_on = refl;
@@ -211,7 +217,7 @@ module _ (s : Sketch) (line : List ℕ) (u : Sketch) (h : IsGood s) where
           held = h.held;
           script = FollowOn-push [] s.commands spelled.command h.script free;
           commands = All-push IsCommand s.commands spelled.command h.commands is_line.1;
-          steps = h.steps;
+          work = h.work;
           place = place;
         };
         goes_on = ap is_ended is;
@@ -236,46 +242,72 @@ module _ (s : Sketch) (line : List ℕ) (u : Sketch) (h : IsGood s) where
       let made : closed stages.Commands s ≡ u = cc in
       another_worker is word (ltb-true (length s.scripts + 1) 8 test) made
 
-  script_by_tests : (is_worker are_steps : Bool) → s.stage ≡ stages.Commands → is_word line (codes "worker") ≡ is_worker
-      → is_word line (codes "steps") ≡ are_steps
+  script_by_tests : (is_worker is_work : Bool) → s.stage ≡ stages.Commands → is_word line (codes "worker") ≡ is_worker
+      → is_word line (work_word (kind_of s.work)) ≡ is_work
       → cond is_worker (cond (ltb (length s.scripts + 1) 8) (Ok (closed stages.Commands s)) (Err faults.Limit))
-      (cond are_steps (Ok (closed stages.Steps s)) (with_command s (spelled_of line))) ≡ Ok u → Adds s line u
-  script_by_tests true are_steps is worker steps e = worker_by_count (ltb (length s.scripts + 1) 8) is (word_is line (codes "worker") worker) refl e
-  script_by_tests false true is worker steps e =
-      let made : closed stages.Steps s ≡ u = cc in
-      steps_begin is (word_is line (codes "steps") steps) made
-  script_by_tests false false is worker steps e = command_by_read (spelled_of line) is refl e
+      (cond is_work (Ok (closed stages.Work s)) (with_command s (spelled_of line))) ≡ Ok u → Adds s line u
+  script_by_tests true is_work is worker work e = worker_by_count (ltb (length s.scripts + 1) 8) is (word_is line (codes "worker") worker) refl e
+  script_by_tests false true is worker work e =
+      let made : closed stages.Work s ≡ u = cc in
+      work_begins is (word_is line (work_word (kind_of s.work)) work) made
+  script_by_tests false false is worker work e = command_by_read (spelled_of line) is refl e
 
   pub script_told : s.stage ≡ stages.Commands → in_script s line ≡ Ok u → Adds s line u
-  script_told is e = script_by_tests (is_word line (codes "worker")) (is_word line (codes "steps")) is refl refl e
+  script_told is e = script_by_tests (is_word line (codes "worker")) (is_word line (work_word (kind_of s.work))) is refl refl e
 
-  step_by_read : (r : Option Step) → s.stage ≡ stages.Steps → step_of line ≡ r → with_step s r ≡ Ok u → Adds s line u
-  step_by_read None is read e = absurd cc
-  step_by_read (Some step) is read e =
-      let at = place_at stages.Steps s is h in
-      let made : record s { steps = s.steps ++ step ∷ [] } ≡ u = cc in
+  -- a step or a fault behind the others
+  entry_added : (work : Work) → s.stage ≡ stages.Work → IsWork (cast_of s) work → work_lines work ≡ work_lines s.work ++ line ∷ []
+      → record s { work = work } ≡ u → Adds s line u
+  entry_added work is kept lines made =
+      let at = place_at stages.Work s is h in
       let P : Sketch → Type 0 = λ x. Adds s line x in
-      let is_line = step_taken line step read in
-      let before = flat_map script_lines s.scripts ++ codes "steps" ∷ map step_text s.steps in
-      let lines : flat_map script_lines s.scripts ++ codes "steps" ∷ map step_text (s.steps ++ step ∷ [])
-      ≡ (flat_map script_lines s.scripts ++ codes "steps" ∷ map step_text s.steps) ++ line ∷ [] =
-      ap (λ (l : List (List ℕ)). flat_map script_lines s.scripts ++ codes "steps" ∷ l) (steps_push s.steps step)
-      ∙ sym (append_assoc (flat_map script_lines s.scripts) (codes "steps" ∷ map step_text s.steps) (step_text step ∷ []))
-      ∙ ap (λ (l : List ℕ). (flat_map script_lines s.scripts ++ codes "steps" ∷ map step_text s.steps) ++ l ∷ []) (sym is_line.0) in
-      let all : told_at stages.Steps (record s { steps = s.steps ++ step ∷ [] }) ≡ told_at stages.Steps s ++ line ∷ [] =
-      ap (λ (l : List (List ℕ)). head_lines s.shards ++ l) lines ∙ sym (append_assoc (head_lines s.shards) before (line ∷ [])) in
+      let before = flat_map script_lines s.scripts in
+      let all : told_at stages.Work (record s { work = work }) ≡ told_at stages.Work s ++ line ∷ [] =
+      ap (λ (l : List (List ℕ)). head_lines s.shards ++ (before ++ l)) lines
+      ∙ ap (λ (l : List (List ℕ)). head_lines s.shards ++ l) (sym (append_assoc before (work_lines s.work) (line ∷ [])))
+      ∙ sym (append_assoc (head_lines s.shards) (before ++ work_lines s.work) (line ∷ [])) in
       subst P made (record {
         good = record {
           scripts = h.scripts;
           held = h.held;
           script = h.script;
           commands = h.commands;
-          steps = All-push IsStep s.steps step h.steps is_line.1;
-          place = subst (λ (g : Stage). IsAt g (record s { steps = s.steps ++ step ∷ [] })) (sym is) at;
+          work = kept;
+          place = subst (λ (g : Stage). IsAt g (record s { work = work })) (sym is) at;
         };
         goes_on = ap is_ended is;
-        told = ap (λ (g : Stage). told_at g (record s { steps = s.steps ++ step ∷ [] })) is ∙ told_from stages.Steps s line _ is all;
+        told = ap (λ (g : Stage). told_at g (record s { work = work })) is ∙ told_from stages.Work s line _ is all;
       })
 
-  pub step_told : s.stage ≡ stages.Steps → with_step s (step_of line) ≡ Ok u → Adds s line u
-  step_told is e = step_by_read (step_of line) is refl e
+  kept_work : (work : Work) → s.work ≡ work → IsWork (cast_of s) work
+  kept_work work is = subst (IsWork (cast_of s)) is h.work
+
+  step_by_read : (steps : List Step) (r : Option Step) → s.stage ≡ stages.Work → s.work ≡ Steps steps → step_of line ≡ r
+      → with_work s (as_work (λ (l : List Step). Steps l) (with_step steps r)) ≡ Ok u → Adds s line u
+  step_by_read steps None is work read e = absurd cc
+  step_by_read steps (Some step) is work read e =
+      let made : record s { work = Steps (steps ++ step ∷ []) } ≡ u = cc in
+      let is_line = step_taken line step read in
+      let lines : work_lines (Steps (steps ++ step ∷ [])) ≡ work_lines s.work ++ line ∷ [] =
+      steps_push steps step ∙ ap (λ (w : Work). work_lines w ++ step_text step ∷ []) (sym work)
+      ∙ ap (λ (l : List ℕ). work_lines s.work ++ l ∷ []) (sym is_line.0) in
+      entry_added (Steps (steps ++ step ∷ [])) is (All-push IsStep steps step (kept_work (Steps steps) work) is_line.1) lines made
+
+  fault_by_read : (given : List FaultLine) (r : Result Fault SceneError) → s.stage ≡ stages.Work → s.work ≡ Faults given
+      → fault_read (cast_of s) line ≡ r → with_work s (as_work (λ (l : List FaultLine). Faults l) (with_fault given r)) ≡ Ok u → Adds s line u
+  fault_by_read given (Err wrong) is work read e = absurd cc
+  fault_by_read given (Ok fault) is work read e =
+      let made : record s { work = Faults (given ++ unspent fault ∷ []) } ≡ u = cc in
+      let is_line = fault_taken (cast_of s) line fault read in
+      let lines : work_lines (Faults (given ++ unspent fault ∷ [])) ≡ work_lines s.work ++ line ∷ [] =
+      faults_push given fault ∙ ap (λ (w : Work). work_lines w ++ fault_text fault ∷ []) (sym work)
+      ∙ ap (λ (l : List ℕ). work_lines s.work ++ l ∷ []) (sym is_line.0) in
+      entry_added (Faults (given ++ unspent fault ∷ [])) is
+      (All-push (IsFaultLine (cast_of s)) given (unspent fault) (kept_work (Faults given) work) is_line.1) lines made
+
+  work_by_kind : (work : Work) → s.stage ≡ stages.Work → s.work ≡ work → with_work s (work_with (cast_of s) work line) ≡ Ok u → Adds s line u
+  work_by_kind (Steps steps) is work e = step_by_read steps (step_of line) is work refl e
+  work_by_kind (Faults given) is work e = fault_by_read given (fault_read (cast_of s) line) is work refl e
+
+  pub entry_told : s.stage ≡ stages.Work → with_work s (work_with (cast_of s) s.work line) ≡ Ok u → Adds s line u
+  entry_told is e = work_by_kind s.work is refl e

@@ -11,16 +11,25 @@ use Rattle.kt_world.specs.declared.step.Step.{Step}
 use Rattle.kt_world.specs.declared.step.Step.TheVariants.{Issue, Repeat, Deliver, Take, Serve, Check, Decide, Abandon}
 use Rattle.kt_world.specs.declared.step.Step.TheVariants.{Learn, Fail, Restart}
 use Rattle.kt_scene.specs.Lines.{is_ignored}
-use Rattle.kt_scene.specs.Reading.{Play, Work, Steps, play_of}
-use Rattle.kt_scene.specs.Text.{command_text, step_text, script_lines, told_lines, work_lines, scenario_text}
-use Rattle.kt_scene.specs.Scenario.{IsCommand, IsStep, IsWork, IsPlay, IsLine, IsScenario, is_told}
-use Rattle.kt_scene.proofs.Shown.{is_shown, AreShown, decimal_shown, command_shown, step_shown}
+use Rattle.kt_world.specs.Cast.{Cast, IsCast}
+use Rattle.kt_core.specs.declared.faults.FaultKind.{FaultKind}
+use Rattle.kt_core.specs.declared.faults.FaultKind.TheVariants as kinds_of_faults
+use Rattle.kt_core.specs.declared.faults.FaultLine.{FaultLine}
+use Rattle.kt_scene.specs.declared.scenario.WorkKind.{WorkKind}
+use Rattle.kt_scene.specs.declared.scenario.WorkKind.TheVariants as kinds
+use Rattle.kt_scene.specs.Reading.{Play, play_of}
+use Rattle.kt_scene.specs.Work.{Work, Steps, Faults, kind_of, work_word}
+use Rattle.kt_scene.specs.Text.{command_text, step_text, node_text, kind_word, fault_line_text, script_lines, scene_lines, told_lines, entry_lines, work_lines}
+use Rattle.kt_scene.specs.Text.{scenario_text}
+use Rattle.kt_scene.specs.Scenario.{IsCommand, IsStep, IsFaultLine, IsWork, IsPlay, IsLine, IsScenario, is_told}
+use Rattle.kt_scene.proofs.Shown.{is_shown, AreShown, decimal_shown, command_shown, step_shown, fault_shown}
+use Rattle.kt_scene.proofs.FaultShapes.{node_said}
 use Rattle.kt_scene.proofs.ScenarioRead.{spelled_is_read}
 
 -- no line feed within, and not ignored
-record IsTold (line : List ℕ) : Type 0 where
-  whole : IsLine line
-  told : is_ignored line ≡ false
+pub record IsTold (line : List ℕ) : Type 0 where
+  pub whole : IsLine line
+  pub told : is_ignored line ≡ false
 
 shown_is_line : (line : List ℕ) → AreShown line → IsLine line
 shown_is_line [] h = All-nil (λ (c : ℕ). c ≢ 10)
@@ -80,34 +89,56 @@ title_told = record { whole = shown_is_line (codes "linda-kt 1") refl; told = re
 shards_told : (shards : ℕ) → shards ≤ 8 → IsTold (codes "shards " ++ decimal shards)
 shards_told shards few = record { whole = shown_is_line (codes "shards " ++ decimal shards) (decimal_shown shards (omega (arith, few))); told = refl }
 
-steps_word_told : IsTold (codes "steps")
-steps_word_told = record { whole = shown_is_line (codes "steps") refl; told = refl }
+fault_ignored : (kind : FaultKind) (node number : List ℕ) → is_ignored (kind_word kind ++ node ++ codes " after " ++ number) ≡ false
+fault_ignored kinds_of_faults.Fail node number = refl
+fault_ignored kinds_of_faults.Check node number = refl
 
-work_told : (work : Work) → IsWork work → All IsTold (work_lines work)
-work_told (Steps steps) h = All-cons IsTold (codes "steps") (map step_text steps) steps_word_told (steps_told steps h)
+faults_told : (cast : Cast) → IsCast cast → (lines : List FaultLine) → All (IsFaultLine cast) lines → All IsTold (map fault_line_text lines)
+faults_told cast is [] h = All-nil IsTold
+faults_told cast is (line ∷ later) h =
+    let here = All-head (IsFaultLine cast) line later h in
+    let fault = line.fault in
+    let shown = fault_shown fault (node_said cast is fault.node here.there) here.soon in
+    let told = fault_ignored fault.kind (node_text fault.node) (decimal fault.after) in
+    let first : IsTold (fault_line_text line) = record { whole = shown_is_line (fault_line_text line) shown; told = told } in
+    All-cons IsTold (fault_line_text line) (map fault_line_text later) first (faults_told cast is later (All-tail (IsFaultLine cast) line later h))
+
+word_told : (kind : WorkKind) → IsTold (work_word kind)
+word_told kinds.Steps = record { whole = shown_is_line (codes "steps") refl; told = refl }
+word_told kinds.Faults = record { whole = shown_is_line (codes "faults") refl; told = refl }
+
+entries_told : (cast : Cast) → IsCast cast → (work : Work) → IsWork cast work → All IsTold (entry_lines work)
+entries_told cast is (Steps steps) h = steps_told steps h
+entries_told cast is (Faults lines) h = faults_told cast is lines h
+
+work_told : (cast : Cast) → IsCast cast → (work : Work) → IsWork cast work → All IsTold (work_lines work)
+work_told cast is work h = All-cons IsTold (work_word (kind_of work)) (entry_lines work) (word_told (kind_of work)) (entries_told cast is work h)
+
+scene_told : (cast : Cast) → IsCast cast → All (All IsCommand) cast.scripts → All IsTold (scene_lines cast)
+scene_told cast is commands =
+    let count = codes "shards " ++ decimal cast.shards in
+    let scripts = flat_map script_lines cast.scripts in
+    All-cons IsTold (codes "linda-kt 1") (count ∷ scripts) title_told
+    (All-cons IsTold count scripts (shards_told cast.shards is.few_shards) (scripts_told cast.scripts commands))
 
 -- a scenario's lines have no line feed within, and none is ignored
-lines_told : (play : Play) → IsPlay play → All IsTold (told_lines play)
+pub lines_told : (play : Play) → IsPlay play → All IsTold (told_lines play)
 lines_told play rules =
-    let count = codes "shards " ++ decimal play.cast.shards in
-    let scripts = flat_map script_lines play.cast.scripts in
-    let lines = work_lines play.work in
-    let behind = All-append IsTold scripts lines (scripts_told play.cast.scripts rules.commands) (work_told play.work rules.work) in
-    All-cons IsTold (codes "linda-kt 1") (count ∷ (scripts ++ lines)) title_told
-    (All-cons IsTold count (scripts ++ lines) (shards_told play.cast.shards rules.cast.few_shards) behind)
+    All-append IsTold (scene_lines play.cast) (work_lines play.work) (scene_told play.cast rules.cast rules.commands)
+    (work_told play.cast rules.cast play.work rules.work)
 
-each_line : (lines : List (List ℕ)) → All IsTold lines → All IsLine lines
+pub each_line : (lines : List (List ℕ)) → All IsTold lines → All IsLine lines
 each_line [] h = All-nil IsLine
 each_line (line ∷ later) h = All-cons IsLine line later (All-head IsTold line later h).whole (each_line later (All-tail IsTold line later h))
 
-none_ignored : (lines : List (List ℕ)) → All IsTold lines → filter is_told lines ≡ lines
+pub none_ignored : (lines : List (List ℕ)) → All IsTold lines → filter is_told lines ≡ lines
 none_ignored [] h = refl
 none_ignored (line ∷ later) h =
     let told : is_ignored line ≡ false = (All-head IsTold line later h).told in
     rw told (ap (λ (l : List (List ℕ)). line ∷ l) (none_ignored later (All-tail IsTold line later h)))
 
 -- the text that is written of a scenario is read as it
-pub written_is_read : (play : Play) → IsPlay play → length (scenario_text play) ≤ 1048576 → play_of (scenario_text play) ≡ Ok play
+pub written_is_read : (play : Play) → IsPlay play → length (scenario_text play) ≤ 1048576 → play_of (kind_of play.work) (scenario_text play) ≡ Ok play
 written_is_read play rules short =
     let h = lines_told play rules in
     let is : IsScenario (scenario_text play) play = record {

@@ -1,5 +1,5 @@
--- The first fault of a scenario's text, told by the lines before it and by what scenarios are spelled as; no reader is
--- asked. Told lines are those that are not ignored.
+-- The first fault of the text of a scenario of one kind of work, told by the lines before it and by what such scenarios
+-- are spelled as; no reader is asked. Told lines are those that are not ignored.
 use Rattle.std.specs.Prelude.{◌≡◌, ◌≢◌, ◌<◌, ◌≤◌, ◌+◌, ℕ, false, List, [], ◌∷◌, ◌++◌, length, filter, codes, decimal}
 use Rattle.std.specs.Prelude.{All}
 use Rattle.std.specs.Int.{w64}
@@ -13,15 +13,20 @@ use Rattle.kt_script.specs.Name.{IsName}
 use Rattle.kt_script.specs.Variables.{variables_of}
 use Rattle.kt_script.specs.Rules.{keeps_rules}
 use Rattle.kt_world.specs.declared.step.Step.{Step}
+use Rattle.kt_world.specs.Cast.{is_node}
+use Rattle.kt_core.specs.declared.faults.Fault.{Fault}
+use Rattle.kt_scene.specs.declared.scenario.WorkKind.{WorkKind}
+use Rattle.kt_scene.specs.declared.scenario.WorkKind.TheVariants as kinds
 use Rattle.kt_scene.specs.declared.command.Verb.{Verb}
 use Rattle.kt_scene.specs.declared.command.Verb.TheVariants as verbs
 use Rattle.kt_scene.specs.declared.fault.SceneError.{SceneError}
 use Rattle.kt_scene.specs.declared.fault.SceneError.TheVariants as faults
 use Rattle.kt_scene.specs.Fault.{fault_number}
-use Rattle.kt_scene.specs.Reading.{Play, Steps}
+use Rattle.kt_scene.specs.Reading.{Play}
+use Rattle.kt_scene.specs.Work.{kind_of, no_work, work_word}
 use Rattle.kt_scene.specs.Report.{text_line}
-use Rattle.kt_scene.specs.Text.{operation_text, step_text, told_lines}
-use Rattle.kt_scene.specs.Scenario.{IsOperation, IsStep, IsPlay, IsLine, IsScenario, is_told}
+use Rattle.kt_scene.specs.Text.{operation_text, step_text, node_text, kind_word, told_lines}
+use Rattle.kt_scene.specs.Scenario.{IsOperation, IsStepNode, IsStep, IsPlay, IsLine, IsScenario, is_told}
 
 -- the word of each operation, and the space behind it
 abbrev pub verb_word : Verb → List ℕ
@@ -58,36 +63,51 @@ IsOutside (Ask operation) = ⊥
 IsOutside (Set variable source plus) = ¬ FitsSigned w64 plus
 IsOutside (Unless count) = ¬ ((1 ≤ count) × (count ≤ 200))
 
--- these are the first lines of some scenario, however long, ignored ones among them
-pub record Begin (lines : List (List ℕ)) : Type 0 where
+-- the line is this fault's, of whatever node, and whatever the size of its number
+abbrev pub SpellsFault : List ℕ → Fault → Type 0
+SpellsFault line fault =
+    (p : List ℕ) × IsNumber p × (digits_value 10 p ≡ fault.after) × IsStepNode fault.node
+    × (line ≡ kind_word fault.kind ++ node_text fault.node ++ codes " after " ++ p)
+
+-- the line is that of a step, or of a fault
+abbrev pub IsEntry : WorkKind → List ℕ → Type 0
+IsEntry kinds.Steps line = (step : Step) × IsStep step × (line ≡ step_text step)
+IsEntry kinds.Faults line = (fault : Fault) × SpellsFault line fault
+
+-- these are the first lines of some scenario of this kind, however long, ignored ones among them
+pub record Begin (kind : WorkKind) (lines : List (List ℕ)) : Type 0 where
   pub play : Play
+  pub is_kind : kind_of play.work ≡ kind
   pub rules : IsPlay play
   pub body : List (List ℕ)
   pub told : filter is_told body ≡ told_lines play
   pub others : List (List ℕ)
   pub are : body ++ codes "end" ∷ [] ≡ lines ++ others
 
--- scripts and steps among so many shards
-abbrev pub play_of_scripts : ℕ → List (List Command) → List Step → Play
-play_of_scripts shards scripts steps =
-    record { cast = record { shards = shards; scripts = scripts }; work = Steps steps }
+-- scripts among so many shards, and no work
+abbrev pub play_of_scripts : WorkKind → ℕ → List (List Command) → Play
+play_of_scripts kind shards scripts =
+    record { cast = record { shards = shards; scripts = scripts }; work = no_work kind }
 
--- the told lines end within a script: with the line `steps` behind them they would be all of a scenario without steps,
--- for some number of shards, with these scripts and then the one that has these commands so far
-pub record IsInScript (told : List (List ℕ)) (scripts : List (List Command)) (commands : List Command) : Type 0 where
+-- the told lines end within a script: with the line before the work behind them they would be all of a scenario
+-- without work, for some number of shards, with these scripts and then the one that has these commands so far
+pub record IsInScript (kind : WorkKind) (told : List (List ℕ)) (scripts : List (List Command)) (commands : List Command)
+    : Type 0 where
   pub shards : ℕ
-  pub rules : IsPlay (play_of_scripts shards (scripts ++ commands ∷ []) [])
-  pub are : told_lines (play_of_scripts shards (scripts ++ commands ∷ []) []) ≡ told ++ codes "steps" ∷ []
+  pub rules : IsPlay (play_of_scripts kind shards (scripts ++ commands ∷ []))
+  pub are : told_lines (play_of_scripts kind shards (scripts ++ commands ∷ [])) ≡ told ++ work_word kind ∷ []
 
--- the told lines end among the steps: they are all of a scenario but its line `end`
-pub record IsInSteps (told : List (List ℕ)) : Type 0 where
+-- the told lines end within the work: they are all of a scenario but its line `end`
+pub record IsInWork (kind : WorkKind) (told : List (List ℕ)) : Type 0 where
   pub play : Play
+  pub is_kind : kind_of play.work ≡ kind
   pub rules : IsPlay play
   pub are : told_lines play ≡ told
 
 -- the told lines are all of a scenario, with its line `end`
-pub record IsWhole (told : List (List ℕ)) : Type 0 where
+pub record IsWhole (kind : WorkKind) (told : List (List ℕ)) : Type 0 where
   pub play : Play
+  pub is_kind : kind_of play.work ≡ kind
   pub rules : IsPlay play
   pub are : told_lines play ++ codes "end" ∷ [] ≡ told
 
@@ -109,56 +129,62 @@ pub data IsNoHeader (told : List (List ℕ)) (line : List ℕ) : Type 0 where
   no_shards : told ≡ title_line ∷ [] → ((n : ℕ) → ¬ SpellsShards line n) → IsNoHeader told line
 
 -- a line that no rule allows there: in the place of the first `worker`; in a script, where it begins with no
--- operation's word and is neither `worker` nor `steps` nor a command's; or among the steps, where it is no step's and
--- not `end`
-pub data IsNoWord (told : List (List ℕ)) (line : List ℕ) : Type 0 where
-  no_worker : IsHead told → line ≢ codes "worker" → IsNoWord told line
-  no_command : (scripts : List (List Command)) (commands : List Command) → IsInScript told scripts commands
-      → line ≢ codes "worker" → line ≢ codes "steps" → ¬ HasVerb line
-      → ((command : Command) → ¬ Spells line command) → IsNoWord told line
-  no_step : IsInSteps told → line ≢ codes "end" → ((step : Step) → IsStep step → line ≢ step_text step)
-      → IsNoWord told line
+-- operation's word and is neither `worker` nor the line before the work nor a command's; or within the work, where it
+-- is none of a step, or of a fault, and not `end`
+pub data IsNoWord (kind : WorkKind) (told : List (List ℕ)) (line : List ℕ) : Type 0 where
+  no_worker : IsHead told → line ≢ codes "worker" → IsNoWord kind told line
+  no_command : (scripts : List (List Command)) (commands : List Command) → IsInScript kind told scripts commands
+      → line ≢ codes "worker" → line ≢ work_word kind → ¬ HasVerb line
+      → ((command : Command) → ¬ Spells line command) → IsNoWord kind told line
+  no_entry : IsInWork kind told → line ≢ codes "end" → ¬ IsEntry kind line → IsNoWord kind told line
 
 -- behind an operation's word and its space stands no tuple or template that it may have
-pub data IsNoTuple (told : List (List ℕ)) (line : List ℕ) : Type 0 where
-  no_tuple : (scripts : List (List Command)) (commands : List Command) → IsInScript told scripts commands → HasVerb line
-      → ((command : Command) → ¬ Spells line command) → IsNoTuple told line
+pub data IsNoTuple (kind : WorkKind) (told : List (List ℕ)) (line : List ℕ) : Type 0 where
+  no_tuple : (scripts : List (List Command)) (commands : List Command) → IsInScript kind told scripts commands
+      → HasVerb line → ((command : Command) → ¬ Spells line command) → IsNoTuple kind told line
 
 -- a command that breaks the rules of variables
-pub data BreaksVariableRules (told : List (List ℕ)) (line : List ℕ) : Type 0 where
+pub data BreaksVariableRules (kind : WorkKind) (told : List (List ℕ)) (line : List ℕ) : Type 0 where
   breaks_rules : (scripts : List (List Command)) (commands : List Command) (command : Command)
-      → IsInScript told scripts commands → Spells line command
-      → keeps_rules (variables_of commands) command ≡ false → BreaksVariableRules told line
+      → IsInScript kind told scripts commands → Spells line command
+      → keeps_rules (variables_of commands) command ≡ false → BreaksVariableRules kind told line
 
 -- a limit is passed: no shard, or more than 8; a ninth worker; a 201st command; a 65th variable; the number of a
--- command
-pub data PassesLimit (told : List (List ℕ)) (line : List ℕ) : Type 0 where
-  shards_outside : (n : ℕ) → told ≡ title_line ∷ [] → SpellsShards line n → ¬ AreShards n → PassesLimit told line
-  many_workers : (scripts : List (List Command)) (commands : List Command) → IsInScript told scripts commands
-      → line ≡ codes "worker" → length scripts ≡ 7 → PassesLimit told line
+-- command; more than 100,000 steps before a fault
+pub data PassesLimit (kind : WorkKind) (told : List (List ℕ)) (line : List ℕ) : Type 0 where
+  shards_outside : (n : ℕ) → told ≡ title_line ∷ [] → SpellsShards line n → ¬ AreShards n → PassesLimit kind told line
+  many_workers : (scripts : List (List Command)) (commands : List Command) → IsInScript kind told scripts commands
+      → line ≡ codes "worker" → length scripts ≡ 7 → PassesLimit kind told line
   many_commands : (scripts : List (List Command)) (commands : List Command) (command : Command)
-      → IsInScript told scripts commands → Spells line command → 200 ≤ length commands → PassesLimit told line
+      → IsInScript kind told scripts commands → Spells line command → 200 ≤ length commands → PassesLimit kind told line
   many_variables : (scripts : List (List Command)) (commands : List Command) (command : Command)
-      → IsInScript told scripts commands → Spells line command
-      → 64 < length (variables_of (commands ++ command ∷ [])) → PassesLimit told line
+      → IsInScript kind told scripts commands → Spells line command
+      → 64 < length (variables_of (commands ++ command ∷ [])) → PassesLimit kind told line
   outside : (scripts : List (List Command)) (commands : List Command) (command : Command)
-      → IsInScript told scripts commands → Spells line command → IsOutside command → PassesLimit told line
+      → IsInScript kind told scripts commands → Spells line command → IsOutside command → PassesLimit kind told line
+  too_late : (fault : Fault) → kind ≡ kinds.Faults → IsInWork kind told → SpellsFault line fault → 100000 < fault.after
+      → PassesLimit kind told line
+
+-- a fault of a node that the scene does not have
+pub data NamesNobody (kind : WorkKind) (told : List (List ℕ)) (line : List ℕ) : Type 0 where
+  names_nobody : (fault : Fault) → kind ≡ kinds.Faults → (there : IsInWork kind told) → SpellsFault line fault
+      → is_node there.play.cast fault.node ≡ false → NamesNobody kind told line
 
 -- the faults of a line behind these told lines; that the line is not itself an ignored one is for `IsFaultAt` to say
-abbrev pub HasFault : List (List ℕ) → List ℕ → SceneError → Type 0
-HasFault told line faults.Header = IsNoHeader told line
-HasFault told line faults.Word = IsNoWord told line
-HasFault told line faults.Tuple = IsNoTuple told line
-HasFault told line faults.Variable = BreaksVariableRules told line
-HasFault told line faults.Limit = PassesLimit told line
-HasFault told line faults.Node = ⊥
-HasFault told line faults.End = IsWhole told
-HasFault told line faults.OutOfMemory = ⊥
+abbrev pub HasFault : WorkKind → List (List ℕ) → List ℕ → SceneError → Type 0
+HasFault kind told line faults.Header = IsNoHeader told line
+HasFault kind told line faults.Word = IsNoWord kind told line
+HasFault kind told line faults.Tuple = IsNoTuple kind told line
+HasFault kind told line faults.Variable = BreaksVariableRules kind told line
+HasFault kind told line faults.Limit = PassesLimit kind told line
+HasFault kind told line faults.Node = NamesNobody kind told line
+HasFault kind told line faults.End = IsWhole kind told
+HasFault kind told line faults.OutOfMemory = ⊥
 
 -- the fault, and none of a lower number
-pub record HasLowest (told : List (List ℕ)) (line : List ℕ) (fault : SceneError) : Type 0 where
-  pub has : HasFault told line fault
-  pub lowest : (other : SceneError) → HasFault told line other → fault_number fault ≤ fault_number other
+pub record HasLowest (kind : WorkKind) (told : List (List ℕ)) (line : List ℕ) (fault : SceneError) : Type 0 where
+  pub has : HasFault kind told line fault
+  pub lowest : (other : SceneError) → HasFault kind told line other → fault_number fault ≤ fault_number other
 
 -- the text has a line of this number, ended by its line feed
 pub record HasLineAt (text : List ℕ) (n : ℕ) : Type 0 where
@@ -169,34 +195,40 @@ pub record HasLineAt (text : List ℕ) (n : ℕ) : Type 0 where
   pub parts : text ≡ flat_map text_line (before ++ line ∷ []) ++ rest
   pub number : length before + 1 ≡ n
 
--- the lines before this one are the first of some scenario, and with this one they are not; it has the fault
-pub record IsFaultAt (text : List ℕ) (n : ℕ) (fault : SceneError) : Type 0 where
+-- the line of this number is the one before work of this kind
+pub record IsWordOfWork (text : List ℕ) (n : ℕ) (kind : WorkKind) : Type 0 where
   pub place : HasLineAt text n
-  pub begins : Begin place.before
-  pub stops : ¬ Begin (place.before ++ place.line ∷ [])
-  pub lowest : HasLowest (filter is_told place.before) place.line fault
+  pub is : place.line ≡ work_word kind
+
+-- the lines before this one are the first of some scenario, and with this one they are not; it has the fault
+pub record IsFaultAt (kind : WorkKind) (text : List ℕ) (n : ℕ) (fault : SceneError) : Type 0 where
+  pub place : HasLineAt text n
+  pub begins : Begin kind place.before
+  pub stops : ¬ Begin kind (place.before ++ place.line ∷ [])
+  pub lowest : HasLowest kind (filter is_told place.before) place.line fault
 
 -- all its lines are the first of some scenario, but the text is none: bytes stand behind the last line feed, or there
 -- is no `end` yet
-pub record IsCutShort (text : List ℕ) (n : ℕ) : Type 0 where
+pub record IsCutShort (kind : WorkKind) (text : List ℕ) (n : ℕ) : Type 0 where
   pub before : List (List ℕ)
   pub rest : List ℕ
   pub each : All IsLine before
   pub unended : IsLine rest
   pub parts : text ≡ flat_map text_line before ++ rest
   pub number : length before + 1 ≡ n
-  pub begins : Begin before
-  pub none : (play : Play) → ¬ IsScenario text play
+  pub begins : Begin kind before
+  pub none : (play : Play) → kind_of play.work ≡ kind → ¬ IsScenario text play
 
--- the text's first line that has a fault, and the lowest of its faults
-pub data HasFirstFault (text : List ℕ) : ℕ → SceneError → Type 0 where
-  too_long : 1048576 < length text → HasFirstFault text 1 faults.Limit
-  at_line : {n : ℕ} {fault : SceneError} → length text ≤ 1048576 → IsFaultAt text n fault → HasFirstFault text n fault
-  cut_short : {n : ℕ} → length text ≤ 1048576 → IsCutShort text n → HasFirstFault text n faults.End
+-- the first line of the text that has a fault, and the lowest of its faults, where work of this kind is wanted
+pub data HasFirstFault (kind : WorkKind) (text : List ℕ) : ℕ → SceneError → Type 0 where
+  too_long : 1048576 < length text → HasFirstFault kind text 1 faults.Limit
+  at_line : {n : ℕ} {fault : SceneError} → length text ≤ 1048576 → IsFaultAt kind text n fault
+      → HasFirstFault kind text n fault
+  cut_short : {n : ℕ} → length text ≤ 1048576 → IsCutShort kind text n → HasFirstFault kind text n faults.End
 
 -- what a fault that is answered says of the text; want of memory says that the text has this line, and that the first
 -- line with a fault, if there is one, is a later one
-abbrev pub Explains : List ℕ → ℕ → SceneError → Type 0
-Explains text n faults.OutOfMemory =
-    HasLineAt text n × ((m : ℕ) (fault : SceneError) → HasFirstFault text m fault → n < m)
-Explains text n fault = HasFirstFault text n fault
+abbrev pub Explains : WorkKind → List ℕ → ℕ → SceneError → Type 0
+Explains kind text n faults.OutOfMemory =
+    HasLineAt text n × ((m : ℕ) (fault : SceneError) → HasFirstFault kind text m fault → n < m)
+Explains kind text n fault = HasFirstFault kind text n fault

@@ -2,6 +2,8 @@ pub mod Fault
 pub mod Number
 pub mod Steps
 pub mod Commands
+pub mod Work
+pub mod FaultLines
 pub mod Lines
 pub mod Reading
 pub mod Outside
@@ -10,5 +12,6 @@ pub mod Report
 pub mod Text
 pub mod Scenario
 pub mod Faults
+pub mod Journal
 pub mod Runs
 pub mod Run

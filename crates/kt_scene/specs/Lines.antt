@@ -5,6 +5,10 @@ use Rattle.std.specs.Prelude.{IsOk}
 use Rattle.std.specs.Cmp.Lexicographic.{pointwise}
 use Rattle.kt_script.specs.declared.command.Command.{Command}
 use Rattle.kt_world.specs.declared.step.Step.{Step}
+use Rattle.kt_world.specs.Cast.{Cast}
+use Rattle.kt_core.specs.declared.faults.Fault.{Fault}
+use Rattle.kt_core.specs.declared.faults.FaultLine.{FaultLine}
+use Rattle.kt_scene.specs.declared.scenario.WorkKind.{WorkKind}
 use Rattle.kt_scene.specs.declared.fault.SceneError.{SceneError}
 use Rattle.kt_scene.specs.declared.fault.SceneError.TheVariants as faults
 use Rattle.kt_scene.specs.declared.draft.Stage.{Stage}
@@ -12,19 +16,25 @@ use Rattle.kt_scene.specs.declared.draft.Stage.TheVariants as stages
 use Rattle.kt_scene.specs.declared.command.Spelled.{Spelled}
 use Rattle.kt_scene.specs.Number.{◌>>=◌, behind, ended, number_at}
 use Rattle.kt_scene.specs.Commands.{spelled_of, fault_behind}
+use Rattle.kt_scene.specs.FaultLines.{fault_read}
 use Rattle.kt_scene.specs.Steps.{step_of}
+use Rattle.kt_scene.specs.Work.{Work, Steps, Faults, kind_of, no_work, unspent, work_word}
 
 -- what was read so far: what comes next, the number of shards, the scripts of the workers before this one, this
--- one's commands, and the steps
+-- one's commands, and the work, which is of the kind that is wanted
 pub record Sketch : Type 0 where
   pub stage : Stage
   pub shards : ℕ
   pub scripts : List (List Command)
   pub commands : List Command
-  pub steps : List Step
+  pub work : Work
 
-abbrev pub nothing_read : Sketch
-nothing_read = record { stage = stages.Title; shards = 1; scripts = []; commands = []; steps = [] }
+abbrev pub nothing_read : WorkKind → Sketch
+nothing_read kind = record { stage = stages.Title; shards = 1; scripts = []; commands = []; work = no_work kind }
+
+-- who takes part, of the workers before this one
+abbrev pub cast_of : Sketch → Cast
+cast_of s = record { shards = s.shards; scripts = s.scripts }
 
 -- the line is this word
 abbrev pub is_word : List ℕ → List ℕ → Bool
@@ -71,22 +81,40 @@ abbrev pub with_command : Sketch → Result Spelled SceneError → Result Sketch
 with_command s (Err fault) = Err fault
 with_command s (Ok spelled) = added s spelled (fault_behind s.commands spelled)
 
--- another worker, the steps, or a command
+-- another worker, the work, or a command
 abbrev pub in_script : Sketch → List ℕ → Result Sketch SceneError
 in_script s line =
     if is_word line (codes "worker")
     then (if nat_lt (length s.scripts + 1) 8 then Ok (closed stages.Commands s) else Err faults.Limit)
-    else if is_word line (codes "steps") then Ok (closed stages.Steps s)
+    else if is_word line (work_word (kind_of s.work)) then Ok (closed stages.Work s)
     else with_command s (spelled_of line)
 
-abbrev pub with_step : Sketch → Option Step → Result Sketch SceneError
-with_step s None = Err faults.Word
-with_step s (Some step) = Ok (record s { steps = s.steps ++ step ∷ [] })
+abbrev pub with_step : List Step → Option Step → Result (List Step) SceneError
+with_step steps None = Err faults.Word
+with_step steps (Some step) = Ok (steps ++ step ∷ [])
 
--- a step, or the end
-abbrev pub in_steps : Sketch → List ℕ → Result Sketch SceneError
-in_steps s line =
-    if is_word line (codes "end") then Ok (record s { stage = stages.Ended }) else with_step s (step_of line)
+abbrev pub with_fault : List FaultLine → Result Fault SceneError → Result (List FaultLine) SceneError
+with_fault lines (Err wrong) = Err wrong
+with_fault lines (Ok fault) = Ok (lines ++ unspent fault ∷ [])
+
+abbrev pub as_work : {A : Type 0} → (A → Work) → Result A SceneError → Result Work SceneError
+as_work make (Err fault) = Err fault
+as_work make (Ok entries) = Ok (make entries)
+
+-- the work with the step or the fault that the line says
+abbrev pub work_with : Cast → Work → List ℕ → Result Work SceneError
+work_with cast (Steps steps) line = as_work Steps (with_step steps (step_of line))
+work_with cast (Faults lines) line = as_work Faults (with_fault lines (fault_read cast line))
+
+abbrev pub with_work : Sketch → Result Work SceneError → Result Sketch SceneError
+with_work s (Err fault) = Err fault
+with_work s (Ok work) = Ok (record s { work = work })
+
+-- a step or a fault, or the end
+abbrev pub in_work : Sketch → List ℕ → Result Sketch SceneError
+in_work s line =
+    if is_word line (codes "end") then Ok (record s { stage = stages.Ended })
+    else with_work s (work_with (cast_of s) s.work line)
 
 -- a line that is not ignored
 abbrev pub told : Stage → Sketch → List ℕ → Result Sketch SceneError
@@ -94,7 +122,7 @@ told stages.Title s line = titled s line
 told stages.Shards s line = with_shards s (shards_of line)
 told stages.Workers s line = with_worker s line
 told stages.Commands s line = in_script s line
-told stages.Steps s line = in_steps s line
+told stages.Work s line = in_work s line
 told stages.Ended s line = Err faults.End
 
 abbrev pub is_ended : Stage → Bool
@@ -102,7 +130,7 @@ is_ended stages.Title = false
 is_ended stages.Shards = false
 is_ended stages.Workers = false
 is_ended stages.Commands = false
-is_ended stages.Steps = false
+is_ended stages.Work = false
 is_ended stages.Ended = true
 
 -- what is read with one line more, or the lowest fault of the line
@@ -123,7 +151,7 @@ HasScripts stages.Title n = n ≡ 0
 HasScripts stages.Shards n = n ≡ 0
 HasScripts stages.Workers n = n ≡ 0
 HasScripts stages.Commands n = n < 8
-HasScripts stages.Steps n = (1 ≤ n) × (n ≤ 8)
+HasScripts stages.Work n = (1 ≤ n) × (n ≤ 8)
 HasScripts stages.Ended n = (1 ≤ n) × (n ≤ 8)
 
 pub record IsSketch (s : Sketch) : Type 0 where

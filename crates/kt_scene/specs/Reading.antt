@@ -1,11 +1,12 @@
 -- What a text is read as: the scenario that it spells, or its first line that has a fault.
 use Rattle.std.specs.Prelude.{◌≡◌, ℕ, ◌+◌, ◌<◌, ◌≤◌, nat_lt, ◌==◌, ◌&&◌, Bool, true, false, if◌then◌else◌, List, []}
 use Rattle.std.specs.Prelude.{◌∷◌, length, Option, Some, None, Result, Ok, Err}
-use Rattle.kt_world.specs.declared.step.Step.{Step}
 use Rattle.kt_world.specs.Cast.{Cast}
 use Rattle.kt_scene.specs.declared.fault.SceneError.{SceneError}
 use Rattle.kt_scene.specs.declared.fault.SceneError.TheVariants as faults
-use Rattle.kt_scene.specs.Lines.{Sketch, nothing_read, line_read, is_ended}
+use Rattle.kt_scene.specs.declared.scenario.WorkKind.{WorkKind}
+use Rattle.kt_scene.specs.Lines.{Sketch, nothing_read, line_read, is_ended, cast_of}
+use Rattle.kt_scene.specs.Work.{Work}
 
 -- a byte before the lines
 abbrev pub with_byte : ℕ → List (List ℕ) × List ℕ → List (List ℕ) × List ℕ
@@ -34,18 +35,11 @@ unfoldable pub read_from : Sketch → ℕ → List (List ℕ) → List ℕ → R
 read_from s n [] rest = if is_ended s.stage && is_empty rest then Ok s else Err (n, faults.End)
 read_from s n (line ∷ lines) rest = went_on n (line_read s line) (λ t. read_from t (n + 1) lines rest)
 
--- what is read of the text, or its first line that has a fault, with the lowest one
-abbrev pub sketch_of : List ℕ → Result Sketch Fault
-sketch_of text =
+-- what is read of the text where work of this kind is wanted, or its first line that has a fault, with the lowest one
+abbrev pub sketch_of : WorkKind → List ℕ → Result Sketch Fault
+sketch_of kind text =
     if nat_lt 1048576 (length text) then Err (1, faults.Limit)
-    else read_from nothing_read 1 (lines_of text).0 (lines_of text).1
-
--- what is done in a scene: these steps, one after the other
-pub data Work : Type 0 where
-  Steps : List Step → Work
-
-abbrev pub steps_of : Work → List Step
-steps_of (Steps steps) = steps
+    else read_from (nothing_read kind) 1 (lines_of text).0 (lines_of text).1
 
 -- what a scenario's text stands for: who takes part, and what is done
 pub record Play : Type 0 where
@@ -53,15 +47,15 @@ pub record Play : Type 0 where
   pub work : Work
 
 abbrev pub play_with : Sketch → Play
-play_with s = record { cast = record { shards = s.shards; scripts = s.scripts }; work = Steps s.steps }
+play_with s = record { cast = cast_of s; work = s.work }
 
 abbrev pub played : Result Sketch Fault → Result Play Fault
 played (Ok s) = Ok (play_with s)
 played (Err fault) = Err fault
 
--- what the text stands for, or its first line that has a fault, with the lowest one
-abbrev pub play_of : List ℕ → Result Play Fault
-play_of text = played (sketch_of text)
+-- what the text stands for where work of this kind is wanted, or its first line that has a fault, with the lowest one
+abbrev pub play_of : WorkKind → List ℕ → Result Play Fault
+play_of kind text = played (sketch_of kind text)
 
 -- the first fault, if there is one, stands on a later line
 abbrev pub IsBeforeFault : {A : Type 0} → ℕ → Result A Fault → Type 0

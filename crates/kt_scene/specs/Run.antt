@@ -11,11 +11,11 @@ use Rattle.kt_world.specs.Cast.{Cast}
 use Rattle.kt_world.specs.State.{State}
 use Rattle.kt_world.specs.Reached.{opening}
 use Rattle.kt_scene.specs.declared.scenario.Scenario.{Scenario}
-use Rattle.kt_scene.specs.declared.scenario.Work as written
-use Rattle.kt_scene.specs.declared.scenario.Work.TheVariants as works
+use Rattle.kt_scene.specs.declared.scenario.WorkKind.TheVariants as kinds
 use Rattle.kt_scene.specs.Faults.{Explains}
 use Rattle.kt_scene.specs.Runs.{RunsTo, IsRefusedAt}
-use Rattle.kt_scene.specs.Reading.{Play, Work, Steps, steps_of}
+use Rattle.kt_scene.specs.Reading.{Play}
+use Rattle.kt_scene.specs.Work.{kind_of, steps_of, work_in}
 use Rattle.kt_scene.specs.Scenario.{IsScenario}
 use Rattle.kt_scene.specs.Report.{WritesReport, WritesReportFront}
 use Rattle.kt_scene.specs.Outside.{Reader, Writer}
@@ -36,9 +36,6 @@ IsStepFault before now is_honest old steps faults.Read = ⊥
 IsStepFault before now is_honest old steps faults.Write = ⊥
 
 -- what a scenario as the code has it stands for
-abbrev pub work_in : written.Work → Work
-work_in (works.Steps steps) = Steps steps.items
-
 abbrev pub play_in : Scenario → Play
 play_in scenario = record { cast = scenario.scene; work = work_in scenario.work }
 
@@ -86,10 +83,11 @@ IsRunFault given cast steps faults.Memory = ⊥
 IsRunFault given cast steps faults.Read = ⊥
 IsRunFault given cast steps faults.Write = ⊥
 
--- the text is a scenario's, and as long as the store is honest, it was fresh and the steps led to this state from the
--- opening of the scene
+-- the text is that of a scenario of steps, and as long as the store is honest, it was fresh and the steps led to this
+-- state from the opening of the scene
 pub record LeadsTo (text : List ℕ) (is_honest fresh : Bool) (s : State) : Type 0 where
   pub play : Play
+  pub is_kind : kind_of play.work ≡ kinds.Steps
   pub scenario : IsScenario text play
   pub was_fresh : IsTrue is_honest → fresh ≡ true
   pub runs : IsTrue is_honest → RunsTo (opening play.cast) (steps_of play.work) s
@@ -98,19 +96,21 @@ pub record LeadsTo (text : List ℕ) (is_honest fresh : Bool) (s : State) : Type
 pub record IsFirstRefused {S : Type 0} (given : Given S) (text : List ℕ) (at : ℕ) (cause : StepError)
     : Type 0 where
   pub play : Play
+  pub is_kind : kind_of play.work ≡ kinds.Steps
   pub scenario : IsScenario text play
   pub refused : IfLeftHonest given (IsRefusedAt (opening play.cast) (steps_of play.work) at cause given.before)
 
--- the text is a scenario's, and its world was not opened
+-- the text is that of a scenario of steps, and its world was not opened
 pub record IsUnopened {S : Type 0} (given : Given S) (text : List ℕ) (cause : OpenError) : Type 0 where
   pub play : Play
+  pub is_kind : kind_of play.work ≡ kinds.Steps
   pub scenario : IsScenario text play
   pub refused : IsOpenFault given cause
 
--- what a text answers: its first fault, or want of memory before that; or it is a scenario's, whose world could not be
--- opened or whose first refused step this is
+-- what a text answers: its first fault, or want of memory before that; or it is that of a scenario of steps, whose
+-- world could not be opened or whose first refused step this is
 abbrev pub IsTextFault : {S : Type 0} → Given S → List ℕ → ReplayFault → Type 0
-IsTextFault given text (faults.Scene line cause) = Explains text line cause
+IsTextFault given text (faults.Scene line cause) = Explains kinds.Steps text line cause
 IsTextFault given text (faults.Step at cause) = IsFirstRefused given text at cause
 IsTextFault given text (faults.Open cause) = IsUnopened given text cause
 IsTextFault given text (faults.Report cause) = ⊥
@@ -118,7 +118,7 @@ IsTextFault given text faults.Memory = ⊥
 IsTextFault given text faults.Read = ⊥
 IsTextFault given text faults.Write = ⊥
 
--- what was read is the text of a scenario whose steps led to this state
+-- what was read is the text of a scenario of steps, which led to this state
 pub record IsReplayed (before after : Reader) (is_honest fresh : Bool) (s : State) : Type 0 where
   pub text : List ℕ
   pub read : IsAllRead before after text

@@ -1,5 +1,6 @@
 -- When a text is a scenario's.
-use Rattle.std.specs.Prelude.{◌≡◌, ℕ, ◌≤◌, ◌≢◌, Bool, not, List, [], ◌∷◌, ◌++◌, length, filter, codes, All, Some, None}
+use Rattle.std.specs.Prelude.{◌≡◌, ℕ, ◌≤◌, ◌≢◌, Bool, true, false, not, List, [], ◌∷◌, ◌++◌, length, filter, codes, All}
+use Rattle.std.specs.Prelude.{Some, None}
 use Rattle.std.specs.Int.{w64}
 use Rattle.std.specs.Int.RustNames.{FitsSigned}
 use Rattle.std.specs.List.{flat_map}
@@ -20,9 +21,11 @@ use Rattle.kt_script.specs.Rules.{IsScript}
 use Rattle.kt_world.specs.declared.step.Step.{Step}
 use Rattle.kt_world.specs.declared.step.Step.TheVariants.{Issue, Repeat, Deliver, Take, Serve, Check, Decide, Abandon}
 use Rattle.kt_world.specs.declared.step.Step.TheVariants.{Learn, Fail, Restart}
-use Rattle.kt_world.specs.Cast.{IsCast}
+use Rattle.kt_world.specs.Cast.{Cast, IsCast, is_node}
+use Rattle.kt_core.specs.declared.faults.FaultLine.{FaultLine}
 use Rattle.kt_scene.specs.Lines.{is_ignored}
-use Rattle.kt_scene.specs.Reading.{Play, Work, Steps}
+use Rattle.kt_scene.specs.Reading.{Play}
+use Rattle.kt_scene.specs.Work.{Work, Steps, Faults}
 use Rattle.kt_scene.specs.Text.{told_lines}
 use Rattle.kt_scene.specs.Report.{text_line}
 
@@ -74,16 +77,23 @@ IsStep (Learn node) = IsStepNode node
 IsStep (Fail node) = IsStepNode node
 IsStep (Restart node) = IsStepNode node
 
--- each step is one that a line can say
-abbrev pub IsWork : Work → Type 0
-IsWork (Steps steps) = All IsStep steps
+-- a fault that a line can say, of a node of the scene; no step has spent it
+pub record IsFaultLine (cast : Cast) (line : FaultLine) : Type 0 where
+  pub there : is_node cast line.fault.node ≡ true
+  pub soon : line.fault.after ≤ 100000
+  pub unspent : line.is_marked ≡ false
+
+-- each step or fault is one that a line can say
+abbrev pub IsWork : Cast → Work → Type 0
+IsWork cast (Steps steps) = All IsStep steps
+IsWork cast (Faults lines) = All (IsFaultLine cast) lines
 
 -- 1 to 8 shards, 1 to 8 workers, and scripts that keep the rules of variables and the limits
 pub record IsPlay (play : Play) : Type 0 where
   pub cast : IsCast play.cast
   pub scripts : All IsScript play.cast.scripts
   pub commands : All (All IsCommand) play.cast.scripts
-  pub work : IsWork play.work
+  pub work : IsWork play.cast play.work
 
 -- a line that is not ignored
 abbrev pub is_told : List ℕ → Bool

@@ -16,7 +16,13 @@ use Rattle.kt_script.specs.declared.command.Command.TheVariants.{Ask, Set, Unles
 use Rattle.kt_world.specs.declared.step.Step.{Step}
 use Rattle.kt_world.specs.declared.step.Step.TheVariants.{Issue, Repeat, Deliver, Take, Serve, Check, Decide, Abandon}
 use Rattle.kt_world.specs.declared.step.Step.TheVariants.{Learn, Fail, Restart}
-use Rattle.kt_scene.specs.Reading.{Play, Work, Steps}
+use Rattle.kt_world.specs.Cast.{Cast}
+use Rattle.kt_core.specs.declared.faults.FaultKind.{FaultKind}
+use Rattle.kt_core.specs.declared.faults.FaultKind.TheVariants as kinds
+use Rattle.kt_core.specs.declared.faults.Fault.{Fault}
+use Rattle.kt_core.specs.declared.faults.FaultLine.{FaultLine}
+use Rattle.kt_scene.specs.Reading.{Play}
+use Rattle.kt_scene.specs.Work.{Work, Steps, Faults, work_word, kind_of}
 use Rattle.kt_scene.specs.Report.{text_line}
 
 -- a value, or a variable's name
@@ -68,15 +74,34 @@ step_text (Restart node) = codes "restart " ++ node_text node
 abbrev pub script_lines : List Command → List (List ℕ)
 script_lines script = codes "worker" ∷ map command_text script
 
--- the word for what is done, and a line for each step
-abbrev pub work_lines : Work → List (List ℕ)
-work_lines (Steps steps) = codes "steps" ∷ map step_text steps
+-- the word of a fault line, and the space behind it
+abbrev pub kind_word : FaultKind → List ℕ
+kind_word kinds.Fail = codes "fail "
+kind_word kinds.Check = codes "check "
 
--- the lines before `end`: the title, the number of shards, the workers, what is done
+abbrev pub fault_text : Fault → List ℕ
+fault_text fault = kind_word fault.kind ++ node_text fault.node ++ codes " after " ++ decimal fault.after
+
+abbrev pub fault_line_text : FaultLine → List ℕ
+fault_line_text line = fault_text line.fault
+
+-- a line for each step or fault
+abbrev pub entry_lines : Work → List (List ℕ)
+entry_lines (Steps steps) = map step_text steps
+entry_lines (Faults lines) = map fault_line_text lines
+
+-- the word for what is done, and its lines
+abbrev pub work_lines : Work → List (List ℕ)
+work_lines work = work_word (kind_of work) ∷ entry_lines work
+
+-- the title, the number of shards, the workers
+abbrev pub scene_lines : Cast → List (List ℕ)
+scene_lines cast =
+    codes "linda-kt 1" ∷ (codes "shards " ++ decimal cast.shards) ∷ flat_map script_lines cast.scripts
+
+-- the lines before `end`
 abbrev pub told_lines : Play → List (List ℕ)
-told_lines play =
-    codes "linda-kt 1" ∷ (codes "shards " ++ decimal play.cast.shards) ∷ flat_map script_lines play.cast.scripts
-    ++ work_lines play.work
+told_lines play = scene_lines play.cast ++ work_lines play.work
 
 -- the text without ignored lines
 abbrev pub scenario_text : Play → List ℕ

@@ -6,14 +6,18 @@ ghost use Rattle.std.specs.Option.{option_map};
 ghost use Rattle.kt_scene.specs.Reading.{is_empty, play_with};
 ghost use Rattle.kt_scene.specs.Run.{play_in};
 ghost use Rattle.kt_scene.specs.Lines.{nothing_read, is_word, is_ignored, count_of, shards_of, titled, with_shards};
-ghost use Rattle.kt_scene.specs.Lines.{with_worker, in_script, with_command, in_steps, with_step, line_read, is_ended};
-ghost use Rattle.kt_scene.specs.Lines.{closed, HasScripts, IsFaultOf};
+ghost use Rattle.kt_scene.specs.Lines.{with_worker, in_script, with_command, in_work, work_with, line_read, is_ended};
+ghost use Rattle.kt_scene.specs.Lines.{closed, HasScripts, IsFaultOf, cast_of, with_step, with_fault};
+ghost use Rattle.kt_scene.specs.FaultLines.{fault_read};
+ghost use Rattle.kt_scene.specs.Steps.{step_of};
+ghost use Rattle.kt_scene.specs.Work.{work_in};
 
 use crate::command::{Spelled, fault_behind, spelled_of};
 use crate::fault::SceneError;
+use crate::fault_line::fault_read;
 use crate::line::{behind, ended, number_at, step_of};
-use crate::scenario::{Scenario, Work};
-use kt_core::{MAX_SHARDS, MAX_WORKERS, Scene, Step};
+use crate::scenario::{Scenario, Work, WorkKind};
+use kt_core::{Faults, MAX_SHARDS, MAX_WORKERS, Scene, Step};
 use kt_script::Script;
 use std::alloc::Global;
 use std::marker::Model;
@@ -26,9 +30,10 @@ pub(crate) enum Stage {
     Shards,
     /// The first worker.
     Workers,
-    /// A command, a worker or the steps.
+    /// A command, a worker or the line before the work.
     Commands,
-    Steps,
+    /// A step or a fault, or the end.
+    Work,
     Ended,
 }
 
@@ -42,11 +47,13 @@ pub(crate) struct Draft {
     scripts: Vec<Script>,
     /// This worker's script.
     script: Script,
-    steps: Vec<Step>,
+    /// It is of the kind that is wanted.
+    work: Work,
 }
 
 impl Model for Draft {
     ghost use Rattle.kt_scene.specs.Lines.{Sketch, IsSketch};
+    ghost use Rattle.kt_scene.specs.Work.{work_in};
 
     ghost Value = { Sketch };
 
@@ -55,7 +62,7 @@ impl Model for Draft {
       shards = d.shards;
       scripts = d.scripts.items;
       commands = d.script;
-      steps = d.steps.items;
+      work = work_in d.work;
     } };
 
     ghost invariant = { λ d. IsSketch (record {
@@ -63,7 +70,7 @@ impl Model for Draft {
       shards = d.shards;
       scripts = d.scripts.items;
       commands = d.script;
-      steps = d.steps.items;
+      work = work_in d.work;
     }) };
 }
 
@@ -93,9 +100,9 @@ fn count_of(line: &[u8]) -> Option<Option<u64>>
 }
 
 impl Draft {
-    /// Nothing was read yet.
-    pub(crate) fn new(alloc: Global) -> Draft
-        ensures { result ≡ nothing_read }
+    /// Nothing was read yet of a scenario that is to have this kind of work.
+    pub(crate) fn new(alloc: Global, kind: WorkKind) -> Draft
+        ensures { result ≡ nothing_read kind }
     {
         Draft {
             alloc,
@@ -103,7 +110,7 @@ impl Draft {
             shards: 1,
             scripts: Vec::new(alloc),
             script: Script::new(alloc),
-            steps: Vec::new(alloc),
+            work: Work::none(alloc, kind),
         }
     }
 
@@ -122,14 +129,11 @@ impl Draft {
         let Draft {
             shards,
             scripts,
-            steps,
+            work,
             ..
         } = self;
         let scene = Scene::new(shards, scripts).unwrap();
-        Scenario {
-            scene,
-            work: Work::Steps(steps),
-        }
+        Scenario { scene, work }
     }
 
     /// Whether the last line was read, and nothing stands behind it.
@@ -155,7 +159,7 @@ impl Draft {
             Stage::Shards => self.read_shards(line),
             Stage::Workers => self.read_worker(line),
             Stage::Commands => self.read_in_script(line),
-            Stage::Steps => self.read_in_steps(line),
+            Stage::Work => self.read_in_work(line),
             Stage::Ended => Err(SceneError::End),
         }
     }
@@ -194,7 +198,7 @@ impl Draft {
         Ok(())
     }
 
-    /// Reads another worker, the beginning of the steps or a command.
+    /// Reads another worker, the line before the work or a command.
     fn read_in_script(&mut self, line: &[u8]) -> Result<(), SceneError>
         requires { self.old.stage ≡ Stage.Commands }
         ensures read { OnOk result (in_script self.old line.now ≡ Ok self.new) }
@@ -206,8 +210,8 @@ impl Draft {
                 return Err(SceneError::Limit);
             }
             self.close_script(Stage::Commands)
-        } else if line == b"steps".as_slice() {
-            self.close_script(Stage::Steps)
+        } else if line == self.work.kind().word() {
+            self.close_script(Stage::Work)
         } else {
             self.add_command(spelled_of(line)?)
         }
@@ -242,19 +246,58 @@ impl Draft {
             .map_err(|_| SceneError::OutOfMemory)
     }
 
-    /// Reads a step or the end.
-    fn read_in_steps(&mut self, line: &[u8]) -> Result<(), SceneError>
-        requires { self.old.stage ≡ Stage.Steps }
-        ensures read { OnOk result (in_steps self.old line.now ≡ Ok self.new) }
-        ensures fault { IfErr result (λ fault. IsFaultOf fault (in_steps self.old line.now)) }
+    /// Reads a step or a fault, or the end.
+    fn read_in_work(&mut self, line: &[u8]) -> Result<(), SceneError>
+        requires { self.old.stage ≡ Stage.Work }
+        ensures read { OnOk result (in_work self.old line.now ≡ Ok self.new) }
+        ensures fault { IfErr result (λ fault. IsFaultOf fault (in_work self.old line.now)) }
     {
         if line == b"end".as_slice() {
             self.stage = Stage::Ended;
             return Ok(());
         }
-        let Some(step) = step_of(line) else {
-            return Err(SceneError::Word);
-        };
-        self.steps.push(step).map_err(|_| SceneError::OutOfMemory)
+        add_to_work(&mut self.work, self.shards, &self.scripts, line)
     }
+}
+
+/// Adds the step or the fault that the line says.
+fn add_to_work(
+    work: &mut Work,
+    shards: u8,
+    scripts: &[Script],
+    line: &[u8],
+) -> Result<(), SceneError>
+    ensures read { OnOk result
+        (work_with (record { shards = shards; scripts = scripts.now }) (work_in work.old) line.now
+        ≡ Ok (work_in work.new)) }
+    ensures fault { IfErr result (λ fault. IsFaultOf fault
+        (work_with (record { shards = shards; scripts = scripts.now }) (work_in work.old) line.now)) }
+{
+    match work {
+        Work::Steps(steps) => add_step(steps, line),
+        Work::Faults(faults) => add_fault(faults, shards, scripts, line),
+    }
+}
+
+fn add_step(steps: &mut Vec<Step>, line: &[u8]) -> Result<(), SceneError>
+    ensures read { OnOk result (with_step steps.old.items (step_of line.now) ≡ Ok steps.new.items) }
+    ensures fault { IfErr result (λ fault. IsFaultOf fault (with_step steps.old.items (step_of line.now))) }
+{
+    let step = step_of(line).ok_or(SceneError::Word)?;
+    steps.push(step).map_err(|_| SceneError::OutOfMemory)
+}
+
+fn add_fault(
+    faults: &mut Faults,
+    shards: u8,
+    scripts: &[Script],
+    line: &[u8],
+) -> Result<(), SceneError>
+    ensures read { OnOk result (with_fault faults.old
+        (fault_read (record { shards = shards; scripts = scripts.now }) line.now) ≡ Ok faults.new) }
+    ensures fault { IfErr result (λ fault. IsFaultOf fault (with_fault faults.old
+        (fault_read (record { shards = shards; scripts = scripts.now }) line.now))) }
+{
+    let fault = fault_read(shards, scripts, line)?;
+    faults.push(fault).map_err(|_| SceneError::OutOfMemory)
 }

@@ -56,7 +56,7 @@ pub(crate) fn number_within(low: u64, high: u64, text: &[u8]) -> Option<(u64, &[
 
 /// `w` or `s`, and a number from 1 to 99.
 #[tactic(auto, unfolding(crate::specs::Steps::node_at))]
-fn node_at(text: &[u8]) -> Option<(NodeId, &[u8])>
+pub(crate) fn node_at(text: &[u8]) -> Option<(NodeId, &[u8])>
     ensures { option_map (λ x. (x.0, x.1.now)) result ≡ node_at text.now }
 {
     match text.split_first() {

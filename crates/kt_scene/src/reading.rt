@@ -8,17 +8,18 @@ ghost use Rattle.kt_scene.specs.Reading.{lines_of, read_from, sketch_of, play_of
 ghost use Rattle.kt_scene.specs.Reading.{is_empty};
 ghost use Rattle.kt_scene.specs.Run.{play_in};
 ghost use Rattle.kt_scene.specs.Scenario.{IsScenario};
+ghost use Rattle.kt_scene.specs.Work.{kind_of, work_in};
 
 use crate::draft::{Draft, Stage};
 use crate::fault::{SceneError, SceneFault};
-use crate::scenario::Scenario;
+use crate::scenario::{Scenario, WorkKind};
 use std::alloc::Global;
 
 /// The most bytes that a scenario has.
 pub const MAX_TEXT: usize = 1_048_576;
 
 /// The first line without its line feed, and the bytes behind it; `None` where no line feed comes.
-fn line_at(text: &[u8]) -> Option<(&[u8], &[u8])>
+pub(crate) fn line_at(text: &[u8]) -> Option<(&[u8], &[u8])>
     ensures line { HasLine text.now (option_map (λ x. (x.0.now, x.1.now)) result) }
     ensures shorter { IfSome result (λ x. length x.1.now < length text.now) }
 {
@@ -36,29 +37,31 @@ fn line_end(text: &[u8]) -> Option<usize>
     text.iter().position(|c| *c == b'\n')
 }
 
-/// The scenario that the text spells, or its first line that has a fault: of several faults of that line the
-/// one with the lowest number. Want of memory is answered only on a line that has no other fault, and before
-/// the first that has one.
-pub fn read_scene(alloc: Global, text: &[u8]) -> Result<Scenario, SceneFault>
-    ensures read { IfOk result (λ scenario. play_of text.now ≡ Ok (play_in scenario)) }
+/// The scenario that the text spells, with work of this kind, or its first line that has a fault: of several faults
+/// of that line the one with the lowest number. A text with work of the other kind has one on the line before the
+/// work, on which no rule allows that word. Want of memory is answered only on a line that has no other fault, and
+/// before the first that has one.
+pub fn read_scene(alloc: Global, text: &[u8], kind: WorkKind) -> Result<Scenario, SceneFault>
+    ensures read { IfOk result (λ scenario. play_of kind text.now ≡ Ok (play_in scenario)) }
     ensures spelled { IfOk result (λ scenario. IsScenario text.now (play_in scenario)) }
-    ensures fault { IfErr result (λ fault. IsFirstFault fault.line fault.cause (play_of text.now)) }
-    ensures explained { IfErr result (λ fault. Explains text.now fault.line fault.cause) }
+    ensures kind { IfOk result (λ scenario. kind_of (work_in scenario.work) ≡ kind) }
+    ensures fault { IfErr result (λ fault. IsFirstFault fault.line fault.cause (play_of kind text.now)) }
+    ensures explained { IfErr result (λ fault. Explains kind text.now fault.line fault.cause) }
 {
-    let draft = draft_of(alloc, text)?;
+    let draft = draft_of(alloc, text, kind)?;
     Ok(draft.scenario())
 }
 
 /// All lines of the text, or the first that has a fault.
-fn read_lines(alloc: Global, text: &[u8]) -> Result<Draft, SceneFault>
+fn read_lines(alloc: Global, text: &[u8], kind: WorkKind) -> Result<Draft, SceneFault>
     ensures read { IfOk result (λ draft.
-        read_from nothing_read 1 (lines_of text.now).0 (lines_of text.now).1 ≡ Ok draft) }
+        read_from (nothing_read kind) 1 (lines_of text.now).0 (lines_of text.now).1 ≡ Ok draft) }
     ensures ended { IfOk result (λ draft. draft.stage ≡ Stage.Ended) }
     ensures fault { IfErr result (λ fault. IsFirstFault fault.line fault.cause
-        (read_from nothing_read 1 (lines_of text.now).0 (lines_of text.now).1)) }
+        (read_from (nothing_read kind) 1 (lines_of text.now).0 (lines_of text.now).1)) }
     ensures place { IfErr result (λ fault. IsPlaceOf text.now fault.line fault.cause) }
 {
-    let mut draft = Draft::new(alloc);
+    let mut draft = Draft::new(alloc, kind);
     let mut rest = text;
     let mut line = 1;
     while let Some((words, after)) = line_at(rest) {
@@ -79,11 +82,11 @@ fn read_lines(alloc: Global, text: &[u8]) -> Result<Draft, SceneFault>
 }
 
 /// What is read of the text, or the first line that has a fault.
-fn draft_of(alloc: Global, text: &[u8]) -> Result<Draft, SceneFault>
-    ensures read { IfOk result (λ draft. sketch_of text.now ≡ Ok draft) }
+fn draft_of(alloc: Global, text: &[u8], kind: WorkKind) -> Result<Draft, SceneFault>
+    ensures read { IfOk result (λ draft. sketch_of kind text.now ≡ Ok draft) }
     ensures ended { IfOk result (λ draft. draft.stage ≡ Stage.Ended) }
-    ensures fault { IfErr result (λ fault. IsFirstFault fault.line fault.cause (sketch_of text.now)) }
-    ensures explained { IfErr result (λ fault. Explains text.now fault.line fault.cause) }
+    ensures fault { IfErr result (λ fault. IsFirstFault fault.line fault.cause (sketch_of kind text.now)) }
+    ensures explained { IfErr result (λ fault. Explains kind text.now fault.line fault.cause) }
 {
     if text.len() > MAX_TEXT {
         return Err(SceneFault {
@@ -91,5 +94,5 @@ fn draft_of(alloc: Global, text: &[u8]) -> Result<Draft, SceneFault>
             cause: SceneError::Limit,
         });
     }
-    read_lines(alloc, text)
+    read_lines(alloc, text, kind)
 }

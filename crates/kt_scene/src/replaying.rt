@@ -3,7 +3,7 @@
 ghost use Rattle.std.specs.Prelude.{◌≡◌, ◌≤◌, true, Err, IfOk, IfErr, IsTrue, OnOk};
 ghost use Rattle.kt_store.specs.Content.{is_fresh};
 ghost use Rattle.kt_world.specs.Reached.{opening};
-ghost use Rattle.kt_scene.specs.Reading.{steps_of};
+ghost use Rattle.kt_scene.specs.Work.{steps_of};
 ghost use Rattle.kt_scene.specs.Runs.{RunsTo};
 ghost use Rattle.kt_scene.specs.Run.{play_in, IsStepFault, IsRunFault, LeadsTo, IsTextFault, IsReplayed, IsWorldFault};
 ghost use Rattle.kt_scene.specs.Run.{given_by, WritesReplayed, WritesReplayedFront, IsReplayFault};
@@ -12,7 +12,7 @@ ghost use Rattle.kt_scene.specs.Stream.{UnlessWrite};
 use crate::fault::{ReplayFault, SceneFault};
 use crate::reading::read_scene;
 use crate::report::write_report;
-use crate::scenario::Scenario;
+use crate::scenario::{Scenario, WorkKind};
 use crate::sink::Sink;
 use crate::source::Source;
 use crate::stream::read_text;
@@ -21,7 +21,7 @@ use kt_store::CkptStore;
 use std::alloc::Global;
 use std::io::{Read, Write};
 
-/// Reads a scenario, makes its steps over the store and writes the report. It reads all, then makes all steps, then
+/// Reads a scenario of steps, makes them over the store and writes the report. It reads all, then makes all steps, then
 /// writes; so a fault other than `Write` leaves nothing written. What was read before a fault is gone from
 /// the reader.
 pub fn replay<R: Read, W: Write, S: CkptStore + Drop>(
@@ -51,7 +51,7 @@ pub fn replay<R: Read, W: Write, S: CkptStore + Drop>(
     }
 }
 
-/// Reads a scenario and makes its steps over the store: the world then. The first half of `replay`.
+/// Reads a scenario of steps and makes them over the store: the world then. The first half of `replay`.
 pub fn replay_world<R: Read, S: CkptStore + Drop>(
     alloc: Global,
     reader: &mut Source<R>,
@@ -77,7 +77,7 @@ fn world_told<S: CkptStore + Drop>(
     ensures later { IfOk result (λ world. S.fault_count store ≤ world.faults) }
     ensures fault { IfErr result (IsTextFault (given_by S.content S.is_honest S.fault_count store) text.now) }
 {
-    match read_scene(alloc, text) {
+    match read_scene(alloc, text, WorkKind::Steps) {
         Ok(scenario) => run_scenario(alloc, scenario, store),
         Err(SceneFault { line, cause }) => Err(ReplayFault::Scene { line, cause }),
     }

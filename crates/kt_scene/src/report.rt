@@ -1,10 +1,10 @@
 //! The report of a world: what survives, what is lost, and the tuples.
 
-ghost use Rattle.std.specs.Prelude.{◌≡◌, ◌≤◌, ◌++◌, List, ℕ, map, IfOk, IfErr, IsTrue, OnErr, OnOk, Err};
+ghost use Rattle.std.specs.Prelude.{◌≡◌, ◌≢◌, ◌≤◌, ◌++◌, List, ℕ, map, IfOk, IfErr, IsTrue, OnErr, OnOk, Err};
 ghost use Rattle.std.specs.List.{flat_map};
 ghost use Rattle.kt_tuple.specs.Spelling.{tuple_text};
 ghost use Rattle.kt_core.specs.World.{beside};
-ghost use Rattle.kt_scene.specs.Report.{IsReport, WritesReport, WritesReportFront, AppendsTexts};
+ghost use Rattle.kt_scene.specs.Report.{IsReport, IsReportOf, WritesReport, WritesReportFront, AppendsTexts};
 ghost use Rattle.kt_scene.specs.Report.{count_line, service_line, text_line, items_of};
 ghost use Rattle.kt_scene.specs.Stream.{UnlessWrite, IsReportFault};
 
@@ -38,11 +38,27 @@ pub fn write_report<S: CkptStore, W: Write>(
     ensures later { world.old.faults ≤ world.new.faults }
     ensures only { IfErr result (IsReportFault world.old.faults world.new.faults world.new.is_honest) }
 {
+    match report_text(alloc, world) {
+        Ok(report) => put(writer, &report),
+        Err(fault) => Err(fault),
+    }
+}
+
+/// The report of the world. Refused by the store or by want of memory.
+pub(crate) fn report_text<S: CkptStore>(
+    alloc: Global,
+    world: &mut World<S>,
+) -> Result<Vec<u8>, ReplayFault>
+    ensures same { IsTrue world.new.is_honest → world.new.state ≡ world.old.state }
+    ensures beside { beside world.new.state ≡ beside world.old.state }
+    ensures honest { IsTrue world.new.is_honest → IsTrue world.old.is_honest }
+    ensures report { IfOk result (λ text. IsReportOf world.new.is_honest world.old.state text.items) }
+    ensures later { world.old.faults ≤ world.new.faults }
+    ensures only { IfErr result (IsReportFault world.old.faults world.new.faults world.new.is_honest) }
+    ensures unwritten { IfErr result (λ fault. fault ≢ ReplayFault.Write) }
+{
     match world.permanent_space(alloc) {
-        Ok(permanent) => {
-            let report = report_of(alloc, world, &permanent).map_err(|_| ReplayFault::Memory)?;
-            put(writer, &report)
-        }
+        Ok(permanent) => { report_of(alloc, world, &permanent).map_err(|_| ReplayFault::Memory) }
         Err(cause) => Err(ReplayFault::Report(cause)),
     }
 }

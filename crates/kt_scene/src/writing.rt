@@ -5,13 +5,15 @@ ghost use Rattle.std.specs.Fmt.{signed_decimal};
 ghost use Rattle.std.specs.List.{flat_map};
 ghost use Rattle.kt_tuple.specs.Spelling.{kind_text, in_parentheses};
 ghost use Rattle.kt_scene.specs.Report.{text_line};
-ghost use Rattle.kt_scene.specs.Run.{work_in};
+ghost use Rattle.kt_scene.specs.Journal.{play_of_steps};
+ghost use Rattle.kt_scene.specs.Work.{Steps, work_in};
 ghost use Rattle.kt_scene.specs.Text.{actual_text, slot_text, pattern_text, operation_text, command_text, node_text};
-ghost use Rattle.kt_scene.specs.Text.{step_text, script_lines, scenario_text, work_lines};
+ghost use Rattle.kt_scene.specs.Text.{step_text, script_lines, scene_lines, scenario_text, work_lines, kind_word};
+ghost use Rattle.kt_scene.specs.Text.{fault_text, fault_line_text};
 
 use crate::scenario::Work;
 use itoa::Buffer;
-use kt_core::{Scene, Step};
+use kt_core::{Fault, FaultKind, FaultLine, Scene, Step};
 use kt_script::{Actual, Actuals, Command, Operation, Pattern, Script, Slot};
 use kt_tuple::{Kind, NodeId};
 use std::alloc::{AllocError, Global};
@@ -21,15 +23,36 @@ pub fn write_scene(alloc: Global, scene: &Scene, work: &Work) -> Result<Vec<u8>,
     ensures { IfOk result (λ text. text.items ≡ scenario_text (record { cast = scene.now; work = work_in work.now })) }
 {
     let mut out = Vec::new(alloc);
-    out.extend_from_slice(b"linda-kt 1\nshards ")?;
-    push_number(&mut out, u64::from(scene.shards()))?;
-    out.push(b'\n')?;
-    for script in scene.scripts() {
-        push_script(&mut out, script)?;
-    }
+    push_scene(&mut out, scene)?;
     push_work(&mut out, work)?;
     out.extend_from_slice(b"end\n")?;
     Ok(out)
+}
+
+/// The text of the scenario of these steps, behind what is there.
+pub(crate) fn push_scenario(
+    out: &mut Vec<u8>,
+    scene: &Scene,
+    steps: &[Step],
+) -> Result<(), AllocError>
+    ensures { OnOk result (out.new.items ≡ out.old.items ++ scenario_text (play_of_steps scene.now steps.now)) }
+{
+    push_scene(out, scene)?;
+    push_step_work(out, steps)?;
+    out.extend_from_slice(b"end\n")
+}
+
+/// The title, the number of shards, and the workers.
+fn push_scene(out: &mut Vec<u8>, scene: &Scene) -> Result<(), AllocError>
+    ensures { OnOk result (out.new.items ≡ out.old.items ++ flat_map text_line (scene_lines scene.now)) }
+{
+    out.extend_from_slice(b"linda-kt 1\nshards ")?;
+    push_number(out, u64::from(scene.shards()))?;
+    out.push(b'\n')?;
+    for script in scene.scripts() {
+        push_script(out, script)?;
+    }
+    Ok(())
 }
 
 fn push_number(out: &mut Vec<u8>, number: u64) -> Result<(), AllocError>
@@ -173,10 +196,47 @@ fn push_work(out: &mut Vec<u8>, work: &Work) -> Result<(), AllocError>
     ensures { OnOk result (out.new.items ≡ out.old.items ++ flat_map text_line (work_lines (work_in work.now))) }
 {
     match work {
-        Work::Steps(steps) => {
-            out.extend_from_slice(b"steps\n")?;
-            push_steps(out, steps)
+        Work::Steps(steps) => push_step_work(out, steps),
+        Work::Faults(faults) => {
+            out.extend_from_slice(b"faults\n")?;
+            push_faults(out, faults.lines())
         }
+    }
+}
+
+/// The line before the steps, and the steps.
+fn push_step_work(out: &mut Vec<u8>, steps: &[Step]) -> Result<(), AllocError>
+    ensures { OnOk result (out.new.items ≡ out.old.items ++ flat_map text_line (work_lines (Steps steps.now))) }
+{
+    out.extend_from_slice(b"steps\n")?;
+    push_steps(out, steps)
+}
+
+fn push_faults(out: &mut Vec<u8>, lines: &[FaultLine]) -> Result<(), AllocError>
+    ensures { OnOk result (out.new.items ≡ out.old.items ++ flat_map text_line (map fault_line_text lines.now)) }
+{
+    for line in lines {
+        push_fault(out, line.fault)?;
+        out.push(b'\n')?;
+    }
+    Ok(())
+}
+
+fn push_fault(out: &mut Vec<u8>, fault: Fault) -> Result<(), AllocError>
+    ensures { OnOk result (out.new.items ≡ out.old.items ++ fault_text fault) }
+{
+    push_at(out, kind_word(fault.kind), fault.node)?;
+    out.extend_from_slice(b" after ")?;
+    push_number(out, fault.after)
+}
+
+/// The word of a fault line, and the space behind it.
+fn kind_word(kind: FaultKind) -> &'static [u8]
+    ensures { result.now ≡ kind_word kind }
+{
+    match kind {
+        FaultKind::Fail => b"fail ",
+        FaultKind::Check => b"check ",
     }
 }
 

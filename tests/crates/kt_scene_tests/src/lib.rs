@@ -2,6 +2,10 @@
 #![tactic(auto)]
 
 #[cfg(test)]
+mod fault_scenes;
+#[cfg(test)]
+mod journals;
+#[cfg(test)]
 mod mutants;
 #[cfg(test)]
 mod replays;

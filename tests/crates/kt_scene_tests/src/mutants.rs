@@ -3,7 +3,9 @@
 
 use crate::streams::{Feed, empty, replayed, whole};
 use kt_core::{Step, World};
-use kt_scene::{ReplayFault, Scenario, SceneFault, Sink, read_scene, write_report, write_scene};
+use kt_scene::{
+    ReplayFault, Scenario, SceneFault, Sink, WorkKind, read_scene, write_report, write_scene,
+};
 use kt_store::MemStore;
 use std::alloc::Global;
 use std::process::Abort;
@@ -162,7 +164,7 @@ fn is_written_again(
     }
     let written = write_scene(alloc, &scenario.scene, &scenario.work)?;
     assert_eq!(rt; written.as_slice(), told.as_slice());
-    let again = read_scene(alloc, &written)?;
+    let again = read_scene(alloc, &written, scenario.work.kind())?;
     assert_eq!(rt; again.work.steps(), scenario.work.steps());
     let parts = format!(in alloc; "{scenario:?}")?;
     assert_eq!(rt; format!(in alloc; "{again:?}")?.as_str(), parts.as_str());
@@ -170,9 +172,9 @@ fn is_written_again(
 }
 
 /// The number of the text's fault, 0 where it is accepted. What is answered is as it should be.
-fn judged(rt: &impl Abort, alloc: Global, text: &[u8]) -> Result<u8, Fail> {
+fn judged(rt: &impl Abort, alloc: Global, text: &[u8], kind: WorkKind) -> Result<u8, Fail> {
     let lines = lines_of(alloc, text)?;
-    match read_scene(alloc, text) {
+    match read_scene(alloc, text, kind) {
         Ok(scenario) => {
             is_written_again(rt, alloc, &lines, &scenario)?;
             Ok(0)
@@ -194,7 +196,7 @@ type Told = (Result<(), ReplayFault>, Vec<u8>);
 /// What a replay of the text must answer and write: what `read_scene` answers, then what the steps of what was read
 /// do, then the report.
 fn told_of(alloc: Global, text: &[u8]) -> Result<Told, Fail> {
-    match read_scene(alloc, text) {
+    match read_scene(alloc, text, WorkKind::Steps) {
         Ok(scenario) => told_by(alloc, scenario),
         Err(SceneFault { line, cause }) => {
             Ok((Err(ReplayFault::Scene { line, cause }), Vec::new(alloc)))
@@ -263,11 +265,64 @@ fn count_of(numbers: &[u8], number: u8) -> usize {
     numbers.iter().filter(|other| **other == number).count()
 }
 
+/// There are so many of each number, and no others.
+fn assert_counts(rt: &impl Abort, numbers: &[u8], rows: &[(u8, usize)]) {
+    let mut counted = 0usize;
+    for (number, least) in rows {
+        let count = count_of(numbers, *number);
+        assert!(rt; count >= *least, "{count} mutants of number {number}");
+        counted = counted.saturating_add(count);
+    }
+    assert_eq!(rt; counted, numbers.len());
+}
+
+/// Scenarios with fault lines.
+const FAULT_SEEDS: [&[u8]; 3] = [
+    b"linda-kt 1\nshards 2\nworker\nout (\"k\")\nworker\nin (\"k\")\nfaults\nfail s1 after 3\n\
+check w2 after 0\nfail w1 after 100000\nend\n",
+    b"# nobody fails\nlinda-kt 1\nshards 1\nworker\n# but a check is made\nfaults\n#\ncheck w1 after 12\n\
+check s1 after 7\nend\n",
+    b"linda-kt 1\nshards 8\nworker\nworker\nworker\nworker\nworker\nworker\nworker\nworker\nfaults\n\
+fail s8 after 9\nfail w8 after 99\nfail w8 after 99\ncheck s3 after 10000\nfail s5 after 0\nend\n",
+];
+
+/// How many mutants of these there are.
+const FAULT_MUTANTS: usize = 6_000;
+
+/// How many of them have at least which fault's number.
+const LEAST_OF_FAULTS: [(u8, usize); 8] = [
+    (0, 300),
+    (1, 100),
+    (2, 100),
+    (3, 1),
+    (4, 0),
+    (5, 100),
+    (6, 20),
+    (7, 50),
+];
+
+#[test]
+fn mutants_of_faults(rt: HostRuntime) -> Result<(), Fail> {
+    let alloc = rt.alloc();
+    let mut dice = Dice { state: 2 };
+    let mut numbers = Vec::new(alloc);
+    for seed in &FAULT_SEEDS {
+        assert_eq!(rt; judged(&rt, alloc, seed, WorkKind::Faults)?, 0, "{seed:?}");
+    }
+    for _ in 0..FAULT_MUTANTS {
+        let seed = dice.one_of(&FAULT_SEEDS)?;
+        let text = mutant_of(alloc, &mut dice, seed)?;
+        numbers.push(judged(&rt, alloc, &text, WorkKind::Faults)?)?;
+    }
+    assert_counts(&rt, &numbers, &LEAST_OF_FAULTS);
+    Ok(())
+}
+
 #[test]
 fn mutants(rt: HostRuntime) -> Result<(), Fail> {
     let alloc = rt.alloc();
     for seed in &SEEDS {
-        assert_eq!(rt; judged(&rt, alloc, seed)?, 0, "{seed:?}");
+        assert_eq!(rt; judged(&rt, alloc, seed, WorkKind::Steps)?, 0, "{seed:?}");
     }
     let mut dice = Dice { state: 1 };
     let mut numbers = Vec::new(alloc);
@@ -275,18 +330,12 @@ fn mutants(rt: HostRuntime) -> Result<(), Fail> {
     for i in 0..MUTANTS {
         let seed = dice.one_of(&SEEDS)?;
         let text = mutant_of(alloc, &mut dice, seed)?;
-        numbers.push(judged(&rt, alloc, &text)?)?;
+        numbers.push(judged(&rt, alloc, &text, WorkKind::Steps)?)?;
         if i % REPLAYED == 0 {
             reports.push(u8::from(replayed_as_told(&rt, alloc, &text)?))?;
         }
     }
-    let mut counted = 0usize;
-    for (number, least) in &LEAST {
-        let count = count_of(&numbers, *number);
-        assert!(rt; count >= *least, "{count} mutants of number {number}");
-        counted = counted.saturating_add(count);
-    }
-    assert_eq!(rt; counted, MUTANTS);
+    assert_counts(&rt, &numbers, &LEAST);
     let (ended, refused) = (count_of(&reports, 1), count_of(&reports, 0));
     assert!(rt;
         ended >= 100 && refused >= 500,

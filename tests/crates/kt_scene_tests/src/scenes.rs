@@ -5,7 +5,7 @@ use crate::tables::{
 };
 use crate::texts::{ENDS, HEADERS, NODE_STEPS, SCENARIOS, STEPS};
 use kt_core::Step;
-use kt_scene::{MAX_TEXT, Work, read_scene, write_scene};
+use kt_scene::{MAX_TEXT, Work, WorkKind, read_scene, write_scene};
 use kt_script::{Actual, Command, Operation, Slot};
 use kt_tuple::{Kind, NodeId, Value};
 use std::alloc::{AllocError, Global};
@@ -47,9 +47,14 @@ fn with_names(
     Ok(text)
 }
 
-/// The fault of the text as line and number; 0 and 0 is none.
+/// The fault of the text as line and number, where steps are wanted; 0 and 0 is none.
 pub(crate) fn fault_of(alloc: Global, text: &[u8]) -> (usize, u8) {
-    match read_scene(alloc, text) {
+    fault_in(alloc, text, WorkKind::Steps)
+}
+
+/// The same where work of this kind is wanted.
+pub(crate) fn fault_in(alloc: Global, text: &[u8], kind: WorkKind) -> (usize, u8) {
+    match read_scene(alloc, text, kind) {
         Ok(_) => (0, 0),
         Err(fault) => (fault.line, fault.cause.number()),
     }
@@ -193,7 +198,7 @@ decide w3\nabandon s4\nlearn w5\nfail s6\nrestart w77\nend\n";
         steps\nissue w1\nrepeat w10\ndeliver w99 s1\nrepeat s99\nserve s10 w1 99999\ntake w1\ncheck s2\n\
 decide w3\nabandon s4\nlearn w5\nfail s6\nrestart w77\nend\n";
     for given in [text.as_slice(), told.as_slice()] {
-        let scenario = read_scene(rt.alloc(), given)?;
+        let scenario = read_scene(rt.alloc(), given, WorkKind::Steps)?;
         let written = write_scene(rt.alloc(), &scenario.scene, &scenario.work)?;
         assert_eq!(rt; written.as_slice(), told.as_slice());
     }
@@ -206,9 +211,12 @@ fn a_scenario(rt: HostRuntime) -> Result<(), Fail> {
     let text =
         b"# a\nlinda-kt 1\n# b\nshards 3\n#\nworker\nout (\"a\", 1)\nin (?int x)\nworker\n# c\nsteps\n\
         issue w1\n# d\nrepeat w1\ndeliver w1 s2\nserve s2 w1 99999\nend\n";
-    let scenario = read_scene(rt.alloc(), text)?;
+    let scenario = read_scene(rt.alloc(), text, WorkKind::Steps)?;
     assert_eq!(rt; scenario.scene.shards(), 3);
-    let Work::Steps(steps) = &scenario.work;
+    let Work::Steps(steps) = &scenario.work else {
+        assert!(rt; false, "steps");
+        return Ok(());
+    };
     let worker = NodeId::Worker(1);
     let shard = NodeId::Shard(2);
     let expected = [

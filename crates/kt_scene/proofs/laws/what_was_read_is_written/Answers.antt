@@ -6,8 +6,8 @@ use Rattle.kt_scene.proofs.ReadLaws.{read_is_spelled}
 use Rattle.kt_scene.proofs.laws.what_was_read_is_written.Goals as goal
 
 pub returns : goal.returns
-returns c = λ text play read.
-    let scenario = read_is_spelled text play read in
+returns c = λ kind text play read.
+    let scenario = read_is_spelled kind text play read in
     record {
       lines = scenario.lines;
       each = scenario.each;

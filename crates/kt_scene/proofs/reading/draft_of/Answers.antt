@@ -7,4 +7,4 @@ returns-then-text-gt-MAX_TEXT-clause-explained c = too_long c.if-text-gt-MAX_TEX
 
 pub returns-clause-explained : goal.returns-clause-explained
 returns-clause-explained c =
-    answer_explains c.args.text.now c.read_lines.result c.if-text-gt-MAX_TEXT.false c.read_lines.ensures.fault c.read_lines.ensures.place
+    answer_explains c.args.kind c.args.text.now c.read_lines.result c.if-text-gt-MAX_TEXT.false c.read_lines.ensures.fault c.read_lines.ensures.place

@@ -5,7 +5,7 @@ use Rattle.kt_scene.proofs.reading.read_lines.Given as goal
 
 abbrev pub invariant-loop-words : goal.invariant-loop-words
 invariant-loop-words l = record {
-  due : read_from l.draft l.line (lines_of l.rest).0 (lines_of l.rest).1 ≡ read_from nothing_read 1 (lines_of l.text).0 (lines_of l.text).1;
+  due : read_from l.draft l.line (lines_of l.rest).0 (lines_of l.rest).1 ≡ read_from (nothing_read l.fn.kind) 1 (lines_of l.text).0 (lines_of l.text).1;
   lines : l.line + length l.rest ≤ length l.text + 1;
   counted : 1 ≤ l.line;
   left : l.line + length (lines_of l.rest).0 ≡ length (lines_of l.text).0 + 1;

@@ -1,8 +1,13 @@
 use Rattle.std.proofs.Common.{Ok, sym, ap, ◌∙◌}
 use Rattle.kt_scene.specs.Reading.{played}
 use Rattle.kt_scene.specs.Run.{play_in}
-use Rattle.kt_scene.proofs.ReadLaws.{read_is_spelled}
+use Rattle.kt_scene.proofs.ReadLaws.{read_is_spelled, read_is_kind}
 use Rattle.kt_scene.proofs.reading.read_scene.Goals as goal
 
 pub returns-clause-spelled : goal.returns-clause-spelled
-returns-clause-spelled c = read_is_spelled c.args.text.now (play_in c.scenario.result) (ap played c.in_ok-draft.ensures.read ∙ ap Ok (sym c.scenario.ensures))
+returns-clause-spelled c =
+    read_is_spelled c.args.kind c.args.text.now (play_in c.scenario.result) (ap played c.in_ok-draft.ensures.read ∙ ap Ok (sym c.scenario.ensures))
+
+pub returns-clause-kind : goal.returns-clause-kind
+returns-clause-kind c =
+    read_is_kind c.args.kind c.args.text.now (play_in c.scenario.result) (ap played c.in_ok-draft.ensures.read ∙ ap Ok (sym c.scenario.ensures))

@@ -1,0 +1,75 @@
+//! The text of a journal: a report as remarks, and then the scenario of the steps that led to it.
+
+ghost use Rattle.std.specs.Prelude.{◌≡◌, ◌≤◌, ◌++◌, IfErr, IfOk, IsTrue, OnOk, Err};
+ghost use Rattle.kt_core.specs.World.{beside};
+ghost use Rattle.kt_scene.specs.Journal.{WritesJournal, WritesJournalFront, journal_text, remarks};
+ghost use Rattle.kt_scene.specs.Stream.{UnlessWrite, IsReportFault};
+
+use crate::fault::ReplayFault;
+use crate::reading::line_at;
+use crate::report::report_text;
+use crate::sink::Sink;
+use crate::stream::put;
+use crate::writing::push_scenario;
+use kt_core::{Scene, Step, World};
+use kt_store::CkptStore;
+use std::alloc::{AllocError, Global};
+use std::io::Write;
+
+/// Writes the report of the world with `# ` before each line, and then the scenario of the world's scene and these
+/// steps. So what is written can be replayed, where it is not too long. Refused as `write_report` is.
+pub fn write_journal<S: CkptStore, W: Write>(
+    alloc: Global,
+    world: &mut World<S>,
+    steps: &[Step],
+    writer: &mut Sink<W>,
+) -> Result<(), ReplayFault>
+    ensures same { IsTrue world.new.is_honest → world.new.state ≡ world.old.state }
+    ensures beside { beside world.new.state ≡ beside world.old.state }
+    ensures honest { IsTrue world.new.is_honest → IsTrue world.old.is_honest }
+    ensures written { OnOk result
+        (WritesJournal world.new.is_honest world.old.state steps.now writer.old writer.new) }
+    ensures front { result ≡ Err ReplayFault.Write
+        → WritesJournalFront world.new.is_honest world.old.state steps.now writer.old writer.new }
+    // Before any fault but the writer's the writer is not called.
+    ensures nothing { IfErr result (λ fault. UnlessWrite fault (writer.new ≡ writer.old)) }
+    ensures later { world.old.faults ≤ world.new.faults }
+    ensures only { IfErr result (IsReportFault world.old.faults world.new.faults world.new.is_honest) }
+{
+    match report_text(alloc, world) {
+        Ok(report) => match journal_of(alloc, &report, world.scene(), steps) {
+            Ok(text) => put(writer, &text),
+            Err(AllocError) => Err(ReplayFault::Memory),
+        },
+        Err(fault) => Err(fault),
+    }
+}
+
+/// The journal's text, with this report.
+fn journal_of(
+    alloc: Global,
+    report: &[u8],
+    scene: &Scene,
+    steps: &[Step],
+) -> Result<Vec<u8>, AllocError>
+    ensures { IfOk result (λ text. text.items ≡ journal_text report.now scene.now steps.now) }
+{
+    let mut out = Vec::new(alloc);
+    push_remarks(&mut out, report)?;
+    push_scenario(&mut out, scene, steps)?;
+    Ok(out)
+}
+
+/// The lines of the report, each with `# ` before it.
+fn push_remarks(out: &mut Vec<u8>, report: &[u8]) -> Result<(), AllocError>
+    ensures { OnOk result (out.new.items ≡ out.old.items ++ remarks report.now) }
+{
+    let mut rest = report;
+    while let Some((line, after)) = line_at(rest) {
+        out.extend_from_slice(b"# ")?;
+        out.extend_from_slice(line)?;
+        out.push(b'\n')?;
+        rest = after;
+    }
+    Ok(())
+}
