@@ -1,8 +1,11 @@
-//! A Linda tuple space that survives failures: `linda_kt replay` reads a scenario on standard input,
-//! makes its steps and writes the report to standard output.
+//! A Linda tuple space that survives failures: `linda_kt replay` reads a scenario on standard input, makes its steps and
+//! writes the report to standard output; `linda_kt run` runs it, by a thread for each node.
 #![tactic(auto)]
 
 mod program;
+#[cfg(test)]
+mod run_tests;
+mod status;
 #[cfg(test)]
 mod tests;
 mod words;
