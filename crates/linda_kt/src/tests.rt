@@ -1,5 +1,6 @@
 //! The program from its words to its output, its line on the errors and its status.
-use crate::program::{end_replay, run_program};
+use crate::program::run_program;
+use crate::status::end_replay;
 use kt_scene::{OpenError, ReplayFault, Sink, Source, StepError};
 use kt_store::StoreError;
 use std::alloc::{AllocError, Global};
@@ -53,17 +54,17 @@ w1.2 in (?int) got (9223372036854775807)\nw1.3 out (9223372036854775807) done\nl
 
 /// What a run left.
 #[derive(Debug, Drop, PartialEq)]
-struct Ended {
-    output: String,
-    errors: String,
-    status: u8,
+pub struct Ended {
+    pub output: String,
+    pub errors: String,
+    pub status: u8,
 }
 
 fn text_of(bytes: Vec<u8>) -> Result<String, Fail> {
     String::from_utf8(bytes).map_err(|_| Fail::from("no text"))
 }
 
-fn run(rt: &HostRuntime, words: &[&str], input: &str) -> Result<Ended, Fail> {
+pub fn run(rt: &HostRuntime, words: &[&str], input: &str) -> Result<Ended, Fail> {
     let alloc = rt.alloc();
     let (mut reader, mut writer) = (Source::new(input.as_bytes()), Sink::new(Vec::new(alloc)));
     let mut errors = Vec::new(alloc);
@@ -244,7 +245,7 @@ fn words(rt: HostRuntime) -> Result<(), Fail> {
             .starts_with("error: 'linda_kt' requires a subcommand")
     );
     assert!(rt; none.output.is_empty() && none.status == 2);
-    for word in ["run", "--store", "help", ""] {
+    for word in ["walk", "--store", "help", ""] {
         let ended = run(&rt, &[word], NO_STEPS)?;
         assert!(rt; ended.errors.as_str().starts_with("error: un"), "{word}");
         assert!(rt; ended.output.is_empty() && ended.status == 2, "{word}");
