@@ -19,6 +19,6 @@ fn main(rt: HostRuntime) -> ExitCode {
     let mut reader = Source::new(rt.stdin());
     let mut writer = Sink::new(rt.stdout());
     let mut errors = rt.stderr();
-    let status = program::run_arguments(&rt, arguments, &mut reader, &mut writer, &mut errors);
+    let status = program::run_arguments(&rt, &rt, arguments, &mut reader, &mut writer, &mut errors);
     ExitCode::from(status)
 }

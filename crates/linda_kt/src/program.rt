@@ -19,11 +19,14 @@ use std::alloc::{AllocError, Global};
 use std::env::Args;
 use std::io;
 use std::io::{Read, Write};
+use std::sync::Wait;
+use std::thread::Threads;
 
 /// Runs the program on the arguments of its process, of which the first is its name. Arguments that
-/// are not text are wrong words.
-pub fn run_arguments<R: Read, W: Write, E: Write>(
+/// are not text are wrong words. A run starts its threads by `threads`.
+pub fn run_arguments<T: Threads + Wait + Sync, R: Read, W: Write, E: Write>(
     rt: &HostRuntime,
+    threads: &T,
     arguments: io::Result<Args>,
     reader: &mut Source<R>,
     writer: &mut Sink<W>,
@@ -48,7 +51,7 @@ pub fn run_arguments<R: Read, W: Write, E: Write>(
         Err(_) => return answer_words(&refuse_bytes(alloc), writer, errors),
     };
     match texts {
-        Ok(texts) => run_texts(rt, &texts, reader, writer, errors),
+        Ok(texts) => run_texts(rt, threads, &texts, reader, writer, errors),
         Err(AllocError) => end_by("memory", MEMORY, errors),
     }
 }
@@ -61,8 +64,9 @@ fn texts_of(alloc: Global, arguments: Args) -> Result<Vec<String>, AllocError>
 }
 
 /// Runs the program on these texts, of which the first is its name.
-fn run_texts<R: Read, W: Write, E: Write>(
+fn run_texts<T: Threads + Wait + Sync, R: Read, W: Write, E: Write>(
     rt: &HostRuntime,
+    threads: &T,
     arguments: &[String],
     reader: &mut Source<R>,
     writer: &mut Sink<W>,
@@ -75,7 +79,7 @@ fn run_texts<R: Read, W: Write, E: Write>(
     ensures done_without_a_word { result ≡ DONE → errors.new ≡ errors.old }
 {
     match words_behind(rt.alloc(), arguments) {
-        Ok(words) => run_program(rt, words.as_slice(), reader, writer, errors),
+        Ok(words) => run_program(rt, threads, words.as_slice(), reader, writer, errors),
         Err(AllocError) => end_by("memory", MEMORY, errors),
     }
 }
@@ -95,8 +99,9 @@ fn words_behind<'a>(alloc: Global, arguments: &'a [String]) -> Result<Vec<&'a st
 
 /// Does what the words ask, which are those after the program's name, and answers the exit status.
 /// A fault is one line on `errors`; of wrong words it is the text of `clap`.
-pub fn run_program<R: Read, W: Write, E: Write>(
+pub fn run_program<T: Threads + Wait + Sync, R: Read, W: Write, E: Write>(
     rt: &HostRuntime,
+    threads: &T,
     words: &[&str],
     reader: &mut Source<R>,
     writer: &mut Sink<W>,
@@ -114,14 +119,15 @@ pub fn run_program<R: Read, W: Write, E: Write>(
         → reader.new ≡ reader.old }
 {
     match read_words(rt.alloc(), words) {
-        Ok(request) => run_request(rt, request, reader, writer, errors),
+        Ok(request) => run_request(rt, threads, request, reader, writer, errors),
         Err(error) => answer_words(&error, writer, errors),
     }
 }
 
 /// Does what is asked, over a store in memory or in the file that is named.
-fn run_request<R: Read, W: Write, E: Write>(
+fn run_request<T: Threads + Wait + Sync, R: Read, W: Write, E: Write>(
     rt: &HostRuntime,
+    threads: &T,
     request: Request<'_>,
     reader: &mut Source<R>,
     writer: &mut Sink<W>,
@@ -132,14 +138,15 @@ fn run_request<R: Read, W: Write, E: Write>(
     ensures done_without_a_word { result ≡ DONE → errors.new ≡ errors.old }
 {
     match request.store {
-        None => run_in_memory(rt, request.command, reader, writer, errors),
-        Some(path) => run_in(rt, request.command, path, reader, writer, errors),
+        None => run_in_memory(rt, threads, request.command, reader, writer, errors),
+        Some(path) => run_in(rt, threads, request.command, path, reader, writer, errors),
     }
 }
 
 /// Does the command over a store in memory, which is fresh.
-fn run_in_memory<R: Read, W: Write, E: Write>(
+fn run_in_memory<T: Threads + Wait + Sync, R: Read, W: Write, E: Write>(
     rt: &HostRuntime,
+    threads: &T,
     command: Command,
     reader: &mut Source<R>,
     writer: &mut Sink<W>,
@@ -149,7 +156,8 @@ fn run_in_memory<R: Read, W: Write, E: Write>(
     ensures done_without_a_word { result ≡ DONE → errors.new ≡ errors.old }
 {
     run_over(
-        rt,
+        threads,
+        rt.alloc(),
         command,
         MemStore::new(rt.alloc()),
         reader,
@@ -159,8 +167,9 @@ fn run_in_memory<R: Read, W: Write, E: Write>(
 }
 
 /// Does the command over the store in the file, which is opened before anything is read.
-fn run_in<R: Read, W: Write, E: Write>(
+fn run_in<T: Threads + Wait + Sync, R: Read, W: Write, E: Write>(
     rt: &HostRuntime,
+    threads: &T,
     command: Command,
     path: &str,
     reader: &mut Source<R>,
@@ -172,12 +181,13 @@ fn run_in<R: Read, W: Write, E: Write>(
     ensures done_without_a_word { result ≡ DONE → errors.new ≡ errors.old }
 {
     let opened = SqlStore::open(rt, path);
-    run_opened(rt, command, opened, reader, writer, errors)
+    run_opened(threads, rt.alloc(), command, opened, reader, writer, errors)
 }
 
 /// Does the command over the store in SQL that was opened. Where it was not, nothing is read.
-fn run_opened<R: Read, W: Write, E: Write, S: Alter + Drop + Send>(
-    rt: &HostRuntime,
+fn run_opened<T: Threads + Wait + Sync, R: Read, W: Write, E: Write, S: Alter + Drop + Send>(
+    threads: &T,
+    alloc: Global,
     command: Command,
     opened: Result<SqlStore<S>, SqlOpenError>,
     reader: &mut Source<R>,
@@ -192,14 +202,15 @@ fn run_opened<R: Read, W: Write, E: Write, S: Alter + Drop + Send>(
     ensures done_without_a_word { result ≡ DONE → errors.new ≡ errors.old }
 {
     match opened {
-        Ok(store) => run_over(rt, command, store, reader, writer, errors),
+        Ok(store) => run_over(threads, alloc, command, store, reader, writer, errors),
         Err(error) => end_by(opening_fault(error), STORE, errors),
     }
 }
 
 /// Does the command over the store.
-fn run_over<R: Read, W: Write, E: Write, S: CkptStore + Send + Drop>(
-    rt: &HostRuntime,
+fn run_over<T: Threads + Wait + Sync, R: Read, W: Write, E: Write, S: CkptStore + Send + Drop>(
+    threads: &T,
+    alloc: Global,
     command: Command,
     store: S,
     reader: &mut Source<R>,
@@ -210,11 +221,13 @@ fn run_over<R: Read, W: Write, E: Write, S: CkptStore + Send + Drop>(
         reader.old reader.new writer.old writer.new result }
     ensures done_without_a_word { result ≡ DONE → errors.new ≡ errors.old }
 {
-    let alloc = rt.alloc();
     match command {
         Command::Replay => end_replay(replay(alloc, reader, writer, store), errors),
         Command::Run(output) => {
-            end_run(run_text(rt, alloc, reader, writer, store, output), errors)
+            end_run(
+                run_text(threads, alloc, reader, writer, store, output),
+                errors,
+            )
         }
     }
 }

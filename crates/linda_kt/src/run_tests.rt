@@ -20,12 +20,12 @@ w1.4 out (\"done\", 7) done\nw1.5 rd (\"k\") got (\"k\")\nlost 4\nspace 2\n(\"do
 #[test]
 fn threads_and_a_fault(rt: HostRuntime) -> Result<(), Fail> {
     for _ in 0..10u32 {
-        let ended = run(&rt, &["run"], THREADS_AND_A_FAULT)?;
+        let ended = run(&rt, &rt, &["run"], THREADS_AND_A_FAULT)?;
         assert_eq!(rt; ended.output.as_str(), THREADS_AND_A_FAULT_REPORT);
         assert!(rt; ended.errors.is_empty() && ended.status == 0);
-        let journal = run(&rt, &["run", "--journal"], THREADS_AND_A_FAULT)?;
+        let journal = run(&rt, &rt, &["run", "--journal"], THREADS_AND_A_FAULT)?;
         assert!(rt; journal.errors.is_empty() && journal.status == 0);
-        let again = run(&rt, &["replay"], journal.output.as_str())?;
+        let again = run(&rt, &rt, &["replay"], journal.output.as_str())?;
         assert_eq!(rt; again.output.as_str(), THREADS_AND_A_FAULT_REPORT);
     }
     Ok(())
@@ -37,7 +37,7 @@ fn kinds_of_work(rt: HostRuntime) -> Result<(), Fail> {
     let faults = "linda-kt 1\nshards 1\nworker\nfaults\nend\n";
     let steps = "linda-kt 1\nshards 1\nworker\nsteps\nend\n";
     for (word, text) in [("replay", faults), ("run", steps)] {
-        let ended = run(&rt, &[word], text)?;
+        let ended = run(&rt, &rt, &[word], text)?;
         assert_eq!(rt; ended.errors.as_str(), "line 4: 2 Word\n");
         assert!(rt; ended.output.is_empty() && ended.status == 3);
     }
