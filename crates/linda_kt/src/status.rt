@@ -26,7 +26,7 @@ pub const STREAM: u8 = 7;
 pub const STEP_LIMIT: u8 = 8;
 
 /// Says on `errors` why a replay ended early, and answers the status that tells how it ended.
-pub fn end_replay<E: Write>(answer: Result<(), ReplayFault>, errors: &mut E) -> u8
+pub(crate) fn end_replay<E: Write>(answer: Result<(), ReplayFault>, errors: &mut E) -> u8
     ensures status { result ≡ answer_status answer }
     ensures quiet { IsOk answer → errors.new ≡ errors.old }
 {
@@ -41,7 +41,7 @@ pub fn end_replay<E: Write>(answer: Result<(), ReplayFault>, errors: &mut E) -> 
 }
 
 /// The same of a run.
-pub fn end_run<E: Write>(answer: Result<(), RunTextFault>, errors: &mut E) -> u8
+pub(crate) fn end_run<E: Write>(answer: Result<(), RunTextFault>, errors: &mut E) -> u8
     ensures status { result ≡ run_answer_status answer }
     ensures quiet { IsOk answer → errors.new ≡ errors.old }
 {
