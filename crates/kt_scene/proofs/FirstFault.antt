@@ -214,7 +214,8 @@ module _ (kind : WorkKind) (text : List ℕ) where
       ap (λ (t : List ℕ). (lines_of t).0) h.parts ∙ lines_front h.before h.rest h.each ∙ ap (λ (l : List (List ℕ)). h.before ++ l) (no_line h.rest h.unended)
       ∙ append-nil h.before
 
-  by_place : {n m : ℕ} {f g : SceneError} (h : IsFaultAt kind text n f) (k : IsFaultAt kind text m g) → Apart h.place.before h.place.line k.place.before k.place.line
+  by_place : {n m : ℕ} {f g : SceneError} (h : IsFaultAt kind text n f) (k : IsFaultAt kind text m g)
+      → Apart h.place.before h.place.line k.place.before k.place.line
       → (n ≡ m) × (f ≡ g)
   by_place {f} {g} h k (one e i) =
       let count = sym h.place.number ∙ ap (λ (l : List (List ℕ)). length l + 1) e ∙ k.place.number in

@@ -36,7 +36,8 @@ remarks_lines (line ∷ later) h =
     All-cons IsLine (remarked line) (map remarked later) first (remarks_lines later (All-tail IsLine line later h))
 
 -- the text of a journal is that of a scenario, whose ignored lines are the report's
-pub journal_is_scenario : (report : List ℕ) (cast : Cast) (steps : List Step) → IsPlay (play_of_steps cast steps) → length (journal_text report cast steps) ≤ 1048576
+pub journal_is_scenario : (report : List ℕ) (cast : Cast) (steps : List Step) → IsPlay (play_of_steps cast steps)
+    → length (journal_text report cast steps) ≤ 1048576
     → IsScenario (journal_text report cast steps) (play_of_steps cast steps)
 journal_is_scenario report cast steps rules short =
     let play = play_of_steps cast steps in
@@ -55,7 +56,8 @@ journal_is_scenario report cast steps rules short =
       short = short;
     }
 
-pub journal_is_read : (report : List ℕ) (cast : Cast) (steps : List Step) → IsPlay (play_of_steps cast steps) → length (journal_text report cast steps) ≤ 1048576
+pub journal_is_read : (report : List ℕ) (cast : Cast) (steps : List Step) → IsPlay (play_of_steps cast steps)
+    → length (journal_text report cast steps) ≤ 1048576
     → play_of kinds.Steps (journal_text report cast steps) ≡ Ok (play_of_steps cast steps)
 journal_is_read report cast steps rules short =
     wanted_is_read kinds.Steps (journal_text report cast steps) (play_of_steps cast steps) (journal_is_scenario report cast steps rules short) refl

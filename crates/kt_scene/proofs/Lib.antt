@@ -40,7 +40,6 @@ pub mod WrittenRead
 pub mod FirstFault
 pub mod OtherKind
 pub mod JournalRead
-pub mod Remarks
 pub mod Entries
 pub mod ScenarioText
 pub mod JournalWritten

@@ -1,5 +1,6 @@
 -- A fault that the reader finds in a line is the lowest that the line has.
-use Rattle.std.proofs.Common.{◌≡◌, ℕ, ◌+◌, ◌<◌, ◌≤◌, ◌⊎◌, inl, inr, Bool, true, false, not, cond, ◌&&◌, ltb, leb, List, [], ◌∷◌, ◌++◌, length, Option, Some, None, Result}
+use Rattle.std.proofs.Common.{◌≡◌, ℕ, ◌+◌, ◌<◌, ◌≤◌, ◌⊎◌, inl, inr, Bool, true, false, not, cond, ◌&&◌, ltb, leb, List, [], ◌∷◌, ◌++◌, length, Option}
+use Rattle.std.proofs.Common.{Some, None, Result}
 use Rattle.std.proofs.Common.{Ok, Err, refl, sym, ap, subst, ◌∙◌, arith}
 use Rattle.std.proofs.lemmas.Bool.{ltb-false, leb-true, leb-false}
 use Rattle.std.proofs.lemmas.List.Elements.{filter-append}
@@ -293,11 +294,13 @@ module _ (kind : WorkKind) (before : List (List ℕ)) (line : List ℕ) (s : Ske
 
       by_limits : (kept within fits : Bool) (fault : SceneError) → keeps_rules (variables_of s.commands) spelled.command ≡ kept
           → is_within s.commands spelled.command ≡ within → spelled.fits ≡ fits
-          → fault_of_command (cond (not kept) (Some refusals.Variable) (cond (not within) (Some refusals.Limit) None)) fits ≡ Some fault → HasLowest kind before line fault
+          → fault_of_command (cond (not kept) (Some refusals.Variable) (cond (not within) (Some refusals.Limit) None)) fits ≡ Some fault
+          → HasLowest kind before line fault
       by_limits true true true fault rules limits number e = absurd cc
       by_limits true true false fault rules limits number e =
           let same : faults.Limit ≡ fault = cc in
-          subst (HasLowest kind before line) same (passed_limit rules (outside s.scripts s.commands command (there is) is_line (reads.outside (rw number refl))))
+          subst (HasLowest kind before line) same
+          (passed_limit rules (outside s.scripts s.commands command (there is) is_line (reads.outside (rw number refl))))
       by_limits true false true fault rules limits number e =
           let same : faults.Limit ≡ fault = cc in
           subst (HasLowest kind before line) same
@@ -393,7 +396,8 @@ module _ (kind : WorkKind) (before : List (List ℕ)) (line : List ℕ) (s : Ske
     script_by_tests false true fault is worker work e = absurd cc
     script_by_tests false false fault is worker work e = command_by_read (spelled_of line) fault is worker work refl e
 
-    by_stage : (stage : Stage) (fault : SceneError) → s.stage ≡ stage → is_ended s.stage ≡ false → told stage s line ≡ Err fault → HasLowest kind before line fault
+    by_stage : (stage : Stage) (fault : SceneError) → s.stage ≡ stage → is_ended s.stage ≡ false → told stage s line ≡ Err fault
+        → HasLowest kind before line fault
     by_stage stages.Title fault is on e = title_fault fault is e
     by_stage stages.Shards fault is on e = shards_by_count (shards_of line) fault is refl e
     by_stage stages.Workers fault is on e = worker_by_test (is_word line (codes "worker")) fault is refl e

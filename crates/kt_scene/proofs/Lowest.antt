@@ -75,7 +75,8 @@ module _ (kind : WorkKind) (told : List (List ℕ)) (line : List ℕ) where
   from_limit header word tuple variable faults.End h = omega arith
   from_limit header word tuple variable faults.OutOfMemory h = omega arith
 
-  pub from_node : ¬ IsNoHeader told line → ¬ IsNoWord kind told line → ¬ IsNoTuple kind told line → ¬ BreaksVariableRules kind told line → ¬ PassesLimit kind told line
+  pub from_node : ¬ IsNoHeader told line → ¬ IsNoWord kind told line → ¬ IsNoTuple kind told line → ¬ BreaksVariableRules kind told line
+      → ¬ PassesLimit kind told line
       → (other : SceneError) → HasFault kind told line other → 6 ≤ fault_number other
   from_node header word tuple variable limit faults.Header h = absurd (header h)
   from_node header word tuple variable limit faults.Word h = absurd (word h)
@@ -86,7 +87,8 @@ module _ (kind : WorkKind) (told : List (List ℕ)) (line : List ℕ) where
   from_node header word tuple variable limit faults.End h = omega arith
   from_node header word tuple variable limit faults.OutOfMemory h = omega arith
 
-  pub from_end : ¬ IsNoHeader told line → ¬ IsNoWord kind told line → ¬ IsNoTuple kind told line → ¬ BreaksVariableRules kind told line → ¬ PassesLimit kind told line → ¬ NamesNobody kind told line
+  pub from_end : ¬ IsNoHeader told line → ¬ IsNoWord kind told line → ¬ IsNoTuple kind told line → ¬ BreaksVariableRules kind told line
+      → ¬ PassesLimit kind told line → ¬ NamesNobody kind told line
       → (other : SceneError) → HasFault kind told line other → 7 ≤ fault_number other
   from_end header word tuple variable limit nobody faults.Header h = absurd (header h)
   from_end header word tuple variable limit nobody faults.Word h = absurd (word h)

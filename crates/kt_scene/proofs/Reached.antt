@@ -58,7 +58,8 @@ pub data Failed (kind : WorkKind) (all : List (List ℕ)) (rest : List ℕ) (m :
   on_line : (before : List (List ℕ)) (line : List ℕ) (later : List (List ℕ)) (u : Sketch) → all ≡ before ++ line ∷ later → Reached kind before u
       → line_read u line ≡ Err fault
       → length before + 1 ≡ m → Failed kind all rest m fault
-  at_end : (u : Sketch) → Reached kind all u → (is_ended u.stage && is_empty rest) ≡ false → length all + 1 ≡ m → fault ≡ faults.End → Failed kind all rest m fault
+  at_end : (u : Sketch) → Reached kind all u → (is_ended u.stage && is_empty rest) ≡ false → length all + 1 ≡ m → fault ≡ faults.End
+      → Failed kind all rest m fault
 
 module _ (kind : WorkKind) where
   end_fails : (b : Bool) (before : List (List ℕ)) (s : Sketch) (rest : List ℕ) (n m : ℕ) (fault : SceneError) (end : Fault) → end ≡ (n, faults.End)
