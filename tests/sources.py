@@ -179,6 +179,8 @@ def exported_of(crate):
     found = set()
     for words in re.findall(r"pub use ([^;]+);", text_of(sources["lib"])):
         found |= set(re.findall(r"\w+", words.split("::", 1)[1]))
+    for module in re.findall(r"pub mod (\w+);", text_of(sources["lib"])):
+        found |= set(re.findall(r"\bpub (?:fn|struct|enum|trait) (\w+)", text_of(sources[module])))
     return found
 
 

@@ -1,6 +1,6 @@
 -- Values and places are fields.
-use Rattle.std.proofs.Common.{◌≡◌, ℕ, ℤ, ◌^◌, ◌<◌, ◌≤◌, Bool, true, false, cond, eqb, List, [], ◌∷◌, ◌++◌, length, Result, Ok, Err, refl, sym, ap, subst, ◌∙◌}
-use Rattle.std.proofs.Common.{arith}
+use Rattle.std.proofs.Common.{◌≡◌, ℕ, ℤ, ◌^◌, ◌<◌, ◌≤◌, Bool, true, false, cond, eqb, List, []}
+use Rattle.std.proofs.Common.{◌∷◌, ◌++◌, length, Result, Ok, Err, refl, sym, ap, subst, ◌∙◌, arith}
 use Rattle.std.specs.List.{list_all}
 use Rattle.std.specs.Int.{w64, to_be_bytes, cast_signed, cast_unsigned}
 use Rattle.std.specs.Int.RustNames.{FitsSigned}
@@ -16,18 +16,18 @@ use Rattle.kt_tuple.specs.declared.template.Place.TheVariants.{Actual, Formal}
 use Rattle.kt_tuple.specs.Reading.{is_printable}
 use Rattle.kt_tuple.specs.Text.{IsText}
 use Rattle.kt_tuple.specs.Valid.{IsValue, IsPlace}
-use Rattle.kt_tuple.proofs.Strings.{are_printable, all_printable}
+use Rattle.kt_tuple.proofs.Shared.{are_printable, all_printable}
 use Rattle.kt_ckpt.specs.declared.error.CkptError.{CkptError}
 use Rattle.kt_ckpt.specs.declared.error.CkptError.TheVariants.{Field}
 use Rattle.kt_ckpt.specs.Limits.{max_characters, int_code, str_code, int_formal_code, str_formal_code}
 use Rattle.kt_ckpt.specs.Reading.{◌>>=◌, made, bytes_at, byte_within}
-use Rattle.kt_ckpt.specs.Value.{value_code, behind_value_code, value_bytes, place_code, behind_place_code, place_bytes, int_at, printed, str_at, value_behind}
-use Rattle.kt_ckpt.specs.Value.{value_at, place_behind, place_at}
+use Rattle.kt_ckpt.specs.Value.{value_code, behind_value_code, value_bytes, place_code, behind_place_code}
+use Rattle.kt_ckpt.specs.Value.{place_bytes, int_at, printed, str_at, value_behind, value_at, place_behind, place_at}
 use Rattle.kt_ckpt.proofs.Field.{IsBytes, Takes, Takes-then, Continues, IsField, Lasts, the_ok, pair_of_ok, bind_ok}
-use Rattle.kt_ckpt.proofs.Combined.{known, known_lasts, fault, refused, refused_lasts, same_field, either, either_lasts, behind, behind_lasts, made_field}
-use Rattle.kt_ckpt.proofs.Combined.{made_lasts}
-use Rattle.kt_ckpt.proofs.Primitive.{byte_field, byte_lasts, byte_within_field, byte_within_lasts, wide64, number_field, number_lasts, front_takes}
-use Rattle.kt_ckpt.proofs.Primitive.{front_again, front_lasts, front_len}
+use Rattle.kt_ckpt.proofs.Combined.{known, known_lasts, fault, refused, refused_lasts, same_field}
+use Rattle.kt_ckpt.proofs.Combined.{either, either_lasts, behind, behind_lasts, made_field, made_lasts}
+use Rattle.kt_ckpt.proofs.Primitive.{byte_field, byte_lasts, byte_within_field, byte_within_lasts, wide64}
+use Rattle.kt_ckpt.proofs.Primitive.{number_field, number_lasts, front_takes, front_again, front_lasts, front_len}
 
 -- ---- ints
 

@@ -1,23 +1,28 @@
 -- What one more note changes of survival.
-use Rattle.std.proofs.Common.{◌≡◌, ◌≢◌, ℕ, suc, ◌+◌, ◌-◌, ◌<◌, ◌≤◌, ◌==◌, ◌&&◌, ◌||◌, not, Bool, true, false, List, [], ◌∷◌, ◌++◌, take, drop, length, Option, Some, refl, sym, ap, ◌∙◌, subst, ◌⊎◌, inl, inr, arith, Contains}
+use Rattle.std.proofs.Common.{◌≡◌, ◌≢◌, ℕ, suc, ◌+◌, ◌-◌, ◌<◌, ◌≤◌, ◌==◌, ◌&&◌, ◌||◌, not, Bool, true, false, List, [], ◌∷◌}
+use Rattle.std.proofs.Common.{◌++◌, take, drop, length, Option, Some, refl, sym, ap, ◌∙◌, subst, ◌⊎◌, inl, inr, arith, Contains}
 use Rattle.std.specs.List.{slice_get, list_any}
 use Rattle.std.proofs.lemmas.List.{take-append-drop}
 use Rattle.std.proofs.lemmas.List.Elements.{Contains-append_left, Contains-append_cases, Contains-push, Contains-push_cases}
-use Rattle.std.proofs.lemmas.Bool.{and_parts, and_from, or_cases, or_left, or_right, cases_Bool, cases_eq, cases_lt, eqb-true, eq-eqb, false≢true, not-true, not_from_false}
+use Rattle.std.proofs.lemmas.Bool.{and_parts, and_from, or_cases, or_left, or_right, cases_Bool, cases_eq}
+use Rattle.std.proofs.lemmas.Bool.{cases_lt, eqb-true, eq-eqb, false≢true, not-true, not_from_false}
 use Rattle.std.proofs.lemmas.Option.{slice_get_within, slice_get-get_or, same_Some}
 use Rattle.kt_tuple.specs.declared.node.NodeId.{NodeId}
 use Rattle.kt_history.specs.declared.note.Act.{Act}
 use Rattle.kt_history.specs.declared.note.Note.{Note}
 use Rattle.kt_history.specs.declared.note.Note.TheVariants as notes
-use Rattle.kt_history.specs.Line.{note_at, before, IsAct, same_node, line}
+use Rattle.kt_history.specs.Line.{note_at, before, IsAct, same_node, line, last_of}
 use Rattle.kt_history.specs.Past.{StoodBefore, itself, in_line, by_cause}
 use Rattle.kt_history.specs.WellFormed.{MayFollow, CausesComeFirst}
 use Rattle.kt_history.specs.Survival.{Stands, Survives, note_stands, survives}
-use Rattle.kt_history.specs.Marks.{last_of, lasts}
-use Rattle.kt_history.proofs.Lists.{slice_get-take, slice_get-take_below, slice_get-drop, slice_get-from_Contains, Contains-from_slice_get, Contains-from_take, list_any-from_Contains, Contains-from_list_any}
-use Rattle.kt_history.proofs.Lines.{same_node-true, line-own, line-stack, line-rises, line-own_act, line-own_cut, line-other_act, line-other_cut, note_at-old, note_at-new, note_at-within, note_before, before-old, before-new, before-before}
+use Rattle.kt_history.specs.inner.Marks.{lasts}
+use Rattle.kt_history.proofs.Lists.{slice_get-take, slice_get-take_below, slice_get-drop, slice_get-from_Contains}
+use Rattle.kt_history.proofs.Lists.{Contains-from_slice_get, Contains-from_take, list_any-from_Contains, Contains-from_list_any}
+use Rattle.kt_history.proofs.Lines.{same_node-true, line-own, line-stack, line-rises, line-own_act, line-own_cut, line-other_act, line-other_cut}
+use Rattle.kt_history.proofs.Lines.{note_at-old, note_at-new, note_at-within, note_before, before-old, before-new, before-before}
 use Rattle.kt_history.proofs.Pasts.{StoodBefore-act, InPast-back, InPast-old, InPast-was}
-use Rattle.kt_history.proofs.Survivors.{Stands-own, note_stands-true, Stands-from_test, survives-decides, Survives-stands, Survives-past, Survives-step, Survives-act}
+use Rattle.kt_history.proofs.Survivors.{Stands-own, note_stands-true, Stands-from_test, survives-decides}
+use Rattle.kt_history.proofs.Survivors.{Survives-stands, Survives-past, Survives-step, Survives-act}
 
 -- two tests that are true together are one
 pub same_tests : (a b : Bool) → (a ≡ true → b ≡ true) → (b ≡ true → a ≡ true) → a ≡ b
@@ -30,7 +35,8 @@ pub last_of-is : (xs : List ℕ) (n : ℕ) → Contains xs n → slice_get xs (l
 last_of-is xs n c = slice_get-get_or xs (length xs - 1) 0 (omega (arith, c.1))
 
 -- what stood before an act is the last of its line then, or stood before that
-pub StoodBefore-last : (h : List Note) (g f : ℕ) (a : Act) → note_at h f ≡ Some (notes.Act a) → Contains (line (before h f) a.node) g → (g ≡ last_of (line (before h f) a.node)) ⊎ StoodBefore h g (last_of (line (before h f) a.node))
+pub StoodBefore-last : (h : List Note) (g f : ℕ) (a : Act) → note_at h f ≡ Some (notes.Act a) → Contains (line (before h f) a.node) g
+    → (g ≡ last_of (line (before h f) a.node)) ⊎ StoodBefore h g (last_of (line (before h f) a.node))
 StoodBefore-last h g f a e c =
     let xs = line (before h f) a.node in
     let at = slice_get-from_Contains xs g c in
@@ -43,7 +49,8 @@ StoodBefore-last h g f a e c =
       | inl early ↦
           let own = line-own (before h f) a.node (last_of xs) (Contains-from_slice_get xs (length xs - 1) (last_of xs) at_last) in
           let was = note_before h f (notes.Act a) (last_of xs) (notes.Act own.act) e own.is_act in
-          let stack = ap (λ past. line past a.node) (sym (before-before h f (last_of xs) (omega (arith, was.0)))) ∙ line-stack (before h f) a.node (length xs - 1) (last_of xs) at_last in
+          let stack = ap (λ past. line past a.node) (sym (before-before h f (last_of xs) (omega (arith, was.0))))
+          ∙ line-stack (before h f) a.node (length xs - 1) (last_of xs) at_last in
           let stood = Contains-from_slice_get (take (length xs - 1) xs) at.0 g (slice_get-take_below (length xs - 1) xs at.0 early ∙ at.1) in
           let P : List ℕ → Type 0 = λ ys. Contains ys g in
           let Q : NodeId → Type 0 = λ p. Contains (line (before h (last_of xs)) p) g in
@@ -51,7 +58,8 @@ StoodBefore-last h g f a e c =
     ]
 
 -- the last of its line then stood before an act
-pub StoodBefore-from_last : (h : List Note) (f : ℕ) (a : Act) → note_at h f ≡ Some (notes.Act a) → last_of (line (before h f) a.node) ≢ 0 → StoodBefore h (last_of (line (before h f) a.node)) f
+pub StoodBefore-from_last : (h : List Note) (f : ℕ) (a : Act) → note_at h f ≡ Some (notes.Act a) → last_of (line (before h f) a.node) ≢ 0
+    → StoodBefore h (last_of (line (before h f) a.node)) f
 StoodBefore-from_last h f a e some = record { act = a; is_act = e; stood = go (line (before h f) a.node) some } where
   go : (xs : List ℕ) → last_of xs ≢ 0 → Contains xs (last_of xs)
   go [] none = absurd (none refl)
@@ -79,7 +87,8 @@ line-positive h p e c z =
     omega (arith, z, within.0)
 
 -- an act survives just where it stands, and the act before it in its line and its cause survive
-pub survives-by_previous : (h : List Note) → CausesComeFirst h → (n : ℕ) (a : Act) → note_at h n ≡ Some (notes.Act a) → survives h n ≡ (note_stands h n (Some (notes.Act a)) && (lasts h (last_of (line (before h n) a.node)) && lasts h a.by))
+pub survives-by_previous : (h : List Note) → CausesComeFirst h → (n : ℕ) (a : Act) → note_at h n ≡ Some (notes.Act a)
+    → survives h n ≡ (note_stands h n (Some (notes.Act a)) && (lasts h (last_of (line (before h n) a.node)) && lasts h a.by))
 survives-by_previous h w n a e = same_tests _ _ there back where
   previous : ℕ
   previous = last_of (line (before h n) a.node)
@@ -123,7 +132,9 @@ survives-by_previous h w n a e = same_tests _ _ there back where
       Survives-from_lasts h w g at.0 at.1))
 
 -- where the acts up to n stand as before, n survives as before
-pub survives-kept : (h : List Note) (x : Note) → CausesComeFirst h → CausesComeFirst (h ++ x ∷ []) → (n : ℕ) → n ≤ length h → ((e : ℕ) → e ≤ n → Stands h e → Stands (h ++ x ∷ []) e) → ((e : ℕ) → e ≤ n → Stands (h ++ x ∷ []) e → Stands h e) → survives (h ++ x ∷ []) n ≡ survives h n
+pub survives-kept : (h : List Note) (x : Note) → CausesComeFirst h → CausesComeFirst (h ++ x ∷ []) → (n : ℕ) → n ≤ length h
+    → ((e : ℕ) → e ≤ n → Stands h e → Stands (h ++ x ∷ []) e) → ((e : ℕ) → e ≤ n → Stands (h ++ x ∷ []) e → Stands h e)
+    → survives (h ++ x ∷ []) n ≡ survives h n
 survives-kept h x w w' n le stays was = same_tests _ _
     (λ t.
     let s = (survives-decides (h ++ x ∷ []) w' n).0 t in
@@ -138,7 +149,8 @@ survives-kept h x w w' n le stays was = same_tests _ _
     s e old (λ stands. lost (stays e (InPast-back h w e act old).0 stands))))
 
 -- where what stands stood before, what survives survived before
-pub survives-fewer : (h : List Note) (x : Note) → CausesComeFirst h → CausesComeFirst (h ++ x ∷ []) → (n : ℕ) → n ≤ length h → ((e : ℕ) → e ≤ n → Stands (h ++ x ∷ []) e → Stands h e) → survives (h ++ x ∷ []) n ≡ true → survives h n ≡ true
+pub survives-fewer : (h : List Note) (x : Note) → CausesComeFirst h → CausesComeFirst (h ++ x ∷ []) → (n : ℕ) → n ≤ length h
+    → ((e : ℕ) → e ≤ n → Stands (h ++ x ∷ []) e → Stands h e) → survives (h ++ x ∷ []) n ≡ true → survives h n ≡ true
 survives-fewer h x w w' n le was t =
     let s = (survives-decides (h ++ x ∷ []) w' n).0 t in
     let a = Survives-act (h ++ x ∷ []) w' n s in
@@ -168,11 +180,13 @@ Stands-act_was h a e le s = (s.0, go (cases_Bool (same_node a.node s.0))) where
   go (inr other) = let Q : List ℕ → Type 0 = λ xs. Contains xs e in subst Q (line-other_act h a s.0 other) s.1
 
 -- an act more changes nothing of the survival of those before it
-pub survives-act_old : (h : List Note) (a : Act) → CausesComeFirst h → CausesComeFirst (h ++ notes.Act a ∷ []) → (n : ℕ) → n ≤ length h → survives (h ++ notes.Act a ∷ []) n ≡ survives h n
+pub survives-act_old : (h : List Note) (a : Act) → CausesComeFirst h → CausesComeFirst (h ++ notes.Act a ∷ []) → (n : ℕ) → n ≤ length h
+    → survives (h ++ notes.Act a ∷ []) n ≡ survives h n
 survives-act_old h a w w' n le =
     survives-kept h (notes.Act a) w w' n le (λ e below s. Stands-act_old h a e s) (λ e below s. Stands-act_was h a e (omega (arith, below, le)) s)
 
-pub lasts-act_old : (h : List Note) (a : Act) → CausesComeFirst h → CausesComeFirst (h ++ notes.Act a ∷ []) → (n : ℕ) → n ≤ length h → lasts (h ++ notes.Act a ∷ []) n ≡ lasts h n
+pub lasts-act_old : (h : List Note) (a : Act) → CausesComeFirst h → CausesComeFirst (h ++ notes.Act a ∷ []) → (n : ℕ) → n ≤ length h
+    → lasts (h ++ notes.Act a ∷ []) n ≡ lasts h n
 lasts-act_old h a w w' n le = ap (λ b. n == 0 || b) (survives-act_old h a w w' n le)
 
 -- a line's last number is a note's, or 0
@@ -194,7 +208,8 @@ cause_within h a m = elim (cases_eq a.by 0) [
 ]
 
 -- a new act survives just where the last of its line and its cause do
-pub survives-act_new : (h : List Note) (a : Act) → CausesComeFirst h → CausesComeFirst (h ++ notes.Act a ∷ []) → MayFollow h (notes.Act a) → survives (h ++ notes.Act a ∷ []) (suc (length h)) ≡ (lasts h (last_of (line h a.node)) && lasts h a.by)
+pub survives-act_new : (h : List Note) (a : Act) → CausesComeFirst h → CausesComeFirst (h ++ notes.Act a ∷ []) → MayFollow h (notes.Act a)
+    → survives (h ++ notes.Act a ∷ []) (suc (length h)) ≡ (lasts h (last_of (line h a.node)) && lasts h a.by)
 survives-act_new h a w w' m =
     let g = h ++ notes.Act a ∷ [] in
     let n = suc (length h) in
@@ -224,7 +239,8 @@ Stands-cut_stays h p keep e s kept = (s.0, go (cases_Bool (same_node p s.0))) wh
   go (inl own) =
       let P : NodeId → Type 0 = λ q. Contains (line h q) e → Contains (line (h ++ notes.Cut p keep ∷ []) q) e in
       let Q : List ℕ → Type 0 = λ xs. Contains xs e in
-      subst P (same_node-true p s.0 own) (λ c. elim (Contains-append_cases (take keep (line h p)) (drop keep (line h p)) e (subst Q (sym (take-append-drop keep (line h p))) c)) [
+      subst P (same_node-true p s.0 own)
+      (λ c. elim (Contains-append_cases (take keep (line h p)) (drop keep (line h p)) e (subst Q (sym (take-append-drop keep (line h p))) c)) [
         | inl front ↦ subst Q (sym (line-own_cut h p keep)) front
         | inr gone ↦ absurd (kept gone)
       ]) s.1
@@ -247,7 +263,10 @@ Stands-cut_gone h p keep e gone s =
     omega (arith, lt)
 
 -- after a cut an act survives just where it did, was not cut off, and the act before it and its cause survive
-pub survives-cut : (h : List Note) (p : NodeId) (keep : ℕ) → CausesComeFirst h → CausesComeFirst (h ++ notes.Cut p keep ∷ []) → (n : ℕ) (a : Act) → note_at h n ≡ Some (notes.Act a) → survives (h ++ notes.Cut p keep ∷ []) n ≡ ((survives h n && not (list_any (λ m. m == n) (drop keep (line h p)))) && (lasts (h ++ notes.Cut p keep ∷ []) (last_of (line (before h n) a.node)) && lasts (h ++ notes.Cut p keep ∷ []) a.by))
+pub survives-cut : (h : List Note) (p : NodeId) (keep : ℕ) → CausesComeFirst h → CausesComeFirst (h ++ notes.Cut p keep ∷ []) → (n : ℕ) (a : Act)
+    → note_at h n ≡ Some (notes.Act a) → survives (h ++ notes.Cut p keep ∷ []) n
+    ≡ ((survives h n && not (list_any (λ m. m == n) (drop keep (line h p))))
+    && (lasts (h ++ notes.Cut p keep ∷ []) (last_of (line (before h n) a.node)) && lasts (h ++ notes.Cut p keep ∷ []) a.by))
 survives-cut h p keep w w' n a e = same_tests _ _ there back where
   le : n ≤ length h
   le = (note_at-within h n (notes.Act a) e).1
@@ -255,12 +274,18 @@ survives-cut h p keep w w' n a e = same_tests _ _ there back where
   at : note_at (h ++ notes.Cut p keep ∷ []) n ≡ Some (notes.Act a)
   at = note_at-old h (notes.Cut p keep ∷ []) n le ∙ e
 
-  by_parts : survives (h ++ notes.Cut p keep ∷ []) n ≡ (note_stands (h ++ notes.Cut p keep ∷ []) n (Some (notes.Act a)) && (lasts (h ++ notes.Cut p keep ∷ []) (last_of (line (before h n) a.node)) && lasts (h ++ notes.Cut p keep ∷ []) a.by))
+  by_parts : survives (h ++ notes.Cut p keep ∷ []) n
+      ≡ (note_stands (h ++ notes.Cut p keep ∷ []) n (Some (notes.Act a))
+      && (lasts (h ++ notes.Cut p keep ∷ []) (last_of (line (before h n) a.node)) && lasts (h ++ notes.Cut p keep ∷ []) a.by))
   by_parts =
       survives-by_previous (h ++ notes.Cut p keep ∷ []) w' n a at
-      ∙ ap (λ past. note_stands (h ++ notes.Cut p keep ∷ []) n (Some (notes.Act a)) && (lasts (h ++ notes.Cut p keep ∷ []) (last_of (line past a.node)) && lasts (h ++ notes.Cut p keep ∷ []) a.by)) (before-old h (notes.Cut p keep ∷ []) n (omega (arith, le)))
+      ∙ ap (λ past. note_stands (h ++ notes.Cut p keep ∷ []) n (Some (notes.Act a))
+      && (lasts (h ++ notes.Cut p keep ∷ []) (last_of (line past a.node)) && lasts (h ++ notes.Cut p keep ∷ []) a.by))
+      (before-old h (notes.Cut p keep ∷ []) n (omega (arith, le)))
 
-  there : survives (h ++ notes.Cut p keep ∷ []) n ≡ true → ((survives h n && not (list_any (λ m. m == n) (drop keep (line h p)))) && (lasts (h ++ notes.Cut p keep ∷ []) (last_of (line (before h n) a.node)) && lasts (h ++ notes.Cut p keep ∷ []) a.by)) ≡ true
+  there : survives (h ++ notes.Cut p keep ∷ []) n ≡ true
+      → ((survives h n && not (list_any (λ m. m == n) (drop keep (line h p))))
+      && (lasts (h ++ notes.Cut p keep ∷ []) (last_of (line (before h n) a.node)) && lasts (h ++ notes.Cut p keep ∷ []) a.by)) ≡ true
   there t =
       let stands = Survives-stands (h ++ notes.Cut p keep ∷ []) w' n n ((survives-decides (h ++ notes.Cut p keep ∷ []) w' n).0 t) itself in
       let here : not (list_any (λ m. m == n) (drop keep (line h p))) ≡ true = elim (cases_Bool (list_any (λ m. m == n) (drop keep (line h p)))) [
@@ -269,9 +294,12 @@ survives-cut h p keep w w' n a e = same_tests _ _ there back where
       ] in
       and_from _ _
       (and_from _ _ (survives-fewer h (notes.Cut p keep) w w' n le (λ d below s. Stands-cut_was h p keep d s) t) here)
-      (and_parts (note_stands (h ++ notes.Cut p keep ∷ []) n (Some (notes.Act a))) (lasts (h ++ notes.Cut p keep ∷ []) (last_of (line (before h n) a.node)) && lasts (h ++ notes.Cut p keep ∷ []) a.by) (sym by_parts ∙ t)).1
+      (and_parts (note_stands (h ++ notes.Cut p keep ∷ []) n (Some (notes.Act a)))
+      (lasts (h ++ notes.Cut p keep ∷ []) (last_of (line (before h n) a.node)) && lasts (h ++ notes.Cut p keep ∷ []) a.by) (sym by_parts ∙ t)).1
 
-  back : ((survives h n && not (list_any (λ m. m == n) (drop keep (line h p)))) && (lasts (h ++ notes.Cut p keep ∷ []) (last_of (line (before h n) a.node)) && lasts (h ++ notes.Cut p keep ∷ []) a.by)) ≡ true → survives (h ++ notes.Cut p keep ∷ []) n ≡ true
+  back : ((survives h n && not (list_any (λ m. m == n) (drop keep (line h p))))
+      && (lasts (h ++ notes.Cut p keep ∷ []) (last_of (line (before h n) a.node)) && lasts (h ++ notes.Cut p keep ∷ []) a.by)) ≡ true
+      → survives (h ++ notes.Cut p keep ∷ []) n ≡ true
   back t =
       let parts = and_parts _ _ t in
       let lives = and_parts _ _ parts.0 in
@@ -281,14 +309,16 @@ survives-cut h p keep w w' n a e = same_tests _ _ there back where
       by_parts ∙ and_from _ _ (subst P at (note_stands-true (h ++ notes.Cut p keep ∷ []) n stands)) parts.1
 
 -- a cut changes nothing of what came before all that it takes out
-pub survives-cut_before : (h : List Note) (p : NodeId) (keep : ℕ) → CausesComeFirst h → CausesComeFirst (h ++ notes.Cut p keep ∷ []) → (n : ℕ) → n ≤ length h → ((e : ℕ) → Contains (drop keep (line h p)) e → n < e) → survives (h ++ notes.Cut p keep ∷ []) n ≡ survives h n
+pub survives-cut_before : (h : List Note) (p : NodeId) (keep : ℕ) → CausesComeFirst h → CausesComeFirst (h ++ notes.Cut p keep ∷ []) → (n : ℕ) → n ≤ length h
+    → ((e : ℕ) → Contains (drop keep (line h p)) e → n < e) → survives (h ++ notes.Cut p keep ∷ []) n ≡ survives h n
 survives-cut_before h p keep w w' n le behind =
     survives-kept h (notes.Cut p keep) w w' n le
     (λ e below s. Stands-cut_stays h p keep e s (λ c. let far : n < e = behind e c in omega (arith, far, below)))
     (λ e below s. Stands-cut_was h p keep e s)
 
 -- behind the keep of a cut stand numbers from the first of them on
-pub drop-line-from_first : (h : List Note) (p : NodeId) (keep first e : ℕ) → slice_get (line h p) keep ≡ Some first → Contains (drop keep (line h p)) e → first ≤ e
+pub drop-line-from_first : (h : List Note) (p : NodeId) (keep first e : ℕ) → slice_get (line h p) keep ≡ Some first → Contains (drop keep (line h p)) e
+    → first ≤ e
 drop-line-from_first h p keep first e at gone =
     let far = slice_get-from_Contains (drop keep (line h p)) e gone in
     let at_far = sym (slice_get-drop keep (line h p) far.0) ∙ far.1 in

@@ -1,5 +1,6 @@
 -- A closed choice of acts is, of each node's acts, a front of its line.
-use Rattle.std.proofs.Common.{◌≡◌, ℕ, zero, suc, ◌+◌, ◌<◌, ◌≤◌, Bool, true, false, cond, List, [], ◌∷◌, ◌++◌, take, length, Some, refl, sym, ap, ◌∙◌, subst, inl, inr, arith, Contains, add-zero}
+use Rattle.std.proofs.Common.{◌≡◌, ℕ, zero, suc, ◌+◌, ◌<◌, ◌≤◌, Bool, true, false, cond, List, [], ◌∷◌, ◌++◌}
+use Rattle.std.proofs.Common.{take, length, Some, refl, sym, ap, ◌∙◌, subst, inl, inr, arith, Contains, add-zero}
 use Rattle.std.specs.List.{slice_get, cons_option}
 use Rattle.std.proofs.lemmas.List.{append-nil, length_push}
 use Rattle.std.proofs.lemmas.List.Elements.{filter_map-append, filter-append, Contains-append_right, Contains-append_cases, Contains-push_cases}
@@ -14,8 +15,10 @@ use Rattle.kt_history.specs.Line.{note_at, before, IsAct, same_node, line}
 use Rattle.kt_history.specs.Past.{StoodBefore}
 use Rattle.kt_history.specs.Survival.{marked_from, marked_acts}
 use Rattle.kt_history.specs.Closed.{IsClosed, IsFront, act_of, acts_at, acts_in_line, own}
-use Rattle.kt_history.proofs.Lists.{snoc_ind, slice_get-append_right, slice_get-from_Contains, Contains-from_slice_get, Contains-none, Contains-here, Contains-there}
-use Rattle.kt_history.proofs.Lines.{same_node-true, same_node-refl, line-own, line-stack, line-rises, line-own_act, line-own_cut, line-other_act, line-other_cut, note_at-old, note_at-new, note_at-within}
+use Rattle.kt_history.proofs.Lists.{snoc_ind, slice_get-append_right, slice_get-from_Contains}
+use Rattle.kt_history.proofs.Lists.{Contains-from_slice_get, Contains-none, Contains-here, Contains-there}
+use Rattle.kt_history.proofs.Lines.{same_node-true, same_node-refl, line-own, line-stack, line-rises, line-own_act}
+use Rattle.kt_history.proofs.Lines.{line-own_cut, line-other_act, line-other_cut, note_at-old, note_at-new, note_at-within}
 use Rattle.kt_history.proofs.Survivors.{Stands-own}
 use Rattle.kt_history.proofs.Lists.{slice_get-take_below}
 
@@ -30,7 +33,9 @@ marked_from-append m n (notes.Act a ∷ h) g =
     let same : suc n + length h ≡ n + suc (length h) = omega arith in
     let rest = marked_from-append m (suc n) h g ∙ ap (λ k. marked_from m (suc n) h ++ marked_from m k g) same in
     go (m n) rest where
-      go : (b : Bool) → marked_from m (suc n) (h ++ g) ≡ marked_from m (suc n) h ++ marked_from m (n + suc (length h)) g → cond b (a ∷ marked_from m (suc n) (h ++ g)) (marked_from m (suc n) (h ++ g)) ≡ cond b (a ∷ marked_from m (suc n) h) (marked_from m (suc n) h) ++ marked_from m (n + suc (length h)) g
+      go : (b : Bool) → marked_from m (suc n) (h ++ g) ≡ marked_from m (suc n) h ++ marked_from m (n + suc (length h)) g
+          → cond b (a ∷ marked_from m (suc n) (h ++ g)) (marked_from m (suc n) (h ++ g)) ≡ cond b (a ∷ marked_from m (suc n) h) (marked_from m (suc n) h)
+          ++ marked_from m (n + suc (length h)) g
       go true e = ap (λ xs. a ∷ xs) e
       go false e = e
 
@@ -48,7 +53,8 @@ pub marked_acts-cut : (m : ℕ → Bool) (h : List Note) (p : NodeId) (keep : �
 unfolding marked_from
 marked_acts-cut m h p keep = marked_from-append m 1 h (notes.Cut p keep ∷ []) ∙ append-nil (marked_acts m h)
 
-pub marked_acts-marked : (m : ℕ → Bool) (h : List Note) (a : Act) → m (suc (length h)) ≡ true → marked_acts m (h ++ notes.Act a ∷ []) ≡ marked_acts m h ++ a ∷ []
+pub marked_acts-marked : (m : ℕ → Bool) (h : List Note) (a : Act) → m (suc (length h)) ≡ true
+    → marked_acts m (h ++ notes.Act a ∷ []) ≡ marked_acts m h ++ a ∷ []
 unfolding marked_from
 marked_acts-marked m h a e =
     let same : 1 + length h ≡ suc (length h) = omega arith in
@@ -66,7 +72,8 @@ marked_acts-unmarked m h a e =
     ∙ append-nil (marked_acts m h)
 
 -- of two acts in one line, the first stood before the second
-pub StoodBefore-from_line : (h : List Note) (p : NodeId) (i j e g : ℕ) → i < j → slice_get (line h p) i ≡ Some e → slice_get (line h p) j ≡ Some g → StoodBefore h e g
+pub StoodBefore-from_line : (h : List Note) (p : NodeId) (i j e g : ℕ) → i < j → slice_get (line h p) i ≡ Some e → slice_get (line h p) j ≡ Some g
+    → StoodBefore h e g
 StoodBefore-from_line h p i j e g lt at_i at_j =
     let its = line-own h p g (Contains-from_slice_get (line h p) j g at_j) in
     let at : slice_get (line (before h g) p) i ≡ Some e = ap (λ xs. slice_get xs i) (line-stack h p j g at_j) ∙ slice_get-take_below j (line h p) i lt ∙ at_i in
@@ -114,10 +121,12 @@ pub acts_in_line-own_cut : (h : List Note) (p : NodeId) (keep : ℕ) → acts_in
 acts_in_line-own_cut h p keep =
     let g = h ++ notes.Cut p keep ∷ [] in
     ap (acts_at g) (line-own_cut h p keep)
-    ∙ acts_at-take g keep (line h p) (λ n c. let its = line-own h p n c in (its.act, note_at-old h (notes.Cut p keep ∷ []) n (line_within h p n c) ∙ its.is_act))
+    ∙ acts_at-take g keep (line h p) (λ n c. let its = line-own h p n c in
+    (its.act, note_at-old h (notes.Cut p keep ∷ []) n (line_within h p n c) ∙ its.is_act))
     ∙ ap (take keep) (acts_at-old h (notes.Cut p keep ∷ []) (line h p) (line_within h p))
 
-pub acts_in_line-other_cut : (h : List Note) (q : NodeId) (keep : ℕ) (p : NodeId) → same_node q p ≡ false → acts_in_line (h ++ notes.Cut q keep ∷ []) p ≡ acts_in_line h p
+pub acts_in_line-other_cut : (h : List Note) (q : NodeId) (keep : ℕ) (p : NodeId) → same_node q p ≡ false
+    → acts_in_line (h ++ notes.Cut q keep ∷ []) p ≡ acts_in_line h p
 acts_in_line-other_cut h q keep p other =
     ap (acts_at (h ++ notes.Cut q keep ∷ [])) (line-other_cut h q keep p other) ∙ acts_at-old h (notes.Cut q keep ∷ []) (line h p) (line_within h p)
 
@@ -137,7 +146,8 @@ module _ (h : List Note) (marks : ℕ → Bool) (closed : IsClosed h marks) (p :
   in_rest g s n c = let P : List ℕ → Type 0 = λ xs. Contains xs n in subst P (sym s.split) (Contains-append_right s.front s.rest n c)
 
   -- the next note is none that is chosen for p
-  passes : (g : List Note) (x : Note) (s : IsPart h marks p g) → (Contains (line h p) (suc (length g)) → marks (suc (length g)) ≡ true → ⊥) → own p (marked_acts marks (g ++ x ∷ [])) ≡ own p (marked_acts marks g) → IsPart h marks p (g ++ x ∷ [])
+  passes : (g : List Note) (x : Note) (s : IsPart h marks p g) → (Contains (line h p) (suc (length g)) → marks (suc (length g)) ≡ true → ⊥)
+      → own p (marked_acts marks (g ++ x ∷ [])) ≡ own p (marked_acts marks g) → IsPart h marks p (g ++ x ∷ [])
   passes g x s none same = record {
     front = s.front;
     rest = s.rest;
@@ -175,8 +185,10 @@ module _ (h : List Note) (marks : ℕ → Bool) (closed : IsClosed h marks) (p :
           | inr later ↦
               let R : List ℕ → Type 0 = λ ys. slice_get ys 0 ≡ Some x in
               let head : slice_get s.rest 0 ≡ Some x = subst R (sym e) refl in
-              let at_head : slice_get (line h p) (length s.front + 0) ≡ Some x = ap (λ ys. slice_get ys (length s.front + 0)) s.split ∙ slice_get-append_right s.front s.rest 0 ∙ head in
-              let at_next : slice_get (line h p) (length s.front + at.0) ≡ Some (suc (length g)) = ap (λ ys. slice_get ys (length s.front + at.0)) s.split ∙ slice_get-append_right s.front s.rest at.0 ∙ at.1 in
+              let at_head : slice_get (line h p) (length s.front + 0) ≡ Some x =
+              ap (λ ys. slice_get ys (length s.front + 0)) s.split ∙ slice_get-append_right s.front s.rest 0 ∙ head in
+              let at_next : slice_get (line h p) (length s.front + at.0) ≡ Some (suc (length g)) =
+              ap (λ ys. slice_get ys (length s.front + at.0)) s.split ∙ slice_get-append_right s.front s.rest at.0 ∙ at.1 in
               let lt : length s.front + 0 < length s.front + at.0 = omega (arith, later) in
               let below = StoodBefore-from_line h p (length s.front + 0) (length s.front + at.0) x (suc (length g)) lt at_head at_next in
               let smaller : x < suc (length g) = line-rises h p (length s.front + 0) (length s.front + at.0) x (suc (length g)) lt at_head at_next in
@@ -184,7 +196,8 @@ module _ (h : List Note) (marks : ℕ → Bool) (closed : IsClosed h marks) (p :
               absurd (omega (arith, smaller, larger))
         ]
 
-  takes : (g : List Note) (a : Act) (s : IsPart h marks p g) → StandsNext g s → note_at h (suc (length g)) ≡ Some (notes.Act a) → marks (suc (length g)) ≡ true → same_node a.node p ≡ true → IsPart h marks p (g ++ notes.Act a ∷ [])
+  takes : (g : List Note) (a : Act) (s : IsPart h marks p g) → StandsNext g s → note_at h (suc (length g)) ≡ Some (notes.Act a) → marks (suc (length g)) ≡ true
+      → same_node a.node p ≡ true → IsPart h marks p (g ++ notes.Act a ∷ [])
   takes g a s next at m same =
       let n = suc (length g) in
       record {
@@ -214,9 +227,16 @@ module _ (h : List Note) (marks : ℕ → Bool) (closed : IsClosed h marks) (p :
             let P : List ℕ → ℕ → ℕ → Type 0 = λ xs i v. slice_get xs i ≡ Some v in
             let Q : List ℕ → Type 0 = λ xs. slice_get xs 0 ≡ Some (suc (length g)) in
             let R : List ℕ → Type 0 = λ xs. slice_get xs (suc far.0) ≡ Some k in
-            let at_n : slice_get (line h p) (length s.front + 0) ≡ Some (suc (length g)) = ap (λ ys. slice_get ys (length s.front + 0)) s.split ∙ slice_get-append_right s.front s.rest 0 ∙ subst Q (sym next.is) refl in
-            let at_k : slice_get (line h p) (length s.front + suc far.0) ≡ Some k = ap (λ ys. slice_get ys (length s.front + suc far.0)) s.split ∙ slice_get-append_right s.front s.rest (suc far.0) ∙ subst R (sym next.is) far.1 in
-            omega (arith, length_push g (notes.Act a), line-rises h p (length s.front + 0) (length s.front + suc far.0) (suc (length g)) k (omega arith) at_n at_k)
+            let at_n : slice_get (line h p) (length s.front + 0) ≡ Some (suc (length g)) =
+            ap (λ ys. slice_get ys (length s.front + 0)) s.split ∙ slice_get-append_right s.front s.rest 0 ∙ subst Q (sym next.is) refl in
+            let at_k : slice_get (line h p) (length s.front + suc far.0) ≡ Some k = ap (λ ys. slice_get ys (length s.front + suc far.0)) s.split
+            ∙ slice_get-append_right s.front s.rest (suc far.0) ∙ subst R (sym next.is) far.1 in
+            omega (
+              arith,
+              length_push g (notes.Act a),
+              line-rises h p (length s.front + 0) (length s.front + suc far.0) (suc
+                  (length g)) k (omega arith) at_n at_k,
+            )
 
   part_step : (g : List Note) (x : Note) → note_at h (suc (length g)) ≡ Some x → IsPart h marks p g → IsPart h marks p (g ++ x ∷ [])
   part_step g (notes.Cut q keep) at s =
@@ -278,7 +298,8 @@ marked_front h marks closed p =
         acts = refl;
       }
 
-      more : (g : List Note) (x : Note) → ((later : List Note) → g ++ later ≡ h → IsPart h marks p g) → (later : List Note) → g ++ x ∷ [] ++ later ≡ h → IsPart h marks p (g ++ x ∷ [])
+      more : (g : List Note) (x : Note) → ((later : List Note) → g ++ later ≡ h → IsPart h marks p g) → (later : List Note) → g ++ x ∷ [] ++ later ≡ h
+          → IsPart h marks p (g ++ x ∷ [])
       more g x ih later e =
           let at : note_at h (suc (length g)) ≡ Some x =
           ap (λ f. note_at f (suc (length g))) (sym e) ∙ note_at-old (g ++ x ∷ []) later (suc (length g)) (omega (arith, length_push g x)) ∙ note_at-new g x in

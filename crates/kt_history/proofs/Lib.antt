@@ -7,6 +7,10 @@ pub mod Fronts
 pub mod MarkSteps
 pub mod RowSteps
 pub mod Keeping
+pub mod Counts
+pub mod KeepingActs
+pub mod KeepingCuts
 pub mod Runs
 pub mod Sense
 pub mod Room
+pub mod Shared

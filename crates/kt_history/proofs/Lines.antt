@@ -1,5 +1,6 @@
 -- How a line grows, and what stands in it.
-use Rattle.std.proofs.Common.{◌≡◌, ℕ, zero, suc, ◌+◌, ◌<◌, ◌≤◌, true, false, List, [], ◌∷◌, ◌++◌, take, length, Some, refl, sym, ap, ◌∙◌, subst, ◌⊎◌, inl, inr, arith, Contains, add-zero}
+use Rattle.std.proofs.Common.{◌≡◌, ℕ, zero, suc, ◌+◌, ◌<◌, ◌≤◌, true, false, List, [], ◌∷◌, ◌++◌, take, length}
+use Rattle.std.proofs.Common.{Some, refl, sym, ap, ◌∙◌, subst, ◌⊎◌, inl, inr, arith, Contains, add-zero}
 use Rattle.std.specs.List.{slice_get}
 use Rattle.std.proofs.lemmas.List.{take-append-le, take_at, take-take, length-take-le}
 use Rattle.std.proofs.lemmas.List.Elements.{Contains-push_cases}
@@ -11,8 +12,9 @@ use Rattle.kt_history.specs.declared.note.Act.{Act}
 use Rattle.kt_history.specs.declared.note.Note.{Note}
 use Rattle.kt_history.specs.declared.note.Note.TheVariants as notes
 use Rattle.kt_history.specs.Line.{note_at, before, same_node, line_step, line_from, line}
-use Rattle.kt_tuple.proofs.Nodes.{node_index-injective}
-use Rattle.kt_history.proofs.Lists.{snoc_ind, slice_get-append_left, slice_get-push, slice_get-push_cases, slice_get-take, slice_get-take_below, Contains-from_slice_get, Contains-from_take, Contains-none}
+use Rattle.kt_tuple.proofs.Shared.{node_index-injective}
+use Rattle.kt_history.proofs.Lists.{snoc_ind, slice_get-append_left, slice_get-push, slice_get-push_cases, slice_get-take}
+use Rattle.kt_history.proofs.Lists.{slice_get-take_below, Contains-from_slice_get, Contains-from_take, Contains-none}
 
 pub same_node-true : (p q : NodeId) → same_node p q ≡ true → p ≡ q
 same_node-true p q e = node_index-injective p q (eqb-true (node_index p) (node_index q) e)
@@ -72,7 +74,8 @@ note_at-within h zero note e = absurd (none-some note e)
 note_at-within h (suc n) note e = let lt = slice_get_within h n note e in (omega arith, omega (arith, lt))
 
 -- a note of a history with one more is an old one or the new one
-pub note_at-push_cases : (h : List Note) (x : Note) (n : ℕ) (note : Note) → note_at (h ++ x ∷ []) n ≡ Some note → ((n ≤ length h) × (note_at h n ≡ Some note)) ⊎ ((n ≡ suc (length h)) × (x ≡ note))
+pub note_at-push_cases : (h : List Note) (x : Note) (n : ℕ) (note : Note) → note_at (h ++ x ∷ []) n ≡ Some note → ((n ≤ length h) × (note_at h n ≡ Some note))
+    ⊎ ((n ≡ suc (length h)) × (x ≡ note))
 note_at-push_cases h x zero note e = absurd (none-some note e)
 note_at-push_cases h x (suc n) note e = elim (slice_get-push_cases h x n note e) [
   | inl c ↦ inl (omega (arith, c.0), c.1)
@@ -140,44 +143,47 @@ line-own h p e = snoc_ind (λ g. Contains (line g p) e → IsOwnAct g p e) (λ c
 
 -- a line is a stack: what stood before an act when it was appended is what stands before it
 pub line-stack : (h : List Note) (p : NodeId) (i e : ℕ) → slice_get (line h p) i ≡ Some e → line (before h e) p ≡ take i (line h p)
-line-stack h p i e = snoc_ind (λ g. slice_get (line g p) i ≡ Some e → line (before g e) p ≡ take i (line g p)) (λ c. absurd (none-some e (rw line-empty at c))) (λ g x ih. step g x ih) h where
-  kept : (g : List Note) (x : Note) → (slice_get (line g p) i ≡ Some e → line (before g e) p ≡ take i (line g p)) → (at : slice_get (line g p) i ≡ Some e) → line (before (g ++ x ∷ []) e) p ≡ take i (line g p)
-  kept g x ih at =
-      let own = line-own g p e (Contains-from_slice_get (line g p) i e at) in
-      let le = (note_at-within g e (notes.Act own.act) own.is_act).1 in
-      ap (λ f. line f p) (before-old g (x ∷ []) e (omega (arith, le))) ∙ ih at
+line-stack h p i e = snoc_ind (λ g. slice_get (line g p) i ≡ Some e → line (before g e) p ≡ take i (line g p)) (λ c. absurd (none-some e (rw line-empty at c)))
+    (λ g x ih. step g x ih) h where
+      kept : (g : List Note) (x : Note) → (slice_get (line g p) i ≡ Some e → line (before g e) p ≡ take i (line g p)) → (at : slice_get (line g p) i ≡ Some e)
+          → line (before (g ++ x ∷ []) e) p ≡ take i (line g p)
+      kept g x ih at =
+          let own = line-own g p e (Contains-from_slice_get (line g p) i e at) in
+          let le = (note_at-within g e (notes.Act own.act) own.is_act).1 in
+          ap (λ f. line f p) (before-old g (x ∷ []) e (omega (arith, le))) ∙ ih at
 
-  step : (g : List Note) (x : Note) → (slice_get (line g p) i ≡ Some e → line (before g e) p ≡ take i (line g p)) → slice_get (line (g ++ x ∷ []) p) i ≡ Some e → line (before (g ++ x ∷ []) e) p ≡ take i (line (g ++ x ∷ []) p)
-  step g (notes.Act a) ih at = elim (cases_Bool (same_node a.node p)) [
-    | inl own_node ↦
-        let same = same_node-true a.node p own_node in
-        let P : NodeId → Type 0 = λ q. line (g ++ notes.Act a ∷ []) q ≡ line g q ++ suc (length g) ∷ [] in
-        let grown : P p = subst P same (line-own_act g a) in
-        let Q : List ℕ → Type 0 = λ xs. slice_get xs i ≡ Some e in
-        elim (slice_get-push_cases (line g p) (suc (length g)) i e (subst Q grown at)) [
-          | inl old ↦
-              kept g (notes.Act a) ih old.1 ∙ sym (take-append-le i (line g p) (suc (length g) ∷ []) (omega (arith, old.0))) ∙ ap (take i) (sym grown)
-          | inr new ↦
-              let R : ℕ → Type 0 = λ n. line (before (g ++ notes.Act a ∷ []) n) p ≡ line g p in
-              let here : R e = subst R new.1 (ap (λ f. line f p) (before-new g (notes.Act a))) in
-              here ∙ sym (take_at (line g p) (suc (length g) ∷ []) i (sym new.0)) ∙ ap (take i) (sym grown)
-        ]
-    | inr other ↦
-        let Q : List ℕ → Type 0 = λ xs. slice_get xs i ≡ Some e in
-        kept g (notes.Act a) ih (subst Q (line-other_act g a p other) at) ∙ ap (take i) (sym (line-other_act g a p other))
-  ]
-  step g (notes.Cut q keep) ih at = elim (cases_Bool (same_node q p)) [
-    | inl own_node ↦
-        let same = same_node-true q p own_node in
-        let P : NodeId → Type 0 = λ r. line (g ++ notes.Cut q keep ∷ []) r ≡ take keep (line g r) in
-        let cut : P p = subst P same (line-own_cut g q keep) in
-        let Q : List ℕ → Type 0 = λ xs. slice_get xs i ≡ Some e in
-        let was = slice_get-take keep (line g p) i e (subst Q cut at) in
-        kept g (notes.Cut q keep) ih was.1 ∙ sym (take-take i keep (line g p) (omega (arith, was.0))) ∙ ap (take i) (sym cut)
-    | inr other ↦
-        let Q : List ℕ → Type 0 = λ xs. slice_get xs i ≡ Some e in
-        kept g (notes.Cut q keep) ih (subst Q (line-other_cut g q keep p other) at) ∙ ap (take i) (sym (line-other_cut g q keep p other))
-  ]
+      step : (g : List Note) (x : Note) → (slice_get (line g p) i ≡ Some e → line (before g e) p ≡ take i (line g p)) → slice_get (line (g ++ x ∷ []) p) i ≡ Some e
+          → line (before (g ++ x ∷ []) e) p ≡ take i (line (g ++ x ∷ []) p)
+      step g (notes.Act a) ih at = elim (cases_Bool (same_node a.node p)) [
+        | inl own_node ↦
+            let same = same_node-true a.node p own_node in
+            let P : NodeId → Type 0 = λ q. line (g ++ notes.Act a ∷ []) q ≡ line g q ++ suc (length g) ∷ [] in
+            let grown : P p = subst P same (line-own_act g a) in
+            let Q : List ℕ → Type 0 = λ xs. slice_get xs i ≡ Some e in
+            elim (slice_get-push_cases (line g p) (suc (length g)) i e (subst Q grown at)) [
+              | inl old ↦
+                  kept g (notes.Act a) ih old.1 ∙ sym (take-append-le i (line g p) (suc (length g) ∷ []) (omega (arith, old.0))) ∙ ap (take i) (sym grown)
+              | inr new ↦
+                  let R : ℕ → Type 0 = λ n. line (before (g ++ notes.Act a ∷ []) n) p ≡ line g p in
+                  let here : R e = subst R new.1 (ap (λ f. line f p) (before-new g (notes.Act a))) in
+                  here ∙ sym (take_at (line g p) (suc (length g) ∷ []) i (sym new.0)) ∙ ap (take i) (sym grown)
+            ]
+        | inr other ↦
+            let Q : List ℕ → Type 0 = λ xs. slice_get xs i ≡ Some e in
+            kept g (notes.Act a) ih (subst Q (line-other_act g a p other) at) ∙ ap (take i) (sym (line-other_act g a p other))
+      ]
+      step g (notes.Cut q keep) ih at = elim (cases_Bool (same_node q p)) [
+        | inl own_node ↦
+            let same = same_node-true q p own_node in
+            let P : NodeId → Type 0 = λ r. line (g ++ notes.Cut q keep ∷ []) r ≡ take keep (line g r) in
+            let cut : P p = subst P same (line-own_cut g q keep) in
+            let Q : List ℕ → Type 0 = λ xs. slice_get xs i ≡ Some e in
+            let was = slice_get-take keep (line g p) i e (subst Q cut at) in
+            kept g (notes.Cut q keep) ih was.1 ∙ sym (take-take i keep (line g p) (omega (arith, was.0))) ∙ ap (take i) (sym cut)
+        | inr other ↦
+            let Q : List ℕ → Type 0 = λ xs. slice_get xs i ≡ Some e in
+            kept g (notes.Cut q keep) ih (subst Q (line-other_cut g q keep p other) at) ∙ ap (take i) (sym (line-other_cut g q keep p other))
+      ]
 
 -- just so many notes stand before a note as its number says
 pub length-before_note : (h : List Note) (n : ℕ) (note : Note) → note_at h n ≡ Some note → suc (length (before h n)) ≡ n
@@ -186,7 +192,8 @@ length-before_note h n note e =
     elim (length-before h n (omega (arith, bounds))) [ inl same ↦ same | inr none ↦ absurd (omega (arith, bounds)) ]
 
 -- a note before a note has a smaller number, and is a note of the whole history
-pub note_before : (h : List Note) (n : ℕ) (note : Note) (m : ℕ) (x : Note) → note_at h n ≡ Some note → note_at (before h n) m ≡ Some x → (m < n) × (note_at h m ≡ Some x)
+pub note_before : (h : List Note) (n : ℕ) (note : Note) (m : ℕ) (x : Note) → note_at h n ≡ Some note → note_at (before h n) m ≡ Some x → (m < n)
+    × (note_at h m ≡ Some x)
 note_before h n note m x e at =
     let lt : m < n = omega (arith, note_at-within (before h n) m x at, length-before_note h n note e) in
     (lt, sym (note_at-before h n m lt) ∙ at)

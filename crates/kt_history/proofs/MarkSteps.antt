@@ -1,5 +1,6 @@
 -- How marks change, one at a time.
-use Rattle.std.proofs.Common.{◌≡◌, ◌≢◌, ℕ, zero, suc, ◌+◌, ◌-◌, ◌<◌, ◌≤◌, ◌==◌, ◌&&◌, ◌||◌, not, Bool, true, false, cond, List, [], ◌∷◌, ◌++◌, take, drop, set, length, get_or, Option, None, Some, refl, sym, ap, ◌∙◌, subst, inl, inr, arith, add-zero}
+use Rattle.std.proofs.Common.{◌≡◌, ◌≢◌, ℕ, zero, suc, ◌+◌, ◌-◌, ◌<◌, ◌≤◌, ◌==◌, ◌&&◌, ◌||◌, not, Bool, true, false, cond, List, [], ◌∷◌, ◌++◌}
+use Rattle.std.proofs.Common.{take, drop, set, length, get_or, Option, None, Some, refl, sym, ap, ◌∙◌, subst, inl, inr, arith, add-zero}
 use Rattle.std.specs.List.{slice_get, list_any}
 use Rattle.std.proofs.lemmas.List.{get_or-set_same, get_or-set_other, get_or-take, length-set, length-take-le, ext_get_or, take_more, take_rest}
 use Rattle.kt_history.proofs.Lists.{Contains-from_list_any}
@@ -9,7 +10,8 @@ use Rattle.std.proofs.Math.Bool.{and-true}
 use Rattle.kt_history.specs.declared.note.Note.{Note}
 use Rattle.kt_history.specs.declared.note.Note.TheVariants as notes
 use Rattle.kt_history.specs.declared.mark.Mark.{Mark}
-use Rattle.kt_history.specs.Marks.{mark_at, no_mark, lasts_in, unmarked, renewed, LooksBack, AreMarksOf, IsRenewed, IsUnmarked, AreLost, HasLost, lost_among, is_lost}
+use Rattle.kt_history.specs.inner.Marks.{mark_at, no_mark, lasts_in, unmarked, renewed, LooksBack, AreMarksOf}
+use Rattle.kt_history.specs.inner.Marks.{IsRenewed, IsUnmarked, AreLost, HasLost, lost_among, is_lost}
 
 pub unmarked-none : (k : ℕ) (m : Mark) → unmarked [] k m ≡ m
 unmarked-none k m = ap (λ b. let n : Mark = record { previous = m.previous; survives = b } in n) (and-true m.survives)
@@ -27,7 +29,8 @@ or-false true = refl
 or-false false = refl
 
 -- one more number is lost
-pub unmarked-push : (xs : List ℕ) (n k : ℕ) (m : Mark) → unmarked (xs ++ n ∷ []) k m ≡ cond (n == suc k) (record { previous = m.previous; survives = false }) (unmarked xs k m)
+pub unmarked-push : (xs : List ℕ) (n k : ℕ) (m : Mark)
+    → unmarked (xs ++ n ∷ []) k m ≡ cond (n == suc k) (record { previous = m.previous; survives = false }) (unmarked xs k m)
 unmarked-push xs n k m = go (n == suc k) refl where
   go : (b : Bool) → (n == suc k) ≡ b → unmarked (xs ++ n ∷ []) k m ≡ cond b (record { previous = m.previous; survives = false }) (unmarked xs k m)
   go true e =
@@ -46,22 +49,28 @@ pub record UnmarkedUpTo (numbers : List ℕ) (old now : List Mark) : Type 0 wher
 pub UnmarkedUpTo-none : (marks : List Mark) → UnmarkedUpTo [] marks marks
 UnmarkedUpTo-none marks = record { lengths = refl; each = λ k lt. sym (unmarked-none k (mark_at marks k)) }
 
-pub UnmarkedUpTo-push : (numbers : List ℕ) (n : ℕ) (old now : List Mark) → UnmarkedUpTo numbers old now → 1 ≤ n → n ≤ length old → UnmarkedUpTo (numbers ++ n ∷ []) old (set now (n - 1) (record { previous = (mark_at now (n - 1)).previous; survives = false }))
+pub UnmarkedUpTo-push : (numbers : List ℕ) (n : ℕ) (old now : List Mark) → UnmarkedUpTo numbers old now → 1 ≤ n → n ≤ length old
+    → UnmarkedUpTo (numbers ++ n ∷ []) old (set now (n - 1) (record { previous = (mark_at now (n - 1)).previous; survives = false }))
 UnmarkedUpTo-push numbers n old now u low high = record {
   lengths = length-set now (n - 1) _ ∙ u.lengths;
   each = λ k lt. elim (cases_eq k (n - 1)) [
     | inl here ↦
-        let P : ℕ → Type 0 = λ i. mark_at (set now (n - 1) (record { previous = (mark_at now (n - 1)).previous; survives = false })) i ≡ unmarked (numbers ++ n ∷ []) i (mark_at old i) in
+        let P : ℕ → Type 0 = λ i. mark_at (set now (n - 1) (record { previous = (mark_at now (n - 1)).previous; survives = false })) i ≡ unmarked
+        (numbers ++ n ∷ []) i (mark_at old i) in
         let same : n ≡ suc (n - 1) = omega (arith, low) in
         let within : n - 1 < length now = omega (arith, low, high, u.lengths) in
         subst P (sym here)
         (get_or-set_same now (n - 1) (record { previous = (mark_at now (n - 1)).previous; survives = false }) no_mark within
         ∙ ap (λ (m : Mark). let x : Mark = record { previous = m.previous; survives = false } in x) (u.each (n - 1) (omega (arith, within, u.lengths)))
-        ∙ sym (unmarked-push numbers n (n - 1) (mark_at old (n - 1)) ∙ ap (λ b. cond b (let x : Mark = record { previous = (mark_at old (n - 1)).previous; survives = false } in x) (unmarked numbers (n - 1) (mark_at old (n - 1)))) (eq-eqb n (suc (n - 1)) same)))
+        ∙ sym (unmarked-push numbers n (n - 1) (mark_at old (n - 1))
+        ∙ ap (λ b. cond b (let x : Mark = record { previous = (mark_at old (n - 1)).previous; survives = false } in x)
+        (unmarked numbers (n - 1) (mark_at old (n - 1)))) (eq-eqb n (suc (n - 1)) same)))
     | inr other ↦
         get_or-set_other now (n - 1) k (record { previous = (mark_at now (n - 1)).previous; survives = false }) no_mark other
         ∙ u.each k lt
-        ∙ sym (unmarked-push numbers n k (mark_at old k) ∙ ap (λ b. cond b (let x : Mark = record { previous = (mark_at old k).previous; survives = false } in x) (unmarked numbers k (mark_at old k))) (ne_eqb n (suc k) (λ e. other (omega (arith, e)))))
+        ∙ sym (unmarked-push numbers n k (mark_at old k)
+        ∙ ap (λ b. cond b (let x : Mark = record { previous = (mark_at old k).previous; survives = false } in x) (unmarked numbers k (mark_at old k)))
+        (ne_eqb n (suc k) (λ e. other (omega (arith, e)))))
   ];
 }
 
@@ -70,12 +79,14 @@ pub lasts_in-agree : (ms ks : List Mark) (n i : ℕ) → n ≤ i → ((k : ℕ) 
 lasts_in-agree ms ks zero i le same = refl
 lasts_in-agree ms ks (suc n) i le same = ap (λ (m : Mark). m.survives) (same n (omega (arith, le)))
 
-pub renewed-agree : (o : Option Note) (m : Mark) (ms ks : List Mark) (i : ℕ) → LooksBack o i → m.previous ≤ i → ((k : ℕ) → k < i → mark_at ms k ≡ mark_at ks k) → renewed o m ms ≡ renewed o m ks
+pub renewed-agree : (o : Option Note) (m : Mark) (ms ks : List Mark) (i : ℕ) → LooksBack o i → m.previous ≤ i → ((k : ℕ) → k < i → mark_at ms k ≡ mark_at ks k)
+    → renewed o m ms ≡ renewed o m ks
 renewed-agree None m ms ks i back le same = refl
 renewed-agree (Some (notes.Cut p keep)) m ms ks i back le same = refl
 renewed-agree (Some (notes.Act a)) m ms ks i back le same =
     ap (λ b. let x : Mark = record { previous = m.previous; survives = m.survives && (b && lasts_in ms a.by) } in x) (lasts_in-agree ms ks m.previous i le same)
-    ∙ ap (λ b. let x : Mark = record { previous = m.previous; survives = m.survives && (lasts_in ks m.previous && b) } in x) (lasts_in-agree ms ks a.by i back same)
+    ∙ ap (λ b. let x : Mark = record { previous = m.previous; survives = m.survives && (lasts_in ks m.previous && b) } in x)
+    (lasts_in-agree ms ks a.by i back same)
 
 pub renewed-previous : (o : Option Note) (m : Mark) (ms : List Mark) → (renewed o m ms).previous ≡ m.previous
 renewed-previous None m ms = refl
@@ -97,14 +108,16 @@ RenewedUpTo-none h marks first m = record {
   rest = λ k le. refl;
 }
 
-pub RenewedUpTo-more : (h : List Note) (old now : List Mark) (first i : ℕ) → AreMarksOf h old → first ≤ i → i < length h → RenewedUpTo h old now first i → RenewedUpTo h old (set now i (renewed (slice_get h i) (mark_at now i) now)) first (i + 1)
+pub RenewedUpTo-more : (h : List Note) (old now : List Mark) (first i : ℕ) → AreMarksOf h old → first ≤ i → i < length h → RenewedUpTo h old now first i
+    → RenewedUpTo h old (set now i (renewed (slice_get h i) (mark_at now i) now)) first (i + 1)
 RenewedUpTo-more h old now first i was le lt r = record {
   marks_of = record {
     lengths = length-set now i _ ∙ r.marks_of.lengths;
     previous = λ k within. elim (cases_eq k i) [
       | inl here ↦
           let P : ℕ → Type 0 = λ j. (mark_at new j).previous ≤ j in
-          subst P (sym here) (omega (arith, ap (λ (m : Mark). m.previous) at_place, renewed-previous (slice_get h i) (mark_at now i) now, r.marks_of.previous i lt))
+          subst P (sym here)
+          (omega (arith, ap (λ (m : Mark). m.previous) at_place, renewed-previous (slice_get h i) (mark_at now i) now, r.marks_of.previous i lt))
       | inr other ↦ omega (arith, ap (λ (m : Mark). m.previous) (elsewhere k other), r.marks_of.previous k within)
     ];
     causes = r.marks_of.causes;
@@ -116,12 +129,14 @@ RenewedUpTo-more h old now first i was le lt r = record {
         subst P (sym here)
         (at_place
         ∙ ap (λ m. renewed (slice_get h i) m now) (r.rest i (omega arith))
-        ∙ renewed-agree (slice_get h i) (mark_at old i) now new i (was.causes i lt) (was.previous i lt) (λ j small. sym (elsewhere j (λ e. omega (arith, e, small)))))
+        ∙ renewed-agree (slice_get h i) (mark_at old i) now new i (was.causes i lt) (was.previous i lt)
+        (λ j small. sym (elsewhere j (λ e. omega (arith, e, small)))))
     | inr other ↦
         let smaller : k < i = omega (arith, high, other) in
         elsewhere k other
         ∙ r.done k low smaller
-        ∙ renewed-agree (slice_get h k) (mark_at old k) now new k (was.causes k (omega (arith, smaller, lt))) (was.previous k (omega (arith, smaller, lt))) (λ j small. sym (elsewhere j (λ e. omega (arith, e, small, smaller))))
+        ∙ renewed-agree (slice_get h k) (mark_at old k) now new k (was.causes k (omega (arith, smaller, lt))) (was.previous k (omega (arith, smaller, lt)))
+        (λ j small. sym (elsewhere j (λ e. omega (arith, e, small, smaller))))
   ];
   rest = λ k large. elsewhere k (λ e. omega (arith, e, large)) ∙ r.rest k (omega (arith, large));
 } where
@@ -134,7 +149,8 @@ RenewedUpTo-more h old now first i was le lt r = record {
   elsewhere : (k : ℕ) → k ≢ i → mark_at (set now i (renewed (slice_get h i) (mark_at now i) now)) k ≡ mark_at now k
   elsewhere k other = get_or-set_other now i k (renewed (slice_get h i) (mark_at now i) now) no_mark other
 
-pub IsRenewed-from : (h : List Note) (old now : List Mark) (first place : ℕ) → AreMarksOf h old → length h ≤ place → RenewedUpTo h old now first place → IsRenewed h old now first
+pub IsRenewed-from : (h : List Note) (old now : List Mark) (first place : ℕ) → AreMarksOf h old → length h ≤ place → RenewedUpTo h old now first place
+    → IsRenewed h old now first
 IsRenewed-from h old now first place was all r = record {
   lengths = r.marks_of.lengths ∙ sym was.lengths;
   below = r.below;
@@ -142,7 +158,8 @@ IsRenewed-from h old now first place was all r = record {
 }
 
 -- how many are lost among notes with one more
-pub lost_among-push : (xs : List Note) (ms : List Mark) (x : Note) (m : Mark) → length ms ≡ length xs → lost_among (xs ++ x ∷ []) (ms ++ m ∷ []) ≡ lost_among xs ms + cond (is_lost x m) 1 0
+pub lost_among-push : (xs : List Note) (ms : List Mark) (x : Note) (m : Mark) → length ms ≡ length xs
+    → lost_among (xs ++ x ∷ []) (ms ++ m ∷ []) ≡ lost_among xs ms + cond (is_lost x m) 1 0
 lost_among-push [] [] x m e = add-zero (cond (is_lost x m) 1 0) ∙ omega arith
 lost_among-push [] (k ∷ ms) x m e = absurd (omega (arith, e))
 lost_among-push (y ∷ xs) [] x m e = absurd (omega (arith, e))
@@ -150,7 +167,8 @@ lost_among-push (y ∷ xs) (k ∷ ms) x m e =
     let same : length ms ≡ length xs = omega (arith, e) in
     omega (arith, lost_among-push xs ms x m same)
 
-pub lost_among-append : (xs : List Note) (ms : List Mark) (ys : List Note) (ks : List Mark) → length ms ≡ length xs → lost_among (xs ++ ys) (ms ++ ks) ≡ lost_among xs ms + lost_among ys ks
+pub lost_among-append : (xs : List Note) (ms : List Mark) (ys : List Note) (ks : List Mark) → length ms ≡ length xs
+    → lost_among (xs ++ ys) (ms ++ ks) ≡ lost_among xs ms + lost_among ys ks
 lost_among-append [] [] ys ks e = omega arith
 lost_among-append [] (k ∷ ms) ys ks e = absurd (omega (arith, e))
 lost_among-append (y ∷ xs) [] ys ks e = absurd (omega (arith, e))
@@ -167,7 +185,8 @@ lost_among-at_most [] ms = omega arith
 lost_among-at_most (x ∷ xs) [] = omega arith
 lost_among-at_most (x ∷ xs) (m ∷ ms) = omega (arith, at_most_one (is_lost x m), lost_among-at_most xs ms)
 
-pub lost_among-split : (n : ℕ) (xs : List Note) (ms : List Mark) → length ms ≡ length xs → lost_among xs ms ≡ lost_among (take n xs) (take n ms) + lost_among (drop n xs) (drop n ms)
+pub lost_among-split : (n : ℕ) (xs : List Note) (ms : List Mark) → length ms ≡ length xs
+    → lost_among xs ms ≡ lost_among (take n xs) (take n ms) + lost_among (drop n xs) (drop n ms)
 lost_among-split zero xs ms e = omega arith
 lost_among-split (suc n) [] ms e = omega arith
 lost_among-split (suc n) (x ∷ xs) [] e = absurd (omega (arith, e))
@@ -188,7 +207,8 @@ AreMarksOf-unmarked h numbers old mid a u = record {
   causes = a.causes;
 }
 
-pub HasLost-from : (h : List Note) (numbers : List ℕ) (old mid new : List Mark) → AreLost h numbers → AreMarksOf h old → IsUnmarked numbers old mid → IsRenewed h mid new (get_or numbers 0 0 - 1) → HasLost h numbers old new
+pub HasLost-from : (h : List Note) (numbers : List ℕ) (old mid new : List Mark) → AreLost h numbers → AreMarksOf h old → IsUnmarked numbers old mid
+    → IsRenewed h mid new (get_or numbers 0 0 - 1) → HasLost h numbers old new
 HasLost-from h numbers old mid new l a u r = record {
   lengths = r.lengths ∙ u.lengths;
   below = λ k lt.
@@ -204,7 +224,8 @@ HasLost-from h numbers old mid new l a u r = record {
   ]
 
 -- the marks before the first lost number stay
-pub HasLost-front : (h : List Note) (numbers : List ℕ) (old new : List Mark) → HasLost h numbers old new → AreLost h numbers → AreMarksOf h old → take (get_or numbers 0 0 - 1) new ≡ take (get_or numbers 0 0 - 1) old
+pub HasLost-front : (h : List Note) (numbers : List ℕ) (old new : List Mark) → HasLost h numbers old new → AreLost h numbers → AreMarksOf h old
+    → take (get_or numbers 0 0 - 1) new ≡ take (get_or numbers 0 0 - 1) old
 HasLost-front h numbers old new l f a =
     let n = get_or numbers 0 0 - 1 in
     let le_old : n ≤ length old = omega (arith, f.first_within, a.lengths) in
@@ -216,7 +237,9 @@ HasLost-front h numbers old new l f a =
     let small : i < n = omega (arith, lt, len_new) in
     get_or-take n new i no_mark small ∙ l.below i (omega (arith, small)) ∙ sym (get_or-take n old i no_mark small))
 
-pub HasLost-counted : (h : List Note) (numbers : List ℕ) (old new : List Mark) (lost before after : ℕ) → HasLost h numbers old new → AreLost h numbers → AreMarksOf h old → lost ≡ lost_among h old → before ≡ lost_among (drop (get_or numbers 0 0 - 1) h) (drop (get_or numbers 0 0 - 1) old) → after ≡ lost_among (drop (get_or numbers 0 0 - 1) h) (drop (get_or numbers 0 0 - 1) new) → lost - before + after ≡ lost_among h new
+pub HasLost-counted : (h : List Note) (numbers : List ℕ) (old new : List Mark) (lost before after : ℕ) → HasLost h numbers old new → AreLost h numbers
+    → AreMarksOf h old → lost ≡ lost_among h old → before ≡ lost_among (drop (get_or numbers 0 0 - 1) h) (drop (get_or numbers 0 0 - 1) old)
+    → after ≡ lost_among (drop (get_or numbers 0 0 - 1) h) (drop (get_or numbers 0 0 - 1) new) → lost - before + after ≡ lost_among h new
 HasLost-counted h numbers old new lost before after l f a counted is_before is_after =
     let n = get_or numbers 0 0 - 1 in
     let was = lost_among-split n h old a.lengths in
@@ -225,7 +248,8 @@ HasLost-counted h numbers old new lost before after l f a counted is_before is_a
     omega (arith, was, now, front, counted, is_before, is_after)
 
 -- how many are lost among the first notes, one further
-pub lost_among-more : (xs : List Note) (ms : List Mark) (n : ℕ) (x : Note) → n < length xs → length ms ≡ length xs → x ≡ get_or xs n x → lost_among (take (n + 1) xs) (take (n + 1) ms) ≡ lost_among (take n xs) (take n ms) + cond (is_lost x (mark_at ms n)) 1 0
+pub lost_among-more : (xs : List Note) (ms : List Mark) (n : ℕ) (x : Note) → n < length xs → length ms ≡ length xs → x ≡ get_or xs n x
+    → lost_among (take (n + 1) xs) (take (n + 1) ms) ≡ lost_among (take n xs) (take n ms) + cond (is_lost x (mark_at ms n)) 1 0
 lost_among-more xs ms n x lt e at =
     let len_xs = length-take-le n xs (omega (arith, lt)) in
     let len_ms = length-take-le n ms (omega (arith, lt, e)) in
@@ -234,6 +258,7 @@ lost_among-more xs ms n x lt e at =
     ∙ lost_among-push (take n xs) (take n ms) x (mark_at ms n) (len_ms ∙ sym len_xs)
 
 -- the lost ones behind a place, as a slice from it on shows them
-pub lost_among-part : (n : ℕ) (xs : List Note) (ms : List Mark) → lost_among (take (length xs - n) (drop n xs)) (take (length ms - n) (drop n ms)) ≡ lost_among (drop n xs) (drop n ms)
+pub lost_among-part : (n : ℕ) (xs : List Note) (ms : List Mark)
+    → lost_among (take (length xs - n) (drop n xs)) (take (length ms - n) (drop n ms)) ≡ lost_among (drop n xs) (drop n ms)
 lost_among-part n xs ms =
     ap (λ ys. lost_among ys (take (length ms - n) (drop n ms))) (take_rest xs n) ∙ ap (lost_among (drop n xs)) (take_rest ms n)

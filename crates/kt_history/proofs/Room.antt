@@ -34,7 +34,8 @@ row_there (v ∷ rows) zero lt = (v, λ d. refl)
 row_there (v ∷ rows) (suc i) lt = row_there rows i (omega (arith, lt))
 
 -- room for a note of a node is room at its place
-pub HasPlace-of : (n : Vec Note Global) (m : Vec Mark Global) (rows : List (Vec ℕ Global)) (k : Chronicle) (p : NodeId) (i : ℕ) → chronicle n m rows ≡ k → i ≡ node_index p → 1 ≤ room_of k p → HasPlace n m rows i
+pub HasPlace-of : (n : Vec Note Global) (m : Vec Mark Global) (rows : List (Vec ℕ Global)) (k : Chronicle) (p : NodeId) (i : ℕ) → chronicle n m rows ≡ k
+    → i ≡ node_index p → 1 ≤ room_of k p → HasPlace n m rows i
 HasPlace-of n m rows k p i shown place some = elim (cases_lt i (length rows)) [
   | inl within ↦
       let v = row_there rows i within in
@@ -44,7 +45,15 @@ HasPlace-of n m rows k p i shown place some = elim (cases_lt i (length rows)) [
         notes = omega (arith, has, min-le_left (spare n) (min (spare m) (spare (get_or rows i v.0))));
         marks = omega (arith, has, min-le_right (spare n) (min (spare m) (spare (get_or rows i v.0))), min-le_left (spare m) (spare (get_or rows i v.0)));
         within = within;
-        row = λ d. omega (arith, has, min-le_right (spare n) (min (spare m) (spare (get_or rows i v.0))), min-le_right (spare m) (spare (get_or rows i v.0)), ap vec_len (v.1 d ∙ sym (v.1 v.0)), ap vec_capacity (v.1 d ∙ sym (v.1 v.0)));
+        row =
+            λ d. omega (
+              arith,
+              has,
+              min-le_right (spare n) (min (spare m) (spare (get_or rows i v.0))),
+              min-le_right (spare m) (spare (get_or rows i v.0)),
+              ap vec_len (v.1 d ∙ sym (v.1 v.0)),
+              ap vec_capacity (v.1 d ∙ sym (v.1 v.0)),
+            );
       }
   | inr past ↦ absurd (omega (arith, here, get_or_past (map (row_room n m) rows) i 0 (omega (arith, past, length-map rows (row_room n m)))))
 ] where
@@ -52,7 +61,8 @@ HasPlace-of n m rows k p i shown place some = elim (cases_lt i (length rows)) [
   here = omega (arith, some, ap (λ (c : Chronicle). room_of c p) shown, ap (λ j. get_or (map (row_room n m) rows) j 0) place)
 
 -- room at a node's place is room for a note of it
-pub room_of-from : (n : Vec Note Global) (m : Vec Mark Global) (rows : List (Vec ℕ Global)) (p : NodeId) (i : ℕ) → i ≡ node_index p → HasPlace n m rows i → 1 ≤ room_of (chronicle n m rows) p
+pub room_of-from : (n : Vec Note Global) (m : Vec Mark Global) (rows : List (Vec ℕ Global)) (p : NodeId) (i : ℕ) → i ≡ node_index p → HasPlace n m rows i
+    → 1 ≤ room_of (chronicle n m rows) p
 room_of-from n m rows p i place has =
     let v = row_there rows i has.within in
     let is = get_or-map (row_room n m) rows i v.0 0 has.within in

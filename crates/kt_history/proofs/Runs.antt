@@ -1,10 +1,12 @@
 -- Runs of the space, whose tuples are known up to their order.
-use Rattle.std.proofs.Common.{◌≡◌, ℕ, ◌+◌, ◌<◌, ◌≤◌, Bool, true, false, cond, List, [], ◌∷◌, ◌++◌, take, drop, length, get_or, sum_by, Contains, IsPermutation, Option, Some, None, Result, Ok, Err, sym, refl, ap, ◌∙◌, subst, arith}
+use Rattle.std.proofs.Common.{◌≡◌, ℕ, ◌+◌, ◌<◌, ◌≤◌, Bool, true, false, cond, List, [], ◌∷◌, ◌++◌, take, drop, length, get_or}
+use Rattle.std.proofs.Common.{sum_by, Contains, IsPermutation, Option, Some, None, Result, Ok, Err, sym, refl, ap, ◌∙◌, subst, arith}
 use Rattle.std.specs.Prelude.{OnOk}
 use Rattle.std.specs.List.{slice_get}
 use Rattle.std.proofs.lemmas.List.{take_more, drop_more}
 use Rattle.std.proofs.lemmas.List.Sums.{sum_by-cons}
-use Rattle.std.proofs.lemmas.List.Sorted.{IsPermutation-refl, IsPermutation-sym, IsPermutation-trans, IsPermutation-cons, IsPermutation-remove, Contains-permutation, sum_by-IsPermutation}
+use Rattle.std.proofs.lemmas.List.Sorted.{IsPermutation-refl, IsPermutation-sym, IsPermutation-trans, IsPermutation-cons}
+use Rattle.std.proofs.lemmas.List.Sorted.{IsPermutation-remove, Contains-permutation, sum_by-IsPermutation}
 use Rattle.kt_tuple.specs.declared.tuple.Tuple.{Tuple}
 use Rattle.kt_tuple.specs.declared.template.Template.{Template}
 use Rattle.kt_tuple.specs.declared.op.Op.{Op}
@@ -57,7 +59,8 @@ same_times [] (y ∷ ys) h = absurd (omega (arith, h y, times-cons y y ys, one-s
 same_times (x ∷ xs) ys h =
     let there : Contains ys x = Found-from_times x ys (omega (arith, h x, times-cons x x xs, one-same x)) in
     let out = found_at x ys there.0 there.1 there.2 in
-    let rest : IsPermutation xs out.rest = same_times xs out.rest (λ v. omega (arith, h v, times-cons v x xs, sum_by-IsPermutation (one v) ys (x ∷ out.rest) out.is, times-cons v x out.rest)) in
+    let rest : IsPermutation xs out.rest =
+    same_times xs out.rest (λ v. omega (arith, h v, times-cons v x xs, sum_by-IsPermutation (one v) ys (x ∷ out.rest) out.is, times-cons v x out.rest)) in
     IsPermutation-trans (x ∷ xs) (x ∷ out.rest) ys (IsPermutation-cons x xs out.rest rest) (IsPermutation-sym ys (x ∷ out.rest) out.is)
 
 -- what was added to both is taken from both
@@ -68,7 +71,8 @@ like_none : (t : Template) (x y : List Tuple) → IsPermutation x y → ((u : Tu
 like_none t x y like h u c = h u (Contains-permutation x y u like c)
 
 -- a step from tuples is a step from the same in another order
-pub SpaceStep-like : (x y : List Tuple) (op : Op) (answer : Answer) (new : List Tuple) → IsPermutation x y → SpaceStep y op answer new → SpaceStep x op answer new
+pub SpaceStep-like : (x y : List Tuple) (op : Op) (answer : Answer) (new : List Tuple) → IsPermutation x y → SpaceStep y op answer new
+    → SpaceStep x op answer new
 SpaceStep-like x y (Out u) answers.Done new like s = IsPermutation-trans (u ∷ x) (u ∷ y) new (IsPermutation-cons u x y like) s
 SpaceStep-like x y (In t) (answers.Got u) new like s = (s.0, IsPermutation-trans x y (u ∷ new) like s.1)
 SpaceStep-like x y (Inp t) (answers.Got u) new like s = (s.0, IsPermutation-trans x y (u ∷ new) like s.1)
@@ -97,28 +101,33 @@ RunsFrom-like x y [] new like r = IsPermutation-trans x y new like r
 RunsFrom-like x y (s ∷ later) new like r = (r.0, SpaceStep-like x y s.op s.answer r.0 like r.1, r.2)
 
 -- the tuples of a run are known up to their order
-pub RunsFrom-one : (x y : List Tuple) (services : List Service) (a b : List Tuple) → IsPermutation x y → RunsFrom x services a → RunsFrom y services b → IsPermutation a b
+pub RunsFrom-one : (x y : List Tuple) (services : List Service) (a b : List Tuple) → IsPermutation x y → RunsFrom x services a → RunsFrom y services b
+    → IsPermutation a b
 RunsFrom-one x y [] a b like r q = IsPermutation-trans a x b (IsPermutation-sym x a r) (IsPermutation-trans x y b like q)
 RunsFrom-one x y (s ∷ later) a b like r q =
     RunsFrom-one r.0 q.0 later a b (SpaceStep-one x s.op s.answer r.0 q.0 r.1 (SpaceStep-like x y s.op s.answer q.0 like q.1)) r.2 q.2
 
 -- one service more
-pub RunsFrom-push : (x : List Tuple) (services : List Service) (mid : List Tuple) (s : Service) (new : List Tuple) → RunsFrom x services mid → SpaceStep mid s.op s.answer new → RunsFrom x (services ++ s ∷ []) new
+pub RunsFrom-push : (x : List Tuple) (services : List Service) (mid : List Tuple) (s : Service) (new : List Tuple) → RunsFrom x services mid
+    → SpaceStep mid s.op s.answer new → RunsFrom x (services ++ s ∷ []) new
 RunsFrom-push x [] mid s new r step = (new, SpaceStep-like x mid s.op s.answer new r step, IsPermutation-refl new)
 RunsFrom-push x (first ∷ later) mid s new r step = (r.0, r.1, RunsFrom-push r.0 later mid s new r.2 step)
 
 -- what a step can be is a step once its tuple is in or out
-pub SpaceStep-put : (old : List Tuple) (u : Tuple) (answer : Answer) (new : List Tuple) → CanStep old (Out u) answer → IsPermutation (u ∷ old) new → SpaceStep old (Out u) answer new
+pub SpaceStep-put : (old : List Tuple) (u : Tuple) (answer : Answer) (new : List Tuple) → CanStep old (Out u) answer → IsPermutation (u ∷ old) new
+    → SpaceStep old (Out u) answer new
 SpaceStep-put old u answers.Done new can p = p
 SpaceStep-put old u (answers.Got v) new can p = can.1
 SpaceStep-put old u answers.None new can p = can.1
 
-pub SpaceStep-in : (old : List Tuple) (t : Template) (answer : Answer) (new : List Tuple) → CanStep old (In t) answer → TakesOut old answer new → SpaceStep old (In t) answer new
+pub SpaceStep-in : (old : List Tuple) (t : Template) (answer : Answer) (new : List Tuple) → CanStep old (In t) answer → TakesOut old answer new
+    → SpaceStep old (In t) answer new
 SpaceStep-in old t answers.Done new can p = can.1
 SpaceStep-in old t (answers.Got u) new can p = (can.1.0, p)
 SpaceStep-in old t answers.None new can p = can.1
 
-pub SpaceStep-inp : (old : List Tuple) (t : Template) (answer : Answer) (new : List Tuple) → CanStep old (Inp t) answer → TakesOut old answer new → SpaceStep old (Inp t) answer new
+pub SpaceStep-inp : (old : List Tuple) (t : Template) (answer : Answer) (new : List Tuple) → CanStep old (Inp t) answer → TakesOut old answer new
+    → SpaceStep old (Inp t) answer new
 SpaceStep-inp old t answers.Done new can p = can.1
 SpaceStep-inp old t (answers.Got u) new can p = (can.1.0, p)
 SpaceStep-inp old t answers.None new can p = let P : List Tuple → Type 0 = λ x. IsPermutation old x in (can.1.0, subst P (sym p) (IsPermutation-refl old))
@@ -156,14 +165,16 @@ IsThere-inp old t (answers.Got u) can = withdrawn_there old u can.0 can.1.1
 IsThere-inp old t answers.None can = tt
 
 -- the step of an operation that withdraws, once its tuple is out
-pub taken_in : {X E : Type 0} (r : Result X E) (old : List Tuple) (op : Op) (t : Template) (answer : Answer) (new : List Tuple) → op ≡ In t → (IsThere old answer → OnOk r (TakesOut old answer new))
+pub taken_in : {X E : Type 0} (r : Result X E) (old : List Tuple) (op : Op) (t : Template) (answer : Answer) (new : List Tuple) → op ≡ In t
+    → (IsThere old answer → OnOk r (TakesOut old answer new))
     → CanStep old op answer → OnOk r (SpaceStep old op answer new)
 taken_in (Err e) old op t answer new is taken can = tt
 taken_in (Ok x) old op t answer new is taken can =
     let P : Op → Type 0 = λ o. CanStep old o answer → SpaceStep old o answer new in
     subst P (sym is) (λ can. SpaceStep-in old t answer new can (taken (IsThere-in old t answer can))) can
 
-pub taken_inp : {X E : Type 0} (r : Result X E) (old : List Tuple) (op : Op) (t : Template) (answer : Answer) (new : List Tuple) → op ≡ Inp t → (IsThere old answer → OnOk r (TakesOut old answer new))
+pub taken_inp : {X E : Type 0} (r : Result X E) (old : List Tuple) (op : Op) (t : Template) (answer : Answer) (new : List Tuple) → op ≡ Inp t
+    → (IsThere old answer → OnOk r (TakesOut old answer new))
     → CanStep old op answer → OnOk r (SpaceStep old op answer new)
 taken_inp (Err e) old op t answer new is taken can = tt
 taken_inp (Ok x) old op t answer new is taken can =
@@ -171,18 +182,22 @@ taken_inp (Ok x) old op t answer new is taken can =
     subst P (sym is) (λ can. SpaceStep-inp old t answer new can (taken (IsThere-inp old t answer can))) can
 
 -- a run so far, one service further
-pub RunsFrom-more : (services : List Service) (i : ℕ) (s : Service) (old new : List Tuple) → i < length services → s ≡ get_or services i s → RunsFrom [] (take i services) old → SpaceStep old s.op s.answer new → RunsFrom [] (take (i + 1) services) new
+pub RunsFrom-more : (services : List Service) (i : ℕ) (s : Service) (old new : List Tuple) → i < length services → s ≡ get_or services i s
+    → RunsFrom [] (take i services) old → SpaceStep old s.op s.answer new → RunsFrom [] (take (i + 1) services) new
 RunsFrom-more services i s old new lt e done step =
     let P : List Service → Type 0 = λ xs. RunsFrom [] xs new in
     subst P (sym (take_more services i s lt ∙ ap (λ x. take i services ++ x ∷ []) (sym e))) (RunsFrom-push [] (take i services) old s new done step)
 
-pub RunsFrom-left : (services : List Service) (i : ℕ) (s : Service) (old new : List Tuple) → i < length services → s ≡ get_or services i s → (left : (tuples : List Tuple) × RunsFrom old (drop i services) tuples) → SpaceStep old s.op s.answer new → (tuples : List Tuple) × RunsFrom new (drop (i + 1) services) tuples
+pub RunsFrom-left : (services : List Service) (i : ℕ) (s : Service) (old new : List Tuple) → i < length services → s ≡ get_or services i s
+    → (left : (tuples : List Tuple) × RunsFrom old (drop i services) tuples) → SpaceStep old s.op s.answer new → (tuples : List Tuple)
+    × RunsFrom new (drop (i + 1) services) tuples
 RunsFrom-left services i s old new lt e left step =
     let P : List Service → Type 0 = λ xs. RunsFrom old xs left.0 in
     let rest : RunsFrom old (s ∷ drop (i + 1) services) left.0 = subst P (drop_more services i s lt ∙ ap (λ x. x ∷ drop (i + 1) services) (sym e)) left.1 in
     (left.0, RunsFrom-like new rest.0 (drop (i + 1) services) left.0 (SpaceStep-one old s.op s.answer new rest.0 step rest.1) rest.2)
 
-pub CanStep-from_left : (services : List Service) (i : ℕ) (s : Service) (old : List Tuple) → i < length services → s ≡ get_or services i s → (left : (tuples : List Tuple) × RunsFrom old (drop i services) tuples) → CanStep old s.op s.answer
+pub CanStep-from_left : (services : List Service) (i : ℕ) (s : Service) (old : List Tuple) → i < length services → s ≡ get_or services i s
+    → (left : (tuples : List Tuple) × RunsFrom old (drop i services) tuples) → CanStep old s.op s.answer
 CanStep-from_left services i s old lt e left =
     let P : List Service → Type 0 = λ xs. RunsFrom old xs left.0 in
     let rest : RunsFrom old (s ∷ drop (i + 1) services) left.0 = subst P (drop_more services i s lt ∙ ap (λ x. x ∷ drop (i + 1) services) (sym e)) left.1 in

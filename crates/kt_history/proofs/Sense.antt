@@ -9,11 +9,10 @@ use Rattle.kt_history.specs.declared.note.What.TheVariants as whats
 use Rattle.kt_history.specs.declared.note.Act.{Act}
 use Rattle.kt_history.specs.declared.note.Note.{Note}
 use Rattle.kt_history.specs.declared.note.Note.TheVariants as notes
-use Rattle.kt_history.specs.Line.{note_at, before, IsAct, line}
+use Rattle.kt_history.specs.Line.{note_at, before, IsAct, line, last_of}
 use Rattle.kt_history.specs.Past.{InPast, itself, in_line, by_cause}
 use Rattle.kt_history.specs.WellFormed.{MayFollow, CausesComeFirst, HeardRequest, HeardReply, IgnoredFits, ActFits, Fits, IsWellFormed, HasNoCut}
 use Rattle.kt_history.specs.Survival.{Stands, Survives}
-use Rattle.kt_history.specs.Marks.{last_of}
 use Rattle.kt_history.proofs.Lists.{snoc_ind}
 use Rattle.kt_history.proofs.Lines.{line-own_act, note_at-old, note_at-new, note_at-within, note_at-push_cases, before-old, before-new}
 use Rattle.kt_history.proofs.Pasts.{InPast-back}
@@ -73,7 +72,9 @@ Stands-no_cut h n = snoc_ind (λ g. HasNoCut g → IsAct g n → Stands g n) (λ
   step g (notes.Cut p keep) ih none a = absurd (none.none (suc (length g)) p keep (note_at-new g (notes.Cut p keep)))
   step g (notes.Act b) ih none a = elim (note_at-push_cases g (notes.Act b) n (notes.Act a.0) a.1) [
     | inl old ↦
-        Stands-act_old g b n (ih (record { none = λ k p keep e. none.none k p keep (note_at-old g (notes.Act b ∷ []) k (note_at-within g k (notes.Cut p keep) e).1 ∙ e) }) (a.0, old.1))
+        Stands-act_old g b n
+        (ih (record { none = λ k p keep e. none.none k p keep (note_at-old g (notes.Act b ∷ []) k (note_at-within g k (notes.Cut p keep) e).1 ∙ e) })
+        (a.0, old.1))
     | inr new ↦
         let P : ℕ → Type 0 = λ k. Contains (line (g ++ notes.Act b ∷ []) b.node) k in
         let Q : List ℕ → Type 0 = λ xs. Contains xs (suc (length g)) in

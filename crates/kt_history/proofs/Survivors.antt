@@ -9,9 +9,11 @@ use Rattle.kt_history.specs.declared.note.Note.TheVariants as notes
 use Rattle.kt_history.specs.Line.{note_at, before, IsAct, line}
 use Rattle.kt_history.specs.Past.{StoodBefore, IsCauseOf, InPast, itself, in_line, by_cause}
 use Rattle.kt_history.specs.WellFormed.{CausesComeFirst}
-use Rattle.kt_history.specs.Survival.{Stands, IsLost, Survives, note_stands, note_causes, stands_back, survives, services, lost_count, AreSurvivors, IsLostCount}
+use Rattle.kt_history.specs.Survival.{Stands, IsLost, Survives, note_stands, note_causes, stands_back}
+use Rattle.kt_history.specs.Survival.{survives, services, lost_count, AreSurvivors, IsLostCount}
 use Rattle.kt_history.specs.Closed.{IsClosed}
-use Rattle.kt_history.proofs.Lists.{Contains-none, Contains-here, Contains-there, Contains-cons_cases, list_all-at, list_all-from, list_any-from_Contains, Contains-from_list_any}
+use Rattle.kt_history.proofs.Lists.{Contains-none, Contains-here, Contains-there, Contains-cons_cases}
+use Rattle.kt_history.proofs.Lists.{list_all-at, list_all-from, list_any-from_Contains, Contains-from_list_any}
 use Rattle.kt_history.proofs.Lines.{line-own}
 use Rattle.kt_history.proofs.Pasts.{InPast-trans, StoodBefore-act, IsCauseOf-act}
 
@@ -74,14 +76,16 @@ note_causes-from_cause h n g s =
     let Q : List ℕ → Type 0 = λ xs. Contains xs g in
     let R : ℕ → Type 0 = λ m. Contains (s.act.by ∷ line (before h n) s.act.node) m in
     let at : P (Some (notes.Act s.act)) =
-    subst Q (sym (cond-false _ _ _ (ne_eqb s.act.by 0 (λ z. s.some (sym s.names ∙ z))))) (subst R s.names (Contains-here s.act.by (line (before h n) s.act.node))) in
+    subst Q (sym (cond-false _ _ _ (ne_eqb s.act.by 0 (λ z. s.some (sym s.names ∙ z)))))
+    (subst R s.names (Contains-here s.act.by (line (before h n) s.act.node))) in
     subst P (sym s.is_act) at
 
 stands_back-past : (h : List Note) → CausesComeFirst h → (k n : ℕ) → n < k → stands_back h k n ≡ true → (e : ℕ) → InPast h e n → Stands h e
 unfolding stands_back
 stands_back-past h w zero n lt t e p = absurd (omega (arith, lt))
 stands_back-past h w (suc k) n lt t e p = go n lt t p (λ g below u q. stands_back-past h w k g below u e q) where
-  go : (n : ℕ) → n < suc k → stands_back h (suc k) n ≡ true → InPast h e n → ((g : ℕ) → g < k → stands_back h k g ≡ true → InPast h e g → Stands h e) → Stands h e
+  go : (n : ℕ) → n < suc k → stands_back h (suc k) n ≡ true → InPast h e n → ((g : ℕ) → g < k → stands_back h k g ≡ true → InPast h e g → Stands h e)
+      → Stands h e
   go n lt t itself again = Stands-from_test h n (and_parts _ _ t).0
   go n lt t (in_line {g} s q) again =
       again g (omega (arith, lt, (StoodBefore-act h g n s).0)) (list_all-at (stands_back h k) _ g (and_parts _ _ t).1 (note_causes-from_stood h n g s)) q
@@ -118,7 +122,8 @@ pub Survives-past : (h : List Note) (e f : ℕ) → Survives h f → InPast h e 
 Survives-past h e f s p = λ d q. s d (InPast-trans h d q p)
 
 -- an act survives where it stands and all that is one step back survives
-pub Survives-step : (h : List Note) (f : ℕ) → Stands h f → ((g : ℕ) → StoodBefore h g f → Survives h g) → ((g : ℕ) → IsCauseOf h g f → Survives h g) → Survives h f
+pub Survives-step : (h : List Note) (f : ℕ) → Stands h f → ((g : ℕ) → StoodBefore h g f → Survives h g) → ((g : ℕ) → IsCauseOf h g f → Survives h g)
+    → Survives h f
 Survives-step h f stands stood cause = λ e p. go e stands stood cause p where
   go : (e : ℕ) {f : ℕ} → Stands h f → ((g : ℕ) → StoodBefore h g f → Survives h g) → ((g : ℕ) → IsCauseOf h g f → Survives h g) → InPast h e f → ¬ IsLost h e
   go e here by_line by_act itself = λ lost. lost here

@@ -28,7 +28,8 @@ what_eq _ _ = false
 
 abbrev pub act_eq : Act → Act → Bool
 act_eq a b =
-    node_eq a.node b.node && (nat_eq a.by b.by && (nat_eq a.worker b.worker && (nat_eq a.number b.number && (op_eq a.op b.op && what_eq a.what b.what))))
+    node_eq a.node b.node && (nat_eq a.by b.by
+    && (nat_eq a.worker b.worker && (nat_eq a.number b.number && (op_eq a.op b.op && what_eq a.what b.what))))
 
 abbrev pub note_eq : Note → Note → Bool
 note_eq (notes.Act a) (notes.Act b) = act_eq a b
@@ -37,7 +38,8 @@ note_eq _ _ = false
 
 given_eq_decides : (a b : Option Answer) → Decides (option_eq answer_eq a b) (a ≡ b)
 given_eq_decides None None = (λ _. refl, λ _. refl)
-given_eq_decides (Some a) (Some b) = (λ e. ap Some ((answer_eq_decides a b).0 e), λ (e : Some a ≡ Some b). (answer_eq_decides a b).1 cc)
+given_eq_decides (Some a) (Some b) =
+    (λ e. ap Some ((answer_eq_decides a b).0 e), λ (e : Some a ≡ Some b). (answer_eq_decides a b).1 cc)
 given_eq_decides None (Some b) = (λ e. absurd cc, λ e. absurd cc)
 given_eq_decides (Some a) None = (λ e. absurd cc, λ e. absurd cc)
 
@@ -45,14 +47,22 @@ pub what_eq_decides : (a b : What) → Decides (what_eq a b) (a ≡ b)
 what_eq_decides whats.Issue whats.Issue = (λ _. refl, λ _. refl)
 what_eq_decides whats.Repeat whats.Repeat = (λ _. refl, λ _. refl)
 what_eq_decides whats.Heard whats.Heard = (λ _. refl, λ _. refl)
-what_eq_decides (whats.Served a) (whats.Served b) =
-    (λ e. ap whats.Served ((answer_eq_decides a b).0 e), λ (e : whats.Served a ≡ whats.Served b). (answer_eq_decides a b).1 cc)
-what_eq_decides (whats.Again a) (whats.Again b) =
-    (λ e. ap whats.Again ((answer_eq_decides a b).0 e), λ (e : whats.Again a ≡ whats.Again b). (answer_eq_decides a b).1 cc)
-what_eq_decides (whats.Accepted a) (whats.Accepted b) =
-    (λ e. ap whats.Accepted ((answer_eq_decides a b).0 e), λ (e : whats.Accepted a ≡ whats.Accepted b). (answer_eq_decides a b).1 cc)
-what_eq_decides (whats.Ignored a) (whats.Ignored b) =
-    (λ e. ap whats.Ignored ((given_eq_decides a b).0 e), λ (e : whats.Ignored a ≡ whats.Ignored b). (given_eq_decides a b).1 cc)
+what_eq_decides (whats.Served a) (whats.Served b) = (
+  λ e. ap whats.Served ((answer_eq_decides a b).0 e),
+  λ (e : whats.Served a ≡ whats.Served b). (answer_eq_decides a b).1 cc,
+)
+what_eq_decides (whats.Again a) (whats.Again b) = (
+  λ e. ap whats.Again ((answer_eq_decides a b).0 e),
+  λ (e : whats.Again a ≡ whats.Again b). (answer_eq_decides a b).1 cc,
+)
+what_eq_decides (whats.Accepted a) (whats.Accepted b) = (
+  λ e. ap whats.Accepted ((answer_eq_decides a b).0 e),
+  λ (e : whats.Accepted a ≡ whats.Accepted b). (answer_eq_decides a b).1 cc,
+)
+what_eq_decides (whats.Ignored a) (whats.Ignored b) = (
+  λ e. ap whats.Ignored ((given_eq_decides a b).0 e),
+  λ (e : whats.Ignored a ≡ whats.Ignored b). (given_eq_decides a b).1 cc,
+)
 what_eq_decides _ _ = (λ e. absurd cc, λ e. absurd cc)
 
 pub act_eq_decides : (a b : Act) → Decides (act_eq a b) (a ≡ b)
@@ -63,7 +73,8 @@ act_eq_decides a b = (
       let third = and_parts _ _ second.1 in
       let fourth = and_parts _ _ third.1 in
       let fifth = and_parts _ _ fourth.1 in
-      let of : NodeId → ℕ → ℕ → ℕ → Op → What → Act = λ p c w n o x. record { node = p; by = c; worker = w; number = n; op = o; what = x } in
+      let of : NodeId → ℕ → ℕ → ℕ → Op → What → Act =
+      λ p c w n o x. record { node = p; by = c; worker = w; number = n; op = o; what = x } in
       ap (λ p. of p a.by a.worker a.number a.op a.what) ((node_eq_decides a.node b.node).0 first.0)
       ∙ ap (λ c. of b.node c a.worker a.number a.op a.what) ((unsigned_Decides a.by b.by).0 second.0)
       ∙ ap (λ w. of b.node b.by w a.number a.op a.what) ((unsigned_Decides a.worker b.worker).0 third.0)
@@ -75,7 +86,8 @@ act_eq_decides a b = (
       (and_from _ _ ((unsigned_Decides a.by b.by).1 (ap (λ (x : Act). x.by) e))
       (and_from _ _ ((unsigned_Decides a.worker b.worker).1 (ap (λ (x : Act). x.worker) e))
       (and_from _ _ ((unsigned_Decides a.number b.number).1 (ap (λ (x : Act). x.number) e))
-      (and_from _ _ ((op_eq_decides a.op b.op).1 (ap (λ (x : Act). x.op) e)) ((what_eq_decides a.what b.what).1 (ap (λ (x : Act). x.what) e)))))),
+      (and_from _ _ ((op_eq_decides a.op b.op).1 (ap (λ (x : Act). x.op) e))
+      ((what_eq_decides a.what b.what).1 (ap (λ (x : Act). x.what) e)))))),
 )
 
 pub note_eq_decides : (a b : Note) → Decides (note_eq a b) (a ≡ b)
@@ -84,7 +96,9 @@ note_eq_decides (notes.Act a) (notes.Act b) =
 note_eq_decides (notes.Cut p keep) (notes.Cut q kept) = (
   λ e.
       let both = and_parts _ _ e in
-      ap (λ r. notes.Cut r keep) ((node_eq_decides p q).0 both.0) ∙ ap (notes.Cut q) ((unsigned_Decides keep kept).0 both.1),
-  λ (e : notes.Cut p keep ≡ notes.Cut q kept). and_from _ _ ((node_eq_decides p q).1 cc) ((unsigned_Decides keep kept).1 cc),
+      ap (λ r. notes.Cut r keep) ((node_eq_decides p q).0 both.0)
+      ∙ ap (notes.Cut q) ((unsigned_Decides keep kept).0 both.1),
+  λ (e : notes.Cut p keep ≡ notes.Cut q kept). and_from _ _ ((node_eq_decides p q).1 cc)
+      ((unsigned_Decides keep kept).1 cc),
 )
 note_eq_decides _ _ = (λ e. absurd cc, λ e. absurd cc)

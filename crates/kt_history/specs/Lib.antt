@@ -3,7 +3,7 @@ pub mod Past
 pub mod Survival
 pub mod WellFormed
 pub mod Closed
-pub mod Marks
 pub mod Run
 pub mod Chronicle
 pub mod Equality
+pub mod inner

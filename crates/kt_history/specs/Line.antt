@@ -1,5 +1,6 @@
 -- A history is its notes, oldest first, numbered from 1. What a node remembers is its line.
-use Rattle.std.specs.Prelude.{◌≡◌, ℕ, zero, suc, ◌==◌, Bool, if◌then◌else◌, List, [], ◌∷◌, ◌++◌, take, Option, None, Some, slice_get}
+use Rattle.std.specs.Prelude.{◌≡◌, ℕ, zero, suc, ◌==◌, Bool, if◌then◌else◌, List, [], ◌∷◌, ◌++◌}
+use Rattle.std.specs.Prelude.{◌-◌, length, take, Option, None, Some, slice_get, slice_index}
 use Rattle.kt_tuple.specs.declared.node.NodeId.{NodeId}
 use Rattle.kt_tuple.specs.Node.{node_index}
 use Rattle.kt_history.specs.declared.note.Act.{Act}
@@ -38,3 +39,7 @@ line_from p xs n (note ∷ later) = line_from p (line_step p xs n note) (suc n) 
 -- a node's line: the numbers of its acts that were not cut off, oldest first
 unfoldable pub line : List Note → NodeId → List ℕ
 line h p = line_from p [] 1 h
+
+-- the number at the end of a line, or 0
+abbrev pub last_of : List ℕ → ℕ
+last_of numbers = slice_index numbers (length numbers - 1)

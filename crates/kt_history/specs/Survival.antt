@@ -1,5 +1,6 @@
 -- What of a history lasts: the acts with nothing lost in their past, and the services among them.
-use Rattle.std.specs.Prelude.{◌≡◌, ◌↔◌, IsTrue, ℕ, zero, suc, ◌==◌, Bool, true, false, not, ◌&&◌, if◌then◌else◌, List, [], ◌∷◌, Option, None, Some, length, Contains}
+use Rattle.std.specs.Prelude.{◌≡◌, ◌↔◌, IsTrue, ℕ, zero, suc, ◌==◌, Bool, true, false, not, ◌&&◌}
+use Rattle.std.specs.Prelude.{if◌then◌else◌, List, [], ◌∷◌, Option, None, Some, length, Contains}
 use Rattle.std.specs.List.{filter_map, list_any, list_all}
 use Rattle.kt_tuple.specs.declared.node.NodeId.{NodeId}
 use Rattle.kt_tuple.specs.declared.service.Service.{Service}
@@ -15,7 +16,7 @@ use Rattle.kt_history.specs.Past.{InPast}
 abbrev pub Stands : List Note → ℕ → Type 0
 Stands h e = (p : NodeId) × Contains (line h p) e
 
--- the act e stands in no line
+-- the act e is lost: a cut took it out of its line, and it stands in none
 abbrev pub IsLost : List Note → ℕ → Type 0
 IsLost h e = ¬ Stands h e
 
@@ -49,6 +50,20 @@ survives h n = stands_back h (suc n) n
 abbrev pub service_of : Act → What → Option Service
 service_of a (whats.Served answer) = Some (record { worker = a.worker; number = a.number; op = a.op; answer = answer })
 service_of a _ = None
+
+-- the service that a note is, if it is one
+abbrev pub note_service : Note → Option Service
+note_service (notes.Act a) = service_of a a.what
+note_service (notes.Cut p keep) = None
+
+abbrev pub is_served : What → Bool
+is_served (whats.Served answer) = true
+is_served _ = false
+
+-- whether the note is a service
+abbrev pub is_service : Note → Bool
+is_service (notes.Act a) = is_served a.what
+is_service (notes.Cut p keep) = false
 
 -- the services among these acts
 abbrev pub services_of : List Act → List Service

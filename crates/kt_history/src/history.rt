@@ -1,9 +1,11 @@
+//! Histories: what happened, each node's line, and what survives.
+
 ghost use Rattle.std.specs.Prelude.{◌≡◌, ◌≤◌, ◌↔◌, ◌∷◌, ◌++◌, [], IsTrue, IfOk, OnOk, OnErr};
 ghost use Rattle.std.specs.Option.{option_copied};
 ghost use Rattle.kt_history.specs.Closed.{act_of};
 ghost use Rattle.kt_history.specs.Line.{IsAct, line, note_at};
 ghost use Rattle.kt_history.specs.Survival.{AreSurvivors, IsLostCount, Survives, services, lost_count};
-ghost use Rattle.kt_history.specs.Marks.{kept_service};
+ghost use Rattle.kt_history.specs.inner.Marks.{kept_service};
 ghost use Rattle.kt_history.specs.Chronicle.{node_of, room_of};
 ghost use Rattle.kt_history.specs.WellFormed.{CausesComeFirst, MayFollow};
 
@@ -26,7 +28,7 @@ pub struct History {
 
 impl Model for History {
     ghost use Rattle.kt_history.specs.Chronicle.{Chronicle, chronicle};
-    ghost use Rattle.kt_history.specs.Marks.{rows_of, Agrees};
+    ghost use Rattle.kt_history.specs.inner.Marks.{rows_of, Agrees};
 
     ghost Value = { Chronicle };
 
@@ -103,6 +105,10 @@ impl History {
 
     /// Appends the note, which must be one that may follow, as `may_follow` tells. Where memory is wanting
     /// the notes stay as they were.
+    ///
+    /// An act costs the same however long the history is. A cut looks once at each note from the first act that it
+    /// takes out of its line on: filling is linear where cuts take what is new, and quadratic where each cut keeps
+    /// less than the one before, so that it goes back further.
     pub fn push(&mut self, note: Note) -> Result<(), AllocError>
         requires { MayFollow self.old.notes note }
         ensures ok { OnOk result (self.new.notes ≡ self.old.notes ++ note ∷ []) }

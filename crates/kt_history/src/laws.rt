@@ -1,6 +1,7 @@
 //! Laws about the definitions, each the contract of a function with nothing to do.
 
-ghost use Rattle.std.specs.Prelude.{◌≡◌, ◌≢◌, ◌⊎◌, ◌↔◌, ◌++◌, ◌∷◌, [], ℕ, Bool, IsTrue, List, Some, take, slice_get, IsPermutation};
+ghost use Rattle.std.specs.Prelude.{◌≡◌, ◌≢◌, ◌⊎◌, ◌↔◌, ◌++◌, ◌∷◌, [], ℕ, Bool, IsTrue};
+ghost use Rattle.std.specs.Prelude.{List, Some, take, slice_get, IsPermutation};
 ghost use Rattle.kt_tuple.specs.declared.node.NodeId.{NodeId};
 ghost use Rattle.kt_tuple.specs.declared.service.Service.{Service};
 ghost use Rattle.kt_tuple.specs.declared.tuple.Tuple.{Tuple};
@@ -8,12 +9,11 @@ ghost use Rattle.kt_tuple.specs.Space.{IsSpaceRun};
 ghost use Rattle.kt_history.specs.declared.note.Act.{Act};
 ghost use Rattle.kt_history.specs.declared.note.Note.{Note};
 ghost use Rattle.kt_history.specs.declared.note.Note.TheVariants as notes;
-ghost use Rattle.kt_history.specs.Line.{IsAct, before, line, note_at};
+ghost use Rattle.kt_history.specs.Line.{IsAct, before, line, note_at, last_of};
 ghost use Rattle.kt_history.specs.Past.{InPast};
 ghost use Rattle.kt_history.specs.Survival.{Survives, marked_acts, survives};
 ghost use Rattle.kt_history.specs.WellFormed.{CausesComeFirst, Fits, HasNoCut, IsWellFormed, MayFollow};
 ghost use Rattle.kt_history.specs.Closed.{IsClosed, IsFront, acts_at, own};
-ghost use Rattle.kt_history.specs.Marks.{last_of};
 
 /// Happened-before is transitive.
 pub fn happened_before_is_transitive()

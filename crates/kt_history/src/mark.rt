@@ -1,5 +1,9 @@
-ghost use Rattle.std.specs.Prelude.{◌≡◌, if◌then◌else◌, false, ◌+◌, ◌-◌, ◌^◌, ◌<◌, ◌≤◌, ℕ, length, Contains, slice_get, slice_set, slice_index};
-ghost use Rattle.kt_history.specs.Marks.{act_mark, lasts_in, mark_at, renewed, is_lost, lost_among, LooksBack, AreMarksOf, AreLost, IsUnmarked, IsRenewed, HasLost};
+//! What a history keeps of each note, so that it knows what survives without a look at the past.
+
+ghost use Rattle.std.specs.Prelude.{◌≡◌, if◌then◌else◌, false, ◌+◌, ◌-◌, ◌^◌, ◌<◌, ◌≤◌, ℕ};
+ghost use Rattle.std.specs.Prelude.{length, Contains, slice_get, slice_set, slice_index};
+ghost use Rattle.kt_history.specs.inner.Marks.{act_mark, lasts_in, mark_at, renewed, is_lost, lost_among};
+ghost use Rattle.kt_history.specs.inner.Marks.{LooksBack, AreMarksOf, AreLost, IsUnmarked, IsRenewed, HasLost};
 
 use crate::note::Note;
 
@@ -85,7 +89,8 @@ fn unmark(marks: &mut [Mark], numbers: &[u64])
 fn unmark_one(marks: &mut [Mark], number: u64)
     requires positive { 1 ≤ number }
     requires within { number ≤ length marks.old }
-    ensures { marks.new ≡ slice_set marks.old (number - 1) (record { previous = (mark_at marks.old (number - 1)).previous; survives = false }) }
+    ensures { marks.new ≡ slice_set marks.old (number - 1)
+        (record { previous = (mark_at marks.old (number - 1)).previous; survives = false }) }
 {
     let place = number as usize - 1;
     marks[place] = Mark {
@@ -109,7 +114,8 @@ fn renew(notes: &[Note], marks: &mut [Mark], first: usize)
 fn renew_at(notes: &[Note], marks: &mut [Mark], place: usize)
     requires within { place < length notes.now }
     requires marks_of { AreMarksOf notes.now marks.old }
-    ensures { marks.new ≡ slice_set marks.old place (renewed (slice_get notes.now place) (mark_at marks.old place) marks.old) }
+    ensures { marks.new ≡ slice_set marks.old place
+        (renewed (slice_get notes.now place) (mark_at marks.old place) marks.old) }
 {
     if let Note::Act(act) = &notes[place] {
         let mark = marks[place];

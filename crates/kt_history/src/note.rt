@@ -1,3 +1,5 @@
+//! Notes: what a node did, or gave up.
+
 ghost use Rattle.std.specs.Prelude.{◌≡◌, IfOk};
 
 use kt_tuple::{Answer, NodeId, Op, Service};
@@ -51,7 +53,7 @@ pub enum Note {
 
 impl Note {
     ghost use Rattle.kt_history.specs.Chronicle.{node_of};
-    ghost use Rattle.kt_history.specs.Marks.{is_service, note_service};
+    ghost use Rattle.kt_history.specs.Survival.{is_service, note_service};
 
     /// The node that it is of.
     pub fn node(&self) -> NodeId

@@ -1,6 +1,9 @@
+//! The lines of the nodes, a row for each.
+
 ghost use Rattle.std.specs.Prelude.{◌≡◌, ◌∷◌, ◌++◌, [], ℕ, ◌<◌, take, drop, length, slice_set, vec_len, OnOk};
 ghost use Rattle.kt_tuple.specs.Node.{names};
-ghost use Rattle.kt_history.specs.Marks.{last_of, rows_of, row_at, HasRoom, SameRows};
+ghost use Rattle.kt_history.specs.Line.{last_of};
+ghost use Rattle.kt_history.specs.inner.Marks.{rows_of, row_at, HasRoom, SameRows};
 
 use std::alloc::AllocError;
 
@@ -33,7 +36,8 @@ pub(crate) fn reserve_row(rows: &mut Rows, place: usize) -> Result<(), AllocErro
 /// Appends the number to the row at this place.
 pub(crate) fn append(rows: &mut Rows, place: usize, number: u64)
     requires { HasRoom rows.old place }
-    ensures { rows_of rows.new.items ≡ slice_set (rows_of rows.old.items) place (row_at (rows_of rows.old.items) place ++ number ∷ []) }
+    ensures { rows_of rows.new.items ≡ slice_set (rows_of rows.old.items) place
+        (row_at (rows_of rows.old.items) place ++ number ∷ []) }
 {
     rows[place].push_reserved(number);
 }
@@ -50,7 +54,8 @@ pub(crate) fn behind(rows: &Rows, place: usize, keep: usize) -> &[u64]
 
 /// Keeps the first numbers of the row at this place.
 pub(crate) fn shorten(rows: &mut Rows, place: usize, keep: usize)
-    ensures { rows_of rows.new.items ≡ slice_set (rows_of rows.old.items) place (take keep (row_at (rows_of rows.old.items) place)) }
+    ensures { rows_of rows.new.items ≡ slice_set (rows_of rows.old.items) place
+        (take keep (row_at (rows_of rows.old.items) place)) }
 {
     if place < rows.len() {
         shorten_at(rows, place, keep);
@@ -59,7 +64,8 @@ pub(crate) fn shorten(rows: &mut Rows, place: usize, keep: usize)
 
 fn shorten_at(rows: &mut Rows, place: usize, keep: usize)
     requires { place < vec_len rows.old }
-    ensures { rows_of rows.new.items ≡ slice_set (rows_of rows.old.items) place (take keep (row_at (rows_of rows.old.items) place)) }
+    ensures { rows_of rows.new.items ≡ slice_set (rows_of rows.old.items) place
+        (take keep (row_at (rows_of rows.old.items) place)) }
 {
     rows[place].truncate(keep);
 }

@@ -1,3 +1,5 @@
+//! The tuples that services lead to.
+
 ghost use Rattle.std.specs.Prelude.{◌≡◌, ◌∷◌, Contains, IsPermutation, IfOk, OnOk};
 ghost use Rattle.kt_tuple.specs.Space.{SpaceStep, IsSpaceRun};
 ghost use Rattle.kt_history.specs.Run.{IsRun, CanStep, IsThere, TakesOut};

@@ -1,5 +1,6 @@
 -- In a well-formed history the causes of a closed choice of acts come first among them.
-use Rattle.std.proofs.Common.{◌≡◌, ◌≢◌, ℕ, zero, suc, ◌<◌, Bool, true, false, cond, Some, List, [], ◌∷◌, ◌++◌, length, Contains, inl, inr, sym, refl, ap, ◌∙◌, subst, append_assoc, length-append, IsTrue, slice_get, arith}
+use Rattle.std.proofs.Common.{◌≡◌, ◌≢◌, ℕ, zero, suc, ◌<◌, Bool, true, false, cond, Some, List, [], ◌∷◌, ◌++◌, length, Contains}
+use Rattle.std.proofs.Common.{inl, inr, sym, refl, ap, ◌∙◌, subst, append_assoc, length-append, IsTrue, slice_get, arith}
 use Rattle.std.proofs.lemmas.Bool.{cases_eq}
 use Rattle.kt_history.specs.declared.note.What.{What}
 use Rattle.kt_history.specs.declared.note.What.TheVariants as whats
@@ -10,8 +11,7 @@ use Rattle.kt_history.specs.Line.{note_at, before}
 use Rattle.kt_history.specs.Survival.{marked_acts, marked_from}
 use Rattle.kt_history.specs.Closed.{IsClosed}
 use Rattle.kt_history.specs.WellFormed.{IsAnswering, SameRequest, WasServed, ActFits, IsWellFormed}
-use Rattle.kt_history.proofs.Lists.{slice_get-take, Contains-here}
-use Rattle.kt_history.proofs.Lines.{note_at-within}
+use Rattle.kt_history.proofs.Shared.{slice_get-take, Contains-here, note_at-within}
 use Rattle.kt_lines.proofs.Bags.{Contains-there}
 use Rattle.kt_lines.proofs.Follows.{IsServed, IsCaused, CausedFrom}
 
@@ -62,7 +62,13 @@ caused h marks wf closed n m a here past covers (whats.Accepted answer) r = by r
     again s =
         let t = before_at h a.by s.service (notes.Act s.act) s.is_act in
         let marked : IsTrue (marks s.service) = closed.below s.service a.by k.1 (record { act = r.cause; is_act = k.2; stood = s.stands }) in
-        record { service = s.act; earlier = covers s.service s.act (omega (arith, t.0, k.0)) marked t.1; served = s.served; same = SameRequest-trans a r.cause s.act r.same s.same }
+        record {
+          service = s.act;
+          earlier = covers s.service s.act (omega
+              (arith, t.0, k.0)) marked t.1;
+          served = s.served;
+          same = SameRequest-trans a r.cause s.act r.same s.same;
+        }
 
     by : (what : What) → r.cause.what ≡ what → IsAnswering what answer → IsServed past a answer
     by (whats.Served given) e same = record { service = r.cause; earlier = covers a.by r.cause k.0 k.1 k.2; served = e ∙ ap whats.Served same; same = r.same }
@@ -72,17 +78,20 @@ caused h marks wf closed n m a here past covers (whats.Accepted answer) r = by r
 caused h marks wf closed n m a here past covers whats.Issue r = tt
 caused h marks wf closed n m a here past covers _ r = tt
 
-Covers-skip : (h : List Note) (marks : ℕ → Bool) (n : ℕ) (past : List Act) → Covers h marks n past → ((b : Act) → IsTrue (marks n) → note_at h n ≡ Some (notes.Act b) → Contains past b) → Covers h marks (suc n) past
+Covers-skip : (h : List Note) (marks : ℕ → Bool) (n : ℕ) (past : List Act) → Covers h marks n past
+    → ((b : Act) → IsTrue (marks n) → note_at h n ≡ Some (notes.Act b) → Contains past b) → Covers h marks (suc n) past
 Covers-skip h marks n past covers new k b below m e = elim (cases_eq k n) [
   | inl same ↦ new b (subst (λ j. IsTrue (marks j)) same m) (subst (λ j. note_at h j ≡ Some (notes.Act b)) same e)
   | inr d ↦ covers k b (omega (arith, below, d)) m e
 ]
 
-caused_from : (h : List Note) (marks : ℕ → Bool) → IsWellFormed h → IsClosed h marks → (done later : List Note) (n : ℕ) → h ≡ done ++ later → n ≡ suc (length done) →
+caused_from : (h : List Note) (marks : ℕ → Bool) → IsWellFormed h → IsClosed h marks → (done later : List Note) (n : ℕ) → h ≡ done ++ later
+    → n ≡ suc (length done) →
     (past : List Act) → Covers h marks n past → CausedFrom past (marked_from marks n later)
 unfolding marked_from
 caused_from h marks wf closed done [] n e l past covers = tt
-caused_from h marks wf closed done (notes.Act a ∷ later) n e l past covers = by (marks n) refl (caused_from h marks wf closed (done ++ notes.Act a ∷ []) later (suc n) e' l')
+caused_from h marks wf closed done (notes.Act a ∷ later) n e l past covers =
+    by (marks n) refl (caused_from h marks wf closed (done ++ notes.Act a ∷ []) later (suc n) e' l')
   where
     e' : h ≡ (done ++ notes.Act a ∷ []) ++ later
     e' = e ∙ sym (append_assoc done (notes.Act a ∷ []) later)
@@ -98,11 +107,13 @@ caused_from h marks wf closed done (notes.Act a ∷ later) n e l past covers = b
     by false m rest = rest past (Covers-skip h marks n past covers (λ b k e. absurd cc))
     by true m rest = (
       caused h marks wf closed n m a here past covers a.what (wf.fits n (notes.Act a) here),
-      rest (a ∷ past) (Covers-skip h marks n (a ∷ past) (λ k b below k' e. Contains-there a b past (covers k b below k' e)) (λ b k e. let same : a ≡ b = cc (here, e) in subst (Contains (a ∷ past)) same (Contains-here a past))),
+      rest (a ∷ past) (Covers-skip h marks n (a ∷ past) (λ k b below k' e. Contains-there a b past (covers k b below k' e))
+          (λ b k e. let same : a ≡ b = cc (here, e) in subst (Contains (a ∷ past)) same (Contains-here a past))),
     )
 caused_from h marks wf closed done (notes.Cut q keep ∷ later) n e l past covers =
     let here = note_here h done (notes.Cut q keep) later n e l in
-    caused_from h marks wf closed (done ++ notes.Cut q keep ∷ []) later (suc n) (e ∙ sym (append_assoc done (notes.Cut q keep ∷ []) later)) (omega (arith, l, length-append done (notes.Cut q keep ∷ []))) past
+    caused_from h marks wf closed (done ++ notes.Cut q keep ∷ []) later (suc n) (e ∙ sym (append_assoc done (notes.Cut q keep ∷ []) later))
+    (omega (arith, l, length-append done (notes.Cut q keep ∷ []))) past
     (Covers-skip h marks n past covers (λ b k e'. absurd cc))
 
 -- the causes of the marked acts come first among them

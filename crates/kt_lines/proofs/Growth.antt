@@ -9,8 +9,7 @@ use Rattle.kt_history.specs.declared.note.Note.{Note}
 use Rattle.kt_history.specs.declared.note.Note.TheVariants as notes
 use Rattle.kt_history.specs.Line.{same_node}
 use Rattle.kt_history.specs.Closed.{acts_at, acts_in_line}
-use Rattle.kt_history.proofs.Lines.{line-empty, same_node-true}
-use Rattle.kt_history.proofs.Fronts.{acts_in_line-own_act, acts_in_line-other_act, acts_in_line-own_cut, acts_in_line-other_cut}
+use Rattle.kt_history.proofs.Shared.{line-empty, same_node-true, acts_in_line-own_act, acts_in_line-other_act, acts_in_line-own_cut, acts_in_line-other_cut}
 use Rattle.kt_lines.specs.Order.{Setting}
 use Rattle.kt_lines.specs.ShardLine.{MadeShard, ShardMakes, ShardLine, shard_after, shard_of_acts, new_shard}
 use Rattle.kt_lines.specs.WorkerLine.{MadeWorker, WorkerMakes, WorkerLine, worker_after, worker_of_acts, new_worker}
@@ -22,7 +21,8 @@ pub acts_in_line-empty : (p : NodeId) → acts_in_line [] p ≡ []
 acts_in_line-empty p = ap (acts_at []) (line-empty p)
 
 -- a cut leaves the first of them
-pub acts_in_line-cut : (h : List Note) (q : NodeId) (keep : ℕ) (p : NodeId) → (lost : List Act) × (acts_in_line h p ≡ acts_in_line (h ++ notes.Cut q keep ∷ []) p ++ lost)
+pub acts_in_line-cut : (h : List Note) (q : NodeId) (keep : ℕ) (p : NodeId) → (lost : List Act)
+    × (acts_in_line h p ≡ acts_in_line (h ++ notes.Cut q keep ∷ []) p ++ lost)
 acts_in_line-cut h q keep p = by (same_node q p) refl
   where
     by : (r : Bool) → same_node q p ≡ r → (lost : List Act) × (acts_in_line h p ≡ acts_in_line (h ++ notes.Cut q keep ∷ []) p ++ lost)
@@ -33,11 +33,13 @@ acts_in_line-cut h q keep p = by (same_node q p) refl
         (drop keep (acts_in_line h p), sym (take-append-drop keep (acts_in_line h p)) ∙ ap (λ l. l ++ drop keep (acts_in_line h p)) (sym kept))
 
 -- one more act at the end of a line
-WorkerLine-push : (asks : List Answer → Option Op) (w : ℕ) (x : MadeWorker) (acts : List Act) (a : Act) → WorkerLine asks w x acts → WorkerMakes asks w (worker_of_acts x acts) a → WorkerLine asks w x (acts ++ a ∷ [])
+WorkerLine-push : (asks : List Answer → Option Op) (w : ℕ) (x : MadeWorker) (acts : List Act) (a : Act) → WorkerLine asks w x acts
+    → WorkerMakes asks w (worker_of_acts x acts) a → WorkerLine asks w x (acts ++ a ∷ [])
 WorkerLine-push asks w x [] a h m = (m, tt)
 WorkerLine-push asks w x (b ∷ acts) a h m = (h.0, WorkerLine-push asks w (worker_after x b) acts a h.1 m)
 
-ShardLine-push : (shards s : ℕ) (x : MadeShard) (acts : List Act) (a : Act) → ShardLine shards s x acts → ShardMakes shards s (shard_of_acts x acts) a → ShardLine shards s x (acts ++ a ∷ [])
+ShardLine-push : (shards s : ℕ) (x : MadeShard) (acts : List Act) (a : Act) → ShardLine shards s x acts → ShardMakes shards s (shard_of_acts x acts) a
+    → ShardLine shards s x (acts ++ a ∷ [])
 ShardLine-push shards s x [] a h m = (m, tt)
 ShardLine-push shards s x (b ∷ acts) a h m = (h.0, ShardLine-push shards s (shard_after x b) acts a h.1 m)
 
@@ -46,7 +48,8 @@ abbrev pub MayMake : Setting → NodeId → List Act → Act → Type 0
 MayMake setting (nodes.Worker w) acts a = WorkerMakes (setting.asks w) w (worker_of_acts new_worker acts) a
 MayMake setting (nodes.Shard s) acts a = ShardMakes setting.shards s (shard_of_acts new_shard acts) a
 
-pub IsLine-push : (setting : Setting) (p : NodeId) (acts : List Act) (a : Act) → IsLine setting p acts → MayMake setting p acts a → IsLine setting p (acts ++ a ∷ [])
+pub IsLine-push : (setting : Setting) (p : NodeId) (acts : List Act) (a : Act) → IsLine setting p acts → MayMake setting p acts a
+    → IsLine setting p (acts ++ a ∷ [])
 IsLine-push setting (nodes.Worker w) acts a h m = WorkerLine-push (setting.asks w) w new_worker acts a h m
 IsLine-push setting (nodes.Shard s) acts a h m = ShardLine-push setting.shards s new_shard acts a h m
 
@@ -65,7 +68,8 @@ AreLegal-empty setting (nodes.Worker w) = subst (WorkerLine (setting.asks w) w n
 AreLegal-empty setting (nodes.Shard s) = subst (ShardLine setting.shards s new_shard) (sym (acts_in_line-empty (nodes.Shard s))) tt
 
 -- an act that its node may make keeps lines legal
-pub AreLegal-act : (setting : Setting) (h : List Note) (a : Act) → AreLegal setting h → MayMake setting a.node (acts_in_line h a.node) a → AreLegal setting (h ++ notes.Act a ∷ [])
+pub AreLegal-act : (setting : Setting) (h : List Note) (a : Act) → AreLegal setting h → MayMake setting a.node (acts_in_line h a.node) a
+    → AreLegal setting (h ++ notes.Act a ∷ [])
 AreLegal-act setting h a legal m p = by (same_node a.node p) refl
   where
     by : (r : Bool) → same_node a.node p ≡ r → IsLine setting p (acts_in_line (h ++ notes.Act a ∷ []) p)

@@ -22,22 +22,27 @@ backwards h before n rest e =
     turned None acts = reverse-append acts []
     turned (Some a) acts = reverse-append acts (a ∷ [])
 
-pub heard_here : (h : List Note) (before : List ℕ) (n : ℕ) (rest : List ℕ) (worker : ℕ) (a : Act) (total : ℕ) → rest ≡ before ++ n ∷ [] → Some a ≡ act_of (note_at h n)
+pub heard_here : (h : List Note) (before : List ℕ) (n : ℕ) (rest : List ℕ) (worker : ℕ) (a : Act) (total : ℕ) → rest ≡ before ++ n ∷ []
+    → Some a ≡ act_of (note_at h n)
     → true ≡ hears_worker worker a → cause_among h rest worker ≡ total → a.by ≡ total
 heard_here h before n rest worker a total e is hears so_far =
-    let turned : reverse (acts_at h rest) ≡ a ∷ reverse (acts_at h before) = backwards h before n rest e ∙ ap (λ (o : Option Act). cons_option o (reverse (acts_at h before))) (sym is) in
+    let turned : reverse (acts_at h rest) ≡ a ∷ reverse (acts_at h before) =
+    backwards h before n rest e ∙ ap (λ (o : Option Act). cons_option o (reverse (acts_at h before))) (sym is) in
     let found : find (hears_worker worker) (a ∷ reverse (acts_at h before)) ≡ Some a = rw (← hears) refl in
     sym (ap (λ (acts : List Act). cause_of (find (hears_worker worker) acts)) turned ∙ ap cause_of found) ∙ so_far
 
-pub not_heard : (h : List Note) (before : List ℕ) (n : ℕ) (rest : List ℕ) (worker : ℕ) (a : Act) (total : ℕ) → rest ≡ before ++ n ∷ [] → Some a ≡ act_of (note_at h n)
+pub not_heard : (h : List Note) (before : List ℕ) (n : ℕ) (rest : List ℕ) (worker : ℕ) (a : Act) (total : ℕ) → rest ≡ before ++ n ∷ []
+    → Some a ≡ act_of (note_at h n)
     → false ≡ hears_worker worker a → cause_among h rest worker ≡ total → cause_among h before worker ≡ total
 not_heard h before n rest worker a total e is hears so_far =
-    let turned : reverse (acts_at h rest) ≡ a ∷ reverse (acts_at h before) = backwards h before n rest e ∙ ap (λ (o : Option Act). cons_option o (reverse (acts_at h before))) (sym is) in
+    let turned : reverse (acts_at h rest) ≡ a ∷ reverse (acts_at h before) =
+    backwards h before n rest e ∙ ap (λ (o : Option Act). cons_option o (reverse (acts_at h before))) (sym is) in
     let passed : find (hears_worker worker) (a ∷ reverse (acts_at h before)) ≡ find (hears_worker worker) (reverse (acts_at h before)) = rw (← hears) refl in
     sym (ap (λ (acts : List Act). cause_of (find (hears_worker worker) acts)) turned ∙ ap cause_of passed) ∙ so_far
 
 pub no_act : (h : List Note) (before : List ℕ) (n : ℕ) (rest : List ℕ) (worker : ℕ) (total : ℕ) → rest ≡ before ++ n ∷ [] → None ≡ act_of (note_at h n)
     → cause_among h rest worker ≡ total → cause_among h before worker ≡ total
 no_act h before n rest worker total e is so_far =
-    let turned : reverse (acts_at h rest) ≡ reverse (acts_at h before) = backwards h before n rest e ∙ ap (λ (o : Option Act). cons_option o (reverse (acts_at h before))) (sym is) in
+    let turned : reverse (acts_at h rest) ≡ reverse (acts_at h before) =
+    backwards h before n rest e ∙ ap (λ (o : Option Act). cons_option o (reverse (acts_at h before))) (sym is) in
     sym (ap (λ (acts : List Act). cause_of (find (hears_worker worker) acts)) turned) ∙ so_far

@@ -15,7 +15,7 @@ use Rattle.kt_tuple.specs.Matching.{Admits, Matches}
 use Rattle.kt_tuple.specs.Signature.{kind_of_place, kinds_of, kinds_of_places, kinds_of_op, shard_of}
 use Rattle.kt_tuple.specs.Space.{SpaceStep}
 use Rattle.kt_lines.specs.Bag.{without, served_bag}
-use Rattle.kt_history.proofs.Lists.{Contains-here}
+use Rattle.kt_history.proofs.Shared.{Contains-here}
 use Rattle.kt_lines.proofs.Bags.{takes, Contains-filter, Contains-unfilter, filter-without_kept, filter-without_other}
 
 -- the shard that is a tuple's home
@@ -50,7 +50,8 @@ is_home-other shards s s' u e d = ne_eqb (home_of shards u) s' (λ q. d (sym e �
 -- what was taken out of a share is in the whole
 taken : (p : Tuple → Bool) (u : Tuple) (all : List Tuple) → IsPermutation (filter p all) (u ∷ without u (filter p all)) → Contains all u
 taken p u all h =
-    Contains-unfilter p u all (Contains-permutation (u ∷ without u (filter p all)) (filter p all) u (IsPermutation-sym (filter p all) (u ∷ without u (filter p all)) h) (Contains-here u (without u (filter p all))))
+    Contains-unfilter p u all (Contains-permutation (u ∷ without u (filter p all)) (filter p all) u
+    (IsPermutation-sym (filter p all) (u ∷ without u (filter p all)) h) (Contains-here u (without u (filter p all))))
 
 -- where the home has no match, the whole has none
 no_match : (shards s : ℕ) (all : List Tuple) (t : Template) → shard_of shards (kinds_of_places t) ≡ s →
@@ -60,7 +61,8 @@ no_match shards s all t home h u c m =
 
 -- a step on the home's share is a step on all
 pub step_of_all : (shards s : ℕ) (all : List Tuple) (op : Op) (answer : Answer) → shard_of shards (kinds_of_op op) ≡ s →
-    SpaceStep (filter (is_home shards s) all) op answer (served_bag (filter (is_home shards s) all) op answer) → SpaceStep all op answer (served_bag all op answer)
+    SpaceStep (filter (is_home shards s) all) op answer (served_bag (filter (is_home shards s) all) op answer)
+    → SpaceStep all op answer (served_bag all op answer)
 step_of_all shards s all (Out u) answers.Done home h = IsPermutation-refl (u ∷ all)
 step_of_all shards s all (In t) (answers.Got u) home h = (h.0, takes u all (taken (is_home shards s) u all h.1))
 step_of_all shards s all (Rd t) (answers.Got u) home h = (h.0, Contains-unfilter (is_home shards s) u all h.1, IsPermutation-refl all)
@@ -72,7 +74,8 @@ step_of_all shards s all _ _ home h = absurd h
 
 -- the home's share steps like the whole
 pub share_at_home : (shards s : ℕ) (all bag : List Tuple) (op : Op) (answer : Answer) → shard_of shards (kinds_of_op op) ≡ s →
-    SpaceStep bag op answer (served_bag bag op answer) → filter (is_home shards s) (served_bag all op answer) ≡ served_bag (filter (is_home shards s) all) op answer
+    SpaceStep bag op answer (served_bag bag op answer)
+    → filter (is_home shards s) (served_bag all op answer) ≡ served_bag (filter (is_home shards s) all) op answer
 share_at_home shards s all bag (Out u) answer home h = rw (is_home-same shards s u home) refl
 share_at_home shards s all bag (In t) (answers.Got u) home h =
     filter-without_kept (is_home shards s) u all (is_home-same shards s u (home-Matches shards t u h.0 ∙ home))

@@ -16,3 +16,4 @@ pub mod Traces
 pub mod Shares
 pub mod Hearings
 pub mod NamedCauses
+pub mod Shared

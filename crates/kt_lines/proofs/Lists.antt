@@ -1,7 +1,7 @@
 -- What holds of each element of a list holds of one that it contains.
 use Rattle.std.proofs.Common.{List, [], ◌∷◌, Contains, inl, inr, subst}
 use Rattle.std.specs.List.{AllByRecursion}
-use Rattle.kt_history.proofs.Lists.{Contains-none, Contains-cons_cases}
+use Rattle.kt_history.proofs.Shared.{Contains-none, Contains-cons_cases}
 
 pub all-at : {X : Type 0} (P : X → Type 0) (xs : List X) (x : X) → AllByRecursion P xs → Contains xs x → P x
 all-at P [] x all c = absurd (Contains-none x c)

@@ -5,7 +5,7 @@ use Rattle.kt_tuple.specs.declared.node.NodeId.TheVariants as nodes
 use Rattle.kt_history.specs.declared.note.Act.{Act}
 use Rattle.kt_history.specs.Line.{same_node}
 use Rattle.kt_history.specs.Closed.{own}
-use Rattle.kt_history.proofs.Lines.{same_node-refl, same_node-true}
+use Rattle.kt_history.proofs.Shared.{same_node-refl, same_node-true}
 use Rattle.kt_lines.specs.Order.{Setting}
 use Rattle.kt_lines.specs.ShardLine.{MadeShard, ShardMakes, ShardLine, shard_after, shard_of_acts, put_row, new_shard}
 use Rattle.kt_lines.specs.WorkerLine.{MadeWorker, WorkerMakes, WorkerLine, worker_after, worker_of_acts, new_worker}
@@ -96,9 +96,11 @@ shard_in_world x (a ∷ later) s = shard_in_world (world_after x a) later s ∙ 
     l = own (nodes.Shard s) later
 
     by : (q : NodeId) (r : Bool) → same_node q (nodes.Shard s) ≡ r → shard_of_acts ((after_at x a q).shard s) l ≡ shard_of_acts (x.shard s) (cond r (a ∷ l) l)
-    by q true e = subst (λ p. shard_of_acts ((after_at x a p).shard s) l ≡ shard_of_acts (shard_after (x.shard s) a) l) (sym (same_node-true q (nodes.Shard s) e)) (ap (λ y. shard_of_acts y l) (put_row-same s (shard_after (x.shard s) a) x.shard))
+    by q true e = subst (λ p. shard_of_acts ((after_at x a p).shard s) l ≡ shard_of_acts (shard_after (x.shard s) a) l)
+        (sym (same_node-true q (nodes.Shard s) e)) (ap (λ y. shard_of_acts y l) (put_row-same s (shard_after (x.shard s) a) x.shard))
     by (nodes.Worker v) false e = refl
-    by (nodes.Shard r) false e = ap (λ y. shard_of_acts y l) (put_row-other r s (shard_after (x.shard r) a) x.shard (λ k. same_node-false (nodes.Shard r) (nodes.Shard s) e (ap nodes.Shard k)))
+    by (nodes.Shard r) false e = ap (λ y. shard_of_acts y l)
+        (put_row-other r s (shard_after (x.shard r) a) x.shard (λ k. same_node-false (nodes.Shard r) (nodes.Shard s) e (ap nodes.Shard k)))
 
 pub worker_in_world : (x : World) (acts : List Act) (w : ℕ) → (world_of_acts x acts).worker w ≡ worker_of_acts (x.worker w) (own (nodes.Worker w) acts)
 worker_in_world x [] w = refl
@@ -107,7 +109,10 @@ worker_in_world x (a ∷ later) w = worker_in_world (world_after x a) later w �
     l : List Act
     l = own (nodes.Worker w) later
 
-    by : (q : NodeId) (r : Bool) → same_node q (nodes.Worker w) ≡ r → worker_of_acts ((after_at x a q).worker w) l ≡ worker_of_acts (x.worker w) (cond r (a ∷ l) l)
-    by q true e = subst (λ p. worker_of_acts ((after_at x a p).worker w) l ≡ worker_of_acts (worker_after (x.worker w) a) l) (sym (same_node-true q (nodes.Worker w) e)) (ap (λ y. worker_of_acts y l) (put_row-same w (worker_after (x.worker w) a) x.worker))
+    by : (q : NodeId) (r : Bool) → same_node q (nodes.Worker w) ≡ r
+        → worker_of_acts ((after_at x a q).worker w) l ≡ worker_of_acts (x.worker w) (cond r (a ∷ l) l)
+    by q true e = subst (λ p. worker_of_acts ((after_at x a p).worker w) l ≡ worker_of_acts (worker_after (x.worker w) a) l)
+        (sym (same_node-true q (nodes.Worker w) e)) (ap (λ y. worker_of_acts y l) (put_row-same w (worker_after (x.worker w) a) x.worker))
     by (nodes.Shard r) false e = refl
-    by (nodes.Worker v) false e = ap (λ y. worker_of_acts y l) (put_row-other v w (worker_after (x.worker v) a) x.worker (λ k. same_node-false (nodes.Worker v) (nodes.Worker w) e (ap nodes.Worker k)))
+    by (nodes.Worker v) false e = ap (λ y. worker_of_acts y l)
+        (put_row-other v w (worker_after (x.worker v) a) x.worker (λ k. same_node-false (nodes.Worker v) (nodes.Worker w) e (ap nodes.Worker k)))

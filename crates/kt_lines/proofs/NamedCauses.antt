@@ -10,7 +10,7 @@ use Rattle.kt_history.specs.declared.note.Note.TheVariants as notes
 use Rattle.kt_history.specs.Line.{note_at, line, IsAct}
 use Rattle.kt_history.specs.WellFormed.{CausesComeFirst}
 use Rattle.kt_history.specs.Closed.{act_of, acts_at}
-use Rattle.kt_history.proofs.Lines.{note_before}
+use Rattle.kt_history.proofs.Shared.{note_before}
 use Rattle.kt_lines.specs.Cause.{hears_worker, cause_of, cause_of_waiting}
 
 -- the cause of an act of the history is an act of it
@@ -29,7 +29,8 @@ all-reverse P (x ∷ xs) h =
     let Q : List _ → Type 0 = AllByRecursion P in
     subst Q (sym (reverse-append (x ∷ []) xs)) (all-append P (reverse xs) (x ∷ []) (all-reverse P xs h.1) (h.0, tt))
 
-found-holds : {X : Type 0} (P : X → Type 0) (p : X → Bool) (b : Bool) (x y : X) (later : Option X) → cond b (Some x) later ≡ Some y → P x → (later ≡ Some y → P y) → P y
+found-holds : {X : Type 0} (P : X → Type 0) (p : X → Bool) (b : Bool) (x y : X) (later : Option X) → cond b (Some x) later ≡ Some y → P x
+    → (later ≡ Some y → P y) → P y
 found-holds P p true x y later e h g = let is : x ≡ y = cc in subst P is h
 found-holds P p false x y later e h g = g e
 
@@ -45,15 +46,18 @@ all-have_causes : (h : List Note) → CausesComeFirst h → (numbers : List ℕ)
 all-have_causes h causes [] = tt
 all-have_causes h causes (n ∷ later) = one (note_at h n) refl (all-have_causes h causes later)
   where
-    one : (o : Option Note) → note_at h n ≡ o → AllByRecursion (HasCause h) (acts_at h later) → AllByRecursion (HasCause h) (cons_option (act_of o) (acts_at h later))
+    one : (o : Option Note) → note_at h n ≡ o → AllByRecursion (HasCause h) (acts_at h later)
+        → AllByRecursion (HasCause h) (cons_option (act_of o) (acts_at h later))
     one None at rest = rest
     one (Some (notes.Act a)) at rest = (cause_named h causes n a at, rest)
     one (Some (notes.Cut p keep)) at rest = rest
 
 -- the cause that is found for a service is an act
-pub cause_of_waiting-named : (h : List Note) → CausesComeFirst h → (p : NodeId) (worker : ℕ) → cause_of_waiting h p worker ≢ 0 → IsAct h (cause_of_waiting h p worker)
+pub cause_of_waiting-named : (h : List Note) → CausesComeFirst h → (p : NodeId) (worker : ℕ) → cause_of_waiting h p worker ≢ 0
+    → IsAct h (cause_of_waiting h p worker)
 cause_of_waiting-named h causes p worker = among (find (hears_worker worker) (reverse (acts_at h (line h p)))) refl
   where
     among : (o : Option Act) → find (hears_worker worker) (reverse (acts_at h (line h p))) ≡ o → cause_of o ≢ 0 → IsAct h (cause_of o)
     among None e some = absurd (some refl)
-    among (Some a) e some = find-holds (HasCause h) (hears_worker worker) (reverse (acts_at h (line h p))) a (all-reverse (HasCause h) (acts_at h (line h p)) (all-have_causes h causes (line h p))) e some
+    among (Some a) e some = find-holds (HasCause h) (hears_worker worker) (reverse (acts_at h (line h p))) a
+        (all-reverse (HasCause h) (acts_at h (line h p)) (all-have_causes h causes (line h p))) e some

@@ -37,7 +37,8 @@ runs_on all a whats.Issue later tuples h rest = rest
 runs_on all a _ later tuples h rest = rest
 
 -- a worker's act leaves the space
-worker_steps : (all : List Tuple) (asks : List Answer → Option Op) (x : MadeWorker) (a : Act) (what : What) → WorkerMay asks x a what → Steps all a what × (bag_after all a what ≡ all)
+worker_steps : (all : List Tuple) (asks : List Answer → Option Op) (x : MadeWorker) (a : Act) (what : What) → WorkerMay asks x a what → Steps all a what
+    × (bag_after all a what ≡ all)
 worker_steps all asks x a (whats.Served answer) h = absurd h
 worker_steps all asks x a whats.Issue h = (tt, refl)
 worker_steps all asks x a _ h = (tt, refl)

@@ -1,12 +1,13 @@
 -- Services in a worker's order: what stands where, and one more at the end.
-use Rattle.std.proofs.Common.{◌≡◌, ℕ, suc, ◌+◌, true, cond, Option, Some, List, [], ◌∷◌, ◌++◌, map, length, Contains, inl, inr, sym, refl, ap, ◌∙◌, subst, append_assoc, append-nil, length-append, eqb, eq-eqb, ne_eqb, eqb-true, arith}
+use Rattle.std.proofs.Common.{◌≡◌, ℕ, suc, ◌+◌, true, cond, Option, Some, List, [], ◌∷◌, ◌++◌, map, length, Contains, inl, inr, sym}
+use Rattle.std.proofs.Common.{refl, ap, ◌∙◌, subst, append_assoc, append-nil, length-append, eqb, eq-eqb, ne_eqb, eqb-true, arith}
 use Rattle.std.proofs.lemmas.Bool.{cases_eq}
 use Rattle.std.proofs.lemmas.List.Elements.{filter-append, filter_passes, All-contains}
 use Rattle.kt_tuple.specs.declared.op.Op.{Op}
 use Rattle.kt_tuple.specs.declared.op.Answer.{Answer}
 use Rattle.kt_tuple.specs.declared.service.Service.{Service}
 use Rattle.kt_lines.specs.Order.{of_worker, OrderFrom}
-use Rattle.kt_history.proofs.Lists.{Contains-here, Contains-none}
+use Rattle.kt_history.proofs.Shared.{Contains-here, Contains-none}
 use Rattle.kt_lines.proofs.Bags.{Contains-there, Contains-cases, Contains-filter}
 
 abbrev pub answers_in : List Service → List Answer
@@ -39,7 +40,8 @@ service_after asks before (s ∷ later) (c ∷ front) b more h e =
     (r.0, Contains-there s r.0 later r.1, r.2 ∙ ap (λ l. suc (length l)) same, ap asks (sym same) ∙ r.3)
 
 -- where a service stands among the answers
-pub place_of : (asks : List Answer → Option Op) (before : List Answer) (services : List Service) (s : Service) → OrderFrom asks before services → Contains services s →
+pub place_of : (asks : List Answer → Option Op) (before : List Answer) (services : List Service) (s : Service) → OrderFrom asks before services
+    → Contains services s →
     (front : List Answer) × (more : List Answer) × (answers_in services ≡ front ++ s.answer ∷ more) × (s.number ≡ suc (length before + length front))
 place_of asks before [] s h c = absurd (Contains-none s c)
 place_of asks before (r ∷ later) s h c = elim (Contains-cases r s later c) [
@@ -60,11 +62,13 @@ OrderFrom-push asks before (r ∷ later) s h number asked =
 
 -- a worker's services when one more is made
 pub of_worker-push_same : (w : ℕ) (services : List Service) (s : Service) → s.worker ≡ w → of_worker w (services ++ s ∷ []) ≡ of_worker w services ++ s ∷ []
-of_worker-push_same w services s e = filter-append (λ (r : Service). eqb r.worker w) services (s ∷ []) ∙ ap (λ b. of_worker w services ++ cond b (s ∷ []) []) (eq-eqb s.worker w e)
+of_worker-push_same w services s e =
+    filter-append (λ (r : Service). eqb r.worker w) services (s ∷ []) ∙ ap (λ b. of_worker w services ++ cond b (s ∷ []) []) (eq-eqb s.worker w e)
 
 pub of_worker-push_other : (w : ℕ) (services : List Service) (s : Service) → ¬ (s.worker ≡ w) → of_worker w (services ++ s ∷ []) ≡ of_worker w services
 of_worker-push_other w services s d =
-    filter-append (λ (r : Service). eqb r.worker w) services (s ∷ []) ∙ ap (λ b. of_worker w services ++ cond b (s ∷ []) []) (ne_eqb s.worker w d) ∙ append-nil (of_worker w services)
+    filter-append (λ (r : Service). eqb r.worker w) services (s ∷ []) ∙ ap (λ b. of_worker w services ++ cond b (s ∷ []) []) (ne_eqb s.worker w d)
+    ∙ append-nil (of_worker w services)
 
 -- what holds of the worker's services with one more, and of those of the others, holds of each
 pub of_worker_holds : (P : ℕ → List Service → Type 0) (services : List Service) (s : Service) → P s.worker (of_worker s.worker services ++ s ∷ []) →
@@ -78,4 +82,6 @@ pub Contains-of_worker : (w : ℕ) (services : List Service) (s : Service) → s
 Contains-of_worker w services s e c = Contains-filter (λ (r : Service). eqb r.worker w) s services (eq-eqb s.worker w e) c
 
 pub of_worker_own : (w : ℕ) (services : List Service) (s : Service) → Contains (of_worker w services) s → s.worker ≡ w
-of_worker_own w services s c = eqb-true s.worker w (All-contains (λ (r : Service). eqb r.worker w ≡ true) (of_worker w services) s (filter_passes (λ (r : Service). eqb r.worker w) services) c)
+of_worker_own w services s c =
+    eqb-true s.worker w (All-contains (λ (r : Service). eqb r.worker w ≡ true) (of_worker w services) s
+    (filter_passes (λ (r : Service). eqb r.worker w) services) c)

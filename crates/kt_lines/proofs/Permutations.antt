@@ -10,12 +10,12 @@ use Rattle.kt_tuple.specs.declared.op.Answer.TheVariants as answers
 use Rattle.kt_tuple.specs.Matching.{Matches}
 use Rattle.kt_tuple.specs.Space.{SpaceStep}
 use Rattle.kt_lines.specs.Bag.{without, served_bag}
-use Rattle.kt_history.proofs.Lists.{Contains-here}
-use Rattle.kt_history.proofs.Runs.{IsPermutation-uncons}
+use Rattle.kt_history.proofs.Shared.{Contains-here, IsPermutation-uncons}
 use Rattle.kt_lines.proofs.Bags.{takes}
 
 -- one is the other with u
-taken_like : (u : Tuple) (x y new : List Tuple) → IsPermutation x y → IsPermutation y (u ∷ new) → IsPermutation x (u ∷ without u x) × IsPermutation (without u x) new
+taken_like : (u : Tuple) (x y new : List Tuple) → IsPermutation x y → IsPermutation y (u ∷ new) → IsPermutation x (u ∷ without u x)
+    × IsPermutation (without u x) new
 taken_like u x y new like h =
     let both : IsPermutation x (u ∷ new) = IsPermutation-trans x y (u ∷ new) like h in
     let there : Contains x u = Contains-permutation (u ∷ new) x u (IsPermutation-sym x (u ∷ new) both) (Contains-here u new) in

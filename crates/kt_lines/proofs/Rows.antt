@@ -58,7 +58,8 @@ map-set_same f (z ∷ xs) zero x y h was e = ap (λ b. b ∷ map f xs) (e ∙ ap
 map-set_same f (z ∷ xs) (suc k) x y h was e = ap (λ l. f z ∷ l) (map-set_same f xs k x y (omega arith) was e)
 
 -- a row that is changed in place is put into the table as plain data
-pub map-set_changed : {A B : Type 0} (f : A → B) (d : A) (change : B → B) (xs : List A) (k : ℕ) (x y : A) → k < length xs → x ≡ get_or xs k x → f y ≡ change (f x)
+pub map-set_changed : {A B : Type 0} (f : A → B) (d : A) (change : B → B) (xs : List A) (k : ℕ) (x y : A) → k < length xs → x ≡ get_or xs k x
+    → f y ≡ change (f x)
     → map f (set xs k y) ≡ put (f d) (map f xs) k (change (at (f d) (map f xs) k))
 map-set_changed f d change xs k x y h was e =
     let same : at (f d) (map f xs) k ≡ f x = at-map f d xs k ∙ ap f (get_or_default xs k d x h ∙ sym was) in

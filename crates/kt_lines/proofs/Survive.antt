@@ -13,20 +13,19 @@ use Rattle.kt_history.specs.Line.{line}
 use Rattle.kt_history.specs.Survival.{services_of, marked_acts, survives, services}
 use Rattle.kt_history.specs.Closed.{IsClosed, acts_at, acts_in_line, own}
 use Rattle.kt_history.specs.WellFormed.{CausesComeFirst, IsWellFormed}
-use Rattle.kt_history.proofs.Survivors.{survives-closed}
-use Rattle.kt_history.proofs.Fronts.{marked_front, acts_at-append}
+use Rattle.kt_history.proofs.Shared.{survives-closed, marked_front, acts_at-append, Contains-here}
 use Rattle.kt_lines.specs.Order.{Setting, FollowsScripts}
 use Rattle.kt_lines.specs.ShardLine.{MadeShard, ShardLine, shard_after, shard_of_acts, new_shard}
 use Rattle.kt_lines.specs.WorkerLine.{MadeWorker, WorkerLine, worker_after}
 use Rattle.kt_lines.specs.Legal.{IsLine, AreLegal}
-use Rattle.kt_history.proofs.Lists.{Contains-here}
 use Rattle.kt_lines.proofs.Homes.{is_home}
 use Rattle.kt_lines.proofs.OneRun.{tuples_after, one_run}
 use Rattle.kt_lines.proofs.Follows.{follows_scripts}
 use Rattle.kt_lines.proofs.Causes.{causes_first}
 
 -- the first acts of a line that a node may make are a line that it may make
-WorkerLine-front : (asks : List Answer → Option Op) (w : ℕ) (x : MadeWorker) (acts rest : List Act) → WorkerLine asks w x (acts ++ rest) → WorkerLine asks w x acts
+WorkerLine-front : (asks : List Answer → Option Op) (w : ℕ) (x : MadeWorker) (acts rest : List Act) → WorkerLine asks w x (acts ++ rest)
+    → WorkerLine asks w x acts
 WorkerLine-front asks w x [] rest h = tt
 WorkerLine-front asks w x (a ∷ acts) rest h = (h.0, WorkerLine-front asks w (worker_after x a) acts rest h.1)
 
@@ -39,7 +38,8 @@ IsLine-front setting (nodes.Worker w) acts rest h = WorkerLine-front (setting.as
 IsLine-front setting (nodes.Shard s) acts rest h = ShardLine-front setting.shards s _ acts rest h
 
 -- the marked acts of each node are a line that it may make
-pub marked_lines : (setting : Setting) (h : List Note) (marks : ℕ → Bool) → AreLegal setting h → IsClosed h marks → (p : NodeId) → IsLine setting p (own p (marked_acts marks h))
+pub marked_lines : (setting : Setting) (h : List Note) (marks : ℕ → Bool) → AreLegal setting h → IsClosed h marks → (p : NodeId)
+    → IsLine setting p (own p (marked_acts marks h))
 marked_lines setting h marks legal closed p =
     let m = marked_front h marks closed p in
     let f = m.is_front in
@@ -57,11 +57,14 @@ pub closed_run : (setting : Setting) (h : List Note) (marks : ℕ → Bool) → 
 closed_run setting h marks legal closed = one_run setting (marked_acts marks h) (marked_lines setting h marks legal closed)
 
 -- a closed choice follows the scripts
-pub closed_order : (setting : Setting) (h : List Note) (marks : ℕ → Bool) → AreLegal setting h → IsWellFormed h → IsClosed h marks → FollowsScripts setting (services_of (marked_acts marks h))
-closed_order setting h marks legal wf closed = follows_scripts setting (marked_acts marks h) (marked_lines setting h marks legal closed) (causes_first h marks wf closed)
+pub closed_order : (setting : Setting) (h : List Note) (marks : ℕ → Bool) → AreLegal setting h → IsWellFormed h → IsClosed h marks
+    → FollowsScripts setting (services_of (marked_acts marks h))
+closed_order setting h marks legal wf closed =
+    follows_scripts setting (marked_acts marks h) (marked_lines setting h marks legal closed) (causes_first h marks wf closed)
 
 -- where all that stands in the line of p is marked, its marked acts are those in its line
-pub all_marked : (h : List Note) (marks : ℕ → Bool) → IsClosed h marks → (p : NodeId) → ((n : ℕ) → Contains (line h p) n → IsTrue (marks n)) → own p (marked_acts marks h) ≡ acts_in_line h p
+pub all_marked : (h : List Note) (marks : ℕ → Bool) → IsClosed h marks → (p : NodeId) → ((n : ℕ) → Contains (line h p) n → IsTrue (marks n))
+    → own p (marked_acts marks h) ≡ acts_in_line h p
 all_marked h marks closed p all =
     let m = marked_front h marks closed p in
     let f = m.is_front in
@@ -87,8 +90,10 @@ unfolding services
 survivors_order setting h causes wf legal = closed_order setting h (survives h) legal wf (survives-closed h causes)
 
 -- where all remembered acts survive, each shard's share of the run's tuples is the bag that its line leads to
-pub survivors_bags : (setting : Setting) (h : List Note) → CausesComeFirst h → AreLegal setting h → ((p : NodeId) (n : ℕ) → Contains (line h p) n → IsTrue (survives h n)) →
+pub survivors_bags : (setting : Setting) (h : List Note) → CausesComeFirst h → AreLegal setting h
+    → ((p : NodeId) (n : ℕ) → Contains (line h p) n → IsTrue (survives h n)) →
     (s : ℕ) → filter (is_home setting.shards s) (surviving_tuples h) ≡ (shard_of_acts new_shard (acts_in_line h (nodes.Shard s))).bag
 survivors_bags setting h causes legal all s =
     let closed = survives-closed h causes in
-    (closed_run setting h (survives h) legal closed).1 s ∙ ap (λ l. (shard_of_acts new_shard l).bag) (all_marked h (survives h) closed (nodes.Shard s) (all (nodes.Shard s)))
+    (closed_run setting h (survives h) legal closed).1 s
+    ∙ ap (λ l. (shard_of_acts new_shard l).bag) (all_marked h (survives h) closed (nodes.Shard s) (all (nodes.Shard s)))

@@ -1,5 +1,6 @@
 -- What waits at a shard was heard in its line, what it keeps was served there, and the last hearing has the cause.
-use Rattle.std.proofs.Common.{if◌then◌else◌, ◌==◌, ◌≡◌, ℕ, Bool, true, false, ◌&&◌, List, [], ◌∷◌, reverse, Contains, Option, Some, None, ◌⊎◌, inl, inr, sym, refl, ap, ◌∙◌, subst, eq-eqb, ne_eqb}
+use Rattle.std.proofs.Common.{if◌then◌else◌, ◌==◌, ◌≡◌, ℕ, Bool, true, false, ◌&&◌, List, [], ◌∷◌, reverse, Contains}
+use Rattle.std.proofs.Common.{Option, Some, None, ◌⊎◌, inl, inr, sym, refl, ap, ◌∙◌, subst, eq-eqb, ne_eqb}
 use Rattle.std.specs.List.{find, cons_option}
 use Rattle.std.specs.Option.{option_or}
 use Rattle.std.proofs.lemmas.Bool.{cases_eq, and_right}
@@ -18,7 +19,7 @@ use Rattle.kt_shard.specs.declared.request.Kept.{Kept}
 use Rattle.kt_shard.specs.declared.desk.Desk.{Desk}
 use Rattle.kt_lines.specs.ShardLine.{MadeShard, request_of, desk_after, cause_after, shard_after, shard_of_acts, ShardLine, new_shard}
 use Rattle.kt_lines.specs.Cause.{is_hearing, hears_worker, cause_of}
-use Rattle.kt_history.proofs.Lists.{Contains-here, Contains-none}
+use Rattle.kt_history.proofs.Shared.{Contains-here, Contains-none}
 use Rattle.kt_lines.proofs.Bags.{Contains-there, Contains-cases}
 use Rattle.kt_lines.proofs.Numbered.{put_row-same, put_row-other}
 
@@ -32,7 +33,8 @@ pub record WasHeard (acts : List Act) (w : ℕ) (request : Request) (cause : ℕ
   pub by : act.by ≡ cause
 
 WasHeard-later : (a : Act) (acts : List Act) (w : ℕ) (request : Request) (cause : ℕ) → WasHeard acts w request cause → WasHeard (a ∷ acts) w request cause
-WasHeard-later a acts w request cause h = record { act = h.act; among = Contains-there a h.act acts h.among; hears = h.hears; worker = h.worker; about = h.about; by = h.by }
+WasHeard-later a acts w request cause h =
+    record { act = h.act; among = Contains-there a h.act acts h.among; hears = h.hears; worker = h.worker; about = h.about; by = h.by }
 
 -- what waits after an act waited before it, or was heard by it
 waits_after : (d : Desk) (cause : ℕ) (a : Act) (what : What) (request : Request) → (desk_after d a what).waiting ≡ Some request →
@@ -56,10 +58,15 @@ waits_from x (a ∷ later) w request e = elim (waits_from (shard_after x a) late
     by : (a.worker ≡ w) ⊎ (a.worker ≡ w → ⊥) → ((shard_after x a).desk w).waiting ≡ Some request → (shard_after x a).cause w ≡ last →
         WasHeard (a ∷ later) w request last ⊎ (((x.desk w).waiting ≡ Some request) × (x.cause w ≡ last))
     by (inr d) waits same =
-        inr (ap (λ (k : Desk). k.waiting) (sym (put_row-other a.worker w (desk_after (x.desk a.worker) a a.what) x.desk d)) ∙ waits, sym (put_row-other a.worker w (cause_after (x.cause a.worker) a a.what) x.cause d) ∙ same)
+        inr (
+          ap (λ (k : Desk). k.waiting) (sym (put_row-other a.worker w (desk_after (x.desk a.worker) a a.what) x.desk d)) ∙ waits,
+          sym (put_row-other a.worker w (cause_after (x.cause a.worker) a a.what) x.cause d) ∙ same,
+        )
     by (inl own) waits same =
-        let desk : (shard_after x a).desk w ≡ desk_after (x.desk a.worker) a a.what = ap (shard_after x a).desk (sym own) ∙ put_row-same a.worker (desk_after (x.desk a.worker) a a.what) x.desk in
-        let cause : (shard_after x a).cause w ≡ cause_after (x.cause a.worker) a a.what = ap (shard_after x a).cause (sym own) ∙ put_row-same a.worker (cause_after (x.cause a.worker) a a.what) x.cause in
+        let desk : (shard_after x a).desk w ≡ desk_after (x.desk a.worker) a a.what =
+        ap (shard_after x a).desk (sym own) ∙ put_row-same a.worker (desk_after (x.desk a.worker) a a.what) x.desk in
+        let cause : (shard_after x a).cause w ≡ cause_after (x.cause a.worker) a a.what =
+        ap (shard_after x a).cause (sym own) ∙ put_row-same a.worker (cause_after (x.cause a.worker) a a.what) x.cause in
         elim (waits_after (x.desk a.worker) (x.cause a.worker) a a.what request (ap (λ (k : Desk). k.waiting) (sym desk) ∙ waits)) [
           | inl h ↦ inl (record { act = a; among = Contains-here a later; hears = h.0; worker = own; about = h.1; by = h.2 ∙ sym cause ∙ same })
           | inr h ↦ inr (ap (λ k. (x.desk k).waiting) (sym own) ∙ h.0, ap x.cause (sym own) ∙ h.1 ∙ sym cause ∙ same)
@@ -89,7 +96,8 @@ keeps_after d a (whats.Served answer) kept e =
 keeps_after d a whats.Issue kept e = inr e
 keeps_after d a _ kept e = inr e
 
-keeps_from : (x : MadeShard) (acts : List Act) (w : ℕ) (kept : Kept) → ((shard_of_acts x acts).desk w).kept ≡ Some kept → ServedIn acts w kept ⊎ ((x.desk w).kept ≡ Some kept)
+keeps_from : (x : MadeShard) (acts : List Act) (w : ℕ) (kept : Kept) → ((shard_of_acts x acts).desk w).kept ≡ Some kept → ServedIn acts w kept
+    ⊎ ((x.desk w).kept ≡ Some kept)
 keeps_from x [] w kept e = inr e
 keeps_from x (a ∷ later) w kept e = elim (keeps_from (shard_after x a) later w kept e) [
   | inl h ↦ inl (ServedIn-later a later w kept h)
@@ -99,7 +107,8 @@ keeps_from x (a ∷ later) w kept e = elim (keeps_from (shard_after x a) later w
     by : (a.worker ≡ w) ⊎ (a.worker ≡ w → ⊥) → ((shard_after x a).desk w).kept ≡ Some kept → ServedIn (a ∷ later) w kept ⊎ ((x.desk w).kept ≡ Some kept)
     by (inr d) keeps = inr (ap (λ (k : Desk). k.kept) (sym (put_row-other a.worker w (desk_after (x.desk a.worker) a a.what) x.desk d)) ∙ keeps)
     by (inl own) keeps =
-        let desk : (shard_after x a).desk w ≡ desk_after (x.desk a.worker) a a.what = ap (shard_after x a).desk (sym own) ∙ put_row-same a.worker (desk_after (x.desk a.worker) a a.what) x.desk in
+        let desk : (shard_after x a).desk w ≡ desk_after (x.desk a.worker) a a.what =
+        ap (shard_after x a).desk (sym own) ∙ put_row-same a.worker (desk_after (x.desk a.worker) a a.what) x.desk in
         elim (keeps_after (x.desk a.worker) a a.what kept (ap (λ (k : Desk). k.kept) (sym desk) ∙ keeps)) [
           | inl h ↦ inl (record { act = a; among = Contains-here a later; serves = h.0; worker = own; about = h.1 })
           | inr h ↦ inr (ap (λ k. (x.desk k).kept) (sym own) ∙ h)
@@ -110,7 +119,8 @@ pub keeps_served : (acts : List Act) (w : ℕ) (kept : Kept) → ((shard_of_acts
 keeps_served acts w kept e = elim (keeps_from new_shard acts w kept e) [ inl h ↦ h | inr h ↦ absurd cc ]
 
 -- each act of a shard's line is at home there
-pub ShardLine-home : (shards s : ℕ) (x : MadeShard) (acts : List Act) (a : Act) → ShardLine shards s x acts → Contains acts a → shard_of shards (kinds_of_op a.op) ≡ s
+pub ShardLine-home : (shards s : ℕ) (x : MadeShard) (acts : List Act) (a : Act) → ShardLine shards s x acts → Contains acts a
+    → shard_of shards (kinds_of_op a.op) ≡ s
 ShardLine-home shards s x [] a h c = absurd (Contains-none a c)
 ShardLine-home shards s x (b ∷ later) a h c = elim (Contains-cases b a later c) [
   | inl e ↦ subst (λ (z : Act). shard_of shards (kinds_of_op z.op) ≡ s) e h.0.0
@@ -118,14 +128,16 @@ ShardLine-home shards s x (b ∷ later) a h c = elim (Contains-cases b a later c
 ]
 
 -- an act at one of these numbers
-pub Contains-acts_at : (h : List Note) (numbers : List ℕ) (a : Act) → Contains (acts_at h numbers) a → (n : ℕ) × Contains numbers n × (note_at h n ≡ Some (notes.Act a))
+pub Contains-acts_at : (h : List Note) (numbers : List ℕ) (a : Act) → Contains (acts_at h numbers) a → (n : ℕ) × Contains numbers n
+    × (note_at h n ≡ Some (notes.Act a))
 Contains-acts_at h [] a c = absurd (Contains-none a c)
 Contains-acts_at h (k ∷ later) a c = by (note_at h k) refl c (Contains-acts_at h later a)
   where
     there : ((n : ℕ) × Contains later n × (note_at h n ≡ Some (notes.Act a))) → (n : ℕ) × Contains (k ∷ later) n × (note_at h n ≡ Some (notes.Act a))
     there r = (r.0, Contains-there k r.0 later r.1, r.2)
 
-    by : (o : Option Note) → note_at h k ≡ o → Contains (cons_option (act_of o) (acts_at h later)) a → (Contains (acts_at h later) a → (n : ℕ) × Contains later n × (note_at h n ≡ Some (notes.Act a))) →
+    by : (o : Option Note) → note_at h k ≡ o → Contains (cons_option (act_of o) (acts_at h later)) a
+        → (Contains (acts_at h later) a → (n : ℕ) × Contains later n × (note_at h n ≡ Some (notes.Act a))) →
         (n : ℕ) × Contains (k ∷ later) n × (note_at h n ≡ Some (notes.Act a))
     by None e c rest = there (rest c)
     by (Some (notes.Cut p keep)) e c rest = there (rest c)
@@ -167,9 +179,11 @@ cause_from x (a ∷ later) w =
     first : (shard_after x a).cause w ≡ cause_or (x.cause w) (find (hears_worker w) (a ∷ []))
     first = elim (cases_eq a.worker w) [
       | inl own ↦
-          ap (shard_after x a).cause (sym own) ∙ put_row-same a.worker (cause_after (x.cause a.worker) a a.what) x.cause ∙ cause_step (x.cause a.worker) a a.what
+          ap (shard_after x a).cause (sym own) ∙ put_row-same a.worker (cause_after (x.cause a.worker) a a.what) x.cause
+          ∙ cause_step (x.cause a.worker) a a.what
           ∙ ap (λ k. cause_or (x.cause k) (if is_hearing a.what then Some a else None)) own
-          ∙ ap (λ b. cause_or (x.cause w) (if b then Some a else None)) (sym (and_true (is_hearing a.what)) ∙ ap (λ b. is_hearing a.what && b) (sym (eq-eqb a.worker w own)))
+          ∙ ap (λ b. cause_or (x.cause w) (if b then Some a else None))
+          (sym (and_true (is_hearing a.what)) ∙ ap (λ b. is_hearing a.what && b) (sym (eq-eqb a.worker w own)))
       | inr d ↦
           put_row-other a.worker w (cause_after (x.cause a.worker) a a.what) x.cause d
           ∙ ap (λ b. cause_or (x.cause w) (if b then Some a else None)) (sym (and_right (is_hearing a.what) (a.worker == w) (ne_eqb a.worker w d)))

@@ -10,7 +10,7 @@ use Rattle.kt_history.specs.declared.note.Note.{Note}
 use Rattle.kt_history.specs.declared.note.Note.TheVariants as notes
 use Rattle.kt_history.specs.Line.{note_at, before, IsAct}
 use Rattle.kt_history.specs.WellFormed.{MayFollow, CausesComeFirst, IgnoredFits, ActFits, Fits, IsWellFormed, HasNoCut}
-use Rattle.kt_history.proofs.Lines.{note_at-within, note_at-push_cases, before-old, before-new}
+use Rattle.kt_history.proofs.Shared.{note_at-within, note_at-push_cases, before-old, before-new}
 
 -- a cause is an act
 cause_is_act : (h : List Note) (a : Act) (what : What) → ActFits h a what → a.by ≢ 0 → IsAct h a.by

@@ -16,7 +16,8 @@ of_worker w services = filter (λ s. s.worker == w) services
 -- after these answers the services are those that the worker asks for, one after the other, numbered on
 abbrev pub OrderFrom : (List Answer → Option Op) → List Answer → List Service → Type 0
 OrderFrom asks answers [] = Unit {0}
-OrderFrom asks answers (s ∷ later) = (s.number ≡ suc (length answers)) × (asks answers ≡ Some s.op) × OrderFrom asks (answers ++ s.answer ∷ []) later
+OrderFrom asks answers (s ∷ later) =
+    (s.number ≡ suc (length answers)) × (asks answers ≡ Some s.op) × OrderFrom asks (answers ++ s.answer ∷ []) later
 
 -- each worker's services are numbered 1, 2, .., and ask what it asks after its earlier answers
 abbrev pub FollowsScripts : Setting → List Service → Type 0

@@ -48,7 +48,8 @@ ShardMay bag d cause a _ = ⊥
 -- the desk of the act's worker after it
 abbrev pub desk_after : Desk → Act → What → Desk
 desk_after d a whats.Heard = record { waiting = Some (request_of a); kept = d.kept }
-desk_after d a (whats.Served answer) = record { waiting = None; kept = Some (record { request = request_of a; answer = answer }) }
+desk_after d a (whats.Served answer) =
+    record { waiting = None; kept = Some (record { request = request_of a; answer = answer }) }
 desk_after d a _ = d
 
 -- the bag after the act
@@ -74,7 +75,8 @@ shard_after x a = record {
 
 -- of so many shards, the shard s may make the act: it is at home there, and by the table of arrivals or a service
 abbrev pub ShardMakes : ℕ → ℕ → MadeShard → Act → Type 0
-ShardMakes shards s x a = (shard_of shards (kinds_of_op a.op) ≡ s) × ShardMay x.bag (x.desk a.worker) (x.cause a.worker) a a.what
+ShardMakes shards s x a =
+    (shard_of shards (kinds_of_op a.op) ≡ s) × ShardMay x.bag (x.desk a.worker) (x.cause a.worker) a a.what
 
 -- from the state x, the shard s may make these acts one after the other
 abbrev pub ShardLine : ℕ → ℕ → MadeShard → List Act → Type 0

@@ -7,7 +7,7 @@ use Rattle.std.specs.declared.collections.VecDeque.{VecDeque}
 use Rattle.std.specs.declared.alloc.Global.{Global}
 use Rattle.kt_tuple.specs.declared.node.NodeId.{NodeId}
 use Rattle.kt_link.specs.Network.{Network, ChangesOnly, place, queue, room, entry_at, with_entry}
-use Rattle.kt_link.specs.Queues.{network_of, spare}
+use Rattle.kt_link.specs.inner.Queues.{network_of, spare}
 
 -- what a list of entries has at a place that was written
 entry_set : {A : Type 0} (d new : A) (entries : List A) (at : Option ℕ) (k : ℕ) → at ≡ Some k → k < length entries → entry_at d (set entries k new) at ≡ new

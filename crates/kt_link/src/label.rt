@@ -1,3 +1,5 @@
+//! Labels of messages.
+
 ghost use Rattle.std.specs.Prelude.{◌↔◌, IsTrue};
 
 /// When a message was sent: the sender's incarnation, and how many it had sent in it. Labels compare by

@@ -1,5 +1,7 @@
-ghost use Rattle.std.specs.Prelude.{◌≡◌, ◌+◌, ◌*◌, ◌<◌, ◌≤◌, ◌↔◌, ◌++◌, ◌∷◌, [], drop, length, map, replicate, slice_get};
-ghost use Rattle.std.specs.Prelude.{IsTrue, IsOk, IfOk, IfErr, IfSome, OnOk, OnErr};
+//! The links between workers and shards.
+
+ghost use Rattle.std.specs.Prelude.{◌≡◌, ◌+◌, ◌*◌, ◌<◌, ◌≤◌, ◌↔◌, ◌++◌, ◌∷◌, [], drop, length, map};
+ghost use Rattle.std.specs.Prelude.{replicate, slice_get, IsTrue, IsOk, IfOk, IfErr, IfSome, OnOk, OnErr};
 ghost use Rattle.std.specs.Option.{option_copied};
 ghost use Rattle.kt_link.specs.Network.{AreNeighbours, place, place_between};
 
@@ -19,7 +21,7 @@ pub struct Links<M> {
 impl<M> Model for Links<M> {
     ghost use Rattle.std.specs.Prelude.{◌≡◌, ◌*◌, length};
     ghost use Rattle.kt_link.specs.Network.{Network};
-    ghost use Rattle.kt_link.specs.Queues.{network_of};
+    ghost use Rattle.kt_link.specs.inner.Queues.{network_of};
 
     ghost Value = { Network M };
 

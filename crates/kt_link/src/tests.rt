@@ -1,3 +1,5 @@
+//! Links with messages on them, call by call.
+
 use super::*;
 use kt_tuple::NodeId;
 use std::test::Fail;

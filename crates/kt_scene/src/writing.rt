@@ -137,7 +137,7 @@ fn push_actuals(out: &mut Vec<u8>, actuals: &Actuals) -> Result<(), AllocError>
 {
     out.push(b'(')?;
     let mut separator: &[u8] = b"";
-    for actual in actuals.actuals() {
+    for actual in actuals.as_slice() {
         out.extend_from_slice(separator)?;
         push_actual(out, actual)?;
         separator = b", ";
@@ -151,7 +151,7 @@ fn push_pattern(out: &mut Vec<u8>, pattern: &Pattern) -> Result<(), AllocError>
 {
     out.push(b'(')?;
     let mut separator: &[u8] = b"";
-    for slot in pattern.slots() {
+    for slot in pattern.as_slice() {
         out.extend_from_slice(separator)?;
         push_slot(out, slot)?;
         separator = b", ";

@@ -40,7 +40,8 @@ pub held-zeros : (vs : List (Name × Kind)) (x : Name) → held vs (zeros_of vs)
 held-zeros [] x = refl
 held-zeros (v ∷ vs) x = by (same_name x v.0) (held-zeros vs x)
   where
-    by : (b : Bool) → held vs (zeros_of vs) x ≡ zero_of (kind_in vs x) → (if b then zero_of (Some v.1) else held vs (zeros_of vs) x) ≡ zero_of (cond b (Some v.1) (kind_in vs x))
+    by : (b : Bool) → held vs (zeros_of vs) x ≡ zero_of (kind_in vs x)
+        → (if b then zero_of (Some v.1) else held vs (zeros_of vs) x) ≡ zero_of (cond b (Some v.1) (kind_in vs x))
     by true h = refl
     by false h = h
 
@@ -58,7 +59,8 @@ length-with_held (v ∷ vs) (u ∷ us) x w = by (same_name x v.0) (length-with_h
     by false h = ap suc h
 
 -- a name that is known stands for the value that it was given, and each other one for what it did
-pub held-with_held : (vs : List (Name × Kind)) (us : List Value) (x : Name) (w : Value) → length us ≡ length vs → is_some (kind_in vs x) ≡ true → (y : Name) → held vs (with_held vs us x w) y ≡ with_value (held vs us) x w y
+pub held-with_held : (vs : List (Name × Kind)) (us : List Value) (x : Name) (w : Value) → length us ≡ length vs → is_some (kind_in vs x) ≡ true → (y : Name)
+    → held vs (with_held vs us x w) y ≡ with_value (held vs us) x w y
 held-with_held [] us x w fits known y = absurd (true≢false (sym known))
 held-with_held (v ∷ vs) [] x w fits known y = absurd (omega (arith, fits))
 held-with_held (v ∷ vs) (u ∷ us) x w fits known y =
@@ -68,13 +70,15 @@ held-with_held (v ∷ vs) (u ∷ us) x w fits known y =
     first e true f = refl
     first e false f = refl
 
-    later : same_name x v.0 ≡ false → held vs (with_held vs us x w) y ≡ with_value (held vs us) x w y → (c d : Bool) → same_name y v.0 ≡ c → same_name y x ≡ d → (if c then u else (if d then w else held vs us y)) ≡ (if d then w else (if c then u else held vs us y))
+    later : same_name x v.0 ≡ false → held vs (with_held vs us x w) y ≡ with_value (held vs us) x w y → (c d : Bool) → same_name y v.0 ≡ c → same_name y x ≡ d
+        → (if c then u else (if d then w else held vs us y)) ≡ (if d then w else (if c then u else held vs us y))
     later e h true true f g = absurd (true≢false (sym f ∙ ap (λ n. same_name n v.0) (same_is y x g) ∙ e))
     later e h true false f g = refl
     later e h false true f g = refl
     later e h false false f g = refl
 
-    by : (b : Bool) → same_name x v.0 ≡ b → (same_name x v.0 ≡ false → held vs (with_held vs us x w) y ≡ with_value (held vs us) x w y) → held (v ∷ vs) (with_held (v ∷ vs) (u ∷ us) x w) y ≡ with_value (held (v ∷ vs) (u ∷ us)) x w y
+    by : (b : Bool) → same_name x v.0 ≡ b → (same_name x v.0 ≡ false → held vs (with_held vs us x w) y ≡ with_value (held vs us) x w y)
+        → held (v ∷ vs) (with_held (v ∷ vs) (u ∷ us) x w) y ≡ with_value (held (v ∷ vs) (u ∷ us)) x w y
     by true e rest =
         ap (λ b. held (v ∷ vs) (if b then w ∷ us else u ∷ with_held vs us x w) y) e
         ∙ first e (same_name y v.0) refl
@@ -90,7 +94,8 @@ module _ (vs : List (Name × Kind)) where
   length-with_slot_held us (slots.Formal k None) w = refl
   length-with_slot_held us (slots.Formal k (Some x)) w = length-with_held vs us x w
 
-  pub held-with_slot : (us : List Value) (s : Slot) (w : Value) → length us ≡ length vs → AreKnown vs (slot_bindings s) → held vs (with_slot_held vs us s w) ≡ with_slot (held vs us) s w
+  pub held-with_slot : (us : List Value) (s : Slot) (w : Value) → length us ≡ length vs → AreKnown vs (slot_bindings s)
+      → held vs (with_slot_held vs us s w) ≡ with_slot (held vs us) s w
   held-with_slot us (slots.Actual a) w fits known = refl
   held-with_slot us (slots.Formal k None) w fits known = refl
   held-with_slot us (slots.Formal k (Some x)) w fits known = λ j y. held-with_held vs us x w fits known.0 y j
@@ -100,11 +105,13 @@ module _ (vs : List (Name × Kind)) where
   length-with_tuple_held us (s ∷ p) [] = refl
   length-with_tuple_held us (s ∷ p) (w ∷ t) = length-with_tuple_held (with_slot_held vs us s w) p t ∙ length-with_slot_held us s w
 
-  pub held-with_tuple : (us : List Value) (p : List Slot) (t : List Value) → length us ≡ length vs → AreKnown vs (flat_map slot_bindings p) → held vs (with_tuple_held vs us p t) ≡ with_tuple (held vs us) p t
+  pub held-with_tuple : (us : List Value) (p : List Slot) (t : List Value) → length us ≡ length vs → AreKnown vs (flat_map slot_bindings p)
+      → held vs (with_tuple_held vs us p t) ≡ with_tuple (held vs us) p t
   held-with_tuple us [] t fits known = refl
   held-with_tuple us (s ∷ p) [] fits known = refl
   held-with_tuple us (s ∷ p) (w ∷ t) fits known =
-      held-with_tuple (with_slot_held vs us s w) p t (length-with_slot_held us s w ∙ fits) (AreKnown-right vs (slot_bindings s) (flat_map slot_bindings p) known)
+      held-with_tuple (with_slot_held vs us s w) p t (length-with_slot_held us s w ∙ fits)
+      (AreKnown-right vs (slot_bindings s) (flat_map slot_bindings p) known)
       ∙ ap (λ m. with_tuple m p t) (held-with_slot us s w fits (AreKnown-left vs (slot_bindings s) (flat_map slot_bindings p) known))
 
   pub length-values_after : (us : List Value) (p : List Slot) (a : Answer) → length (values_after vs us p a) ≡ length us
@@ -117,7 +124,8 @@ module _ (vs : List (Name × Kind)) where
   length-values_after us p answers.None = refl
 
   -- an answer binds alike in the list of values and in what the names stand for
-  pub held-values_after : (us : List Value) (p : List Slot) (a : Answer) → length us ≡ length vs → AreKnown vs (flat_map slot_bindings p) → held vs (values_after vs us p a) ≡ after_answer (held vs us) p a
+  pub held-values_after : (us : List Value) (p : List Slot) (a : Answer) → length us ≡ length vs → AreKnown vs (flat_map slot_bindings p)
+      → held vs (values_after vs us p a) ≡ after_answer (held vs us) p a
   held-values_after us p answers.Done fits known = refl
   held-values_after us p (answers.Got t) fits known = by (has_kinds (held vs us) p t)
     where

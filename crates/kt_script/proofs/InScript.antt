@@ -1,5 +1,6 @@
 -- Answers lead to positions of the script, where each variable has a value of its kind.
-use Rattle.std.proofs.Common.{◌≡◌, ℕ, zero, suc, ◌+◌, ◌≤◌, ℤ, Bool, true, false, true≢false, cond, List, [], ◌∷◌, ◌++◌, length, drop, fold, Option, None, Some, slice_get, flat_map, refl, sym, ap, subst, ◌∙◌, arith}
+use Rattle.std.proofs.Common.{◌≡◌, ℕ, zero, suc, ◌+◌, ◌≤◌, ℤ, Bool, true, false, true≢false, cond, List, [], ◌∷◌, ◌++◌}
+use Rattle.std.proofs.Common.{length, drop, fold, Option, None, Some, slice_get, flat_map, refl, sym, ap, subst, ◌∙◌, arith}
 use Rattle.std.specs.Prelude.{if◌then◌else◌}
 use Rattle.std.proofs.lemmas.Bool.{and_parts, and_from}
 use Rattle.std.proofs.lemmas.List.{length-drop}
@@ -23,7 +24,8 @@ use Rattle.kt_script.specs.Command.{slot_bindings, slots_of, bindings}
 use Rattle.kt_script.specs.Variables.{kind_in, variables_of}
 use Rattle.kt_script.specs.Meaning.{Meaning, zero_of, place_of_slot, plus, has_kinds}
 use Rattle.kt_script.specs.Memory.{Memory, zeros_of, opening_memory, are_values_of, memory_of, held, with_held, with_slot_held, with_tuple_held, values_after}
-use Rattle.kt_script.specs.Next.{Position, IsInScript, assigned, next_from, next_at, slots_of_command, slots_before, bound, opening_position, answered, after_one, position_after}
+use Rattle.kt_script.specs.Next.{Position, IsInScript, assigned, next_from, next_at, slots_of_command}
+use Rattle.kt_script.specs.Next.{slots_before, bound, opening_position, answered, after_one, position_after}
 use Rattle.kt_script.specs.Rules.{IsScript}
 use Rattle.kt_script.proofs.OneKind.{AreOfKind, AreOfKind-script}
 
@@ -35,7 +37,8 @@ AreOfKind-right : (vs xs ys : List (Name × Kind)) → AreOfKind vs (xs ++ ys) �
 AreOfKind-right vs [] ys h = h
 AreOfKind-right vs (x ∷ xs) ys h = AreOfKind-right vs xs ys h.1
 
-AreOfKind-drop : (vs : List (Name × Kind)) (pc : ℕ) (commands : List Command) → AreOfKind vs (flat_map bindings commands) → AreOfKind vs (flat_map bindings (drop pc commands))
+AreOfKind-drop : (vs : List (Name × Kind)) (pc : ℕ) (commands : List Command) → AreOfKind vs (flat_map bindings commands)
+    → AreOfKind vs (flat_map bindings (drop pc commands))
 AreOfKind-drop vs zero commands h = h
 AreOfKind-drop vs (suc pc) [] h = h
 AreOfKind-drop vs (suc pc) (c ∷ commands) h = AreOfKind-drop vs pc commands (AreOfKind-right vs (bindings c) (flat_map bindings commands) h)
@@ -46,7 +49,8 @@ of_command vs (Set x y k) h = tt
 of_command vs (Unless n) h = tt
 
 -- what the command of this number may bind
-AreOfKind-at : (vs : List (Name × Kind)) (commands : List Command) (n : ℕ) → AreOfKind vs (flat_map bindings commands) → AreOfKind vs (flat_map slot_bindings (slots_of_command (slice_get commands n)))
+AreOfKind-at : (vs : List (Name × Kind)) (commands : List Command) (n : ℕ) → AreOfKind vs (flat_map bindings commands)
+    → AreOfKind vs (flat_map slot_bindings (slots_of_command (slice_get commands n)))
 AreOfKind-at vs [] zero h = tt
 AreOfKind-at vs [] (suc n) h = tt
 AreOfKind-at vs (c ∷ cs) zero h = of_command vs c (AreOfKind-left vs (bindings c) (flat_map bindings cs) h)
@@ -70,14 +74,17 @@ plus-kind : (v : Value) (k : ℤ) → kind_of (plus v k) ≡ kinds.Int
 plus-kind (Int n) k = refl
 plus-kind (Str s) k = refl
 
-values-with_held : (vs : List (Name × Kind)) (us : List Value) (x : Name) (w : Value) → are_values_of vs us ≡ true → ((k : Kind) → kind_in vs x ≡ Some k → kind_of w ≡ k) → are_values_of vs (with_held vs us x w) ≡ true
+values-with_held : (vs : List (Name × Kind)) (us : List Value) (x : Name) (w : Value) → are_values_of vs us ≡ true
+    → ((k : Kind) → kind_in vs x ≡ Some k → kind_of w ≡ k) → are_values_of vs (with_held vs us x w) ≡ true
 values-with_held [] us x w h suits = h
 values-with_held (v ∷ vs) [] x w h suits = absurd (true≢false (sym h))
 values-with_held (v ∷ vs) (u ∷ us) x w h suits =
     let both = and_parts (kind_eq v.1 (kind_of u)) (are_values_of vs us) h in
     by (same_name x v.0) both.0 both.1 suits (values-with_held vs us x w both.1)
   where
-    by : (c : Bool) → kind_eq v.1 (kind_of u) ≡ true → are_values_of vs us ≡ true → ((k : Kind) → cond c (Some v.1) (kind_in vs x) ≡ Some k → kind_of w ≡ k) → (((k : Kind) → kind_in vs x ≡ Some k → kind_of w ≡ k) → are_values_of vs (with_held vs us x w) ≡ true) → are_values_of (v ∷ vs) (if c then w ∷ us else u ∷ with_held vs us x w) ≡ true
+    by : (c : Bool) → kind_eq v.1 (kind_of u) ≡ true → are_values_of vs us ≡ true → ((k : Kind) → cond c (Some v.1) (kind_in vs x) ≡ Some k → kind_of w ≡ k)
+        → (((k : Kind) → kind_in vs x ≡ Some k → kind_of w ≡ k) → are_values_of vs (with_held vs us x w) ≡ true)
+        → are_values_of (v ∷ vs) (if c then w ∷ us else u ∷ with_held vs us x w) ≡ true
     by true first rest suits later = and_from (kind_eq v.1 (kind_of w)) (are_values_of vs us) ((kind_eq_decides v.1 (kind_of w)).1 (sym (suits v.1 refl))) rest
     by false first rest suits later = and_from (kind_eq v.1 (kind_of u)) (are_values_of vs (with_held vs us x w)) first (later suits)
 
@@ -88,18 +95,21 @@ module _ (vs : List (Name × Kind)) where
       let same : Some k ≡ Some j = sym own ∙ other in
       let is : k ≡ j = cc in e ∙ is
 
-  values-assigned : (memory : Memory) (x y : Name) (k : ℤ) → AreOfKind vs (bindings (Set x y k)) → are_values_of vs memory.values ≡ true → are_values_of vs (assigned vs memory x y k).values ≡ true
+  values-assigned : (memory : Memory) (x y : Name) (k : ℤ) → AreOfKind vs (bindings (Set x y k)) → are_values_of vs memory.values ≡ true
+      → are_values_of vs (assigned vs memory x y k).values ≡ true
   values-assigned memory x y k bound_so h =
       let w = plus (held vs memory.values y) k in
       values-with_held vs memory.values x w h (suits_own x kinds.Int w bound_so.0 (plus-kind (held vs memory.values y) k))
 
-  values-slot : (m : Meaning) (us : List Value) (s : Slot) (w : Value) → AreOfKind vs (slot_bindings s) → kind_eq (kind_of_place (place_of_slot m s)) (kind_of w) ≡ true → are_values_of vs us ≡ true → are_values_of vs (with_slot_held vs us s w) ≡ true
+  values-slot : (m : Meaning) (us : List Value) (s : Slot) (w : Value) → AreOfKind vs (slot_bindings s)
+      → kind_eq (kind_of_place (place_of_slot m s)) (kind_of w) ≡ true → are_values_of vs us ≡ true → are_values_of vs (with_slot_held vs us s w) ≡ true
   values-slot m us (slots.Actual a) w bound_so fits h = h
   values-slot m us (slots.Formal k None) w bound_so fits h = h
   values-slot m us (slots.Formal k (Some x)) w bound_so fits h =
       values-with_held vs us x w h (suits_own x k w bound_so.0 (sym ((kind_eq_decides k (kind_of w)).0 fits)))
 
-  values-tuple : (m : Meaning) (us : List Value) (p : List Slot) (t : List Value) → AreOfKind vs (flat_map slot_bindings p) → has_kinds m p t ≡ true → are_values_of vs us ≡ true → are_values_of vs (with_tuple_held vs us p t) ≡ true
+  values-tuple : (m : Meaning) (us : List Value) (p : List Slot) (t : List Value) → AreOfKind vs (flat_map slot_bindings p) → has_kinds m p t ≡ true
+      → are_values_of vs us ≡ true → are_values_of vs (with_tuple_held vs us p t) ≡ true
   values-tuple m us [] t bound_so fits h = h
   values-tuple m us (s ∷ p) [] bound_so fits h = h
   values-tuple m us (s ∷ p) (w ∷ t) bound_so fits h =
@@ -107,7 +117,8 @@ module _ (vs : List (Name × Kind)) where
       values-tuple m (with_slot_held vs us s w) p t (AreOfKind-right vs (slot_bindings s) (flat_map slot_bindings p) bound_so) both.1
       (values-slot m us s w (AreOfKind-left vs (slot_bindings s) (flat_map slot_bindings p) bound_so) both.0 h)
 
-  values-answer : (us : List Value) (p : List Slot) (a : Answer) → AreOfKind vs (flat_map slot_bindings p) → are_values_of vs us ≡ true → are_values_of vs (values_after vs us p a) ≡ true
+  values-answer : (us : List Value) (p : List Slot) (a : Answer) → AreOfKind vs (flat_map slot_bindings p) → are_values_of vs us ≡ true
+      → are_values_of vs (values_after vs us p a) ≡ true
   values-answer us p answers.Done bound_so h = h
   values-answer us p (answers.Got t) bound_so h = by (has_kinds (held vs us) p t) refl
     where
@@ -121,12 +132,14 @@ module _ (vs : List (Name × Kind)) where
   IsFine end None = Unit {0}
   IsFine end (Some next) = (next.pc ≤ end) × (are_values_of vs next.env.values ≡ true)
 
-  fine-next_from : (memory : Memory) (skipped pc end : ℕ) (commands : List Command) → AreOfKind vs (flat_map bindings commands) → pc + length commands ≤ end → are_values_of vs memory.values ≡ true → IsFine end (next_from vs memory skipped pc commands)
+  fine-next_from : (memory : Memory) (skipped pc end : ℕ) (commands : List Command) → AreOfKind vs (flat_map bindings commands) → pc + length commands ≤ end
+      → are_values_of vs memory.values ≡ true → IsFine end (next_from vs memory skipped pc commands)
   fine-next_from memory skipped pc end [] bound_so room h = tt
   fine-next_from memory (suc skipped) pc end (c ∷ later) bound_so room h =
       fine-next_from memory skipped (pc + 1) end later (AreOfKind-right vs (bindings c) (flat_map bindings later) bound_so) (omega (arith, room)) h
   fine-next_from memory zero pc end (Set x y k ∷ later) bound_so room h =
-      fine-next_from (assigned vs memory x y k) 0 (pc + 1) end later (AreOfKind-right vs (bindings (Set x y k)) (flat_map bindings later) bound_so) (omega (arith, room))
+      fine-next_from (assigned vs memory x y k) 0 (pc + 1) end later (AreOfKind-right vs (bindings (Set x y k)) (flat_map bindings later) bound_so)
+      (omega (arith, room))
       (values-assigned memory x y k (AreOfKind-left vs (bindings (Set x y k)) (flat_map bindings later) bound_so) h)
   fine-next_from memory zero pc end (Unless n ∷ later) bound_so room h =
       fine-next_from memory (if memory.was_none then n else 0) (pc + 1) end later bound_so (omega (arith, room)) h
@@ -137,33 +150,41 @@ module _ (vs : List (Name × Kind)) where
 pub values-opening : (script : List Command) → are_values_of (variables_of script) (opening_memory script).values ≡ true
 values-opening script = values-zeros (variables_of script)
 
-pub values-bound : (script : List Command) → IsScript script → (pc : ℕ) (answer : Answer) (memory : Memory) → are_values_of (variables_of script) memory.values ≡ true → are_values_of (variables_of script) (bound script pc answer memory).values ≡ true
+pub values-bound : (script : List Command) → IsScript script → (pc : ℕ) (answer : Answer) (memory : Memory)
+    → are_values_of (variables_of script) memory.values ≡ true → are_values_of (variables_of script) (bound script pc answer memory).values ≡ true
 values-bound script is pc answer memory h =
     values-answer (variables_of script) memory.values (slots_before script pc) answer (AreOfKind-before script pc is) h
 
 -- the next operation stands at or before any end that is not before the position and the script's end
-fine-next_at : (script : List Command) → IsScript script → (position : Position) (end : ℕ) → position.pc + length (drop position.pc script) ≤ end → are_values_of (variables_of script) position.memory.values ≡ true → IsFine (variables_of script) end (next_at script position)
+fine-next_at : (script : List Command) → IsScript script → (position : Position) (end : ℕ) → position.pc + length (drop position.pc script) ≤ end
+    → are_values_of (variables_of script) position.memory.values ≡ true → IsFine (variables_of script) end (next_at script position)
 fine-next_at script is position end room h =
-    fine-next_from (variables_of script) position.memory 0 position.pc end (drop position.pc script) (AreOfKind-drop (variables_of script) position.pc script (AreOfKind-script script is)) room h
+    fine-next_from (variables_of script) position.memory 0 position.pc end (drop position.pc script)
+    (AreOfKind-drop (variables_of script) position.pc script (AreOfKind-script script is)) room h
 
-pub values-next : (script : List Command) → IsScript script → (position : Position) (next : Next) → are_values_of (variables_of script) position.memory.values ≡ true → next_at script position ≡ Some next → are_values_of (variables_of script) next.env.values ≡ true
+pub values-next : (script : List Command) → IsScript script → (position : Position) (next : Next) → are_values_of (variables_of script) position.memory.values
+    ≡ true → next_at script position ≡ Some next → are_values_of (variables_of script) next.env.values ≡ true
 values-next script is position next h e =
     let end = position.pc + length (drop position.pc script) in
     let room : position.pc + length (drop position.pc script) ≤ end = omega arith in
     (subst (IsFine (variables_of script) end) e (fine-next_at script is position end room h)).1
 
-pub memory-again : (script : List Command) (memory : Memory) → are_values_of (variables_of script) memory.values ≡ true → memory_of script memory.values memory.was_none ≡ Some memory
+pub memory-again : (script : List Command) (memory : Memory) → are_values_of (variables_of script) memory.values ≡ true
+    → memory_of script memory.values memory.was_none ≡ Some memory
 memory-again script memory h = ap (λ b. if b then Some memory else None) h
 
 room-in : (script : List Command) (pc : ℕ) → pc ≤ length script → pc + length (drop pc script) ≤ length script
 room-in script pc h = let e = length-drop pc script in omega (arith, e, h)
 
-pub in_script-next : (script : List Command) → IsScript script → (position : Position) (next : Next) → IsInScript script position → next_at script position ≡ Some next → IsInScript script (record { pc = next.pc; memory = next.env })
+pub in_script-next : (script : List Command) → IsScript script → (position : Position) (next : Next) → IsInScript script position
+    → next_at script position ≡ Some next → IsInScript script (record { pc = next.pc; memory = next.env })
 in_script-next script is position next here e =
-    let fine = subst (IsFine (variables_of script) (length script)) e (fine-next_at script is position (length script) (room-in script position.pc here.within) here.values) in
+    let fine = subst (IsFine (variables_of script) (length script)) e
+    (fine-next_at script is position (length script) (room-in script position.pc here.within) here.values) in
     record { within = fine.0; values = fine.1 }
 
-in_script-answer : (script : List Command) → IsScript script → (position : Position) (answer : Answer) → IsInScript script position → IsInScript script (after_one script position answer)
+in_script-answer : (script : List Command) → IsScript script → (position : Position) (answer : Answer) → IsInScript script position
+    → IsInScript script (after_one script position answer)
 in_script-answer script is position answer here = by (next_at script position) refl
   where
     by : (o : Option Next) → next_at script position ≡ o → IsInScript script (answered script answer position o)
@@ -172,7 +193,8 @@ in_script-answer script is position answer here = by (next_at script position) r
         let there = in_script-next script is position next here e in
         record { within = there.within; values = values-bound script is next.pc answer next.env there.values }
 
-in_script-fold : (script : List Command) → IsScript script → (position : Position) (answers : List Answer) → IsInScript script position → IsInScript script (fold (after_one script) position answers)
+in_script-fold : (script : List Command) → IsScript script → (position : Position) (answers : List Answer) → IsInScript script position
+    → IsInScript script (fold (after_one script) position answers)
 in_script-fold script is position [] here = here
 in_script-fold script is position (answer ∷ more) here =
     in_script-fold script is (after_one script position answer) more (in_script-answer script is position answer here)

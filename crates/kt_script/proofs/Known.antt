@@ -56,7 +56,8 @@ AreKnown-with_bindings vs (b ∷ bs) =
 pub AreKnown-script : (script : List Command) → AreKnown (variables_of script) (flat_map bindings script)
 AreKnown-script script = AreKnown-with_bindings [] (flat_map bindings script)
 
-pub AreKnown-drop : (vs : List (Name × Kind)) (pc : ℕ) (commands : List Command) → AreKnown vs (flat_map bindings commands) → AreKnown vs (flat_map bindings (drop pc commands))
+pub AreKnown-drop : (vs : List (Name × Kind)) (pc : ℕ) (commands : List Command) → AreKnown vs (flat_map bindings commands)
+    → AreKnown vs (flat_map bindings (drop pc commands))
 AreKnown-drop vs zero commands h = h
 AreKnown-drop vs (suc pc) [] h = h
 AreKnown-drop vs (suc pc) (c ∷ commands) h = AreKnown-drop vs pc commands (AreKnown-right vs (bindings c) (flat_map bindings commands) h)

@@ -1,4 +1,4 @@
-pub mod Places
+pub mod PlaceLemmas
 pub mod Held
 pub mod Known
 pub mod Reaches
@@ -9,3 +9,4 @@ pub mod Remains
 pub mod OneKind
 pub mod InScript
 pub mod Limits
+pub mod Shared

@@ -1,5 +1,6 @@
 -- In a script a name is bound to values of one kind.
-use Rattle.std.proofs.Common.{◌≡◌, ℕ, zero, suc, ◌<◌, Bool, true, false, cond, List, [], ◌∷◌, ◌++◌, length, get_or, append_assoc, flat_map, Option, None, Some, refl, sym, ap, subst, ◌∙◌, arith}
+use Rattle.std.proofs.Common.{◌≡◌, ℕ, zero, suc, ◌<◌, Bool, true, false, cond, List, [], ◌∷◌, ◌++◌, length, get_or}
+use Rattle.std.proofs.Common.{append_assoc, flat_map, Option, None, Some, refl, sym, ap, subst, ◌∙◌, arith}
 use Rattle.std.specs.Prelude.{if◌then◌else◌, is_some, not, ◌&&◌, Contains}
 use Rattle.std.proofs.lemmas.Bool.{and_parts}
 use Rattle.std.proofs.lemmas.List.{append-nil}
@@ -49,7 +50,8 @@ kind_in-pushed_own : (vs : List (Name × Kind)) (b : Name × Kind) → kind_in v
 kind_in-pushed_own [] b e = ap (λ c. cond c (Some b.1) None) (same_refl b.0)
 kind_in-pushed_own (v ∷ vs) b e = by (same_name b.0 v.0) e (kind_in-pushed_own vs b)
   where
-    by : (c : Bool) → cond c (Some v.1) (kind_in vs b.0) ≡ None → (kind_in vs b.0 ≡ None → kind_in (vs ++ b ∷ []) b.0 ≡ Some b.1) → cond c (Some v.1) (kind_in (vs ++ b ∷ []) b.0) ≡ Some b.1
+    by : (c : Bool) → cond c (Some v.1) (kind_in vs b.0) ≡ None → (kind_in vs b.0 ≡ None → kind_in (vs ++ b ∷ []) b.0 ≡ Some b.1)
+        → cond c (Some v.1) (kind_in (vs ++ b ∷ []) b.0) ≡ Some b.1
     by true e h = absurd cc
     by false e h = h e
 
@@ -73,18 +75,22 @@ kind_in-own vs b h = by (kind_in vs b.0) refl h
     by None e h = kind_in-pushed_own vs b e
     by (Some k) e h = e ∙ ap (λ j. Some j) (agrees-is k b.1 h)
 
-kinds-pushed : (vs : List (Name × Kind)) (b : Name × Kind) (more : List (Name × Kind)) → kind_in vs b.0 ≡ None → agrees (kind_in more b.0) b.1 ≡ true → are_kinds_kept vs more ≡ true → are_kinds_kept (vs ++ b ∷ []) more ≡ true
+kinds-pushed : (vs : List (Name × Kind)) (b : Name × Kind) (more : List (Name × Kind)) → kind_in vs b.0 ≡ None → agrees (kind_in more b.0) b.1 ≡ true
+    → are_kinds_kept vs more ≡ true → are_kinds_kept (vs ++ b ∷ []) more ≡ true
 kinds-pushed vs b [] none first h = refl
 kinds-pushed vs b (m ∷ rest) none first h =
     let outer = and_parts (agrees (kind_in vs m.0) m.1 && agrees (kind_in rest m.0) m.1) (are_kinds_kept vs rest) h in
     let inner = and_parts (agrees (kind_in vs m.0) m.1) (agrees (kind_in rest m.0) m.1) outer.0 in
     by (same_name b.0 m.0) refl first inner.0 inner.1 (λ f. kinds-pushed vs b rest none f outer.1)
   where
-    by : (c : Bool) → same_name b.0 m.0 ≡ c → agrees (cond c (Some m.1) (kind_in rest b.0)) b.1 ≡ true → agrees (kind_in vs m.0) m.1 ≡ true → agrees (kind_in rest m.0) m.1 ≡ true → (agrees (kind_in rest b.0) b.1 ≡ true → are_kinds_kept (vs ++ b ∷ []) rest ≡ true) → are_kinds_kept (vs ++ b ∷ []) (m ∷ rest) ≡ true
+    by : (c : Bool) → same_name b.0 m.0 ≡ c → agrees (cond c (Some m.1) (kind_in rest b.0)) b.1 ≡ true → agrees (kind_in vs m.0) m.1 ≡ true
+        → agrees (kind_in rest m.0) m.1 ≡ true → (agrees (kind_in rest b.0) b.1 ≡ true → are_kinds_kept (vs ++ b ∷ []) rest ≡ true)
+        → are_kinds_kept (vs ++ b ∷ []) (m ∷ rest) ≡ true
     by true e f was next later =
         let name : b.0 ≡ m.0 = same_is b.0 m.0 e in
         let kind : m.1 ≡ b.1 = agrees-is m.1 b.1 f in
-        let here : kind_in (vs ++ b ∷ []) m.0 ≡ Some m.1 = ap (kind_in (vs ++ b ∷ [])) (sym name) ∙ kind_in-pushed_own vs b none ∙ ap (λ j. Some j) (sym kind) in
+        let here : kind_in (vs ++ b ∷ []) m.0 ≡ Some m.1 =
+        ap (kind_in (vs ++ b ∷ [])) (sym name) ∙ kind_in-pushed_own vs b none ∙ ap (λ j. Some j) (sym kind) in
         all_three _ _ _
         (ap (λ o. agrees o m.1) here ∙ agrees-own m.1)
         next
@@ -95,7 +101,8 @@ kinds-pushed vs b (m ∷ rest) none first h =
         next
         (later f)
 
-kinds-with_binding : (vs : List (Name × Kind)) (b : Name × Kind) (more : List (Name × Kind)) → agrees (kind_in more b.0) b.1 ≡ true → are_kinds_kept vs more ≡ true → are_kinds_kept (with_binding vs b) more ≡ true
+kinds-with_binding : (vs : List (Name × Kind)) (b : Name × Kind) (more : List (Name × Kind)) → agrees (kind_in more b.0) b.1 ≡ true
+    → are_kinds_kept vs more ≡ true → are_kinds_kept (with_binding vs b) more ≡ true
 kinds-with_binding vs b more first h = by (kind_in vs b.0) refl
   where
     by : (o : Option Kind) → kind_in vs b.0 ≡ o → are_kinds_kept (if is_some o then vs else vs ++ b ∷ []) more ≡ true
@@ -117,20 +124,25 @@ follows-kinds : (before : List Command) (c : Command) → refusal_of before c �
 follows-kinds before c e =
     (and_parts (are_uses_bound (variables_of before) c) (are_kinds_kept (variables_of before) (bindings c)) (by (keeps_rules (variables_of before) c) refl e)).1
   where
-    by : (k : Bool) → keeps_rules (variables_of before) c ≡ k → (if not k then Some refusals.Variable else if not (is_within before c) then Some refusals.Limit else None) ≡ None → keeps_rules (variables_of before) c ≡ true
+    by : (k : Bool) → keeps_rules (variables_of before) c ≡ k
+        → (if not k then Some refusals.Variable else if not (is_within before c) then Some refusals.Limit else None) ≡ None
+        → keeps_rules (variables_of before) c ≡ true
     by true e f = e
     by false e f = absurd cc
 
-AreOfKind-push : (before : List Command) (c : Command) → refusal_of before c ≡ None → AreOfKind (variables_of before) (flat_map bindings before) → AreOfKind (variables_of (before ++ c ∷ [])) (flat_map bindings (before ++ c ∷ []))
+AreOfKind-push : (before : List Command) (c : Command) → refusal_of before c ≡ None → AreOfKind (variables_of before) (flat_map bindings before)
+    → AreOfKind (variables_of (before ++ c ∷ [])) (flat_map bindings (before ++ c ∷ []))
 AreOfKind-push before c e h =
     let vs = variables_of before in
     subst (λ ws. AreOfKind ws (flat_map bindings (before ++ c ∷ []))) (sym (variables_of-push before c))
     (
     subst (AreOfKind (with_bindings vs (bindings c))) (sym (all_bindings-push before c))
-    (AreOfKind-append (with_bindings vs (bindings c)) (flat_map bindings before) (bindings c) (AreOfKind-more vs (bindings c) (flat_map bindings before) h) (AreOfKind-bound vs (bindings c) (follows-kinds before c e)))
+    (AreOfKind-append (with_bindings vs (bindings c)) (flat_map bindings before) (bindings c) (AreOfKind-more vs (bindings c) (flat_map bindings before) h)
+    (AreOfKind-bound vs (bindings c) (follows-kinds before c e)))
     )
 
-AreOfKind-follow : (before later : List Command) → FollowOn before later → AreOfKind (variables_of before) (flat_map bindings before) → AreOfKind (variables_of (before ++ later)) (flat_map bindings (before ++ later))
+AreOfKind-follow : (before later : List Command) → FollowOn before later → AreOfKind (variables_of before) (flat_map bindings before)
+    → AreOfKind (variables_of (before ++ later)) (flat_map bindings (before ++ later))
 AreOfKind-follow before [] f h = subst (λ (cs : List Command). AreOfKind (variables_of cs) (flat_map bindings cs)) (sym (append-nil before)) h
 AreOfKind-follow before (c ∷ later) f h =
     subst (λ (cs : List Command). AreOfKind (variables_of cs) (flat_map bindings cs)) (append_assoc before (c ∷ []) later)
@@ -147,9 +159,11 @@ kind-at vs [] x k h below e = absurd (omega (arith, below))
 kind-at vs (b ∷ bs) x zero h below e = subst (λ (y : Name × Kind). kind_in vs y.0 ≡ Some y.1) e h.0
 kind-at vs (b ∷ bs) x (suc k) h below e = kind-at vs bs x k h.1 (omega (arith, below)) e
 
-pub variable_kind : (script : List Command) → IsScript script → (name : Name) (kind : Kind) → Contains (flat_map bindings script) (name, kind) → kind_in (variables_of script) name ≡ Some kind
+pub variable_kind : (script : List Command) → IsScript script → (name : Name) (kind : Kind) → Contains (flat_map bindings script) (name, kind)
+    → kind_in (variables_of script) name ≡ Some kind
 variable_kind script is name kind c = kind-at (variables_of script) (flat_map bindings script) (name, kind) c.0 (AreOfKind-script script is) c.1 c.2
 
-pub one_kind : (script : List Command) → IsScript script → (name : Name) (j k : Kind) → Contains (flat_map bindings script) (name, j) → Contains (flat_map bindings script) (name, k) → j ≡ k
+pub one_kind : (script : List Command) → IsScript script → (name : Name) (j k : Kind) → Contains (flat_map bindings script) (name, j)
+    → Contains (flat_map bindings script) (name, k) → j ≡ k
 one_kind script is name j k first second =
     let e : Some j ≡ Some k = sym (variable_kind script is name j first) ∙ variable_kind script is name k second in cc

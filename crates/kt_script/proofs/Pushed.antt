@@ -1,5 +1,6 @@
 -- A script with one command more.
-use Rattle.std.proofs.Common.{◌≡◌, Bool, true, false, cond, List, [], ◌∷◌, ◌++◌, flat_map, None, Some, Result, Ok, Err, IsOk, OnOk, append_assoc, refl, sym, ap, subst, ◌∙◌}
+use Rattle.std.proofs.Common.{◌≡◌, Bool, true, false, cond, List, [], ◌∷◌, ◌++◌, flat_map, None, Some}
+use Rattle.std.proofs.Common.{Result, Ok, Err, IsOk, OnOk, append_assoc, refl, sym, ap, subst, ◌∙◌}
 use Rattle.std.specs.Prelude.{if◌then◌else◌, is_some}
 use Rattle.indexmap.specs.IndexMap.{insert_entry}
 use Rattle.kt_tuple.specs.declared.value.Kind.{Kind}
@@ -19,7 +20,8 @@ pub insert_entry-unknown : (vs : List (Name × Kind)) (x : Name) (k : Kind) → 
 insert_entry-unknown [] x k e = refl
 insert_entry-unknown (v ∷ vs) x k e = by (same_name x v.0) e (insert_entry-unknown vs x k)
   where
-    by : (c : Bool) → None ≡ cond c (Some v.1) (kind_in vs x) → (None ≡ kind_in vs x → insert_entry same_name vs x k ≡ vs ++ (x, k) ∷ []) → (if c then (v.0, k) ∷ vs else v ∷ insert_entry same_name vs x k) ≡ v ∷ vs ++ (x, k) ∷ []
+    by : (c : Bool) → None ≡ cond c (Some v.1) (kind_in vs x) → (None ≡ kind_in vs x → insert_entry same_name vs x k ≡ vs ++ (x, k) ∷ [])
+        → (if c then (v.0, k) ∷ vs else v ∷ insert_entry same_name vs x k) ≡ v ∷ vs ++ (x, k) ∷ []
     by true e h = absurd cc
     by false e h = ap (λ rest. v ∷ rest) (h e)
 
@@ -43,7 +45,8 @@ pub variables_of-push : (commands : List Command) (c : Command) → variables_of
 variables_of-push commands c =
     ap (with_bindings []) (all_bindings-push commands c) ∙ with_bindings-append [] (flat_map bindings commands) (bindings c)
 
-pub FollowOn-push : (before commands : List Command) (c : Command) → FollowOn before commands → refusal_of (before ++ commands) c ≡ None → FollowOn before (commands ++ c ∷ [])
+pub FollowOn-push : (before commands : List Command) (c : Command) → FollowOn before commands → refusal_of (before ++ commands) c ≡ None
+    → FollowOn before (commands ++ c ∷ [])
 FollowOn-push before [] c h e = (ap (λ cs. refusal_of cs c) (sym (append_empty before)) ∙ e, tt)
   where
     append_empty : {A : Type 0} (xs : List A) → xs ++ [] ≡ xs
@@ -56,7 +59,9 @@ pub IsScript-push : (commands : List Command) (c : Command) → IsScript command
 IsScript-push commands c h e = FollowOn-push [] commands c h e
 
 -- the names and the commands of a script with one command more
-pub pushed : (commands after : List Command) (c : Command) (names bs names' : List (Name × Kind)) → (names ≡ variables_of commands) × IsScript commands → refusal_of commands c ≡ None → bs ≡ bindings c → names' ≡ with_bindings names bs → after ≡ commands ++ c ∷ [] → (names' ≡ variables_of after) × IsScript after
+pub pushed : (commands after : List Command) (c : Command) (names bs names' : List (Name × Kind)) → (names ≡ variables_of commands) × IsScript commands
+    → refusal_of commands c ≡ None → bs ≡ bindings c → names' ≡ with_bindings names bs → after ≡ commands ++ c ∷ [] → (names' ≡ variables_of after)
+    × IsScript after
 pushed commands after c names bs names' h e b n a = (
   n ∙ ap (λ vs. with_bindings vs bs) h.0 ∙ ap (with_bindings (variables_of commands)) b ∙ sym (variables_of-push commands c) ∙ ap variables_of (sym a),
   subst IsScript (sym a) (IsScript-push commands c h.1 e),

@@ -8,9 +8,10 @@ use Rattle.kt_script.specs.declared.command.Command.TheVariants.{Ask, Set, Unles
 use Rattle.kt_script.specs.Memory.{Memory}
 use Rattle.kt_script.specs.declared.next.Next.{Next}
 use Rattle.kt_script.specs.Next.{assigned, next_from, op_of_next}
-use Rattle.kt_script.specs.Left.{has_next_from}
+use Rattle.kt_script.specs.inner.Left.{has_next_from}
 
-pub is_some-next_from : (vs : List (Name × Kind)) (memory : Memory) (skipped pc : ℕ) (commands : List Command) → is_some (next_from vs memory skipped pc commands) ≡ has_next_from memory.was_none skipped commands
+pub is_some-next_from : (vs : List (Name × Kind)) (memory : Memory) (skipped pc : ℕ) (commands : List Command)
+    → is_some (next_from vs memory skipped pc commands) ≡ has_next_from memory.was_none skipped commands
 is_some-next_from vs memory skipped pc [] = refl
 is_some-next_from vs memory (suc skipped) pc (c ∷ later) = is_some-next_from vs memory skipped (pc + 1) later
 is_some-next_from vs memory zero pc (Set x y k ∷ later) = is_some-next_from vs (assigned vs memory x y k) 0 (pc + 1) later

@@ -26,6 +26,7 @@ pub bound-no_template : (script : List Command) (pc : ℕ) (a : Answer) (m : Mem
 bound-no_template script pc a m e =
     ap (λ p. values_after (variables_of script) m.values p a) e ∙ values_after-empty (variables_of script) m.values a
 
-pub bound-other_kinds : (script : List Command) (pc : ℕ) (t : Tuple) (m : Memory) → has_kinds (held (variables_of script) m.values) (slots_before script pc) t ≡ false → (bound script pc (answers.Got t) m).values ≡ m.values
+pub bound-other_kinds : (script : List Command) (pc : ℕ) (t : Tuple) (m : Memory)
+    → has_kinds (held (variables_of script) m.values) (slots_before script pc) t ≡ false → (bound script pc (answers.Got t) m).values ≡ m.values
 bound-other_kinds script pc t m e =
     ap (λ b. if b then with_tuple_held (variables_of script) m.values (slots_before script pc) t else m.values) e

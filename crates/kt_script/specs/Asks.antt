@@ -19,7 +19,8 @@ pub data Deed : Type 0 where
 -- what each name stands for after these deeds, the last one first
 abbrev pub meaning_after : List Command → List Deed → Meaning
 meaning_after script [] = λ name. zero_of (kind_in (variables_of script) name)
-meaning_after script (Answered operation answer ∷ earlier) = after_answer (meaning_after script earlier) (slots_of operation) answer
+meaning_after script (Answered operation answer ∷ earlier) =
+    after_answer (meaning_after script earlier) (slots_of operation) answer
 meaning_after script (Assigned variable source number ∷ earlier) =
     with_value (meaning_after script earlier) variable (plus (meaning_after script earlier source) number)
 

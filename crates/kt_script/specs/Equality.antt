@@ -27,25 +27,33 @@ slot_eq (slots.Formal k a) (slots.Formal j b) = kind_eq k j && option_eq name_eq
 slot_eq _ _ = false
 
 pub actual_eq_decides : (a b : Actual) → Decides (actual_eq a b) (a ≡ b)
-actual_eq_decides (actuals.Literal v) (actuals.Literal w) =
-    (λ e. ap actuals.Literal ((value_eq_decides v w).0 e), λ (e : actuals.Literal v ≡ actuals.Literal w). (value_eq_decides v w).1 cc)
-actual_eq_decides (actuals.Variable a) (actuals.Variable b) =
-    (λ e. ap actuals.Variable ((text_eq_decides a b).0 e), λ (e : actuals.Variable a ≡ actuals.Variable b). (text_eq_decides a b).1 cc)
+actual_eq_decides (actuals.Literal v) (actuals.Literal w) = (
+  λ e. ap actuals.Literal ((value_eq_decides v w).0 e),
+  λ (e : actuals.Literal v ≡ actuals.Literal w). (value_eq_decides v w).1 cc,
+)
+actual_eq_decides (actuals.Variable a) (actuals.Variable b) = (
+  λ e. ap actuals.Variable ((text_eq_decides a b).0 e),
+  λ (e : actuals.Variable a ≡ actuals.Variable b). (text_eq_decides a b).1 cc,
+)
 actual_eq_decides _ _ = (λ e. absurd cc, λ e. absurd cc)
 
 bound_eq_decides : (a b : Option Name) → Decides (option_eq name_eq a b) (a ≡ b)
 bound_eq_decides None None = (λ _. refl, λ _. refl)
-bound_eq_decides (Some a) (Some b) = (λ e. ap Some ((text_eq_decides a b).0 e), λ (e : Some a ≡ Some b). (text_eq_decides a b).1 cc)
+bound_eq_decides (Some a) (Some b) =
+    (λ e. ap Some ((text_eq_decides a b).0 e), λ (e : Some a ≡ Some b). (text_eq_decides a b).1 cc)
 bound_eq_decides None (Some b) = (λ e. absurd cc, λ e. absurd cc)
 bound_eq_decides (Some a) None = (λ e. absurd cc, λ e. absurd cc)
 
 pub slot_eq_decides : (a b : Slot) → Decides (slot_eq a b) (a ≡ b)
-slot_eq_decides (slots.Actual a) (slots.Actual b) =
-    (λ e. ap slots.Actual ((actual_eq_decides a b).0 e), λ (e : slots.Actual a ≡ slots.Actual b). (actual_eq_decides a b).1 cc)
+slot_eq_decides (slots.Actual a) (slots.Actual b) = (
+  λ e. ap slots.Actual ((actual_eq_decides a b).0 e),
+  λ (e : slots.Actual a ≡ slots.Actual b). (actual_eq_decides a b).1 cc,
+)
 slot_eq_decides (slots.Formal k a) (slots.Formal j b) = (
   λ e.
       let both = and_parts _ _ e in
-      ap (λ i. slots.Formal i a) ((kind_eq_decides k j).0 both.0) ∙ ap (slots.Formal j) ((bound_eq_decides a b).0 both.1),
+      ap (λ i. slots.Formal i a) ((kind_eq_decides k j).0 both.0)
+      ∙ ap (slots.Formal j) ((bound_eq_decides a b).0 both.1),
   λ (e : slots.Formal k a ≡ slots.Formal j b). and_from _ _ ((kind_eq_decides k j).1 cc) ((bound_eq_decides a b).1 cc),
 )
 slot_eq_decides _ _ = (λ e. absurd cc, λ e. absurd cc)

@@ -2,10 +2,10 @@ pub mod Name
 pub mod Command
 pub mod Variables
 pub mod Rules
-pub mod Counting
 pub mod Meaning
 pub mod Asks
 pub mod Memory
 pub mod Next
-pub mod Left
 pub mod Equality
+pub mod Spelling
+pub mod inner

@@ -3,7 +3,8 @@ use Rattle.std.specs.Char.{is_ascii_digit}
 use Rattle.std.specs.Cmp.Lexicographic.{pointwise}
 use Rattle.std.specs.Int.{is_in_range}
 use Rattle.std.specs.List.{list_all}
-use Rattle.std.specs.Prelude.{ℕ, ◌==◌, nat_eq, nat_le, Bool, false, not, ◌&&◌, ◌||◌, List, [], ◌∷◌, length, codes, IsTrue}
+use Rattle.std.specs.Prelude.{ℕ, ◌==◌, nat_eq, nat_le, Bool, false, not, ◌&&◌}
+use Rattle.std.specs.Prelude.{◌||◌, List, [], ◌∷◌, length, codes, IsTrue}
 
 -- two names are one
 abbrev pub same_name : List ℕ → List ℕ → Bool
@@ -23,11 +24,13 @@ begins_with_letter (c ∷ cs) = is_letter c
 
 -- the words that are no names
 unfoldable pub is_reserved : List ℕ → Bool
-is_reserved word = same_name word (codes "int") || same_name word (codes "str") || same_name word (codes "bool") || same_name word (codes "true") || same_name word (codes "false")
+is_reserved word = same_name word (codes "int") || same_name word (codes "str") || same_name word (codes "bool")
+    || same_name word (codes "true") || same_name word (codes "false")
 
 -- a letter and up to 15 letters, digits and `_`, and no reserved word
 abbrev pub is_name : List ℕ → Bool
-is_name word = begins_with_letter word && nat_le (length word) 16 && list_all is_name_character word && not (is_reserved word)
+is_name word =
+    begins_with_letter word && nat_le (length word) 16 && list_all is_name_character word && not (is_reserved word)
 
 abbrev pub IsName : List ℕ → Type 0
 IsName word = IsTrue (is_name word)

@@ -1,5 +1,6 @@
 -- Which command may follow a script.
-use Rattle.std.specs.Prelude.{◌≡◌, nat_lt, nat_le, Bool, true, not, ◌&&◌, if◌then◌else◌, List, [], ◌∷◌, ◌++◌, length, Option, None, Some, is_some}
+use Rattle.std.specs.Prelude.{◌≡◌, nat_lt, nat_le, Bool, true, not, ◌&&◌, if◌then◌else◌}
+use Rattle.std.specs.Prelude.{List, [], ◌∷◌, ◌++◌, length, Option, None, Some, is_some}
 use Rattle.std.specs.List.{list_all}
 use Rattle.std.specs.Option.{option_map_or}
 use Rattle.kt_tuple.specs.declared.value.Kind.{Kind}
@@ -45,7 +46,8 @@ agrees bound kind = option_map_or (kind_eq kind) bound true
 -- each variable that the command uses is bound before it, and is an int where `set` adds to it
 abbrev pub are_uses_bound : List (Name × Kind) → Command → Bool
 are_uses_bound variables (Ask operation) = are_actuals_bound variables operation
-are_uses_bound variables (Set variable source plus) = is_some (kind_in variables source) && agrees (kind_in variables source) kinds.Int
+are_uses_bound variables (Set variable source plus) =
+    is_some (kind_in variables source) && agrees (kind_in variables source) kinds.Int
 are_uses_bound variables (Unless count) = true
 
 -- each binding has the kind that its name has before, and the next one of its name here has it too
@@ -67,7 +69,8 @@ has_count (Unless count) = nat_lt 0 count && nat_le count 200
 -- with the command the script has at most 200 commands and 64 variables
 abbrev pub is_within : List Command → Command → Bool
 is_within commands command =
-    has_count command && nat_lt (length commands) 200 && nat_le (length (with_bindings (variables_of commands) (bindings command))) 64
+    has_count command && nat_lt (length commands) 200
+    && nat_le (length (with_bindings (variables_of commands) (bindings command))) 64
 
 -- why the command may not follow the script, want of memory aside
 abbrev pub refusal_of : List Command → Command → Option ScriptError

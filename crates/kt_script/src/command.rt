@@ -1,12 +1,12 @@
-ghost use Rattle.std.specs.Prelude.{◌≡◌, ◌↔◌, IsSome, IfSome, IfOk, flat_map};
+//! The commands of a script.
+
+ghost use Rattle.std.specs.Prelude.{◌≡◌, IfOk, flat_map};
 ghost use Rattle.kt_script.specs.Command.{slot_bindings};
-ghost use Rattle.kt_tuple.specs.Matching.{HasArity};
 
 use crate::name::Name;
-use arrayvec::ArrayVec;
-use kt_tuple::{Kind, MAX_PLACES, Value};
+use crate::places::Places;
+use kt_tuple::{Kind, Value};
 use std::alloc::{AllocError, Global};
-use std::marker::Model;
 
 /// A value of an operation: written out, or that of a variable.
 #[derive(Debug, PartialEq, Eq, Drop)]
@@ -26,17 +26,11 @@ pub enum Slot {
     Formal(Kind, Option<Name>),
 }
 
-/// The values of a command's tuple: 1 to 8.
-#[derive(Debug, Drop)]
-pub struct Actuals {
-    actuals: ArrayVec<Actual, MAX_PLACES>,
-}
+/// The values of a command's tuple.
+pub type Actuals = Places<Actual>;
 
-/// The places of a command's template: 1 to 8.
-#[derive(Debug, Drop)]
-pub struct Pattern {
-    slots: ArrayVec<Slot, MAX_PLACES>,
-}
+/// The places of a command's template.
+pub type Pattern = Places<Slot>;
 
 /// An operation on the space as a script has it.
 #[derive(Debug, Drop)]
@@ -107,74 +101,6 @@ impl Default for Slot {
     }
 }
 
-impl Model for Actuals {
-    ghost use Rattle.std.specs.Prelude.{List};
-    ghost use Rattle.kt_tuple.specs.Matching.{HasArity};
-    ghost use Rattle.kt_script.specs.declared.command.Actual.{Actual};
-
-    ghost Value = { List Actual };
-
-    ghost view = { λ a. a.actuals.items };
-
-    ghost invariant = { λ a. HasArity a.actuals.items };
-}
-
-impl Actuals {
-    /// The actuals of a tuple, or `None` where there are none.
-    pub fn new(actuals: ArrayVec<Actual, MAX_PLACES>) -> Option<Actuals>
-        ensures within { IsSome result ↔ HasArity actuals.items }
-        ensures value { IfSome result (λ a. a ≡ actuals.items) }
-    {
-        if actuals.is_empty() {
-            None
-        } else {
-            Some(Actuals { actuals })
-        }
-    }
-
-    /// The actuals, from left to right.
-    pub fn actuals(&self) -> &[Actual]
-        ensures value { result.now ≡ self.now }
-        ensures arity { HasArity self.now }
-    {
-        &self.actuals
-    }
-}
-
-impl Model for Pattern {
-    ghost use Rattle.std.specs.Prelude.{List};
-    ghost use Rattle.kt_tuple.specs.Matching.{HasArity};
-    ghost use Rattle.kt_script.specs.declared.command.Slot.{Slot};
-
-    ghost Value = { List Slot };
-
-    ghost view = { λ p. p.slots.items };
-
-    ghost invariant = { λ p. HasArity p.slots.items };
-}
-
-impl Pattern {
-    /// The template of these places, or `None` where there are none.
-    pub fn new(slots: ArrayVec<Slot, MAX_PLACES>) -> Option<Pattern>
-        ensures within { IsSome result ↔ HasArity slots.items }
-        ensures value { IfSome result (λ p. p ≡ slots.items) }
-    {
-        if slots.is_empty() {
-            None
-        } else {
-            Some(Pattern { slots })
-        }
-    }
-
-    /// The places, from left to right.
-    pub fn slots(&self) -> &[Slot]
-        ensures value { result.now ≡ self.now }
-        ensures arity { HasArity self.now }
-    {
-        &self.slots
-    }
-}
-
 impl Operation {
     ghost use Rattle.kt_script.specs.Command.{slots_of};
 
@@ -187,7 +113,7 @@ impl Operation {
             Operation::In(pattern)
             | Operation::Rd(pattern)
             | Operation::Inp(pattern)
-            | Operation::Rdp(pattern) => pattern.slots(),
+            | Operation::Rdp(pattern) => pattern.as_slice(),
         }
     }
 }

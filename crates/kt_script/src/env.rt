@@ -1,3 +1,5 @@
+//! What a worker keeps of its script between two operations.
+
 ghost use Rattle.std.specs.Prelude.{◌≡◌, ◌++◌, ◌∷◌, [], List, IfOk, Some, map};
 ghost use Rattle.kt_script.specs.Asks.{is_none_answer};
 ghost use Rattle.kt_script.specs.Meaning.{zero_of};
@@ -5,7 +7,7 @@ ghost use Rattle.kt_script.specs.Memory.{opening_memory, memory_of, values_after
 ghost use Rattle.kt_script.specs.Next.{bound, next_at, position_after};
 
 use crate::command::Slot;
-use crate::meaning::{bind_tuple, has_kinds};
+use crate::meaning::{Scope, bind_tuple};
 use crate::script::Script;
 use crate::variables::{Variables, are_values_of, zeros_of};
 use kt_tuple::{Answer, Value};
@@ -124,7 +126,8 @@ fn values_after(
 {
     let mut copies = copy_values(alloc, values)?;
     if let Answer::Got(tuple) = answer {
-        if has_kinds(variables, values, slots, tuple.values()) {
+        let scope = Scope { variables, values };
+        if scope.has_kinds(slots, tuple.values()) {
             bind_tuple(variables, &mut copies, slots, tuple.values());
         }
     }

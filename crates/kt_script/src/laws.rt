@@ -13,24 +13,32 @@ ghost use Rattle.kt_script.specs.Asks.{asks};
 ghost use Rattle.kt_script.specs.Command.{bindings};
 ghost use Rattle.kt_script.specs.Meaning.{has_kinds};
 ghost use Rattle.kt_script.specs.Memory.{Memory, held, opening_memory, are_values_of, memory_of};
-ghost use Rattle.kt_script.specs.Next.{Position, next_at, after_one, opening_position, position_after, op_of_next, bound, slots_before, IsInScript};
+ghost use Rattle.kt_script.specs.Next.{Position, next_at, after_one, opening_position};
+ghost use Rattle.kt_script.specs.Next.{position_after, op_of_next, bound, slots_before, IsInScript};
 ghost use Rattle.kt_script.specs.Rules.{IsScript};
 ghost use Rattle.kt_script.specs.Variables.{kind_in, variables_of};
 
 /// After any list of answers the position that `next` and `bind` lead to has the operation that is asked
 /// next. The position starts at the script's beginning and goes on by one answer at a time.
 pub fn next_and_bind_reach_what_is_asked()
-    ensures reached { (script : List Command) (answers : List Answer) → asks script answers ≡ op_of_next (next_at script (position_after script answers)) }
+    ensures reached { (script : List Command) (answers : List Answer)
+        → asks script answers ≡ op_of_next (next_at script (position_after script answers)) }
     ensures first { (script : List Command) → position_after script [] ≡ opening_position script }
-    ensures later { (script : List Command) (answers : List Answer) (answer : Answer) → position_after script (answers ++ answer ∷ []) ≡ after_one script (position_after script answers) answer }
+    ensures later { (script : List Command) (answers : List Answer) (answer : Answer)
+        → position_after script (answers ++ answer ∷ []) ≡ after_one script (position_after script answers) answer }
 {}
 
 /// An answer changes no variable where no template stands before the position, where it is no tuple, and
 /// where the tuple has other kinds than the template as it was sent.
 pub fn bind_changes_only_formals()
-    ensures no_template { (script : List Command) (pc : ℕ) (answer : Answer) (memory : Memory) → slots_before script pc ≡ [] → (bound script pc answer memory).values ≡ memory.values }
-    ensures no_tuple { (script : List Command) (pc : ℕ) (memory : Memory) → ((bound script pc Done memory).values ≡ memory.values) × ((bound script pc NoMatch memory).values ≡ memory.values) }
-    ensures other_kinds { (script : List Command) (pc : ℕ) (tuple : Tuple) (memory : Memory) → has_kinds (held (variables_of script) memory.values) (slots_before script pc) tuple ≡ false → (bound script pc (Got tuple) memory).values ≡ memory.values }
+    ensures no_template { (script : List Command) (pc : ℕ) (answer : Answer) (memory : Memory)
+        → slots_before script pc ≡ [] → (bound script pc answer memory).values ≡ memory.values }
+    ensures no_tuple { (script : List Command) (pc : ℕ) (memory : Memory)
+        → ((bound script pc Done memory).values ≡ memory.values)
+        × ((bound script pc NoMatch memory).values ≡ memory.values) }
+    ensures other_kinds { (script : List Command) (pc : ℕ) (tuple : Tuple) (memory : Memory)
+        → has_kinds (held (variables_of script) memory.values) (slots_before script pc) tuple ≡ false
+        → (bound script pc (Got tuple) memory).values ≡ memory.values }
 {}
 
 /// In a script a name is bound to values of one kind alone, and that is the kind of its variable.

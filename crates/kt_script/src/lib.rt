@@ -8,10 +8,12 @@ mod laws;
 mod meaning;
 mod name;
 mod next;
+mod places;
 mod rules;
 mod script;
 mod script_error;
 mod variables;
+mod writing;
 
 pub use command::{Actual, Actuals, Command, Operation, Pattern, Slot};
 pub use env::Env;
@@ -21,5 +23,6 @@ pub use laws::{
 };
 pub use name::{MAX_NAME, Name, is_name, is_name_character};
 pub use next::Next;
+pub use places::Places;
 pub use script::{MAX_COMMANDS, MAX_VARIABLES, Script};
 pub use script_error::ScriptError;

@@ -1,3 +1,5 @@
+//! The names of variables.
+
 ghost use Rattle.std.specs.Prelude.{◌≡◌, ◌↔◌, IsTrue, IsSome, IfSome};
 ghost use Rattle.std.specs.List.{list_all};
 ghost use Rattle.kt_script.specs.Name.{IsName, begins_with_letter, is_name, is_name_character, is_reserved};

@@ -1,12 +1,14 @@
+//! The operation that a script makes next.
+
 ghost use Rattle.std.specs.Prelude.{◌≡◌, ◌+◌, ◌<◌, ◌^◌, IfOk, length};
-ghost use Rattle.kt_script.specs.Left.{has_next_from};
+ghost use Rattle.kt_script.specs.inner.Left.{has_next_from};
 ghost use Rattle.kt_script.specs.Meaning.{op_of};
 ghost use Rattle.kt_script.specs.Memory.{held};
 ghost use Rattle.kt_script.specs.Next.{next_from, assigned};
 
 use crate::command::{Command, Operation};
 use crate::env::Env;
-use crate::meaning::{op_of, sum_of};
+use crate::meaning::Scope;
 use crate::name::Name;
 use crate::variables::{Variables, hold};
 use kt_tuple::Op;
@@ -32,7 +34,11 @@ impl Env {
             mut values,
             was_none,
         } = self;
-        let sum = sum_of(variables, &values, source, number);
+        let scope = Scope {
+            variables,
+            values: &values,
+        };
+        let sum = scope.sum_of(source, number);
         hold(variables, &mut values, variable, sum);
         Env { values, was_none }
     }
@@ -48,7 +54,11 @@ impl Env {
     ) -> Result<Op, AllocError>
         ensures { IfOk result (λ op. op ≡ op_of (held variables.now.entries self.now.values) operation.now) }
     {
-        op_of(alloc, variables, self.values(), operation)
+        let scope = Scope {
+            variables,
+            values: self.values(),
+        };
+        scope.op_of(alloc, operation)
     }
 }
 

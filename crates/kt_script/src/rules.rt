@@ -4,8 +4,9 @@ ghost use Rattle.std.specs.Prelude.{◌≡◌, ◌≤◌, length, flat_map};
 ghost use Rattle.std.specs.List.{list_all};
 ghost use Rattle.kt_script.specs.Command.{slot_bindings, bindings};
 ghost use Rattle.kt_script.specs.Variables.{kind_in};
-ghost use Rattle.kt_script.specs.Rules.{is_bound, is_slot_bound, are_slots_bound, are_actuals_bound, agrees, are_uses_bound, are_kinds_kept, keeps_rules, has_count};
-ghost use Rattle.kt_script.specs.Counting.{count_new};
+ghost use Rattle.kt_script.specs.Rules.{is_bound, is_slot_bound, are_slots_bound, are_actuals_bound};
+ghost use Rattle.kt_script.specs.Rules.{agrees, are_uses_bound, are_kinds_kept, keeps_rules, has_count};
+ghost use Rattle.kt_script.specs.inner.Counting.{count_new};
 
 use crate::command::{Actual, Command, Operation, Slot};
 use crate::name::Name;
@@ -58,11 +59,11 @@ fn are_actuals_bound(variables: &Variables, operation: &Operation) -> bool
     ensures { result ≡ are_actuals_bound variables.now.entries operation.now }
 {
     match operation {
-        Operation::Out(actuals) => are_bound(variables, actuals.actuals()),
+        Operation::Out(actuals) => are_bound(variables, actuals.as_slice()),
         Operation::In(pattern)
         | Operation::Rd(pattern)
         | Operation::Inp(pattern)
-        | Operation::Rdp(pattern) => are_slots_bound(variables, pattern.slots()),
+        | Operation::Rdp(pattern) => are_slots_bound(variables, pattern.as_slice()),
     }
 }
 

@@ -1,4 +1,7 @@
-ghost use Rattle.std.specs.Prelude.{◌≡◌, ◌↔◌, [], ◌∷◌, ◌++◌, List, IfOk, OnOk, OnErr, None, Some, Err, is_some, ◌+◌, ◌<◌, ◌^◌, length, drop};
+//! Scripts: commands that keep the rules of variables and the limits.
+
+ghost use Rattle.std.specs.Prelude.{◌≡◌, ◌↔◌, [], ◌∷◌, ◌++◌, List, IfOk, OnOk, OnErr};
+ghost use Rattle.std.specs.Prelude.{None, Some, Err, is_some, ◌+◌, ◌<◌, ◌^◌, length, drop};
 
 use crate::command::{Command, Slot};
 use crate::env::Env;
@@ -63,7 +66,8 @@ impl Script {
         ensures appended { OnOk result (self.new ≡ self.old ++ command ∷ []) }
 
         // Of several refusals the lowest that stands is given, and the script stays as it was.
-        ensures variable { (result ≡ Err ScriptError.Variable) ↔ (refusal_of self.old command ≡ Some ScriptError.Variable) }
+        ensures variable { (result ≡ Err ScriptError.Variable)
+            ↔ (refusal_of self.old command ≡ Some ScriptError.Variable) }
         ensures limit { (result ≡ Err ScriptError.Limit) ↔ (refusal_of self.old command ≡ Some ScriptError.Limit) }
         ensures memory { result ≡ Err ScriptError.OutOfMemory → refusal_of self.old command ≡ None }
         ensures unchanged { OnErr result (self.new ≡ self.old) }

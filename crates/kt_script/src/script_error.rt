@@ -1,3 +1,5 @@
+//! Why a command may not follow a script.
+
 use thiserror::Error;
 
 /// Why a command may not follow a script: of all that stand, the lowest.

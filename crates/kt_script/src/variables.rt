@@ -36,7 +36,7 @@ fn place_of(variables: &Variables, name: &Name) -> Option<usize>
 }
 
 /// The value of the name, where it is bound.
-#[tactic(auto, using(crate::proofs::Places::held_laws))]
+#[tactic(auto, using(crate::proofs::PlaceLemmas::held_laws))]
 pub(crate) fn held<'a>(variables: &Variables, values: &'a [Value], name: &Name) -> Option<&'a Value>
     ensures { unwrap_or (option_copied result) (Int (pos 0)) ≡ held variables.now.entries values.now name.now }
 {
@@ -47,7 +47,7 @@ pub(crate) fn held<'a>(variables: &Variables, values: &'a [Value], name: &Name) 
 }
 
 /// Gives the name this value.
-#[tactic(auto, using(crate::proofs::Places::with_held_laws))]
+#[tactic(auto, using(crate::proofs::PlaceLemmas::with_held_laws))]
 pub(crate) fn hold(variables: &Variables, values: &mut [Value], name: &Name, value: Value)
     ensures { values.new ≡ with_held variables.now.entries values.old name.now value }
 {

@@ -34,7 +34,8 @@ served-desk y worker s = at-put_same empty_desk y.desks worker (desk_after s)
 served-at : (y : Shard) (worker : ℕ) (s : Service) (request : Request) → arrival (served y worker s) worker request ≡ arrival_at (desk_after s) request
 served-at y worker s request = ap (λ (d : Desk). arrival_at d request) (served-desk y worker s)
 
-served-old : (s : Service) (request : Request) → request.number ≤ s.request.number → arrival_at (desk_after s) request ≡ again_or_ignored (kept_answer (desk_after s) request)
+served-old : (s : Service) (request : Request) → request.number ≤ s.request.number
+    → arrival_at (desk_after s) request ≡ again_or_ignored (kept_answer (desk_after s) request)
 served-old s request le = old_number (desk_after s) request (le_trans le (le-max_right 0 s.request.number))
 
 pub served-again : (y : Shard) (worker : ℕ) (s : Service) → arrival (served y worker s) worker s.request ≡ Again s.answer
@@ -46,7 +47,8 @@ served-again y worker s = served-at y worker s s.request ∙ served-old s s.requ
 pub served-heard : (y : Shard) (worker : ℕ) (s : Service) → heard (served y worker s) worker s.request ≡ served y worker s
 served-heard y worker s = ap (λ (a : Arrival). heard_as a (served y worker s) worker s.request) (served-again y worker s)
 
-pub served-never_waits : (y : Shard) (worker : ℕ) (s : Service) (request : Request) → request.number ≤ s.request.number → arrival (served y worker s) worker request ≢ Waits
+pub served-never_waits : (y : Shard) (worker : ℕ) (s : Service) (request : Request) → request.number ≤ s.request.number
+    → arrival (served y worker s) worker request ≢ Waits
 served-never_waits y worker s request le e =
     not_waiting (kept_answer (desk_after s) request) (sym (served-old s request le) ∙ sym (served-at y worker s request) ∙ e)
 
@@ -54,7 +56,8 @@ served-never_waits y worker s request le e =
 abbrev desk_waiting : Request → Desk → Desk
 desk_waiting request desk = record { waiting = Some request; kept = desk.kept }
 
-pub heard-waits_once : (y : Shard) (worker : ℕ) (request : Request) → arrival y worker request ≡ Waits → arrival (heard y worker request) worker request ≡ Ignored
+pub heard-waits_once : (y : Shard) (worker : ℕ) (request : Request) → arrival y worker request ≡ Waits
+    → arrival (heard y worker request) worker request ≡ Ignored
 heard-waits_once y worker request e =
     ap (λ (a : Arrival). arrival (heard_as a y worker request) worker request) e
     ∙ ap (λ (d : Desk). arrival_at d request) (at-put_same empty_desk y.desks worker (desk_waiting request (desk_of y worker)))

@@ -34,7 +34,8 @@ got : (o : Option Tuple) (answer : Answer) → option_map answers.Got o ≡ Some
 got None answer e = absurd cc
 got (Some u) answer e = (u, refl, cc)
 
-withdrawn : (t : Template) (place : ℕ) (bag : List Tuple) (u : Tuple) → slice_get (matching t bag) place ≡ Some u → Withdraws t bag u (without_match t place bag)
+withdrawn : (t : Template) (place : ℕ) (bag : List Tuple) (u : Tuple) → slice_get (matching t bag) place ≡ Some u
+    → Withdraws t bag u (without_match t place bag)
 withdrawn t place bag u e = ((takes_out t place bag u e).fits, match_permutes t place bag u e)
 
 read : (t : Template) (place : ℕ) (bag : List Tuple) (u : Tuple) → slice_get (matching t bag) place ≡ Some u → Reads t bag u bag
@@ -48,7 +49,8 @@ none_taken : (t : Template) (place : ℕ) (bag : List Tuple) → slice_get (matc
 none_taken t place bag e z = subst (FindsNone t bag) (sym (without_none t bag place (fewer t place bag e))) (none_found t place bag e z)
 
 -- what is answered to an operation is a step of the space
-pub answer-step : (bag : List Tuple) (op : Op) (place : ℕ) (answer : Answer) → answer_at bag op place ≡ Some answer → SpaceStep bag op answer (left_by bag op place)
+pub answer-step : (bag : List Tuple) (op : Op) (place : ℕ) (answer : Answer) → answer_at bag op place ≡ Some answer
+    → SpaceStep bag op answer (left_by bag op place)
 answer-step bag (Out u) place answer e =
     subst (IsStepTo bag (Out u) place) (only_first place answers.Done answer e).1 (IsPermutation-sym (bag ++ u ∷ []) (u ∷ bag) (IsPermutation-to_front bag u))
 answer-step bag (In t) place answer e =

@@ -20,14 +20,16 @@ shard_with bag desks = record { bag = bag; desks = desks }
 same_shard : (a b : List Tuple) (d e : List Desk) → a ≡ b → d ≡ e → shard_with a d ≡ shard_with b e
 same_shard a b d e p q = ap (λ (x : List Tuple). shard_with x d) p ∙ ap (shard_with b) q
 
-pub wait_written : (y s : Shard) (place worker : ℕ) (old new : Desk) (request : Request) → y ≡ s → place ≡ worker → length y.desks ≡ desk_count → worker < desk_count
+pub wait_written : (y s : Shard) (place worker : ℕ) (old new : Desk) (request : Request) → y ≡ s → place ≡ worker → length y.desks ≡ desk_count
+    → worker < desk_count
     → old ≡ get_or y.desks place old → new ≡ record { waiting = Some request; kept = old.kept }
     → shard_with y.bag (set y.desks place new) ≡ waiting_shard s worker request
 wait_written y s place worker old new request same at long lt was e =
     ap (shard_with y.bag) (put_waiting y.desks place old new request (omega (arith, at, long, lt)) was e)
     ∙ ap (λ k. waiting_shard y k request) at ∙ ap (λ (x : Shard). waiting_shard x worker request) same
 
-pub service_written : (y s : Shard) (p q : Service) (bag : List Tuple) (place worker : ℕ) (new : Desk) → y ≡ s → p ≡ q → place ≡ worker → length y.desks ≡ desk_count → worker < desk_count
+pub service_written : (y s : Shard) (p q : Service) (bag : List Tuple) (place worker : ℕ) (new : Desk) → y ≡ s → p ≡ q → place ≡ worker
+    → length y.desks ≡ desk_count → worker < desk_count
     → bag ≡ left_by y.bag p.request.op p.place → new ≡ record { waiting = None; kept = Some (kept_of p) }
     → shard_with bag (set y.desks place new) ≡ served s worker q
 service_written y s p q bag place worker new same due at long lt left e =
@@ -53,7 +55,8 @@ service-is y worker place s e = record {
   others = λ v other. at-put_other empty_desk y.desks worker v _ other;
 }
 
-pub serve_done : (y between new : Shard) (worker place : ℕ) (s p : Service) → service y worker place ≡ Ok s → p ≡ s → between ≡ y → new ≡ served between worker p → IsServed y worker new
+pub serve_done : (y between new : Shard) (worker place : ℕ) (s p : Service) → service y worker place ≡ Ok s → p ≡ s → between ≡ y
+    → new ≡ served between worker p → IsServed y worker new
 serve_done y between new worker place s p e due same is =
     subst (IsServed y worker) (sym (is ∙ ap (λ (x : Shard). served x worker p) same ∙ ap (served y worker) due)) (service-is y worker place s e)
 

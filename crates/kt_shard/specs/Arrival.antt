@@ -36,7 +36,8 @@ again_or_ignored (Some answer) = Again answer
 
 -- a new number waits, the request that is kept is answered again, and all else is ignored
 abbrev pub arrival_at : Desk → Request → Arrival
-arrival_at desk request = if nat_lt (newest desk) request.number then Waits else again_or_ignored (kept_answer desk request)
+arrival_at desk request =
+    if nat_lt (newest desk) request.number then Waits else again_or_ignored (kept_answer desk request)
 
 -- what hearing the request of the worker with this number comes to
 abbrev pub arrival : Shard → ℕ → Request → Arrival

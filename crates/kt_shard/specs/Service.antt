@@ -1,5 +1,6 @@
 -- How a shard serves a request.
-use Rattle.std.specs.Prelude.{◌≡◌, ◌≢◌, ℕ, ◌==◌, if◌then◌else◌, List, [], ◌∷◌, ◌++◌, Option, None, Some, slice_get, Result, Ok, Err, IsOk}
+use Rattle.std.specs.Prelude.{◌≡◌, ◌≢◌, ℕ, ◌==◌, if◌then◌else◌, List, [], ◌∷◌, ◌++◌}
+use Rattle.std.specs.Prelude.{Option, None, Some, slice_get, Result, Ok, Err, IsOk}
 use Rattle.std.specs.Option.{option_map}
 use Rattle.kt_tuple.specs.declared.tuple.Tuple.{Tuple}
 use Rattle.kt_tuple.specs.declared.op.Op.{Op}
@@ -64,7 +65,8 @@ kept_of s = record { request = s.request; answer = s.answer }
 -- the shard after the service of the worker with this number: it waits no more, and the answer is kept
 abbrev pub served : Shard → ℕ → Service → Shard
 served y worker s =
-    with_desk (record y { bag = left_by y.bag s.request.op s.place }) worker (record { waiting = None; kept = Some (kept_of s) })
+    with_desk (record y { bag = left_by y.bag s.request.op s.place }) worker
+    (record { waiting = None; kept = Some (kept_of s) })
 
 -- the refusal is the one that is due; where none is, memory ran out
 abbrev pub Refuses : ServeError → Result Service ServeError → Type 0

@@ -1,3 +1,5 @@
+//! What a shard makes of a request that arrives.
+
 ghost use Rattle.std.specs.Prelude.{◌≡◌, max, IfOk};
 ghost use Rattle.std.specs.Option.{option_copied};
 ghost use Rattle.kt_shard.specs.Desk.{number_or_0, kept_request, answer_unless_waiting};
@@ -48,7 +50,8 @@ pub(crate) fn arrival_of<'a>(
     kept: Option<&'a Kept>,
     request: &Request,
 ) -> Arrival<'a>
-    ensures { arrival_view result ≡ arrival_at (record { waiting = option_copied waiting.entry; kept = option_copied kept.entry }) request.now }
+    ensures { arrival_view result ≡ arrival_at
+        (record { waiting = option_copied waiting.entry; kept = option_copied kept.entry }) request.now }
 {
     if newest(waiting, kept) < request.number {
         return Arrival::Waits;
@@ -61,7 +64,8 @@ pub(crate) fn arrival_of<'a>(
 
 /// The greatest number that was heard of the worker, or 0.
 fn newest(waiting: Option<&Request>, kept: Option<&Kept>) -> u64
-    ensures { result ≡ max (number_or_0 (option_copied waiting.entry)) (number_or_0 (kept_request (option_copied kept.entry))) }
+    ensures { result ≡ max (number_or_0 (option_copied waiting.entry))
+        (number_or_0 (kept_request (option_copied kept.entry))) }
 {
     let waiting = match waiting {
         Some(request) => request.number,
@@ -80,7 +84,8 @@ fn kept_answer<'a>(
     kept: Option<&'a Kept>,
     request: &Request,
 ) -> Option<&'a Answer>
-    ensures { option_copied result ≡ answer_unless_waiting (option_copied waiting.entry) (option_copied kept.entry) request.now }
+    ensures { option_copied result ≡ answer_unless_waiting (option_copied waiting.entry)
+        (option_copied kept.entry) request.now }
 {
     match (waiting, kept) {
         (None, Some(kept)) => {

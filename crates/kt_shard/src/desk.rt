@@ -1,3 +1,5 @@
+//! What a shard keeps for each worker.
+
 ghost use Rattle.std.specs.Prelude.{◌≡◌, Some, None, IfOk};
 
 use crate::request::{Kept, Request};

@@ -1,3 +1,5 @@
+//! Why a request is not served.
+
 use std::alloc::AllocError;
 use thiserror::Error;
 

@@ -1,3 +1,5 @@
+//! Requests of workers, and the answers that are kept of them.
+
 ghost use Rattle.std.specs.Prelude.{◌≡◌, IfOk};
 ghost use Rattle.kt_shard.specs.Desk.{same_request};
 

@@ -1,3 +1,5 @@
+//! What comes of serving a request.
+
 ghost use Rattle.std.specs.Prelude.{◌≡◌, IfOk, IfSome};
 
 use crate::request::Request;

@@ -1,3 +1,5 @@
+//! Shards: their tuples, and a desk for each worker.
+
 ghost use Rattle.std.specs.Prelude.{◌≡◌, ◌<◌, ◌↔◌, length, replicate, IsTrue, IsOk, IfOk, IfErr, OnOk, OnErr};
 ghost use Rattle.std.specs.Option.{option_copied, option_map};
 ghost use Rattle.kt_shard.specs.Limits.{desks};
@@ -195,7 +197,8 @@ impl Shard {
     /// in order of arrival. `NotWaiting` where the worker does not wait, `NoSuchMatch` where there is no such
     /// match; a refused service changes no tuple and no desk.
     pub fn serve(&mut self, alloc: Global, worker: u8, place: u64) -> Result<(), ServeError>
-        ensures served { OnOk result (IfOk (service self.old.state worker place) (λ s. self.new.state ≡ served self.old.state worker s)) }
+        ensures served { OnOk result (IfOk (service self.old.state worker place)
+            (λ s. self.new.state ≡ served self.old.state worker s)) }
         ensures enabled { OnOk result (IsOk (service self.old.state worker place)) }
         ensures step { OnOk result (IsServed self.old.state worker self.new.state) }
         ensures refusal { IfErr result (λ e. Refuses e (service self.old.state worker place)) }

@@ -18,14 +18,16 @@ pub decided_there : (c : Content) (i : ℕ) (agreed : Bool) (k : ℕ) (row : Pos
     → record c { board = set c.board k record row { verdict = verdict_from agreed } } ≡ decided i agreed c
 decided_there c i agreed k row rising found at =
     ap (λ (b : List Posted). let d : Content = record c { board = b } in d)
-    (placed_at (λ (a b : Posted). nat_lt a.instance b.instance) row record row { verdict = verdict_from agreed } c.board k by_number_order (λ r. refl) (λ r. refl) rising at)
+    (placed_at (λ (a b : Posted). nat_lt a.instance b.instance) row record row { verdict = verdict_from agreed } c.board k by_number_order (λ r. refl)
+    (λ r. refl) rising at)
     ∙ rw found refl
 
 pub not_begun : (c : Content) (i : ℕ) (agreed : Bool) → posted c i ≡ None → c ≡ decided i agreed c
 not_begun c i agreed none = rw none refl
 
 -- the greatest of numbers within a bound is within it
-pub greatest_within : (rows : List Posted) (a n : ℕ) → a ≤ n → All (λ (row : Posted). row.instance ≤ n) rows → fold max a (map (λ (row : Posted). row.instance) rows) ≤ n
+pub greatest_within : (rows : List Posted) (a n : ℕ) → a ≤ n → All (λ (row : Posted). row.instance ≤ n) rows
+    → fold max a (map (λ (row : Posted). row.instance) rows) ≤ n
 greatest_within [] a n h all = h
 greatest_within (x ∷ rows) a n h all =
     greatest_within rows (max a x.instance) n (grind (arith, h, all 0 x (omega arith))) (λ k d lt. all (suc k) d (omega (arith, lt)))
@@ -33,7 +35,8 @@ greatest_within (x ∷ rows) a n h all =
 -- the greatest of numbers is none below them, and none below where it began
 above_start : (rows : List Posted) (a : ℕ) → a ≤ fold max a (map (λ (row : Posted). row.instance) rows)
 above_start [] a = omega arith
-above_start (x ∷ rows) a = let rest : max a x.instance ≤ fold max (max a x.instance) (map (λ (row : Posted). row.instance) rows) = above_start rows (max a x.instance) in grind (arith, rest)
+above_start (x ∷ rows) a = let rest : max a x.instance ≤ fold max (max a x.instance) (map (λ (row : Posted). row.instance) rows) =
+    above_start rows (max a x.instance) in grind (arith, rest)
 
 above_all : (rows : List Posted) (a : ℕ) → All (λ (row : Posted). row.instance ≤ fold max a (map (λ (row : Posted). row.instance) rows)) rows
 above_all [] a = λ k d h. absurd (omega (arith, h))
@@ -44,7 +47,8 @@ above_all (x ∷ rows) a =
 
 below_next : (new : Posted) (rows : List Posted) → new.instance ≡ fold max 0 (map (λ (row : Posted). row.instance) rows) + 1
     → All (λ (row : Posted). nat_lt row.instance new.instance ≡ true) rows
-below_next new rows next = λ k d h. let low : (get_or rows k d).instance ≤ fold max 0 (map (λ (row : Posted). row.instance) rows) = above_all rows 0 k d h in grind (arith, low, next)
+below_next new rows next = λ k d h. let low : (get_or rows k d).instance ≤ fold max 0 (map (λ (row : Posted). row.instance) rows) =
+    above_all rows 0 k d h in grind (arith, low, next)
 
 -- the next instance stands behind all others
 pub posted_last : (new : Posted) (rows : List Posted) → new.instance ≡ fold max 0 (map (λ (row : Posted). row.instance) rows) + 1

@@ -4,3 +4,4 @@ pub mod Nodes
 pub mod Others
 pub mod OtherNodes
 pub mod OtherInstances
+pub mod Shared

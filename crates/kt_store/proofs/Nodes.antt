@@ -1,5 +1,6 @@
 -- The rows of nodes: one that is changed where it stands, and one that is put among the others.
-use Rattle.std.proofs.Common.{◌≡◌, ℕ, ◌<◌, ◌≤◌, Bool, true, false, cond, List, [], ◌∷◌, ◌++◌, set, insert, length, get_or, All, AllPairs, None, Some, refl, sym, ap, arith, suc, le_of_lt, subst, Result, Ok, Err, OnOk, OnErr}
+use Rattle.std.proofs.Common.{◌≡◌, ℕ, ◌<◌, ◌≤◌, Bool, true, false, cond, List, [], ◌∷◌, ◌++◌, set, insert, length, get_or, All}
+use Rattle.std.proofs.Common.{AllPairs, None, Some, refl, sym, ap, arith, suc, le_of_lt, subst, Result, Ok, Err, OnOk, OnErr}
 use Rattle.std.specs.List.{find, position, slice_get}
 use Rattle.std.proofs.lemmas.List.Quantifiers.{position-Some}
 use Rattle.kt_tuple.specs.declared.node.NodeId.{NodeId}
@@ -10,7 +11,7 @@ use Rattle.kt_store.specs.declared.change.Change.{Change}
 use Rattle.kt_store.specs.declared.change.Change.TheVariants.{Incarnation, Take, Promote, Discard}
 use Rattle.kt_store.specs.Content.{IsNodes, node_lt, row_or, greatest}
 use Rattle.kt_store.specs.Changes.{with_row}
-use Rattle.kt_store.specs.Row.{changed, IsWithin}
+use Rattle.kt_store.specs.inner.Row.{changed, IsWithin}
 use Rattle.kt_store.proofs.Tables.{IsOrder, placed_all, placed_among, placed_at, placed_last, placed_rising, none_passes, position_none}
 
 pub one_way : (a b : NodeId) → node_lt a b ≡ true → node_lt b a ≡ false
@@ -80,7 +81,8 @@ still_nodes change p rows h is =
     }
 
 -- a row that is changed where it stands
-pub changed_there : (change : Change) (p : NodeId) (rows : List NodeRow) (k : ℕ) (row : NodeRow) → AllPairs (λ (a b : NodeRow). node_lt a.node b.node ≡ true) rows
+pub changed_there : (change : Change) (p : NodeId) (rows : List NodeRow) (k : ℕ) (row : NodeRow)
+    → AllPairs (λ (a b : NodeRow). node_lt a.node b.node ≡ true) rows
     → find (λ (row : NodeRow). node_eq row.node p) rows ≡ Some row → slice_get rows k ≡ Some row
     → set rows k (changed change row) ≡ with_row (changed change (row_or p (find (λ (row : NodeRow). node_eq row.node p) rows))) rows
 changed_there change p rows k row rising found at =
@@ -92,11 +94,13 @@ pub added_among : (new : NodeRow) (rows : List NodeRow) (k : ℕ) → AllPairs (
     → find (λ (row : NodeRow). node_eq row.node new.node) rows ≡ None
     → position (λ (row : NodeRow). node_lt new.node row.node) rows ≡ Some k → insert rows k new ≡ with_row new rows
 added_among new rows k rising none at =
-    let there : (d : NodeRow) → (k < length rows) × (node_lt new.node (get_or rows k d).node ≡ true) × ((i : ℕ) → i < k → node_lt new.node (get_or rows i d).node ≡ false) =
+    let there : (d : NodeRow) → (k < length rows) × (node_lt new.node (get_or rows k d).node ≡ true)
+    × ((i : ℕ) → i < k → node_lt new.node (get_or rows i d).node ≡ false) =
     λ d. position-Some (λ (row : NodeRow). node_lt new.node row.node) rows k d at in
     let within : k < length rows = (there new).0 in
     placed_among before new rows k by_node_order rising (le_of_lt within)
-    (λ i d h. apart (get_or rows i d).node new.node (none_passes (λ (row : NodeRow). node_eq row.node new.node) rows none i d (omega (arith, h, within))) ((there d).2 i h))
+    (λ i d h. apart (get_or rows i d).node new.node (none_passes (λ (row : NodeRow). node_eq row.node new.node) rows none i d (omega (arith, h, within)))
+    ((there d).2 i h))
     (λ d h. (there d).1)
 
 -- and behind all others, where none comes after it

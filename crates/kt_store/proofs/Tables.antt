@@ -1,5 +1,6 @@
 -- Rows in rising order: a row that is written in its place, and one that is put behind all others.
-use Rattle.std.proofs.Common.{◌≡◌, ℕ, zero, suc, ◌<◌, ◌≤◌, insert, length, get_or, Bool, true, false, cond, List, [], ◌∷◌, ◌++◌, filter, set, All, AllPairs, None, Some, refl, sym, ap, ◌∙◌, arith}
+use Rattle.std.proofs.Common.{◌≡◌, ℕ, zero, suc, ◌<◌, ◌≤◌, insert, length, get_or, Bool, true, false, cond, List}
+use Rattle.std.proofs.Common.{[], ◌∷◌, ◌++◌, filter, set, All, AllPairs, None, Some, refl, sym, ap, ◌∙◌, arith}
 use Rattle.std.specs.Prelude.{nat_lt}
 use Rattle.std.specs.List.{find, position, position_or_len, slice_get}
 use Rattle.std.proofs.lemmas.List.Elements.{All-cons, All-append, All-filter, filter_passes}

@@ -9,7 +9,8 @@ most_faults = 2 ^ 64 - 1
 
 -- a refusal for the device only where it failed in this call or the count can't show it; for damage never while the
 -- store is honest; for a full store only where this number can't be raised
-pub record HasCause {T : Type 0} (before now : ℕ) (is_honest : Bool) (IsFull : Type 0) (result : Result T StoreError) : Type 0 where
+pub record HasCause {T : Type 0} (before now : ℕ) (is_honest : Bool) (IsFull : Type 0)
+    (result : Result T StoreError) : Type 0 where
   pub later : before ≤ now
   pub device : IsErrOf result Device → (before < now) ⊎ (now ≡ most_faults)
   pub damaged : IsErrOf result Damaged → is_honest ≡ false

@@ -28,7 +28,8 @@ storing new c = record c { nodes = with_row new c.nodes }
 -- the next instance is begun by the node
 abbrev pub opening : NodeId → Purpose → Content → Content
 opening p purpose c = record c {
-  board = with_posted record { instance = next_instance c; initiator = p; purpose = purpose; verdict = verdicts.Open } c.board;
+  board = with_posted record { instance = next_instance c; initiator = p; purpose = purpose; verdict = verdicts.Open }
+      c.board;
 }
 
 abbrev pub taken : ℕ → Ckpt → Option Tentative
@@ -36,7 +37,8 @@ taken i ckpt = Some record { instance = i; checkpoint = ckpt }
 
 -- the node begins a check: the next instance is its own, and it takes its tentative checkpoint in it
 abbrev pub check_begun : NodeId → Ckpt → Content → Content
-check_begun p ckpt c = opening p purposes.Check (storing record (row_of c p) { tentative = taken (next_instance c) ckpt } c)
+check_begun p ckpt c =
+    opening p purposes.Check (storing record (row_of c p) { tentative = taken (next_instance c) ckpt } c)
 
 -- the node takes its tentative checkpoint in the instance
 abbrev pub tentative_put : NodeId → ℕ → Ckpt → Content → Content
@@ -50,7 +52,8 @@ promoted_from permanent (Some t) = Some t.checkpoint
 -- the node's tentative checkpoint becomes permanent
 abbrev pub promoted : NodeId → Content → Content
 promoted p c =
-    storing record (row_of c p) { permanent = promoted_from (row_of c p).permanent (row_of c p).tentative; tentative = None } c
+    storing record
+    (row_of c p) { permanent = promoted_from (row_of c p).permanent (row_of c p).tentative; tentative = None } c
 
 -- it is given up
 abbrev pub discarded : NodeId → Content → Content

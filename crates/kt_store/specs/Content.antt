@@ -1,5 +1,6 @@
 -- What a store holds, and what its reads give.
-use Rattle.std.specs.Prelude.{◌≡◌, ℕ, ◌+◌, ◌==◌, ◌^◌, max, Bool, true, false, nat_lt, ◌&&◌, List, [], ◌∷◌, map, fold, Option, None, Some, All, AllPairs, ◌≤◌}
+use Rattle.std.specs.Prelude.{◌≡◌, ℕ, ◌+◌, ◌==◌, ◌^◌, max, Bool, true, false, nat_lt, ◌&&◌}
+use Rattle.std.specs.Prelude.{List, [], ◌∷◌, map, fold, Option, None, Some, All, AllPairs, ◌≤◌}
 use Rattle.std.specs.List.{find}
 use Rattle.std.specs.Option.{option_map}
 use Rattle.kt_tuple.specs.declared.node.NodeId.{NodeId}
@@ -67,7 +68,8 @@ initiator_of c i = option_map (λ (row : Posted). row.initiator) (posted c i)
 
 -- the first instance that the node began and that has no verdict
 abbrev pub open_of : Content → NodeId → Option ℕ
-open_of c p = option_map (λ (row : Posted). row.instance) (find (λ (row : Posted). node_eq row.initiator p && is_open row.verdict) c.board)
+open_of c p = option_map (λ (row : Posted). row.instance)
+    (find (λ (row : Posted). node_eq row.initiator p && is_open row.verdict) c.board)
 
 -- one more than the greatest number of an instance, 1 where there is none
 abbrev pub next_instance : Content → ℕ

@@ -2,5 +2,5 @@ pub mod Verdict
 pub mod Content
 pub mod Changes
 pub mod Calls
-pub mod Row
 pub mod Others
+pub mod inner

@@ -6,7 +6,7 @@ ghost use Rattle.kt_tuple.specs.Node.{node_eq};
 ghost use Rattle.kt_store.specs.declared.rows.NodeRow.{NodeRow};
 ghost use Rattle.kt_store.specs.Content.{IsNodes, node_lt, row_or};
 ghost use Rattle.kt_store.specs.Changes.{with_row};
-ghost use Rattle.kt_store.specs.Row.{changed, IsWithin};
+ghost use Rattle.kt_store.specs.inner.Row.{changed, IsWithin};
 
 use crate::rows::{NodeRow, Tentative};
 use kt_tuple::NodeId;
@@ -50,7 +50,9 @@ pub(crate) fn change_row(
 ) -> Result<(), AllocError>
     requires nodes { IsNodes rows.old.items }
     requires within { IsWithin change }
-    ensures written { OnOk result (rows.new.items ≡ with_row (changed change (row_or node (find (λ (row : NodeRow). node_eq row.node node) rows.old.items))) rows.old.items) }
+    ensures written { OnOk result (rows.new.items ≡ with_row
+        (changed change (row_or node (find (λ (row : NodeRow). node_eq row.node node) rows.old.items)))
+        rows.old.items) }
     ensures unchanged { OnErr result (rows.new.items ≡ rows.old.items) }
     ensures kept { IsNodes rows.new.items }
 {

@@ -1,3 +1,5 @@
+//! Why a store refuses a call.
+
 use std::alloc::AllocError;
 
 /// Why a call of a store is refused. It changes nothing then.

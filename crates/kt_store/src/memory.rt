@@ -1,4 +1,7 @@
-ghost use Rattle.std.specs.Prelude.{◌≡◌, ◌+◌, ℕ, None, OnOk, OnErr, vec_len, vec_capacity, IfOk, IfSome, IfNone, slice_get, length, fold, map, max, All, ◌<◌, ◌≤◌, ◌==◌, ◌&&◌};
+//! A store in memory.
+
+ghost use Rattle.std.specs.Prelude.{◌≡◌, ◌+◌, ℕ, None, OnOk, OnErr, vec_len, vec_capacity, IfOk, IfSome};
+ghost use Rattle.std.specs.Prelude.{IfNone, slice_get, length, fold, map, max, All, ◌<◌, ◌≤◌, ◌==◌, ◌&&◌};
 ghost use Rattle.std.specs.Option.{option_copied};
 ghost use Rattle.std.specs.List.{find, position};
 ghost use Rattle.kt_tuple.specs.declared.node.NodeId.{NodeId};
@@ -6,9 +9,10 @@ ghost use Rattle.kt_tuple.specs.Node.{node_eq};
 ghost use Rattle.kt_store.specs.declared.rows.NodeRow.{NodeRow};
 ghost use Rattle.kt_store.specs.declared.rows.Posted.{Posted};
 ghost use Rattle.kt_store.specs.Verdict.{is_open};
-ghost use Rattle.kt_store.specs.Content.{IsBoard, row_of, verdict_of, initiator_of, open_of, next_instance, is_fresh, greatest, permanent_marks, tentative_marks};
+ghost use Rattle.kt_store.specs.Content.{IsBoard, row_of, verdict_of, initiator_of, open_of, next_instance};
+ghost use Rattle.kt_store.specs.Content.{is_fresh, greatest, permanent_marks, tentative_marks};
 ghost use Rattle.kt_store.specs.Changes.{decided, opening, storing, with_posted};
-ghost use Rattle.kt_store.specs.Row.{changed, IsWithin};
+ghost use Rattle.kt_store.specs.inner.Row.{changed, IsWithin};
 
 use crate::change::{Change, change_row};
 use crate::error::StoreError;
@@ -175,7 +179,8 @@ impl MemStore {
         requires next { instance ≡ next_instance self.old }
         requires room { instance ≤ greatest }
         requires within { IsWithin change }
-        ensures written { OnOk result (self.new ≡ opening node purpose (storing (changed change (row_of self.old node)) self.old)) }
+        ensures written { OnOk result (self.new ≡ opening node purpose
+            (storing (changed change (row_of self.old node)) self.old)) }
         ensures unchanged { OnErr result (self.new ≡ self.old) }
     {
         self.board.reserve(1)?;
@@ -365,7 +370,8 @@ fn greatest_of(rows: &[Posted]) -> u64
 
 /// The first instance that the node began and that is open.
 fn open_at(rows: &[Posted], node: NodeId) -> Option<&Posted>
-    ensures { option_copied result ≡ find (λ (row : Posted). node_eq row.initiator node && is_open row.verdict) rows.now }
+    ensures { option_copied result ≡ find
+        (λ (row : Posted). node_eq row.initiator node && is_open row.verdict) rows.now }
 {
     rows.iter()
         .find(|row| row.initiator == node && row.verdict.is_open())

@@ -1,7 +1,11 @@
+//! What a store of checkpoints and verdicts promises.
+
 ghost use Rattle.std.specs.Prelude.{◌≡◌, ◌⊎◌, ◌+◌, ℕ, Bool, None, Some, IsTrue, IfOk, OnOk, OnErr};
 ghost use Rattle.kt_store.specs.declared.rows.Verdict.TheVariants as verdicts;
-ghost use Rattle.kt_store.specs.Content.{Content, HasVerdict, greatest, initiator_of, is_fresh, next_instance, open_of, permanent_marks, row_of, tentative_marks, verdict_of};
-ghost use Rattle.kt_store.specs.Changes.{bumped, check_begun, decided, discarded, promoted, restart_begun, tentative_put};
+ghost use Rattle.kt_store.specs.Content.{Content, HasVerdict, greatest, initiator_of, is_fresh, next_instance};
+ghost use Rattle.kt_store.specs.Content.{open_of, permanent_marks, row_of, tentative_marks, verdict_of};
+ghost use Rattle.kt_store.specs.Changes.{bumped, check_begun, decided, discarded};
+ghost use Rattle.kt_store.specs.Changes.{promoted, restart_begun, tentative_put};
 ghost use Rattle.kt_store.specs.Calls.{HasCause};
 
 use crate::error::StoreError;
@@ -28,21 +32,24 @@ pub trait CkptStore {
 
     /// The incarnation of the node, 1 at first.
     fn incarnation(&mut self, node: NodeId) -> Result<u64, StoreError>
-        ensures value { IsTrue (is_honest self.new) → IfOk result (λ n. n ≡ (row_of (content self.old) node).incarnation) }
+        ensures value { IsTrue (is_honest self.new)
+            → IfOk result (λ n. n ≡ (row_of (content self.old) node).incarnation) }
         ensures same { IsTrue (is_honest self.new) → content self.new ≡ content self.old }
         ensures honest { IsTrue (is_honest self.new) → IsTrue (is_honest self.old) }
         ensures cause { HasCause (fault_count self.old) (fault_count self.new) (is_honest self.new) ⊥ result };
 
     /// The permanent checkpoint of the node, if one is stored.
     fn permanent(&mut self, alloc: Global, node: NodeId) -> Result<Option<Ckpt>, StoreError>
-        ensures value { IsTrue (is_honest self.new) → IfOk result (λ c. c ≡ (row_of (content self.old) node).permanent) }
+        ensures value { IsTrue (is_honest self.new)
+            → IfOk result (λ c. c ≡ (row_of (content self.old) node).permanent) }
         ensures same { IsTrue (is_honest self.new) → content self.new ≡ content self.old }
         ensures honest { IsTrue (is_honest self.new) → IsTrue (is_honest self.old) }
         ensures cause { HasCause (fault_count self.old) (fault_count self.new) (is_honest self.new) ⊥ result };
 
     /// The tentative checkpoint of the node with its instance, if one is stored.
     fn tentative(&mut self, alloc: Global, node: NodeId) -> Result<Option<Tentative>, StoreError>
-        ensures value { IsTrue (is_honest self.new) → IfOk result (λ t. t ≡ (row_of (content self.old) node).tentative) }
+        ensures value { IsTrue (is_honest self.new)
+            → IfOk result (λ t. t ≡ (row_of (content self.old) node).tentative) }
         ensures same { IsTrue (is_honest self.new) → content self.new ≡ content self.old }
         ensures honest { IsTrue (is_honest self.new) → IsTrue (is_honest self.old) }
         ensures cause { HasCause (fault_count self.old) (fault_count self.new) (is_honest self.new) ⊥ result };
@@ -104,7 +111,8 @@ pub trait CkptStore {
     /// Begins a check: the next instance, of this node, and its tentative checkpoint in it. It has none.
     fn begin_check(&mut self, node: NodeId, ckpt: &Ckpt) -> Result<(), StoreError>
         requires { IsTrue (is_honest self.old) → (row_of (content self.old) node).tentative ≡ None }
-        ensures written { IsTrue (is_honest self.new) → OnOk result (content self.new ≡ check_begun node ckpt.now (content self.old)) }
+        ensures written { IsTrue (is_honest self.new)
+            → OnOk result (content self.new ≡ check_begun node ckpt.now (content self.old)) }
         ensures unchanged { IsTrue (is_honest self.new) → OnErr result (content self.new ≡ content self.old) }
         ensures honest { IsTrue (is_honest self.new) → IsTrue (is_honest self.old) }
         ensures cause { HasCause (fault_count self.old) (fault_count self.new) (is_honest self.new)
@@ -113,7 +121,8 @@ pub trait CkptStore {
     /// Stores the node's tentative checkpoint in the instance. It has none.
     fn put_tentative(&mut self, node: NodeId, instance: u64, ckpt: &Ckpt) -> Result<(), StoreError>
         requires { IsTrue (is_honest self.old) → (row_of (content self.old) node).tentative ≡ None }
-        ensures written { IsTrue (is_honest self.new) → OnOk result (content self.new ≡ tentative_put node instance ckpt.now (content self.old)) }
+        ensures written { IsTrue (is_honest self.new)
+            → OnOk result (content self.new ≡ tentative_put node instance ckpt.now (content self.old)) }
         ensures unchanged { IsTrue (is_honest self.new) → OnErr result (content self.new ≡ content self.old) }
         ensures honest { IsTrue (is_honest self.new) → IsTrue (is_honest self.old) }
         ensures cause { HasCause (fault_count self.old) (fault_count self.new) (is_honest self.new) ⊥ result };
@@ -121,7 +130,8 @@ pub trait CkptStore {
     /// Makes the node's tentative checkpoint permanent. Its instance has Yes.
     fn promote(&mut self, node: NodeId) -> Result<(), StoreError>
         requires { IsTrue (is_honest self.old) → HasVerdict (content self.old) node verdicts.Yes }
-        ensures written { IsTrue (is_honest self.new) → OnOk result (content self.new ≡ promoted node (content self.old)) }
+        ensures written { IsTrue (is_honest self.new)
+            → OnOk result (content self.new ≡ promoted node (content self.old)) }
         ensures unchanged { IsTrue (is_honest self.new) → OnErr result (content self.new ≡ content self.old) }
         ensures honest { IsTrue (is_honest self.new) → IsTrue (is_honest self.old) }
         ensures cause { HasCause (fault_count self.old) (fault_count self.new) (is_honest self.new) ⊥ result };
@@ -129,22 +139,26 @@ pub trait CkptStore {
     /// Gives the node's tentative checkpoint up. Its instance has No.
     fn discard(&mut self, node: NodeId) -> Result<(), StoreError>
         requires { IsTrue (is_honest self.old) → HasVerdict (content self.old) node verdicts.No }
-        ensures written { IsTrue (is_honest self.new) → OnOk result (content self.new ≡ discarded node (content self.old)) }
+        ensures written { IsTrue (is_honest self.new)
+            → OnOk result (content self.new ≡ discarded node (content self.old)) }
         ensures unchanged { IsTrue (is_honest self.new) → OnErr result (content self.new ≡ content self.old) }
         ensures honest { IsTrue (is_honest self.new) → IsTrue (is_honest self.old) }
         ensures cause { HasCause (fault_count self.old) (fault_count self.new) (is_honest self.new) ⊥ result };
 
     /// Begins a rollback: the next incarnation of the node, and the next instance, of this node.
     fn begin_restart(&mut self, node: NodeId) -> Result<(), StoreError>
-        ensures written { IsTrue (is_honest self.new) → OnOk result (content self.new ≡ restart_begun node (content self.old)) }
+        ensures written { IsTrue (is_honest self.new)
+            → OnOk result (content self.new ≡ restart_begun node (content self.old)) }
         ensures unchanged { IsTrue (is_honest self.new) → OnErr result (content self.new ≡ content self.old) }
         ensures honest { IsTrue (is_honest self.new) → IsTrue (is_honest self.old) }
         ensures cause { HasCause (fault_count self.old) (fault_count self.new) (is_honest self.new)
-            (IsTrue (is_honest self.new) → (next_instance (content self.old) ≡ greatest + 1) ⊎ ((row_of (content self.old) node).incarnation ≡ greatest)) result };
+            (IsTrue (is_honest self.new) → (next_instance (content self.old) ≡ greatest + 1)
+            ⊎ ((row_of (content self.old) node).incarnation ≡ greatest)) result };
 
     /// Raises the incarnation of the node.
     fn bump(&mut self, node: NodeId) -> Result<(), StoreError>
-        ensures written { IsTrue (is_honest self.new) → OnOk result (content self.new ≡ bumped node (content self.old)) }
+        ensures written { IsTrue (is_honest self.new)
+            → OnOk result (content self.new ≡ bumped node (content self.old)) }
         ensures unchanged { IsTrue (is_honest self.new) → OnErr result (content self.new ≡ content self.old) }
         ensures honest { IsTrue (is_honest self.new) → IsTrue (is_honest self.old) }
         ensures cause { HasCause (fault_count self.old) (fault_count self.new) (is_honest self.new)
@@ -153,7 +167,8 @@ pub trait CkptStore {
     /// Gives the instance its verdict. It is open.
     fn decide(&mut self, instance: u64, yes: bool) -> Result<(), StoreError>
         requires { IsTrue (is_honest self.old) → verdict_of (content self.old) instance ≡ Some verdicts.Open }
-        ensures written { IsTrue (is_honest self.new) → OnOk result (content self.new ≡ decided instance yes (content self.old)) }
+        ensures written { IsTrue (is_honest self.new)
+            → OnOk result (content self.new ≡ decided instance yes (content self.old)) }
         ensures unchanged { IsTrue (is_honest self.new) → OnErr result (content self.new ≡ content self.old) }
         ensures honest { IsTrue (is_honest self.new) → IsTrue (is_honest self.old) }
         ensures cause { HasCause (fault_count self.old) (fault_count self.new) (is_honest self.new) ⊥ result };

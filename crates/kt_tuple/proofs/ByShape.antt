@@ -4,7 +4,8 @@ use Rattle.std.proofs.lemmas.Bool.{and_parts, and_from, false_from_ne_true, true
 use Rattle.std.proofs.lemmas.List.Elements.{All-nil, All-cons, All-head, All-tail}
 use Rattle.std.specs.Prelude.{All}
 use Rattle.std.specs.List.{list_all}
-use Rattle.kt_tuple.specs.Grammar.{quoted, int, str, IsPlaceText, actual, any_int, any_str, Separated, one, more, Consists, in_parentheses, IsInside, IsShort, IsFirstOutside, IsTooLong, IsAccepted}
+use Rattle.kt_tuple.specs.Grammar.{quoted, int, str, IsPlaceText, actual, any_int, any_str, Separated, one, more}
+use Rattle.kt_tuple.specs.Grammar.{Consists, in_parentheses, IsInside, IsShort, IsFirstOutside, IsTooLong, IsAccepted}
 use Rattle.kt_tuple.specs.Reading.{has_range, is_short}
 use Rattle.kt_tuple.proofs.Outside.{int_range, formal_range, str_short, int_short}
 use Rattle.kt_tuple.proofs.Rows.{HasOutside, HasTooLong, HasFine}
@@ -32,10 +33,12 @@ all_by : (test : List ℕ → Bool) (P : List ℕ → Type 0) → ((p : List ℕ
 all_by test P holds [] e = All-nil P
 all_by test P holds (p ∷ ps) e = let h = and_parts (test p) (list_all test ps) e in All-cons P p ps (holds p h.0) (all_by test P holds ps h.1)
 
-by_all : (test : List ℕ → Bool) (P : List ℕ → Type 0) → ((p : List ℕ) → IsPlaceText p → P p → test p ≡ true) → (ps : List (List ℕ)) → All IsPlaceText ps → All P ps → list_all test ps ≡ true
+by_all : (test : List ℕ → Bool) (P : List ℕ → Type 0) → ((p : List ℕ) → IsPlaceText p → P p → test p ≡ true) → (ps : List (List ℕ)) → All IsPlaceText ps
+    → All P ps → list_all test ps ≡ true
 by_all test P passes [] are h = refl
 by_all test P passes (p ∷ ps) are h =
-    and_from (test p) (list_all test ps) (passes p (All-head IsPlaceText p ps are) (All-head P p ps h)) (by_all test P passes ps (All-tail IsPlaceText p ps are) (All-tail P p ps h))
+    and_from (test p) (list_all test ps) (passes p (All-head IsPlaceText p ps are) (All-head P p ps h))
+    (by_all test P passes ps (All-tail IsPlaceText p ps are) (All-tail P p ps h))
 
 all_before : (ps : List (List ℕ)) (p : List ℕ) (others : List (List ℕ)) → All IsPlaceText (ps ++ p ∷ others) → All IsPlaceText ps × IsPlaceText p
 all_before [] p others h = (All-nil IsPlaceText, All-head IsPlaceText p others h)

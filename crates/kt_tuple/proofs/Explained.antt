@@ -4,16 +4,17 @@ use Rattle.kt_tuple.specs.declared.parse_error.ParseError.{ParseError}
 use Rattle.kt_tuple.specs.declared.parse_error.ParseError.TheVariants as faults
 use Rattle.kt_tuple.specs.Grammar.{IsValueText, IsPlaceText, actual, Explains, IsAccepted}
 use Rattle.kt_tuple.specs.Reading.{value_at, place_at}
-use Rattle.kt_tuple.specs.Parsing.{Reader, tuple_fault, template_fault}
+use Rattle.kt_tuple.specs.Parsing.{Reader, fault_of, tuple_fault, template_fault}
 use Rattle.kt_tuple.proofs.Shapes.{IsReaderOf}
 use Rattle.kt_tuple.proofs.PlaceShapes.{values_shape, places_shape}
-use Rattle.kt_tuple.proofs.TextShapes.{fault_with, shape_no_syntax, syntax_within, syntax_begins, syntax_longest}
+use Rattle.kt_tuple.proofs.TextShapes.{shape_no_syntax, syntax_within, syntax_begins, syntax_longest}
 use Rattle.kt_tuple.proofs.TextFaults.{range_outside, too_long_inside}
 use Rattle.kt_tuple.proofs.Exact.{none_accepted}
 use Rattle.kt_tuple.proofs.ByShape.{outside_to, long_to, fine_to}
+use Rattle.kt_tuple.proofs.Texts.{tuple_arity, tuple_spelled, template_arity, template_spelled}
 
 module _ (read : Reader) (IsOne : List ℕ → Type 0) (g : IsReaderOf read IsOne) (as_place : (p : List ℕ) → IsOne p → IsPlaceText p) where
-  explained : (text : List ℕ) (e : ParseError) → fault_with read text ≡ Some e → Explains IsOne text e
+  explained : (text : List ℕ) (e : ParseError) → fault_of read text ≡ Some e → Explains IsOne text e
   explained text (faults.Syntax at) e = (
     λ shape. shape_no_syntax read IsOne g text at shape e,
     record {
@@ -37,3 +38,7 @@ template_explained = explained place_at IsPlaceText places_shape (λ p h. h)
 
 pub template_accepted : (text : List ℕ) → template_fault text ≡ None → IsAccepted IsPlaceText text
 template_accepted text e = fine_to IsPlaceText (λ p h. h) text (none_accepted place_at IsPlaceText places_shape text e)
+
+pub ruleset tuple_laws = (tuple_arity, tuple_spelled, tuple_explained, tuple_accepted)
+
+pub ruleset template_laws = (template_arity, template_spelled, template_explained, template_accepted)

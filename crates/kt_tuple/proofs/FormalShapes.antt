@@ -8,17 +8,20 @@ use Rattle.kt_tuple.proofs.IntLaws.{split_front}
 use Rattle.kt_tuple.proofs.ValueLaws.{bound, word_taken}
 use Rattle.kt_tuple.proofs.Shapes.{Again, Halts, Took, Stops, took_split, halts_as, stops_nil, stops_here, bound_err}
 
-word_halts : (w : ℕ) (word : List ℕ) (c : ℕ) → eqb w c ≡ true → (front rest : List ℕ) → Halts (λ t. word_at t word) front rest → Halts (λ t. word_at t (w ∷ word)) (c ∷ front) rest
+word_halts : (w : ℕ) (word : List ℕ) (c : ℕ) → eqb w c ≡ true → (front rest : List ℕ) → Halts (λ t. word_at t word) front rest
+    → Halts (λ t. word_at t (w ∷ word)) (c ∷ front) rest
 word_halts w word c e front [] h = tt
 word_halts w word c e front (d ∷ ds) h = λ more. rw e (h more)
 
-word_by_test : (b : Bool) (w : ℕ) (word : List ℕ) (c : ℕ) (cs rest : List ℕ) → eqb w c ≡ b → (word_at cs word ≡ Err rest → Stops (λ t. word_at t word) (λ t. t ≡ word) cs rest)
+word_by_test : (b : Bool) (w : ℕ) (word : List ℕ) (c : ℕ) (cs rest : List ℕ) → eqb w c ≡ b
+    → (word_at cs word ≡ Err rest → Stops (λ t. word_at t word) (λ t. t ≡ word) cs rest)
     → cond b (word_at cs word) (Err (c ∷ cs)) ≡ Err rest → Stops (λ t. word_at t (w ∷ word)) (λ t. t ≡ w ∷ word) (c ∷ cs) rest
 word_by_test true w word c cs rest e behind read =
     let h = behind read in
     let whole : c ∷ (h.0 ++ h.2.0) ≡ w ∷ word = ap (λ k. k ∷ (h.0 ++ h.2.0)) (sym (eqb-true w c e)) ∙ ap (λ (t : List ℕ). w ∷ t) h.2.1 in
     (c ∷ h.0, ap (λ (t : List ℕ). c ∷ t) h.1, (h.2.0, whole), word_halts w word c e h.0 rest h.3)
-word_by_test false w word c cs rest e behind read = stops_here (λ t. word_at t (w ∷ word)) (λ t. t ≡ w ∷ word) c cs rest (w ∷ word, refl) (cc) (λ more. rw e refl)
+word_by_test false w word c cs rest e behind read =
+    stops_here (λ t. word_at t (w ∷ word)) (λ t. t ≡ w ∷ word) c cs rest (w ∷ word, refl) (cc) (λ more. rw e refl)
 
 -- what stands before the rest begins the word
 pub word_stops : (word text rest : List ℕ) → word_at text word ≡ Err rest → Stops (λ t. word_at t word) (λ t. t ≡ word) text rest
@@ -30,12 +33,14 @@ word_stops (w ∷ word) (c ∷ cs) rest e = word_by_test (eqb w c) w word c cs r
 abbrev IsKind : List ℕ → Type 0
 IsKind kind = IsPlaceText (63 ∷ kind)
 
-kind_by_word : (word : List ℕ) (c : ℕ) (cs rest : List ℕ) → IsKind word → ((w : List ℕ) → after_kind (c ∷ w) ≡ word_at (c ∷ w) word) → word_at (c ∷ cs) word ≡ Err rest → Stops after_kind IsKind (c ∷ cs) rest
+kind_by_word : (word : List ℕ) (c : ℕ) (cs rest : List ℕ) → IsKind word → ((w : List ℕ) → after_kind (c ∷ w) ≡ word_at (c ∷ w) word)
+    → word_at (c ∷ cs) word ≡ Err rest → Stops after_kind IsKind (c ∷ cs) rest
 kind_by_word word c cs rest is same e =
     let h = word_stops word (c ∷ cs) rest e in
     (h.0, h.1, (h.2.0, subst IsKind (sym h.2.1) is), halts_as after_kind (λ t. word_at t word) c same cs h.0 rest h.1 h.3)
 
-kind_by_fault : (b : Bool) (c : ℕ) (cs rest : List ℕ) → eqb c 105 ≡ b → cond b (word_at (c ∷ cs) (codes "int")) (word_at (c ∷ cs) (codes "str")) ≡ Err rest → Stops after_kind IsKind (c ∷ cs) rest
+kind_by_fault : (b : Bool) (c : ℕ) (cs rest : List ℕ) → eqb c 105 ≡ b → cond b (word_at (c ∷ cs) (codes "int")) (word_at (c ∷ cs) (codes "str")) ≡ Err rest
+    → Stops after_kind IsKind (c ∷ cs) rest
 kind_by_fault true c cs rest e read = kind_by_word (codes "int") c cs rest any_int (λ w. rw e refl) read
 kind_by_fault false c cs rest e read = kind_by_word (codes "str") c cs rest any_str (λ w. rw e refl) read
 
@@ -62,7 +67,8 @@ kind_again : (text rest : List ℕ) → after_kind text ≡ Ok rest → (k : Lis
 kind_again [] rest e = absurd cc
 kind_again (c ∷ cs) rest e = by (eqb c 105) e
   where
-    by : (b : Bool) → cond b (word_at (c ∷ cs) (codes "int")) (word_at (c ∷ cs) (codes "str")) ≡ Ok rest → (k : List ℕ) × (c ∷ cs ≡ k ++ rest) × IsKind k × Again formal_at (63 ∷ k) rest
+    by : (b : Bool) → cond b (word_at (c ∷ cs) (codes "int")) (word_at (c ∷ cs) (codes "str")) ≡ Ok rest → (k : List ℕ) × (c ∷ cs ≡ k ++ rest) × IsKind k
+        × Again formal_at (63 ∷ k) rest
     by true read = (codes "int", word_taken (c ∷ cs) (codes "int") rest read, any_int, again_by (codes "?int") rest int_formal)
     by false read = (codes "str", word_taken (c ∷ cs) (codes "str") rest read, any_str, again_by (codes "?str") rest str_formal)
 
@@ -91,7 +97,8 @@ behind_err text cs rest e = elim (bound_err (after_kind cs) (λ after. Ok (split
 ]
 
 formal_by_test : (b : Bool) (c : ℕ) (cs rest : List ℕ) → eqb 63 c ≡ b
-    → (cond b (Ok cs) (Err (c ∷ cs)) >>= λ kind. after_kind kind >>= λ after. Ok (split_before (c ∷ cs) after)) ≡ Err rest → Stops formal_at IsPlaceText (c ∷ cs) rest
+    → (cond b (Ok cs) (Err (c ∷ cs)) >>= λ kind. after_kind kind >>= λ after. Ok (split_before (c ∷ cs) after)) ≡ Err rest
+    → Stops formal_at IsPlaceText (c ∷ cs) rest
 unfolding formal_at
 formal_by_test true c cs rest e read =
     subst (λ k. Stops formal_at IsPlaceText (k ∷ cs) rest) (eqb-true 63 c e) (stops_behind cs rest (kind_stops cs rest (behind_err (c ∷ cs) cs rest read)))

@@ -1,5 +1,6 @@
 -- An int that is read is spelled as its number is, and each number's spelling is read.
-use Rattle.std.proofs.Common.{◌≡◌, ℕ, zero, suc, ◌-◌, ◌^◌, ◌<◌, ◌≤◌, Bool, true, false, cond, ◌&&◌, eqb, leb, List, [], ◌∷◌, ◌++◌, length, get_or, drop, Some, None, Result, Ok, Err, refl, sym, ap, subst, ◌∙◌, arith, length-append}
+use Rattle.std.proofs.Common.{◌≡◌, ℕ, zero, suc, ◌-◌, ◌^◌, ◌<◌, ◌≤◌, Bool, true, false, cond, ◌&&◌, eqb, leb, List, [], ◌∷◌, ◌++◌}
+use Rattle.std.proofs.Common.{length, get_or, drop, Some, None, Result, Ok, Err, refl, sym, ap, subst, ◌∙◌, arith, length-append}
 use Rattle.std.proofs.lemmas.List.{take_at, drop_at}
 use Rattle.std.proofs.lemmas.Bool.{ne_eqb, eqb-true, ltb-true, leb-true, le-leb}
 use Rattle.std.specs.Cmp.Derive.{both_true}
@@ -22,7 +23,8 @@ pub record Takes (text front rest : List ℕ) : Type 0 where
 pub split_front : (front rest : List ℕ) → split_before (front ++ rest) rest ≡ (front, rest)
 split_front front rest =
     let k : length (front ++ rest) - length rest ≡ length front = omega (arith, length-append front rest) in
-    rw k (ap (λ (t : List ℕ). (t, drop (length front) (front ++ rest))) (take_at front rest (length front) refl) ∙ ap (λ (t : List ℕ). (front, t)) (drop_at front rest (length front) refl))
+    rw k (ap (λ (t : List ℕ). (t, drop (length front) (front ++ rest))) (take_at front rest (length front) refl)
+    ∙ ap (λ (t : List ℕ). (front, t)) (drop_at front rest (length front) refl))
 
 digits_cons : (b : Bool) (c : ℕ) (cs : List ℕ) → is_ascii_digit c ≡ b
     → (ds : List ℕ) × (cs ≡ ds ++ after_digits cs) × (all_ascii_digits ds ≡ true)
@@ -59,15 +61,23 @@ positive_by_test : (b : Bool) (c : ℕ) (cs rest : List ℕ) → is_in_range 49 
 positive_by_test true c cs rest e (ds, parts, digits) read =
     let bounds = both (leb 49 c) (leb c 57) e in
     let low = leb-true 49 c bounds.0 in
-    let same : after_digits cs ≡ rest = cc in
-    (c ∷ ds, ap (λ (t : List ℕ). c ∷ t) (parts ∙ ap (λ (t : List ℕ). ds ++ t) same), record { some = omega arith; first = low; digits = rw (digit_from_positive c low (leb-true c 57 bounds.1)) digits })
+    let same : after_digits cs ≡ rest = cc in (
+      c ∷ ds,
+      ap (λ (t : List ℕ). c ∷ t) (parts ∙ ap (λ (t : List ℕ). ds ++ t) same),
+      record {
+        some = omega arith;
+        first = low;
+        digits = rw (digit_from_positive c low (leb-true c 57 bounds.1)) digits;
+      },
+    )
 positive_by_test false c cs rest e h read = absurd cc
 
 pub positive_read : (text rest : List ℕ) → after_positive text ≡ Ok rest → (ds : List ℕ) × (text ≡ ds ++ rest) × IsPositive ds
 positive_read [] rest e = absurd cc
 positive_read (c ∷ cs) rest e = positive_by_test (is_in_range 49 57 c) c cs rest refl (digits_front cs) e
 
-up_to_ok : (text : List ℕ) (r : Result (List ℕ) (List ℕ)) (p rest : List ℕ) → up_to text r ≡ Ok (p, rest) → (after : List ℕ) × (r ≡ Ok after) × (split_before text after ≡ (p, rest))
+up_to_ok : (text : List ℕ) (r : Result (List ℕ) (List ℕ)) (p rest : List ℕ) → up_to text r ≡ Ok (p, rest) → (after : List ℕ) × (r ≡ Ok after)
+    × (split_before text after ≡ (p, rest))
 up_to_ok text (Ok after) p rest e = (after, refl, cc)
 up_to_ok text (Err e') p rest e = absurd cc
 
@@ -77,7 +87,8 @@ parts_of text front after p rest parts split =
     let e : (front, after) ≡ (p, rest) = sym (split_front front after) ∙ ap (λ (t : List ℕ). split_before t after) (sym parts) ∙ split in
     (ap (λ (x : List ℕ × List ℕ). x.0) e, ap (λ (x : List ℕ × List ℕ). x.1) e)
 
-int_by_sign : (b : Bool) (c : ℕ) (cs p rest : List ℕ) → eqb c 45 ≡ b → up_to (c ∷ cs) (after_positive (cond b cs (c ∷ cs))) ≡ Ok (p, rest) → (c ∷ cs ≡ p ++ rest) × IsInt p
+int_by_sign : (b : Bool) (c : ℕ) (cs p rest : List ℕ) → eqb c 45 ≡ b → up_to (c ∷ cs) (after_positive (cond b cs (c ∷ cs))) ≡ Ok (p, rest)
+    → (c ∷ cs ≡ p ++ rest) × IsInt p
 int_by_sign true c cs p rest e read =
     let up = up_to_ok (c ∷ cs) (after_positive cs) p rest read in
     let ds = positive_read cs up.0 up.1 in
@@ -91,7 +102,8 @@ int_by_sign false c cs p rest e read =
     let same = parts_of (c ∷ cs) ds.0 up.0 p rest ds.1 up.2 in
     (ds.1 ∙ ap (λ (t : List ℕ). t ++ up.0) same.0 ∙ ap (λ (t : List ℕ). p ++ t) same.1, subst IsInt same.0 (positive ds.2))
 
-int_by_zero : (b : Bool) (c : ℕ) (cs p rest : List ℕ) → eqb c 48 ≡ b → cond b (Ok (48 ∷ [], cs)) (up_to (c ∷ cs) (after_positive (cond (eqb c 45) cs (c ∷ cs)))) ≡ Ok (p, rest) → (c ∷ cs ≡ p ++ rest) × IsInt p
+int_by_zero : (b : Bool) (c : ℕ) (cs p rest : List ℕ) → eqb c 48 ≡ b
+    → cond b (Ok (48 ∷ [], cs)) (up_to (c ∷ cs) (after_positive (cond (eqb c 45) cs (c ∷ cs)))) ≡ Ok (p, rest) → (c ∷ cs ≡ p ++ rest) × IsInt p
 int_by_zero true c cs p rest e read =
     let digit : c ≡ 48 = eqb-true c 48 e in
     let same : (48 ∷ [], cs) ≡ (p, rest) = cc in

@@ -29,7 +29,8 @@ pub record HasDigits (text rest : List ℕ) : Type 0 where
   pub are : All IsDigit digits
   pub end : begins_with_digit rest ≡ false
 
-digits_by_test : (b : Bool) (c : ℕ) (cs : List ℕ) → is_ascii_digit c ≡ b → HasDigits cs (after_digits cs) → HasDigits (c ∷ cs) (cond b (after_digits cs) (c ∷ cs))
+digits_by_test : (b : Bool) (c : ℕ) (cs : List ℕ) → is_ascii_digit c ≡ b → HasDigits cs (after_digits cs)
+    → HasDigits (c ∷ cs) (cond b (after_digits cs) (c ∷ cs))
 digits_by_test true c cs e h = record {
   digits = c ∷ h.digits;
   parts = ap (λ (t : List ℕ). c ∷ t) h.parts;
@@ -56,7 +57,8 @@ pub record HasPositive (text rest : List ℕ) : Type 0 where
   pub are : All IsDigit others
   pub end : begins_with_digit rest ≡ false
 
-positive_by_test : (b : Bool) (c : ℕ) (cs rest : List ℕ) → is_in_range 49 57 c ≡ b → cond b (Ok (after_digits cs)) (Err (c ∷ cs)) ≡ Ok rest → HasPositive (c ∷ cs) rest
+positive_by_test : (b : Bool) (c : ℕ) (cs rest : List ℕ) → is_in_range 49 57 c ≡ b → cond b (Ok (after_digits cs)) (Err (c ∷ cs)) ≡ Ok rest
+    → HasPositive (c ∷ cs) rest
 positive_by_test true c cs rest e read =
     let same : after_digits cs ≡ rest = cc in
     let h = digits_taken cs in
@@ -107,7 +109,8 @@ unfolding int_at
 zero_again [] = tt
 zero_again (d ∷ ds) = λ w. refl
 
-up_to_ok : (text : List ℕ) (r : Result (List ℕ) (List ℕ)) (x : List ℕ × List ℕ) → up_to text r ≡ Ok x → (after : List ℕ) × (r ≡ Ok after) × (split_before text after ≡ x)
+up_to_ok : (text : List ℕ) (r : Result (List ℕ) (List ℕ)) (x : List ℕ × List ℕ) → up_to text r ≡ Ok x → (after : List ℕ) × (r ≡ Ok after)
+    × (split_before text after ≡ x)
 up_to_ok text (Ok after) x e = (after, refl, cc)
 up_to_ok text (Err e') x e = absurd cc
 
@@ -115,7 +118,8 @@ up_to_err : (text : List ℕ) (r : Result (List ℕ) (List ℕ)) (rest : List �
 up_to_err text (Ok after) rest e = absurd cc
 up_to_err text (Err e') rest e = cc
 
-int_by_sign : (b : Bool) (c : ℕ) (cs : List ℕ) (x : List ℕ × List ℕ) → eqb c 45 ≡ b → up_to (c ∷ cs) (after_positive (cond b cs (c ∷ cs))) ≡ Ok x → Took int_at IsInt (c ∷ cs) x
+int_by_sign : (b : Bool) (c : ℕ) (cs : List ℕ) (x : List ℕ × List ℕ) → eqb c 45 ≡ b → up_to (c ∷ cs) (after_positive (cond b cs (c ∷ cs))) ≡ Ok x
+    → Took int_at IsInt (c ∷ cs) x
 int_by_sign true c cs x e read =
     let up = up_to_ok (c ∷ cs) (after_positive cs) x read in
     let h = positive_taken cs up.0 up.1 in
@@ -151,7 +155,8 @@ unfolding int_at
 minus_halts [] h = tt
 minus_halts (d ∷ ds) h = λ w. rw (h w) refl
 
-stopped_by_sign : (b : Bool) (c : ℕ) (cs rest : List ℕ) → eqb c 48 ≡ false → eqb c 45 ≡ b → up_to (c ∷ cs) (after_positive (cond b cs (c ∷ cs))) ≡ Err rest → Stops int_at IsInt (c ∷ cs) rest
+stopped_by_sign : (b : Bool) (c : ℕ) (cs rest : List ℕ) → eqb c 48 ≡ false → eqb c 45 ≡ b → up_to (c ∷ cs) (after_positive (cond b cs (c ∷ cs))) ≡ Err rest
+    → Stops int_at IsInt (c ∷ cs) rest
 unfolding int_at
 stopped_by_sign true c cs rest no_zero e read =
     let h = positive_stopped cs rest (up_to_err (c ∷ cs) (after_positive cs) rest read) in

@@ -40,21 +40,24 @@ failed : {X : Type 0} (b : Bool) (x y : X) → ((b ≡ true) → ⊥) → y ≡ 
 failed true x y never = absurd (never refl)
 failed false x y never = refl
 
-pub int_parsed : (bs : List ℕ) (n : ℤ) → IsNumeral 10 (without_leading_sign bs) × FitsSigned w64 (signed_digits_value 10 bs) → n ≡ signed_digits_value 10 bs → Some n ≡ int_of bs
+pub int_parsed : (bs : List ℕ) (n : ℤ) → IsNumeral 10 (without_leading_sign bs) × FitsSigned w64 (signed_digits_value 10 bs) → n ≡ signed_digits_value 10 bs
+    → Some n ≡ int_of bs
 unfolding int_of
 int_parsed bs n h e =
     ap (λ z. Some z) e
     ∙ passed (is_numeral (without_leading_sign bs) && is_i64 (signed_digits_value 10 bs)) (Some (signed_digits_value 10 bs)) None
     (both_true (is_numeral-true (without_leading_sign bs) h.0) (lt-ltb (mag (signed_digits_value 10 bs)) (2 ^ 63) h.1.sfits))
 
-is_int-fact : (bs : List ℕ) → (is_numeral (without_leading_sign bs) && is_i64 (signed_digits_value 10 bs)) ≡ true → IsNumeral 10 (without_leading_sign bs) × FitsSigned w64 (signed_digits_value 10 bs)
+is_int-fact : (bs : List ℕ) → (is_numeral (without_leading_sign bs) && is_i64 (signed_digits_value 10 bs)) ≡ true → IsNumeral 10 (without_leading_sign bs)
+    × FitsSigned w64 (signed_digits_value 10 bs)
 is_int-fact bs e =
     let parts = both (is_numeral (without_leading_sign bs)) (is_i64 (signed_digits_value 10 bs)) e in
     (is_numeral-fact (without_leading_sign bs) parts.0, record { sfits = ltb-true (mag (signed_digits_value 10 bs)) (2 ^ 63) parts.1 })
 
 pub int_refused : (bs : List ℕ) → ¬ (IsNumeral 10 (without_leading_sign bs) × FitsSigned w64 (signed_digits_value 10 bs)) → None ≡ int_of bs
 unfolding int_of
-int_refused bs never = failed (is_numeral (without_leading_sign bs) && is_i64 (signed_digits_value 10 bs)) (Some (signed_digits_value 10 bs)) None (λ e. never (is_int-fact bs e))
+int_refused bs never =
+    failed (is_numeral (without_leading_sign bs) && is_i64 (signed_digits_value 10 bs)) (Some (signed_digits_value 10 bs)) None (λ e. never (is_int-fact bs e))
 
 plus_ascii : (b : Bool) (c : ℕ) (cs : List ℕ) → eqb c 43 ≡ b → IsAscii (drop (cond b 1 0) (c ∷ cs)) → IsAscii (c ∷ cs)
 plus_ascii true c cs e h = IsAscii-cons c cs (omega (arith, eqb-true c 43 e)) h
@@ -72,5 +75,6 @@ pub int_no_text : (bs : List ℕ) → ¬ (IsUtf8 bs) → None ≡ int_of bs
 int_no_text bs never = int_refused bs (λ h. never (IsUtf8-from_ascii bs (sign_ascii bs (IsAscii-from_digits (without_leading_sign bs) h.0.1))))
 
 -- the same of the number as the program holds it
-pub int_read : (bs : List ℕ) (n : ℤ) → IsNumeral 10 (without_leading_sign bs) × FitsSigned w64 (signed_digits_value 10 bs) → n ≡ signed_digits_value 10 bs → Some (to_z w64 (of_z w64 n)) ≡ int_of bs
+pub int_read : (bs : List ℕ) (n : ℤ) → IsNumeral 10 (without_leading_sign bs) × FitsSigned w64 (signed_digits_value 10 bs) → n ≡ signed_digits_value 10 bs
+    → Some (to_z w64 (of_z w64 n)) ≡ int_of bs
 int_read bs n h e = ap (λ z. Some z) (to_z-of_z w64 n (subst (FitsSigned w64) (sym e) h.1)) ∙ int_parsed bs n h e

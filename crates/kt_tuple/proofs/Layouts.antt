@@ -1,5 +1,6 @@
 -- How the places of a text stand behind each other, up to the closing parenthesis.
-use Rattle.std.proofs.Common.{◌≡◌, ℕ, ◌≤◌, Bool, true, false, eqb, List, [], ◌∷◌, ◌++◌, length, map, Option, Some, None, Result, Ok, Err, refl, sym, ap, subst, ◌∙◌, append_assoc, arith, length-append}
+use Rattle.std.proofs.Common.{◌≡◌, ℕ, ◌≤◌, Bool, true, false, eqb, List, [], ◌∷◌, ◌++◌, length, map, Option, Some}
+use Rattle.std.proofs.Common.{None, Result, Ok, Err, refl, sym, ap, subst, ◌∙◌, append_assoc, arith, length-append}
 use Rattle.std.proofs.lemmas.Bool.{eqb-true}
 use Rattle.std.specs.Prelude.{codes}
 use Rattle.kt_tuple.specs.Grammar.{Separated, one, more, Consists, in_parentheses}
@@ -10,7 +11,8 @@ use Rattle.kt_tuple.proofs.FormalShapes.{word_stops}
 -- the places of a text, each with the text from it on
 pub data Laid (IsOne : List ℕ → Type 0) : List (List ℕ × List ℕ) → List ℕ → Type 0 where
   last : {p : List ℕ} → IsOne p → Laid IsOne ((p, p ++ 41 ∷ []) ∷ []) (p ++ 41 ∷ [])
-  next : {p text : List ℕ} {found : List (List ℕ × List ℕ)} → IsOne p → Laid IsOne found text → Laid IsOne ((p, p ++ 44 ∷ 32 ∷ text) ∷ found) (p ++ 44 ∷ 32 ∷ text)
+  next : {p text : List ℕ} {found : List (List ℕ × List ℕ)} → IsOne p → Laid IsOne found text
+      → Laid IsOne ((p, p ++ 44 ∷ 32 ∷ text) ∷ found) (p ++ 44 ∷ 32 ∷ text)
 
 -- what may stand behind a place
 pub data Follows (IsOne : List ℕ → Type 0) : List ℕ → Type 0 where
@@ -30,12 +32,14 @@ laid_text found text (next {p} {text = behind} {found = others} h l) =
       ap (λ (t : List ℕ). p ++ 44 ∷ 32 ∷ t) more_of.2 ∙ sym (append_assoc p (44 ∷ 32 ∷ more_of.0) (41 ∷ [])),
     )
 
-pub laid_consists : {IsOne : List ℕ → Type 0} (found : List (List ℕ × List ℕ)) (text : List ℕ) → Laid IsOne found text → Consists IsOne (map spelling found) (40 ∷ text)
+pub laid_consists : {IsOne : List ℕ → Type 0} (found : List (List ℕ × List ℕ)) (text : List ℕ) → Laid IsOne found text
+    → Consists IsOne (map spelling found) (40 ∷ text)
 laid_consists {IsOne} found text l =
     let h = laid_text found text l in
     subst (λ (t : List ℕ). Consists IsOne (map spelling found) (40 ∷ t)) (sym h.2) (in_parentheses h.1)
 
-text_laid : {IsOne : List ℕ → Type 0} (ps : List (List ℕ)) (inner : List ℕ) → Separated IsOne ps inner → (found : List (List ℕ × List ℕ)) × Laid IsOne found (inner ++ 41 ∷ []) × (map spelling found ≡ ps)
+text_laid : {IsOne : List ℕ → Type 0} (ps : List (List ℕ)) (inner : List ℕ) → Separated IsOne ps inner → (found : List (List ℕ × List ℕ))
+    × Laid IsOne found (inner ++ 41 ∷ []) × (map spelling found ≡ ps)
 text_laid ps inner (one {p} h) = ((p, p ++ 41 ∷ []) ∷ [], last h, refl)
 text_laid {IsOne} ps inner (more {p} {text} {ps = others} h s) =
     let l = text_laid others text s in
@@ -60,14 +64,16 @@ unfolding after_place
 follows_read t closed = (None, refl)
 follows_read t (further {text} l) = (Some text, refl)
 
-pub follows_further : {IsOne : List ℕ → Type 0} (t text : List ℕ) → Follows IsOne t → t ≡ 44 ∷ 32 ∷ text → (found : List (List ℕ × List ℕ)) × Laid IsOne found text
+pub follows_further : {IsOne : List ℕ → Type 0} (t text : List ℕ) → Follows IsOne t → t ≡ 44 ∷ 32 ∷ text → (found : List (List ℕ × List ℕ))
+    × Laid IsOne found text
 follows_further t text closed e = absurd cc
 follows_further {IsOne} t text (further {text = behind} {found} l) e =
     let same : behind ≡ text = cc in
     (found, subst (Laid IsOne found) same l)
 
 -- a comma and a space
-comma_halts : (front rest : List ℕ) → Halts (λ t. word_at t (codes ", ")) front rest → Halts (λ t. word_at t (codes ", ") >>= λ (following : List ℕ). Ok (Some following)) front rest
+comma_halts : (front rest : List ℕ) → Halts (λ t. word_at t (codes ", ")) front rest
+    → Halts (λ t. word_at t (codes ", ") >>= λ (following : List ℕ). Ok (Some following)) front rest
 comma_halts front [] h = tt
 comma_halts front (d ∷ ds) h = λ w. rw (h w) refl
 
@@ -86,7 +92,8 @@ module _ (IsOne : List ℕ → Type 0) (p : List ℕ) (is : IsOne p) where
         h.0,
         h.1,
         (h.2.0 ++ text, subst (Follows IsOne) (sym whole) behind),
-        halts_as after_place (λ t. word_at t (codes ", ") >>= λ (following : List ℕ). Ok (Some following)) c (λ w. rw e refl) cs h.0 rest h.1 (comma_halts h.0 rest h.3),
+        halts_as after_place (λ t. word_at t (codes ", ") >>= λ (following : List ℕ). Ok (Some following)) c (λ w. rw e refl) cs h.0 rest h.1
+            (comma_halts h.0 rest h.3),
       )
 
   after_by_test : (b : Bool) (c : ℕ) (cs rest : List ℕ) → eqb c 41 ≡ b → after_place (c ∷ cs) ≡ Err rest → Stops after_place (Follows IsOne) (c ∷ cs) rest

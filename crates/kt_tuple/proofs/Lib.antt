@@ -16,6 +16,8 @@ pub mod ValuesRead
 pub mod PlaceLaws
 pub mod PlacesRead
 pub mod Faults
+pub mod Findings
+pub mod Making
 pub mod Wholes
 pub mod WholesRead
 pub mod Texts
@@ -35,3 +37,4 @@ pub mod ByShape
 pub mod Explained
 pub mod Only
 pub mod Actuals
+pub mod Shared

@@ -3,7 +3,8 @@ use Rattle.std.proofs.Common.{◌≡◌, ℕ, suc, ◌+◌, ◌-◌, ◌<◌, �
 use Rattle.std.specs.Prelude.{option_to_list}
 use Rattle.std.proofs.lemmas.List.{append-nil}
 use Rattle.kt_tuple.specs.Reading.{after_place}
-use Rattle.kt_tuple.specs.Parsing.{Reader, made_with, made_from}
+use Rattle.kt_tuple.specs.Parsing.{Reader}
+use Rattle.kt_tuple.specs.inner.Making.{made_with, made_from}
 
 pub made_step : {A : Type 0} (read : Reader) (make : List ℕ → Option A) (i : ℕ) (text : List ℕ) → i < 8
     → made_from read make (8 - i) text ≡ made_with (read text) make (made_from read make (8 - (i + 1)))
@@ -19,16 +20,20 @@ module _ {A : Type 0} (read : Reader) (make : List ℕ → Option A) (i : ℕ) (
 
   pub last_made : (spelling after : List ℕ) → read rest ≡ Ok (spelling, after) → after_place after ≡ Ok None → front ++ option_to_list (make spelling) ≡ total
   last_made spelling after place follows =
-      ap (λ (made : List A). front ++ made) (sym (append-nil (option_to_list (make spelling)))) ∙ sym (rw (made_step read make i rest lt, place, follows) refl) ∙ so_far
+      ap (λ (made : List A). front ++ made) (sym (append-nil (option_to_list (make spelling)))) ∙ sym (rw (made_step read make i rest lt, place, follows) refl)
+      ∙ so_far
 
-  pub unfollowed_made : (spelling after e : List ℕ) → read rest ≡ Ok (spelling, after) → after_place after ≡ Err e → front ++ option_to_list (make spelling) ≡ total
+  pub unfollowed_made : (spelling after e : List ℕ) → read rest ≡ Ok (spelling, after) → after_place after ≡ Err e
+      → front ++ option_to_list (make spelling) ≡ total
   unfollowed_made spelling after e place follows =
-      ap (λ (made : List A). front ++ made) (sym (append-nil (option_to_list (make spelling)))) ∙ sym (rw (made_step read make i rest lt, place, follows) refl) ∙ so_far
+      ap (λ (made : List A). front ++ made) (sym (append-nil (option_to_list (make spelling)))) ∙ sym (rw (made_step read make i rest lt, place, follows) refl)
+      ∙ so_far
 
   pub made_goes_on : (spelling after next : List ℕ) → read rest ≡ Ok (spelling, after) → after_place after ≡ Ok (Some next)
       → (front ++ option_to_list (make spelling)) ++ made_from read make (8 - (i + 1)) next ≡ total
   made_goes_on spelling after next place follows =
-      append_assoc front (option_to_list (make spelling)) (made_from read make (8 - (i + 1)) next) ∙ sym (rw (made_step read make i rest lt, place, follows) refl) ∙ so_far
+      append_assoc front (option_to_list (make spelling)) (made_from read make (8 - (i + 1)) next)
+      ∙ sym (rw (made_step read make i rest lt, place, follows) refl) ∙ so_far
 
 pub made_enough : {A : Type 0} (read : Reader) (make : List ℕ → Option A) (i : ℕ) (rest : List ℕ) (front total : List A) → 8 ≤ i
     → front ++ made_from read make (8 - i) rest ≡ total → front ≡ total

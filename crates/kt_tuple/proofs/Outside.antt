@@ -7,7 +7,8 @@ use Rattle.std.specs.Int.{w64}
 use Rattle.std.specs.Int.RustNames.{FitsSigned}
 use Rattle.std.specs.Str.{all_ascii_digits}
 use Rattle.std.specs.Str.Parse.{IsNumeral, without_leading_sign, signed_digits_value}
-use Rattle.kt_tuple.specs.Grammar.{IsDigit, IsFirstDigit, IsInt, just_zero, positive, negative, IsCharacters, none, plain, quote, backslash, character_count, IsStr, quoted, IsValueText, int, str, IsPlaceText, actual, any_int, any_str}
+use Rattle.kt_tuple.specs.Grammar.{IsDigit, IsFirstDigit, IsInt, just_zero, positive, negative, IsCharacters, none, plain, quote}
+use Rattle.kt_tuple.specs.Grammar.{backslash, character_count, IsStr, quoted, IsValueText, int, str, IsPlaceText, actual, any_int, any_str}
 use Rattle.kt_tuple.specs.Reading.{is_numeral, int_of, has_range, is_short, unescaped, characters_of}
 use Rattle.kt_tuple.proofs.Ints.{is_numeral-fact, int_parsed}
 use Rattle.kt_tuple.proofs.IntShapes.{is_digit}
@@ -84,7 +85,11 @@ str_count cs h = ap (λ (t : List ℕ). length (unescaped false t)) (between cs)
 
 pub str_short : (cs : List ℕ) (h : IsCharacters cs) → (is_short (34 ∷ (cs ++ 34 ∷ [])) ≡ true) ↔ (character_count h ≤ 64)
 unfolding is_short
-str_short cs h = (λ e. subst (λ n. n ≤ 64) (str_count cs h) (leb-true (length (characters_of (34 ∷ (cs ++ 34 ∷ [])))) 64 e), λ le. le-leb (length (characters_of (34 ∷ (cs ++ 34 ∷ [])))) 64 (omega (arith, str_count cs h, le)))
+str_short cs h = (
+  λ e. subst (λ n. n ≤ 64) (str_count cs h) (leb-true (length (characters_of (34 ∷ (cs ++ 34 ∷ [])))) 64 e),
+  λ le. le-leb (length
+      (characters_of (34 ∷ (cs ++ 34 ∷ [])))) 64 (omega (arith, str_count cs h, le)),
+)
 
 -- no other place is too long
 pub int_short : (p : List ℕ) → IsInt p → is_short p ≡ true

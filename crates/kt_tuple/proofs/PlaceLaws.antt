@@ -19,7 +19,8 @@ pub data IsPlaceText : List ℕ → Type 0 where
   actual : {p : List ℕ} → IsValueText p → IsPlaceText p
   formal : (k : Kind) → IsPlaceText (63 ∷ kind_text k)
 
-kind_by_test : (b : Bool) (c : ℕ) (cs rest : List ℕ) → cond b (word_at (c ∷ cs) (codes "int")) (word_at (c ∷ cs) (codes "str")) ≡ Ok rest → (k : Kind) × (c ∷ cs ≡ kind_text k ++ rest)
+kind_by_test : (b : Bool) (c : ℕ) (cs rest : List ℕ) → cond b (word_at (c ∷ cs) (codes "int")) (word_at (c ∷ cs) (codes "str")) ≡ Ok rest → (k : Kind)
+    × (c ∷ cs ≡ kind_text k ++ rest)
 kind_by_test true c cs rest e = (kinds.Int, word_taken (c ∷ cs) (codes "int") rest e)
 kind_by_test false c cs rest e = (kinds.Str, word_taken (c ∷ cs) (codes "str") rest e)
 

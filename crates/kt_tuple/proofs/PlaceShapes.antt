@@ -20,7 +20,8 @@ value_is_int : (c : ℕ) → eqb c 34 ≡ false → (w : List ℕ) → value_at 
 unfolding value_at
 value_is_int c e w = rw e refl
 
-value_by_test : (b : Bool) (c : ℕ) (cs : List ℕ) (x : List ℕ × List ℕ) → eqb c 34 ≡ b → cond b (str_at (c ∷ cs)) (int_at (c ∷ cs)) ≡ Ok x → Took value_at IsValueText (c ∷ cs) x
+value_by_test : (b : Bool) (c : ℕ) (cs : List ℕ) (x : List ℕ × List ℕ) → eqb c 34 ≡ b → cond b (str_at (c ∷ cs)) (int_at (c ∷ cs)) ≡ Ok x
+    → Took value_at IsValueText (c ∷ cs) x
 value_by_test true c cs x e read = took_as value_at str_at IsValueText IsStr c cs x (value_is_str c e) (λ p h. str h) (str_takes (c ∷ cs) x read)
 value_by_test false c cs x e read = took_as value_at int_at IsValueText IsInt c cs x (value_is_int c e) (λ p h. int h) (int_takes (c ∷ cs) x read)
 
@@ -29,7 +30,8 @@ unfolding value_at
 value_takes [] x e = absurd (int_none x e)
 value_takes (c ∷ cs) x e = value_by_test (eqb c 34) c cs x refl e
 
-value_by_fault : (b : Bool) (c : ℕ) (cs rest : List ℕ) → eqb c 34 ≡ b → cond b (str_at (c ∷ cs)) (int_at (c ∷ cs)) ≡ Err rest → Stops value_at IsValueText (c ∷ cs) rest
+value_by_fault : (b : Bool) (c : ℕ) (cs rest : List ℕ) → eqb c 34 ≡ b → cond b (str_at (c ∷ cs)) (int_at (c ∷ cs)) ≡ Err rest
+    → Stops value_at IsValueText (c ∷ cs) rest
 value_by_fault true c cs rest e read = stops_as value_at str_at IsValueText IsStr c cs rest (value_is_str c e) (λ p h. str h) (str_stops (c ∷ cs) rest read)
 value_by_fault false c cs rest e read = stops_as value_at int_at IsValueText IsInt c cs rest (value_is_int c e) (λ p h. int h) (int_stops (c ∷ cs) rest read)
 
@@ -57,9 +59,11 @@ place_is_value : (c : ℕ) → eqb c 63 ≡ false → (w : List ℕ) → place_a
 unfolding place_at
 place_is_value c e w = rw e refl
 
-place_by_test : (b : Bool) (c : ℕ) (cs : List ℕ) (x : List ℕ × List ℕ) → eqb c 63 ≡ b → cond b (formal_at (c ∷ cs)) (value_at (c ∷ cs)) ≡ Ok x → Took place_at IsPlaceText (c ∷ cs) x
+place_by_test : (b : Bool) (c : ℕ) (cs : List ℕ) (x : List ℕ × List ℕ) → eqb c 63 ≡ b → cond b (formal_at (c ∷ cs)) (value_at (c ∷ cs)) ≡ Ok x
+    → Took place_at IsPlaceText (c ∷ cs) x
 place_by_test true c cs x e read = took_as place_at formal_at IsPlaceText IsPlaceText c cs x (place_is_formal c e) (λ p h. h) (formal_takes (c ∷ cs) x read)
-place_by_test false c cs x e read = took_as place_at value_at IsPlaceText IsValueText c cs x (place_is_value c e) (λ p h. actual h) (value_takes (c ∷ cs) x read)
+place_by_test false c cs x e read =
+    took_as place_at value_at IsPlaceText IsValueText c cs x (place_is_value c e) (λ p h. actual h) (value_takes (c ∷ cs) x read)
 
 value_none : (x : List ℕ × List ℕ) → value_at [] ≡ Ok x → ⊥
 unfolding value_at
@@ -74,9 +78,12 @@ unfolding place_at
 place_takes [] x e = absurd (value_none x e)
 place_takes (c ∷ cs) x e = place_by_test (eqb c 63) c cs x refl e
 
-place_by_fault : (b : Bool) (c : ℕ) (cs rest : List ℕ) → eqb c 63 ≡ b → cond b (formal_at (c ∷ cs)) (value_at (c ∷ cs)) ≡ Err rest → Stops place_at IsPlaceText (c ∷ cs) rest
-place_by_fault true c cs rest e read = stops_as place_at formal_at IsPlaceText IsPlaceText c cs rest (place_is_formal c e) (λ p h. h) (formal_stops (c ∷ cs) rest read)
-place_by_fault false c cs rest e read = stops_as place_at value_at IsPlaceText IsValueText c cs rest (place_is_value c e) (λ p h. actual h) (value_stops (c ∷ cs) rest read)
+place_by_fault : (b : Bool) (c : ℕ) (cs rest : List ℕ) → eqb c 63 ≡ b → cond b (formal_at (c ∷ cs)) (value_at (c ∷ cs)) ≡ Err rest
+    → Stops place_at IsPlaceText (c ∷ cs) rest
+place_by_fault true c cs rest e read =
+    stops_as place_at formal_at IsPlaceText IsPlaceText c cs rest (place_is_formal c e) (λ p h. h) (formal_stops (c ∷ cs) rest read)
+place_by_fault false c cs rest e read =
+    stops_as place_at value_at IsPlaceText IsValueText c cs rest (place_is_value c e) (λ p h. actual h) (value_stops (c ∷ cs) rest read)
 
 place_stops : (text rest : List ℕ) → place_at text ≡ Err rest → Stops place_at IsPlaceText text rest
 unfolding place_at

@@ -32,5 +32,6 @@ digits_end text n e = ap (λ k. drop k text) (sym (some_chosen (ltb (position_or
 -- or with the text
 pub all_digits : (text : List ℕ) → position is_no_digit text ≡ None → [] ≡ after_digits text
 all_digits text e =
-    let whole = ltb-false (position_or_len is_no_digit text) (length text) (none_chosen (ltb (position_or_len is_no_digit text) (length text)) (position_or_len is_no_digit text) e) in
+    let whole = ltb-false (position_or_len is_no_digit text) (length text)
+    (none_chosen (ltb (position_or_len is_no_digit text) (length text)) (position_or_len is_no_digit text) e) in
     sym (drop_of_length-le text whole) ∙ drop-digits text

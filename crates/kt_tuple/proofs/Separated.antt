@@ -27,7 +27,8 @@ separator_after-push [] x = refl
 separator_after-push (y ∷ ys) x = refl
 
 -- with one place more
-pub separated_more : {A : Type 0} (f : A → List ℕ) (xs : List A) (i : ℕ) (x : A) → i < length xs → x ≡ get_or xs i x → separated (map f (take (i + 1) xs)) ≡ separated (map f (take i xs)) ++ (separator_after (take i xs) ++ f x)
+pub separated_more : {A : Type 0} (f : A → List ℕ) (xs : List A) (i : ℕ) (x : A) → i < length xs → x ≡ get_or xs i x
+    → separated (map f (take (i + 1) xs)) ≡ separated (map f (take i xs)) ++ (separator_after (take i xs) ++ f x)
 separated_more f xs i x lt is =
     let one : take (i + 1) xs ≡ take i xs ++ x ∷ [] = take_more xs i x lt ∙ ap (λ y. take i xs ++ y ∷ []) (sym is) in
     ap (λ ys. separated (map f ys)) one ∙ ap separated (map-append f (take i xs) (x ∷ [])) ∙ separated-push (map f (take i xs)) (f x)
@@ -40,7 +41,8 @@ separator_after_more xs i x lt = ap separator_after (take_more xs i x lt) ∙ se
 pub front_of : (old text mid new : List ℕ) → mid ≡ old ++ text → StartsWith new mid → StartsWith new old
 front_of old text mid new whole begins =
     let rest = drop (length mid) new in
-    let parts : new ≡ old ++ (text ++ rest) = sym (take-append-drop (length mid) new) ∙ ap (λ (t : List ℕ). t ++ rest) (begins ∙ whole) ∙ append_assoc old text rest in
+    let parts : new ≡ old ++ (text ++ rest) =
+    sym (take-append-drop (length mid) new) ∙ ap (λ (t : List ℕ). t ++ rest) (begins ∙ whole) ∙ append_assoc old text rest in
     ap (take (length old)) parts ∙ take-append_seam old (text ++ rest)
 
 -- what is written with one place more
@@ -52,4 +54,5 @@ written_more f xs i x old out separator between new lt is written sep extended p
     pushed ∙ ap (λ (t : List ℕ). t ++ f x) (extended ∙ ap (λ (t : List ℕ). t ++ separator) written)
     ∙ ap (λ (t : List ℕ). t ++ f x) (append_assoc old so_far separator)
     ∙ append_assoc old (so_far ++ separator) (f x)
-    ∙ ap (λ (t : List ℕ). old ++ t) (append_assoc so_far separator (f x) ∙ ap (λ (t : List ℕ). so_far ++ (t ++ f x)) sep ∙ ap (λ (t : List ℕ). 40 ∷ t) (sym (separated_more f xs i x lt is)))
+    ∙ ap (λ (t : List ℕ). old ++ t) (append_assoc so_far separator (f x) ∙ ap (λ (t : List ℕ). so_far ++ (t ++ f x)) sep
+    ∙ ap (λ (t : List ℕ). 40 ∷ t) (sym (separated_more f xs i x lt is)))

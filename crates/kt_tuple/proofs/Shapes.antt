@@ -30,7 +30,8 @@ pub record IsReaderOf (read : Reader) (IsOne : List ℕ → Type 0) : Type 0 whe
   pub stops : (text rest : List ℕ) → read text ≡ Err rest → Stops read IsOne text rest
 
 -- what stands before the rest, and the rest
-pub took_split : (read : Reader) (IsOne : List ℕ → Type 0) (text front after : List ℕ) (x : List ℕ × List ℕ) → text ≡ front ++ after → split_before text after ≡ x
+pub took_split : (read : Reader) (IsOne : List ℕ → Type 0) (text front after : List ℕ) (x : List ℕ × List ℕ) → text ≡ front ++ after
+    → split_before text after ≡ x
     → IsOne front → Again read front after → Took read IsOne text x
 took_split read IsOne text front after x parts split one again =
     let e : (front, after) ≡ x = sym (split_front front after) ∙ ap (λ (t : List ℕ). split_before t after) (sym parts) ∙ split in
@@ -46,7 +47,8 @@ again_as r s c same cs (f ∷ p) (d ∷ ds) e again = λ w.
     let is : c ≡ f = cc in
     subst (λ k. r (k ∷ (p ++ d ∷ w)) ≡ s (k ∷ (p ++ d ∷ w))) is (same (p ++ d ∷ w)) ∙ again w
 
-pub halts_as : {X : Type 0} (r s : List ℕ → Result X (List ℕ)) (c : ℕ) → ((w : List ℕ) → r (c ∷ w) ≡ s (c ∷ w)) → (cs front rest : List ℕ) → c ∷ cs ≡ front ++ rest
+pub halts_as : {X : Type 0} (r s : List ℕ → Result X (List ℕ)) (c : ℕ) → ((w : List ℕ) → r (c ∷ w) ≡ s (c ∷ w)) → (cs front rest : List ℕ)
+    → c ∷ cs ≡ front ++ rest
     → Halts s front rest → Halts r front rest
 halts_as r s c same cs front [] e halts = tt
 halts_as r s c same cs [] (d ∷ ds) e halts = λ w.
@@ -67,7 +69,8 @@ stops_as r s IsOne IsOther c cs rest same one stops =
     (stops.0, stops.1, (stops.2.0, one (stops.0 ++ stops.2.0) stops.2.1), halts_as r s c same cs stops.0 rest stops.1 stops.3)
 
 -- where nothing is left
-pub stops_nil : {X : Type 0} (read : List ℕ → Result X (List ℕ)) (IsOne : List ℕ → Type 0) (rest : List ℕ) → (p : List ℕ) × IsOne p → [] ≡ rest → Stops read IsOne [] rest
+pub stops_nil : {X : Type 0} (read : List ℕ → Result X (List ℕ)) (IsOne : List ℕ → Type 0) (rest : List ℕ) → (p : List ℕ) × IsOne p → [] ≡ rest
+    → Stops read IsOne [] rest
 stops_nil read IsOne [] one e = ([], refl, one, tt)
 stops_nil read IsOne (c ∷ cs) one e = absurd cc
 
@@ -78,6 +81,7 @@ stops_here read IsOne c cs rest one e halts =
     let stops : Stops read IsOne (c ∷ cs) (c ∷ cs) = ([], refl, one, halts) in
     subst (Stops read IsOne (c ∷ cs)) e stops
 
-pub bound_err : {A B : Type 0} (r : Result A (List ℕ)) (f : A → Result B (List ℕ)) (e : List ℕ) → (r >>= f) ≡ Err e → (r ≡ Err e) ⊎ ((x : A) × (r ≡ Ok x) × (f x ≡ Err e))
+pub bound_err : {A B : Type 0} (r : Result A (List ℕ)) (f : A → Result B (List ℕ)) (e : List ℕ) → (r >>= f) ≡ Err e → (r ≡ Err e)
+    ⊎ ((x : A) × (r ≡ Ok x) × (f x ≡ Err e))
 bound_err (Ok x) f e is = inr (x, refl, is)
 bound_err (Err d) f e is = inl cc

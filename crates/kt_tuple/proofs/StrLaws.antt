@@ -38,7 +38,8 @@ escaped_taken true c cs rest e behind read =
     )
 escaped_taken false c cs rest e behind read = absurd cc
 
-plain_taken : (b : Bool) (c : ℕ) (cs rest : List ℕ) → eqb c 34 ≡ false → eqb c 92 ≡ false → is_printable c ≡ b → ((r : List ℕ) → after_characters false cs ≡ Ok r → Taken false cs r)
+plain_taken : (b : Bool) (c : ℕ) (cs rest : List ℕ) → eqb c 34 ≡ false → eqb c 92 ≡ false → is_printable c ≡ b
+    → ((r : List ℕ) → after_characters false cs ≡ Ok r → Taken false cs r)
     → cond b (after_characters false cs) (Err (c ∷ cs)) ≡ Ok rest → Taken false (c ∷ cs) rest
 plain_taken true c cs rest no_quote no_backslash e behind read =
     let more = behind rest read in (
@@ -51,7 +52,8 @@ plain_taken true c cs rest no_quote no_backslash e behind read =
     )
 plain_taken false c cs rest no_quote no_backslash e behind read = absurd cc
 
-backslash_taken : (b : Bool) (c : ℕ) (cs rest : List ℕ) → eqb c 34 ≡ false → eqb c 92 ≡ b → ((d : Bool) (r : List ℕ) → after_characters d cs ≡ Ok r → Taken d cs r)
+backslash_taken : (b : Bool) (c : ℕ) (cs rest : List ℕ) → eqb c 34 ≡ false → eqb c 92 ≡ b
+    → ((d : Bool) (r : List ℕ) → after_characters d cs ≡ Ok r → Taken d cs r)
     → cond b (after_characters true cs) (cond (is_printable c) (after_characters false cs) (Err (c ∷ cs))) ≡ Ok rest → Taken false (c ∷ cs) rest
 backslash_taken true c cs rest no_quote e behind read =
     let more = behind true rest read in (
@@ -65,7 +67,8 @@ backslash_taken true c cs rest no_quote e behind read =
 backslash_taken false c cs rest no_quote e behind read = plain_taken (is_printable c) c cs rest no_quote e refl (behind false) read
 
 quote_taken : (b : Bool) (c : ℕ) (cs rest : List ℕ) → eqb c 34 ≡ b → ((d : Bool) (r : List ℕ) → after_characters d cs ≡ Ok r → Taken d cs r)
-    → cond b (Ok cs) (cond (eqb c 92) (after_characters true cs) (cond (is_printable c) (after_characters false cs) (Err (c ∷ cs)))) ≡ Ok rest → Taken false (c ∷ cs) rest
+    → cond b (Ok cs) (cond (eqb c 92) (after_characters true cs) (cond (is_printable c) (after_characters false cs) (Err (c ∷ cs)))) ≡ Ok rest
+    → Taken false (c ∷ cs) rest
 quote_taken true c cs rest e behind read =
     let same : cs ≡ rest = cc in
     ([], ap (λ k. k ∷ cs) (eqb-true c 34 e) ∙ ap (λ (t : List ℕ). 34 ∷ t) same, record { text = refl; printable = refl })

@@ -17,7 +17,8 @@ Body behind text rest = (body : List ℕ) × (text ≡ body ++ 34 ∷ rest) × I
 
 -- what stands before the rest begins characters, and goes no further
 abbrev Open : Bool → List ℕ → List ℕ → Type 0
-Open behind text rest = (front : List ℕ) × (text ≡ front ++ rest) × ((more : List ℕ) × IsCharacters (escape behind ++ (front ++ more))) × Halts (after_characters behind) front rest
+Open behind text rest =
+    (front : List ℕ) × (text ≡ front ++ rest) × ((more : List ℕ) × IsCharacters (escape behind ++ (front ++ more))) × Halts (after_characters behind) front rest
 
 is_plain : (c : ℕ) → eqb c 34 ≡ false → eqb c 92 ≡ false → is_printable c ≡ true → IsPlain c
 is_plain c no_quote no_backslash e =
@@ -38,7 +39,8 @@ escaped_taken : (b : Bool) (c : ℕ) (cs rest : List ℕ) → is_escaped c ≡ b
 escaped_taken true c cs rest e behind read = let h = behind read in (c ∷ h.0, ap (λ (t : List ℕ). c ∷ t) h.1, escaped c h.0 e h.2)
 escaped_taken false c cs rest e behind read = absurd cc
 
-plain_taken : (b : Bool) (c : ℕ) (cs rest : List ℕ) → eqb c 34 ≡ false → eqb c 92 ≡ false → is_printable c ≡ b → (after_characters false cs ≡ Ok rest → Body false cs rest)
+plain_taken : (b : Bool) (c : ℕ) (cs rest : List ℕ) → eqb c 34 ≡ false → eqb c 92 ≡ false → is_printable c ≡ b
+    → (after_characters false cs ≡ Ok rest → Body false cs rest)
     → cond b (after_characters false cs) (Err (c ∷ cs)) ≡ Ok rest → Body false (c ∷ cs) rest
 plain_taken true c cs rest no_quote no_backslash e behind read =
     let h = behind read in (c ∷ h.0, ap (λ (t : List ℕ). c ∷ t) h.1, plain (is_plain c no_quote no_backslash e) h.2)
@@ -52,7 +54,8 @@ backslash_taken true c cs rest no_quote e behind read =
 backslash_taken false c cs rest no_quote e behind read = plain_taken (is_printable c) c cs rest no_quote e refl (behind false) read
 
 quote_taken : (b : Bool) (c : ℕ) (cs rest : List ℕ) → eqb c 34 ≡ b → ((d : Bool) → after_characters d cs ≡ Ok rest → Body d cs rest)
-    → cond b (Ok cs) (cond (eqb c 92) (after_characters true cs) (cond (is_printable c) (after_characters false cs) (Err (c ∷ cs)))) ≡ Ok rest → Body false (c ∷ cs) rest
+    → cond b (Ok cs) (cond (eqb c 92) (after_characters true cs) (cond (is_printable c) (after_characters false cs) (Err (c ∷ cs)))) ≡ Ok rest
+    → Body false (c ∷ cs) rest
 quote_taken true c cs rest e behind read =
     let same : cs ≡ rest = cc in
     ([], ap (λ k. k ∷ cs) (eqb-true c 34 e) ∙ ap (λ (t : List ℕ). 34 ∷ t) same, none)
@@ -81,7 +84,8 @@ halts_behind : (b d : Bool) (c : ℕ) → ((w : List ℕ) → after_characters b
 halts_behind b d c same front [] h = tt
 halts_behind b d c same front (x ∷ xs) h = λ w. same (front ++ x ∷ w) ∙ h w
 
-open_here : (behind : Bool) (c : ℕ) (cs rest : List ℕ) → c ∷ cs ≡ rest → ((w : List ℕ) → after_characters behind (c ∷ w) ≡ Err (c ∷ w)) → ((more : List ℕ) × IsCharacters (escape behind ++ more))
+open_here : (behind : Bool) (c : ℕ) (cs rest : List ℕ) → c ∷ cs ≡ rest → ((w : List ℕ) → after_characters behind (c ∷ w) ≡ Err (c ∷ w))
+    → ((more : List ℕ) × IsCharacters (escape behind ++ more))
     → Open behind (c ∷ cs) rest
 open_here behind c cs rest e halts more =
     let here : Open behind (c ∷ cs) (c ∷ cs) = ([], refl, more, halts) in
@@ -94,7 +98,8 @@ open_escaped true c cs rest e behind read =
     (c ∷ h.0, ap (λ (t : List ℕ). c ∷ t) h.1, (h.2.0, escaped c (h.0 ++ h.2.0) e h.2.1), halts_behind true false c (λ w. rw e refl) h.0 rest h.3)
 open_escaped false c cs rest e behind read = open_here true c cs rest (cc) (λ w. rw e refl) (34 ∷ [], quote none)
 
-open_plain : (b : Bool) (c : ℕ) (cs rest : List ℕ) → eqb c 34 ≡ false → eqb c 92 ≡ false → is_printable c ≡ b → (after_characters false cs ≡ Err rest → Open false cs rest)
+open_plain : (b : Bool) (c : ℕ) (cs rest : List ℕ) → eqb c 34 ≡ false → eqb c 92 ≡ false → is_printable c ≡ b
+    → (after_characters false cs ≡ Err rest → Open false cs rest)
     → cond b (after_characters false cs) (Err (c ∷ cs)) ≡ Err rest → Open false (c ∷ cs) rest
 open_plain true c cs rest no_quote no_backslash e behind read =
     let h = behind read in (
@@ -117,7 +122,8 @@ open_backslash true c cs rest no_quote e behind read =
 open_backslash false c cs rest no_quote e behind read = open_plain (is_printable c) c cs rest no_quote e refl (behind false) read
 
 open_quote : (b : Bool) (c : ℕ) (cs rest : List ℕ) → eqb c 34 ≡ b → ((d : Bool) → after_characters d cs ≡ Err rest → Open d cs rest)
-    → cond b (Ok cs) (cond (eqb c 92) (after_characters true cs) (cond (is_printable c) (after_characters false cs) (Err (c ∷ cs)))) ≡ Err rest → Open false (c ∷ cs) rest
+    → cond b (Ok cs) (cond (eqb c 92) (after_characters true cs) (cond (is_printable c) (after_characters false cs) (Err (c ∷ cs)))) ≡ Err rest
+    → Open false (c ∷ cs) rest
 open_quote true c cs rest e behind read = absurd cc
 open_quote false c cs rest e behind read = open_backslash (eqb c 92) c cs rest e refl behind read
 
@@ -151,7 +157,8 @@ str_takes text x e =
     let body = body_taken chars.0 false after.0 after.1 in
     let p = 34 ∷ (body.0 ++ 34 ∷ []) in
     let is : IsStr p = quoted body.2 in
-    let whole : text ≡ p ++ after.0 = word_taken text (34 ∷ []) chars.0 chars.1 ∙ ap (λ (t : List ℕ). 34 ∷ t) (body.1 ∙ sym (append_assoc body.0 (34 ∷ []) after.0)) in
+    let whole : text ≡ p ++ after.0 =
+    word_taken text (34 ∷ []) chars.0 chars.1 ∙ ap (λ (t : List ℕ). 34 ∷ t) (body.1 ∙ sym (append_assoc body.0 (34 ∷ []) after.0)) in
     let split : split_before text after.0 ≡ x = cc (after.2) in
     took_split str_at IsStr text p after.0 x whole split is (again_str p after.0 is)
 
@@ -178,7 +185,8 @@ behind_err text cs rest e = elim (bound_err (after_characters false cs) (λ afte
 ]
 
 str_by_test : (b : Bool) (c : ℕ) (cs rest : List ℕ) → eqb 34 c ≡ b
-    → (cond b (Ok cs) (Err (c ∷ cs)) >>= λ chars. after_characters false chars >>= λ after. Ok (split_before (c ∷ cs) after)) ≡ Err rest → Stops str_at IsStr (c ∷ cs) rest
+    → (cond b (Ok cs) (Err (c ∷ cs)) >>= λ chars. after_characters false chars >>= λ after. Ok (split_before (c ∷ cs) after)) ≡ Err rest
+    → Stops str_at IsStr (c ∷ cs) rest
 unfolding str_at
 str_by_test true c cs rest e read =
     subst (λ k. Stops str_at IsStr (k ∷ cs) rest) (eqb-true 34 c e) (stops_behind cs rest (body_stops cs false rest (behind_err (c ∷ cs) cs rest read)))

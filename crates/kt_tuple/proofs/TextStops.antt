@@ -1,5 +1,6 @@
 -- Where no text goes on with the next byte, what was read begins some text, and with that byte it begins none.
-use Rattle.std.proofs.Common.{◌≡◌, ℕ, zero, suc, ◌<◌, ◌≤◌, inl, inr, List, [], ◌∷◌, ◌++◌, length, Option, Some, None, Ok, Err, refl, sym, ap, subst, ◌∙◌, append_assoc, arith, length-append}
+use Rattle.std.proofs.Common.{◌≡◌, ℕ, zero, suc, ◌<◌, ◌≤◌, inl, inr, List, [], ◌∷◌, ◌++◌, length, Option, Some}
+use Rattle.std.proofs.Common.{None, Ok, Err, refl, sym, ap, subst, ◌∙◌, append_assoc, arith, length-append}
 use Rattle.kt_tuple.specs.Reading.{◌>>=◌, after_place}
 use Rattle.kt_tuple.specs.Parsing.{Reader, and_behind, places_from}
 use Rattle.kt_tuple.proofs.ValueLaws.{bound}
@@ -7,7 +8,8 @@ use Rattle.kt_tuple.proofs.Wholes.{none_follows, some_follows}
 use Rattle.kt_tuple.proofs.Shapes.{Again, Halts, Took, IsReaderOf, bound_err}
 use Rattle.kt_tuple.proofs.Layouts.{Laid, last, next, Follows, closed, further, laid_with, follows_read, follows_further, after_stops}
 
-again_at : (read : Reader) (p rest front : List ℕ) (c : ℕ) (cs : List ℕ) → Again read p rest → rest ≡ front ++ c ∷ cs → (w : List ℕ) → read (p ++ (front ++ c ∷ w)) ≡ Ok (p, front ++ c ∷ w)
+again_at : (read : Reader) (p rest front : List ℕ) (c : ℕ) (cs : List ℕ) → Again read p rest → rest ≡ front ++ c ∷ cs → (w : List ℕ)
+    → read (p ++ (front ++ c ∷ w)) ≡ Ok (p, front ++ c ∷ w)
 again_at read p rest [] c cs again e w = let h : Again read p (c ∷ cs) = subst (Again read p) e again in h w
 again_at read p rest (f ∷ front) c cs again e w = let h : Again read p (f ∷ (front ++ c ∷ cs)) = subst (Again read p) e again in h (front ++ c ∷ w)
 
@@ -17,7 +19,8 @@ NeverLaid IsOne front [] = Unit
 NeverLaid IsOne front (c ∷ cs) = (w : List ℕ) (found : List (List ℕ × List ℕ)) → Laid IsOne found (front ++ c ∷ w) → ⊥
 
 abbrev pub StopsLaid : (List ℕ → Type 0) → List ℕ → List ℕ → Type 0
-StopsLaid IsOne text rest = (front : List ℕ) × (text ≡ front ++ rest) × ((w : List ℕ) × (found : List (List ℕ × List ℕ)) × Laid IsOne found (front ++ w)) × NeverLaid IsOne front rest
+StopsLaid IsOne text rest =
+    (front : List ℕ) × (text ≡ front ++ rest) × ((w : List ℕ) × (found : List (List ℕ × List ℕ)) × Laid IsOne found (front ++ w)) × NeverLaid IsOne front rest
 
 module _ (read : Reader) (IsOne : List ℕ → Type 0) (g : IsReaderOf read IsOne) where
   laid_read : (found : List (List ℕ × List ℕ)) (text : List ℕ) → Laid IsOne found text → (x : List ℕ × List ℕ) × (read text ≡ Ok x) × Follows IsOne x.1
@@ -43,10 +46,15 @@ module _ (read : Reader) (IsOne : List ℕ → Type 0) (g : IsReaderOf read IsOn
   stops_at_place : (text rest : List ℕ) → read text ≡ Err rest → StopsLaid IsOne text rest
   stops_at_place text rest e =
       let h = g.stops text rest e in
-      let p = h.0 ++ h.2.0 in
-      (h.0, h.1, (h.2.0 ++ 41 ∷ [], (p, p ++ 41 ∷ []) ∷ [], subst (Laid IsOne ((p, p ++ 41 ∷ []) ∷ [])) (append_assoc h.0 h.2.0 (41 ∷ [])) (last h.2.1)), never_at_place h.0 rest h.3)
+      let p = h.0 ++ h.2.0 in (
+        h.0,
+        h.1,
+        (h.2.0 ++ 41 ∷ [], (p, p ++ 41 ∷ []) ∷ [], subst (Laid IsOne ((p, p ++ 41 ∷ []) ∷ [])) (append_assoc h.0 h.2.0 (41 ∷ [])) (last h.2.1)),
+        never_at_place h.0 rest h.3,
+      )
 
-  never_behind : (p behind front rest : List ℕ) → Again read p behind → behind ≡ front ++ rest → Halts after_place front rest → NeverLaid IsOne (p ++ front) rest
+  never_behind : (p behind front rest : List ℕ) → Again read p behind → behind ≡ front ++ rest → Halts after_place front rest
+      → NeverLaid IsOne (p ++ front) rest
   never_behind p behind front [] again e halts = tt
   never_behind p behind front (c ∷ cs) again e halts = λ w found l.
       let place = ap read (append_assoc p front (c ∷ w)) ∙ again_at read p behind front c cs again e w in
@@ -64,7 +72,8 @@ module _ (read : Reader) (IsOne : List ℕ → Type 0) (g : IsReaderOf read IsOn
         never_behind p behind h.0 rest took.2 h.1 h.3,
       )
 
-  never_later : (p behind front rest : List ℕ) → Again read p behind → behind ≡ 44 ∷ 32 ∷ (front ++ rest) → NeverLaid IsOne front rest → NeverLaid IsOne (p ++ 44 ∷ 32 ∷ front) rest
+  never_later : (p behind front rest : List ℕ) → Again read p behind → behind ≡ 44 ∷ 32 ∷ (front ++ rest) → NeverLaid IsOne front rest
+      → NeverLaid IsOne (p ++ 44 ∷ 32 ∷ front) rest
   never_later p behind front [] again e never = tt
   never_later p behind front (c ∷ cs) again e never = λ w found l.
       let place = ap read (append_assoc p (44 ∷ 32 ∷ front) (c ∷ w)) ∙ again_at read p behind (44 ∷ 32 ∷ front) c cs again e w in
@@ -72,7 +81,8 @@ module _ (read : Reader) (IsOne : List ℕ → Type 0) (g : IsReaderOf read IsOn
       let others = follows_further (44 ∷ 32 ∷ (front ++ c ∷ w)) (front ++ c ∷ w) f refl in
       never w others.0 others.1
 
-  stops_later : (text p behind following rest : List ℕ) → Took read IsOne text (p, behind) → behind ≡ 44 ∷ 32 ∷ following → StopsLaid IsOne following rest → StopsLaid IsOne text rest
+  stops_later : (text p behind following rest : List ℕ) → Took read IsOne text (p, behind) → behind ≡ 44 ∷ 32 ∷ following → StopsLaid IsOne following rest
+      → StopsLaid IsOne text rest
   stops_later text p behind following rest took e h =
       let parts : behind ≡ 44 ∷ 32 ∷ (h.0 ++ rest) = e ∙ ap (λ (t : List ℕ). 44 ∷ 32 ∷ t) h.1 in
       let found = (p, p ++ 44 ∷ 32 ∷ (h.0 ++ h.2.0)) ∷ h.2.1 in (
@@ -102,12 +112,14 @@ module _ (read : Reader) (IsOne : List ℕ → Type 0) (g : IsReaderOf read IsOn
         | inl h ↦ stops_at_place text rest h
         | inr place ↦ elim (bound_err (after_place place.0.1) (λ o. and_behind (place.0.0, text) o (places_from read n)) rest place.2) [
           | inl h ↦ stops_behind text place.0.0 place.0.1 rest (g.takes text place.0 place.1) h
-          | inr o ↦ stops_by o.0 n text place.0.0 place.0.1 rest (g.takes text place.0 place.1) o.1 (omega (arith, lt)) (λ following. stops_from n following rest) o.2
+          | inr o ↦ stops_by o.0 n text place.0.0 place.0.1 rest (g.takes text place.0 place.1) o.1 (omega (arith, lt))
+              (λ following. stops_from n following rest) o.2
         ]
       ]
 
   -- what is read is laid out so
-  laid_by : (o : Option (List ℕ)) (n : ℕ) (text p behind : List ℕ) (found : List (List ℕ × List ℕ)) → Took read IsOne text (p, behind) → after_place behind ≡ Ok o
+  laid_by : (o : Option (List ℕ)) (n : ℕ) (text p behind : List ℕ) (found : List (List ℕ × List ℕ)) → Took read IsOne text (p, behind)
+      → after_place behind ≡ Ok o
       → ((following : List ℕ) (others : List (List ℕ × List ℕ)) → places_from read n following ≡ Ok others → Laid IsOne others following)
       → and_behind (p, text) o (places_from read n) ≡ Ok found → Laid IsOne found text
   laid_by None n text p behind found took after more e =
@@ -118,7 +130,8 @@ module _ (read : Reader) (IsOne : List ℕ → Type 0) (g : IsReaderOf read IsOn
       let parts : text ≡ p ++ 44 ∷ 32 ∷ following = took.0 ∙ ap (λ (t : List ℕ). p ++ t) (some_follows behind following after) in
       let others = bound (places_from read n following) (λ others. Ok ((p, text) ∷ others)) found e in
       let same : (p, text) ∷ others.0 ≡ found = cc (others.2) in
-      subst (λ (xs : List (List ℕ × List ℕ)). Laid IsOne xs text) same (subst (λ (t : List ℕ). Laid IsOne ((p, t) ∷ others.0) t) (sym parts) (next took.1 (more following others.0 others.1)))
+      subst (λ (xs : List (List ℕ × List ℕ)). Laid IsOne xs text) same
+      (subst (λ (t : List ℕ). Laid IsOne ((p, t) ∷ others.0) t) (sym parts) (next took.1 (more following others.0 others.1)))
 
   pub places_laid : (n : ℕ) (text : List ℕ) (found : List (List ℕ × List ℕ)) → places_from read n text ≡ Ok found → Laid IsOne found text
   unfolding places_from

@@ -1,5 +1,6 @@
 -- A value that is read is spelled so.
-use Rattle.std.proofs.Common.{◌≡◌, ℕ, ◌-◌, Bool, true, false, cond, ◌&&◌, eqb, leb, List, [], ◌∷◌, ◌++◌, length, Option, Some, None, Result, Ok, Err, refl, sym, ap, subst, ◌∙◌, append_assoc, arith, length-append}
+use Rattle.std.proofs.Common.{◌≡◌, ℕ, ◌-◌, Bool, true, false, cond, ◌&&◌, eqb, leb, List, [], ◌∷◌, ◌++◌, length, Option}
+use Rattle.std.proofs.Common.{Some, None, Result, Ok, Err, refl, sym, ap, subst, ◌∙◌, append_assoc, arith, length-append}
 use Rattle.std.proofs.lemmas.List.{take_at}
 use Rattle.std.proofs.lemmas.Bool.{eqb-true, leb-true, and_parts, and_from, cond-true}
 use Rattle.std.specs.Prelude.{ℤ, nat_le, is_some, IsSome}
@@ -11,7 +12,8 @@ use Rattle.kt_tuple.specs.declared.value.Value.{Value}
 use Rattle.kt_tuple.specs.declared.value.Value.TheVariants.{Int, Str}
 use Rattle.kt_tuple.specs.Valid.{IsValue}
 use Rattle.kt_tuple.specs.Spelling.{character_text, value_text}
-use Rattle.kt_tuple.specs.Reading.{◌>>=◌, word_at, int_at, int_of, after_characters, split_before, str_at, value_at, unescaped, between_quotes, characters_of, str_of, int_value_of, value_of, is_printable, has_range, is_short}
+use Rattle.kt_tuple.specs.Reading.{◌>>=◌, word_at, int_at, int_of, after_characters, split_before, str_at, value_at, unescaped}
+use Rattle.kt_tuple.specs.Reading.{between_quotes, characters_of, str_of, int_value_of, value_of, is_printable, has_range, is_short}
 use Rattle.kt_tuple.proofs.IntLaws.{parts_of, IsInt, int_taken, int_spelled, int_first, int_of_some}
 use Rattle.kt_tuple.proofs.Strings.{are_printable}
 use Rattle.kt_tuple.proofs.StrLaws.{IsSpelled, characters_taken}

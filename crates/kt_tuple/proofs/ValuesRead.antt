@@ -9,7 +9,8 @@ use Rattle.kt_tuple.specs.declared.value.Value.TheVariants.{Int, Str}
 use Rattle.kt_tuple.specs.Text.{IsText}
 use Rattle.kt_tuple.specs.Valid.{IsValue}
 use Rattle.kt_tuple.specs.Spelling.{character_text, string_text, value_text}
-use Rattle.kt_tuple.specs.Reading.{begins_with_digit, int_at, after_characters, str_at, value_at, unescaped, characters_of, str_of, value_of, has_range, is_short}
+use Rattle.kt_tuple.specs.Reading.{begins_with_digit, int_at, after_characters, str_at, value_at}
+use Rattle.kt_tuple.specs.Reading.{unescaped, characters_of, str_of, value_of, has_range, is_short}
 use Rattle.kt_tuple.proofs.IntLaws.{split_front, int_first, IsInt}
 use Rattle.kt_tuple.proofs.IntsRead.{signed_decimal_is_int, int_at_int, int_of_decimal}
 use Rattle.kt_tuple.proofs.Strings.{str_of_text, all_printable}
@@ -29,7 +30,8 @@ value_at_str : (s rest : List ℕ) → IsText s → value_at (string_text s ++ r
 unfolding value_at str_at
 value_at_str s rest h =
     let body = flat_map character_text s in
-    let closed : after_characters false ((body ++ 34 ∷ []) ++ rest) ≡ Ok rest = rw (append_assoc body (34 ∷ []) rest) (characters_read s rest (all_printable s h.1)) in
+    let closed : after_characters false ((body ++ 34 ∷ []) ++ rest) ≡ Ok rest =
+    rw (append_assoc body (34 ∷ []) rest) (characters_read s rest (all_printable s h.1)) in
     rw closed (ap (λ (x : List ℕ × List ℕ). Ok x) (split_front (string_text s) rest))
 
 -- the text of a value is read up to its end

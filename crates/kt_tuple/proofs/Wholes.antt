@@ -1,5 +1,6 @@
 -- The text of a whole tuple or template, for each kind of place.
-use Rattle.std.proofs.Common.{◌≡◌, ℕ, zero, suc, ◌+◌, ◌-◌, ◌<◌, ◌≤◌, Bool, true, false, eqb, List, [], ◌∷◌, ◌++◌, length, map, Option, Some, None, Ok, refl, sym, ap, subst, ◌∙◌, append_assoc, arith}
+use Rattle.std.proofs.Common.{◌≡◌, ℕ, zero, suc, ◌+◌, ◌-◌, ◌<◌, ◌≤◌, Bool, true, false, eqb, List, [], ◌∷◌, ◌++◌}
+use Rattle.std.proofs.Common.{length, map, Option, Some, None, Ok, refl, sym, ap, subst, ◌∙◌, append_assoc, arith}
 use Rattle.std.proofs.lemmas.Bool.{eqb-true}
 use Rattle.std.proofs.lemmas.List.{append-nil}
 use Rattle.std.proofs.lemmas.List.Elements.{All-nil, All-cons}
@@ -7,7 +8,8 @@ use Rattle.std.specs.Prelude.{All, codes}
 use Rattle.kt_tuple.specs.Spelling.{separated, in_parentheses}
 use Rattle.kt_tuple.specs.Matching.{HasArity}
 use Rattle.kt_tuple.specs.Reading.{◌>>=◌, word_at, after_place, has_range, is_short, begins_with_digit}
-use Rattle.kt_tuple.specs.Parsing.{Reader, and_behind, places_from, places_in, nothing_found, found_with, fault_of_found, made_from, made_in}
+use Rattle.kt_tuple.specs.Parsing.{Reader, and_behind, places_from, places_in, fault_of}
+use Rattle.kt_tuple.specs.inner.Making.{made_from, made_in}
 use Rattle.kt_tuple.proofs.ValueLaws.{bound, word_taken}
 use Rattle.kt_tuple.proofs.Made.{made_step}
 use Rattle.kt_tuple.proofs.Faults.{AreFine, found_fine}
@@ -89,7 +91,8 @@ module _ {A : Type 0} (read : Reader) (make : List ℕ → Option A) (spell : A 
         ∙ ap (λ (t : List ℕ). t ++ 41 ∷ []) (sym (separated-cons (spell x) (map spell xs) (omega (arith, h.some, length-map_same spell xs))));
   }
 
-  made_last : (i : ℕ) (text p rest : List ℕ) (x : A) → i < 8 → read text ≡ Ok (p, rest) → after_place rest ≡ Ok None → make p ≡ Some x → made_from read make (8 - i) text ≡ x ∷ []
+  made_last : (i : ℕ) (text p rest : List ℕ) (x : A) → i < 8 → read text ≡ Ok (p, rest) → after_place rest ≡ Ok None → make p ≡ Some x
+      → made_from read make (8 - i) text ≡ x ∷ []
   made_last i text p rest x lt place follows is = rw (made_step read make i text lt, place, is, follows) refl
 
   made_more : (i : ℕ) (text p rest next : List ℕ) (x : A) → i < 8 → read text ≡ Ok (p, rest) → after_place rest ≡ Ok (Some next) → make p ≡ Some x
@@ -100,7 +103,8 @@ module _ {A : Type 0} (read : Reader) (make : List ℕ → Option A) (spell : A 
       → IsWhole spell IsHeld i text (made_from read make (8 - i) text)
   whole_end i text p rest x lt place follows is =
       rw (made_last i text p rest x lt place follows is)
-      (whole_last i text p x lt (r.held p x is) (r.spelled text p rest x place is) (r.front text p rest place ∙ ap (λ (t : List ℕ). p ++ t) (none_follows rest follows)))
+      (whole_last i text p x lt (r.held p x is) (r.spelled text p rest x place is)
+      (r.front text p rest place ∙ ap (λ (t : List ℕ). p ++ t) (none_follows rest follows)))
 
   whole_behind : (i : ℕ) (text p rest next : List ℕ) (x : A) → i < 8 → read text ≡ Ok (p, rest) → after_place rest ≡ Ok (Some next) → make p ≡ Some x
       → IsWhole spell IsHeld (i + 1) next (made_from read make (8 - (i + 1)) next) → IsWhole spell IsHeld i text (made_from read make (8 - i) text)
@@ -111,7 +115,8 @@ module _ {A : Type 0} (read : Reader) (make : List ℕ → Option A) (spell : A 
 
   made_by : (next : Option (List ℕ)) (n i : ℕ) (text p rest : List ℕ) (places : List (List ℕ × List ℕ)) → read text ≡ Ok (p, rest) → after_place rest ≡ Ok next
       → and_behind (p, text) next (places_from read n) ≡ Ok places → AreFine i places
-      → ((following : List ℕ) (behind : List (List ℕ × List ℕ)) → places_from read n following ≡ Ok behind → AreFine (i + 1) behind → IsWhole spell IsHeld (i + 1) following (made_from read make (8 - (i + 1)) following))
+      → ((following : List ℕ) (behind : List (List ℕ × List ℕ)) → places_from read n following ≡ Ok behind → AreFine (i + 1) behind
+      → IsWhole spell IsHeld (i + 1) following (made_from read make (8 - (i + 1)) following))
       → IsWhole spell IsHeld i text (made_from read make (8 - i) text)
   made_by None n i text p rest places place follows e fine more =
       let one : (p, text) ∷ [] ≡ places = cc in
@@ -136,10 +141,10 @@ module _ {A : Type 0} (read : Reader) (make : List ℕ → Option A) (spell : A 
       made_by next.0 n i text place.0.0 place.0.1 places place.1 next.1 next.2 fine (λ following behind. places_made n (i + 1) following behind)
 
   -- what is made of a text without a fault
-  pub text_made : (text : List ℕ) → fault_of_found text (found_with text nothing_found 0 (places_in read text)) ≡ None
-      → HasArity (made_in read make (word_at text (40 ∷ [])))
-      × All IsHeld (made_in read make (word_at text (40 ∷ [])))
-      × (in_parentheses (map spell (made_in read make (word_at text (40 ∷ [])))) ≡ text)
+  pub text_made : (text : List ℕ) → fault_of read text ≡ None
+      → HasArity (made_in read make text)
+      × All IsHeld (made_in read make text)
+      × (in_parentheses (map spell (made_in read make text)) ≡ text)
   text_made text e =
       let places = found_fine text (places_in read text) e in
       let start = bound (word_at text (40 ∷ [])) (λ start. places_from read (length text) start) places.0 places.1 in

@@ -1,13 +1,15 @@
 -- The text of a tuple or template, for each kind of place, is read as that tuple or template.
-use Rattle.std.proofs.Common.{◌≡◌, ℕ, zero, suc, ◌+◌, ◌-◌, ◌<◌, ◌≤◌, List, [], ◌∷◌, ◌++◌, length, map, Option, Some, None, Ok, refl, ap, ◌∙◌, append_assoc, arith, length-append}
+use Rattle.std.proofs.Common.{◌≡◌, ℕ, zero, suc, ◌+◌, ◌-◌, ◌<◌, ◌≤◌, List, [], ◌∷◌, ◌++◌, length, map}
+use Rattle.std.proofs.Common.{Option, Some, None, Ok, refl, ap, ◌∙◌, append_assoc, arith, length-append}
 use Rattle.std.proofs.lemmas.List.{append-nil}
 use Rattle.std.proofs.lemmas.List.Elements.{All-head, All-tail}
 use Rattle.std.specs.List.{flat_map}
 use Rattle.std.specs.Prelude.{All}
 use Rattle.kt_tuple.specs.Spelling.{further, separated, in_parentheses}
 use Rattle.kt_tuple.specs.Matching.{HasArity}
-use Rattle.kt_tuple.specs.Reading.{word_at, after_place}
-use Rattle.kt_tuple.specs.Parsing.{Reader, places_from, places_in, nothing_found, found_with, fault_of_found, made_from, made_in}
+use Rattle.kt_tuple.specs.Reading.{after_place}
+use Rattle.kt_tuple.specs.Parsing.{Reader, places_from, fault_of}
+use Rattle.kt_tuple.specs.inner.Making.{made_from, made_in}
 use Rattle.kt_tuple.proofs.Made.{made_step}
 use Rattle.kt_tuple.proofs.Faults.{AreFine, fine_found}
 use Rattle.kt_tuple.proofs.Wholes.{IsReader, separated-cons, length-map_same}
@@ -66,7 +68,8 @@ module _ {A : Type 0} (read : Reader) (make : List ℕ → Option A) (spell : A 
         made = rw (made_step read make i text lt, place, r.makes x held, after_other next) (ap (λ (ys : List A). x ∷ ys) h.made);
       }
 
-  read_all : (xs : List A) (n i : ℕ) → 1 ≤ length xs → length xs ≤ n → i + length xs ≤ 8 → All IsHeld xs → IsRead read make n i (separated (map spell xs) ++ 41 ∷ []) xs
+  read_all : (xs : List A) (n i : ℕ) → 1 ≤ length xs → length xs ≤ n → i + length xs ≤ 8 → All IsHeld xs
+      → IsRead read make n i (separated (map spell xs) ++ 41 ∷ []) xs
   read_all [] n i some enough few held = absurd (omega (arith, some))
   read_all (x ∷ xs) zero i some enough few held = absurd (omega (arith, enough))
   read_all (x ∷ []) (suc n) i some enough few held = read_last n i x (omega (arith, few)) (All-head IsHeld x [] held)
@@ -74,19 +77,21 @@ module _ {A : Type 0} (read : Reader) (make : List ℕ → Option A) (spell : A 
       read_more n i x (y ∷ ys) (omega arith) (omega (arith, few)) (All-head IsHeld x (y ∷ ys) held)
       (read_all (y ∷ ys) n (i + 1) (omega arith) (omega (arith, enough)) (omega (arith, few)) (All-tail IsHeld x (y ∷ ys) held))
 
-  whole_read : (xs : List A) → HasArity xs → All IsHeld xs → IsRead read make (length (in_parentheses (map spell xs))) 0 (separated (map spell xs) ++ 41 ∷ []) xs
+  whole_read : (xs : List A) → HasArity xs → All IsHeld xs
+      → IsRead read make (length (in_parentheses (map spell xs))) 0 (separated (map spell xs) ++ 41 ∷ []) xs
   whole_read xs arity held =
       let text = separated (map spell xs) in
-      let enough : length xs ≤ length (in_parentheses (map spell xs)) = omega (arith, length-append text (41 ∷ []), length-separated (map spell xs), length-map_same spell xs) in
+      let enough : length xs ≤ length (in_parentheses (map spell xs)) =
+      omega (arith, length-append text (41 ∷ []), length-separated (map spell xs), length-map_same spell xs) in
       read_all xs (length (in_parentheses (map spell xs))) 0 arity.0 enough (omega (arith, arity.1)) held
 
   -- no fault is found in it
   pub text_faultless : (xs : List A) → HasArity xs → All IsHeld xs
-      → fault_of_found (in_parentheses (map spell xs)) (found_with (in_parentheses (map spell xs)) nothing_found 0 (places_in read (in_parentheses (map spell xs)))) ≡ None
+      → fault_of read (in_parentheses (map spell xs)) ≡ None
   text_faultless xs arity held =
       let h = whole_read xs arity held in
       rw h.found (fine_found (in_parentheses (map spell xs)) h.places h.fine)
 
   -- and it is made again of it
-  pub text_remade : (xs : List A) → HasArity xs → All IsHeld xs → made_in read make (word_at (in_parentheses (map spell xs)) (40 ∷ [])) ≡ xs
+  pub text_remade : (xs : List A) → HasArity xs → All IsHeld xs → made_in read make (in_parentheses (map spell xs)) ≡ xs
   text_remade xs arity held = (whole_read xs arity held).made

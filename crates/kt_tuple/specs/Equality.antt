@@ -37,8 +37,10 @@ value_eq_decides (Int m) (Int n) =
     (λ e. ap Int ((signed_Decides m n).0 e), λ (e : Int m ≡ Int n). (signed_Decides m n).1 cc)
 value_eq_decides (Int m) (Str t) = (λ e. absurd cc, λ e. absurd cc)
 value_eq_decides (Str s) (Int n) = (λ e. absurd cc, λ e. absurd cc)
-value_eq_decides (Str s) (Str t) =
-    (λ e. ap Str ((pointwise_decides unsigned_Decides s t).0 e), λ (e : Str s ≡ Str t). (pointwise_decides unsigned_Decides s t).1 cc)
+value_eq_decides (Str s) (Str t) = (
+  λ e. ap Str ((pointwise_decides unsigned_Decides s t).0 e),
+  λ (e : Str s ≡ Str t). (pointwise_decides unsigned_Decides s t).1 cc,
+)
 
 -- a test that decides equality is an equivalence
 pub equivalence_from_decides : {K : Type 0} (E : K → K → Bool) → ((a b : K) → Decides (E a b) (a ≡ b)) → IsEquivalence E
@@ -53,5 +55,6 @@ equivalence_from_decides E d = record {
   same false false f g = refl
 
 -- a test that answers as one that decides equality decides it too
-pub decides_as : {K : Type 0} {E F : K → K → Bool} → ((a b : K) → Decides (E a b) (a ≡ b)) → ((a b : K) → F a b ≡ E a b) → (a b : K) → Decides (F a b) (a ≡ b)
+pub decides_as : {K : Type 0} {E F : K → K → Bool} → ((a b : K) → Decides (E a b) (a ≡ b)) → ((a b : K) → F a b ≡ E a b)
+    → (a b : K) → Decides (F a b) (a ≡ b)
 decides_as d same a b = (λ e. (d a b).0 (sym (same a b) ∙ e), λ e. same a b ∙ (d a b).1 e)

@@ -58,11 +58,13 @@ pub data IsPlaceText : List ℕ → Type 0 where
 -- one or more texts of a shape, each but the first behind a comma and a space: the texts, and the whole
 pub data Separated (IsOne : List ℕ → Type 0) : List (List ℕ) → List ℕ → Type 0 where
   one : {p : List ℕ} → IsOne p → Separated IsOne (p ∷ []) p
-  more : {p text : List ℕ} {ps : List (List ℕ)} → IsOne p → Separated IsOne ps text → Separated IsOne (p ∷ ps) (p ++ 44 ∷ 32 ∷ text)
+  more : {p text : List ℕ} {ps : List (List ℕ)} → IsOne p → Separated IsOne ps text
+      → Separated IsOne (p ∷ ps) (p ++ 44 ∷ 32 ∷ text)
 
 -- the same between parentheses
 pub data Consists (IsOne : List ℕ → Type 0) : List (List ℕ) → List ℕ → Type 0 where
-  in_parentheses : {ps : List (List ℕ)} {text : List ℕ} → Separated IsOne ps text → Consists IsOne ps (40 ∷ (text ++ 41 ∷ []))
+  in_parentheses : {ps : List (List ℕ)} {text : List ℕ} → Separated IsOne ps text
+      → Consists IsOne ps (40 ∷ (text ++ 41 ∷ []))
 
 -- one or more of a shape in parentheses
 abbrev pub IsTextOf : (List ℕ → Type 0) → List ℕ → Type 0

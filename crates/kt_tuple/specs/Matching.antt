@@ -52,4 +52,5 @@ place_eq_decides (Formal j) (Formal k) =
 
 pub admits_decides : (p : Place) (u : Value) → Decides (admits p u) (Admits p u)
 admits_decides (Actual v) u = (λ e. sym ((value_eq_decides v u).0 e), λ e. (value_eq_decides v u).1 (sym e))
-admits_decides (Formal k) u = (λ e. sym ((kind_eq_decides k (kind_of u)).0 e), λ e. (kind_eq_decides k (kind_of u)).1 (sym e))
+admits_decides (Formal k) u =
+    (λ e. sym ((kind_eq_decides k (kind_of u)).0 e), λ e. (kind_eq_decides k (kind_of u)).1 (sym e))

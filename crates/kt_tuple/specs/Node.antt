@@ -22,6 +22,8 @@ node_eq (Shard m) (Shard n) = nat_eq m n
 node_eq _ _ = false
 
 pub node_eq_decides : (a b : NodeId) → Decides (node_eq a b) (a ≡ b)
-node_eq_decides (Worker m) (Worker n) = (λ e. ap Worker ((unsigned_Decides m n).0 e), λ (e : Worker m ≡ Worker n). (unsigned_Decides m n).1 cc)
-node_eq_decides (Shard m) (Shard n) = (λ e. ap Shard ((unsigned_Decides m n).0 e), λ (e : Shard m ≡ Shard n). (unsigned_Decides m n).1 cc)
+node_eq_decides (Worker m) (Worker n) =
+    (λ e. ap Worker ((unsigned_Decides m n).0 e), λ (e : Worker m ≡ Worker n). (unsigned_Decides m n).1 cc)
+node_eq_decides (Shard m) (Shard n) =
+    (λ e. ap Shard ((unsigned_Decides m n).0 e), λ (e : Shard m ≡ Shard n). (unsigned_Decides m n).1 cc)
 node_eq_decides _ _ = (λ e. absurd cc, λ e. absurd cc)

@@ -13,7 +13,9 @@ use Rattle.kt_tuple.specs.declared.template.Place.{Place}
 use Rattle.kt_tuple.specs.declared.template.Place.TheVariants.{Actual, Formal}
 use Rattle.std.specs.Str.Parse.{without_leading_sign, signed_digits_value}
 use lib.Signed.{mag}
-use Rattle.std.specs.Prelude.{◌&&◌, ◌++◌, ◌^◌, ℤ, nat_lt, nat_le, nat_eq, is_some, ◌≡◌, ℕ, ◌-◌, ◌==◌, ◌||◌, Bool, true, false, not, if◌then◌else◌, List, [], ◌∷◌, length, take, drop, codes, Option, Some, None, Result, Ok, Err}
+use Rattle.std.specs.Prelude.{◌&&◌, ◌++◌, ◌^◌, ℤ, nat_lt, nat_le, nat_eq, is_some, ◌≡◌, ℕ, ◌-◌}
+use Rattle.std.specs.Prelude.{◌==◌, ◌||◌, Bool, true, false, not, if◌then◌else◌, List, [], ◌∷◌}
+use Rattle.std.specs.Prelude.{length, take, drop, codes, Option, Some, None, Result, Ok, Err}
 
 infixl 10 ◌>>=◌
 abbrev pub ◌>>=◌ : {A B E : Type 0} → Result A E → (A → Result B E) → Result B E
@@ -60,7 +62,8 @@ up_to text (Err rest) = Err rest
 -- an int
 unfoldable pub int_at : List ℕ → Result (List ℕ × List ℕ) (List ℕ)
 int_at [] = Err []
-int_at (c ∷ rest) = if c == 48 then Ok (48 ∷ [], rest) else up_to (c ∷ rest) (after_positive (if c == 45 then rest else c ∷ rest))
+int_at (c ∷ rest) =
+    if c == 48 then Ok (48 ∷ [], rest) else up_to (c ∷ rest) (after_positive (if c == 45 then rest else c ∷ rest))
 
 abbrev pub is_printable : ℕ → Bool
 is_printable c = is_in_range 32 126 c
@@ -107,7 +110,8 @@ unfoldable pub place_at : List ℕ → Result (List ℕ × List ℕ) (List ℕ)
 place_at [] = value_at []
 place_at (c ∷ rest) = if c == 63 then formal_at (c ∷ rest) else value_at (c ∷ rest)
 
--- what stands behind a place: a comma and a space, and then the next place; or the closing parenthesis, with which the text ends
+-- what stands behind a place: a comma and a space, and then the next place; or the closing parenthesis, with which the
+-- text ends
 unfoldable pub after_place : List ℕ → Result (Option (List ℕ)) (List ℕ)
 after_place [] = Err []
 after_place (c ∷ rest) = if c == 41 then closing rest else word_at (c ∷ rest) (codes ", ") >>= λ next. Ok (Some next)
@@ -125,7 +129,8 @@ is_i64 z = nat_lt (mag z) (2 ^ 63)
 
 -- the number that a sign and digits spell, where it has 64 bits
 unfoldable pub int_of : List ℕ → Option ℤ
-int_of spelling = if is_numeral (without_leading_sign spelling) && is_i64 (signed_digits_value 10 spelling) then Some (signed_digits_value 10 spelling) else None
+int_of spelling = if is_numeral (without_leading_sign spelling) && is_i64 (signed_digits_value 10 spelling)
+    then Some (signed_digits_value 10 spelling) else None
 
 -- what stands between the quotes
 abbrev pub between_quotes : List ℕ → List ℕ

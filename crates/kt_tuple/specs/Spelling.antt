@@ -1,5 +1,5 @@
--- The one text of each value, tuple, template, operation and answer.
-use Rattle.std.specs.Prelude.{ℕ, ◌==◌, ◌||◌, if◌then◌else◌, List, [], ◌∷◌, ◌++◌, codes, map}
+-- The one text of each value, tuple, template, operation, answer, node and service.
+use Rattle.std.specs.Prelude.{ℕ, ◌==◌, ◌||◌, if◌then◌else◌, List, [], ◌∷◌, ◌++◌, codes, decimal, map}
 use Rattle.std.specs.Fmt.{signed_decimal}
 use Rattle.std.specs.List.{flat_map}
 use Rattle.kt_tuple.specs.declared.value.Value.{Value}
@@ -12,6 +12,9 @@ use Rattle.kt_tuple.specs.declared.op.Op.{Op}
 use Rattle.kt_tuple.specs.declared.op.Op.TheVariants.{Out, In, Rd, Inp, Rdp}
 use Rattle.kt_tuple.specs.declared.op.Answer.{Answer}
 use Rattle.kt_tuple.specs.declared.op.Answer.TheVariants as answers
+use Rattle.kt_tuple.specs.declared.node.NodeId.{NodeId}
+use Rattle.kt_tuple.specs.declared.node.NodeId.TheVariants.{Worker, Shard}
+use Rattle.kt_tuple.specs.declared.service.Service.{Service}
 
 -- a character between quotes: a quote and a backslash behind a backslash
 abbrev pub character_text : ℕ → List ℕ
@@ -66,3 +69,16 @@ abbrev pub answer_text : Answer → List ℕ
 answer_text answers.Done = codes "done"
 answer_text (answers.Got u) = codes "got " ++ tuple_text u
 answer_text answers.None = codes "none"
+
+-- `w` or `s`, and a number
+abbrev pub node_text : NodeId → List ℕ
+node_text (Worker n) = 119 ∷ decimal n
+node_text (Shard n) = 115 ∷ decimal n
+
+-- the worker, a dot, and the number of its request
+abbrev pub request_text : Service → List ℕ
+request_text s = node_text (Worker s.worker) ++ 46 ∷ decimal s.number
+
+-- the request, the operation and the answer, with spaces between them
+abbrev pub service_text : Service → List ℕ
+service_text s = request_text s ++ 32 ∷ op_text s.op ++ 32 ∷ answer_text s.answer

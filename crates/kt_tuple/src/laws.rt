@@ -1,6 +1,7 @@
 //! Laws about the definitions, each the contract of a function with nothing to do.
 
-ghost use Rattle.std.specs.Prelude.{◌≡◌, ◌<◌, ◌≤◌, ◌↔◌, ◌++◌, ◌∷◌, [], ℕ, List, false, length, take, Ok, Some, None, IsTrue, IsSome, All};
+ghost use Rattle.std.specs.Prelude.{◌≡◌, ◌<◌, ◌≤◌, ◌↔◌, ◌++◌, ◌∷◌, [], ℕ, List, false};
+ghost use Rattle.std.specs.Prelude.{length, take, Ok, Some, None, IsTrue, IsSome, All};
 ghost use Rattle.std.specs.Int.{w64};
 ghost use Rattle.std.specs.Int.RustNames.{FitsSigned};
 ghost use Rattle.std.specs.Str.Parse.{signed_digits_value};
@@ -11,19 +12,24 @@ ghost use Rattle.kt_tuple.specs.declared.template.Place.{Place};
 ghost use Rattle.kt_tuple.specs.declared.tuple.Tuple.{Tuple};
 ghost use Rattle.kt_tuple.specs.declared.value.Kind.{Kind};
 ghost use Rattle.kt_tuple.specs.declared.value.Value.{Value};
-ghost use Rattle.kt_tuple.specs.Grammar.{IsValueText, IsPlaceText, Consists, IsTupleText, IsTemplateText, Begins, IsLongestFront, IsFirstOutside, IsTooLong, IsAccepted, IsInt, IsCharacters, IsStr, character_count};
+ghost use Rattle.kt_tuple.specs.Grammar.{IsValueText, IsPlaceText, Consists, IsTupleText, IsTemplateText};
+ghost use Rattle.kt_tuple.specs.Grammar.{Begins, IsLongestFront, IsFirstOutside, IsTooLong, IsAccepted};
+ghost use Rattle.kt_tuple.specs.Grammar.{IsInt, IsCharacters, IsStr, character_count};
 ghost use Rattle.kt_tuple.specs.Matching.{HasArity, Matches};
 ghost use Rattle.kt_tuple.specs.Node.{node_index};
 ghost use Rattle.kt_tuple.specs.Parsing.{tuple_fault, tuple_values, template_fault, template_places};
-ghost use Rattle.kt_tuple.specs.Reading.{begins_with_digit, value_at, value_of, place_at, place_of, has_range, is_short};
+ghost use Rattle.kt_tuple.specs.Reading.{begins_with_digit, value_at, value_of};
+ghost use Rattle.kt_tuple.specs.Reading.{place_at, place_of, has_range, is_short};
 ghost use Rattle.kt_tuple.specs.Signature.{kinds_of, kinds_of_places, signature_of, shard_of};
 ghost use Rattle.kt_tuple.specs.Spelling.{value_text, place_text, tuple_text, template_text};
 ghost use Rattle.kt_tuple.specs.Valid.{IsValue, IsPlace};
 
 /// A template and a tuple that match have one signature, hence one shard is the home of both.
 pub fn matching_has_one_home()
-    ensures signature { (t : Template) (u : Tuple) → Matches t u → signature_of (kinds_of_places t) ≡ signature_of (kinds_of u) }
-    ensures home { (shards : ℕ) (t : Template) (u : Tuple) → Matches t u → shard_of shards (kinds_of_places t) ≡ shard_of shards (kinds_of u) }
+    ensures signature { (t : Template) (u : Tuple) → Matches t u
+        → signature_of (kinds_of_places t) ≡ signature_of (kinds_of u) }
+    ensures home { (shards : ℕ) (t : Template) (u : Tuple) → Matches t u
+        → shard_of shards (kinds_of_places t) ≡ shard_of shards (kinds_of u) }
 {}
 
 /// Nodes with one number are one node, and lists of kinds with one signature are one list.
@@ -36,12 +42,16 @@ pub fn numbers_tell_apart()
 /// where it is in range and short, and that is one that a program can hold.
 pub fn a_front_read_is_spelled_so()
     ensures value_front { (text p rest : List ℕ) → value_at text ≡ Ok (p, rest) → text ≡ p ++ rest }
-    ensures value_spelling { (text p rest : List ℕ) (v : Value) → value_at text ≡ Ok (p, rest) → value_of p ≡ Some v → value_text v ≡ p }
-    ensures value_made { (text p rest : List ℕ) → value_at text ≡ Ok (p, rest) → IsTrue (has_range p) → IsTrue (is_short p) → IsSome (value_of p) }
+    ensures value_spelling { (text p rest : List ℕ) (v : Value) → value_at text ≡ Ok (p, rest) → value_of p ≡ Some v
+        → value_text v ≡ p }
+    ensures value_made { (text p rest : List ℕ) → value_at text ≡ Ok (p, rest) → IsTrue (has_range p)
+        → IsTrue (is_short p) → IsSome (value_of p) }
     ensures value_held { (p : List ℕ) (v : Value) → value_of p ≡ Some v → IsValue v }
     ensures place_front { (text p rest : List ℕ) → place_at text ≡ Ok (p, rest) → text ≡ p ++ rest }
-    ensures place_spelling { (text p rest : List ℕ) (q : Place) → place_at text ≡ Ok (p, rest) → place_of p ≡ Some q → place_text q ≡ p }
-    ensures place_made { (text p rest : List ℕ) → place_at text ≡ Ok (p, rest) → IsTrue (has_range p) → IsTrue (is_short p) → IsSome (place_of p) }
+    ensures place_spelling { (text p rest : List ℕ) (q : Place) → place_at text ≡ Ok (p, rest) → place_of p ≡ Some q
+        → place_text q ≡ p }
+    ensures place_made { (text p rest : List ℕ) → place_at text ≡ Ok (p, rest) → IsTrue (has_range p)
+        → IsTrue (is_short p) → IsSome (place_of p) }
     ensures place_held { (p : List ℕ) (q : Place) → place_of p ≡ Some q → IsPlace q }
 {}
 
@@ -64,7 +74,8 @@ pub fn a_text_read_is_spelled_so()
     ensures tuple_spelling { (text : List ℕ) → tuple_fault text ≡ None → tuple_text (tuple_values text) ≡ text }
     ensures tuple_arity { (text : List ℕ) → tuple_fault text ≡ None → HasArity (tuple_values text) }
     ensures tuple_held { (text : List ℕ) → tuple_fault text ≡ None → All IsValue (tuple_values text) }
-    ensures template_spelling { (text : List ℕ) → template_fault text ≡ None → template_text (template_places text) ≡ text }
+    ensures template_spelling { (text : List ℕ) → template_fault text ≡ None
+        → template_text (template_places text) ≡ text }
     ensures template_arity { (text : List ℕ) → template_fault text ≡ None → HasArity (template_places text) }
     ensures template_held { (text : List ℕ) → template_fault text ≡ None → All IsPlace (template_places text) }
 {}
@@ -73,8 +84,10 @@ pub fn a_text_read_is_spelled_so()
 pub fn a_text_spelled_is_read()
     ensures tuple_faultless { (us : List Value) → HasArity us → All IsValue us → tuple_fault (tuple_text us) ≡ None }
     ensures tuple_values { (us : List Value) → HasArity us → All IsValue us → tuple_values (tuple_text us) ≡ us }
-    ensures template_faultless { (ts : List Place) → HasArity ts → All IsPlace ts → template_fault (template_text ts) ≡ None }
-    ensures template_places { (ts : List Place) → HasArity ts → All IsPlace ts → template_places (template_text ts) ≡ ts }
+    ensures template_faultless { (ts : List Place) → HasArity ts → All IsPlace ts
+        → template_fault (template_text ts) ≡ None }
+    ensures template_places { (ts : List Place) → HasArity ts → All IsPlace ts
+        → template_places (template_text ts) ≡ ts }
 {}
 
 /// A text has the shape of a tuple, or of a template, exactly where it has no syntax fault; then it has one row of
@@ -92,12 +105,14 @@ pub fn a_syntax_fault_is_at_the_longest_front()
         → at < n → n ≤ length text → Begins IsTupleText (take n text) → ⊥ }
     ensures tuple_only { (text : List ℕ) (at : ℕ) → ¬ IsTupleText text → IsLongestFront IsTupleText text at
         → tuple_fault text ≡ Some (faults.Syntax at) }
-    ensures template_shape { (text : List ℕ) (at : ℕ) → IsTemplateText text → template_fault text ≡ Some (faults.Syntax at) → ⊥ }
+    ensures template_shape { (text : List ℕ) (at : ℕ) → IsTemplateText text
+        → template_fault text ≡ Some (faults.Syntax at) → ⊥ }
     ensures template_others { (text : List ℕ) → ((at : ℕ) → template_fault text ≡ Some (faults.Syntax at) → ⊥)
         → IsTemplateText text }
     ensures template_places { (ps qs : List (List ℕ)) (text : List ℕ) → Consists IsPlaceText ps text
         → Consists IsPlaceText qs text → ps ≡ qs }
-    ensures template_within { (text : List ℕ) (at : ℕ) → template_fault text ≡ Some (faults.Syntax at) → at ≤ length text }
+    ensures template_within { (text : List ℕ) (at : ℕ) → template_fault text ≡ Some (faults.Syntax at)
+        → at ≤ length text }
     ensures template_begins { (text : List ℕ) (at : ℕ) → template_fault text ≡ Some (faults.Syntax at)
         → Begins IsTemplateText (take at text) }
     ensures template_longest { (text : List ℕ) (at n : ℕ) → template_fault text ≡ Some (faults.Syntax at)
@@ -115,7 +130,8 @@ pub fn a_text_of_the_shape_has_these_faults()
     ensures tuple_accepted { (text : List ℕ) → (tuple_fault text ≡ None) ↔ IsAccepted IsValueText text }
     ensures template_range { (text : List ℕ) (at : ℕ)
         → (template_fault text ≡ Some (faults.Range at)) ↔ IsFirstOutside IsPlaceText text at }
-    ensures template_too_long { (text : List ℕ) → (template_fault text ≡ Some faults.TooLong) ↔ IsTooLong IsPlaceText text }
+    ensures template_too_long { (text : List ℕ) → (template_fault text ≡ Some faults.TooLong)
+        ↔ IsTooLong IsPlaceText text }
     ensures template_accepted { (text : List ℕ) → (template_fault text ≡ None) ↔ IsAccepted IsPlaceText text }
 {}
 

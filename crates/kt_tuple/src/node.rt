@@ -1,3 +1,5 @@
+//! The names of nodes.
+
 ghost use Rattle.std.specs.Prelude.{◌≡◌, ◌<◌};
 
 /// A node's name. Any number is a name; whether the node is there, the scene says.

@@ -1,3 +1,5 @@
+//! Operations on the space, and what they are answered.
+
 ghost use Rattle.std.specs.Prelude.{◌≡◌, ◌↔◌, IsTrue, IfOk};
 ghost use Rattle.kt_tuple.specs.Signature.{kinds_of_op, signature_of};
 

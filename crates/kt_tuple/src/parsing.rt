@@ -1,26 +1,21 @@
 //! Tuples and templates from their text: first judged without memory, then built.
 
-ghost use Rattle.std.specs.Prelude.{◌≡◌, ◌-◌, ◌+◌, ℕ, Bool, List, [], ◌∷◌, ◌++◌, length, IfOk, IfErr, OnOk, option_to_list, IfSome, Option, None, Err};
+ghost use Rattle.std.specs.Prelude.{◌≡◌, ◌++◌, IfOk, IfErr, OnOk, option_to_list, IfSome, None, Err};
 ghost use Rattle.kt_tuple.specs.Grammar.{IsValueText, IsPlaceText, Explains, IsAccepted};
-ghost use Rattle.kt_tuple.specs.Reading.{Gives, word_at, value_at, place_at, value_of, place_of};
-ghost use Rattle.kt_tuple.specs.Parsing.{reader_of, nothing_found, with_place, fault_found, found_in, fault_of, made_in, tuple_fault, tuple_values, template_fault, template_places};
+ghost use Rattle.kt_tuple.specs.Reading.{Gives};
+ghost use Rattle.kt_tuple.specs.Parsing.{tuple_fault, tuple_values, template_fault, template_places};
+ghost use Rattle.kt_tuple.specs.Parsing.{fault_of, lower_fault, made_of, places_in};
 ghost use Rattle.kt_tuple.specs.Spelling.{tuple_text, template_text};
+ghost use Rattle.kt_tuple.specs.inner.Findings.{nothing_found, with_place, found_in};
+ghost use Rattle.kt_tuple.specs.inner.Making.{made_in};
 
+use crate::item::Item;
 use crate::parse_error::ParseError;
-use crate::reading::{
-    after_place, is_in_range, is_short, place_at, place_of, value_at, value_of, word_at,
-};
+use crate::reading::{after_place, is_in_range, is_short, word_at};
 use crate::template::{Place, Template};
 use crate::tuple::{MAX_PLACES, Tuple};
 use crate::value::Value;
 use std::alloc::{AllocError, Global};
-
-/// What a text is to be.
-#[derive(Clone, Copy)]
-enum Form {
-    Tuple,
-    Template,
-}
 
 /// What was found in the places read so far.
 #[derive(Clone, Copy)]
@@ -34,7 +29,7 @@ struct Findings {
 impl Tuple {
     /// The tuple that the text spells, all of the text. Of several faults the lowest is given, and want of
     /// memory only of a text that has none.
-    #[tactic(auto, using(crate::proofs::Texts::tuple_arity, crate::proofs::Texts::tuple_spelled, crate::proofs::Explained::tuple_explained, crate::proofs::Explained::tuple_accepted))]
+    #[tactic(auto, using(crate::proofs::Explained::tuple_laws))]
     pub fn parse(alloc: Global, text: &[u8]) -> Result<Tuple, ParseError>
         // A text with a fault is answered by its lowest one.
         ensures fault { IfSome (tuple_fault text.now) (λ fault. result ≡ Err fault) }
@@ -47,18 +42,14 @@ impl Tuple {
         // A text without a fault is refused for want of memory alone.
         ensures memory { tuple_fault text.now ≡ None → IfErr result (λ e. e ≡ ParseError.OutOfMemory) }
     {
-        if let Some(fault) = fault_of(Form::Tuple, text) {
-            return Err(fault);
-        }
-        let values = items_in(alloc, Form::Tuple, text).map_err(|_| ParseError::OutOfMemory)?;
-        Tuple::new(values).ok_or(ParseError::TooLong)
+        Tuple::new(parsed::<Value>(alloc, text)?).ok_or(ParseError::TooLong)
     }
 }
 
 impl Template {
     /// The template that the text spells, all of the text. Of several faults the lowest is given, and want
     /// of memory only of a text that has none.
-    #[tactic(auto, using(crate::proofs::Texts::template_arity, crate::proofs::Texts::template_spelled, crate::proofs::Explained::template_explained, crate::proofs::Explained::template_accepted))]
+    #[tactic(auto, using(crate::proofs::Explained::template_laws))]
     pub fn parse(alloc: Global, text: &[u8]) -> Result<Template, ParseError>
         // A text with a fault is answered by its lowest one.
         ensures fault { IfSome (template_fault text.now) (λ fault. result ≡ Err fault) }
@@ -71,22 +62,20 @@ impl Template {
         // A text without a fault is refused for want of memory alone.
         ensures memory { template_fault text.now ≡ None → IfErr result (λ e. e ≡ ParseError.OutOfMemory) }
     {
-        if let Some(fault) = fault_of(Form::Template, text) {
-            return Err(fault);
-        }
-        let places = items_in(alloc, Form::Template, text).map_err(|_| ParseError::OutOfMemory)?;
-        Template::new(places).ok_or(ParseError::TooLong)
+        Template::new(parsed::<Place>(alloc, text)?).ok_or(ParseError::TooLong)
     }
 }
 
-impl Form {
-    fn place_at(self, text: &[u8]) -> Result<(&[u8], &[u8]), &[u8]>
-        ensures { Gives (λ x. (x.0.now, x.1.now)) (λ e. e.now) result (reader_of self text.now) }
-    {
-        match self {
-            Form::Tuple => value_at(text),
-            Form::Template => place_at(text),
-        }
+/// The items that the text spells, or its lowest fault.
+#[tactic(auto, using(crate::proofs::Making::made_of_text))]
+fn parsed<I: Item>(alloc: Global, text: &[u8]) -> Result<Vec<I>, ParseError>
+    ensures fault { IfSome (fault_of I.reader text.now) (λ fault. result ≡ Err fault) }
+    ensures value { IfOk result (λ items. items.items ≡ made_of I.of_spelling (places_in I.reader text.now)) }
+    ensures memory { fault_of I.reader text.now ≡ None → IfErr result (λ e. e ≡ ParseError.OutOfMemory) }
+{
+    match fault_of::<I>(text) {
+        Some(fault) => Err(fault),
+        None => items_in(alloc, text).map_err(|_| ParseError::OutOfMemory),
     }
 }
 
@@ -116,7 +105,7 @@ impl Findings {
     }
 
     fn fault(self) -> Option<ParseError>
-        ensures { result ≡ fault_found self.out_of_range self.too_long }
+        ensures { result ≡ lower_fault self.out_of_range self.too_long }
     {
         match self.out_of_range {
             Some(at) => Some(ParseError::Range { at }),
@@ -127,10 +116,11 @@ impl Findings {
 }
 
 /// The lowest fault of the text, want of memory aside.
-fn fault_of(form: Form, text: &[u8]) -> Option<ParseError>
-    ensures { result ≡ fault_of form text.now }
+#[tactic(auto, using(crate::proofs::Findings::found_laws))]
+fn fault_of<I: Item>(text: &[u8]) -> Option<ParseError>
+    ensures { result ≡ fault_of I.reader text.now }
 {
-    match found_in(form, text) {
+    match found_in::<I>(text) {
         Ok(found) => found.fault(),
         Err(rest) => Some(ParseError::Syntax {
             at: text.len().saturating_sub(rest.len()),
@@ -139,14 +129,14 @@ fn fault_of(form: Form, text: &[u8]) -> Option<ParseError>
 }
 
 /// What stands in the places, or the bytes from the first one that no text goes on with.
-fn found_in(form: Form, text: &[u8]) -> Result<Findings, &[u8]>
-    ensures { Gives (λ found. found) (λ e. e.now) result (found_in form text.now) }
+fn found_in<I: Item>(text: &[u8]) -> Result<Findings, &[u8]>
+    ensures { Gives (λ found. found) (λ e. e.now) result (found_in I.reader text.now) }
 {
     let mut found = Findings::none();
     let mut rest = word_at(text, b"(")?;
     // A text has fewer places than bytes.
     for i in 0..text.len() {
-        let (spelling, after) = form.place_at(rest)?;
+        let (spelling, after) = I::item_at(rest)?;
         found = found.with(text, i, spelling, rest);
         match after_place(after)? {
             None => return Ok(found),
@@ -156,41 +146,16 @@ fn found_in(form: Form, text: &[u8]) -> Result<Findings, &[u8]>
     Err(rest)
 }
 
-/// What stands in a text: values in a tuple, places in a template.
-trait Item: Sized + Drop {
-    ghost of_spelling: { List ℕ → Option Self };
-
-    /// The item with this spelling, where there is one.
-    fn of_spelling(spelling: &[u8]) -> Option<Self>
-        ensures { result ≡ of_spelling spelling.now };
-}
-
-impl Item for Value {
-    ghost of_spelling = { value_of };
-
-    fn of_spelling(spelling: &[u8]) -> Option<Value> {
-        value_of(spelling)
-    }
-}
-
-impl Item for Place {
-    ghost of_spelling = { place_of };
-
-    fn of_spelling(spelling: &[u8]) -> Option<Place> {
-        place_of(spelling)
-    }
-}
-
 /// The items of a text in which no fault was found.
-fn items_in<I: Item>(alloc: Global, form: Form, text: &[u8]) -> Result<Vec<I>, AllocError>
-    ensures { IfOk result (λ items. items.items ≡ made_in (reader_of form) I.of_spelling (word_at text.now (40 ∷ []))) }
+fn items_in<I: Item>(alloc: Global, text: &[u8]) -> Result<Vec<I>, AllocError>
+    ensures { IfOk result (λ items. items.items ≡ made_in I.reader I.of_spelling text.now) }
 {
     let mut items = Vec::new(alloc);
     let Ok(mut rest) = word_at(text, b"(") else {
         return Ok(items);
     };
     for _ in 0..MAX_PLACES {
-        let (spelling, after) = match form.place_at(rest) {
+        let (spelling, after) = match I::item_at(rest) {
             Ok(found) => found,
             Err(_) => return Ok(items),
         };

@@ -5,7 +5,10 @@
 
 ghost use Rattle.std.specs.Prelude.{◌≡◌, ◌≤◌, ℕ, List, length, take, drop, false, position, IfSome};
 ghost use Rattle.std.specs.Option.{option_map};
-ghost use Rattle.kt_tuple.specs.Reading.{Gives, word_at, after_digits, after_positive, split_before, int_at, after_characters, str_at, value_at, formal_at, place_at, after_place, is_no_digit, is_printable, int_of, has_range, is_short, value_of, place_of, between_quotes, characters_of, str_of, is_escape};
+ghost use Rattle.kt_tuple.specs.Reading.{Gives, word_at, after_digits, after_positive, split_before, int_at};
+ghost use Rattle.kt_tuple.specs.Reading.{after_characters, str_at, value_at, formal_at, place_at, after_place};
+ghost use Rattle.kt_tuple.specs.Reading.{is_no_digit, is_printable, int_of, has_range, is_short, value_of};
+ghost use Rattle.kt_tuple.specs.Reading.{place_of, between_quotes, characters_of, str_of, is_escape};
 
 use crate::string::{MAX_CHARACTERS, Str};
 use crate::template::Place;
@@ -25,7 +28,7 @@ pub fn value_at(text: &[u8]) -> Result<(&[u8], &[u8]), &[u8]>
 
 /// Reads a value, `?int` or `?str`.
 #[tactic(auto, unfolding(crate::specs::Reading::place_at))]
-pub fn place_at(text: &[u8]) -> Result<(&[u8], &[u8]), &[u8]>
+pub(crate) fn place_at(text: &[u8]) -> Result<(&[u8], &[u8]), &[u8]>
     ensures { Gives (λ x. (x.0.now, x.1.now)) (λ e. e.now) result (place_at text.now) }
 {
     match text.first() {
@@ -60,7 +63,7 @@ pub fn word_at<'a>(text: &'a [u8], word: &[u8]) -> Result<&'a [u8], &'a [u8]>
 
 /// Reads `?int` or `?str`.
 #[tactic(auto, unfolding(crate::specs::Reading::formal_at))]
-pub fn formal_at(text: &[u8]) -> Result<(&[u8], &[u8]), &[u8]>
+pub(crate) fn formal_at(text: &[u8]) -> Result<(&[u8], &[u8]), &[u8]>
     ensures { Gives (λ x. (x.0.now, x.1.now)) (λ e. e.now) result (formal_at text.now) }
 {
     let kind = word_at(text, b"?")?;
@@ -160,7 +163,7 @@ fn is_printable(c: u8) -> bool
 
 /// Whether the place is no int outside 64 bits.
 #[tactic(auto, unfolding(crate::specs::Reading::has_range))]
-pub fn is_in_range(spelling: &[u8]) -> bool
+pub(crate) fn is_in_range(spelling: &[u8]) -> bool
     ensures { result ≡ has_range spelling.now }
 {
     match spelling.first() {
@@ -171,7 +174,7 @@ pub fn is_in_range(spelling: &[u8]) -> bool
 
 /// Whether the place is no str of more than 64 characters.
 #[tactic(auto, unfolding(crate::specs::Reading::is_short))]
-pub fn is_short(spelling: &[u8]) -> bool
+pub(crate) fn is_short(spelling: &[u8]) -> bool
     ensures { result ≡ is_short spelling.now }
 {
     match spelling.first() {
@@ -193,7 +196,7 @@ pub fn value_of(spelling: &[u8]) -> Option<Value>
 
 /// The place with this spelling, or `None` where it is out of range or too long.
 #[tactic(auto, unfolding(crate::specs::Reading::place_of))]
-pub fn place_of(spelling: &[u8]) -> Option<Place>
+pub(crate) fn place_of(spelling: &[u8]) -> Option<Place>
     ensures { result ≡ place_of spelling.now }
 {
     if spelling == b"?int".as_slice() {

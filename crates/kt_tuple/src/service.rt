@@ -1,3 +1,5 @@
+//! Services: requests that were served.
+
 use crate::op::{Answer, Op};
 
 /// A request that was served: what a worker's request asked and what it was answered.

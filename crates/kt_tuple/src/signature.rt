@@ -1,3 +1,5 @@
+//! The kinds of a list of places as one number, and the shard that is their home.
+
 ghost use Rattle.std.specs.Prelude.{◌≡◌, ◌+◌, ◌*◌, ◌%◌, ◌≤◌, ◌<◌, ◌^◌};
 ghost use Rattle.kt_tuple.specs.Signature.{code_of};
 

@@ -1,3 +1,5 @@
+//! Strings: short texts of printable characters.
+
 ghost use Rattle.std.specs.Prelude.{◌≡◌, ◌↔◌, ℕ, List, ◌≤◌, length, IsSome, IfSome, IsTrue};
 ghost use Rattle.kt_tuple.specs.Text.{IsText, ArePrintable};
 

@@ -1,3 +1,5 @@
+//! Templates, and which tuples they match.
+
 ghost use Rattle.std.specs.Prelude.{◌≡◌, ◌↔◌, IsTrue, IsSome, IfSome, IfOk, map};
 ghost use Rattle.kt_tuple.specs.declared.template.Place.TheVariants.{Actual};
 ghost use Rattle.kt_tuple.specs.Matching.{HasArity, Admits, Matches, MatchesOnly, admits, matches};

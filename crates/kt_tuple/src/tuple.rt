@@ -1,3 +1,5 @@
+//! Tuples of values.
+
 ghost use Rattle.std.specs.Prelude.{◌≡◌, ◌↔◌, IsTrue, IsSome, IfSome, IfOk};
 ghost use Rattle.kt_tuple.specs.Matching.{HasArity};
 

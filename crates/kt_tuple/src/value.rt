@@ -1,3 +1,5 @@
+//! Values and their kinds.
+
 ghost use Rattle.std.specs.Prelude.{◌≡◌, ◌↔◌, IsTrue};
 ghost use Rattle.kt_tuple.specs.Equality.{value_eq};
 ghost use Rattle.kt_tuple.specs.Value.{kind_of};

@@ -1,21 +1,71 @@
-//! The one text of each value, tuple, template, operation and answer, written at the end of bytes.
+//! The one text of each value, tuple, template, operation, answer, node and service, written at the end of bytes.
 
-ghost use Rattle.std.specs.Prelude.{◌≡◌, ◌≤◌, ◌++◌, List, ℕ, [], ◌∷◌, length, take, vec_len, OnOk, OnErr, codes, None, All};
+ghost use Rattle.std.specs.Prelude.{◌≡◌, ◌++◌, ℕ, List, take, map, decimal, OnOk, OnErr, None, All, ⊤};
 ghost use Rattle.std.specs.Fmt.{signed_decimal};
 ghost use Rattle.std.specs.Int.{w64};
 ghost use Rattle.std.specs.Int.RustNames.{FitsSigned};
 ghost use Rattle.std.specs.Io.{StartsWith};
-ghost use Rattle.kt_tuple.specs.Matching.{HasArity};
 ghost use Rattle.kt_tuple.specs.Parsing.{tuple_fault, tuple_values, template_fault, template_places};
-ghost use Rattle.kt_tuple.specs.Spelling.{character_text, string_text, value_text, place_text, tuple_text, template_text, op_text, answer_text};
+ghost use Rattle.kt_tuple.specs.Spelling.{character_text, string_text, value_text, kind_text, place_text, in_parentheses};
+ghost use Rattle.kt_tuple.specs.Spelling.{tuple_text, template_text, op_text, answer_text, node_text};
+ghost use Rattle.kt_tuple.specs.Spelling.{request_text, service_text};
 ghost use Rattle.kt_tuple.specs.Valid.{IsValue, IsPlace};
 
+use crate::node::NodeId;
 use crate::op::{Answer, Op};
+use crate::service::Service;
 use crate::template::{Place, Template};
 use crate::tuple::Tuple;
 use crate::value::{Kind, Value};
 use itoa::Buffer;
 use std::alloc::AllocError;
+
+/// A type with one text for each of its values.
+pub trait Spelled {
+    ghost text_of: { Self → List ℕ };
+
+    ghost is_held: { Self → Type 0 };
+
+    /// Appends its text, or where memory runs out a front of it.
+    fn push_to(&self, out: &mut Vec<u8>) -> Result<(), AllocError>
+        ensures ok { OnOk result (out.new.items ≡ out.old.items ++ text_of self.now) }
+        ensures front { StartsWith out.new.items out.old.items }
+        // What the type keeps of its values.
+        ensures held { is_held self.now };
+}
+
+impl Spelled for Value {
+    ghost text_of = { value_text };
+
+    ghost is_held = { IsValue };
+
+    fn push_to(&self, out: &mut Vec<u8>) -> Result<(), AllocError> {
+        push_value(out, self)
+    }
+}
+
+impl Spelled for Kind {
+    ghost text_of = { kind_text };
+
+    ghost is_held = { λ _. ⊤ };
+
+    fn push_to(&self, out: &mut Vec<u8>) -> Result<(), AllocError> {
+        match self {
+            Kind::Int => out.extend_from_slice(b"int"),
+            Kind::Str => out.extend_from_slice(b"str"),
+        }
+    }
+}
+
+impl Spelled for Place {
+    ghost text_of = { place_text };
+
+    ghost is_held = { IsPlace };
+
+    fn push_to(&self, out: &mut Vec<u8>) -> Result<(), AllocError> {
+        push_place(out, self)
+    }
+}
 
 impl Value {
     /// Appends its text, as `"a"`. A refused call leaves the bytes as they were.
@@ -39,7 +89,7 @@ impl Tuple {
         ensures read_back { OnOk result (tuple_values (tuple_text self.now) ≡ self.now) }
     {
         let start = out.len();
-        let written = push_tuple(out, self);
+        let written = push_in_parentheses(out, self.values());
         cut_back(out, start, written)
     }
 }
@@ -54,7 +104,31 @@ impl Template {
         ensures read_back { OnOk result (template_places (template_text self.now) ≡ self.now) }
     {
         let start = out.len();
-        let written = push_template(out, self);
+        let written = push_in_parentheses(out, self.places());
+        cut_back(out, start, written)
+    }
+}
+
+impl NodeId {
+    /// Appends its text, as `w1` or `s1`. A refused call leaves the bytes as they were.
+    pub fn write_to(self, out: &mut Vec<u8>) -> Result<(), AllocError>
+        ensures ok { OnOk result (out.new.items ≡ out.old.items ++ node_text self) }
+        ensures err { OnErr result (out.new.items ≡ out.old.items) }
+    {
+        let start = out.len();
+        let written = push_node(out, self);
+        cut_back(out, start, written)
+    }
+}
+
+impl Service {
+    /// Appends its text, as `w1.2 in ("a", ?int) got ("a", 1)`. A refused call leaves the bytes as they were.
+    pub fn write_to(&self, out: &mut Vec<u8>) -> Result<(), AllocError>
+        ensures ok { OnOk result (out.new.items ≡ out.old.items ++ service_text self.now) }
+        ensures err { OnErr result (out.new.items ≡ out.old.items) }
+    {
+        let start = out.len();
+        let written = push_service(out, self);
         cut_back(out, start, written)
     }
 }
@@ -83,8 +157,8 @@ impl Answer {
     }
 }
 
-/// Takes away what was appended, where not all of it was.
-fn cut_back(
+/// Takes away what was appended behind the first so many bytes, where not all of it was.
+pub fn cut_back(
     out: &mut Vec<u8>,
     start: usize,
     written: Result<(), AllocError>,
@@ -99,6 +173,43 @@ fn cut_back(
     written
 }
 
+fn push_service(out: &mut Vec<u8>, service: &Service) -> Result<(), AllocError>
+    ensures ok { OnOk result (out.new.items ≡ out.old.items ++ service_text service.now) }
+    ensures front { StartsWith out.new.items out.old.items }
+{
+    push_request(out, service)?;
+    out.push(b' ')?;
+    push_op(out, &service.op)?;
+    out.push(b' ')?;
+    push_answer(out, &service.answer)
+}
+
+/// The worker, a dot, and the number of its request.
+fn push_request(out: &mut Vec<u8>, service: &Service) -> Result<(), AllocError>
+    ensures ok { OnOk result (out.new.items ≡ out.old.items ++ request_text service.now) }
+    ensures front { StartsWith out.new.items out.old.items }
+{
+    push_node(out, NodeId::Worker(service.worker))?;
+    out.push(b'.')?;
+    push_number(out, service.number)
+}
+
+fn push_node(out: &mut Vec<u8>, node: NodeId) -> Result<(), AllocError>
+    ensures ok { OnOk result (out.new.items ≡ out.old.items ++ node_text node) }
+    ensures front { StartsWith out.new.items out.old.items }
+{
+    match node {
+        NodeId::Worker(number) => {
+            out.push(b'w')?;
+            push_number(out, u64::from(number))
+        }
+        NodeId::Shard(number) => {
+            out.push(b's')?;
+            push_number(out, u64::from(number))
+        }
+    }
+}
+
 fn push_op(out: &mut Vec<u8>, op: &Op) -> Result<(), AllocError>
     ensures ok { OnOk result (out.new.items ≡ out.old.items ++ op_text op.now) }
     ensures front { StartsWith out.new.items out.old.items }
@@ -106,23 +217,23 @@ fn push_op(out: &mut Vec<u8>, op: &Op) -> Result<(), AllocError>
     match op {
         Op::Out(tuple) => {
             out.extend_from_slice(b"out ")?;
-            push_tuple(out, tuple)
+            push_in_parentheses(out, tuple.values())
         }
         Op::In(template) => {
             out.extend_from_slice(b"in ")?;
-            push_template(out, template)
+            push_in_parentheses(out, template.places())
         }
         Op::Rd(template) => {
             out.extend_from_slice(b"rd ")?;
-            push_template(out, template)
+            push_in_parentheses(out, template.places())
         }
         Op::Inp(template) => {
             out.extend_from_slice(b"inp ")?;
-            push_template(out, template)
+            push_in_parentheses(out, template.places())
         }
         Op::Rdp(template) => {
             out.extend_from_slice(b"rdp ")?;
-            push_template(out, template)
+            push_in_parentheses(out, template.places())
         }
     }
 }
@@ -135,40 +246,24 @@ fn push_answer(out: &mut Vec<u8>, answer: &Answer) -> Result<(), AllocError>
         Answer::Done => out.extend_from_slice(b"done"),
         Answer::Got(tuple) => {
             out.extend_from_slice(b"got ")?;
-            push_tuple(out, tuple)
+            push_in_parentheses(out, tuple.values())
         }
         Answer::None => out.extend_from_slice(b"none"),
     }
 }
 
-fn push_tuple(out: &mut Vec<u8>, tuple: &Tuple) -> Result<(), AllocError>
-    ensures ok { OnOk result (out.new.items ≡ out.old.items ++ tuple_text tuple.now) }
+/// Appends the texts in parentheses, each but the first behind a comma and a space; where memory runs out a front of
+/// that.
+pub fn push_in_parentheses<T: Spelled>(out: &mut Vec<u8>, items: &[T]) -> Result<(), AllocError>
+    ensures ok { OnOk result (out.new.items ≡ out.old.items ++ in_parentheses (map T.text_of items.now)) }
     ensures front { StartsWith out.new.items out.old.items }
-    ensures arity { OnOk result (HasArity tuple.now) }
-    ensures held { OnOk result (All IsValue tuple.now) }
+    ensures held { OnOk result (All T.is_held items.now) }
 {
     out.push(b'(')?;
     let mut separator: &[u8] = b"";
-    for value in tuple.values() {
+    for item in items {
         out.extend_from_slice(separator)?;
-        push_value(out, value)?;
-        separator = b", ";
-    }
-    out.push(b')')?;
-    Ok(())
-}
-
-fn push_template(out: &mut Vec<u8>, template: &Template) -> Result<(), AllocError>
-    ensures ok { OnOk result (out.new.items ≡ out.old.items ++ template_text template.now) }
-    ensures front { StartsWith out.new.items out.old.items }
-    ensures arity { OnOk result (HasArity template.now) }
-    ensures held { OnOk result (All IsPlace template.now) }
-{
-    out.push(b'(')?;
-    let mut separator: &[u8] = b"";
-    for place in template.places() {
-        out.extend_from_slice(separator)?;
-        push_place(out, place)?;
+        item.push_to(out)?;
         separator = b", ";
     }
     out.push(b')')?;
@@ -182,8 +277,10 @@ fn push_place(out: &mut Vec<u8>, place: &Place) -> Result<(), AllocError>
 {
     match place {
         Place::Actual(value) => push_value(out, value),
-        Place::Formal(Kind::Int) => out.extend_from_slice(b"?int"),
-        Place::Formal(Kind::Str) => out.extend_from_slice(b"?str"),
+        Place::Formal(kind) => {
+            out.push(b'?')?;
+            kind.push_to(out)
+        }
     }
 }
 
@@ -198,10 +295,20 @@ fn push_value(out: &mut Vec<u8>, value: &Value) -> Result<(), AllocError>
     }
 }
 
-fn push_int(out: &mut Vec<u8>, number: i64) -> Result<(), AllocError>
+/// Appends an int in decimal, or where memory runs out a front of that.
+pub fn push_int(out: &mut Vec<u8>, number: i64) -> Result<(), AllocError>
     ensures ok { OnOk result (out.new.items ≡ out.old.items ++ signed_decimal number) }
     ensures front { StartsWith out.new.items out.old.items }
     ensures held { FitsSigned w64 number }
+{
+    let mut buffer = Buffer::new();
+    out.extend_from_slice(buffer.format(number).as_bytes())
+}
+
+/// Appends a number in decimal, or where memory runs out a front of that.
+pub fn push_number(out: &mut Vec<u8>, number: u64) -> Result<(), AllocError>
+    ensures ok { OnOk result (out.new.items ≡ out.old.items ++ decimal number) }
+    ensures front { StartsWith out.new.items out.old.items }
 {
     let mut buffer = Buffer::new();
     out.extend_from_slice(buffer.format(number).as_bytes())

@@ -3,3 +3,4 @@ pub mod Lists
 pub mod Told
 pub mod After
 pub mod Asked
+pub mod Shared

@@ -1,3 +1,5 @@
+//! Who asked for a vote.
+
 use kt_tuple::NodeId;
 
 /// Who asked a node, and in which incarnation: its vote repeats that.

@@ -1,3 +1,5 @@
+//! Ballots: whom a node asked, and the votes that came.
+
 ghost use Rattle.std.specs.Prelude.{◌≡◌, ◌↔◌, ◌∷◌, ◌++◌, [], if◌then◌else◌, List, All, Any, Contains, filter, not};
 ghost use Rattle.std.specs.Prelude.{None, Some, true, false, IsTrue, IsSome, IfOk, OnOk, OnErr};
 ghost use Rattle.kt_tuple.specs.declared.node.NodeId.{NodeId};
@@ -43,7 +45,8 @@ impl Model for Ballot {
 impl Ballot {
     ghost use Rattle.kt_vote.specs.declared.vote.Vote.{Vote};
     ghost use Rattle.kt_vote.specs.Order.{IsBefore, IsInOrder};
-    ghost use Rattle.kt_vote.specs.Poll.{Counts, asked_too, asking_poll, counted, counts, is_awaited, opening_poll, outcome_of};
+    ghost use Rattle.kt_vote.specs.Poll.{Counts, asked_too, asking_poll, counted};
+    ghost use Rattle.kt_vote.specs.Poll.{counts, is_awaited, opening_poll, outcome_of};
     ghost use Rattle.kt_vote.specs.Counting.{IsAfter, said};
 
     /// A ballot in this instance of a node in this incarnation, which nobody is asked for yet. The parent is who

@@ -1,3 +1,5 @@
+//! Votes of nodes.
+
 /// A node's vote in an instance: whether it agrees.
 #[derive(Clone, Copy, Debug, PartialEq, Eq)]
 pub struct Vote {

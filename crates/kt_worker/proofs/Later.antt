@@ -14,7 +14,8 @@ pc_or : ℕ → Option Next → ℕ
 pc_or pc None = pc
 pc_or pc (Some next) = next.pc
 
-next_from-later : (variables : List (Name × Kind)) (memory : Memory) (skipped pc : ℕ) (commands : List Command) (next : Next) → next_from variables memory skipped pc commands ≡ Some next → pc + 1 ≤ next.pc
+next_from-later : (variables : List (Name × Kind)) (memory : Memory) (skipped pc : ℕ) (commands : List Command) (next : Next)
+    → next_from variables memory skipped pc commands ≡ Some next → pc + 1 ≤ next.pc
 unfolding pc_or
 next_from-later variables memory skipped pc [] next e = absurd cc
 next_from-later variables memory (suc skipped) pc (command ∷ later) next e =

@@ -1,3 +1,4 @@
 pub mod Later
 pub mod Requests
 pub mod Fits
+pub mod Shared

@@ -1,6 +1,7 @@
 -- A worker that stands as after some answers asks what its script asks then, and stands as after one answer more
 -- once it has heard it.
-use Rattle.std.proofs.Common.{rules, ◌≡◌, ℕ, suc, ◌+◌, Bool, true, false, List, [], ◌∷◌, ◌++◌, length, fold, Option, None, Some, refl, sym, ap, ◌∙◌, subst, eqb-true, eq-eqb, length-append, arith}
+use Rattle.std.proofs.Common.{rules, ◌≡◌, ℕ, suc, ◌+◌, Bool, true, false, List, [], ◌∷◌, ◌++◌, length, fold, Option}
+use Rattle.std.proofs.Common.{None, Some, refl, sym, ap, ◌∙◌, subst, eqb-true, eq-eqb, length-append, arith}
 use Rattle.std.specs.Prelude.{IfSome, ◌||◌, ◌↔◌, is_some, not, IsTrue, ◌==◌}
 use Rattle.std.proofs.lemmas.Bool.{and_parts, and_from, false≢true}
 use Rattle.kt_tuple.specs.declared.op.Op.{Op}
@@ -10,12 +11,14 @@ use Rattle.kt_script.specs.declared.next.Next.{Next}
 use Rattle.kt_script.specs.declared.command.Command.{Command}
 use Rattle.kt_script.specs.Asks.{asks}
 use Rattle.kt_script.specs.Next.{Position, next_at, bound, answered, after_one, opening_position, position_after, op_of_next}
-use Rattle.kt_script.proofs.Reaches.{reaches}
-use Rattle.kt_worker.specs.Standing.{Standing, opening_standing, unless_asked, next_of, next_request, numbered, behind, asking, issued, awaits_op, awaits, heard, is_left}
+use Rattle.kt_script.proofs.Shared.{reaches}
+use Rattle.kt_worker.specs.Standing.{Standing, opening_standing, unless_asked, next_of, next_request}
+use Rattle.kt_worker.specs.Standing.{numbered, behind, asking, issued, awaits_op, awaits, heard, is_left}
 use Rattle.kt_worker.specs.After.{last_number, behind_next, position_when, IsAfter}
 
 -- the next operation of a worker that waits for nothing
-next_of-free : (script : List Command) (answers : List Answer) (w : Standing) → IsAfter script answers w → w.asked ≡ None → next_of script w ≡ next_at script (position_after script answers)
+next_of-free : (script : List Command) (answers : List Answer) (w : Standing) → IsAfter script answers w → w.asked ≡ None
+    → next_of script w ≡ next_at script (position_after script answers)
 next_of-free script answers w after free =
     ap (λ o. unless_asked o (next_at script w.position)) free
     ∙ ap (next_at script) (after.position ∙ ap (λ o. position_when o script answers) free)
@@ -24,7 +27,8 @@ number-free : (script : List Command) (answers : List Answer) (w : Standing) →
 number-free script answers w after free = after.number ∙ ap (λ o. last_number o (length answers)) free
 
 -- the request is the operation that the script asks for, with the next number
-pub request-asks : (script : List Command) (answers : List Answer) (w : Standing) → IsAfter script answers w → w.asked ≡ None → next_request script w ≡ numbered (suc (length answers)) (asks script answers)
+pub request-asks : (script : List Command) (answers : List Answer) (w : Standing) → IsAfter script answers w → w.asked ≡ None
+    → next_request script w ≡ numbered (suc (length answers)) (asks script answers)
 request-asks script answers w after free =
     ap (λ o. numbered (w.number + 1) (op_of_next o)) (next_of-free script answers w after free)
     ∙ ap (λ n. numbered n (op_of_next (next_at script (position_after script answers)))) more
@@ -50,11 +54,13 @@ issued-after script answers w after = by w.asked refl
     }
 
     by : (o : Option Op) → w.asked ≡ o → IsAfter script answers (issued script w)
-    by None e = subst (λ n. IsAfter script answers (asking w n)) (sym (next_of-free script answers w after e)) (asks_on (next_at script (position_after script answers)) refl e)
+    by None e = subst (λ n. IsAfter script answers (asking w n)) (sym (next_of-free script answers w after e))
+        (asks_on (next_at script (position_after script answers)) refl e)
     by (Some op) e = stays (next_of script w) (ap (λ o. unless_asked o (next_at script w.position)) e)
 
 -- where an operation is asked for, it is the next one
-is_next : (script : List Command) (answers : List Answer) (op : Op) → asks script answers ≡ Some op → (next : Next) × (next_at script (position_after script answers) ≡ Some next)
+is_next : (script : List Command) (answers : List Answer) (op : Op) → asks script answers ≡ Some op → (next : Next)
+    × (next_at script (position_after script answers) ≡ Some next)
 is_next script answers op e = by (next_at script (position_after script answers)) refl
   where
     by : (o : Option Next) → next_at script (position_after script answers) ≡ o → (next : Next) × (next_at script (position_after script answers) ≡ Some next)
@@ -62,7 +68,8 @@ is_next script answers op e = by (next_at script (position_after script answers)
     by (Some next) n = (next, n)
 
 -- one answer goes on from the position after those before it
-position_after-push : (script : List Command) (answers : List Answer) (answer : Answer) → position_after script (answers ++ answer ∷ []) ≡ after_one script (position_after script answers) answer
+position_after-push : (script : List Command) (answers : List Answer) (answer : Answer)
+    → position_after script (answers ++ answer ∷ []) ≡ after_one script (position_after script answers) answer
 position_after-push script answers answer = by (opening_position script) answers
   where
     by : (p : Position) (xs : List Answer) → fold (after_one script) p (xs ++ answer ∷ []) ≡ after_one script (fold (after_one script) p xs) answer
@@ -70,10 +77,12 @@ position_after-push script answers answer = by (opening_position script) answers
     by p (x ∷ xs) = by (after_one script p x) xs
 
 -- the answer to the unanswered request is the one after those so far
-pub heard-after : (script : List Command) (answers : List Answer) (w : Standing) (op : Op) (answer : Answer) → IsAfter script answers w → w.asked ≡ Some op → IsAfter script (answers ++ answer ∷ []) (heard script w answer)
+pub heard-after : (script : List Command) (answers : List Answer) (w : Standing) (op : Op) (answer : Answer) → IsAfter script answers w → w.asked ≡ Some op
+    → IsAfter script (answers ++ answer ∷ []) (heard script w answer)
 heard-after script answers w op answer after e =
     let next = is_next script answers op (subst (λ o. IfSome o (λ asked. asks script answers ≡ Some asked)) e after.asked) in
-    let at : w.position ≡ behind next.0 = after.position ∙ ap (λ o. position_when o script answers) e ∙ ap (behind_next (position_after script answers)) next.1 in
+    let at : w.position ≡ behind next.0 =
+    after.position ∙ ap (λ o. position_when o script answers) e ∙ ap (behind_next (position_after script answers)) next.1 in
     let numbered : w.number ≡ suc (length answers) = after.number ∙ ap (λ o. last_number o (length answers)) e in record {
       number = let long = length-append answers (answer ∷ []) in omega (arith, numbered, long);
       asked = tt;
@@ -139,7 +148,8 @@ pub record Requests (script : List Command) (answers : List Answer) (w : Standin
   pub asked : (issued script w).asked ≡ Some r.1
   pub after : IsAfter script answers (issued script w)
 
-pub Requests-next : (script : List Command) (answers : List Answer) (w : Standing) (r : ℕ × Op) → IsAfter script answers w → next_request script w ≡ Some r → Requests script answers w r
+pub Requests-next : (script : List Command) (answers : List Answer) (w : Standing) (r : ℕ × Op) → IsAfter script answers w → next_request script w ≡ Some r
+    → Requests script answers w r
 Requests-next script answers w r after e = record {
   free = free;
   number = (parts (asks script answers) (sym (request-asks script answers w after free) ∙ e)).0;

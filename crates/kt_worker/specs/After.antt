@@ -20,7 +20,8 @@ behind_next position (Some next) = behind next
 -- the position of a worker, which is behind the next operation where that was asked for
 abbrev pub position_when : Option Op → List Command → List Answer → Position
 position_when None script answers = position_after script answers
-position_when (Some op) script answers = behind_next (position_after script answers) (next_at script (position_after script answers))
+position_when (Some op) script answers =
+    behind_next (position_after script answers) (next_at script (position_after script answers))
 
 -- the worker was answered so, and what is unanswered is what the script asks then
 pub record IsAfter (script : List Command) (answers : List Answer) (w : Standing) : Type 0 where

@@ -1,3 +1,5 @@
+//! Why parts make no worker.
+
 use thiserror::Error;
 
 /// Why parts are not those of a worker of a script: of all that stand, the first.

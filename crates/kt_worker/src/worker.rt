@@ -1,4 +1,7 @@
-ghost use Rattle.std.specs.Prelude.{◌≡◌, ◌↔◌, List, suc, length, [], ◌∷◌, ◌++◌, if◌then◌else◌, ◌+◌, ◌<◌, ◌≤◌, Some, None, not, is_some, IsTrue, IfOk, IfErr, IfSome, OnOk, OnErr};
+//! Workers: their numbered requests, at most one unanswered.
+
+ghost use Rattle.std.specs.Prelude.{◌≡◌, ◌↔◌, List, suc, length, [], ◌∷◌, ◌++◌, if◌then◌else◌, ◌+◌, ◌<◌};
+ghost use Rattle.std.specs.Prelude.{◌≤◌, Some, None, not, is_some, IsTrue, IfOk, IfErr, IfSome, OnOk, OnErr};
 ghost use Rattle.std.specs.Option.{option_copied, option_map};
 
 use crate::misfit::Misfit;
@@ -36,7 +39,8 @@ impl Worker {
     ghost use Rattle.kt_tuple.specs.declared.op.Answer.{Answer};
     ghost use Rattle.kt_script.specs.declared.command.Command.{Command};
     ghost use Rattle.kt_script.specs.Asks.{asks};
-    ghost use Rattle.kt_worker.specs.Standing.{opening_standing, again_request, next_request, numbered, issued, awaits, heard, is_left};
+    ghost use Rattle.kt_worker.specs.Standing.{opening_standing, again_request, next_request};
+    ghost use Rattle.kt_worker.specs.Standing.{numbered, issued, awaits, heard, is_left};
     ghost use Rattle.kt_worker.specs.After.{IsAfter};
     ghost use Rattle.kt_worker.specs.Parts.{standing_of, misfit_of};
 
@@ -162,8 +166,10 @@ impl Worker {
         ensures unchanged { OnErr result (self.new ≡ self.old) }
 
         // After any answers it is what the script asks next, with the next number.
-        ensures asks { (answers : List Answer) → IsAfter script.now answers self.old → self.old.asked ≡ None → IfOk result (λ r. r ≡ numbered (suc (length answers)) (asks script.now answers)) }
-        ensures after { (answers : List Answer) → IsAfter script.now answers self.old → IsAfter script.now answers self.new }
+        ensures asks { (answers : List Answer) → IsAfter script.now answers self.old → self.old.asked ≡ None
+            → IfOk result (λ r. r ≡ numbered (suc (length answers)) (asks script.now answers)) }
+        ensures after { (answers : List Answer) → IsAfter script.now answers self.old
+            → IsAfter script.now answers self.new }
     {
         if self.asked.is_some() {
             return Ok(None);
@@ -179,7 +185,11 @@ impl Worker {
     /// The operation is asked for, with the next number. Behind it stand this command and these variables.
     fn ask(&mut self, op: Op, pc: usize, env: Env)
         requires { self.old.number < pc }
-        ensures { self.new ≡ record { number = self.old.number + 1; asked = Some op; position = record { pc = pc; memory = env } } }
+        ensures { self.new ≡ record {
+          number = self.old.number + 1;
+          asked = Some op;
+          position = record { pc = pc; memory = env };
+        } }
     {
         self.number += 1;
         self.asked = Some(op);
@@ -207,13 +217,16 @@ impl Worker {
         op: &Op,
         answer: &Answer,
     ) -> Result<bool, AllocError>
-        ensures accepts { IfOk result (λ accepted. IsTrue accepted ↔ ((self.old.number ≡ number) × (self.old.asked ≡ Some op.now))) }
+        ensures accepts { IfOk result (λ accepted. IsTrue accepted
+            ↔ ((self.old.number ≡ number) × (self.old.asked ≡ Some op.now))) }
         ensures exact { IfOk result (λ accepted. accepted ≡ awaits self.old number op.now) }
-        ensures heard { IfOk result (λ accepted. self.new ≡ (if accepted then heard script.now self.old answer.now else self.old)) }
+        ensures heard { IfOk result (λ accepted. self.new
+            ≡ (if accepted then heard script.now self.old answer.now else self.old)) }
         ensures unchanged { OnErr result (self.new ≡ self.old) }
 
         // What is accepted is the answer after those so far.
-        ensures after { (answers : List Answer) → IsAfter script.now answers self.old → IfOk result (λ accepted. IsTrue accepted → IsAfter script.now (answers ++ answer.now ∷ []) self.new) }
+        ensures after { (answers : List Answer) → IsAfter script.now answers self.old
+            → IfOk result (λ accepted. IsTrue accepted → IsAfter script.now (answers ++ answer.now ∷ []) self.new) }
     {
         if !self.awaits(number, op) {
             return Ok(false);
@@ -226,7 +239,8 @@ impl Worker {
     /// Whether an operation is left after the answers so far: the unanswered one, or the next.
     pub fn has_next(&self, script: &Script) -> bool
         ensures exact { result ≡ is_left script.now self.now }
-        ensures asks { (answers : List Answer) → IsAfter script.now answers self.now → result ≡ is_some (asks script.now answers) }
+        ensures asks { (answers : List Answer) → IsAfter script.now answers self.now
+            → result ≡ is_some (asks script.now answers) }
     {
         self.asked.is_some() || script.has_next(self.pc, &self.env)
     }
@@ -235,7 +249,8 @@ impl Worker {
     pub fn is_done(&self, script: &Script) -> bool
         ensures unanswered { IsTrue result → self.now.asked ≡ None }
         ensures exact { result ≡ not (is_left script.now self.now) }
-        ensures asks { (answers : List Answer) → IsAfter script.now answers self.now → IsTrue result ↔ (asks script.now answers ≡ None) }
+        ensures asks { (answers : List Answer) → IsAfter script.now answers self.now → IsTrue result
+            ↔ (asks script.now answers ≡ None) }
     {
         self.asked.is_none() && !script.has_next(self.pc, &self.env)
     }

@@ -1,7 +1,9 @@
--- What holds of every state that steps lead to: `Headline`, at the end, and its parts: the surviving services are one run
--- of a sequential tuple space, each worker's requests being its script's, in order; while no node is down or rolls back
--- nothing remembered is lost; what the permanent checkpoints hold is causally closed. And what a step makes of the
--- history and of what is remembered.
+-- What holds of every state that steps lead to. Read `Headline` first, at the end of this file: each of its five fields
+-- has its line of English. Of the words in them `HasOneRun` and `IsSteadyRun` stand here, with `is_steady` and the
+-- tuples of all shards between them; `IsCausallyClosed` and `permanent_length` in `Cut`, `IsPermanentRun` in
+-- `PermanentRun`, `StoresFollowLines` in `Like`; `services` and `Survives` in `Survival` of kt_history, `IsSpaceRun` in
+-- `Space` of kt_tuple. What a state is says `State`, and what a step makes of it `Effect`.
+-- The rest of the file is for other clauses of a step: what becomes of what a node remembers, and failures.
 use Rattle.std.specs.Prelude.{◌≡◌, ℕ, ◌+◌, Bool, true, false, List, [], ◌∷◌, map}
 use Rattle.std.specs.Prelude.{◌++◌, take, length, ◌≤◌, Option, None, Some, IsTrue, IsPermutation}
 use Rattle.std.specs.List.{flat_map, list_all, range_with_len}

@@ -1,3 +1,5 @@
+//! Histories of acts and cuts, and what survives of them.
+
 use kt_history::{Act, History, Note, What};
 use kt_tuple::{Answer, NodeId, Op, Template, Tuple};
 use std::alloc::Global;

@@ -247,14 +247,14 @@ fn a_scenario(rt: HostRuntime) -> Result<(), Fail> {
         return Ok(());
     };
     let one = Actual::Literal(Value::Int(1));
-    assert_eq!(rt; put.actuals().len(), 2);
-    assert!(rt; put.actuals().get(1) == Some(&one));
+    assert_eq!(rt; put.as_slice().len(), 2);
+    assert!(rt; put.as_slice().get(1) == Some(&one));
     let [x] = first.names() else {
         assert!(rt; false, "one variable");
         return Ok(());
     };
     assert_eq!(rt; x.as_bytes(), b"x".as_slice());
     let formal = Slot::Formal(Kind::Int, Some(x.copy()));
-    assert!(rt; taken.slots() == [formal].as_slice());
+    assert!(rt; taken.as_slice() == [formal].as_slice());
     Ok(())
 }

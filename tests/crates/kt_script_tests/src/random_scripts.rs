@@ -188,7 +188,7 @@ impl Bindings<'_> {
 
     fn tuple(&self, alloc: Global, actuals: &Actuals) -> Result<Tuple, Fail> {
         let mut values = Vec::new(alloc);
-        for actual in actuals.actuals() {
+        for actual in actuals.as_slice() {
             values.push(self.actual(actual)?)?;
         }
         Ok(Tuple::new(values).ok_or("a tuple")?)
@@ -196,7 +196,7 @@ impl Bindings<'_> {
 
     fn template(&self, alloc: Global, pattern: &Pattern) -> Result<Template, Fail> {
         let mut places = Vec::new(alloc);
-        for slot in pattern.slots() {
+        for slot in pattern.as_slice() {
             places.push(match slot {
                 Slot::Actual(actual) => Place::Actual(self.actual(actual)?),
                 Slot::Formal(kind, _) => Place::Formal(*kind),

@@ -1,3 +1,5 @@
+//! Scripts at their limits, and what they ask.
+
 use arrayvec::ArrayVec;
 use kt_script::{
     Actual, Actuals, Command, Env, Name, Operation, Pattern, Script, ScriptError, Slot, is_name,

@@ -1,3 +1,5 @@
+//! Shards that hear and serve requests.
+
 use kt_shard::{Heard, Request, ServeError, Shard};
 use kt_tuple::{Op, Tuple};
 use std::alloc::Global;

@@ -1,9 +1,7 @@
 //! The text of tuples and templates, against texts worked out by hand from the grammar.
 
-use kt_tuple::{
-    Answer, Kind, Op, ParseError, Place, Str, Template, Tuple, Value, after_place, formal_at,
-    int_at, int_of, is_in_range, is_short, place_at, place_of, value_at, value_of, word_at,
-};
+use kt_tuple::reading::{after_place, int_at, int_of, value_at, value_of, word_at};
+use kt_tuple::{Answer, NodeId, Op, ParseError, Service, Str, Template, Tuple, Value};
 use std::alloc::Global;
 use std::process::Abort;
 use std::test::Fail;
@@ -290,10 +288,7 @@ type Front = Result<(&'static [u8], &'static [u8]), &'static [u8]>;
 fn fronts(rt: HostRuntime) {
     assert_front(&rt, int_at(b"-12, 3)"), Ok((b"-12", b", 3)")));
     assert_front(&rt, value_at(b"\"a\\\"b\")"), Ok((b"\"a\\\"b\"", b")")));
-    assert_front(&rt, formal_at(b"?str x"), Ok((b"?str", b" x")));
-    assert_front(&rt, place_at(b"?int)"), Ok((b"?int", b")")));
     assert_front(&rt, int_at(b"--1"), Err(b"-1"));
-    assert_front(&rt, formal_at(b"?inx"), Err(b"x"));
 }
 
 fn assert_front(rt: &impl Abort, read: Front, expected: Front) {
@@ -332,24 +327,28 @@ fn assert_next(
     assert_eq!(rt; read, expected);
 }
 
-/// Spellings in range and short, and what they spell.
+/// What spellings spell.
 #[test]
-fn spellings(rt: HostRuntime) -> Result<(), Fail> {
+fn spellings(rt: HostRuntime) {
     assert_eq!(rt; int_of(b"-9223372036854775808"), Some(i64::MIN));
     assert_eq!(rt; int_of(b"9223372036854775808"), None);
-    assert!(rt; is_in_range(b"9223372036854775807"));
-    assert!(rt; !is_in_range(b"9223372036854775808"));
-    assert!(rt; is_in_range(b"?int"));
-    assert!(rt; is_short(b"\"a\""));
     assert!(rt; value_of(b"7") == Some(Value::Int(7)));
     assert!(rt; value_of(b"\"a\"") == Str::new(b"a").map(Value::Str));
-    assert!(rt; place_of(b"?str") == Some(Place::Formal(Kind::Str)));
-    assert!(rt; place_of(b"7") == Some(Place::Actual(Value::Int(7))));
-    let mut string = Vec::from_slice(rt.alloc(), b"\"")?;
-    for _ in 0..65 {
-        string.push(b'a')?;
-    }
-    string.push(b'"')?;
-    assert!(rt; !is_short(&string));
+}
+
+/// Nodes and services as a report shows them.
+#[test]
+fn services(rt: HostRuntime) -> Result<(), Fail> {
+    let mut written = Vec::new(rt.alloc());
+    NodeId::Shard(12).write_to(&mut written)?;
+    written.push(b' ')?;
+    let service = Service {
+        worker: 1,
+        number: 20,
+        op: Op::In(template(rt.alloc())?),
+        answer: Answer::Got(tuple(rt.alloc())?),
+    };
+    service.write_to(&mut written)?;
+    assert_eq!(rt; written.as_slice(), b"s12 w1.20 in (\"a\", ?int) got (\"a\", 1)".as_slice());
     Ok(())
 }

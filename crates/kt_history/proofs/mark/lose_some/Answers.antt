@@ -19,7 +19,11 @@ overflow_add-result c =
     let lost = HasLost-from _ _ _ _ _ c.requires.numbers c.requires.marks_of c.unmark.ensures c.renew.ensures in
     let before = c.count_lost-before.ensures ∙ lost_among-part n c.args.notes.now c.args.marks.now in
     let after = c.count_lost.ensures ∙ lost_among-part n c.args.notes.now c.renew.new.marks in
-    omega (arith, HasLost-counted _ _ _ _ _ _ _ lost c.requires.numbers c.requires.marks_of c.requires.lost before after, lost_among-at_most c.args.notes.now c.renew.new.marks)
+    omega (
+      arith,
+      HasLost-counted _ _ _ _ _ _ _ lost c.requires.numbers c.requires.marks_of c.requires.lost before after,
+      lost_among-at_most c.args.notes.now c.renew.new.marks,
+    )
 
 pub returns-clause-marks : goal.returns-clause-marks
 returns-clause-marks c = HasLost-from _ _ _ _ _ c.requires.numbers c.requires.marks_of c.unmark.ensures c.renew.ensures

@@ -22,4 +22,5 @@ loop-number-preserved c =
     let P : List ℕ → Type 0 = λ xs. UnmarkedUpTo xs c.args.marks.now c.unmark_one.new.marks in
     let Q : List Mark → Type 0 = λ ms. UnmarkedUpTo (take i numbers ++ get_or numbers i 0 ∷ []) c.args.marks.now ms in
     subst P (sym (take_more numbers i 0 c.loop-number-test.true))
-    (subst Q (sym c.unmark_one.ensures) (UnmarkedUpTo-push (take i numbers) (get_or numbers i 0) c.args.marks.now c.loop-number.marks c.loop-number.invariant within.0 within.1))
+    (subst Q (sym c.unmark_one.ensures) (UnmarkedUpTo-push (take i numbers)
+    (get_or numbers i 0) c.args.marks.now c.loop-number.marks c.loop-number.invariant within.0 within.1))

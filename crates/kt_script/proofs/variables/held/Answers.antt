@@ -1,6 +1,6 @@
 use Rattle.std.proofs.Common.{pos, sym, ◌∙◌, arith}
 use Rattle.kt_tuple.specs.declared.value.Value.TheVariants.{Int}
-use Rattle.kt_script.proofs.Places.{held-some}
+use Rattle.kt_script.proofs.PlaceLemmas.{held-some}
 use Rattle.kt_script.proofs.variables.held.Goals as goal
 
 pub returns-in-Some : goal.returns-in-Some

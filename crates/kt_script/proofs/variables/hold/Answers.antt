@@ -1,5 +1,5 @@
 use Rattle.std.proofs.Common.{sym}
-use Rattle.kt_script.proofs.Places.{with_held-past}
+use Rattle.kt_script.proofs.PlaceLemmas.{with_held-past}
 use Rattle.kt_script.proofs.variables.hold.Goals as goal
 
 pub returns-else-place-values : goal.returns-else-place-values

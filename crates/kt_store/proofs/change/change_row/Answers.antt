@@ -5,7 +5,7 @@ use Rattle.kt_tuple.specs.Node.{node_eq}
 use Rattle.kt_store.specs.declared.rows.NodeRow.{NodeRow}
 use Rattle.kt_store.specs.Content.{opening_row, row_or}
 use Rattle.kt_store.specs.Changes.{with_row}
-use Rattle.kt_store.specs.Row.{changed}
+use Rattle.kt_store.specs.inner.Row.{changed}
 use Rattle.kt_store.proofs.Nodes.{changed_there, nodes_either, same_node, still_nodes}
 use Rattle.kt_store.proofs.Tables.{position_found, position_none}
 use Rattle.kt_store.proofs.change.change_row.Goals as goal
@@ -39,6 +39,8 @@ returns-clause-written c =
 
 pub returns-clause-kept : goal.returns-clause-kept
 returns-clause-kept c =
-    let done : List NodeRow = with_row (changed c.args.change (row_or c.args.node (find (λ (row : NodeRow). node_eq row.node c.args.node) c.args.rows.now.items))) c.args.rows.now.items in
+    let done : List NodeRow =
+    with_row (changed c.args.change (row_or c.args.node (find (λ (row : NodeRow). node_eq row.node c.args.node) c.args.rows.now.items)))
+    c.args.rows.now.items in
     nodes_either c.insert_row.result c.insert_row.new.rows.items done c.args.rows.now.items (returns-clause-written c) c.insert_row.ensures.unchanged
     (still_nodes c.args.change c.args.node c.args.rows.now.items c.requires.within c.requires.nodes) c.requires.nodes

@@ -2,11 +2,11 @@ use Rattle.std.proofs.Common.{◌≡◌, ap, sym, ◌∙◌, [], arith, take, co
 use Rattle.std.specs.Option.{option_to_list}
 use Rattle.std.proofs.lemmas.List.{take_all, get_or_default}
 use Rattle.kt_history.specs.declared.mark.Mark.{Mark}
-use Rattle.kt_history.specs.Survival.{services, survives, services_of, marked_acts, marked_from}
-use Rattle.kt_history.specs.Marks.{note_service, no_mark}
+use Rattle.kt_history.specs.Survival.{services, survives, services_of, marked_acts, marked_from, note_service}
+use Rattle.kt_history.specs.inner.Marks.{no_mark}
 use Rattle.kt_history.proofs.Room.{shown_notes}
 use Rattle.kt_history.proofs.Survivors.{AreSurvivors-from}
-use Rattle.kt_history.proofs.Keeping.{services-more}
+use Rattle.kt_history.proofs.Counts.{services-more}
 use Rattle.kt_history.proofs.history.History.survivors.Goals as goal
 
 pub loop-place-init : goal.loop-place-init
@@ -33,11 +33,13 @@ unfolding services
 found_is c =
     let h = c.self.inside.notes.items in
     let le : length h ≤ c.loop-place.place = omega (arith, c.loop-place-test.false, ap length c.deref-note-items.ensures.value) in
-    c.loop-place.invariant ∙ ap (λ g. services_of (marked_acts (survives c.args.self.now.notes) g)) (take_all c.loop-place.place h le ∙ shown_notes c.self.view_is)
+    c.loop-place.invariant ∙ ap (λ g. services_of (marked_acts (survives c.args.self.now.notes) g))
+    (take_all c.loop-place.place h le ∙ shown_notes c.self.view_is)
 
 pub returns-clause-services : goal.returns-clause-services
 returns-clause-services c = found_is c
 
 pub returns-clause-survive : goal.returns-clause-survive
 returns-clause-survive c =
-    AreSurvivors-from c.self.inside.notes.items c.args.self.now.notes c.loop-place.services.items (shown_notes c.self.view_is) c.self.invariant.causes (found_is c)
+    AreSurvivors-from c.self.inside.notes.items c.args.self.now.notes c.loop-place.services.items (shown_notes c.self.view_is) c.self.invariant.causes
+    (found_is c)

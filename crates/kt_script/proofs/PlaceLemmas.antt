@@ -45,19 +45,22 @@ with_held-absent (v ∷ vs) [] x w h = refl
 with_held-absent (v ∷ vs) (u ∷ us) x w h =
     ap (λ b. if b then w ∷ us else u ∷ with_held vs us x w) h.0 ∙ ap (λ rest. u ∷ rest) (with_held-absent vs us x w h.1)
 
-pub held-some : (vs : List (Name × Kind)) (us : List Value) (x : Name) (i : ℕ) → position (same_name x) (keys_of vs) ≡ Some i → held vs us x ≡ slice_index_or us i (Int (pos 0))
+pub held-some : (vs : List (Name × Kind)) (us : List Value) (x : Name) (i : ℕ) → position (same_name x) (keys_of vs) ≡ Some i
+    → held vs us x ≡ slice_index_or us i (Int (pos 0))
 held-some vs us x i e = held-first vs us x i (Found-position (same_name x) vs i e).first
 
 pub held-none : (vs : List (Name × Kind)) (us : List Value) (x : Name) → position (same_name x) (keys_of vs) ≡ None → held vs us x ≡ Int (pos 0)
 held-none vs us x e = held-absent vs us x (Missing-position (same_name x) vs e).absent
 
-pub with_held-some : (vs : List (Name × Kind)) (us : List Value) (x : Name) (w : Value) (i : ℕ) → position (same_name x) (keys_of vs) ≡ Some i → with_held vs us x w ≡ slice_set us i w
+pub with_held-some : (vs : List (Name × Kind)) (us : List Value) (x : Name) (w : Value) (i : ℕ) → position (same_name x) (keys_of vs) ≡ Some i
+    → with_held vs us x w ≡ slice_set us i w
 with_held-some vs us x w i e = with_held-first vs us x w i (Found-position (same_name x) vs i e).first
 
 pub with_held-none : (vs : List (Name × Kind)) (us : List Value) (x : Name) (w : Value) → position (same_name x) (keys_of vs) ≡ None → with_held vs us x w ≡ us
 with_held-none vs us x w e = with_held-absent vs us x w (Missing-position (same_name x) vs e).absent
 
-pub with_held-first_past : (vs : List (Name × Kind)) (us : List Value) (x : Name) (w : Value) (i : ℕ) → IsFirst x vs i → length us ≤ i → with_held vs us x w ≡ us
+pub with_held-first_past : (vs : List (Name × Kind)) (us : List Value) (x : Name) (w : Value) (i : ℕ) → IsFirst x vs i → length us ≤ i
+    → with_held vs us x w ≡ us
 with_held-first_past [] us x w i h past = absurd h
 with_held-first_past (v ∷ vs) [] x w i h past = refl
 with_held-first_past (v ∷ vs) (u ∷ us) x w zero h past = absurd (omega (arith, past))
@@ -65,7 +68,8 @@ with_held-first_past (v ∷ vs) (u ∷ us) x w (suc i) h past =
     ap (λ b. if b then w ∷ us else u ∷ with_held vs us x w) h.0 ∙ ap (λ rest. u ∷ rest) (with_held-first_past vs us x w i h.1 (omega (arith, past)))
 
 -- past the end nothing is written
-pub with_held-past : (vs : List (Name × Kind)) (us : List Value) (x : Name) (w : Value) (i : ℕ) → position (same_name x) (keys_of vs) ≡ Some i → length us ≤ i → with_held vs us x w ≡ us
+pub with_held-past : (vs : List (Name × Kind)) (us : List Value) (x : Name) (w : Value) (i : ℕ) → position (same_name x) (keys_of vs) ≡ Some i → length us ≤ i
+    → with_held vs us x w ≡ us
 with_held-past vs us x w i e past = with_held-first_past vs us x w i (Found-position (same_name x) vs i e).first past
 
 pub ruleset held_laws = (held-none, held-some)

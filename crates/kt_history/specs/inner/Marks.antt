@@ -1,5 +1,7 @@
 -- What a history keeps of each note, so that survival is known without a look at the past.
-use Rattle.std.specs.Prelude.{◌≡◌, ℕ, zero, suc, ◌+◌, ◌-◌, ◌<◌, ◌≤◌, ◌==◌, Bool, true, false, not, ◌&&◌, ◌||◌, if◌then◌else◌, List, [], ◌∷◌, Option, None, Some, length, map, Contains, slice_get, slice_index, slice_index_or, vec_len, vec_capacity}
+use Rattle.std.specs.Prelude.{◌≡◌, ℕ, zero, suc, ◌+◌, ◌<◌, ◌≤◌, ◌==◌, Bool, true, false, not, ◌&&◌}
+use Rattle.std.specs.Prelude.{◌||◌, if◌then◌else◌, List, [], ◌∷◌, Option, None, Some, length, map}
+use Rattle.std.specs.Prelude.{Contains, slice_get, slice_index, slice_index_or, vec_len, vec_capacity}
 use Rattle.std.specs.List.{list_any}
 use Rattle.std.specs.Option.{option_to_list}
 use Rattle.std.specs.declared.vec.Vec.{Vec}
@@ -7,37 +9,17 @@ use Rattle.std.specs.declared.alloc.Global.{Global}
 use Rattle.kt_tuple.specs.declared.node.NodeId.{NodeId}
 use Rattle.kt_tuple.specs.declared.service.Service.{Service}
 use Rattle.kt_tuple.specs.Node.{node_index}
-use Rattle.kt_history.specs.declared.note.What.{What}
-use Rattle.kt_history.specs.declared.note.What.TheVariants as whats
 use Rattle.kt_history.specs.declared.note.Act.{Act}
 use Rattle.kt_history.specs.declared.note.Note.{Note}
 use Rattle.kt_history.specs.declared.note.Note.TheVariants as notes
 use Rattle.kt_history.specs.declared.mark.Mark.{Mark}
-use Rattle.kt_history.specs.Line.{note_at, before, line}
-use Rattle.kt_history.specs.Survival.{survives, service_of}
+use Rattle.kt_history.specs.Line.{note_at, before, line, last_of}
+use Rattle.kt_history.specs.Survival.{survives, note_service, is_service}
 use Rattle.kt_history.specs.WellFormed.{CausesComeFirst}
-
--- the number at the end of a line, or 0
-abbrev pub last_of : List ℕ → ℕ
-last_of numbers = slice_index numbers (length numbers - 1)
 
 -- nothing is lost with this number: it survives, or is 0 and names nothing
 abbrev pub lasts : List Note → ℕ → Bool
 lasts h n = n == 0 || survives h n
-
--- the service that a note is, if it is one
-abbrev pub note_service : Note → Option Service
-note_service (notes.Act a) = service_of a a.what
-note_service (notes.Cut p keep) = None
-
-abbrev pub is_served : What → Bool
-is_served (whats.Served answer) = true
-is_served _ = false
-
--- whether the note is a service
-abbrev pub is_service : Note → Bool
-is_service (notes.Act a) = is_served a.what
-is_service (notes.Cut p keep) = false
 
 -- the mark of a note that is no act
 abbrev pub no_mark : Mark
@@ -103,7 +85,8 @@ pub record AreLost (h : List Note) (numbers : List ℕ) : Type 0 where
 pub record HasLost (h : List Note) (numbers : List ℕ) (old new : List Mark) : Type 0 where
   pub lengths : length new ≡ length old
   pub below : (k : ℕ) → suc k < slice_index numbers 0 → mark_at new k ≡ mark_at old k
-  pub above : (k : ℕ) → slice_index numbers 0 ≤ suc k → k < length h → mark_at new k ≡ renewed (slice_get h k) (unmarked numbers k (mark_at old k)) new
+  pub above : (k : ℕ) → slice_index numbers 0 ≤ suc k → k < length h
+      → mark_at new k ≡ renewed (slice_get h k) (unmarked numbers k (mark_at old k)) new
 
 -- the service that a note is, as a list, where by its mark it survives
 abbrev pub kept_service : Note → Mark → List Service
@@ -111,7 +94,8 @@ kept_service note mark = if mark.survives then option_to_list (note_service note
 
 -- the mark of an act with this number before it in its line, and this cause
 abbrev pub act_mark : List Mark → ℕ → ℕ → Mark
-act_mark marks before_it cause = record { previous = before_it; survives = lasts_in marks before_it && lasts_in marks cause }
+act_mark marks before_it cause =
+    record { previous = before_it; survives = lasts_in marks before_it && lasts_in marks cause }
 
 -- the note is a service, and by its mark it does not survive
 abbrev pub is_lost : Note → Mark → Bool
@@ -133,7 +117,8 @@ row_at rows i = slice_index_or rows i []
 
 -- the table has a row at this place with room for one more number
 abbrev pub HasRoom : Vec (Vec ℕ Global) Global → ℕ → Type 0
-HasRoom table i = (i < vec_len table) × ((d : Vec ℕ Global) → vec_len (slice_index_or table.items i d) < vec_capacity (slice_index_or table.items i d))
+HasRoom table i = (i < vec_len table)
+    × ((d : Vec ℕ Global) → vec_len (slice_index_or table.items i d) < vec_capacity (slice_index_or table.items i d))
 
 -- each place has the same row
 abbrev pub SameRows : Vec (Vec ℕ Global) Global → Vec (Vec ℕ Global) Global → Type 0
@@ -145,6 +130,7 @@ pub record Agrees (h : List Note) (rows : List (List ℕ)) (marks : List Mark) (
   pub lines : (p : NodeId) → row_at rows (node_index p) ≡ line h p
   pub lengths : length marks ≡ length h
   pub survive : (k : ℕ) → k < length h → (mark_at marks k).survives ≡ survives h (suc k)
-  pub previous : (k : ℕ) (a : Act) → note_at h (suc k) ≡ Some (notes.Act a) → (mark_at marks k).previous ≡ last_of (line (before h (suc k)) a.node)
+  pub previous : (k : ℕ) (a : Act) → note_at h (suc k) ≡ Some (notes.Act a)
+      → (mark_at marks k).previous ≡ last_of (line (before h (suc k)) a.node)
   pub back : (k : ℕ) → k < length h → (mark_at marks k).previous ≤ k
   pub counted : lost ≡ lost_among h marks

@@ -1,7 +1,0 @@
-use Rattle.std.proofs.Common.{◌≡◌, take, map}
-use Rattle.kt_script.specs.Meaning.{value_of_actual}
-use Rattle.kt_script.specs.Memory.{held}
-use Rattle.kt_script.proofs.meaning.values_of.Given as goal
-
-abbrev pub invariant-loop-actual : goal.invariant-loop-actual
-invariant-loop-actual l = l.copies.items ≡ map (value_of_actual (held l.variables.entries l.values)) (take l.actual-index l.actuals)
