@@ -1,6 +1,6 @@
 -- What a parse by the program's own command line can give.
-use Rattle.std.proofs.Common.{◌≡◌, Bool, true, false, cond, List, [], ◌∷◌, Option, Some, None, option_map, codes, ap, refl, sym, ◌∙◌}
-use Rattle.std.specs.Prelude.{is_some, IfSome}
+use Rattle.std.proofs.Common.{◌≡◌, Bool, true, false, cond, List, [], ◌∷◌, Option, Some, None, option_map, codes, ap, refl, subst, sym, inl, inr, ◌∙◌}
+use Rattle.std.specs.Prelude.{◌⊎◌, is_some, option_and_then}
 use Rattle.std.specs.Borrow.{Bor}
 use Rattle.clap.specs.Words.{App, HasMatchesOf, Kinds, Row, Shape, Text, built, fault_of, first_of, first_value, found_of, is_simple, rows_of}
 use Rattle.clap.specs.Words.{subcommand_of, subcommand_name_of, subcommand_rows_of}
@@ -12,7 +12,11 @@ use Rattle.clap.specs.declared.parser.matches.ArgMatches.{ArgMatches}
 use Rattle.clap.specs.declared.parser.matches.ArgMatches.TheViews.{out-ArgMatches}
 use Rattle.clap.proofs.WalkLemmas.{first_value-rows}
 use Rattle.linda_kt.specs.declared.words.Command.{Command}
-use Rattle.linda_kt.specs.Words.{asked_by, command_line_app, name_of, words_fault}
+use Rattle.linda_kt.specs.Words.{asked_by, command_line_app, command_of, has_flag, request_of, words_fault}
+
+-- the text is there, and is one of these two
+abbrev pub IsOneOf : Text → Text → Option Text → Type 0
+IsOneOf a b o = (o ≡ Some a) ⊎ (o ≡ Some b)
 
 -- where two steps have no fault, the second has none
 rest_empty : (a b : Kinds) → or_else a b ≡ [] → b ≡ []
@@ -38,21 +42,23 @@ checks_pass : (rows : List Row) (has : Bool) → check_fault (built command_line
 checks_pass rows true e = refl
 checks_pass rows false e = cc
 
--- the one command there is
-found_is : (b : Bool) (s : Shape) (words : List Text) → is_some (option_map (λ s. rows_at s words) (cond b (Some s) None)) ≡ true
-    → option_map (λ p. p.0) (option_map (λ s. rows_at s words) (cond b (Some s) None)) ≡ Some s.name
-found_is true s words e = refl
-found_is false s words e = cc
+-- a command that is found is one of the two
+found_is : (b d : Bool) (r s : Shape) (words : List Text)
+    → is_some (option_map (λ s. rows_at s words) (cond b (Some r) (cond d (Some s) None))) ≡ true
+    → IsOneOf r.name s.name (option_map (λ p. p.0) (option_map (λ s. rows_at s words) (cond b (Some r) (cond d (Some s) None))))
+found_is true d r s words e = inl refl
+found_is false true r s words e = inr refl
+found_is false false r s words e = cc
 
 entered_is : (stop : Option (Text × List Text)) → is_some (entered (built command_line_app) stop) ≡ true
-    → option_map (λ p. p.0) (entered (built command_line_app) stop) ≡ Some (codes "replay")
+    → IsOneOf (codes "replay") (codes "run") (option_map (λ p. p.0) (entered (built command_line_app) stop))
 entered_is None e = cc
-entered_is (Some p) e = found_is _ _ p.1 e
+entered_is (Some p) e = found_is _ _ _ _ p.1 e
 
--- words without a fault name `replay`
-pub names_replay : (words : List Text) → fault_of command_line_app words ≡ []
-    → option_map (λ p. p.0) (subcommand_of command_line_app words) ≡ Some (codes "replay")
-names_replay words e =
+-- words without a fault name `replay` or `run`
+pub names_command : (words : List Text) → fault_of command_line_app words ≡ []
+    → IsOneOf (codes "replay") (codes "run") (option_map (λ p. p.0) (subcommand_of command_line_app words))
+names_command words e =
     let a = built command_line_app in
     let end = walk a.top.rules (names_of a) nothing_held words in
     let has = is_some (entered a end.stopped) in
@@ -64,14 +70,15 @@ fused : {X Y Z : Type 0} (g : X → Y) (f : Y → Z) (o : Option X) → option_m
 fused g f None = refl
 fused g f (Some x) = refl
 
--- a parse of words without a fault met `replay`
-pub met_replay : (a : App) (words : List Text) (m : ArgMatches) → a ≡ command_line_app → HasMatchesOf a words m
-    → fault_of a words ≡ [] → subcommand_name_of m ≡ Some (codes "replay")
-met_replay a words m same has none =
+-- a parse of words without a fault met one of the commands
+pub met_command : (a : App) (words : List Text) (m : ArgMatches) → a ≡ command_line_app → HasMatchesOf a words m
+    → fault_of a words ≡ [] → IsOneOf (codes "replay") (codes "run") (subcommand_name_of m)
+met_command a words m same has none =
     let rows : subcommand_rows_of m ≡ subcommand_of command_line_app words =
     (has (ap is_simple same)).1 ∙ ap (λ x. subcommand_of x words) same in
-    sym (fused _ _ (out-ArgMatches m).subcommand) ∙ ap (option_map (λ p. p.0)) rows
-    ∙ names_replay words (sym (ap (λ x. fault_of x words) same) ∙ none)
+    let name : option_map (λ p. p.0) (subcommand_of command_line_app words) ≡ subcommand_name_of m =
+    ap (option_map (λ p. p.0)) (sym rows) ∙ fused _ _ (out-ArgMatches m).subcommand in
+    subst (IsOneOf (codes "replay") (codes "run")) name (names_command words (sym (ap (λ x. fault_of x words) same) ∙ none))
 
 -- a parse of words without a fault is one of the program's own command line
 pub has_no_fault : (a : App) (words : List Text) → a ≡ command_line_app → fault_of a words ≡ [] → words_fault words ≡ []
@@ -85,10 +92,11 @@ Lent = Bor Text × Bor ArgMatches
 pub is_that : (o : Option Lent) (p : Lent) (n : Text) → option_map (λ (q : Lent). q.0.now) o ≡ Some n → o ≡ Some p → p.0.now ≡ n
 is_that o p n e some = let same : Some p.0.now ≡ Some n = ap (option_map (λ (q : Lent). q.0.now)) (sym some) ∙ e in cc
 
--- the command that was found has that name
-pub name_is : (o : Option Command) (c : Command) (n : Text) → o ≡ Some c → IfSome o (λ c. n ≡ name_of c) → n ≡ name_of c
-name_is None c n some given = cc
-name_is (Some d) c n some given = cc
+-- a command whose name is one of the two is known
+pub is_known : (o : Option Lent) (p : Lent) (has_flag : Bool) → IsOneOf (codes "replay") (codes "run") (option_map (λ (q : Lent). q.0.now) o)
+    → o ≡ Some p → is_some (command_of p.0.now has_flag) ≡ true
+is_known o p has_flag (inl e) some = ap (λ (t : Text). is_some (command_of t has_flag)) (is_that o p _ e some)
+is_known o p has_flag (inr e) some = ap (λ (t : Text). is_some (command_of t has_flag)) (is_that o p _ e some)
 
 some_is : {X : Type 0} (a b : X) → Some a ≡ Some b → a ≡ b
 some_is a b e = cc
@@ -99,15 +107,13 @@ both None x y first second = cc
 both (Some p) x y first second =
     ap (λ (a : Text). Some (a, p.1)) (some_is _ _ first) ∙ ap (λ (b : List Row). Some (x, b)) (some_is _ _ second)
 
-abbrev with_file : Text × List Row → Text × Option Text
-with_file p = (p.0, first_of (codes "store") p.1)
-
--- the word and the file that were met are those that the words name
+-- the command and the file that were met are those that the words name
 pub asked_is : (a : App) (words : List Text) (m : ArgMatches) (o : Option Lent) (p : Lent) (command : Command) (store : Option (Bor Text))
     → a ≡ command_line_app → HasMatchesOf a words m → option_map (λ (q : Lent). q.0.now) o ≡ subcommand_name_of m
-    → option_map (λ (q : Lent). rows_of (found_of q.1.now)) o ≡ option_map (λ p. p.1) (subcommand_rows_of m) → o ≡ Some p → p.0.now ≡ name_of command
+    → option_map (λ (q : Lent). rows_of (found_of q.1.now)) o ≡ option_map (λ p. p.1) (subcommand_rows_of m) → o ≡ Some p
+    → command_of p.0.now (has_flag (rows_of (found_of p.1.now))) ≡ Some command
     → option_map (λ (s : Bor Text). s.now) store ≡ first_value (found_of p.1.now) (codes "store")
-    → asked_by words ≡ Some (name_of command, option_map (λ (s : Bor Text). s.now) store)
+    → asked_by words ≡ Some (command, option_map (λ (s : Bor Text). s.now) store)
 asked_is a words m o p command store same has name rows some is file =
     let met : subcommand_rows_of m ≡ subcommand_of command_line_app words =
     (has (ap is_simple same)).1 ∙ ap (λ x. subcommand_of x words) same in
@@ -119,5 +125,6 @@ asked_is a words m o p command store same has name rows some is file =
     sym met ∙ both (subcommand_rows_of m) _ _ first second in
     let of_file : first_of (codes "store") (rows_of (found_of p.1.now)) ≡ option_map (λ (s : Bor Text). s.now) store =
     sym (file ∙ first_value-rows (found_of p.1.now) (codes "store")) in
-    ap (option_map with_file) whole ∙ ap (λ (n : Text). Some (n, first_of (codes "store") (rows_of (found_of p.1.now)))) is
-    ∙ ap (λ (f : Option Text). Some (name_of command, f)) of_file
+    ap (option_and_then request_of) whole
+    ∙ ap (option_map (λ (c : Command). (c, first_of (codes "store") (rows_of (found_of p.1.now))))) is
+    ∙ ap (λ (f : Option Text). Some (command, f)) of_file

@@ -14,8 +14,12 @@ use Rattle.kt_scene.specs.Stream.{UnlessWrite}
 use Rattle.kt_sql.specs.declared.error.SqlOpenError.{SqlOpenError}
 use Rattle.kt_sql.specs.declared.error.SqlOpenError.TheVariants.{Device}
 use Rattle.linda_kt.specs.declared.words.Command.{Command}
-use Rattle.linda_kt.specs.declared.words.Command.TheVariants.{Replay}
-use Rattle.linda_kt.specs.Status.{Ends, EndsInFile, EndsOver, IsRunStatus, answer_status, done, given_of, in_memory, opened, refused, unopened}
+use Rattle.kt_run.specs.declared.fault.RunTextFault.{RunTextFault}
+use Rattle.kt_run.specs.declared.fault.RunTextFault.TheVariants as texts
+use Rattle.kt_run.specs.declared.running.Output.{Output}
+use Rattle.kt_run.specs.Run.{IsRunTextFault, UnlessFront, WritesRun, WritesRunFront}
+use Rattle.linda_kt.specs.Status.{Ends, EndsCommand, EndsInFile, EndsOver, EndsRun, IsRunStatus, LeavesRunWriter, answer_status, done, given_of}
+use Rattle.linda_kt.specs.Status.{in_memory, opened, ran, refused, run_answer_status, stopped, unopened}
 use Rattle.linda_kt.specs.Words.{words_fault}
 
 only_memory : (e : Error) → HasKind [] e → kind_of e ≡ kind.OutOfMemory
@@ -58,39 +62,63 @@ module _ {S : Type 0} (given : Given S) where
   status_told before after old new (Err why) n is written front fault nothing =
       refused why fault (leaves_writer before after old new why nothing (λ same. front (ap (λ (f : ReplayFault). Err f) same))) is
 
+  -- the same of a run
+  leaves_run_writer : (output : Output) (before after : Reader) (old new : Writer) (fault : RunTextFault) → UnlessFront fault (new ≡ old)
+      → (fault ≡ texts.Text faults.Write → WritesRunFront given.is_honest output before after old new)
+      → LeavesRunWriter given output before after old new fault
+  leaves_run_writer output before after old new (texts.Text (faults.Scene line cause)) kept front = kept
+  leaves_run_writer output before after old new (texts.Text (faults.Step at cause)) kept front = kept
+  leaves_run_writer output before after old new (texts.Text (faults.Open cause)) kept front = kept
+  leaves_run_writer output before after old new (texts.Text (faults.Report cause)) kept front = kept
+  leaves_run_writer output before after old new (texts.Text faults.Memory) kept front = kept
+  leaves_run_writer output before after old new (texts.Text faults.Read) kept front = kept
+  leaves_run_writer output before after old new (texts.Text faults.Write) kept front = front refl
+  leaves_run_writer output before after old new (texts.Run fault) kept front = kept
+
+  -- the status of what a run over a store answers
+  pub run_told : {X : Type 0} (output : Output) (before after : Reader) (old new : Writer) (answer : Result X RunTextFault) (n : ℕ)
+      → n ≡ run_answer_status answer → OnOk answer (WritesRun given.is_honest output before after old new)
+      → (answer ≡ Err (texts.Text faults.Write) → WritesRunFront given.is_honest output before after old new)
+      → IfErr answer (IsRunTextFault given.is_honest given.fault_count before after) → IfErr answer (λ fault. UnlessFront fault (new ≡ old))
+      → EndsRun given output before after old new n
+  run_told output before after old new (Ok x) n is written front fault nothing = ran is written
+  run_told output before after old new (Err why) n is written front fault nothing =
+      stopped why fault (leaves_run_writer output before after old new why nothing (λ same. front (ap (λ (f : RunTextFault). Err f) same))) is
+
 -- a store in memory, fresh or not
 abbrev pub memory_store : Bool → Given Content
 memory_store fresh = record { is_honest = λ store. true; fault_count = λ store. 0; fresh = fresh; before = 0 }
 
 -- a fresh one is the program's
-pub in_memory_told : (fresh : Bool) (before after : Reader) (old new : Writer) (n : ℕ) → fresh ≡ true
-    → EndsOver (memory_store fresh) before after old new n → EndsOver in_memory before after old new n
-in_memory_told fresh before after old new n e ends = subst (λ (b : Bool). EndsOver (memory_store b) before after old new n) e ends
+pub in_memory_told : (command : Command) (fresh : Bool) (before after : Reader) (old new : Writer) (n : ℕ) → fresh ≡ true
+    → EndsCommand (memory_store fresh) command before after old new n → EndsCommand in_memory command before after old new n
+in_memory_told command fresh before after old new n e ends =
+    subst (λ (b : Bool). EndsCommand (memory_store b) command before after old new n) e ends
 
 refused_is_not_opened : {S : Type 0} (store : S) (why : SqlOpenError) → Ok store ≡ Err why → ⊥
 refused_is_not_opened store why e = cc
 
 -- the status over the store that an opening answers
-pub file_told : {S : Type 0} (files : Ghosts S) (path : Text) (before after : Reader) (old new : Writer) (n : ℕ) (answer : Result S SqlOpenError)
-    → (path ≡ codes ":memory:" → answer ≡ Err Device) → IfOk answer (λ store. files.fault_count store ≡ 0)
-    → IfOk answer (λ store. EndsOver (given_of files store) before after old new n)
+pub file_told : {S : Type 0} (files : Ghosts S) (command : Command) (path : Text) (before after : Reader) (old new : Writer) (n : ℕ)
+    (answer : Result S SqlOpenError) → (path ≡ codes ":memory:" → answer ≡ Err Device) → IfOk answer (λ store. files.fault_count store ≡ 0)
+    → IfOk answer (λ store. EndsCommand (given_of files store) command before after old new n)
     → IfErr answer (λ e. n ≡ 5) → IfErr answer (λ e. after ≡ before) → IfErr answer (λ e. new ≡ old)
-    → EndsInFile files path before after old new n
-file_told files path before after old new n (Ok store) memory faultless ends status unread unwritten =
+    → EndsInFile files command path before after old new n
+file_told files command path before after old new n (Ok store) memory faultless ends status unread unwritten =
     opened (λ same. refused_is_not_opened store Device (memory same)) store faultless ends
-file_told files path before after old new n (Err why) memory faultless ends status unread unwritten = unopened status unread unwritten
+file_told files command path before after old new n (Err why) memory faultless ends status unread unwritten = unopened status unread unwritten
 
 module _ {S : Type 0} (files : Ghosts S) (before after : Reader) (old new : Writer) (n : ℕ) where
-  -- how a replay ends where no file is named, and where one is
-  pub ends_in_memory : (command : Command) (store : Option (Bor Text)) → store ≡ None → EndsOver in_memory before after old new n
+  -- how a command ends where no file is named, and where one is
+  pub ends_in_memory : (command : Command) (store : Option (Bor Text)) → store ≡ None → EndsCommand in_memory command before after old new n
       → Ends files command (option_map (λ (s : Bor Text). s.now) store) before after old new n
-  ends_in_memory Replay store none ends =
-      subst (λ (o : Option (Bor Text)). Ends files Replay (option_map (λ (s : Bor Text). s.now) o) before after old new n) (sym none) ends
+  ends_in_memory command store none ends =
+      subst (λ (o : Option (Bor Text)). Ends files command (option_map (λ (s : Bor Text). s.now) o) before after old new n) (sym none) ends
 
   pub ends_in_file : (command : Command) (store : Option (Bor Text)) (path : Bor Text) → store ≡ Some path
-      → EndsInFile files path.now before after old new n → Ends files command (option_map (λ (s : Bor Text). s.now) store) before after old new n
-  ends_in_file Replay store path some ends =
-      subst (λ (o : Option (Bor Text)). Ends files Replay (option_map (λ (s : Bor Text). s.now) o) before after old new n) (sym some) ends
+      → EndsInFile files command path.now before after old new n → Ends files command (option_map (λ (s : Bor Text). s.now) store) before after old new n
+  ends_in_file command store path some ends =
+      subst (λ (o : Option (Bor Text)). Ends files command (option_map (λ (s : Bor Text). s.now) o) before after old new n) (sym some) ends
 
 -- what is told of words is told of the same words
 pub told_of_same : {S : Type 0} (files : Ghosts S) (u v : List Text) (before after : Reader) (old new : Writer) (n : ℕ) → u ≡ v

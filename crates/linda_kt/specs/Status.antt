@@ -13,9 +13,15 @@ use Rattle.kt_scene.specs.Outside.{Reader, Writer}
 use Rattle.kt_scene.specs.Run.{Given, given_by, WritesReplayed, IsReplayFault, LeavesWriter}
 use Rattle.kt_scene.specs.declared.fault.ReplayFault.{ReplayFault}
 use Rattle.kt_scene.specs.declared.fault.ReplayFault.TheVariants.{Scene, Step, Open, Report, Memory, Read, Write}
+use Rattle.kt_stage.specs.declared.running.RunFault.{RunFault}
+use Rattle.kt_stage.specs.declared.running.RunFault.TheVariants as runs
+use Rattle.kt_run.specs.declared.fault.RunTextFault.{RunTextFault}
+use Rattle.kt_run.specs.declared.fault.RunTextFault.TheVariants as texts
+use Rattle.kt_run.specs.declared.running.Output.{Output}
+use Rattle.kt_run.specs.Run.{IsRunTextFault, WritesRun, WritesRunFront}
 use Rattle.linda_kt.specs.declared.words.Command.{Command}
-use Rattle.linda_kt.specs.declared.words.Command.TheVariants.{Replay}
-use Rattle.linda_kt.specs.Words.{name_of, asked_by}
+use Rattle.linda_kt.specs.declared.words.Command.TheVariants.{Replay, Run}
+use Rattle.linda_kt.specs.Words.{asked_by}
 
 -- 3 for a fault of the scenario, but 6 where memory ran out
 abbrev pub scene_status : SceneError → ℕ
@@ -50,6 +56,23 @@ abbrev pub answer_status : {X : Type 0} → Result X ReplayFault → ℕ
 answer_status (Ok done) = 0
 answer_status (Err fault) = status_of fault
 
+-- the exit status that tells of a run's fault: 5 too where the seats do not fit the journal, or a node has a step left
+abbrev pub run_status : RunFault → ℕ
+run_status (runs.Open cause) = open_status cause
+run_status (runs.Step at cause) = step_status cause
+run_status (runs.Close cause) = 5
+run_status runs.Memory = 6
+run_status (runs.Unfinished node) = 5
+
+abbrev pub run_text_status : RunTextFault → ℕ
+run_text_status (texts.Text fault) = status_of fault
+run_text_status (texts.Run fault) = run_status fault
+
+-- the exit status that tells of what a run answers
+abbrev pub run_answer_status : {X : Type 0} → Result X RunTextFault → ℕ
+run_answer_status (Ok done) = 0
+run_answer_status (Err fault) = run_text_status fault
+
 -- the exit status of words that name no command: 0 where help was shown, 2 where they are wrong, 6 where
 -- memory ran out, 7 where help could not be written
 abbrev pub IsWordsStatus : ℕ → Type 0
@@ -59,6 +82,10 @@ IsWordsStatus n = (n ≡ 0) ⊎ ((n ≡ 2) ⊎ ((n ≡ 6) ⊎ (n ≡ 7)))
 abbrev pub in_memory : Given Content
 in_memory = record { is_honest = λ store. true; fault_count = λ store. 0; fresh = true; before = 0 }
 
+-- what stores of a kind say of one that a command is given
+abbrev pub given_of : {S : Type 0} → Ghosts S → S → Given S
+given_of kind store = given_by kind.content kind.is_honest kind.fault_count store
+
 -- how a replay over a store ends: with 0 where what was read was replayed and its report written, and else with the
 -- status of the fault, before which nothing is written, or of the writer's a front of the report
 pub data EndsOver {S : Type 0} (given : Given S) (before after : Reader) (old new : Writer) (n : ℕ) : Type 0 where
@@ -66,28 +93,47 @@ pub data EndsOver {S : Type 0} (given : Given S) (before after : Reader) (old ne
   refused : (fault : ReplayFault) → IsReplayFault given before after fault
       → LeavesWriter given before after old new fault → n ≡ status_of fault → EndsOver given before after old new n
 
--- what stores of a kind say of one that a replay is given
-abbrev pub given_of : {S : Type 0} → Ghosts S → S → Given S
-given_of kind store = given_by kind.content kind.is_honest kind.fault_count store
+-- what a run leaves of the writer where it ends with this fault: where the writer failed a front of what was to be there,
+-- and else all as it was
+abbrev pub LeavesRunWriter : {S : Type 0} → Given S → Output → (before after : Reader) (old new : Writer) → RunTextFault
+    → Type 0
+LeavesRunWriter given output before after old new (texts.Text Write) =
+    WritesRunFront given.is_honest output before after old new
+LeavesRunWriter given output before after old new fault = new ≡ old
 
--- how a replay over the store in a file ends: as one over the store that was opened there, of whose device no fault was
--- counted yet; or with 5, nothing read and nothing written, where none was opened. `:memory:` names no file.
-pub data EndsInFile {S : Type 0} (files : Ghosts S) (path : Text) (before after : Reader) (old new : Writer) (n : ℕ)
+-- how a run over a store ends: with 0 where what was read was run and what was asked for written, and else with the
+-- status of the fault
+pub data EndsRun {S : Type 0} (given : Given S) (output : Output) (before after : Reader) (old new : Writer) (n : ℕ)
     : Type 0 where
+  ran : n ≡ 0 → WritesRun given.is_honest output before after old new → EndsRun given output before after old new n
+  stopped : (fault : RunTextFault) → IsRunTextFault given.is_honest given.fault_count before after fault
+      → LeavesRunWriter given output before after old new fault → n ≡ run_text_status fault
+      → EndsRun given output before after old new n
+
+-- how a command over a store ends
+abbrev pub EndsCommand : {S : Type 0} → Given S → Command → (before after : Reader) (old new : Writer) → ℕ → Type 0
+EndsCommand given Replay before after old new n = EndsOver given before after old new n
+EndsCommand given (Run output) before after old new n = EndsRun given output before after old new n
+
+-- how a command over the store in a file ends: as one over the store that was opened there, of whose device no fault was
+-- counted yet; or with 5, nothing read and nothing written, where none was opened. `:memory:` names no file.
+pub data EndsInFile {S : Type 0} (files : Ghosts S) (command : Command) (path : Text) (before after : Reader)
+    (old new : Writer) (n : ℕ) : Type 0 where
   opened : path ≢ codes ":memory:" → (store : S) → files.fault_count store ≡ 0
-      → EndsOver (given_of files store) before after old new n → EndsInFile files path before after old new n
-  unopened : n ≡ 5 → after ≡ before → new ≡ old → EndsInFile files path before after old new n
+      → EndsCommand (given_of files store) command before after old new n
+      → EndsInFile files command path before after old new n
+  unopened : n ≡ 5 → after ≡ before → new ≡ old → EndsInFile files command path before after old new n
 
 -- how a command ends, by the file that is named for its store, or none
 abbrev pub Ends : {S : Type 0} → Ghosts S → Command → Option Text → (before after : Reader) (old new : Writer) → ℕ
     → Type 0
-Ends files Replay None before after old new n = EndsOver in_memory before after old new n
-Ends files Replay (Some path) before after old new n = EndsInFile files path before after old new n
+Ends files command None before after old new n = EndsCommand in_memory command before after old new n
+Ends files command (Some path) before after old new n = EndsInFile files command path before after old new n
 
 -- the exit status of words without a fault: that of the command that they name over the store that they name; or 6,
 -- with nothing read and nothing written, where memory ran out before the command was known
 pub data IsRunStatus {S : Type 0} (files : Ghosts S) (words : List Text) (before after : Reader) (old new : Writer)
     (n : ℕ) : Type 0 where
-  did : (command : Command) (file : Option Text) → asked_by words ≡ Some (name_of command, file)
+  did : (command : Command) (file : Option Text) → asked_by words ≡ Some (command, file)
       → Ends files command file before after old new n → IsRunStatus files words before after old new n
   unread : n ≡ 6 → after ≡ before → new ≡ old → IsRunStatus files words before after old new n

@@ -1,25 +1,41 @@
 -- The words of the command line.
-use Rattle.std.specs.Prelude.{◌≡◌, ◌≢◌, ◌⊎◌, List, [], ◌∷◌, Option, None, Some, refl, codes, map, option_map, true}
-use Rattle.std.specs.Prelude.{String, string_bytes, drop}
+use Rattle.std.specs.Prelude.{◌≡◌, ◌≢◌, ◌⊎◌, Bool, true, false, if◌then◌else◌, nat_eq, List, [], ◌∷◌, Option, None, Some}
+use Rattle.std.specs.Prelude.{refl, codes, map, option_map, option_and_then, String, string_bytes, drop}
 use Rattle.std.specs.Borrow.{Bor}
 use Rattle.std.specs.Global.{Global}
-use Rattle.clap.specs.Words.{App, IsAmong, Kinds, Rule, Shape, Text, fault_of, first_of, new_app, new_rule}
+use Rattle.std.specs.Cmp.Lexicographic.{pointwise}
+use Rattle.clap.specs.Words.{App, IsAmong, Kinds, Row, Rule, Shape, Text, fault_of, first_of, new_app, new_rule}
 use Rattle.clap.specs.Words.{subcommand_of, with_subcommand}
+use Rattle.clap.specs.declared.builder.action.ArgAction.TheVariants.{SetTrue}
 use Rattle.clap.specs.Simple.{new_shape, on_top}
 use Rattle.clap.specs.declared.error.kind.ErrorKind.TheVariants.{DisplayHelp, DisplayVersion, InvalidSubcommand}
 use Rattle.clap.specs.declared.error.kind.ErrorKind.TheVariants.{InvalidValue, MissingSubcommand, UnknownArgument}
 use Rattle.clap.proofs.OnLiterals.{clap_on_literals}
+use Rattle.kt_run.specs.declared.running.Output.{Output}
+use Rattle.kt_run.specs.declared.running.Output.TheVariants as outputs
 use Rattle.linda_kt.specs.declared.words.Command.{Command}
-use Rattle.linda_kt.specs.declared.words.Command.TheVariants.{Replay}
+use Rattle.linda_kt.specs.declared.words.Command.TheVariants.{Replay, Run}
 use Rattle.linda_kt.specs.declared.words.Request.{Request}
 
--- the word that asks for a command
-abbrev pub name_of : Command → Text
-name_of Replay = codes "replay"
+-- the text is this word
+abbrev pub is_word : Text → Text → Bool
+is_word text word = pointwise nat_eq text word
 
--- a command's word, and the file that is named for its store, or none
-abbrev pub asked : Request → Text × Option Text
-asked r = (name_of r.command, option_map (λ s. s.now) r.store)
+-- what is written of a run, with the flag or without it
+abbrev pub output_of : Bool → Output
+output_of true = outputs.Journal
+output_of false = outputs.Report
+
+-- the command that a word asks for, with the flag behind it or without
+abbrev pub command_of : Text → Bool → Option Command
+command_of word has_flag =
+    if is_word word (codes "replay") then Some Replay
+    else if is_word word (codes "run") then Some (Run (output_of has_flag))
+    else None
+
+-- a command, and the file that is named for its store, or none
+abbrev pub asked : Request → Command × Option Text
+asked r = (r.command, option_map (λ s. s.now) r.store)
 
 -- the program's name, and that it has a version
 abbrev pub program_app : App
@@ -32,14 +48,21 @@ store_rule = record (new_rule (codes "store")) { long = Some (codes "store"); va
 abbrev pub replay_shape : Shape
 replay_shape = record (new_shape (codes "replay")) { rules = store_rule ∷ [] }
 
+-- the flag `--journal`
+abbrev pub journal_rule : Rule
+journal_rule = record (new_rule (codes "journal")) { long = Some (codes "journal"); action = Some SetTrue }
+
+abbrev pub run_shape : Shape
+run_shape = record (new_shape (codes "run")) { rules = store_rule ∷ journal_rule ∷ [] }
+
 -- the command line: no program's name, no command `help`, and one command, which must stand
 abbrev pub command_line_app : App
 command_line_app =
-    with_subcommand (on_top (λ s. record s {
+    with_subcommand (with_subcommand (on_top (λ s. record s {
       no_binary_name = true;
       subcommand_required = true;
       disable_help_subcommand = true;
-    }) program_app) replay_shape
+    }) program_app) replay_shape) run_shape
 
 -- the texts behind references
 abbrev pub texts : List (Bor Text) → List Text
@@ -49,9 +72,21 @@ texts = map (λ w. w.now)
 abbrev pub words_behind : List (String Global) → List Text
 words_behind arguments = map string_bytes (drop 1 arguments)
 
--- the word of the command that the words name, and the file of its store, by the rules of `clap`
-abbrev pub asked_by : List Text → Option (Text × Option Text)
-asked_by words = option_map (λ p. (p.0, first_of (codes "store") p.1)) (subcommand_of command_line_app words)
+-- the flag stands among a command's words: its text is that of `true` then
+abbrev pub is_true : Option Text → Bool
+is_true None = false
+is_true (Some text) = is_word text (codes "true")
+
+abbrev pub has_flag : List Row → Bool
+has_flag rows = is_true (first_of (codes "journal") rows)
+
+-- the command of a subcommand and its words, and the file of its store
+abbrev pub request_of : Text × List Row → Option (Command × Option Text)
+request_of p = option_map (λ c. (c, first_of (codes "store") p.1)) (command_of p.0 (has_flag p.1))
+
+-- the command that the words name, and the file of its store, by the rules of `clap`
+abbrev pub asked_by : List Text → Option (Command × Option Text)
+asked_by words = option_and_then request_of (subcommand_of command_line_app words)
 
 -- what is wrong with the words, by the rules of `clap`: nothing, or the kinds that its error may have
 abbrev pub words_fault : List Text → Kinds
@@ -67,17 +102,32 @@ AreWrong words = (words_fault words ≢ []) × (AskForHelp words → ⊥)
 
 -- `replay` has no fault and names the command, and no file
 pub replay_passes : (words_fault (codes "replay" ∷ []) ≡ [])
-    × (asked_by (codes "replay" ∷ []) ≡ Some (codes "replay", None))
+    × (asked_by (codes "replay" ∷ []) ≡ Some (Replay, None))
 unfolding clap_on_literals
 replay_passes = (refl, refl)
 
 -- a file is named behind `--store`, as a word of its own or behind `=`
 pub store_passes : (words_fault (codes "replay" ∷ codes "--store" ∷ codes "a.db" ∷ []) ≡ [])
-    × (asked_by (codes "replay" ∷ codes "--store" ∷ codes "a.db" ∷ []) ≡ Some (codes "replay", Some (codes "a.db")))
+    × (asked_by (codes "replay" ∷ codes "--store" ∷ codes "a.db" ∷ []) ≡ Some (Replay, Some (codes "a.db")))
     × (words_fault (codes "replay" ∷ codes "--store=a.db" ∷ []) ≡ [])
-    × (asked_by (codes "replay" ∷ codes "--store=a.db" ∷ []) ≡ Some (codes "replay", Some (codes "a.db")))
+    × (asked_by (codes "replay" ∷ codes "--store=a.db" ∷ []) ≡ Some (Replay, Some (codes "a.db")))
 unfolding clap_on_literals
 store_passes = (refl, refl, refl, refl)
+
+-- `run` has no fault either, with its flag or without it, and with a file
+pub run_passes : (words_fault (codes "run" ∷ []) ≡ []) × (asked_by (codes "run" ∷ []) ≡ Some (Run outputs.Report, None))
+    × (words_fault (codes "run" ∷ codes "--journal" ∷ []) ≡ [])
+    × (asked_by (codes "run" ∷ codes "--journal" ∷ []) ≡ Some (Run outputs.Journal, None))
+    × (words_fault (codes "run" ∷ codes "--store" ∷ codes "a.db" ∷ codes "--journal" ∷ []) ≡ [])
+    × (asked_by (codes "run" ∷ codes "--store" ∷ codes "a.db" ∷ codes "--journal" ∷ [])
+    ≡ Some (Run outputs.Journal, Some (codes "a.db")))
+unfolding clap_on_literals
+run_passes = (refl, refl, refl, refl, refl, refl)
+
+-- `replay` has no flag
+pub flag_fails : words_fault (codes "replay" ∷ codes "--journal" ∷ []) ≡ UnknownArgument ∷ []
+unfolding clap_on_literals
+flag_fails = refl
 
 -- `--store` wants its file
 pub store_wants_a_file : words_fault (codes "replay" ∷ codes "--store" ∷ []) ≡ InvalidValue ∷ []
@@ -90,7 +140,7 @@ unfolding clap_on_literals
 nothing_fails = refl
 
 -- another word is no command
-pub other_word_fails : words_fault (codes "run" ∷ []) ≡ UnknownArgument ∷ InvalidSubcommand ∷ []
+pub other_word_fails : words_fault (codes "walk" ∷ []) ≡ UnknownArgument ∷ InvalidSubcommand ∷ []
 unfolding clap_on_literals
 other_word_fails = refl
 

@@ -1,16 +1,17 @@
 //! What the program does with its words and its three streams.
-ghost use Rattle.std.specs.Prelude.{◌≡◌, ◌≢◌, ◌⊎◌, [], IsOk, IsErr, IfOk, IfErr, option_map};
+ghost use Rattle.std.specs.Prelude.{◌≡◌, ◌≢◌, ◌⊎◌, [], IsErr, IfOk, IfErr, option_map};
 ghost use Rattle.std.specs.Vec.Iter.{into_iter_items};
 ghost use Rattle.clap.specs.Words.{kind_of};
 ghost use Rattle.clap.specs.declared.error.kind.ErrorKind.TheVariants as kind;
-ghost use Rattle.linda_kt.specs.Status.{Ends, EndsInFile, EndsOver, IsRunStatus, IsWordsStatus, answer_status};
-ghost use Rattle.linda_kt.specs.Status.{given_of, in_memory, status_of};
+ghost use Rattle.linda_kt.specs.Status.{Ends, EndsCommand, EndsInFile, IsRunStatus, IsWordsStatus, given_of, in_memory};
 ghost use Rattle.linda_kt.specs.Words.{AreWrong, texts, words_behind, words_fault};
 
+use crate::status::{COMMAND_LINE, DONE, MEMORY, STORE, STREAM, end_replay, end_run};
 use crate::words::{Command, Request, read_words, refuse_bytes};
 use clap::Error;
 use clap::error::ErrorKind;
-use kt_scene::{OpenError, Outcome, ReplayFault, SceneError, Sink, Source, StepError, replay};
+use kt_run::run_text;
+use kt_scene::{Outcome, Sink, Source, replay};
 use kt_sql::{SqlOpenError, SqlStore};
 use kt_store::{CkptStore, MemStore};
 use sqlite::{Alter, File, FileStore};
@@ -18,28 +19,14 @@ use std::alloc::{AllocError, Global};
 use std::env::Args;
 use std::io;
 use std::io::{Read, Write};
-
-/// The exit status of a run that did what it was asked.
-const DONE: u8 = 0;
-/// The words of the command line are wrong.
-const COMMAND_LINE: u8 = 2;
-/// The scenario has a fault.
-const SCENARIO: u8 = 3;
-/// A step is not enabled.
-const STEP: u8 = 4;
-/// The store was not opened, is not fresh or refused a call.
-const STORE: u8 = 5;
-/// Memory was refused.
-const MEMORY: u8 = 6;
-/// Standard input or standard output failed.
-const STREAM: u8 = 7;
-/// The scenario has more steps than a run makes.
-const STEP_LIMIT: u8 = 8;
+use std::sync::Wait;
+use std::thread::Threads;
 
 /// Runs the program on the arguments of its process, of which the first is its name. Arguments that
-/// are not text are wrong words.
-pub fn run_arguments<R: Read, W: Write, E: Write>(
+/// are not text are wrong words. A run starts its threads by `threads`.
+pub fn run_arguments<T: Threads + Wait + Sync, R: Read, W: Write, E: Write>(
     rt: &HostRuntime,
+    threads: &T,
     arguments: io::Result<Args>,
     reader: &mut Source<R>,
     writer: &mut Sink<W>,
@@ -64,7 +51,7 @@ pub fn run_arguments<R: Read, W: Write, E: Write>(
         Err(_) => return answer_words(&refuse_bytes(alloc), writer, errors),
     };
     match texts {
-        Ok(texts) => run_texts(rt, &texts, reader, writer, errors),
+        Ok(texts) => run_texts(rt, threads, &texts, reader, writer, errors),
         Err(AllocError) => end_by("memory", MEMORY, errors),
     }
 }
@@ -77,8 +64,9 @@ fn texts_of(alloc: Global, arguments: Args) -> Result<Vec<String>, AllocError>
 }
 
 /// Runs the program on these texts, of which the first is its name.
-fn run_texts<R: Read, W: Write, E: Write>(
+fn run_texts<T: Threads + Wait + Sync, R: Read, W: Write, E: Write>(
     rt: &HostRuntime,
+    threads: &T,
     arguments: &[String],
     reader: &mut Source<R>,
     writer: &mut Sink<W>,
@@ -91,7 +79,7 @@ fn run_texts<R: Read, W: Write, E: Write>(
     ensures done_without_a_word { result ≡ DONE → errors.new ≡ errors.old }
 {
     match words_behind(rt.alloc(), arguments) {
-        Ok(words) => run_program(rt, words.as_slice(), reader, writer, errors),
+        Ok(words) => run_program(rt, threads, words.as_slice(), reader, writer, errors),
         Err(AllocError) => end_by("memory", MEMORY, errors),
     }
 }
@@ -111,8 +99,9 @@ fn words_behind<'a>(alloc: Global, arguments: &'a [String]) -> Result<Vec<&'a st
 
 /// Does what the words ask, which are those after the program's name, and answers the exit status.
 /// A fault is one line on `errors`; of wrong words it is the text of `clap`.
-pub fn run_program<R: Read, W: Write, E: Write>(
+pub fn run_program<T: Threads + Wait + Sync, R: Read, W: Write, E: Write>(
     rt: &HostRuntime,
+    threads: &T,
     words: &[&str],
     reader: &mut Source<R>,
     writer: &mut Sink<W>,
@@ -130,14 +119,15 @@ pub fn run_program<R: Read, W: Write, E: Write>(
         → reader.new ≡ reader.old }
 {
     match read_words(rt.alloc(), words) {
-        Ok(request) => run_request(rt, request, reader, writer, errors),
+        Ok(request) => run_request(rt, threads, request, reader, writer, errors),
         Err(error) => answer_words(&error, writer, errors),
     }
 }
 
 /// Does what is asked, over a store in memory or in the file that is named.
-fn run_request<R: Read, W: Write, E: Write>(
+fn run_request<T: Threads + Wait + Sync, R: Read, W: Write, E: Write>(
     rt: &HostRuntime,
+    threads: &T,
     request: Request<'_>,
     reader: &mut Source<R>,
     writer: &mut Sink<W>,
@@ -147,50 +137,64 @@ fn run_request<R: Read, W: Write, E: Write>(
         (option_map (λ s. s.now) request.entry.store) reader.old reader.new writer.old writer.new result }
     ensures done_without_a_word { result ≡ DONE → errors.new ≡ errors.old }
 {
-    match (request.command, request.store) {
-        (Command::Replay, None) => replay_in_memory(rt.alloc(), reader, writer, errors),
-        (Command::Replay, Some(path)) => replay_in(rt, path, reader, writer, errors),
+    match request.store {
+        None => run_in_memory(rt, threads, request.command, reader, writer, errors),
+        Some(path) => run_in(rt, threads, request.command, path, reader, writer, errors),
     }
 }
 
-/// Replays over a store in memory, which is fresh.
-fn replay_in_memory<R: Read, W: Write, E: Write>(
-    alloc: Global,
+/// Does the command over a store in memory, which is fresh.
+fn run_in_memory<T: Threads + Wait + Sync, R: Read, W: Write, E: Write>(
+    rt: &HostRuntime,
+    threads: &T,
+    command: Command,
     reader: &mut Source<R>,
     writer: &mut Sink<W>,
     errors: &mut E,
 ) -> u8
-    ensures told { EndsOver in_memory reader.old reader.new writer.old writer.new result }
+    ensures told { EndsCommand in_memory command reader.old reader.new writer.old writer.new result }
     ensures done_without_a_word { result ≡ DONE → errors.new ≡ errors.old }
 {
-    replay_over(alloc, MemStore::new(alloc), reader, writer, errors)
+    run_over(
+        threads,
+        rt.alloc(),
+        command,
+        MemStore::new(rt.alloc()),
+        reader,
+        writer,
+        errors,
+    )
 }
 
-/// Replays over the store in the file, which is opened before anything is read.
-fn replay_in<R: Read, W: Write, E: Write>(
+/// Does the command over the store in the file, which is opened before anything is read.
+fn run_in<T: Threads + Wait + Sync, R: Read, W: Write, E: Write>(
     rt: &HostRuntime,
+    threads: &T,
+    command: Command,
     path: &str,
     reader: &mut Source<R>,
     writer: &mut Sink<W>,
     errors: &mut E,
 ) -> u8
-    ensures told { EndsInFile ⟦<SqlStore<FileStore<File>> as CkptStore>⟧ path.now
+    ensures told { EndsInFile ⟦<SqlStore<FileStore<File>> as CkptStore>⟧ command path.now
         reader.old reader.new writer.old writer.new result }
     ensures done_without_a_word { result ≡ DONE → errors.new ≡ errors.old }
 {
     let opened = SqlStore::open(rt, path);
-    replay_opened(rt.alloc(), opened, reader, writer, errors)
+    run_opened(threads, rt.alloc(), command, opened, reader, writer, errors)
 }
 
-/// Replays over the store in SQL that was opened. Where it was not, nothing is read.
-fn replay_opened<R: Read, W: Write, E: Write, S: Alter + Drop>(
+/// Does the command over the store in SQL that was opened. Where it was not, nothing is read.
+fn run_opened<T: Threads + Wait + Sync, R: Read, W: Write, E: Write, S: Alter + Drop + Send>(
+    threads: &T,
     alloc: Global,
+    command: Command,
     opened: Result<SqlStore<S>, SqlOpenError>,
     reader: &mut Source<R>,
     writer: &mut Sink<W>,
     errors: &mut E,
 ) -> u8
-    ensures told { IfOk opened (λ store. EndsOver (given_of ⟦<SqlStore<S> as CkptStore>⟧ store)
+    ensures told { IfOk opened (λ store. EndsCommand (given_of ⟦<SqlStore<S> as CkptStore>⟧ store) command
         reader.old reader.new writer.old writer.new result) }
     ensures unopened { IfErr opened (λ error. result ≡ STORE) }
     ensures unread { IfErr opened (λ error. reader.new ≡ reader.old) }
@@ -198,23 +202,34 @@ fn replay_opened<R: Read, W: Write, E: Write, S: Alter + Drop>(
     ensures done_without_a_word { result ≡ DONE → errors.new ≡ errors.old }
 {
     match opened {
-        Ok(store) => replay_over(alloc, store, reader, writer, errors),
+        Ok(store) => run_over(threads, alloc, command, store, reader, writer, errors),
         Err(error) => end_by(opening_fault(error), STORE, errors),
     }
 }
 
-/// Replays over the store.
-fn replay_over<R: Read, W: Write, E: Write, S: CkptStore + Drop>(
+/// Does the command over the store.
+fn run_over<T: Threads + Wait + Sync, R: Read, W: Write, E: Write, S: CkptStore + Send + Drop>(
+    threads: &T,
     alloc: Global,
+    command: Command,
     store: S,
     reader: &mut Source<R>,
     writer: &mut Sink<W>,
     errors: &mut E,
 ) -> u8
-    ensures told { EndsOver (given_of S.CkptStore store) reader.old reader.new writer.old writer.new result }
+    ensures told { EndsCommand (given_of S.CkptStore store) command
+        reader.old reader.new writer.old writer.new result }
     ensures done_without_a_word { result ≡ DONE → errors.new ≡ errors.old }
 {
-    end_replay(replay(alloc, reader, writer, store), errors)
+    match command {
+        Command::Replay => end_replay(replay(alloc, reader, writer, store), errors),
+        Command::Run(output) => {
+            end_run(
+                run_text(threads, alloc, reader, writer, store, output),
+                errors,
+            )
+        }
+    }
 }
 
 /// The line that tells why a store was not opened.
@@ -248,42 +263,6 @@ fn answer_words<W: Write, E: Write>(error: &Error, writer: &mut Sink<W>, errors:
     match writer.outcome() {
         Outcome::Done => DONE,
         _ => end_by("write", STREAM, errors),
-    }
-}
-
-/// Says on `errors` why a replay ended early, and answers the status that tells how it ended.
-pub(crate) fn end_replay<E: Write>(answer: Result<(), ReplayFault>, errors: &mut E) -> u8
-    ensures status { result ≡ answer_status answer }
-    ensures quiet { IsOk answer → errors.new ≡ errors.old }
-{
-    match answer {
-        Ok(()) => DONE,
-        Err(fault) => {
-            // A standard error that is closed leaves the status alone to tell.
-            let _ = writeln!(errors, "{fault}");
-            status_of(fault)
-        }
-    }
-}
-
-/// The status that tells of a fault.
-fn status_of(fault: ReplayFault) -> u8
-    ensures { result ≡ status_of fault }
-{
-    match fault {
-        ReplayFault::Scene { line: _, cause } => match cause {
-            SceneError::OutOfMemory => MEMORY,
-            _ => SCENARIO,
-        },
-        ReplayFault::Step { at: _, cause } => match cause {
-            StepError::OutOfMemory => MEMORY,
-            StepError::StepLimit => STEP_LIMIT,
-            StepError::Store(_) => STORE,
-            _ => STEP,
-        },
-        ReplayFault::Open(OpenError::OutOfMemory) | ReplayFault::Memory => MEMORY,
-        ReplayFault::Open(_) | ReplayFault::Report(_) => STORE,
-        ReplayFault::Read | ReplayFault::Write => STREAM,
     }
 }
 

@@ -1,12 +1,15 @@
 //! The program from its words to its output, its line on the errors and its status.
-use crate::program::{end_replay, run_program};
+use crate::program::run_program;
+use crate::status::end_replay;
 use kt_scene::{OpenError, ReplayFault, Sink, Source, StepError};
 use kt_store::StoreError;
 use std::alloc::{AllocError, Global};
 use std::io;
 use std::io::{ErrorKind, Read, Write};
 use std::process::Abort;
+use std::sync::Wait;
 use std::test::Fail;
+use std::thread::Threads;
 
 const PUT_AND_TAKE: &str =
     "linda-kt 1\nshards 1\nworker\nout (\"a\", 1)\nin (\"a\", ?int x)\nsteps\n\
@@ -53,21 +56,26 @@ w1.2 in (?int) got (9223372036854775807)\nw1.3 out (9223372036854775807) done\nl
 
 /// What a run left.
 #[derive(Debug, Drop, PartialEq)]
-struct Ended {
-    output: String,
-    errors: String,
-    status: u8,
+pub struct Ended {
+    pub output: String,
+    pub errors: String,
+    pub status: u8,
 }
 
 fn text_of(bytes: Vec<u8>) -> Result<String, Fail> {
     String::from_utf8(bytes).map_err(|_| Fail::from("no text"))
 }
 
-fn run(rt: &HostRuntime, words: &[&str], input: &str) -> Result<Ended, Fail> {
+pub fn run<T: Threads + Wait + Sync>(
+    rt: &HostRuntime,
+    threads: &T,
+    words: &[&str],
+    input: &str,
+) -> Result<Ended, Fail> {
     let alloc = rt.alloc();
     let (mut reader, mut writer) = (Source::new(input.as_bytes()), Sink::new(Vec::new(alloc)));
     let mut errors = Vec::new(alloc);
-    let status = run_program(rt, words, &mut reader, &mut writer, &mut errors);
+    let status = run_program(rt, threads, words, &mut reader, &mut writer, &mut errors);
     Ok(Ended {
         output: text_of(writer.into_inner())?,
         errors: text_of(errors)?,
@@ -155,13 +163,18 @@ const ROWS: [Row; 19] = [
     (&[""], "", "line 1: 7 End\n", 3),
 ];
 
-fn assert_rows(abort: &impl Abort, rt: &HostRuntime, rows: &[Row]) -> Result<(), Fail> {
+fn assert_rows<T: Threads + Wait + Sync>(
+    abort: &impl Abort,
+    rt: &HostRuntime,
+    threads: &T,
+    rows: &[Row],
+) -> Result<(), Fail> {
     for (parts, output, errors, status) in rows {
         let mut input = String::new(rt.alloc());
         for part in *parts {
             input.push_str(part)?;
         }
-        let ended = run(rt, &["replay"], input.as_str())?;
+        let ended = run(rt, threads, &["replay"], input.as_str())?;
         assert_eq!(abort; ended.output.as_str(), *output, "{input}");
         assert_eq!(abort; ended.errors.as_str(), *errors, "{input}");
         assert_eq!(abort; ended.status, *status, "{input}");
@@ -171,7 +184,7 @@ fn assert_rows(abort: &impl Abort, rt: &HostRuntime, rows: &[Row]) -> Result<(),
 
 #[test]
 fn worked_scenarios(rt: HostRuntime) -> Result<(), Fail> {
-    assert_rows(&rt, &rt, &ROWS)
+    assert_rows(&rt, &rt, &rt, &ROWS)
 }
 
 /// Faults of a replay that a store in memory does not bring about, the line on the errors, and the status.
@@ -225,7 +238,7 @@ fn faults_of_a_store(rt: HostRuntime) -> Result<(), Fail> {
 
 #[test]
 fn words(rt: HostRuntime) -> Result<(), Fail> {
-    let help = run(&rt, &["--help"], "")?;
+    let help = run(&rt, &rt, &["--help"], "")?;
     assert!(rt;
         help.output
             .as_str()
@@ -233,23 +246,23 @@ fn words(rt: HostRuntime) -> Result<(), Fail> {
     );
     assert!(rt; help.errors.is_empty() && help.status == 0);
     for word in ["--version", "-V"] {
-        let version = run(&rt, &[word], "")?;
+        let version = run(&rt, &rt, &[word], "")?;
         assert_eq!(rt; version.output.as_str(), "linda_kt 0.1.0\n");
         assert!(rt; version.errors.is_empty() && version.status == 0);
     }
-    let none = run(&rt, &[], NO_STEPS)?;
+    let none = run(&rt, &rt, &[], NO_STEPS)?;
     assert!(rt;
         none.errors
             .as_str()
             .starts_with("error: 'linda_kt' requires a subcommand")
     );
     assert!(rt; none.output.is_empty() && none.status == 2);
-    for word in ["run", "--store", "help", ""] {
-        let ended = run(&rt, &[word], NO_STEPS)?;
+    for word in ["walk", "--store", "help", ""] {
+        let ended = run(&rt, &rt, &[word], NO_STEPS)?;
         assert!(rt; ended.errors.as_str().starts_with("error: un"), "{word}");
         assert!(rt; ended.output.is_empty() && ended.status == 2, "{word}");
     }
-    let more = run(&rt, &["replay", "more"], NO_STEPS)?;
+    let more = run(&rt, &rt, &["replay", "more"], NO_STEPS)?;
     assert!(rt; more.output.is_empty() && more.status == 2);
     Ok(())
 }
@@ -305,7 +318,7 @@ fn streams_that_fail(rt: HostRuntime) -> Result<(), Fail> {
     let mut errors = Vec::new(alloc);
     let mut reader = Source::new(Broken(&NO_STEPS.as_bytes()[..20]));
     let mut writer = Sink::new(Vec::new(alloc));
-    let status = run_program(&rt, &["replay"], &mut reader, &mut writer, &mut errors);
+    let status = run_program(&rt, &rt, &["replay"], &mut reader, &mut writer, &mut errors);
     assert!(rt; errors.as_slice() == b"read\n".as_slice() && status == 7);
     assert!(rt; writer.into_inner().is_empty());
     for (word, room, text) in &NARROW {
@@ -315,7 +328,7 @@ fn streams_that_fail(rt: HostRuntime) -> Result<(), Fail> {
             room: *room,
             held: Vec::new(alloc),
         });
-        let status = run_program(&rt, &[*word], &mut reader, &mut writer, &mut errors);
+        let status = run_program(&rt, &rt, &[*word], &mut reader, &mut writer, &mut errors);
         assert!(rt; errors.as_slice() == b"write\n".as_slice() && status == 7);
         let front = text.as_bytes().get(..*room).ok_or("a front")?;
         assert_eq!(rt; writer.into_inner().held.as_slice(), front);
@@ -350,7 +363,7 @@ fn little_memory(rt: HostRuntime) -> Result<(), Fail> {
         let hoard = all_memory(alloc)?;
         drop(spare);
         let mut reader = Source::new(PUT_AND_TAKE.as_bytes());
-        let status = run_program(&rt, &["replay"], &mut reader, &mut writer, &mut errors);
+        let status = run_program(&rt, &rt, &["replay"], &mut reader, &mut writer, &mut errors);
         drop(hoard);
         let output = writer.into_inner();
         if status == 0 {

@@ -1,11 +1,14 @@
 //! The words of the command line.
-ghost use Rattle.std.specs.Prelude.{◌≡◌, ◌⊎◌, false, IfOk, IfSome, Some};
-ghost use Rattle.clap.specs.Words.{app_of, FailsBy, kind_of, rule_of};
-ghost use Rattle.linda_kt.specs.Words.{asked, asked_by, command_line_app, name_of, program_app, store_rule};
-ghost use Rattle.linda_kt.specs.Words.{texts, words_fault};
+ghost use Rattle.std.specs.Prelude.{◌≡◌, ◌⊎◌, false, IfOk, Some};
+ghost use Rattle.clap.specs.Words.{app_of, FailsBy, found_of, kind_of, rows_of, rule_of};
+ghost use Rattle.clap.specs.declared.builder.command.Command.TheViews.{out-Command as fields_of};
+ghost use Rattle.clap.specs.Simple.{shape_of};
+ghost use Rattle.linda_kt.specs.Words.{asked, asked_by, command_line_app, command_of, has_flag, journal_rule, program_app};
+ghost use Rattle.linda_kt.specs.Words.{replay_shape, run_shape, store_rule, texts, words_fault};
 
 use clap::error::ErrorKind;
-use clap::{Arg, Error};
+use clap::{Arg, ArgAction, ArgMatches, Error};
+use kt_run::Output;
 use std::alloc::{AllocError, Global};
 
 /// What the program is asked to do.
@@ -13,6 +16,8 @@ use std::alloc::{AllocError, Global};
 pub enum Command {
     /// Make the steps of a scenario and write the report.
     Replay,
+    /// Run a scenario of fault lines by threads, and write this of it.
+    Run(Output),
 }
 
 /// A command, and the file that it is to keep its store in.
@@ -24,14 +29,21 @@ pub struct Request<'a> {
 }
 
 impl Command {
-    /// The command of that name.
-    fn of_name(name: &str) -> Option<Command>
-        ensures known { (c : Command) → name.now ≡ name_of c → result ≡ Some c }
-        ensures given { IfSome result (λ c. name.now ≡ name_of c) }
+    /// The command of that name, with or without its flag.
+    fn of_name(name: &str, has_flag: bool) -> Option<Command>
+        ensures { result ≡ command_of name.now has_flag }
     {
-        match name {
-            "replay" => Some(Command::Replay),
-            _ => None,
+        if name == "replay" {
+            Some(Command::Replay)
+        } else if name == "run" {
+            let output = if has_flag {
+                Output::Journal
+            } else {
+                Output::Report
+            };
+            Some(Command::Run(output))
+        } else {
+            None
         }
     }
 }
@@ -45,25 +57,70 @@ pub fn read_words<'a>(alloc: Global, words: &'a [&'a str]) -> Result<Request<'a>
     let matches = command_line(alloc)?.try_get_matches_from(words)?;
     // Words that pass have one of the names.
     let (name, options) = matches.subcommand().unwrap();
-    let command = Command::of_name(name).unwrap();
+    let command = Command::of_name(name, has_journal(options)).unwrap();
     let store = options.get_str("store");
     Ok(Request { command, store })
+}
+
+/// Whether `--journal` stands among a command's words.
+fn has_journal(options: &ArgMatches<'_>) -> bool
+    ensures { result ≡ has_flag (rows_of (found_of options.now)) }
+{
+    // Of a flag that stands there the text is that of `true`.
+    match options.get_str("journal") {
+        Some(text) => text == "true",
+        None => false,
+    }
 }
 
 /// The grammar of the command line: one subcommand, which must be there.
 fn command_line<'a>(alloc: Global) -> Result<clap::Command<'a>, AllocError>
     ensures { IfOk result (λ c. app_of c ≡ command_line_app) }
 {
-    let replay = clap::Command::new(alloc, "replay").about(
-        "Makes the steps of the scenario on standard input and writes the report to standard output",
-    );
-    let replay = replay.arg(store_option(alloc))?;
+    let replay = replay_command(alloc)?;
+    let run = run_command(alloc)?;
     described(alloc)
         .bin_name("linda_kt")?
         .no_binary_name(true)
         .subcommand_required(true)
         .disable_help_subcommand(true)
-        .subcommand(replay)
+        .subcommand(replay)?
+        .subcommand(run)
+}
+
+/// `replay` with its option.
+fn replay_command<'a>(alloc: Global) -> Result<clap::Command<'a>, AllocError>
+    ensures shape { IfOk result (λ c. shape_of c ≡ replay_shape) }
+    ensures local { IfOk result (λ c. (fields_of c).has_globals ≡ false) }
+{
+    let replay = clap::Command::new(alloc, "replay").about(
+        "Makes the steps of the scenario on standard input and writes the report to standard output",
+    );
+    replay.arg(store_option(alloc))
+}
+
+/// `run` with its option and its flag.
+fn run_command<'a>(alloc: Global) -> Result<clap::Command<'a>, AllocError>
+    ensures shape { IfOk result (λ c. shape_of c ≡ run_shape) }
+    ensures local { IfOk result (λ c. (fields_of c).has_globals ≡ false) }
+{
+    let run = clap::Command::new(alloc, "run").about(
+        "Runs the scenario on standard input, by a thread for each node, and writes the report to standard output",
+    );
+    run.arg(store_option(alloc))?.arg(journal_flag(alloc))
+}
+
+/// `--journal`.
+fn journal_flag<'a>(alloc: Global) -> Arg<'a>
+    ensures rule { rule_of result ≡ journal_rule }
+    ensures local { result.global ≡ false }
+{
+    Arg::new(alloc, "journal")
+        .long("journal")
+        .action(ArgAction::SetTrue)
+        .help(
+            "Writes the report as remarks, and then the steps that were made, as a scenario for replay",
+        )
 }
 
 /// `--store FILE`.

@@ -1,7 +1,0 @@
-use Rattle.linda_kt.proofs.Statuses.{file_told}
-use Rattle.linda_kt.proofs.program.replay_in.Goals as goal
-
-pub returns-clause-told : goal.returns-clause-told
-returns-clause-told g c =
-    file_told _ _ _ _ _ _ _ c.open-opened.result c.open-opened.ensures.memory c.open-opened.ensures.faults c.replay_opened.ensures.told
-    c.replay_opened.ensures.unopened c.replay_opened.ensures.unread c.replay_opened.ensures.unwritten

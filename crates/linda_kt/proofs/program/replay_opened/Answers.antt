@@ -1,4 +1,0 @@
-use Rattle.linda_kt.proofs.program.replay_opened.Goals as goal
-
-pub returns-in-Ok-clause-told : goal.returns-in-Ok-clause-told
-returns-in-Ok-clause-told g c = rw c.in-Ok.is c.replay_over.ensures.told
