@@ -10,3 +10,4 @@ pub mod Front
 pub mod Nodes
 pub mod Peers
 pub mod Checkpoints
+pub mod Shared

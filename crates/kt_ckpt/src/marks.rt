@@ -20,7 +20,12 @@ impl Model for Marks {
 
     ghost Value = { MarkFields };
 
-    ghost view = { λ m. record { node = m.node; line_len = m.line_len; sent = m.sent.items; received = m.received.items } };
+    ghost view = { λ m. record {
+      node = m.node;
+      line_len = m.line_len;
+      sent = m.sent.items;
+      received = m.received.items;
+    } };
 }
 
 impl Marks {

@@ -9,3 +9,4 @@ pub mod Steps
 pub mod Worlds
 pub mod Judged
 pub mod Traffics
+pub mod Shared

@@ -6,7 +6,7 @@ use Rattle.kt_node.specs.Saving.{CanSaveNode}
 use Rattle.kt_node.specs.View.{View}
 use Rattle.kt_world.specs.Ready.{IsReady}
 use Rattle.kt_world.specs.State.{State, view}
-use Rattle.kt_world.proofs.Saves.{can_act, can_save_node}
+use Rattle.kt_world.proofs.Shared.{can_act, can_save_node}
 
 pub acts-of : (s : State) (v : View) (p : NodeId) → v ≡ view s p → IsReady s → CanAct v
 acts-of s v p e ready = subst CanAct (sym e) (can_act s ready p)

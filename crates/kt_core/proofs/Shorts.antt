@@ -4,7 +4,7 @@ use Rattle.std.specs.Prelude.{IfSome, slice_get}
 use Rattle.std.proofs.lemmas.Bool.{cases_eq, cases_lt}
 use Rattle.kt_script.specs.declared.command.Command.{Command}
 use Rattle.kt_script.specs.Rules.{IsScript}
-use Rattle.kt_script.proofs.Limits.{keeps_limits}
+use Rattle.kt_script.proofs.Shared.{keeps_limits}
 use Rattle.kt_world.specs.Short.{IsShort}
 
 of_script : (script : List Command) → IsScript script → IsShort script

@@ -19,7 +19,7 @@ use Rattle.kt_node.specs.Plan.{Planned}
 use Rattle.kt_world.specs.Effect.{applied, applied_if, step_result}
 use Rattle.kt_world.specs.Writing.{content_after}
 use Rattle.kt_world.specs.Backed.{HasNumbers, IsAllowed, IsBacked}
-use Rattle.kt_world.proofs.Standing.{planned-allowed, planned-numbers}
+use Rattle.kt_world.proofs.Shared.{planned-allowed, planned-numbers}
 use Rattle.kt_core.specs.declared.machine.Machine.{Machine}
 use Rattle.kt_core.specs.Machine.{state_of}
 use Rattle.kt_world.specs.Needs.{needs_of, told_by}
@@ -27,9 +27,7 @@ use Rattle.kt_world.specs.Told.{told}
 use Rattle.kt_world.specs.Ready.{CanApply, IsReady}
 use Rattle.kt_world.specs.State.{State}
 use Rattle.kt_world.specs.Step.{owner}
-use Rattle.kt_world.proofs.Enough.{enough}
-use Rattle.kt_world.proofs.PlansFound.{plan-found, plan-few}
-use Rattle.kt_world.proofs.CanApplies.{can_apply, stays_ready}
+use Rattle.kt_world.proofs.Shared.{enough, plan-found, plan-few, can_apply, stays_ready}
 use Rattle.std.specs.Result.{IsErrAnd}
 use Rattle.kt_core.specs.Machine as machine
 use Rattle.kt_core.specs.Store.{IsFault}

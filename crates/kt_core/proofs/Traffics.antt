@@ -4,13 +4,13 @@ use Rattle.std.specs.List.{AllByRecursion}
 use Rattle.std.proofs.lemmas.Bool.{cases_eq}
 use Rattle.kt_tuple.specs.declared.node.NodeId.{NodeId}
 use Rattle.kt_tuple.specs.Node.{node_index}
-use Rattle.kt_tuple.proofs.Nodes.{node_index-injective}
+use Rattle.kt_tuple.proofs.Shared.{node_index-injective}
 use Rattle.kt_link.specs.Network.{Network, AreNeighbours, ChangesOnly, place, queue, room, entry_at, with_entry}
-use Rattle.kt_link.proofs.Others.{other_room}
+use Rattle.kt_link.proofs.Shared.{other_room}
 use Rattle.kt_node.specs.declared.message.Message.{Message}
 use Rattle.kt_world.specs.Cast.{Cast}
 use Rattle.kt_world.specs.Ready as ready
-use Rattle.kt_world.proofs.Scene.{Ends, to_shard, to_worker, ends}
+use Rattle.kt_world.proofs.Shared.{Ends, to_shard, to_worker, ends}
 use Rattle.kt_world.specs.Effect.{Way, sent_one, sent}
 use Rattle.kt_core.specs.Traffic.{IsSameTraffic}
 

@@ -6,8 +6,8 @@ use Rattle.kt_store.specs.declared.rows.Posted.{Posted}
 use Rattle.kt_store.specs.Content.{Content, empty_content, is_empty, is_fresh}
 use Rattle.kt_world.specs.Cast.{Cast, IsCast}
 use Rattle.kt_world.specs.Short.{AreShort}
-use Rattle.kt_world.proofs.Opened.{opening-ready}
-use Rattle.kt_refinement.proofs.Lasting.{forced-reached}
+use Rattle.kt_world.proofs.Shared.{opening-ready}
+use Rattle.kt_refinement.proofs.Shared.{forced-reached}
 use Rattle.kt_world.specs.declared.step.Step.{Step}
 use Rattle.kt_world.specs.declared.step.StepError.{StepError}
 use Rattle.kt_world.specs.Effect.{step_result}

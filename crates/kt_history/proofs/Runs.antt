@@ -18,7 +18,7 @@ use Rattle.kt_tuple.specs.Op.{tuple_eq, tuple_eq_decides}
 use Rattle.kt_tuple.specs.Matching.{Matches, MatchesOnly}
 use Rattle.kt_tuple.specs.Space.{SpaceStep, RunsFrom}
 use Rattle.kt_space.specs.Picking.{matching, without_match}
-use Rattle.kt_space.proofs.Taken.{takes_out, match_permutes, nothing_matches}
+use Rattle.kt_space.proofs.Shared.{takes_out, match_permutes, nothing_matches}
 use Rattle.kt_history.specs.Run.{CanStep, IsThere, TakesOut}
 use Rattle.kt_history.proofs.Lists.{Contains-here, Contains-there}
 

@@ -13,7 +13,7 @@ use Rattle.kt_history.specs.Closed.{IsClosed}
 use Rattle.kt_history.specs.WellFormed.{IsAnswering, SameRequest, WasServed, ActFits, IsWellFormed}
 use Rattle.kt_history.proofs.Shared.{slice_get-take, Contains-here, note_at-within}
 use Rattle.kt_lines.proofs.Bags.{Contains-there}
-use Rattle.kt_lines.proofs.Follows.{IsServed, IsCaused, CausedFrom}
+use Rattle.kt_lines.proofs.Caused.{IsServed, IsCaused, CausedFrom}
 
 slice_get-at : {X : Type 0} (us : List X) (x : X) (vs : List X) → slice_get (us ++ x ∷ vs) (length us) ≡ Some x
 slice_get-at [] x vs = refl

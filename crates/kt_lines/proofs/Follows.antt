@@ -30,31 +30,7 @@ use Rattle.kt_lines.proofs.Bags.{Contains-cases, Contains-unfilter}
 use Rattle.kt_lines.proofs.Numbered.{put_row_holds, put_row-same}
 use Rattle.kt_lines.proofs.Orders.{answers_in, split_same, service_after, place_of, OrderFrom-push, of_worker_own, of_worker_holds, Contains-of_worker}
 use Rattle.kt_lines.proofs.Merge.{World, new_world, after_at, world_after, Makes, Runs, merge}
-
--- one of these acts asked for the request of a
-pub record IsRequested (past : List Act) (a : Act) : Type 0 where
-  pub request : Act
-  pub earlier : Contains past request
-  pub asking : IsAsking request.what
-  pub same : SameRequest a request
-
--- one of these acts served the request of a so
-pub record IsServed (past : List Act) (a : Act) (answer : Answer) : Type 0 where
-  pub service : Act
-  pub earlier : Contains past service
-  pub served : service.what ≡ whats.Served answer
-  pub same : SameRequest a service
-
--- what is served was asked for before, what is accepted was served before
-abbrev pub IsCaused : List Act → Act → What → Type 0
-IsCaused past a (whats.Served answer) = IsRequested past a
-IsCaused past a (whats.Accepted answer) = IsServed past a answer
-IsCaused past a _ = Unit {0}
-
--- so for each of these acts, those of past coming before them
-abbrev pub CausedFrom : List Act → List Act → Type 0
-CausedFrom past [] = Unit {0}
-CausedFrom past (a ∷ later) = IsCaused past a a.what × CausedFrom (a ∷ past) later
+use Rattle.kt_lines.proofs.Caused.{IsRequested, IsServed, IsCaused, CausedFrom}
 
 -- after some of its answers the worker asked for this operation, under this number
 pub record HasAsked (setting : Setting) (w : ℕ) (x : MadeWorker) (number : ℕ) (op : Op) : Type 0 where

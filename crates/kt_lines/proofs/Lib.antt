@@ -6,6 +6,7 @@ pub mod Numbered
 pub mod Merge
 pub mod OneRun
 pub mod Orders
+pub mod Caused
 pub mod Follows
 pub mod Causes
 pub mod Survive

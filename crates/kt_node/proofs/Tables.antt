@@ -5,7 +5,7 @@ use Rattle.std.specs.Option.{option_or}
 use Rattle.std.proofs.lemmas.List.{get_or_default}
 use Rattle.kt_link.specs.declared.label.Label.{Label}
 use Rattle.kt_shard.specs.Table.{put}
-use Rattle.kt_shard.proofs.Tables.{put-set}
+use Rattle.kt_shard.proofs.Shared.{put-set}
 use Rattle.kt_node.specs.Labels.{first_at}
 use Rattle.kt_node.specs.Turning.{first_or}
 

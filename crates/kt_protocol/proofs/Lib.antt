@@ -20,3 +20,4 @@ pub mod Main
 pub mod Consequences
 pub mod Rows
 pub mod Examples
+pub mod Shared

@@ -19,10 +19,7 @@ use Rattle.kt_node.specs.Plan.{no_turn}
 use Rattle.kt_node.specs.Turning.{changed_kept, heard_in, said_count, said_in, turned}
 use Rattle.kt_world.specs.State.{State as World}
 use Rattle.kt_world.specs.Cut.{acts_held, permanent_by}
-use Rattle.kt_world.proofs.Plans.{IsAlive}
-use Rattle.kt_world.proofs.Backs.{backed-in}
-use Rattle.kt_world.proofs.NoteSound.{line-long}
-use Rattle.kt_world.proofs.Holding.{Holds}
+use Rattle.kt_world.proofs.Shared.{IsAlive, backed-in, line-long, Holds}
 use Rattle.kt_protocol.specs.Labels.{Label}
 use Rattle.kt_protocol.specs.Lines.{IsIn, Act, Sends, Hears, top_sent, top_heard}
 use Rattle.kt_protocol.specs.Machine.{Node, Post, State}

@@ -7,11 +7,11 @@ use Rattle.kt_history.specs.declared.note.Act.{Act as Done}
 use Rattle.kt_history.specs.declared.note.Note.{Note}
 use Rattle.kt_history.specs.declared.note.Note.TheVariants as notes
 use Rattle.kt_history.specs.Line.{note_at, line}
-use Rattle.kt_history.proofs.Lists.{Contains-none}
+use Rattle.kt_history.proofs.Shared.{Contains-none}
 use Rattle.std.proofs.lemmas.List.Elements.{Contains-push_cases}
-use Rattle.kt_history.proofs.Lines.{line-own_act}
+use Rattle.kt_history.proofs.Shared.{line-own_act}
 use Rattle.kt_link.specs.declared.label.Label.{Label as RealLabel}
-use Rattle.kt_lines.proofs.Rows.{at-put_same, at-put_other}
+use Rattle.kt_lines.proofs.Shared.{at-put_same, at-put_other}
 use Rattle.kt_shard.specs.Table.{put}
 use Rattle.kt_ckpt.specs.declared.ckpt.Ckpt.{Ckpt}
 use Rattle.kt_node.specs.Labels.{no_label, label_at}
@@ -20,10 +20,10 @@ use Rattle.kt_world.specs.Cast.{Cast}
 use Rattle.kt_world.specs.Cut.{acts_held}
 use Rattle.kt_world.specs.Effect.{noted}
 use Rattle.kt_world.specs.Ready.{AreNeighbours}
-use Rattle.kt_world.proofs.NoteSound.{note_at-next}
+use Rattle.kt_world.proofs.Shared.{note_at-next}
 use Rattle.kt_protocol.specs.Labels.{Label}
 use Rattle.kt_protocol.specs.Lines.{IsIn, there, Act, Sends, Hears, top_sent, top_heard}
-use Rattle.kt_protocol.proofs.Lines.{sent-here, sent-else, sent-heard, heard-here, heard-else, heard-sent}
+use Rattle.kt_protocol.proofs.Shared.{sent-here, sent-else, sent-heard, heard-here, heard-else, heard-sent}
 use Rattle.kt_refinement.proofs.Numbers.{label_of}
 use Rattle.kt_refinement.proofs.Reading.{IsSaying, Says, Reads, nothing, one, WasHeard, reads-later}
 use Rattle.kt_refinement.proofs.Represents.{LabelsAre, Stands}

@@ -7,8 +7,7 @@ use Rattle.kt_tuple.specs.declared.node.NodeId.TheVariants as ids
 use Rattle.kt_tuple.specs.Node.{node_index}
 use Rattle.kt_history.specs.Line.{line}
 use Rattle.kt_history.specs.Survival.{Stands, Survives}
-use Rattle.kt_lines.proofs.Survive.{surviving_tuples, survivors_run}
-use Rattle.kt_lines.proofs.WellFormed.{causes_come_first}
+use Rattle.kt_lines.proofs.Shared.{surviving_tuples, survivors_run, causes_come_first}
 use Rattle.kt_node.specs.declared.live.Phase.{Phase}
 use Rattle.kt_node.specs.declared.live.Phase.TheVariants as phases
 use Rattle.kt_node.specs.Node.{Node as RealNode, Live, Alive, Down as IsDownNode, mode_in}
@@ -17,14 +16,10 @@ use Rattle.kt_world.specs.Cast.{Cast, is_shard}
 use Rattle.kt_world.specs.Cut.{IsCausallyClosed, permanent_length}
 use Rattle.kt_world.specs.Headline.{IsSteady, is_steady_row, is_steady_mode}
 use Rattle.kt_world.specs.State.{State as World, node}
-use Rattle.kt_world.proofs.Plans.{IsAlive}
-use Rattle.kt_world.proofs.Headlines.{bags_held}
-use Rattle.kt_world.proofs.Scene.{shard-node}
-use Rattle.kt_world.proofs.Holding.{Holds}
+use Rattle.kt_world.proofs.Shared.{IsAlive, bags_held, shard-node, Holds}
 use Rattle.kt_protocol.specs.Machine.{Mode, Node, State}
 use Rattle.kt_protocol.specs.Laws.{IsStanding, IsSteady as IsMachineSteady}
-use Rattle.kt_protocol.proofs.Invariant.{Invariant}
-use Rattle.kt_protocol.proofs.Consequences.{agree, remembered}
+use Rattle.kt_protocol.proofs.Shared.{Invariant, agree, remembered}
 use Rattle.kt_world.specs.Headline.{IsSteadyRun}
 use Rattle.kt_refinement.proofs.Numbers.{named, index-named, peers}
 use Rattle.kt_refinement.proofs.Reading.{Reads}

@@ -36,18 +36,13 @@ use Rattle.kt_world.specs.State.{State as World}
 use Rattle.kt_world.specs.Told.{told, of_first, tentative_in, marks_in}
 use Rattle.kt_world.specs.Ready.{AreNeighbours}
 use Rattle.kt_world.specs.Backed.{IsTakenIn}
-use Rattle.kt_world.proofs.Plans.{IsAlive, Comes}
-use Rattle.kt_world.proofs.Backs.{backed-in}
-use Rattle.kt_world.proofs.Holding.{Holds}
-use Rattle.kt_world.proofs.Scene.{neighbours-turned}
+use Rattle.kt_world.proofs.Shared.{IsAlive, Comes, backed-in, Holds, neighbours-turned}
 use Rattle.kt_protocol.specs.Labels.{UpTo}
 use Rattle.kt_protocol.specs.Lines.{IsIn, here, there, top_sent}
 use Rattle.kt_protocol.specs.Machine.{Instance, Check, Rollback, Message, Ask, Post, Node, State, Vote, instance_of}
 use Rattle.kt_protocol.specs.Steps.{sieved, sifting, answering, grants, refuses, MayAgree, change, pull}
 use Rattle.kt_protocol.specs.Runs.{nothing_done, one_more}
-use Rattle.kt_protocol.proofs.Labels.{at-here, at-else, at-both, UpTo-trans}
-use Rattle.kt_protocol.proofs.Streams.{up_to-true}
-use Rattle.kt_protocol.proofs.Invariant.{a_key, a_vote}
+use Rattle.kt_protocol.proofs.Shared.{at-here, at-else, at-both, UpTo-trans, up_to-true, a_key, a_vote}
 use Rattle.kt_refinement.proofs.Mail.{QuietStep}
 use Rattle.kt_refinement.proofs.Numbers.{peers, label_of}
 use Rattle.kt_refinement.proofs.Represents.{carried, kept_from, WasCast, NodeIn, IsTentative, TentativeIs, undecided, Represents}

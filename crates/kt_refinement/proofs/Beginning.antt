@@ -13,11 +13,11 @@ use Rattle.kt_store.specs.declared.rows.Verdict.{Verdict as RealVerdict}
 use Rattle.kt_store.specs.declared.rows.Verdict.TheVariants as verdicts
 use Rattle.kt_store.specs.Content.{Content, posted, next_instance, row_of, verdict_of, verdict_on}
 use Rattle.kt_store.specs.Changes.{opening}
-use Rattle.kt_store.proofs.OtherInstances.{others_begun, begun_is_read}
+use Rattle.kt_store.proofs.Shared.{others_begun, begun_is_read}
 use Rattle.kt_world.specs.State.{State as World}
-use Rattle.kt_world.proofs.Boards.{next_free}
+use Rattle.kt_world.proofs.Shared.{next_free}
 use Rattle.kt_protocol.specs.Machine.{Instance, Check, Rollback, Board, State, at_instance}
-use Rattle.kt_protocol.proofs.Invariant.{Invariant}
+use Rattle.kt_protocol.proofs.Shared.{Invariant}
 use Rattle.kt_refinement.proofs.Numbers.{peers}
 use Rattle.kt_refinement.proofs.Represents.{TentativeIs, undecided, begun_as, InstanceIs, Represents}
 

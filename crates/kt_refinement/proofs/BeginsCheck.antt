@@ -11,7 +11,7 @@ use Rattle.kt_store.specs.declared.rows.Verdict.{Verdict as RealVerdict}
 use Rattle.kt_store.specs.declared.rows.Verdict.TheVariants as verdicts
 use Rattle.kt_store.specs.Content.{Content, row_of, next_instance, permanent_marks, verdict_of}
 use Rattle.kt_store.specs.Changes.{opening}
-use Rattle.kt_store.proofs.OtherInstances.{begun_is_read}
+use Rattle.kt_store.proofs.Shared.{begun_is_read}
 use Rattle.kt_vote.specs.Poll.{Poll, asking_poll}
 use Rattle.kt_node.specs.declared.live.Phase.TheVariants as phases
 use Rattle.kt_node.specs.declared.plan.Plan.{Plan}
@@ -24,14 +24,11 @@ use Rattle.kt_world.specs.Cast.{is_node}
 use Rattle.kt_world.specs.State.{State as World, view}
 use Rattle.kt_world.specs.Told.{told}
 use Rattle.kt_world.specs.Writing.{content_after}
-use Rattle.kt_world.proofs.Plans.{IsAlive}
-use Rattle.kt_world.proofs.Backs.{backed-in}
-use Rattle.kt_world.proofs.Holding.{Holds}
-use Rattle.kt_world.proofs.Lists.{all-append}
+use Rattle.kt_world.proofs.Shared.{IsAlive, backed-in, Holds, all-append}
 use Rattle.kt_protocol.specs.Machine.{Check, Node, State}
 use Rattle.kt_protocol.specs.Steps.{joining, asking, begins, begin, change, push}
 use Rattle.kt_protocol.specs.Runs.{nothing_done, one_more}
-use Rattle.kt_protocol.proofs.Invariant.{Invariant}
+use Rattle.kt_protocol.proofs.Shared.{Invariant}
 use Rattle.kt_refinement.proofs.Numbers.{peers}
 use Rattle.kt_refinement.proofs.Represents.{carried, NodeIs, NodeIn, Stands, Represents}
 use Rattle.kt_refinement.proofs.Links.{to}

@@ -23,8 +23,7 @@ use Rattle.kt_protocol.specs.Labels.{Under, UpTo}
 use Rattle.kt_protocol.specs.Lines.{Act, top_sent, top_heard}
 use Rattle.kt_protocol.specs.Machine.{Check, Ask, Node, Vote}
 use Rattle.kt_protocol.specs.Steps.{IsCohort, asking}
-use Rattle.kt_protocol.proofs.Labels.{Under-not}
-use Rattle.kt_protocol.proofs.Streams.{up_to-true}
+use Rattle.kt_protocol.proofs.Shared.{Under-not, up_to-true}
 use Rattle.kt_refinement.proofs.Numbers.{named, index-named, peers, peers-of, label_of}
 use Rattle.kt_refinement.proofs.Reading.{Reads}
 use Rattle.kt_refinement.proofs.Represents.{carried, LabelsAre, Stands}

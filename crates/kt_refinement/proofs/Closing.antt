@@ -9,8 +9,8 @@ use Rattle.kt_history.specs.declared.note.Note.{Note}
 use Rattle.kt_history.specs.declared.note.Note.TheVariants as notes
 use Rattle.kt_history.specs.Line.{before, line}
 use Rattle.kt_history.specs.Past.{InPast, StoodBefore, IsCauseOf, itself, in_line, by_cause}
-use Rattle.kt_history.proofs.Lists.{slice_get-from_Contains, slice_get-take, slice_get-take_below, Contains-from_slice_get, Contains-from_take, Contains-here}
-use Rattle.kt_history.proofs.Lines.{line-own, line-stack}
+use Rattle.kt_history.proofs.Shared.{slice_get-from_Contains, slice_get-take, slice_get-take_below, Contains-from_slice_get, Contains-from_take, Contains-here}
+use Rattle.kt_history.proofs.Shared.{line-own, line-stack}
 use Rattle.kt_world.specs.Cut.{IsInCut, IsCausallyClosed}
 use Rattle.kt_protocol.specs.Labels.{Label}
 use Rattle.kt_protocol.specs.Lines.{IsIn, Act, Sends, Hears}

@@ -7,8 +7,8 @@ use Rattle.std.proofs.lemmas.Bool.{cases_eq, eq-eqb, ne_eqb}
 use Rattle.kt_tuple.specs.declared.node.NodeId.{NodeId}
 use Rattle.kt_tuple.specs.declared.node.NodeId.TheVariants as ids
 use Rattle.kt_tuple.specs.Node.{node_index, node_eq, node_eq_decides}
-use Rattle.kt_history.proofs.Lists.{Contains-here, Contains-there}
-use Rattle.kt_lines.proofs.Lists.{all-at}
+use Rattle.kt_history.proofs.Shared.{Contains-here, Contains-there}
+use Rattle.kt_lines.proofs.Shared.{all-at}
 use Rattle.kt_link.specs.declared.label.Label.{Label as RealLabel}
 use Rattle.kt_node.specs.declared.message.Message.{Message as RealMessage}
 use Rattle.kt_node.specs.declared.message.Post.{Post as RealPost}
@@ -18,8 +18,7 @@ use Rattle.kt_node.specs.Turning.{is_above}
 use Rattle.kt_world.specs.Cast.{Cast, are_neighbours, is_node}
 use Rattle.kt_world.specs.State.{role_of}
 use Rattle.kt_world.specs.Ready.{AreNeighbours}
-use Rattle.kt_world.proofs.Lists.{all-map, all-filter, all-numbers}
-use Rattle.kt_world.proofs.Scene.{Ends, to_shard, to_worker, ends, across-neighbour, role-id}
+use Rattle.kt_world.proofs.Shared.{all-map, all-filter, all-numbers, Ends, to_shard, to_worker, ends, across-neighbour, role-id}
 use Rattle.kt_protocol.specs.Steps.{sieve}
 use Rattle.kt_refinement.proofs.Numbers.{named, peers, peers-of, named-index, label_of}
 use Rattle.kt_refinement.proofs.Represents.{kept_one, kept_from, post_of}

@@ -3,7 +3,7 @@ use Rattle.std.proofs.Common.{◌≡◌, ℕ, Bool, true, false, IsTrue, List, C
 use Rattle.std.specs.List.{AllByRecursion}
 use Rattle.kt_tuple.specs.declared.node.NodeId.{NodeId}
 use Rattle.kt_tuple.specs.Node.{node_index}
-use Rattle.kt_history.proofs.Lists.{Contains-here}
+use Rattle.kt_history.proofs.Shared.{Contains-here}
 use Rattle.kt_store.specs.Content.{posted}
 use Rattle.kt_vote.specs.declared.vote.Vote.{Vote as RealVote}
 use Rattle.kt_vote.specs.Poll.{Poll, counts, counted}
@@ -19,15 +19,13 @@ use Rattle.kt_node.specs.Arrivals.{voting_plan}
 use Rattle.kt_world.specs.declared.step.Step.TheVariants.{Deliver}
 use Rattle.kt_world.specs.State.{State as World, node}
 use Rattle.kt_world.specs.Effect.{applied}
-use Rattle.kt_world.proofs.Plans.{IsAlive, Comes, Votes as VotesSo, holds, rolls}
-use Rattle.kt_world.proofs.Scene.{neighbours-turned}
+use Rattle.kt_world.proofs.Shared.{IsAlive, Comes, Votes as VotesSo, holds, rolls, neighbours-turned}
 use Rattle.kt_protocol.specs.Lines.{IsIn}
 use Rattle.kt_protocol.specs.Machine.{Instance, Check, Rollback, Key, Ballot, Within, Node, State}
 use Rattle.kt_protocol.specs.Steps as machine
 use Rattle.kt_protocol.specs.Steps.{change, counting}
 use Rattle.kt_protocol.specs.Runs.{nothing_done, one_more}
-use Rattle.kt_protocol.proofs.Labels.{at-here}
-use Rattle.kt_protocol.proofs.Invariant.{Invariant, a_vote, a_key}
+use Rattle.kt_protocol.proofs.Shared.{at-here, Invariant, a_vote, a_key}
 use Rattle.kt_refinement.proofs.Numbers.{peers}
 use Rattle.kt_refinement.proofs.Represents.{asker_key, WasCast, BallotIs, Votes, NodeIn, Represents}
 use Rattle.kt_refinement.proofs.Frames.{CastSo, Refines, owner-in, nodes-at, votes-at, leads-represents}

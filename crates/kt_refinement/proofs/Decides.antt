@@ -26,16 +26,13 @@ use Rattle.kt_world.specs.declared.step.Step.{Step}
 use Rattle.kt_world.specs.Step.{owner}
 use Rattle.kt_world.specs.State.{State as World, node}
 use Rattle.kt_world.specs.Effect.{applied}
-use Rattle.kt_world.proofs.Plans.{IsAlive}
-use Rattle.kt_world.proofs.Writes.{own-row}
+use Rattle.kt_world.proofs.Shared.{IsAlive, own-row}
 use Rattle.kt_protocol.specs.Labels.{UpTo, at}
 use Rattle.kt_protocol.specs.Lines.{Act, top_sent}
 use Rattle.kt_protocol.specs.Machine.{Check, Yes, Ballot, Node, State}
 use Rattle.kt_protocol.specs.Steps.{IsAgreed, consenting, change, decide, promote, decides_check}
 use Rattle.kt_protocol.specs.Runs.{nothing_done, one_more}
-use Rattle.kt_protocol.proofs.Labels.{at-both}
-use Rattle.kt_protocol.proofs.Lines.{sent-tail}
-use Rattle.kt_protocol.proofs.Invariant.{Invariant}
+use Rattle.kt_protocol.proofs.Shared.{at-both, sent-tail, Invariant}
 use Rattle.kt_refinement.proofs.Numbers.{named, index-named, peers}
 use Rattle.kt_refinement.proofs.Represents.{BallotIs, Votes, PhaseIs, StateIs, LiveIs, NodeIs, NodeIn, begun_as, is_for, Represents}
 use Rattle.kt_refinement.proofs.Frames.{LinksLead, Refines, owner-in, nodes-at, votes-at, leads-represents}

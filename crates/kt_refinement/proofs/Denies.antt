@@ -21,14 +21,12 @@ use Rattle.kt_world.specs.declared.step.Step.{Step}
 use Rattle.kt_world.specs.Step.{owner}
 use Rattle.kt_world.specs.State.{State as World, node}
 use Rattle.kt_world.specs.Effect.{applied}
-use Rattle.kt_world.proofs.Plans.{IsAlive}
+use Rattle.kt_world.proofs.Shared.{IsAlive}
 use Rattle.kt_protocol.specs.Labels.{at}
 use Rattle.kt_protocol.specs.Machine.{Check, Rollback, Yes, No, Node, State}
 use Rattle.kt_protocol.specs.Steps.{consenting, rising, change, decide, discard, decides_rollback, gives_up_check, gives_up_rollback}
 use Rattle.kt_protocol.specs.Runs.{nothing_done, one_more}
-use Rattle.kt_protocol.proofs.Labels.{at-both, at-here, at-else}
-use Rattle.kt_protocol.proofs.Frames.{at-same}
-use Rattle.kt_protocol.proofs.Invariant.{Invariant}
+use Rattle.kt_protocol.proofs.Shared.{at-both, at-here, at-else, at-same, Invariant}
 use Rattle.kt_refinement.proofs.Numbers.{peers}
 use Rattle.kt_refinement.proofs.Represents.{NodeIn, begun_as, is_for, Represents}
 use Rattle.kt_refinement.proofs.Frames.{LinksLead, Refines, owner-in, nodes-at, votes-at, leads-represents}

@@ -15,17 +15,15 @@ use Rattle.kt_node.specs.Turning.{changed}
 use Rattle.kt_world.specs.declared.step.Step.TheVariants.{Deliver}
 use Rattle.kt_world.specs.State.{State as World, node}
 use Rattle.kt_world.specs.Effect.{applied}
-use Rattle.kt_world.proofs.Plans.{IsDroppedBy, Comes}
+use Rattle.kt_world.proofs.Shared.{IsDroppedBy, Comes}
 use Rattle.kt_world.proofs.Plans as plans
-use Rattle.kt_world.proofs.FailLeaves.{has_fallen}
-use Rattle.kt_world.proofs.Holding.{Holds}
-use Rattle.kt_world.proofs.Scene.{neighbour-node}
+use Rattle.kt_world.proofs.Shared.{has_fallen, Holds, neighbour-node}
 use Rattle.kt_protocol.specs.Labels.{Label, at}
 use Rattle.kt_protocol.specs.Machine.{Instance, Check, Rollback, Ask, Post, Node, State, Message}
 use Rattle.kt_protocol.specs.Steps as machine
 use Rattle.kt_protocol.specs.Steps.{sieve, sieved, sifting, ignores, change, pull}
 use Rattle.kt_protocol.specs.Runs.{nothing_done, one_more}
-use Rattle.kt_protocol.proofs.Labels.{at-both}
+use Rattle.kt_protocol.proofs.Shared.{at-both}
 use Rattle.kt_refinement.proofs.Numbers.{label_of}
 use Rattle.kt_refinement.proofs.Represents.{post_of, carried, carried_one, FallenIs, NodeIn, Represents}
 use Rattle.kt_refinement.proofs.Frames.{Refines, owner-in, nodes-at, votes-at, delivered-quietly, leads-represents}

@@ -20,9 +20,7 @@ use Rattle.kt_world.specs.Told.{told, stored_of, to_learn}
 use Rattle.kt_world.specs.Told as tellings
 use Rattle.kt_world.specs.Cut.{acts_held, permanent_by}
 use Rattle.kt_world.specs.Effect.{noted}
-use Rattle.kt_world.proofs.Plans.{IsAlive}
-use Rattle.kt_world.proofs.Cutting.{held_marks}
-use Rattle.kt_world.proofs.Sound.{MayNote}
+use Rattle.kt_world.proofs.Shared.{IsAlive, held_marks, MayNote}
 use Rattle.kt_protocol.specs.Machine.{Node, State}
 use Rattle.kt_protocol.specs.Steps.{falling, cutting, fails, fails_holding, change}
 use Rattle.kt_protocol.specs.Runs.{nothing_done, one_more}

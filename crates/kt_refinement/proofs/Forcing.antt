@@ -4,13 +4,12 @@ use Rattle.std.proofs.Common.{◌≡◌, ◌≢◌, ℕ, false, IsTrue, List, []
 use Rattle.std.proofs.lemmas.List.Elements.{Contains-append_left, Contains-append_right, Contains-push_cases}
 use Rattle.kt_tuple.specs.declared.node.NodeId.{NodeId}
 use Rattle.kt_tuple.specs.Node.{node_index}
-use Rattle.kt_tuple.proofs.Nodes.{node_index-injective}
+use Rattle.kt_tuple.proofs.Shared.{node_index-injective}
 use Rattle.kt_history.specs.declared.note.Act.{Act as Done}
 use Rattle.kt_history.specs.declared.note.Note.{Note}
 use Rattle.kt_history.specs.declared.note.Note.TheVariants as notes
 use Rattle.kt_history.specs.Line.{note_at, line}
-use Rattle.kt_history.proofs.Lists.{Contains-here, Contains-none}
-use Rattle.kt_history.proofs.Lines.{note_at-within}
+use Rattle.kt_history.proofs.Shared.{Contains-here, Contains-none, note_at-within}
 use Rattle.kt_store.specs.Content.{permanent_marks}
 use Rattle.kt_node.specs.declared.message.Ask.{Ask as RealAsk}
 use Rattle.kt_node.specs.declared.message.Message.TheVariants as messages
@@ -29,18 +28,12 @@ use Rattle.kt_world.specs.State.{State as World}
 use Rattle.kt_world.specs.Cut.{permanent_length}
 use Rattle.kt_world.specs.Told.{told, tentative_in}
 use Rattle.kt_world.specs.Effect.{applied}
-use Rattle.kt_world.proofs.Plans.{IsAlive, Comes, PlanOf}
-use Rattle.kt_world.proofs.Scene.{neighbours-turned}
-use Rattle.kt_world.proofs.Holding.{Holds}
+use Rattle.kt_world.proofs.Shared.{IsAlive, Comes, PlanOf, neighbours-turned, Holds}
 use Rattle.kt_protocol.specs.Labels.{Label, Under}
 use Rattle.kt_protocol.specs.Lines.{IsIn, here, Act, Sends, Hears, top_sent, top_heard}
 use Rattle.kt_protocol.specs.Machine.{Check, Rollback, Ask, Message, State}
-use Rattle.kt_protocol.proofs.Labels.{Under-not, Under-UpTo, UpTo-eq}
-use Rattle.kt_protocol.proofs.Lines.{Falls-tail, sent-top, heard-attained, tail-in}
-use Rattle.kt_protocol.proofs.Cases.{up-gone, some-none}
-use Rattle.kt_protocol.proofs.Cuts.{rolling-none}
-use Rattle.kt_protocol.proofs.Rows.{up_to-false}
-use Rattle.kt_protocol.proofs.Invariant.{core, Caused, made, lost, cut_soon, Invariant}
+use Rattle.kt_protocol.proofs.Shared.{Under-not, Under-UpTo, UpTo-eq, Falls-tail, sent-top, heard-attained, tail-in, up-gone, some-none, rolling-none}
+use Rattle.kt_protocol.proofs.Shared.{up_to-false, core, Caused, made, lost, cut_soon, Invariant}
 use Rattle.kt_refinement.proofs.Numbers.{peers, label_of}
 use Rattle.kt_refinement.proofs.Reading.{IsSaying, Says, Reads, nothing, one}
 use Rattle.kt_refinement.proofs.Mail.{in-front, in-parts}

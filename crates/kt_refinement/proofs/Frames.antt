@@ -7,12 +7,12 @@ use Rattle.std.specs.Option.{option_map}
 use Rattle.std.proofs.lemmas.Bool.{cases_eq, eq-eqb, ne_eqb}
 use Rattle.kt_tuple.specs.declared.node.NodeId.{NodeId}
 use Rattle.kt_tuple.specs.Node.{node_index}
-use Rattle.kt_tuple.proofs.Nodes.{node_index-injective}
+use Rattle.kt_tuple.proofs.Shared.{node_index-injective}
 use Rattle.kt_history.specs.declared.note.Note.{Note}
 use Rattle.kt_history.specs.declared.note.Note.TheVariants as notes
 use Rattle.kt_history.specs.Line.{line}
-use Rattle.kt_history.proofs.Lines.{line-other_act, line-other_cut}
-use Rattle.kt_lines.proofs.Lists.{all-at}
+use Rattle.kt_history.proofs.Shared.{line-other_act, line-other_cut}
+use Rattle.kt_lines.proofs.Shared.{all-at}
 use Rattle.kt_ckpt.specs.declared.ckpt.Ckpt.{Ckpt}
 use Rattle.kt_store.specs.declared.rows.NodeRow.{NodeRow}
 use Rattle.kt_store.specs.declared.rows.Verdict.{Verdict as RealVerdict}
@@ -32,19 +32,14 @@ use Rattle.kt_world.specs.State.{State as World, node, link, link_place}
 use Rattle.kt_world.specs.Writing.{content_after}
 use Rattle.kt_world.specs.Effect.{noted, applied, taken_off}
 use Rattle.kt_world.specs.Ready.{AreNeighbours}
-use Rattle.kt_world.proofs.Frames.{applied-owner, applied-other}
-use Rattle.kt_world.proofs.OnLinks.{taken_off-was, sent-cases, sent_between}
-use Rattle.kt_world.proofs.Scene.{Ends, to_shard, to_worker, ends}
-use Rattle.kt_world.proofs.NoteSound.{apart}
-use Rattle.kt_world.proofs.Writes.{row_after, own-row, other-rows}
-use Rattle.kt_world.proofs.Plans.{Comes}
-use Rattle.kt_world.proofs.Sound.{MayNote}
+use Rattle.kt_world.proofs.Shared.{applied-owner, applied-other, taken_off-was, sent-cases, sent_between, Ends, to_shard, to_worker, ends, apart}
+use Rattle.kt_world.proofs.Shared.{row_after, own-row, other-rows, Comes, MayNote}
 use Rattle.kt_protocol.specs.Labels.{at}
 use Rattle.kt_protocol.specs.Lines.{IsIn, Act}
 use Rattle.kt_protocol.specs.Machine.{Vote, Message, Node, State}
 use Rattle.kt_protocol.specs.Runs.{Run}
 use Rattle.kt_protocol.specs.Steps.{pull, push}
-use Rattle.kt_protocol.proofs.Labels.{at-both, at-here, at-else}
+use Rattle.kt_protocol.proofs.Shared.{at-both, at-here, at-else}
 use Rattle.kt_refinement.proofs.Numbers.{peers}
 use Rattle.kt_refinement.proofs.Reading.{reads-later}
 use Rattle.kt_refinement.proofs.Letters.{Fresh}

@@ -19,14 +19,11 @@ use Rattle.kt_world.specs.declared.step.Step.TheVariants.{Deliver, Learn}
 use Rattle.kt_world.specs.Step.{owner}
 use Rattle.kt_world.specs.State.{State as World}
 use Rattle.kt_world.specs.Told.{told}
-use Rattle.kt_world.proofs.Plans.{IsAlive, Comes}
-use Rattle.kt_world.proofs.Backs.{comes-boards, settled-is}
-use Rattle.kt_world.proofs.Holding.{Holds}
+use Rattle.kt_world.proofs.Shared.{IsAlive, Comes, comes-boards, settled-is, Holds}
 use Rattle.kt_protocol.specs.Machine.{Rollback, Up, Node, State}
 use Rattle.kt_protocol.specs.Steps.{rising, learns_no, change}
 use Rattle.kt_protocol.specs.Runs.{nothing_done, one_more}
-use Rattle.kt_protocol.proofs.Labels.{at-here}
-use Rattle.kt_protocol.proofs.Invariant.{Invariant}
+use Rattle.kt_protocol.proofs.Shared.{at-here, Invariant}
 use Rattle.kt_refinement.proofs.Numbers.{peers}
 use Rattle.kt_refinement.proofs.Represents.{carried, asker_key, Represents}
 use Rattle.kt_refinement.proofs.Links.{to}

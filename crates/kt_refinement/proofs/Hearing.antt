@@ -24,15 +24,13 @@ use Rattle.kt_world.specs.Step.{owner}
 use Rattle.kt_world.specs.State.{State as World, node}
 use Rattle.kt_world.specs.Effect.{applied}
 use Rattle.kt_world.specs.Ready.{AreNeighbours}
-use Rattle.kt_world.proofs.Plans.{IsAlive}
-use Rattle.kt_world.proofs.Sound.{MayNote}
-use Rattle.kt_world.proofs.Holding.{Holds}
+use Rattle.kt_world.proofs.Shared.{IsAlive, MayNote, Holds}
 use Rattle.kt_protocol.specs.Labels.{Label, at}
 use Rattle.kt_protocol.specs.Lines.{IsIn, here, there, Act, Sends, Hears, top_sent}
 use Rattle.kt_protocol.specs.Machine.{App, Node, State, Message, Post, next_label as next_of}
 use Rattle.kt_protocol.specs.Steps.{sends, sending, only, change, push}
 use Rattle.kt_protocol.specs.Runs.{Run, one_more}
-use Rattle.kt_protocol.proofs.Labels.{at-here}
+use Rattle.kt_protocol.proofs.Shared.{at-here}
 use Rattle.kt_refinement.proofs.Numbers.{peers, label_of}
 use Rattle.kt_refinement.proofs.Reading.{IsSaying, WasHeard}
 use Rattle.kt_refinement.proofs.Letters.{Quiet}

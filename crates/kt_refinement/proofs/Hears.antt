@@ -5,7 +5,7 @@ use Rattle.kt_tuple.specs.declared.node.NodeId.{NodeId}
 use Rattle.kt_tuple.specs.Node.{node_index}
 use Rattle.kt_history.specs.declared.note.What.{What}
 use Rattle.kt_history.specs.declared.note.What.TheVariants as whats
-use Rattle.kt_history.proofs.Lists.{Contains-here}
+use Rattle.kt_history.proofs.Shared.{Contains-here}
 use Rattle.kt_shard.specs.declared.request.Request.{Request}
 use Rattle.kt_node.specs.declared.message.Post.{Post as RealPost}
 use Rattle.kt_node.specs.declared.message.Message.TheVariants as messages
@@ -22,11 +22,9 @@ use Rattle.kt_world.specs.declared.step.Step.TheVariants.{Deliver, Take}
 use Rattle.kt_world.specs.Step.{owner}
 use Rattle.kt_world.specs.State.{State as World, role_of, view}
 use Rattle.kt_world.specs.Ready.{IsNodeReady, AreNeighbours}
-use Rattle.kt_world.proofs.Plans.{IsAlive, Comes}
-use Rattle.kt_world.proofs.Heards.{HeardOf, misses_request, accepts, ignores_reply, hears as hears_new, answers_again, ignores_request, misses_reply, heard-is}
-use Rattle.kt_world.proofs.Scene.{role-id, neighbours-turned}
-use Rattle.kt_world.proofs.Sound.{MayNote}
-use Rattle.kt_world.proofs.Holding.{Holds}
+use Rattle.kt_world.proofs.Shared.{IsAlive, Comes}
+use Rattle.kt_world.proofs.Shared.{HeardOf, misses_request, accepts, ignores_reply, hears as hears_new, answers_again, ignores_request, misses_reply, heard-is}
+use Rattle.kt_world.proofs.Shared.{role-id, neighbours-turned, MayNote, Holds}
 use Rattle.kt_protocol.specs.Labels.{at}
 use Rattle.kt_protocol.specs.Machine.{State}
 use Rattle.kt_protocol.specs.Steps as machine

@@ -11,10 +11,7 @@ use Rattle.kt_node.specs.Talking.{request_for, home, act_of, issue_plan, repeat_
 use Rattle.kt_world.specs.declared.step.Step.TheVariants.{Issue, Repeat}
 use Rattle.kt_world.specs.Cast.{is_worker}
 use Rattle.kt_world.specs.State.{State as World, role_of, view}
-use Rattle.kt_world.proofs.Plans.{IsAlive}
-use Rattle.kt_world.proofs.Scene.{home-neighbour, role-id}
-use Rattle.kt_world.proofs.Sound.{MayNote}
-use Rattle.kt_world.proofs.Holding.{Holds}
+use Rattle.kt_world.proofs.Shared.{IsAlive, home-neighbour, role-id, MayNote, Holds}
 use Rattle.kt_protocol.specs.Machine.{State}
 use Rattle.kt_refinement.proofs.Represents.{Represents}
 use Rattle.kt_refinement.proofs.Frames.{Refines}

@@ -33,19 +33,13 @@ use Rattle.kt_world.specs.Told.{told, tentative_in}
 use Rattle.kt_world.specs.Effect.{applied}
 use Rattle.kt_world.specs.Writing.{content_after}
 use Rattle.kt_world.specs.Ready.{AreNeighbours}
-use Rattle.kt_world.proofs.Plans.{IsAlive, Comes}
-use Rattle.kt_world.proofs.Backs.{backed-in}
-use Rattle.kt_world.proofs.Holding.{Holds}
-use Rattle.kt_world.proofs.Lists.{all-append}
-use Rattle.kt_world.proofs.Scene.{neighbour-node, neighbours-turned}
+use Rattle.kt_world.proofs.Shared.{IsAlive, Comes, backed-in, Holds, all-append, neighbour-node, neighbours-turned}
 use Rattle.kt_protocol.specs.Labels.{Under, at}
 use Rattle.kt_protocol.specs.Lines.{IsIn}
 use Rattle.kt_protocol.specs.Machine.{Check, Ballot, Within, Message, Mode, Mark, Vote, Node, State}
 use Rattle.kt_protocol.specs.Steps.{joining, sifting, asking, joins, MustJoin, change, push, pull}
 use Rattle.kt_protocol.specs.Runs.{nothing_done, one_more}
-use Rattle.kt_protocol.proofs.Labels.{at-here}
-use Rattle.kt_protocol.proofs.Rows.{up_to-false}
-use Rattle.kt_protocol.proofs.Invariant.{a_key}
+use Rattle.kt_protocol.proofs.Shared.{at-here, up_to-false, a_key}
 use Rattle.kt_refinement.proofs.Mail.{QuietStep}
 use Rattle.kt_refinement.proofs.Numbers.{peers, label_of}
 use Rattle.kt_refinement.proofs.Represents.{asker_key, carried, BallotIs, NodeIs, NodeIn, PhaseIs, Stands, Represents}

@@ -28,18 +28,13 @@ use Rattle.kt_world.specs.declared.step.Step.TheVariants.{Deliver}
 use Rattle.kt_world.specs.State.{State as World, role_of, view}
 use Rattle.kt_world.specs.Told.{told}
 use Rattle.kt_world.specs.Ready.{AreNeighbours}
-use Rattle.kt_world.proofs.Plans.{IsAlive, Comes}
-use Rattle.kt_world.proofs.Backs.{backed-in}
-use Rattle.kt_world.proofs.Holding.{Holds}
-use Rattle.kt_world.proofs.Lists.{all-append}
-use Rattle.kt_world.proofs.Scene.{some_peers, neighbour-node, neighbours-turned}
+use Rattle.kt_world.proofs.Shared.{IsAlive, Comes, backed-in, Holds, all-append, some_peers, neighbour-node, neighbours-turned}
 use Rattle.kt_protocol.specs.Labels.{at}
 use Rattle.kt_protocol.specs.Lines.{top_sent}
 use Rattle.kt_protocol.specs.Machine.{Rollback, Node, State, Vote, Ask}
 use Rattle.kt_protocol.specs.Steps.{joining, sifting, asking, joins, MustJoin, IsCohort, change, push, pull}
 use Rattle.kt_protocol.specs.Runs.{nothing_done, one_more}
-use Rattle.kt_protocol.proofs.Invariant.{a_key}
-use Rattle.kt_protocol.proofs.Rows.{up_to-false}
+use Rattle.kt_protocol.proofs.Shared.{a_key, up_to-false}
 use Rattle.kt_refinement.proofs.Numbers.{peers, label_of}
 use Rattle.kt_refinement.proofs.Represents.{carried, NodeIn, Stands, Represents}
 use Rattle.kt_refinement.proofs.Links.{to}

@@ -5,7 +5,7 @@ use Rattle.kt_tuple.specs.Node.{node_index, node_eq, node_eq_decides}
 use Rattle.kt_node.specs.declared.message.Post.{Post as RealPost}
 use Rattle.kt_protocol.specs.Labels.{at}
 use Rattle.kt_protocol.specs.Machine.{Post}
-use Rattle.kt_protocol.proofs.Labels.{at-here, at-else}
+use Rattle.kt_protocol.proofs.Shared.{at-here, at-else}
 use Rattle.kt_refinement.proofs.Represents.{post_of, kept_one, kept_from}
 use Rattle.kt_refinement.proofs.Frames.{cases-node, apart-index}
 

@@ -19,9 +19,9 @@ use Rattle.kt_node.specs.Stored.{is_undecided}
 use Rattle.kt_vote.specs.Poll.{Poll, outcome_from}
 use Rattle.kt_world.specs.State.{State as World}
 use Rattle.kt_world.specs.Ready.{AreNeighbours}
-use Rattle.kt_world.proofs.Plans.{IsAlive, Comes}
+use Rattle.kt_world.proofs.Shared.{IsAlive, Comes}
 use Rattle.kt_protocol.specs.Machine.{Instance, Check, Rollback, Open, Ballot, Up, Within, State}
-use Rattle.kt_protocol.proofs.Invariant.{Invariant}
+use Rattle.kt_protocol.proofs.Shared.{Invariant}
 use Rattle.kt_refinement.proofs.Numbers.{peers, peers-of}
 use Rattle.kt_refinement.proofs.Represents.{carried, carried_one, PhaseIs, Votes, LiveIs, NodeIn, verdict_is, verdict_as, begun_as, is_for, Represents}
 

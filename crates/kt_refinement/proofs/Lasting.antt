@@ -5,7 +5,7 @@ use Rattle.kt_world.specs.State.{State as World}
 use Rattle.kt_world.specs.Effect.{step_result}
 use Rattle.kt_world.specs.Forced.{IsForced}
 use Rattle.kt_world.specs.Reached.{IsReached}
-use Rattle.kt_world.proofs.Holding.{reached-holds, step-made}
+use Rattle.kt_world.proofs.Shared.{reached-holds, step-made}
 use Rattle.kt_refinement.proofs.Refined.{reached-stands, stands-invariant}
 use Rattle.kt_refinement.proofs.Forcing.{forced-so}
 

@@ -23,16 +23,11 @@ use Rattle.kt_world.specs.State.{State as World, node, view}
 use Rattle.kt_world.specs.Told.{told, to_learn}
 use Rattle.kt_world.specs.Effect.{applied}
 use Rattle.kt_world.specs.Writing.{content_after}
-use Rattle.kt_world.proofs.Plans.{IsDown}
-use Rattle.kt_world.proofs.Backs.{settled-is}
-use Rattle.kt_world.proofs.Cutting.{held_marks}
-use Rattle.kt_world.proofs.FailLeaves.{has_fallen}
-use Rattle.kt_world.proofs.Sound.{MayNote}
-use Rattle.kt_world.proofs.Holding.{Holds}
+use Rattle.kt_world.proofs.Shared.{IsDown, settled-is, held_marks, has_fallen, MayNote, Holds}
 use Rattle.kt_protocol.specs.Machine.{Node, State}
 use Rattle.kt_protocol.specs.Steps.{falling, cutting, fails, change}
 use Rattle.kt_protocol.specs.Runs.{nothing_done, one_more}
-use Rattle.kt_protocol.proofs.Frames.{at-same}
+use Rattle.kt_protocol.proofs.Shared.{at-same}
 use Rattle.kt_refinement.proofs.Represents.{carried, NodeIs, NodeIn, Represents}
 use Rattle.kt_refinement.proofs.Links.{to}
 use Rattle.kt_refinement.proofs.Frames.{Refines, owner-in, nodes-at, votes-at, links-idle, leads-represents}

@@ -6,15 +6,13 @@ use Rattle.kt_history.specs.declared.note.Act.{Act as Done}
 use Rattle.kt_history.specs.declared.note.Note.{Note}
 use Rattle.kt_history.specs.declared.note.Note.TheVariants as notes
 use Rattle.kt_history.specs.Line.{note_at}
-use Rattle.kt_history.proofs.Lines.{note_at-old, note_at-within}
+use Rattle.kt_history.proofs.Shared.{note_at-old, note_at-within}
 use Rattle.kt_world.specs.Effect.{noted}
 use Rattle.kt_protocol.specs.Labels.{Label, at}
 use Rattle.kt_protocol.specs.Machine.{State, next_label}
 use Rattle.kt_protocol.specs.Steps.{Step, sends}
 use Rattle.kt_protocol.specs.Runs.{AreNeighbours, Run, nothing_done, one_more}
-use Rattle.kt_protocol.proofs.Labels.{at-here, at-else}
-use Rattle.kt_protocol.proofs.Invariant.{Invariant}
-use Rattle.kt_protocol.proofs.Main.{stays_through}
+use Rattle.kt_protocol.proofs.Shared.{at-here, at-else, Invariant, stays_through}
 use Rattle.kt_refinement.proofs.Reading.{IsSaying}
 use Rattle.kt_refinement.proofs.Mail.{Saying, AllFit, IsQuiet, fit-more, quiet-fits, sends-fits}
 

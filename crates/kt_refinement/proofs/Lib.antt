@@ -47,3 +47,4 @@ pub mod Letters
 pub mod Turned
 pub mod Forcing
 pub mod Lasting
+pub mod Shared

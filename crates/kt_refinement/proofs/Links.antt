@@ -7,7 +7,7 @@ use Rattle.std.proofs.lemmas.List.{get_or-set_other, get_or-set_same, length-set
 use Rattle.kt_tuple.specs.declared.node.NodeId.{NodeId}
 use Rattle.kt_tuple.specs.Node.{node_eq}
 use Rattle.kt_link.specs.Network.{entry_at, with_entry}
-use Rattle.kt_link.proofs.Places.{neighbours-place, place-own, place-within}
+use Rattle.kt_link.proofs.Shared.{neighbours-place, place-own, place-within}
 use Rattle.kt_node.specs.declared.message.Message.{Message}
 use Rattle.kt_world.specs.declared.step.Step.{Step}
 use Rattle.kt_world.specs.declared.step.Step.TheVariants.{Issue, Repeat, Deliver, Take, Serve, Check, Decide, Abandon, Learn, Fail, Restart}
@@ -17,7 +17,7 @@ use Rattle.kt_world.specs.Step.{owner}
 use Rattle.kt_world.specs.Effect.{Way, sent_one, sent, taken_off, applied}
 use Rattle.kt_world.specs.Ready.{AreNeighbours}
 use Rattle.kt_node.specs.declared.plan.Plan.{Plan}
-use Rattle.kt_world.proofs.Scene.{linked}
+use Rattle.kt_world.proofs.Shared.{linked}
 
 abbrev Links : Type 0
 Links = List (List Message)

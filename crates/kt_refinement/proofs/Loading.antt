@@ -5,7 +5,7 @@ use Rattle.std.specs.Option.{option_map}
 use Rattle.kt_tuple.specs.declared.node.NodeId.{NodeId}
 use Rattle.kt_history.specs.declared.note.Note.{Note}
 use Rattle.kt_history.specs.Line.{line}
-use Rattle.kt_history.proofs.Lines.{line-own_cut}
+use Rattle.kt_history.proofs.Shared.{line-own_cut}
 use Rattle.kt_shard.specs.Table.{at}
 use Rattle.kt_ckpt.specs.declared.ckpt.Ckpt.{Ckpt}
 use Rattle.kt_ckpt.specs.Marks.{marks_of}
@@ -23,9 +23,7 @@ use Rattle.kt_world.specs.Cast.{Cast, IsCast}
 use Rattle.kt_world.specs.State.{role_of}
 use Rattle.kt_world.specs.Cut.{acts_held}
 use Rattle.kt_world.specs.Effect.{noted}
-use Rattle.kt_world.proofs.Loads.{load-passed}
-use Rattle.kt_world.proofs.Opened.{at-replicate}
-use Rattle.kt_world.proofs.Scene.{neighbour-place, role-id}
+use Rattle.kt_world.proofs.Shared.{load-passed, at-replicate, neighbour-place, role-id}
 use Rattle.kt_protocol.specs.Lines.{Act, top_sent, top_heard}
 use Rattle.kt_refinement.proofs.Numbers.{label_of}
 use Rattle.kt_refinement.proofs.Reading.{Reads, reads-later}

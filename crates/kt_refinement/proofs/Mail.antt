@@ -9,10 +9,7 @@ use Rattle.kt_protocol.specs.Machine.{Instance, Check, Rollback, Post, Message, 
 use Rattle.kt_protocol.specs.Steps.{Step, sends, hears, keeps, takes, drops, ignores, refuses, grants, joins, begins, restarts, counts, agrees, declines}
 use Rattle.kt_protocol.specs.Steps.{decides_rollback, decides_check, gives_up_rollback, gives_up_check, learns_yes, learns_no, releases, fails, fails_holding}
 use Rattle.kt_protocol.specs.Steps.{change, pull, push, only, asking, ask_label, consenting, loading, sending, rising, sieve, sieved}
-use Rattle.kt_protocol.proofs.Labels.{at-both}
-use Rattle.kt_protocol.proofs.Lines.{tail-in}
-use Rattle.kt_protocol.proofs.Cases.{pull-else, pull-here, pull-other, push-else, push-here}
-use Rattle.kt_protocol.proofs.Invariant.{Invariant}
+use Rattle.kt_protocol.proofs.Shared.{at-both, tail-in, pull-else, pull-here, pull-other, push-else, push-here, Invariant}
 
 -- what is said of a message: of the act that sent it, of who sent it to whom, and of its label
 abbrev pub Saying : Type 1

@@ -2,8 +2,7 @@
 use Rattle.std.proofs.Common.{◌≡◌, ℕ, zero, suc, Bool, true, false, List, [], length, replicate, Option, Some, None, refl, sym, ap, subst}
 use Rattle.std.specs.Prelude.{if◌then◌else◌}
 use Rattle.kt_tuple.specs.declared.node.NodeId.{NodeId}
-use Rattle.kt_history.proofs.Lines.{line-empty}
-use Rattle.kt_history.proofs.Lists.{Contains-none}
+use Rattle.kt_history.proofs.Shared.{line-empty, Contains-none}
 use Rattle.kt_link.specs.Network.{entry_at}
 use Rattle.kt_node.specs.declared.message.Message.{Message as RealMessage}
 use Rattle.kt_node.specs.declared.message.Message.TheVariants as messages
@@ -12,11 +11,11 @@ use Rattle.kt_node.specs.Node.{Node as RealNode, opening_node, node_number}
 use Rattle.kt_world.specs.Cast.{Cast, IsCast, is_node}
 use Rattle.kt_world.specs.State.{role_of, node, link_place}
 use Rattle.kt_world.specs.Reached.{opening, opening_row}
-use Rattle.kt_world.proofs.Opened.{at-replicate, opening-node}
+use Rattle.kt_world.proofs.Shared.{at-replicate, opening-node}
 use Rattle.kt_protocol.specs.Lines.{top_sent, top_heard}
 use Rattle.kt_protocol.specs.Machine.{Up, Open, Node, State}
 use Rattle.kt_protocol.specs.Runs.{IsBeginning}
-use Rattle.kt_protocol.proofs.Labels.{UpTo-refl}
+use Rattle.kt_protocol.proofs.Shared.{UpTo-refl}
 use Rattle.kt_refinement.proofs.Numbers.{label_of}
 use Rattle.kt_refinement.proofs.Reading.{nothing}
 use Rattle.kt_refinement.proofs.Represents.{carried, LinkIs, kept_from, StateIs, NodeIs, Represents}

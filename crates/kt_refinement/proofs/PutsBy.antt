@@ -11,7 +11,7 @@ use Rattle.kt_node.specs.Posts.{keep_plan}
 use Rattle.kt_node.specs.Turning.{turned}
 use Rattle.kt_world.specs.declared.step.Step.TheVariants.{Deliver}
 use Rattle.kt_world.specs.State.{State as World}
-use Rattle.kt_world.proofs.Plans.{IsAlive, Comes}
+use Rattle.kt_world.proofs.Shared.{IsAlive, Comes}
 use Rattle.kt_protocol.specs.Machine.{Node, State}
 use Rattle.kt_protocol.specs.Steps.{keeps, keeping, change, pull}
 use Rattle.kt_protocol.specs.Runs.{nothing_done, one_more}

@@ -6,7 +6,7 @@ use Rattle.kt_history.specs.declared.note.Note.TheVariants as notes
 use Rattle.kt_history.specs.declared.note.What.{What}
 use Rattle.kt_history.specs.declared.note.What.TheVariants as whats
 use Rattle.kt_history.specs.Line.{note_at}
-use Rattle.kt_history.proofs.Lines.{note_at-old, note_at-within}
+use Rattle.kt_history.proofs.Shared.{note_at-old, note_at-within}
 use Rattle.kt_world.specs.Effect.{noted}
 use Rattle.kt_protocol.specs.Labels.{Label}
 use Rattle.kt_protocol.specs.Lines.{IsIn, Act, Sends, Hears}

@@ -7,14 +7,12 @@ use Rattle.kt_world.specs.Cast.{Cast, IsCast}
 use Rattle.kt_world.specs.State.{State as World}
 use Rattle.kt_world.specs.Effect.{step_result}
 use Rattle.kt_world.specs.Reached.{IsReached, opening, or_as_it_was, next_state, after}
-use Rattle.kt_world.proofs.Scene.{neighbours-turned}
-use Rattle.kt_world.proofs.Holding.{Holds, IsMade, step-made, made-holds, opening-holds}
+use Rattle.kt_world.proofs.Shared.{neighbours-turned, Holds, IsMade, step-made, made-holds, opening-holds}
 use Rattle.kt_protocol.specs.Labels.{no_label}
 use Rattle.kt_protocol.specs.Machine.{State}
 use Rattle.kt_protocol.specs.Runs.{AreNeighbours, nothing_done}
 use Rattle.kt_protocol.specs.Laws.{IsReached as IsMachineReached}
-use Rattle.kt_protocol.proofs.Invariant.{Invariant}
-use Rattle.kt_protocol.proofs.Main.{holds_where_reached, reached-run}
+use Rattle.kt_protocol.proofs.Shared.{Invariant, holds_where_reached, reached-run}
 use Rattle.kt_refinement.proofs.Numbers.{named, peers}
 use Rattle.kt_refinement.proofs.Represents.{Represents}
 use Rattle.kt_refinement.proofs.Opened.{beginning, beginning-begins, opening-represents}

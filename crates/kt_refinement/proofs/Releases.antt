@@ -31,15 +31,12 @@ use Rattle.kt_world.specs.Cast.{Cast}
 use Rattle.kt_world.specs.Cut.{permanent_by}
 use Rattle.kt_world.specs.State.{State as World}
 use Rattle.kt_world.specs.Told.{told, of_poll}
-use Rattle.kt_world.proofs.Plans.{IsAlive, Comes}
-use Rattle.kt_world.proofs.Backs.{backed-in, comes-boards, settled-is}
-use Rattle.kt_world.proofs.CheckLeaves.{learnt}
-use Rattle.kt_world.proofs.Holding.{Holds}
+use Rattle.kt_world.proofs.Shared.{IsAlive, Comes, backed-in, comes-boards, settled-is, learnt, Holds}
 use Rattle.kt_protocol.specs.Labels.{UpTo}
 use Rattle.kt_protocol.specs.Machine.{Node, State}
 use Rattle.kt_protocol.specs.Steps.{rising, releases, change}
 use Rattle.kt_protocol.specs.Runs.{nothing_done, one_more}
-use Rattle.kt_protocol.proofs.Labels.{at-here, UpTo-refl}
+use Rattle.kt_protocol.proofs.Shared.{at-here, UpTo-refl}
 use Rattle.kt_refinement.proofs.Represents.{carried, NodeIs, NodeIn, Stands, TentativeIs, undecided, Represents}
 use Rattle.kt_refinement.proofs.Links.{to}
 use Rattle.kt_refinement.proofs.Frames.{links-idle, CastSo, LinksLead, Refines, owner-in, nodes-at, votes-at, leads-represents}

@@ -36,7 +36,7 @@ use Rattle.kt_protocol.specs.Labels.{UpTo}
 use Rattle.kt_protocol.specs.Lines.{IsIn, Act, top_sent, top_heard}
 use Rattle.kt_protocol.specs.Machine.{Instance, Check, Rollback, Verdict, Open, Yes, No, Key, Ballot, Mode, Up, Within, Down, Post, Message, App, Ask, Vote}
 use Rattle.kt_protocol.specs.Machine.{Node, Board, State}
-use Rattle.kt_protocol.proofs.Invariant.{a_key, a_vote}
+use Rattle.kt_protocol.proofs.Shared.{a_key, a_vote}
 use Rattle.kt_refinement.proofs.Numbers.{label_of}
 use Rattle.kt_refinement.proofs.Reading.{Reads}
 

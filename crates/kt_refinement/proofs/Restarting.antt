@@ -18,13 +18,9 @@ use Rattle.kt_world.specs.Cut.{acts_held}
 use Rattle.kt_world.specs.State.{State as World, node, view}
 use Rattle.kt_world.specs.Told.{told}
 use Rattle.kt_world.specs.Told as tellings
-use Rattle.kt_world.proofs.Plans.{IsAlive, IsDown}
-use Rattle.kt_world.proofs.Backs.{backed-in}
-use Rattle.kt_world.proofs.FailLeaves.{has_fallen}
-use Rattle.kt_world.proofs.Sound.{Ends, EndsDown, EndsRolling}
-use Rattle.kt_world.proofs.Holding.{Holds}
+use Rattle.kt_world.proofs.Shared.{IsAlive, IsDown, backed-in, has_fallen, EndsAs, EndsDown, EndsRolling, Holds}
 use Rattle.kt_protocol.specs.Machine.{State}
-use Rattle.kt_protocol.proofs.Invariant.{Invariant}
+use Rattle.kt_protocol.proofs.Shared.{Invariant}
 use Rattle.kt_refinement.proofs.Numbers.{peers}
 use Rattle.kt_refinement.proofs.Represents.{Represents}
 use Rattle.kt_refinement.proofs.Frames.{Refines}
@@ -48,7 +44,7 @@ restarts s c inv is h p live there down untaken from =
       ends : length (acts_in_line s.history p) ≡ acts_held (row_of s.content p).permanent
       ends =
           let N : Option RealNode → Type 0 =
-          λ r. Ends (length (acts_in_line s.history p)) (acts_held (row_of s.content p).permanent) (row_of s.content p).tentative
+          λ r. EndsAs (length (acts_in_line s.history p)) (acts_held (row_of s.content p).permanent) (row_of s.content p).tentative
           (verdict_on s.content (row_of s.content p).tentative) r in
           let T : Option Tentative → Type 0 =
           λ t. EndsDown (length (acts_in_line s.history p)) (acts_held (row_of s.content p).permanent) (verdict_on s.content t) t in
@@ -64,7 +60,7 @@ restarts_anew s c inv is h p n live b there alive rolling began from =
     ends : length (acts_in_line s.history p) ≡ acts_held (row_of s.content p).permanent
     ends =
         let N : Option RealNode → Type 0 =
-        λ r. Ends (length (acts_in_line s.history p)) (acts_held (row_of s.content p).permanent) (row_of s.content p).tentative
+        λ r. EndsAs (length (acts_in_line s.history p)) (acts_held (row_of s.content p).permanent) (row_of s.content p).tentative
         (verdict_on s.content (row_of s.content p).tentative) r in
         let P : Phase → Type 0 = λ f. EndsRolling (length (acts_in_line s.history p)) (acts_held (row_of s.content p).permanent) f in
         subst P rolling (subst N alive (h.sound.nodes p).ends) began

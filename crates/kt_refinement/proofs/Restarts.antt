@@ -26,15 +26,13 @@ use Rattle.kt_world.specs.Cut.{acts_held, permanent_by}
 use Rattle.kt_world.specs.Effect.{applied}
 use Rattle.kt_world.specs.Ready.{AreNeighbours}
 use Rattle.kt_world.specs.Writing.{content_after}
-use Rattle.kt_world.proofs.NoteSound.{line-long}
-use Rattle.kt_world.proofs.Holding.{Holds}
+use Rattle.kt_world.proofs.Shared.{line-long, Holds}
 use Rattle.kt_protocol.specs.Lines.{IsIn, top_sent}
 use Rattle.kt_protocol.specs.Machine.{Rollback, Ask, Node, State}
 use Rattle.kt_protocol.specs.Steps as machine
 use Rattle.kt_protocol.specs.Steps.{joining, loading, falling, cutting, asking, fails, begin, change, push}
 use Rattle.kt_protocol.specs.Runs.{nothing_done, one_more}
-use Rattle.kt_protocol.proofs.Labels.{at-here}
-use Rattle.kt_protocol.proofs.Invariant.{Invariant}
+use Rattle.kt_protocol.proofs.Shared.{at-here, Invariant}
 use Rattle.kt_refinement.proofs.Numbers.{peers, label_of}
 use Rattle.kt_refinement.proofs.Reading.{Reads}
 use Rattle.kt_refinement.proofs.Represents.{carried, kept_from, NodeIs, NodeIn, Stands, TentativeIs, undecided, Represents}

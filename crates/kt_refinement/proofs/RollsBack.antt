@@ -26,22 +26,18 @@ use Rattle.kt_world.specs.declared.step.Step.{Step}
 use Rattle.kt_world.specs.declared.step.Step.TheVariants.{Deliver, Learn}
 use Rattle.kt_world.specs.Step.{owner}
 use Rattle.kt_world.specs.Backed.{IsBoards}
-use Rattle.kt_world.proofs.OnLinks.{first-holds}
+use Rattle.kt_world.proofs.Shared.{first-holds}
 use Rattle.kt_world.specs.State.{State as World, role_of, view, node}
 use Rattle.kt_world.specs.Told.{stored_of, told, to_learn, of_poll}
 use Rattle.kt_world.specs.Cut.{acts_held, permanent_by}
 use Rattle.kt_world.specs.Effect.{noted}
 use Rattle.kt_world.specs.Writing.{content_after}
-use Rattle.kt_world.proofs.Plans.{IsAlive, Comes}
-use Rattle.kt_world.proofs.Backs.{backed-in}
-use Rattle.kt_world.proofs.Cutting.{held_marks}
-use Rattle.kt_world.proofs.Sound.{MayNote}
-use Rattle.kt_world.proofs.Holding.{Holds}
+use Rattle.kt_world.proofs.Shared.{IsAlive, Comes, backed-in, held_marks, MayNote, Holds}
 use Rattle.kt_protocol.specs.Machine.{Rollback, Yes, Node, State, Vote}
-use Rattle.kt_protocol.proofs.Labels.{at-here}
+use Rattle.kt_protocol.proofs.Shared.{at-here}
 use Rattle.kt_protocol.specs.Steps.{rising, loading, learns_yes, change}
 use Rattle.kt_protocol.specs.Runs.{nothing_done, one_more}
-use Rattle.kt_protocol.proofs.Invariant.{Invariant}
+use Rattle.kt_protocol.proofs.Shared.{Invariant}
 use Rattle.kt_refinement.proofs.Numbers.{peers}
 use Rattle.kt_refinement.proofs.Reading.{Reads}
 use Rattle.kt_refinement.proofs.Represents.{kept_from, carried, NodeIs, NodeIn, Stands, TentativeIs, undecided, Represents}

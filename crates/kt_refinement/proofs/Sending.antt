@@ -27,10 +27,7 @@ use Rattle.kt_world.specs.Step.{owner}
 use Rattle.kt_world.specs.State.{State as World}
 use Rattle.kt_world.specs.Effect.{noted}
 use Rattle.kt_world.specs.Ready.{AreNeighbours}
-use Rattle.kt_world.proofs.Plans.{IsAlive}
-use Rattle.kt_world.proofs.NoteSound.{note_at-next}
-use Rattle.kt_world.proofs.Sound.{MayNote}
-use Rattle.kt_world.proofs.Holding.{Holds}
+use Rattle.kt_world.proofs.Shared.{IsAlive, note_at-next, MayNote, Holds}
 use Rattle.kt_protocol.specs.Labels.{Label}
 use Rattle.kt_protocol.specs.Lines.{IsIn, here, there, Act, Sends, Hears, top_sent}
 use Rattle.kt_protocol.specs.Machine.{App, Node, State, Message, next_label as next_of}

@@ -9,7 +9,7 @@ use Rattle.kt_history.specs.declared.note.Note.TheVariants as notes
 use Rattle.kt_history.specs.Line.{line}
 use Rattle.kt_history.specs.Closed.{acts_in_line}
 use Rattle.kt_lines.specs.Cause.{cause_of_waiting}
-use Rattle.kt_lines.proofs.Traces.{waits_heard, Contains-acts_at}
+use Rattle.kt_lines.proofs.Shared.{waits_heard, Contains-acts_at}
 use Rattle.kt_shard.specs.Service.{Service}
 use Rattle.kt_node.specs.declared.live.Phase.TheVariants as phases
 use Rattle.kt_node.specs.declared.change.BodyChange.TheVariants as bodies
@@ -18,10 +18,7 @@ use Rattle.kt_node.specs.Talking.{act_of, service_plan}
 use Rattle.kt_world.specs.declared.step.Step.TheVariants.{Serve}
 use Rattle.kt_world.specs.Cast.{is_worker, is_shard}
 use Rattle.kt_world.specs.State.{State as World, role_of, view}
-use Rattle.kt_world.proofs.Plans.{IsAlive}
-use Rattle.kt_world.proofs.Scene.{worker-neighbour, role-id}
-use Rattle.kt_world.proofs.Sound.{MayNote}
-use Rattle.kt_world.proofs.Holding.{Holds}
+use Rattle.kt_world.proofs.Shared.{IsAlive, worker-neighbour, role-id, MayNote, Holds}
 use Rattle.kt_protocol.specs.Machine.{State}
 use Rattle.kt_refinement.proofs.Reading.{WasHeard}
 use Rattle.kt_refinement.proofs.Represents.{Represents}

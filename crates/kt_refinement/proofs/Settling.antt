@@ -18,7 +18,7 @@ use Rattle.kt_store.specs.declared.rows.Verdict.TheVariants as verdicts
 use Rattle.kt_store.specs.Content.{Content, posted, verdict_of, verdict_on}
 use Rattle.kt_store.specs.Changes.{decided}
 use Rattle.kt_store.specs.Verdict.{verdict_from}
-use Rattle.kt_store.proofs.OtherInstances.{others_decided, decided_is_read}
+use Rattle.kt_store.proofs.Shared.{others_decided, decided_is_read}
 use Rattle.kt_node.specs.Node.{Node as RealNode, Down as IsDown, Alive, node_number}
 use Rattle.kt_node.specs.Stored.{sent_in}
 use Rattle.kt_world.specs.Cast.{Cast}
@@ -28,7 +28,7 @@ use Rattle.kt_protocol.specs.Labels.{UpTo}
 use Rattle.kt_protocol.specs.Lines.{Act, top_sent}
 use Rattle.kt_protocol.specs.Machine.{Check, Rollback, Node, Board, at_instance}
 use Rattle.kt_protocol.specs.Steps.{promoted, released}
-use Rattle.kt_protocol.proofs.Labels.{UpTo-trans}
+use Rattle.kt_protocol.proofs.Shared.{UpTo-trans}
 use Rattle.kt_refinement.proofs.Numbers.{label_of}
 use Rattle.kt_refinement.proofs.Represents.{StateIs, Stands, TentativeIs, undecided, NodeIs, verdict_is, is_for, begun_as, InstanceIs}
 

@@ -9,7 +9,7 @@ use Rattle.kt_node.specs.declared.message.Message.{Message as RealMessage}
 use Rattle.kt_node.specs.declared.plan.Plan.{Plan}
 use Rattle.kt_world.specs.declared.step.Step.TheVariants.{Deliver}
 use Rattle.kt_world.specs.State.{State as World, link}
-use Rattle.kt_world.proofs.Plans.{Comes}
+use Rattle.kt_world.proofs.Shared.{Comes}
 use Rattle.kt_protocol.specs.Machine.{State}
 use Rattle.kt_refinement.proofs.Represents.{carried_one, carried, Represents}
 use Rattle.kt_refinement.proofs.Links.{to}

@@ -28,11 +28,11 @@ use Rattle.kt_world.specs.Step.{owner}
 use Rattle.kt_world.specs.State.{State as World, node, view}
 use Rattle.kt_world.specs.Effect.{applied}
 use Rattle.kt_world.specs.Forced.{IsIn}
-use Rattle.kt_world.proofs.Frames.{applied-owner, applied-other}
+use Rattle.kt_world.proofs.Shared.{applied-owner, applied-other}
 use Rattle.kt_world.proofs.Heards as ways
-use Rattle.kt_world.proofs.Heards.{HeardOf, heard-is}
+use Rattle.kt_world.proofs.Shared.{HeardOf, heard-is}
 use Rattle.kt_world.proofs.Plans as plans
-use Rattle.kt_world.proofs.Plans.{PlanOf, IsAlive, IsDown, Comes, Votes}
+use Rattle.kt_world.proofs.Shared.{PlanOf, IsAlive, IsDown, Comes, Votes}
 use Rattle.kt_refinement.proofs.Frames.{cases-node}
 
 -- the node votes in an instance

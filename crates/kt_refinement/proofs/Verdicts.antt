@@ -22,11 +22,9 @@ use Rattle.kt_world.specs.declared.step.Step.TheVariants.{Deliver, Decide, Aband
 use Rattle.kt_world.specs.Step.{owner}
 use Rattle.kt_world.specs.State.{State as World, node, view}
 use Rattle.kt_world.specs.Told.{told, of_poll}
-use Rattle.kt_world.proofs.Plans.{IsAlive, Votes as VotesSo, holds, rolls}
-use Rattle.kt_world.proofs.Holding.{Holds}
-use Rattle.kt_world.proofs.Boards.{open-verdict}
+use Rattle.kt_world.proofs.Shared.{IsAlive, Votes as VotesSo, holds, rolls, Holds, open-verdict}
 use Rattle.kt_protocol.specs.Machine.{Check, Rollback, State}
-use Rattle.kt_protocol.proofs.Invariant.{Invariant}
+use Rattle.kt_protocol.proofs.Shared.{Invariant}
 use Rattle.kt_refinement.proofs.Numbers.{peers}
 use Rattle.kt_refinement.proofs.Represents.{begun_as, NodeIn, Represents}
 use Rattle.kt_refinement.proofs.Frames.{LinksLead, Refines, links-idle}

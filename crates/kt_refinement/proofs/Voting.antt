@@ -19,15 +19,14 @@ use Rattle.kt_node.specs.Voting.{casting, casting_to, vote_for, poll_after, vote
 use Rattle.kt_node.specs.Deciding.{declined_plan}
 use Rattle.kt_world.specs.declared.step.Step.TheVariants.{Abandon}
 use Rattle.kt_world.specs.State.{State as World}
-use Rattle.kt_world.proofs.Plans.{IsAlive, Votes as VotesSo, holds, rolls}
+use Rattle.kt_world.proofs.Shared.{IsAlive, Votes as VotesSo, holds, rolls}
 use Rattle.kt_protocol.specs.Labels.{at}
 use Rattle.kt_protocol.specs.Lines.{IsIn, here, there}
 use Rattle.kt_protocol.specs.Machine.{Instance, Check, Rollback, Key, Ballot, Mode, Within, Vote, Mark, Node, State}
 use Rattle.kt_protocol.specs.Steps as machine
 use Rattle.kt_protocol.specs.Steps.{change, counting, answering, consenting, agrees, declines}
 use Rattle.kt_protocol.specs.Runs.{nothing_done, one_more}
-use Rattle.kt_protocol.proofs.Labels.{at-here, at-else}
-use Rattle.kt_protocol.proofs.Invariant.{a_vote, a_key}
+use Rattle.kt_protocol.proofs.Shared.{at-here, at-else, a_vote, a_key}
 use Rattle.kt_refinement.proofs.Mail.{QuietStep}
 use Rattle.kt_refinement.proofs.Numbers.{peers}
 use Rattle.kt_refinement.proofs.Represents.{asker_key, WasCast, BallotIs, Votes, PhaseIs, NodeIn, Represents}

@@ -10,8 +10,7 @@ use Rattle.kt_world.specs.Reached.{IsReached}
 use Rattle.kt_world.specs.Cut.{IsCausallyClosed, permanent_length}
 use Rattle.kt_world.specs.Headline.{Headline, IsSteady, IsSteadyRun, is_steady, is_steady_row}
 use Rattle.kt_world.specs.PermanentRun.{IsPermanentRun}
-use Rattle.kt_world.proofs.Holding.{one_run-reached, reached-holds}
-use Rattle.kt_world.proofs.PermanentReached.{permanent-reached, stores-reached}
+use Rattle.kt_world.proofs.Shared.{one_run-reached, reached-holds, permanent-reached, stores-reached}
 use Rattle.kt_refinement.proofs.Voting.{both-true}
 use Rattle.kt_refinement.proofs.Refined.{reached-stands, stands-invariant}
 use Rattle.kt_refinement.proofs.Agreeing.{permanent-closed, steady-run}

@@ -4,7 +4,7 @@ use Rattle.kt_world.specs.declared.step.Step.{Step}
 use Rattle.kt_world.specs.declared.step.StepError.{StepError}
 use Rattle.kt_world.specs.Effect.{step_result}
 use Rattle.kt_world.specs.State.{State}
-use Rattle.kt_world.proofs.Holding.{step-made}
+use Rattle.kt_world.proofs.Shared.{step-made}
 use Rattle.kt_stage.specs.Journal.{made_from, all_made}
 use Rattle.kt_scene.specs.Runs.{RunsTo}
 

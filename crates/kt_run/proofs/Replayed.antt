@@ -13,8 +13,7 @@ use Rattle.kt_scene.specs.Run.{LeadsTo}
 use Rattle.kt_scene.specs.Runs.{RunsTo}
 use Rattle.kt_scene.specs.Scenario.{IsPlay, IsScenario, IsStep}
 use Rattle.kt_scene.specs.Work.{Steps, steps_of}
-use Rattle.kt_scene.proofs.JournalRead.{journal_is_scenario}
-use Rattle.kt_scene.proofs.ScenarioRead.{wanted_is_read}
+use Rattle.kt_scene.proofs.Shared.{journal_is_scenario, wanted_is_read}
 use Rattle.kt_stage.specs.Journal.{all_made}
 use Rattle.kt_run.specs.Run.{IsRunOf}
 use Rattle.kt_run.proofs.Made.{all_made_runs, runs_cast, runs_once}

@@ -19,7 +19,7 @@ use Rattle.kt_tuple.specs.Matching.{matches}
 use Rattle.kt_space.specs.Picking.{matching}
 use Rattle.kt_script.specs.declared.command.Command.{Command}
 use Rattle.kt_script.specs.Rules.{IsScript}
-use Rattle.kt_script.proofs.Limits.{keeps_limits}
+use Rattle.kt_script.proofs.Shared.{keeps_limits}
 use Rattle.kt_shard.specs.declared.request.Request.{Request}
 use Rattle.kt_shard.specs.Shard.{Shard, desk_of}
 use Rattle.kt_shard.specs.Service.{Service, got_or_none, answer_at, service_if, service_of, service}
@@ -44,11 +44,10 @@ use Rattle.kt_world.specs.Ready.{IsReady, IsBodyReady, IsLiveReady, IsNodeReady}
 use Rattle.kt_world.specs.Short.{IsShort, AreShort}
 use Rattle.kt_world.specs.State.{State, node, role_of, view}
 use Rattle.kt_world.specs.Told.{told}
-use Rattle.kt_world.proofs.Holding.{Holds, step-made, made-holds, opening-holds}
-use Rattle.kt_world.proofs.Scene.{Ends, to_shard, to_worker, ends, worker-node, shard-node}
+use Rattle.kt_world.proofs.Shared.{Holds, step-made, made-holds, opening-holds, Ends, to_shard, to_worker, ends, worker-node, shard-node}
 use Rattle.kt_scene.specs.Runs.{RunsTo}
 use Rattle.kt_scene.specs.Scenario.{IsStepNode, IsStep}
-use Rattle.kt_scene.proofs.FaultShapes.{node_said}
+use Rattle.kt_scene.proofs.Shared.{node_said}
 
 -- ---- what is known of a step that is made
 

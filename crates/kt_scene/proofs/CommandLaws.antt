@@ -10,7 +10,7 @@ use Rattle.std.specs.Option.{option_map}
 use Rattle.kt_tuple.specs.Spelling.{in_parentheses}
 use Rattle.kt_tuple.specs.Matching.{HasArity}
 use Rattle.kt_tuple.specs.Reading.{int_at, int_of}
-use Rattle.kt_tuple.proofs.IntLaws.{int_taken, int_spelled, int_of_some}
+use Rattle.kt_tuple.proofs.Shared.{int_taken, int_spelled, int_of_some}
 use Rattle.kt_script.specs.declared.name.Name.{Name}
 use Rattle.kt_script.specs.declared.command.Actual.{Actual}
 use Rattle.kt_script.specs.declared.command.Slot.{Slot}

@@ -10,7 +10,7 @@ use Rattle.std.specs.Str.Parse.{digits_value, signed_digits_value}
 use Rattle.kt_tuple.specs.declared.value.Kind.{Kind}
 use Rattle.kt_tuple.specs.Grammar.{IsInt}
 use Rattle.kt_tuple.specs.Reading.{int_at, int_of}
-use Rattle.kt_tuple.proofs.IntShapes.{int_read, int_takes}
+use Rattle.kt_tuple.proofs.Shared.{int_read, int_takes}
 use Rattle.kt_script.specs.declared.name.Name.{Name}
 use Rattle.kt_script.specs.declared.command.Slot.{Slot}
 use Rattle.kt_script.specs.declared.command.Operation.{Operation}

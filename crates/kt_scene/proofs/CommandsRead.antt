@@ -10,9 +10,7 @@ use Rattle.std.specs.Fmt.{signed_decimal}
 use Rattle.kt_tuple.specs.Spelling.{separated, in_parentheses}
 use Rattle.kt_tuple.specs.Matching.{HasArity}
 use Rattle.kt_tuple.specs.Reading.{int_at}
-use Rattle.kt_tuple.proofs.IntsRead.{signed_decimal_is_int, int_at_int, int_of_decimal}
-use Rattle.kt_tuple.proofs.WholesRead.{after_last, after_other}
-use Rattle.kt_tuple.proofs.Wholes.{separated-cons, length-map_same}
+use Rattle.kt_tuple.proofs.Shared.{signed_decimal_is_int, int_at_int, int_of_decimal, after_last, after_other, separated-cons, length-map_same}
 use Rattle.kt_script.specs.declared.command.Actual.{Actual}
 use Rattle.kt_script.specs.declared.command.Slot.{Slot}
 use Rattle.kt_script.specs.declared.command.Slot.TheVariants as slots

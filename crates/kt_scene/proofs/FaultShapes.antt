@@ -7,7 +7,7 @@ use Rattle.std.specs.Option.{option_map}
 use Rattle.kt_tuple.specs.declared.node.NodeId.{NodeId}
 use Rattle.kt_tuple.specs.Reading.{int_of}
 use Rattle.kt_world.specs.Cast.{Cast, IsCast, is_node}
-use Rattle.kt_world.proofs.Scene.{IsNode, a_worker, a_shard, of_node}
+use Rattle.kt_world.proofs.Shared.{IsNode, a_worker, a_shard, of_node}
 use Rattle.kt_core.specs.declared.faults.FaultKind.{FaultKind}
 use Rattle.kt_core.specs.declared.faults.FaultKind.TheVariants as kinds
 use Rattle.kt_core.specs.declared.faults.Fault.{Fault}

@@ -43,3 +43,4 @@ pub mod JournalRead
 pub mod Entries
 pub mod ScenarioText
 pub mod JournalWritten
+pub mod Shared

@@ -11,7 +11,7 @@ use Rattle.kt_script.specs.declared.script_error.ScriptError.TheVariants as refu
 use Rattle.kt_script.specs.Command.{bindings}
 use Rattle.kt_script.specs.Variables.{variables_of, with_bindings}
 use Rattle.kt_script.specs.Rules.{has_count, keeps_rules, is_within}
-use Rattle.kt_script.proofs.Pushed.{variables_of-push}
+use Rattle.kt_script.proofs.Shared.{variables_of-push}
 use Rattle.kt_world.specs.declared.step.Step.{Step}
 use Rattle.kt_world.specs.Cast.{is_node}
 use Rattle.kt_core.specs.declared.faults.Fault.{Fault}

@@ -4,7 +4,7 @@ use Rattle.std.proofs.lemmas.Bool.{ltb-false}
 use Rattle.std.proofs.lemmas.List.Sums.{prefix_len-le-length}
 use Rattle.std.specs.Prelude.{position}
 use Rattle.std.specs.List.{position_or_len}
-use Rattle.kt_tuple.proofs.Readers.{none_chosen}
+use Rattle.kt_tuple.proofs.Shared.{none_chosen}
 use Rattle.kt_script.specs.Name.{is_name_character}
 use Rattle.kt_scene.specs.Commands.{name_length}
 use Rattle.kt_scene.proofs.NumberLaws.{chosen}

@@ -9,8 +9,7 @@ use Rattle.std.specs.Option.{option_map}
 use Rattle.std.specs.Result.{result_ok}
 use Rattle.std.specs.Str.Parse.{digits_value}
 use Rattle.kt_tuple.specs.Reading.{word_at, int_at, int_of}
-use Rattle.kt_tuple.proofs.IntLaws.{IsInt, just_zero, positive, negative, int_taken, int_spelled, int_of_some, no_sign}
-use Rattle.kt_tuple.proofs.ValueLaws.{word_taken}
+use Rattle.kt_tuple.proofs.Shared.{IsInt, just_zero, positive, negative, int_taken, int_spelled, int_of_some, no_sign, word_taken}
 use Rattle.kt_scene.specs.Number.{◌>>=◌, behind, behind_or, ended, number_of, number_at, within, number_within}
 
 -- what two readings, one after the other, read

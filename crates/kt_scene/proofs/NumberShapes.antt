@@ -10,9 +10,7 @@ use Rattle.std.specs.Option.{option_map}
 use Rattle.std.specs.Str.Parse.{digits_value, signed_digits_value}
 use Rattle.kt_tuple.specs.Grammar.{IsInt, just_zero, positive, negative}
 use Rattle.kt_tuple.specs.Reading.{begins_with_digit, int_at, int_of, has_range}
-use Rattle.kt_tuple.proofs.IntLaws.{int_of_some, no_sign}
-use Rattle.kt_tuple.proofs.IntShapes.{int_read, int_takes}
-use Rattle.kt_tuple.proofs.Outside.{int_range}
+use Rattle.kt_tuple.proofs.Shared.{int_of_some, no_sign, int_read, int_takes, int_range}
 use Rattle.kt_scene.specs.declared.fault.SceneError.{SceneError}
 use Rattle.kt_scene.specs.declared.fault.SceneError.TheVariants as faults
 use Rattle.kt_scene.specs.Number.{◌>>=◌, behind, ended, number_of, number_at}

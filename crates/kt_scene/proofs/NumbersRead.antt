@@ -10,8 +10,7 @@ use Rattle.std.specs.Int.RustNames.{FitsSigned}
 use Rattle.std.specs.Option.{option_map}
 use Rattle.std.specs.Str.{all_ascii_digits}
 use Rattle.kt_tuple.specs.Reading.{begins_with_digit, int_at, int_of}
-use Rattle.kt_tuple.proofs.IntLaws.{own}
-use Rattle.kt_tuple.proofs.IntsRead.{signed_decimal_is_int, int_at_int, int_of_decimal}
+use Rattle.kt_tuple.proofs.Shared.{own, signed_decimal_is_int, int_at_int, int_of_decimal}
 use Rattle.kt_scene.specs.Number.{number_of, number_at, number_within}
 
 digit_first : (p : List ℕ) → 0 < length p → all_ascii_digits p ≡ true → (c : ℕ) × (cs : List ℕ) × (p ≡ c ∷ cs) × (is_ascii_digit c ≡ true)

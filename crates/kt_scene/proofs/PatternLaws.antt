@@ -6,7 +6,7 @@ use Rattle.std.specs.Prelude.{All}
 use Rattle.kt_tuple.specs.Spelling.{separated}
 use Rattle.kt_tuple.specs.Matching.{HasArity}
 use Rattle.kt_tuple.specs.Reading.{after_place}
-use Rattle.kt_tuple.proofs.Wholes.{none_follows, some_follows, separated-cons, length-map_same}
+use Rattle.kt_tuple.proofs.Shared.{none_follows, some_follows, separated-cons, length-map_same}
 use Rattle.kt_script.specs.declared.command.Actual.{Actual}
 use Rattle.kt_script.specs.declared.command.Slot.{Slot}
 use Rattle.kt_script.specs.declared.command.Slot.TheVariants as slots

@@ -18,9 +18,7 @@ use Rattle.kt_tuple.specs.declared.value.Kind.TheVariants as kinds
 use Rattle.kt_tuple.specs.Spelling.{character_text, value_text, further, separated, in_parentheses}
 use Rattle.kt_tuple.specs.Reading.{is_printable}
 use Rattle.kt_tuple.specs.Valid.{IsValue}
-use Rattle.kt_tuple.proofs.IntLaws.{own, IsInt, just_zero, positive, negative}
-use Rattle.kt_tuple.proofs.IntsRead.{signed_decimal_is_int}
-use Rattle.kt_tuple.proofs.Strings.{all_printable}
+use Rattle.kt_tuple.proofs.Shared.{own, IsInt, just_zero, positive, negative, signed_decimal_is_int, all_printable}
 use Rattle.kt_script.specs.declared.command.Actual.{Actual}
 use Rattle.kt_script.specs.declared.command.Actual.TheVariants.{Literal, Variable}
 use Rattle.kt_script.specs.declared.command.Slot.{Slot}

@@ -8,7 +8,7 @@ use Rattle.kt_tuple.specs.declared.value.Kind.{Kind}
 use Rattle.kt_tuple.specs.declared.value.Kind.TheVariants as kinds
 use Rattle.kt_tuple.specs.Spelling.{value_text, kind_text}
 use Rattle.kt_tuple.specs.Reading.{value_at, value_of}
-use Rattle.kt_tuple.proofs.ValueLaws.{value_read_front, value_read_spelled, value_in_range}
+use Rattle.kt_tuple.proofs.Shared.{value_read_front, value_read_spelled, value_in_range}
 use Rattle.kt_script.specs.declared.name.Name.{Name}
 use Rattle.kt_script.specs.declared.command.Actual.{Actual}
 use Rattle.kt_script.specs.declared.command.Actual.TheVariants.{Literal, Variable}

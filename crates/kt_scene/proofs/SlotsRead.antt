@@ -15,11 +15,8 @@ use Rattle.kt_tuple.specs.declared.value.Kind.TheVariants as kinds
 use Rattle.kt_tuple.specs.Spelling.{value_text, kind_text}
 use Rattle.kt_tuple.specs.Reading.{begins_with_digit}
 use Rattle.kt_tuple.specs.Valid.{IsValue}
-use Rattle.kt_tuple.proofs.IntLaws.{IsPositive, IsInt, just_zero, positive, negative}
-use Rattle.kt_tuple.proofs.IntsRead.{signed_decimal_is_int}
-use Rattle.kt_tuple.proofs.ValueLaws.{value_taken}
-use Rattle.kt_tuple.proofs.ValuesRead.{value_at_text, value_of_text}
-use Rattle.kt_tuple.proofs.PlaceLaws.{value_first}
+use Rattle.kt_tuple.proofs.Shared.{IsPositive, IsInt, just_zero, positive, negative, signed_decimal_is_int, value_taken, value_at_text, value_of_text}
+use Rattle.kt_tuple.proofs.Shared.{value_first}
 use Rattle.kt_script.specs.declared.command.Actual.{Actual}
 use Rattle.kt_script.specs.declared.command.Actual.TheVariants.{Literal, Variable}
 use Rattle.kt_script.specs.declared.command.Slot.{Slot}

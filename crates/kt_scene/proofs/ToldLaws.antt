@@ -33,7 +33,7 @@ use Rattle.kt_scene.proofs.CommandLaws.{command_taken}
 use Rattle.kt_scene.proofs.StepLaws.{step_taken}
 use Rattle.kt_scene.proofs.FaultLaws.{fault_taken}
 use Rattle.kt_scene.proofs.Words.{word_is}
-use Rattle.kt_script.proofs.Pushed.{FollowOn-push}
+use Rattle.kt_script.proofs.Shared.{FollowOn-push}
 use Rattle.kt_scene.proofs.Told.{head_lines, told_at, IsAt, IsGood, Adds, place_at, told_from, scripts_push, commands_push, steps_push, faults_push}
 use Rattle.kt_scene.proofs.Told.{nothing_kept, nothing_lines}
 

@@ -1,10 +1,11 @@
 //! The one text of each command, written at the end of bytes.
 
-ghost use Rattle.std.specs.Prelude.{◌≡◌, ◌++◌, OnOk, OnErr, ⊤};
+ghost use Rattle.std.specs.Prelude.{◌≡◌, ◌++◌, OnOk, OnErr, codes, ⊤};
 ghost use Rattle.std.specs.Io.{StartsWith};
 ghost use Rattle.kt_script.specs.Spelling.{actual_text, slot_text, operation_text, command_text};
 
 use crate::command::{Actual, Command, Operation, Slot};
+use crate::name::Name;
 use kt_tuple::writing::{Spelled, cut_back, push_in_parentheses, push_int, push_number};
 use std::alloc::AllocError;
 
@@ -66,10 +67,7 @@ fn push_command(out: &mut Vec<u8>, command: &Command) -> Result<(), AllocError>
             source,
             plus,
         } => {
-            out.extend_from_slice(b"set ")?;
-            out.extend_from_slice(variable.as_bytes())?;
-            out.extend_from_slice(b" = ")?;
-            out.extend_from_slice(source.as_bytes())?;
+            push_names(out, variable, source)?;
             out.extend_from_slice(b" + ")?;
             push_int(out, *plus)
         }
@@ -78,6 +76,17 @@ fn push_command(out: &mut Vec<u8>, command: &Command) -> Result<(), AllocError>
             push_number(out, u64::from(*count))
         }
     }
+}
+
+/// The names of a sum: the one that is set, and the one that is added to.
+fn push_names(out: &mut Vec<u8>, variable: &Name, source: &Name) -> Result<(), AllocError>
+    ensures ok { OnOk result (out.new.items ≡ out.old.items ++ codes "set " ++ variable.now ++ codes " = " ++ source.now) }
+    ensures front { StartsWith out.new.items out.old.items }
+{
+    out.extend_from_slice(b"set ")?;
+    out.extend_from_slice(variable.as_bytes())?;
+    out.extend_from_slice(b" = ")?;
+    out.extend_from_slice(source.as_bytes())
 }
 
 fn push_operation(out: &mut Vec<u8>, operation: &Operation) -> Result<(), AllocError>

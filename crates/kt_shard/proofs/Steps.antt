@@ -11,8 +11,7 @@ use Rattle.kt_tuple.specs.declared.op.Answer.{Answer}
 use Rattle.kt_tuple.specs.declared.op.Answer.TheVariants as answers
 use Rattle.kt_tuple.specs.Space.{SpaceStep, Withdraws, Reads, FindsNone}
 use Rattle.kt_space.specs.Picking.{matching, without_match}
-use Rattle.kt_space.proofs.Picked.{without_none}
-use Rattle.kt_space.proofs.Taken.{takes_out, match_contained, match_permutes, fewer, nothing_matches}
+use Rattle.kt_space.proofs.Shared.{without_none, takes_out, match_contained, match_permutes, fewer, nothing_matches}
 use Rattle.kt_shard.specs.declared.request.Request.{Request}
 use Rattle.kt_shard.specs.Shard.{Shard, desk_of}
 use Rattle.kt_shard.specs.Service.{Service, at_first, got_or_none, answer_at, left_by, service_if, service_of, service}

@@ -13,7 +13,7 @@ use Rattle.kt_tuple.specs.declared.template.Template.{Template}
 use Rattle.kt_tuple.specs.Equality.{value_eq, value_eq_decides}
 use Rattle.kt_tuple.specs.Matching.{matches}
 use Rattle.kt_tuple.specs.Signature.{kinds_of, kinds_of_places, signature_of}
-use Rattle.kt_tuple.proofs.Homes.{Matches-signature}
+use Rattle.kt_tuple.proofs.Shared.{Matches-signature}
 use Rattle.kt_space.specs.declared.key.Key.{Key}
 use Rattle.kt_space.specs.Chaining.{Has}
 use Rattle.kt_space.specs.Grouping.{kinds_key, first_key, template_key, first_actual}

@@ -12,3 +12,4 @@ pub mod Searched
 pub mod Stays
 pub mod Tables
 pub mod Taken
+pub mod Shared

@@ -31,13 +31,13 @@ use Rattle.sqlite_trees.proofs.ListLemmas.{all-permutation}
 use Rattle.sqlite_typed.proofs.RowLemmas.{puts-map, deletes-map}
 use Rattle.kt_tuple.specs.declared.node.NodeId.{NodeId}
 use Rattle.kt_tuple.specs.declared.node.NodeId.TheVariants.{Worker, Shard}
-use Rattle.kt_store.proofs.Nodes.{one_way, itself}
+use Rattle.kt_store.proofs.Shared.{one_way, itself}
 use Rattle.kt_store.specs.declared.rows.NodeRow.{NodeRow}
 use Rattle.kt_store.specs.declared.rows.Posted.{Posted}
 use Rattle.kt_store.specs.declared.rows.Tentative.{Tentative}
 use Rattle.kt_store.specs.Content.{Content, node_lt}
 use Rattle.kt_store.specs.Changes.{with_row, with_posted, storing}
-use Rattle.kt_store.proofs.Tables.{placed, IsOrder}
+use Rattle.kt_store.proofs.Shared.{placed, IsOrder}
 use Rattle.kt_sql.specs.Schema.{kt_schema, node_table, board_table, meta_table}
 use Rattle.kt_sql.specs.Text.{put_node_text, put_posted_text}
 use Rattle.kt_sql.specs.Rows.{placing, whole, id_of, HasId, instance_value, node_given, node_stored, node_shown, posted_given}

@@ -48,7 +48,7 @@ use Rattle.kt_world.specs.Judge.{delivery, hear, is_planned, of_owner, of_scene}
 use Rattle.kt_world.specs.Ready.{AreNeighbours}
 use Rattle.kt_world.specs.State.{State, link, node, view}
 use Rattle.kt_world.specs.Told.{of_poll, told}
-use Rattle.kt_world.proofs.Scene.{among-some, from_ends, to_shard, to_worker}
+use Rattle.kt_world.proofs.Shared.{among-some, from_ends, to_shard, to_worker}
 use Rattle.kt_world.specs.Step.{owner}
 use Rattle.kt_core.specs.declared.faults.FaultLine.{FaultLine}
 use Rattle.kt_core.specs.Lent.{is_allowed, message_at}

@@ -5,7 +5,7 @@ use Rattle.kt_store.specs.declared.error.StoreError.{StoreError}
 use Rattle.kt_world.specs.State.{State}
 use Rattle.kt_core.specs.Store.{IsFault}
 use Rattle.kt_core.specs.World.{Standing}
-use Rattle.kt_core.proofs.Later.{later-fault}
+use Rattle.kt_core.proofs.Shared.{later-fault}
 use Rattle.kt_stage.specs.Asking.{IsAsked}
 use Rattle.kt_stage.specs.Policy.{first_some, or_else}
 

@@ -3,3 +3,5 @@ pub use Rattle.kt_store.proofs.Tables.{IsOrder, placed_all, placed_rising}
 pub use Rattle.kt_store.proofs.Board.{greatest_within, posted_last, still_board}
 pub use Rattle.kt_store.proofs.OtherNodes.{others_stay_of, stored_is_read}
 pub use Rattle.kt_store.proofs.OtherInstances.{begun_is_read, decided_is_read, nodes_stay, others_begun, others_decided}
+pub use Rattle.kt_store.proofs.Nodes.{itself, one_way}
+pub use Rattle.kt_store.proofs.Tables.{placed}

@@ -29,7 +29,8 @@ impl Model for Worker {
 
     ghost Value = { Standing };
 
-    ghost view = { λ w. record { number = w.number; asked = w.asked; position = record { pc = w.pc; memory = w.env } } };
+    ghost view = { λ w.
+        record { number = w.number; asked = w.asked; position = record { pc = w.pc; memory = w.env } } };
 
     ghost invariant = { λ w. w.number ≤ w.pc };
 }

@@ -8,7 +8,7 @@ use Rattle.kt_history.specs.declared.note.Note.{Note}
 use Rattle.kt_history.specs.declared.note.Note.TheVariants as notes
 use Rattle.kt_history.specs.Closed.{acts_in_line}
 use Rattle.kt_history.specs.WellFormed.{Fits}
-use Rattle.kt_history.proofs.Fronts.{acts_in_line-own_act}
+use Rattle.kt_history.proofs.Shared.{acts_in_line-own_act}
 use Rattle.kt_store.specs.Content.{row_of, verdict_on}
 use Rattle.kt_node.specs.declared.message.Message.{Message}
 use Rattle.kt_node.specs.declared.message.Post.{Post}
@@ -21,7 +21,7 @@ use Rattle.kt_node.specs.Turning.{changed, changed_body, changed_kept, phase_in,
 use Rattle.kt_world.specs.Cast.{Cast, script_at}
 use Rattle.kt_world.specs.State.{State}
 use Rattle.kt_world.specs.Asks.{setting_of}
-use Rattle.kt_lines.proofs.Growth.{MayMake}
+use Rattle.kt_lines.proofs.Shared.{MayMake}
 use Rattle.kt_world.proofs.Plans.{IsAlive}
 use Rattle.kt_world.specs.Cut.{acts_held}
 use Rattle.kt_world.specs.Like.{IsBodyLike}

@@ -8,7 +8,7 @@ use Rattle.kt_tuple.specs.declared.op.Op.{Op}
 use Rattle.kt_tuple.specs.declared.op.Answer.{Answer}
 use Rattle.kt_history.specs.declared.note.What.TheVariants as whats
 use Rattle.kt_history.specs.Closed.{acts_in_line}
-use Rattle.kt_history.proofs.Lists.{Contains-here}
+use Rattle.kt_history.proofs.Shared.{Contains-here}
 use Rattle.kt_script.specs.declared.command.Command.{Command}
 use Rattle.kt_worker.specs.declared.worker.Worker.{Worker}
 use Rattle.kt_worker.specs.Standing.{next_request, again_request, issued, awaits, heard}

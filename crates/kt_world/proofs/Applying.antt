@@ -22,12 +22,12 @@ use Rattle.kt_world.specs.Cast.{Cast}
 use Rattle.kt_world.specs.State.{State, node, link, link_place}
 use Rattle.kt_world.specs.Writing.{content_after}
 use Rattle.kt_world.specs.Effect.{taken_off, noted, applied}
-use Rattle.kt_lines.proofs.Lists.{all-at}
+use Rattle.kt_lines.proofs.Shared.{all-at}
 use Rattle.kt_world.proofs.OnLinks.{taken_off-was, sent-cases, sent_between}
 use Rattle.kt_world.proofs.Frames.{applied-rows}
 use Rattle.kt_world.proofs.NoteSound.{noted-legal, noted-well_formed, noted-others, noted-carries, noted-kept}
 use Rattle.kt_world.proofs.Writes.{other-rows}
-use Rattle.kt_world.proofs.Sound.{Carries, EndsDown, Ends, IsStored, IsNodeSound, NodeSoundIn, IsSound, MayNote, SendWell, NoesStay}
+use Rattle.kt_world.proofs.Sound.{Carries, EndsDown, EndsAs, IsStored, IsNodeSound, NodeSoundIn, IsSound, MayNote, SendWell, NoesStay}
 
 -- ---- what a plan keeps
 
@@ -51,7 +51,7 @@ ends_down-later long permanent None before after stays ends = ends
 ends_down-later long permanent (Some t) before after stays ends = λ fine. ends (λ e. fine (stays e))
 
 ends-later : (long permanent : ℕ) (tentative : Option Tentative) (before after : Option Verdict) (node : Option Node)
-    → (before ≡ Some verdicts.No → after ≡ Some verdicts.No) → Ends long permanent tentative before node → Ends long permanent tentative after node
+    → (before ≡ Some verdicts.No → after ≡ Some verdicts.No) → EndsAs long permanent tentative before node → Ends long permanent tentative after node
 ends-later long permanent tentative before after None stays ends = tt
 ends-later long permanent tentative before after (Some Down) stays ends = ends_down-later long permanent tentative before after stays ends
 ends-later long permanent tentative before after (Some (Alive n)) stays ends = ends

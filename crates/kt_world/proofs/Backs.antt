@@ -6,7 +6,7 @@ use Rattle.std.specs.Option.{option_map}
 use Rattle.std.proofs.lemmas.Bool.{cases_eq}
 use Rattle.kt_tuple.specs.declared.node.NodeId.{NodeId}
 use Rattle.kt_tuple.specs.Node.{node_index}
-use Rattle.kt_tuple.proofs.Nodes.{node_index-injective}
+use Rattle.kt_tuple.proofs.Shared.{node_index-injective}
 use Rattle.kt_store.specs.declared.rows.NodeRow.{NodeRow}
 use Rattle.kt_store.specs.declared.rows.Tentative.{Tentative}
 use Rattle.kt_store.specs.declared.rows.Verdict.{Verdict}
@@ -47,7 +47,7 @@ use Rattle.kt_world.proofs.Lists.{all-from, all-map}
 use Rattle.kt_world.proofs.Leaves.{casting-all}
 use Rattle.kt_world.proofs.Boards.{Says}
 use Rattle.kt_world.proofs.Writes.{row_after, own-row, other-rows, incarnation-after, says-after, board-after, next-after}
-use Rattle.kt_lines.proofs.Lists.{all-at}
+use Rattle.kt_lines.proofs.Shared.{all-at}
 use Rattle.kt_world.specs.Told.{tentative_in, marks_in}
 
 -- the rows of the table are backed by what is stored of the node

@@ -15,9 +15,8 @@ use Rattle.kt_store.specs.declared.rows.Verdict.TheVariants as verdicts
 use Rattle.kt_store.specs.Verdict.{is_open, verdict_from}
 use Rattle.kt_store.specs.Content.{Content, IsBoard, greatest, next_instance, open_of, posted, verdict_of}
 use Rattle.kt_store.specs.Changes.{opening, decided, deciding, with_posted}
-use Rattle.kt_store.proofs.OtherInstances.{others_begun, others_decided, decided_is_read}
-use Rattle.kt_store.proofs.Board.{greatest_within, posted_last, still_board}
-use Rattle.kt_store.proofs.Tables.{IsOrder, placed_rising, placed_all}
+use Rattle.kt_store.proofs.Shared.{others_begun, others_decided, decided_is_read, greatest_within, posted_last, still_board}
+use Rattle.kt_store.proofs.Shared.{IsOrder, placed_rising, placed_all}
 
 -- ---- what is found
 

@@ -2,7 +2,7 @@
 use Rattle.std.proofs.Common.{◌≡◌, ◌<◌, true, false, [], List, Contains, None, sym, subst}
 use Rattle.std.specs.Prelude.{IsTrue}
 use Rattle.kt_tuple.specs.declared.node.NodeId.{NodeId}
-use Rattle.kt_history.proofs.Lists.{Contains-here}
+use Rattle.kt_history.proofs.Shared.{Contains-here}
 use Rattle.kt_node.specs.declared.message.Message.{Message}
 use Rattle.kt_node.specs.declared.message.Message.TheVariants as messages
 use Rattle.kt_node.specs.declared.change.KeptChange.TheVariants as keeps

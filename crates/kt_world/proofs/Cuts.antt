@@ -16,15 +16,13 @@ use Rattle.kt_history.specs.Past.{itself, in_line, by_cause}
 use Rattle.kt_history.specs.Survival.{marked_acts}
 use Rattle.kt_history.specs.Closed.{IsClosed, acts_at, acts_in_line, own}
 use Rattle.kt_history.specs.WellFormed.{IsWellFormed}
-use Rattle.kt_history.proofs.Lists.{slice_get-append_left, slice_get-from_Contains, slice_get-take, Contains-here, Contains-there}
-use Rattle.kt_history.proofs.Lists.{Contains-from_slice_get, Contains-from_take, Contains-from_list_any, list_any-from_Contains}
-use Rattle.kt_history.proofs.Lines.{line-own, line-rises}
-use Rattle.kt_history.proofs.Fronts.{acts_at-take, marked_front}
+use Rattle.kt_history.proofs.Shared.{slice_get-append_left, slice_get-from_Contains, slice_get-take, Contains-here, Contains-there}
+use Rattle.kt_history.proofs.Shared.{Contains-from_slice_get, Contains-from_take, Contains-from_list_any, list_any-from_Contains, line-own, line-rises}
+use Rattle.kt_history.proofs.Shared.{acts_at-take, marked_front}
 use Rattle.kt_lines.specs.Order.{Setting, FollowsScripts}
 use Rattle.kt_lines.specs.ShardLine.{shard_of_acts, new_shard}
 use Rattle.kt_lines.specs.Legal.{AreLegal}
-use Rattle.kt_lines.proofs.Homes.{is_home}
-use Rattle.kt_lines.proofs.Survive.{marked_tuples, closed_run, closed_order}
+use Rattle.kt_lines.proofs.Shared.{is_home, marked_tuples, closed_run, closed_order}
 use Rattle.kt_world.specs.Cut.{IsInCut, IsCausallyClosed, note_in_cut, is_in_cut, part}
 
 -- ---- the test

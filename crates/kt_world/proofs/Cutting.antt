@@ -8,8 +8,7 @@ use Rattle.kt_history.specs.declared.note.Act.{Act}
 use Rattle.kt_history.specs.declared.note.Note.{Note}
 use Rattle.kt_history.specs.declared.note.Note.TheVariants as notes
 use Rattle.kt_history.specs.Closed.{acts_in_line}
-use Rattle.kt_history.proofs.Fronts.{acts_in_line-own_cut}
-use Rattle.kt_history.proofs.Lists.{Contains-none}
+use Rattle.kt_history.proofs.Shared.{acts_in_line-own_cut, Contains-none}
 use Rattle.kt_ckpt.specs.declared.ckpt.Ckpt.{Ckpt}
 use Rattle.kt_ckpt.specs.Marks.{marks_of}
 use Rattle.kt_store.specs.declared.rows.NodeRow.{NodeRow}

@@ -10,7 +10,7 @@ use Rattle.kt_history.specs.declared.note.Note.{Note}
 use Rattle.kt_history.specs.declared.note.Note.TheVariants as notes
 use Rattle.kt_history.specs.Line.{note_at}
 use Rattle.kt_history.specs.WellFormed.{HasNoCut}
-use Rattle.kt_history.proofs.Lines.{note_at-old, note_at-new, note_at-within, note_at-push_cases}
+use Rattle.kt_history.proofs.Shared.{note_at-old, note_at-new, note_at-within, note_at-push_cases}
 use Rattle.kt_shard.specs.Table.{at}
 use Rattle.kt_vote.specs.declared.asker.Asker.{Asker}
 use Rattle.kt_vote.specs.declared.vote.Vote.{Vote}
@@ -51,7 +51,7 @@ use Rattle.kt_world.proofs.Lists.{all-from, all-map, all-append}
 use Rattle.kt_world.proofs.Leaves.{casting-all}
 use Rattle.kt_world.proofs.Heards as ways
 use Rattle.kt_world.proofs.Heards.{HeardOf, heard-is}
-use Rattle.kt_lines.proofs.Lists.{all-at}
+use Rattle.kt_lines.proofs.Shared.{all-at}
 
 -- ---- before the first cut
 

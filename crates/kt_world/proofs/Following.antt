@@ -13,7 +13,7 @@ use Rattle.kt_worker.specs.After.{IsAfter}
 use Rattle.kt_shard.specs.declared.request.Request.{Request}
 use Rattle.kt_lines.specs.Hearing.{WasHeardFor}
 use Rattle.kt_lines.specs.ShardLine.{MadeShard, ShardMay, ShardMakes, ShardLine, shard_after, shard_of_acts, new_shard, request_of}
-use Rattle.kt_lines.proofs.Traces.{WasHeard, waits_heard}
+use Rattle.kt_lines.proofs.Shared.{WasHeard, waits_heard}
 use Rattle.kt_node.specs.Node.{Body, IsWorker, IsShard, Node, Down, Alive, worker_of, worker_in}
 use Rattle.kt_world.specs.State.{State, node}
 use Rattle.kt_world.specs.Asks.{script_numbered}

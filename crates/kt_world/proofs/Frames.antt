@@ -4,9 +4,9 @@ use Rattle.std.specs.Option.{option_map}
 use Rattle.std.proofs.lemmas.Bool.{cases_eq}
 use Rattle.kt_tuple.specs.declared.node.NodeId.{NodeId}
 use Rattle.kt_tuple.specs.Node.{node_index}
-use Rattle.kt_tuple.proofs.Nodes.{node_index-injective}
+use Rattle.kt_tuple.proofs.Shared.{node_index-injective}
 use Rattle.kt_shard.specs.Table.{at, put}
-use Rattle.kt_lines.proofs.Rows.{at-put_same, at-put_other}
+use Rattle.kt_lines.proofs.Shared.{at-put_same, at-put_other}
 use Rattle.kt_node.specs.declared.plan.Plan.{Plan}
 use Rattle.kt_node.specs.Node.{Node}
 use Rattle.kt_node.specs.Turning.{changed}

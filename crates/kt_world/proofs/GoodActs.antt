@@ -20,7 +20,7 @@ use Rattle.kt_node.specs.Turning.{changed_body}
 use Rattle.kt_node.specs.Talking.{home, issue_plan, repeat_plan, service_plan, hearing, heard_plan}
 use Rattle.kt_node.specs.Posts.{keep_plan}
 use Rattle.kt_lines.specs.Cause.{cause_of_waiting}
-use Rattle.kt_lines.proofs.NamedCauses.{cause_of_waiting-named}
+use Rattle.kt_lines.proofs.Shared.{cause_of_waiting-named}
 use Rattle.kt_world.specs.Cast.{is_worker, is_shard, is_node}
 use Rattle.kt_world.specs.State.{State, role_of, view}
 use Rattle.kt_world.specs.Ready.{AreNeighbours, IsBodyReady, IsMessageReady, NamesAct, IsReady}

@@ -8,8 +8,7 @@ use Rattle.kt_history.specs.declared.note.Note.{Note}
 use Rattle.kt_history.specs.declared.note.Note.TheVariants as notes
 use Rattle.kt_history.specs.Line.{note_at, IsAct}
 use Rattle.kt_history.specs.WellFormed.{MayFollow, CausesComeFirst}
-use Rattle.kt_history.proofs.Lines.{note_at-old, note_at-new, note_at-within}
-use Rattle.kt_history.proofs.Pasts.{CausesComeFirst-push}
+use Rattle.kt_history.proofs.Shared.{note_at-old, note_at-new, note_at-within, CausesComeFirst-push}
 use Rattle.kt_script.specs.declared.command.Command.{Command}
 use Rattle.kt_node.specs.declared.message.Message.{Message}
 use Rattle.kt_node.specs.declared.message.Message.TheVariants as messages

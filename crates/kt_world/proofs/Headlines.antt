@@ -12,15 +12,10 @@ use Rattle.kt_history.specs.Line.{line}
 use Rattle.kt_history.specs.Survival.{Stands, Survives, survives}
 use Rattle.kt_history.specs.Closed.{acts_in_line}
 use Rattle.kt_history.specs.WellFormed.{CausesComeFirst, HasNoCut}
-use Rattle.kt_history.proofs.Lines.{line-own}
-use Rattle.kt_history.proofs.Pasts.{InPast-back}
-use Rattle.kt_history.proofs.Sense.{Stands-no_cut}
-use Rattle.kt_history.proofs.Survivors.{survives-decides}
+use Rattle.kt_history.proofs.Shared.{line-own, InPast-back, Stands-no_cut, survives-decides}
 use Rattle.kt_lines.specs.ShardLine.{shard_of_acts, new_shard}
-use Rattle.kt_lines.proofs.Homes.{is_home}
-use Rattle.kt_lines.proofs.Shares.{shares, shares-whole, flat_map-like, range_within}
-use Rattle.kt_lines.proofs.Survive.{surviving_tuples, survivors_run, survivors_order, survivors_bags}
-use Rattle.kt_lines.proofs.WellFormed.{causes_come_first}
+use Rattle.kt_lines.proofs.Shared.{is_home, shares, shares-whole, flat_map-like, range_within}
+use Rattle.kt_lines.proofs.Shared.{surviving_tuples, survivors_run, survivors_order, survivors_bags, causes_come_first}
 use Rattle.kt_node.specs.Node.{Body, IsWorker, IsShard, Live}
 use Rattle.kt_world.specs.Cast.{is_shard}
 use Rattle.kt_world.specs.State.{State, node}

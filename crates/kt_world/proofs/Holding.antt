@@ -11,8 +11,7 @@ use Rattle.kt_history.specs.Line.{line}
 use Rattle.kt_history.specs.Closed.{acts_in_line}
 use Rattle.kt_lines.specs.Hearing.{WasHeardFor}
 use Rattle.kt_history.specs.WellFormed.{HasNoCut}
-use Rattle.kt_lines.proofs.Survive.{surviving_tuples, survivors_run}
-use Rattle.kt_lines.proofs.WellFormed.{causes_come_first}
+use Rattle.kt_lines.proofs.Shared.{surviving_tuples, survivors_run, causes_come_first}
 use Rattle.kt_node.specs.declared.plan.Plan.{Plan}
 use Rattle.kt_world.specs.declared.step.Step.{Step}
 use Rattle.kt_world.specs.declared.step.StepError.{StepError}

@@ -36,7 +36,7 @@ use Rattle.kt_world.proofs.Lists.{all-from, all-map, all-numbers, filter-was}
 use Rattle.kt_world.proofs.Growing.{body-grown}
 use Rattle.kt_world.proofs.Within.{length-left}
 use Rattle.kt_world.proofs.Good.{live-ready}
-use Rattle.kt_lines.proofs.Lists.{all-at}
+use Rattle.kt_lines.proofs.Shared.{all-at}
 use Rattle.kt_store.specs.Content.{verdict_of}
 use Rattle.kt_world.specs.Told.{of_poll}
 

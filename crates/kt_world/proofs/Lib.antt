@@ -54,3 +54,4 @@ pub mod Cuts
 pub mod PermanentPart
 pub mod Holding
 pub mod PermanentReached
+pub mod Shared

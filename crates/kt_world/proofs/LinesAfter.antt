@@ -6,12 +6,12 @@ use Rattle.std.specs.Prelude.{IsTrue}
 use Rattle.std.proofs.lemmas.Bool.{cases_eq}
 use Rattle.kt_tuple.specs.declared.node.NodeId.{NodeId}
 use Rattle.kt_tuple.specs.Node.{node_index}
-use Rattle.kt_tuple.proofs.Nodes.{node_index-injective}
+use Rattle.kt_tuple.proofs.Shared.{node_index-injective}
 use Rattle.kt_history.specs.declared.note.Act.{Act}
 use Rattle.kt_history.specs.declared.note.Note.{Note}
 use Rattle.kt_history.specs.declared.note.Note.TheVariants as notes
 use Rattle.kt_history.specs.Line.{line}
-use Rattle.kt_history.proofs.Lines.{line-own_act, line-own_cut, line-other_act, line-other_cut}
+use Rattle.kt_history.proofs.Shared.{line-own_act, line-own_cut, line-other_act, line-other_cut}
 use Rattle.kt_worker.specs.Standing.{awaits}
 use Rattle.kt_shard.specs.declared.request.Request.{Request}
 use Rattle.kt_shard.specs.Arrival.{Arrival, Waits, Again, Ignored, arrival}

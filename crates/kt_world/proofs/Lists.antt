@@ -1,9 +1,9 @@
 -- What holds of each element of a list, of its map, of what is kept of it.
 use Rattle.std.proofs.Common.{◌≡◌, ℕ, zero, suc, ◌+◌, ◌<◌, ◌≤◌, Bool, true, false, cond, List, [], ◌∷◌, ◌++◌, map, filter, length, Contains, refl, ap, arith}
 use Rattle.std.specs.List.{AllByRecursion}
-use Rattle.kt_history.proofs.Lists.{Contains-here, Contains-there}
+use Rattle.kt_history.proofs.Shared.{Contains-here, Contains-there}
 use Rattle.kt_node.specs.Labels.{numbers}
-use Rattle.kt_lines.proofs.Lists.{all-at}
+use Rattle.kt_lines.proofs.Shared.{all-at}
 
 pub all-from : {A : Type 0} (P : A → Type 0) (xs : List A) → ((x : A) → Contains xs x → P x) → AllByRecursion P xs
 all-from P [] h = tt

@@ -10,7 +10,7 @@ use Rattle.kt_store.specs.declared.rows.Verdict.TheVariants as verdicts
 use Rattle.kt_store.specs.Verdict.{verdict_from}
 use Rattle.kt_store.specs.Content.{Content, next_instance, posted, row_of, verdict_of}
 use Rattle.kt_store.specs.Changes.{storing, opening, taken, decided}
-use Rattle.kt_store.proofs.OtherInstances.{others_decided, decided_is_read}
+use Rattle.kt_store.proofs.Shared.{others_decided, decided_is_read}
 use Rattle.kt_node.specs.declared.plan.Write.{Write}
 use Rattle.kt_node.specs.declared.plan.Write.TheVariants as writes
 use Rattle.kt_world.specs.Writing.{content_after}

@@ -6,19 +6,17 @@ use Rattle.kt_tuple.specs.declared.node.NodeId.{NodeId}
 use Rattle.kt_tuple.specs.declared.node.NodeId.TheVariants as ids
 use Rattle.kt_tuple.specs.declared.op.Answer.{Answer}
 use Rattle.kt_tuple.specs.Node.{node_index}
-use Rattle.kt_tuple.proofs.Nodes.{node_index-injective}
+use Rattle.kt_tuple.proofs.Shared.{node_index-injective}
 use Rattle.kt_history.specs.declared.note.Note.{Note}
 use Rattle.kt_history.specs.declared.note.Note.TheVariants as notes
 use Rattle.kt_history.specs.Line.{note_at, line, same_node, IsAct}
 use Rattle.kt_history.specs.Closed.{act_of, acts_at, acts_in_line}
 use Rattle.kt_history.specs.WellFormed.{IsWellFormed}
-use Rattle.kt_history.proofs.Fronts.{acts_in_line-other_act, acts_in_line-other_cut}
-use Rattle.kt_history.proofs.Lines.{line-own, note_at-old, note_at-new, note_at-within}
-use Rattle.kt_history.proofs.Lists.{Contains-here, Contains-there}
+use Rattle.kt_history.proofs.Shared.{acts_in_line-other_act, acts_in_line-other_cut, line-own, note_at-old, note_at-new, note_at-within}
+use Rattle.kt_history.proofs.Shared.{Contains-here, Contains-there}
 use Rattle.kt_shard.specs.declared.request.Request.{Request}
 use Rattle.kt_lines.specs.Legal.{AreLegal}
-use Rattle.kt_lines.proofs.Growth.{MayMake, AreLegal-act, AreLegal-cut}
-use Rattle.kt_lines.proofs.WellFormed.{IsWellFormed-push}
+use Rattle.kt_lines.proofs.Shared.{MayMake, AreLegal-act, AreLegal-cut, IsWellFormed-push}
 use Rattle.kt_node.specs.declared.message.Talk.{Talk}
 use Rattle.kt_node.specs.declared.message.Talk.TheVariants as talks
 use Rattle.kt_node.specs.declared.message.Message.{Message}

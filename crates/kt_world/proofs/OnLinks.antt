@@ -4,9 +4,9 @@ use Rattle.std.proofs.lemmas.Bool.{cases_eq, cases_lt}
 use Rattle.std.proofs.lemmas.List.{get_or-set_other, get_or-set_same, set_past}
 use Rattle.std.proofs.lemmas.List.Elements.{Contains-push_cases}
 use Rattle.kt_tuple.specs.declared.node.NodeId.{NodeId}
-use Rattle.kt_history.proofs.Lists.{Contains-here, Contains-there, Contains-none}
+use Rattle.kt_history.proofs.Shared.{Contains-here, Contains-there, Contains-none}
 use Rattle.kt_link.specs.Network.{entry_at, with_entry}
-use Rattle.kt_link.proofs.Places.{place-own}
+use Rattle.kt_link.proofs.Shared.{place-own}
 use Rattle.kt_shard.specs.Table.{at}
 use Rattle.kt_node.specs.declared.message.Message.{Message}
 use Rattle.kt_world.specs.declared.step.Step.{Step}

@@ -6,8 +6,7 @@ use Rattle.std.proofs.lemmas.List.{get_or_past, get_or_append_left, get_or-appen
 use Rattle.std.specs.Prelude.{is_some, IfSome}
 use Rattle.kt_tuple.specs.declared.node.NodeId.{NodeId}
 use Rattle.kt_tuple.specs.declared.node.NodeId.TheVariants as ids
-use Rattle.kt_history.proofs.Lists.{Contains-none}
-use Rattle.kt_history.proofs.Pasts.{CausesComeFirst-empty}
+use Rattle.kt_history.proofs.Shared.{Contains-none, CausesComeFirst-empty}
 use Rattle.kt_shard.specs.Limits.{desks}
 use Rattle.kt_shard.specs.Table.{at}
 use Rattle.kt_node.specs.declared.message.Message.{Message}

@@ -6,13 +6,12 @@ use Rattle.std.proofs.lemmas.List.Sorted.{IsPermutation-refl}
 use Rattle.kt_tuple.specs.declared.node.NodeId.{NodeId}
 use Rattle.kt_tuple.specs.declared.node.NodeId.TheVariants as ids
 use Rattle.kt_history.specs.declared.note.Act.{Act}
-use Rattle.kt_history.proofs.Lists.{Contains-none}
+use Rattle.kt_history.proofs.Shared.{Contains-none}
 use Rattle.kt_link.specs.Network.{entry_at}
-use Rattle.kt_worker.proofs.Requests.{opening-after}
+use Rattle.kt_worker.proofs.Shared.{opening-after}
 use Rattle.kt_shard.specs.Limits.{desks}
 use Rattle.kt_shard.specs.Desk.{empty_desk}
-use Rattle.kt_lines.proofs.Growth.{AreLegal-empty, acts_in_line-empty}
-use Rattle.kt_lines.proofs.WellFormed.{IsWellFormed-empty}
+use Rattle.kt_lines.proofs.Shared.{AreLegal-empty, acts_in_line-empty, IsWellFormed-empty}
 use Rattle.kt_node.specs.declared.message.Message.{Message}
 use Rattle.kt_node.specs.Node.{Node, opening_body, opening_node}
 use Rattle.kt_world.specs.Cast.{Cast, is_node}

@@ -16,9 +16,7 @@ use Rattle.kt_store.specs.declared.rows.Verdict.{Verdict}
 use Rattle.kt_store.specs.declared.rows.Verdict.TheVariants as verdicts
 use Rattle.kt_store.specs.Content.{row_of, verdict_on}
 use Rattle.kt_lines.specs.ShardLine.{shard_of_acts, new_shard}
-use Rattle.kt_lines.proofs.Homes.{is_home}
-use Rattle.kt_lines.proofs.Shares.{shares, shares-whole, flat_map-like}
-use Rattle.kt_lines.proofs.Survive.{marked_tuples}
+use Rattle.kt_lines.proofs.Shared.{is_home, shares, shares-whole, flat_map-like, marked_tuples}
 use Rattle.kt_node.specs.Node.{Body, IsWorker, IsShard}
 use Rattle.kt_world.specs.Cast.{Cast}
 use Rattle.kt_world.specs.State.{State, role_of}

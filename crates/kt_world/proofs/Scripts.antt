@@ -7,8 +7,7 @@ use Rattle.kt_script.specs.Meaning.{zero_of}
 use Rattle.kt_script.specs.Memory.{opening_memory}
 use Rattle.kt_script.specs.Rules.{IsScript}
 use Rattle.kt_script.specs.Variables.{variables_of}
-use Rattle.kt_script.proofs.InScript.{values-opening}
-use Rattle.kt_script.proofs.Limits.{few-commands, few-values}
+use Rattle.kt_script.proofs.Shared.{values-opening, few-commands, few-values}
 use Rattle.kt_world.specs.Cast.{Cast}
 use Rattle.kt_world.specs.Short.{IsShort, AreShort}
 

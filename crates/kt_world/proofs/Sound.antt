@@ -34,7 +34,7 @@ use Rattle.kt_world.specs.Asks.{setting_of}
 use Rattle.kt_world.specs.Cut.{acts_held}
 use Rattle.kt_world.specs.Like.{IsBodyLike, HoldsFront, IsNotNo}
 use Rattle.kt_lines.specs.Legal.{AreLegal}
-use Rattle.kt_lines.proofs.Growth.{MayMake}
+use Rattle.kt_lines.proofs.Shared.{MayMake}
 
 -- ---- what a node works with
 
@@ -113,10 +113,10 @@ EndsRolling long permanent (phases.Held b) = Unit {0}
 EndsRolling long permanent (phases.Rolling b) = b.parent ≡ None → long ≡ permanent
 
 -- of a line of so many acts
-abbrev pub Ends : ℕ → ℕ → Option Tentative → Option Verdict → Option Node → Type 0
-Ends long permanent tentative verdict None = Unit {0}
-Ends long permanent tentative verdict (Some Down) = EndsDown long permanent verdict tentative
-Ends long permanent tentative verdict (Some (Alive n)) = EndsRolling long permanent n.phase
+abbrev pub EndsAs : ℕ → ℕ → Option Tentative → Option Verdict → Option Node → Type 0
+EndsAs long permanent tentative verdict None = Unit {0}
+EndsAs long permanent tentative verdict (Some Down) = EndsDown long permanent verdict tentative
+EndsAs long permanent tentative verdict (Some (Alive n)) = EndsRolling long permanent n.phase
 
 -- ---- a node, and all
 
@@ -126,7 +126,7 @@ pub record IsNodeSound (cast : Cast) (h : List Note) (p : NodeId) (acts : List A
   pub like : IsNodeLike cast.scripts p acts node
   pub kept : AreKept cast.shards h p node
   pub stored : IsStored cast p acts permanent tentative verdict
-  pub ends : Ends (length acts) (acts_held permanent) tentative verdict node
+  pub ends : EndsAs (length acts) (acts_held permanent) tentative verdict node
 
 abbrev pub NodeSoundIn : Cast → List Note → Content → NodeId → Option Node → Type 0
 NodeSoundIn cast h c p node =

@@ -5,7 +5,7 @@ use Rattle.std.specs.Option.{option_map}
 use Rattle.kt_tuple.specs.declared.node.NodeId.{NodeId}
 use Rattle.kt_history.specs.declared.note.Note.{Note}
 use Rattle.kt_history.specs.Closed.{acts_in_line}
-use Rattle.kt_history.proofs.Lists.{Contains-here, Contains-there, Contains-cons_cases}
+use Rattle.kt_history.proofs.Shared.{Contains-here, Contains-there, Contains-cons_cases}
 use Rattle.kt_link.specs.declared.label.Label.{Label}
 use Rattle.kt_store.specs.declared.rows.NodeRow.{NodeRow}
 use Rattle.kt_store.specs.Content.{Content, row_of, verdict_on}

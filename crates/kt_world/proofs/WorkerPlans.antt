@@ -17,7 +17,7 @@ use Rattle.kt_script.specs.declared.command.Command.{Command}
 use Rattle.kt_worker.specs.declared.worker.Worker.{Worker}
 use Rattle.kt_worker.specs.Standing.{next_request, again_request, issued, awaits, heard}
 use Rattle.kt_worker.specs.After.{last_number}
-use Rattle.kt_worker.proofs.Requests.{Requests-next, heard-after, awaits-is, awaits-from}
+use Rattle.kt_worker.proofs.Shared.{Requests-next, heard-after, awaits-is, awaits-from}
 use Rattle.kt_shard.specs.declared.request.Request.{Request}
 use Rattle.kt_link.specs.declared.label.Label.{Label}
 use Rattle.kt_node.specs.declared.message.Talk.{Talk}
@@ -30,7 +30,7 @@ use Rattle.kt_world.specs.Cast.{Cast}
 use Rattle.kt_node.specs.Talking.{act_of, home, request_for}
 use Rattle.kt_world.specs.Asks.{script_numbered}
 use Rattle.kt_lines.specs.WorkerLine.{MadeWorker, Awaits, worker_after, worker_of_acts, new_worker}
-use Rattle.kt_lines.proofs.Growth.{worker_of_acts-push}
+use Rattle.kt_lines.proofs.Shared.{worker_of_acts-push}
 use Rattle.kt_world.specs.Like.{IsWorkerLike}
 use Rattle.kt_world.proofs.Sound.{IsReplyOf}
 use Rattle.kt_world.proofs.NoteSound.{note_at-next}

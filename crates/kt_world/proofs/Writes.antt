@@ -9,8 +9,7 @@ use Rattle.kt_store.specs.declared.rows.Purpose.TheVariants as purposes
 use Rattle.kt_store.specs.Content.{Content, IsBoard, greatest, next_instance, row_or, row_of}
 use Rattle.kt_store.specs.Changes.{storing, taken, decided, promoted_from}
 use Rattle.kt_store.specs.Others.{OtherNodesStay}
-use Rattle.kt_store.proofs.OtherNodes.{others_stay_of, stored_is_read}
-use Rattle.kt_store.proofs.OtherInstances.{nodes_stay}
+use Rattle.kt_store.proofs.Shared.{others_stay_of, stored_is_read, nodes_stay}
 use Rattle.kt_node.specs.declared.plan.Write.{Write}
 use Rattle.kt_node.specs.declared.plan.Write.TheVariants as writes
 use Rattle.kt_world.specs.Writing.{content_after}

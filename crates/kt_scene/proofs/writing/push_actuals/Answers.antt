@@ -1,5 +1,5 @@
 use Rattle.std.proofs.Common.{sym}
-use Rattle.kt_tuple.proofs.Separated.{written_more, separator_after_more}
+use Rattle.kt_tuple.proofs.Shared.{written_more, separator_after_more}
 use Rattle.kt_scene.specs.Text.{actual_text}
 use Rattle.kt_scene.proofs.writing.push_actuals.Goals as goal
 

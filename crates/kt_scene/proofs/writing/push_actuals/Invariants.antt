@@ -1,6 +1,6 @@
 use Rattle.std.proofs.Common.{◌≡◌, ◌∷◌, ◌++◌, take, map}
 use Rattle.kt_tuple.specs.Spelling.{separated}
-use Rattle.kt_tuple.proofs.Separated.{separator_after}
+use Rattle.kt_tuple.proofs.Shared.{separator_after}
 use Rattle.kt_scene.specs.Text.{actual_text}
 use Rattle.kt_scene.proofs.writing.push_actuals.Given as goal
 

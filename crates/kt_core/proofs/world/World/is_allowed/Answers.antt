@@ -2,7 +2,7 @@ use Rattle.std.proofs.Common.{◌≡◌, ◌∙◌, ap, subst}
 use Rattle.std.specs.Prelude.{not, IfOk, IsTrue}
 use Rattle.kt_node.specs.declared.plan.Plan.{Plan}
 use Rattle.kt_world.specs.declared.step.StepError.{StepError}
-use Rattle.kt_world.proofs.Holding.{reached-holds}
+use Rattle.kt_world.proofs.Shared.{reached-holds}
 use Rattle.kt_core.specs.Machine.{state_of, Gives}
 use Rattle.kt_core.specs.Lent.{is_allowed}
 use Rattle.kt_core.specs.World.{Standing}

@@ -3,7 +3,7 @@ use Rattle.std.specs.Prelude.{IsTrue}
 use Rattle.std.specs.List.{list_all}
 use Rattle.kt_core.specs.Rows.{is_steady_code}
 use Rattle.kt_world.specs.Headline.{Headline, is_steady}
-use Rattle.kt_refinement.proofs.Whole.{headline-reached}
+use Rattle.kt_refinement.proofs.Shared.{headline-reached}
 use Rattle.kt_core.specs.World.{Standing}
 use Rattle.kt_core.proofs.Later.{all-rows}
 use Rattle.kt_core.proofs.world.World.is_steady.Goals as goal

@@ -1,4 +1,4 @@
-use Rattle.kt_refinement.proofs.Whole.{headline-reached}
+use Rattle.kt_refinement.proofs.Shared.{headline-reached}
 use Rattle.kt_core.proofs.Worlds.{opened-world}
 use Rattle.kt_core.proofs.world.World.open_fresh.Goals as goal
 

@@ -2,7 +2,7 @@ use Rattle.std.proofs.Common.{subst}
 use Rattle.std.specs.Prelude.{IsTrue}
 use Rattle.kt_world.specs.Headline.{Headline}
 use Rattle.kt_core.specs.World.{Standing}
-use Rattle.kt_refinement.proofs.Whole.{headline-reached}
+use Rattle.kt_refinement.proofs.Shared.{headline-reached}
 use Rattle.kt_core.proofs.world.World.permanent_space.Goals as goal
 
 pub returns-clause-headline : goal.returns-clause-headline

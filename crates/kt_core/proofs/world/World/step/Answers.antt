@@ -5,8 +5,8 @@ use Rattle.kt_world.specs.Judge.{planned}
 use Rattle.kt_core.specs.Machine.{state_of}
 use Rattle.kt_core.specs.Stepping.{IsCause}
 use Rattle.kt_core.specs.World.{Standing}
-use Rattle.kt_world.proofs.Holding.{reached-holds}
-use Rattle.kt_refinement.proofs.Whole.{headline-reached}
+use Rattle.kt_world.proofs.Shared.{reached-holds}
+use Rattle.kt_refinement.proofs.Shared.{headline-reached}
 use Rattle.kt_core.proofs.Worlds.{step-forced, step-world}
 use Rattle.kt_core.proofs.world.World.step.Goals as goal
 
