@@ -1,3 +1,5 @@
+//! Why a node does not make a step.
+
 ghost use Rattle.std.specs.Prelude.{◌≡◌};
 ghost use Rattle.kt_node.specs.declared.refusal.Refusal.TheVariants.{OutOfMemory};
 

@@ -1,3 +1,5 @@
+//! The bag: tuples in order of arrival, found by their kinds and their first value.
+
 ghost use Rattle.std.specs.Prelude.{◌≡◌, ◌≤◌, ◌↔◌, ◌++◌, ◌∷◌, [], length, filter, slice_get};
 ghost use Rattle.std.specs.Prelude.{IsTrue, IsOk, IfOk, IfErr, OnOk, OnErr, is_some, false};
 ghost use Rattle.std.specs.Option.{option_and_then, option_copied};

@@ -1,3 +1,5 @@
+//! Why a store in SQL is not opened.
+
 use std::alloc::AllocError;
 
 /// Why a store can't be opened.
