@@ -153,7 +153,7 @@ line-stack h p i e = snoc_ind (λ g. slice_get (line g p) i ≡ Some e → line 
           ap (λ f. line f p) (before-old g (x ∷ []) e (omega (arith, le))) ∙ ih at
 
       step : (g : List Note) (x : Note) → (slice_get (line g p) i ≡ Some e → line (before g e) p ≡ take i (line g p)) →
-        slice_get (line (g ++ x ∷ []) p) i ≡ Some e
+          slice_get (line (g ++ x ∷ []) p) i ≡ Some e
           → line (before (g ++ x ∷ []) e) p ≡ take i (line (g ++ x ∷ []) p)
       step g (notes.Act a) ih at = elim (cases_Bool (same_node a.node p)) [
         | inl own_node ↦
