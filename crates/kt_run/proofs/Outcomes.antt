@@ -18,7 +18,8 @@ use Rattle.kt_stage.specs.Policy.{first_unfinished, spent_by}
 use Rattle.kt_run.specs.declared.fault.RunTextFault.{RunTextFault}
 use Rattle.kt_run.specs.declared.fault.RunTextFault.TheVariants.{Text}
 use Rattle.kt_run.specs.declared.running.Output.{Output}
-use Rattle.kt_run.specs.Run.{IsRunOf, IsRun, Writes, WritesFront, WritesRun, WritesRunFront, IsTextFault, IsRunFault, of_reading, of_text, IsRunTextFault, in_writing}
+use Rattle.kt_run.specs.Run.{IsRunOf, IsRun, Writes, WritesFront, WritesRun, WritesRunFront, IsTextFault, IsRunFault, of_reading, of_text, IsRunTextFault}
+use Rattle.kt_run.specs.Run.{in_writing}
 use Rattle.kt_run.proofs.Made.{all_made_runs}
 
 work_is : (work : Work) (lines : List FaultLine) → lines_of_faults work ≡ Some lines → work ≡ Faults lines

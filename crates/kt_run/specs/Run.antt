@@ -28,8 +28,8 @@ pub record IsTrial (text : List ℕ) (play : Play) (lines : List FaultLine) : Ty
   pub scenario : IsScenario text play
   pub faults : play.work ≡ Faults lines
 
--- the text is that of a scenario of fault lines; as long as the store is honest, these steps led from the opening of its
--- scene to this state, and there no node has a next step, the fault lines being spent by the steps
+-- the text is that of a scenario of fault lines; as long as the store is honest, these steps led from the opening of
+-- its scene to this state, and there no node has a next step, the fault lines being spent by the steps
 pub record IsRunOf (text : List ℕ) (is_honest : Bool) (steps : List Step) (s : State) : Type 0 where
   pub play : Play
   pub lines : List FaultLine
@@ -53,9 +53,9 @@ abbrev pub WritesFront : Output → Bool → State → List Step → Writer → 
 WritesFront outputs.Report is_honest s steps old new = WritesReportFront is_honest s old new
 WritesFront outputs.Journal is_honest s steps old new = WritesJournalFront is_honest s steps old new
 
--- what is written and passed on is the report of the state that some run of the scenario that was read ended in, or that
--- report with the steps of the run, and nothing else. All this is said of the store as it was left: if it is honest
--- then, it was so all the time.
+-- what is written and passed on is the report of the state that some run of the scenario that was read ended in, or
+-- that report with the steps of the run, and nothing else. All this is said of the store as it was left: if it is
+-- honest then, it was so all the time.
 pub record WritesRun {S : Type 0} (is_honest : S → Bool) (output : Output) (before after : Reader) (old new : Writer)
     : Type 0 where
   pub left : S
@@ -65,8 +65,8 @@ pub record WritesRun {S : Type 0} (is_honest : S → Bool) (output : Output) (be
   pub written : Writes output (is_honest left) state steps old new
 
 -- the writer failed, and a front of that is written
-pub record WritesRunFront {S : Type 0} (is_honest : S → Bool) (output : Output) (before after : Reader) (old new : Writer)
-    : Type 0 where
+pub record WritesRunFront {S : Type 0} (is_honest : S → Bool) (output : Output) (before after : Reader)
+    (old new : Writer) : Type 0 where
   pub left : S
   pub steps : List Step
   pub state : State
@@ -86,8 +86,8 @@ pub record IsSomeTrial (text : List ℕ) : Type 0 where
   pub lines : List FaultLine
   pub trial : IsTrial text play lines
 
--- what a text answers: its first fault, or want of memory before that; or it is that of a scenario of fault lines, whose
--- run did not come to its end
+-- what a text answers: its first fault, or want of memory before that; or it is that of a scenario of fault lines,
+-- whose run did not come to its end
 abbrev pub IsTextFault : List ℕ → RunTextFault → Type 0
 IsTextFault text (Text (faults.Scene line cause)) = Explains kinds.Faults text line cause
 IsTextFault text (Text (faults.Step at cause)) = ⊥

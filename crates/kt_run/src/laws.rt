@@ -13,8 +13,8 @@ ghost use Rattle.kt_scene.specs.Scenario.{IsPlay, IsScenario, IsStep};
 ghost use Rattle.kt_stage.specs.Journal.{all_made};
 ghost use Rattle.kt_run.specs.Run.{IsRunOf};
 
-/// Steps that lead from the opening of a scene to some state can be said by lines: each names nodes of the scene, and the
-/// place of a match below 100,000.
+/// Steps that lead from the opening of a scene to some state can be said by lines: each names nodes of the scene, and
+/// the place of a match below 100,000.
 pub fn what_was_made_can_be_said()
     ensures { (cast : Cast) (steps : List Step) (s : State) → IsCast cast → All IsScript cast.scripts
         → RunsTo (opening cast) steps s → All IsStep steps }
@@ -32,9 +32,9 @@ pub fn what_was_made_is_replayed()
         → LeadsTo (journal_text report cast steps) true fresh t → t ≡ s }
 {}
 
-/// What a run over an honest store tells as its journal, where that is not too long, is the text of a scenario of steps;
-/// and its replay over an honest store leads to the state that the run ended in, and to no other. So both report the same
-/// survivors, the same that is lost, and the same permanent tuples.
+/// What a run over an honest store tells as its journal, where that is not too long, is the text of a scenario of
+/// steps; and its replay over an honest store leads to the state that the run ended in, and to no other. So both report
+/// the same survivors, the same that is lost, and the same permanent tuples.
 pub fn what_a_run_tells_is_replayed()
     ensures scenario { (text : List ℕ) (steps : List Step) (s : State) (report : List ℕ) → IsRunOf text true steps s
         → length (journal_text report s.cast steps) ≤ 1048576

@@ -4,8 +4,8 @@ ghost use Rattle.std.specs.Prelude.{◌≡◌, Err, IfErr, IfOk, IsTrue, None, O
 ghost use Rattle.kt_scene.specs.declared.fault.ReplayFault.TheVariants as text_faults;
 ghost use Rattle.kt_scene.specs.Journal.{WritesJournal, WritesJournalFront};
 ghost use Rattle.kt_scene.specs.Stream.{IsReportFault, UnlessWrite};
-ghost use Rattle.kt_run.specs.Run.{IsRun, IsRunFault, IsRunOf, IsRunTextFault, IsTextFault, UnlessFront, Writes, WritesFront};
-ghost use Rattle.kt_run.specs.Run.{WritesRun, WritesRunFront};
+ghost use Rattle.kt_run.specs.Run.{IsRun, IsRunFault, IsRunOf, IsRunTextFault, IsTextFault, UnlessFront, Writes};
+ghost use Rattle.kt_run.specs.Run.{WritesFront, WritesRun, WritesRunFront};
 
 use crate::fault::RunTextFault;
 use kt_scene::{
@@ -28,8 +28,8 @@ pub enum Output {
     Journal,
 }
 
-/// Reads a scenario of fault lines, runs it by a thread for each node over the store, and writes the report of the world
-/// then, or the journal. It reads all, then runs, then writes; so a fault other than `Text(Write)` leaves nothing
+/// Reads a scenario of fault lines, runs it by a thread for each node over the store, and writes the report of the
+/// world then, or the journal. It reads all, then runs, then writes; so a fault other than `Text(Write)` leaves nothing
 /// written. What was read before a fault is gone from the reader. It may wait for its threads.
 pub fn run_text<T, R, W, S>(
     rt: &T,

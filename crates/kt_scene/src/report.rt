@@ -94,29 +94,12 @@ fn push_count(out: &mut Vec<u8>, word: &[u8], count: usize) -> Result<(), AllocE
     Ok(())
 }
 
-/// A line as `w1.2 in ("a", ?int) got ("a", 1)`.
-fn push_service(out: &mut Vec<u8>, service: &Service) -> Result<(), AllocError>
-    ensures { OnOk result (out.new.items ≡ out.old.items ++ service_line service.now) }
-{
-    let mut worker = Buffer::new();
-    let mut number = Buffer::new();
-    out.push(b'w')?;
-    out.extend_from_slice(worker.format(service.worker).as_bytes())?;
-    out.push(b'.')?;
-    out.extend_from_slice(number.format(service.number).as_bytes())?;
-    out.push(b' ')?;
-    service.op.write_to(out)?;
-    out.push(b' ')?;
-    service.answer.write_to(out)?;
-    out.push(b'\n')?;
-    Ok(())
-}
-
 fn push_services(out: &mut Vec<u8>, services: &[Service]) -> Result<(), AllocError>
     ensures { OnOk result (out.new.items ≡ out.old.items ++ flat_map service_line services.now) }
 {
     for service in services {
-        push_service(out, service)?;
+        service.write_to(out)?;
+        out.push(b'\n')?;
     }
     Ok(())
 }

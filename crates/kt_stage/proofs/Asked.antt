@@ -10,8 +10,10 @@ use Rattle.kt_stage.specs.Asking.{IsAsked}
 use Rattle.kt_stage.specs.Policy.{first_some, or_else}
 
 -- the first of a list gives nothing, and the others this: so it is what the whole list gives
-pub first_later : {A B : Type 0} (f : State → A → Option B) (xs later : List A) (x : A) (old between new : Standing) (r : Result (Option B) StoreError) → xs ≡ x ∷ later
-    → IsAsked old between (λ s y. y ≡ f s x) (Ok None) → IsAsked between new (λ s y. y ≡ first_some (f s) later) r → IsAsked old new (λ s y. y ≡ first_some (f s) xs) r
+pub first_later : {A B : Type 0} (f : State → A → Option B) (xs later : List A) (x : A) (old between new : Standing) (r : Result (Option B) StoreError)
+    → xs ≡ x ∷ later
+    → IsAsked old between (λ s y. y ≡ f s x) (Ok None) → IsAsked between new (λ s y. y ≡ first_some (f s) later) r
+    → IsAsked old new (λ s y. y ≡ first_some (f s) xs) r
 first_later {A} {B} f xs later x old between new r split one two = record {
   value = λ h. by r (two.value h) (one.same (two.honest h)) (one.value (two.honest h));
   same = λ h. two.same h ∙ one.same (two.honest h);
@@ -21,11 +23,16 @@ first_later {A} {B} f xs later x old between new r split one two = record {
   cause = caused r two.cause;
 }
   where
-    by : (r : Result (Option B) StoreError) → IfOk r (λ y. y ≡ first_some (f between.state) later) → between.state ≡ old.state → None ≡ f old.state x → IfOk r (λ y. y ≡ first_some (f old.state) xs)
+    by : (r : Result (Option B) StoreError) → IfOk r (λ y. y ≡ first_some (f between.state) later) → between.state ≡ old.state → None ≡ f old.state x
+        → IfOk r (λ y. y ≡ first_some (f old.state) xs)
     by (Ok y) is there none =
-        is ∙ ap (λ (s : State). first_some (f s) later) there ∙ ap (λ (o : Option B). or_else o (first_some (f old.state) later)) none ∙ ap (first_some (f old.state)) (sym split)
+        is
+        ∙ ap (λ (s : State). first_some (f s) later) there
+        ∙ ap (λ (o : Option B). or_else o (first_some (f old.state) later)) none
+        ∙ ap (first_some (f old.state)) (sym split)
     by (Err e) is there none = tt
 
-    caused : (r : Result (Option B) StoreError) → IfErr r (IsFault between.faults new.faults new.is_honest) → IfErr r (IsFault old.faults new.faults new.is_honest)
+    caused : (r : Result (Option B) StoreError) → IfErr r (IsFault between.faults new.faults new.is_honest)
+        → IfErr r (IsFault old.faults new.faults new.is_honest)
     caused (Ok y) c = c
     caused (Err e) c = later-fault old.faults between.faults new.faults new.is_honest e one.later c

@@ -18,7 +18,8 @@ made-from-opening scene first old new steps same opened replays is honest stays 
     ap (all_made (opening scene)) is ∙ ap (λ (s : State). all_made s steps) (sym (opened r.0)) ∙ r.1 ∙ ap Ok (sym (stays h))
 
 -- no node had a next step
-pub still-finished : (old new : Standing) (lines : List FaultLine) (steps same : List Step) → None ≡ first_unfinished old.state (spent_by lines steps) → same ≡ steps
+pub still-finished : (old new : Standing) (lines : List FaultLine) (steps same : List Step) → None ≡ first_unfinished old.state (spent_by lines steps)
+    → same ≡ steps
     → new.state ≡ old.state → first_unfinished new.state (spent_by lines same) ≡ None
 still-finished old new lines steps same none is stays =
     ap (λ (s : State). first_unfinished s (spent_by lines same)) stays ∙ ap (λ (xs : List Step). first_unfinished old.state (spent_by lines xs)) is ∙ sym none

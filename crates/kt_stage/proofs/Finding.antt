@@ -5,7 +5,8 @@ use Rattle.std.specs.List.{list_any}
 use Rattle.std.proofs.lemmas.List.{take_all}
 use Rattle.kt_stage.specs.Traffic.{is_found}
 
-no-more : {A : Type 0} (p : A → Bool) (xs : List A) (i : ℕ) → list_any p (take i xs) ≡ false → is_found p (slice_get xs i) ≡ false → list_any p (take (suc i) xs) ≡ false
+no-more : {A : Type 0} (p : A → Bool) (xs : List A) (i : ℕ) → list_any p (take i xs) ≡ false → is_found p (slice_get xs i) ≡ false
+    → list_any p (take (suc i) xs) ≡ false
 no-more p [] i before here = refl
 no-more p (x ∷ xs) zero before here = rw here refl
 no-more p (x ∷ xs) (suc i) before here = by (p x) (λ e. no-more p xs i e here) before
@@ -16,7 +17,8 @@ no-more p (x ∷ xs) (suc i) before here = by (p x) (λ e. no-more p xs i e here
     by false later e = later e
 
 -- nothing was found so far, and is not found here
-pub none_so_far : {A : Type 0} (p : A → Bool) (xs : List A) (i : ℕ) → list_any p (take i xs) ≡ false → is_found p (slice_get xs i) ≡ false → list_any p (take (i + 1) xs) ≡ false
+pub none_so_far : {A : Type 0} (p : A → Bool) (xs : List A) (i : ℕ) → list_any p (take i xs) ≡ false → is_found p (slice_get xs i) ≡ false
+    → list_any p (take (i + 1) xs) ≡ false
 none_so_far p xs i before here = rw (add-one i) (no-more p xs i before here)
 
 -- it is found here

@@ -4,4 +4,5 @@ pub mod Making
 pub mod Seats
 pub mod Opening
 pub mod Ended
+pub mod Planned
 pub mod Allowed

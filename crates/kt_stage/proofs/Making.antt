@@ -16,7 +16,8 @@ use Rattle.kt_stage.specs.Acting.{RefusesStep}
 use Rattle.kt_stage.specs.Order.{has_node}
 use Rattle.kt_stage.specs.Journal.{Replays, all_made, are_owned, made_from, then_made}
 
-made-more : (so_far : Result State StepError) (steps : List Step) (step : Step) → made_from so_far (steps ++ step ∷ []) ≡ then_made (made_from so_far steps) step
+made-more : (so_far : Result State StepError) (steps : List Step) (step : Step)
+    → made_from so_far (steps ++ step ∷ []) ≡ then_made (made_from so_far steps) step
 unfolding made_from
 made-more so_far [] step = refl
 made-more so_far (first ∷ later) step = made-more (then_made so_far first) later step
@@ -35,7 +36,8 @@ replays_none opening h = (h, refl)
 
 -- at the opening
 pub replays_opened : (opening world : Standing) (steps : List Step) → opening ≡ world → steps ≡ [] → Replays opening world steps
-replays_opened opening world steps is none = subst (λ (w : Standing). Replays opening w steps) is (subst (λ (xs : List Step). Replays opening opening xs) (sym none) (replays_none opening))
+replays_opened opening world steps is none =
+    subst (λ (w : Standing). Replays opening w steps) is (subst (λ (xs : List Step). Replays opening opening xs) (sym none) (replays_none opening))
 
 all-more : {A : Type 0} (p : A → Bool) (xs : List A) (x : A) → list_all p xs ≡ true → p x ≡ true → list_all p (xs ++ x ∷ []) ≡ true
 all-more p [] x all one = rw one refl
@@ -45,7 +47,8 @@ all-more p (y ∷ xs) x all one = by (p y) (λ e. all-more p xs x e one) all
     by true later e = later e
     by false later e = e
 
-pub owned_more : (cast : Cast) (steps more : List Step) (step : Step) (p : NodeId) → are_owned cast steps ≡ true → more ≡ steps ++ step ∷ [] → owner step ≡ p → has_node cast p ≡ true → are_owned cast more ≡ true
+pub owned_more : (cast : Cast) (steps more : List Step) (step : Step) (p : NodeId) → are_owned cast steps ≡ true → more ≡ steps ++ step ∷ [] → owner step ≡ p
+    → has_node cast p ≡ true → are_owned cast more ≡ true
 owned_more cast steps more step p owned is own there =
     ap (are_owned cast) is ∙ all-more (λ (s : Step). has_node cast (owner s)) steps step owned (ap (has_node cast) own ∙ there)
 

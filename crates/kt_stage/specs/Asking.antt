@@ -6,7 +6,8 @@ use Rattle.kt_core.specs.Store.{IsFault}
 use Rattle.kt_core.specs.World.{Standing, beside}
 
 -- the world stays as it was, and while its store is honest the answer is what this says of its state
-pub record IsAsked {T : Type 0} (old new : Standing) (Says : State → T → Type 0) (result : Result T StoreError) : Type 0 where
+pub record IsAsked {T : Type 0} (old new : Standing) (Says : State → T → Type 0) (result : Result T StoreError)
+    : Type 0 where
   pub value : IsTrue new.is_honest → IfOk result (Says old.state)
   pub same : IsTrue new.is_honest → new.state ≡ old.state
   pub beside : beside new.state ≡ beside old.state

@@ -37,8 +37,8 @@ IsFirstUnmatched steps seats some (Some p) =
 abbrev pub first_missing : List NodeId → List Held → Option NodeId
 first_missing nodes seats = find (λ p. not (has_seat seats p)) nodes
 
--- a seat is of a node that is not matched, and this is the first such node; or there is none, and this is the first node
--- that has no seat
+-- a seat is of a node that is not matched, and this is the first such node; or there is none, and this is the first
+-- node that has no seat
 abbrev pub IsCloseCause : List NodeId → List Step → List Held → CloseError → Type 0
 IsCloseCause nodes steps seats (refusals.Unmatched p) = IsFirstUnmatched steps seats seats (Some p)
 IsCloseCause nodes steps seats (refusals.SeatMissing p) =

@@ -31,7 +31,8 @@ abbrev pub is_sought : Sought → Message → Bool
 is_sought (soughts.Number number) (messages.Post post) = is_about number post
 is_sought (soughts.Ask instance incarnation) (messages.CheckAsk ask) = is_ask instance incarnation ask
 is_sought (soughts.Ask instance incarnation) (messages.RollAsk ask) = is_ask instance incarnation ask
-is_sought (soughts.Vote instance incarnation) (messages.Vote vote) = (vote.instance == instance) && (vote.incarnation == incarnation)
+is_sought (soughts.Vote instance incarnation) (messages.Vote vote) =
+    (vote.instance == instance) && (vote.incarnation == incarnation)
 is_sought sought message = false
 
 -- it passes this test, if it is there

@@ -1,8 +1,10 @@
 //! Closing a stage: whether each seat keeps just the journal's steps of its node, with their places.
 
-ghost use Rattle.std.specs.Prelude.{◌≡◌, ◌≢◌, ◌↔◌, ◌++◌, List, IfErr, IfNone, IfOk, IfSome, IsPermutation, IsTrue, All, MatchOption};
+ghost use Rattle.std.specs.Prelude.{◌≡◌, ◌≢◌, ◌↔◌, ◌++◌, List, IfErr, IfNone, IfOk, IfSome, IsPermutation, IsTrue, All};
+ghost use Rattle.std.specs.Prelude.{MatchOption};
 ghost use Rattle.kt_stage.specs.declared.seat.Receipt.{Receipt};
-ghost use Rattle.kt_stage.specs.Closing.{IsCloseCause, IsClosed, IsFirstUnmatched, IsMatched, first_missing, has_seat, numbered, receipts_in};
+ghost use Rattle.kt_stage.specs.Closing.{IsCloseCause, IsClosed, IsFirstUnmatched, IsMatched, first_missing, has_seat};
+ghost use Rattle.kt_stage.specs.Closing.{numbered, receipts_in};
 ghost use Rattle.kt_stage.specs.Journal.{Replays, kept_of, receipts_of};
 ghost use Rattle.kt_stage.specs.Order.{nodes_of};
 
@@ -124,9 +126,9 @@ fn refusal_of<L: Naming>(nodes: &[NodeId], seats: &[Seat<L>], steps: &[Step]) ->
 }
 
 impl<S: CkptStore, L: Naming> Stage<S, L> {
-    /// Ends the stage. Of several refusals one of a seat that does not match comes before one of a seat that is missing,
-    /// then the first node in node order. A refusal hands the journal back, and stage and seats are gone. It takes no
-    /// memory and waits for nobody.
+    /// Ends the stage. Of several refusals one of a seat that does not match comes before one of a seat that is
+    /// missing, then the first node in node order. A refusal hands the journal back, and stage and seats are gone. It
+    /// takes no memory and waits for nobody.
     pub fn close(self, seats: Vec<Seat<L>>) -> Result<Journal<S>, (CloseError, Journal<S>)>
         ensures replays { IfOk result (λ j. Replays L.opening j.world j.steps) }
         ensures kept { IfOk result (λ j.

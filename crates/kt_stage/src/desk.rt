@@ -1,6 +1,7 @@
 //! What lies under a stage's lock.
 
-ghost use Rattle.std.specs.Prelude.{◌≡◌, ◌↔◌, ◌++◌, ◌∷◌, [], length, true, vec_len, IfErr, IfOk, IsTrue, Ok, OnErr, OnOk};
+ghost use Rattle.std.specs.Prelude.{◌≡◌, ◌↔◌, ◌++◌, ◌∷◌, [], length, true, vec_len, IfErr, IfOk, IsTrue, Ok, OnErr};
+ghost use Rattle.std.specs.Prelude.{OnOk};
 ghost use Rattle.kt_core.specs.Stepping.{IsCause};
 ghost use Rattle.kt_core.specs.World.{beside};
 ghost use Rattle.kt_stage.specs.Acting.{IsActCause, IsOthers, RefusesAct, RefusesStep};
@@ -44,7 +45,8 @@ impl<S: CkptStore> Journal<S> {
     /// Makes the step, and adds it to the list.
     fn make(&mut self, alloc: Global, step: Step) -> Result<(), StepError>
         ensures made { OnOk result (self.new.steps ≡ self.old.steps ++ step ∷ []) }
-        ensures effect { IsTrue self.new.world.is_honest → OnOk result (step_result self.old.world.state step ≡ Ok self.new.world.state) }
+        ensures effect { IsTrue self.new.world.is_honest
+            → OnOk result (step_result self.old.world.state step ≡ Ok self.new.world.state) }
         ensures steps { OnErr result (self.new.steps ≡ self.old.steps) }
         ensures same { IsTrue self.new.world.is_honest → OnErr result (self.new.world.state ≡ self.old.world.state) }
         ensures beside { OnErr result (beside self.new.world.state ≡ beside self.old.world.state) }
@@ -75,7 +77,8 @@ impl<S: CkptStore, L: Naming> Desk<S, L> {
         faults: &Faults,
         node: NodeId,
     ) -> Result<Option<Step>, StoreError>
-        ensures next { IsAsked self.old.journal.world self.new.journal.world (λ s x. x ≡ next_step s faults.now node) result }
+        ensures next { IsAsked self.old.journal.world self.new.journal.world
+            (λ s x. x ≡ next_step s faults.now node) result }
         ensures steps { self.new.journal.steps ≡ self.old.journal.steps }
     {
         let Desk { journal, .. } = self;
@@ -83,8 +86,8 @@ impl<S: CkptStore, L: Naming> Desk<S, L> {
     }
 
     /// Makes the step of the seat's node, and gives the receipt that the seat keeps then. A refusal leaves the seat and
-    /// the journal: `NotOwner` comes only where the step is another node's, and `Step` where the world refuses the step,
-    /// or memory runs out.
+    /// the journal: `NotOwner` comes only where the step is another node's, and `Step` where the world refuses the
+    /// step, or memory runs out.
     pub fn act(
         &mut self,
         alloc: Global,

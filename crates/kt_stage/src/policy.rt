@@ -5,8 +5,9 @@ ghost use Rattle.std.specs.List.{list_all};
 ghost use Rattle.kt_core.specs.Lent.{is_allowed};
 ghost use Rattle.kt_world.specs.Step.{owner};
 ghost use Rattle.kt_stage.specs.Asking.{IsAsked};
-ghost use Rattle.kt_stage.specs.Policy.{asks, by_rule, checks, comes_back, fails, first_some, first_unfinished, gives_up, has_sent, hears};
-ghost use Rattle.kt_stage.specs.Policy.{if_unfinished, lets_restart, next_step, repeats, serves_with_first, tries_again};
+ghost use Rattle.kt_stage.specs.Policy.{asks, by_rule, checks, comes_back, fails, first_some, first_unfinished};
+ghost use Rattle.kt_stage.specs.Policy.{gives_up, has_sent, hears, if_unfinished, lets_restart, next_step, repeats};
+ghost use Rattle.kt_stage.specs.Policy.{serves_with_first, tries_again};
 
 use crate::asking::{
     got_no, if_allowed, is_down, is_lost_request, is_up, lets_restart, waits_in_vain,

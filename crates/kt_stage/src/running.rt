@@ -62,8 +62,8 @@ enum Turn {
 }
 
 impl<S: CkptStore, L: Naming> Floor<S, L> {
-    /// Makes the next step of the player's node, if it has one. It is chosen and made under one lock: another node's step
-    /// between the two could make it one that is not allowed.
+    /// Makes the next step of the player's node, if it has one. It is chosen and made under one lock: another node's
+    /// step between the two could make it one that is not allowed.
     fn turn(&mut self, alloc: Global, player: &mut Player<L>) -> Result<Turn, RunFault> {
         let Floor { desk, idle, .. } = self;
         let Player { seat, faults } = player;
@@ -99,9 +99,9 @@ impl<S: CkptStore, L: Naming> Stage<S, L> {
     }
 }
 
-/// What a node's thread does: turn after turn, until the run has ended. The lock is let go after each turn. Where it has
-/// nothing to do it sleeps until the journal has grown. Nodes that found nothing to do since the last step are counted,
-/// and the last of them ends the run.
+/// What a node's thread does: turn after turn, until the run has ended. The lock is let go after each turn. Where it
+/// has nothing to do it sleeps until the journal has grown. Nodes that found nothing to do since the last step are
+/// counted, and the last of them ends the run.
 fn play<R: Wait, S: CkptStore, L: Naming>(
     rt: &R,
     alloc: Global,
@@ -229,8 +229,8 @@ where
         .map_err(|(cause, _)| RunFault::Close(cause))
 }
 
-/// Runs the scene: a thread for each node, each by the policy with these fault lines, until no node has a next step. Every
-/// thread is joined. The run ends early with the first step that is refused. It may wait for its threads.
+/// Runs the scene: a thread for each node, each by the policy with these fault lines, until no node has a next step.
+/// Every thread is joined. The run ends early with the first step that is refused. It may wait for its threads.
 ///
 /// Which steps are made, and in what order, is not promised; nor that the run ends.
 pub fn run_threads<R, S>(
@@ -243,8 +243,10 @@ pub fn run_threads<R, S>(
 where
     R: Threads + Wait + Sync,
     S: CkptStore + Send + Drop,
-    ensures replays { IfOk result (λ j. IsTrue j.world.is_honest → all_made (opening scene) j.steps ≡ Ok j.world.state) }
-    ensures finished { IfOk result (λ j. IsTrue j.world.is_honest → first_unfinished j.world.state (spent_by faults j.steps) ≡ None) }
+    ensures replays { IfOk result (λ j.
+        IsTrue j.world.is_honest → all_made (opening scene) j.steps ≡ Ok j.world.state) }
+    ensures finished { IfOk result (λ j.
+        IsTrue j.world.is_honest → first_unfinished j.world.state (spent_by faults j.steps) ≡ None) }
 {
     let world = match World::open(alloc, scene, store) {
         Ok(world) => world,

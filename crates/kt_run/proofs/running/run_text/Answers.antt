@@ -14,7 +14,8 @@ pub returns-in-Err-answer-clause-front : goal.returns-in-Err-answer-clause-front
 returns-in-Err-answer-clause-front g c =
     λ e. run_front g.S.CkptStore.is_honest c.args.output _ _ _ _ c.write_run-answer.result.1 c.in-Ok.journal.world c.in-Ok.journal.steps c.in-Ok.ensures.run
     c.write_run-answer.ensures.honest
-    (c.write_run-answer.ensures.front (err_named c.write_run-answer.result.0 (Err (Text c.in-Err-answer.fault)) c.in-Err-answer.fault _ c.in-Err-answer.is refl e))
+    (c.write_run-answer.ensures.front
+    (err_named c.write_run-answer.result.0 (Err (Text c.in-Err-answer.fault)) c.in-Err-answer.fault _ c.in-Err-answer.is refl e))
 
 pub returns-in-Err-answer-clause-fault : goal.returns-in-Err-answer-clause-fault
 returns-in-Err-answer-clause-fault g c =

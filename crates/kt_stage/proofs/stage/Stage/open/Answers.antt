@@ -9,7 +9,8 @@ use Rattle.kt_stage.proofs.stage.Stage.open.Goals as goal
 pub seats_of-requires-clause-there : goal.seats_of-requires-clause-there
 seats_of-requires-clause-there g c =
     let nodes : c.in_ok-nodes.nodes.items ≡ nodes_of c.args.world.state.cast = c.in_ok-nodes.ensures in
-    subst (All (λ p. IsTrue (has_node g.L.Naming.opening.state.cast p))) (ap (λ (w : Standing). nodes_of w.state.cast) c.requires.opening ∙ sym nodes ∙ sym c.deref.ensures.value)
+    subst (All (λ p. IsTrue (has_node g.L.Naming.opening.state.cast p)))
+    (ap (λ (w : Standing). nodes_of w.state.cast) c.requires.opening ∙ sym nodes ∙ sym c.deref.ensures.value)
     (all-there g.L.Naming.opening.state.cast)
 
 pub invariant_of-desk : goal.invariant_of-desk
