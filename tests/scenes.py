@@ -7,24 +7,25 @@ from collections import namedtuple
 
 ROOT = os.path.dirname(os.path.dirname(os.path.realpath(__file__)))
 
-# The bytes of its scenario, how many services survive, the lines of the tuples then, and its fault lines.
-Scene = namedtuple("Scene", "text survivors space faults")
+# The bytes of its scenario, how many services survive, the lines of the tuples then, its fault lines, and how many
+# services are lost, where that is the same in every run.
+Scene = namedtuple("Scene", "text survivors space faults lost", defaults=[None])
 
 
-def written(shards, scripts, faults, survivors, space):
+def written(shards, scripts, faults, survivors, space, lost=None):
     """A scene of these scripts, one for each worker."""
     workers = [line for script in scripts for line in ("worker", *script)]
     lines = ("linda-kt 1", f"shards {shards}", *workers, "faults", *faults, "end")
-    return Scene("".join(f"{line}\n" for line in lines).encode(), survivors, space, faults)
+    return Scene("".join(f"{line}\n" for line in lines).encode(), survivors, space, faults, lost)
 
 
-def kept(name, survivors, space):
+def kept(name, survivors, space, lost=None):
     """A scene of scenarios/."""
     with open(f"{ROOT}/scenarios/{name}.scn", "rb") as file:
         text = file.read()
     lines = text.decode().splitlines()
     faults = [line for line in lines[lines.index("faults") + 1 : -1] if not line.startswith("#")]
-    return Scene(text, survivors, space, faults)
+    return Scene(text, survivors, space, faults, lost)
 
 
 def counter():
@@ -66,16 +67,16 @@ def ring():
 KINDS = ['("a")', '("a", "b")', '("a", 1)', "(1)", '(1, "a")', '(1, "a", "b")', "(1, 2)", '(1, 2, "a")']
 
 
-def eight(faults):
+def eight(faults, lost=None):
     """Eight workers over eight shards put tuples and take them, 1,000 operations in all."""
     scripts = [
         [f"{'in' if n % 2 else 'out'} {KINDS[(worker + n // 2) % 8]}" for n in range(125)] for worker in range(8)
     ]
-    return written(8, scripts, faults, 1000, KINDS)
+    return written(8, scripts, faults, 1000, KINDS, lost)
 
 
 SCENES = {
-    "a_shard_fails": kept("a_shard_fails", 5, ['("done", 7)', '("k")']),
+    "a_shard_fails": kept("a_shard_fails", 5, ['("done", 7)', '("k")'], 4),
     "checks_and_failures": kept("checks_and_failures", 13, ['("all", 11, 12, 13)']),
     "a worker that fails three times": counter(),
     "everyone fails": everyone(),
@@ -84,7 +85,7 @@ SCENES = {
 }
 
 LARGE_SCENES = {
-    "8 workers, 8 shards, 1,000 operations": eight([]),
+    "8 workers, 8 shards, 1,000 operations": eight([], 0),
     "the same with checks and failures": eight(
         ["check w1 after 120", "check s5 after 160", "fail s3 after 150", "fail w7 after 200"]
     ),
