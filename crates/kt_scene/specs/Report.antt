@@ -26,6 +26,7 @@ count_line word count = word ++ decimal count ++ line_end
 abbrev pub text_line : List ℕ → List ℕ
 text_line text = text ++ line_end
 
+-- a service, on a line
 abbrev pub service_line : Service → List ℕ
 service_line s = text_line (service_text s)
 

@@ -1,6 +1,6 @@
 //! The text of a scenario.
 
-ghost use Rattle.std.specs.Prelude.{◌≡◌, ◌++◌, ◌∷◌, map, OnOk, IfOk, codes, decimal};
+ghost use Rattle.std.specs.Prelude.{◌≡◌, ◌++◌, map, OnOk, IfOk};
 ghost use Rattle.std.specs.List.{flat_map};
 ghost use Rattle.kt_tuple.specs.Spelling.{node_text};
 ghost use Rattle.kt_scene.specs.Report.{text_line};
@@ -10,10 +10,10 @@ ghost use Rattle.kt_scene.specs.Text.{step_text, script_lines, scene_lines, scen
 ghost use Rattle.kt_scene.specs.Text.{fault_text, fault_line_text};
 
 use crate::scenario::Work;
-use itoa::Buffer;
 use kt_core::{Fault, FaultKind, FaultLine, Scene, Step};
 use kt_script::Script;
 use kt_tuple::NodeId;
+use kt_tuple::writing::push_number;
 use std::alloc::{AllocError, Global};
 
 /// The text of the scenario: the one spelling of each line, and no ignored lines.
@@ -51,13 +51,6 @@ fn push_scene(out: &mut Vec<u8>, scene: &Scene) -> Result<(), AllocError>
         push_script(out, script)?;
     }
     Ok(())
-}
-
-fn push_number(out: &mut Vec<u8>, number: u64) -> Result<(), AllocError>
-    ensures { OnOk result (out.new.items ≡ out.old.items ++ decimal number) }
-{
-    let mut buffer = Buffer::new();
-    out.extend_from_slice(buffer.format(number).as_bytes())
 }
 
 /// The worker's line, and a line for each command.
