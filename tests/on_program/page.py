@@ -1,0 +1,94 @@
+"""What docs/FORMATS.md shows is read and written so."""
+
+import re
+
+from on_program.starting import ROOT, report, start, tell, told
+
+# ---- the examples of docs/FORMATS.md: the lines before one, the example as it stands there, and its fault
+
+TITLE = "linda-kt 1\nshards 1\n"
+WORKER = TITLE + "worker\n"
+BOUND = WORKER + "in (?int x, ?str s)\n"
+STEPS = WORKER + "steps\n"
+FULL_SCRIPT = WORKER + "out (1)\n" * 200
+EXAMPLES = [
+    (WORKER, 'out ("a", 1)', None),
+    (WORKER, 'in ("a", ?int)', None),
+    (WORKER, 'in ("a", ?int x)', None),
+    (BOUND, 'out ("sum", x)', None),
+    (STEPS, "issue w1", None),
+    (STEPS, "repeat w1", None),
+    (STEPS, "deliver w1 s1", None),
+    (STEPS, "serve s1 w1 0", None),
+    ("", "linda-kt 2", "1 Header"),
+    ("linda-kt 1\n", "shards 01", "1 Header"),
+    ("linda-kt 1\n", "shards x", "1 Header"),
+    (WORKER, "output (1)", "2 Word"),
+    (WORKER, "out", "2 Word"),
+    (BOUND, "set x = y", "2 Word"),
+    (WORKER, "unless 01", "2 Word"),
+    (STEPS, "issue w0", "2 Word"),
+    (STEPS, "serve s1 w1 100000", "2 Word"),
+    (TITLE, "steps", "2 Word"),
+    (WORKER, "out (01)", "3 Tuple"),
+    (WORKER, "out  (1)", "3 Tuple"),
+    (WORKER, "out (?int)", "3 Tuple"),
+    (WORKER, "in (?int X)", "3 Tuple"),
+    (WORKER, "in (?int int)", "3 Tuple"),
+    (WORKER, "out (x)", "4 Variable"),
+    (WORKER, "in (?int x, x)", "4 Variable"),
+    (WORKER, "in (?int x, ?str x)", "4 Variable"),
+    ("linda-kt 1\n", "shards 0", "5 Limit"),
+    ("linda-kt 1\n", "shards 9", "5 Limit"),
+    (TITLE + "worker\n" * 8, "worker", "5 Limit"),
+    (FULL_SCRIPT, 'out ("a", 1)', "5 Limit"),
+    (WORKER, "unless 0", "5 Limit"),
+    (WORKER, "unless 201", "5 Limit"),
+    (STEPS + "end\n", "issue w1", "7 End"),
+]
+# As the tuple or template of a command: these stand there with the place of their fault.
+TUPLES = ["(-0)", "(01)", "()", "(1,2)", "(1", "(1, 9223372036854775808)", "(1, 1, 1, 1, 1, 1, 1, 1, 1)"]
+COUNTER_STEPS = "steps\n" + "issue w1\ndeliver w1 s1\nserve s1 w1 0\ndeliver s1 w1\n" * 2 + "end\n"
+COUNTER = report(
+    "survivors 2",
+    'w1.1 inp ("counter", ?int) none',
+    'w1.2 out ("counter", 0) done',
+    "lost 0",
+    "space 1",
+    '("counter", 0)',
+    "permanent 0",
+)
+
+
+def formats_page():
+    """What docs/FORMATS.md shows is read and written so."""
+    with open(f"{ROOT}/docs/FORMATS.md", encoding="utf-8") as file:
+        page = file.read()
+    # Blocks of a language, as the statements in SQL, are no input.
+    blocks = re.findall(r"^```(\w*)\n(.*?)^```$", page, re.MULTILINE | re.DOTALL)
+    script, text, written, journal = (inside for language, inside in blocks if not language)
+    yield tell("the page's scenario", (written.encode(), b"", 0), start(["replay"], text.encode(), b""))
+    told = "".join(line[2:] for line in journal.splitlines(True) if line.startswith("# "))
+    yield tell("the page's journal", (told.encode(), b"", 0), start(["replay"], journal.encode(), b""))
+    counting = f"{WORKER}{script}{COUNTER_STEPS}".encode()
+    yield tell("the page's script", (COUNTER, b"", 0), start(["replay"], counting, b""))
+    lines = EXAMPLES + [(WORKER, f"out {bad}", "3 Tuple") for bad in TUPLES]
+    for name, given, line in [("end without its line feed", STEPS + "end", 5), ("empty text", "", 1)]:
+        wanted = (b"", f"line {line}: 7 End\n".encode(), 3)
+        yield tell(f"the page's {name}", wanted, start(["replay"], given.encode(), b""))
+    for before, line, fault in lines:
+        example = line.removeprefix("out ") if line.startswith("out ") and line[4:] in TUPLES else line
+        if f"`{example}`" not in page:
+            yield tell(f"the page has {example}", (b"", b"", 0), (None, b"it has not", None))
+            continue
+        number = before.count("\n") + 1
+        after = "" if before == STEPS else "steps\n"
+        given = f"{before}{line}\n{after}end\n".encode()
+        said, errors, status = start(["replay"], given, b"")
+        if fault is None:
+            # A step may be refused where nothing is ready for it; the line itself has no fault.
+            got = (b"", errors if errors.startswith(b"line") else b"", 3 if status == 3 else 0)
+            yield tell(f"the page's {line}", (b"", b"", 0), got)
+        else:
+            wanted = (b"", f"line {number}: {fault}\n".encode(), 3)
+            yield tell(f"the page's {line}", wanted, (said, errors, status))

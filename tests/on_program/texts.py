@@ -1,0 +1,176 @@
+"""Scenarios, and what the program writes of them: each text is written out here, none is taken from the program."""
+
+from on_program.starting import report, scenario
+
+PUT_AND_TAKE = report(
+    "survivors 2",
+    'w1.1 out ("a", 1) done',
+    'w1.2 in ("a", ?int) got ("a", 1)',
+    "lost 0",
+    "space 0",
+    "permanent 0",
+)
+NO_STEPS = report("survivors 0", "lost 0", "space 0", "permanent 0")
+TWO_TAKERS = report(
+    "survivors 2",
+    'w3.1 out ("t") done',
+    'w2.1 in ("t") got ("t")',
+    "lost 0",
+    "space 0",
+    "permanent 0",
+)
+BAG_OF_TASKS = report(
+    "survivors 9",
+    'w1.1 out ("task", 10) done',
+    'w1.2 out ("task", 20) done',
+    'w3.1 in ("task", ?int) got ("task", 10)',
+    'w2.1 in ("task", ?int) got ("task", 20)',
+    'w2.2 out ("result", 20, 21) done',
+    'w3.2 out ("result", 10, 11) done',
+    'w1.3 in ("result", 10, ?int) got ("result", 10, 11)',
+    'w1.4 in ("result", 20, ?int) got ("result", 20, 21)',
+    'w1.5 out ("all", 11, 21) done',
+    "lost 0",
+    "space 1",
+    '("all", 11, 21)',
+    "permanent 0",
+)
+UNLESS_SKIPS = report(
+    "survivors 6",
+    'w1.1 inp ("a") none',
+    'w1.2 out ("d") done',
+    'w2.1 out ("a") done',
+    'w2.2 out ("a") done',
+    'w2.3 out ("a") done',
+    'w2.4 rdp ("a") got ("a")',
+    "lost 0",
+    "space 4",
+    '("a")',
+    '("a")',
+    '("a")',
+    '("d")',
+    "permanent 0",
+)
+ANSWERED_AGAIN = report(
+    "survivors 1",
+    'w1.1 out ("a", 1) done',
+    "lost 0",
+    "space 1",
+    '("a", 1)',
+    "permanent 0",
+)
+THREE_SHARDS = report(
+    "survivors 7",
+    'w1.1 out ("apple", 5) done',
+    'w1.2 out ("pear", 9) done',
+    'w2.1 out (1, "pear") done',
+    'w1.3 in (?int, ?str) got (1, "pear")',
+    'w1.4 rd ("pear", ?int) got ("pear", 9)',
+    'w1.5 out (1, 9) done',
+    'w2.2 in (1, ?int) got (1, 9)',
+    "lost 0",
+    "space 2",
+    '("apple", 5)',
+    '("pear", 9)',
+    "permanent 0",
+)
+SHARD_OF_SIGNATURE = (
+    b'linda-kt 1\nshards 2\nworker\nout ("a", 1)\nworker\nout ("a")\nworker\nout (1, 2)\nsteps\n'
+    b"issue w1\nissue w2\nissue w3\ndeliver w1 s2\ndeliver w2 s1\ndeliver w3 s1\n"
+    b"serve s2 w1 0\nserve s1 w2 0\nserve s1 w3 0\nend\n"
+)
+THREE_PUT = report(
+    "survivors 3",
+    'w1.1 out ("a", 1) done',
+    'w2.1 out ("a") done',
+    "w3.1 out (1, 2) done",
+    "lost 0",
+    "space 3",
+    '("a")',
+    '("a", 1)',
+    "(1, 2)",
+    "permanent 0",
+)
+SHARD_FAILS = report(
+    "survivors 1",
+    'w1.1 out ("a", 1) done',
+    "lost 1",
+    "space 1",
+    '("a", 1)',
+    "permanent 0",
+)
+
+CHECKPOINT_OF_TWO = report(
+    "survivors 1",
+    'w1.1 out ("a", 1) done',
+    "lost 0",
+    "space 1",
+    '("a", 1)',
+    "permanent 1",
+    '("a", 1)',
+)
+
+LOST = report("survivors 0", "lost 1", "space 0", "permanent 0")
+
+# Every run of it ends with this report.
+A_SHARD_FAILS = report(
+    "survivors 5",
+    'w1.1 out ("k") done',
+    'w1.2 out ("k", 7) done',
+    'w1.3 in ("k", ?int) got ("k", 7)',
+    'w1.4 out ("done", 7) done',
+    'w1.5 rd ("k") got ("k")',
+    "lost 4",
+    "space 2",
+    '("done", 7)',
+    '("k")',
+    "permanent 0",
+)
+NOBODY_FAILS = b'linda-kt 1\nshards 1\nworker\nout ("a", 1)\nfaults\nend\n'
+CUT_FAULTS = b"linda-kt 1\nshards 1\nworker\nsteps\n"
+
+# up to the failure, and no restart
+TO_FAILURE = scenario("shard_fails").partition(b"restart s1\n")[0] + b"end\n"
+
+# the shard has not learned the verdict when it fails
+UNRESOLVED = scenario("checkpoint_of_two").partition(b"# Both learn it")[0] + b"fail s1\nrestart s1\nend\n"
+
+REFUSED_NINTH = scenario("two_takers").replace(b"\nend\n", b"\nserve s1 w1 0\nend\n")
+HEAD = b'linda-kt 1\nshards 1\nworker\nout ("a", 1)\nsteps\nissue w1\n'
+TO_SHARD = b"deliver w1 s1\nserve s1 w1 0\n"
+HELP = report(
+    "A Linda tuple space that survives failures",
+    "",
+    "Usage: linda_kt <COMMAND>",
+    "",
+    "Commands:",
+    "  replay  Makes the steps of the scenario on standard input and writes the report to standard output",
+    "  run     Runs the scenario on standard input, by a thread for each node, and writes the report to standard"
+    " output",
+    "",
+    "Options:",
+    "  -h, --help     Print help",
+    "  -V, --version  Print version",
+)
+HELP_OF_REPLAY = report(
+    "Makes the steps of the scenario on standard input and writes the report to standard output",
+    "",
+    "Usage: linda_kt replay [OPTIONS]",
+    "",
+    "Options:",
+    "      --store <FILE>  Keeps the checkpoints in FILE, which is absent, empty or a fresh store",
+    "  -h, --help          Print help",
+)
+HELP_OF_RUN = report(
+    "Runs the scenario on standard input, by a thread for each node, and writes the report to standard output",
+    "",
+    "Usage: linda_kt run [OPTIONS]",
+    "",
+    "Options:",
+    "      --store <FILE>  Keeps the checkpoints in FILE, which is absent, empty or a fresh store",
+    "      --journal       Writes the report as remarks, and then the steps that were made, as a scenario for replay",
+    "  -h, --help          Print help",
+)
+VERSION = report("linda_kt 0.1.0")
+AGAIN = b"repeat w1\n"
+ONE_PUT = report("survivors 1", 'w1.1 out ("a", 1) done', "lost 0", "space 1", '("a", 1)', "permanent 0")
