@@ -13,8 +13,6 @@ mod policy;
 mod running;
 mod seat;
 mod stage;
-#[cfg(test)]
-mod tests;
 mod traffic;
 
 pub use closing::CloseError;
