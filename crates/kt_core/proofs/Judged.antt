@@ -30,7 +30,8 @@ delivery-none : (v : View) (t : Told) (p : NodeId) (queue : List Message) → sl
 delivery-none v t p [] e = refl
 delivery-none v t p (x ∷ later) e = absurd cc
 
-pub due-first : (s : State) (t : Told) (step : Step) (p q : NodeId) (v : View) (m : Message) (r : Result Plan Refusal) → step ≡ steps.Deliver p q → v ≡ view s (owner step)
+pub due-first : (s : State) (t : Told) (step : Step) (p q : NodeId) (v : View) (m : Message) (r : Result Plan Refusal)
+    → step ≡ steps.Deliver p q → v ≡ view s (owner step)
     → slice_get (link s p q) 0 ≡ Some m → Plans r (hear v t p m) → Plans r (due s t step)
 due-first s t step p q v m r is seen first plans =
     let Of : Step → Type 0 = λ x. v ≡ view s (owner x) in
@@ -38,11 +39,13 @@ due-first s t step p q v m r is seen first plans =
     let P : Step → Type 0 = λ x. Plans r (due s t x) in
     subst P (sym is) (subst (Plans r) (sym (delivery-first (view s q) t p (link s p q) m first)) (subst (λ (x : View). Plans r (hear x t p m)) here plans))
 
-pub due-none : (s : State) (t : Told) (step : Step) (p q : NodeId) → step ≡ steps.Deliver p q → slice_get (link s p q) 0 ≡ None → due s t step ≡ Err reasons.NothingThere
+pub due-none : (s : State) (t : Told) (step : Step) (p q : NodeId) → step ≡ steps.Deliver p q
+    → slice_get (link s p q) 0 ≡ None → due s t step ≡ Err reasons.NothingThere
 due-none s t step p q is none = ap (due s t) is ∙ delivery-none (view s q) t p (link s p q) none
 
 -- the limit is asked where the step is allowed
-pub over : (made : ℕ) (r : Result Plan StepError) (due : Result Plan StepError) → Gives r due → is_refused r ≡ false → most_steps ≤ made → within_limit made due ≡ Err refusals.StepLimit
+pub over : (made : ℕ) (r : Result Plan StepError) (due : Result Plan StepError) → Gives r due
+    → is_refused r ≡ false → most_steps ≤ made → within_limit made due ≡ Err refusals.StepLimit
 over made r due gives not le = by r due gives not
   where
     past : nat_lt made most_steps ≡ false

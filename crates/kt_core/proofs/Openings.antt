@@ -13,11 +13,13 @@ unfolding opening_rows
 no_rows nodes cast e = ap (map row_view) e
 
 -- two rows more
-pub more_rows : (nodes once twice : List (Option Node)) (worker shard : Option Node) (cast : Cast) (n : ℕ) → map row_view nodes ≡ opening_rows cast n → once ≡ nodes ++ worker ∷ [] → twice ≡ once ++ shard ∷ []
+pub more_rows : (nodes once twice : List (Option Node)) (worker shard : Option Node) (cast : Cast) (n : ℕ)
+    → map row_view nodes ≡ opening_rows cast n → once ≡ nodes ++ worker ∷ [] → twice ≡ once ++ shard ∷ []
     → row_view worker ≡ opening_row cast (ids.Worker n) → row_view shard ≡ opening_row cast (ids.Shard n) → map row_view twice ≡ opening_rows cast (n + 1)
 unfolding opening_rows
 more_rows nodes once twice worker shard cast n so_far first second w s =
-    let shown : twice ≡ nodes ++ worker ∷ shard ∷ [] = second ∙ ap (λ (l : List (Option Node)). l ++ shard ∷ []) first ∙ append_assoc nodes (worker ∷ []) (shard ∷ []) in
+    let shown : twice ≡ nodes ++ worker ∷ shard ∷ [] = second ∙ ap (λ (l : List (Option Node)). l ++ shard ∷ []) first
+    ∙ append_assoc nodes (worker ∷ []) (shard ∷ []) in
     ap (map row_view) shown
     ∙ map-append row_view nodes (worker ∷ shard ∷ [])
     ∙ ap (λ (l : List (Option Row)). l ++ row_view worker ∷ row_view shard ∷ []) so_far

@@ -7,5 +7,6 @@ use Rattle.kt_node.specs.declared.node.Node.{Node}
 use Rattle.kt_world.specs.Limits.{rows}
 use Rattle.kt_core.specs.Rows.{row_view}
 
-pub rows_there : (nodes : List (Option Node)) (p : NodeId) (k : ℕ) → k ≡ node_index p → node_index p < rows → length (map row_view nodes) ≡ rows → k < length nodes
+pub rows_there : (nodes : List (Option Node)) (p : NodeId) (k : ℕ) → k ≡ node_index p → node_index p < rows
+    → length (map row_view nodes) ≡ rows → k < length nodes
 rows_there nodes p k is row all = omega (arith, is, row, all, length-map nodes row_view)

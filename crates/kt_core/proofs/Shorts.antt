@@ -23,7 +23,8 @@ past P (y ∷ ys) (suc n) le = past P ys n (omega (arith, le))
 abbrev pub AreShort : List (List Command) → ℕ → Type 0
 AreShort scripts k = (n : ℕ) → n < k → IfSome (slice_get scripts n) IsShort
 
-pub short-next : (scripts : List (List Command)) (k : ℕ) (script d : List Command) → script ≡ get_or scripts k d → k < length scripts → IsScript script → AreShort scripts k → AreShort scripts (k + 1)
+pub short-next : (scripts : List (List Command)) (k : ℕ) (script d : List Command) → script ≡ get_or scripts k d
+    → k < length scripts → IsScript script → AreShort scripts k → AreShort scripts (k + 1)
 short-next scripts k script d e lt is so_far n below = elim (cases_eq n k) [
   | inl same ↦ subst (λ (m : ℕ). IfSome (slice_get scripts m) IsShort) (sym same) (at-this IsShort scripts k script d lt e (of_script script is))
   | inr apart ↦ so_far n (omega (arith, below, apart))

@@ -58,15 +58,18 @@ weaker refusals.NotDecided due r = r
 weaker refusals.Unresolved due r = r
 weaker refusals.StepLimit due r = r
 
-pub refused : (s : State) (step : Step) (t : Told) (e : StepError) → t ≡ told_by (needs_of s step) s.content (owner step) → machine.Gives {Y = Plan} (Err e) (planned_by s t step) → Refuses e (planned s step)
+pub refused : (s : State) (step : Step) (t : Told) (e : StepError) → t ≡ told_by (needs_of s step) s.content (owner step)
+    → machine.Gives {Y = Plan} (Err e) (planned_by s t step) → Refuses e (planned s step)
 refused s step t e is gives = weaker e (planned s step) (subst (machine.Refuses e) (due-planned s step t is) gives)
 
 fault-of : (before now : ℕ) (refusal : StoreError) → before ≤ now → (refusal ≡ stores.Damaged) → IsFault before now false refusal
 fault-of before now refusal le is = record { device = λ e. absurd (let h = is in cc); damaged = λ e. refl; full = λ e. refl }
 
 -- a checkpoint that does not fit is the store's fault, or was due
-pub caused : (honest : Bool) (before now : ℕ) (s : State) (step : Step) (t : Told) (e : StepError) → before ≤ now → (IsTrue honest → t ≡ told_by (needs_of s step) s.content (owner step))
-    → machine.Gives {Y = Plan} (Err e) (planned_by s t step) → ((x : StoreError) → e ≡ refusals.Store x → x ≡ stores.Damaged) → IsCause before now honest (planned s step) e
+pub caused : (honest : Bool) (before now : ℕ) (s : State) (step : Step) (t : Told) (e : StepError)
+    → before ≤ now → (IsTrue honest → t ≡ told_by (needs_of s step) s.content (owner step))
+    → machine.Gives {Y = Plan} (Err e) (planned_by s t step) → ((x : StoreError) → e ≡ refusals.Store x → x ≡ stores.Damaged)
+    → IsCause before now honest (planned s step) e
 caused honest before now s step t refusals.OutOfMemory le is gives only = tt
 caused true before now s step t (refusals.Store x) le is gives only = inr (sym (due-planned s step t (is refl)) ∙ gives)
 caused false before now s step t (refusals.Store x) le is gives only = inl (fault-of before now x le (only x refl))
@@ -122,7 +125,8 @@ limit-store made r x = by (nat_lt made most_steps) refl r
     by b lt (Err refusals.OutOfMemory) e = e
 
 -- of a plan's refusals only that of a checkpoint that does not fit is the store's
-pub only-damaged : (s : State) (t : Told) (step : Step) (e : StepError) → machine.Gives {Y = Plan} (Err e) (planned_by s t step) → (x : StoreError) → e ≡ refusals.Store x → x ≡ stores.Damaged
+pub only-damaged : (s : State) (t : Told) (step : Step) (e : StepError) → machine.Gives {Y = Plan} (Err e) (planned_by s t step)
+    → (x : StoreError) → e ≡ refusals.Store x → x ≡ stores.Damaged
 only-damaged s t step e gives x is =
     let P : StepError → Type 0 = λ y. machine.Refuses y (planned_by s t step) in
     let h : planned_by s t step ≡ Err (refusals.Store x) = subst P is gives in
@@ -134,7 +138,8 @@ is-ok {X = X} {E = E} r x e = let P : Result X E → Type 0 = IsOk in subst P (s
 pub planned-can : (s : State) (step : Step) (t : Told) (plan : Plan) → IsReady s → machine.Gives (Ok plan) (planned_by s t step) → CanApply s (owner step) plan
 planned-can s step t plan ready gives = can_apply s ready t step plan (plan-found s t step plan gives)
 
-pub planned-leads : (s : State) (step : Step) (t : Told) (plan : Plan) → IsReady s → machine.Gives (Ok plan) (planned_by s t step) → IsReady (applied s step plan)
+pub planned-leads : (s : State) (step : Step) (t : Told) (plan : Plan) → IsReady s → machine.Gives (Ok plan) (planned_by s t step)
+    → IsReady (applied s step plan)
 planned-leads s step t plan ready gives = stays_ready s ready (plan-few s t step plan gives) t step plan (plan-found s t step plan gives)
 
 -- what is said of the refusal holds of it where that follows from how it came about
@@ -170,16 +175,19 @@ pub effect : (old mid new : Machine) (before between after : Content) (step : St
 effect old mid new before between after step plan p is same read owned wrote carried =
     let mid_is : state_of mid between ≡ state_of old before = ap (state_of mid) read ∙ same before in
     let written : after ≡ content_after (owner step) plan.write between = wrote ∙ ap (λ (q : NodeId). content_after q plan.write between) owned in
-    let new_is : state_of new after ≡ applied (state_of old before) step plan = ap (state_of new) written ∙ carried between ∙ ap (λ (s : State). applied s step plan) mid_is in
+    let new_is : state_of new after ≡ applied (state_of old before) step plan = ap (state_of new) written ∙ carried between
+    ∙ ap (λ (s : State). applied s step plan) mid_is in
     ap (applied_if (state_of old before) step) is ∙ ap (λ (s : State). Ok s) (sym new_is)
 
 -- the write of what is planned is one that the store allows
-pub allowed : (s : State) (step : Step) (plan : Plan) (c : Content) (p : NodeId) → IsBacked s → planned s step ≡ Ok plan → c ≡ s.content → p ≡ owner step → IfSome plan.write (IsAllowed c p)
+pub allowed : (s : State) (step : Step) (plan : Plan) (c : Content) (p : NodeId) → IsBacked s → planned s step ≡ Ok plan
+    → c ≡ s.content → p ≡ owner step → IfSome plan.write (IsAllowed c p)
 allowed s step plan c p backed is read owned =
     subst (λ (d : Content). IfSome plan.write (IsAllowed d p)) (sym read)
     (subst (λ (q : NodeId). IfSome plan.write (IsAllowed s.content q)) (sym owned) (planned-allowed s backed step plan is))
 
-pub numbers : (s : State) (step : Step) (plan : Plan) (c : Content) (p : NodeId) → IsBacked s → planned s step ≡ Ok plan → c ≡ s.content → p ≡ owner step → HasNumbers c p
+pub numbers : (s : State) (step : Step) (plan : Plan) (c : Content) (p : NodeId) → IsBacked s → planned s step ≡ Ok plan
+    → c ≡ s.content → p ≡ owner step → HasNumbers c p
 numbers s step plan c p backed is read owned =
     subst (λ (d : Content). HasNumbers d p) (sym read) (subst (HasNumbers s.content) (sym owned) (planned-numbers s backed step plan is))
 

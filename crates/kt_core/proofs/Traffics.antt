@@ -1,5 +1,6 @@
 -- What making room, sending and taking off leave of the links.
-use Rattle.std.proofs.Common.{◌≡◌, ℕ, zero, suc, ◌+◌, ◌<◌, ◌≤◌, List, [], ◌∷◌, ◌++◌, length, set, get_or, take, Option, None, Some, ◌⊎◌, inl, inr, refl, sym, ap, ◌∙◌, subst, arith}
+use Rattle.std.proofs.Common.{◌≡◌, ℕ, zero, suc, ◌+◌, ◌<◌, ◌≤◌, List, [], ◌∷◌, ◌++◌, length, set, get_or, take}
+use Rattle.std.proofs.Common.{Option, None, Some, ◌⊎◌, inl, inr, refl, sym, ap, ◌∙◌, subst, arith}
 use Rattle.std.specs.List.{AllByRecursion}
 use Rattle.std.proofs.lemmas.Bool.{cases_eq}
 use Rattle.kt_tuple.specs.declared.node.NodeId.{NodeId}
@@ -33,7 +34,8 @@ reserved old now new p q same stays only = record {
   workers = ap (λ (n : Net). n.workers) only ∙ same.workers;
   shards = ap (λ (n : Net). n.shards) only ∙ same.shards;
   queues =
-      ap (λ (n : Net). n.queues) only ∙ ap (with_entry now.queues (place now.workers now.shards p q)) stays ∙ entry-own now.queues (place now.workers now.shards p q) ∙ same.queues;
+      ap (λ (n : Net). n.queues) only ∙ ap (with_entry now.queues (place now.workers now.shards p q)) stays
+      ∙ entry-own now.queues (place now.workers now.shards p q) ∙ same.queues;
 }
 
 -- the same pair of nodes, or another
@@ -54,10 +56,12 @@ rooms_kept old new p q only kept x y = elim (pairs p q x y) [
 ]
 
 -- a message that is sent takes one room, and no other link's
-pub rooms_used : (old new : Net) (p q : NodeId) (n : ℕ) → ChangesOnly old new p q → room new p q + 1 ≡ room old p q → (x y : NodeId) → n + 1 ≤ room old x y → n ≤ room new x y
+pub rooms_used : (old new : Net) (p q : NodeId) (n : ℕ) → ChangesOnly old new p q → room new p q + 1 ≡ room old p q
+    → (x y : NodeId) → n + 1 ≤ room old x y → n ≤ room new x y
 rooms_used old new p q n only used x y has = elim (pairs p q x y) [
   | inl same ↦
-      let there : room new x y + 1 ≡ room old x y = subst (λ (z : NodeId). room new x z + 1 ≡ room old x z) same.1 (subst (λ (z : NodeId). room new z q + 1 ≡ room old z q) same.0 used) in
+      let there : room new x y + 1 ≡ room old x y
+      = subst (λ (z : NodeId). room new x z + 1 ≡ room old x z) same.1 (subst (λ (z : NodeId). room new z q + 1 ≡ room old z q) same.0 used) in
       omega (arith, there, has)
   | inr apart ↦ let e = other_room old new p q x y only apart in omega (arith, e, has)
 ]
@@ -74,7 +78,8 @@ all-get P (y ∷ ys) zero x d all lt e = subst P (sym e) all.0
 all-get P (y ∷ ys) (suc k) x d all lt e = all-get P ys k x d all.1 (omega arith) e
 
 -- what holds of the first so many, and of the next
-pub all-next : {X : Type 0} (P : X → Type 0) (xs : List X) (k : ℕ) (x d : X) → AllByRecursion P (take k xs) → k < length xs → x ≡ get_or xs k d → P x → AllByRecursion P (take (suc k) xs)
+pub all-next : {X : Type 0} (P : X → Type 0) (xs : List X) (k : ℕ) (x d : X) → AllByRecursion P (take k xs) → k < length xs
+    → x ≡ get_or xs k d → P x → AllByRecursion P (take (suc k) xs)
 all-next P [] k x d all lt e h = absurd (omega arith)
 all-next P (y ∷ ys) zero x d all lt e h = (subst P e h, tt)
 all-next P (y ∷ ys) (suc k) x d all lt e h = (all.0, all-next P ys k x d all.1 (omega arith) e h)
@@ -84,7 +89,8 @@ nothing_left [] e = refl
 nothing_left (x ∷ xs) e = absurd (omega (arith, e))
 
 -- to send a message is to append it to its link
-pub sent-one : (old new : Net) (p q : NodeId) (m : Message) → queue new p q ≡ queue old p q ++ m ∷ [] → ChangesOnly old new p q → new.queues ≡ sent_one (place old.workers old.shards) old.queues p (q, m)
+pub sent-one : (old new : Net) (p q : NodeId) (m : Message) → queue new p q ≡ queue old p q ++ m ∷ [] → ChangesOnly old new p q
+    → new.queues ≡ sent_one (place old.workers old.shards) old.queues p (q, m)
 sent-one old new p q m appended only = ap (λ (n : Net). n.queues) only ∙ ap (with_entry old.queues (place old.workers old.shards p q)) appended
 
 -- neighbours in the scene are neighbours on the links
@@ -93,7 +99,8 @@ linked cast p q (to_shard w few r fewr) = ((w, few), (r, fewr))
 linked cast p q (to_worker w few r fewr) = ((w, few), (r, fewr))
 
 pub wired : (cast : Cast) (net : Net) (p : NodeId) (send : List (NodeId × Message)) → net.workers ≡ length cast.scripts → net.shards ≡ cast.shards
-    → AllByRecursion (λ (m : NodeId × Message). ready.AreNeighbours cast p m.0) send → AllByRecursion (λ (m : NodeId × Message). AreNeighbours net.workers net.shards p m.0) send
+    → AllByRecursion (λ (m : NodeId × Message). ready.AreNeighbours cast p m.0) send
+    → AllByRecursion (λ (m : NodeId × Message). AreNeighbours net.workers net.shards p m.0) send
 wired cast net p send w s all =
     subst (λ (k : ℕ). AllByRecursion (λ (m : NodeId × Message). AreNeighbours k net.shards p m.0) send) (sym w)
     (subst (λ (k : ℕ). AllByRecursion (λ (m : NodeId × Message). AreNeighbours (length cast.scripts) k p m.0) send) (sym s)
@@ -110,19 +117,22 @@ pub record Sending (old now : Net) (owner : NodeId) (all rest : List (NodeId × 
   pub there : AllByRecursion (λ (m : NodeId × Message). AreNeighbours old.workers old.shards owner m.0) rest
   pub room_left : AllByRecursion (λ (m : NodeId × Message). length rest ≤ room now owner m.0) rest
 
-pub sending-first : (old : Net) (owner : NodeId) (all rest : List (NodeId × Message)) → rest ≡ all → AllByRecursion (λ (m : NodeId × Message). AreNeighbours old.workers old.shards owner m.0) all
+pub sending-first : (old : Net) (owner : NodeId) (all rest : List (NodeId × Message)) → rest ≡ all
+    → AllByRecursion (λ (m : NodeId × Message). AreNeighbours old.workers old.shards owner m.0) all
     → AllByRecursion (λ (m : NodeId × Message). length all ≤ room old owner m.0) all → Sending old old owner all rest
 sending-first old owner all rest is there room_left =
     let P : List (NodeId × Message) → Type 0 = Sending old old owner all in
     subst P (sym is) (record { workers = refl; shards = refl; queues = refl; there = there; room_left = room_left })
 
-pub sent-next : (old now new : Net) (owner : NodeId) (all rest later : List (NodeId × Message)) (m : NodeId × Message) → Sending old now owner all rest → rest ≡ m ∷ later
-    → queue new owner m.0 ≡ queue now owner m.0 ++ m.1 ∷ [] → room new owner m.0 + 1 ≡ room now owner m.0 → ChangesOnly now new owner m.0 → Sending old new owner all later
+pub sent-next : (old now new : Net) (owner : NodeId) (all rest later : List (NodeId × Message)) (m : NodeId × Message)
+    → Sending old now owner all rest → rest ≡ m ∷ later → queue new owner m.0 ≡ queue now owner m.0 ++ m.1 ∷ []
+    → room new owner m.0 + 1 ≡ room now owner m.0 → ChangesOnly now new owner m.0 → Sending old new owner all later
 unfolding sent
 sent-next old now new owner all rest later m s is appended used only =
     let Left : List (NodeId × Message) → Type 0 = λ l. AllByRecursion (λ (x : NodeId × Message). length l ≤ room now owner x.0) l in
     let way : Way = place old.workers old.shards in
-    let same_way : place now.workers now.shards owner m.0 ≡ way owner m.0 = ap (λ (k : ℕ). place k now.shards owner m.0) s.workers ∙ ap (λ (k : ℕ). place old.workers k owner m.0) s.shards in
+    let same_way : place now.workers now.shards owner m.0 ≡ way owner m.0
+    = ap (λ (k : ℕ). place k now.shards owner m.0) s.workers ∙ ap (λ (k : ℕ). place old.workers k owner m.0) s.shards in
     let one : new.queues ≡ sent_one way now.queues owner m =
     sent-one now new owner m.0 m.1 appended only ∙ ap (λ (k : Option ℕ). with_entry now.queues k (entry_at [] now.queues k ++ m.1 ∷ [])) same_way in
     let room_later = (subst Left is s.room_left).1 in record {
@@ -135,6 +145,7 @@ sent-next old now new owner all rest later m s is appended used only =
           (λ x h. rooms_used now new owner m.0 (length later) only used owner x.0 (omega (arith, h))) room_later;
     }
 
-pub sent-all : (old now : Net) (owner : NodeId) (all rest : List (NodeId × Message)) → Sending old now owner all rest → rest ≡ [] → now.queues ≡ sent (place old.workers old.shards) old.queues owner all
+pub sent-all : (old now : Net) (owner : NodeId) (all rest : List (NodeId × Message)) → Sending old now owner all rest → rest ≡ []
+    → now.queues ≡ sent (place old.workers old.shards) old.queues owner all
 unfolding sent
 sent-all old now owner all rest s is = sym (ap (sent (place old.workers old.shards) now.queues owner) is) ∙ s.queues

@@ -34,12 +34,15 @@ made-reached s new step r e = record {
 }
 
 -- a world stays one, whether the step was made or refused
-pub step-world : {X : Type 0} (r : Result X StepError) (old new : Machine) (before after : Content) (was is : Bool) (step : Step) → IsWorld (state_of old before) was
+pub step-world : {X : Type 0} (r : Result X StepError) (old new : Machine) (before after : Content) (was is : Bool) (step : Step)
+    → IsWorld (state_of old before) was
     → IsReady (state_of new empty_content) → (IsTrue is → IsTrue was) → (IsTrue is → OnOk r (step_result (state_of old before) step ≡ Ok (state_of new after)))
     → OnErr r (state_of new empty_content ≡ state_of old empty_content) → (IsTrue is → OnErr r (after ≡ before)) → IsWorld (state_of new after) is
-step-world r old new before after was is step world ready honest made same content = record { ready = ready; reached = λ h. by r (made h) same (content h) (world.reached (honest h)) }
+step-world r old new before after was is step world ready honest made same content =
+    record { ready = ready; reached = λ h. by r (made h) same (content h) (world.reached (honest h)) }
   where
-    by : {X : Type 0} (r : Result X StepError) → OnOk r (step_result (state_of old before) step ≡ Ok (state_of new after)) → OnErr r (state_of new empty_content ≡ state_of old empty_content)
+    by : {X : Type 0} (r : Result X StepError) → OnOk r (step_result (state_of old before) step ≡ Ok (state_of new after))
+        → OnErr r (state_of new empty_content ≡ state_of old empty_content)
         → OnErr r (after ≡ before) → IsReached (state_of old before) → IsReached (state_of new after)
     by (Ok x) ok err content reached = made-reached (state_of old before) (state_of new after) step reached ok
     by (Err e) ok err content reached =
@@ -47,7 +50,8 @@ step-world r old new before after was is step world ready honest made same conte
         let P : State → Type 0 = IsReached in subst P (sym there) reached
 
 -- whom a step makes roll back, or take a checkpoint, has to
-pub step-forced : {X : Type 0} (r : Result X StepError) (s new : State) (step : Step) → IsReached s → OnOk r (step_result s step ≡ Ok new) → OnOk r (IsForced s step new)
+pub step-forced : {X : Type 0} (r : Result X StepError) (s new : State) (step : Step) → IsReached s
+    → OnOk r (step_result s step ≡ Ok new) → OnOk r (IsForced s step new)
 step-forced (Ok x) s new step is made = forced-reached s is step new made
 step-forced (Err e) s new step is made = tt
 

@@ -1,6 +1,6 @@
 -- Fault lines: which nodes shall fail, or begin a check, and when; and which of these lines a step spends.
-use Rattle.std.specs.Prelude.{ℕ, ◌==◌, min, nat_le, Bool, true, false, not, ◌&&◌, List, [], ◌∷◌, filter, fold, map, set, slice_get, position}
-use Rattle.std.specs.Prelude.{Option, None, Some}
+use Rattle.std.specs.Prelude.{ℕ, ◌==◌, min, nat_le, Bool, true, false, not, ◌&&◌}
+use Rattle.std.specs.Prelude.{List, filter, fold, map, set, slice_get, position, Option, None, Some}
 use Rattle.std.specs.List.{list_any}
 use Rattle.kt_tuple.specs.declared.node.NodeId.{NodeId}
 use Rattle.kt_tuple.specs.Node.{node_eq}
@@ -73,8 +73,3 @@ abbrev pub spent : List FaultLine → Step → List FaultLine
 spent lines (Fail p) = mark_at lines (place_spent kinds.Fail p lines)
 spent lines (Check p) = mark_at lines (place_spent kinds.Check p lines)
 spent lines step = lines
-
--- the same step by step
-unfoldable pub all_spent : List FaultLine → List Step → List FaultLine
-all_spent lines [] = lines
-all_spent lines (step ∷ later) = all_spent (spent lines step) later

@@ -1,4 +1,4 @@
--- How the judging of a step is split: the steps of checks and rollbacks apart from the acts, and the limit of steps last.
+-- How the judging of a step is split: the steps of checks and rollbacks apart from the acts, and the limit last.
 use Rattle.std.specs.Prelude.{Bool, true, false, is_some, Result, Ok, Err}
 use Rattle.kt_node.specs.declared.refusal.Refusal.TheVariants as reasons
 use Rattle.kt_node.specs.View.{View}

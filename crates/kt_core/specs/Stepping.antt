@@ -12,5 +12,6 @@ Refuses refusal due = due ≡ Err refusal
 
 -- a store's refusal comes where a call of the store was refused, or gave a checkpoint that does not fit the node
 abbrev pub IsCause : {Y : Type 0} → ℕ → ℕ → Bool → Result Y StepError → StepError → Type 0
-IsCause before now is_honest due (refusals.Store refusal) = IsFault before now is_honest refusal ⊎ (due ≡ Err (refusals.Store refusal))
+IsCause before now is_honest due (refusals.Store refusal) =
+    IsFault before now is_honest refusal ⊎ (due ≡ Err (refusals.Store refusal))
 IsCause before now is_honest due refusal = Unit {0}

@@ -13,7 +13,8 @@ pub record IsFault (before now : ℕ) (is_honest : Bool) (refusal : StoreError) 
   pub full : refusal ≡ Full → is_honest ≡ false
 
 -- what was read is what an honest store holds, which stays as it was
-pub record IsRead {S T : Type 0} (content : S → Content) (is_honest : S → Bool) (faults : S → ℕ) (old new : S) (Says : Content → T → Type 0) (result : Result T StoreError) : Type 0 where
+pub record IsRead {S T : Type 0} (content : S → Content) (is_honest : S → Bool) (faults : S → ℕ)
+    (old new : S) (Says : Content → T → Type 0) (result : Result T StoreError) : Type 0 where
   pub value : IsTrue (is_honest new) → IfOk result (Says (content old))
   pub same : IsTrue (is_honest new) → content new ≡ content old
   pub honest : IsTrue (is_honest new) → IsTrue (is_honest old)
@@ -21,7 +22,8 @@ pub record IsRead {S T : Type 0} (content : S → Content) (is_honest : S → Bo
   pub cause : IfErr result (IsFault (faults old) (faults new) (is_honest new))
 
 -- an honest store holds then what the write makes of it, or as before
-pub record IsWritten {S : Type 0} (content : S → Content) (is_honest : S → Bool) (faults : S → ℕ) (old new : S) (written : Content → Content) (result : Result (Unit {0}) StoreError) : Type 0 where
+pub record IsWritten {S : Type 0} (content : S → Content) (is_honest : S → Bool) (faults : S → ℕ)
+    (old new : S) (written : Content → Content) (result : Result (Unit {0}) StoreError) : Type 0 where
   pub made : IsTrue (is_honest new) → OnOk result (content new ≡ written (content old))
   pub unchanged : IsTrue (is_honest new) → OnErr result (content new ≡ content old)
   pub honest : IsTrue (is_honest new) → IsTrue (is_honest old)

@@ -35,8 +35,8 @@ pub(crate) fn change_node(nodes: &mut Vec<Option<Node>>, row: usize, change: Cha
     requires row { row < length nodes.old.items }
     requires can { CanChange (unwrap_or (at None (map row_view nodes.old.items) row) Down) change }
     requires room { HasRoom (at None nodes.old.items row) }
-    ensures { map row_view nodes.new.items ≡
-        put None (map row_view nodes.old.items) row (option_map (changed change) (at None (map row_view nodes.old.items) row)) }
+    ensures { map row_view nodes.new.items ≡ put None (map row_view nodes.old.items) row
+        (option_map (changed change) (at None (map row_view nodes.old.items) row)) }
 {
     change_row(&mut nodes[row], change);
 }

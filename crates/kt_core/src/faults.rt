@@ -1,6 +1,7 @@
 //! Fault lines: which nodes shall fail, or begin a check, and when.
 
-ghost use Rattle.std.specs.Prelude.{◌≡◌, ◌==◌, ◌&&◌, ◌∷◌, ◌++◌, ℕ, List, [], length, position, IfOk, IfSome, OnErr, OnOk};
+ghost use Rattle.std.specs.Prelude.{◌≡◌, ◌==◌, ◌&&◌, ◌∷◌, ◌++◌, ℕ, List, [], length, position};
+ghost use Rattle.std.specs.Prelude.{IfOk, IfSome, OnErr, OnOk};
 ghost use Rattle.kt_core.specs.Faults.{is_due, is_due_line, is_kind, is_open, least, lesser, mark_at, open_afters};
 ghost use Rattle.kt_core.specs.Faults.{place_spent, spent, step_of};
 

@@ -17,7 +17,8 @@ use kt_worker::Worker;
 impl Machine {
     /// The node, where the scene has it.
     fn node_at(&self, id: NodeId) -> Option<&Node>
-        ensures { unwrap_or (option_map (λ n. n.now.node) result) Down ≡ (view (state_of self.now empty_content) id).node }
+        ensures { unwrap_or (option_map (λ n. n.now.node) result) Down ≡
+            (view (state_of self.now empty_content) id).node }
     {
         match self.nodes.get(id.index()) {
             Some(Some(node)) => Some(node),

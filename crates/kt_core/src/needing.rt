@@ -3,7 +3,9 @@
 ghost use Rattle.std.specs.Prelude.{◌≡◌, ◌==◌, ◌&&◌};
 ghost use Rattle.std.specs.Option.{option_copied};
 ghost use Rattle.kt_store.specs.Content.{empty_content};
-ghost use Rattle.kt_world.specs.Needs.{for_abandon, for_ask, for_check, for_decide, for_fail, for_learn, for_message, for_restart, for_verdict, if_initiator, if_learner, if_participant, if_restarter};
+ghost use Rattle.kt_world.specs.Needs.{for_abandon, for_ask, for_check, for_decide, for_fail, for_learn};
+ghost use Rattle.kt_world.specs.Needs.{for_message, for_restart, for_verdict};
+ghost use Rattle.kt_world.specs.Needs.{if_initiator, if_learner, if_participant, if_restarter};
 
 use crate::machine::Machine;
 use kt_node::{Message, Mode};

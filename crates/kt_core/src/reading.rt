@@ -20,7 +20,8 @@ fn verdict_told<S: CkptStore>(
     node: NodeId,
     question: Question,
 ) -> Result<Option<Verdict>, StoreError>
-    ensures { IsRead S.content S.is_honest S.fault_count store.old store.new (λ c v. v ≡ answer_to c node question) result }
+    ensures { IsRead S.content S.is_honest S.fault_count store.old store.new
+        (λ c v. v ≡ answer_to c node question) result }
 {
     match question {
         Question::Nothing => Ok(None),
@@ -105,7 +106,8 @@ fn board_told<S: CkptStore>(
     needs: Needs,
 ) -> Result<(Option<u64>, u64), StoreError>
     ensures { IsRead S.content S.is_honest S.fault_count store.old store.new
-        (λ c x. (x.0 ≡ (if needs.undecided then open_of c node else None)) × (x.1 ≡ (if needs.next then next_instance c else 1))) result }
+        (λ c x. (x.0 ≡ (if needs.undecided then open_of c node else None))
+        × (x.1 ≡ (if needs.next then next_instance c else 1))) result }
 {
     let undecided = if needs.undecided {
         store.open_of(node)?
@@ -128,7 +130,8 @@ pub(crate) fn tell<S: CkptStore>(
     needs: Needs,
 ) -> Result<Told, StoreError>
     requires { IsTrue (S.is_honest store.old) → (row_of (S.content store.old) node).incarnation + 1 < 2 ^ 64 }
-    ensures told { IsRead S.content S.is_honest S.fault_count store.old store.new (λ c t. t ≡ told_by needs c node) result }
+    ensures told { IsRead S.content S.is_honest S.fault_count store.old store.new
+        (λ c t. t ≡ told_by needs c node) result }
     ensures small { IfOk result (λ t. t.stored.incarnation + 1 < 2 ^ 64) }
 {
     let verdict = verdict_told(store, alloc, node, needs.verdict)?;

@@ -34,7 +34,8 @@ impl Model for Scene {
 
 impl Scene {
     ghost use Rattle.std.specs.Prelude.{[], is_some};
-    ghost use Rattle.kt_world.specs.Cast.{Cast, IsCast, script_in, is_worker, is_shard, is_node, are_neighbours, is_in_scene};
+    ghost use Rattle.kt_world.specs.Cast.{Cast, IsCast, script_in};
+    ghost use Rattle.kt_world.specs.Cast.{is_worker, is_shard, is_node, are_neighbours, is_in_scene};
     ghost use Rattle.kt_world.specs.State.{role_of};
     ghost use Rattle.kt_node.specs.Views.{role_view};
 

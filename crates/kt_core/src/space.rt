@@ -14,7 +14,8 @@ use std::alloc::Global;
 
 /// Whether the node's tentative checkpoint counts as permanent: its instance has Yes.
 fn counts<S: CkptStore>(store: &mut S, alloc: Global, node: NodeId) -> Result<bool, StoreError>
-    ensures { IsRead S.content S.is_honest S.fault_count store.old store.new (λ c counts. counts ≡ counts_in c node) result }
+    ensures { IsRead S.content S.is_honest S.fault_count store.old store.new
+        (λ c counts. counts ≡ counts_in c node) result }
 {
     match store.tentative_marks(alloc, node)? {
         Some(TentativeMarks { instance, .. }) => {
@@ -93,7 +94,8 @@ pub(crate) fn permanent_tuples<S: CkptStore>(
     shards: u8,
 ) -> Result<Vec<Tuple>, StoreError>
     ensures { IsRead S.content S.is_honest S.fault_count store.old store.new
-        (λ c tuples. tuples.items ≡ flat_map (λ r. tuples_of (permanent_of c (ids.Shard r))) (range_with_len 1 shards)) result }
+        (λ c tuples. tuples.items ≡
+        flat_map (λ r. tuples_of (permanent_of c (ids.Shard r))) (range_with_len 1 shards)) result }
 {
     let mut tuples = Vec::new(alloc);
     for before in 0..shards {

@@ -27,11 +27,13 @@ fn prepare<S: CkptStore>(
 ) -> Result<Plan, StepError>
     requires ready { IsReady (state_of machine.old empty_content) }
     requires backed { IsTrue (S.is_honest store.old) → IsBacked (state_of machine.old (S.content store.old)) }
-    ensures plan { IsTrue (S.is_honest store.new) → IfOk result (λ p. planned (state_of machine.old (S.content store.old)) step ≡ Ok p) }
+    ensures plan { IsTrue (S.is_honest store.new) →
+        IfOk result (λ p. planned (state_of machine.old (S.content store.old)) step ≡ Ok p) }
     ensures can { IfOk result (λ p. CanApply (state_of machine.old empty_content) (owner step) p) }
     ensures leads { IfOk result (λ p. IsReady (applied (state_of machine.old empty_content) step p)) }
     ensures room { IfOk result (λ p. HasRoomFor machine.new (owner step) p) }
-    ensures refusal { IsTrue (S.is_honest store.new) → IfErr result (λ e. Refuses e (planned (state_of machine.old (S.content store.old)) step)) }
+    ensures refusal { IsTrue (S.is_honest store.new) →
+        IfErr result (λ e. Refuses e (planned (state_of machine.old (S.content store.old)) step)) }
     ensures same { (c : Content) → state_of machine.new c ≡ state_of machine.old c }
     ensures content { IsTrue (S.is_honest store.new) → S.content store.new ≡ S.content store.old }
     ensures honest { IsTrue (S.is_honest store.new) → IsTrue (S.is_honest store.old) }
@@ -57,8 +59,10 @@ pub(crate) fn make<S: CkptStore>(
     requires backed { IsTrue (S.is_honest store.old) → IsBacked (state_of machine.old (S.content store.old)) }
     ensures ready { IsReady (state_of machine.new empty_content) }
     ensures effect { IsTrue (S.is_honest store.new) → OnOk result
-        (step_result (state_of machine.old (S.content store.old)) step ≡ Ok (state_of machine.new (S.content store.new))) }
-    ensures refusal { IsTrue (S.is_honest store.new) → IfErr result (λ e. Refuses e (planned (state_of machine.old (S.content store.old)) step)) }
+        (step_result (state_of machine.old (S.content store.old)) step
+        ≡ Ok (state_of machine.new (S.content store.new))) }
+    ensures refusal { IsTrue (S.is_honest store.new) →
+        IfErr result (λ e. Refuses e (planned (state_of machine.old (S.content store.old)) step)) }
     ensures same { OnErr result (state_of machine.new empty_content ≡ state_of machine.old empty_content) }
     ensures content { IsTrue (S.is_honest store.new) → OnErr result (S.content store.new ≡ S.content store.old) }
     ensures honest { IsTrue (S.is_honest store.new) → IsTrue (S.is_honest store.old) }

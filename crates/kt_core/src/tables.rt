@@ -33,7 +33,8 @@ pub(crate) fn are_steady(nodes: &[Option<Node>]) -> bool
 
 /// The bag of the shard of this number, where it is not down.
 pub(crate) fn bag_at(nodes: &[Option<Node>], number: u8) -> Option<&Bag>
-    ensures { option_map (λ b. b.now.tuples) result ≡ lent_by (at None (map row_view nodes.now) (node_index (ids.Shard number))) }
+    ensures { option_map (λ b. b.now.tuples) result ≡
+        lent_by (at None (map row_view nodes.now) (node_index (ids.Shard number))) }
 {
     match nodes.get(NodeId::Shard(number).index()) {
         Some(Some(node)) => Some(node.shard()?.bag()),

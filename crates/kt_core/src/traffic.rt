@@ -47,7 +47,8 @@ pub(crate) fn take_off(links: &mut Links<Message>, step: Step)
 pub(crate) fn send_all(links: &mut Links<Message>, owner: NodeId, send: Vec<(NodeId, Message)>)
     requires there { AllByRecursion (λ m. AreNeighbours links.old.workers links.old.shards owner m.0) send.items }
     requires room { AllByRecursion (λ m. length send.items ≤ room links.old owner m.0) send.items }
-    ensures queues { links.new.queues ≡ sent (place links.old.workers links.old.shards) links.old.queues owner send.items }
+    ensures queues { links.new.queues ≡
+        sent (place links.old.workers links.old.shards) links.old.queues owner send.items }
     ensures workers { links.new.workers ≡ links.old.workers }
     ensures shards { links.new.shards ≡ links.old.shards }
 {

@@ -103,7 +103,8 @@ impl<S: CkptStore> World<S> {
         ensures scene_back { IfErr result (λ refused. refused.scene ≡ scene) }
         ensures content_back { IfErr result (λ refused.
             IsTrue (S.is_honest refused.store) → S.content refused.store ≡ S.content store) }
-        ensures honest_back { IfErr result (λ refused. IsTrue (S.is_honest refused.store) → IsTrue (S.is_honest store)) }
+        ensures honest_back { IfErr result (λ refused.
+            IsTrue (S.is_honest refused.store) → IsTrue (S.is_honest store)) }
         ensures not_fresh { IfErr result (λ refused.
             refused.cause ≡ opened.NotFresh → IsTrue (S.is_honest refused.store) → is_fresh (S.content store) ≡ false) }
         ensures cause { IfErr result (λ refused.
@@ -148,10 +149,10 @@ impl<S: CkptStore> World<S> {
         }
     }
 
-    /// Makes the step. It makes a node that is up roll back, or take a checkpoint that it did not begin, only where that
-    /// has to be (`IsForced`). A refused step changes nothing; of several refusals the first that stands comes, `Store` where
-    /// a call of the store was refused or gave a checkpoint that does not fit the node, and `OutOfMemory` only where
-    /// memory ran out.
+    /// Makes the step. It makes a node that is up roll back, or take a checkpoint that it did not begin, only where
+    /// that has to be (`IsForced`). A refused step changes nothing; of several refusals the first that stands comes,
+    /// `Store` where a call of the store was refused or gave a checkpoint that does not fit the node, and `OutOfMemory`
+    /// only where memory ran out.
     pub fn step(&mut self, alloc: Global, step: Step) -> Result<(), StepError>
         ensures effect { IsTrue self.new.is_honest → OnOk result (step_result self.old.state step ≡ Ok self.new.state) }
         ensures refusal { IsTrue self.new.is_honest → IfErr result (λ e. Refuses e (planned self.old.state step)) }
@@ -159,7 +160,8 @@ impl<S: CkptStore> World<S> {
         ensures beside { OnErr result (beside self.new.state ≡ beside self.old.state) }
         ensures honest { IsTrue self.new.is_honest → IsTrue self.old.is_honest }
         ensures later { self.old.faults ≤ self.new.faults }
-        ensures cause { IfErr result (IsCause self.old.faults self.new.faults self.new.is_honest (planned self.old.state step)) }
+        ensures cause { IfErr result (
+            IsCause self.old.faults self.new.faults self.new.is_honest (planned self.old.state step)) }
         ensures headline { IsTrue self.new.is_honest → Headline self.new.state }
         ensures forced { IsTrue self.new.is_honest → OnOk result (IsForced self.old.state step self.new.state) }
     {
@@ -316,7 +318,8 @@ impl<S: CkptStore> World<S> {
     /// The tuples of each shard's permanent checkpoint, shard after shard; a tentative one counts from the moment that
     /// its Yes is written. The store's refusal, or `Memory`.
     pub fn permanent_space(&mut self, alloc: Global) -> Result<Vec<Tuple>, StoreError>
-        ensures value { IsTrue self.new.is_honest → IfOk result (λ tuples. tuples.items ≡ permanent_tuples self.old.state) }
+        ensures value { IsTrue self.new.is_honest →
+            IfOk result (λ tuples. tuples.items ≡ permanent_tuples self.old.state) }
         ensures headline { IsTrue self.new.is_honest → Headline self.old.state }
         ensures same { IsTrue self.new.is_honest → self.new.state ≡ self.old.state }
         ensures beside { beside self.new.state ≡ beside self.old.state }

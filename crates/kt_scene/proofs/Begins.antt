@@ -6,8 +6,8 @@ use Rattle.std.specs.Prelude.{codes, decimal, filter, All}
 use Rattle.std.specs.List.{flat_map}
 use Rattle.kt_script.specs.Rules.{IsScript}
 use Rattle.kt_scene.specs.declared.fault.SceneError.{SceneError}
-use Rattle.kt_scene.specs.declared.draft.Stage.{Stage}
-use Rattle.kt_scene.specs.declared.draft.Stage.TheVariants as stages
+use Rattle.kt_scene.specs.declared.draft.Expected.{Expected}
+use Rattle.kt_scene.specs.declared.draft.Expected.TheVariants as awaited
 use Rattle.kt_scene.specs.Lines.{Sketch, nothing_read, is_ended, line_read}
 use Rattle.kt_scene.specs.declared.scenario.WorkKind.{WorkKind}
 use Rattle.kt_scene.specs.declared.scenario.WorkKind.TheVariants as kinds
@@ -66,10 +66,10 @@ never_begin kind before line s fault leads e h =
     absurd cc
 
 -- the scenario of these scripts, the last of them open, and no work
-pub script_rules : (kind : WorkKind) (s : Sketch) → s.stage ≡ stages.Commands → IsGood s
+pub script_rules : (kind : WorkKind) (s : Sketch) → s.expected ≡ awaited.Commands → IsGood s
     → IsPlay (play_of_scripts kind s.shards (s.scripts ++ s.commands ∷ []))
 script_rules kind s is h =
-    let at = place_at stages.Commands s is h in
+    let at = place_at awaited.Commands s is h in
     let count : length (s.scripts ++ s.commands ∷ []) ≡ length s.scripts + 1 = length-append s.scripts (s.commands ∷ []) in
     record {
       cast = record { some_shards = at.1.0; few_shards = at.1.1; some_workers = omega (arith, count); few_workers = omega (arith, count, at.2) };
@@ -79,7 +79,7 @@ script_rules kind s is h =
     }
 
 pub script_told : (kind : WorkKind) (s : Sketch)
-    → told_lines (play_of_scripts kind s.shards (s.scripts ++ s.commands ∷ [])) ≡ told_at stages.Commands s ++ work_word kind ∷ []
+    → told_lines (play_of_scripts kind s.shards (s.scripts ++ s.commands ∷ [])) ≡ told_at awaited.Commands s ++ work_word kind ∷ []
 script_told kind s =
     let front = flat_map script_lines s.scripts ++ script_lines s.commands in
     let tail : flat_map script_lines (s.scripts ++ s.commands ∷ []) ++ work_lines (no_work kind)
@@ -121,9 +121,9 @@ first_worker kind = codes "worker" ∷ work_word kind ∷ []
 least_told : (kind : WorkKind) (shards : ℕ) → told_lines (least kind shards) ≡ head_lines shards ++ first_worker kind
 least_told kind shards = ap (λ (l : List (List ℕ)). head_lines shards ++ codes "worker" ∷ l) (none_lines kind)
 
-by_stage : (stage : Stage) (kind : WorkKind) (s : Sketch) → s.stage ≡ stage → kind_of s.work ≡ kind → IsGood s → is_ended stage ≡ false
-    → Completes kind (told_at stage s)
-by_stage stages.Title kind s is of h on = record {
+by_stage : (expected : Expected) (kind : WorkKind) (s : Sketch) → s.expected ≡ expected → kind_of s.work ≡ kind → IsGood s → is_ended expected ≡ false
+    → Completes kind (told_at expected s)
+by_stage awaited.Title kind s is of h on = record {
   play = least kind 1;
   is_kind = none_kind kind;
   rules = least_rules kind 1 (omega arith, omega arith);
@@ -131,7 +131,7 @@ by_stage stages.Title kind s is of h on = record {
   plain = ap (λ (l : List (List ℕ)). head_lines 1 ++ codes "worker" ∷ l) (word_plain kind);
   are = least_told kind 1;
 }
-by_stage stages.Shards kind s is of h on = record {
+by_stage awaited.Shards kind s is of h on = record {
   play = least kind 1;
   is_kind = none_kind kind;
   rules = least_rules kind 1 (omega arith, omega arith);
@@ -139,8 +139,8 @@ by_stage stages.Shards kind s is of h on = record {
   plain = ap (λ (l : List (List ℕ)). (codes "shards " ++ decimal 1) ∷ codes "worker" ∷ l) (word_plain kind);
   are = least_told kind 1;
 }
-by_stage stages.Workers kind s is of h on =
-    let at = place_at stages.Workers s is h in
+by_stage awaited.Workers kind s is of h on =
+    let at = place_at awaited.Workers s is h in
     record {
       play = least kind s.shards;
       is_kind = none_kind kind;
@@ -149,7 +149,7 @@ by_stage stages.Workers kind s is of h on =
       plain = ap (λ (l : List (List ℕ)). codes "worker" ∷ l) (word_plain kind);
       are = least_told kind s.shards;
     }
-by_stage stages.Commands kind s is of h on = record {
+by_stage awaited.Commands kind s is of h on = record {
   play = play_of_scripts kind s.shards (s.scripts ++ s.commands ∷ []);
   is_kind = none_kind kind;
   rules = script_rules kind s is h;
@@ -157,11 +157,11 @@ by_stage stages.Commands kind s is of h on = record {
   plain = word_plain kind;
   are = script_told kind s;
 }
-by_stage stages.Work kind s is of h on =
-    record { play = play_with s; is_kind = of; rules = play_kept s is h; more = []; plain = refl; are = sym (append-nil (told_at stages.Work s)) }
-by_stage stages.Ended kind s is of h on = absurd cc
+by_stage awaited.Work kind s is of h on =
+    record { play = play_with s; is_kind = of; rules = play_kept s is h; more = []; plain = refl; are = sym (append-nil (told_at awaited.Work s)) }
+by_stage awaited.Ended kind s is of h on = absurd cc
 
-begins_so : (kind : WorkKind) (before : List (List ℕ)) (s : Sketch) → told_at s.stage s ≡ filter is_told before → Completes kind (told_at s.stage s)
+begins_so : (kind : WorkKind) (before : List (List ℕ)) (s : Sketch) → told_at s.expected s ≡ filter is_told before → Completes kind (told_at s.expected s)
     → Begin kind before
 begins_so kind before s told h = record {
   play = h.play;
@@ -175,7 +175,7 @@ begins_so kind before s told h = record {
 }
 
 by_told : (kind : WorkKind) (before : List (List ℕ)) (s : Sketch) → kind_of s.work ≡ kind → IsTold before s → Begin kind before
-by_told kind before s of (unended good goes told) = begins_so kind before s told (by_stage s.stage kind s refl of good goes)
+by_told kind before s of (unended good goes told) = begins_so kind before s told (by_stage s.expected kind s refl of good goes)
 by_told kind before s of (whole body is ended rules told) =
     record { play = play_with s; is_kind = of; rules = rules; body = body; told = told; others = []; are = sym is ∙ sym (append-nil before) }
 

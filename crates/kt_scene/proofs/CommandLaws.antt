@@ -29,7 +29,7 @@ use Rattle.kt_scene.specs.declared.fault.SceneError.TheVariants as faults
 use Rattle.kt_scene.specs.Number.{◌>>=◌, behind, ended, number_at}
 use Rattle.kt_scene.specs.Commands.{name_at, slots_in, actuals_of, operation_of, verb_at, fitting, set_with, int_in, set_of, unless_with, unless_of, or_fault}
 use Rattle.kt_scene.specs.Commands.{asked, spelled_with, spelled_of}
-use Rattle.kt_scene.specs.Text.{actual_text, pattern_text, command_text}
+use Rattle.kt_script.specs.Spelling.{actual_text, pattern_text, command_text}
 use Rattle.kt_scene.specs.Faults.{verb_word}
 use Rattle.kt_scene.specs.Scenario.{IsPattern, IsCommand}
 use Rattle.kt_scene.proofs.NumberLaws.{both_read, mapped, ended_read, behind_taken, by_word, number_taken}

@@ -21,7 +21,7 @@ use Rattle.kt_script.specs.declared.command.Command.TheVariants.{Ask, Set, Unles
 use Rattle.kt_script.specs.Name.{IsName}
 use Rattle.kt_scene.specs.Number.{number_at}
 use Rattle.kt_scene.specs.Commands.{slots_from, slots_in, actuals_of, fitting, int_in, set_of, unless_of, spelled_of}
-use Rattle.kt_scene.specs.Text.{actual_text, slot_text, pattern_text, command_text}
+use Rattle.kt_script.specs.Spelling.{actual_text, slot_text, pattern_text, command_text}
 use Rattle.kt_scene.specs.Scenario.{IsActual, IsSlot, IsPattern, IsOperation, IsCommand}
 use Rattle.kt_scene.proofs.PatternLaws.{actuals_text, length-actuals}
 use Rattle.kt_scene.proofs.CommandLaws.{set_text}

@@ -5,7 +5,7 @@ use Rattle.kt_world.specs.declared.step.Step.{Step}
 use Rattle.kt_world.specs.Cast.{Cast}
 use Rattle.kt_scene.specs.declared.fault.SceneError.{SceneError}
 use Rattle.kt_scene.specs.declared.fault.SceneError.TheVariants as faults
-use Rattle.kt_scene.specs.declared.draft.Stage.TheVariants as stages
+use Rattle.kt_scene.specs.declared.draft.Expected.TheVariants as awaited
 use Rattle.kt_scene.specs.Steps.{step_of}
 use Rattle.kt_scene.specs.Work.{Work, Steps}
 use Rattle.kt_scene.specs.Lines.{Sketch, cast_of, is_word, with_step, as_work, work_with, with_work, in_work, IsFaultOf}
@@ -54,5 +54,5 @@ pub work_faults : {X : Type 0} (r : Result X SceneError) (s : Sketch) (line : Li
 work_faults (Ok x) s line other h = tt
 work_faults (Err fault) s line other h =
     let due = work_with (cast_of s) s.work line in
-    let P : Bool → Type 0 = λ b. IsFaultOf fault (cond b (Ok (record s { stage = stages.Ended })) (with_work s due)) in
+    let P : Bool → Type 0 = λ b. IsFaultOf fault (cond b (Ok (record s { expected = awaited.Ended })) (with_work s due)) in
     subst P (sym other) (work_fault s fault due h)

@@ -16,7 +16,8 @@ use Rattle.kt_scene.specs.declared.fault_line.Asked.{Asked}
 use Rattle.kt_scene.specs.Number.{◌>>=◌, behind, ended, number_at}
 use Rattle.kt_scene.specs.Steps.{node_at}
 use Rattle.kt_scene.specs.FaultLines.{asked_of, asked_by, fault_with, fault_from, fault_read}
-use Rattle.kt_scene.specs.Text.{node_text, kind_word, fault_text}
+use Rattle.kt_tuple.specs.Spelling.{node_text}
+use Rattle.kt_scene.specs.Text.{kind_word, fault_text}
 use Rattle.kt_scene.specs.Work.{unspent}
 use Rattle.kt_scene.specs.Scenario.{IsStepNode, IsFaultLine}
 use Rattle.kt_scene.specs.Faults.{IsNumber}

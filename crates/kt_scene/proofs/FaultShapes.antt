@@ -14,7 +14,8 @@ use Rattle.kt_core.specs.declared.faults.Fault.{Fault}
 use Rattle.kt_scene.specs.declared.fault_line.Asked.{Asked}
 use Rattle.kt_scene.specs.Number.{number_at}
 use Rattle.kt_scene.specs.FaultLines.{asked_of, asked_by, fault_read}
-use Rattle.kt_scene.specs.Text.{node_text, kind_word, fault_text}
+use Rattle.kt_tuple.specs.Spelling.{node_text}
+use Rattle.kt_scene.specs.Text.{kind_word, fault_text}
 use Rattle.kt_scene.specs.Scenario.{IsStepNode}
 use Rattle.kt_scene.specs.Faults.{SpellsFault}
 use Rattle.kt_scene.proofs.NumbersRead.{number_read}

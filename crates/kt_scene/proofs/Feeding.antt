@@ -75,22 +75,22 @@ nothing_left (c ∷ rest) e = absurd cc
 
 -- lines that are read lead on, up to the last, behind which nothing stands
 pub read_leads : (s : Sketch) (n : ℕ) (lines : List (List ℕ)) (rest : List ℕ) (t : Sketch) → read_from s n lines rest ≡ Ok t
-    → LeadOn s lines t × (is_ended t.stage ≡ true) × (rest ≡ [])
+    → LeadOn s lines t × (is_ended t.expected ≡ true) × (rest ≡ [])
 unfolding read_from
 read_leads s n [] rest t e =
-    let end = end_by_test (is_ended s.stage && is_empty rest) s t _ e in
-    let tests = and_parts (is_ended s.stage) (is_empty rest) end.0 in
-    (sym end.1, subst (λ (x : Sketch). is_ended x.stage ≡ true) end.1 tests.0, nothing_left rest tests.1)
+    let end = end_by_test (is_ended s.expected && is_empty rest) s t _ e in
+    let tests = and_parts (is_ended s.expected) (is_empty rest) end.0 in
+    (sym end.1, subst (λ (x : Sketch). is_ended x.expected ≡ true) end.1 tests.0, nothing_left rest tests.1)
 read_leads s n (line ∷ lines) rest t e =
     let u = went n (line_read s line) (λ (x : Sketch). read_from x (n + 1) lines rest) t e in
     let h = read_leads u.0 (n + 1) lines rest t u.2 in
     ((u.0, u.1, h.0), h.1, h.2)
 
 -- lines that lead on to the end are read
-pub leads_read : (s : Sketch) (n : ℕ) (lines : List (List ℕ)) (t : Sketch) → LeadOn s lines t → is_ended t.stage ≡ true → read_from s n lines [] ≡ Ok t
+pub leads_read : (s : Sketch) (n : ℕ) (lines : List (List ℕ)) (t : Sketch) → LeadOn s lines t → is_ended t.expected ≡ true → read_from s n lines [] ≡ Ok t
 unfolding read_from
 leads_read s n [] t h ended =
-    let over : is_ended s.stage ≡ true = ap (λ (x : Sketch). is_ended x.stage) (sym h) ∙ ended in
+    let over : is_ended s.expected ≡ true = ap (λ (x : Sketch). is_ended x.expected) (sym h) ∙ ended in
     rw over (ap (λ (x : Sketch). Ok x) (sym h))
 leads_read s n (line ∷ lines) t h ended = rw (h.1) (leads_read h.0 (n + 1) lines t h.2 ended)
 

@@ -10,7 +10,7 @@ use Rattle.kt_scene.specs.declared.fault.SceneFault.{SceneFault}
 use Rattle.kt_scene.specs.declared.fault.SceneError.{SceneError}
 use Rattle.kt_scene.specs.declared.fault.SceneError.TheVariants as faults
 use Rattle.kt_scene.specs.declared.scenario.WorkKind.{WorkKind}
-use Rattle.kt_scene.specs.Fault.{fault_number}
+use Rattle.kt_scene.specs.FaultNumber.{fault_number}
 use Rattle.kt_scene.specs.Work.{kind_of}
 use Rattle.kt_scene.specs.Lines.{Sketch, nothing_read}
 use Rattle.kt_scene.specs.Reading.{Play, Fault, with_byte, lines_of, read_from, sketch_of, played, play_of, IsBeforeFault, IsFirstFault, IsPlaceOf}

@@ -18,7 +18,7 @@ went_later (Err fault) m n more lt behind = lt
 -- a fault stands on none of the lines before these
 pub faults_later : (lines : List (List ℕ)) (s : Sketch) (m n : ℕ) (rest : List ℕ) → m < n → IsBeforeFault m (read_from s n lines rest)
 unfolding read_from
-faults_later [] s m n rest lt = end_by_test (is_ended s.stage && is_empty rest) s m n lt
+faults_later [] s m n rest lt = end_by_test (is_ended s.expected && is_empty rest) s m n lt
 faults_later (line ∷ lines) s m n rest lt =
     let next : m < n + 1 = omega (arith, lt) in
     went_later (line_read s line) m n (λ t. read_from t (n + 1) lines rest) lt (λ t. faults_later lines t m (n + 1) rest next)
@@ -67,13 +67,13 @@ module _ (s : Sketch) (n : ℕ) (text line later : List ℕ) (total : Result Ske
       ∙ sym (due_with s n text line later split) ∙ due
 
 due_at_end : (s : Sketch) (n : ℕ) (text : List ℕ) → lines_of text ≡ ([], text)
-    → read_from s n (lines_of text).0 (lines_of text).1 ≡ cond (is_ended s.stage && is_empty text) (Ok s) (Err (n, faults.End))
+    → read_from s n (lines_of text).0 (lines_of text).1 ≡ cond (is_ended s.expected && is_empty text) (Ok s) (Err (n, faults.End))
 unfolding read_from
 due_at_end s n text e = ap (λ (ls : List (List ℕ) × List ℕ). read_from s n ls.0 ls.1) e
 
 -- behind the last line
 pub ends_with : (b : Bool) (s : Sketch) (n : ℕ) (text : List ℕ) (total : Result Sketch Fault) → lines_of text ≡ ([], text)
-    → (is_ended s.stage && is_empty text) ≡ b
+    → (is_ended s.expected && is_empty text) ≡ b
     → read_from s n (lines_of text).0 (lines_of text).1 ≡ total → total ≡ cond b (Ok s) (Err (n, faults.End))
 ends_with b s n text total none test due = sym due ∙ due_at_end s n text none ∙ ap (λ (x : Bool). cond x (Ok s) (Err (n, faults.End))) test
 

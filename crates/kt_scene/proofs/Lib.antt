@@ -34,6 +34,7 @@ pub mod Reached
 pub mod Begins
 pub mod Positions
 pub mod Lowest
+pub mod EntryFaults
 pub mod LineFaults
 pub mod Shown
 pub mod WrittenRead

@@ -18,11 +18,13 @@ use Rattle.kt_core.specs.declared.faults.FaultKind.TheVariants as kinds
 use Rattle.kt_core.specs.declared.faults.FaultLine.{FaultLine}
 use Rattle.kt_scene.specs.declared.scenario.WorkKind.{WorkKind}
 use Rattle.kt_scene.specs.declared.scenario.WorkKind.TheVariants as works
-use Rattle.kt_scene.specs.declared.draft.Stage.TheVariants as stages
+use Rattle.kt_scene.specs.declared.draft.Expected.TheVariants as awaited
 use Rattle.kt_scene.specs.Commands.{fitting, fault_behind}
 use Rattle.kt_scene.specs.Lines.{Sketch, nothing_read, is_word, is_ignored, count_of, line_read}
 use Rattle.kt_scene.specs.Work.{Work, Steps, Faults, kind_of, unspent, work_word}
-use Rattle.kt_scene.specs.Text.{command_text, step_text, node_text, kind_word, fault_line_text, script_lines, scene_lines, entry_lines, work_lines}
+use Rattle.kt_tuple.specs.Spelling.{node_text}
+use Rattle.kt_script.specs.Spelling.{command_text}
+use Rattle.kt_scene.specs.Text.{step_text, kind_word, fault_line_text, script_lines, scene_lines, entry_lines, work_lines}
 use Rattle.kt_scene.specs.Scenario.{IsCommand, IsStep, IsFaultLine, IsWork}
 use Rattle.kt_scene.proofs.NumbersRead.{number_read}
 use Rattle.kt_scene.proofs.StepsRead.{step_read}
@@ -32,15 +34,15 @@ use Rattle.kt_scene.proofs.Feeding.{LeadOn, leads_append}
 
 -- nothing was read yet, and this work is to grow
 abbrev pub nothing_with : Work → Sketch
-nothing_with work = record { stage = stages.Title; shards = 1; scripts = []; commands = []; work = work }
+nothing_with work = record { expected = awaited.Title; shards = 1; scripts = []; commands = []; work = work }
 
 -- a worker's commands are being read
 abbrev pub in_worker : Work → ℕ → List (List Command) → List Command → Sketch
-in_worker work shards scripts commands = record { stage = stages.Commands; shards = shards; scripts = scripts; commands = commands; work = work }
+in_worker work shards scripts commands = record { expected = awaited.Commands; shards = shards; scripts = scripts; commands = commands; work = work }
 
 -- the work is being read
 abbrev pub at_work : Work → ℕ → List (List Command) → Sketch
-at_work work shards scripts = record { stage = stages.Work; shards = shards; scripts = scripts; commands = []; work = work }
+at_work work shards scripts = record { expected = awaited.Work; shards = shards; scripts = scripts; commands = []; work = work }
 
 -- a command's line is no other line
 record IsPlain (line : List ℕ) : Type 0 where
@@ -193,10 +195,10 @@ module _ (shards : ℕ) (scripts : List (List Command)) where
 
 -- the title was read, and the number of shards
 abbrev pub at_shards : Work → Sketch
-at_shards work = record (nothing_with work) { stage = stages.Shards }
+at_shards work = record (nothing_with work) { expected = awaited.Shards }
 
 abbrev pub at_workers : Work → ℕ → Sketch
-at_workers work shards = record (nothing_with work) { stage = stages.Workers; shards = shards }
+at_workers work shards = record (nothing_with work) { expected = awaited.Workers; shards = shards }
 
 count_read : (shards : ℕ) → shards ≤ 8 → count_of (codes "shards " ++ decimal shards) ≡ Some (Some shards)
 count_read shards few =

@@ -7,8 +7,8 @@ use Rattle.kt_script.specs.Rules.{keeps_rules}
 use Rattle.kt_scene.specs.declared.command.Spelled.{Spelled}
 use Rattle.kt_scene.specs.declared.fault.SceneError.{SceneError}
 use Rattle.kt_scene.specs.declared.fault.SceneError.TheVariants as faults
-use Rattle.kt_scene.specs.declared.draft.Stage.TheVariants as stages
-use Rattle.kt_scene.specs.Fault.{fault_number}
+use Rattle.kt_scene.specs.declared.draft.Expected.TheVariants as awaited
+use Rattle.kt_scene.specs.FaultNumber.{fault_number}
 use Rattle.kt_scene.specs.Commands.{spelled_of}
 use Rattle.kt_scene.specs.Lines.{Sketch, nothing_read}
 use Rattle.kt_core.specs.declared.faults.Fault.{Fault}
@@ -101,22 +101,22 @@ module _ (kind : WorkKind) (told : List (List ℕ)) (line : List ℕ) where
 
 -- which faults a line may have, by what was told before it
 module _ (kind : WorkKind) (told : List (List ℕ)) (line : List ℕ) (s : Sketch) (leads : LeadOn (nothing_read kind) told s) where
-  pub header_stage : IsNoHeader told line → (s.stage ≡ stages.Title) ⊎ (s.stage ≡ stages.Shards)
+  pub header_stage : IsNoHeader told line → (s.expected ≡ awaited.Title) ⊎ (s.expected ≡ awaited.Shards)
   header_stage (no_title is other) = inl (at_title kind told s leads is)
   header_stage (no_shards is other) = inr (behind_title kind told s leads is)
 
-  pub word_stage : IsNoWord kind told line → (s.stage ≡ stages.Workers) ⊎ ((s.stage ≡ stages.Commands) ⊎ (s.stage ≡ stages.Work))
+  pub word_stage : IsNoWord kind told line → (s.expected ≡ awaited.Workers) ⊎ ((s.expected ≡ awaited.Commands) ⊎ (s.expected ≡ awaited.Work))
   word_stage (no_worker is other) = inl (behind_head kind told s leads is)
   word_stage (no_command scripts commands is worker work verb spelled) = inr (inl (in_script kind told s leads scripts commands is).0)
   word_stage (no_entry is end none) = inr (inr (in_work kind told s leads is))
 
-  pub tuple_stage : IsNoTuple kind told line → s.stage ≡ stages.Commands
+  pub tuple_stage : IsNoTuple kind told line → s.expected ≡ awaited.Commands
   tuple_stage (no_tuple scripts commands is verb spelled) = (in_script kind told s leads scripts commands is).0
 
-  pub variable_stage : BreaksVariableRules kind told line → s.stage ≡ stages.Commands
+  pub variable_stage : BreaksVariableRules kind told line → s.expected ≡ awaited.Commands
   variable_stage (breaks_rules scripts commands command is spelled broken) = (in_script kind told s leads scripts commands is).0
 
-  pub limit_stage : PassesLimit kind told line → (s.stage ≡ stages.Shards) ⊎ ((s.stage ≡ stages.Commands) ⊎ (s.stage ≡ stages.Work))
+  pub limit_stage : PassesLimit kind told line → (s.expected ≡ awaited.Shards) ⊎ ((s.expected ≡ awaited.Commands) ⊎ (s.expected ≡ awaited.Work))
   limit_stage (shards_outside n is spelled other) = inl (behind_title kind told s leads is)
   limit_stage (many_workers scripts commands is word many) = inr (inl (in_script kind told s leads scripts commands is).0)
   limit_stage (many_commands scripts commands command is spelled many) = inr (inl (in_script kind told s leads scripts commands is).0)
@@ -124,15 +124,15 @@ module _ (kind : WorkKind) (told : List (List ℕ)) (line : List ℕ) (s : Sketc
   limit_stage (outside scripts commands command is spelled large) = inr (inl (in_script kind told s leads scripts commands is).0)
   limit_stage (too_late fault same is spelled late) = inr (inr (in_work kind told s leads is))
 
-  pub nobody_stage : NamesNobody kind told line → s.stage ≡ stages.Work
+  pub nobody_stage : NamesNobody kind told line → s.expected ≡ awaited.Work
   nobody_stage (names_nobody fault same is spelled none) = in_work kind told s leads is
 
   -- in a script
-  module _ (is : s.stage ≡ stages.Commands) where
+  module _ (is : s.expected ≡ awaited.Commands) where
     pub no_header : ¬ IsNoHeader told line
     no_header h = by (header_stage h)
       where
-        by : (s.stage ≡ stages.Title) ⊎ (s.stage ≡ stages.Shards) → ⊥
+        by : (s.expected ≡ awaited.Title) ⊎ (s.expected ≡ awaited.Shards) → ⊥
         by (inl other) = absurd cc
         by (inr other) = absurd cc
 
@@ -140,11 +140,11 @@ module _ (kind : WorkKind) (told : List (List ℕ)) (line : List ℕ) (s : Sketc
     pub no_word : ((scripts : List (List Command)) (commands : List Command) → line ≢ codes "worker" → line ≢ work_word kind → ¬ HasVerb line
         → ((command : Command) → ¬ Spells line command) → ⊥) → ¬ IsNoWord kind told line
     no_word never (no_worker at other) =
-        let stage = behind_head kind told s leads at in
+        let expected = behind_head kind told s leads at in
         absurd cc
     no_word never (no_command scripts commands at worker work verb spelled) = never scripts commands worker work verb spelled
     no_word never (no_entry at end none) =
-        let stage = in_work kind told s leads at in
+        let expected = in_work kind told s leads at in
         absurd cc
 
     pub no_tuple_there : ¬ HasVerb line ⊎ ((command : Command) × Spells line command) → ¬ IsNoTuple kind told line
@@ -163,31 +163,31 @@ module _ (kind : WorkKind) (told : List (List ℕ)) (line : List ℕ) (s : Sketc
         absurd cc
 
   -- within the work
-  module _ (is : s.stage ≡ stages.Work) where
+  module _ (is : s.expected ≡ awaited.Work) where
     pub work_no_header : ¬ IsNoHeader told line
     work_no_header h = by (header_stage h)
       where
-        by : (s.stage ≡ stages.Title) ⊎ (s.stage ≡ stages.Shards) → ⊥
+        by : (s.expected ≡ awaited.Title) ⊎ (s.expected ≡ awaited.Shards) → ⊥
         by (inl other) = absurd cc
         by (inr other) = absurd cc
 
     pub work_no_word : IsEntry kind line → ¬ IsNoWord kind told line
     work_no_word entry (no_worker at other) =
-        let stage = behind_head kind told s leads at in
+        let expected = behind_head kind told s leads at in
         absurd cc
     work_no_word entry (no_command scripts commands at worker work verb spelled) =
-        let stage = (in_script kind told s leads scripts commands at).0 in
+        let expected = (in_script kind told s leads scripts commands at).0 in
         absurd cc
     work_no_word entry (no_entry at end none) = none entry
 
     pub work_no_tuple : ¬ IsNoTuple kind told line
     work_no_tuple h =
-        let stage = tuple_stage h in
+        let expected = tuple_stage h in
         absurd cc
 
     pub work_no_variable : ¬ BreaksVariableRules kind told line
     work_no_variable h =
-        let stage = variable_stage h in
+        let expected = variable_stage h in
         absurd cc
 
     pub work_no_limit : ((fault : Fault) → SpellsFault line fault → fault.after ≤ 100000) → ¬ PassesLimit kind told line
@@ -195,59 +195,59 @@ module _ (kind : WorkKind) (told : List (List ℕ)) (line : List ℕ) (s : Sketc
         let few = soon fault spelled in
         omega (arith, few, late)
     work_no_limit soon (shards_outside n at spelled other) =
-        let stage = behind_title kind told s leads at in
+        let expected = behind_title kind told s leads at in
         absurd cc
     work_no_limit soon (many_workers scripts commands at word many) =
-        let stage = (in_script kind told s leads scripts commands at).0 in
+        let expected = (in_script kind told s leads scripts commands at).0 in
         absurd cc
     work_no_limit soon (many_commands scripts commands command at spelled many) =
-        let stage = (in_script kind told s leads scripts commands at).0 in
+        let expected = (in_script kind told s leads scripts commands at).0 in
         absurd cc
     work_no_limit soon (many_variables scripts commands command at spelled many) =
-        let stage = (in_script kind told s leads scripts commands at).0 in
+        let expected = (in_script kind told s leads scripts commands at).0 in
         absurd cc
     work_no_limit soon (outside scripts commands command at spelled large) =
-        let stage = (in_script kind told s leads scripts commands at).0 in
+        let expected = (in_script kind told s leads scripts commands at).0 in
         absurd cc
 
   -- elsewhere
-  pub at_shards_low : s.stage ≡ stages.Shards → (¬ IsNoWord kind told line) × (¬ IsNoTuple kind told line) × (¬ BreaksVariableRules kind told line)
+  pub at_shards_low : s.expected ≡ awaited.Shards → (¬ IsNoWord kind told line) × (¬ IsNoTuple kind told line) × (¬ BreaksVariableRules kind told line)
   at_shards_low is = (
     λ h. by (word_stage h),
-    λ h. (let stage = tuple_stage h in absurd cc),
-    λ h. (let stage = variable_stage h in absurd cc),
+    λ h. (let expected = tuple_stage h in absurd cc),
+    λ h. (let expected = variable_stage h in absurd cc),
   )
     where
-      by : (s.stage ≡ stages.Workers) ⊎ ((s.stage ≡ stages.Commands) ⊎ (s.stage ≡ stages.Work)) → ⊥
+      by : (s.expected ≡ awaited.Workers) ⊎ ((s.expected ≡ awaited.Commands) ⊎ (s.expected ≡ awaited.Work)) → ⊥
       by (inl other) = absurd cc
       by (inr (inl other)) = absurd cc
       by (inr (inr other)) = absurd cc
 
-  pub behind_low : (s.stage ≡ stages.Workers) ⊎ (s.stage ≡ stages.Ended) → ¬ IsNoHeader told line
+  pub behind_low : (s.expected ≡ awaited.Workers) ⊎ (s.expected ≡ awaited.Ended) → ¬ IsNoHeader told line
   behind_low is h = by is (header_stage h)
     where
-      by : (s.stage ≡ stages.Workers) ⊎ (s.stage ≡ stages.Ended) → (s.stage ≡ stages.Title) ⊎ (s.stage ≡ stages.Shards) → ⊥
+      by : (s.expected ≡ awaited.Workers) ⊎ (s.expected ≡ awaited.Ended) → (s.expected ≡ awaited.Title) ⊎ (s.expected ≡ awaited.Shards) → ⊥
       by (inl a) (inl b) = absurd cc
       by (inl a) (inr b) = absurd cc
       by (inr a) (inl b) = absurd cc
       by (inr a) (inr b) = absurd cc
 
-  pub at_end_low : s.stage ≡ stages.Ended → (¬ IsNoWord kind told line) × (¬ IsNoTuple kind told line) × (¬ BreaksVariableRules kind told line)
+  pub at_end_low : s.expected ≡ awaited.Ended → (¬ IsNoWord kind told line) × (¬ IsNoTuple kind told line) × (¬ BreaksVariableRules kind told line)
       × (¬ PassesLimit kind told line) × (¬ NamesNobody kind told line)
   at_end_low is = (
     λ h. by (word_stage h),
-    λ h. (let stage = tuple_stage h in absurd cc),
-    λ h. (let stage = variable_stage h in absurd cc),
+    λ h. (let expected = tuple_stage h in absurd cc),
+    λ h. (let expected = variable_stage h in absurd cc),
     λ h. also (limit_stage h),
-    λ h. (let stage = nobody_stage h in absurd cc),
+    λ h. (let expected = nobody_stage h in absurd cc),
   )
     where
-      by : (s.stage ≡ stages.Workers) ⊎ ((s.stage ≡ stages.Commands) ⊎ (s.stage ≡ stages.Work)) → ⊥
+      by : (s.expected ≡ awaited.Workers) ⊎ ((s.expected ≡ awaited.Commands) ⊎ (s.expected ≡ awaited.Work)) → ⊥
       by (inl other) = absurd cc
       by (inr (inl other)) = absurd cc
       by (inr (inr other)) = absurd cc
 
-      also : (s.stage ≡ stages.Shards) ⊎ ((s.stage ≡ stages.Commands) ⊎ (s.stage ≡ stages.Work)) → ⊥
+      also : (s.expected ≡ awaited.Shards) ⊎ ((s.expected ≡ awaited.Commands) ⊎ (s.expected ≡ awaited.Work)) → ⊥
       also (inl other) = absurd cc
       also (inr (inl other)) = absurd cc
       also (inr (inr other)) = absurd cc

@@ -10,7 +10,7 @@ use Rattle.kt_scene.specs.declared.scenario.WorkKind.{WorkKind}
 use Rattle.kt_scene.specs.declared.scenario.WorkKind.TheVariants as kinds
 use Rattle.kt_scene.specs.declared.fault.SceneError.{SceneError}
 use Rattle.kt_scene.specs.declared.fault.SceneError.TheVariants as faults
-use Rattle.kt_scene.specs.declared.draft.Stage.TheVariants as stages
+use Rattle.kt_scene.specs.declared.draft.Expected.TheVariants as awaited
 use Rattle.kt_scene.specs.Lines.{Sketch, nothing_read, is_ended, line_read}
 use Rattle.kt_scene.specs.Reading.{Play, lines_of, read_from, play_of}
 use Rattle.kt_scene.specs.Work.{Work, Steps, Faults, kind_of, no_work, work_word}
@@ -64,7 +64,7 @@ filter_apart p (x ∷ xs) ys zs z e = apart_by_test (p x) p x xs ys zs z refl (�
 record HasScene (kind : WorkKind) (cast : Cast) : Type 0 where
   sketch : Sketch
   leads : LeadOn (nothing_read kind) (scene_lines cast) sketch
-  stage : sketch.stage ≡ stages.Commands
+  expected : sketch.expected ≡ awaited.Commands
   of : kind_of sketch.work ≡ kind
 
 scene_leads : (kind : WorkKind) (cast : Cast) → IsCast cast → All IsScript cast.scripts → All (All IsCommand) cast.scripts → HasScene kind cast
@@ -77,11 +77,11 @@ scene_leads kind cast is scripts commands =
     let To : List (List ℕ) → Type 0 = λ l. LeadOn nothing l t in
     let parts = leads_split (scene_lines cast) (work_word kind ∷ []) nothing t (subst To lines (wanted_lead kind play (none_kind kind) rules)) in
     let read : line_read parts.0 (work_word kind) ≡ Ok t = parts.2.1 ∙ ap (λ (x : Sketch). Ok x) (sym parts.2.2) in
-    let follow = work_follows parts.0.stage kind parts.0 cast.shards cast.scripts refl read in
-    record { sketch = parts.0; leads = parts.1; stage = follow.0; of = leads_keep (scene_lines cast) nothing parts.0 parts.1 ∙ none_kind kind }
+    let follow = work_follows parts.0.expected kind parts.0 cast.shards cast.scripts refl read in
+    record { sketch = parts.0; leads = parts.1; expected = follow.0; of = leads_keep (scene_lines cast) nothing parts.0 parts.1 ∙ none_kind kind }
 
 -- in a script the word of the other kind is no line
-other_refused : (other : WorkKind) (work : Work) (u : Sketch) → u.stage ≡ stages.Commands → u.work ≡ work → other ≢ kind_of work
+other_refused : (other : WorkKind) (work : Work) (u : Sketch) → u.expected ≡ awaited.Commands → u.work ≡ work → other ≢ kind_of work
     → line_read u (work_word other) ≡ Err faults.Word
 other_refused kinds.Steps (Faults lines) u is work differ = rw (is, work) refl
 other_refused kinds.Faults (Steps steps) u is work differ = rw (is, work) refl
@@ -108,8 +108,8 @@ other_is_refused kind text play h differ =
     let scene = scene_leads kind play.cast h.rules.cast h.rules.scripts h.rules.commands in
     let parts = filter_apart is_told h.lines (scene_lines play.cast) (entry_lines play.work) word h.told in
     let Of : List (List ℕ) → Type 0 = λ l. LeadOn nothing l scene.sketch in
-    let leads = with_ignored parts.before nothing scene.sketch (ap is_ended scene.stage) (subst Of (sym parts.front) scene.leads) in
-    let refused = other_refused (kind_of play.work) scene.sketch.work scene.sketch scene.stage refl (λ same. differ (same ∙ scene.of)) in
+    let leads = with_ignored parts.before nothing scene.sketch (ap is_ended scene.expected) (subst Of (sym parts.front) scene.leads) in
+    let refused = other_refused (kind_of play.work) scene.sketch.work scene.sketch scene.expected refl (λ same. differ (same ∙ scene.of)) in
     let back : lines_of text ≡ (h.lines ++ codes "end" ∷ [], []) =
     ap lines_of h.is ∙ lines_read_back (h.lines ++ codes "end" ∷ []) (All-push IsLine h.lines (codes "end") h.each end_is_line) in
     let lines : (lines_of text).0 ≡ parts.before ++ word ∷ (parts.later ++ codes "end" ∷ []) =

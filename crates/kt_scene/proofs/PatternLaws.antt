@@ -12,7 +12,7 @@ use Rattle.kt_script.specs.declared.command.Slot.{Slot}
 use Rattle.kt_script.specs.declared.command.Slot.TheVariants as slots
 use Rattle.kt_scene.specs.Number.{behind}
 use Rattle.kt_scene.specs.Commands.{slot_at, and_behind, slots_from, slots_in, actuals_of}
-use Rattle.kt_scene.specs.Text.{actual_text, slot_text, pattern_text}
+use Rattle.kt_script.specs.Spelling.{actual_text, slot_text, pattern_text}
 use Rattle.kt_scene.specs.Scenario.{IsActual, IsSlot, IsPattern}
 use Rattle.kt_scene.proofs.NumberLaws.{both_read, mapped, behind_taken}
 use Rattle.kt_scene.proofs.SlotLaws.{slot_taken}

@@ -2,8 +2,8 @@
 use Rattle.std.proofs.Common.{◌≡◌, ℕ, Bool, true, false, not, cond, List, [], ◌∷◌, ◌++◌, length, Ok, refl, sym, ap, subst, ◌∙◌, arith, length-append}
 use Rattle.std.specs.Prelude.{codes, decimal, filter}
 use Rattle.kt_script.specs.declared.command.Command.{Command}
-use Rattle.kt_scene.specs.declared.draft.Stage.{Stage}
-use Rattle.kt_scene.specs.declared.draft.Stage.TheVariants as stages
+use Rattle.kt_scene.specs.declared.draft.Expected.{Expected}
+use Rattle.kt_scene.specs.declared.draft.Expected.TheVariants as awaited
 use Rattle.kt_scene.specs.Lines.{Sketch, nothing_read, is_ignored, is_ended, closed, line_read}
 use Rattle.kt_scene.specs.declared.scenario.WorkKind.{WorkKind}
 use Rattle.kt_scene.specs.declared.scenario.WorkKind.TheVariants as kinds
@@ -18,7 +18,7 @@ use Rattle.kt_scene.proofs.Told.{none_kind}
 use Rattle.kt_scene.proofs.Begins.{leads_once, leads_split, wanted_lead}
 
 -- a line that is ignored changes nothing
-ignored_by_test : (b : Bool) (s u : Sketch) (line : List ℕ) → is_ignored line ≡ true → is_ended s.stage ≡ b → line_read s line ≡ Ok u → u ≡ s
+ignored_by_test : (b : Bool) (s u : Sketch) (line : List ℕ) → is_ignored line ≡ true → is_ended s.expected ≡ b → line_read s line ≡ Ok u → u ≡ s
 ignored_by_test true s u line ignored ended e =
     let never = rw ended at e in
     absurd cc
@@ -30,7 +30,7 @@ told_by_test : (b : Bool) (s t u : Sketch) (line : List ℕ) (later : List (List
     → LeadOn u (filter is_told later) t
     → LeadOn s (cond (not b) (line ∷ filter is_told later) (filter is_told later)) t
 told_by_test true s t u line later test e h =
-    subst (λ (x : Sketch). LeadOn x (filter is_told later) t) (ignored_by_test (is_ended s.stage) s u line test refl e) h
+    subst (λ (x : Sketch). LeadOn x (filter is_told later) t) (ignored_by_test (is_ended s.expected) s u line test refl e) h
 told_by_test false s t u line later test e h = (u, e, h)
 
 -- without the lines that are ignored, lines lead to the same
@@ -49,8 +49,8 @@ push_parts {A} (a ∷ xs) (b ∷ ys) x y e =
     (cc, more.1)
 
 -- only within a script may the line before the work follow
-word_by_kind : (kind : WorkKind) (work : Work) (s : Sketch) (t : Sketch) → s.stage ≡ stages.Commands → s.work ≡ work → line_read s (work_word kind) ≡ Ok t
-    → closed stages.Work s ≡ t
+word_by_kind : (kind : WorkKind) (work : Work) (s : Sketch) (t : Sketch) → s.expected ≡ awaited.Commands → s.work ≡ work → line_read s (work_word kind) ≡ Ok t
+    → closed awaited.Work s ≡ t
 word_by_kind kinds.Steps (Steps steps) s t is work e =
     let read = rw (is, work) at e in
     cc
@@ -65,7 +65,7 @@ word_by_kind kinds.Faults (Steps steps) s t is work e =
     absurd cc
 
 -- within the work it is no entry
-word_in_work : (kind : WorkKind) (work : Work) (s : Sketch) (t : Sketch) → s.stage ≡ stages.Work → s.work ≡ work → line_read s (work_word kind) ≡ Ok t → ⊥
+word_in_work : (kind : WorkKind) (work : Work) (s : Sketch) (t : Sketch) → s.expected ≡ awaited.Work → s.work ≡ work → line_read s (work_word kind) ≡ Ok t → ⊥
 word_in_work kinds.Steps (Steps steps) s t is work e =
     let never = rw (is, work) at e in
     absurd cc
@@ -79,34 +79,34 @@ word_in_work kinds.Faults (Steps steps) s t is work e =
     let never = rw (is, work) at e in
     absurd cc
 
-pub work_follows : (stage : Stage) (kind : WorkKind) (s : Sketch) (shards : ℕ) (scripts : List (List Command)) → s.stage ≡ stage
-    → line_read s (work_word kind) ≡ Ok (at_work (no_work kind) shards scripts) → (s.stage ≡ stages.Commands) × (s.scripts ++ s.commands ∷ [] ≡ scripts)
-work_follows stages.Commands kind s shards scripts is e =
+pub work_follows : (expected : Expected) (kind : WorkKind) (s : Sketch) (shards : ℕ) (scripts : List (List Command)) → s.expected ≡ expected
+    → line_read s (work_word kind) ≡ Ok (at_work (no_work kind) shards scripts) → (s.expected ≡ awaited.Commands) × (s.scripts ++ s.commands ∷ [] ≡ scripts)
+work_follows awaited.Commands kind s shards scripts is e =
     let same = word_by_kind kind s.work s (at_work (no_work kind) shards scripts) is refl e in
     (is, ap (λ (x : Sketch). x.scripts) same)
-work_follows stages.Title kinds.Steps s shards scripts is e =
+work_follows awaited.Title kinds.Steps s shards scripts is e =
     let never = rw is at e in
     absurd cc
-work_follows stages.Title kinds.Faults s shards scripts is e =
+work_follows awaited.Title kinds.Faults s shards scripts is e =
     let never = rw is at e in
     absurd cc
-work_follows stages.Shards kinds.Steps s shards scripts is e =
+work_follows awaited.Shards kinds.Steps s shards scripts is e =
     let never = rw is at e in
     absurd cc
-work_follows stages.Shards kinds.Faults s shards scripts is e =
+work_follows awaited.Shards kinds.Faults s shards scripts is e =
     let never = rw is at e in
     absurd cc
-work_follows stages.Workers kinds.Steps s shards scripts is e =
+work_follows awaited.Workers kinds.Steps s shards scripts is e =
     let never = rw is at e in
     absurd cc
-work_follows stages.Workers kinds.Faults s shards scripts is e =
+work_follows awaited.Workers kinds.Faults s shards scripts is e =
     let never = rw is at e in
     absurd cc
-work_follows stages.Work kind s shards scripts is e = absurd (word_in_work kind s.work s (at_work (no_work kind) shards scripts) is refl e)
-work_follows stages.Ended kinds.Steps s shards scripts is e =
+work_follows awaited.Work kind s shards scripts is e = absurd (word_in_work kind s.work s (at_work (no_work kind) shards scripts) is refl e)
+work_follows awaited.Ended kinds.Steps s shards scripts is e =
     let never = rw is at e in
     absurd cc
-work_follows stages.Ended kinds.Faults s shards scripts is e =
+work_follows awaited.Ended kinds.Faults s shards scripts is e =
     let never = rw is at e in
     absurd cc
 
@@ -115,32 +115,32 @@ module _ (kind : WorkKind) (told : List (List ℕ)) (s : Sketch) (leads : LeadOn
   leads_to lines t is h =
       leads_once lines (nothing_read kind) s t (subst (λ (l : List (List ℕ)). LeadOn (nothing_read kind) l s) is leads) h
 
-  pub at_title : told ≡ [] → s.stage ≡ stages.Title
-  at_title is = ap (λ (x : Sketch). x.stage) (leads_to [] (nothing_read kind) is refl)
+  pub at_title : told ≡ [] → s.expected ≡ awaited.Title
+  at_title is = ap (λ (x : Sketch). x.expected) (leads_to [] (nothing_read kind) is refl)
 
-  pub behind_title : told ≡ title_line ∷ [] → s.stage ≡ stages.Shards
+  pub behind_title : told ≡ title_line ∷ [] → s.expected ≡ awaited.Shards
   behind_title is =
       let work = no_work kind in
-      ap (λ (x : Sketch). x.stage) (leads_to (title_line ∷ []) (at_shards work) is (at_shards work, refl, refl))
+      ap (λ (x : Sketch). x.expected) (leads_to (title_line ∷ []) (at_shards work) is (at_shards work, refl, refl))
 
-  pub behind_head : IsHead told → s.stage ≡ stages.Workers
+  pub behind_head : IsHead told → s.expected ≡ awaited.Workers
   behind_head (n, are, is) =
       let work = no_work kind in
-      ap (λ (x : Sketch). x.stage)
+      ap (λ (x : Sketch). x.expected)
       (leads_to (title_line ∷ (codes "shards " ++ decimal n) ∷ []) (at_workers work n) is
       (at_shards work, refl, (at_workers work n, shards_line work n are.0 are.1, refl)))
 
-  pub in_work : IsInWork kind told → s.stage ≡ stages.Work
-  in_work h = ap (λ (x : Sketch). x.stage) (leads_to (told_lines h.play) (before_end h.play) (sym h.are) (wanted_lead kind h.play h.is_kind h.rules))
+  pub in_work : IsInWork kind told → s.expected ≡ awaited.Work
+  in_work h = ap (λ (x : Sketch). x.expected) (leads_to (told_lines h.play) (before_end h.play) (sym h.are) (wanted_lead kind h.play h.is_kind h.rules))
 
-  pub at_whole : IsWhole kind told → s.stage ≡ stages.Ended
+  pub at_whole : IsWhole kind told → s.expected ≡ awaited.Ended
   at_whole h =
       let all = leads_append (nothing_read kind) (told_lines h.play) (codes "end" ∷ []) (before_end h.play) (at_end h.play)
       (wanted_lead kind h.play h.is_kind h.rules) (at_end h.play, refl, refl) in
-      ap (λ (x : Sketch). x.stage) (leads_to (told_lines h.play ++ codes "end" ∷ []) (at_end h.play) (sym h.are) all)
+      ap (λ (x : Sketch). x.expected) (leads_to (told_lines h.play ++ codes "end" ∷ []) (at_end h.play) (sym h.are) all)
 
   pub in_script : (scripts : List (List Command)) (commands : List Command) → IsInScript kind told scripts commands
-      → (s.stage ≡ stages.Commands) × (s.scripts ≡ scripts) × (s.commands ≡ commands)
+      → (s.expected ≡ awaited.Commands) × (s.scripts ≡ scripts) × (s.commands ≡ commands)
   in_script scripts commands h =
       let play = play_of_scripts kind h.shards (scripts ++ commands ∷ []) in
       let t = before_end play in
@@ -148,7 +148,7 @@ module _ (kind : WorkKind) (told : List (List ℕ)) (s : Sketch) (leads : LeadOn
       let parts = leads_split told (work_word kind ∷ []) (nothing_read kind) t (subst To h.are (wanted_lead kind play (none_kind kind) h.rules)) in
       let same = leads_once told (nothing_read kind) parts.0 s parts.1 leads in
       let read : line_read parts.0 (work_word kind) ≡ Ok t = parts.2.1 ∙ ap (λ (x : Sketch). Ok x) (sym parts.2.2) in
-      let follow = work_follows s.stage kind s h.shards (scripts ++ commands ∷ []) refl
+      let follow = work_follows s.expected kind s h.shards (scripts ++ commands ∷ []) refl
       (subst (λ (x : Sketch). line_read x (work_word kind) ≡ Ok t) same read) in
       let both = push_parts s.scripts scripts s.commands commands follow.1 in
       (follow.0, both.0, both.1)

@@ -18,8 +18,8 @@ use Rattle.kt_scene.proofs.ReadLaws.{GoesOn, adds, ends, line_goes, good_at_firs
 
 -- what the lines told is in the sketch; the last of them is the end, or there is none yet
 pub data IsTold (before : List (List ℕ)) (s : Sketch) : Type 0 where
-  unended : IsGood s → is_ended s.stage ≡ false → told_at s.stage s ≡ filter is_told before → IsTold before s
-  whole : (body : List (List ℕ)) → before ≡ body ++ codes "end" ∷ [] → is_ended s.stage ≡ true → IsPlay (play_with s)
+  unended : IsGood s → is_ended s.expected ≡ false → told_at s.expected s ≡ filter is_told before → IsTold before s
+  whole : (body : List (List ℕ)) → before ≡ body ++ codes "end" ∷ [] → is_ended s.expected ≡ true → IsPlay (play_with s)
       → filter is_told body ≡ told_lines (play_with s) → IsTold before s
 
 -- the lines lead to the sketch, where this kind of work is wanted
@@ -31,7 +31,7 @@ pub record Reached (kind : WorkKind) (before : List (List ℕ)) (s : Sketch) : T
 pub reached_nothing : (kind : WorkKind) → Reached kind [] (nothing_read kind)
 reached_nothing kind = record { leads = refl; of = none_kind kind; told = unended (good_at_first kind) refl refl }
 
-by_going : (before : List (List ℕ)) (s : Sketch) (line : List ℕ) (u : Sketch) → told_at s.stage s ≡ filter is_told before → GoesOn s line u
+by_going : (before : List (List ℕ)) (s : Sketch) (line : List ℕ) (u : Sketch) → told_at s.expected s ≡ filter is_told before → GoesOn s line u
     → IsTold (before ++ line ∷ []) u
 by_going before s line u told (adds good goes more) =
     unended good goes (more ∙ ap (λ (l : List (List ℕ)). l ++ filter is_told (line ∷ [])) told ∙ sym (filter-append is_told before (line ∷ [])))
@@ -58,12 +58,12 @@ pub data Failed (kind : WorkKind) (all : List (List ℕ)) (rest : List ℕ) (m :
   on_line : (before : List (List ℕ)) (line : List ℕ) (later : List (List ℕ)) (u : Sketch) → all ≡ before ++ line ∷ later → Reached kind before u
       → line_read u line ≡ Err fault
       → length before + 1 ≡ m → Failed kind all rest m fault
-  at_end : (u : Sketch) → Reached kind all u → (is_ended u.stage && is_empty rest) ≡ false → length all + 1 ≡ m → fault ≡ faults.End
+  at_end : (u : Sketch) → Reached kind all u → (is_ended u.expected && is_empty rest) ≡ false → length all + 1 ≡ m → fault ≡ faults.End
       → Failed kind all rest m fault
 
 module _ (kind : WorkKind) where
   end_fails : (b : Bool) (before : List (List ℕ)) (s : Sketch) (rest : List ℕ) (n m : ℕ) (fault : SceneError) (end : Fault) → end ≡ (n, faults.End)
-      → (is_ended s.stage && is_empty rest) ≡ b
+      → (is_ended s.expected && is_empty rest) ≡ b
       → length before + 1 ≡ n → Reached kind before s → cond b (Ok s) (Err end) ≡ Err (m, fault) → Failed kind before rest m fault
   end_fails true before s rest n m fault end there test is h e = absurd cc
   end_fails false before s rest n m fault end there test is h e =
@@ -88,7 +88,7 @@ module _ (kind : WorkKind) where
   unfolding read_from
   read_fails [] before s rest n m fault is h e =
       let P : List (List ℕ) → Type 0 = λ l. Failed kind l rest m fault in
-      subst P (sym (append-nil before)) (end_fails (is_ended s.stage && is_empty rest) before s rest n m fault (n, faults.End) refl refl is h e)
+      subst P (sym (append-nil before)) (end_fails (is_ended s.expected && is_empty rest) before s rest n m fault (n, faults.End) refl refl is h e)
   read_fails (line ∷ later) before s rest n m fault is h e =
       line_fails (line_read s line) before line later s rest n m fault refl is h
       (λ u further f.

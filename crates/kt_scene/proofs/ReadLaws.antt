@@ -7,8 +7,8 @@ use Rattle.std.specs.Prelude.{codes, All, filter}
 use Rattle.std.specs.List.{flat_map}
 use Rattle.kt_script.specs.Rules.{IsScript}
 use Rattle.kt_scene.specs.declared.fault.SceneError.TheVariants as faults
-use Rattle.kt_scene.specs.declared.draft.Stage.{Stage}
-use Rattle.kt_scene.specs.declared.draft.Stage.TheVariants as stages
+use Rattle.kt_scene.specs.declared.draft.Expected.{Expected}
+use Rattle.kt_scene.specs.declared.draft.Expected.TheVariants as awaited
 use Rattle.kt_scene.specs.declared.scenario.WorkKind.{WorkKind}
 use Rattle.kt_scene.specs.declared.scenario.WorkKind.TheVariants as kinds
 use Rattle.kt_scene.specs.Lines.{Sketch, nothing_read, cast_of, is_word, is_ignored, is_ended, work_with, with_work, told, line_read}
@@ -25,18 +25,18 @@ use Rattle.kt_scene.proofs.WorkKinds.{leads_keep}
 
 -- the line is told behind the others, or ignored; or it is the end of a scenario
 pub data GoesOn (s : Sketch) (line : List ℕ) (u : Sketch) : Type 0 where
-  adds : IsGood u → is_ended u.stage ≡ false → told_at u.stage u ≡ told_at s.stage s ++ filter is_told (line ∷ []) → GoesOn s line u
-  ends : line ≡ codes "end" → is_ended u.stage ≡ true → IsPlay (play_with u) → told_at s.stage s ≡ told_lines (play_with u) → GoesOn s line u
+  adds : IsGood u → is_ended u.expected ≡ false → told_at u.expected u ≡ told_at s.expected s ++ filter is_told (line ∷ []) → GoesOn s line u
+  ends : line ≡ codes "end" → is_ended u.expected ≡ true → IsPlay (play_with u) → told_at s.expected s ≡ told_lines (play_with u) → GoesOn s line u
 
 told_is_kept : (line : List ℕ) → is_ignored line ≡ false → line ∷ [] ≡ filter is_told (line ∷ [])
 told_is_kept line other = rw other refl
 
 from_adds : (s : Sketch) (line : List ℕ) (u : Sketch) → is_ignored line ≡ false → Adds s line u → GoesOn s line u
-from_adds s line u other h = adds h.good h.goes_on (h.told ∙ ap (λ (l : List (List ℕ)). told_at s.stage s ++ l) (told_is_kept line other))
+from_adds s line u other h = adds h.good h.goes_on (h.told ∙ ap (λ (l : List (List ℕ)). told_at s.expected s ++ l) (told_is_kept line other))
 
-pub play_kept : (s : Sketch) → s.stage ≡ stages.Work → IsGood s → IsPlay (play_with s)
+pub play_kept : (s : Sketch) → s.expected ≡ awaited.Work → IsGood s → IsPlay (play_with s)
 play_kept s is h =
-    let at = place_at stages.Work s is h in
+    let at = place_at awaited.Work s is h in
     record {
       cast = record { some_shards = at.0.0; few_shards = at.0.1; some_workers = at.1; few_workers = at.2 };
       scripts = h.scripts;
@@ -44,38 +44,39 @@ play_kept s is h =
       work = h.work;
     }
 
-end_by_test : (b : Bool) (s : Sketch) (line : List ℕ) (u : Sketch) → IsGood s → is_ignored line ≡ false → s.stage ≡ stages.Work
+end_by_test : (b : Bool) (s : Sketch) (line : List ℕ) (u : Sketch) → IsGood s → is_ignored line ≡ false → s.expected ≡ awaited.Work
     → is_word line (codes "end") ≡ b
-    → cond b (Ok (record s { stage = stages.Ended })) (with_work s (work_with (cast_of s) s.work line)) ≡ Ok u → GoesOn s line u
+    → cond b (Ok (record s { expected = awaited.Ended })) (with_work s (work_with (cast_of s) s.work line)) ≡ Ok u → GoesOn s line u
 end_by_test false s line u h other is test e = from_adds s line u other (entry_told s line u h is e)
 end_by_test true s line u h other is test e =
-    let made : record s { stage = stages.Ended } ≡ u = cc in
+    let made : record s { expected = awaited.Ended } ≡ u = cc in
     let P : Sketch → Type 0 = λ x. GoesOn s line x in
-    subst P made (ends (word_is line (codes "end") test) refl (play_kept s is h) (ap (λ (g : Stage). told_at g s) is))
+    subst P made (ends (word_is line (codes "end") test) refl (play_kept s is h) (ap (λ (g : Expected). told_at g s) is))
 
-by_stage : (stage : Stage) (s : Sketch) (line : List ℕ) (u : Sketch) → IsGood s → is_ignored line ≡ false → s.stage ≡ stage → told stage s line ≡ Ok u
+by_stage : (expected : Expected) (s : Sketch) (line : List ℕ) (u : Sketch) → IsGood s → is_ignored line ≡ false → s.expected ≡ expected
+    → told expected s line ≡ Ok u
     → GoesOn s line u
-by_stage stages.Title s line u h other is e = from_adds s line u other (title_told s line u h is e)
-by_stage stages.Shards s line u h other is e = from_adds s line u other (shards_told s line u h is e)
-by_stage stages.Workers s line u h other is e = from_adds s line u other (worker_told s line u h is e)
-by_stage stages.Commands s line u h other is e = from_adds s line u other (script_told s line u h is e)
-by_stage stages.Work s line u h other is e = end_by_test (is_word line (codes "end")) s line u h other is refl e
-by_stage stages.Ended s line u h other is e = absurd cc
+by_stage awaited.Title s line u h other is e = from_adds s line u other (title_told s line u h is e)
+by_stage awaited.Shards s line u h other is e = from_adds s line u other (shards_told s line u h is e)
+by_stage awaited.Workers s line u h other is e = from_adds s line u other (worker_told s line u h is e)
+by_stage awaited.Commands s line u h other is e = from_adds s line u other (script_told s line u h is e)
+by_stage awaited.Work s line u h other is e = end_by_test (is_word line (codes "end")) s line u h other is refl e
+by_stage awaited.Ended s line u h other is e = absurd cc
 
-by_ignored : (b : Bool) (s : Sketch) (line : List ℕ) (u : Sketch) → IsGood s → is_ended s.stage ≡ false → is_ignored line ≡ b
-    → cond b (Ok s) (told s.stage s line) ≡ Ok u → GoesOn s line u
-by_ignored false s line u h on other e = by_stage s.stage s line u h other refl e
+by_ignored : (b : Bool) (s : Sketch) (line : List ℕ) (u : Sketch) → IsGood s → is_ended s.expected ≡ false → is_ignored line ≡ b
+    → cond b (Ok s) (told s.expected s line) ≡ Ok u → GoesOn s line u
+by_ignored false s line u h on other e = by_stage s.expected s line u h other refl e
 by_ignored true s line u h on ignored e =
     let made : s ≡ u = cc in
     let P : Sketch → Type 0 = λ x. GoesOn s line x in
     let nothing : [] ≡ filter is_told (line ∷ []) = rw ignored refl in
-    subst P made (adds h on (sym (append-nil (told_at s.stage s)) ∙ ap (λ (l : List (List ℕ)). told_at s.stage s ++ l) nothing))
+    subst P made (adds h on (sym (append-nil (told_at s.expected s)) ∙ ap (λ (l : List (List ℕ)). told_at s.expected s ++ l) nothing))
 
-pub line_goes : (s : Sketch) (line : List ℕ) (u : Sketch) → IsGood s → is_ended s.stage ≡ false → line_read s line ≡ Ok u → GoesOn s line u
+pub line_goes : (s : Sketch) (line : List ℕ) (u : Sketch) → IsGood s → is_ended s.expected ≡ false → line_read s line ≡ Ok u → GoesOn s line u
 line_goes s line u h on e = by_ignored (is_ignored line) s line u h on refl (rw on at e)
 
 -- no line is read behind the end
-nothing_more : (s : Sketch) (lines : List (List ℕ)) (t : Sketch) → is_ended s.stage ≡ true → LeadOn s lines t → (lines ≡ []) × (t ≡ s)
+nothing_more : (s : Sketch) (lines : List (List ℕ)) (t : Sketch) → is_ended s.expected ≡ true → LeadOn s lines t → (lines ≡ []) × (t ≡ s)
 nothing_more s [] t over h = (refl, h)
 nothing_more s (line ∷ later) t over h =
     let never = rw over at h.1 in
@@ -85,41 +86,43 @@ nothing_more s (line ∷ later) t over h =
 record IsWhole (s : Sketch) (lines : List (List ℕ)) (t : Sketch) : Type 0 where
   before : List (List ℕ)
   split : lines ≡ before ++ codes "end" ∷ []
-  told : told_at s.stage s ++ filter is_told before ≡ told_lines (play_with t)
+  told : told_at s.expected s ++ filter is_told before ≡ told_lines (play_with t)
   rules : IsPlay (play_with t)
 
-whole_more : (s u t : Sketch) (line : List ℕ) (later : List (List ℕ)) → told_at u.stage u ≡ told_at s.stage s ++ filter is_told (line ∷ []) → IsWhole u later t
+whole_more : (s u t : Sketch) (line : List ℕ) (later : List (List ℕ)) → told_at u.expected u ≡ told_at s.expected s ++ filter is_told (line ∷ [])
+    → IsWhole u later t
     → IsWhole s (line ∷ later) t
 whole_more s u t line later more h = record {
   before = line ∷ h.before;
   split = ap (λ (l : List (List ℕ)). line ∷ l) h.split;
   told =
-      ap (λ (l : List (List ℕ)). told_at s.stage s ++ l) (filter-append is_told (line ∷ []) h.before)
-      ∙ sym (append_assoc (told_at s.stage s) (filter is_told (line ∷ [])) (filter is_told h.before))
+      ap (λ (l : List (List ℕ)). told_at s.expected s ++ l) (filter-append is_told (line ∷ []) h.before)
+      ∙ sym (append_assoc (told_at s.expected s) (filter is_told (line ∷ [])) (filter is_told h.before))
       ∙ ap (λ (l : List (List ℕ)). l ++ filter is_told h.before) (sym more) ∙ h.told;
   rules = h.rules;
 }
 
-whole_end : (s u t : Sketch) (line : List ℕ) (later : List (List ℕ)) → line ≡ codes "end" → IsPlay (play_with u) → told_at s.stage s ≡ told_lines (play_with u)
+whole_end : (s u t : Sketch) (line : List ℕ) (later : List (List ℕ)) → line ≡ codes "end" → IsPlay (play_with u)
+    → told_at s.expected s ≡ told_lines (play_with u)
     → later ≡ [] → t ≡ u → IsWhole s (line ∷ later) t
 whole_end s u t line later is rules all nothing same =
     let P : Sketch → Type 0 = λ x. IsWhole s (line ∷ later) x in
     subst P (sym same) (record {
       before = [];
       split = ap (λ (l : List ℕ). l ∷ later) is ∙ ap (λ (l : List (List ℕ)). codes "end" ∷ l) nothing;
-      told = append-nil (told_at s.stage s) ∙ all;
+      told = append-nil (told_at s.expected s) ∙ all;
       rules = rules;
     })
 
-lines_whole : (s : Sketch) (lines : List (List ℕ)) (t : Sketch) → IsGood s → is_ended s.stage ≡ false → LeadOn s lines t → is_ended t.stage ≡ true
+lines_whole : (s : Sketch) (lines : List (List ℕ)) (t : Sketch) → IsGood s → is_ended s.expected ≡ false → LeadOn s lines t → is_ended t.expected ≡ true
     → IsWhole s lines t
 lines_whole s [] t h on leads over =
-    let never : true ≡ false = sym over ∙ ap (λ (x : Sketch). is_ended x.stage) leads ∙ on in
+    let never : true ≡ false = sym over ∙ ap (λ (x : Sketch). is_ended x.expected) leads ∙ on in
     absurd cc
 lines_whole s (line ∷ later) t h on leads over =
     by (line_goes s line leads.0 h on leads.1) (λ good goes. lines_whole leads.0 later t good goes leads.2 over)
   where
-    by : GoesOn s line leads.0 → (IsGood leads.0 → is_ended leads.0.stage ≡ false → IsWhole leads.0 later t) → IsWhole s (line ∷ later) t
+    by : GoesOn s line leads.0 → (IsGood leads.0 → is_ended leads.0.expected ≡ false → IsWhole leads.0 later t) → IsWhole s (line ∷ later) t
     by (adds good goes more) behind = whole_more s leads.0 t line later more (behind good goes)
     by (ends is ended rules all) behind =
         let end = nothing_more leads.0 later t ended leads.2 in

@@ -3,7 +3,7 @@ use Rattle.std.proofs.Common.{◌≡◌, ℕ, Bool, true, false, not, cond, ltb,
 use Rattle.std.proofs.lemmas.Bool.{le-ltb}
 use Rattle.std.proofs.lemmas.List.Elements.{All-nil, All-cons, All-push}
 use Rattle.std.specs.Prelude.{◌≢◌, codes, filter}
-use Rattle.kt_scene.specs.declared.draft.Stage.TheVariants as stages
+use Rattle.kt_scene.specs.declared.draft.Expected.TheVariants as awaited
 use Rattle.kt_scene.specs.declared.scenario.WorkKind.{WorkKind}
 use Rattle.kt_scene.specs.Lines.{Sketch, nothing_read, is_ignored, is_ended, line_read}
 use Rattle.kt_scene.specs.Reading.{Play, lines_of, read_from, play_of}
@@ -14,33 +14,33 @@ use Rattle.kt_scene.proofs.Feeding.{LeadOn, leads_append, leads_read, lines_read
 use Rattle.kt_scene.proofs.LinesRead.{at_work, all_lead}
 
 -- nothing is read behind the end
-pub goes_on_before : (s : Sketch) (lines : List (List ℕ)) (t : Sketch) → LeadOn s lines t → is_ended t.stage ≡ false → is_ended s.stage ≡ false
-goes_on_before s [] t h on = ap (λ (x : Sketch). is_ended x.stage) (sym h) ∙ on
-goes_on_before s (line ∷ later) t h on = by (is_ended s.stage) refl h.1
+pub goes_on_before : (s : Sketch) (lines : List (List ℕ)) (t : Sketch) → LeadOn s lines t → is_ended t.expected ≡ false → is_ended s.expected ≡ false
+goes_on_before s [] t h on = ap (λ (x : Sketch). is_ended x.expected) (sym h) ∙ on
+goes_on_before s (line ∷ later) t h on = by (is_ended s.expected) refl h.1
   where
-    by : (b : Bool) → is_ended s.stage ≡ b → line_read s line ≡ Ok h.0 → is_ended s.stage ≡ false
+    by : (b : Bool) → is_ended s.expected ≡ b → line_read s line ≡ Ok h.0 → is_ended s.expected ≡ false
     by false e read = e
     by true e read =
         let never = rw e at read in
         absurd cc
 
-ignored_by_test : (b : Bool) (s t : Sketch) (line : List ℕ) (later : List (List ℕ)) → is_ignored line ≡ b → is_ended t.stage ≡ false
+ignored_by_test : (b : Bool) (s t : Sketch) (line : List ℕ) (later : List (List ℕ)) → is_ignored line ≡ b → is_ended t.expected ≡ false
     → ((u : Sketch) → LeadOn u (filter is_told later) t → LeadOn u later t) → LeadOn s (cond (not b) (line ∷ filter is_told later) (filter is_told later)) t
     → LeadOn s (line ∷ later) t
 ignored_by_test true s t line later e on behind h =
-    let before : is_ended s.stage ≡ false = goes_on_before s (filter is_told later) t h on in
+    let before : is_ended s.expected ≡ false = goes_on_before s (filter is_told later) t h on in
     let read : line_read s line ≡ Ok s = rw (before, e) refl in
     (s, read, behind s h)
 ignored_by_test false s t line later e on behind h = (h.0, h.1, behind h.0 h.2)
 
 -- lines that are ignored change nothing
-pub with_ignored : (lines : List (List ℕ)) (s t : Sketch) → is_ended t.stage ≡ false → LeadOn s (filter is_told lines) t → LeadOn s lines t
+pub with_ignored : (lines : List (List ℕ)) (s t : Sketch) → is_ended t.expected ≡ false → LeadOn s (filter is_told lines) t → LeadOn s lines t
 with_ignored [] s t on h = h
 with_ignored (line ∷ later) s t on h = ignored_by_test (is_ignored line) s t line later refl on (λ u. with_ignored later u t on) h
 
 -- the end of a scenario was read
 abbrev pub at_end : Play → Sketch
-at_end play = record { stage = stages.Ended; shards = play.cast.shards; scripts = play.cast.scripts; commands = []; work = play.work }
+at_end play = record { expected = awaited.Ended; shards = play.cast.shards; scripts = play.cast.scripts; commands = []; work = play.work }
 
 -- all was read but the end
 abbrev pub before_end : Play → Sketch

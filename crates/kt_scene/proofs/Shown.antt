@@ -15,7 +15,7 @@ use Rattle.kt_tuple.specs.declared.node.NodeId.TheVariants as nodes
 use Rattle.kt_tuple.specs.declared.value.Value.{Value}
 use Rattle.kt_tuple.specs.declared.value.Value.TheVariants.{Int, Str}
 use Rattle.kt_tuple.specs.declared.value.Kind.TheVariants as kinds
-use Rattle.kt_tuple.specs.Spelling.{character_text, value_text, further, separated, in_parentheses}
+use Rattle.kt_tuple.specs.Spelling.{character_text, value_text, further, separated, in_parentheses, node_text}
 use Rattle.kt_tuple.specs.Reading.{is_printable}
 use Rattle.kt_tuple.specs.Valid.{IsValue}
 use Rattle.kt_tuple.proofs.Shared.{own, IsInt, just_zero, positive, negative, signed_decimal_is_int, all_printable}
@@ -34,7 +34,8 @@ use Rattle.kt_world.specs.declared.step.Step.TheVariants.{Learn, Fail, Restart}
 use Rattle.kt_core.specs.declared.faults.FaultKind.{FaultKind}
 use Rattle.kt_core.specs.declared.faults.FaultKind.TheVariants as kinds_of_faults
 use Rattle.kt_core.specs.declared.faults.Fault.{Fault}
-use Rattle.kt_scene.specs.Text.{actual_text, slot_text, pattern_text, operation_text, command_text, node_text, step_text, kind_word, fault_text}
+use Rattle.kt_script.specs.Spelling.{actual_text, slot_text, pattern_text, operation_text, command_text}
+use Rattle.kt_scene.specs.Text.{step_text, kind_word, fault_text}
 use Rattle.kt_scene.specs.Scenario.{IsActual, IsSlot, IsPattern, IsOperation, IsCommand, IsStepNode, IsStep}
 use Rattle.kt_scene.proofs.CommandLaws.{set_text}
 use Rattle.kt_scene.proofs.SlotsRead.{name_is}

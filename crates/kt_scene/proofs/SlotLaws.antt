@@ -17,7 +17,7 @@ use Rattle.kt_script.specs.declared.command.Slot.TheVariants as slots
 use Rattle.kt_script.specs.Name.{is_name, IsName, begins_with_letter}
 use Rattle.kt_scene.specs.Number.{◌>>=◌}
 use Rattle.kt_scene.specs.Commands.{name_length, name_at, literal_of, actual_at, kind_at, named, slot_at}
-use Rattle.kt_scene.specs.Text.{actual_text, slot_text}
+use Rattle.kt_script.specs.Spelling.{actual_text, slot_text}
 use Rattle.kt_scene.specs.Scenario.{IsActual, IsSlot}
 use Rattle.kt_scene.proofs.NumberLaws.{both_read, mapped, chosen, by_word}
 

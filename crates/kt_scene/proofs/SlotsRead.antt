@@ -23,7 +23,7 @@ use Rattle.kt_script.specs.declared.command.Slot.{Slot}
 use Rattle.kt_script.specs.declared.command.Slot.TheVariants as slots
 use Rattle.kt_script.specs.Name.{is_letter, is_name_character, is_reserved, is_name, IsName, begins_with_letter}
 use Rattle.kt_scene.specs.Commands.{name_length, name_at, actual_at, kind_at, named, slot_at}
-use Rattle.kt_scene.specs.Text.{actual_text, slot_text}
+use Rattle.kt_script.specs.Spelling.{actual_text, slot_text}
 use Rattle.kt_scene.specs.Scenario.{IsActual, IsSlot}
 
 -- the text goes on as a name may

@@ -10,7 +10,8 @@ use Rattle.kt_world.specs.declared.step.Step.TheVariants.{Issue, Repeat, Deliver
 use Rattle.kt_world.specs.declared.step.Step.TheVariants.{Learn, Fail, Restart}
 use Rattle.kt_scene.specs.Number.{◌>>=◌, behind, ended, number_within}
 use Rattle.kt_scene.specs.Steps.{node_at, node_before_space, node_alone, step_by, deliver_of, serve_of, step_of}
-use Rattle.kt_scene.specs.Text.{node_text, step_text}
+use Rattle.kt_tuple.specs.Spelling.{node_text}
+use Rattle.kt_scene.specs.Text.{step_text}
 use Rattle.kt_scene.specs.Scenario.{IsStepNode, IsStep}
 use Rattle.kt_scene.proofs.NumberLaws.{both_read, mapped, ended_read, behind_taken, by_word, number_within_taken}
 

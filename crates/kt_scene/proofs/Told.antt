@@ -13,11 +13,12 @@ use Rattle.kt_core.specs.declared.faults.Fault.{Fault}
 use Rattle.kt_core.specs.declared.faults.FaultLine.{FaultLine}
 use Rattle.kt_scene.specs.declared.scenario.WorkKind.{WorkKind}
 use Rattle.kt_scene.specs.declared.scenario.WorkKind.TheVariants as kinds
-use Rattle.kt_scene.specs.declared.draft.Stage.{Stage}
-use Rattle.kt_scene.specs.declared.draft.Stage.TheVariants as stages
+use Rattle.kt_scene.specs.declared.draft.Expected.{Expected}
+use Rattle.kt_scene.specs.declared.draft.Expected.TheVariants as awaited
 use Rattle.kt_scene.specs.Lines.{Sketch, cast_of, is_ended}
 use Rattle.kt_scene.specs.Work.{Work, Steps, Faults, kind_of, no_work, unspent, work_word}
-use Rattle.kt_scene.specs.Text.{command_text, step_text, fault_text, fault_line_text, script_lines, work_lines}
+use Rattle.kt_script.specs.Spelling.{command_text}
+use Rattle.kt_scene.specs.Text.{step_text, fault_text, fault_line_text, script_lines, work_lines}
 use Rattle.kt_scene.specs.Scenario.{IsCommand, IsStep, IsFaultLine, IsWork}
 use Rattle.kt_scene.specs.Faults.{AreShards}
 
@@ -26,13 +27,13 @@ abbrev pub head_lines : ℕ → List (List ℕ)
 head_lines shards = codes "linda-kt 1" ∷ (codes "shards " ++ decimal shards) ∷ []
 
 -- the lines that were told, but for the end
-abbrev pub told_at : Stage → Sketch → List (List ℕ)
-told_at stages.Title s = []
-told_at stages.Shards s = codes "linda-kt 1" ∷ []
-told_at stages.Workers s = head_lines s.shards
-told_at stages.Commands s = head_lines s.shards ++ (flat_map script_lines s.scripts ++ script_lines s.commands)
-told_at stages.Work s = head_lines s.shards ++ (flat_map script_lines s.scripts ++ work_lines s.work)
-told_at stages.Ended s = head_lines s.shards ++ (flat_map script_lines s.scripts ++ work_lines s.work)
+abbrev pub told_at : Expected → Sketch → List (List ℕ)
+told_at awaited.Title s = []
+told_at awaited.Shards s = codes "linda-kt 1" ∷ []
+told_at awaited.Workers s = head_lines s.shards
+told_at awaited.Commands s = head_lines s.shards ++ (flat_map script_lines s.scripts ++ script_lines s.commands)
+told_at awaited.Work s = head_lines s.shards ++ (flat_map script_lines s.scripts ++ work_lines s.work)
+told_at awaited.Ended s = head_lines s.shards ++ (flat_map script_lines s.scripts ++ work_lines s.work)
 
 -- nothing is done yet
 abbrev pub IsNoWork : Work → Type 0
@@ -44,14 +45,14 @@ pub record IsBare (s : Sketch) : Type 0 where
   pub commands : s.commands ≡ []
   pub work : IsNoWork s.work
 
--- what is known at each stage
-abbrev pub IsAt : Stage → Sketch → Type 0
-IsAt stages.Title s = IsBare s
-IsAt stages.Shards s = IsBare s
-IsAt stages.Workers s = AreShards s.shards × IsBare s
-IsAt stages.Commands s = IsNoWork s.work × AreShards s.shards × (length s.scripts < 8)
-IsAt stages.Work s = AreShards s.shards × (1 ≤ length s.scripts) × (length s.scripts ≤ 8)
-IsAt stages.Ended s = AreShards s.shards × (1 ≤ length s.scripts) × (length s.scripts ≤ 8)
+-- what is known at each expected
+abbrev pub IsAt : Expected → Sketch → Type 0
+IsAt awaited.Title s = IsBare s
+IsAt awaited.Shards s = IsBare s
+IsAt awaited.Workers s = AreShards s.shards × IsBare s
+IsAt awaited.Commands s = IsNoWork s.work × AreShards s.shards × (length s.scripts < 8)
+IsAt awaited.Work s = AreShards s.shards × (1 ≤ length s.scripts) × (length s.scripts ≤ 8)
+IsAt awaited.Ended s = AreShards s.shards × (1 ≤ length s.scripts) × (length s.scripts ≤ 8)
 
 -- what was read keeps the rules
 pub record IsGood (s : Sketch) : Type 0 where
@@ -60,20 +61,20 @@ pub record IsGood (s : Sketch) : Type 0 where
   pub script : IsScript s.commands
   pub commands : All IsCommand s.commands
   pub work : IsWork (cast_of s) s.work
-  pub place : IsAt s.stage s
+  pub place : IsAt s.expected s
 
 -- the line is told behind the others
 pub record Adds (s : Sketch) (line : List ℕ) (u : Sketch) : Type 0 where
   pub good : IsGood u
-  pub goes_on : is_ended u.stage ≡ false
-  pub told : told_at u.stage u ≡ told_at s.stage s ++ line ∷ []
+  pub goes_on : is_ended u.expected ≡ false
+  pub told : told_at u.expected u ≡ told_at s.expected s ++ line ∷ []
 
-pub place_at : (stage : Stage) (s : Sketch) → s.stage ≡ stage → IsGood s → IsAt stage s
-place_at stage s is h = subst (λ (g : Stage). IsAt g s) is h.place
+pub place_at : (expected : Expected) (s : Sketch) → s.expected ≡ expected → IsGood s → IsAt expected s
+place_at expected s is h = subst (λ (g : Expected). IsAt g s) is h.place
 
-pub told_from : (stage : Stage) (s : Sketch) (line : List ℕ) (lines : List (List ℕ)) → s.stage ≡ stage → lines ≡ told_at stage s ++ line ∷ []
-    → lines ≡ told_at s.stage s ++ line ∷ []
-told_from stage s line lines is e = e ∙ ap (λ (g : Stage). told_at g s ++ line ∷ []) (sym is)
+pub told_from : (expected : Expected) (s : Sketch) (line : List ℕ) (lines : List (List ℕ)) → s.expected ≡ expected → lines ≡ told_at expected s ++ line ∷ []
+    → lines ≡ told_at s.expected s ++ line ∷ []
+told_from expected s line lines is e = e ∙ ap (λ (g : Expected). told_at g s ++ line ∷ []) (sym is)
 
 -- a worker's lines behind the others', and one line more
 pub scripts_push : (scripts : List (List Command)) (script : List Command)

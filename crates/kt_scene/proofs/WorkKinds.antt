@@ -2,8 +2,8 @@
 use Rattle.std.proofs.Common.{◌≡◌, ℕ, Bool, true, false, cond, List, [], ◌∷◌, ◌++◌, Option, Some, None, Result, Ok, Err, refl, ap, ◌∙◌}
 use Rattle.kt_scene.specs.declared.command.Spelled.{Spelled}
 use Rattle.kt_scene.specs.declared.fault.SceneError.{SceneError}
-use Rattle.kt_scene.specs.declared.draft.Stage.{Stage}
-use Rattle.kt_scene.specs.declared.draft.Stage.TheVariants as stages
+use Rattle.kt_scene.specs.declared.draft.Expected.{Expected}
+use Rattle.kt_scene.specs.declared.draft.Expected.TheVariants as awaited
 use Rattle.kt_scene.specs.Commands.{spelled_of, fault_behind}
 use Rattle.kt_scene.specs.Steps.{step_of}
 use Rattle.kt_scene.specs.FaultLines.{fault_read}
@@ -30,7 +30,7 @@ test_keeps false s x y h k = k
 
 shards_keep : (r : Result ℕ SceneError) (s : Sketch) → Keeps s (with_shards s r)
 shards_keep (Err fault) s = err_keeps s fault
-shards_keep (Ok n) s = ok_keeps s (record s { stage = stages.Workers; shards = n }) refl
+shards_keep (Ok n) s = ok_keeps s (record s { expected = awaited.Workers; shards = n }) refl
 
 added_keeps : (fault : Option SceneError) (s : Sketch) (spelled : Spelled) → Keeps s (added s spelled fault)
 added_keeps (Some fault) s spelled = err_keeps s fault
@@ -49,17 +49,17 @@ work_keeps : (work : Work) (s : Sketch) (line : List ℕ) → kind_of work ≡ k
 work_keeps (Steps steps) s line same = entries_keep (λ l. Steps l) (with_step steps (step_of line)) s (λ l. same)
 work_keeps (Faults lines) s line same = entries_keep (λ l. Faults l) (with_fault lines (fault_read (cast_of s) line)) s (λ l. same)
 
-told_keeps : (stage : Stage) (s : Sketch) (line : List ℕ) → Keeps s (told stage s line)
-told_keeps stages.Title s line = test_keeps _ s _ _ (ok_keeps s _ refl) (err_keeps s _)
-told_keeps stages.Shards s line = shards_keep (shards_of line) s
-told_keeps stages.Workers s line = test_keeps _ s _ _ (ok_keeps s _ refl) (err_keeps s _)
-told_keeps stages.Commands s line =
+told_keeps : (expected : Expected) (s : Sketch) (line : List ℕ) → Keeps s (told expected s line)
+told_keeps awaited.Title s line = test_keeps _ s _ _ (ok_keeps s _ refl) (err_keeps s _)
+told_keeps awaited.Shards s line = shards_keep (shards_of line) s
+told_keeps awaited.Workers s line = test_keeps _ s _ _ (ok_keeps s _ refl) (err_keeps s _)
+told_keeps awaited.Commands s line =
     test_keeps _ s _ _ (test_keeps _ s _ _ (ok_keeps s _ refl) (err_keeps s _)) (test_keeps _ s _ _ (ok_keeps s _ refl) (command_keeps (spelled_of line) s))
-told_keeps stages.Work s line = test_keeps _ s _ _ (ok_keeps s _ refl) (work_keeps s.work s line refl)
-told_keeps stages.Ended s line = err_keeps s _
+told_keeps awaited.Work s line = test_keeps _ s _ _ (ok_keeps s _ refl) (work_keeps s.work s line refl)
+told_keeps awaited.Ended s line = err_keeps s _
 
 pub line_keeps : (s : Sketch) (line : List ℕ) (u : Sketch) → line_read s line ≡ Ok u → kind_of u.work ≡ kind_of s.work
-line_keeps s line u e = test_keeps _ s _ _ (err_keeps s _) (test_keeps _ s _ _ (ok_keeps s s refl) (told_keeps s.stage s line)) u e
+line_keeps s line u e = test_keeps _ s _ _ (err_keeps s _) (test_keeps _ s _ _ (ok_keeps s s refl) (told_keeps s.expected s line)) u e
 
 pub leads_keep : (lines : List (List ℕ)) (s t : Sketch) → LeadOn s lines t → kind_of t.work ≡ kind_of s.work
 leads_keep [] s t h = ap (λ (x : Sketch). kind_of x.work) h

@@ -19,7 +19,9 @@ use Rattle.kt_scene.specs.declared.scenario.WorkKind.{WorkKind}
 use Rattle.kt_scene.specs.declared.scenario.WorkKind.TheVariants as kinds
 use Rattle.kt_scene.specs.Reading.{Play, play_of}
 use Rattle.kt_scene.specs.Work.{Work, Steps, Faults, kind_of, work_word}
-use Rattle.kt_scene.specs.Text.{command_text, step_text, node_text, kind_word, fault_line_text, script_lines, scene_lines, told_lines, entry_lines, work_lines}
+use Rattle.kt_tuple.specs.Spelling.{node_text}
+use Rattle.kt_script.specs.Spelling.{command_text}
+use Rattle.kt_scene.specs.Text.{step_text, kind_word, fault_line_text, script_lines, scene_lines, told_lines, entry_lines, work_lines}
 use Rattle.kt_scene.specs.Text.{scenario_text}
 use Rattle.kt_scene.specs.Scenario.{IsCommand, IsStep, IsFaultLine, IsWork, IsPlay, IsLine, IsScenario, is_told}
 use Rattle.kt_scene.proofs.Shown.{is_shown, AreShown, decimal_shown, command_shown, step_shown, fault_shown}

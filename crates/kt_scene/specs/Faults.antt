@@ -21,11 +21,13 @@ use Rattle.kt_scene.specs.declared.command.Verb.{Verb}
 use Rattle.kt_scene.specs.declared.command.Verb.TheVariants as verbs
 use Rattle.kt_scene.specs.declared.fault.SceneError.{SceneError}
 use Rattle.kt_scene.specs.declared.fault.SceneError.TheVariants as faults
-use Rattle.kt_scene.specs.Fault.{fault_number}
+use Rattle.kt_scene.specs.FaultNumber.{fault_number}
 use Rattle.kt_scene.specs.Reading.{Play}
 use Rattle.kt_scene.specs.Work.{kind_of, no_work, work_word}
 use Rattle.kt_scene.specs.Report.{text_line}
-use Rattle.kt_scene.specs.Text.{operation_text, step_text, node_text, kind_word, told_lines}
+use Rattle.kt_tuple.specs.Spelling.{node_text}
+use Rattle.kt_script.specs.Spelling.{operation_text}
+use Rattle.kt_scene.specs.Text.{step_text, kind_word, told_lines}
 use Rattle.kt_scene.specs.Scenario.{IsOperation, IsStepNode, IsStep, IsPlay, IsLine, IsScenario, is_told}
 
 -- the word of each operation, and the space behind it

@@ -1,4 +1,4 @@
-pub mod Fault
+pub mod FaultNumber
 pub mod Number
 pub mod Steps
 pub mod Commands

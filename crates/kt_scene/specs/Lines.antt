@@ -11,8 +11,8 @@ use Rattle.kt_core.specs.declared.faults.FaultLine.{FaultLine}
 use Rattle.kt_scene.specs.declared.scenario.WorkKind.{WorkKind}
 use Rattle.kt_scene.specs.declared.fault.SceneError.{SceneError}
 use Rattle.kt_scene.specs.declared.fault.SceneError.TheVariants as faults
-use Rattle.kt_scene.specs.declared.draft.Stage.{Stage}
-use Rattle.kt_scene.specs.declared.draft.Stage.TheVariants as stages
+use Rattle.kt_scene.specs.declared.draft.Expected.{Expected}
+use Rattle.kt_scene.specs.declared.draft.Expected.TheVariants as awaited
 use Rattle.kt_scene.specs.declared.command.Spelled.{Spelled}
 use Rattle.kt_scene.specs.Number.{◌>>=◌, behind, ended, number_at}
 use Rattle.kt_scene.specs.Commands.{spelled_of, fault_behind}
@@ -23,14 +23,14 @@ use Rattle.kt_scene.specs.Work.{Work, Steps, Faults, kind_of, no_work, unspent, 
 -- what was read so far: what comes next, the number of shards, the scripts of the workers before this one, this
 -- one's commands, and the work, which is of the kind that is wanted
 pub record Sketch : Type 0 where
-  pub stage : Stage
+  pub expected : Expected
   pub shards : ℕ
   pub scripts : List (List Command)
   pub commands : List Command
   pub work : Work
 
 abbrev pub nothing_read : WorkKind → Sketch
-nothing_read kind = record { stage = stages.Title; shards = 1; scripts = []; commands = []; work = no_work kind }
+nothing_read kind = record { expected = awaited.Title; shards = 1; scripts = []; commands = []; work = no_work kind }
 
 -- who takes part, of the workers before this one
 abbrev pub cast_of : Sketch → Cast
@@ -59,19 +59,20 @@ abbrev pub shards_of : List ℕ → Result ℕ SceneError
 shards_of line = shards_from (count_of line)
 
 abbrev pub titled : Sketch → List ℕ → Result Sketch SceneError
-titled s line = if is_word line (codes "linda-kt 1") then Ok (record s { stage = stages.Shards }) else Err faults.Header
+titled s line = if is_word line (codes "linda-kt 1") then Ok (record s { expected = awaited.Shards }) else Err
+    faults.Header
 
 abbrev pub with_shards : Sketch → Result ℕ SceneError → Result Sketch SceneError
 with_shards s (Err fault) = Err fault
-with_shards s (Ok n) = Ok (record s { stage = stages.Workers; shards = n })
+with_shards s (Ok n) = Ok (record s { expected = awaited.Workers; shards = n })
 
 abbrev pub with_worker : Sketch → List ℕ → Result Sketch SceneError
 with_worker s line =
-    if is_word line (codes "worker") then Ok (record s { stage = stages.Commands }) else Err faults.Word
+    if is_word line (codes "worker") then Ok (record s { expected = awaited.Commands }) else Err faults.Word
 
 -- this worker's script ends
-abbrev pub closed : Stage → Sketch → Sketch
-closed stage s = record s { stage = stage; scripts = s.scripts ++ s.commands ∷ []; commands = [] }
+abbrev pub closed : Expected → Sketch → Sketch
+closed expected s = record s { expected = expected; scripts = s.scripts ++ s.commands ∷ []; commands = [] }
 
 abbrev pub added : Sketch → Spelled → Option SceneError → Result Sketch SceneError
 added s spelled (Some fault) = Err fault
@@ -85,8 +86,8 @@ with_command s (Ok spelled) = added s spelled (fault_behind s.commands spelled)
 abbrev pub in_script : Sketch → List ℕ → Result Sketch SceneError
 in_script s line =
     if is_word line (codes "worker")
-    then (if nat_lt (length s.scripts + 1) 8 then Ok (closed stages.Commands s) else Err faults.Limit)
-    else if is_word line (work_word (kind_of s.work)) then Ok (closed stages.Work s)
+    then (if nat_lt (length s.scripts + 1) 8 then Ok (closed awaited.Commands s) else Err faults.Limit)
+    else if is_word line (work_word (kind_of s.work)) then Ok (closed awaited.Work s)
     else with_command s (spelled_of line)
 
 abbrev pub with_step : List Step → Option Step → Result (List Step) SceneError
@@ -113,32 +114,32 @@ with_work s (Ok work) = Ok (record s { work = work })
 -- a step or a fault, or the end
 abbrev pub in_work : Sketch → List ℕ → Result Sketch SceneError
 in_work s line =
-    if is_word line (codes "end") then Ok (record s { stage = stages.Ended })
+    if is_word line (codes "end") then Ok (record s { expected = awaited.Ended })
     else with_work s (work_with (cast_of s) s.work line)
 
 -- a line that is not ignored
-abbrev pub told : Stage → Sketch → List ℕ → Result Sketch SceneError
-told stages.Title s line = titled s line
-told stages.Shards s line = with_shards s (shards_of line)
-told stages.Workers s line = with_worker s line
-told stages.Commands s line = in_script s line
-told stages.Work s line = in_work s line
-told stages.Ended s line = Err faults.End
+abbrev pub told : Expected → Sketch → List ℕ → Result Sketch SceneError
+told awaited.Title s line = titled s line
+told awaited.Shards s line = with_shards s (shards_of line)
+told awaited.Workers s line = with_worker s line
+told awaited.Commands s line = in_script s line
+told awaited.Work s line = in_work s line
+told awaited.Ended s line = Err faults.End
 
-abbrev pub is_ended : Stage → Bool
-is_ended stages.Title = false
-is_ended stages.Shards = false
-is_ended stages.Workers = false
-is_ended stages.Commands = false
-is_ended stages.Work = false
-is_ended stages.Ended = true
+abbrev pub is_ended : Expected → Bool
+is_ended awaited.Title = false
+is_ended awaited.Shards = false
+is_ended awaited.Workers = false
+is_ended awaited.Commands = false
+is_ended awaited.Work = false
+is_ended awaited.Ended = true
 
 -- what is read with one line more, or the lowest fault of the line
 abbrev pub line_read : Sketch → List ℕ → Result Sketch SceneError
 line_read s line =
-    if is_ended s.stage then Err faults.End
+    if is_ended s.expected then Err faults.End
     else if is_ignored line then Ok s
-    else told s.stage s line
+    else told s.expected s line
 
 -- the fault is the one that is due; want of memory is answered where none is
 abbrev pub IsFaultOf : {A : Type 0} → SceneError → Result A SceneError → Type 0
@@ -146,15 +147,15 @@ IsFaultOf faults.OutOfMemory due = IsOk due
 IsFaultOf fault due = due ≡ Err fault
 
 -- where a reading can stand: how many scripts there are
-abbrev pub HasScripts : Stage → ℕ → Type 0
-HasScripts stages.Title n = n ≡ 0
-HasScripts stages.Shards n = n ≡ 0
-HasScripts stages.Workers n = n ≡ 0
-HasScripts stages.Commands n = n < 8
-HasScripts stages.Work n = (1 ≤ n) × (n ≤ 8)
-HasScripts stages.Ended n = (1 ≤ n) × (n ≤ 8)
+abbrev pub HasScripts : Expected → ℕ → Type 0
+HasScripts awaited.Title n = n ≡ 0
+HasScripts awaited.Shards n = n ≡ 0
+HasScripts awaited.Workers n = n ≡ 0
+HasScripts awaited.Commands n = n < 8
+HasScripts awaited.Work n = (1 ≤ n) × (n ≤ 8)
+HasScripts awaited.Ended n = (1 ≤ n) × (n ≤ 8)
 
 pub record IsSketch (s : Sketch) : Type 0 where
   pub some_shards : 1 ≤ s.shards
   pub few_shards : s.shards ≤ 8
-  pub workers : HasScripts s.stage (length s.scripts)
+  pub workers : HasScripts s.expected (length s.scripts)

@@ -32,7 +32,7 @@ is_empty (c ∷ rest) = false
 
 -- these lines, of which the first has this number, and then what stands behind them
 unfoldable pub read_from : Sketch → ℕ → List (List ℕ) → List ℕ → Result Sketch Fault
-read_from s n [] rest = if is_ended s.stage && is_empty rest then Ok s else Err (n, faults.End)
+read_from s n [] rest = if is_ended s.expected && is_empty rest then Ok s else Err (n, faults.End)
 read_from s n (line ∷ lines) rest = went_on n (line_read s line) (λ t. read_from t (n + 1) lines rest)
 
 -- what is read of the text where work of this kind is wanted, or its first line that has a fault, with the lowest one

@@ -7,7 +7,7 @@ use Rattle.std.specs.Cmp.Lexicographic.{slice_cmp}
 use Rattle.kt_tuple.specs.declared.tuple.Tuple.{Tuple}
 use Rattle.kt_tuple.specs.declared.service.Service.{Service}
 use Rattle.kt_tuple.specs.Space.{IsSpaceRun}
-use Rattle.kt_tuple.specs.Spelling.{tuple_text, op_text, answer_text}
+use Rattle.kt_tuple.specs.Spelling.{tuple_text, service_text}
 use Rattle.kt_history.specs.declared.note.Note.{Note}
 use Rattle.kt_history.specs.Survival.{services, lost_count}
 use Rattle.std.specs.Global.{Vec}
@@ -23,14 +23,12 @@ line_end = 10 ∷ []
 abbrev pub count_line : List ℕ → ℕ → List ℕ
 count_line word count = word ++ decimal count ++ line_end
 
--- the worker, the number of its request, the operation and the answer
-abbrev pub service_line : Service → List ℕ
-service_line s =
-    codes "w" ++ decimal s.worker ++ codes "." ++ decimal s.number ++ codes " " ++ op_text s.op ++ codes " "
-    ++ answer_text s.answer ++ line_end
-
 abbrev pub text_line : List ℕ → List ℕ
 text_line text = text ++ line_end
+
+-- a service, on a line
+abbrev pub service_line : Service → List ℕ
+service_line s = text_line (service_text s)
 
 -- how many texts, and each of them on a line, in rising order of the bytes, equal ones repeated
 pub record IsTextList (word : List ℕ) (given : List (List ℕ)) (text : List ℕ) : Type 0 where

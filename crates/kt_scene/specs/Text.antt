@@ -1,18 +1,9 @@
--- The one text of a scenario: what each name, command and step is spelled as, and the lines in their order.
-use Rattle.std.specs.Prelude.{ℕ, List, [], ◌∷◌, ◌++◌, map, codes, decimal, Some, None}
-use Rattle.std.specs.Fmt.{signed_decimal}
+-- The one text of a scenario: what each step and fault line is spelled as, and the lines in their order.
+use Rattle.std.specs.Prelude.{ℕ, List, [], ◌∷◌, ◌++◌, map, codes, decimal}
 use Rattle.std.specs.List.{flat_map}
-use Rattle.kt_tuple.specs.declared.node.NodeId.{NodeId}
-use Rattle.kt_tuple.specs.declared.node.NodeId.TheVariants as nodes
-use Rattle.kt_tuple.specs.Spelling.{value_text, kind_text, in_parentheses}
-use Rattle.kt_script.specs.declared.command.Actual.{Actual}
-use Rattle.kt_script.specs.declared.command.Actual.TheVariants.{Literal, Variable}
-use Rattle.kt_script.specs.declared.command.Slot.{Slot}
-use Rattle.kt_script.specs.declared.command.Slot.TheVariants as slots
-use Rattle.kt_script.specs.declared.command.Operation.{Operation}
-use Rattle.kt_script.specs.declared.command.Operation.TheVariants.{Out, In, Rd, Inp, Rdp}
+use Rattle.kt_tuple.specs.Spelling.{node_text}
+use Rattle.kt_script.specs.Spelling.{command_text}
 use Rattle.kt_script.specs.declared.command.Command.{Command}
-use Rattle.kt_script.specs.declared.command.Command.TheVariants.{Ask, Set, Unless}
 use Rattle.kt_world.specs.declared.step.Step.{Step}
 use Rattle.kt_world.specs.declared.step.Step.TheVariants.{Issue, Repeat, Deliver, Take, Serve, Check, Decide, Abandon}
 use Rattle.kt_world.specs.declared.step.Step.TheVariants.{Learn, Fail, Restart}
@@ -24,38 +15,6 @@ use Rattle.kt_core.specs.declared.faults.FaultLine.{FaultLine}
 use Rattle.kt_scene.specs.Reading.{Play}
 use Rattle.kt_scene.specs.Work.{Work, Steps, Faults, work_word, kind_of}
 use Rattle.kt_scene.specs.Report.{text_line}
-
--- a value, or a variable's name
-abbrev pub actual_text : Actual → List ℕ
-actual_text (Literal value) = value_text value
-actual_text (Variable name) = name
-
--- an actual; or `?` and a kind, and a space and a name where there is one
-abbrev pub slot_text : Slot → List ℕ
-slot_text (slots.Actual actual) = actual_text actual
-slot_text (slots.Formal kind None) = 63 ∷ kind_text kind
-slot_text (slots.Formal kind (Some name)) = 63 ∷ kind_text kind ++ 32 ∷ name
-
-abbrev pub pattern_text : List Slot → List ℕ
-pattern_text pattern = in_parentheses (map slot_text pattern)
-
-abbrev pub operation_text : Operation → List ℕ
-operation_text (Out actuals) = codes "out " ++ in_parentheses (map actual_text actuals)
-operation_text (In pattern) = codes "in " ++ pattern_text pattern
-operation_text (Rd pattern) = codes "rd " ++ pattern_text pattern
-operation_text (Inp pattern) = codes "inp " ++ pattern_text pattern
-operation_text (Rdp pattern) = codes "rdp " ++ pattern_text pattern
-
-abbrev pub command_text : Command → List ℕ
-command_text (Ask operation) = operation_text operation
-command_text (Set variable source plus) =
-    codes "set " ++ variable ++ codes " = " ++ source ++ codes " + " ++ signed_decimal plus
-command_text (Unless count) = codes "unless " ++ decimal count
-
--- `w` or `s`, and a number
-abbrev pub node_text : NodeId → List ℕ
-node_text (nodes.Worker n) = 119 ∷ decimal n
-node_text (nodes.Shard n) = 115 ∷ decimal n
 
 abbrev pub step_text : Step → List ℕ
 step_text (Issue node) = codes "issue " ++ node_text node

@@ -25,7 +25,7 @@ use std::mem;
 
 /// What the next line is to be.
 #[derive(Clone, Copy, Debug, PartialEq, Eq)]
-pub(crate) enum Stage {
+pub(crate) enum Expected {
     Title,
     Shards,
     /// The first worker.
@@ -41,7 +41,7 @@ pub(crate) enum Stage {
 #[derive(Debug, Drop)]
 pub(crate) struct Draft {
     alloc: Global,
-    stage: Stage,
+    expected: Expected,
     shards: u8,
     /// The scripts of the workers before this one.
     scripts: Vec<Script>,
@@ -58,7 +58,7 @@ impl Model for Draft {
     ghost Value = { Sketch };
 
     ghost view = { λ d. record {
-      stage = d.stage;
+      expected = d.expected;
       shards = d.shards;
       scripts = d.scripts.items;
       commands = d.script;
@@ -66,7 +66,7 @@ impl Model for Draft {
     } };
 
     ghost invariant = { λ d. IsSketch (record {
-      stage = d.stage;
+      expected = d.expected;
       shards = d.shards;
       scripts = d.scripts.items;
       commands = d.script;
@@ -106,7 +106,7 @@ impl Draft {
     {
         Draft {
             alloc,
-            stage: Stage::Title,
+            expected: Expected::Title,
             shards: 1,
             scripts: Vec::new(alloc),
             script: Script::new(alloc),
@@ -116,14 +116,14 @@ impl Draft {
 
     /// Whether the last line was read.
     fn is_ended(&self) -> bool
-        ensures { result ≡ is_ended self.now.stage }
+        ensures { result ≡ is_ended self.now.expected }
     {
-        self.stage == Stage::Ended
+        self.expected == Expected::Ended
     }
 
     /// The scenario, once the last line was read.
     pub(crate) fn scenario(self) -> Scenario
-        requires { self.stage ≡ Stage.Ended }
+        requires { self.expected ≡ Expected.Ended }
         ensures { play_in result ≡ play_with self }
     {
         let Draft {
@@ -138,7 +138,7 @@ impl Draft {
 
     /// Whether the last line was read, and nothing stands behind it.
     pub(crate) fn ends_before(&self, rest: &[u8]) -> bool
-        ensures { result ≡ (is_ended self.now.stage && is_empty rest.now) }
+        ensures { result ≡ (is_ended self.now.expected && is_empty rest.now) }
     {
         self.is_ended() && rest.is_empty()
     }
@@ -154,53 +154,53 @@ impl Draft {
         if is_ignored(line) {
             return Ok(());
         }
-        match self.stage {
-            Stage::Title => self.read_title(line),
-            Stage::Shards => self.read_shards(line),
-            Stage::Workers => self.read_worker(line),
-            Stage::Commands => self.read_in_script(line),
-            Stage::Work => self.read_in_work(line),
-            Stage::Ended => Err(SceneError::End),
+        match self.expected {
+            Expected::Title => self.read_title(line),
+            Expected::Shards => self.read_shards(line),
+            Expected::Workers => self.read_worker(line),
+            Expected::Commands => self.read_in_script(line),
+            Expected::Work => self.read_in_work(line),
+            Expected::Ended => Err(SceneError::End),
         }
     }
 
     fn read_title(&mut self, line: &[u8]) -> Result<(), SceneError>
-        requires { self.old.stage ≡ Stage.Title }
+        requires { self.old.expected ≡ Expected.Title }
         ensures read { OnOk result (titled self.old line.now ≡ Ok self.new) }
         ensures fault { IfErr result (λ fault. IsFaultOf fault (titled self.old line.now)) }
     {
         if line != b"linda-kt 1".as_slice() {
             return Err(SceneError::Header);
         }
-        self.stage = Stage::Shards;
+        self.expected = Expected::Shards;
         Ok(())
     }
 
     fn read_shards(&mut self, line: &[u8]) -> Result<(), SceneError>
-        requires { self.old.stage ≡ Stage.Shards }
+        requires { self.old.expected ≡ Expected.Shards }
         ensures read { OnOk result (with_shards self.old (shards_of line.now) ≡ Ok self.new) }
         ensures fault { IfErr result (λ fault. IsFaultOf fault (with_shards self.old (shards_of line.now))) }
     {
         self.shards = shards_of(line)?;
-        self.stage = Stage::Workers;
+        self.expected = Expected::Workers;
         Ok(())
     }
 
     fn read_worker(&mut self, line: &[u8]) -> Result<(), SceneError>
-        requires { self.old.stage ≡ Stage.Workers }
+        requires { self.old.expected ≡ Expected.Workers }
         ensures read { OnOk result (with_worker self.old line.now ≡ Ok self.new) }
         ensures fault { IfErr result (λ fault. IsFaultOf fault (with_worker self.old line.now)) }
     {
         if line != b"worker".as_slice() {
             return Err(SceneError::Word);
         }
-        self.stage = Stage::Commands;
+        self.expected = Expected::Commands;
         Ok(())
     }
 
     /// Reads another worker, the line before the work or a command.
     fn read_in_script(&mut self, line: &[u8]) -> Result<(), SceneError>
-        requires { self.old.stage ≡ Stage.Commands }
+        requires { self.old.expected ≡ Expected.Commands }
         ensures read { OnOk result (in_script self.old line.now ≡ Ok self.new) }
         ensures fault { IfErr result (λ fault. IsFaultOf fault (in_script self.old line.now)) }
     {
@@ -209,18 +209,18 @@ impl Draft {
             if workers >= MAX_WORKERS {
                 return Err(SceneError::Limit);
             }
-            self.close_script(Stage::Commands)
+            self.close_script(Expected::Commands)
         } else if line == self.work.kind().word() {
-            self.close_script(Stage::Work)
+            self.close_script(Expected::Work)
         } else {
             self.add_command(spelled_of(line)?)
         }
     }
 
     /// Ends this worker's script.
-    fn close_script(&mut self, stage: Stage) -> Result<(), SceneError>
-        requires { HasScripts stage (length self.old.scripts + 1) }
-        ensures closed { OnOk result (self.new ≡ closed stage self.old) }
+    fn close_script(&mut self, expected: Expected) -> Result<(), SceneError>
+        requires { HasScripts expected (length self.old.scripts + 1) }
+        ensures closed { OnOk result (self.new ≡ closed expected self.old) }
         ensures memory { IfErr result (λ fault. fault ≡ SceneError.OutOfMemory) }
     {
         self.scripts
@@ -228,12 +228,12 @@ impl Draft {
             .map_err(|_| SceneError::OutOfMemory)?;
         let script = mem::replace(&mut self.script, Script::new(self.alloc));
         self.scripts.push_reserved(script);
-        self.stage = stage;
+        self.expected = expected;
         Ok(())
     }
 
     fn add_command(&mut self, spelled: Spelled) -> Result<(), SceneError>
-        requires { self.old.stage ≡ Stage.Commands }
+        requires { self.old.expected ≡ Expected.Commands }
         ensures read { OnOk result (with_command self.old (Ok spelled) ≡ Ok self.new) }
         ensures fault { IfErr result (λ fault. IsFaultOf fault (with_command self.old (Ok spelled))) }
     {
@@ -248,12 +248,12 @@ impl Draft {
 
     /// Reads a step or a fault, or the end.
     fn read_in_work(&mut self, line: &[u8]) -> Result<(), SceneError>
-        requires { self.old.stage ≡ Stage.Work }
+        requires { self.old.expected ≡ Expected.Work }
         ensures read { OnOk result (in_work self.old line.now ≡ Ok self.new) }
         ensures fault { IfErr result (λ fault. IsFaultOf fault (in_work self.old line.now)) }
     {
         if line == b"end".as_slice() {
-            self.stage = Stage::Ended;
+            self.expected = Expected::Ended;
             return Ok(());
         }
         add_to_work(&mut self.work, self.shards, &self.scripts, line)

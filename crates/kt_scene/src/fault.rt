@@ -39,7 +39,7 @@ pub enum SceneError {
 }
 
 impl SceneError {
-    ghost use Rattle.kt_scene.specs.Fault.{fault_number};
+    ghost use Rattle.kt_scene.specs.FaultNumber.{fault_number};
 
     /// The fault's number.
     pub fn number(self) -> u8

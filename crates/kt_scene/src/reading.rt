@@ -10,7 +10,7 @@ ghost use Rattle.kt_scene.specs.Run.{play_in};
 ghost use Rattle.kt_scene.specs.Scenario.{IsScenario};
 ghost use Rattle.kt_scene.specs.Work.{kind_of, work_in};
 
-use crate::draft::{Draft, Stage};
+use crate::draft::{Draft, Expected};
 use crate::fault::{SceneError, SceneFault};
 use crate::scenario::{Scenario, WorkKind};
 use std::alloc::Global;
@@ -56,7 +56,7 @@ pub fn read_scene(alloc: Global, text: &[u8], kind: WorkKind) -> Result<Scenario
 fn read_lines(alloc: Global, text: &[u8], kind: WorkKind) -> Result<Draft, SceneFault>
     ensures read { IfOk result (λ draft.
         read_from (nothing_read kind) 1 (lines_of text.now).0 (lines_of text.now).1 ≡ Ok draft) }
-    ensures ended { IfOk result (λ draft. draft.stage ≡ Stage.Ended) }
+    ensures ended { IfOk result (λ draft. draft.expected ≡ Expected.Ended) }
     ensures fault { IfErr result (λ fault. IsFirstFault fault.line fault.cause
         (read_from (nothing_read kind) 1 (lines_of text.now).0 (lines_of text.now).1)) }
     ensures place { IfErr result (λ fault. IsPlaceOf text.now fault.line fault.cause) }
@@ -84,7 +84,7 @@ fn read_lines(alloc: Global, text: &[u8], kind: WorkKind) -> Result<Draft, Scene
 /// What is read of the text, or the first line that has a fault.
 fn draft_of(alloc: Global, text: &[u8], kind: WorkKind) -> Result<Draft, SceneFault>
     ensures read { IfOk result (λ draft. sketch_of kind text.now ≡ Ok draft) }
-    ensures ended { IfOk result (λ draft. draft.stage ≡ Stage.Ended) }
+    ensures ended { IfOk result (λ draft. draft.expected ≡ Expected.Ended) }
     ensures fault { IfErr result (λ fault. IsFirstFault fault.line fault.cause (sketch_of kind text.now)) }
     ensures explained { IfErr result (λ fault. Explains kind text.now fault.line fault.cause) }
 {

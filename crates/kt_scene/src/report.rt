@@ -11,11 +11,11 @@ ghost use Rattle.kt_scene.specs.Stream.{UnlessWrite, IsReportFault};
 use crate::fault::ReplayFault;
 use crate::sink::Sink;
 use crate::stream::put;
-use itoa::Buffer;
 use kt_core::World;
 use kt_history::space_of;
 use kt_space::Bag;
 use kt_store::CkptStore;
+use kt_tuple::writing::push_number;
 use kt_tuple::{Service, Tuple};
 use std::alloc::{AllocError, Global};
 use std::io::Write;
@@ -87,36 +87,19 @@ fn report_of<S: CkptStore>(
 fn push_count(out: &mut Vec<u8>, word: &[u8], count: usize) -> Result<(), AllocError>
     ensures { OnOk result (out.new.items ≡ out.old.items ++ count_line word.now count) }
 {
-    let mut buffer = Buffer::new();
     out.extend_from_slice(word)?;
-    out.extend_from_slice(buffer.format(count).as_bytes())?;
+    push_number(out, count as u64)?;
     out.push(b'\n')?;
     Ok(())
 }
 
-/// A line as `w1.2 in ("a", ?int) got ("a", 1)`.
-fn push_service(out: &mut Vec<u8>, service: &Service) -> Result<(), AllocError>
-    ensures { OnOk result (out.new.items ≡ out.old.items ++ service_line service.now) }
-{
-    let mut worker = Buffer::new();
-    let mut number = Buffer::new();
-    out.push(b'w')?;
-    out.extend_from_slice(worker.format(service.worker).as_bytes())?;
-    out.push(b'.')?;
-    out.extend_from_slice(number.format(service.number).as_bytes())?;
-    out.push(b' ')?;
-    service.op.write_to(out)?;
-    out.push(b' ')?;
-    service.answer.write_to(out)?;
-    out.push(b'\n')?;
-    Ok(())
-}
-
+/// A line for each service, as `w1.2 in ("a", ?int) got ("a", 1)`.
 fn push_services(out: &mut Vec<u8>, services: &[Service]) -> Result<(), AllocError>
     ensures { OnOk result (out.new.items ≡ out.old.items ++ flat_map service_line services.now) }
 {
     for service in services {
-        push_service(out, service)?;
+        service.write_to(out)?;
+        out.push(b'\n')?;
     }
     Ok(())
 }

@@ -1,21 +1,19 @@
 //! The text of a scenario.
 
-ghost use Rattle.std.specs.Prelude.{◌≡◌, ◌++◌, ◌∷◌, map, OnOk, IfOk, codes, decimal};
-ghost use Rattle.std.specs.Fmt.{signed_decimal};
+ghost use Rattle.std.specs.Prelude.{◌≡◌, ◌++◌, map, OnOk, IfOk};
 ghost use Rattle.std.specs.List.{flat_map};
-ghost use Rattle.kt_tuple.specs.Spelling.{kind_text, in_parentheses};
+ghost use Rattle.kt_tuple.specs.Spelling.{node_text};
 ghost use Rattle.kt_scene.specs.Report.{text_line};
 ghost use Rattle.kt_scene.specs.Journal.{play_of_steps};
 ghost use Rattle.kt_scene.specs.Work.{Steps, work_in};
-ghost use Rattle.kt_scene.specs.Text.{actual_text, slot_text, pattern_text, operation_text, command_text, node_text};
 ghost use Rattle.kt_scene.specs.Text.{step_text, script_lines, scene_lines, scenario_text, work_lines, kind_word};
 ghost use Rattle.kt_scene.specs.Text.{fault_text, fault_line_text};
 
 use crate::scenario::Work;
-use itoa::Buffer;
 use kt_core::{Fault, FaultKind, FaultLine, Scene, Step};
-use kt_script::{Actual, Actuals, Command, Operation, Pattern, Script, Slot};
-use kt_tuple::{Kind, NodeId};
+use kt_script::Script;
+use kt_tuple::NodeId;
+use kt_tuple::writing::push_number;
 use std::alloc::{AllocError, Global};
 
 /// The text of the scenario: the one spelling of each line, and no ignored lines.
@@ -55,141 +53,16 @@ fn push_scene(out: &mut Vec<u8>, scene: &Scene) -> Result<(), AllocError>
     Ok(())
 }
 
-fn push_number(out: &mut Vec<u8>, number: u64) -> Result<(), AllocError>
-    ensures { OnOk result (out.new.items ≡ out.old.items ++ decimal number) }
-{
-    let mut buffer = Buffer::new();
-    out.extend_from_slice(buffer.format(number).as_bytes())
-}
-
-fn push_int(out: &mut Vec<u8>, number: i64) -> Result<(), AllocError>
-    ensures { OnOk result (out.new.items ≡ out.old.items ++ signed_decimal number) }
-{
-    let mut buffer = Buffer::new();
-    out.extend_from_slice(buffer.format(number).as_bytes())
-}
-
 /// The worker's line, and a line for each command.
 fn push_script(out: &mut Vec<u8>, script: &Script) -> Result<(), AllocError>
     ensures { OnOk result (out.new.items ≡ out.old.items ++ flat_map text_line (script_lines script.now)) }
 {
     out.extend_from_slice(b"worker\n")?;
     for command in script.commands() {
-        push_command(out, command)?;
+        command.write_to(out)?;
         out.push(b'\n')?;
     }
     Ok(())
-}
-
-fn push_command(out: &mut Vec<u8>, command: &Command) -> Result<(), AllocError>
-    ensures { OnOk result (out.new.items ≡ out.old.items ++ command_text command.now) }
-{
-    match command {
-        Command::Ask(operation) => push_operation(out, operation),
-        Command::Set {
-            variable,
-            source,
-            plus,
-        } => {
-            out.extend_from_slice(b"set ")?;
-            out.extend_from_slice(variable.as_bytes())?;
-            out.extend_from_slice(b" = ")?;
-            out.extend_from_slice(source.as_bytes())?;
-            out.extend_from_slice(b" + ")?;
-            push_int(out, *plus)
-        }
-        Command::Unless(count) => {
-            out.extend_from_slice(b"unless ")?;
-            push_number(out, u64::from(*count))
-        }
-    }
-}
-
-fn push_operation(out: &mut Vec<u8>, operation: &Operation) -> Result<(), AllocError>
-    ensures { OnOk result (out.new.items ≡ out.old.items ++ operation_text operation.now) }
-{
-    match operation {
-        Operation::Out(actuals) => {
-            out.extend_from_slice(b"out ")?;
-            push_actuals(out, actuals)
-        }
-        Operation::In(pattern) => {
-            out.extend_from_slice(b"in ")?;
-            push_pattern(out, pattern)
-        }
-        Operation::Rd(pattern) => {
-            out.extend_from_slice(b"rd ")?;
-            push_pattern(out, pattern)
-        }
-        Operation::Inp(pattern) => {
-            out.extend_from_slice(b"inp ")?;
-            push_pattern(out, pattern)
-        }
-        Operation::Rdp(pattern) => {
-            out.extend_from_slice(b"rdp ")?;
-            push_pattern(out, pattern)
-        }
-    }
-}
-
-fn push_actuals(out: &mut Vec<u8>, actuals: &Actuals) -> Result<(), AllocError>
-    ensures { OnOk result (out.new.items ≡ out.old.items ++ in_parentheses (map actual_text actuals.now)) }
-{
-    out.push(b'(')?;
-    let mut separator: &[u8] = b"";
-    for actual in actuals.as_slice() {
-        out.extend_from_slice(separator)?;
-        push_actual(out, actual)?;
-        separator = b", ";
-    }
-    out.push(b')')?;
-    Ok(())
-}
-
-fn push_pattern(out: &mut Vec<u8>, pattern: &Pattern) -> Result<(), AllocError>
-    ensures { OnOk result (out.new.items ≡ out.old.items ++ pattern_text pattern.now) }
-{
-    out.push(b'(')?;
-    let mut separator: &[u8] = b"";
-    for slot in pattern.as_slice() {
-        out.extend_from_slice(separator)?;
-        push_slot(out, slot)?;
-        separator = b", ";
-    }
-    out.push(b')')?;
-    Ok(())
-}
-
-fn push_actual(out: &mut Vec<u8>, actual: &Actual) -> Result<(), AllocError>
-    ensures { OnOk result (out.new.items ≡ out.old.items ++ actual_text actual.now) }
-{
-    match actual {
-        Actual::Literal(value) => value.write_to(out),
-        Actual::Variable(name) => out.extend_from_slice(name.as_bytes()),
-    }
-}
-
-fn push_slot(out: &mut Vec<u8>, slot: &Slot) -> Result<(), AllocError>
-    ensures { OnOk result (out.new.items ≡ out.old.items ++ slot_text slot.now) }
-{
-    match slot {
-        Slot::Actual(actual) => push_actual(out, actual),
-        Slot::Formal(kind, None) => push_kind(out, *kind),
-        Slot::Formal(kind, Some(name)) => {
-            push_kind(out, *kind)?;
-            out.push(b' ')?;
-            out.extend_from_slice(name.as_bytes())
-        }
-    }
-}
-
-fn push_kind(out: &mut Vec<u8>, kind: Kind) -> Result<(), AllocError>
-    ensures { OnOk result (out.new.items ≡ out.old.items ++ 63 ∷ kind_text kind) }
-{
-    match kind {
-        Kind::Int => out.extend_from_slice(b"?int"),
-        Kind::Str => out.extend_from_slice(b"?str"),
-    }
 }
 
 fn push_work(out: &mut Vec<u8>, work: &Work) -> Result<(), AllocError>
@@ -285,20 +158,5 @@ fn push_at(out: &mut Vec<u8>, word: &[u8], node: NodeId) -> Result<(), AllocErro
     ensures { OnOk result (out.new.items ≡ out.old.items ++ word.now ++ node_text node) }
 {
     out.extend_from_slice(word)?;
-    push_node(out, node)
-}
-
-fn push_node(out: &mut Vec<u8>, node: NodeId) -> Result<(), AllocError>
-    ensures { OnOk result (out.new.items ≡ out.old.items ++ node_text node) }
-{
-    match node {
-        NodeId::Worker(number) => {
-            out.push(b'w')?;
-            push_number(out, u64::from(number))
-        }
-        NodeId::Shard(number) => {
-            out.push(b's')?;
-            push_number(out, u64::from(number))
-        }
-    }
+    node.write_to(out)
 }

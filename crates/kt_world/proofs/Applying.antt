@@ -51,7 +51,7 @@ ends_down-later long permanent None before after stays ends = ends
 ends_down-later long permanent (Some t) before after stays ends = λ fine. ends (λ e. fine (stays e))
 
 ends-later : (long permanent : ℕ) (tentative : Option Tentative) (before after : Option Verdict) (node : Option Node)
-    → (before ≡ Some verdicts.No → after ≡ Some verdicts.No) → EndsAs long permanent tentative before node → Ends long permanent tentative after node
+    → (before ≡ Some verdicts.No → after ≡ Some verdicts.No) → EndsAs long permanent tentative before node → EndsAs long permanent tentative after node
 ends-later long permanent tentative before after None stays ends = tt
 ends-later long permanent tentative before after (Some Down) stays ends = ends_down-later long permanent tentative before after stays ends
 ends-later long permanent tentative before after (Some (Alive n)) stays ends = ends

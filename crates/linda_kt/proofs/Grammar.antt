@@ -9,10 +9,11 @@ use Rattle.clap.specs.Walk.{Held, Names, finished, nothing_held, settled, walk, 
 use Rattle.clap.specs.Simple.{entered, names_of, rows_at}
 use Rattle.clap.specs.Faults.{check_fault, defaults_fault, entered_fault, level_fault, settle_fault, walk_fault}
 use Rattle.clap.specs.declared.parser.matches.ArgMatches.{ArgMatches}
+use Rattle.clap.specs.declared.parser.matches.Found.{Found}
 use Rattle.clap.specs.declared.parser.matches.ArgMatches.TheViews.{out-ArgMatches}
 use Rattle.clap.proofs.WalkLemmas.{first_value-rows}
 use Rattle.linda_kt.specs.declared.words.Command.{Command}
-use Rattle.linda_kt.specs.Words.{asked_by, command_line_app, command_of, has_flag, request_of, words_fault}
+use Rattle.linda_kt.specs.Words.{asked_by, command_line_app, command_of, has_flag, is_true, request_of, words_fault}
 
 -- the text is there, and is one of these two
 abbrev pub IsOneOf : Text → Text → Option Text → Type 0
@@ -83,6 +84,11 @@ met_command a words m same has none =
 -- a parse of words without a fault is one of the program's own command line
 pub has_no_fault : (a : App) (words : List Text) → a ≡ command_line_app → fault_of a words ≡ [] → words_fault words ≡ []
 has_no_fault a words same none = sym (ap (λ x. fault_of x words) same) ∙ none
+
+-- whether the flag stands among a command's words, by the text that is lent for it
+pub flag_of : (f : Found) (text : Option (Bor Text)) → option_map (λ (s : Bor Text). s.now) text ≡ first_value f (codes "journal")
+    → is_true (option_map (λ (s : Bor Text). s.now) text) ≡ has_flag (rows_of f)
+flag_of f text read = ap is_true (read ∙ first_value-rows f (codes "journal"))
 
 -- a subcommand as `clap` lends it: its name, and the matches of its own words
 abbrev pub Lent : Type 0

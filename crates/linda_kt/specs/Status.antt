@@ -56,7 +56,8 @@ abbrev pub answer_status : {X : Type 0} → Result X ReplayFault → ℕ
 answer_status (Ok done) = 0
 answer_status (Err fault) = status_of fault
 
--- the exit status that tells of a run's fault: 5 too where the seats do not fit the journal, or a node has a step left
+-- the exit status that tells of a run's fault: 5 too where the seats do not fit the journal, or a node has a step
+-- left
 abbrev pub run_status : RunFault → ℕ
 run_status (runs.Open cause) = open_status cause
 run_status (runs.Step at cause) = step_status cause
@@ -93,8 +94,8 @@ pub data EndsOver {S : Type 0} (given : Given S) (before after : Reader) (old ne
   refused : (fault : ReplayFault) → IsReplayFault given before after fault
       → LeavesWriter given before after old new fault → n ≡ status_of fault → EndsOver given before after old new n
 
--- what a run leaves of the writer where it ends with this fault: where the writer failed a front of what was to be there,
--- and else all as it was
+-- what a run leaves of the writer where it ends with this fault: where the writer failed a front of what was to be
+-- there, and else all as it was
 abbrev pub LeavesRunWriter : {S : Type 0} → Given S → Output → (before after : Reader) (old new : Writer) → RunTextFault
     → Type 0
 LeavesRunWriter given output before after old new (texts.Text Write) =
@@ -115,8 +116,8 @@ abbrev pub EndsCommand : {S : Type 0} → Given S → Command → (before after 
 EndsCommand given Replay before after old new n = EndsOver given before after old new n
 EndsCommand given (Run output) before after old new n = EndsRun given output before after old new n
 
--- how a command over the store in a file ends: as one over the store that was opened there, of whose device no fault was
--- counted yet; or with 5, nothing read and nothing written, where none was opened. `:memory:` names no file.
+-- how a command over the store in a file ends: as one over the store that was opened there, of whose device no fault
+-- was counted yet; or with 5, nothing read and nothing written, where none was opened. `:memory:` names no file.
 pub data EndsInFile {S : Type 0} (files : Ghosts S) (command : Command) (path : Text) (before after : Reader)
     (old new : Writer) (n : ℕ) : Type 0 where
   opened : path ≢ codes ":memory:" → (store : S) → files.fault_count store ≡ 0

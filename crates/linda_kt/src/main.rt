@@ -1,5 +1,5 @@
-//! A Linda tuple space that survives failures: `linda_kt replay` reads a scenario on standard input, makes its steps and
-//! writes the report to standard output; `linda_kt run` runs it, by a thread for each node.
+//! A Linda tuple space that survives failures: `linda_kt replay` reads a scenario on standard input, makes its steps
+//! and writes the report to standard output; `linda_kt run` runs it, by a thread for each node.
 #![tactic(auto)]
 
 mod program;

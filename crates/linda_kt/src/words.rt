@@ -3,8 +3,8 @@ ghost use Rattle.std.specs.Prelude.{◌≡◌, ◌⊎◌, false, IfOk, Some};
 ghost use Rattle.clap.specs.Words.{app_of, FailsBy, found_of, kind_of, rows_of, rule_of};
 ghost use Rattle.clap.specs.declared.builder.command.Command.TheViews.{out-Command as fields_of};
 ghost use Rattle.clap.specs.Simple.{shape_of};
-ghost use Rattle.linda_kt.specs.Words.{asked, asked_by, command_line_app, command_of, has_flag, journal_rule, program_app};
-ghost use Rattle.linda_kt.specs.Words.{replay_shape, run_shape, store_rule, texts, words_fault};
+ghost use Rattle.linda_kt.specs.Words.{asked, asked_by, command_line_app, command_of, has_flag, journal_rule};
+ghost use Rattle.linda_kt.specs.Words.{program_app, replay_shape, run_shape, store_rule, texts, words_fault};
 
 use clap::error::ErrorKind;
 use clap::{Arg, ArgAction, ArgMatches, Error};

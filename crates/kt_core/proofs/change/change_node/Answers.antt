@@ -8,4 +8,5 @@ use Rattle.kt_core.proofs.change.change_node.Goals as goal
 
 pub returns : goal.returns
 returns c =
-    map-set_changed row_view None (λ (p : Option Node). option_map (changed c.args.change) p) c.args.nodes.now.items c.args.row c.index_mut.result.now c.change_row.new.row c.requires.row c.index_mut.ensures.value c.change_row.ensures
+    map-set_changed row_view None (λ (p : Option Node). option_map (changed c.args.change) p)
+    c.args.nodes.now.items c.args.row c.index_mut.result.now c.change_row.new.row c.requires.row c.index_mut.ensures.value c.change_row.ensures

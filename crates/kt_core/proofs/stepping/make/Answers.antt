@@ -20,16 +20,19 @@ carry_out-requires-clause-ready g c = let P : State → Type 0 = IsReady in subs
 
 pub carry_out-requires-clause-can : goal.carry_out-requires-clause-can
 carry_out-requires-clause-can g c =
-    let P : State → Type 0 = λ s. CanApply s (owner c.args.step) c.in_ok-plan.plan in subst P (sym (c.in_ok-plan.ensures.same empty_content)) c.in_ok-plan.ensures.can
+    let P : State → Type 0 = λ s. CanApply s (owner c.args.step) c.in_ok-plan.plan in
+    subst P (sym (c.in_ok-plan.ensures.same empty_content)) c.in_ok-plan.ensures.can
 
 pub write-requires-clause-allowed : goal.write-requires-clause-allowed
 write-requires-clause-allowed g c =
-    λ h. allowed (state_of c.args.machine.now (g.S.CkptStore.content c.args.store.now)) c.args.step c.in_ok-plan.plan (g.S.CkptStore.content c.prepare.new.store) c.owner.result
+    λ h. allowed (state_of c.args.machine.now (g.S.CkptStore.content c.args.store.now)) c.args.step c.in_ok-plan.plan
+    (g.S.CkptStore.content c.prepare.new.store) c.owner.result
     (c.requires.backed (c.in_ok-plan.ensures.honest h)) (c.in_ok-plan.ensures.plan h) (c.in_ok-plan.ensures.content h) c.owner.ensures
 
 pub write-requires-clause-numbers : goal.write-requires-clause-numbers
 write-requires-clause-numbers g c =
-    λ h. numbers (state_of c.args.machine.now (g.S.CkptStore.content c.args.store.now)) c.args.step c.in_ok-plan.plan (g.S.CkptStore.content c.prepare.new.store) c.owner.result
+    λ h. numbers (state_of c.args.machine.now (g.S.CkptStore.content c.args.store.now)) c.args.step c.in_ok-plan.plan
+    (g.S.CkptStore.content c.prepare.new.store) c.owner.result
     (c.requires.backed (c.in_ok-plan.ensures.honest h)) (c.in_ok-plan.ensures.plan h) (c.in_ok-plan.ensures.content h) c.owner.ensures
 
 pub returns-in_err-write-clause-ready : goal.returns-in_err-write-clause-ready
@@ -47,6 +50,8 @@ returns-clause-ready g c =
 
 pub returns-clause-effect : goal.returns-clause-effect
 returns-clause-effect g c =
-    λ h. effect c.args.machine.now c.prepare.new.machine c.carry_out.new.self (g.S.CkptStore.content c.args.store.now) (g.S.CkptStore.content c.prepare.new.store) (g.S.CkptStore.content c.write.new.store)
-    c.args.step c.in_ok-plan.plan c.owner.result (c.in_ok-plan.ensures.plan (c.write.ensures.honest h)) c.in_ok-plan.ensures.same (c.in_ok-plan.ensures.content (c.write.ensures.honest h)) c.owner.ensures
+    λ h. effect c.args.machine.now c.prepare.new.machine c.carry_out.new.self (g.S.CkptStore.content c.args.store.now)
+    (g.S.CkptStore.content c.prepare.new.store) (g.S.CkptStore.content c.write.new.store)
+    c.args.step c.in_ok-plan.plan c.owner.result (c.in_ok-plan.ensures.plan (c.write.ensures.honest h)) c.in_ok-plan.ensures.same
+    (c.in_ok-plan.ensures.content (c.write.ensures.honest h)) c.owner.ensures
     (c.in_ok-write.ensures.made h) c.carry_out.ensures

@@ -9,10 +9,12 @@ use Rattle.kt_core.proofs.Steps.{asked, due-planned, refused, caused, only-damag
 use Rattle.kt_core.proofs.stepping.prepare.Goals as goal
 
 pub returns-clause-can : goal.returns-clause-can
-returns-clause-can g c = planned-can (state_of c.args.machine.now empty_content) c.args.step c.in_ok-told.told c.in_ok-plan.plan c.requires.ready c.in_ok-plan.ensures
+returns-clause-can g c =
+    planned-can (state_of c.args.machine.now empty_content) c.args.step c.in_ok-told.told c.in_ok-plan.plan c.requires.ready c.in_ok-plan.ensures
 
 pub returns-clause-leads : goal.returns-clause-leads
-returns-clause-leads g c = planned-leads (state_of c.args.machine.now empty_content) c.args.step c.in_ok-told.told c.in_ok-plan.plan c.requires.ready c.in_ok-plan.ensures
+returns-clause-leads g c =
+    planned-leads (state_of c.args.machine.now empty_content) c.args.step c.in_ok-told.told c.in_ok-plan.plan c.requires.ready c.in_ok-plan.ensures
 
 pub make_room-requires-clause-can : goal.make_room-requires-clause-can
 make_room-requires-clause-can g c =
@@ -22,14 +24,18 @@ make_room-requires-clause-can g c =
 pub returns-clause-plan : goal.returns-clause-plan
 returns-clause-plan g c =
     let s = state_of c.args.machine.now (g.S.CkptStore.content c.args.store.now) in
-    λ h. sym (due-planned s c.args.step c.in_ok-told.told (asked s c.args.step c.in_ok-told.told c.needs.result c.owner-owner.result (c.in_ok-told.ensures.told.value h) c.needs.ensures c.owner-owner.ensures)) ∙ c.in_ok-plan.ensures
+    λ h. sym (due-planned s c.args.step c.in_ok-told.told
+    (asked s c.args.step c.in_ok-told.told c.needs.result c.owner-owner.result (c.in_ok-told.ensures.told.value h) c.needs.ensures c.owner-owner.ensures))
+    ∙ c.in_ok-plan.ensures
 
 pub returns-in_err-plan-clause-refusal : goal.returns-in_err-plan-clause-refusal
 returns-in_err-plan-clause-refusal g c =
     let s = state_of c.args.machine.now (g.S.CkptStore.content c.args.store.now) in
     let Due : StepError → Type 0 = λ e. Refuses e (planned s c.args.step) in
     λ h. on-refusal c.from_residual-in_err-plan.result _ Due c.from_residual-in_err-plan.ensures.1
-    (λ e is. subst Due (sym is) (refused s c.args.step c.in_ok-told.told c.in_err-plan.field-0.0 (asked s c.args.step c.in_ok-told.told c.needs.result c.owner-owner.result (c.in_ok-told.ensures.told.value h) c.needs.ensures c.owner-owner.ensures) c.in_err-plan.ensures))
+    (λ e is. subst Due (sym is) (refused s c.args.step c.in_ok-told.told c.in_err-plan.field-0.0
+    (asked s c.args.step c.in_ok-told.told c.needs.result c.owner-owner.result (c.in_ok-told.ensures.told.value h) c.needs.ensures c.owner-owner.ensures)
+    c.in_err-plan.ensures))
 
 pub returns-in_err-plan-clause-cause : goal.returns-in_err-plan-clause-cause
 returns-in_err-plan-clause-cause g c =
@@ -40,7 +46,8 @@ returns-in_err-plan-clause-cause g c =
     let Caused : StepError → Type 0 = IsCause before now honest (planned s c.args.step) in
     on-refusal c.from_residual-in_err-plan.result _ Caused c.from_residual-in_err-plan.ensures.1
     (λ e is. subst Caused (sym is) (caused honest before now s c.args.step c.in_ok-told.told c.in_err-plan.field-0.0 c.in_ok-told.ensures.told.later
-    (λ h. asked s c.args.step c.in_ok-told.told c.needs.result c.owner-owner.result (c.in_ok-told.ensures.told.value h) c.needs.ensures c.owner-owner.ensures) c.in_err-plan.ensures
+    (λ h. asked s c.args.step c.in_ok-told.told c.needs.result c.owner-owner.result (c.in_ok-told.ensures.told.value h)
+    c.needs.ensures c.owner-owner.ensures) c.in_err-plan.ensures
     (only-damaged s c.in_ok-told.told c.args.step c.in_err-plan.field-0.0 c.in_err-plan.ensures)))
 
 pub returns-in_err-make_room-clause-refusal : goal.returns-in_err-make_room-clause-refusal
@@ -49,4 +56,6 @@ returns-in_err-make_room-clause-refusal g c =
     let Due : StepError → Type 0 = λ e. Refuses e (planned s c.args.step) in
     λ h. on-refusal c.from_residual-in_err-make_room.result _ Due c.from_residual-in_err-make_room.ensures.1
     (λ e is. subst Due (sym is) (is-ok (planned s c.args.step) c.in_ok-plan.plan
-    (sym (due-planned s c.args.step c.in_ok-told.told (asked s c.args.step c.in_ok-told.told c.needs.result c.owner-owner.result (c.in_ok-told.ensures.told.value h) c.needs.ensures c.owner-owner.ensures)) ∙ c.in_ok-plan.ensures)))
+    (sym (due-planned s c.args.step c.in_ok-told.told
+    (asked s c.args.step c.in_ok-told.told c.needs.result c.owner-owner.result (c.in_ok-told.ensures.told.value h) c.needs.ensures c.owner-owner.ensures))
+    ∙ c.in_ok-plan.ensures)))

@@ -12,6 +12,8 @@ loop-to-preserved c =
       reserved c.args.links.now c.loop-to.links new c.args.owner _ c.loop-to.invariant.0 c.reserve.ensures.queue c.reserve.ensures.alone,
       rw add-one
           (all-next HasRoom c.args.send.now c.loop-to.to-index c.loop-to-item.result c.loop-to-item.result
-          (all-map _ HasRoom (take c.loop-to.to-index c.args.send.now) (λ m h. let k = rooms_kept c.loop-to.links new c.args.owner _ c.reserve.ensures.alone c.reserve.ensures.kept c.args.owner m.0 in omega (arith, h, k)) c.loop-to.invariant.1)
+          (all-map _ HasRoom (take c.loop-to.to-index c.args.send.now)
+          (λ m h. let k = rooms_kept c.loop-to.links new c.args.owner _ c.reserve.ensures.alone c.reserve.ensures.kept c.args.owner m.0 in omega (arith, h, k))
+          c.loop-to.invariant.1)
           (omega arith) c.loop-to-item.is c.in_ok-reserve.ensures.room),
     )

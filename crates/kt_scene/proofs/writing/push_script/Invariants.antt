@@ -1,7 +1,7 @@
 use Rattle.std.proofs.Common.{◌≡◌, ◌++◌, take, map}
 use Rattle.std.specs.List.{flat_map}
 use Rattle.kt_scene.specs.Report.{text_line}
-use Rattle.kt_scene.specs.Text.{command_text}
+use Rattle.kt_script.specs.Spelling.{command_text}
 use Rattle.kt_scene.proofs.writing.push_script.Given as goal
 
 abbrev pub invariant-loop-command : goal.invariant-loop-command

@@ -16,8 +16,10 @@ make_room_in_row-requires c = rows_there c.args.self.now.nodes.items c.args.owne
 
 pub make_room_on_links-requires : goal.make_room_on_links-requires
 make_room_on_links-requires c =
-    let Linked : List (NodeId × Message) → Type 0 = AllByRecursion (λ m. AreNeighbours c.args.self.now.links.workers c.args.self.now.links.shards c.args.owner m.0) in
-    subst Linked (sym c.messages.ensures) (wired c.args.self.now.scene c.args.self.now.links c.args.owner c.args.plan.now.send c.args.self.now.workers c.args.self.now.shards c.requires.can.send)
+    let Linked : List (NodeId × Message) → Type 0 =
+    AllByRecursion (λ m. AreNeighbours c.args.self.now.links.workers c.args.self.now.links.shards c.args.owner m.0) in
+    subst Linked (sym c.messages.ensures) (wired c.args.self.now.scene c.args.self.now.links c.args.owner c.args.plan.now.send
+    c.args.self.now.workers c.args.self.now.shards c.requires.can.send)
 
 pub returns-clause-room : goal.returns-clause-room
 returns-clause-room c =

@@ -17,5 +17,6 @@ returns-clause-value g c =
     let s = state_of c.self.inside.machine (g.S.CkptStore.content c.self.inside.store) in
     let P : Standing → Type 0 = λ old. IsTrue (g.S.CkptStore.is_honest c.tell.new.store) → not c.is_refused.result ≡ is_allowed old.state c.args.step in
     subst P c.self.view_is (λ h. ap not c.is_refused.ensures
-    ∙ enabled c.judged-judged.result _ (subst (Gives c.judged-judged.result) (due-judged s c.args.step c.in_ok-told.told (asked s c.args.step c.in_ok-told.told c.needs-needs.result c.owner.result
+    ∙ enabled c.judged-judged.result _ (subst (Gives c.judged-judged.result) (due-judged s c.args.step c.in_ok-told.told
+    (asked s c.args.step c.in_ok-told.told c.needs-needs.result c.owner.result
     (c.in_ok-told.ensures.told.value h) c.needs-needs.ensures c.owner.ensures)) c.judged-judged.ensures))

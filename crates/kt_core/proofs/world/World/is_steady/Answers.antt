@@ -10,7 +10,8 @@ use Rattle.kt_core.proofs.world.World.is_steady.Goals as goal
 
 pub returns-clause-value : goal.returns-clause-value
 returns-clause-value g c =
-    let P : Standing → Type 0 = λ w. c.are_steady.result ≡ is_steady w.state in subst P c.self.view_is (c.are_steady.ensures ∙ ap (list_all is_steady_code) c.deref.ensures.value ∙ all-rows c.self.inside.machine.nodes.items)
+    let P : Standing → Type 0 = λ w. c.are_steady.result ≡ is_steady w.state in
+    subst P c.self.view_is (c.are_steady.ensures ∙ ap (list_all is_steady_code) c.deref.ensures.value ∙ all-rows c.self.inside.machine.nodes.items)
 
 pub returns-clause-headline : goal.returns-clause-headline
 returns-clause-headline g c =

@@ -16,18 +16,22 @@ make-requires-clause-backed g c = λ h. (reached-holds _ (c.self.invariant.reach
 pub invariant_of-self : goal.invariant_of-self
 invariant_of-self g c =
     step-world c.make.result c.self.inside.machine c.make.new.machine (g.S.CkptStore.content c.self.inside.store) (g.S.CkptStore.content c.make.new.store)
-    (g.S.CkptStore.is_honest c.self.inside.store) (g.S.CkptStore.is_honest c.make.new.store) c.args.step c.self.invariant c.make.ensures.ready c.make.ensures.honest c.make.ensures.effect
+    (g.S.CkptStore.is_honest c.self.inside.store) (g.S.CkptStore.is_honest c.make.new.store) c.args.step
+    c.self.invariant c.make.ensures.ready c.make.ensures.honest c.make.ensures.effect
     c.make.ensures.same c.make.ensures.content
 
 pub returns-clause-cause : goal.returns-clause-cause
 returns-clause-cause g c =
-    let P : Standing → Type 0 = λ old. IfErr c.make.result (IsCause old.faults (g.S.CkptStore.fault_count c.make.new.store) (g.S.CkptStore.is_honest c.make.new.store) (planned old.state c.args.step)) in
+    let P : Standing → Type 0 = λ old. IfErr c.make.result
+    (IsCause old.faults (g.S.CkptStore.fault_count c.make.new.store) (g.S.CkptStore.is_honest c.make.new.store) (planned old.state c.args.step)) in
     subst P c.self.view_is c.make.ensures.cause
 
 pub returns-clause-headline : goal.returns-clause-headline
 returns-clause-headline g c =
-    let world = step-world c.make.result c.self.inside.machine c.make.new.machine (g.S.CkptStore.content c.self.inside.store) (g.S.CkptStore.content c.make.new.store)
-    (g.S.CkptStore.is_honest c.self.inside.store) (g.S.CkptStore.is_honest c.make.new.store) c.args.step c.self.invariant c.make.ensures.ready c.make.ensures.honest c.make.ensures.effect
+    let world = step-world c.make.result c.self.inside.machine c.make.new.machine
+    (g.S.CkptStore.content c.self.inside.store) (g.S.CkptStore.content c.make.new.store)
+    (g.S.CkptStore.is_honest c.self.inside.store) (g.S.CkptStore.is_honest c.make.new.store) c.args.step
+    c.self.invariant c.make.ensures.ready c.make.ensures.honest c.make.ensures.effect
     c.make.ensures.same c.make.ensures.content in λ h. headline-reached _ (world.reached h)
 
 pub returns-clause-forced : goal.returns-clause-forced
