@@ -272,7 +272,7 @@ def clauses_of(crate):
 def words_there():
     """All words of the sources, and the names of their files."""
     found = {*CRATES, *os.listdir(f"{ROOT}/tests/crates")}
-    for folder in ("crates", "scenarios", "tests/crates", "tests/edits", "tests/turned"):
+    for folder in ("crates", "scenarios", "tests/crates", "tests/inside", "tests/edits", "tests/turned"):
         for ending in (".rt", ".rs", ".antt", ".edit", ".scn"):
             for name, path in files(folder, ending).items():
                 found.add(name.split("/")[-1])

@@ -1,20 +1,26 @@
 //! Runs of random scenes with random fault lines. Each is told by its seed.
 
-use crate::runs::reported;
-use kt_core::{Fault, FaultKind, Faults};
+use crate::runs::{Outcome, run_and_replay};
+use kt_core::{Fault, FaultKind, Faults, Step};
 use kt_walk::draws::Draws;
-use kt_walk::scenes::{cast_of, scene_of};
+use kt_walk::scenes::{cast_up_to, scene_up_to};
 use std::alloc::Global;
 use std::test::Fail;
 
-const SCENES: u64 = 60;
+const SCENES: u64 = 300;
 
-/// Up to six fault lines of the nodes of the scene of this seed.
+/// How many workers, and how many shards, a scene has at most.
+const MOST: u8 = 4;
+
+/// How many fault lines a scene has at most.
+const LINES: u64 = 6;
+
+/// Random fault lines of the nodes of the scene of this seed.
 fn random_faults(alloc: Global, seed: u64) -> Result<Faults, Fail> {
-    let cast = cast_of(seed);
+    let cast = cast_up_to(MOST, seed);
     let mut draws = Draws::of(seed ^ 0x2545_f491);
     let mut faults = Faults::new(alloc);
-    for _ in 0..draws.below(7) {
+    for _ in 0..draws.below(LINES + 1) {
         let place = draws.number_to(cast.count()) - 1;
         let kind = if draws.below(2) == 0 {
             FaultKind::Fail
@@ -30,18 +36,65 @@ fn random_faults(alloc: Global, seed: u64) -> Result<Faults, Fail> {
     Ok(faults)
 }
 
+/// How many steps were made, and how many of some kinds.
+#[derive(Clone, Copy, Debug)]
+struct Made {
+    steps: usize,
+    failures: usize,
+    checks: usize,
+    restarts: usize,
+}
+
+/// What all runs come to at least, however the threads run.
+const LEAST: Made = Made {
+    steps: 50_000,
+    failures: 250,
+    checks: 250,
+    restarts: 250,
+};
+
+impl Made {
+    const NONE: Made = Made {
+        steps: 0,
+        failures: 0,
+        checks: 0,
+        restarts: 0,
+    };
+
+    fn count(&mut self, steps: &[Step]) {
+        self.steps += steps.len();
+        for step in steps {
+            match step {
+                Step::Fail { .. } => self.failures += 1,
+                Step::Check { .. } => self.checks += 1,
+                Step::Restart { .. } => self.restarts += 1,
+                _ => {}
+            }
+        }
+    }
+
+    fn is_at_least(&self, least: &Made) -> bool {
+        self.steps >= least.steps
+            && self.failures >= least.failures
+            && self.checks >= least.checks
+            && self.restarts >= least.restarts
+    }
+}
+
 #[test]
 fn random_scenes(rt: HostRuntime) -> Result<(), Fail> {
     let alloc = rt.alloc();
+    let mut made = Made::NONE;
     for seed in 1..=SCENES {
-        let faults = random_faults(alloc, seed)?;
-        reported(
+        let Outcome { steps, .. } = run_and_replay(
             &rt,
             alloc,
-            scene_of(alloc, seed)?,
-            scene_of(alloc, seed)?,
-            faults,
+            scene_up_to(alloc, MOST, seed)?,
+            scene_up_to(alloc, MOST, seed)?,
+            random_faults(alloc, seed)?,
         )?;
+        made.count(&steps);
     }
+    assert!(rt; made.is_at_least(&LEAST), "{made:?}");
     Ok(())
 }

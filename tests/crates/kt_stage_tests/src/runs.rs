@@ -36,9 +36,19 @@ const NOTHING_TO_DO: Row = (
     b"survivors 0\nlost 0\nspace 0\npermanent 0\n",
 );
 
+/// A worker whose script is empty.
+const NO_STEPS: Row = (
+    (1, &[&[]]),
+    &[],
+    b"survivors 0\nlost 0\nspace 0\npermanent 0\n",
+);
+
 const TWO_CHECKS: Row = (
     (1, &[&["out (\"k\")", "out (\"k\")"]]),
-    &[(FaultKind::Check, WORKER_1, 4), (FaultKind::Check, SHARD_1, 5)],
+    &[
+        (FaultKind::Check, WORKER_1, 4),
+        (FaultKind::Check, SHARD_1, 5),
+    ],
     b"survivors 2\nw1.1 out (\"k\") done\nw1.2 out (\"k\") done\nlost 0\nspace 2\n(\"k\")\n(\"k\")\n",
 );
 
@@ -49,39 +59,53 @@ fn replayed(alloc: Global, scene: Scene, steps: &[Step]) -> Result<Vec<u8>, Fail
     report(alloc, &mut world)
 }
 
-/// Runs the scene, which is handed in twice, and gives the report, which is that of the journal's steps too. No node has
-/// a next step then.
-pub(crate) fn reported<R: Threads + Wait + Sync + Abort>(
+/// What came of a run.
+#[derive(Drop)]
+pub(crate) struct Outcome {
+    pub(crate) steps: Vec<Step>,
+    pub(crate) report: Vec<u8>,
+}
+
+/// Runs the scene, which is handed in twice, to its end: no node has a next step then, and the report is that of the
+/// journal's steps too.
+pub(crate) fn run_and_replay<R: Threads + Wait + Sync + Abort>(
     rt: &R,
     alloc: Global,
     scene: Scene,
     again: Scene,
     faults: Faults,
-) -> Result<Vec<u8>, Fail> {
+) -> Result<Outcome, Fail> {
     let mut left = faults.copy(alloc)?;
     let run = run_threads(rt, alloc, scene, faults, MemStore::new(alloc));
     let mut journal = run.ok().ok_or("a run")?;
     assert!(rt; unfinished(alloc, &mut journal, &mut left) == Ok(None));
-    let replayed = replayed(alloc, again, journal.steps())?;
+    let steps = Vec::from_slice(alloc, journal.steps())?;
     let mut world = journal.into_world();
-    let reported = report(alloc, &mut world)?;
-    assert!(rt; reported == replayed);
-    Ok(reported)
+    let report = report(alloc, &mut world)?;
+    assert!(rt; report == replayed(alloc, again, &steps)?);
+    Ok(Outcome { steps, report })
 }
 
+/// Runs the scene, and gives the steps.
 fn run<R: Threads + Wait + Sync + Abort>(
     rt: &R,
     alloc: Global,
     (cast, lines, expected): Row,
-) -> Result<(), Fail> {
+) -> Result<Vec<Step>, Fail> {
     let faults = faults(alloc, lines)?;
-    let reported = reported(rt, alloc, scene(alloc, cast)?, scene(alloc, cast)?, faults)?;
+    let Outcome { steps, report } = run_and_replay(
+        rt,
+        alloc,
+        scene(alloc, cast)?,
+        scene(alloc, cast)?,
+        faults,
+    )?;
     assert!(rt;
-        reported.starts_with(expected),
+        report.starts_with(expected),
         "{:?}",
-        String::from_utf8(reported)
+        String::from_utf8(report)
     );
-    Ok(())
+    Ok(steps)
 }
 
 #[test]
@@ -94,7 +118,15 @@ fn threads_and_a_fault(rt: HostRuntime) -> Result<(), Fail> {
 
 #[test]
 fn waiting_threads_end(rt: HostRuntime) -> Result<(), Fail> {
-    run(&rt, rt.alloc(), NOTHING_TO_DO)
+    run(&rt, rt.alloc(), NOTHING_TO_DO)?;
+    Ok(())
+}
+
+#[test]
+fn a_run_of_no_steps(rt: HostRuntime) -> Result<(), Fail> {
+    let steps = run(&rt, rt.alloc(), NO_STEPS)?;
+    assert!(rt; steps.is_empty());
+    Ok(())
 }
 
 #[test]

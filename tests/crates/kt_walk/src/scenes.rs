@@ -16,6 +16,9 @@ pub type Game = World<MemStore>;
 /// How many commands are drawn for a worker.
 const COMMANDS: u32 = 24;
 
+/// How many workers, and how many shards, a walk has at most.
+const MOST: u8 = 3;
+
 /// Tuples of five signatures are put.
 const PUTS: [&str; 6] = [
     "out (\"a\")",
@@ -76,9 +79,9 @@ fn random_script(alloc: Global, draws: &mut Draws) -> Result<Script, Finding> {
     Ok(script)
 }
 
-/// A scene of one to three workers and shards.
-fn random_scene(alloc: Global, draws: &mut Draws) -> Result<Scene, Finding> {
-    let cast = random_cast(draws);
+/// A scene of one to so many workers, and of one to so many shards.
+fn random_scene(alloc: Global, draws: &mut Draws, most: u8) -> Result<Scene, Finding> {
+    let cast = random_cast(draws, most);
     let mut scripts = Vec::new(alloc);
     for _ in 0..cast.workers {
         scripts.push(random_script(alloc, draws)?)?;
@@ -86,19 +89,29 @@ fn random_scene(alloc: Global, draws: &mut Draws) -> Result<Scene, Finding> {
     Scene::new(cast.shards, scripts).ok_or(Finding::NotMade("a scene"))
 }
 
-fn random_cast(draws: &mut Draws) -> Cast {
-    let (workers, shards) = (draws.number_to(3), draws.number_to(3));
+fn random_cast(draws: &mut Draws, most: u8) -> Cast {
+    let (workers, shards) = (draws.number_to(most), draws.number_to(most));
     Cast { workers, shards }
 }
 
-/// Who takes part in the scene of this seed.
-pub fn cast_of(seed: u64) -> Cast {
-    random_cast(&mut Draws::of(seed))
+/// Who takes part in the scene of this seed that has at most so many workers and so many shards.
+pub fn cast_up_to(most: u8, seed: u64) -> Cast {
+    random_cast(&mut Draws::of(seed), most)
 }
 
-/// The scene of this seed.
+/// The scene of this seed that has at most so many workers and so many shards.
+pub fn scene_up_to(alloc: Global, most: u8, seed: u64) -> Result<Scene, Finding> {
+    random_scene(alloc, &mut Draws::of(seed), most)
+}
+
+/// Who takes part in the walk of this seed.
+pub fn cast_of(seed: u64) -> Cast {
+    cast_up_to(MOST, seed)
+}
+
+/// The scene of the walk of this seed.
 pub fn scene_of(alloc: Global, seed: u64) -> Result<Scene, Finding> {
-    random_scene(alloc, &mut Draws::of(seed))
+    scene_up_to(alloc, MOST, seed)
 }
 
 /// The world of this seed, in which nothing was done.
