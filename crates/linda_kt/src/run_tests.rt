@@ -43,6 +43,7 @@ fn kinds_of_work(rt: HostRuntime) -> Result<(), Fail> {
     }
     let nobody = run(
         &rt,
+        &rt,
         &["run"],
         "linda-kt 1\nshards 1\nworker\nfaults\nfail s2 after 3\nend\n",
     )?;
