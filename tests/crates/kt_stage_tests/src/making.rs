@@ -1,8 +1,8 @@
-//! Scenes, fault lines, and the reports of worlds.
+//! Scenes, fault lines, and the reports and journals of worlds.
 
 use arrayvec::ArrayVec;
 use kt_core::{Fault, FaultKind, Faults, Scene, Step, World};
-use kt_scene::{Sink, write_report};
+use kt_scene::{Sink, Source, replay, write_journal, write_report};
 use kt_script::{Actual, Actuals, Command, Name, Operation, Pattern, Script, Slot};
 use kt_store::MemStore;
 use kt_tuple::{Kind, NodeId, Str, Value};
@@ -114,5 +114,23 @@ pub(crate) fn report(alloc: Global, world: &mut Game) -> Result<Vec<u8>, Fail> {
     write_report(alloc, world, &mut sink)
         .ok()
         .ok_or("a report")?;
+    Ok(sink.into_inner())
+}
+
+/// The text of a journal of these steps, which led to the world.
+pub(crate) fn journal_of(alloc: Global, world: &mut Game, steps: &[Step]) -> Result<Vec<u8>, Fail> {
+    let mut sink = Sink::new(Vec::new(alloc));
+    write_journal(alloc, world, steps, &mut sink)
+        .ok()
+        .ok_or("a journal")?;
+    Ok(sink.into_inner())
+}
+
+/// What a replay of the text writes.
+pub(crate) fn replayed(alloc: Global, text: &[u8]) -> Result<Vec<u8>, Fail> {
+    let (mut source, mut sink) = (Source::new(text), Sink::new(Vec::new(alloc)));
+    replay(alloc, &mut source, &mut sink, MemStore::new(alloc))
+        .ok()
+        .ok_or("a replay")?;
     Ok(sink.into_inner())
 }

@@ -86,13 +86,9 @@ fn random_scenes(rt: HostRuntime) -> Result<(), Fail> {
     let alloc = rt.alloc();
     let mut made = Made::NONE;
     for seed in 1..=SCENES {
-        let Outcome { steps, .. } = run_and_replay(
-            &rt,
-            alloc,
-            scene_up_to(alloc, MOST, seed)?,
-            scene_up_to(alloc, MOST, seed)?,
-            random_faults(alloc, seed)?,
-        )?;
+        let scene = scene_up_to(alloc, MOST, seed)?;
+        let faults = random_faults(alloc, seed)?;
+        let Outcome { steps, .. } = run_and_replay(&rt, alloc, scene, faults)?;
         made.count(&steps);
     }
     assert!(rt; made.is_at_least(&LEAST), "{made:?}");

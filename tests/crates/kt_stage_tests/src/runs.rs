@@ -1,6 +1,8 @@
 //! Runs by threads.
 
-use crate::making::{Cast, Line, SHARD_1, WORKER_1, faults, make_all, opened, report, scene};
+use crate::making::{
+    Cast, Line, SHARD_1, WORKER_1, faults, journal_of, make_all, opened, replayed, report, scene,
+};
 use kt_core::{FaultKind, Faults, OpenError, Scene, Step};
 use kt_stage::{RunFault, run_threads, unfinished};
 use kt_store::MemStore;
@@ -52,13 +54,6 @@ const TWO_CHECKS: Row = (
     b"survivors 2\nw1.1 out (\"k\") done\nw1.2 out (\"k\") done\nlost 0\nspace 2\n(\"k\")\n(\"k\")\n",
 );
 
-/// The report of these steps, made once more on one thread.
-fn replayed(alloc: Global, scene: Scene, steps: &[Step]) -> Result<Vec<u8>, Fail> {
-    let mut world = opened(alloc, scene)?;
-    make_all(alloc, &mut world, steps)?;
-    report(alloc, &mut world)
-}
-
 /// What came of a run.
 #[derive(Drop)]
 pub(crate) struct Outcome {
@@ -66,13 +61,11 @@ pub(crate) struct Outcome {
     pub(crate) report: Vec<u8>,
 }
 
-/// Runs the scene, which is handed in twice, to its end: no node has a next step then, and the report is that of the
-/// journal's steps too.
+/// Runs the scene to its end: no node has a next step then, and a replay of the journal writes the report.
 pub(crate) fn run_and_replay<R: Threads + Wait + Sync + Abort>(
     rt: &R,
     alloc: Global,
     scene: Scene,
-    again: Scene,
     faults: Faults,
 ) -> Result<Outcome, Fail> {
     let mut left = faults.copy(alloc)?;
@@ -82,7 +75,8 @@ pub(crate) fn run_and_replay<R: Threads + Wait + Sync + Abort>(
     let steps = Vec::from_slice(alloc, journal.steps())?;
     let mut world = journal.into_world();
     let report = report(alloc, &mut world)?;
-    assert!(rt; report == replayed(alloc, again, &steps)?);
+    let journal = journal_of(alloc, &mut world, &steps)?;
+    assert!(rt; report == replayed(alloc, &journal)?);
     Ok(Outcome { steps, report })
 }
 
@@ -93,13 +87,7 @@ fn run<R: Threads + Wait + Sync + Abort>(
     (cast, lines, expected): Row,
 ) -> Result<Vec<Step>, Fail> {
     let faults = faults(alloc, lines)?;
-    let Outcome { steps, report } = run_and_replay(
-        rt,
-        alloc,
-        scene(alloc, cast)?,
-        scene(alloc, cast)?,
-        faults,
-    )?;
+    let Outcome { steps, report } = run_and_replay(rt, alloc, scene(alloc, cast)?, faults)?;
     assert!(rt;
         report.starts_with(expected),
         "{:?}",
