@@ -1,6 +1,6 @@
 //! The bytes of checkpoints that look random, written by the tables of the format and by nothing of kt_ckpt.
 
-use crate::draws::Draws;
+use kt_draws::Draws;
 use std::alloc::{AllocError, Global};
 
 /// The bytes of a checkpoint of a worker or a shard, with so many neighbours.

@@ -6,8 +6,6 @@ mod bytes;
 #[cfg(test)]
 mod drawn;
 #[cfg(test)]
-mod draws;
-#[cfg(test)]
 mod random;
 #[cfg(test)]
 mod seen;

@@ -1,9 +1,9 @@
 //! 500 checkpoints that look random and are the same in each run.
 
 use crate::drawn::checkpoint;
-use crate::draws::Draws;
 use crate::seen::Seen;
 use kt_ckpt::{Ckpt, CkptError, ShardState, State, WorkerState};
+use kt_draws::Draws;
 use kt_shard::{Kept, Request};
 use kt_tuple::Op;
 use std::alloc::{AllocError, Global};

@@ -1,7 +1,7 @@
 //! 50,000 calls that look random and are the same in each run.
 
-use crate::draws::Draws;
 use crate::plain::Plain;
+use kt_draws::Draws;
 use kt_space::Bag;
 use kt_tuple::{Kind, Place, Str, Template, Tuple, Value};
 use std::alloc::Global;

@@ -4,8 +4,6 @@
 #[cfg(test)]
 mod beside;
 #[cfg(test)]
-mod draws;
-#[cfg(test)]
 mod picking;
 #[cfg(test)]
 mod plain;

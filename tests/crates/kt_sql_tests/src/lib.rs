@@ -6,10 +6,4 @@ mod adopted;
 #[cfg(test)]
 mod beside;
 #[cfg(test)]
-mod calls;
-#[cfg(test)]
-mod draws;
-#[cfg(test)]
-mod plain;
-#[cfg(test)]
 mod walks;

@@ -1,13 +1,43 @@
-//! 20,000 calls that look random and are the same in each run.
+//! Calls that look random and are the same in each run, and what the store reads after them.
 
 use crate::calls;
-use crate::draws::Draws;
 use crate::plain::{Plain, Row};
 use kt_ckpt::{Ckpt, Marks};
-use kt_store::{CkptStore, MemStore, StoreError};
+use kt_draws::Draws;
+use kt_store::{CkptStore, StoreError};
 use kt_tuple::NodeId;
 use std::alloc::Global;
-use std::test::*;
+
+/// How many calls are made, and how much of what the store reads is compared.
+#[derive(Clone, Copy, Debug)]
+pub struct Walk {
+    pub calls: u64,
+    /// After how many calls each what is read is compared: all nodes, and the newest instances.
+    pub between: u64,
+    /// How many of the newest.
+    pub newest: u64,
+    /// After how many calls each all instances are.
+    pub between_all: u64,
+    /// What stands for an instance before the first. It is never begun.
+    pub never: u64,
+}
+
+/// How a store parts from the map.
+#[derive(Clone, Copy, Debug, PartialEq, Eq)]
+pub enum Apart {
+    /// It refused a call.
+    Refused(StoreError),
+    /// It reads something else, after so many calls.
+    After(u64),
+    /// The bytes of a checkpoint are refused.
+    Bytes,
+}
+
+impl From<StoreError> for Apart {
+    fn from(refusal: StoreError) -> Apart {
+        Apart::Refused(refusal)
+    }
+}
 
 const NODES: [NodeId; 6] = [
     NodeId::Worker(2),
@@ -32,30 +62,27 @@ const EMPTY: [u8; 54] = [
 ];
 
 /// One with a line of some length below 2^16.
-fn checkpoint(alloc: Global, draws: &mut Draws) -> Result<Ckpt, Fail> {
+fn checkpoint(alloc: Global, draws: &mut Draws) -> Result<Ckpt, Apart> {
     let mut bytes = EMPTY;
     bytes[13] = draws.below(256) as u8;
     bytes[14] = draws.below(256) as u8;
-    Ok(
-        Ckpt::decode(alloc, &bytes)
-            .ok()
-            .ok_or("the bytes are a checkpoint")?,
-    )
+    Ckpt::decode(alloc, &bytes).map_err(|_| Apart::Bytes)
 }
 
 /// One call of some kind for some node or instance.
-fn call(
+fn call<C: CkptStore>(
     alloc: Global,
     draws: &mut Draws,
-    store: &mut MemStore,
+    store: &mut C,
     plain: &mut Plain,
     ckpt: &Ckpt,
+    never: u64,
 ) -> Result<(), StoreError> {
     let kind = draws.below(8);
     let place = draws.below(6) as usize;
     let next = plain.next_instance();
     // Mostly one of the newest: the older ones have their verdict.
-    let instance = next.wrapping_sub(draws.below(6));
+    let instance = next.checked_sub(draws.below(6)).unwrap_or(never);
     match kind {
         0 => return calls::begin_check(store, alloc, plain, place, ckpt),
         1 => return calls::begin_restart(store, plain, place),
@@ -73,9 +100,9 @@ fn call(
 }
 
 /// Whether the store reads of the node what the map has.
-fn agrees_on_node(
+fn agrees_on_node<C: CkptStore>(
     alloc: Global,
-    store: &mut MemStore,
+    store: &mut C,
     row: &Row,
     open: Option<u64>,
 ) -> Result<bool, StoreError> {
@@ -98,7 +125,11 @@ fn is_marked(marks: &Marks, line_len: u64) -> bool {
 }
 
 /// Whether the store reads of the node's checkpoints without their states what the map has.
-fn agrees_on_marks(alloc: Global, store: &mut MemStore, row: &Row) -> Result<bool, StoreError> {
+fn agrees_on_marks<C: CkptStore>(
+    alloc: Global,
+    store: &mut C,
+    row: &Row,
+) -> Result<bool, StoreError> {
     let permanent = match (store.permanent_marks(alloc, row.node)?, row.permanent) {
         (Some(marks), Some(line_len)) => is_marked(&marks, line_len),
         (marks, line_len) => marks.is_none() && line_len.is_none(),
@@ -113,8 +144,8 @@ fn agrees_on_marks(alloc: Global, store: &mut MemStore, row: &Row) -> Result<boo
 }
 
 /// Whether it reads of the instance what the map has.
-fn agrees_on_instance(
-    store: &mut MemStore,
+fn agrees_on_instance<C: CkptStore>(
+    store: &mut C,
     plain: &Plain,
     instance: u64,
 ) -> Result<bool, StoreError> {
@@ -126,9 +157,9 @@ fn agrees_on_instance(
 }
 
 /// Whether it does of all nodes, of these instances, and of what is next.
-fn agrees(
+fn agrees<C: CkptStore>(
     alloc: Global,
-    store: &mut MemStore,
+    store: &mut C,
     plain: &Plain,
     first: u64,
     last: u64,
@@ -147,30 +178,31 @@ fn agrees(
     Ok(store.next_instance()? == plain.next_instance() && store.faults() == 0)
 }
 
-#[test]
-fn beside_a_plain_map(rt: HostRuntime) -> Result<(), Fail> {
-    let alloc = rt.alloc();
+/// Makes the calls of a fresh store and of the map. It answers the number that the next instance gets.
+pub fn goes_beside<C: CkptStore>(alloc: Global, store: &mut C, walk: Walk) -> Result<u64, Apart> {
     let mut draws = Draws(13);
-    let mut store = MemStore::new(alloc);
-    let mut plain = Plain::new(alloc, &NODES)?;
-    assert!(rt; matches!(store.is_fresh(), Ok(true)));
-    for n in 0..20_000u64 {
+    let mut plain = Plain::new(alloc, &NODES).map_err(|_| StoreError::Memory)?;
+    if !store.is_fresh()? {
+        return Err(Apart::After(0));
+    }
+    for n in 1..=walk.calls {
         let ckpt = checkpoint(alloc, &mut draws)?;
-        let called = call(alloc, &mut draws, &mut store, &mut plain, &ckpt);
-        assert!(rt; called.is_ok());
-        // With memory checked each read costs much, so not all are made after each call.
-        if n % 10 == 9 {
-            let next = plain.next_instance();
-            let first = if n % 1000 == 999 {
-                0
-            } else {
-                next.saturating_sub(20)
-            };
-            let same = agrees(alloc, &mut store, &plain, first, next.wrapping_add(2));
-            assert!(rt; matches!(same, Ok(true)));
+        call(alloc, &mut draws, store, &mut plain, &ckpt, walk.never)?;
+        if n % walk.between != 0 {
+            continue;
+        }
+        let next = plain.next_instance();
+        let first = if n % walk.between_all == 0 {
+            0
+        } else {
+            next.saturating_sub(walk.newest)
+        };
+        if !agrees(alloc, store, &plain, first, next.wrapping_add(2))? {
+            return Err(Apart::After(n));
         }
     }
-    assert!(rt; matches!(store.is_fresh(), Ok(false)));
-    assert!(rt; plain.next_instance() > 2_000);
-    Ok(())
+    if store.is_fresh()? {
+        return Err(Apart::After(walk.calls));
+    }
+    Ok(plain.next_instance())
 }

@@ -2,12 +2,12 @@
 
 use crate::plain::{Plain, Row};
 use kt_ckpt::Ckpt;
-use kt_store::{CkptStore, MemStore, StoreError, Verdict};
+use kt_store::{CkptStore, StoreError, Verdict};
 use kt_tuple::NodeId;
 use std::alloc::Global;
 
 /// Whether the node has no tentative checkpoint.
-fn is_free(store: &mut MemStore, alloc: Global, node: NodeId) -> Result<bool, StoreError> {
+fn is_free<C: CkptStore>(store: &mut C, alloc: Global, node: NodeId) -> Result<bool, StoreError> {
     match store.tentative(alloc, node)? {
         Some(_) => Ok(false),
         None => Ok(true),
@@ -15,7 +15,7 @@ fn is_free(store: &mut MemStore, alloc: Global, node: NodeId) -> Result<bool, St
 }
 
 /// Whether the instance is open.
-fn is_open(store: &mut MemStore, instance: u64) -> Result<bool, StoreError> {
+fn is_open<C: CkptStore>(store: &mut C, instance: u64) -> Result<bool, StoreError> {
     match store.verdict(instance)? {
         Some(Verdict::Open) => Ok(true),
         _ => Ok(false),
@@ -23,8 +23,8 @@ fn is_open(store: &mut MemStore, instance: u64) -> Result<bool, StoreError> {
 }
 
 /// The verdict on the node's tentative checkpoint.
-fn verdict_on(
-    store: &mut MemStore,
+fn verdict_on<C: CkptStore>(
+    store: &mut C,
     alloc: Global,
     node: NodeId,
 ) -> Result<Option<Verdict>, StoreError> {
@@ -34,8 +34,8 @@ fn verdict_on(
     }
 }
 
-pub(crate) fn begin_check(
-    store: &mut MemStore,
+pub(crate) fn begin_check<C: CkptStore>(
+    store: &mut C,
     alloc: Global,
     plain: &mut Plain,
     place: usize,
@@ -54,8 +54,8 @@ pub(crate) fn begin_check(
     Ok(())
 }
 
-pub(crate) fn put_tentative(
-    store: &mut MemStore,
+pub(crate) fn put_tentative<C: CkptStore>(
+    store: &mut C,
     alloc: Global,
     row: &mut Row,
     instance: u64,
@@ -68,7 +68,11 @@ pub(crate) fn put_tentative(
     Ok(())
 }
 
-pub(crate) fn settle(store: &mut MemStore, alloc: Global, row: &mut Row) -> Result<(), StoreError> {
+pub(crate) fn settle<C: CkptStore>(
+    store: &mut C,
+    alloc: Global,
+    row: &mut Row,
+) -> Result<(), StoreError> {
     match verdict_on(store, alloc, row.node)? {
         Some(Verdict::Yes) => {
             store.promote(row.node)?;
@@ -86,8 +90,8 @@ pub(crate) fn settle(store: &mut MemStore, alloc: Global, row: &mut Row) -> Resu
     Ok(())
 }
 
-pub(crate) fn begin_restart(
-    store: &mut MemStore,
+pub(crate) fn begin_restart<C: CkptStore>(
+    store: &mut C,
     plain: &mut Plain,
     place: usize,
 ) -> Result<(), StoreError> {
@@ -100,14 +104,14 @@ pub(crate) fn begin_restart(
     Ok(())
 }
 
-pub(crate) fn bump(store: &mut MemStore, row: &mut Row) -> Result<(), StoreError> {
+pub(crate) fn bump<C: CkptStore>(store: &mut C, row: &mut Row) -> Result<(), StoreError> {
     store.bump(row.node)?;
     row.incarnation = row.incarnation.wrapping_add(1);
     Ok(())
 }
 
-pub(crate) fn decide(
-    store: &mut MemStore,
+pub(crate) fn decide<C: CkptStore>(
+    store: &mut C,
     plain: &mut Plain,
     instance: u64,
     yes: bool,

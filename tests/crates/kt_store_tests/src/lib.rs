@@ -1,11 +1,8 @@
-//! The store in memory beside a plain map.
+//! A store beside a plain map. That in memory is tried here, and that in SQL by kt_sql_tests.
 #![tactic(auto)]
 
-#[cfg(test)]
-mod beside;
-#[cfg(test)]
+pub mod beside;
 mod calls;
 #[cfg(test)]
-mod draws;
-#[cfg(test)]
+mod memory;
 mod plain;
