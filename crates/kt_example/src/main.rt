@@ -1,12 +1,12 @@
 //! The first worker hands the task 7 over, which a checkpoint then holds, and the second takes it, which is lost when
-//! the shard fails. So the second rolls back, and takes the task again.
+//! the shard fails. So the second rolls back, takes the task again, and says which one it has done.
 #![tactic(auto)]
 
 use arrayvec::ArrayVec;
 use kt_core::{Scene, Step, World};
-use kt_script::{Actual, Actuals, Command, Operation, Pattern, Script, Slot};
+use kt_script::{Actual, Actuals, Command, Name, Operation, Pattern, Script, Slot};
 use kt_store::MemStore;
-use kt_tuple::{Kind, NodeId, Value};
+use kt_tuple::{Kind, NodeId, Str, Value};
 use std::alloc::Global;
 use std::test::Fail;
 
@@ -25,27 +25,42 @@ fn main(rt: HostRuntime) -> Result<(), Fail> {
     settle(alloc, &mut world, Step::Restart { node: SHARD });
     print_survivors(&rt, &world, "after the rollback")?;
     settle(alloc, &mut world, Step::Issue { node: taker });
+    settle(alloc, &mut world, Step::Issue { node: taker });
     print_survivors(&rt, &world, "in the end")
 }
 
-/// A shard and two workers: `out (7)` is the script of the first, `in (?int)` that of the second.
+/// A shard and two workers: the script of the first is `out (7)`, that of the second `in (?int task)` and then
+/// `out ("done", task)`.
 fn opened(alloc: Global) -> Result<World<MemStore>, Fail> {
-    let (mut actuals, mut slots) = (ArrayVec::new(), ArrayVec::new());
-    let seven = Actual::Literal(Value::Int(7));
-    actuals.try_push(seven).map_err(|_| "room")?;
-    let any_int = Slot::Formal(Kind::Int, None);
-    slots.try_push(any_int).map_err(|_| "room")?;
+    let task = Name::new(b"task").ok_or("a name")?;
+    let done = Str::new(b"done").ok_or("a string")?;
+    let seven = tuple([Actual::Literal(Value::Int(7))])?;
+    let any_task = template(Slot::Formal(Kind::Int, Some(task.copy())))?;
+    let said = [Actual::Literal(Value::Str(done)), Actual::Variable(task)];
     let (mut gives, mut takes) = (Script::new(alloc), Script::new(alloc));
-    let give = Operation::Out(Actuals::new(actuals).ok_or("a tuple")?);
-    let take = Operation::In(Pattern::new(slots).ok_or("a template")?);
-    gives.push(Command::Ask(give))?;
-    takes.push(Command::Ask(take))?;
+    gives.push(Command::Ask(Operation::Out(seven)))?;
+    takes.push(Command::Ask(Operation::In(any_task)))?;
+    takes.push(Command::Ask(Operation::Out(tuple(said)?)))?;
     let mut scripts = Vec::new(alloc);
     scripts.push(gives)?;
     scripts.push(takes)?;
     let scene = Scene::new(1, scripts).ok_or("a scene")?;
     let world = World::open(alloc, scene, MemStore::new(alloc)).ok();
     Ok(world.ok_or("a world")?)
+}
+
+fn tuple<const N: usize>(actuals: [Actual; N]) -> Result<Actuals, Fail> {
+    let mut places = ArrayVec::new();
+    for actual in actuals {
+        places.try_push(actual).map_err(|_| "room")?;
+    }
+    Ok(Actuals::new(places).ok_or("a tuple")?)
+}
+
+fn template(slot: Slot) -> Result<Pattern, Fail> {
+    let mut places = ArrayVec::new();
+    places.try_push(slot).map_err(|_| "room")?;
+    Ok(Pattern::new(places).ok_or("a template")?)
 }
 
 /// Makes the step; then all that is on its way arrives, what waits is served, and what has all votes is decided. A step

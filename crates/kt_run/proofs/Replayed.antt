@@ -12,7 +12,7 @@ use Rattle.kt_scene.specs.Reading.{Play, play_of}
 use Rattle.kt_scene.specs.Run.{LeadsTo}
 use Rattle.kt_scene.specs.Runs.{RunsTo}
 use Rattle.kt_scene.specs.Scenario.{IsPlay, IsScenario, IsStep}
-use Rattle.kt_scene.specs.Work.{Steps, steps_of}
+use Rattle.kt_scene.specs.Work.{steps_of}
 use Rattle.kt_scene.proofs.Shared.{journal_is_scenario, wanted_is_read}
 use Rattle.kt_stage.specs.Journal.{all_made}
 use Rattle.kt_run.specs.Run.{IsRunOf}

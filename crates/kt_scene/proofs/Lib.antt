@@ -6,6 +6,7 @@ pub mod Runs
 pub mod Replays
 pub mod Names
 pub mod Slots
+pub mod FirstByte
 pub mod Feeds
 pub mod Fronts
 pub mod NumberLaws

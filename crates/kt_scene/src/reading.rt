@@ -13,6 +13,7 @@ ghost use Rattle.kt_scene.specs.Work.{kind_of, work_in};
 use crate::draft::{Draft, Expected};
 use crate::fault::{SceneError, SceneFault};
 use crate::scenario::{Scenario, WorkKind};
+use memchr::memchr;
 use std::alloc::Global;
 
 /// The most bytes that a scenario has.
@@ -34,7 +35,7 @@ fn line_end(text: &[u8]) -> Option<usize>
     ensures value { result ≡ position (λ c. c == 10) text.now }
     ensures within { IfSome result (λ n. n < length text.now) }
 {
-    text.iter().position(|c| *c == b'\n')
+    memchr(b'\n', text)
 }
 
 /// The scenario that the text spells, with work of this kind, or its first line that has a fault: of several faults
