@@ -34,13 +34,13 @@ fn main(rt: HostRuntime) -> Result<(), Fail> {
 fn opened(alloc: Global) -> Result<World<MemStore>, Fail> {
     let task = Name::new(b"task").ok_or("a name")?;
     let done = Str::new(b"done").ok_or("a string")?;
-    let seven = tuple([Actual::Literal(Value::Int(7))])?;
+    let seven = tuple(&[Actual::Literal(Value::Int(7))])?;
     let any_task = template(Slot::Formal(Kind::Int, Some(task.copy())))?;
-    let said = [Actual::Literal(Value::Str(done)), Actual::Variable(task)];
+    let said = tuple(&[Actual::Literal(Value::Str(done)), Actual::Variable(task)])?;
     let (mut gives, mut takes) = (Script::new(alloc), Script::new(alloc));
     gives.push(Command::Ask(Operation::Out(seven)))?;
     takes.push(Command::Ask(Operation::In(any_task)))?;
-    takes.push(Command::Ask(Operation::Out(tuple(said)?)))?;
+    takes.push(Command::Ask(Operation::Out(said)))?;
     let mut scripts = Vec::new(alloc);
     scripts.push(gives)?;
     scripts.push(takes)?;
@@ -49,10 +49,10 @@ fn opened(alloc: Global) -> Result<World<MemStore>, Fail> {
     Ok(world.ok_or("a world")?)
 }
 
-fn tuple<const N: usize>(actuals: [Actual; N]) -> Result<Actuals, Fail> {
+fn tuple(actuals: &[Actual]) -> Result<Actuals, Fail> {
     let mut places = ArrayVec::new();
     for actual in actuals {
-        places.try_push(actual).map_err(|_| "room")?;
+        places.try_push(actual.copy()).map_err(|_| "room")?;
     }
     Ok(Actuals::new(places).ok_or("a tuple")?)
 }
