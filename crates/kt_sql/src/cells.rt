@@ -75,7 +75,7 @@ fn instance_cell(tentative: &Option<Tentative>) -> Option<Option<Number>>
 }
 
 /// The cells of the row, where the tables have a number for the node and hold its numbers.
-pub(crate) fn node_cells(alloc: Global, row: &NodeRow) -> Result<Option<NodeCells>, AllocError>
+fn node_cells(alloc: Global, row: &NodeRow) -> Result<Option<NodeCells>, AllocError>
     requires { 1 ≤ row.now.incarnation }
     ensures { IfOk result (λ o. IfSome o (λ c. IsNodeRow row.now × SpellsNode c row.now)) }
 {
@@ -93,6 +93,14 @@ pub(crate) fn node_cells(alloc: Global, row: &NodeRow) -> Result<Option<NodeCell
         tentative: tentative_cell(alloc, &row.tentative)?,
         instance,
     }))
+}
+
+/// The same of a row that is no more needed.
+pub(crate) fn into_node_cells(alloc: Global, row: NodeRow) -> Result<Option<NodeCells>, AllocError>
+    requires { 1 ≤ row.incarnation }
+    ensures { IfOk result (λ o. IfSome o (λ c. IsNodeRow row × SpellsNode c row)) }
+{
+    node_cells(alloc, &row)
 }
 
 /// The cells of the row, where the tables have a number for the initiator and hold that of the instance.
@@ -113,4 +121,21 @@ pub(crate) fn posted_cells(row: Posted) -> Option<PostedCells>
             Verdict::No => 2,
         },
     })
+}
+
+/// The cells of both rows.
+pub(crate) fn both_cells(
+    alloc: Global,
+    row: NodeRow,
+    posted: Posted,
+) -> Result<Option<(NodeCells, PostedCells)>, AllocError>
+    requires incarnation { 1 ≤ row.incarnation }
+    requires instance { 1 ≤ posted.instance }
+    ensures { IfOk result (λ o. IfSome o (λ c. (IsNodeRow row × SpellsNode c.0 row)
+        × (IsPosted posted × SpellsPosted c.1 posted))) }
+{
+    match (into_node_cells(alloc, row)?, posted_cells(posted)) {
+        (Some(node), Some(posted)) => Ok(Some((node, posted))),
+        _ => Ok(None),
+    }
 }

@@ -3,6 +3,7 @@
 
 mod calls;
 mod cells;
+mod changes;
 mod error;
 mod ids;
 mod number;

@@ -32,6 +32,17 @@ fn file_error(error: Error) -> SqlOpenError
     }
 }
 
+/// The connection to the database at the path.
+fn file_connection(
+    rt: &HostRuntime,
+    path: &str,
+) -> Result<Connection<FileStore<File>>, SqlOpenError>
+    ensures ended { IfOk result (λ c. c.in_transaction ≡ false) }
+    ensures memory { path.now ≡ codes ":memory:" → result ≡ Err SqlOpenError.Device }
+{
+    Connection::open(rt, path).map_err(file_error)
+}
+
 /// Makes the tables where there are none, and else tests those that are there. It answers whether each row is as said.
 fn readied<S: Alter>(alloc: Global, conn: &mut Connection<S>) -> Result<bool, SqlOpenError>
     requires { conn.old.in_transaction ≡ false }
@@ -90,6 +101,26 @@ impl<S: Alter> SqlStore<S> {
     }
 }
 
+impl<S: Alter + Drop> SqlStore<S> {
+    /// The same of a connection that is closed where it is refused.
+    fn taken_over(alloc: Global, conn: Connection<S>) -> Result<SqlStore<S>, SqlOpenError>
+        requires { conn.in_transaction ≡ false }
+        ensures fresh { IfOk result (λ s. HasCleanDisk (state S.Store s.conn)
+            → (state S.Store conn).now.schema ≡ no_schema
+            → IsTrue (is_sure S.Store s) × (content_of S.Store s ≡ empty_content)) }
+        ensures version { IfOk result (λ s. HasCleanDisk (state S.Store s.conn)
+            → IsVersion1 (state S.Store s.conn).now) }
+        ensures honest { IfOk result (λ s. HasCleanDisk (state S.Store s.conn)
+            → (IsTrue (is_sure S.Store s) ↔ AreAsSaid (state S.Store s.conn).now.trees)) }
+        ensures faults { IfOk result (λ s. s.faults ≡ 0) }
+    {
+        match SqlStore::adopt(alloc, conn) {
+            Ok(store) => Ok(store),
+            Err((error, _)) => Err(error),
+        }
+    }
+}
+
 impl SqlStore<MemStore> {
     /// A fresh store in memory.
     pub fn in_memory(alloc: Global) -> Result<SqlStore<MemStore>, SqlOpenError>
@@ -97,10 +128,7 @@ impl SqlStore<MemStore> {
         ensures fresh { IfOk result (λ s. content_of over_memory s ≡ empty_content) }
         ensures faults { IfOk result (λ s. s.faults ≡ 0) }
     {
-        match SqlStore::adopt(alloc, Connection::open_in_memory(alloc)?) {
-            Ok(store) => Ok(store),
-            Err((error, _)) => Err(error),
-        }
+        SqlStore::taken_over(alloc, Connection::open_in_memory(alloc)?)
     }
 }
 
@@ -114,13 +142,6 @@ impl SqlStore<FileStore<File>> {
         ensures faults { IfOk result (λ s. s.faults ≡ 0) }
         ensures memory { path.now ≡ codes ":memory:" → result ≡ Err SqlOpenError.Device }
     {
-        let conn = match Connection::open(rt, path) {
-            Ok(conn) => conn,
-            Err(error) => return Err(file_error(error)),
-        };
-        match SqlStore::adopt(rt.alloc(), conn) {
-            Ok(store) => Ok(store),
-            Err((error, _)) => Err(error),
-        }
+        SqlStore::taken_over(rt.alloc(), file_connection(rt, path)?)
     }
 }

@@ -18,7 +18,7 @@ ghost use Rattle.kt_store.specs.Calls.{HasCause, most_faults};
 ghost use Rattle.kt_sql.specs.Schema.{kt_schema};
 ghost use Rattle.kt_sql.specs.Store.{is_sure, content_of, IsKept};
 
-use crate::cells::{NodeCells, PostedCells, node_cells, posted_cells};
+use crate::cells::{NodeCells, PostedCells, both_cells, into_node_cells, posted_cells};
 use crate::statements::{execute_both, execute_node, execute_posted};
 use kt_store::{NodeRow, Posted, StoreError};
 use sqlite::types::ValueRef;
@@ -147,16 +147,16 @@ impl<S: Alter> SqlStore<S> {
     }
 
     /// Stores the row, in place of the one that the node has.
-    pub(crate) fn put_node(&mut self, row: &NodeRow) -> Result<(), StoreError>
-        requires { 1 ≤ row.now.incarnation }
+    pub(crate) fn put_node(&mut self, row: NodeRow) -> Result<(), StoreError>
+        requires { 1 ≤ row.incarnation }
         ensures written { IsTrue (is_sure S.Store self.new)
-            → OnOk result (content_of S.Store self.new ≡ storing row.now (content_of S.Store self.old)) }
+            → OnOk result (content_of S.Store self.new ≡ storing row (content_of S.Store self.old)) }
         ensures unchanged { IsTrue (is_sure S.Store self.new)
             → OnErr result (content_of S.Store self.new ≡ content_of S.Store self.old) }
         ensures honest { IsTrue (is_sure S.Store self.new) → IsTrue (is_sure S.Store self.old) }
         ensures cause { HasCause self.old.faults self.new.faults (is_sure S.Store self.new) ⊥ result }
     {
-        match node_cells(self.alloc, row)? {
+        match into_node_cells(self.alloc, row)? {
             Some(cells) => self.write_node(&cells),
             None => Err(self.fault()),
         }
@@ -209,20 +209,20 @@ impl<S: Alter> SqlStore<S> {
     }
 
     /// Stores both rows in one transaction.
-    pub(crate) fn put_both(&mut self, row: &NodeRow, posted: Posted) -> Result<(), StoreError>
-        requires incarnation { 1 ≤ row.now.incarnation }
+    pub(crate) fn put_both(&mut self, row: NodeRow, posted: Posted) -> Result<(), StoreError>
+        requires incarnation { 1 ≤ row.incarnation }
         requires instance { 1 ≤ posted.instance }
         ensures written { IsTrue (is_sure S.Store self.new)
             → OnOk result (content_of S.Store self.new ≡ placing posted
-            (storing row.now (content_of S.Store self.old))) }
+            (storing row (content_of S.Store self.old))) }
         ensures unchanged { IsTrue (is_sure S.Store self.new)
             → OnErr result (content_of S.Store self.new ≡ content_of S.Store self.old) }
         ensures honest { IsTrue (is_sure S.Store self.new) → IsTrue (is_sure S.Store self.old) }
         ensures cause { HasCause self.old.faults self.new.faults (is_sure S.Store self.new) ⊥ result }
     {
-        match (node_cells(self.alloc, row)?, posted_cells(posted)) {
-            (Some(node), Some(posted)) => self.write_both(&node, posted),
-            _ => Err(self.fault()),
+        match both_cells(self.alloc, row, posted)? {
+            Some((node, posted)) => self.write_both(&node, posted),
+            None => Err(self.fault()),
         }
     }
 
