@@ -43,6 +43,14 @@ fn file_connection(
     Connection::open(rt, path).map_err(file_error)
 }
 
+/// Closes a connection that was refused, and hands back why it was.
+fn closed(conn: Connection<FileStore<File>>, error: SqlOpenError) -> SqlOpenError
+    ensures { result ≡ error }
+{
+    let _ = conn.close();
+    error
+}
+
 /// Makes the tables where there are none, and else tests those that are there. It answers whether each row is as said.
 fn readied<S: Alter>(alloc: Global, conn: &mut Connection<S>) -> Result<bool, SqlOpenError>
     requires { conn.old.in_transaction ≡ false }
@@ -101,26 +109,6 @@ impl<S: Alter> SqlStore<S> {
     }
 }
 
-impl<S: Alter + Drop> SqlStore<S> {
-    /// The same of a connection that is closed where it is refused.
-    fn taken_over(alloc: Global, conn: Connection<S>) -> Result<SqlStore<S>, SqlOpenError>
-        requires { conn.in_transaction ≡ false }
-        ensures fresh { IfOk result (λ s. HasCleanDisk (state S.Store s.conn)
-            → (state S.Store conn).now.schema ≡ no_schema
-            → IsTrue (is_sure S.Store s) × (content_of S.Store s ≡ empty_content)) }
-        ensures version { IfOk result (λ s. HasCleanDisk (state S.Store s.conn)
-            → IsVersion1 (state S.Store s.conn).now) }
-        ensures honest { IfOk result (λ s. HasCleanDisk (state S.Store s.conn)
-            → (IsTrue (is_sure S.Store s) ↔ AreAsSaid (state S.Store s.conn).now.trees)) }
-        ensures faults { IfOk result (λ s. s.faults ≡ 0) }
-    {
-        match SqlStore::adopt(alloc, conn) {
-            Ok(store) => Ok(store),
-            Err((error, _)) => Err(error),
-        }
-    }
-}
-
 impl SqlStore<MemStore> {
     /// A fresh store in memory.
     pub fn in_memory(alloc: Global) -> Result<SqlStore<MemStore>, SqlOpenError>
@@ -128,7 +116,10 @@ impl SqlStore<MemStore> {
         ensures fresh { IfOk result (λ s. content_of over_memory s ≡ empty_content) }
         ensures faults { IfOk result (λ s. s.faults ≡ 0) }
     {
-        SqlStore::taken_over(alloc, Connection::open_in_memory(alloc)?)
+        match SqlStore::adopt(alloc, Connection::open_in_memory(alloc)?) {
+            Ok(store) => Ok(store),
+            Err((error, _)) => Err(error),
+        }
     }
 }
 
@@ -142,6 +133,9 @@ impl SqlStore<FileStore<File>> {
         ensures faults { IfOk result (λ s. s.faults ≡ 0) }
         ensures memory { path.now ≡ codes ":memory:" → result ≡ Err SqlOpenError.Device }
     {
-        SqlStore::taken_over(rt.alloc(), file_connection(rt, path)?)
+        match SqlStore::adopt(rt.alloc(), file_connection(rt, path)?) {
+            Ok(store) => Ok(store),
+            Err((error, conn)) => Err(closed(conn, error)),
+        }
     }
 }
