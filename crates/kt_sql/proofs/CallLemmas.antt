@@ -19,9 +19,9 @@ use Rattle.kt_store.specs.declared.rows.Posted.{Posted}
 use Rattle.kt_store.specs.Verdict.{is_open}
 use Rattle.kt_store.specs.Content.{Content, greatest, is_empty, row_of}
 use Rattle.kt_store.specs.Calls.{HasCause}
-use Rattle.kt_sql.specs.Schema.{kt_schema}
-use Rattle.kt_sql.specs.Text.{put_node_text, put_posted_text, get_node_text, first_node_text, get_posted_text, last_posted_text, open_posted_text}
-use Rattle.kt_sql.specs.Rows.{whole, id_of, HasId, node_given, posted_given, IsNodeRow, IsPosted, Holds, Gives, IsReadError, content_in, number_of, placing}
+use Rattle.kt_tables.specs.Schema.{kt_schema}
+use Rattle.kt_tables.specs.Text.{put_node_text, put_posted_text, get_node_text, first_node_text, get_posted_text, last_posted_text, open_posted_text}
+use Rattle.kt_tables.specs.Rows.{whole, id_of, HasId, node_given, posted_given, IsNodeRow, IsPosted, Holds, Gives, IsReadError, content_in, number_of, placing}
 use Rattle.kt_sql.specs.Store.{Stored, is_sure, content_of, IsKept}
 use Rattle.sqlite.specs.Held.{Held}
 use Rattle.sqlite.specs.State.{HasCleanDisk, Executes}
@@ -30,14 +30,14 @@ use Rattle.sqlite_trees.specs.View.{doubt}
 use Rattle.kt_store.specs.Changes.{storing, restart_begun}
 use Rattle.kt_store.specs.declared.rows.Purpose.TheVariants.{Rollback}
 use Rattle.kt_store.specs.declared.rows.Verdict.TheVariants.{Open}
-use Rattle.kt_sql.specs.Settled.{Stays}
-use Rattle.kt_sql.proofs.StateLemmas.{executed_open, refused_stays, written_settled}
-use Rattle.kt_sql.specs.Both.{RanBoth}
+use Rattle.kt_tables.specs.Settled.{Stays}
+use Rattle.kt_tables.proofs.Shared.{executed_open, refused_stays, written_settled}
+use Rattle.kt_tables.specs.Both.{RanBoth}
 use Rattle.kt_sql.proofs.StoreLemmas.{stayed, wrote}
-use Rattle.kt_sql.proofs.OrderLemmas.{all_inserted}
-use Rattle.kt_sql.proofs.WriteLemmas.{put_node_does, put_posted_does}
-use Rattle.kt_sql.proofs.FoundLemmas.{node_found, some_node_found, posted_found, open_found, last_found, found_is}
-use Rattle.kt_sql.proofs.ReadLemmas.{downwards, first_or_0, first_is_greatest}
+use Rattle.kt_tables.proofs.Shared.{all_inserted}
+use Rattle.kt_tables.proofs.Shared.{put_node_does, put_posted_does}
+use Rattle.kt_tables.proofs.Shared.{node_found, some_node_found, posted_found, open_found, last_found, found_is}
+use Rattle.kt_tables.proofs.Shared.{downwards, first_or_0, first_is_greatest}
 use Rattle.sqlite_keyed.specs.Lists.{sort_by, insert_sorted}
 use Rattle.std.specs.Ordering.{is_gt}
 

@@ -4,9 +4,9 @@ use Rattle.std.specs.Coded.{Coded, code_by, coded×, coded_ℕ, coded_bool}
 use Rattle.sqlite.specs.Store.{Ghosts}
 use Rattle.sqlite.specs.Held.{Held, held_code, state}
 use Rattle.kt_store.specs.Content.{Content}
-use Rattle.kt_sql.specs.Schema.{kt_schema}
-use Rattle.kt_sql.specs.Settled.{IsSettled}
-use Rattle.kt_sql.specs.Rows.{Holds, content_in}
+use Rattle.kt_tables.specs.Schema.{kt_schema}
+use Rattle.kt_tables.specs.Settled.{IsSettled}
+use Rattle.kt_tables.specs.Rows.{Holds, content_in}
 
 pub record Stored (S : Type 0) : Type 0 where
   pub conn : Held S

@@ -5,15 +5,15 @@ ghost use Rattle.kt_store.specs.Content.{greatest, row_of};
 ghost use Rattle.kt_store.specs.Calls.{HasCause};
 ghost use Rattle.kt_sql.specs.Store.{is_sure, content_of};
 
-use crate::changes::{
-    bumped, discarded, incarnation_in, permanent_in, permanent_marks_in, promoted, tentative_in,
-    tentative_marks_in, with_tentative,
-};
-use crate::number::GREATEST;
+use crate::changes::discarded;
 use crate::store::SqlStore;
 use kt_ckpt::{Ckpt, Marks};
 use kt_store::{
     CkptStore, NodeRow, Posted, Purpose, StoreError, Tentative, TentativeMarks, Verdict,
+};
+use kt_tables::{
+    GREATEST, bumped, incarnation_in, permanent_in, permanent_marks_in, promoted, tentative_in,
+    tentative_marks_in, with_tentative,
 };
 use kt_tuple::NodeId;
 use sqlite::Alter;

@@ -1,95 +1,8 @@
-//! What is read of the row of a node, and what each write makes of it. Rows are given back here: where one is alive as
-//! a call of the store ends early, the proof of that call grows by all that a row may hold.
+//! What a write makes of the row of a node.
 
-ghost use Rattle.std.specs.Prelude.{◌≡◌, ◌≤◌, ◌+◌, None, IfOk, MatchOption, option_map};
-ghost use Rattle.kt_ckpt.specs.Marks.{marks_of};
-ghost use Rattle.kt_store.specs.Content.{greatest, marks_in};
-ghost use Rattle.kt_store.specs.Changes.{promoted_from, taken};
+ghost use Rattle.std.specs.Prelude.{◌≡◌, None};
 
-use crate::number::GREATEST;
-use kt_ckpt::{Ckpt, Marks};
-use kt_store::{NodeRow, Tentative, TentativeMarks};
-use std::alloc::{AllocError, Global};
-
-pub(crate) fn incarnation_in(row: NodeRow) -> u64
-    ensures { result ≡ row.incarnation }
-{
-    row.incarnation
-}
-
-pub(crate) fn permanent_in(row: NodeRow) -> Option<Ckpt>
-    ensures { result ≡ row.permanent }
-{
-    row.permanent
-}
-
-pub(crate) fn tentative_in(row: NodeRow) -> Option<Tentative>
-    ensures { result ≡ row.tentative }
-{
-    row.tentative
-}
-
-fn marks_of(alloc: Global, checkpoint: &Option<Ckpt>) -> Result<Option<Marks>, AllocError>
-    ensures { IfOk result (λ m. m ≡ option_map marks_of checkpoint.now) }
-{
-    match checkpoint {
-        Some(checkpoint) => Ok(Some(checkpoint.marks(alloc)?)),
-        None => Ok(None),
-    }
-}
-
-fn marks_in(
-    alloc: Global,
-    tentative: &Option<Tentative>,
-) -> Result<Option<TentativeMarks>, AllocError>
-    ensures { IfOk result (λ m. m ≡ option_map marks_in tentative.now) }
-{
-    match tentative {
-        Some(tentative) => Ok(Some(tentative.marks(alloc)?)),
-        None => Ok(None),
-    }
-}
-
-pub(crate) fn permanent_marks_in(alloc: Global, row: NodeRow) -> Result<Option<Marks>, AllocError>
-    ensures { IfOk result (λ m. m ≡ option_map marks_of row.permanent) }
-{
-    marks_of(alloc, &row.permanent)
-}
-
-pub(crate) fn tentative_marks_in(
-    alloc: Global,
-    row: NodeRow,
-) -> Result<Option<TentativeMarks>, AllocError>
-    ensures { IfOk result (λ m. m ≡ option_map marks_in row.tentative) }
-{
-    marks_in(alloc, &row.tentative)
-}
-
-/// The row with a tentative checkpoint in the instance.
-pub(crate) fn with_tentative(
-    alloc: Global,
-    mut row: NodeRow,
-    instance: u64,
-    ckpt: &Ckpt,
-) -> Result<NodeRow, AllocError>
-    ensures { IfOk result (λ r. r ≡ record row { tentative = taken instance ckpt.now }) }
-{
-    row.tentative = Some(Tentative {
-        instance,
-        checkpoint: ckpt.copy(alloc)?,
-    });
-    Ok(row)
-}
-
-/// The row with its tentative checkpoint made permanent, where there is one.
-pub(crate) fn promoted(mut row: NodeRow) -> NodeRow
-    ensures { result ≡ record row { permanent = promoted_from row.permanent row.tentative; tentative = None } }
-{
-    if let Some(Tentative { checkpoint, .. }) = row.tentative.take() {
-        row.permanent = Some(checkpoint);
-    }
-    row
-}
+use kt_store::NodeRow;
 
 /// The row without its tentative checkpoint.
 pub(crate) fn discarded(mut row: NodeRow) -> NodeRow
@@ -97,17 +10,4 @@ pub(crate) fn discarded(mut row: NodeRow) -> NodeRow
 {
     row.tentative = None;
     row
-}
-
-/// The row in its next incarnation, where a table holds its number.
-pub(crate) fn bumped(mut row: NodeRow) -> Option<NodeRow>
-    requires { row.incarnation ≤ greatest }
-    ensures { MatchOption result (row.incarnation ≡ greatest)
-        (λ r. r ≡ record row { incarnation = row.incarnation + 1 }) }
-{
-    if row.incarnation == GREATEST {
-        return None;
-    }
-    row.incarnation += 1;
-    Some(row)
 }

@@ -6,17 +6,16 @@ ghost use Rattle.sqlite.specs.Held.{state};
 ghost use Rattle.sqlite.specs.State.{HasCleanDisk};
 ghost use Rattle.sqlite.specs.Steps.{over_memory};
 ghost use Rattle.kt_store.specs.Content.{empty_content};
-ghost use Rattle.kt_sql.specs.Schema.{no_schema};
-ghost use Rattle.kt_sql.specs.Rows.{AreAsSaid};
-ghost use Rattle.kt_sql.specs.Opened.{IsVersion1, IsReady};
-ghost use Rattle.kt_sql.specs.Made.{IsMade};
+ghost use Rattle.kt_tables.specs.Schema.{no_schema};
+ghost use Rattle.kt_tables.specs.Rows.{AreAsSaid};
+ghost use Rattle.kt_tables.specs.Opened.{IsVersion1, IsReady};
+ghost use Rattle.kt_tables.specs.Made.{IsMade};
 ghost use Rattle.kt_sql.specs.Store.{is_sure, content_of};
 
 use crate::error::SqlOpenError;
-use crate::opened::{statement_error, tested};
-use crate::schema::is_no_schema;
 use crate::store::SqlStore;
-use crate::tables::create_tables;
+use kt_store::StoreError;
+use kt_tables::readied;
 use sqlite::{Alter, Connection, Error, ErrorCode, File, FileStore, MemStore};
 use std::alloc::Global;
 
@@ -51,30 +50,15 @@ fn closed(conn: Connection<FileStore<File>>, error: SqlOpenError) -> SqlOpenErro
     error
 }
 
-/// Makes the tables where there are none, and else tests those that are there. It answers whether each row is as said.
-fn readied<S: Alter>(alloc: Global, conn: &mut Connection<S>) -> Result<bool, SqlOpenError>
-    requires { conn.old.in_transaction ≡ false }
-    ensures ready { HasCleanDisk (state S.Store conn.new) → IfOk result (IsReady (state S.Store conn.new)) }
-    ensures fresh { HasCleanDisk (state S.Store conn.new) → (state S.Store conn.old).now.schema ≡ no_schema
-        → OnOk result (IsMade (state S.Store conn.new)) }
-    ensures found { HasCleanDisk (state S.Store conn.new) → (state S.Store conn.old).now.schema ≢ no_schema
-        → OnOk result ((state S.Store conn.new).now ≡ (state S.Store conn.old).now) }
-    ensures damaged { HasCleanDisk (state S.Store conn.new) → result ≡ Err SqlOpenError.Damaged
-        → ((state S.Store conn.old).now.schema ≢ no_schema) × (IsVersion1 (state S.Store conn.old).now → ⊥) }
-    ensures unchanged { HasCleanDisk (state S.Store conn.new) → IsTrue (state S.Store conn.new).is_open
-        → OnErr result ((state S.Store conn.new).now ≡ (state S.Store conn.old).now) }
-    ensures ended { conn.new.in_transaction ≡ false }
+/// Why a connection is no store's.
+fn open_error(error: StoreError) -> SqlOpenError
+    ensures { result ≡ SqlOpenError.Damaged → error ≡ StoreError.Damaged }
 {
-    // Outside a transaction what is seen is what was committed.
-    let is_settled = conn.is_autocommit();
-    prove!(is_settled);
-    if is_no_schema(conn.schema()) {
-        return match create_tables(conn) {
-            Ok(()) => Ok(true),
-            Err(error) => Err(statement_error(error)),
-        };
+    match error {
+        StoreError::Memory => SqlOpenError::Memory,
+        StoreError::Damaged => SqlOpenError::Damaged,
+        StoreError::Device | StoreError::Full => SqlOpenError::Device,
     }
-    tested(alloc, conn)
 }
 
 impl<S: Alter> SqlStore<S> {
@@ -104,7 +88,7 @@ impl<S: Alter> SqlStore<S> {
     {
         match readied(alloc, &mut conn) {
             Ok(is_trusted) => Ok(SqlStore::over(alloc, conn, is_trusted)),
-            Err(error) => Err((error, conn)),
+            Err(error) => Err((open_error(error), conn)),
         }
     }
 }

@@ -9,17 +9,14 @@ ghost use Rattle.kt_store.specs.declared.rows.Posted.{Posted as PostedFields};
 ghost use Rattle.kt_store.specs.Verdict.{is_open};
 ghost use Rattle.kt_store.specs.Content.{greatest, is_empty};
 ghost use Rattle.kt_store.specs.Calls.{HasCause};
-ghost use Rattle.kt_sql.specs.Rows.{node_given, posted_given, IsNodeRow, IsPosted, Gives, IsReadError, number_of};
+ghost use Rattle.kt_tables.specs.Rows.{node_given, posted_given, IsNodeRow, IsPosted, Gives, IsReadError, number_of};
 ghost use Rattle.kt_sql.specs.Store.{is_sure, content_of};
 
-use crate::ids::id_of;
-use crate::number::Number;
-use crate::rows::{node_row, posted_row};
 use crate::store::SqlStore;
 use kt_store::{NodeRow, Posted, StoreError};
+use kt_tables::{Number, first_node, first_number, first_posted, has_no_row, id_of};
 use kt_tuple::NodeId;
-use sqlite::{Alter, Row, params};
-use std::alloc::Global;
+use sqlite::{Alter, params};
 
 const GET_NODE: &str =
     "SELECT id, incarnation, permanent, tentative, instance FROM kt_node WHERE id = ?1 ORDER BY id";
@@ -36,51 +33,6 @@ const LAST_POSTED: &str =
 const OPEN_POSTED: &str =
     "SELECT instance, initiator, purpose, verdict FROM kt_board WHERE initiator = ?1 AND verdict = 0 \
      ORDER BY instance LIMIT 1";
-
-/// The node of the first row.
-fn first_node(alloc: Global, rows: &[Row]) -> Result<Option<NodeRow>, StoreError>
-    ensures found { IfOk result (λ o. IfSome o IsNodeRow) }
-    ensures exact { (o : Option NodeFields) → IfSome o IsNodeRow → slice_get rows.now 0 ≡ option_map node_given o
-        → Gives o result }
-    ensures named { IfErr result IsReadError }
-{
-    match rows.first() {
-        Some(row) => Ok(Some(node_row(alloc, row)?)),
-        None => Ok(None),
-    }
-}
-
-/// The instance of the first row.
-fn first_posted(rows: &[Row]) -> Result<Option<Posted>, StoreError>
-    ensures found { IfOk result (λ o. IfSome o IsPosted) }
-    ensures exact { (o : Option PostedFields) → IfSome o IsPosted → slice_get rows.now 0 ≡ option_map posted_given o
-        → Gives o result }
-    ensures named { IfErr result IsReadError }
-{
-    match rows.first() {
-        Some(row) => Ok(Some(posted_row(row)?)),
-        None => Ok(None),
-    }
-}
-
-fn has_no_row(rows: &[Row]) -> bool
-    ensures { result ≡ (length rows.now == 0) }
-{
-    rows.is_empty()
-}
-
-/// The number of the instance of the first row, 0 where there is none.
-fn first_number(rows: &[Row]) -> Result<u64, StoreError>
-    ensures found { IfOk result (λ n. n ≤ greatest) }
-    ensures exact { (o : Option PostedFields) → IfSome o IsPosted → slice_get rows.now 0 ≡ option_map posted_given o
-        → Gives (number_of o) result }
-    ensures named { IfErr result IsReadError }
-{
-    match first_posted(rows)? {
-        Some(posted) => Ok(posted.instance),
-        None => Ok(0),
-    }
-}
 
 impl<S: Alter> SqlStore<S> {
     /// The row of the node, where it has one.

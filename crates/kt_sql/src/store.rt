@@ -9,18 +9,20 @@ ghost use Rattle.sqlite_trees.specs.View.{doubt};
 ghost use Rattle.kt_store.specs.declared.rows.NodeRow.{NodeRow as NodeFields};
 ghost use Rattle.kt_store.specs.declared.rows.Posted.{Posted as PostedFields};
 ghost use Rattle.kt_store.specs.Changes.{storing};
-ghost use Rattle.kt_sql.specs.Text.{put_node_text};
-ghost use Rattle.kt_sql.specs.Rows.{IsNodeRow, IsPosted, node_given, posted_given, placing};
-ghost use Rattle.kt_sql.specs.Opened.{IsReady};
-ghost use Rattle.kt_sql.specs.Cells.{SpellsNode, SpellsPosted};
+ghost use Rattle.kt_tables.specs.Text.{put_node_text};
+ghost use Rattle.kt_tables.specs.Rows.{IsNodeRow, IsPosted, node_given, posted_given, placing};
+ghost use Rattle.kt_tables.specs.Opened.{IsReady};
+ghost use Rattle.kt_tables.specs.Cells.{SpellsNode, SpellsPosted};
 ghost use Rattle.sqlite.specs.Given.{IsPlain};
 ghost use Rattle.kt_store.specs.Calls.{HasCause, most_faults};
-ghost use Rattle.kt_sql.specs.Schema.{kt_schema};
+ghost use Rattle.kt_tables.specs.Schema.{kt_schema};
 ghost use Rattle.kt_sql.specs.Store.{is_sure, content_of, IsKept};
 
-use crate::cells::{NodeCells, PostedCells, both_cells, into_node_cells, posted_cells};
-use crate::statements::{execute_both, execute_node, execute_posted};
 use kt_store::{NodeRow, Posted, StoreError};
+use kt_tables::{
+    NodeCells, PostedCells, both_cells, execute_both, execute_node, execute_posted, into_node_cells,
+    posted_cells,
+};
 use sqlite::types::ValueRef;
 use sqlite::{Alter, Connection, Error, ErrorCode, Row};
 use std::alloc::Global;

@@ -3,8 +3,8 @@ use Rattle.std.specs.Prelude.{◌↔◌, IsTrue}
 use Rattle.sqlite.specs.Held.{state}
 use Rattle.sqlite.specs.State.{HasCleanDisk}
 use Rattle.kt_store.specs.Content.{empty_content}
-use Rattle.kt_sql.specs.Schema.{no_schema}
-use Rattle.kt_sql.specs.Rows.{AreAsSaid}
+use Rattle.kt_tables.specs.Schema.{no_schema}
+use Rattle.kt_tables.specs.Rows.{AreAsSaid}
 use Rattle.kt_sql.specs.Store.{Stored, is_sure, content_of}
 use Rattle.kt_sql.proofs.StoreLemmas.{ready_sure, made_fresh}
 use Rattle.kt_sql.proofs.store.SqlStore.adopt.Goals as goal

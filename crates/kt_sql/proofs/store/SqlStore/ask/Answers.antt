@@ -3,7 +3,7 @@ use Rattle.sqlite.specs.Held.{state}
 use Rattle.sqlite.specs.State.{Shown}
 use Rattle.sqlite.specs.Values.{bound}
 use Rattle.kt_sql.specs.Store.{Stored, is_sure}
-use Rattle.kt_sql.proofs.StateLemmas.{query_stays, query_refused_stays}
+use Rattle.kt_tables.proofs.Shared.{query_stays, query_refused_stays}
 use Rattle.kt_sql.proofs.StoreLemmas.{stayed, sure_parts}
 use Rattle.kt_sql.proofs.store.SqlStore.ask.Goals as goal
 

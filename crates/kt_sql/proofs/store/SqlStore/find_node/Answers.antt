@@ -1,10 +1,10 @@
 use Rattle.std.proofs.Common.{◌≤◌, [], ◌∷◌, slice_get, sym, ap, ◌∙◌}
 use Rattle.sqlite.specs.Held.{state}
 use Rattle.sqlite.specs.State.{Shown}
-use Rattle.kt_sql.specs.Text.{get_node_text}
-use Rattle.kt_sql.specs.Rows.{whole, id_of}
+use Rattle.kt_tables.specs.Text.{get_node_text}
+use Rattle.kt_tables.specs.Rows.{whole, id_of}
 use Rattle.kt_sql.specs.Store.{is_sure}
-use Rattle.kt_sql.proofs.Texts.{get_node_is}
+use Rattle.kt_tables.proofs.Shared.{get_node_is}
 use Rattle.kt_sql.proofs.CallLemmas.{gives_value, gives_memory, read_cause, node_read, no_node_read}
 use Rattle.kt_sql.proofs.store.SqlStore.find_node.Goals as goal
 

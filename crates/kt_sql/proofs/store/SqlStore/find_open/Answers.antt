@@ -1,10 +1,10 @@
 use Rattle.std.proofs.Common.{◌≤◌, [], ◌∷◌, slice_get, sym, ap, ◌∙◌}
 use Rattle.sqlite.specs.Held.{state}
 use Rattle.sqlite.specs.State.{Shown}
-use Rattle.kt_sql.specs.Text.{open_posted_text}
-use Rattle.kt_sql.specs.Rows.{whole, id_of}
+use Rattle.kt_tables.specs.Text.{open_posted_text}
+use Rattle.kt_tables.specs.Rows.{whole, id_of}
 use Rattle.kt_sql.specs.Store.{is_sure}
-use Rattle.kt_sql.proofs.Texts.{open_posted_is}
+use Rattle.kt_tables.proofs.Shared.{open_posted_is}
 use Rattle.kt_sql.proofs.CallLemmas.{gives_value, gives_memory, read_cause, open_read, no_open_read}
 use Rattle.kt_sql.proofs.store.SqlStore.find_open.Goals as goal
 

@@ -1,10 +1,10 @@
 use Rattle.std.proofs.Common.{◌≤◌, [], ◌∷◌, slice_get, sym, ap, ◌∙◌}
 use Rattle.sqlite.specs.Held.{state}
 use Rattle.sqlite.specs.State.{Shown}
-use Rattle.kt_sql.specs.Text.{get_posted_text}
-use Rattle.kt_sql.specs.Rows.{whole}
+use Rattle.kt_tables.specs.Text.{get_posted_text}
+use Rattle.kt_tables.specs.Rows.{whole}
 use Rattle.kt_sql.specs.Store.{is_sure}
-use Rattle.kt_sql.proofs.Texts.{get_posted_is}
+use Rattle.kt_tables.proofs.Shared.{get_posted_is}
 use Rattle.kt_sql.proofs.CallLemmas.{gives_value, gives_memory, read_cause, posted_read, no_posted_read}
 use Rattle.kt_sql.proofs.store.SqlStore.find_posted.Goals as goal
 

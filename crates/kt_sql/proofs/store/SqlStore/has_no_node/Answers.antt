@@ -1,5 +1,5 @@
 use Rattle.std.proofs.Common.{length, ◌==◌, ap, ◌∙◌}
-use Rattle.kt_sql.proofs.Texts.{first_node_is}
+use Rattle.kt_tables.proofs.Shared.{first_node_is}
 use Rattle.kt_sql.proofs.CallLemmas.{nodes_read}
 use Rattle.kt_sql.proofs.store.SqlStore.has_no_node.Goals as goal
 

@@ -1,5 +1,5 @@
 use Rattle.std.proofs.Common.{length, ◌==◌, ap, ◌∙◌}
-use Rattle.kt_sql.proofs.Texts.{last_posted_is}
+use Rattle.kt_tables.proofs.Shared.{last_posted_is}
 use Rattle.kt_sql.proofs.CallLemmas.{board_read}
 use Rattle.kt_sql.proofs.store.SqlStore.has_no_posted.Goals as goal
 

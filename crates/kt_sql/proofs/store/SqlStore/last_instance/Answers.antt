@@ -1,6 +1,6 @@
 use Rattle.std.proofs.Common.{◌≡◌, ◌≤◌, slice_get, IfOk, subst, ap, ◌∙◌}
 use Rattle.kt_sql.specs.Store.{is_sure, content_of}
-use Rattle.kt_sql.proofs.Texts.{last_posted_is}
+use Rattle.kt_tables.proofs.Shared.{last_posted_is}
 use Rattle.kt_sql.proofs.CallLemmas.{gives_value, gives_memory, read_cause, last_read, last_number}
 use Rattle.kt_sql.proofs.store.SqlStore.last_instance.Goals as goal
 

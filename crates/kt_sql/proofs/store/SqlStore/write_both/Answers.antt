@@ -1,8 +1,8 @@
 use Rattle.std.proofs.Common.{◌≡◌, ◌∙◌, true, ap, subst}
 use Rattle.kt_store.specs.Changes.{storing}
-use Rattle.kt_sql.specs.Rows.{placing}
+use Rattle.kt_tables.specs.Rows.{placing}
 use Rattle.kt_sql.specs.Store.{Stored, is_sure, content_of}
-use Rattle.kt_sql.proofs.StateLemmas.{undone_stays}
+use Rattle.kt_tables.proofs.Shared.{undone_stays}
 use Rattle.kt_sql.proofs.CallLemmas.{both_wrote, neither_wrote}
 use Rattle.kt_sql.proofs.store.SqlStore.write_both.Goals as goal
 

@@ -1,7 +1,7 @@
 use Rattle.std.proofs.Common.{◌≡◌, ◌∙◌, true, ap, subst}
 use Rattle.kt_store.specs.Changes.{storing}
-use Rattle.kt_sql.specs.Text.{put_node_text}
-use Rattle.kt_sql.specs.Rows.{node_given}
+use Rattle.kt_tables.specs.Text.{put_node_text}
+use Rattle.kt_tables.specs.Rows.{node_given}
 use Rattle.kt_sql.specs.Store.{Stored, is_sure, content_of}
 use Rattle.kt_sql.proofs.CallLemmas.{node_wrote, not_wrote}
 use Rattle.kt_sql.proofs.store.SqlStore.write_node.Goals as goal

@@ -1,6 +1,6 @@
 use Rattle.std.proofs.Common.{◌≡◌, ◌∙◌, true, ap, subst}
-use Rattle.kt_sql.specs.Text.{put_posted_text}
-use Rattle.kt_sql.specs.Rows.{posted_given, placing}
+use Rattle.kt_tables.specs.Text.{put_posted_text}
+use Rattle.kt_tables.specs.Rows.{posted_given, placing}
 use Rattle.kt_sql.specs.Store.{Stored, is_sure, content_of}
 use Rattle.kt_sql.proofs.CallLemmas.{posted_wrote, not_wrote}
 use Rattle.kt_sql.proofs.store.SqlStore.write_posted.Goals as goal
