@@ -80,7 +80,8 @@ fn push_command(out: &mut Vec<u8>, command: &Command) -> Result<(), AllocError>
 
 /// The names of a sum: the one that is set, and the one that is added to.
 fn push_names(out: &mut Vec<u8>, variable: &Name, source: &Name) -> Result<(), AllocError>
-    ensures ok { OnOk result (out.new.items ≡ out.old.items ++ codes "set " ++ variable.now ++ codes " = " ++ source.now) }
+    ensures ok { OnOk result (out.new.items ≡ out.old.items ++ codes "set " ++ variable.now
+        ++ codes " = " ++ source.now) }
     ensures front { StartsWith out.new.items out.old.items }
 {
     out.extend_from_slice(b"set ")?;
