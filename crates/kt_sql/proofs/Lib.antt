@@ -1,14 +1,1 @@
 pub mod CallLemmas
-pub mod FoundLemmas
-pub mod MadeLemmas
-pub mod OpenedLemmas
-pub mod OrderLemmas
-pub mod PutLemmas
-pub mod ReadLemmas
-pub mod RowLemmas
-pub mod SchemaLemmas
-pub mod StateLemmas
-pub mod StoreLemmas
-pub mod TableRows
-pub mod Texts
-pub mod WriteLemmas

@@ -1,47 +1,23 @@
 //! The calls of a store.
 
-ghost use Rattle.std.specs.Prelude.{◌≡◌, ◌≤◌, IfOk, IsTrue};
-ghost use Rattle.kt_store.specs.Content.{greatest, row_of};
-ghost use Rattle.kt_store.specs.Calls.{HasCause};
-ghost use Rattle.kt_sql.specs.Store.{is_sure, content_of};
+ghost use Rattle.kt_tables.specs.Held.{is_sure, content_of};
 
-use crate::number::GREATEST;
+use crate::changes::discarded;
 use crate::store::SqlStore;
 use kt_ckpt::{Ckpt, Marks};
-use kt_store::{
-    CkptStore, NodeRow, Posted, Purpose, StoreError, Tentative, TentativeMarks, Verdict,
+use kt_store::{CkptStore, Posted, Purpose, StoreError, Tentative, TentativeMarks, Verdict};
+use kt_tables::{
+    GREATEST, bumped, incarnation_in, permanent_in, permanent_marks_in, promoted, tentative_in,
+    tentative_marks_in, with_tentative,
 };
 use kt_tuple::NodeId;
 use sqlite::Alter;
 use std::alloc::Global;
 
-impl<S: Alter> SqlStore<S> {
-    /// What is stored of the node.
-    fn row_of(&mut self, node: NodeId) -> Result<NodeRow, StoreError>
-        ensures value { IsTrue (is_sure S.Store self.new)
-            → IfOk result (λ r. r ≡ row_of (content_of S.Store self.old) node) }
-        ensures first { IfOk result (λ r. 1 ≤ r.incarnation) }
-        ensures last { IfOk result (λ r. r.incarnation ≤ greatest) }
-        ensures same { IsTrue (is_sure S.Store self.new) → content_of S.Store self.new ≡ content_of S.Store self.old }
-        ensures honest { IsTrue (is_sure S.Store self.new) → IsTrue (is_sure S.Store self.old) }
-        ensures cause { HasCause self.old.faults self.new.faults (is_sure S.Store self.new) ⊥ result }
-    {
-        match self.find_node(node)? {
-            Some(row) => Ok(row),
-            None => Ok(NodeRow {
-                node,
-                incarnation: 1,
-                permanent: None,
-                tentative: None,
-            }),
-        }
-    }
-}
-
 impl<S: Alter> CkptStore for SqlStore<S> {
-    ghost content = { content_of S.Store };
+    ghost content = { λ s. content_of S.Store s.tables };
 
-    ghost is_honest = { is_sure S.Store };
+    ghost is_honest = { λ s. is_sure S.Store s.tables };
 
     ghost fault_count = { λ s. s.faults };
 
@@ -50,15 +26,15 @@ impl<S: Alter> CkptStore for SqlStore<S> {
     }
 
     fn incarnation(&mut self, node: NodeId) -> Result<u64, StoreError> {
-        Ok(self.row_of(node)?.incarnation)
+        Ok(incarnation_in(self.row_of(node)?))
     }
 
     fn permanent(&mut self, _: Global, node: NodeId) -> Result<Option<Ckpt>, StoreError> {
-        Ok(self.row_of(node)?.permanent)
+        Ok(permanent_in(self.row_of(node)?))
     }
 
     fn tentative(&mut self, _: Global, node: NodeId) -> Result<Option<Tentative>, StoreError> {
-        Ok(self.row_of(node)?.tentative)
+        Ok(tentative_in(self.row_of(node)?))
     }
 
     fn permanent_marks(
@@ -66,11 +42,7 @@ impl<S: Alter> CkptStore for SqlStore<S> {
         alloc: Global,
         node: NodeId,
     ) -> Result<Option<Marks>, StoreError> {
-        let row = self.row_of(node)?;
-        match &row.permanent {
-            Some(checkpoint) => Ok(Some(checkpoint.marks(alloc)?)),
-            None => Ok(None),
-        }
+        Ok(permanent_marks_in(alloc, self.row_of(node)?)?)
     }
 
     fn tentative_marks(
@@ -78,11 +50,7 @@ impl<S: Alter> CkptStore for SqlStore<S> {
         alloc: Global,
         node: NodeId,
     ) -> Result<Option<TentativeMarks>, StoreError> {
-        let row = self.row_of(node)?;
-        match &row.tentative {
-            Some(tentative) => Ok(Some(tentative.marks(alloc)?)),
-            None => Ok(None),
-        }
+        Ok(tentative_marks_in(alloc, self.row_of(node)?)?)
     }
 
     fn verdict(&mut self, instance: u64) -> Result<Option<Verdict>, StoreError> {
@@ -110,21 +78,14 @@ impl<S: Alter> CkptStore for SqlStore<S> {
         if last == GREATEST {
             return Err(StoreError::Full);
         }
-        let instance = last + 1;
-        let mut row = self.row_of(node)?;
-        row.tentative = Some(Tentative {
-            instance,
-            checkpoint: ckpt.copy(self.allocator())?,
-        });
-        self.put_both(
-            &row,
-            Posted {
-                instance,
-                initiator: node,
-                purpose: Purpose::Check,
-                verdict: Verdict::Open,
-            },
-        )
+        let row = with_tentative(self.allocator(), self.row_of(node)?, last + 1, ckpt)?;
+        let check = Posted {
+            instance: last + 1,
+            initiator: node,
+            purpose: Purpose::Check,
+            verdict: Verdict::Open,
+        };
+        self.put_both(row, check)
     }
 
     fn put_tentative(
@@ -133,53 +94,42 @@ impl<S: Alter> CkptStore for SqlStore<S> {
         instance: u64,
         ckpt: &Ckpt,
     ) -> Result<(), StoreError> {
-        let mut row = self.row_of(node)?;
-        row.tentative = Some(Tentative {
-            instance,
-            checkpoint: ckpt.copy(self.allocator())?,
-        });
-        self.put_node(&row)
+        let row = with_tentative(self.allocator(), self.row_of(node)?, instance, ckpt)?;
+        self.put_node(row)
     }
 
     fn promote(&mut self, node: NodeId) -> Result<(), StoreError> {
-        let mut row = self.row_of(node)?;
-        if let Some(Tentative { checkpoint, .. }) = row.tentative.take() {
-            row.permanent = Some(checkpoint);
-        }
-        self.put_node(&row)
+        let row = promoted(self.row_of(node)?);
+        self.put_node(row)
     }
 
     fn discard(&mut self, node: NodeId) -> Result<(), StoreError> {
-        let mut row = self.row_of(node)?;
-        row.tentative = None;
-        self.put_node(&row)
+        let row = discarded(self.row_of(node)?);
+        self.put_node(row)
     }
 
     fn begin_restart(&mut self, node: NodeId) -> Result<(), StoreError> {
         let last = self.last_instance()?;
-        let mut row = self.row_of(node)?;
-        if last == GREATEST || row.incarnation == GREATEST {
+        if last == GREATEST {
             return Err(StoreError::Full);
         }
-        row.incarnation += 1;
-        self.put_both(
-            &row,
-            Posted {
-                instance: last + 1,
-                initiator: node,
-                purpose: Purpose::Rollback,
-                verdict: Verdict::Open,
-            },
-        )
+        let Some(row) = bumped(self.row_of(node)?) else {
+            return Err(StoreError::Full);
+        };
+        let rollback = Posted {
+            instance: last + 1,
+            initiator: node,
+            purpose: Purpose::Rollback,
+            verdict: Verdict::Open,
+        };
+        self.put_both(row, rollback)
     }
 
     fn bump(&mut self, node: NodeId) -> Result<(), StoreError> {
-        let mut row = self.row_of(node)?;
-        if row.incarnation == GREATEST {
-            return Err(StoreError::Full);
+        match bumped(self.row_of(node)?) {
+            Some(row) => self.put_node(row),
+            None => Err(StoreError::Full),
         }
-        row.incarnation += 1;
-        self.put_node(&row)
     }
 
     fn decide(&mut self, instance: u64, yes: bool) -> Result<(), StoreError> {

@@ -1,22 +1,20 @@
 //! How a store is opened.
 
-ghost use Rattle.std.specs.Prelude.{◌≡◌, ◌≢◌, ◌↔◌, ◌⊎◌, false, codes, Err, IfOk, IfErr, OnOk, OnErr, IsTrue};
+ghost use Rattle.std.specs.Prelude.{◌≡◌, ◌≢◌, ◌↔◌, false, codes, Err, IfOk, IfErr, IsTrue};
 ghost use Rattle.sqlite.specs.Files.{over_files, file_state};
 ghost use Rattle.sqlite.specs.Held.{state};
 ghost use Rattle.sqlite.specs.State.{HasCleanDisk};
 ghost use Rattle.sqlite.specs.Steps.{over_memory};
 ghost use Rattle.kt_store.specs.Content.{empty_content};
-ghost use Rattle.kt_sql.specs.Schema.{no_schema};
-ghost use Rattle.kt_sql.specs.Rows.{AreAsSaid};
-ghost use Rattle.kt_sql.specs.Opened.{IsVersion1, IsReady};
-ghost use Rattle.kt_sql.specs.Made.{IsMade};
-ghost use Rattle.kt_sql.specs.Store.{is_sure, content_of};
+ghost use Rattle.kt_tables.specs.Schema.{no_schema};
+ghost use Rattle.kt_tables.specs.Rows.{AreAsSaid};
+ghost use Rattle.kt_tables.specs.Opened.{IsVersion1};
+ghost use Rattle.kt_tables.specs.Held.{is_sure, content_of};
 
 use crate::error::SqlOpenError;
-use crate::opened::{statement_error, tested};
-use crate::schema::is_no_schema;
 use crate::store::SqlStore;
-use crate::tables::create_tables;
+use kt_store::StoreError;
+use kt_tables::readied;
 use sqlite::{Alter, Connection, Error, ErrorCode, File, FileStore, MemStore};
 use std::alloc::Global;
 
@@ -32,30 +30,34 @@ fn file_error(error: Error) -> SqlOpenError
     }
 }
 
-/// Makes the tables where there are none, and else tests those that are there. It answers whether each row is as said.
-fn readied<S: Alter>(alloc: Global, conn: &mut Connection<S>) -> Result<bool, SqlOpenError>
-    requires { conn.old.in_transaction ≡ false }
-    ensures ready { HasCleanDisk (state S.Store conn.new) → IfOk result (IsReady (state S.Store conn.new)) }
-    ensures fresh { HasCleanDisk (state S.Store conn.new) → (state S.Store conn.old).now.schema ≡ no_schema
-        → OnOk result (IsMade (state S.Store conn.new)) }
-    ensures found { HasCleanDisk (state S.Store conn.new) → (state S.Store conn.old).now.schema ≢ no_schema
-        → OnOk result ((state S.Store conn.new).now ≡ (state S.Store conn.old).now) }
-    ensures damaged { HasCleanDisk (state S.Store conn.new) → result ≡ Err SqlOpenError.Damaged
-        → ((state S.Store conn.old).now.schema ≢ no_schema) × (IsVersion1 (state S.Store conn.old).now → ⊥) }
-    ensures unchanged { HasCleanDisk (state S.Store conn.new) → IsTrue (state S.Store conn.new).is_open
-        → OnErr result ((state S.Store conn.new).now ≡ (state S.Store conn.old).now) }
-    ensures ended { conn.new.in_transaction ≡ false }
+/// The connection to the database at the path.
+fn file_connection(
+    rt: &HostRuntime,
+    path: &str,
+) -> Result<Connection<FileStore<File>>, SqlOpenError>
+    ensures ended { IfOk result (λ c. c.in_transaction ≡ false) }
+    ensures memory { path.now ≡ codes ":memory:" → result ≡ Err SqlOpenError.Device }
 {
-    // Outside a transaction what is seen is what was committed.
-    let is_settled = conn.is_autocommit();
-    prove!(is_settled);
-    if is_no_schema(conn.schema()) {
-        return match create_tables(conn) {
-            Ok(()) => Ok(true),
-            Err(error) => Err(statement_error(error)),
-        };
+    Connection::open(rt, path).map_err(file_error)
+}
+
+/// Closes a connection that was refused, and hands back why it was.
+fn closed(conn: Connection<FileStore<File>>, error: SqlOpenError) -> SqlOpenError
+    ensures { result ≡ error }
+{
+    let _ = conn.close();
+    error
+}
+
+/// Why a connection is no store's.
+fn open_error(error: StoreError) -> SqlOpenError
+    ensures { result ≡ SqlOpenError.Damaged → error ≡ StoreError.Damaged }
+{
+    match error {
+        StoreError::Memory => SqlOpenError::Memory,
+        StoreError::Damaged => SqlOpenError::Damaged,
+        StoreError::Device | StoreError::Full => SqlOpenError::Device,
     }
-    tested(alloc, conn)
 }
 
 impl<S: Alter> SqlStore<S> {
@@ -67,15 +69,15 @@ impl<S: Alter> SqlStore<S> {
         mut conn: Connection<S>,
     ) -> Result<SqlStore<S>, (SqlOpenError, Connection<S>)>
         requires { conn.in_transaction ≡ false }
-        ensures fresh { IfOk result (λ s. HasCleanDisk (state S.Store s.conn)
+        ensures fresh { IfOk result (λ s. HasCleanDisk (state S.Store s.tables.conn)
             → (state S.Store conn).now.schema ≡ no_schema
-            → IsTrue (is_sure S.Store s) × (content_of S.Store s ≡ empty_content)) }
-        ensures found { IfOk result (λ s. HasCleanDisk (state S.Store s.conn)
-            → (state S.Store conn).now.schema ≢ no_schema → (state S.Store s.conn).now ≡ (state S.Store conn).now) }
-        ensures version { IfOk result (λ s. HasCleanDisk (state S.Store s.conn)
-            → IsVersion1 (state S.Store s.conn).now) }
-        ensures honest { IfOk result (λ s. HasCleanDisk (state S.Store s.conn)
-            → (IsTrue (is_sure S.Store s) ↔ AreAsSaid (state S.Store s.conn).now.trees)) }
+            → IsTrue (is_sure S.Store s.tables) × (content_of S.Store s.tables ≡ empty_content)) }
+        ensures found { IfOk result (λ s. HasCleanDisk (state S.Store s.tables.conn)
+            → (state S.Store conn).now.schema ≢ no_schema → (state S.Store s.tables.conn).now ≡ (state S.Store conn).now) }
+        ensures version { IfOk result (λ s. HasCleanDisk (state S.Store s.tables.conn)
+            → IsVersion1 (state S.Store s.tables.conn).now) }
+        ensures honest { IfOk result (λ s. HasCleanDisk (state S.Store s.tables.conn)
+            → (IsTrue (is_sure S.Store s.tables) ↔ AreAsSaid (state S.Store s.tables.conn).now.trees)) }
         ensures faults { IfOk result (λ s. s.faults ≡ 0) }
         ensures damaged { IfErr result (λ e. e.0 ≡ SqlOpenError.Damaged → HasCleanDisk (state S.Store e.1)
             → ((state S.Store conn).now.schema ≢ no_schema) × (IsVersion1 (state S.Store conn).now → ⊥)) }
@@ -85,7 +87,7 @@ impl<S: Alter> SqlStore<S> {
     {
         match readied(alloc, &mut conn) {
             Ok(is_trusted) => Ok(SqlStore::over(alloc, conn, is_trusted)),
-            Err(error) => Err((error, conn)),
+            Err(error) => Err((open_error(error), conn)),
         }
     }
 }
@@ -93,8 +95,8 @@ impl<S: Alter> SqlStore<S> {
 impl SqlStore<MemStore> {
     /// A fresh store in memory.
     pub fn in_memory(alloc: Global) -> Result<SqlStore<MemStore>, SqlOpenError>
-        ensures honest { IfOk result (λ s. IsTrue (is_sure over_memory s)) }
-        ensures fresh { IfOk result (λ s. content_of over_memory s ≡ empty_content) }
+        ensures honest { IfOk result (λ s. IsTrue (is_sure over_memory s.tables)) }
+        ensures fresh { IfOk result (λ s. content_of over_memory s.tables ≡ empty_content) }
         ensures faults { IfOk result (λ s. s.faults ≡ 0) }
     {
         match SqlStore::adopt(alloc, Connection::open_in_memory(alloc)?) {
@@ -108,19 +110,15 @@ impl SqlStore<FileStore<File>> {
     /// The store in the database at the path, which is made where no file or an empty one is there. The file is locked
     /// while the store lives.
     pub fn open(rt: &HostRuntime, path: &str) -> Result<SqlStore<FileStore<File>>, SqlOpenError>
-        ensures version { IfOk result (λ s. HasCleanDisk (file_state s.conn) → IsVersion1 (file_state s.conn).now) }
-        ensures honest { IfOk result (λ s. HasCleanDisk (file_state s.conn)
-            → (IsTrue (is_sure over_files s) ↔ AreAsSaid (file_state s.conn).now.trees)) }
+        ensures version { IfOk result (λ s. HasCleanDisk (file_state s.tables.conn) → IsVersion1 (file_state s.tables.conn).now) }
+        ensures honest { IfOk result (λ s. HasCleanDisk (file_state s.tables.conn)
+            → (IsTrue (is_sure over_files s.tables) ↔ AreAsSaid (file_state s.tables.conn).now.trees)) }
         ensures faults { IfOk result (λ s. s.faults ≡ 0) }
         ensures memory { path.now ≡ codes ":memory:" → result ≡ Err SqlOpenError.Device }
     {
-        let conn = match Connection::open(rt, path) {
-            Ok(conn) => conn,
-            Err(error) => return Err(file_error(error)),
-        };
-        match SqlStore::adopt(rt.alloc(), conn) {
+        match SqlStore::adopt(rt.alloc(), file_connection(rt, path)?) {
             Ok(store) => Ok(store),
-            Err((error, _)) => Err(error),
+            Err((error, conn)) => Err(closed(conn, error)),
         }
     }
 }

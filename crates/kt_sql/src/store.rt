@@ -1,78 +1,49 @@
-//! A store over a connection.
+//! A store over tables, which counts the faults.
 
-ghost use Rattle.std.specs.Prelude.{◌≡◌, ◌⊎◌, ◌<◌, ◌≤◌, true, ℕ, Option, IfOk, IfErr, OnOk, OnErr, IsTrue};
-ghost use Rattle.sqlite.specs.Values.{bound};
+ghost use Rattle.std.specs.Prelude.{◌≡◌, ◌==◌, ◌&&◌, ◌⊎◌, ◌<◌, ◌≤◌, IfOk, IfSome, OnOk, OnErr, IsErrOf, IsTrue};
+ghost use Rattle.std.specs.Prelude.{fold, map, max};
+ghost use Rattle.std.specs.List.{find};
 ghost use Rattle.sqlite.specs.Held.{state};
-ghost use Rattle.sqlite.specs.Listing.{understood};
-ghost use Rattle.sqlite.specs.State.{HasCleanDisk, Executes, Shown};
-ghost use Rattle.sqlite_trees.specs.View.{doubt};
-ghost use Rattle.kt_store.specs.declared.rows.NodeRow.{NodeRow as NodeFields};
+ghost use Rattle.sqlite.specs.State.{HasCleanDisk};
+ghost use Rattle.kt_tuple.specs.Node.{node_eq};
 ghost use Rattle.kt_store.specs.declared.rows.Posted.{Posted as PostedFields};
+ghost use Rattle.kt_store.specs.Verdict.{is_open};
+ghost use Rattle.kt_store.specs.Content.{greatest, is_empty, row_of};
 ghost use Rattle.kt_store.specs.Changes.{storing};
-ghost use Rattle.kt_sql.specs.Text.{put_node_text};
-ghost use Rattle.kt_sql.specs.Rows.{IsNodeRow, IsPosted, node_given, posted_given, placing};
-ghost use Rattle.kt_sql.specs.Opened.{IsReady};
-ghost use Rattle.kt_sql.specs.Cells.{SpellsNode, SpellsPosted};
-ghost use Rattle.sqlite.specs.Given.{IsPlain};
 ghost use Rattle.kt_store.specs.Calls.{HasCause, most_faults};
-ghost use Rattle.kt_sql.specs.Schema.{kt_schema};
-ghost use Rattle.kt_sql.specs.Store.{is_sure, content_of, IsKept};
+ghost use Rattle.kt_tables.specs.Rows.{IsPosted, placing};
+ghost use Rattle.kt_tables.specs.Opened.{IsReady};
+ghost use Rattle.kt_tables.specs.Held.{is_sure, content_of};
 
-use crate::cells::{NodeCells, PostedCells, node_cells, posted_cells};
-use crate::statements::{execute_both, execute_node, execute_posted};
 use kt_store::{NodeRow, Posted, StoreError};
-use sqlite::types::ValueRef;
-use sqlite::{Alter, Connection, Error, ErrorCode, Row};
+use kt_tables::Tables;
+use kt_tuple::NodeId;
+use sqlite::{Alter, Connection};
 use std::alloc::Global;
-use std::marker::Model;
 
 /// A store in the tables of a database. It is honest while its connection is open, the disk has returned what was
 /// written, and each row was as said when it was opened.
 pub struct SqlStore<S: Alter> {
-    conn: Connection<S>,
-    is_trusted: bool,
+    tables: Tables<S>,
     faults: u64,
-    alloc: Global,
-}
-
-impl<S: Alter> Model for SqlStore<S> {
-    ghost use Rattle.std.specs.Prelude.{IsTrue};
-    ghost use Rattle.kt_sql.specs.Store.{IsKept, Stored, is_sure, stored_code};
-
-    ghost Value = { Stored S };
-
-    ghost coded = { stored_code S.code };
-
-    ghost view = { λ s. record { conn = s.conn; is_trusted = s.is_trusted; faults = s.faults } };
-
-    ghost invariant = { λ s.
-        IsTrue (is_sure S.Store (record { conn = s.conn; is_trusted = s.is_trusted; faults = s.faults }))
-        → IsKept S.Store (record { conn = s.conn; is_trusted = s.is_trusted; faults = s.faults }) };
 }
 
 impl<S: Alter + Drop> Drop for SqlStore<S> {
     fn drop(self) {
         let SqlStore {
-            conn: _,
-            is_trusted: _,
+            tables: _,
             faults: _,
-            alloc: _,
         } = self;
     }
 }
 
-/// Why a statement was refused, where it was: for memory, or for a fault, which is counted.
-fn refused(faults: &mut u64, error: Error) -> StoreError
+/// Counts a fault, where the device failed.
+fn count<T>(faults: &mut u64, answer: &Result<T, StoreError>)
     ensures later { faults.old ≤ faults.new }
-    ensures counted { result ≡ StoreError.Device → (faults.old < faults.new) ⊎ (faults.new ≡ most_faults) }
-    ensures named { (result ≡ StoreError.Memory) ⊎ (result ≡ StoreError.Device) }
+    ensures counted { IsErrOf answer.now StoreError.Device → (faults.old < faults.new) ⊎ (faults.new ≡ most_faults) }
 {
-    match error {
-        Error::SqliteFailure(ErrorCode::OutOfMemory) => StoreError::Memory,
-        _ => {
-            *faults = faults.saturating_add(1);
-            StoreError::Device
-        }
+    if matches!(answer, Err(StoreError::Device)) {
+        *faults = faults.saturating_add(1);
     }
 }
 
@@ -80,34 +51,26 @@ impl<S: Alter> SqlStore<S> {
     /// The store over a connection whose tables were made or tested.
     pub(crate) fn over(alloc: Global, conn: Connection<S>, is_trusted: bool) -> SqlStore<S>
         requires { HasCleanDisk (state S.Store conn) → IsReady (state S.Store conn) is_trusted }
-        ensures { result ≡ record { conn = conn; is_trusted = is_trusted; faults = 0 } }
+        ensures tables { result.tables ≡ record { conn = conn; is_trusted = is_trusted } }
+        ensures faults { result.faults ≡ 0 }
     {
         SqlStore {
-            conn,
-            is_trusted,
+            tables: Tables::over(alloc, conn, is_trusted),
             faults: 0,
-            alloc,
         }
     }
 
     /// Its connection.
     pub fn into_connection(self) -> Connection<S>
-        ensures { result ≡ self.conn }
+        ensures { result ≡ self.tables.conn }
     {
-        let SqlStore {
-            conn,
-            is_trusted: _,
-            faults: _,
-            alloc: _,
-        } = self;
-        conn
+        let SqlStore { tables, faults: _ } = self;
+        tables.into_connection()
     }
 
     /// Where the store takes its memory from.
-    pub(crate) fn allocator(&self) -> Global
-        ensures kept { IsTrue (is_sure S.Store self.now) → IsKept S.Store self.now }
-    {
-        self.alloc
+    pub(crate) fn allocator(&self) -> Global {
+        self.tables.allocator()
     }
 
     /// How many faults were counted.
@@ -117,130 +80,139 @@ impl<S: Alter> SqlStore<S> {
         self.faults
     }
 
-    /// All rows of the answer to a query.
-    pub(crate) fn ask(&mut self, sql: &str, params: &[ValueRef<'_>]) -> Result<Vec<Row>, StoreError>
-        requires { IsPlain (understood kt_schema sql.now) }
-        ensures shown { IsTrue (is_sure S.Store self.new)
-            → IfOk result (λ rows. Shown sql.now (bound params.now) (state S.Store self.old.conn)
-            (state S.Store self.new.conn) rows.items) }
-        ensures same { IsTrue (is_sure S.Store self.new)
-            → (state S.Store self.new.conn).now ≡ (state S.Store self.old.conn).now }
-        ensures honest { IsTrue (is_sure S.Store self.new) → IsTrue (is_sure S.Store self.old) }
-        ensures kept { IsTrue (is_sure S.Store self.new) → IsKept S.Store self.new }
-        ensures cause { HasCause self.old.faults self.new.faults (is_sure S.Store self.new) ⊥ result }
+    /// What is stored of the node.
+    pub(crate) fn row_of(&mut self, node: NodeId) -> Result<NodeRow, StoreError>
+        ensures value { IsTrue (is_sure S.Store self.new.tables)
+            → IfOk result (λ r. r ≡ row_of (content_of S.Store self.old.tables) node) }
+        ensures first { IfOk result (λ r. 1 ≤ r.incarnation) }
+        ensures last { IfOk result (λ r. r.incarnation ≤ greatest) }
+        ensures same { IsTrue (is_sure S.Store self.new.tables)
+            → content_of S.Store self.new.tables ≡ content_of S.Store self.old.tables }
+        ensures honest { IsTrue (is_sure S.Store self.new.tables) → IsTrue (is_sure S.Store self.old.tables) }
+        ensures cause { HasCause self.old.faults self.new.faults (is_sure S.Store self.new.tables) ⊥ result }
     {
-        match self.conn.query_all(sql, params) {
-            Ok(rows) => Ok(rows),
-            Err(error) => Err(refused(&mut self.faults, error)),
-        }
+        let answer = self.tables.row_of(node);
+        count(&mut self.faults, &answer);
+        answer
     }
 
-    /// Counts a fault, for a number that the tables do not hold.
-    fn fault(&mut self) -> StoreError
-        ensures same { (self.new.conn ≡ self.old.conn) × (self.new.is_trusted ≡ self.old.is_trusted) }
-        ensures later { self.old.faults ≤ self.new.faults }
-        ensures counted { (self.old.faults < self.new.faults) ⊎ (self.new.faults ≡ most_faults) }
-        ensures named { result ≡ StoreError.Device }
+    /// The row of the instance, where it was begun.
+    pub(crate) fn find_posted(&mut self, instance: u64) -> Result<Option<Posted>, StoreError>
+        ensures value { IsTrue (is_sure S.Store self.new.tables)
+            → IfOk result (λ o. o ≡ find (λ (p : PostedFields). p.instance == instance) (content_of S.Store self.old.tables).board) }
+        ensures found { IfOk result (λ o. IfSome o IsPosted) }
+        ensures same { IsTrue (is_sure S.Store self.new.tables)
+            → content_of S.Store self.new.tables ≡ content_of S.Store self.old.tables }
+        ensures honest { IsTrue (is_sure S.Store self.new.tables) → IsTrue (is_sure S.Store self.old.tables) }
+        ensures cause { HasCause self.old.faults self.new.faults (is_sure S.Store self.new.tables) ⊥ result }
     {
-        self.faults = self.faults.saturating_add(1);
-        StoreError::Device
+        let answer = self.tables.find_posted(instance);
+        count(&mut self.faults, &answer);
+        answer
+    }
+
+    /// The first instance that the node began and that is open.
+    pub(crate) fn find_open(&mut self, node: NodeId) -> Result<Option<Posted>, StoreError>
+        ensures value { IsTrue (is_sure S.Store self.new.tables)
+            → IfOk result (λ o. o ≡ find (λ (p : PostedFields). node_eq p.initiator node && is_open p.verdict)
+            (content_of S.Store self.old.tables).board) }
+        ensures same { IsTrue (is_sure S.Store self.new.tables)
+            → content_of S.Store self.new.tables ≡ content_of S.Store self.old.tables }
+        ensures honest { IsTrue (is_sure S.Store self.new.tables) → IsTrue (is_sure S.Store self.old.tables) }
+        ensures cause { HasCause self.old.faults self.new.faults (is_sure S.Store self.new.tables) ⊥ result }
+    {
+        let answer = self.tables.find_open(node);
+        count(&mut self.faults, &answer);
+        answer
+    }
+
+    /// The greatest number of an instance, 0 where there is none.
+    pub(crate) fn last_instance(&mut self) -> Result<u64, StoreError>
+        ensures value { IsTrue (is_sure S.Store self.new.tables)
+            → IfOk result (λ n. n ≡ fold max 0 (map (λ (p : PostedFields). p.instance) (content_of S.Store self.old.tables).board)) }
+        ensures within { IfOk result (λ n. n ≤ greatest) }
+        ensures same { IsTrue (is_sure S.Store self.new.tables)
+            → content_of S.Store self.new.tables ≡ content_of S.Store self.old.tables }
+        ensures honest { IsTrue (is_sure S.Store self.new.tables) → IsTrue (is_sure S.Store self.old.tables) }
+        ensures cause { HasCause self.old.faults self.new.faults (is_sure S.Store self.new.tables) ⊥ result }
+    {
+        let answer = self.tables.last_instance();
+        count(&mut self.faults, &answer);
+        answer
+    }
+
+    /// Whether the table of nodes has no row.
+    pub(crate) fn has_no_node(&mut self) -> Result<bool, StoreError>
+        ensures value { IsTrue (is_sure S.Store self.new.tables)
+            → IfOk result (λ b. b ≡ is_empty (content_of S.Store self.old.tables).nodes) }
+        ensures same { IsTrue (is_sure S.Store self.new.tables)
+            → content_of S.Store self.new.tables ≡ content_of S.Store self.old.tables }
+        ensures honest { IsTrue (is_sure S.Store self.new.tables) → IsTrue (is_sure S.Store self.old.tables) }
+        ensures cause { HasCause self.old.faults self.new.faults (is_sure S.Store self.new.tables) ⊥ result }
+    {
+        let answer = self.tables.has_no_node();
+        count(&mut self.faults, &answer);
+        answer
+    }
+
+    /// Whether the board has no row.
+    pub(crate) fn has_no_posted(&mut self) -> Result<bool, StoreError>
+        ensures value { IsTrue (is_sure S.Store self.new.tables)
+            → IfOk result (λ b. b ≡ is_empty (content_of S.Store self.old.tables).board) }
+        ensures same { IsTrue (is_sure S.Store self.new.tables)
+            → content_of S.Store self.new.tables ≡ content_of S.Store self.old.tables }
+        ensures honest { IsTrue (is_sure S.Store self.new.tables) → IsTrue (is_sure S.Store self.old.tables) }
+        ensures cause { HasCause self.old.faults self.new.faults (is_sure S.Store self.new.tables) ⊥ result }
+    {
+        let answer = self.tables.has_no_posted();
+        count(&mut self.faults, &answer);
+        answer
     }
 
     /// Stores the row, in place of the one that the node has.
-    pub(crate) fn put_node(&mut self, row: &NodeRow) -> Result<(), StoreError>
-        requires { 1 ≤ row.now.incarnation }
-        ensures written { IsTrue (is_sure S.Store self.new)
-            → OnOk result (content_of S.Store self.new ≡ storing row.now (content_of S.Store self.old)) }
-        ensures unchanged { IsTrue (is_sure S.Store self.new)
-            → OnErr result (content_of S.Store self.new ≡ content_of S.Store self.old) }
-        ensures honest { IsTrue (is_sure S.Store self.new) → IsTrue (is_sure S.Store self.old) }
-        ensures cause { HasCause self.old.faults self.new.faults (is_sure S.Store self.new) ⊥ result }
+    pub(crate) fn put_node(&mut self, row: NodeRow) -> Result<(), StoreError>
+        requires { 1 ≤ row.incarnation }
+        ensures written { IsTrue (is_sure S.Store self.new.tables)
+            → OnOk result (content_of S.Store self.new.tables ≡ storing row (content_of S.Store self.old.tables)) }
+        ensures unchanged { IsTrue (is_sure S.Store self.new.tables)
+            → OnErr result (content_of S.Store self.new.tables ≡ content_of S.Store self.old.tables) }
+        ensures honest { IsTrue (is_sure S.Store self.new.tables) → IsTrue (is_sure S.Store self.old.tables) }
+        ensures cause { HasCause self.old.faults self.new.faults (is_sure S.Store self.new.tables) ⊥ result }
     {
-        match node_cells(self.alloc, row)? {
-            Some(cells) => self.write_node(&cells),
-            None => Err(self.fault()),
-        }
-    }
-
-    fn write_node(&mut self, cells: &NodeCells) -> Result<(), StoreError>
-        requires { (r : NodeFields) × IsNodeRow r × SpellsNode cells.now r }
-        ensures written { (r : NodeFields) → IsNodeRow r → SpellsNode cells.now r → IsTrue (is_sure S.Store self.new)
-            → OnOk result (content_of S.Store self.new ≡ storing r (content_of S.Store self.old)) }
-        ensures unchanged { IsTrue (is_sure S.Store self.new)
-            → OnErr result (content_of S.Store self.new ≡ content_of S.Store self.old) }
-        ensures honest { IsTrue (is_sure S.Store self.new) → IsTrue (is_sure S.Store self.old) }
-        ensures cause { HasCause self.old.faults self.new.faults (is_sure S.Store self.new) ⊥ result }
-    {
-        match execute_node(&mut self.conn, cells) {
-            Ok(_) => Ok(()),
-            Err(error) => Err(refused(&mut self.faults, error)),
-        }
+        let answer = self.tables.put_node(row);
+        count(&mut self.faults, &answer);
+        answer
     }
 
     /// Stores the row, in place of the one that the instance has.
     pub(crate) fn put_posted(&mut self, row: Posted) -> Result<(), StoreError>
         requires { 1 ≤ row.instance }
-        ensures written { IsTrue (is_sure S.Store self.new)
-            → OnOk result (content_of S.Store self.new ≡ placing row (content_of S.Store self.old)) }
-        ensures unchanged { IsTrue (is_sure S.Store self.new)
-            → OnErr result (content_of S.Store self.new ≡ content_of S.Store self.old) }
-        ensures honest { IsTrue (is_sure S.Store self.new) → IsTrue (is_sure S.Store self.old) }
-        ensures cause { HasCause self.old.faults self.new.faults (is_sure S.Store self.new) ⊥ result }
+        ensures written { IsTrue (is_sure S.Store self.new.tables)
+            → OnOk result (content_of S.Store self.new.tables ≡ placing row (content_of S.Store self.old.tables)) }
+        ensures unchanged { IsTrue (is_sure S.Store self.new.tables)
+            → OnErr result (content_of S.Store self.new.tables ≡ content_of S.Store self.old.tables) }
+        ensures honest { IsTrue (is_sure S.Store self.new.tables) → IsTrue (is_sure S.Store self.old.tables) }
+        ensures cause { HasCause self.old.faults self.new.faults (is_sure S.Store self.new.tables) ⊥ result }
     {
-        match posted_cells(row) {
-            Some(cells) => self.write_posted(cells),
-            None => Err(self.fault()),
-        }
-    }
-
-    fn write_posted(&mut self, cells: PostedCells) -> Result<(), StoreError>
-        requires { (p : PostedFields) × IsPosted p × SpellsPosted cells p }
-        ensures written { (p : PostedFields) → IsPosted p → SpellsPosted cells p → IsTrue (is_sure S.Store self.new)
-            → OnOk result (content_of S.Store self.new ≡ placing p (content_of S.Store self.old)) }
-        ensures unchanged { IsTrue (is_sure S.Store self.new)
-            → OnErr result (content_of S.Store self.new ≡ content_of S.Store self.old) }
-        ensures honest { IsTrue (is_sure S.Store self.new) → IsTrue (is_sure S.Store self.old) }
-        ensures cause { HasCause self.old.faults self.new.faults (is_sure S.Store self.new) ⊥ result }
-    {
-        match execute_posted(&mut self.conn, cells) {
-            Ok(_) => Ok(()),
-            Err(error) => Err(refused(&mut self.faults, error)),
-        }
+        let answer = self.tables.put_posted(row);
+        count(&mut self.faults, &answer);
+        answer
     }
 
     /// Stores both rows in one transaction.
-    pub(crate) fn put_both(&mut self, row: &NodeRow, posted: Posted) -> Result<(), StoreError>
-        requires incarnation { 1 ≤ row.now.incarnation }
+    pub(crate) fn put_both(&mut self, row: NodeRow, posted: Posted) -> Result<(), StoreError>
+        requires incarnation { 1 ≤ row.incarnation }
         requires instance { 1 ≤ posted.instance }
-        ensures written { IsTrue (is_sure S.Store self.new)
-            → OnOk result (content_of S.Store self.new ≡ placing posted
-            (storing row.now (content_of S.Store self.old))) }
-        ensures unchanged { IsTrue (is_sure S.Store self.new)
-            → OnErr result (content_of S.Store self.new ≡ content_of S.Store self.old) }
-        ensures honest { IsTrue (is_sure S.Store self.new) → IsTrue (is_sure S.Store self.old) }
-        ensures cause { HasCause self.old.faults self.new.faults (is_sure S.Store self.new) ⊥ result }
+        ensures written { IsTrue (is_sure S.Store self.new.tables)
+            → OnOk result (content_of S.Store self.new.tables ≡ placing posted
+            (storing row (content_of S.Store self.old.tables))) }
+        ensures unchanged { IsTrue (is_sure S.Store self.new.tables)
+            → OnErr result (content_of S.Store self.new.tables ≡ content_of S.Store self.old.tables) }
+        ensures honest { IsTrue (is_sure S.Store self.new.tables) → IsTrue (is_sure S.Store self.old.tables) }
+        ensures cause { HasCause self.old.faults self.new.faults (is_sure S.Store self.new.tables) ⊥ result }
     {
-        match (node_cells(self.alloc, row)?, posted_cells(posted)) {
-            (Some(node), Some(posted)) => self.write_both(&node, posted),
-            _ => Err(self.fault()),
-        }
-    }
-
-    fn write_both(&mut self, node: &NodeCells, posted: PostedCells) -> Result<(), StoreError>
-        requires { (r : NodeFields) × (p : PostedFields) × IsNodeRow r × IsPosted p × SpellsNode node.now r
-            × SpellsPosted posted p }
-        ensures written { (r : NodeFields) (p : PostedFields) → IsNodeRow r → IsPosted p → SpellsNode node.now r
-            → SpellsPosted posted p → IsTrue (is_sure S.Store self.new)
-            → OnOk result (content_of S.Store self.new ≡ placing p (storing r (content_of S.Store self.old))) }
-        ensures unchanged { IsTrue (is_sure S.Store self.new)
-            → OnErr result (content_of S.Store self.new ≡ content_of S.Store self.old) }
-        ensures honest { IsTrue (is_sure S.Store self.new) → IsTrue (is_sure S.Store self.old) }
-        ensures cause { HasCause self.old.faults self.new.faults (is_sure S.Store self.new) ⊥ result }
-    {
-        match execute_both(&mut self.conn, node, posted) {
-            Ok(true) => Ok(()),
-            Ok(false) => Err(self.fault()),
-            Err(error) => Err(refused(&mut self.faults, error)),
-        }
+        let answer = self.tables.put_both(row, posted);
+        count(&mut self.faults, &answer);
+        answer
     }
 }

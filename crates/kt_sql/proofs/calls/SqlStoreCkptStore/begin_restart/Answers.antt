@@ -1,14 +1,14 @@
 use Rattle.std.proofs.Common.{◌∙◌}
-use Rattle.kt_sql.specs.Store.{content_of}
+use Rattle.kt_tables.specs.Held.{content_of}
 use Rattle.kt_sql.proofs.CallLemmas.{restarts, then_ok}
 use Rattle.kt_sql.proofs.calls.SqlStoreCkptStore.begin_restart.Goals as goal
 
 pub returns-clause-written : goal.returns-clause-written
 returns-clause-written g c sure =
     let before = c.put_both.ensures.honest sure in
-    let first = c.in_ok-row.ensures.honest before in
+    let first = c.in_ok-row_of.ensures.honest before in
     then_ok c.put_both.result
-    (λ e. e ∙ restarts (content_of g.S.Store c.args.self.now) (content_of g.S.Store c.last_instance.new.self)
-    (content_of g.S.Store c.row_of.new.self) c.args.node c.in_ok-row.row c.in_ok-last.last
-    (c.in_ok-row.ensures.value before) (c.in_ok-row.ensures.same before) (c.in_ok-last.ensures.same first) (c.in_ok-last.ensures.value first))
+    (λ e. e ∙ restarts (content_of g.S.Store c.args.self.now.tables) (content_of g.S.Store c.last_instance.new.self.tables)
+    (content_of g.S.Store c.row_of.new.self.tables) c.args.node c.in_ok-row_of.field-0 c.in-Some.row c.in_ok-last.last
+    (c.in_ok-row_of.ensures.value before) c.in-Some.ensures (c.in_ok-row_of.ensures.same before) (c.in_ok-last.ensures.same first) (c.in_ok-last.ensures.value first))
     (c.put_both.ensures.written sure)

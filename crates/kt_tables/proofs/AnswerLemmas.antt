@@ -1,0 +1,228 @@
+-- What the calls on tables answer.
+use Rattle.std.proofs.Common.{◌≡◌, inl, inr, ℕ, ◌≤◌, Bool, true, false, List, None, Ok, Err, Result, IfOk, IfErr, IfSome, arith}
+use Rattle.std.proofs.Common.{option_map, slice_get, refl, sym, ap, subst, ◌∙◌, ◌==◌, ◌&&◌, map, [], ◌∷◌, cond, length, fold, max, Ordering, ◌<◌}
+use Rattle.std.specs.Prelude.{IsTrue}
+use Rattle.std.specs.List.{find, AllByRecursion}
+use Rattle.sqlite.specs.Store.{Ghosts}
+use Rattle.sqlite.specs.Order.{Row}
+use Rattle.sqlite.specs.Effect.{Database}
+use Rattle.sqlite.specs.Held.{state}
+use Rattle.sqlite.specs.State.{Shown}
+use Rattle.sqlite_keyed.proofs.ListLemmas.{all_weaker}
+use Rattle.kt_tuple.specs.declared.node.NodeId.{NodeId}
+use Rattle.kt_tuple.specs.declared.node.NodeId.TheVariants.{Worker, Shard}
+use Rattle.kt_tuple.specs.Node.{node_eq}
+use Rattle.kt_store.specs.declared.error.StoreError.{StoreError}
+use Rattle.kt_store.specs.declared.error.StoreError.TheVariants.{Memory, Device, Damaged, Full}
+use Rattle.kt_store.specs.declared.rows.NodeRow.{NodeRow}
+use Rattle.kt_store.specs.declared.rows.Posted.{Posted}
+use Rattle.kt_store.specs.Verdict.{is_open}
+use Rattle.kt_store.specs.Content.{Content, greatest, is_empty}
+use Rattle.kt_tables.specs.Reason.{HasReason}
+use Rattle.kt_tables.specs.Schema.{kt_schema}
+use Rattle.kt_tables.specs.Text.{put_node_text, put_posted_text, get_node_text, first_node_text, get_posted_text, last_posted_text, open_posted_text}
+use Rattle.kt_tables.specs.Rows.{whole, id_of, HasId, node_given, posted_given, IsNodeRow, IsPosted, Holds, Gives, IsReadError, content_in, number_of, placing}
+use Rattle.kt_tables.specs.Held.{Tabled, is_sure, content_of, IsKept}
+use Rattle.sqlite.specs.Held.{Held}
+use Rattle.sqlite.specs.State.{HasCleanDisk, Executes}
+use Rattle.sqlite.specs.declared.error.Error.{Error}
+use Rattle.sqlite_trees.specs.View.{doubt}
+use Rattle.kt_store.specs.Changes.{storing}
+use Rattle.kt_tables.specs.Settled.{Stays}
+use Rattle.kt_tables.proofs.StateLemmas.{executed_open, refused_stays, written_settled}
+use Rattle.kt_tables.specs.Both.{RanBoth}
+use Rattle.kt_tables.proofs.TabledLemmas.{stayed, wrote}
+use Rattle.kt_tables.proofs.OrderLemmas.{all_inserted}
+use Rattle.kt_tables.proofs.WriteLemmas.{put_node_does, put_posted_does}
+use Rattle.kt_tables.proofs.FoundLemmas.{node_found, some_node_found, posted_found, open_found, last_found, found_is}
+use Rattle.kt_tables.proofs.ReadLemmas.{downwards, first_or_0, first_is_greatest}
+use Rattle.sqlite_keyed.specs.Lists.{sort_by, insert_sorted}
+use Rattle.std.specs.Ordering.{is_gt}
+
+pub gives_value : {X : Type 0} (x : X) (r : Result X StoreError) → Gives x r → IfOk r (λ o. o ≡ x)
+gives_value x (Ok o) h = h
+gives_value x (Err e) h = tt
+
+pub gives_memory : {X : Type 0} (x : X) (r : Result X StoreError) → Gives x r → IfErr r (λ e. e ≡ Memory)
+gives_memory x (Ok o) h = tt
+gives_memory x (Err e) h = h
+
+-- a row that could not be read is damaged only where the tables are not sure
+pub read_reason : {X : Type 0} (sure : Bool) (r : Result X StoreError) → IfErr r IsReadError → (sure ≡ true → IfErr r (λ e. e ≡ Memory))
+    → HasReason sure r
+read_reason sure (Ok x) named good = record { damaged = λ is. absurd cc; full = λ is. absurd cc }
+read_reason sure (Err Memory) named good = record { damaged = λ is. absurd cc; full = λ is. absurd cc }
+read_reason sure (Err Device) (inl e) good = absurd cc
+read_reason sure (Err Device) (inr e) good = absurd cc
+read_reason true (Err Damaged) named good = absurd (let e = good refl in cc)
+read_reason false (Err Damaged) named good = record { damaged = λ is. refl; full = λ is. absurd cc }
+read_reason sure (Err Full) (inl e) good = absurd cc
+read_reason sure (Err Full) (inr e) good = absurd cc
+
+module _ {S : Type 0} (g : Ghosts S) (s n : Tabled S) (kept : IsKept g n) (same : (state g n.conn).now ≡ (state g s.conn).now) where
+  -- the tables were those of a store before the call too
+  pub was_schema : (state g s.conn).now.schema ≡ kt_schema
+  was_schema = ap (λ (d : Database). d.schema) (sym same) ∙ kept.schema
+
+  pub was_held : Holds (state g s.conn).now.trees (content_of g s)
+  was_held = subst (λ (d : Database). Holds d.trees (content_in d.trees)) same kept.holds
+
+  pub node_read : (node : NodeId) (rows : List Row) → HasId node → Shown get_node_text (whole (id_of node) ∷ []) (state g s.conn) (state g n.conn) rows
+      → (slice_get rows 0 ≡ option_map node_given (find (λ (r : NodeRow). node_eq r.node node) (content_of g s).nodes))
+      × IfSome (find (λ (r : NodeRow). node_eq r.node node) (content_of g s).nodes) IsNodeRow
+  node_read node rows low h = (
+    node_found (state g s.conn) (state g n.conn) (content_of g s) was_schema was_held node low rows h,
+    found_is IsNodeRow (λ (r : NodeRow). node_eq r.node node) (content_of g s).nodes was_held.nodes.said,
+  )
+
+-- a node that has no number there has no row
+other : (a b : NodeId) → HasId a → ¬ HasId b → node_eq a b ≡ false
+other (Worker m) (Worker n) h g = grind (arith, h, g)
+other (Worker m) (Shard n) h g = refl
+other (Shard m) (Worker n) h g = refl
+other (Shard m) (Shard n) h g = grind (arith, h, g)
+
+pub none_found : {X : Type 0} (p : X → Bool) (xs : List X) → AllByRecursion (λ x. p x ≡ false) xs → find p xs ≡ None
+none_found p [] h = refl
+none_found p (x ∷ xs) h = rw h.0 (none_found p xs h.1)
+
+module _ {S : Type 0} (g : Ghosts S) (s : Tabled S) (kept : IsKept g s) where
+  pub no_node_read : (node : NodeId) → ¬ HasId node → find (λ (r : NodeRow). node_eq r.node node) (content_of g s).nodes ≡ None
+  no_node_read node none =
+      none_found (λ (r : NodeRow). node_eq r.node node) (content_of g s).nodes
+      (all_weaker _ _ (λ r good. other r.node node good.node none) _ kept.holds.nodes.said)
+
+  pub no_posted_read : (i : ℕ) → greatest < i → find (λ (p : Posted). p.instance == i) (content_of g s).board ≡ None
+  no_posted_read i high =
+      none_found (λ (p : Posted). p.instance == i) (content_of g s).board
+      (all_weaker _ _ (λ p good. let low = good.last in grind (arith, high, low)) _ kept.holds.board.said)
+
+  pub no_open_read : (node : NodeId) → ¬ HasId node → find (λ (p : Posted). node_eq p.initiator node && is_open p.verdict) (content_of g s).board ≡ None
+  no_open_read node none =
+      none_found (λ (p : Posted). node_eq p.initiator node && is_open p.verdict) (content_of g s).board
+      (all_weaker _ _ (λ p good. ap (λ b. b && is_open p.verdict) (other p.initiator node good.initiator none)) _ kept.holds.board.said)
+
+-- ---- the first of the rows, where the greatest number comes first
+
+all_sorted : {X : Type 0} (P : X → Type 0) (cmp : X → X → Ordering) (xs : List X) → AllByRecursion P xs → AllByRecursion P (sort_by cmp xs)
+all_sorted P cmp [] h = tt
+all_sorted P cmp (x ∷ xs) h = all_inserted P cmp x (sort_by cmp xs) h.0 (all_sorted P cmp xs h.1)
+
+first_is : {X : Type 0} (P : X → Type 0) (xs : List X) → AllByRecursion P xs → IfSome (slice_get xs 0) P
+first_is P [] h = tt
+first_is P (x ∷ xs) h = h.0
+
+abbrev pub sorted_board : List Posted → List Posted
+sorted_board = sort_by (downwards (λ (p : Posted). p.instance))
+
+first_number : (ps : List Posted) → number_of (slice_get ps 0) ≡ first_or_0 (λ (p : Posted). p.instance) ps
+first_number [] = refl
+first_number (p ∷ ps) = refl
+
+pub last_number : (ps : List Posted) → number_of (slice_get (sorted_board ps) 0) ≡ fold max 0 (map (λ (p : Posted). p.instance) ps)
+last_number ps = first_number (sorted_board ps) ∙ first_is_greatest (λ (p : Posted). p.instance) ps
+
+empty_where : (cs : List NodeRow) (rows : List Row) → slice_get rows 0 ≡ option_map node_given (slice_get cs 0) → (length rows == 0) ≡ is_empty cs
+empty_where [] [] h = refl
+empty_where [] (r ∷ rows) h = absurd cc
+empty_where (c ∷ cs) [] h = absurd cc
+empty_where (c ∷ cs) (r ∷ rows) h = grind arith
+
+never_empty : (x : Posted) (xs : List Posted) → is_empty (insert_sorted (downwards (λ (q : Posted). q.instance)) x xs) ≡ false
+never_empty x [] = refl
+never_empty x (y ∷ ys) = there (is_gt (downwards (λ (q : Posted). q.instance) x y))
+  where
+    there : (b : Bool) → is_empty (cond b (y ∷ insert_sorted (downwards (λ (q : Posted). q.instance)) x ys) (x ∷ y ∷ ys)) ≡ false
+    there true = refl
+    there false = refl
+
+sorted_empty : (ps : List Posted) → is_empty (sorted_board ps) ≡ is_empty ps
+sorted_empty [] = refl
+sorted_empty (p ∷ ps) = never_empty p (sorted_board ps)
+
+none_posted : (ps : List Posted) (rows : List Row) → slice_get rows 0 ≡ option_map posted_given (slice_get ps 0) → (length rows == 0) ≡ is_empty ps
+none_posted [] [] h = refl
+none_posted [] (r ∷ rows) h = absurd cc
+none_posted (c ∷ cs) [] h = absurd cc
+none_posted (c ∷ cs) (r ∷ rows) h = grind arith
+
+module _ {S : Type 0} (g : Ghosts S) (s n : Tabled S) (kept : IsKept g n) (same : (state g n.conn).now ≡ (state g s.conn).now) where
+  abbrev was : Content
+  was = content_of g s
+
+  pub posted_read : (i : ℕ) (rows : List Row) → Shown get_posted_text (whole i ∷ []) (state g s.conn) (state g n.conn) rows
+      → (slice_get rows 0 ≡ option_map posted_given (find (λ (p : Posted). p.instance == i) was.board))
+      × IfSome (find (λ (p : Posted). p.instance == i) was.board) IsPosted
+  posted_read i rows h = (
+    posted_found (state g s.conn) (state g n.conn) was (was_schema g s n kept same) (was_held g s n kept same) i rows h,
+    found_is IsPosted (λ (p : Posted). p.instance == i) was.board (was_held g s n kept same).board.said,
+  )
+
+  pub open_read : (node : NodeId) (rows : List Row) → HasId node → Shown open_posted_text (whole (id_of node) ∷ []) (state g s.conn) (state g n.conn) rows
+      → (slice_get rows 0 ≡ option_map posted_given (find (λ (p : Posted). node_eq p.initiator node && is_open p.verdict) was.board))
+      × IfSome (find (λ (p : Posted). node_eq p.initiator node && is_open p.verdict) was.board) IsPosted
+  open_read node rows low h = (
+    open_found (state g s.conn) (state g n.conn) was (was_schema g s n kept same) (was_held g s n kept same) node low rows h,
+    found_is IsPosted (λ (p : Posted). node_eq p.initiator node && is_open p.verdict) was.board (was_held g s n kept same).board.said,
+  )
+
+  pub last_read : (rows : List Row) → Shown last_posted_text [] (state g s.conn) (state g n.conn) rows
+      → (slice_get rows 0 ≡ option_map posted_given (slice_get (sorted_board was.board) 0)) × IfSome (slice_get (sorted_board was.board) 0) IsPosted
+  last_read rows h = (
+    last_found (state g s.conn) (state g n.conn) was (was_schema g s n kept same) (was_held g s n kept same) rows h,
+    first_is IsPosted (sorted_board was.board) (all_sorted IsPosted _ was.board (was_held g s n kept same).board.said),
+  )
+
+  pub nodes_read : (rows : List Row) → Shown first_node_text [] (state g s.conn) (state g n.conn) rows → (length rows == 0) ≡ is_empty was.nodes
+  nodes_read rows h =
+      empty_where was.nodes rows (some_node_found (state g s.conn) (state g n.conn) was (was_schema g s n kept same) (was_held g s n kept same) rows h)
+
+  pub board_read : (rows : List Row) → Shown last_posted_text [] (state g s.conn) (state g n.conn) rows → (length rows == 0) ≡ is_empty was.board
+  board_read rows h = none_posted (sorted_board was.board) rows (last_read rows h).0 ∙ sorted_empty was.board
+
+-- ---- writes
+
+module _ {S : Type 0} (g : Ghosts S) (s : Tabled S) (h : Held S) (kept : IsTrue (is_sure g s) → IsKept g s)
+    (clean : doubt (state g s.conn).is_clean ≤ doubt (state g h).is_clean) where
+  abbrev after : Tabled S
+  after = record { conn = h; is_trusted = s.is_trusted }
+
+  pub node_wrote : (r : NodeRow) (count : ℕ) → IsNodeRow r
+      → (HasCleanDisk (state g h) → Executes put_node_text (node_given r) (state g s.conn) (state g h) (Ok count))
+      → IsTrue (is_sure g after) → IsTrue (is_sure g s) × (content_of g after ≡ storing r (content_of g s)) × IsKept g after
+  node_wrote r count good ran =
+      wrote g s h (storing r (content_of g s)) kept clean (λ cl on. executed_open put_node_text (node_given r) _ _ count (ran cl) on)
+      (λ cl k. let it = put_node_does _ _ r (content_of g s) count good k.schema k.holds (ran cl) in (written_settled _ _ k.settled it.0, it.1, it.2))
+
+  pub posted_wrote : (p : Posted) (count : ℕ) → IsPosted p
+      → (HasCleanDisk (state g h) → Executes put_posted_text (posted_given p) (state g s.conn) (state g h) (Ok count))
+      → IsTrue (is_sure g after) → IsTrue (is_sure g s) × (content_of g after ≡ placing p (content_of g s)) × IsKept g after
+  posted_wrote p count good ran =
+      wrote g s h (placing p (content_of g s)) kept clean (λ cl on. executed_open put_posted_text (posted_given p) _ _ count (ran cl) on)
+      (λ cl k. let it = put_posted_does _ _ p (content_of g s) count good k.schema k.holds (ran cl) in (written_settled _ _ k.settled it.0, it.1, it.2))
+
+  pub not_wrote : (sql : List ℕ) (params : Row) (e : Error) → (HasCleanDisk (state g h) → Executes sql params (state g s.conn) (state g h) (Err e))
+      → IsTrue (is_sure g after) → IsTrue (is_sure g s) × (content_of g after ≡ content_of g s) × IsKept g after
+  not_wrote sql params e ran sure =
+      let it = stayed g s h kept clean (λ cl on. refused_stays sql params _ _ e (ran cl) on) sure in
+      (it.0, ap (λ (d : Database). content_in d.trees) it.1, it.2)
+
+  pub both_wrote : (r : NodeRow) (p : Posted) → IsNodeRow r → IsPosted p → (HasCleanDisk (state g h) → RanBoth g r p s.conn h)
+      → IsTrue (is_sure g after) → IsTrue (is_sure g s) × (content_of g after ≡ placing p (storing r (content_of g s))) × IsKept g after
+  both_wrote r p good fine ran =
+      wrote g s h (placing p (storing r (content_of g s))) kept clean (λ cl _. (ran cl).was_open)
+      (λ cl k.
+      let it = ran cl in
+      let one =
+      put_node_does (state g (record s.conn { in_transaction = true })) (state g it.mid) r (content_of g s) it.counts.0 good k.schema k.holds it.one in
+      let two = put_posted_does (state g it.mid) (state g it.last) p (storing r (content_of g s)) it.counts.1 fine one.1 one.2 it.two in (
+        it.settled,
+        ap (λ (d : Database). d.schema) it.now ∙ two.1,
+        subst (λ (d : Database). Holds d.trees (placing p (storing r (content_of g s)))) (sym it.now) two.2,
+      ))
+
+  pub neither_wrote : (HasCleanDisk (state g h) → IsTrue (state g h).is_open → Stays (state g s.conn) (state g h))
+      → IsTrue (is_sure g after) → IsTrue (is_sure g s) × (content_of g after ≡ content_of g s) × IsKept g after
+  neither_wrote stays sure =
+      let it = stayed g s h kept clean stays sure in
+      (it.0, ap (λ (d : Database). content_in d.trees) it.1, it.2)

@@ -1,0 +1,16 @@
+pub mod AnswerLemmas
+pub mod FoundLemmas
+pub mod HeldLemmas
+pub mod MadeLemmas
+pub mod OpenedLemmas
+pub mod OrderLemmas
+pub mod PutLemmas
+pub mod ReadLemmas
+pub mod RowLemmas
+pub mod SchemaLemmas
+pub mod StateLemmas
+pub mod TableRows
+pub mod TabledLemmas
+pub mod Texts
+pub mod WriteLemmas
+pub mod Shared

@@ -1,0 +1,60 @@
+-- Rows in the tables, and back.
+use Rattle.std.proofs.Common.{◌≡◌, ◌+◌, ◌-◌, ltb, lt-ltb, false, cond, List, [], ◌∷◌, map, Option, None, Some, Ok, refl}
+use Rattle.std.proofs.Common.{ap, ap₂, ◌∙◌, arith}
+use Rattle.std.specs.List.{AllByRecursion}
+use Rattle.sqlite.specs.Order.{Row}
+use Rattle.kt_tuple.specs.declared.node.NodeId.{NodeId}
+use Rattle.kt_tuple.specs.declared.node.NodeId.TheVariants.{Worker, Shard}
+use Rattle.kt_ckpt.specs.declared.ckpt.Ckpt.{Ckpt}
+use Rattle.kt_ckpt.specs.Checkpoint.{IsCheckpoint, read}
+use Rattle.kt_ckpt.proofs.Shared.{read_again}
+use Rattle.kt_store.specs.declared.rows.NodeRow.{NodeRow}
+use Rattle.kt_store.specs.declared.rows.Tentative.{Tentative}
+use Rattle.kt_store.specs.declared.rows.Posted.{Posted}
+use Rattle.kt_store.specs.declared.rows.Purpose.{Purpose}
+use Rattle.kt_store.specs.declared.rows.Purpose.TheVariants.{Check, Rollback}
+use Rattle.kt_store.specs.declared.rows.Verdict.{Verdict}
+use Rattle.kt_store.specs.declared.rows.Verdict.TheVariants.{Open, Yes, No}
+use Rattle.kt_tables.specs.Rows.{id_of, node_of, HasId, purpose_code, purpose_of, verdict_code, verdict_of, spelled, checkpoint_value, instance_value}
+use Rattle.kt_tables.specs.Rows.{checkpoint_in, number_in, tentative_of, node_in, node_given, posted_in, posted_given, IsSpelled, IsTaken, IsNodeRow, IsPosted}
+use Rattle.kt_tables.specs.Rows.{when_ok, bytes_of}
+
+pub node_back : (n : NodeId) → HasId n → node_of (id_of n) ≡ n
+node_back (Worker n) low = ap (λ b. cond b (Worker n) (Shard (n - 100))) (lt-ltb n 100 low)
+node_back (Shard n) low =
+    let high : ltb (100 + n) 100 ≡ false = grind arith in
+    let back : 100 + n - 100 ≡ n = omega arith in
+    ap (λ b. cond b (Worker (100 + n)) (Shard (100 + n - 100))) high ∙ ap Shard back
+
+purpose_back : (p : Purpose) → purpose_of (purpose_code p) ≡ p
+purpose_back Check = refl
+purpose_back Rollback = refl
+
+verdict_back : (v : Verdict) → verdict_of (verdict_code v) ≡ v
+verdict_back Open = refl
+verdict_back Yes = refl
+verdict_back No = refl
+
+-- the bytes of a checkpoint are read as it
+pub bytes_back : (c : Ckpt) → IsCheckpoint c → read (bytes_of c) ≡ Ok c
+unfolding bytes_of
+bytes_back c h = read_again c h
+
+checkpoint_back : (c : Option Ckpt) → IsSpelled c → checkpoint_in (spelled c) ≡ c
+checkpoint_back None h = refl
+checkpoint_back (Some c) h = ap when_ok (bytes_back c h)
+
+tentative_back : (t : Option Tentative) → IsTaken t → tentative_of (checkpoint_in (checkpoint_value t)) (number_in (instance_value t)) ≡ t
+tentative_back None h = refl
+tentative_back (Some t) h = ap (λ r. tentative_of (when_ok r) t.instance) (bytes_back t.checkpoint h.0)
+
+pub row_back : (r : NodeRow) → IsNodeRow r → node_in (node_given r) ≡ r
+row_back r h = rw (node_back r.node h.node, checkpoint_back r.permanent h.permanent, tentative_back r.tentative h.tentative) refl
+
+pub posted_back : (p : Posted) → IsPosted p → posted_in (posted_given p) ≡ p
+posted_back p h = rw (node_back p.initiator h.initiator, purpose_back p.purpose, verdict_back p.verdict) refl
+
+pub map_back : {X : Type 0} (P : X → Type 0) (out : X → Row) (back : Row → X) → ((x : X) → P x → back (out x) ≡ x) → (xs : List X) → AllByRecursion P xs
+    → map back (map out xs) ≡ xs
+map_back P out back same [] h = refl
+map_back P out back same (x ∷ xs) h = ap₂ ◌∷◌ (same x h.0) (map_back P out back same xs h.1)

@@ -1,0 +1,302 @@
+-- What a write of one row makes of what the tables hold.
+use Rattle.std.proofs.Common.{◌≡◌, inl, inr, ℕ, ℤ, pos, ltb, Bool, true, false, not, cond, List, [], ◌∷◌, map, filter, Option}
+use Rattle.std.proofs.Common.{None, Some, Ok, refl, sym, ap, ap₂, subst, subst₂, ◌∙◌, arith, Ordering, Less, Equal, Greater, int_cmp}
+use Rattle.std.proofs.Common.{IsPermutation}
+use Rattle.std.specs.Prelude.{nat_lt}
+use Rattle.std.specs.List.{AllByRecursion}
+use Rattle.std.specs.Ordering.{match_ordering, int_eq, is_eq}
+use Rattle.std.proofs.lemmas.Int.{ints}
+use Rattle.std.proofs.lemmas.List.Sorted.{IsPermutation-refl, IsPermutation-trans, IsPermutation-sym, IsPermutation-cons, IsPermutation-middle}
+use Rattle.std.proofs.lemmas.List.Sorted.{IsPermutation-map}
+use Rattle.sqlite.specs.declared.types.Value.{Value}
+use Rattle.sqlite.specs.declared.types.Value.TheVariants.{Null, Int}
+use Rattle.sqlite.specs.Order.{Row}
+use Rattle.sqlite_value.specs.Order.{value_cmp}
+use Rattle.sqlite.specs.Kind.TheVariants.{Integer}
+use Rattle.sqlite.specs.Ops.{unary}
+use Rattle.sqlite_trees.specs.Tree.{IsAscending, rowid, has_rowid, put_row, without_rowid}
+use Rattle.sqlite.specs.Cast.{cast}
+use Rattle.sqlite_rules.specs.Cast.{cast_row}
+use Rattle.sqlite_rules.specs.Lists.{Has}
+use Rattle.sqlite.specs.Does.{Tally, Does}
+use Rattle.sqlite.specs.Effect.{Database}
+use Rattle.sqlite.specs.State.{State, mode_of, Shows, Executes}
+use Rattle.sqlite.specs.Listing.{understood}
+use Rattle.sqlite.proofs.Callers.{statement_of, runs_as}
+use Rattle.sqlite_keyed.specs.Keyed.{insert_by}
+use Rattle.sqlite_keyed.specs.Lists.{without_key}
+use Rattle.sqlite_keyed.proofs.ListLemmas.{filter_all, filter_none, filter_same, filter-map, all_map, all_unmap, all_of, all_both, all_weaker, all-append}
+use Rattle.sqlite_keyed.proofs.ListLemmas.{all-filter, ascending-append, ascending-filter, IsPermutation-filter}
+use Rattle.sqlite_trees.proofs.ListLemmas.{all-permutation}
+use Rattle.sqlite_typed.proofs.RowLemmas.{puts-map, deletes-map}
+use Rattle.kt_tuple.specs.declared.node.NodeId.{NodeId}
+use Rattle.kt_tuple.specs.declared.node.NodeId.TheVariants.{Worker, Shard}
+use Rattle.kt_store.proofs.Shared.{one_way, itself}
+use Rattle.kt_store.specs.declared.rows.NodeRow.{NodeRow}
+use Rattle.kt_store.specs.declared.rows.Posted.{Posted}
+use Rattle.kt_store.specs.declared.rows.Tentative.{Tentative}
+use Rattle.kt_store.specs.Content.{Content, node_lt}
+use Rattle.kt_store.specs.Changes.{with_row, with_posted, storing}
+use Rattle.kt_store.proofs.Shared.{placed, IsOrder}
+use Rattle.kt_tables.specs.Schema.{kt_schema, node_table, board_table, meta_table}
+use Rattle.kt_tables.specs.Text.{put_node_text, put_posted_text}
+use Rattle.kt_tables.specs.Rows.{placing, whole, id_of, HasId, instance_value, node_given, node_stored, node_shown, posted_given}
+use Rattle.kt_tables.specs.Rows.{posted_stored, posted_shown, IsNodeRow, IsPosted, HoldsNodes, HoldsBoard, Holds, purpose_code, verdict_code}
+use Rattle.kt_tables.proofs.PutLemmas.{went, same_value, AreNumbered, replaces}
+use Rattle.kt_tables.proofs.TableRows.{Table, nodes_table, posted_table}
+use Rattle.kt_tables.proofs.Texts.{node_terms, posted_terms, put_node, put_posted, put_node_is, put_node_plain, put_posted_is, put_posted_plain}
+
+-- ---- a row in its place
+
+less_is : (a b : ℕ) → ltb a b ≡ true → (int_eq (pos a) (pos b) ≡ false) × (int_cmp (pos a) (pos b) ≡ Less)
+less_is a b h = (grind (arith, ints, h), grind (arith, ints, h))
+
+more_is : (a b : ℕ) → ltb b a ≡ true → (int_eq (pos a) (pos b) ≡ false) × (int_cmp (pos a) (pos b) ≡ Greater)
+more_is a b h = (grind (arith, ints, h), grind (arith, ints, h))
+
+same_is : (a b : ℕ) → ltb a b ≡ false → ltb b a ≡ false → int_eq (pos a) (pos b) ≡ true
+same_is a b h g = grind (arith, ints, h, g)
+
+-- both of them are in order as their numbers are
+abbrev GoesBy : {X : Type 0} → (X → X → Bool) → (X → ℕ) → X → X → Type 0
+GoesBy lt number x y = (lt x y ≡ ltb (number x) (number y)) × (lt y x ≡ ltb (number y) (number x))
+
+passing : {X : Type 0} (p : X → Bool) (xs : List X) → AllByRecursion (λ x. p x ≡ true) (filter p xs)
+passing p [] = tt
+passing {X} p (x ∷ xs) = by (p x) refl (passing p xs)
+  where
+    by : (b : Bool) → p x ≡ b → AllByRecursion (λ (y : X). p y ≡ true) (filter p xs)
+        → AllByRecursion (λ (y : X). p y ≡ true) (cond b (x ∷ filter p xs) (filter p xs))
+    by true is later = (is, later)
+    by false is later = later
+
+module _ {X : Type 0} (lt : X → X → Bool) (order : IsOrder lt) where
+  abbrev Rise : List X → Type 0
+  Rise = IsAscending (λ a b. lt a b ≡ true)
+
+  module _ (number : X → ℕ) where
+    abbrev key : X → ℤ
+    key x = pos (number x)
+
+    not_this : (new : X) (xs : List X) → AllByRecursion (λ x. GoesBy lt number x new) xs → AllByRecursion (λ x. lt new x ≡ true) xs
+        → without_key key xs (key new) ≡ xs
+    not_this new xs by above =
+        filter_all _ xs (all_both _ _ _ (λ x goes high. ap not (more_is (number x) (number new) (sym goes.1 ∙ high)).0) xs by above)
+
+    pub placed_by : (new : X) (xs : List X) → AllByRecursion (λ x. GoesBy lt number x new) xs → Rise xs
+        → insert_by key (without_key key xs (key new)) new ≡ placed lt new xs
+    placed_by new [] by rise = refl
+    placed_by new (x ∷ xs) by rise = there (ltb (number x) (number new)) (ltb (number new) (number x)) refl refl (placed_by new xs by.1 rise.1)
+      where
+        there : (low high : Bool) → ltb (number x) (number new) ≡ low → ltb (number new) (number x) ≡ high
+            → insert_by key (without_key key xs (key new)) new ≡ placed lt new xs
+            → insert_by key (without_key key (x ∷ xs) (key new)) new ≡ placed lt new (x ∷ xs)
+        there true high is at later =
+            let is_less = less_is (number x) (number new) is in
+            let first = by.0.0 ∙ is in
+            rw (is_less.0, is_less.1, first, order.one_way x new first) (ap (λ l. x ∷ l) later)
+        there false true is at later =
+            let is_more = more_is (number x) (number new) at in
+            let first = by.0.1 ∙ at in
+            let above = all_weaker _ _ (λ y high. order.through new x y first high) xs rise.0 in
+            rw (is_more.0, is_more.1, first, order.one_way new x first, not_this new xs by.1 above)
+            (sym (rw (filter_none _ xs (all_weaker _ _ (λ y high. order.one_way new y high) xs above), filter_all _ xs above) refl))
+        there false false is at later = rw (same_is (number x) (number new) is at, by.0.0 ∙ is, by.0.1 ∙ at) later
+
+  pub placed_all : (P : X → Type 0) (new : X) (xs : List X) → P new → AllByRecursion P xs → AllByRecursion P (placed lt new xs)
+  placed_all P new xs h all =
+      all-append P (filter (λ x. lt x new) xs) (new ∷ filter (λ x. lt new x) xs) (all-filter P (λ x. lt x new) xs all) (h, all-filter P (λ x. lt new x) xs all)
+
+  pub placed_rises : (new : X) (xs : List X) → Rise xs → Rise (placed lt new xs)
+  placed_rises new xs rise =
+      let R : X → X → Type 0 = λ a b. lt a b ≡ true in
+      let high = passing (λ x. lt new x) xs in
+      ascending-append R (filter (λ x. lt x new) xs) (new ∷ filter (λ x. lt new x) xs) (ascending-filter R (λ x. lt x new) xs rise)
+      (high, ascending-filter R (λ x. lt new x) xs rise)
+      (all_weaker _ _ (λ x low. (low, all_weaker _ _ (λ y up. order.through x new y low up) _ high)) _ (passing (λ x. lt x new) xs))
+
+-- ---- the two orders
+
+through : (a b c : NodeId) → node_lt a b ≡ true → node_lt b c ≡ true → node_lt a c ≡ true
+through (Worker m) (Worker n) (Worker o) h g = grind (arith, h, g)
+through (Worker m) (Worker n) (Shard o) h g = refl
+through (Worker m) (Shard n) (Worker o) h g = absurd cc
+through (Worker m) (Shard n) (Shard o) h g = refl
+through (Shard m) (Worker n) c h g = absurd cc
+through (Shard m) (Shard n) (Worker o) h g = absurd cc
+through (Shard m) (Shard n) (Shard o) h g = grind (arith, h, g)
+
+abbrev node_before : NodeRow → NodeRow → Bool
+node_before a b = node_lt a.node b.node
+
+abbrev posted_before : Posted → Posted → Bool
+posted_before a b = nat_lt a.instance b.instance
+
+node_order : IsOrder node_before
+node_order = record { one_way = λ a b h. one_way a.node b.node h; itself = λ a. itself a.node; through = λ a b c h g. through a.node b.node c.node h g }
+
+posted_order : IsOrder posted_before
+posted_order = record { one_way = λ a b h. grind (arith, h); itself = λ a. grind arith; through = λ a b c h g. grind (arith, h, g) }
+
+-- the order of the nodes is that of their numbers
+pub by_id : (a b : NodeId) → HasId a → HasId b → node_lt a b ≡ ltb (id_of a) (id_of b)
+by_id (Worker m) (Worker n) h g = refl
+by_id (Worker m) (Shard n) h g = grind (arith, h)
+by_id (Shard m) (Worker n) h g = grind (arith, g)
+by_id (Shard m) (Shard n) h g = grind arith
+
+goes_by_id : (new : NodeRow) → IsNodeRow new → (x : NodeRow) → IsNodeRow x → GoesBy node_before (λ (r : NodeRow). id_of r.node) x new
+goes_by_id new h x g = (by_id x.node new.node g.node h.node, by_id new.node x.node h.node g.node)
+
+-- ---- a row is put into a table, whose rows stand in some order
+
+had : {X : Type 0} (P : X → Type 0) (xs : List X) → AllByRecursion P xs → (x : X) → Has xs x → P x
+had P [] all x has = absurd has
+had P (y ∷ ys) all x (inl here) = subst P (sym here) all.0
+had P (y ∷ ys) all x (inr later) = had P ys all.1 x later
+
+is_not : (b : Bool) → not b ≡ true → b ≡ false
+is_not true h = absurd cc
+is_not false h = refl
+
+put_front : (new : Row) (key : ℤ) → rowid new ≡ Int key → (rows : List Row) → AllByRecursion (λ r. has_rowid key r ≡ false) rows
+    → IsPermutation (new ∷ rows) (put_row new rows)
+put_front new key at [] none = IsPermutation-refl _
+put_front new key at (r ∷ rows) none =
+    there (value_cmp (rowid r) (rowid new)) (ap (λ v. is_eq (value_cmp (rowid r) v)) at ∙ none.0) (put_front new key at rows none.1)
+  where
+    there : (o : Ordering) → is_eq o ≡ false → IsPermutation (new ∷ rows) (put_row new rows)
+        → IsPermutation (new ∷ r ∷ rows) (match_ordering o (r ∷ put_row new rows) (new ∷ rows) (new ∷ r ∷ rows))
+    there Less apart later = IsPermutation-trans _ _ _ (IsPermutation-sym _ _ (IsPermutation-middle (r ∷ []) new rows)) (IsPermutation-cons r _ _ later)
+    there Equal apart later = absurd cc
+    there Greater apart later = IsPermutation-refl _
+
+module _ {X : Type 0} (t : Table X) where
+  abbrev key_in : X → ℤ
+  key_in x = pos (t.number x)
+
+  -- each row has a rowid
+  numbered_rows : (xs : List X) (rows : List Row) → IsPermutation (map t.given xs) (map t.shown rows) → AreNumbered rows
+  numbered_rows xs rows bag =
+      let P : Row → Type 0 = λ r. (k : ℤ) × (rowid r ≡ Int k) in
+      let given = all_map P t.given xs (all_of _ (λ x. (key_in x, t.given_number x)) xs) in
+      let shown = all_unmap P t.shown rows (all-permutation P _ _ bag given) in
+      had P rows (all_weaker _ P (λ r it. (it.0, sym (t.same_number r) ∙ it.1)) rows shown)
+
+  kept_shown : (key : ℤ) (rows : List Row) → map t.shown (without_rowid key rows) ≡ without_rowid key (map t.shown rows)
+  kept_shown key rows =
+      ap (map t.shown) (filter_same (λ r. not (has_rowid key r)) (λ r. not (has_rowid key (t.shown r)))
+      (λ r. ap (λ v. not (is_eq (value_cmp v (Int key)))) (sym (t.same_number r))) rows)
+      ∙ sym (filter-map (λ r. not (has_rowid key r)) t.shown rows)
+
+  gone : (key : ℤ) (rows : List Row) → AllByRecursion (λ r. has_rowid key r ≡ false) (without_rowid key rows)
+  gone key rows = all_weaker _ _ (λ r is. is_not (has_rowid key r) is) _ (passing (λ r. not (has_rowid key r)) rows)
+
+  -- what the table shows then
+  put_shown : (new : X) (xs : List X) (rows : List Row) → IsPermutation (map t.given xs) (map t.shown rows)
+      → IsPermutation (map t.given (insert_by key_in (without_key key_in xs (key_in new)) new))
+      (map t.shown (put_row (t.stored new) (without_rowid (key_in new) rows)))
+  put_shown new xs rows bag =
+      let key = key_in new in
+      let left = without_rowid key (map t.given xs) in
+      let right = without_rowid key (map t.shown rows) in
+      let inserted : map t.given (insert_by key_in (without_key key_in xs key) new) ≡ put_row (t.given new) left =
+      sym (puts-map key_in t.given t.given_number (new ∷ []) (without_key key_in xs key))
+      ∙ ap (put_row (t.given new)) (sym (deletes-map key_in t.given t.given_number (key ∷ []) xs)) in
+      let first = IsPermutation-sym _ _ (put_front (t.given new) key (t.given_number new) left (gone key (map t.given xs))) in
+      let next = IsPermutation-cons (t.given new) left right (IsPermutation-filter (λ r. not (has_rowid key r)) _ _ bag) in
+      let last = IsPermutation-map t.shown _ _ (put_front (t.stored new) key (t.numbered new) (without_rowid key rows) (gone key rows)) in
+      let same : map t.shown (t.stored new ∷ without_rowid key rows) ≡ t.given new ∷ right = ap₂ ◌∷◌ (t.back new) (kept_shown key rows) in
+      subst (λ l. IsPermutation l (map t.shown (put_row (t.stored new) (without_rowid key rows)))) (sym inserted)
+      (IsPermutation-trans _ _ _ first (IsPermutation-trans _ _ _ next
+      (subst (λ l. IsPermutation l (map t.shown (put_row (t.stored new) (without_rowid key rows)))) same last)))
+
+-- ---- what the columns keep
+
+either : (b : Bool) (x : Value) → cond b x x ≡ x
+either true x = refl
+either false x = refl
+
+cast_whole : (n : ℕ) → cast Integer (whole n) ≡ whole n
+unfolding unary
+cast_whole n = either _ (whole n)
+
+cast_null : cast Integer Null ≡ Null
+unfolding unary
+cast_null = either _ Null
+
+cast_instance : (t : Option Tentative) → cast Integer (instance_value t) ≡ instance_value t
+cast_instance None = cast_null
+cast_instance (Some t) = cast_whole t.instance
+
+cast_node : (r : NodeRow) → cast_row node_table (node_stored r) ≡ node_stored r
+cast_node r = rw (cast_whole (id_of r.node), cast_null, cast_whole r.incarnation, cast_instance r.tentative) refl
+
+pub cast_meta : cast_row meta_table (whole 1 ∷ Null ∷ whole 1 ∷ []) ≡ whole 1 ∷ Null ∷ whole 1 ∷ []
+cast_meta = rw (cast_whole 1, cast_null) refl
+
+cast_posted : (p : Posted) → cast_row board_table (posted_stored p) ≡ posted_stored p
+cast_posted p =
+    rw (cast_whole p.instance, cast_null, cast_whole (id_of p.initiator), cast_whole (purpose_code p.purpose), cast_whole (verdict_code p.verdict)) refl
+
+pub put_node_does : (old new : State) (r : NodeRow) (c : Content) (count : ℕ) → IsNodeRow r → old.now.schema ≡ kt_schema → Holds old.now.trees c
+    → Executes put_node_text (node_given r) old new (Ok count)
+    → Shows old new new.now (cond old.in_transaction old.committed new.now) old.in_transaction × (new.now.schema ≡ kt_schema)
+    × Holds new.now.trees (storing r c)
+put_node_does old new r c count good has held h =
+    let params = node_given r in
+    let db = old.now.trees in
+    let w = runs_as put_node_text params old new kt_schema has put_node put_node_is put_node_plain count h in
+    let text = statement_of put_node_text (understood kt_schema put_node_text) in
+    let done =
+    went (subst (λ s. Does old.step_limit (mode_of old) params (record old.now { schema = s }) text None put_node (Ok (w.tally, new.now))) has w.changed) in
+    let now = ap (λ (p : Tally × Database). p.1) (same_value (went (went done.2).2).2) in
+    let next = replaces node_table.name 0 node_table.columns old.step_limit params (node_stored r) (pos (id_of r.node)) refl node_terms 6 (node_stored r) refl
+    (cast_node r) (cast_node r) db
+    (numbered_rows nodes_table c.nodes (db 0) held.nodes.shown) done.0 done.1 in
+    let placed_is : insert_by (λ (x : NodeRow). pos (id_of x.node))
+    (without_key (λ (x : NodeRow). pos (id_of x.node)) c.nodes (pos (id_of r.node))) r ≡ with_row r c.nodes =
+    placed_by node_before node_order (λ (x : NodeRow). id_of x.node) r c.nodes (all_weaker _ _ (goes_by_id r good) c.nodes held.nodes.said) held.nodes.rise in
+    let nodes : IsPermutation (map node_given (with_row r c.nodes)) (map node_shown (done.0.trees 0)) =
+    subst₂ (λ (l : List NodeRow) (rows : List Row). IsPermutation (map node_given l) (map node_shown rows)) placed_is (sym next.0)
+    (put_shown nodes_table r c.nodes (db 0) held.nodes.shown) in
+    let holds : Holds done.0.trees (storing r c) = record {
+      nodes = record {
+        shown = nodes;
+        said = placed_all node_before node_order IsNodeRow r c.nodes good held.nodes.said;
+        rise = placed_rises node_before node_order r c.nodes held.nodes.rise;
+      };
+      board = subst (λ (rows : List Row). HoldsBoard rows c.board) (sym (next.1 1 (λ same. absurd cc))) held.board;
+    } in
+    (w.shown, ap (λ (d : Database). d.schema) now, subst (λ (d : Database). Holds d.trees (storing r c)) (sym now) holds)
+
+pub put_posted_does : (old new : State) (p : Posted) (c : Content) (count : ℕ) → IsPosted p → old.now.schema ≡ kt_schema → Holds old.now.trees c
+    → Executes put_posted_text (posted_given p) old new (Ok count)
+    → Shows old new new.now (cond old.in_transaction old.committed new.now) old.in_transaction × (new.now.schema ≡ kt_schema)
+    × Holds new.now.trees (placing p c)
+put_posted_does old new p c count good has held h =
+    let params = posted_given p in
+    let db = old.now.trees in
+    let w = runs_as put_posted_text params old new kt_schema has put_posted put_posted_is put_posted_plain count h in
+    let text = statement_of put_posted_text (understood kt_schema put_posted_text) in
+    let done =
+    went (subst (λ s. Does old.step_limit (mode_of old) params (record old.now { schema = s }) text None put_posted (Ok (w.tally, new.now))) has w.changed) in
+    let now = ap (λ (p : Tally × Database). p.1) (same_value (went (went done.2).2).2) in
+    let next = replaces board_table.name 1 board_table.columns old.step_limit params (posted_stored p) (pos p.instance) refl posted_terms 5
+    (posted_stored p) refl (cast_posted p) (cast_posted p) db
+    (numbered_rows posted_table c.board (db 1) held.board.shown) done.0 done.1 in
+    let placed_is : insert_by (λ (x : Posted). pos x.instance)
+    (without_key (λ (x : Posted). pos x.instance) c.board (pos p.instance)) p ≡ with_posted p c.board =
+    placed_by posted_before posted_order (λ (x : Posted). x.instance) p c.board (all_of _ (λ x. (refl, refl)) c.board) held.board.rise in
+    let board : IsPermutation (map posted_given (with_posted p c.board)) (map posted_shown (done.0.trees 1)) =
+    subst₂ (λ (l : List Posted) (rows : List Row). IsPermutation (map posted_given l) (map posted_shown rows)) placed_is (sym next.0)
+    (put_shown posted_table p c.board (db 1) held.board.shown) in
+    let holds : Holds done.0.trees (placing p c) = record {
+      nodes = subst (λ (rows : List Row). HoldsNodes rows c.nodes) (sym (next.1 0 (λ same. absurd cc))) held.nodes;
+      board = record {
+        shown = board;
+        said = placed_all posted_before posted_order IsPosted p c.board good held.board.said;
+        rise = placed_rises posted_before posted_order p c.board held.board.rise;
+      };
+    } in
+    (w.shown, ap (λ (d : Database). d.schema) now, subst (λ (d : Database). Holds d.trees (placing p c)) (sym now) holds)

@@ -1,0 +1,64 @@
+use Rattle.std.proofs.Common.{◌≡◌, ◌∙◌, true, ap, subst}
+use Rattle.sqlite.specs.Held.{state}
+use Rattle.sqlite.specs.State.{Shown}
+use Rattle.sqlite.specs.Values.{bound}
+use Rattle.kt_tables.specs.Held.{Tabled, is_sure}
+use Rattle.kt_tables.proofs.StateLemmas.{query_stays, query_refused_stays}
+use Rattle.kt_tables.proofs.TabledLemmas.{stayed, sure_parts}
+use Rattle.kt_tables.proofs.held.Tables.ask.Goals as goal
+use Rattle.kt_tables.proofs.held.Tables.ask.Goals.{in-Ok, in-Err}
+
+pub invariant_of-self : goal.invariant_of-self
+invariant_of-self g c sure =
+    let s : Tabled _ = record { conn = c.self.inside.conn; is_trusted = c.self.inside.is_trusted } in
+    elim c.match-query_all.branch [
+      | in-Ok w ↦
+          (stayed g.S.Store s c.query_all.new.self c.self.invariant c.query_all.ensures.survives.clean
+          (λ clean _. query_stays c.args.sql.now (bound c.args.params.now) _ _ w.in-Ok.rows.items c.requires (w.in-Ok.ensures.ok clean)) sure).2
+      | in-Err w ↦
+          (stayed g.S.Store s c.query_all.new.self c.self.invariant c.query_all.ensures.survives.clean
+          (λ clean on. query_refused_stays c.args.sql.now (bound c.args.params.now) _ _ w.in-Err.error (w.in-Err.ensures.err clean) on) sure).2
+    ]
+
+pub returns-clause-shown : goal.returns-clause-shown
+returns-clause-shown g c sure =
+    let now : Tabled _ = record { conn = c.query_all.new.self; is_trusted = c.self.inside.is_trusted } in
+    elim c.match-query_all.branch [
+      | in-Ok w ↦
+          rw w.result-is
+          (subst (λ (s : Tabled _). Shown c.args.sql.now (bound c.args.params.now) (state g.S.Store s.conn) (state g.S.Store c.query_all.new.self)
+          w.in-Ok.rows.items)
+          c.self.view_is
+          (w.in-Ok.ensures.ok (sure_parts g.S.Store now sure).clean))
+      | in-Err w ↦ rw w.result-is tt
+    ]
+
+pub returns-clause-same : goal.returns-clause-same
+returns-clause-same g c sure =
+    let s : Tabled _ = record { conn = c.self.inside.conn; is_trusted = c.self.inside.is_trusted } in
+    elim c.match-query_all.branch [
+      | in-Ok w ↦
+          (stayed g.S.Store s c.query_all.new.self c.self.invariant c.query_all.ensures.survives.clean
+          (λ clean _. query_stays c.args.sql.now (bound c.args.params.now) _ _ w.in-Ok.rows.items c.requires (w.in-Ok.ensures.ok clean)) sure).1
+          ∙ ap (λ (s : Tabled _). (state g.S.Store s.conn).now) c.self.view_is
+      | in-Err w ↦
+          (stayed g.S.Store s c.query_all.new.self c.self.invariant c.query_all.ensures.survives.clean
+          (λ clean on. query_refused_stays c.args.sql.now (bound c.args.params.now) _ _ w.in-Err.error (w.in-Err.ensures.err clean) on) sure).1
+          ∙ ap (λ (s : Tabled _). (state g.S.Store s.conn).now) c.self.view_is
+    ]
+
+pub returns-clause-honest : goal.returns-clause-honest
+returns-clause-honest g c sure =
+    let s : Tabled _ = record { conn = c.self.inside.conn; is_trusted = c.self.inside.is_trusted } in
+    subst (λ (s : Tabled _). is_sure g.S.Store s ≡ true) c.self.view_is
+    (elim c.match-query_all.branch [
+      | in-Ok w ↦
+          (stayed g.S.Store s c.query_all.new.self c.self.invariant c.query_all.ensures.survives.clean
+          (λ clean _. query_stays c.args.sql.now (bound c.args.params.now) _ _ w.in-Ok.rows.items c.requires (w.in-Ok.ensures.ok clean)) sure).0
+      | in-Err w ↦
+          (stayed g.S.Store s c.query_all.new.self c.self.invariant c.query_all.ensures.survives.clean
+          (λ clean on. query_refused_stays c.args.sql.now (bound c.args.params.now) _ _ w.in-Err.error (w.in-Err.ensures.err clean) on) sure).0
+    ])
+
+pub returns-clause-kept : goal.returns-clause-kept
+returns-clause-kept g c = invariant_of-self g c

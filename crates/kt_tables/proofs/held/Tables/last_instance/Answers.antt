@@ -1,0 +1,22 @@
+use Rattle.std.proofs.Common.{◌≡◌, slice_get, IfOk, subst, ap, ◌∙◌}
+use Rattle.kt_tables.specs.Held.{is_sure, content_of}
+use Rattle.kt_tables.proofs.Texts.{last_posted_is}
+use Rattle.kt_tables.proofs.AnswerLemmas.{gives_value, gives_memory, read_reason, last_read, last_number}
+use Rattle.kt_tables.proofs.held.Tables.last_instance.Goals as goal
+
+pub ask-requires : goal.ask-requires
+ask-requires g c = last_posted_is.plain
+
+pub returns-clause-value : goal.returns-clause-value
+returns-clause-value g c sure =
+    let read = last_read g.S.Store c.args.self.now c.ask.new.self (c.in_ok-rows.ensures.kept sure) (c.in_ok-rows.ensures.same sure) c.in_ok-rows.rows.items
+    (c.in_ok-rows.ensures.shown sure) in
+    subst (λ n. IfOk c.first_number.result (λ o. o ≡ n)) (last_number (content_of g.S.Store c.args.self.now).board)
+    (gives_value _ c.first_number.result (c.first_number.ensures.exact _ read.1 (ap (λ rows. slice_get rows 0) c.deref.ensures.value ∙ read.0)))
+
+pub returns-clause-reason : goal.returns-clause-reason
+returns-clause-reason g c =
+    read_reason (is_sure g.S.Store c.ask.new.self) c.first_number.result c.first_number.ensures.named (λ sure.
+    let read = last_read g.S.Store c.args.self.now c.ask.new.self (c.in_ok-rows.ensures.kept sure) (c.in_ok-rows.ensures.same sure) c.in_ok-rows.rows.items
+    (c.in_ok-rows.ensures.shown sure) in
+    gives_memory _ c.first_number.result (c.first_number.ensures.exact _ read.1 (ap (λ rows. slice_get rows 0) c.deref.ensures.value ∙ read.0)))

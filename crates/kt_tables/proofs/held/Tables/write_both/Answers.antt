@@ -1,0 +1,74 @@
+use Rattle.std.proofs.Common.{◌≡◌, ◌∙◌, true, sym, ap, subst}
+use Rattle.std.specs.Prelude.{IsTrue}
+use Rattle.sqlite.specs.Held.{Held}
+use Rattle.kt_store.specs.Changes.{storing}
+use Rattle.kt_tables.specs.Rows.{placing}
+use Rattle.kt_tables.specs.Held.{Tabled, is_sure, content_of, IsKept}
+use Rattle.kt_tables.proofs.StateLemmas.{undone_stays}
+use Rattle.kt_tables.proofs.AnswerLemmas.{both_wrote, neither_wrote}
+use Rattle.kt_tables.proofs.held.Tables.write_both.Goals as goal
+use Rattle.kt_tables.proofs.held.Tables.write_both.Goals.{in-Ok-true, in-Ok-false, in-Err}
+
+pub invariant_of-self : goal.invariant_of-self
+invariant_of-self g c sure =
+    let s : Tabled _ = record { conn = c.self.inside.conn; is_trusted = c.self.inside.is_trusted } in
+    let at : Held _ → Tabled _ = λ h. record { conn = h; is_trusted = c.self.inside.is_trusted } in
+    let r = c.requires in
+    elim c.match-execute_both.branch [
+      | in-Ok-true w ↦
+          (both_wrote g.S.Store s c.execute_both.new.conn c.self.invariant c.execute_both.ensures.clean r.0 r.1 r.2 r.3
+          (λ clean. w.in-Ok-true.ensures.both clean w.in-Ok-true.field-0-test r.0 r.1 r.4 r.5) sure).2
+      | in-Ok-false w ↦
+          let same = (w.in-Ok-false.ensures.not_begun w.in-Ok-false.field-0-test).0 in
+          subst (λ h. IsTrue (is_sure g.S.Store (at h)) → IsKept g.S.Store (at h)) (sym same) c.self.invariant sure
+      | in-Err w ↦
+          (neither_wrote g.S.Store s c.execute_both.new.conn c.self.invariant c.execute_both.ensures.clean
+          (λ clean on. undone_stays _ _ (w.in-Err.ensures.opened clean on) (w.in-Err.ensures.neither clean on) w.in-Err.ensures.ended) sure).2
+    ]
+
+pub returns-clause-written : goal.returns-clause-written
+returns-clause-written g c r p good fine node posted sure =
+    let s : Tabled _ = record { conn = c.self.inside.conn; is_trusted = c.self.inside.is_trusted } in
+    elim c.match-execute_both.branch [
+      | in-Ok-true w ↦
+          rw w.result-is
+          ((both_wrote g.S.Store s c.execute_both.new.conn c.self.invariant c.execute_both.ensures.clean r p good fine
+          (λ clean. w.in-Ok-true.ensures.both clean w.in-Ok-true.field-0-test r p node posted) sure).1
+          ∙ ap (λ (s : Tabled _). placing p (storing r (content_of g.S.Store s))) c.self.view_is)
+      | in-Ok-false w ↦ rw w.result-is tt
+      | in-Err w ↦ rw w.result-is tt
+    ]
+
+pub returns-clause-unchanged : goal.returns-clause-unchanged
+returns-clause-unchanged g c sure =
+    let s : Tabled _ = record { conn = c.self.inside.conn; is_trusted = c.self.inside.is_trusted } in
+    let at : Held _ → Tabled _ = λ h. record { conn = h; is_trusted = c.self.inside.is_trusted } in
+    elim c.match-execute_both.branch [
+      | in-Ok-true w ↦ rw w.result-is tt
+      | in-Ok-false w ↦
+          let same = (w.in-Ok-false.ensures.not_begun w.in-Ok-false.field-0-test).0 in
+          rw w.result-is (ap (λ h. content_of g.S.Store (at h)) same ∙ ap (content_of g.S.Store) c.self.view_is)
+      | in-Err w ↦
+          rw w.result-is
+          ((neither_wrote g.S.Store s c.execute_both.new.conn c.self.invariant c.execute_both.ensures.clean
+          (λ clean on. undone_stays _ _ (w.in-Err.ensures.opened clean on) (w.in-Err.ensures.neither clean on) w.in-Err.ensures.ended) sure).1
+          ∙ ap (content_of g.S.Store) c.self.view_is)
+    ]
+
+pub returns-clause-honest : goal.returns-clause-honest
+returns-clause-honest g c sure =
+    let s : Tabled _ = record { conn = c.self.inside.conn; is_trusted = c.self.inside.is_trusted } in
+    let at : Held _ → Tabled _ = λ h. record { conn = h; is_trusted = c.self.inside.is_trusted } in
+    let r = c.requires in
+    subst (λ (s : Tabled _). is_sure g.S.Store s ≡ true) c.self.view_is
+    (elim c.match-execute_both.branch [
+      | in-Ok-true w ↦
+          (both_wrote g.S.Store s c.execute_both.new.conn c.self.invariant c.execute_both.ensures.clean r.0 r.1 r.2 r.3
+          (λ clean. w.in-Ok-true.ensures.both clean w.in-Ok-true.field-0-test r.0 r.1 r.4 r.5) sure).0
+      | in-Ok-false w ↦
+          let same = (w.in-Ok-false.ensures.not_begun w.in-Ok-false.field-0-test).0 in
+          subst (λ h. IsTrue (is_sure g.S.Store (at h))) same sure
+      | in-Err w ↦
+          (neither_wrote g.S.Store s c.execute_both.new.conn c.self.invariant c.execute_both.ensures.clean
+          (λ clean on. undone_stays _ _ (w.in-Err.ensures.opened clean on) (w.in-Err.ensures.neither clean on) w.in-Err.ensures.ended) sure).0
+    ])

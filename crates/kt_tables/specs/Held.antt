@@ -1,0 +1,35 @@
+-- Tables over a connection: what they hold, and when that is said.
+use Rattle.std.specs.Prelude.{◌≡◌, Bool, ◌&&◌, refl}
+use Rattle.std.specs.Coded.{Coded, code_by, coded×, coded_bool}
+use Rattle.sqlite.specs.Store.{Ghosts}
+use Rattle.sqlite.specs.Held.{Held, held_code, state}
+use Rattle.kt_store.specs.Content.{Content}
+use Rattle.kt_tables.specs.Schema.{kt_schema}
+use Rattle.kt_tables.specs.Settled.{IsSettled}
+use Rattle.kt_tables.specs.Rows.{Holds, content_in}
+
+pub record Tabled (S : Type 0) : Type 0 where
+  pub conn : Held S
+  -- each row was as said when the tables were opened
+  pub is_trusted : Bool
+
+abbrev pub tabled_code : {S : Type 0} → Coded S → Coded (Tabled S)
+tabled_code {S} store =
+    code_by (Held S × Bool) (coded× (held_code store) coded_bool)
+    (λ s. (s.conn, s.is_trusted))
+    (λ p. record { conn = p.0; is_trusted = p.1 }) (λ _. refl)
+
+module _ {S : Type 0} (g : Ghosts S) where
+  -- the connection is open, the disk has returned what was written, and the rows were as said at the start
+  abbrev pub is_sure : Tabled S → Bool
+  is_sure s = s.is_trusted && ((state g s.conn).is_open && (state g s.conn).is_clean)
+
+  -- what its tables hold
+  abbrev pub content_of : Tabled S → Content
+  content_of s = content_in (state g s.conn).now.trees
+
+  -- the tables are those of a store, and each row is as said
+  pub record IsKept (s : Tabled S) : Type 0 where
+    pub settled : IsSettled (state g s.conn)
+    pub schema : (state g s.conn).now.schema ≡ kt_schema
+    pub holds : Holds (state g s.conn).now.trees (content_of s)

@@ -1,0 +1,10 @@
+pub mod Both
+pub mod Cells
+pub mod Held
+pub mod Made
+pub mod Opened
+pub mod Reason
+pub mod Rows
+pub mod Schema
+pub mod Settled
+pub mod Text

@@ -1,0 +1,13 @@
+-- The tables of a fresh store.
+use Rattle.std.specs.Prelude.{◌≡◌, [], IsTrue}
+use Rattle.sqlite.specs.State.{State}
+use Rattle.kt_tables.specs.Settled.{IsSettled}
+use Rattle.kt_tables.specs.Opened.{IsVersion1}
+
+-- the three tables were made and committed, and no node and no instance has a row
+pub record IsMade (s : State) : Type 0 where
+  pub is_open : IsTrue s.is_open
+  pub settled : IsSettled s
+  pub version : IsVersion1 s.now
+  pub nodes : s.now.trees 0 ≡ []
+  pub board : s.now.trees 1 ≡ []

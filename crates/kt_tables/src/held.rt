@@ -1,0 +1,208 @@
+//! Tables over a connection.
+
+ghost use Rattle.std.specs.Prelude.{◌≡◌, ◌<◌, ◌≤◌, true, IfOk, OnOk, OnErr, IsTrue};
+ghost use Rattle.sqlite.specs.Values.{bound};
+ghost use Rattle.sqlite.specs.Held.{state};
+ghost use Rattle.sqlite.specs.Listing.{understood};
+ghost use Rattle.sqlite.specs.State.{HasCleanDisk, Shown};
+ghost use Rattle.kt_store.specs.declared.rows.NodeRow.{NodeRow as NodeFields};
+ghost use Rattle.kt_store.specs.declared.rows.Posted.{Posted as PostedFields};
+ghost use Rattle.kt_store.specs.Changes.{storing};
+ghost use Rattle.kt_tables.specs.Rows.{IsNodeRow, IsPosted, placing};
+ghost use Rattle.kt_tables.specs.Opened.{IsReady};
+ghost use Rattle.kt_tables.specs.Cells.{SpellsNode, SpellsPosted};
+ghost use Rattle.sqlite.specs.Given.{IsPlain};
+ghost use Rattle.kt_tables.specs.Reason.{HasReason};
+ghost use Rattle.kt_tables.specs.Schema.{kt_schema};
+ghost use Rattle.kt_tables.specs.Held.{is_sure, content_of, IsKept};
+
+use crate::cells::{NodeCells, PostedCells, both_cells, into_node_cells, posted_cells};
+use crate::opened::statement_error;
+use crate::statements::{execute_both, execute_node, execute_posted};
+use kt_store::{NodeRow, Posted, StoreError};
+use sqlite::types::ValueRef;
+use sqlite::{Alter, Connection, Row};
+use std::alloc::Global;
+use std::marker::Model;
+
+/// The tables of a store, over a connection. They are sure while the connection is open, the disk has returned what
+/// was written, and each row was as said when they were opened.
+pub struct Tables<S: Alter> {
+    conn: Connection<S>,
+    is_trusted: bool,
+    alloc: Global,
+}
+
+impl<S: Alter> Model for Tables<S> {
+    ghost use Rattle.std.specs.Prelude.{IsTrue};
+    ghost use Rattle.kt_tables.specs.Held.{IsKept, Tabled, is_sure, tabled_code};
+
+    ghost Value = { Tabled S };
+
+    ghost coded = { tabled_code S.code };
+
+    ghost view = { λ s. record { conn = s.conn; is_trusted = s.is_trusted } };
+
+    ghost invariant = { λ s.
+        IsTrue (is_sure S.Store (record { conn = s.conn; is_trusted = s.is_trusted }))
+        → IsKept S.Store (record { conn = s.conn; is_trusted = s.is_trusted }) };
+}
+
+impl<S: Alter + Drop> Drop for Tables<S> {
+    fn drop(self) {
+        let Tables {
+            conn: _,
+            is_trusted: _,
+            alloc: _,
+        } = self;
+    }
+}
+
+impl<S: Alter> Tables<S> {
+    /// Those of a connection whose tables were made or tested.
+    pub fn over(alloc: Global, conn: Connection<S>, is_trusted: bool) -> Tables<S>
+        requires { HasCleanDisk (state S.Store conn) → IsReady (state S.Store conn) is_trusted }
+        ensures { result ≡ record { conn = conn; is_trusted = is_trusted } }
+    {
+        Tables {
+            conn,
+            is_trusted,
+            alloc,
+        }
+    }
+
+    /// Their connection.
+    pub fn into_connection(self) -> Connection<S>
+        ensures { result ≡ self.conn }
+    {
+        let Tables {
+            conn,
+            is_trusted: _,
+            alloc: _,
+        } = self;
+        conn
+    }
+
+    /// Where rows take their memory from.
+    pub fn allocator(&self) -> Global
+        ensures kept { IsTrue (is_sure S.Store self.now) → IsKept S.Store self.now }
+    {
+        self.alloc
+    }
+
+    /// All rows of the answer to a query.
+    pub(crate) fn ask(&mut self, sql: &str, params: &[ValueRef<'_>]) -> Result<Vec<Row>, StoreError>
+        requires { IsPlain (understood kt_schema sql.now) }
+        ensures shown { IsTrue (is_sure S.Store self.new)
+            → IfOk result (λ rows. Shown sql.now (bound params.now) (state S.Store self.old.conn)
+            (state S.Store self.new.conn) rows.items) }
+        ensures same { IsTrue (is_sure S.Store self.new)
+            → (state S.Store self.new.conn).now ≡ (state S.Store self.old.conn).now }
+        ensures honest { IsTrue (is_sure S.Store self.new) → IsTrue (is_sure S.Store self.old) }
+        ensures kept { IsTrue (is_sure S.Store self.new) → IsKept S.Store self.new }
+        ensures reason { HasReason (is_sure S.Store self.new) result }
+    {
+        match self.conn.query_all(sql, params) {
+            Ok(rows) => Ok(rows),
+            Err(error) => Err(statement_error(error)),
+        }
+    }
+
+    /// Stores the row, in place of the one that the node has.
+    pub fn put_node(&mut self, row: NodeRow) -> Result<(), StoreError>
+        requires { 1 ≤ row.incarnation }
+        ensures written { IsTrue (is_sure S.Store self.new)
+            → OnOk result (content_of S.Store self.new ≡ storing row (content_of S.Store self.old)) }
+        ensures unchanged { IsTrue (is_sure S.Store self.new)
+            → OnErr result (content_of S.Store self.new ≡ content_of S.Store self.old) }
+        ensures honest { IsTrue (is_sure S.Store self.new) → IsTrue (is_sure S.Store self.old) }
+        ensures reason { HasReason (is_sure S.Store self.new) result }
+    {
+        match into_node_cells(self.alloc, row)? {
+            Some(cells) => self.write_node(&cells),
+            None => Err(StoreError::Device),
+        }
+    }
+
+    fn write_node(&mut self, cells: &NodeCells) -> Result<(), StoreError>
+        requires { (r : NodeFields) × IsNodeRow r × SpellsNode cells.now r }
+        ensures written { (r : NodeFields) → IsNodeRow r → SpellsNode cells.now r → IsTrue (is_sure S.Store self.new)
+            → OnOk result (content_of S.Store self.new ≡ storing r (content_of S.Store self.old)) }
+        ensures unchanged { IsTrue (is_sure S.Store self.new)
+            → OnErr result (content_of S.Store self.new ≡ content_of S.Store self.old) }
+        ensures honest { IsTrue (is_sure S.Store self.new) → IsTrue (is_sure S.Store self.old) }
+        ensures reason { HasReason (is_sure S.Store self.new) result }
+    {
+        match execute_node(&mut self.conn, cells) {
+            Ok(_) => Ok(()),
+            Err(error) => Err(statement_error(error)),
+        }
+    }
+
+    /// Stores the row, in place of the one that the instance has.
+    pub fn put_posted(&mut self, row: Posted) -> Result<(), StoreError>
+        requires { 1 ≤ row.instance }
+        ensures written { IsTrue (is_sure S.Store self.new)
+            → OnOk result (content_of S.Store self.new ≡ placing row (content_of S.Store self.old)) }
+        ensures unchanged { IsTrue (is_sure S.Store self.new)
+            → OnErr result (content_of S.Store self.new ≡ content_of S.Store self.old) }
+        ensures honest { IsTrue (is_sure S.Store self.new) → IsTrue (is_sure S.Store self.old) }
+        ensures reason { HasReason (is_sure S.Store self.new) result }
+    {
+        match posted_cells(row) {
+            Some(cells) => self.write_posted(cells),
+            None => Err(StoreError::Device),
+        }
+    }
+
+    fn write_posted(&mut self, cells: PostedCells) -> Result<(), StoreError>
+        requires { (p : PostedFields) × IsPosted p × SpellsPosted cells p }
+        ensures written { (p : PostedFields) → IsPosted p → SpellsPosted cells p → IsTrue (is_sure S.Store self.new)
+            → OnOk result (content_of S.Store self.new ≡ placing p (content_of S.Store self.old)) }
+        ensures unchanged { IsTrue (is_sure S.Store self.new)
+            → OnErr result (content_of S.Store self.new ≡ content_of S.Store self.old) }
+        ensures honest { IsTrue (is_sure S.Store self.new) → IsTrue (is_sure S.Store self.old) }
+        ensures reason { HasReason (is_sure S.Store self.new) result }
+    {
+        match execute_posted(&mut self.conn, cells) {
+            Ok(_) => Ok(()),
+            Err(error) => Err(statement_error(error)),
+        }
+    }
+
+    /// Stores both rows in one transaction.
+    pub fn put_both(&mut self, row: NodeRow, posted: Posted) -> Result<(), StoreError>
+        requires incarnation { 1 ≤ row.incarnation }
+        requires instance { 1 ≤ posted.instance }
+        ensures written { IsTrue (is_sure S.Store self.new)
+            → OnOk result (content_of S.Store self.new ≡ placing posted
+            (storing row (content_of S.Store self.old))) }
+        ensures unchanged { IsTrue (is_sure S.Store self.new)
+            → OnErr result (content_of S.Store self.new ≡ content_of S.Store self.old) }
+        ensures honest { IsTrue (is_sure S.Store self.new) → IsTrue (is_sure S.Store self.old) }
+        ensures reason { HasReason (is_sure S.Store self.new) result }
+    {
+        match both_cells(self.alloc, row, posted)? {
+            Some((node, posted)) => self.write_both(&node, posted),
+            None => Err(StoreError::Device),
+        }
+    }
+
+    fn write_both(&mut self, node: &NodeCells, posted: PostedCells) -> Result<(), StoreError>
+        requires { (r : NodeFields) × (p : PostedFields) × IsNodeRow r × IsPosted p × SpellsNode node.now r
+            × SpellsPosted posted p }
+        ensures written { (r : NodeFields) (p : PostedFields) → IsNodeRow r → IsPosted p → SpellsNode node.now r
+            → SpellsPosted posted p → IsTrue (is_sure S.Store self.new)
+            → OnOk result (content_of S.Store self.new ≡ placing p (storing r (content_of S.Store self.old))) }
+        ensures unchanged { IsTrue (is_sure S.Store self.new)
+            → OnErr result (content_of S.Store self.new ≡ content_of S.Store self.old) }
+        ensures honest { IsTrue (is_sure S.Store self.new) → IsTrue (is_sure S.Store self.old) }
+        ensures reason { HasReason (is_sure S.Store self.new) result }
+    {
+        match execute_both(&mut self.conn, node, posted) {
+            Ok(true) => Ok(()),
+            Ok(false) => Err(StoreError::Device),
+            Err(error) => Err(statement_error(error)),
+        }
+    }
+}

@@ -1,0 +1,38 @@
+//! The numbers of the tables.
+
+ghost use Rattle.std.specs.Prelude.{◌≡◌, ◌<◌, ◌≤◌, pos, MatchOption};
+ghost use Rattle.sqlite.specs.declared.types.Value.TheVariants.{Int};
+ghost use Rattle.kt_store.specs.Content.{greatest};
+
+use sqlite::types::{ToSql, ValueRef};
+
+/// The greatest number in a table.
+pub const GREATEST: u64 = 1 << 62;
+
+/// A number that a table holds.
+#[derive(Clone, Copy, Debug)]
+pub(crate) struct Number {
+    value: u64,
+    ghost low: { value ≤ greatest },
+}
+
+impl Number {
+    /// The number, where a table holds it.
+    pub(crate) fn new(value: u64) -> Option<Number>
+        ensures { MatchOption result (greatest < value) (λ n. n.value ≡ value) }
+    {
+        if value <= GREATEST {
+            Some(Number { value })
+        } else {
+            None
+        }
+    }
+}
+
+impl<'a> ToSql<'a> for Number {
+    ghost to_sql = { λ n. Int (pos n.value) };
+
+    fn to_sql(self) -> ValueRef<'a> {
+        ValueRef::Int(self.value as i64)
+    }
+}

@@ -1,0 +1,151 @@
+//! What is read of the tables.
+
+ghost use Rattle.std.specs.Prelude.{◌≡◌, ◌==◌, ◌&&◌, ◌≤◌, Option, fold, map, max, IfOk, IfSome};
+ghost use Rattle.std.specs.Prelude.{IsTrue};
+ghost use Rattle.std.specs.List.{find};
+ghost use Rattle.kt_tuple.specs.Node.{node_eq};
+ghost use Rattle.kt_store.specs.declared.rows.NodeRow.{NodeRow as NodeFields};
+ghost use Rattle.kt_store.specs.declared.rows.Posted.{Posted as PostedFields};
+ghost use Rattle.kt_store.specs.Verdict.{is_open};
+ghost use Rattle.kt_store.specs.Content.{greatest, is_empty, row_of};
+ghost use Rattle.kt_tables.specs.Reason.{HasReason};
+ghost use Rattle.kt_tables.specs.Rows.{IsNodeRow, IsPosted};
+ghost use Rattle.kt_tables.specs.Held.{is_sure, content_of};
+
+use crate::firsts::{first_node, first_number, first_posted, has_no_row};
+use crate::held::Tables;
+use crate::ids::id_of;
+use crate::number::Number;
+use kt_store::{NodeRow, Posted, StoreError};
+use kt_tuple::NodeId;
+use sqlite::{Alter, params};
+
+const GET_NODE: &str =
+    "SELECT id, incarnation, permanent, tentative, instance FROM kt_node WHERE id = ?1 ORDER BY id";
+
+const FIRST_NODE: &str =
+    "SELECT id, incarnation, permanent, tentative, instance FROM kt_node ORDER BY id LIMIT 1";
+
+const GET_POSTED: &str =
+    "SELECT instance, initiator, purpose, verdict FROM kt_board WHERE instance = ?1 ORDER BY instance";
+
+const LAST_POSTED: &str =
+    "SELECT instance, initiator, purpose, verdict FROM kt_board ORDER BY instance DESC LIMIT 1";
+
+const OPEN_POSTED: &str =
+    "SELECT instance, initiator, purpose, verdict FROM kt_board WHERE initiator = ?1 AND verdict = 0 \
+     ORDER BY instance LIMIT 1";
+
+impl<S: Alter> Tables<S> {
+    /// The row of the node, where it has one.
+    fn find_node(&mut self, node: NodeId) -> Result<Option<NodeRow>, StoreError>
+        ensures value { IsTrue (is_sure S.Store self.new)
+            → IfOk result (λ o.
+            o ≡ find (λ (r : NodeFields). node_eq r.node node) (content_of S.Store self.old).nodes) }
+        ensures found { IfOk result (λ o. IfSome o IsNodeRow) }
+        ensures same { IsTrue (is_sure S.Store self.new) → content_of S.Store self.new ≡ content_of S.Store self.old }
+        ensures honest { IsTrue (is_sure S.Store self.new) → IsTrue (is_sure S.Store self.old) }
+        ensures reason { HasReason (is_sure S.Store self.new) result }
+    {
+        let alloc = self.allocator();
+        let Some(id) = id_of(node) else {
+            return Ok(None);
+        };
+        let rows = self.ask(GET_NODE, params![id])?;
+        first_node(alloc, &rows)
+    }
+
+    /// What is stored of the node.
+    pub fn row_of(&mut self, node: NodeId) -> Result<NodeRow, StoreError>
+        ensures value { IsTrue (is_sure S.Store self.new)
+            → IfOk result (λ r. r ≡ row_of (content_of S.Store self.old) node) }
+        ensures first { IfOk result (λ r. 1 ≤ r.incarnation) }
+        ensures last { IfOk result (λ r. r.incarnation ≤ greatest) }
+        ensures same { IsTrue (is_sure S.Store self.new) → content_of S.Store self.new ≡ content_of S.Store self.old }
+        ensures honest { IsTrue (is_sure S.Store self.new) → IsTrue (is_sure S.Store self.old) }
+        ensures reason { HasReason (is_sure S.Store self.new) result }
+    {
+        match self.find_node(node)? {
+            Some(row) => Ok(row),
+            None => Ok(NodeRow {
+                node,
+                incarnation: 1,
+                permanent: None,
+                tentative: None,
+            }),
+        }
+    }
+
+    /// The row of the instance, where it was begun.
+    pub fn find_posted(&mut self, instance: u64) -> Result<Option<Posted>, StoreError>
+        ensures value { IsTrue (is_sure S.Store self.new)
+            → IfOk result (λ o.
+            o ≡ find (λ (p : PostedFields). p.instance == instance) (content_of S.Store self.old).board) }
+        ensures found { IfOk result (λ o. IfSome o IsPosted) }
+        ensures same { IsTrue (is_sure S.Store self.new) → content_of S.Store self.new ≡ content_of S.Store self.old }
+        ensures honest { IsTrue (is_sure S.Store self.new) → IsTrue (is_sure S.Store self.old) }
+        ensures reason { HasReason (is_sure S.Store self.new) result }
+    {
+        let _ = self.allocator();
+        let Some(number) = Number::new(instance) else {
+            return Ok(None);
+        };
+        let rows = self.ask(GET_POSTED, params![number])?;
+        first_posted(&rows)
+    }
+
+    /// The first instance that the node began and that is open.
+    pub fn find_open(&mut self, node: NodeId) -> Result<Option<Posted>, StoreError>
+        ensures value { IsTrue (is_sure S.Store self.new)
+            → IfOk result (λ o. o ≡ find (λ (p : PostedFields). node_eq p.initiator node && is_open p.verdict)
+            (content_of S.Store self.old).board) }
+        ensures same { IsTrue (is_sure S.Store self.new) → content_of S.Store self.new ≡ content_of S.Store self.old }
+        ensures honest { IsTrue (is_sure S.Store self.new) → IsTrue (is_sure S.Store self.old) }
+        ensures reason { HasReason (is_sure S.Store self.new) result }
+    {
+        let _ = self.allocator();
+        let Some(id) = id_of(node) else {
+            return Ok(None);
+        };
+        let rows = self.ask(OPEN_POSTED, params![id])?;
+        first_posted(&rows)
+    }
+
+    /// The greatest number of an instance, 0 where there is none.
+    pub fn last_instance(&mut self) -> Result<u64, StoreError>
+        ensures value { IsTrue (is_sure S.Store self.new)
+            → IfOk result (λ n.
+            n ≡ fold max 0 (map (λ (p : PostedFields). p.instance) (content_of S.Store self.old).board)) }
+        ensures within { IfOk result (λ n. n ≤ greatest) }
+        ensures same { IsTrue (is_sure S.Store self.new) → content_of S.Store self.new ≡ content_of S.Store self.old }
+        ensures honest { IsTrue (is_sure S.Store self.new) → IsTrue (is_sure S.Store self.old) }
+        ensures reason { HasReason (is_sure S.Store self.new) result }
+    {
+        let rows = self.ask(LAST_POSTED, params![])?;
+        first_number(&rows)
+    }
+
+    /// Whether the table of nodes has no row.
+    pub fn has_no_node(&mut self) -> Result<bool, StoreError>
+        ensures value { IsTrue (is_sure S.Store self.new)
+            → IfOk result (λ b. b ≡ is_empty (content_of S.Store self.old).nodes) }
+        ensures same { IsTrue (is_sure S.Store self.new) → content_of S.Store self.new ≡ content_of S.Store self.old }
+        ensures honest { IsTrue (is_sure S.Store self.new) → IsTrue (is_sure S.Store self.old) }
+        ensures reason { HasReason (is_sure S.Store self.new) result }
+    {
+        let rows = self.ask(FIRST_NODE, params![])?;
+        Ok(has_no_row(&rows))
+    }
+
+    /// Whether the board has no row.
+    pub fn has_no_posted(&mut self) -> Result<bool, StoreError>
+        ensures value { IsTrue (is_sure S.Store self.new)
+            → IfOk result (λ b. b ≡ is_empty (content_of S.Store self.old).board) }
+        ensures same { IsTrue (is_sure S.Store self.new) → content_of S.Store self.new ≡ content_of S.Store self.old }
+        ensures honest { IsTrue (is_sure S.Store self.new) → IsTrue (is_sure S.Store self.old) }
+        ensures reason { HasReason (is_sure S.Store self.new) result }
+    {
+        let rows = self.ask(LAST_POSTED, params![])?;
+        Ok(has_no_row(&rows))
+    }
+}
