@@ -83,7 +83,7 @@ fn decoded(alloc: Global, bytes: &[u8]) -> Result<Ckpt, StoreError>
 }
 
 /// The tentative checkpoint of the row of a node, with its instance.
-fn tentative_in(alloc: Global, row: &Row) -> Result<Option<Tentative>, StoreError>
+fn tentative_at(alloc: Global, row: &Row) -> Result<Option<Tentative>, StoreError>
     ensures found { IfOk result (λ t. IsTaken t × (column row.now 3 ≡ checkpoint_value t)
         × (column row.now 4 ≡ instance_value t)) }
     ensures exact { (t : Option TentativeFields) → IsTaken t → 4 < length row.now
@@ -149,7 +149,7 @@ pub(crate) fn node_row(alloc: Global, row: &Row) -> Result<NodeRow, StoreError>
     let node = node_at(row, 0)?;
     let incarnation = positive_at(row, 1)?;
     let permanent = checkpoint_at(alloc, row, 2)?;
-    let tentative = tentative_in(alloc, row)?;
+    let tentative = tentative_at(alloc, row)?;
     Ok(NodeRow {
         node,
         incarnation,
