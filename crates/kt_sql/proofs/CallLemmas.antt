@@ -14,7 +14,7 @@ then_ok (Ok t) f h = f h
 then_ok (Err e) f h = tt
 
 -- what a restart writes
-pub restarts : (c one two : Content) (node : NodeId) (row new : NodeRow) (last : ℕ) → row ≡ row_of one node → new ≡ record row { incarnation = row.incarnation + 1 }
-    → two ≡ one → one ≡ c → last ≡ fold max 0 (map (λ (p : Posted). p.instance) c.board)
+pub restarts : (c one two : Content) (node : NodeId) (row new : NodeRow) (last : ℕ) → row ≡ row_of one node
+    → new ≡ record row { incarnation = row.incarnation + 1 } → two ≡ one → one ≡ c → last ≡ fold max 0 (map (λ (p : Posted). p.instance) c.board)
     → placing record { instance = last + 1; initiator = node; purpose = Rollback; verdict = Open } (storing new two) ≡ restart_begun node c
 restarts c one two node row new last is next same before number = rw (next, is, same, before, number) refl

@@ -73,7 +73,8 @@ impl<S: Alter> SqlStore<S> {
             → (state S.Store conn).now.schema ≡ no_schema
             → IsTrue (is_sure S.Store s.tables) × (content_of S.Store s.tables ≡ empty_content)) }
         ensures found { IfOk result (λ s. HasCleanDisk (state S.Store s.tables.conn)
-            → (state S.Store conn).now.schema ≢ no_schema → (state S.Store s.tables.conn).now ≡ (state S.Store conn).now) }
+            → (state S.Store conn).now.schema ≢ no_schema
+            → (state S.Store s.tables.conn).now ≡ (state S.Store conn).now) }
         ensures version { IfOk result (λ s. HasCleanDisk (state S.Store s.tables.conn)
             → IsVersion1 (state S.Store s.tables.conn).now) }
         ensures honest { IfOk result (λ s. HasCleanDisk (state S.Store s.tables.conn)
@@ -110,7 +111,8 @@ impl SqlStore<FileStore<File>> {
     /// The store in the database at the path, which is made where no file or an empty one is there. The file is locked
     /// while the store lives.
     pub fn open(rt: &HostRuntime, path: &str) -> Result<SqlStore<FileStore<File>>, SqlOpenError>
-        ensures version { IfOk result (λ s. HasCleanDisk (file_state s.tables.conn) → IsVersion1 (file_state s.tables.conn).now) }
+        ensures version { IfOk result (λ s. HasCleanDisk (file_state s.tables.conn)
+            → IsVersion1 (file_state s.tables.conn).now) }
         ensures honest { IfOk result (λ s. HasCleanDisk (file_state s.tables.conn)
             → (IsTrue (is_sure over_files s.tables) ↔ AreAsSaid (file_state s.tables.conn).now.trees)) }
         ensures faults { IfOk result (λ s. s.faults ≡ 0) }

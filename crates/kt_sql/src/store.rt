@@ -99,7 +99,8 @@ impl<S: Alter> SqlStore<S> {
     /// The row of the instance, where it was begun.
     pub(crate) fn find_posted(&mut self, instance: u64) -> Result<Option<Posted>, StoreError>
         ensures value { IsTrue (is_sure S.Store self.new.tables)
-            → IfOk result (λ o. o ≡ find (λ (p : PostedFields). p.instance == instance) (content_of S.Store self.old.tables).board) }
+            → IfOk result (λ o. o ≡ find (λ (p : PostedFields). p.instance == instance)
+            (content_of S.Store self.old.tables).board) }
         ensures found { IfOk result (λ o. IfSome o IsPosted) }
         ensures same { IsTrue (is_sure S.Store self.new.tables)
             → content_of S.Store self.new.tables ≡ content_of S.Store self.old.tables }
@@ -129,7 +130,8 @@ impl<S: Alter> SqlStore<S> {
     /// The greatest number of an instance, 0 where there is none.
     pub(crate) fn last_instance(&mut self) -> Result<u64, StoreError>
         ensures value { IsTrue (is_sure S.Store self.new.tables)
-            → IfOk result (λ n. n ≡ fold max 0 (map (λ (p : PostedFields). p.instance) (content_of S.Store self.old.tables).board)) }
+            → IfOk result (λ n. n ≡ fold max 0 (map (λ (p : PostedFields). p.instance)
+            (content_of S.Store self.old.tables).board)) }
         ensures within { IfOk result (λ n. n ≤ greatest) }
         ensures same { IsTrue (is_sure S.Store self.new.tables)
             → content_of S.Store self.new.tables ≡ content_of S.Store self.old.tables }

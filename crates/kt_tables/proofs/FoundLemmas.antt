@@ -30,8 +30,8 @@ use Rattle.kt_store.specs.Content.{Content, node_lt}
 use Rattle.kt_tables.specs.Schema.{kt_schema}
 use Rattle.kt_tables.specs.Text.{get_node_text, first_node_text, get_posted_text, last_posted_text, open_posted_text}
 use Rattle.kt_tables.specs.Rows.{whole, id_of, HasId, verdict_code, node_given, posted_given, IsNodeRow, IsPosted, Holds}
-use Rattle.kt_tables.proofs.Texts.{equals, get_node, get_node_is, first_node, first_node_is, get_posted, get_posted_is, last_posted, last_posted_is, open_posted}
-use Rattle.kt_tables.proofs.Texts.{open_posted_is, node_names, posted_names}
+use Rattle.kt_tables.proofs.Texts.{equals, get_node, get_node_is, first_node, first_node_is, get_posted, get_posted_is, last_posted, last_posted_is}
+use Rattle.kt_tables.proofs.Texts.{open_posted, open_posted_is, node_names, posted_names}
 use Rattle.kt_tables.proofs.WriteLemmas.{by_id}
 use Rattle.kt_tables.proofs.TableRows.{nodes_table, posted_table}
 use Rattle.kt_tables.proofs.ReadLemmas.{answered, in_order, from_last, first_given, downwards}

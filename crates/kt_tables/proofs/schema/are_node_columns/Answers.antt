@@ -1,6 +1,7 @@
 use Rattle.kt_tables.proofs.SchemaLemmas.{five_are}
 use Rattle.kt_tables.proofs.schema.are_node_columns.Goals as goal
-use Rattle.kt_tables.proofs.schema.are_node_columns.Goals.{then-is_column, else-is_column, then-is_column-2, else-is_column-2, then-is_column-3, else-is_column-3}
+use Rattle.kt_tables.proofs.schema.are_node_columns.Goals.{then-is_column, else-is_column, then-is_column-2, else-is_column-2}
+use Rattle.kt_tables.proofs.schema.are_node_columns.Goals.{then-is_column-3, else-is_column-3}
 
 pub returns-then-is_column-4 : goal.returns-then-is_column-4
 returns-then-is_column-4 c =

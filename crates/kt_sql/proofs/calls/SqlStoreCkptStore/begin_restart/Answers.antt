@@ -10,5 +10,6 @@ returns-clause-written g c sure =
     then_ok c.put_both.result
     (λ e. e ∙ restarts (content_of g.S.Store c.args.self.now.tables) (content_of g.S.Store c.last_instance.new.self.tables)
     (content_of g.S.Store c.row_of.new.self.tables) c.args.node c.in_ok-row_of.field-0 c.in-Some.row c.in_ok-last.last
-    (c.in_ok-row_of.ensures.value before) c.in-Some.ensures (c.in_ok-row_of.ensures.same before) (c.in_ok-last.ensures.same first) (c.in_ok-last.ensures.value first))
+    (c.in_ok-row_of.ensures.value before) c.in-Some.ensures (c.in_ok-row_of.ensures.same before)
+    (c.in_ok-last.ensures.same first) (c.in_ok-last.ensures.value first))
     (c.put_both.ensures.written sure)
