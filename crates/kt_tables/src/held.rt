@@ -100,6 +100,7 @@ impl<S: Alter> Tables<S> {
             → (state S.Store self.new.conn).now ≡ (state S.Store self.old.conn).now }
         ensures honest { IsTrue (is_sure S.Store self.new) → IsTrue (is_sure S.Store self.old) }
         ensures kept { IsTrue (is_sure S.Store self.new) → IsKept S.Store self.new }
+        ensures trusted { self.new.is_trusted ≡ self.old.is_trusted }
         ensures reason { HasReason (is_sure S.Store self.new) result }
     {
         match self.conn.query_all(sql, params) {
@@ -116,6 +117,7 @@ impl<S: Alter> Tables<S> {
         ensures unchanged { IsTrue (is_sure S.Store self.new)
             → OnErr result (content_of S.Store self.new ≡ content_of S.Store self.old) }
         ensures honest { IsTrue (is_sure S.Store self.new) → IsTrue (is_sure S.Store self.old) }
+        ensures trusted { self.new.is_trusted ≡ self.old.is_trusted }
         ensures reason { HasReason (is_sure S.Store self.new) result }
     {
         match into_node_cells(self.alloc, row)? {
@@ -131,6 +133,7 @@ impl<S: Alter> Tables<S> {
         ensures unchanged { IsTrue (is_sure S.Store self.new)
             → OnErr result (content_of S.Store self.new ≡ content_of S.Store self.old) }
         ensures honest { IsTrue (is_sure S.Store self.new) → IsTrue (is_sure S.Store self.old) }
+        ensures trusted { self.new.is_trusted ≡ self.old.is_trusted }
         ensures reason { HasReason (is_sure S.Store self.new) result }
     {
         match execute_node(&mut self.conn, cells) {
@@ -147,6 +150,7 @@ impl<S: Alter> Tables<S> {
         ensures unchanged { IsTrue (is_sure S.Store self.new)
             → OnErr result (content_of S.Store self.new ≡ content_of S.Store self.old) }
         ensures honest { IsTrue (is_sure S.Store self.new) → IsTrue (is_sure S.Store self.old) }
+        ensures trusted { self.new.is_trusted ≡ self.old.is_trusted }
         ensures reason { HasReason (is_sure S.Store self.new) result }
     {
         match posted_cells(row) {
@@ -162,6 +166,7 @@ impl<S: Alter> Tables<S> {
         ensures unchanged { IsTrue (is_sure S.Store self.new)
             → OnErr result (content_of S.Store self.new ≡ content_of S.Store self.old) }
         ensures honest { IsTrue (is_sure S.Store self.new) → IsTrue (is_sure S.Store self.old) }
+        ensures trusted { self.new.is_trusted ≡ self.old.is_trusted }
         ensures reason { HasReason (is_sure S.Store self.new) result }
     {
         match execute_posted(&mut self.conn, cells) {
@@ -180,6 +185,7 @@ impl<S: Alter> Tables<S> {
         ensures unchanged { IsTrue (is_sure S.Store self.new)
             → OnErr result (content_of S.Store self.new ≡ content_of S.Store self.old) }
         ensures honest { IsTrue (is_sure S.Store self.new) → IsTrue (is_sure S.Store self.old) }
+        ensures trusted { self.new.is_trusted ≡ self.old.is_trusted }
         ensures reason { HasReason (is_sure S.Store self.new) result }
     {
         match both_cells(self.alloc, row, posted)? {
@@ -197,6 +203,7 @@ impl<S: Alter> Tables<S> {
         ensures unchanged { IsTrue (is_sure S.Store self.new)
             → OnErr result (content_of S.Store self.new ≡ content_of S.Store self.old) }
         ensures honest { IsTrue (is_sure S.Store self.new) → IsTrue (is_sure S.Store self.old) }
+        ensures trusted { self.new.is_trusted ≡ self.old.is_trusted }
         ensures reason { HasReason (is_sure S.Store self.new) result }
     {
         match execute_both(&mut self.conn, node, posted) {

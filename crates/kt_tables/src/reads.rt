@@ -45,6 +45,7 @@ impl<S: Alter> Tables<S> {
         ensures found { IfOk result (λ o. IfSome o IsNodeRow) }
         ensures same { IsTrue (is_sure S.Store self.new) → content_of S.Store self.new ≡ content_of S.Store self.old }
         ensures honest { IsTrue (is_sure S.Store self.new) → IsTrue (is_sure S.Store self.old) }
+        ensures trusted { self.new.is_trusted ≡ self.old.is_trusted }
         ensures reason { HasReason (is_sure S.Store self.new) result }
     {
         let alloc = self.allocator();
@@ -63,6 +64,7 @@ impl<S: Alter> Tables<S> {
         ensures last { IfOk result (λ r. r.incarnation ≤ greatest) }
         ensures same { IsTrue (is_sure S.Store self.new) → content_of S.Store self.new ≡ content_of S.Store self.old }
         ensures honest { IsTrue (is_sure S.Store self.new) → IsTrue (is_sure S.Store self.old) }
+        ensures trusted { self.new.is_trusted ≡ self.old.is_trusted }
         ensures reason { HasReason (is_sure S.Store self.new) result }
     {
         match self.find_node(node)? {
@@ -84,6 +86,7 @@ impl<S: Alter> Tables<S> {
         ensures found { IfOk result (λ o. IfSome o IsPosted) }
         ensures same { IsTrue (is_sure S.Store self.new) → content_of S.Store self.new ≡ content_of S.Store self.old }
         ensures honest { IsTrue (is_sure S.Store self.new) → IsTrue (is_sure S.Store self.old) }
+        ensures trusted { self.new.is_trusted ≡ self.old.is_trusted }
         ensures reason { HasReason (is_sure S.Store self.new) result }
     {
         let _ = self.allocator();
@@ -101,6 +104,7 @@ impl<S: Alter> Tables<S> {
             (content_of S.Store self.old).board) }
         ensures same { IsTrue (is_sure S.Store self.new) → content_of S.Store self.new ≡ content_of S.Store self.old }
         ensures honest { IsTrue (is_sure S.Store self.new) → IsTrue (is_sure S.Store self.old) }
+        ensures trusted { self.new.is_trusted ≡ self.old.is_trusted }
         ensures reason { HasReason (is_sure S.Store self.new) result }
     {
         let _ = self.allocator();
@@ -119,6 +123,7 @@ impl<S: Alter> Tables<S> {
         ensures within { IfOk result (λ n. n ≤ greatest) }
         ensures same { IsTrue (is_sure S.Store self.new) → content_of S.Store self.new ≡ content_of S.Store self.old }
         ensures honest { IsTrue (is_sure S.Store self.new) → IsTrue (is_sure S.Store self.old) }
+        ensures trusted { self.new.is_trusted ≡ self.old.is_trusted }
         ensures reason { HasReason (is_sure S.Store self.new) result }
     {
         let rows = self.ask(LAST_POSTED, params![])?;
@@ -131,6 +136,7 @@ impl<S: Alter> Tables<S> {
             → IfOk result (λ b. b ≡ is_empty (content_of S.Store self.old).nodes) }
         ensures same { IsTrue (is_sure S.Store self.new) → content_of S.Store self.new ≡ content_of S.Store self.old }
         ensures honest { IsTrue (is_sure S.Store self.new) → IsTrue (is_sure S.Store self.old) }
+        ensures trusted { self.new.is_trusted ≡ self.old.is_trusted }
         ensures reason { HasReason (is_sure S.Store self.new) result }
     {
         let rows = self.ask(FIRST_NODE, params![])?;
@@ -143,6 +149,7 @@ impl<S: Alter> Tables<S> {
             → IfOk result (λ b. b ≡ is_empty (content_of S.Store self.old).board) }
         ensures same { IsTrue (is_sure S.Store self.new) → content_of S.Store self.new ≡ content_of S.Store self.old }
         ensures honest { IsTrue (is_sure S.Store self.new) → IsTrue (is_sure S.Store self.old) }
+        ensures trusted { self.new.is_trusted ≡ self.old.is_trusted }
         ensures reason { HasReason (is_sure S.Store self.new) result }
     {
         let rows = self.ask(LAST_POSTED, params![])?;

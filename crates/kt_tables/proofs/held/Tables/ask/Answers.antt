@@ -62,3 +62,6 @@ returns-clause-honest g c sure =
 
 pub returns-clause-kept : goal.returns-clause-kept
 returns-clause-kept g c = invariant_of-self g c
+
+pub returns-clause-trusted : goal.returns-clause-trusted
+returns-clause-trusted g c = ap (λ (s : Tabled _). s.is_trusted) c.self.view_is

@@ -72,3 +72,6 @@ returns-clause-honest g c sure =
           (neither_wrote g.S.Store s c.execute_both.new.conn c.self.invariant c.execute_both.ensures.clean
           (λ clean on. undone_stays _ _ (w.in-Err.ensures.opened clean on) (w.in-Err.ensures.neither clean on) w.in-Err.ensures.ended) sure).0
     ])
+
+pub returns-clause-trusted : goal.returns-clause-trusted
+returns-clause-trusted g c = ap (λ (s : Tabled _). s.is_trusted) c.self.view_is

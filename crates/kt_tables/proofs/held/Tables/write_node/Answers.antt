@@ -58,3 +58,6 @@ returns-clause-honest g c sure =
           (not_wrote g.S.Store s c.execute_node.new.conn c.self.invariant c.execute_node.ensures.clean put_node_text (node_given k.0) w.in-Err.error
           (λ clean. w.in-Err.ensures.runs clean k.0 k.2) sure).0
     ])
+
+pub returns-clause-trusted : goal.returns-clause-trusted
+returns-clause-trusted g c = ap (λ (s : Tabled _). s.is_trusted) c.self.view_is
