@@ -7,10 +7,16 @@ ROOT = os.path.dirname(os.path.dirname(os.path.realpath(__file__)))
 
 
 def below(crate):
-    """The crate and those that it stands on, as crates.txt names them, each with its line there."""
+    """The crate and all that it stands on, as crates.txt names them, each with its line there."""
     with open(f"{ROOT}/crates.txt", encoding="ascii") as file:
         lines = {line.split(":")[0]: line for line in file if not line.startswith("#")}
-    return {name: line for name, line in lines.items() if name in {crate, *lines[crate].split()[1:]}}
+    found, left = set(), [crate]
+    while left:
+        name = left.pop()
+        if name in lines and name not in found:
+            found.add(name)
+            left += lines[name].split()[1:]
+    return {name: line for name, line in lines.items() if name in found}
 
 
 def copied(crate, place):
