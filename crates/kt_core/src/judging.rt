@@ -47,7 +47,7 @@ fn heard(
         ..
     } = told;
     match message {
-        Message::Post(post) => view.hear_post(alloc, from, post),
+        Message::Post(post) => view.hear_app(alloc, from, post),
         Message::CheckAsk(ask) => {
             let (permanent, tentative) = (permanent.as_ref(), tentative.as_ref());
             view.hear_check(alloc, from, *ask, verdict, permanent, tentative)

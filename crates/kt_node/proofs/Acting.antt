@@ -32,7 +32,7 @@ use Rattle.kt_node.specs.Ready.{CanAct, CanCount, CanChange, CanChangeBody, CanS
 use Rattle.kt_node.specs.Talking.{home, issue_plan, repeat_plan, service_plan, request_plan, reply_plan, talk_plan, heard_plan}
 use Rattle.kt_node.specs.Steps.{first_kept, up_in, up_of, by_up, issue, issue_by, issue_unless_kept, issue_found}
 use Rattle.kt_node.specs.Steps.{repeat, repeat_by, repeat_found, take, take_first, serve, serve_by, serve_found}
-use Rattle.kt_node.specs.Posts.{keep_plan, post_when_up, post_in, post_plan, hear_post}
+use Rattle.kt_node.specs.Posts.{keep_plan, post_when_up, post_in, post_plan, hear_app}
 
 -- the live node can make the plan's change
 abbrev Can : Live → Plan → Type 0
@@ -199,5 +199,5 @@ post_plan-can : (v : View) (from : NodeId) (post : Post) (node : Node) → HasPl
 post_plan-can v from post Down place count = tt
 post_plan-can v from post (Alive n) place count = post_in-can v n from post n.phase place count
 
-pub hear_post-can : (v : View) (from : NodeId) (post : Post) (p : Plan) → CanAct v → HasPlace from → hear_post v from post ≡ Ok p → CanChange v.node p.change
-hear_post-can v from post p can place e = this (λ (q : Plan). CanChange v.node q.change) _ p (post_plan-can v from post v.node place can.count) e
+pub hear_app-can : (v : View) (from : NodeId) (post : Post) (p : Plan) → CanAct v → HasPlace from → hear_app v from post ≡ Ok p → CanChange v.node p.change
+hear_app-can v from post p can place e = this (λ (q : Plan). CanChange v.node q.change) _ p (post_plan-can v from post v.node place can.count) e

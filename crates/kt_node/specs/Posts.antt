@@ -38,5 +38,5 @@ abbrev pub post_plan : View → NodeId → Post → Node → Plan
 post_plan v from post Down = empty_plan
 post_plan v from post (Alive n) = post_in v n from post n.phase
 
-abbrev pub hear_post : View → NodeId → Post → Planned
-hear_post v from post = Ok (post_plan v from post v.node)
+abbrev pub hear_app : View → NodeId → Post → Planned
+hear_app v from post = Ok (post_plan v from post v.node)

@@ -8,7 +8,7 @@ ghost use Rattle.kt_node.specs.declared.plan.Plan.{Plan};
 ghost use Rattle.kt_node.specs.View.{View};
 ghost use Rattle.kt_node.specs.Ready.{CanAct, CanChange, HasPlace};
 ghost use Rattle.kt_node.specs.Steps.{issue, repeat, serve, take};
-ghost use Rattle.kt_node.specs.Posts.{hear_post};
+ghost use Rattle.kt_node.specs.Posts.{hear_app};
 
 /// The node of a plan can make its change.
 pub fn plans_can_be_carried_out()
@@ -17,6 +17,6 @@ pub fn plans_can_be_carried_out()
     ensures take { (v : View) (plan : Plan) → CanAct v → take v ≡ Ok plan → CanChange v.node plan.change }
     ensures serve { (v : View) (worker place by : ℕ) (plan : Plan)
         → CanAct v → worker < desks → serve v worker place by ≡ Ok plan → CanChange v.node plan.change }
-    ensures hear_post { (v : View) (from : NodeId) (post : Post) (plan : Plan)
-        → CanAct v → HasPlace from → hear_post v from post ≡ Ok plan → CanChange v.node plan.change }
+    ensures hear_app { (v : View) (from : NodeId) (post : Post) (plan : Plan)
+        → CanAct v → HasPlace from → hear_app v from post ≡ Ok plan → CanChange v.node plan.change }
 {}

@@ -4,7 +4,7 @@ ghost use Rattle.std.specs.Prelude.{◌≡◌, IfOk};
 ghost use Rattle.kt_node.specs.View.{view_of};
 ghost use Rattle.kt_node.specs.Plan.{Gives};
 ghost use Rattle.kt_node.specs.Ready.{CanSpeak};
-ghost use Rattle.kt_node.specs.Posts.{hear_post, keep_plan};
+ghost use Rattle.kt_node.specs.Posts.{hear_app, keep_plan};
 
 use crate::change::{BodyChange, KeptChange, Turn};
 use crate::live::Phase;
@@ -34,9 +34,9 @@ fn keep_plan(alloc: Global, from: NodeId, post: &Post) -> Result<Plan, AllocErro
 impl View<'_> {
     /// A node that is up hears the message, or keeps it behind what is kept; a held node keeps it; one that
     /// rolls back or is down drops it.
-    pub fn hear_post(self, alloc: Global, from: NodeId, post: &Post) -> Result<Plan, Refusal>
+    pub fn hear_app(self, alloc: Global, from: NodeId, post: &Post) -> Result<Plan, Refusal>
         requires { CanSpeak self.node.now.node }
-        ensures { Gives result (hear_post (view_of self.entry) from post.now) }
+        ensures { Gives result (hear_app (view_of self.entry) from post.now) }
     {
         let node = self.node;
         let Some(live) = &node.live else {

@@ -99,16 +99,6 @@ pub enum ReplayFault {
     Write,
 }
 
-/// The name of a store's refusal.
-fn store_name(cause: StoreError) -> &'static str {
-    match cause {
-        StoreError::Memory => "Memory",
-        StoreError::Device => "Device",
-        StoreError::Damaged => "Damaged",
-        StoreError::Full => "Full",
-    }
-}
-
 /// The line that tells of the fault, as `line 4: 3 Tuple`, `step 9: 4 NoSuchMatch`, `store: NotFresh`, `memory`, `read`
 /// or `write`.
 impl Display for ReplayFault {
@@ -130,10 +120,7 @@ impl Display for ReplayFault {
             | ReplayFault::Step {
                 at: _,
                 cause: StepError::Store(cause),
-            } => {
-                let name = store_name(cause);
-                write!(f, "store: {name}")
-            }
+            } => write!(f, "store: {cause}"),
             ReplayFault::Step { at, cause } => {
                 let number = cause.number();
                 write!(f, "step {at}: {number} {cause}")

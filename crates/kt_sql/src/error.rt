@@ -1,15 +1,19 @@
 //! Why a store in SQL is not opened.
 
 use std::alloc::AllocError;
+use thiserror::Error;
 
 /// Why a store can't be opened.
-#[derive(Clone, Copy, Debug, PartialEq, Eq)]
+#[derive(Clone, Copy, Debug, PartialEq, Eq, Error)]
 pub enum SqlOpenError {
     /// Memory ran out.
+    #[error("Memory")]
     Memory,
     /// The device failed.
+    #[error("Device")]
     Device,
     /// The tables are not those of a store.
+    #[error("Damaged")]
     Damaged,
 }
 

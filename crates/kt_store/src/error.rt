@@ -1,17 +1,22 @@
 //! Why a store refuses a call.
 
 use std::alloc::AllocError;
+use thiserror::Error;
 
 /// Why a call of a store is refused. It changes nothing then.
-#[derive(Clone, Copy, Debug, PartialEq, Eq)]
+#[derive(Clone, Copy, Debug, PartialEq, Eq, Error)]
 pub enum StoreError {
     /// Memory ran out.
+    #[error("Memory")]
     Memory,
     /// The device failed.
+    #[error("Device")]
     Device,
     /// What is stored is no checkpoint, or no row of a store.
+    #[error("Damaged")]
     Damaged,
     /// The number that would be raised is the greatest, 2^62.
+    #[error("Full")]
     Full,
 }
 

@@ -20,7 +20,7 @@ use Rattle.kt_node.specs.declared.refusal.Refusal.TheVariants as refusals
 use Rattle.kt_node.specs.Labels.{up_to, label_at}
 use Rattle.kt_node.specs.Node.{Live, Node, Down, Alive, node_number}
 use Rattle.kt_node.specs.Stored.{fits, is_undecided, sent_in}
-use Rattle.kt_node.specs.Posts.{post_when_up, post_in, post_plan, hear_post}
+use Rattle.kt_node.specs.Posts.{post_when_up, post_in, post_plan, hear_app}
 use Rattle.kt_node.specs.Loading.{load}
 use Rattle.kt_node.specs.Learning.{restored, verdict_to, held_learns, rolling_learns}
 use Rattle.kt_node.specs.Arrivals.{unless_down, is_in, check_in, check_when_open, check_reaction, check_plan}
@@ -37,7 +37,7 @@ use Rattle.kt_world.proofs.Plans.{IsAlive, Comes, Votes, PlanOf}
 use Rattle.kt_world.proofs.Passed.{planned, this, if-passed, alive-is}
 
 post-found : (s : State) (t : Told) (p q : NodeId) (post : Post) (plan : Plan) → Comes s p q (messages.Post post)
-    → hear_post (view s q) p post ≡ Ok plan → PlanOf s t (Deliver p q) plan
+    → hear_app (view s q) p post ≡ Ok plan → PlanOf s t (Deliver p q) plan
 post-found s t p q post plan comes e = by (view s q).node refl e
   where
     Goal : Plan → Type 0

@@ -8,7 +8,7 @@ use Rattle.kt_node.specs.declared.refusal.Refusal.TheVariants as reasons
 use Rattle.kt_node.specs.Node.{node_number}
 use Rattle.kt_node.specs.View.{View}
 use Rattle.kt_node.specs.Plan.{Planned}
-use Rattle.kt_node.specs.Posts.{hear_post}
+use Rattle.kt_node.specs.Posts.{hear_app}
 use Rattle.kt_node.specs.Steps.{issue, repeat, take, serve}
 use Rattle.kt_node.specs.Arrivals.{hear_check, hear_rollback, hear_vote, hear_verdict}
 use Rattle.kt_node.specs.Deciding.{check, decide, abandon, learn}
@@ -36,7 +36,7 @@ of_scene there planned = if there then of_owner planned else Err refusals.NoNode
 
 -- a message of p is heard
 abbrev pub hear : View → Told → NodeId → Message → Planned
-hear v t p (messages.Post post) = hear_post v p post
+hear v t p (messages.Post post) = hear_app v p post
 hear v t p (messages.CheckAsk ask) = hear_check v p ask t.verdict t.permanent t.tentative
 hear v t p (messages.RollAsk ask) = hear_rollback v p ask t.verdict t.permanent
 hear v t p (messages.Vote vote) = hear_vote v p vote

@@ -203,7 +203,7 @@ fn run_opened<T: Threads + Wait + Sync, R: Read, W: Write, E: Write, S: Alter + 
 {
     match opened {
         Ok(store) => run_over(threads, alloc, command, store, reader, writer, errors),
-        Err(error) => end_by(opening_fault(error), STORE, errors),
+        Err(error) => refuse_store(error, errors),
     }
 }
 
@@ -232,13 +232,12 @@ fn run_over<T: Threads + Wait + Sync, R: Read, W: Write, E: Write, S: CkptStore 
     }
 }
 
-/// The line that tells why a store was not opened.
-fn opening_fault(error: SqlOpenError) -> &'static str {
-    match error {
-        SqlOpenError::Memory => "store: Memory",
-        SqlOpenError::Device => "store: Device",
-        SqlOpenError::Damaged => "store: Damaged",
-    }
+/// Tells why a store was not opened.
+fn refuse_store<E: Write>(error: SqlOpenError, errors: &mut E) -> u8
+    ensures { result ≡ STORE }
+{
+    let _ = writeln!(errors, "store: {error}");
+    STORE
 }
 
 /// Says why the words name no command: help on the output, anything else on `errors`.

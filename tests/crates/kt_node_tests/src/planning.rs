@@ -159,7 +159,7 @@ impl Solo {
             Call::Repeat => view.repeat(alloc),
             Call::Take => view.take(alloc),
             Call::Serve { worker, place, by } => view.serve(alloc, *worker, *place, *by),
-            Call::Post(from, post) => view.hear_post(alloc, *from, post),
+            Call::Post(from, post) => view.hear_app(alloc, *from, post),
             Call::Vote(from, vote) => view.hear_vote(alloc, *from, *vote),
             Call::Abandon => view.abandon(alloc, self.own_verdict(), self.undecided()),
             _ => view.decide(alloc, self.own_verdict()),

@@ -1,4 +1,4 @@
-use Rattle.kt_node.proofs.Acting.{issue-can, repeat-can, take-can, serve-can, hear_post-can}
+use Rattle.kt_node.proofs.Acting.{issue-can, repeat-can, take-can, serve-can, hear_app-can}
 use Rattle.kt_node.proofs.laws.plans_can_be_carried_out.Goals as goal
 
 pub returns-clause-issue : goal.returns-clause-issue
@@ -13,5 +13,5 @@ returns-clause-take c = take-can
 pub returns-clause-serve : goal.returns-clause-serve
 returns-clause-serve c = serve-can
 
-pub returns-clause-hear_post : goal.returns-clause-hear_post
-returns-clause-hear_post c = hear_post-can
+pub returns-clause-hear_app : goal.returns-clause-hear_app
+returns-clause-hear_app c = hear_app-can
