@@ -15,7 +15,8 @@ use kt_script::{
     Actual, Actuals, Command, Name, Operation, Pattern, Script, ScriptError, Slot,
     is_name_character,
 };
-use kt_tuple::{Kind, MAX_PLACES, after_place, int_at, int_of, value_at, value_of};
+use kt_tuple::reading::{after_place, int_at, int_of, value_at, value_of};
+use kt_tuple::{Kind, MAX_PLACES};
 
 /// What an operation does.
 #[derive(Clone, Copy, Debug, PartialEq, Eq)]

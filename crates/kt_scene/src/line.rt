@@ -8,7 +8,8 @@ ghost use Rattle.kt_scene.specs.Number.{behind, ended, number_at, number_within}
 ghost use Rattle.kt_scene.specs.Steps.{node_at, node_before_space, node_alone, deliver_of, serve_of, step_of};
 
 use kt_core::Step;
-use kt_tuple::{NodeId, int_at, int_of, word_at};
+use kt_tuple::NodeId;
+use kt_tuple::reading::{int_at, int_of, word_at};
 
 /// The bytes behind the word, where it stands in front.
 pub(crate) fn behind<'a>(text: &'a [u8], word: &[u8]) -> Option<&'a [u8]>

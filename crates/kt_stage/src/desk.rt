@@ -82,7 +82,7 @@ impl<S: CkptStore, L: Naming> Desk<S, L> {
         ensures steps { self.new.journal.steps ≡ self.old.journal.steps }
     {
         let Desk { journal, .. } = self;
-        next_for(&mut journal.world, alloc, faults, node)
+        next_for(alloc, &mut journal.world, faults, node)
     }
 
     /// Makes the step of the seat's node, and gives the receipt that the seat keeps then. A refusal leaves the seat and

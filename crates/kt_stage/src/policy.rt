@@ -267,8 +267,8 @@ fn first_by<S: CkptStore>(
 /// `None` where none applies, and for a node that is not in the scene. It is a step of the node itself, and enabled but
 /// for the limit of steps. The store's refusal, where the store does not say what has to be known. The world stays.
 pub fn next_for<S: CkptStore>(
-    world: &mut World<S>,
     alloc: Global,
+    world: &mut World<S>,
     faults: &Faults,
     node: NodeId,
 ) -> Result<Option<Step>, StoreError>
@@ -295,7 +295,7 @@ fn first_with_step<S: CkptStore>(
     let Some((node, later)) = nodes.split_first() else {
         return Ok(None);
     };
-    match next_for(world, alloc, faults, *node)? {
+    match next_for(alloc, world, faults, *node)? {
         Some(_) => Ok(Some(*node)),
         None => first_with_step(later, world, alloc, faults),
     }

@@ -21,7 +21,6 @@ pub use equality::Equality;
 pub use node::NodeId;
 pub use op::{Answer, Op};
 pub use parse_error::ParseError;
-pub use reading::{after_place, int_at, int_of, value_at, value_of, word_at};
 pub use service::Service;
 pub use signature::Signature;
 pub use string::{MAX_CHARACTERS, Str};

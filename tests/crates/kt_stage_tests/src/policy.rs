@@ -206,7 +206,7 @@ fn gives(rt: &impl Abort, alloc: Global, cast: Cast, rows: &[Row]) -> Result<(),
             } else {
                 Some(step(line)?)
             };
-            let next = next_for(&mut world, alloc, &faults, *node);
+            let next = next_for(alloc, &mut world, &faults, *node);
             assert!(rt;
                 next == Ok(expected),
                 "{node:?} after {:?}: {next:?}",
