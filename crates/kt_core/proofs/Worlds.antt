@@ -6,12 +6,13 @@ use Rattle.kt_store.specs.declared.rows.Posted.{Posted}
 use Rattle.kt_store.specs.Content.{Content, empty_content, is_empty, is_fresh}
 use Rattle.kt_world.specs.Cast.{Cast, IsCast}
 use Rattle.kt_world.specs.Short.{AreShort}
-use Rattle.kt_world.proofs.Shared.{opening-ready}
+use Rattle.kt_world.proofs.Shared.{made-noted, opening-ready}
 use Rattle.kt_refinement.proofs.Shared.{forced-reached}
 use Rattle.kt_world.specs.declared.step.Step.{Step}
 use Rattle.kt_world.specs.declared.step.StepError.{StepError}
 use Rattle.kt_world.specs.Effect.{step_result}
 use Rattle.kt_world.specs.Forced.{IsForced}
+use Rattle.kt_world.specs.Headline.{IsNoted}
 use Rattle.kt_world.specs.Ready.{IsReady}
 use Rattle.kt_world.specs.Reached.{opening, next_state, or_as_it_was, after, IsReached}
 use Rattle.kt_world.specs.State.{State}
@@ -54,6 +55,12 @@ pub step-forced : {X : Type 0} (r : Result X StepError) (s new : State) (step : 
     → OnOk r (step_result s step ≡ Ok new) → OnOk r (IsForced s step new)
 step-forced (Ok x) s new step is made = forced-reached s is step new made
 step-forced (Err e) s new step is made = tt
+
+-- what it does to the history
+pub step-noted : {X : Type 0} (r : Result X StepError) (s new : State) (step : Step) → IsReached s
+    → OnOk r (step_result s step ≡ Ok new) → OnOk r (IsNoted s step new)
+step-noted (Ok x) s new step is made = made-noted s step new is made
+step-noted (Err e) s new step is made = tt
 
 -- ---- opening
 

@@ -86,7 +86,7 @@ impl<S: CkptStore> World<S> {
     ghost use Rattle.kt_world.specs.Effect.{step_result};
     ghost use Rattle.kt_world.specs.Cut.{permanent_tuples};
     ghost use Rattle.kt_world.specs.Forced.{IsForced};
-    ghost use Rattle.kt_world.specs.Headline.{Headline, is_steady, lent_bags};
+    ghost use Rattle.kt_world.specs.Headline.{Headline, IsNoted, is_steady, lent_bags};
     ghost use Rattle.kt_world.specs.Judge.{is_enabled, planned};
     ghost use Rattle.kt_world.specs.Needs.{poll_at};
     ghost use Rattle.kt_world.specs.Reached.{opening};
@@ -150,9 +150,9 @@ impl<S: CkptStore> World<S> {
     }
 
     /// Makes the step. It makes a node that is up roll back, or take a checkpoint that it did not begin, only where
-    /// that has to be (`IsForced`). A refused step changes nothing; of several refusals the first that stands comes,
-    /// `Store` where a call of the store was refused or gave a checkpoint that does not fit the node, and `OutOfMemory`
-    /// only where memory ran out.
+    /// that has to be (`IsForced`). It notes one thing at most, and cuts no line but its owner's (`IsNoted`). A refused
+    /// step changes nothing; of several refusals the first that stands comes, `Store` where a call of the store was
+    /// refused or gave a checkpoint that does not fit the node, and `OutOfMemory` only where memory ran out.
     pub fn step(&mut self, alloc: Global, step: Step) -> Result<(), StepError>
         ensures effect { IsTrue self.new.is_honest → OnOk result (step_result self.old.state step ≡ Ok self.new.state) }
         ensures refusal { IsTrue self.new.is_honest → IfErr result (λ e. Refuses e (planned self.old.state step)) }
@@ -164,6 +164,7 @@ impl<S: CkptStore> World<S> {
             IsCause self.old.faults self.new.faults self.new.is_honest (planned self.old.state step)) }
         ensures headline { IsTrue self.new.is_honest → Headline self.new.state }
         ensures forced { IsTrue self.new.is_honest → OnOk result (IsForced self.old.state step self.new.state) }
+        ensures noted { IsTrue self.new.is_honest → OnOk result (IsNoted self.old.state step self.new.state) }
     {
         make(&mut self.machine, &mut self.store, alloc, step)
     }

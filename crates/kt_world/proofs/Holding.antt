@@ -27,7 +27,7 @@ use Rattle.kt_world.specs.Reached.{IsReached, opening, or_as_it_was, next_state,
 use Rattle.kt_world.specs.Short.{AreShort}
 use Rattle.kt_world.specs.Ready.{IsReady}
 use Rattle.kt_world.specs.Backed.{IsBacked}
-use Rattle.kt_world.specs.Headline.{may_forget, HasOneRun, IsWhole, NotesOneAtMost, LineAfter, HasCut, IsFailure}
+use Rattle.kt_world.specs.Headline.{may_forget, HasOneRun, IsWhole, NotesOneAtMost, LineAfter, HasCut, IsFailure, IsNoted}
 use Rattle.kt_world.specs.Workers.{WorkersFollowLines}
 use Rattle.kt_world.proofs.Plans.{PlanOf}
 use Rattle.kt_world.proofs.PlansFound.{plan-found, plan-few}
@@ -141,3 +141,10 @@ made-first_cut s step new is e none has =
     let h = reached-holds s is in
     let m = step-made s step new e in
     failure_cuts_first s h.ready (h.calm none) (told s step) step m.plan m.is_plan none (subst (λ (x : State). HasCut x.history) (sym m.leads) has)
+
+pub made-noted : (s : State) (step : Step) (new : State) → IsReached s → step_result s step ≡ Ok new → IsNoted s step new
+made-noted s step new is e = record {
+  one_note = made-notes s step new is e;
+  own_line = made-lines s step new is e;
+  first_cut = made-first_cut s step new is e;
+}

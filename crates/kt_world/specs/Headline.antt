@@ -16,7 +16,7 @@ use Rattle.kt_history.specs.declared.note.Note.TheVariants as notes
 use Rattle.kt_history.specs.Line.{note_at, line, IsAct}
 use Rattle.kt_history.specs.Chronicle.{node_of}
 use Rattle.kt_history.specs.Survival.{Stands, Survives, services}
-use Rattle.kt_history.specs.WellFormed.{IsWellFormed}
+use Rattle.kt_history.specs.WellFormed.{HasNoCut, IsWellFormed}
 use Rattle.kt_lines.specs.Order.{FollowsScripts}
 use Rattle.kt_node.specs.declared.message.Message.{Message}
 use Rattle.kt_node.specs.declared.message.Message.TheVariants as messages
@@ -157,6 +157,13 @@ pub record HasCut (h : List Note) : Type 0 where
 abbrev pub IsFailure : Step → Type 0
 IsFailure (Fail p) = Unit {0}
 IsFailure step = ⊥
+
+-- what a step that is made does to the history: one note more at most, of its owner; no line but its owner's becomes
+-- shorter, and that only where the owner may forget; and only a failure makes the first cut
+pub record IsNoted (s : State) (step : Step) (new : State) : Type 0 where
+  pub one_note : NotesOneAtMost (owner step) s.history new.history
+  pub own_line : (q : NodeId) → LineAfter s step new.history q
+  pub first_cut : HasNoCut s.history → HasCut new.history → IsFailure step
 
 -- ---- all of it
 

@@ -1,13 +1,14 @@
 use Rattle.std.proofs.Common.{subst}
 use Rattle.std.specs.Prelude.{IfErr, IsTrue, OnOk}
 use Rattle.kt_world.specs.Forced.{IsForced}
+use Rattle.kt_world.specs.Headline.{IsNoted}
 use Rattle.kt_world.specs.Judge.{planned}
 use Rattle.kt_core.specs.Machine.{state_of}
 use Rattle.kt_core.specs.Stepping.{IsCause}
 use Rattle.kt_core.specs.World.{Standing}
 use Rattle.kt_world.proofs.Shared.{reached-holds}
 use Rattle.kt_refinement.proofs.Shared.{headline-reached}
-use Rattle.kt_core.proofs.Worlds.{step-forced, step-world}
+use Rattle.kt_core.proofs.Worlds.{step-forced, step-noted, step-world}
 use Rattle.kt_core.proofs.world.World.step.Goals as goal
 
 pub make-requires-clause-backed : goal.make-requires-clause-backed
@@ -39,4 +40,11 @@ returns-clause-forced g c =
     let new = state_of c.make.new.machine (g.S.CkptStore.content c.make.new.store) in
     let P : Standing → Type 0 = λ old. IsTrue (g.S.CkptStore.is_honest c.make.new.store) → OnOk c.make.result (IsForced old.state c.args.step new) in
     subst P c.self.view_is (λ h. step-forced c.make.result (state_of c.self.inside.machine (g.S.CkptStore.content c.self.inside.store)) new c.args.step
+    (c.self.invariant.reached (c.make.ensures.honest h)) (c.make.ensures.effect h))
+
+pub returns-clause-noted : goal.returns-clause-noted
+returns-clause-noted g c =
+    let new = state_of c.make.new.machine (g.S.CkptStore.content c.make.new.store) in
+    let P : Standing → Type 0 = λ old. IsTrue (g.S.CkptStore.is_honest c.make.new.store) → OnOk c.make.result (IsNoted old.state c.args.step new) in
+    subst P c.self.view_is (λ h. step-noted c.make.result (state_of c.self.inside.machine (g.S.CkptStore.content c.self.inside.store)) new c.args.step
     (c.self.invariant.reached (c.make.ensures.honest h)) (c.make.ensures.effect h))
