@@ -12,12 +12,15 @@ use std::alloc::Global;
 use std::process::Abort;
 use std::test::*;
 
-/// How many scenes are walked through. With memory checked each takes some ten seconds.
-const SCENES: u64 = 10;
+/// How many scenes are walked through. With memory checked each takes some seconds.
+const SCENES: u64 = 50;
+
+/// After how many steps the permanent tuples are compared, of which a store in SQL reads each checkpoint.
+const PERMANENT_AFTER: usize = 8;
 
 type InSql = SqlStore<InMemory>;
 
-/// Both worlds answer each step alike, and whether it can be made, and hold the same permanent tuples.
+/// Both worlds answer each step alike, and whether it can be made, and hold the same permanent tuples now and then.
 fn assert_steps(
     rt: &impl Abort,
     alloc: Global,
@@ -25,15 +28,17 @@ fn assert_steps(
     memory: &mut World<MemStore>,
     sql: &mut World<InSql>,
 ) {
-    for step in steps {
+    for (number, step) in steps.iter().enumerate() {
         assert_eq!(rt; sql.can(alloc, *step), memory.can(alloc, *step), "{step:?}");
         assert_eq!(rt;
             sql.step(alloc, *step),
             memory.step(alloc, *step),
             "{step:?}"
         );
-        let (stored, expected) = (sql.permanent_space(alloc), memory.permanent_space(alloc));
-        assert!(rt; stored.is_ok() && stored == expected, "{step:?}");
+        if number % PERMANENT_AFTER == 0 {
+            let (stored, expected) = (sql.permanent_space(alloc), memory.permanent_space(alloc));
+            assert!(rt; stored.is_ok() && stored == expected, "{step:?}");
+        }
     }
 }
 
@@ -116,12 +121,12 @@ fn walk(rt: &impl Abort, alloc: Global, seed: u64) -> Result<u64, Fail> {
 }
 
 #[test]
-fn ten_walks(rt: HostRuntime) -> Result<(), Fail> {
+fn fifty_walks(rt: HostRuntime) -> Result<(), Fail> {
     let alloc = rt.alloc();
     let mut begun = 0u64;
     for scene in 0..SCENES {
         begun = begun.saturating_add(walk(&rt, alloc, seed_of(20_261_123, scene))?);
     }
-    assert!(rt; begun > 10, "{begun} instances were begun");
+    assert!(rt; begun > 50, "{begun} instances were begun");
     Ok(())
 }
