@@ -19,8 +19,8 @@ use Rattle.kt_world.specs.Limits.{most_steps}
 use Rattle.kt_world.specs.Step.{owner}
 use Rattle.kt_world.specs.State.{State, link, view}
 use Rattle.kt_world.specs.Judge.{delivery, due, hear, within_limit, unless_over}
-use Rattle.kt_core.specs.Machine.{Gives}
-use Rattle.kt_core.specs.Judged.{is_refused}
+use Rattle.kt_core.specs.inner.Machine.{Gives}
+use Rattle.kt_core.specs.inner.Judged.{is_refused}
 
 delivery-first : (v : View) (t : Told) (p : NodeId) (queue : List Message) (m : Message) → slice_get queue 0 ≡ Some m → delivery v t p queue ≡ hear v t p m
 delivery-first v t p [] m e = absurd cc

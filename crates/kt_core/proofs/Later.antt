@@ -5,7 +5,7 @@ use Rattle.std.specs.Prelude.{Option, map, ◌&&◌}
 use Rattle.std.specs.List.{flat_map, list_all, range_with_len}
 use Rattle.kt_node.specs.declared.node.Node.{Node}
 use Rattle.kt_world.specs.Headline.{is_steady_row}
-use Rattle.kt_core.specs.Rows.{is_steady_code, row_view}
+use Rattle.kt_core.specs.inner.Rows.{is_steady_code, row_view}
 use Rattle.std.specs.Prelude.{IfErr, IfOk, IsTrue}
 use Rattle.kt_store.specs.declared.error.StoreError.{StoreError}
 use Rattle.kt_store.specs.declared.error.StoreError.TheVariants.{Device}

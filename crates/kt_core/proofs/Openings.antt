@@ -6,7 +6,7 @@ use Rattle.kt_node.specs.declared.node.Node.{Node}
 use Rattle.kt_node.specs.Node.{Node as Row}
 use Rattle.kt_world.specs.Cast.{Cast}
 use Rattle.kt_world.specs.Reached.{opening_row, opening_rows}
-use Rattle.kt_core.specs.Rows.{row_view}
+use Rattle.kt_core.specs.inner.Rows.{row_view}
 
 pub no_rows : (nodes : List (Option Node)) (cast : Cast) → nodes ≡ [] → map row_view nodes ≡ opening_rows cast 0
 unfolding opening_rows

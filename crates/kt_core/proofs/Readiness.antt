@@ -5,7 +5,7 @@ use Rattle.kt_tuple.specs.declared.node.NodeId.{NodeId}
 use Rattle.kt_tuple.specs.Node.{node_index}
 use Rattle.kt_node.specs.declared.node.Node.{Node}
 use Rattle.kt_world.specs.Limits.{rows}
-use Rattle.kt_core.specs.Rows.{row_view}
+use Rattle.kt_core.specs.inner.Rows.{row_view}
 
 pub rows_there : (nodes : List (Option Node)) (p : NodeId) (k : ℕ) → k ≡ node_index p → node_index p < rows
     → length (map row_view nodes) ≡ rows → k < length nodes

@@ -21,7 +21,7 @@ use Rattle.kt_world.specs.Writing.{content_after}
 use Rattle.kt_world.specs.Backed.{HasNumbers, IsAllowed, IsBacked}
 use Rattle.kt_world.proofs.Shared.{planned-allowed, planned-numbers}
 use Rattle.kt_core.specs.declared.machine.Machine.{Machine}
-use Rattle.kt_core.specs.Machine.{state_of}
+use Rattle.kt_core.specs.inner.Machine.{state_of}
 use Rattle.kt_world.specs.Needs.{needs_of, told_by}
 use Rattle.kt_world.specs.Told.{told}
 use Rattle.kt_world.specs.Ready.{CanApply, IsReady}
@@ -29,9 +29,9 @@ use Rattle.kt_world.specs.State.{State}
 use Rattle.kt_world.specs.Step.{owner}
 use Rattle.kt_world.proofs.Shared.{enough, plan-found, plan-few, can_apply, stays_ready}
 use Rattle.std.specs.Result.{IsErrAnd}
-use Rattle.kt_core.specs.Machine as machine
+use Rattle.kt_core.specs.inner.Machine as machine
 use Rattle.kt_core.specs.Store.{IsFault}
-use Rattle.kt_core.specs.Judged.{is_refused}
+use Rattle.kt_core.specs.inner.Judged.{is_refused}
 use Rattle.kt_core.specs.Stepping.{IsCause, Refuses}
 
 -- what is asked for is what the rule of the step looks at

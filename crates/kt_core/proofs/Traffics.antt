@@ -13,7 +13,7 @@ use Rattle.kt_world.specs.Cast.{Cast}
 use Rattle.kt_world.specs.Ready as ready
 use Rattle.kt_world.proofs.Shared.{Ends, to_shard, to_worker, ends}
 use Rattle.kt_world.specs.Effect.{Way, sent_one, sent}
-use Rattle.kt_core.specs.Traffic.{IsSameTraffic}
+use Rattle.kt_core.specs.inner.Traffic.{IsSameTraffic}
 
 abbrev pub Net : Type 0
 Net = Network Message

@@ -17,7 +17,7 @@ use Rattle.kt_world.specs.Ready.{IsReady}
 use Rattle.kt_world.specs.Reached.{opening, next_state, or_as_it_was, after, IsReached}
 use Rattle.kt_world.specs.State.{State}
 use Rattle.kt_core.specs.declared.machine.Machine.{Machine}
-use Rattle.kt_core.specs.Machine.{state_of}
+use Rattle.kt_core.specs.inner.Machine.{state_of}
 use Rattle.kt_core.specs.World.{IsWorld}
 
 after-push : (s : State) (steps : List Step) (step : Step) → after s (steps ++ step ∷ []) ≡ next_state (after s steps) step

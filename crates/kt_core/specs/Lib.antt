@@ -1,10 +1,6 @@
-pub mod Rows
-pub mod Machine
-pub mod Traffic
-pub mod Judged
 pub mod Store
-pub mod Space
 pub mod Stepping
 pub mod World
 pub mod Faults
 pub mod Lent
+pub mod inner

@@ -2,7 +2,7 @@
 
 ghost use Rattle.std.specs.Prelude.{◌≡◌, ◌<◌, ◌+◌, ◌^◌, None, length, map, OnOk, IfSome, IsTrue, unwrap_or};
 ghost use Rattle.std.specs.Option.{option_map};
-ghost use Rattle.kt_core.specs.Rows.{HasRoom, row_view};
+ghost use Rattle.kt_core.specs.inner.Rows.{HasRoom, row_view};
 ghost use Rattle.kt_node.specs.Node.{Down};
 ghost use Rattle.kt_node.specs.Ready.{CanChange};
 ghost use Rattle.kt_node.specs.Turning.{changed};

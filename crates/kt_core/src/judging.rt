@@ -9,8 +9,8 @@ ghost use Rattle.kt_node.specs.View.{view_of};
 ghost use Rattle.kt_world.specs.declared.step.StepError.TheVariants.{NoNode};
 ghost use Rattle.kt_world.specs.Judge.{hear, of_owner, planned_by};
 ghost use Rattle.kt_node.specs.Node.{node_number};
-ghost use Rattle.kt_core.specs.Machine.{Gives};
-ghost use Rattle.kt_core.specs.Judged.{is_refused, voting_due};
+ghost use Rattle.kt_core.specs.inner.Machine.{Gives};
+ghost use Rattle.kt_core.specs.inner.Judged.{is_refused, voting_due};
 
 use crate::causes::cause_of_waiting;
 use crate::machine::Machine;
@@ -115,7 +115,7 @@ impl Machine {
     ghost use Rattle.kt_world.specs.Step.{owner};
     ghost use Rattle.kt_world.specs.Ready.{IsReady};
     ghost use Rattle.kt_world.specs.State.{view};
-    ghost use Rattle.kt_core.specs.Machine.{state_of};
+    ghost use Rattle.kt_core.specs.inner.Machine.{state_of};
 
     /// What the node of the scene sees.
     fn found(&self, id: NodeId) -> Result<View<'_>, StepError>

@@ -4,7 +4,7 @@ ghost use Rattle.std.specs.Prelude.{◌≡◌, length, slice_get, unwrap_or};
 ghost use Rattle.std.specs.Option.{option_copied, option_map};
 ghost use Rattle.kt_store.specs.Content.{empty_content};
 ghost use Rattle.kt_core.specs.Lent.{kept, message_at, shard, worker};
-ghost use Rattle.kt_core.specs.Machine.{state_of};
+ghost use Rattle.kt_core.specs.inner.Machine.{state_of};
 ghost use Rattle.kt_node.specs.Node.{Down};
 ghost use Rattle.kt_world.specs.State.{link, view};
 

@@ -5,7 +5,7 @@ ghost use Rattle.kt_world.specs.Limits.{rows};
 ghost use Rattle.kt_shard.specs.Limits.{desks};
 ghost use Rattle.kt_world.specs.Cast.{IsCast};
 ghost use Rattle.kt_world.specs.Short.{AreShort};
-ghost use Rattle.kt_core.specs.Rows.{row_view};
+ghost use Rattle.kt_core.specs.inner.Rows.{row_view};
 ghost use Rattle.kt_world.specs.Reached.{opening_rows};
 
 use crate::change::{change_node, count, make_room_in_row};
@@ -66,7 +66,7 @@ impl Machine {
     ghost use Rattle.kt_world.specs.Writing.{content_after};
     ghost use Rattle.kt_world.specs.Ready.{IsReady, CanApply};
     ghost use Rattle.kt_world.specs.Reached.{opening};
-    ghost use Rattle.kt_core.specs.Machine.{state_of, HasRoomFor};
+    ghost use Rattle.kt_core.specs.inner.Machine.{state_of, HasRoomFor};
 
     /// The machine of the scene, in which nothing was done yet, or the scene where memory runs out.
     pub(crate) fn open(alloc: Global, scene: Scene) -> Result<Machine, Scene>

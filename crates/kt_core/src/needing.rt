@@ -155,7 +155,7 @@ fn for_restart(mode: Mode, ballot: Option<&Ballot>) -> Needs
 }
 
 impl Machine {
-    ghost use Rattle.kt_core.specs.Machine.{state_of};
+    ghost use Rattle.kt_core.specs.inner.Machine.{state_of};
     ghost use Rattle.kt_world.specs.Needs.{mode_at, needs_of, poll_at};
 
     /// The node's mode; one that is not in the scene counts as down.

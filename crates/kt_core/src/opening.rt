@@ -3,7 +3,7 @@
 ghost use Rattle.std.specs.Prelude.{◌≡◌, ℕ, map, [], IfOk, IfSome, replicate, slice_get};
 ghost use Rattle.kt_world.specs.Limits.{rows};
 ghost use Rattle.kt_shard.specs.Limits.{desks};
-ghost use Rattle.kt_core.specs.Rows.{row_view};
+ghost use Rattle.kt_core.specs.inner.Rows.{row_view};
 ghost use Rattle.kt_world.specs.Reached.{opening_row, opening_rows};
 ghost use Rattle.kt_world.specs.Short.{IsShort};
 

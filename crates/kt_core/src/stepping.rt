@@ -7,7 +7,7 @@ ghost use Rattle.kt_world.specs.Effect.{applied, step_result};
 ghost use Rattle.kt_world.specs.Judge.{planned};
 ghost use Rattle.kt_world.specs.Ready.{CanApply, IsReady};
 ghost use Rattle.kt_world.specs.Step.{owner};
-ghost use Rattle.kt_core.specs.Machine.{HasRoomFor, state_of};
+ghost use Rattle.kt_core.specs.inner.Machine.{HasRoomFor, state_of};
 ghost use Rattle.kt_core.specs.Stepping.{IsCause, Refuses};
 
 use crate::machine::Machine;

@@ -3,11 +3,11 @@
 ghost use Rattle.std.specs.Prelude.{◌≡◌, None, map};
 ghost use Rattle.std.specs.List.{list_all};
 ghost use Rattle.std.specs.Option.{option_map};
-ghost use Rattle.kt_core.specs.Rows.{row_view};
+ghost use Rattle.kt_core.specs.inner.Rows.{row_view};
 ghost use Rattle.kt_shard.specs.Table.{at};
 ghost use Rattle.kt_tuple.specs.Node.{node_index};
 ghost use Rattle.kt_tuple.specs.declared.node.NodeId.TheVariants as ids;
-ghost use Rattle.kt_core.specs.Rows.{is_steady_code};
+ghost use Rattle.kt_core.specs.inner.Rows.{is_steady_code};
 ghost use Rattle.kt_world.specs.Headline.{lent_by};
 
 use kt_node::{Mode, Node};

@@ -6,7 +6,7 @@ ghost use Rattle.kt_history.specs.Chronicle.{node_of, room_of};
 ghost use Rattle.kt_history.specs.WellFormed.{MayFollow};
 ghost use Rattle.kt_link.specs.Network.{AreNeighbours, place, room};
 ghost use Rattle.kt_world.specs.Effect.{sent, taken_off, noted};
-ghost use Rattle.kt_core.specs.Traffic.{IsSameTraffic};
+ghost use Rattle.kt_core.specs.inner.Traffic.{IsSameTraffic};
 
 use kt_history::{History, Note};
 use kt_link::Links;

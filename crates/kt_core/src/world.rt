@@ -63,7 +63,7 @@ pub struct World<S: CkptStore> {
 }
 
 impl<S: CkptStore> Model for World<S> {
-    ghost use Rattle.kt_core.specs.Machine.{state_of};
+    ghost use Rattle.kt_core.specs.inner.Machine.{state_of};
     ghost use Rattle.kt_core.specs.World.{IsWorld, Standing};
 
     ghost Value = { Standing };

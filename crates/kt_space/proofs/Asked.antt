@@ -15,10 +15,10 @@ use Rattle.kt_tuple.specs.Matching.{matches}
 use Rattle.kt_tuple.specs.Signature.{kinds_of, kinds_of_places, signature_of}
 use Rattle.kt_tuple.proofs.Shared.{Matches-signature}
 use Rattle.kt_space.specs.declared.key.Key.{Key}
-use Rattle.kt_space.specs.Chaining.{Has}
-use Rattle.kt_space.specs.Grouping.{kinds_key, first_key, template_key, first_actual}
+use Rattle.kt_space.specs.inner.Chaining.{Has}
+use Rattle.kt_space.specs.inner.Grouping.{kinds_key, first_key, template_key, first_actual}
 use Rattle.kt_space.specs.Picking.{begins_alike, could_match}
-use Rattle.kt_space.specs.Slots.{IsAsked, keyed}
+use Rattle.kt_space.specs.inner.Slots.{IsAsked, keyed}
 use Rattle.kt_space.proofs.Matched.{Matches-from_test}
 
 keyed_has : (key : Tuple → Key) (slots : List (Option Tuple)) (m : ℕ) (u : Tuple) → slice_get slots m ≡ Some (Some u) → Has (keyed key slots) m (key u)

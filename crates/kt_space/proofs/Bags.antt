@@ -8,9 +8,9 @@ use Rattle.kt_tuple.specs.declared.tuple.Tuple.{Tuple}
 use Rattle.kt_tuple.specs.declared.template.Template.{Template}
 use Rattle.kt_tuple.specs.Matching.{matches}
 use Rattle.kt_space.specs.declared.key.Key.{Key}
-use Rattle.kt_space.specs.Grouping.{kinds_key, first_key}
+use Rattle.kt_space.specs.inner.Grouping.{kinds_key, first_key}
 use Rattle.kt_space.specs.Picking.{could_match, matching, without_match, up_to_match}
-use Rattle.kt_space.specs.Slots.{IsFound, IsIndexed, filled, keyed, passing, through_place}
+use Rattle.kt_space.specs.inner.Slots.{IsFound, IsIndexed, filled, keyed, passing, through_place}
 use Rattle.kt_space.proofs.Filled.{filled_pushed, keyed_pushed, keyed_without, length_without, found_match, found_up_to}
 use Rattle.kt_space.proofs.Filled.{filled_filled, keyed_filled, all_filled}
 use Rattle.kt_space.proofs.Passing.{at_most, mono, whole}

@@ -7,7 +7,7 @@ use Rattle.kt_tuple.specs.declared.tuple.Tuple.{Tuple}
 use Rattle.kt_tuple.specs.declared.template.Template.{Template}
 use Rattle.kt_space.specs.declared.key.Key.{Key}
 use Rattle.kt_space.specs.Picking.{matching, without_match, up_to_match}
-use Rattle.kt_space.specs.Slots.{IsFound, filled, keyed}
+use Rattle.kt_space.specs.inner.Slots.{IsFound, filled, keyed}
 use Rattle.kt_space.proofs.Picked.{match_here, without_here, up_to_here}
 
 pub filled_some : (slots : List (Option Tuple)) (i : ℕ) (u : Tuple) → slice_get slots i ≡ Some (Some u)

@@ -8,8 +8,8 @@ use Rattle.std.proofs.lemmas.Bool.{false≢true}
 use Rattle.std.proofs.lemmas.List.Quantifiers.{position-Some}
 use Rattle.std.proofs.lemmas.Option.{none-some, same_Some, slice_get_within, slice_get-get_or}
 use Rattle.indexmap.specs.IndexSet.{insert_key}
-use Rattle.kt_space.specs.Chaining.{Has, Fits, Beside}
-use Rattle.kt_space.specs.Grouping.{keys_at, AreNumbers}
+use Rattle.kt_space.specs.inner.Chaining.{Has, Fits, Beside}
+use Rattle.kt_space.specs.inner.Grouping.{keys_at, AreNumbers}
 use Rattle.kt_space.proofs.Beside.{read_before, decide}
 use Rattle.kt_space.proofs.Stays.{kept_has, pushed_has}
 

@@ -5,7 +5,7 @@ use Rattle.std.specs.List.{slice_get}
 use Rattle.std.proofs.lemmas.List.{take_all}
 use Rattle.std.proofs.lemmas.Option.{none-some, same_Some}
 use Rattle.kt_tuple.specs.declared.tuple.Tuple.{Tuple}
-use Rattle.kt_space.specs.Slots.{filled, passing}
+use Rattle.kt_space.specs.inner.Slots.{filled, passing}
 use Rattle.kt_space.proofs.Beside.{decide}
 
 abbrev pub hit : (Tuple → Bool) → Option Tuple → ℕ

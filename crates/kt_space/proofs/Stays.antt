@@ -2,7 +2,7 @@
 use Rattle.std.proofs.Common.{◌≡◌, ◌≢◌, ℕ, zero, suc, ◌<◌, ◌≤◌, List, [], ◌∷◌, ◌++◌, length, set}
 use Rattle.std.proofs.Common.{Option, None, Some, refl, sym, ap, subst, ◌∙◌, arith, ◌⊎◌, inl, inr}
 use Rattle.std.proofs.lemmas.Option.{none-some, same_Some, slice_get_within}
-use Rattle.kt_space.specs.Chaining.{Has, Fits, IsAfter, IsBefore, IsApart, Beside}
+use Rattle.kt_space.specs.inner.Chaining.{Has, Fits, IsAfter, IsBefore, IsApart, Beside}
 use Rattle.kt_space.proofs.Beside.{read_pushed, read_before, read_other, decide}
 
 -- taking a place out

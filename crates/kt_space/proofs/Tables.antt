@@ -7,8 +7,8 @@ use Rattle.std.specs.Option.{option_and_then}
 use Rattle.std.proofs.lemmas.Option.{none-some}
 use Rattle.kt_space.specs.declared.chains.Ends.{Ends}
 use Rattle.kt_space.specs.declared.chains.Link.{Link}
-use Rattle.kt_space.specs.Chaining.{Has, Fits, IsIn, AreChains, after_of, before_of, changed, groups_of, opened}
-use Rattle.kt_space.specs.Chaining.{after_changed, first_changed, before_changed, last_changed}
+use Rattle.kt_space.specs.inner.Chaining.{Has, Fits, IsIn, AreChains, after_of, before_of, changed, groups_of, opened}
+use Rattle.kt_space.specs.inner.Chaining.{after_changed, first_changed, before_changed, last_changed}
 use Rattle.kt_space.proofs.Beside.{read_before, read_pushed}
 use Rattle.kt_space.proofs.Rechained.{unlinked, pushed, grown}
 use Rattle.kt_space.proofs.Linked.{next_hit, next_miss, next_back, next_groups, next_count}

@@ -4,7 +4,7 @@ ghost use Rattle.std.specs.Prelude.{◌≡◌, ◌≤◌, ◌↔◌, ◌++◌, �
 ghost use Rattle.std.specs.Prelude.{IsTrue, IsOk, IfOk, IfErr, OnOk, OnErr, is_some, false};
 ghost use Rattle.std.specs.Option.{option_and_then, option_copied};
 ghost use Rattle.kt_space.specs.Picking.{could_match, matching, up_to_match, without_match};
-ghost use Rattle.kt_space.specs.Slots.{filled};
+ghost use Rattle.kt_space.specs.inner.Slots.{filled};
 
 use crate::index::Index;
 use crate::search::Search;
@@ -25,7 +25,7 @@ pub struct Bag {
 impl Model for Bag {
     ghost use Rattle.std.specs.Prelude.{◌<◌, ◌&&◌, IsTrue, vec_len, vec_capacity};
     ghost use Rattle.kt_space.specs.Holding.{Holding};
-    ghost use Rattle.kt_space.specs.Slots.{IsIndexed, filled};
+    ghost use Rattle.kt_space.specs.inner.Slots.{IsIndexed, filled};
 
     ghost Value = { Holding };
 

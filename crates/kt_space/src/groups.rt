@@ -3,7 +3,7 @@
 ghost use Rattle.std.specs.Prelude.{◌≡◌, ◌++◌, ◌∷◌, [], IsTrue, OnOk, Some, None};
 ghost use Rattle.std.specs.List.{slice_set as set};
 ghost use Rattle.kt_space.specs.declared.key.Key.{Key};
-ghost use Rattle.kt_space.specs.Chaining.{Beside, Has};
+ghost use Rattle.kt_space.specs.inner.Chaining.{Beside, Has};
 
 use crate::chains::Chains;
 use crate::key::Key;
@@ -21,7 +21,7 @@ pub(crate) struct Groups {
 impl Model for Groups {
     ghost use Rattle.std.specs.Prelude.{◌&&◌, nat_lt};
     ghost use Rattle.indexmap.specs.IndexSet.{spare};
-    ghost use Rattle.kt_space.specs.Grouping.{AreNumbers, Grouped, keys_at};
+    ghost use Rattle.kt_space.specs.inner.Grouping.{AreNumbers, Grouped, keys_at};
 
     ghost Value = { Grouped };
 

@@ -2,8 +2,8 @@
 
 ghost use Rattle.std.specs.Prelude.{◌≡◌, ◌++◌, ◌∷◌, [], ◌&&◌, IsTrue, OnOk, IfOk, Some, None, map};
 ghost use Rattle.std.specs.List.{slice_set as set};
-ghost use Rattle.kt_space.specs.Grouping.{first_key, kinds_key};
-ghost use Rattle.kt_space.specs.Slots.{filled};
+ghost use Rattle.kt_space.specs.inner.Grouping.{first_key, kinds_key};
+ghost use Rattle.kt_space.specs.inner.Slots.{filled};
 
 use crate::groups::Groups;
 use crate::key::Key;

@@ -20,7 +20,7 @@ use Rattle.kt_store.specs.Verdict.{is_open}
 use Rattle.kt_store.specs.Content.{Content, greatest, is_empty}
 use Rattle.kt_tables.specs.Reason.{HasReason}
 use Rattle.kt_tables.specs.Schema.{kt_schema}
-use Rattle.kt_tables.specs.Text.{put_node_text, put_posted_text, get_node_text, first_node_text, get_posted_text, last_posted_text, open_posted_text}
+use Rattle.kt_tables.specs.inner.Text.{put_node_text, put_posted_text, get_node_text, first_node_text, get_posted_text, last_posted_text, open_posted_text}
 use Rattle.kt_tables.specs.Rows.{whole, id_of, HasId, node_given, posted_given, IsNodeRow, IsPosted, Holds, Gives, IsReadError, content_in, number_of, placing}
 use Rattle.kt_tables.specs.Held.{Tabled, is_sure, content_of, IsKept}
 use Rattle.sqlite.specs.Held.{Held}
@@ -30,7 +30,7 @@ use Rattle.sqlite_trees.specs.View.{doubt}
 use Rattle.kt_store.specs.Changes.{storing}
 use Rattle.kt_tables.specs.Settled.{Stays}
 use Rattle.kt_tables.proofs.StateLemmas.{executed_open, refused_stays, written_settled}
-use Rattle.kt_tables.specs.Both.{RanBoth}
+use Rattle.kt_tables.specs.inner.Both.{RanBoth}
 use Rattle.kt_tables.proofs.TabledLemmas.{stayed, wrote}
 use Rattle.kt_tables.proofs.OrderLemmas.{all_inserted}
 use Rattle.kt_tables.proofs.WriteLemmas.{put_node_does, put_posted_does}

@@ -28,7 +28,7 @@ use Rattle.kt_store.specs.declared.rows.Verdict.TheVariants.{Open, Yes, No}
 use Rattle.kt_store.specs.Verdict.{is_open}
 use Rattle.kt_store.specs.Content.{Content, node_lt}
 use Rattle.kt_tables.specs.Schema.{kt_schema}
-use Rattle.kt_tables.specs.Text.{get_node_text, first_node_text, get_posted_text, last_posted_text, open_posted_text}
+use Rattle.kt_tables.specs.inner.Text.{get_node_text, first_node_text, get_posted_text, last_posted_text, open_posted_text}
 use Rattle.kt_tables.specs.Rows.{whole, id_of, HasId, verdict_code, node_given, posted_given, IsNodeRow, IsPosted, Holds}
 use Rattle.kt_tables.proofs.Texts.{equals, get_node, get_node_is, first_node, first_node_is, get_posted, get_posted_is, last_posted, last_posted_is}
 use Rattle.kt_tables.proofs.Texts.{open_posted, open_posted_is, node_names, posted_names}

@@ -21,7 +21,7 @@ use Rattle.sqlite.proofs.Callers.{IsPlain, command_of, statement_of, runs_as}
 use Rattle.sqlite_tied.specs.Compute.{everything}
 use Rattle.kt_tables.specs.Schema.{kt_schema, no_schema, node_table, board_table, meta_table}
 use Rattle.kt_tables.specs.Opened.{meta_shown, IsVersion1}
-use Rattle.kt_tables.specs.Text.{create_node_text, create_board_text, create_meta_text, first_meta_text}
+use Rattle.kt_tables.specs.inner.Text.{create_node_text, create_board_text, create_meta_text, first_meta_text}
 use Rattle.kt_tables.proofs.PutLemmas.{went, same_value, replaces, AreNumbered}
 use Rattle.kt_tables.proofs.WriteLemmas.{cast_meta}
 

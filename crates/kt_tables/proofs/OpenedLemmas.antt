@@ -19,7 +19,7 @@ use Rattle.kt_store.specs.declared.rows.NodeRow.{NodeRow}
 use Rattle.kt_store.specs.declared.rows.Posted.{Posted}
 use Rattle.kt_store.specs.Content.{greatest, node_lt}
 use Rattle.kt_tables.specs.Schema.{kt_schema}
-use Rattle.kt_tables.specs.Text.{all_nodes_text, all_posted_text, meta_text}
+use Rattle.kt_tables.specs.inner.Text.{all_nodes_text, all_posted_text, meta_text}
 use Rattle.kt_tables.specs.Rows.{whole, id_of, HasId, node_given, node_shown, posted_given, posted_shown, IsNodeRow, IsPosted}
 use Rattle.kt_tables.specs.Rows.{ShowsNode, ShowsPosted, HoldsNodes, HoldsBoard, AreAsSaid}
 use Rattle.kt_tables.specs.Settled.{IsSettled}

@@ -15,8 +15,8 @@ use Rattle.sqlite_tied.specs.Compute.{everything}
 use Rattle.sqlite.specs.Listing.{understood, reads_listing}
 use Rattle.sqlite.proofs.Callers.{IsPlain, command_of}
 use Rattle.kt_tables.specs.Schema.{kt_schema}
-use Rattle.kt_tables.specs.Text.{put_node_text, put_posted_text, get_node_text, all_nodes_text, first_node_text, get_posted_text, last_posted_text}
-use Rattle.kt_tables.specs.Text.{open_posted_text, all_posted_text, meta_text}
+use Rattle.kt_tables.specs.inner.Text.{put_node_text, put_posted_text, get_node_text, all_nodes_text, first_node_text, get_posted_text, last_posted_text}
+use Rattle.kt_tables.specs.inner.Text.{open_posted_text, all_posted_text, meta_text}
 
 -- ---- writes
 

@@ -1,4 +1,3 @@
-pub mod Both
 pub mod Cells
 pub mod Held
 pub mod Made
@@ -7,4 +6,4 @@ pub mod Reason
 pub mod Rows
 pub mod Schema
 pub mod Settled
-pub mod Text
+pub mod inner

@@ -6,10 +6,10 @@ ghost use Rattle.sqlite.specs.Held.{state};
 ghost use Rattle.sqlite.specs.State.{HasCleanDisk, Executes, ExecutesInside, KeepsCommit, Survives};
 ghost use Rattle.kt_store.specs.declared.rows.NodeRow.{NodeRow as NodeFields};
 ghost use Rattle.kt_store.specs.declared.rows.Posted.{Posted as PostedFields};
-ghost use Rattle.kt_tables.specs.Text.{put_node_text, put_posted_text};
+ghost use Rattle.kt_tables.specs.inner.Text.{put_node_text, put_posted_text};
 ghost use Rattle.kt_tables.specs.Rows.{node_given, posted_given};
 ghost use Rattle.kt_tables.specs.Cells.{SpellsNode, SpellsPosted};
-ghost use Rattle.kt_tables.specs.Both.{RanBoth};
+ghost use Rattle.kt_tables.specs.inner.Both.{RanBoth};
 
 use crate::cells::{NodeCells, PostedCells};
 use sqlite::{Alter, Connection, Error, Transaction, params};

@@ -2,7 +2,7 @@ use Rattle.std.specs.Prelude.{Option, None}
 use Rattle.std.specs.Option.{option_map}
 use Rattle.kt_node.specs.Node.{Node}
 use Rattle.kt_node.specs.Turning.{changed}
-use Rattle.kt_core.specs.Rows.{row_view}
+use Rattle.kt_core.specs.inner.Rows.{row_view}
 use Rattle.kt_lines.proofs.Shared.{map-set_changed}
 use Rattle.kt_core.proofs.change.change_node.Goals as goal
 

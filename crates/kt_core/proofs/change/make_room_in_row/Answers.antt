@@ -1,4 +1,4 @@
-use Rattle.kt_core.specs.Rows.{row_view}
+use Rattle.kt_core.specs.inner.Rows.{row_view}
 use Rattle.kt_lines.proofs.Shared.{map-set_same}
 use Rattle.kt_core.proofs.change.make_room_in_row.Goals as goal
 

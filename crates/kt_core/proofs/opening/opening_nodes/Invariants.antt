@@ -1,5 +1,5 @@
 use Rattle.std.proofs.Common.{◌≡◌, map}
-use Rattle.kt_core.specs.Rows.{row_view}
+use Rattle.kt_core.specs.inner.Rows.{row_view}
 use Rattle.kt_world.specs.Reached.{opening_rows}
 use Rattle.kt_core.proofs.opening.opening_nodes.Given as goal
 

@@ -5,7 +5,7 @@ use Rattle.kt_world.specs.Ready.{CanApply, IsReady}
 use Rattle.kt_world.specs.State.{State}
 use Rattle.kt_world.specs.Step.{owner}
 use Rattle.kt_world.specs.Writing.{content_after}
-use Rattle.kt_core.specs.Machine.{state_of}
+use Rattle.kt_core.specs.inner.Machine.{state_of}
 use Rattle.kt_core.proofs.Steps.{allowed, effect, numbers, on-error, ready-beside}
 use Rattle.kt_core.proofs.stepping.make.Goals as goal
 

@@ -3,7 +3,7 @@ use Rattle.kt_store.specs.Content.{empty_content}
 use Rattle.kt_world.specs.declared.step.StepError.{StepError}
 use Rattle.kt_world.specs.Judge.{planned}
 use Rattle.kt_world.specs.Ready.{CanApply}
-use Rattle.kt_core.specs.Machine.{state_of}
+use Rattle.kt_core.specs.inner.Machine.{state_of}
 use Rattle.kt_core.specs.Stepping.{IsCause, Refuses}
 use Rattle.kt_core.proofs.Steps.{asked, due-planned, refused, caused, only-damaged, is-ok, planned-can, planned-leads, on-refusal}
 use Rattle.kt_core.proofs.stepping.prepare.Goals as goal

@@ -1,7 +1,7 @@
 use Rattle.std.proofs.Common.{◌≡◌, ◌∙◌, sym, subst, arith, rules}
 use Rattle.sqlite.specs.State.{HasCleanDisk}
 use Rattle.sqlite.specs.Held.{state}
-use Rattle.kt_tables.specs.Both.{RanBoth}
+use Rattle.kt_tables.specs.inner.Both.{RanBoth}
 use Rattle.kt_tables.proofs.statements.execute_both.Goals as goal
 
 pub returns-clause-both : goal.returns-clause-both

@@ -1,7 +1,7 @@
 use Rattle.std.proofs.Common.{rules}
 use Rattle.kt_store.specs.Content.{empty_content}
 use Rattle.kt_node.specs.View.{view_of}
-use Rattle.kt_core.specs.Machine.{state_of}
+use Rattle.kt_core.specs.inner.Machine.{state_of}
 use Rattle.kt_core.proofs.Judged.{due-first, due-none}
 use Rattle.kt_core.proofs.machine.Machine.due.Goals as goal
 

@@ -4,7 +4,7 @@ use Rattle.kt_node.specs.declared.plan.Plan.{Plan}
 use Rattle.kt_world.specs.declared.step.StepError.{StepError}
 use Rattle.kt_world.specs.Judge.{is_enabled}
 use Rattle.kt_world.proofs.Shared.{reached-holds}
-use Rattle.kt_core.specs.Machine.{state_of, Gives}
+use Rattle.kt_core.specs.inner.Machine.{state_of, Gives}
 use Rattle.kt_core.specs.World.{Standing}
 use Rattle.kt_core.proofs.Steps.{asked, due-planned, enabled, small-incarnation}
 use Rattle.kt_core.proofs.world.World.can.Goals as goal

@@ -3,7 +3,7 @@ use Rattle.std.specs.Prelude.{not, IfOk, IsTrue}
 use Rattle.kt_node.specs.declared.plan.Plan.{Plan}
 use Rattle.kt_world.specs.declared.step.StepError.{StepError}
 use Rattle.kt_world.proofs.Shared.{reached-holds}
-use Rattle.kt_core.specs.Machine.{state_of, Gives}
+use Rattle.kt_core.specs.inner.Machine.{state_of, Gives}
 use Rattle.kt_core.specs.Lent.{is_allowed}
 use Rattle.kt_core.specs.World.{Standing}
 use Rattle.kt_core.proofs.Steps.{asked, due-judged, enabled, small-incarnation}

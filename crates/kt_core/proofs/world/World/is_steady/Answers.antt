@@ -1,7 +1,7 @@
 use Rattle.std.proofs.Common.{◌≡◌, ◌∙◌, ap, subst}
 use Rattle.std.specs.Prelude.{IsTrue}
 use Rattle.std.specs.List.{list_all}
-use Rattle.kt_core.specs.Rows.{is_steady_code}
+use Rattle.kt_core.specs.inner.Rows.{is_steady_code}
 use Rattle.kt_world.specs.Headline.{Headline, is_steady}
 use Rattle.kt_refinement.proofs.Shared.{headline-reached}
 use Rattle.kt_core.specs.World.{Standing}

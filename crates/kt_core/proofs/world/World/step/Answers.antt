@@ -3,7 +3,7 @@ use Rattle.std.specs.Prelude.{IfErr, IsTrue, OnOk}
 use Rattle.kt_world.specs.Forced.{IsForced}
 use Rattle.kt_world.specs.Headline.{IsNoted}
 use Rattle.kt_world.specs.Judge.{planned}
-use Rattle.kt_core.specs.Machine.{state_of}
+use Rattle.kt_core.specs.inner.Machine.{state_of}
 use Rattle.kt_core.specs.Stepping.{IsCause}
 use Rattle.kt_core.specs.World.{Standing}
 use Rattle.kt_world.proofs.Shared.{reached-holds}

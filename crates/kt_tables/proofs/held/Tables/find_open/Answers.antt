@@ -1,7 +1,7 @@
 use Rattle.std.proofs.Common.{[], ◌∷◌, slice_get, sym, ap, ◌∙◌}
 use Rattle.sqlite.specs.Held.{state}
 use Rattle.sqlite.specs.State.{Shown}
-use Rattle.kt_tables.specs.Text.{open_posted_text}
+use Rattle.kt_tables.specs.inner.Text.{open_posted_text}
 use Rattle.kt_tables.specs.Rows.{whole, id_of}
 use Rattle.kt_tables.specs.Held.{is_sure}
 use Rattle.kt_tables.proofs.Texts.{open_posted_is}

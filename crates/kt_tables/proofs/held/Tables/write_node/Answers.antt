@@ -1,7 +1,7 @@
 use Rattle.std.proofs.Common.{◌≡◌, ◌∙◌, true, ap, subst}
 use Rattle.kt_store.specs.Changes.{storing}
 use Rattle.kt_tables.specs.Rows.{node_given}
-use Rattle.kt_tables.specs.Text.{put_node_text}
+use Rattle.kt_tables.specs.inner.Text.{put_node_text}
 use Rattle.kt_tables.specs.Held.{Tabled, is_sure, content_of}
 use Rattle.kt_tables.proofs.AnswerLemmas.{node_wrote, not_wrote}
 use Rattle.kt_tables.proofs.held.Tables.write_node.Goals as goal

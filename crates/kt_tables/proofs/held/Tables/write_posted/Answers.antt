@@ -1,6 +1,6 @@
 use Rattle.std.proofs.Common.{◌≡◌, ◌∙◌, true, ap, subst}
 use Rattle.kt_tables.specs.Rows.{posted_given, placing}
-use Rattle.kt_tables.specs.Text.{put_posted_text}
+use Rattle.kt_tables.specs.inner.Text.{put_posted_text}
 use Rattle.kt_tables.specs.Held.{Tabled, is_sure, content_of}
 use Rattle.kt_tables.proofs.AnswerLemmas.{posted_wrote, not_wrote}
 use Rattle.kt_tables.proofs.held.Tables.write_posted.Goals as goal

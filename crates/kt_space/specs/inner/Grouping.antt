@@ -14,7 +14,7 @@ use Rattle.kt_tuple.specs.declared.template.Template.{Template}
 use Rattle.kt_tuple.specs.Equality.{value_eq, value_eq_decides}
 use Rattle.kt_tuple.specs.Signature.{kinds_of, kinds_of_places, signature_of}
 use Rattle.kt_space.specs.declared.key.Key.{Key}
-use Rattle.kt_space.specs.Chaining.{Has}
+use Rattle.kt_space.specs.inner.Chaining.{Has}
 
 -- the kinds of a tuple; the same and its first value
 abbrev pub kinds_key : Tuple → Key

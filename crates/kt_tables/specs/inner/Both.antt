@@ -7,7 +7,7 @@ use Rattle.kt_store.specs.declared.rows.NodeRow.{NodeRow}
 use Rattle.kt_store.specs.declared.rows.Posted.{Posted}
 use Rattle.kt_tables.specs.Settled.{IsSettled}
 use Rattle.kt_tables.specs.Rows.{node_given, posted_given}
-use Rattle.kt_tables.specs.Text.{put_node_text, put_posted_text}
+use Rattle.kt_tables.specs.inner.Text.{put_node_text, put_posted_text}
 
 -- both were put, the one after the other, and committed
 pub record RanBoth {S : Type 0} (g : Ghosts S) (r : NodeRow) (p : Posted) (old new : Held S) : Type 0 where

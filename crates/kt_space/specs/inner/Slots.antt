@@ -7,8 +7,8 @@ use Rattle.kt_tuple.specs.declared.tuple.Tuple.{Tuple}
 use Rattle.kt_tuple.specs.declared.template.Template.{Template}
 use Rattle.kt_tuple.specs.Matching.{matches}
 use Rattle.kt_space.specs.declared.key.Key.{Key}
-use Rattle.kt_space.specs.Chaining.{Has, Fits}
-use Rattle.kt_space.specs.Grouping.{kinds_key, first_key}
+use Rattle.kt_space.specs.inner.Chaining.{Has, Fits}
+use Rattle.kt_space.specs.inner.Grouping.{kinds_key, first_key}
 use Rattle.kt_space.specs.Picking.{could_match}
 
 -- the tuples of the slots, in order

@@ -12,7 +12,7 @@ use Rattle.kt_world.specs.declared.step.StepError.{StepError}
 use Rattle.kt_world.specs.declared.step.StepError.TheVariants as refusals
 use Rattle.kt_world.specs.State.{State}
 use Rattle.kt_core.specs.declared.machine.Machine.{Machine}
-use Rattle.kt_core.specs.Rows.{HasRoom, row_view}
+use Rattle.kt_core.specs.inner.Rows.{HasRoom, row_view}
 
 -- the state of the machine beside a store that holds this
 abbrev pub state_of : Machine → Content → State

@@ -1,0 +1,6 @@
+-- What the code alone keeps, and no public clause cites.
+pub mod Judged
+pub mod Space
+pub mod Traffic
+pub mod Rows
+pub mod Machine
