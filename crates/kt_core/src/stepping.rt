@@ -8,7 +8,7 @@ ghost use Rattle.kt_world.specs.Judge.{planned};
 ghost use Rattle.kt_world.specs.Ready.{CanApply, IsReady};
 ghost use Rattle.kt_world.specs.Step.{owner};
 ghost use Rattle.kt_core.specs.inner.Machine.{HasRoomFor, state_of};
-ghost use Rattle.kt_core.specs.Stepping.{IsCause, Refuses};
+ghost use Rattle.kt_core.specs.Stepping.{IsCalledFor, IsCause, Refuses};
 
 use crate::machine::Machine;
 use crate::reading::tell;
@@ -40,6 +40,8 @@ fn prepare<S: CkptStore>(
     ensures later { S.fault_count store.old ≤ S.fault_count store.new }
     ensures cause { IfErr result (IsCause (S.fault_count store.old) (S.fault_count store.new) (S.is_honest store.new)
         (planned (state_of machine.old (S.content store.old)) step)) }
+    ensures called { IsTrue (S.is_honest store.new) →
+        IfErr result (IsCalledFor (state_of machine.old (S.content store.old)) step) }
 {
     let owner = step.owner();
     let told = tell(store, alloc, owner, machine.needs(step))?;
@@ -69,6 +71,8 @@ pub(crate) fn make<S: CkptStore>(
     ensures later { S.fault_count store.old ≤ S.fault_count store.new }
     ensures cause { IfErr result (IsCause (S.fault_count store.old) (S.fault_count store.new) (S.is_honest store.new)
         (planned (state_of machine.old (S.content store.old)) step)) }
+    ensures called { IsTrue (S.is_honest store.new) →
+        IfErr result (IsCalledFor (state_of machine.old (S.content store.old)) step) }
 {
     let plan = prepare(machine, store, alloc, step)?;
     write(store, step.owner(), &plan.write)?;

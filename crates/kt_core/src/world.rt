@@ -79,7 +79,7 @@ impl<S: CkptStore> Model for World<S> {
 
 impl<S: CkptStore> World<S> {
     ghost use Rattle.kt_core.specs.Lent.{is_allowed, kept, message_at, shard, worker};
-    ghost use Rattle.kt_core.specs.Stepping.{IsCause, Refuses};
+    ghost use Rattle.kt_core.specs.Stepping.{IsCalledFor, IsCause, Refuses};
     ghost use Rattle.kt_core.specs.Store.{IsFault};
     ghost use Rattle.kt_core.specs.World.{IsOpenCause, beside};
     ghost use Rattle.kt_world.specs.Cast.{is_node};
@@ -162,6 +162,7 @@ impl<S: CkptStore> World<S> {
         ensures later { self.old.faults ≤ self.new.faults }
         ensures cause { IfErr result (
             IsCause self.old.faults self.new.faults self.new.is_honest (planned self.old.state step)) }
+        ensures called { IsTrue self.new.is_honest → IfErr result (IsCalledFor self.old.state step) }
         ensures headline { IsTrue self.new.is_honest → Headline self.new.state }
         ensures forced { IsTrue self.new.is_honest → OnOk result (IsForced self.old.state step self.new.state) }
         ensures noted { IsTrue self.new.is_honest → OnOk result (IsNoted self.old.state step self.new.state) }

@@ -52,6 +52,6 @@ pub returns-clause-effect : goal.returns-clause-effect
 returns-clause-effect g c =
     λ h. effect c.args.machine.now c.prepare.new.machine c.carry_out.new.self (g.S.CkptStore.content c.args.store.now)
     (g.S.CkptStore.content c.prepare.new.store) (g.S.CkptStore.content c.write.new.store)
-    c.args.step c.in_ok-plan.plan c.owner.result (c.in_ok-plan.ensures.plan (c.write.ensures.honest h)) c.in_ok-plan.ensures.same
-    (c.in_ok-plan.ensures.content (c.write.ensures.honest h)) c.owner.ensures
-    (c.in_ok-write.ensures.made h) c.carry_out.ensures
+    c.args.step c.in_ok-plan.plan c.owner.result (c.in_ok-plan.ensures.plan (c.write.ensures.written.honest h)) c.in_ok-plan.ensures.same
+    (c.in_ok-plan.ensures.content (c.write.ensures.written.honest h)) c.owner.ensures
+    (c.in_ok-write.ensures.written.made h) c.carry_out.ensures
