@@ -8,7 +8,7 @@ use Rattle.kt_script.proofs.Shared.{keeps_limits}
 use Rattle.kt_world.specs.Short.{IsShort}
 
 of_script : (script : List Command) → IsScript script → IsShort script
-of_script script is = let k = keeps_limits script is in record { commands = k.0; variables = k.1 }
+of_script script is = let k = keeps_limits script is in record { is_script = is; commands = k.0; variables = k.1 }
 
 at-this : {X : Type 0} (P : X → Type 0) (xs : List X) (k : ℕ) (x d : X) → k < length xs → x ≡ get_or xs k d → P x → IfSome (slice_get xs k) P
 at-this P [] k x d lt e h = absurd (omega (arith, lt))

@@ -55,3 +55,6 @@ pub mod PermanentPart
 pub mod Holding
 pub mod PermanentReached
 pub mod Shared
+pub mod FitBodies
+pub mod Fit
+pub mod Undamaged

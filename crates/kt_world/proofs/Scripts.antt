@@ -15,7 +15,7 @@ pub short-from : (script : List Command) → IsScript script → IsShort script
 short-from script is =
     let few = few-values script is (opening_memory script).values (values-opening script) in
     let same = length-map (variables_of script) (λ v. zero_of (Some v.1)) in
-    record { commands = few-commands script is; variables = omega (arith, few, same) }
+    record { is_script = is; commands = few-commands script is; variables = omega (arith, few, same) }
 
 pub all-short : (cast : Cast) → All IsScript cast.scripts → AreShort cast
 all-short cast all zero = tt
