@@ -171,9 +171,9 @@ IsNoCut (Some (notes.Act a)) = Unit {0}
 IsNoCut (Some (notes.Cut q keep)) = ⊥
 
 line-grows : (h : List Note) (p : NodeId) (note : Option Note) → IsNoCut note → length (line h p) ≤ length (line (noted h note) p)
-line-grows h p None no = omega arith
-line-grows h p (Some (notes.Cut q keep)) no = absurd no
-line-grows h p (Some (notes.Act a)) no = elim (cases_eq (node_index a.node) (node_index p)) [
+line-grows h p None calm = omega arith
+line-grows h p (Some (notes.Cut q keep)) calm = absurd calm
+line-grows h p (Some (notes.Act a)) calm = elim (cases_eq (node_index a.node) (node_index p)) [
   | inl e ↦
       let own = line-own_act h a in
       let long = length-append (line h a.node) (Rattle.std.proofs.Common.suc (length h) ∷ []) in
@@ -201,7 +201,7 @@ written-within role before now c row (Some (writes.Decide instance agreed)) le o
 -- a node that turns and cuts nothing
 turn-fits : (s : State) → IsFitting s → (p : NodeId) (plan : Plan) (t : Turn) → plan.change ≡ changes.Turn t → IsNoCut plan.note
     → WritesOwn (role_of s.cast p) (length (line s.history p)) plan.write → Fits s p plan
-turn-fits s is p plan t change no own = record {
+turn-fits s is p plan t change calm own = record {
   writes = own;
   ends = subst (λ (c : Change). EndsIn now stored (option_map (changed c) (node s p))) (sym change) (by (node s p) (is.ends p));
 }
@@ -216,12 +216,12 @@ turn-fits s is p plan t change no own = record {
     by None ends = tt
     by (Some Down) ends = tt
     by (Some (Alive n)) ends =
-        written-within (role_of s.cast p) (length (line s.history p)) now s.content (row_of s.content p) plan.write (line-grows s.history p plan.note no) own ends
+        written-within (role_of s.cast p) (length (line s.history p)) now s.content (row_of s.content p) plan.write (line-grows s.history p plan.note calm) own ends
 
 -- one that stays as it is
 stay-fits : (s : State) → IsFitting s → (p : NodeId) (plan : Plan) → plan.change ≡ changes.Stay → IsNoCut plan.note
     → WritesOwn (role_of s.cast p) (length (line s.history p)) plan.write → Fits s p plan
-stay-fits s is p plan change no own = record {
+stay-fits s is p plan change calm own = record {
   writes = own;
   ends = subst (λ (c : Change). EndsIn now stored (option_map (changed c) (node s p))) (sym change) (by (node s p) (is.ends p));
 }
@@ -236,7 +236,7 @@ stay-fits s is p plan change no own = record {
     by None ends = tt
     by (Some Down) ends = tt
     by (Some (Alive n)) ends =
-        written-within (role_of s.cast p) (length (line s.history p)) now s.content (row_of s.content p) plan.write (line-grows s.history p plan.note no) own ends
+        written-within (role_of s.cast p) (length (line s.history p)) now s.content (row_of s.content p) plan.write (line-grows s.history p plan.note calm) own ends
 
 -- one that falls
 fall-fits : (s : State) (p : NodeId) (plan : Plan) → plan.change ≡ changes.Fall → WritesOwn (role_of s.cast p) (length (line s.history p)) plan.write → Fits s p plan

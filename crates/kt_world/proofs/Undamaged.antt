@@ -1,6 +1,6 @@
 -- No step is refused for damage: in a state that steps lead to, what a store that tells what it holds gives of a node fits
 -- the node.
-use Rattle.std.proofs.Common.{◌≡◌, ℕ, ◌≤◌, ◌==◌, ◌&&◌, if◌then◌else◌, Bool, true, false, List, [], ◌∷◌, length, Option, None, Some, Result, Ok, Err, refl, sym}
+use Rattle.std.proofs.Common.{◌≡◌, ℕ, ◌+◌, ◌≤◌, ◌==◌, ◌&&◌, if◌then◌else◌, Bool, true, false, List, [], ◌∷◌, length, Option, None, Some, Result, Ok, Err, refl, sym}
 use Rattle.std.proofs.Common.{ap, ◌∙◌, subst, arith, eq-eqb}
 use Rattle.std.specs.Prelude.{IfSome, is_some, nat_le, unwrap_or}
 use Rattle.std.specs.Option.{option_map}
@@ -213,7 +213,7 @@ loads-fine s p gives =
   where
     by : (r : Result Body Refusal) → Fine r → Fine (loaded_by (row_of s.content p).permanent ((row_of s.content p).incarnation + 1) r)
     by (Ok b) f = fine _
-    by (Err refusal) f e = f (let same : refusal ≡ reasons.Damaged = cc in ap (λ x. Err x) same)
+    by (Err refusal) f = λ e. f (let same : refusal ≡ reasons.Damaged = cc in ap (λ x. Err x) same)
 
 check-fine : (v : View) (next : ℕ) (o : Option Rattle.kt_ckpt.specs.declared.marks.Marks.Marks) → fits v.role v.line_len o ≡ true → Fine (check v next o)
 check-fine v next o fit = by v.node
@@ -272,7 +272,7 @@ rolls-fine v s true send loads = by (load v s) loads
   where
     by : (r : Result Live Refusal) → Fine r → Fine (restored v s send r)
     by (Ok live) f = fine _
-    by (Err refusal) f e = f (let same : refusal ≡ reasons.Damaged = cc in ap (λ x. Err x) same)
+    by (Err refusal) f = λ e. f (let same : refusal ≡ reasons.Damaged = cc in ap (λ x. Err x) same)
 rolls-fine v s false send loads = fine _
 
 learn-fine : (v : View) (s : Stored) (is_tentative : Bool) (verdict : Option Verdict) → Fine (load v s) → fits v.role v.line_len (marks_in s) ≡ true
@@ -311,7 +311,7 @@ restart-fine v s next is_tentative own verdict loads = by v.node
   where
     loaded : (r : Result Live Refusal) → Fine r → Fine (restarted v s next r)
     loaded (Ok live) f = fine _
-    loaded (Err refusal) f e = f (let same : refusal ≡ reasons.Damaged = cc in ap (λ x. Err x) same)
+    loaded (Err refusal) f = λ e. f (let same : refusal ≡ reasons.Damaged = cc in ap (λ x. Err x) same)
 
     goes : Fine (restart_plan v s next)
     goes = loaded (load v s) loads
