@@ -47,6 +47,7 @@ use Rattle.kt_world.specs.Effect.{noted, applied}
 use Rattle.kt_world.specs.Writing.{content_after}
 use Rattle.kt_world.specs.Backed.{IsBacked}
 use Rattle.kt_world.specs.Ready.{IsBodyReady, IsReady}
+use Rattle.kt_world.specs.Reached.{opening}
 use Rattle.kt_world.specs.Told.{told}
 use Rattle.kt_world.proofs.Plans as plans
 use Rattle.kt_world.proofs.Plans.{IsAlive, IsDown, PlanOf}
@@ -348,3 +349,16 @@ plan-fits s ready backed is step plan (plans.fails {p = p} there at fit other) =
 plan-fits s ready backed is step plan (plans.restarts {p = p} there down has free loads) = none-fits s p plan tt (none-tentative s p has)
 plan-fits s ready backed is step plan (plans.restarts_anew {p = p} {n = n} {b = b} there at rolls own refused loads) =
     none-fits s p plan tt (backed-in s backed p n (phases.Rolling b) at rolls)
+
+-- ---- the opening, over a store in which nothing is
+
+none-ends : (long : ℕ) (row : Option Node) → EndsIn long None row
+none-ends long None = tt
+none-ends long (Some Down) = tt
+none-ends long (Some (Alive n)) = tt
+
+pub opening-fitting : (cast : Cast) → IsFitting (opening cast)
+opening-fitting cast = record {
+  rows = λ p. record { permanent = tt; tentative = tt };
+  ends = λ p. none-ends (length (line [] p)) (node (opening cast) p);
+}

@@ -52,9 +52,9 @@ pub mod Following
 pub mod FirstCut
 pub mod Cuts
 pub mod PermanentPart
-pub mod Holding
-pub mod PermanentReached
-pub mod Shared
 pub mod FitBodies
 pub mod Fit
 pub mod Undamaged
+pub mod Holding
+pub mod PermanentReached
+pub mod Shared

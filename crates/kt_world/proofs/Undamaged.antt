@@ -58,7 +58,7 @@ use Rattle.kt_world.specs.declared.step.StepError.{StepError}
 use Rattle.kt_world.specs.declared.step.StepError.TheVariants as refusals
 use Rattle.kt_world.specs.Cast.{is_in_scene}
 use Rattle.kt_world.specs.Cut.{acts_held}
-use Rattle.kt_world.specs.Judge.{delivery, due, hear, judged, of_owner, of_scene}
+use Rattle.kt_world.specs.Judge.{IsUndamaged, delivery, due, hear, of_owner, of_scene}
 use Rattle.kt_world.specs.Ready.{IsReady}
 use Rattle.kt_world.specs.State.{State, link, node, role_of, view}
 use Rattle.kt_world.specs.Told.{stored_of, tentative_in, told}
@@ -425,6 +425,6 @@ scene-damaged : (there : Bool) (r : Planned) (x : StoreError) → of_scene there
 scene-damaged true r x e = owner-damaged r x e
 scene-damaged false r x e = absurd cc
 
-pub never-damaged : (s : State) → IsReady s → IsSound s → IsFitting s → (step : Step) (x : StoreError) → ¬ (judged s (told s step) step ≡ Err (refusals.Store x))
+pub never-damaged : (s : State) → IsReady s → IsSound s → IsFitting s → IsUndamaged s
 never-damaged s ready sound is step x e =
     due-fine s (gives-fitting s ready sound is) step (scene-damaged (is_in_scene s.cast step) (due s (told s step) step) x e)
