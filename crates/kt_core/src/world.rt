@@ -151,8 +151,8 @@ impl<S: CkptStore> World<S> {
 
     /// Makes the step. It makes a node that is up roll back, or take a checkpoint that it did not begin, only where
     /// that has to be (`IsForced`). It notes one thing at most, and cuts no line but its owner's (`IsNoted`). A refused
-    /// step changes nothing; of several refusals the first that stands comes, `Store` where a call of the store was
-    /// refused or gave a checkpoint that does not fit the node, and `OutOfMemory` only where memory ran out.
+    /// step changes nothing; of several refusals the first that stands comes, `Store` only where the store was called
+    /// for the step and refused the call, and `OutOfMemory` only where memory ran out.
     pub fn step(&mut self, alloc: Global, step: Step) -> Result<(), StepError>
         ensures effect { IsTrue self.new.is_honest → OnOk result (step_result self.old.state step ≡ Ok self.new.state) }
         ensures refusal { IsTrue self.new.is_honest → IfErr result (λ e. Refuses e (planned self.old.state step)) }
@@ -160,8 +160,7 @@ impl<S: CkptStore> World<S> {
         ensures beside { OnErr result (beside self.new.state ≡ beside self.old.state) }
         ensures honest { IsTrue self.new.is_honest → IsTrue self.old.is_honest }
         ensures later { self.old.faults ≤ self.new.faults }
-        ensures cause { IfErr result (
-            IsCause self.old.faults self.new.faults self.new.is_honest (planned self.old.state step)) }
+        ensures cause { IfErr result (IsCause self.old.faults self.new.faults self.new.is_honest) }
         ensures called { IsTrue self.new.is_honest → IfErr result (IsCalledFor self.old.state step) }
         ensures headline { IsTrue self.new.is_honest → Headline self.new.state }
         ensures forced { IsTrue self.new.is_honest → OnOk result (IsForced self.old.state step self.new.state) }

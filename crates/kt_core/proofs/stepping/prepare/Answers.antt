@@ -43,11 +43,11 @@ returns-in_err-plan-clause-cause g c =
     let honest = g.S.CkptStore.is_honest c.tell.new.store in
     let before = g.S.CkptStore.fault_count c.args.store.now in
     let now = g.S.CkptStore.fault_count c.tell.new.store in
-    let Caused : StepError → Type 0 = IsCause before now honest (planned s c.args.step) in
+    let Caused : StepError → Type 0 = IsCause before now honest in
     on-refusal c.from_residual-in_err-plan.result _ Caused c.from_residual-in_err-plan.ensures.1
     (λ e is. subst Caused (sym is) (caused honest before now s c.args.step c.in_ok-told.told c.in_err-plan.field-0.0 c.in_ok-told.ensures.told.later
     (λ h. asked s c.args.step c.in_ok-told.told c.needs.result c.owner-owner.result (c.in_ok-told.ensures.told.value h)
-    c.needs.ensures c.owner-owner.ensures) c.in_err-plan.ensures
+    c.needs.ensures c.owner-owner.ensures) (λ h. c.requires.undamaged (c.in_ok-told.ensures.told.honest h)) c.in_err-plan.ensures
     (only-damaged s c.in_ok-told.told c.args.step c.in_err-plan.field-0.0 c.in_err-plan.ensures)))
 
 pub returns-in_err-make_room-clause-refusal : goal.returns-in_err-make_room-clause-refusal
