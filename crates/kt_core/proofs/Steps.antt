@@ -22,7 +22,7 @@ use Rattle.kt_world.specs.Backed.{HasNumbers, IsAllowed, IsBacked}
 use Rattle.kt_world.proofs.Shared.{planned-allowed, planned-numbers}
 use Rattle.kt_core.specs.declared.machine.Machine.{Machine}
 use Rattle.kt_core.specs.inner.Machine.{state_of}
-use Rattle.kt_world.specs.Needs.{needs_of, no_needs, told_by}
+use Rattle.kt_world.specs.Needs.{needs_of, told_by}
 use Rattle.kt_world.specs.Told.{told}
 use Rattle.kt_world.specs.Ready.{CanApply, IsReady}
 use Rattle.kt_world.specs.State.{State}
@@ -32,7 +32,7 @@ use Rattle.std.specs.Result.{IsErrAnd}
 use Rattle.kt_core.specs.inner.Machine as machine
 use Rattle.kt_core.specs.Store.{IsFault}
 use Rattle.kt_core.specs.inner.Judged.{is_refused}
-use Rattle.kt_core.specs.Stepping.{IsCalledFor, IsCause, Refuses, Writes, looks, has_write}
+use Rattle.kt_core.specs.Stepping.{IsCalledFor, IsCause, Refuses}
 
 -- what is asked for is what the rule of the step looks at
 pub asked : (s : State) (step : Step) (t : Told) (needs : Needs) (p : NodeId) → t ≡ told_by needs s.content p → needs ≡ needs_of s step → p ≡ owner step
@@ -168,11 +168,7 @@ ready-beside s c r = record {
   messages = r.messages;
 }
 
--- a store that is not called for the step refuses nothing
-pub called-told : (s : State) (step : Step) (needs : Needs) (Fine : Type 0) → needs ≡ needs_of s step → (needs ≡ no_needs → Fine) → ¬ Fine
-    → (x : StoreError) → IsCalledFor s step (refusals.Store x)
-called-told s step needs Fine is quiet refused x = looks (λ none. refused (quiet (is ∙ none)))
-
+-- what the plan refuses, it does not refuse for the store
 pub called-plan : (s : State) (step : Step) (t : Told) (e : StepError) → t ≡ told_by (needs_of s step) s.content (owner step) → IsUndamaged s
     → machine.Gives {Y = Plan} (Err e) (planned_by s t step) → IsCalledFor s step e
 called-plan s step t (refusals.Store x) is fits gives =
@@ -185,10 +181,6 @@ called-plan s step t refusals.NoSuchMatch is fits gives = tt
 called-plan s step t refusals.NotDecided is fits gives = tt
 called-plan s step t refusals.Unresolved is fits gives = tt
 called-plan s step t refusals.StepLimit is fits gives = tt
-
-pub called-write : (s : State) (step : Step) (plan : Plan) (Fine : Type 0) → planned s step ≡ Ok plan → (plan.write ≡ None → Fine) → ¬ Fine
-    → (x : StoreError) → IsCalledFor s step (refusals.Store x)
-called-write s step plan Fine is quiet refused x = has_write (subst Writes (sym is) (λ none. refused (quiet none)))
 
 -- what was carried out, with the write made before, is what the step is to do
 pub effect : (old mid new : Machine) (before between after : Content) (step : Step) (plan : Plan) (p : NodeId) → planned (state_of old before) step ≡ Ok plan

@@ -1,6 +1,6 @@
 //! The world: what its callers see of it, and its step.
 
-ghost use Rattle.std.specs.Prelude.{◌≡◌, ◌≤◌, ◌↔◌, false, true, is_some, length, map, slice_get};
+ghost use Rattle.std.specs.Prelude.{◌≡◌, ◌≢◌, ◌≤◌, ◌↔◌, false, true, is_some, length, map, slice_get};
 ghost use Rattle.std.specs.Prelude.{IfErr, IfOk, IsTrue, Ok, OnErr, OnOk};
 ghost use Rattle.std.specs.Option.{option_copied, option_map};
 ghost use Rattle.kt_store.specs.Content.{is_fresh};
@@ -88,7 +88,7 @@ impl<S: CkptStore> World<S> {
     ghost use Rattle.kt_world.specs.Forced.{IsForced};
     ghost use Rattle.kt_world.specs.Headline.{Headline, IsNoted, is_steady, lent_bags};
     ghost use Rattle.kt_world.specs.Judge.{is_enabled, planned};
-    ghost use Rattle.kt_world.specs.Needs.{poll_at};
+    ghost use Rattle.kt_world.specs.Needs.{needs_of, no_needs, poll_at};
     ghost use Rattle.kt_world.specs.Reached.{opening};
     ghost use Rattle.kt_world.specs.State.{link, node};
     ghost use Rattle.kt_node.specs.Node.{mode_of};
@@ -170,7 +170,7 @@ impl<S: CkptStore> World<S> {
     }
 
     /// Whether the step is enabled: nothing but the store or want of memory would refuse it. The store's refusal, where
-    /// the store does not say what has to be known. It takes what the making of the step's plan takes.
+    /// something has to be known of it that it does not say. It takes what the making of the step's plan takes.
     pub fn can(&mut self, alloc: Global, step: Step) -> Result<bool, StoreError>
         ensures value { IsTrue self.new.is_honest → IfOk result (λ can. can ≡ is_enabled self.old.state step) }
         ensures same { IsTrue self.new.is_honest → self.new.state ≡ self.old.state }
@@ -178,6 +178,7 @@ impl<S: CkptStore> World<S> {
         ensures honest { IsTrue self.new.is_honest → IsTrue self.old.is_honest }
         ensures later { self.old.faults ≤ self.new.faults }
         ensures cause { IfErr result (IsFault self.old.faults self.new.faults self.new.is_honest) }
+        ensures called { OnErr result (needs_of self.old.state step ≢ no_needs) }
     {
         let needs = self.machine.needs(step);
         let told = tell(&mut self.store, alloc, step.owner(), needs)?;
@@ -194,6 +195,7 @@ impl<S: CkptStore> World<S> {
         ensures honest { IsTrue self.new.is_honest → IsTrue self.old.is_honest }
         ensures later { self.old.faults ≤ self.new.faults }
         ensures cause { IfErr result (IsFault self.old.faults self.new.faults self.new.is_honest) }
+        ensures called { OnErr result (needs_of self.old.state step ≢ no_needs) }
     {
         let needs = self.machine.needs(step);
         let told = tell(&mut self.store, alloc, step.owner(), needs)?;
