@@ -32,7 +32,7 @@ use Rattle.std.specs.Result.{IsErrAnd}
 use Rattle.kt_core.specs.inner.Machine as machine
 use Rattle.kt_core.specs.Store.{IsFault}
 use Rattle.kt_core.specs.inner.Judged.{is_refused}
-use Rattle.kt_core.specs.Stepping.{IsCalledFor, IsCause, Refuses}
+use Rattle.kt_core.specs.Stepping.{IsCalledFor, IsCause, Refuses, Writes, has_write}
 
 -- what is asked for is what the rule of the step looks at
 pub asked : (s : State) (step : Step) (t : Told) (needs : Needs) (p : NodeId) → t ≡ told_by needs s.content p → needs ≡ needs_of s step → p ≡ owner step
@@ -181,6 +181,11 @@ called-plan s step t refusals.NoSuchMatch is fits gives = tt
 called-plan s step t refusals.NotDecided is fits gives = tt
 called-plan s step t refusals.Unresolved is fits gives = tt
 called-plan s step t refusals.StepLimit is fits gives = tt
+
+-- a write that is refused is one that was planned
+pub called-write : (s : State) (step : Step) (plan : Plan) (x : StoreError) → planned s step ≡ Ok plan → ¬ (plan.write ≡ None)
+    → IsCalledFor s step (refusals.Store x)
+called-write s step plan x is writes = has_write (subst Writes (sym is) writes)
 
 -- what was carried out, with the write made before, is what the step is to do
 pub effect : (old mid new : Machine) (before between after : Content) (step : Step) (plan : Plan) (p : NodeId) → planned (state_of old before) step ≡ Ok plan
