@@ -2,7 +2,6 @@ pub mod Outcomes
 pub mod Openings
 pub mod Readiness
 pub mod Later
-pub mod Scripts
 pub mod Seen
 pub mod Shorts
 pub mod Steps

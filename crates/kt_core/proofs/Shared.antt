@@ -1,2 +1,3 @@
 -- What the crates above may cite of these proofs.
 pub use Rattle.kt_core.proofs.Later.{later-fault}
+pub use Rattle.kt_core.proofs.Shorts.{of_script}

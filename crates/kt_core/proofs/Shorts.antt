@@ -1,5 +1,5 @@
 -- Each script is within its limits.
-use Rattle.std.proofs.Common.{◌≡◌, ℕ, ◌+◌, ◌<◌, ◌≤◌, zero, suc, List, [], ◌∷◌, length, Option, Some, None, get_or, ◌⊎◌, inl, inr, subst, sym, arith}
+use Rattle.std.proofs.Common.{◌≡◌, ℕ, ◌+◌, ◌<◌, ◌≤◌, zero, suc, List, [], ◌∷◌, length, get_or, ◌⊎◌, inl, inr, subst, sym, arith}
 use Rattle.std.specs.Prelude.{IfSome, slice_get}
 use Rattle.std.proofs.lemmas.Bool.{cases_eq, cases_lt}
 use Rattle.kt_script.specs.declared.command.Command.{Command}
@@ -7,8 +7,8 @@ use Rattle.kt_script.specs.Rules.{IsScript}
 use Rattle.kt_script.proofs.Shared.{keeps_limits}
 use Rattle.kt_world.specs.Short.{IsShort}
 
-of_script : (script : List Command) → IsScript script → IsShort script
-of_script script is = let k = keeps_limits script is in record { commands = k.0; variables = k.1 }
+pub of_script : (script : List Command) → IsScript script → IsShort script
+of_script script is = let k = keeps_limits script is in record { is_script = is; commands = k.0; variables = k.1 }
 
 at-this : {X : Type 0} (P : X → Type 0) (xs : List X) (k : ℕ) (x d : X) → k < length xs → x ≡ get_or xs k d → P x → IfSome (slice_get xs k) P
 at-this P [] k x d lt e h = absurd (omega (arith, lt))

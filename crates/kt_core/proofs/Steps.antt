@@ -1,9 +1,9 @@
 -- What the parts of a step come to.
-use Rattle.std.proofs.Common.{◌≡◌, ℕ, ◌+◌, ◌<◌, ◌≤◌, ◌^◌, if◌then◌else◌, Bool, true, false, Result, Ok, Err, ◌⊎◌, inl, inr, refl, sym, ap, ◌∙◌, subst, arith}
+use Rattle.std.proofs.Common.{◌≡◌, ℕ, ◌+◌, ◌<◌, ◌≤◌, ◌^◌, if◌then◌else◌, Bool, true, false, Result, None, Ok, Err, ◌⊎◌, refl, sym, ap, ◌∙◌, subst, arith}
 use Rattle.std.specs.Prelude.{nat_lt, not, IfErr, IfSome, IsOk, IsTrue, OnErr}
 use Rattle.kt_store.specs.declared.error.StoreError.{StoreError}
 use Rattle.kt_store.specs.declared.error.StoreError.TheVariants as stores
-use Rattle.kt_store.specs.Content.{Content, empty_content, row_of}
+use Rattle.kt_store.specs.Content.{Content, row_of}
 use Rattle.kt_node.specs.declared.plan.Plan.{Plan}
 use Rattle.kt_world.specs.declared.step.Step.{Step}
 use Rattle.kt_world.specs.declared.step.StepError.{StepError}
@@ -11,7 +11,7 @@ use Rattle.kt_world.specs.declared.step.StepError.TheVariants as refusals
 use Rattle.kt_world.specs.declared.told.Told.{Told}
 use Rattle.kt_world.specs.declared.needs.Needs.{Needs}
 use Rattle.kt_tuple.specs.declared.node.NodeId.{NodeId}
-use Rattle.kt_world.specs.Judge.{due, is_planned, judged, of_owner, of_scene, planned, planned_by, within_limit}
+use Rattle.kt_world.specs.Judge.{IsUndamaged, due, is_planned, judged, of_owner, of_scene, planned, planned_by, within_limit}
 use Rattle.kt_world.specs.Cast.{is_in_scene}
 use Rattle.kt_world.specs.Limits.{most_steps}
 use Rattle.kt_node.specs.declared.refusal.Refusal.TheVariants as reasons
@@ -32,7 +32,7 @@ use Rattle.std.specs.Result.{IsErrAnd}
 use Rattle.kt_core.specs.inner.Machine as machine
 use Rattle.kt_core.specs.Store.{IsFault}
 use Rattle.kt_core.specs.inner.Judged.{is_refused}
-use Rattle.kt_core.specs.Stepping.{IsCause, Refuses}
+use Rattle.kt_core.specs.Stepping.{IsCalledFor, IsCause, Refuses, Writes, has_write}
 
 -- what is asked for is what the rule of the step looks at
 pub asked : (s : State) (step : Step) (t : Told) (needs : Needs) (p : NodeId) → t ≡ told_by needs s.content p → needs ≡ needs_of s step → p ≡ owner step
@@ -65,36 +65,6 @@ refused s step t e is gives = weaker e (planned s step) (subst (machine.Refuses 
 fault-of : (before now : ℕ) (refusal : StoreError) → before ≤ now → (refusal ≡ stores.Damaged) → IsFault before now false refusal
 fault-of before now refusal le is = record { device = λ e. absurd (let h = is in cc); damaged = λ e. refl; full = λ e. refl }
 
--- a checkpoint that does not fit is the store's fault, or was due
-pub caused : (honest : Bool) (before now : ℕ) (s : State) (step : Step) (t : Told) (e : StepError)
-    → before ≤ now → (IsTrue honest → t ≡ told_by (needs_of s step) s.content (owner step))
-    → machine.Gives {Y = Plan} (Err e) (planned_by s t step) → ((x : StoreError) → e ≡ refusals.Store x → x ≡ stores.Damaged)
-    → IsCause before now honest (planned s step) e
-caused honest before now s step t refusals.OutOfMemory le is gives only = tt
-caused true before now s step t (refusals.Store x) le is gives only = inr (sym (due-planned s step t (is refl)) ∙ gives)
-caused false before now s step t (refusals.Store x) le is gives only = inl (fault-of before now x le (only x refl))
-caused honest before now s step t refusals.NoNode le is gives only = tt
-caused honest before now s step t refusals.WrongMode le is gives only = tt
-caused honest before now s step t refusals.NothingThere le is gives only = tt
-caused honest before now s step t refusals.NoSuchMatch le is gives only = tt
-caused honest before now s step t refusals.NotDecided le is gives only = tt
-caused honest before now s step t refusals.Unresolved le is gives only = tt
-caused honest before now s step t refusals.StepLimit le is gives only = tt
-
-owner-damaged : (r : Planned) (x : StoreError) → of_owner r ≡ Err (refusals.Store x) → x ≡ stores.Damaged
-owner-damaged (Ok plan) x e = absurd cc
-owner-damaged (Err reasons.WrongMode) x e = absurd cc
-owner-damaged (Err reasons.NothingThere) x e = absurd cc
-owner-damaged (Err reasons.NoSuchMatch) x e = absurd cc
-owner-damaged (Err reasons.NotDecided) x e = absurd cc
-owner-damaged (Err reasons.Unresolved) x e = absurd cc
-owner-damaged (Err reasons.Damaged) x e = cc
-owner-damaged (Err reasons.OutOfMemory) x e = absurd cc
-
-scene-damaged : (there : Bool) (r : Planned) (x : StoreError) → of_scene there r ≡ Err (refusals.Store x) → x ≡ stores.Damaged
-scene-damaged true r x e = owner-damaged r x e
-scene-damaged false r x e = absurd cc
-
 limit-store : (made : ℕ) (r : Result Plan StepError) (x : StoreError) → within_limit made r ≡ Err (refusals.Store x) → r ≡ Err (refusals.Store x)
 limit-store made r x = by (nat_lt made most_steps) refl r
   where
@@ -123,6 +93,37 @@ limit-store made r x = by (nat_lt made most_steps) refl r
     by b lt (Err refusals.Unresolved) e = e
     by b lt (Err refusals.StepLimit) e = e
     by b lt (Err refusals.OutOfMemory) e = e
+
+-- a checkpoint that does not fit is the store's fault: an honest one gives none
+pub caused : (honest : Bool) (before now : ℕ) (s : State) (step : Step) (t : Told) (e : StepError)
+    → before ≤ now → (IsTrue honest → t ≡ told_by (needs_of s step) s.content (owner step)) → (IsTrue honest → IsUndamaged s)
+    → machine.Gives {Y = Plan} (Err e) (planned_by s t step) → ((x : StoreError) → e ≡ refusals.Store x → x ≡ stores.Damaged)
+    → IsCause before now honest e
+caused honest before now s step t refusals.OutOfMemory le is fits gives only = tt
+caused true before now s step t (refusals.Store x) le is fits gives only =
+    absurd (fits refl step x (limit-store s.made (judged s (told s step) step) x (sym (due-planned s step t (is refl)) ∙ gives)))
+caused false before now s step t (refusals.Store x) le is fits gives only = fault-of before now x le (only x refl)
+caused honest before now s step t refusals.NoNode le is fits gives only = tt
+caused honest before now s step t refusals.WrongMode le is fits gives only = tt
+caused honest before now s step t refusals.NothingThere le is fits gives only = tt
+caused honest before now s step t refusals.NoSuchMatch le is fits gives only = tt
+caused honest before now s step t refusals.NotDecided le is fits gives only = tt
+caused honest before now s step t refusals.Unresolved le is fits gives only = tt
+caused honest before now s step t refusals.StepLimit le is fits gives only = tt
+
+owner-damaged : (r : Planned) (x : StoreError) → of_owner r ≡ Err (refusals.Store x) → x ≡ stores.Damaged
+owner-damaged (Ok plan) x e = absurd cc
+owner-damaged (Err reasons.WrongMode) x e = absurd cc
+owner-damaged (Err reasons.NothingThere) x e = absurd cc
+owner-damaged (Err reasons.NoSuchMatch) x e = absurd cc
+owner-damaged (Err reasons.NotDecided) x e = absurd cc
+owner-damaged (Err reasons.Unresolved) x e = absurd cc
+owner-damaged (Err reasons.Damaged) x e = cc
+owner-damaged (Err reasons.OutOfMemory) x e = absurd cc
+
+scene-damaged : (there : Bool) (r : Planned) (x : StoreError) → of_scene there r ≡ Err (refusals.Store x) → x ≡ stores.Damaged
+scene-damaged true r x e = owner-damaged r x e
+scene-damaged false r x e = absurd cc
 
 -- of a plan's refusals only that of a checkpoint that does not fit is the store's
 pub only-damaged : (s : State) (t : Told) (step : Step) (e : StepError) → machine.Gives {Y = Plan} (Err e) (planned_by s t step)
@@ -166,6 +167,25 @@ ready-beside s c r = record {
   causes = r.causes;
   messages = r.messages;
 }
+
+-- what the plan refuses, it does not refuse for the store
+pub called-plan : (s : State) (step : Step) (t : Told) (e : StepError) → t ≡ told_by (needs_of s step) s.content (owner step) → IsUndamaged s
+    → machine.Gives {Y = Plan} (Err e) (planned_by s t step) → IsCalledFor s step e
+called-plan s step t (refusals.Store x) is fits gives =
+    absurd (fits step x (limit-store s.made (judged s (told s step) step) x (sym (due-planned s step t is) ∙ gives)))
+called-plan s step t refusals.OutOfMemory is fits gives = tt
+called-plan s step t refusals.NoNode is fits gives = tt
+called-plan s step t refusals.WrongMode is fits gives = tt
+called-plan s step t refusals.NothingThere is fits gives = tt
+called-plan s step t refusals.NoSuchMatch is fits gives = tt
+called-plan s step t refusals.NotDecided is fits gives = tt
+called-plan s step t refusals.Unresolved is fits gives = tt
+called-plan s step t refusals.StepLimit is fits gives = tt
+
+-- a write that is refused is one that was planned
+pub called-write : (s : State) (step : Step) (plan : Plan) (x : StoreError) → planned s step ≡ Ok plan → ¬ (plan.write ≡ None)
+    → IsCalledFor s step (refusals.Store x)
+called-write s step plan x is writes = has_write (subst Writes (sym is) writes)
 
 -- what was carried out, with the write made before, is what the step is to do
 pub effect : (old mid new : Machine) (before between after : Content) (step : Step) (plan : Plan) (p : NodeId) → planned (state_of old before) step ≡ Ok plan

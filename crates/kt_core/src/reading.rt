@@ -1,8 +1,8 @@
 //! What the store says to the owner of a step.
 
-ghost use Rattle.std.specs.Prelude.{◌≡◌, ◌+◌, ◌<◌, ◌^◌, IfOk, IsTrue, None, if◌then◌else◌};
+ghost use Rattle.std.specs.Prelude.{◌≡◌, ◌+◌, ◌<◌, ◌^◌, IfOk, IsOk, IsTrue, None, false, if◌then◌else◌};
 ghost use Rattle.kt_store.specs.Content.{next_instance, open_of, permanent_marks, row_of};
-ghost use Rattle.kt_world.specs.Needs.{answer_to, nothing_stored, told_by};
+ghost use Rattle.kt_world.specs.Needs.{answer_to, no_needs, nothing_stored, told_by};
 ghost use Rattle.kt_world.specs.Told.{stored_of, tentative_in};
 ghost use Rattle.kt_core.specs.Store.{IsRead};
 
@@ -20,8 +20,9 @@ fn verdict_told<S: CkptStore>(
     node: NodeId,
     question: Question,
 ) -> Result<Option<Verdict>, StoreError>
-    ensures { IsRead S.content S.is_honest S.fault_count store.old store.new
+    ensures told { IsRead S.content S.is_honest S.fault_count store.old store.new
         (λ c v. v ≡ answer_to c node question) result }
+    ensures quiet { question ≡ Question.Nothing → IsOk result }
 {
     match question {
         Question::Nothing => Ok(None),
@@ -40,8 +41,9 @@ fn permanent_told<S: CkptStore>(
     node: NodeId,
     is_asked: bool,
 ) -> Result<Option<Marks>, StoreError>
-    ensures { IsRead S.content S.is_honest S.fault_count store.old store.new
+    ensures told { IsRead S.content S.is_honest S.fault_count store.old store.new
         (λ c m. m ≡ (if is_asked then permanent_marks c node else None)) result }
+    ensures quiet { is_asked ≡ false → IsOk result }
 {
     if is_asked {
         store.permanent_marks(alloc, node)
@@ -57,8 +59,9 @@ fn tentative_told<S: CkptStore>(
     node: NodeId,
     is_asked: bool,
 ) -> Result<Option<Marks>, StoreError>
-    ensures { IsRead S.content S.is_honest S.fault_count store.old store.new
+    ensures told { IsRead S.content S.is_honest S.fault_count store.old store.new
         (λ c m. m ≡ (if is_asked then tentative_in c node else None)) result }
+    ensures quiet { is_asked ≡ false → IsOk result }
 {
     if !is_asked {
         return Ok(None);
@@ -80,6 +83,7 @@ fn stored_told<S: CkptStore>(
     requires { IsTrue (S.is_honest store.old) → (row_of (S.content store.old) node).incarnation + 1 < 2 ^ 64 }
     ensures told { IsRead S.content S.is_honest S.fault_count store.old store.new
         (λ c s. s ≡ (if is_asked then stored_of c node else nothing_stored)) result }
+    ensures quiet { is_asked ≡ false → IsOk result }
     ensures small { IfOk result (λ s. s.incarnation + 1 < 2 ^ 64) }
 {
     if !is_asked {
@@ -105,9 +109,10 @@ fn board_told<S: CkptStore>(
     node: NodeId,
     needs: Needs,
 ) -> Result<(Option<u64>, u64), StoreError>
-    ensures { IsRead S.content S.is_honest S.fault_count store.old store.new
+    ensures told { IsRead S.content S.is_honest S.fault_count store.old store.new
         (λ c x. (x.0 ≡ (if needs.undecided then open_of c node else None))
         × (x.1 ≡ (if needs.next then next_instance c else 1))) result }
+    ensures quiet { needs.undecided ≡ false → needs.next ≡ false → IsOk result }
 {
     let undecided = if needs.undecided {
         store.open_of(node)?
@@ -122,7 +127,7 @@ fn board_told<S: CkptStore>(
     Ok((undecided, next))
 }
 
-/// What the store says to the node, of which this is asked for.
+/// What the store says to the node, of which this is asked for. Where nothing is, it is not called.
 pub(crate) fn tell<S: CkptStore>(
     store: &mut S,
     alloc: Global,
@@ -132,6 +137,7 @@ pub(crate) fn tell<S: CkptStore>(
     requires { IsTrue (S.is_honest store.old) → (row_of (S.content store.old) node).incarnation + 1 < 2 ^ 64 }
     ensures told { IsRead S.content S.is_honest S.fault_count store.old store.new
         (λ c t. t ≡ told_by needs c node) result }
+    ensures quiet { needs ≡ no_needs → IsOk result }
     ensures small { IfOk result (λ t. t.stored.incarnation + 1 < 2 ^ 64) }
 {
     let verdict = verdict_told(store, alloc, node, needs.verdict)?;

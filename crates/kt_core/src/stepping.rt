@@ -4,11 +4,11 @@ ghost use Rattle.std.specs.Prelude.{◌≡◌, ◌≤◌, IfErr, IfOk, IsTrue, O
 ghost use Rattle.kt_store.specs.Content.{Content, empty_content};
 ghost use Rattle.kt_world.specs.Backed.{IsBacked};
 ghost use Rattle.kt_world.specs.Effect.{applied, step_result};
-ghost use Rattle.kt_world.specs.Judge.{planned};
+ghost use Rattle.kt_world.specs.Judge.{IsUndamaged, planned};
 ghost use Rattle.kt_world.specs.Ready.{CanApply, IsReady};
 ghost use Rattle.kt_world.specs.Step.{owner};
 ghost use Rattle.kt_core.specs.inner.Machine.{HasRoomFor, state_of};
-ghost use Rattle.kt_core.specs.Stepping.{IsCause, Refuses};
+ghost use Rattle.kt_core.specs.Stepping.{IsCalledFor, IsCause, Refuses};
 
 use crate::machine::Machine;
 use crate::reading::tell;
@@ -27,6 +27,7 @@ fn prepare<S: CkptStore>(
 ) -> Result<Plan, StepError>
     requires ready { IsReady (state_of machine.old empty_content) }
     requires backed { IsTrue (S.is_honest store.old) → IsBacked (state_of machine.old (S.content store.old)) }
+    requires undamaged { IsTrue (S.is_honest store.old) → IsUndamaged (state_of machine.old (S.content store.old)) }
     ensures plan { IsTrue (S.is_honest store.new) →
         IfOk result (λ p. planned (state_of machine.old (S.content store.old)) step ≡ Ok p) }
     ensures can { IfOk result (λ p. CanApply (state_of machine.old empty_content) (owner step) p) }
@@ -38,8 +39,9 @@ fn prepare<S: CkptStore>(
     ensures content { IsTrue (S.is_honest store.new) → S.content store.new ≡ S.content store.old }
     ensures honest { IsTrue (S.is_honest store.new) → IsTrue (S.is_honest store.old) }
     ensures later { S.fault_count store.old ≤ S.fault_count store.new }
-    ensures cause { IfErr result (IsCause (S.fault_count store.old) (S.fault_count store.new) (S.is_honest store.new)
-        (planned (state_of machine.old (S.content store.old)) step)) }
+    ensures cause { IfErr result (IsCause (S.fault_count store.old) (S.fault_count store.new) (S.is_honest store.new)) }
+    ensures called { IsTrue (S.is_honest store.new) →
+        IfErr result (IsCalledFor (state_of machine.old (S.content store.old)) step) }
 {
     let owner = step.owner();
     let told = tell(store, alloc, owner, machine.needs(step))?;
@@ -57,6 +59,7 @@ pub(crate) fn make<S: CkptStore>(
 ) -> Result<(), StepError>
     requires ready { IsReady (state_of machine.old empty_content) }
     requires backed { IsTrue (S.is_honest store.old) → IsBacked (state_of machine.old (S.content store.old)) }
+    requires undamaged { IsTrue (S.is_honest store.old) → IsUndamaged (state_of machine.old (S.content store.old)) }
     ensures ready { IsReady (state_of machine.new empty_content) }
     ensures effect { IsTrue (S.is_honest store.new) → OnOk result
         (step_result (state_of machine.old (S.content store.old)) step
@@ -67,8 +70,9 @@ pub(crate) fn make<S: CkptStore>(
     ensures content { IsTrue (S.is_honest store.new) → OnErr result (S.content store.new ≡ S.content store.old) }
     ensures honest { IsTrue (S.is_honest store.new) → IsTrue (S.is_honest store.old) }
     ensures later { S.fault_count store.old ≤ S.fault_count store.new }
-    ensures cause { IfErr result (IsCause (S.fault_count store.old) (S.fault_count store.new) (S.is_honest store.new)
-        (planned (state_of machine.old (S.content store.old)) step)) }
+    ensures cause { IfErr result (IsCause (S.fault_count store.old) (S.fault_count store.new) (S.is_honest store.new)) }
+    ensures called { IsTrue (S.is_honest store.new) →
+        IfErr result (IsCalledFor (state_of machine.old (S.content store.old)) step) }
 {
     let plan = prepare(machine, store, alloc, step)?;
     write(store, step.owner(), &plan.write)?;

@@ -1,6 +1,6 @@
 //! The world: what its callers see of it, and its step.
 
-ghost use Rattle.std.specs.Prelude.{◌≡◌, ◌≤◌, ◌↔◌, false, true, is_some, length, map, slice_get};
+ghost use Rattle.std.specs.Prelude.{◌≡◌, ◌≢◌, ◌≤◌, ◌↔◌, false, true, is_some, length, map, slice_get};
 ghost use Rattle.std.specs.Prelude.{IfErr, IfOk, IsTrue, Ok, OnErr, OnOk};
 ghost use Rattle.std.specs.Option.{option_copied, option_map};
 ghost use Rattle.kt_store.specs.Content.{is_fresh};
@@ -79,7 +79,7 @@ impl<S: CkptStore> Model for World<S> {
 
 impl<S: CkptStore> World<S> {
     ghost use Rattle.kt_core.specs.Lent.{is_allowed, kept, message_at, shard, worker};
-    ghost use Rattle.kt_core.specs.Stepping.{IsCause, Refuses};
+    ghost use Rattle.kt_core.specs.Stepping.{IsCalledFor, IsCause, Refuses};
     ghost use Rattle.kt_core.specs.Store.{IsFault};
     ghost use Rattle.kt_core.specs.World.{IsOpenCause, beside};
     ghost use Rattle.kt_world.specs.Cast.{is_node};
@@ -88,7 +88,7 @@ impl<S: CkptStore> World<S> {
     ghost use Rattle.kt_world.specs.Forced.{IsForced};
     ghost use Rattle.kt_world.specs.Headline.{Headline, IsNoted, is_steady, lent_bags};
     ghost use Rattle.kt_world.specs.Judge.{is_enabled, planned};
-    ghost use Rattle.kt_world.specs.Needs.{poll_at};
+    ghost use Rattle.kt_world.specs.Needs.{needs_of, no_needs, poll_at};
     ghost use Rattle.kt_world.specs.Reached.{opening};
     ghost use Rattle.kt_world.specs.State.{link, node};
     ghost use Rattle.kt_node.specs.Node.{mode_of};
@@ -151,8 +151,8 @@ impl<S: CkptStore> World<S> {
 
     /// Makes the step. It makes a node that is up roll back, or take a checkpoint that it did not begin, only where
     /// that has to be (`IsForced`). It notes one thing at most, and cuts no line but its owner's (`IsNoted`). A refused
-    /// step changes nothing; of several refusals the first that stands comes, `Store` where a call of the store was
-    /// refused or gave a checkpoint that does not fit the node, and `OutOfMemory` only where memory ran out.
+    /// step changes nothing; of several refusals the first that stands comes, `Store` only where the store was called
+    /// for the step and refused the call, and `OutOfMemory` only where memory ran out.
     pub fn step(&mut self, alloc: Global, step: Step) -> Result<(), StepError>
         ensures effect { IsTrue self.new.is_honest → OnOk result (step_result self.old.state step ≡ Ok self.new.state) }
         ensures refusal { IsTrue self.new.is_honest → IfErr result (λ e. Refuses e (planned self.old.state step)) }
@@ -160,8 +160,8 @@ impl<S: CkptStore> World<S> {
         ensures beside { OnErr result (beside self.new.state ≡ beside self.old.state) }
         ensures honest { IsTrue self.new.is_honest → IsTrue self.old.is_honest }
         ensures later { self.old.faults ≤ self.new.faults }
-        ensures cause { IfErr result (
-            IsCause self.old.faults self.new.faults self.new.is_honest (planned self.old.state step)) }
+        ensures cause { IfErr result (IsCause self.old.faults self.new.faults self.new.is_honest) }
+        ensures called { IsTrue self.new.is_honest → IfErr result (IsCalledFor self.old.state step) }
         ensures headline { IsTrue self.new.is_honest → Headline self.new.state }
         ensures forced { IsTrue self.new.is_honest → OnOk result (IsForced self.old.state step self.new.state) }
         ensures noted { IsTrue self.new.is_honest → OnOk result (IsNoted self.old.state step self.new.state) }
@@ -170,7 +170,7 @@ impl<S: CkptStore> World<S> {
     }
 
     /// Whether the step is enabled: nothing but the store or want of memory would refuse it. The store's refusal, where
-    /// the store does not say what has to be known. It takes what the making of the step's plan takes.
+    /// something has to be known of it that it does not say. It takes what the making of the step's plan takes.
     pub fn can(&mut self, alloc: Global, step: Step) -> Result<bool, StoreError>
         ensures value { IsTrue self.new.is_honest → IfOk result (λ can. can ≡ is_enabled self.old.state step) }
         ensures same { IsTrue self.new.is_honest → self.new.state ≡ self.old.state }
@@ -178,6 +178,7 @@ impl<S: CkptStore> World<S> {
         ensures honest { IsTrue self.new.is_honest → IsTrue self.old.is_honest }
         ensures later { self.old.faults ≤ self.new.faults }
         ensures cause { IfErr result (IsFault self.old.faults self.new.faults self.new.is_honest) }
+        ensures called { OnErr result (needs_of self.old.state step ≢ no_needs) }
     {
         let needs = self.machine.needs(step);
         let told = tell(&mut self.store, alloc, step.owner(), needs)?;
@@ -194,6 +195,7 @@ impl<S: CkptStore> World<S> {
         ensures honest { IsTrue self.new.is_honest → IsTrue self.old.is_honest }
         ensures later { self.old.faults ≤ self.new.faults }
         ensures cause { IfErr result (IsFault self.old.faults self.new.faults self.new.is_honest) }
+        ensures called { OnErr result (needs_of self.old.state step ≢ no_needs) }
     {
         let needs = self.machine.needs(step);
         let told = tell(&mut self.store, alloc, step.owner(), needs)?;

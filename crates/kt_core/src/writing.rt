@@ -1,6 +1,6 @@
 //! The write of a plan.
 
-ghost use Rattle.std.specs.Prelude.{IfSome, IsTrue};
+ghost use Rattle.std.specs.Prelude.{◌≡◌, IfSome, IsOk, IsTrue, None};
 ghost use Rattle.kt_world.specs.Backed.{HasNumbers, IsAllowed};
 ghost use Rattle.kt_world.specs.Writing.{content_after};
 ghost use Rattle.kt_core.specs.Store.{IsWritten};
@@ -17,7 +17,8 @@ pub(crate) fn write<S: CkptStore>(
 ) -> Result<(), StoreError>
     requires allowed { IsTrue (S.is_honest store.old) → IfSome write.now (IsAllowed (S.content store.old) node) }
     requires numbers { IsTrue (S.is_honest store.old) → HasNumbers (S.content store.old) node }
-    ensures { IsWritten S.content S.is_honest S.fault_count store.old store.new (content_after node write.now) result }
+    ensures written { IsWritten S.content S.is_honest S.fault_count store.old store.new (content_after node write.now) result }
+    ensures quiet { write.now ≡ None → IsOk result }
 {
     match write {
         None => Ok(()),

@@ -8,5 +8,5 @@ pub use Rattle.kt_history.proofs.Pasts.{CausesComeFirst-empty, CausesComeFirst-p
 pub use Rattle.kt_history.proofs.Survivors.{survives-closed, survives-decides}
 pub use Rattle.kt_history.proofs.Fronts.{acts_at-append, acts_at-take, acts_in_line-other_act, acts_in_line-other_cut, acts_in_line-own_act}
 pub use Rattle.kt_history.proofs.Fronts.{acts_in_line-own_cut, marked_front}
-pub use Rattle.kt_history.proofs.Runs.{IsPermutation-uncons}
-pub use Rattle.kt_history.proofs.Sense.{Stands-no_cut}
+pub use Rattle.kt_history.proofs.Runs.{IsPermutation-uncons, RunsFrom-one, like_none}
+pub use Rattle.kt_history.proofs.Sense.{CausesComeFirst-from_well_formed, IsWellFormed-empty, IsWellFormed-push, Stands-no_cut}

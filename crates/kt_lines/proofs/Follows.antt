@@ -15,7 +15,7 @@ use Rattle.kt_history.specs.declared.note.Act.{Act}
 use Rattle.kt_history.specs.declared.note.What.{What}
 use Rattle.kt_history.specs.declared.note.What.TheVariants as whats
 use Rattle.kt_history.specs.Survival.{service_of, services_of}
-use Rattle.kt_history.specs.WellFormed.{IsAsking, SameRequest}
+use Rattle.kt_history.specs.WellFormed.{IsAsking}
 use Rattle.kt_history.specs.Closed.{own}
 use Rattle.kt_lines.specs.Legal.{IsLine}
 use Rattle.kt_shard.specs.declared.request.Request.{Request}

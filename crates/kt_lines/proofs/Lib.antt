@@ -11,7 +11,6 @@ pub mod Follows
 pub mod Causes
 pub mod Survive
 pub mod Growth
-pub mod WellFormed
 pub mod Permutations
 pub mod Traces
 pub mod Shares

@@ -2,15 +2,13 @@
 use Rattle.std.proofs.Common.{List, ◌∷◌, Contains, IsPermutation}
 use Rattle.std.proofs.lemmas.List.Sorted.{IsPermutation-refl, IsPermutation-sym, IsPermutation-trans, IsPermutation-cons, Contains-permutation}
 use Rattle.kt_tuple.specs.declared.tuple.Tuple.{Tuple}
-use Rattle.kt_tuple.specs.declared.template.Template.{Template}
 use Rattle.kt_tuple.specs.declared.op.Op.{Op}
 use Rattle.kt_tuple.specs.declared.op.Op.TheVariants.{Out, In, Rd, Inp, Rdp}
 use Rattle.kt_tuple.specs.declared.op.Answer.{Answer}
 use Rattle.kt_tuple.specs.declared.op.Answer.TheVariants as answers
-use Rattle.kt_tuple.specs.Matching.{Matches}
 use Rattle.kt_tuple.specs.Space.{SpaceStep}
 use Rattle.kt_lines.specs.Bag.{without, served_bag}
-use Rattle.kt_history.proofs.Shared.{Contains-here, IsPermutation-uncons}
+use Rattle.kt_history.proofs.Shared.{Contains-here, IsPermutation-uncons, like_none}
 use Rattle.kt_lines.proofs.Bags.{takes}
 
 -- one is the other with u
@@ -22,9 +20,6 @@ taken_like u x y new like h =
     let out : IsPermutation x (u ∷ without u x) = takes u x there in
     (out, IsPermutation-uncons u (without u x) new (IsPermutation-trans (u ∷ without u x) x (u ∷ new) (IsPermutation-sym x (u ∷ without u x) out) both))
 
-none_like : (t : Template) (x y : List Tuple) → IsPermutation x y → ((u : Tuple) → Contains y u → ¬ Matches t u) → (u : Tuple) → Contains x u → ¬ Matches t u
-none_like t x y like h u c = h u (Contains-permutation x y u like c)
-
 -- a step on a bag is a step on one that differs in order alone, and leaves such
 pub step_like : (x y : List Tuple) (op : Op) (answer : Answer) (new : List Tuple) → IsPermutation x y → SpaceStep y op answer new →
     SpaceStep x op answer (served_bag x op answer) × IsPermutation (served_bag x op answer) new
@@ -35,6 +30,6 @@ step_like x y (Rd t) (answers.Got u) new like h =
     ((h.0, Contains-permutation y x u (IsPermutation-sym x y like) h.1, IsPermutation-refl x), IsPermutation-trans x y new like h.2)
 step_like x y (Rdp t) (answers.Got u) new like h =
     ((h.0, Contains-permutation y x u (IsPermutation-sym x y like) h.1, IsPermutation-refl x), IsPermutation-trans x y new like h.2)
-step_like x y (Inp t) answers.None new like h = ((none_like t x y like h.0, IsPermutation-refl x), IsPermutation-trans x y new like h.1)
-step_like x y (Rdp t) answers.None new like h = ((none_like t x y like h.0, IsPermutation-refl x), IsPermutation-trans x y new like h.1)
+step_like x y (Inp t) answers.None new like h = ((like_none t x y like h.0, IsPermutation-refl x), IsPermutation-trans x y new like h.1)
+step_like x y (Rdp t) answers.None new like h = ((like_none t x y like h.0, IsPermutation-refl x), IsPermutation-trans x y new like h.1)
 step_like x y _ _ new like h = absurd h

@@ -1,12 +1,11 @@
 -- What the crates above may cite of these proofs.
-pub use Rattle.kt_lines.proofs.Rows.{at-put_other, at-put_same, length-put, map-set_changed, map-set_same, set_counted}
+pub use Rattle.kt_lines.proofs.Rows.{map-set_changed, map-set_same, set_counted}
 pub use Rattle.kt_lines.proofs.Lists.{all-at}
 pub use Rattle.kt_lines.proofs.Homes.{is_home}
 pub use Rattle.kt_lines.proofs.Numbered.{put_row_holds}
 pub use Rattle.kt_lines.proofs.Causes.{before_at}
 pub use Rattle.kt_lines.proofs.Survive.{closed_order, closed_run, marked_tuples, surviving_tuples, survivors_bags, survivors_order, survivors_run}
 pub use Rattle.kt_lines.proofs.Growth.{AreLegal-act, AreLegal-cut, AreLegal-empty, MayMake, acts_in_line-empty, shard_of_acts-push, worker_of_acts-push}
-pub use Rattle.kt_lines.proofs.WellFormed.{IsWellFormed-empty, IsWellFormed-push, causes_come_first}
 pub use Rattle.kt_lines.proofs.Permutations.{step_like}
 pub use Rattle.kt_lines.proofs.Traces.{Contains-acts_at, ServedIn, ShardLine-home, WasHeard, cause_found, keeps_served, waits_heard}
 pub use Rattle.kt_lines.proofs.Shares.{flat_map-like, range_within, shares, shares-whole}

@@ -1,19 +1,15 @@
--- The shares of all shards together are the whole space, and two runs of the same services lead to the same tuples.
+-- The shares of all shards together are the whole space.
 use Rattle.std.proofs.Common.{◌≡◌, ℕ, zero, suc, ◌+◌, ◌<◌, ◌≤◌, true, cond, List, [], ◌∷◌, ◌++◌, filter, Contains}
 use Rattle.std.proofs.Common.{IsPermutation, inl, inr, refl, sym, ap, ◌∙◌, subst, eqb, eq-eqb, ne_eqb, mod-lt, arith}
 use Rattle.std.specs.List.{flat_map, range_with_len}
 use Rattle.std.proofs.lemmas.Bool.{cases_eq}
-use Rattle.std.proofs.lemmas.List.Sorted.{IsPermutation-refl, IsPermutation-sym, IsPermutation-trans, IsPermutation-cons}
+use Rattle.std.proofs.lemmas.List.Sorted.{IsPermutation-refl, IsPermutation-trans, IsPermutation-cons}
 use Rattle.std.proofs.lemmas.List.Sorted.{IsPermutation-append, IsPermutation-append_right, IsPermutation-middle}
 use Rattle.kt_tuple.specs.declared.tuple.Tuple.{Tuple}
-use Rattle.kt_tuple.specs.declared.service.Service.{Service}
 use Rattle.kt_tuple.specs.Signature.{kinds_of, signature_of}
-use Rattle.kt_tuple.specs.Space.{RunsFrom}
-use Rattle.kt_lines.specs.Bag.{served_bag}
 use Rattle.kt_history.proofs.Shared.{Contains-here, Contains-none}
 use Rattle.kt_lines.proofs.Bags.{Contains-there, Contains-cases}
 use Rattle.kt_lines.proofs.Homes.{home_of, is_home}
-use Rattle.kt_lines.proofs.Permutations.{step_like}
 
 -- the lists at these numbers, with u put in front of the one at k
 abbrev with_one : (ℕ → List Tuple) → Tuple → ℕ → ℕ → List Tuple
@@ -74,11 +70,3 @@ range_within a (suc m) k c = elim (Contains-cases a k (range_with_len (a + 1) m)
   | inl e ↦ (omega (arith, e), omega (arith, e))
   | inr there ↦ let r = range_within (a + 1) m k there in (omega (arith, r.0), omega (arith, r.1))
 ]
-
--- the same services lead from like tuples to like tuples
-pub run-unique : (services : List Service) (x y a b : List Tuple) → IsPermutation x y → RunsFrom x services a → RunsFrom y services b → IsPermutation a b
-run-unique [] x y a b like r t = IsPermutation-trans a x b (IsPermutation-sym x a r) (IsPermutation-trans x y b like t)
-run-unique (s ∷ later) x y a b like r t =
-    let one = (step_like x x s.op s.answer r.0 (IsPermutation-refl x) r.1).1 in
-    let two = (step_like x y s.op s.answer t.0 like t.1).1 in
-    run-unique later r.0 t.0 a b (IsPermutation-trans r.0 (served_bag x s.op s.answer) t.0 (IsPermutation-sym (served_bag x s.op s.answer) r.0 one) two) r.2 t.2

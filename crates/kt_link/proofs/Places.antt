@@ -12,10 +12,10 @@ use Rattle.kt_link.specs.Network.{AreNeighbours, is_among, place_between, place}
 abbrev AreThere : ℕ → ℕ → ℕ → ℕ → Type 0
 AreThere workers shards w s = ((1 ≤ w) × (w ≤ workers)) × ((1 ≤ s) × (s ≤ shards))
 
-among-true : (count n : ℕ) → is_among count n ≡ true → (1 ≤ n) × (n ≤ count)
+pub among-true : (count n : ℕ) → is_among count n ≡ true → (1 ≤ n) × (n ≤ count)
 among-true count n e = let both = and_parts (nat_le 1 n) (nat_le n count) e in (leb-true 1 n both.0, leb-true n count both.1)
 
-among-is : (count n : ℕ) → 1 ≤ n → n ≤ count → is_among count n ≡ true
+pub among-is : (count n : ℕ) → 1 ≤ n → n ≤ count → is_among count n ≡ true
 among-is count n low high = and_from (nat_le 1 n) (nat_le n count) (le-leb 1 n low) (le-leb n count high)
 
 pub between-some : (workers shards w s k : ℕ) → place_between workers shards w s ≡ Some k

@@ -42,15 +42,15 @@ stays : (b : Body) → CanChangeBody b bodies.Stay
 stays (IsWorker x) = tt
 stays (IsShard y) = tt
 
-works : (b : Body) (x : Worker) → CanChangeBody b (bodies.Work x)
+pub works : (b : Body) (x : Worker) → CanChangeBody b (bodies.Work x)
 works (IsWorker w) x = tt
 works (IsShard y) x = tt
 
-waits : (b : Body) (worker : ℕ) (request : Request) → worker < desks → CanChangeBody b (bodies.Wait worker request)
+pub waits : (b : Body) (worker : ℕ) (request : Request) → worker < desks → CanChangeBody b (bodies.Wait worker request)
 waits (IsWorker w) worker request lt = tt
 waits (IsShard y) worker request lt = lt
 
-serves : (b : Body) (worker : ℕ) (s : Service) → worker < desks → CanChangeBody b (bodies.Serve worker s)
+pub serves : (b : Body) (worker : ℕ) (s : Service) → worker < desks → CanChangeBody b (bodies.Serve worker s)
 serves (IsWorker w) worker s lt = tt
 serves (IsShard y) worker s lt = lt
 
@@ -102,7 +102,7 @@ abbrev planned : Plan → Planned
 planned p = Ok p
 
 -- what is planned is this plan
-this : (P : Plan → Type 0) (p q : Plan) → P p → planned p ≡ planned q → P q
+pub this : (P : Plan → Type 0) (p q : Plan) → P p → planned p ≡ planned q → P q
 this P p q h e = let same : p ≡ q = cc in subst P same h
 
 -- ---- the steps, as deep as their definitions go

@@ -3,3 +3,4 @@ pub mod Neighbours
 pub mod Tables
 pub mod Sieving
 pub mod Acting
+pub mod Shared

@@ -118,11 +118,6 @@ at-map g o new f x = at-both o new f x (λ a. at o (g new) (λ y. g (f y)) x ≡
 pub at-same : {C : Type 0} (o : ℕ) (f : ℕ → C) (x : ℕ) → f x ≡ at o (f o) f x
 at-same o f x = at-both o (f o) f x (λ a. f x ≡ a) (λ e. ap f e) (λ ne. refl)
 
-pub Trees-at : {peer : ℕ → ℕ → Bool} {B : Board} (o : ℕ) (new : Node) (f : ℕ → Node)
-    → Trees peer B (at o new.joined (λ x. (f x).joined)) (at o new.said (λ x. (f x).said))
-    → Trees peer B (λ x. (at o new f x).joined) (λ x. (at o new f x).said)
-Trees-at o new f w = Trees-same (at-map (λ n. n.joined) o new f) (at-map (λ n. n.said) o new f) w
-
 pub Trees-idle : {peer : ℕ → ℕ → Bool} {B : Board} (o : ℕ) (new : Node) (f : ℕ → Node)
     → new.joined ≡ (f o).joined → new.said ≡ (f o).said
     → Trees peer B (λ x. (f x).joined) (λ x. (f x).said)

@@ -3,9 +3,6 @@ use Rattle.std.proofs.Common.{◌≡◌, ◌≢◌, ◌⊎◌, ℕ, ◌<◌, ◌
 use Rattle.std.proofs.lemmas.Bool.{cases_lt, cases_eq, cases_order, eq-eqb, ne_eqb}
 use Rattle.kt_protocol.specs.Labels.{Label, no_label, Under, UpTo, at}
 
-pub Under-trans : {a b c : Label} → Under a b → Under b c → Under a c
-Under-trans u v = omega arith
-
 pub Under-UpTo : {a b c : Label} → Under a b → UpTo b c → Under a c
 Under-UpTo u v = omega arith
 

@@ -130,10 +130,3 @@ heard-split all f i = inl i
 heard-split (more {x = Hears by y m} {xs} t) f here = inr (UpTo-Under (heard-tail y t f.1) f.0)
 heard-split (more {x = Hears by y m} {xs} t) f (there i) = heard-split t f.1 i
 heard-split (more {x = Sends by x m} {xs} t) f (there i) = heard-split t f.1 i
-
-pub heard-old : {old line : List Act} {b q : ℕ} {l : Label} → IsTail old line → Falls line → IsIn (Hears b q l) line
-    → UpTo l (top_heard old q) → IsIn (Hears b q l) old
-heard-old {old} {b = b} {q} {l} t f i u = go (heard-split t f i) where
-  go : IsIn (Hears b q l) old ⊎ Under (top_heard old q) l → IsIn (Hears b q l) old
-  go (inl j) = j
-  go (inr v) = absurd (Under-not v u)

@@ -11,7 +11,7 @@ use Rattle.kt_history.proofs.Shared.{Contains-none}
 use Rattle.std.proofs.lemmas.List.Elements.{Contains-push_cases}
 use Rattle.kt_history.proofs.Shared.{line-own_act}
 use Rattle.kt_link.specs.declared.label.Label.{Label as RealLabel}
-use Rattle.kt_lines.proofs.Shared.{at-put_same, at-put_other}
+use Rattle.kt_shard.proofs.Shared.{at-put_same, at-put_other}
 use Rattle.kt_shard.specs.Table.{put}
 use Rattle.kt_ckpt.specs.declared.ckpt.Ckpt.{Ckpt}
 use Rattle.kt_node.specs.Labels.{no_label, label_at}

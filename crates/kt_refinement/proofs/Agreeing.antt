@@ -7,7 +7,8 @@ use Rattle.kt_tuple.specs.declared.node.NodeId.TheVariants as ids
 use Rattle.kt_tuple.specs.Node.{node_index}
 use Rattle.kt_history.specs.Line.{line}
 use Rattle.kt_history.specs.Survival.{Stands, Survives}
-use Rattle.kt_lines.proofs.Shared.{surviving_tuples, survivors_run, causes_come_first}
+use Rattle.kt_lines.proofs.Shared.{surviving_tuples, survivors_run}
+use Rattle.kt_history.proofs.Shared.{CausesComeFirst-from_well_formed}
 use Rattle.kt_node.specs.declared.live.Phase.{Phase}
 use Rattle.kt_node.specs.declared.live.Phase.TheVariants as phases
 use Rattle.kt_node.specs.Node.{Node as RealNode, Live, Alive, Down as IsDownNode, mode_in}
@@ -84,6 +85,6 @@ steady-run s c inv is h steady =
     let all = steady-survives s c inv is steady in record {
       all_survive = all;
       tuples = surviving_tuples s.history;
-      one_run = survivors_run (setting_of s.cast) s.history (causes_come_first s.history h.sound.well_formed) h.sound.legal;
+      one_run = survivors_run (setting_of s.cast) s.history (CausesComeFirst-from_well_formed s.history h.sound.well_formed) h.sound.legal;
       are_held = bags_held s h.sound h.ready.cast.some_shards all (steady-alive s h steady);
     }

@@ -9,9 +9,7 @@ use Rattle.kt_tuple.specs.declared.node.NodeId.{NodeId}
 use Rattle.kt_tuple.specs.Node.{node_index}
 use Rattle.kt_tuple.proofs.Shared.{node_index-injective}
 use Rattle.kt_history.specs.declared.note.Note.{Note}
-use Rattle.kt_history.specs.declared.note.Note.TheVariants as notes
 use Rattle.kt_history.specs.Line.{line}
-use Rattle.kt_history.proofs.Shared.{line-other_act, line-other_cut}
 use Rattle.kt_lines.proofs.Shared.{all-at}
 use Rattle.kt_ckpt.specs.declared.ckpt.Ckpt.{Ckpt}
 use Rattle.kt_store.specs.declared.rows.NodeRow.{NodeRow}
@@ -33,13 +31,13 @@ use Rattle.kt_world.specs.Writing.{content_after}
 use Rattle.kt_world.specs.Effect.{noted, applied, taken_off}
 use Rattle.kt_world.specs.Ready.{AreNeighbours}
 use Rattle.kt_world.proofs.Shared.{applied-owner, applied-other, taken_off-was, sent-cases, sent_between, Ends, to_shard, to_worker, ends, apart}
-use Rattle.kt_world.proofs.Shared.{row_after, own-row, other-rows, Comes, MayNote}
+use Rattle.kt_world.proofs.Shared.{row_after, own-row, other-rows, line-others, Comes, MayNote}
 use Rattle.kt_protocol.specs.Labels.{at}
 use Rattle.kt_protocol.specs.Lines.{IsIn, Act}
 use Rattle.kt_protocol.specs.Machine.{Vote, Message, Node, State}
 use Rattle.kt_protocol.specs.Runs.{Run}
 use Rattle.kt_protocol.specs.Steps.{pull, push}
-use Rattle.kt_protocol.proofs.Shared.{at-both, at-here, at-else}
+use Rattle.kt_protocol.proofs.Shared.{at-both, at-here, at-else, pull-else, pull-here, push-else, push-here}
 use Rattle.kt_refinement.proofs.Numbers.{peers}
 use Rattle.kt_refinement.proofs.Reading.{reads-later}
 use Rattle.kt_refinement.proofs.Letters.{Fresh}
@@ -59,23 +57,11 @@ neighbours-apart cast p q near = by p q (ends cast p q near) where
 
 -- ---- the machine's links
 
-pub push-own : (o : ℕ) (send : ℕ → List Message) (c : State) (q : ℕ) → (push o send c).link o q ≡ c.link o q ++ send q
-push-own o send c q = rw (eq-eqb o o refl) refl
-
-pub push-other : (o : ℕ) (send : ℕ → List Message) (c : State) (p q : ℕ) → p ≢ o → (push o send c).link p q ≡ c.link p q
-push-other o send c p q d = rw (ne_eqb p o d) refl
-
-pub pull-own : (x o : ℕ) (rest : List Message) (c : State) → (pull x o rest c).link x o ≡ rest
-pull-own x o rest c = rw (eq-eqb o o refl) (rw (eq-eqb x x refl) refl)
-
 pub pull-from : (x o : ℕ) (rest : List Message) (c : State) (p q : ℕ) → p ≢ x → (pull x o rest c).link p q ≡ c.link p q
 pull-from x o rest c p q d = elim (cases_eq q o) [
   | inl e ↦ rw (eq-eqb q o e) (rw (ne_eqb p x d) refl)
   | inr ne ↦ rw (ne_eqb q o ne) refl
 ]
-
-pub pull-to : (x o : ℕ) (rest : List Message) (c : State) (p q : ℕ) → q ≢ o → (pull x o rest c).link p q ≡ c.link p q
-pull-to x o rest c p q d = rw (ne_eqb q o d) refl
 
 -- ---- what links carry
 
@@ -109,13 +95,6 @@ node-later cast h note p numbers real row verdict x is = record {
   lower = is.lower;
 }
 
--- the lines of others stay
-pub lines-stay : (cast : Cast) (h : List Note) (p : NodeId) (note : Option Note) → MayNote cast h p note → (q : NodeId) → p ≢ q
-    → line (noted h note) q ≡ line h q
-lines-stay cast h p None may q d = refl
-lines-stay cast h p (Some (notes.Act a)) may q d = line-other_act h a q (apart p q a.node may.0 d)
-lines-stay cast h p (Some (notes.Cut r keep)) may q d = line-other_cut h r keep q (apart p q r may.0 d)
-
 -- who is not the owner, and whose tentative checkpoint has the verdict that it had, stands for what it stood for
 pub node-stays : (s : World) (step : Step) (plan : Plan) → MayNote s.cast s.history (owner step) plan.note → (q : NodeId) → owner step ≢ q
     → verdict_on (content_after (owner step) plan.write s.content) (row_of s.content q).tentative ≡ verdict_on s.content (row_of s.content q).tentative
@@ -129,7 +108,7 @@ node-stays s step plan may q d verdict x is =
     let W : NodeRow → Type 0 = λ row. NodeIs s.cast h q (line s.history q) (node s q) row (verdict_on c row.tentative) x in
     let V : Option RealVerdict → Type 0 = λ v. NodeIs s.cast h q (line s.history q) (node s q) (row_of s.content q) v x in
     subst R (sym (applied-other s step plan q d))
-    (subst L (sym (lines-stay s.cast s.history (owner step) plan.note may q d))
+    (subst L (sym (line-others s.cast s.history (owner step) plan.note may q d))
     (subst W (sym (other-rows (owner step) plan.write s.content q (λ e. d (sym e))))
     (subst V (sym verdict)
     (node-later s.cast s.history plan.note q (line s.history q) (node s q) (row_of s.content q) _ x is))))
@@ -311,23 +290,23 @@ delivered s p q plan c m send is comes sends =
     let x = node_index p in
     let rest = carried comes.later in record {
       own = λ r near.
-          push-own o send (pull x o rest c) (node_index r)
+          push-here o send (pull x o rest c) (node_index r)
           ∙ ap (λ l. l ++ send (node_index r)) (pull-from x o rest c o (node_index r) (λ e. apart-index p q d (sym e)))
           ∙ ap (λ l. c.link o (node_index r) ++ l) (sends r near);
       taken = λ a b e near.
           let P : NodeId → Type 0 = λ z. (push o send (pull x o rest c)).link (node_index z) (node_index b) ≡ carried (drop 1 (link s z b)) in
           let Q : NodeId → Type 0 = λ z. (push o send (pull x o rest c)).link x (node_index z) ≡ carried (drop 1 (link s p z)) in
           subst P (delivers-from p q a b e) (subst Q (delivers-to p q a b e)
-          (push-other o send (pull x o rest c) x o (apart-index p q d) ∙ pull-own x o rest c ∙ ap (λ l. carried (drop 1 l)) (sym comes.on)));
+          (push-else o send (pull x o rest c) x o (apart-index p q d) ∙ pull-here x o rest c ∙ ap (λ l. carried (drop 1 l)) (sym comes.on)));
       others = λ a b near ne apart.
-          push-other o send (pull x o rest c) (node_index a) (node_index b) (apart-index a q ne) ∙ pulled a b (apart p q refl);
+          push-else o send (pull x o rest c) (node_index a) (node_index b) (apart-index a q ne) ∙ pulled a b (apart p q refl);
       apart = λ a e f. d (delivers-from p q a q e ∙ sym f);
     }
   where
     pulled : (a b : NodeId) → ((a ≡ p) × (b ≡ q) → ⊥)
         → (pull (node_index p) (node_index q) (carried comes.later) c).link (node_index a) (node_index b) ≡ c.link (node_index a) (node_index b)
     pulled a b none = elim (cases-node a p) [
-      | inl e ↦ pull-to (node_index p) (node_index q) (carried comes.later) c (node_index a) (node_index b) (apart-index b q (λ f. none (e, f)))
+      | inl e ↦ pull-else (node_index p) (node_index q) (carried comes.later) c (node_index a) (node_index b) (apart-index b q (λ f. none (e, f)))
       | inr ne ↦ pull-from (node_index p) (node_index q) (carried comes.later) c (node_index a) (node_index b) (apart-index a p ne)
     ]
 
@@ -341,12 +320,12 @@ delivered-quietly s p q plan c m is comes silent =
     let x = node_index p in
     let rest = carried comes.later in
     let more = delivered s p q plan c m (λ r. []) is comes (λ r near. sym (silent r near)) in record {
-      own = λ r near. sym (append-nil _) ∙ sym (push-own o (λ k. []) (pull x o rest c) (node_index r)) ∙ more.own r near;
+      own = λ r near. sym (append-nil _) ∙ sym (push-here o (λ k. []) (pull x o rest c) (node_index r)) ∙ more.own r near;
       taken = λ a b e near.
           let P : NodeId → Type 0 = λ z. (pull x o rest c).link (node_index a) (node_index z) ≡ carried (drop 1 (link s a z)) in
-          subst P (delivers-to p q a b e) (sym (push-other o (λ k. []) (pull x o rest c) (node_index a) o
+          subst P (delivers-to p q a b e) (sym (push-else o (λ k. []) (pull x o rest c) (node_index a) o
           (apart-index a q (λ f. d (delivers-from p q a b e ∙ f)))) ∙ from a b e near);
-      others = λ a b near ne apart. sym (push-other o (λ k. []) (pull x o rest c) (node_index a) (node_index b) (apart-index a q ne))
+      others = λ a b near ne apart. sym (push-else o (λ k. []) (pull x o rest c) (node_index a) (node_index b) (apart-index a q ne))
           ∙ more.others a b near ne apart;
       apart = more.apart;
     }
@@ -363,9 +342,9 @@ pub sends-only : (s : World) (step : Step) (plan : Plan) (c : State) (send : ℕ
     → ((r : NodeId) → AreNeighbours s.cast (owner step) r → send (node_index r) ≡ carried (to r plan.send))
     → LinksLead s step plan c (push (node_index (owner step)) send c).link
 sends-only s step plan c send none sends = record {
-  own = λ r near. push-own (node_index (owner step)) send c (node_index r) ∙ ap (λ l. c.link (node_index (owner step)) (node_index r) ++ l) (sends r near);
+  own = λ r near. push-here (node_index (owner step)) send c (node_index r) ∙ ap (λ l. c.link (node_index (owner step)) (node_index r) ++ l) (sends r near);
   taken = λ x y e. absurd (none x y e);
-  others = λ p q near ne apart. push-other (node_index (owner step)) send c (node_index p) (node_index q) (apart-index p (owner step) ne);
+  others = λ p q near ne apart. push-else (node_index (owner step)) send c (node_index p) (node_index q) (apart-index p (owner step) ne);
   apart = λ x e. absurd (none x (owner step) e);
 }
 

@@ -23,7 +23,7 @@ use Rattle.kt_world.proofs.Shared.{IsAlive, Comes}
 use Rattle.kt_protocol.specs.Machine.{Instance, Check, Rollback, Open, Ballot, Up, Within, State}
 use Rattle.kt_protocol.proofs.Shared.{Invariant}
 use Rattle.kt_refinement.proofs.Numbers.{peers, peers-of}
-use Rattle.kt_refinement.proofs.Represents.{carried, carried_one, PhaseIs, Votes, LiveIs, NodeIn, verdict_is, verdict_as, begun_as, is_for, Represents}
+use Rattle.kt_refinement.proofs.Represents.{carried, carried_one, PhaseIs, Votes, NodeIn, verdict_is, verdict_as, begun_as, is_for, Represents}
 
 -- an alive node is one of the machine
 pub alive-is : (s : World) (c : State) → Represents s c → (p : NodeId) (n : Live) → IsAlive s p n
@@ -99,8 +99,3 @@ pub rollback-verdict : (s : World) (c : State) → Represents s c → (i : ℕ) 
     → c.board.verdict (Rollback i) ≡ verdict_is v
 rollback-verdict s c is i v begun e =
     (is.board i).rollback ∙ decided-as purposes.Rollback (posted s.content i) v (sym (is.board i).rollback_begun ∙ begun) e
-
-pub check-verdict : (s : World) (c : State) → Represents s c → (i : ℕ) (v : RealVerdict) → c.board.begun (Check i) ≡ true → verdict_of s.content i ≡ Some v
-    → c.board.verdict (Check i) ≡ verdict_is v
-check-verdict s c is i v begun e =
-    (is.board i).check ∙ decided-as purposes.Check (posted s.content i) v (sym (is.board i).check_begun ∙ begun) e

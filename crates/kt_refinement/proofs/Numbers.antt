@@ -4,9 +4,8 @@ use Rattle.kt_tuple.specs.declared.node.NodeId.{NodeId}
 use Rattle.kt_tuple.specs.declared.node.NodeId.TheVariants as ids
 use Rattle.kt_tuple.specs.Node.{node_index}
 use Rattle.kt_link.specs.declared.label.Label.{Label as RealLabel}
-use Rattle.kt_node.specs.Labels as real
 use Rattle.kt_world.specs.Cast.{Cast, are_neighbours}
-use Rattle.kt_protocol.specs.Labels.{Label, up_to}
+use Rattle.kt_protocol.specs.Labels.{Label}
 
 -- ---- nodes
 
@@ -55,6 +54,3 @@ peers-of cast p q = ap (λ x. are_neighbours cast x (named (node_index q))) (nam
 
 abbrev pub label_of : RealLabel → Label
 label_of l = record { life = l.incarnation; count = l.count }
-
-pub up_to-same : (a b : RealLabel) → real.up_to a b ≡ up_to (label_of a) (label_of b)
-up_to-same a b = refl

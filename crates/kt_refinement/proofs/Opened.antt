@@ -1,5 +1,5 @@
 -- The opening of a scene stands for a beginning of the machine.
-use Rattle.std.proofs.Common.{◌≡◌, ℕ, zero, suc, Bool, true, false, List, [], length, replicate, Option, Some, None, refl, sym, ap, subst}
+use Rattle.std.proofs.Common.{◌≡◌, ℕ, Bool, true, false, List, [], replicate, Option, Some, None, refl, sym, ap, subst}
 use Rattle.std.specs.Prelude.{if◌then◌else◌}
 use Rattle.kt_tuple.specs.declared.node.NodeId.{NodeId}
 use Rattle.kt_history.proofs.Shared.{line-empty, Contains-none}
@@ -11,7 +11,7 @@ use Rattle.kt_node.specs.Node.{Node as RealNode, opening_node, node_number}
 use Rattle.kt_world.specs.Cast.{Cast, IsCast, is_node}
 use Rattle.kt_world.specs.State.{role_of, node, link_place}
 use Rattle.kt_world.specs.Reached.{opening, opening_row}
-use Rattle.kt_world.proofs.Shared.{at-replicate, opening-node}
+use Rattle.kt_world.proofs.Shared.{at-replicate, length-replicate, opening-node}
 use Rattle.kt_protocol.specs.Lines.{top_sent, top_heard}
 use Rattle.kt_protocol.specs.Machine.{Up, Open, Node, State}
 use Rattle.kt_protocol.specs.Runs.{IsBeginning}
@@ -86,10 +86,6 @@ no-link n (Some k) = at-replicate {A = List RealMessage} [] n k
 opened-link : (q : NodeId) → LinkIs [] q [] []
 unfolding carried
 opened-link q = record { carries = refl; cast = λ v c. absurd (Contains-none (messages.Vote v) c) }
-
-length-replicate : {A : Type 0} (n : ℕ) (x : A) → length (replicate n x) ≡ n
-length-replicate zero x = refl
-length-replicate (suc n) x = ap suc (length-replicate n x)
 
 pub opening-represents : (cast : Cast) → IsCast cast → Represents (opening cast) beginning
 opening-represents cast is = record {

@@ -6,7 +6,7 @@ use Rattle.kt_world.specs.Step.{owner}
 use Rattle.kt_world.specs.State.{State as World}
 use Rattle.kt_world.specs.Told.{told}
 use Rattle.kt_world.proofs.Plans as plans
-use Rattle.kt_world.proofs.Shared.{PlanOf, IsAlive, Comes, IsDroppedBy, Fit, TentativeFits, MayNote, step_keeps, Holds}
+use Rattle.kt_world.proofs.Shared.{PlanOf, MayNote, step_keeps, Holds}
 use Rattle.kt_protocol.specs.Machine.{State}
 use Rattle.kt_protocol.proofs.Shared.{Invariant}
 use Rattle.kt_refinement.proofs.Numbers.{peers}

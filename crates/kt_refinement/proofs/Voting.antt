@@ -1,10 +1,10 @@
 -- A vote that comes and is counted, and the vote that it may make the node cast: one or two steps of the machine. And a
 -- participant that votes no of itself.
-use Rattle.std.proofs.Common.{◌≡◌, ◌≢◌, ℕ, Bool, true, false, not, ◌&&◌, ◌||◌, cond, IsTrue, List}
+use Rattle.std.proofs.Common.{◌≡◌, ◌≢◌, ℕ, Bool, true, false, not, ◌||◌, cond, IsTrue, List}
 use Rattle.std.proofs.Common.{[], ◌∷◌, filter, Option, Some, None, inl, inr, refl, sym, ap, subst, ◌∙◌}
 use Rattle.std.specs.List.{AllByRecursion, list_any}
 use Rattle.std.specs.Option.{option_map}
-use Rattle.std.proofs.lemmas.Bool.{cases_eq, ne_eqb}
+use Rattle.std.proofs.lemmas.Bool.{cases_eq, ne_eqb, and_parts}
 use Rattle.kt_tuple.specs.declared.node.NodeId.{NodeId}
 use Rattle.kt_tuple.specs.Node.{node_index, node_eq, node_eq_decides}
 use Rattle.kt_vote.specs.declared.asker.Asker.{Asker}
@@ -15,7 +15,7 @@ use Rattle.kt_node.specs.declared.live.Phase.TheVariants as phases
 use Rattle.kt_node.specs.Node.{Live, Alive}
 use Rattle.kt_node.specs.Plan.{no_turn}
 use Rattle.kt_node.specs.Turning.{turned}
-use Rattle.kt_node.specs.Voting.{casting, casting_to, vote_for, poll_after, voted, votes}
+use Rattle.kt_node.specs.Voting.{casting, casting_to, vote_for, voted, votes}
 use Rattle.kt_node.specs.Deciding.{declined_plan}
 use Rattle.kt_world.specs.declared.step.Step.TheVariants.{Abandon}
 use Rattle.kt_world.specs.State.{State as World}
@@ -222,16 +222,11 @@ pub record Counted (b : Poll) (p : NodeId) (vote : RealVote) : Type 0 where
   pub incarnation : vote.incarnation ≡ b.incarnation
   pub awaited : is_awaited b p ≡ true
 
-pub both-true : (a b : Bool) → (a && b) ≡ true → (a ≡ true) × (b ≡ true)
-both-true true true e = (refl, refl)
-both-true true false e = absurd (cc (e))
-both-true false b e = absurd (cc (e))
-
 same-number : (m n : ℕ) → Rattle.std.specs.Prelude.nat_eq m n ≡ true → m ≡ n
 same-number m n e = elim (cases_eq m n) [ inl same ↦ same | inr d ↦ absurd (cc (e, ne_eqb m n d)) ]
 
 pub counted-so : (b : Poll) (p : NodeId) (vote : RealVote) → IsTrue (counts b p vote) → Counted b p vote
 counted-so b p vote e =
-    let all = both-true (is_on b vote) (is_awaited b p) e in
-    let on = both-true (Rattle.std.specs.Prelude.nat_eq vote.instance b.instance) (Rattle.std.specs.Prelude.nat_eq vote.incarnation b.incarnation) all.0 in
+    let all = and_parts (is_on b vote) (is_awaited b p) e in
+    let on = and_parts (Rattle.std.specs.Prelude.nat_eq vote.instance b.instance) (Rattle.std.specs.Prelude.nat_eq vote.incarnation b.incarnation) all.0 in
     record { instance = same-number vote.instance b.instance on.0; incarnation = same-number vote.incarnation b.incarnation on.1; awaited = all.1 }

@@ -9,11 +9,12 @@ use Rattle.kt_scene.specs.declared.scenario.WorkKind.{WorkKind}
 use Rattle.kt_scene.specs.declared.scenario.WorkKind.TheVariants as kinds
 use Rattle.kt_scene.specs.Journal.{journal_text, play_of_steps}
 use Rattle.kt_scene.specs.Reading.{Play, play_of}
+use Rattle.kt_scene.specs.Report.{IsReportOf}
 use Rattle.kt_scene.specs.Run.{LeadsTo}
 use Rattle.kt_scene.specs.Runs.{RunsTo}
 use Rattle.kt_scene.specs.Scenario.{IsPlay, IsScenario, IsStep}
 use Rattle.kt_scene.specs.Work.{steps_of}
-use Rattle.kt_scene.proofs.Shared.{journal_is_scenario, wanted_is_read}
+use Rattle.kt_scene.proofs.Shared.{journal_is_scenario, one_report, wanted_is_read}
 use Rattle.kt_stage.specs.Journal.{all_made}
 use Rattle.kt_run.specs.Run.{IsRunOf}
 use Rattle.kt_run.proofs.Made.{all_made_runs, runs_cast, runs_once}
@@ -59,6 +60,14 @@ pub made_leads_there : (cast : Cast) (steps : List Step) (s : State) (report : L
 made_leads_there cast steps s report h made fresh t leads =
     steps_lead_there cast steps s report h (all_made_runs (opening cast) steps s made) fresh t leads
 
+-- so the two have one report
+pub made_one_report : (cast : Cast) (steps : List Step) (s : State) (report : List ℕ) → IsPlay (play_of_steps cast [])
+    → all_made (opening cast) steps ≡ Ok s → (fresh : Bool) (t : State) → LeadsTo (journal_text report cast steps) true fresh t
+    → (text other : List ℕ) → IsReportOf true s text → IsReportOf true t other → text ≡ other
+made_one_report cast steps s report h made fresh t leads text other one two =
+    let Reports : State → Type 0 = λ x. IsReportOf true x other in
+    one_report s text other one (subst Reports (made_leads_there cast steps s report h made fresh t leads) two)
+
 -- ---- a run
 
 -- the scene of the state is the one that was read
@@ -84,3 +93,11 @@ pub replay_is_same : (text : List ℕ) (steps : List Step) (s : State) (report :
     → (fresh : Bool) (t : State) → LeadsTo (journal_text report s.cast steps) true fresh t → t ≡ s
 replay_is_same text steps s report h fresh t leads =
     steps_lead_there s.cast steps s report (run_scene text steps s h) (run_is_made text steps s h) fresh t leads
+
+-- so the two have one report
+pub replay_reports_so : (text : List ℕ) (steps : List Step) (s : State) (report : List ℕ) → IsRunOf text true steps s
+    → (fresh : Bool) (t : State) → LeadsTo (journal_text report s.cast steps) true fresh t
+    → (told other : List ℕ) → IsReportOf true s told → IsReportOf true t other → told ≡ other
+replay_reports_so text steps s report h fresh t leads told other one two =
+    let Reports : State → Type 0 = λ x. IsReportOf true x other in
+    one_report s told other one (subst Reports (replay_is_same text steps s report h fresh t leads) two)

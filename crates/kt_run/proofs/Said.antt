@@ -19,7 +19,6 @@ use Rattle.kt_tuple.specs.Matching.{matches}
 use Rattle.kt_space.specs.Picking.{matching}
 use Rattle.kt_script.specs.declared.command.Command.{Command}
 use Rattle.kt_script.specs.Rules.{IsScript}
-use Rattle.kt_script.proofs.Shared.{keeps_limits}
 use Rattle.kt_shard.specs.declared.request.Request.{Request}
 use Rattle.kt_shard.specs.Shard.{Shard, desk_of}
 use Rattle.kt_shard.specs.Service.{Service, got_or_none, answer_at, service_if, service_of, service}
@@ -36,7 +35,7 @@ use Rattle.kt_world.specs.declared.step.StepError.{StepError}
 use Rattle.kt_world.specs.declared.step.StepError.TheVariants as refusals
 use Rattle.kt_world.specs.Cast.{Cast, IsCast, is_worker, is_shard, is_in_scene}
 use Rattle.kt_world.specs.Effect.{applied_if, step_result}
-use Rattle.kt_world.specs.Judge.{of_owner, of_scene, due, judged, within_limit, planned}
+use Rattle.kt_world.specs.Judge.{of_scene, due, judged, within_limit, planned}
 use Rattle.kt_world.specs.Limits.{most_steps}
 use Rattle.kt_lines.specs.Cause.{cause_of_waiting}
 use Rattle.kt_world.specs.Reached.{opening}
@@ -44,10 +43,11 @@ use Rattle.kt_world.specs.Ready.{IsReady, IsBodyReady, IsLiveReady, IsNodeReady}
 use Rattle.kt_world.specs.Short.{IsShort, AreShort}
 use Rattle.kt_world.specs.State.{State, node, role_of, view}
 use Rattle.kt_world.specs.Told.{told}
-use Rattle.kt_world.proofs.Shared.{Holds, step-made, made-holds, opening-holds, Ends, to_shard, to_worker, ends, worker-node, shard-node}
+use Rattle.kt_world.proofs.Shared.{Holds, owner-passed, step-made, made-holds, opening-holds, Ends, to_shard, to_worker, ends, worker-node, shard-node}
 use Rattle.kt_scene.specs.Runs.{RunsTo}
 use Rattle.kt_scene.specs.Scenario.{IsStepNode, IsStep}
 use Rattle.kt_scene.proofs.Shared.{node_said}
+use Rattle.kt_core.proofs.Shared.{of_script}
 
 -- ---- what is known of a step that is made
 
@@ -57,14 +57,8 @@ record IsDue (s : State) (step : Step) : Type 0 where
   is_due : due s (told s step) step ≡ Ok plan
   few : s.made < most_steps
 
-owner_plans : (r : Planned) (plan : Plan) → of_owner r ≡ Ok plan → r ≡ Ok plan
-owner_plans (Ok made) plan e =
-    let same : made ≡ plan = cc in
-    ap (λ (p : Plan). Ok p) same
-owner_plans (Err refusal) plan e = absurd cc
-
 scene_plans : (there : Bool) (r : Planned) (plan : Plan) → of_scene there r ≡ Ok plan → (there ≡ true) × (r ≡ Ok plan)
-scene_plans true r plan e = (refl, owner_plans r plan e)
+scene_plans true r plan e = (refl, owner-passed r plan e)
 scene_plans false r plan e = absurd cc
 
 limit_by_test : (b : Bool) (r : Result Plan StepError) (plan : Plan) → cond b r (Err refusals.StepLimit) ≡ Ok plan → (b ≡ true) × (r ≡ Ok plan)
@@ -243,12 +237,9 @@ steps_said s (step ∷ later) t holds runs =
     let here = step_said s step holds.ready (made_due s step runs.0 runs.1) in
     All-cons IsStep step later here (steps_said runs.0 later t (made-holds s step runs.0 holds (step-made s step runs.0 runs.1)) runs.2)
 
-short : (script : List Command) → IsScript script → IsShort script
-short script is = let k = keeps_limits script is in record { commands = k.0; variables = k.1 }
-
 short_at : (scripts : List (List Command)) (n : ℕ) → All IsScript scripts → IfSome (slice_get scripts n) IsShort
 short_at [] n h = tt
-short_at (script ∷ later) zero h = short script (All-head IsScript script later h)
+short_at (script ∷ later) zero h = of_script script (All-head IsScript script later h)
 short_at (script ∷ later) (suc n) h = short_at later n (All-tail IsScript script later h)
 
 all_short : (cast : Cast) → All IsScript cast.scripts → AreShort cast

@@ -7,6 +7,7 @@ ghost use Rattle.kt_world.specs.Cast.{Cast, IsCast};
 ghost use Rattle.kt_world.specs.Reached.{opening};
 ghost use Rattle.kt_world.specs.State.{State};
 ghost use Rattle.kt_scene.specs.Journal.{journal_text, play_of_steps};
+ghost use Rattle.kt_scene.specs.Report.{IsReportOf};
 ghost use Rattle.kt_scene.specs.Run.{LeadsTo};
 ghost use Rattle.kt_scene.specs.Runs.{RunsTo};
 ghost use Rattle.kt_scene.specs.Scenario.{IsPlay, IsScenario, IsStep};
@@ -22,7 +23,7 @@ pub fn what_was_made_can_be_said()
 
 /// The steps of a journal that began with the opening of a scene are told by a scenario of steps, where its text is not
 /// too long, whatever report stands before it; and its replay over an honest store leads to the state that the journal
-/// has, and to no other. So both report the same survivors, the same that is lost, and the same permanent tuples.
+/// has, and to no other. So both have one report.
 pub fn what_was_made_is_replayed()
     ensures scenario { (cast : Cast) (steps : List Step) (s : State) (report : List ℕ) → IsPlay (play_of_steps cast [])
         → all_made (opening cast) steps ≡ Ok s → length (journal_text report cast steps) ≤ 1048576
@@ -30,11 +31,15 @@ pub fn what_was_made_is_replayed()
     ensures same { (cast : Cast) (steps : List Step) (s : State) (report : List ℕ) → IsPlay (play_of_steps cast [])
         → all_made (opening cast) steps ≡ Ok s → (fresh : Bool) (t : State)
         → LeadsTo (journal_text report cast steps) true fresh t → t ≡ s }
+    ensures report { (cast : Cast) (steps : List Step) (s : State) (report : List ℕ) → IsPlay (play_of_steps cast [])
+        → all_made (opening cast) steps ≡ Ok s → (fresh : Bool) (t : State)
+        → LeadsTo (journal_text report cast steps) true fresh t
+        → (text other : List ℕ) → IsReportOf true s text → IsReportOf true t other → text ≡ other }
 {}
 
 /// What a run over an honest store tells as its journal, where that is not too long, is the text of a scenario of
-/// steps; and its replay over an honest store leads to the state that the run ended in, and to no other. So both report
-/// the same survivors, the same that is lost, and the same permanent tuples.
+/// steps; and its replay over an honest store leads to the state that the run ended in, and to no other. So both have
+/// one report.
 pub fn what_a_run_tells_is_replayed()
     ensures scenario { (text : List ℕ) (steps : List Step) (s : State) (report : List ℕ) → IsRunOf text true steps s
         → length (journal_text report s.cast steps) ≤ 1048576
@@ -43,4 +48,7 @@ pub fn what_a_run_tells_is_replayed()
         → RunsTo (opening s.cast) steps s }
     ensures same { (text : List ℕ) (steps : List Step) (s : State) (report : List ℕ) → IsRunOf text true steps s
         → (fresh : Bool) (t : State) → LeadsTo (journal_text report s.cast steps) true fresh t → t ≡ s }
+    ensures report { (text : List ℕ) (steps : List Step) (s : State) (report : List ℕ) → IsRunOf text true steps s
+        → (fresh : Bool) (t : State) → LeadsTo (journal_text report s.cast steps) true fresh t
+        → (told other : List ℕ) → IsReportOf true s told → IsReportOf true t other → told ≡ other }
 {}

@@ -1,45 +1,30 @@
 -- A refusal of the store in the last of several calls is one of all of them.
-use Rattle.std.proofs.Common.{◌≡◌, ℕ, ◌<◌, ◌≤◌, ◌⊎◌, inl, inr, Bool, true, false, arith}
+use Rattle.std.proofs.Common.{◌≡◌, ℕ, ◌<◌, ◌≤◌, ◌⊎◌, Bool, true, false, arith}
 use Rattle.std.specs.Prelude.{IsTrue}
-use Rattle.kt_store.specs.declared.error.StoreError.{StoreError}
-use Rattle.kt_store.specs.Calls.{most_faults}
-use Rattle.kt_world.specs.State.{State}
-use Rattle.kt_world.specs.declared.step.Step.{Step}
 use Rattle.kt_world.specs.declared.step.StepError.{StepError}
 use Rattle.kt_world.specs.declared.step.StepError.TheVariants as refusals
-use Rattle.kt_world.specs.Judge.{planned}
-use Rattle.kt_core.specs.Store.{IsFault}
 use Rattle.kt_core.specs.Stepping.{IsCause}
 use Rattle.kt_scene.specs.declared.fault.ReplayFault.{ReplayFault}
 use Rattle.kt_scene.specs.declared.fault.ReplayFault.TheVariants as faults
 use Rattle.kt_scene.specs.Stream.{IsReportFault}
-
-pub fault_since : (before between now : ℕ) (honest : Bool) (e : StoreError) → before ≤ between → IsFault between now honest e → IsFault before now honest e
-fault_since before between now honest e le f = record { device = λ is. by (f.device is); damaged = f.damaged; full = f.full }
-  where
-    by : (between < now) ⊎ (now ≡ most_faults) → (before < now) ⊎ (now ≡ most_faults)
-    by (inl lt) = inl (omega (arith, le, lt))
-    by (inr most) = inr most
+use Rattle.kt_core.proofs.Shared.{later-fault}
 
 -- the same of a step that was refused
-pub cause_since : (before between now : ℕ) (honest : Bool) (s : State) (step : Step) (e : StepError) → before ≤ between
-    → IsCause between now honest (planned s step) e → IsCause before now honest (planned s step) e
-cause_since before between now honest s step (refusals.Store e) le (inl f) = inl (fault_since before between now honest e le f)
-cause_since before between now honest s step (refusals.Store e) le (inr due) = inr due
-cause_since before between now honest s step refusals.NoNode le c = tt
-cause_since before between now honest s step refusals.WrongMode le c = tt
-cause_since before between now honest s step refusals.NothingThere le c = tt
-cause_since before between now honest s step refusals.NoSuchMatch le c = tt
-cause_since before between now honest s step refusals.NotDecided le c = tt
-cause_since before between now honest s step refusals.Unresolved le c = tt
-cause_since before between now honest s step refusals.StepLimit le c = tt
-cause_since before between now honest s step refusals.OutOfMemory le c = tt
+pub cause_since : (before between now : ℕ) (honest : Bool) (e : StepError) → before ≤ between → IsCause between now honest e → IsCause before now honest e
+cause_since before between now honest (refusals.Store e) le f = later-fault before between now honest e le f
+cause_since before between now honest refusals.NoNode le c = tt
+cause_since before between now honest refusals.WrongMode le c = tt
+cause_since before between now honest refusals.NothingThere le c = tt
+cause_since before between now honest refusals.NoSuchMatch le c = tt
+cause_since before between now honest refusals.NotDecided le c = tt
+cause_since before between now honest refusals.Unresolved le c = tt
+cause_since before between now honest refusals.StepLimit le c = tt
+cause_since before between now honest refusals.OutOfMemory le c = tt
 
 -- the store is honest
-pub cause_honest : (before now : ℕ) (honest : Bool) (s : State) (step : Step) (e : StepError) → IsTrue honest → IsCause before now honest (planned s step) e
-    → IsCause before now true (planned s step) e
-cause_honest before now true s step e h c = c
-cause_honest before now false s step e h c = absurd cc
+pub cause_honest : (before now : ℕ) (honest : Bool) (e : StepError) → IsTrue honest → IsCause before now honest e → IsCause before now true e
+cause_honest before now true e h c = c
+cause_honest before now false e h c = absurd cc
 
 -- the same of a report that was refused
 pub report_fault_since : (before between now : ℕ) (honest : Bool) (f : ReplayFault) → before ≤ between → IsReportFault between now honest f
@@ -47,7 +32,7 @@ pub report_fault_since : (before between now : ℕ) (honest : Bool) (f : ReplayF
 report_fault_since before between now honest (faults.Scene line cause) le f = absurd f
 report_fault_since before between now honest (faults.Step at cause) le f = absurd f
 report_fault_since before between now honest (faults.Open cause) le f = absurd f
-report_fault_since before between now honest (faults.Report cause) le f = fault_since before between now honest cause le f
+report_fault_since before between now honest (faults.Report cause) le f = later-fault before between now honest cause le f
 report_fault_since before between now honest faults.Memory le f = tt
 report_fault_since before between now honest faults.Read le f = absurd f
 report_fault_since before between now honest faults.Write le f = tt

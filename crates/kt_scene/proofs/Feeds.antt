@@ -6,6 +6,7 @@ use Rattle.std.proofs.lemmas.List.Sums.{prefix_len-le-length}
 use Rattle.std.specs.Prelude.{position}
 use Rattle.std.specs.List.{position_or_len}
 use Rattle.kt_scene.specs.Reading.{with_byte, lines_of}
+use Rattle.kt_tuple.proofs.Shared.{none_chosen}
 
 abbrev is_feed : ℕ → Bool
 is_feed c = c == 10
@@ -44,10 +45,6 @@ some_means : (b : Bool) (m n : ℕ) → cond b (Some m) None ≡ Some n → (b �
 some_means true m n e = (refl, cc)
 some_means false m n e = absurd cc
 
-none_means : (b : Bool) (m : ℕ) → cond b (Some m) None ≡ None → b ≡ false
-none_means true m e = absurd cc
-none_means false m e = refl
-
 -- the first line feed ends the first line
 pub feed_ends : (text : List ℕ) (n : ℕ) → position is_feed text ≡ Some n
     → lines_of text ≡ first_line (take n text) (take (length text - (n + 1)) (drop (n + 1) text))
@@ -62,6 +59,6 @@ feed_ends text n e =
 pub no_feed : (text : List ℕ) → position is_feed text ≡ None → lines_of text ≡ ([], text)
 no_feed text e =
     let whole = ltb-false (position_or_len is_feed text) (length text)
-    (none_means (ltb (position_or_len is_feed text) (length text)) (position_or_len is_feed text) e) in
+    (none_chosen (ltb (position_or_len is_feed text) (length text)) (position_or_len is_feed text) e) in
     let within : position_or_len is_feed text ≤ length text = prefix_len-le-length (λ c. not (is_feed c)) text in
     no_line text (omega (arith, whole, within))

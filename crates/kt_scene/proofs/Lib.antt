@@ -46,3 +46,5 @@ pub mod Entries
 pub mod ScenarioText
 pub mod JournalWritten
 pub mod Shared
+pub mod OneOrder
+pub mod OneReport

@@ -29,7 +29,7 @@ made_more old steps i between step new lt at runs e =
 -- the step at this place was the first refused
 pub refused_at : (old : State) (steps : List Step) (i : ℕ) (between : State) (step : Step) (cause : StepError) (before now : ℕ) → i < length steps
     → step ≡ get_or steps i step → RunsTo old (take i steps) between → Refuses cause (planned between step)
-    → IsCause before now true (planned between step) cause → IsRefusedAt old steps (i + 1) cause before now
+    → IsCause before now true cause → IsRefusedAt old steps (i + 1) cause before now
 refused_at old steps i between step cause before now lt at runs e why = record {
   made = take i steps;
   refused = step;
@@ -50,9 +50,9 @@ made_next old steps i between d new lt runs e = made_more old steps i between (g
 
 pub refused_next : (old : State) (steps : List Step) (i : ℕ) (between : State) (d : Step) (cause : StepError) (before middle now : ℕ) (honest : Bool)
     → i < length steps → RunsTo old (take i steps) between → Refuses cause (planned between (get_or steps i d)) → IsTrue honest → before ≤ middle
-    → IsCause middle now honest (planned between (get_or steps i d)) cause → IsRefusedAt old steps (i + 1) cause before now
+    → IsCause middle now honest cause → IsRefusedAt old steps (i + 1) cause before now
 refused_next old steps i between d cause before middle now honest lt runs e is_honest later why =
     let step = get_or steps i d in
-    let since = cause_since before middle now honest between step cause later why in
+    let since = cause_since before middle now honest cause later why in
     refused_at old steps i between step cause before now lt (get_or_default steps i d step lt) runs e
-    (cause_honest before now honest between step cause is_honest since)
+    (cause_honest before now honest cause is_honest since)

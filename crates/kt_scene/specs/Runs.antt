@@ -23,4 +23,4 @@ pub record IsRefusedAt (old : State) (steps : List Step) (at : ℕ) (cause : Ste
   pub reached : State
   pub runs : RunsTo old made reached
   pub refusal : Refuses cause (planned reached refused)
-  pub why : IsCause before now true (planned reached refused) cause
+  pub why : IsCause before now true cause

@@ -1,8 +1,9 @@
 //! Laws about the definitions, each the contract of a function with nothing to do.
 
-ghost use Rattle.std.specs.Prelude.{◌≡◌, ◌≢◌, ℕ, ◌≤◌, List, length, Ok, Err};
+ghost use Rattle.std.specs.Prelude.{◌≡◌, ◌≢◌, ℕ, ◌≤◌, true, List, length, Ok, Err};
 ghost use Rattle.kt_world.specs.declared.step.Step.{Step};
 ghost use Rattle.kt_world.specs.Cast.{Cast};
+ghost use Rattle.kt_world.specs.State.{State};
 ghost use Rattle.kt_scene.specs.declared.fault.SceneError.{SceneError};
 ghost use Rattle.kt_scene.specs.declared.fault.SceneError.TheVariants.{Word};
 ghost use Rattle.kt_scene.specs.declared.scenario.WorkKind.{WorkKind};
@@ -10,6 +11,7 @@ ghost use Rattle.kt_scene.specs.declared.scenario.WorkKind.TheVariants as kinds;
 ghost use Rattle.kt_scene.specs.Faults.{HasFirstFault, IsWordOfWork};
 ghost use Rattle.kt_scene.specs.Journal.{journal_text, play_of_steps};
 ghost use Rattle.kt_scene.specs.Reading.{Play, play_of};
+ghost use Rattle.kt_scene.specs.Report.{IsReportOf};
 ghost use Rattle.kt_scene.specs.Scenario.{IsPlay, IsScenario, IsTextOf};
 ghost use Rattle.kt_scene.specs.Text.{scenario_text};
 ghost use Rattle.kt_scene.specs.Work.{kind_of};
@@ -66,4 +68,10 @@ pub fn what_is_refused_has_this_fault_first()
 pub fn what_has_a_fault_is_refused()
     ensures { (kind : WorkKind) (text : List ℕ) (n : ℕ) (fault : SceneError) → HasFirstFault kind text n fault
         → play_of kind text ≡ Err (n, fault) }
+{}
+
+/// A state has one report, whatever order its tuples were found in: while the store is honest, what is written is a
+/// function of the state.
+pub fn a_state_has_one_report()
+    ensures { (s : State) (text other : List ℕ) → IsReportOf true s text → IsReportOf true s other → text ≡ other }
 {}

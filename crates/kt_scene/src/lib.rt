@@ -21,7 +21,7 @@ pub use fault::{ReplayFault, SceneError, SceneFault};
 pub use journal::write_journal;
 pub use kt_core::{OpenError, StepError};
 pub use laws::{
-    what_a_journal_tells_is_read, what_has_a_fault_is_refused,
+    a_state_has_one_report, what_a_journal_tells_is_read, what_has_a_fault_is_refused,
     what_is_of_the_other_kind_is_refused, what_is_read_is_spelled_so,
     what_is_refused_has_this_fault_first, what_is_spelled_so_is_read, what_is_written_is_read,
     what_was_read_is_written,

@@ -1,7 +1,6 @@
 -- What the code writes is what is due.
-use Rattle.std.proofs.Common.{◌≡◌, ℕ, ◌<◌, List, Some, None, Ok, inl, inr, length, set, get_or, sym, ap, subst, ◌∙◌, arith}
-use Rattle.std.proofs.lemmas.List.{get_or_past, get_or_default, same_lists}
-use Rattle.std.proofs.lemmas.Bool.{cases_lt}
+use Rattle.std.proofs.Common.{◌≡◌, ℕ, ◌<◌, List, Some, None, Ok, length, set, get_or, sym, ap, subst, ◌∙◌, arith}
+use Rattle.std.proofs.lemmas.List.{get_or_default, same_lists}
 use Rattle.kt_tuple.specs.declared.tuple.Tuple.{Tuple}
 use Rattle.kt_shard.specs.declared.request.Request.{Request}
 use Rattle.kt_shard.specs.declared.desk.Desk.{Desk}
@@ -35,16 +34,6 @@ pub service_written : (y s : Shard) (p q : Service) (bag : List Tuple) (place wo
 service_written y s p q bag place worker new same due at long lt left e =
     same_shard bag (left_by y.bag p.request.op p.place) (set y.desks place new) _ left (put_desk y.desks place new _ (omega (arith, at, long, lt)) e)
     ∙ ap (λ k. served y k p) at ∙ ap (λ (x : Shard). served x worker p) same ∙ ap (served s worker) due
-
--- who waits has a desk
-pub service-known : (y : Shard) (worker place : ℕ) (s : Service) → length y.desks ≡ desk_count → service y worker place ≡ Ok s → worker < desk_count
-service-known y worker place s long e = elim (cases_lt worker (length y.desks)) [
-  | inl lt ↦ omega (arith, long, lt)
-  | inr ge ↦ absurd (nobody (ap (λ (d : Desk). d.waiting) (sym (get_or_past y.desks worker empty_desk ge)) ∙ (service-due y worker place s e).waited))
-]
-  where
-    nobody : None ≡ Some s.request → ⊥
-    nobody same = cc
 
 pub service-is : (y : Shard) (worker place : ℕ) (s : Service) → service y worker place ≡ Ok s → IsServed y worker (served y worker s)
 service-is y worker place s e = record {

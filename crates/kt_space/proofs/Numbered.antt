@@ -11,7 +11,7 @@ use Rattle.indexmap.specs.IndexSet.{insert_key}
 use Rattle.kt_space.specs.inner.Chaining.{Has, Fits, Beside}
 use Rattle.kt_space.specs.inner.Grouping.{keys_at, AreNumbers}
 use Rattle.kt_space.proofs.Beside.{read_before, decide}
-use Rattle.kt_space.proofs.Stays.{kept_has, pushed_has}
+use Rattle.kt_space.proofs.Stays.{pushed_has}
 
 module _ {A : Type 0} (ks : List A) where
   -- a place of a group has the group's key
@@ -59,14 +59,6 @@ module _ {A : Type 0} (ks : List A) where
   pub keys_more : (gs : List (Option ℕ)) (g : ℕ) (k : A) → slice_get ks g ≡ Some k → keys_at ks (gs ++ Some g ∷ []) ≡ keys_at ks gs ++ Some k ∷ []
   keys_more [] g k at = ap (λ o. o ∷ []) at
   keys_more (o ∷ gs) g k at = ap (λ l. option_and_then (slice_get ks) o ∷ l) (keys_more gs g k at)
-
-pub numbers_without : {A : Type 0} (ks : List A) (gs gs' : List (Option ℕ)) (i count count' : ℕ) → AreNumbers ks gs count
-    → gs' ≡ set gs i None → count' ≡ count → AreNumbers ks gs' count'
-numbers_without ks gs gs' i count count' numbers e n = record {
-  counted = numbers.counted ∙ sym n;
-  known = λ m g has. subst (λ k. g < k) (sym n) (numbers.known m g (kept_has gs i m g (subst (λ l. Has l m g) e has)).0);
-  unique = numbers.unique;
-}
 
 -- keys that have got one more, or none
 module _ {A : Type 0} (eq : A → A → Bool) (same : (a b : A) → Decides (eq a b) (a ≡ b)) where

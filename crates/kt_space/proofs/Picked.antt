@@ -1,9 +1,8 @@
 -- The match of a number, and the tuples without it, from the place where it stands.
 use Rattle.std.proofs.Common.{◌≡◌, ℕ, zero, suc, ◌<◌, ◌≤◌, Bool, true, false, cond, List, [], ◌∷◌, ◌++◌, length, get_or, take, remove}
-use Rattle.std.proofs.Common.{None, Some, refl, sym, ap, subst, ◌∙◌, arith}
+use Rattle.std.proofs.Common.{Some, refl, sym, ap, ◌∙◌, arith}
 use Rattle.std.specs.List.{slice_get}
-use Rattle.std.proofs.lemmas.List.{take_all}
-use Rattle.std.proofs.lemmas.Option.{slice_get_read, slice_get_past}
+use Rattle.std.proofs.lemmas.Option.{slice_get_read}
 use Rattle.kt_tuple.specs.declared.tuple.Tuple.{Tuple}
 use Rattle.kt_tuple.specs.declared.template.Template.{Template}
 use Rattle.kt_tuple.specs.Matching.{matches}
@@ -110,9 +109,3 @@ found t xs i k u lt is m at =
       here ∙ sym (match_here t xs i u here m) ∙ ap (slice_get (matching t xs)) at,
       without_here t xs i u here m ∙ ap (λ n. without_match t n xs) at,
     )
-
-pub passed_all : (t : Template) (xs : List Tuple) (i k : ℕ) → length xs ≤ i → length (matching t (take i xs)) ≤ k
-    → (slice_get (matching t xs) k ≡ None) × (without_match t k xs ≡ xs)
-passed_all t xs i k le few =
-    let all : length (matching t xs) ≤ k = subst (λ l. length (matching t l) ≤ k) (take_all i xs le) few in
-    (slice_get_past (matching t xs) k all, without_none t xs k all)

@@ -20,7 +20,8 @@ use Rattle.kt_world.specs.Judge.{is_planned, of_scene}
 use Rattle.kt_world.specs.Ready.{AreNeighbours}
 use Rattle.kt_world.specs.State.{State, link, node, view}
 use Rattle.kt_world.specs.Told.{told}
-use Rattle.kt_world.proofs.Shared.{among-some, from_ends, to_shard, to_worker}
+use Rattle.kt_link.proofs.Shared.{among-true}
+use Rattle.kt_world.proofs.Shared.{from_ends, to_shard, to_worker}
 use Rattle.kt_world.specs.Step.{owner}
 use Rattle.kt_core.specs.declared.faults.FaultLine.{FaultLine}
 use Rattle.kt_core.specs.Lent.{is_allowed, message_at}
@@ -109,8 +110,8 @@ ends-sent s (ids.Shard r) (ids.Worker w) e = by (is_among (length s.cast.scripts
         → AreNeighbours s.cast (ids.Worker w) (ids.Shard r)
     by true is e =
         let both = and_parts (is_among (length s.cast.scripts) w) (is_among s.cast.shards r) is in
-        let a = among-some (length s.cast.scripts) w both.0 in
-        let b = among-some s.cast.shards r both.1 in
+        let a = among-true (length s.cast.scripts) w both.0 in
+        let b = among-true s.cast.shards r both.1 in
         from_ends s.cast (ids.Worker w) (ids.Shard r) (to_shard a.0 a.1 b.0 b.1)
     by false is e = absurd cc
 ends-sent s (ids.Worker w) (ids.Shard r) e = by (is_among (length s.cast.scripts) w && is_among s.cast.shards r) refl e
@@ -120,8 +121,8 @@ ends-sent s (ids.Worker w) (ids.Shard r) e = by (is_among (length s.cast.scripts
         → AreNeighbours s.cast (ids.Shard r) (ids.Worker w)
     by true is e =
         let both = and_parts (is_among (length s.cast.scripts) w) (is_among s.cast.shards r) is in
-        let a = among-some (length s.cast.scripts) w both.0 in
-        let b = among-some s.cast.shards r both.1 in
+        let a = among-true (length s.cast.scripts) w both.0 in
+        let b = among-true s.cast.shards r both.1 in
         from_ends s.cast (ids.Shard r) (ids.Worker w) (to_worker a.0 a.1 b.0 b.1)
     by false is e = absurd cc
 ends-sent s (ids.Worker v) (ids.Worker w) e = absurd cc

@@ -23,7 +23,7 @@ abbrev pub RefusesAct : {Y : Type 0} → ActError → Result Y StepError → Typ
 RefusesAct errors.NotOwner due = Unit {0}
 RefusesAct (errors.Step refusal) due = RefusesStep refusal due
 
--- a store's refusal comes where a call of the store was refused, or gave a checkpoint that does not fit the node
-abbrev pub IsActCause : {Y : Type 0} → ℕ → ℕ → Bool → Result Y StepError → ActError → Type 0
-IsActCause before now is_honest due errors.NotOwner = Unit {0}
-IsActCause before now is_honest due (errors.Step refusal) = IsCause before now is_honest due refusal
+-- a store's refusal comes where a call of the store was refused
+abbrev pub IsActCause : ℕ → ℕ → Bool → ActError → Type 0
+IsActCause before now is_honest errors.NotOwner = Unit {0}
+IsActCause before now is_honest (errors.Step refusal) = IsCause before now is_honest refusal

@@ -53,8 +53,7 @@ impl<S: CkptStore> Journal<S> {
         ensures honest { IsTrue self.new.world.is_honest → IsTrue self.old.world.is_honest }
         ensures refusal { IsTrue self.new.world.is_honest
             → IfErr result (λ e. RefusesStep e (planned self.old.world.state step)) }
-        ensures cause { IfErr result (IsCause self.old.world.faults self.new.world.faults self.new.world.is_honest
-            (planned self.old.world.state step)) }
+        ensures cause { IfErr result (IsCause self.old.world.faults self.new.world.faults self.new.world.is_honest) }
     {
         if self.steps.reserve(1).is_err() {
             return Err(StepError::OutOfMemory);
@@ -104,7 +103,7 @@ impl<S: CkptStore, L: Naming> Desk<S, L> {
         ensures refusal { IsTrue self.new.journal.world.is_honest
             → IfErr result (λ e. RefusesAct e (planned self.old.journal.world.state step)) }
         ensures cause { IfErr result (IsActCause self.old.journal.world.faults self.new.journal.world.faults
-            self.new.journal.world.is_honest (planned self.old.journal.world.state step)) }
+            self.new.journal.world.is_honest) }
         ensures same_seat { OnErr result (seat.new.receipts ≡ seat.old.receipts) }
         ensures same_steps { OnErr result (self.new.journal.steps ≡ self.old.journal.steps) }
         ensures same { IsTrue self.new.journal.world.is_honest

@@ -10,7 +10,7 @@ use Rattle.kt_store.specs.Content.{Content, IsBoard, greatest, posted}
 use Rattle.kt_store.specs.Changes.{decided, with_posted}
 use Rattle.kt_store.proofs.Tables.{IsOrder, placed_at, placed_last}
 
-by_number_order : IsOrder (λ (a b : Posted). nat_lt a.instance b.instance)
+pub by_number_order : IsOrder (λ (a b : Posted). nat_lt a.instance b.instance)
 by_number_order = record { one_way = λ a b h. grind (arith, h); itself = λ a. grind arith; through = λ a b c h g. grind (arith, h, g) }
 
 pub decided_there : (c : Content) (i : ℕ) (agreed : Bool) (k : ℕ) (row : Posted) → AllPairs (λ (a b : Posted). nat_lt a.instance b.instance ≡ true) c.board
@@ -38,7 +38,7 @@ above_start [] a = omega arith
 above_start (x ∷ rows) a = let rest : max a x.instance ≤ fold max (max a x.instance) (map (λ (row : Posted). row.instance) rows) =
     above_start rows (max a x.instance) in grind (arith, rest)
 
-above_all : (rows : List Posted) (a : ℕ) → All (λ (row : Posted). row.instance ≤ fold max a (map (λ (row : Posted). row.instance) rows)) rows
+pub above_all : (rows : List Posted) (a : ℕ) → All (λ (row : Posted). row.instance ≤ fold max a (map (λ (row : Posted). row.instance) rows)) rows
 above_all [] a = λ k d h. absurd (omega (arith, h))
 above_all (x ∷ rows) a =
     let n : ℕ = fold max (max a x.instance) (map (λ (row : Posted). row.instance) rows) in

@@ -43,7 +43,7 @@ apart (Shard m) (Shard n) h g = grind (arith, h, g)
 abbrev before : NodeRow → NodeRow → Bool
 before a b = node_lt a.node b.node
 
-by_node_order : IsOrder before
+pub by_node_order : IsOrder (λ (a b : NodeRow). node_lt a.node b.node)
 by_node_order = record { one_way = λ a b h. one_way a.node b.node h; itself = λ a. itself a.node; through = λ a b c h g. through a.node b.node c.node h g }
 
 -- a change leaves a row to its node

@@ -54,7 +54,7 @@ stored_is_read row c =
     (λ r at. ap (λ n. node_lt n row.node) (is_of row.node r at) ∙ itself row.node))
 
 -- what is stored of a node is its own row
-own_row : (p : NodeId) (rows : List NodeRow) → (row_or p (find (λ (row : NodeRow). node_eq row.node p) rows)).node ≡ p
+pub own_row : (p : NodeId) (rows : List NodeRow) → (row_or p (find (λ (row : NodeRow). node_eq row.node p) rows)).node ≡ p
 own_row p [] = refl
 own_row p (x ∷ rows) = by (node_eq x.node p) refl (own_row p rows)
   where

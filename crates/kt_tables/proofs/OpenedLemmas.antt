@@ -17,11 +17,11 @@ use Rattle.kt_tuple.specs.declared.node.NodeId.{NodeId}
 use Rattle.kt_tuple.specs.declared.node.NodeId.TheVariants.{Worker, Shard}
 use Rattle.kt_store.specs.declared.rows.NodeRow.{NodeRow}
 use Rattle.kt_store.specs.declared.rows.Posted.{Posted}
-use Rattle.kt_store.specs.Content.{greatest, node_lt}
+use Rattle.kt_store.specs.Content.{node_lt}
 use Rattle.kt_tables.specs.Schema.{kt_schema}
 use Rattle.kt_tables.specs.inner.Text.{all_nodes_text, all_posted_text, meta_text}
 use Rattle.kt_tables.specs.Rows.{whole, id_of, HasId, node_given, node_shown, posted_given, posted_shown, IsNodeRow, IsPosted}
-use Rattle.kt_tables.specs.Rows.{ShowsNode, ShowsPosted, HoldsNodes, HoldsBoard, AreAsSaid}
+use Rattle.kt_tables.specs.Rows.{ShowsNode, HoldsNodes, HoldsBoard, AreAsSaid}
 use Rattle.kt_tables.specs.Settled.{IsSettled}
 use Rattle.kt_tables.specs.Opened.{meta_shown, meta_given, IsVersion1, IsReady, IsNodeWith, IsNoNode, IsInstanceWith, IsNoInstance}
 use Rattle.kt_tables.specs.Opened.{AreNodesFrom, AreInstancesFrom}
@@ -43,14 +43,6 @@ node_whole (a ∷ b ∷ c ∷ d ∷ e ∷ []) r five h =
     ap₂ ◌∷◌ h.id (ap₂ ◌∷◌ h.incarnation (ap₂ ◌∷◌ h.permanent (ap₂ ◌∷◌ h.tentative (ap (λ v. v ∷ []) h.instance))))
 node_whole (a ∷ b ∷ c ∷ d ∷ e ∷ f ∷ more) r five h = absurd (omega arith)
 
-pub posted_whole : (row : Row) (p : Posted) → length row ≡ 4 → ShowsPosted row p → row ≡ posted_given p
-posted_whole [] p four h = absurd cc
-posted_whole (a ∷ []) p four h = absurd (omega arith)
-posted_whole (a ∷ b ∷ []) p four h = absurd (omega arith)
-posted_whole (a ∷ b ∷ c ∷ []) p four h = absurd (omega arith)
-posted_whole (a ∷ b ∷ c ∷ d ∷ []) p four h = ap₂ ◌∷◌ h.instance (ap₂ ◌∷◌ h.initiator (ap₂ ◌∷◌ h.purpose (ap (λ v. v ∷ []) h.verdict)))
-posted_whole (a ∷ b ∷ c ∷ d ∷ e ∷ more) p four h = absurd (omega arith)
-
 same_id : {row : Row} (a b : NodeRow) → row ≡ node_given a → row ≡ node_given b → id_of a.node ≡ id_of b.node
 same_id a b h g = let first : whole (id_of a.node) ≡ whole (id_of b.node) = ap (λ (r : Row). column r 0) (sym h ∙ g) in cc
 
@@ -61,9 +53,6 @@ same_instance a b h g = let first : whole a.instance ≡ whole b.instance = ap (
 
 node_rises : (a b : NodeRow) → IsNodeRow a → IsNodeRow b → node_lt a.node b.node ≡ true → id_of a.node < id_of b.node
 node_rises a b h g less = let n = sym (by_id a.node b.node h.node g.node) ∙ less in grind (arith, n)
-
-pub no_nodes : (low : ℕ) → AreNodesFrom low []
-no_nodes low = record { nodes = []; shown = refl; said = tt; above = tt; rise = tt }
 
 module _ (low id : ℕ) (row : Row) (rest : List Row) (w : IsNodeWith row id) where
   later_node : (nodes : List NodeRow) → row ∷ rest ≡ map node_given nodes → AllByRecursion IsNodeRow nodes
@@ -121,9 +110,6 @@ node_number row id w = let low = low_id w.node.node w.said.node in let is = w.nu
 
 -- ---- rows of instances
 
-pub no_instances : (low : ℕ) → AreInstancesFrom low []
-no_instances low = record { board = []; shown = refl; said = tt; above = tt; rise = tt }
-
 module _ (low instance : ℕ) (row : Row) (rest : List Row) (w : IsInstanceWith row instance) where
   later_instance : (board : List Posted) → row ∷ rest ≡ map posted_given board → AllByRecursion IsPosted board
       → IsAscending (λ (a b : Posted). nat_lt a.instance b.instance ≡ true) board → AreInstancesFrom (instance + 1) rest
@@ -158,9 +144,6 @@ module _ (low instance : ℕ) (row : Row) (rest : List Row) (w : IsInstanceWith 
 
   pub instance_too_low : instance < low → AreInstancesFrom low (row ∷ rest) → ⊥
   instance_too_low under a = low_instance under a.board a.shown a.above
-
-pub instance_number : (row : Row) (instance : ℕ) → IsInstanceWith row instance → instance ≤ greatest
-instance_number row instance w = let last = w.said.last in let is = w.number in omega arith
 
 no_first_instance : (row : Row) (rest : List Row) → IsNoInstance row → (board : List Posted) → row ∷ rest ≡ map posted_given board
     → AllByRecursion IsPosted board → ⊥

@@ -1,5 +1,5 @@
 -- What a statement leaves of a connection, whether it ran or not.
-use Rattle.std.proofs.Common.{◌≡◌, inl, inr, ℕ, Bool, true, false, cond, List, Option, None, Some, Ok, Err, Result, OnOk, refl, sym, ap, subst, ◌∙◌}
+use Rattle.std.proofs.Common.{◌≡◌, inl, inr, ℕ, Bool, true, false, cond, List, Option, None, Some, Ok, Err, Result, OnOk, sym, ap, subst, ◌∙◌}
 use Rattle.std.proofs.Common.{arith}
 use Rattle.std.specs.Prelude.{IsTrue, MatchBool}
 use Rattle.sqlite.specs.Order.{Row}
@@ -14,7 +14,6 @@ use Rattle.sqlite_schema.specs.declared.command.Returning.{Returning}
 use Rattle.sqlite.specs.State.{State, Shows, Runs, IsUnchanged, IsRolledBack, Fails, RunsCommand, shows_rows, IsNotRun, Executes, ExecutesIn}
 use Rattle.sqlite.specs.State.{ExecutesInside, FailsToShow, FailsToQuery, ShowsRows, Shown, HasCleanDisk}
 use Rattle.sqlite.specs.Listing.{understood}
-use Rattle.sqlite.specs.Effect.{Database}
 use Rattle.sqlite.proofs.Callers.{IsPlain}
 use Rattle.kt_tables.specs.Schema.{kt_schema}
 use Rattle.kt_tables.specs.Settled.{IsSettled, Stays, Looks}
@@ -149,23 +148,9 @@ undone_stays old new on same ended = record { was_open = on; rest = λ was _. (s
 
 -- ---- one look after another
 
-pub no_look : (s : State) → Looks s s
-no_look s = record { clean = omega arith; mode = λ is. is; stays = λ clean on. record { was_open = on; rest = λ was has. (refl, was) } }
-
 -- where a look leaves the connection open, it was open
 pub look_open : (old new : State) → Looks old new → HasCleanDisk new → IsTrue new.is_open → IsTrue old.is_open
 look_open old new h clean on = (h.stays clean on).was_open
 
 pub look_clean : (old new : State) → Looks old new → HasCleanDisk new → HasCleanDisk old
 look_clean old new h clean = omega (arith, h.clean, clean)
-
--- what was seen at first and stands before a look at the tables of a store stands behind it
-pub look_again : (old mid new : State) → Looks mid new → (HasCleanDisk mid → IsTrue mid.is_open → (mid.now ≡ old.now) × IsSettled mid)
-    → (HasCleanDisk mid → old.now.schema ≡ kt_schema)
-    → HasCleanDisk new → IsTrue new.is_open → (new.now ≡ old.now) × IsSettled new
-look_again old mid new h same has clean on =
-    let was = look_clean mid new h clean in
-    let stays = h.stays clean on in
-    let first = same was stays.was_open in
-    let rest = stays.rest first.1 (ap (λ (d : Database). d.schema) first.0 ∙ has was) in
-    (rest.0 ∙ first.0, rest.1)

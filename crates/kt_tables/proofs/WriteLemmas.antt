@@ -31,7 +31,7 @@ use Rattle.sqlite_trees.proofs.ListLemmas.{all-permutation}
 use Rattle.sqlite_typed.proofs.RowLemmas.{puts-map, deletes-map}
 use Rattle.kt_tuple.specs.declared.node.NodeId.{NodeId}
 use Rattle.kt_tuple.specs.declared.node.NodeId.TheVariants.{Worker, Shard}
-use Rattle.kt_store.proofs.Shared.{one_way, itself}
+use Rattle.kt_store.proofs.Shared.{by_node_order, by_number_order}
 use Rattle.kt_store.specs.declared.rows.NodeRow.{NodeRow}
 use Rattle.kt_store.specs.declared.rows.Posted.{Posted}
 use Rattle.kt_store.specs.declared.rows.Tentative.{Tentative}
@@ -117,15 +117,6 @@ module _ {X : Type 0} (lt : X → X → Bool) (order : IsOrder lt) where
 
 -- ---- the two orders
 
-through : (a b c : NodeId) → node_lt a b ≡ true → node_lt b c ≡ true → node_lt a c ≡ true
-through (Worker m) (Worker n) (Worker o) h g = grind (arith, h, g)
-through (Worker m) (Worker n) (Shard o) h g = refl
-through (Worker m) (Shard n) (Worker o) h g = absurd cc
-through (Worker m) (Shard n) (Shard o) h g = refl
-through (Shard m) (Worker n) c h g = absurd cc
-through (Shard m) (Shard n) (Worker o) h g = absurd cc
-through (Shard m) (Shard n) (Shard o) h g = grind (arith, h, g)
-
 abbrev node_before : NodeRow → NodeRow → Bool
 node_before a b = node_lt a.node b.node
 
@@ -133,10 +124,10 @@ abbrev posted_before : Posted → Posted → Bool
 posted_before a b = nat_lt a.instance b.instance
 
 node_order : IsOrder node_before
-node_order = record { one_way = λ a b h. one_way a.node b.node h; itself = λ a. itself a.node; through = λ a b c h g. through a.node b.node c.node h g }
+node_order = by_node_order
 
 posted_order : IsOrder posted_before
-posted_order = record { one_way = λ a b h. grind (arith, h); itself = λ a. grind arith; through = λ a b c h g. grind (arith, h, g) }
+posted_order = by_number_order
 
 -- the order of the nodes is that of their numbers
 pub by_id : (a b : NodeId) → HasId a → HasId b → node_lt a b ≡ ltb (id_of a) (id_of b)

@@ -8,7 +8,7 @@ use Rattle.std.specs.Int.RustNames.{FitsSigned}
 use Rattle.std.specs.Str.{all_ascii_digits}
 use Rattle.std.specs.Str.Parse.{IsNumeral, without_leading_sign, signed_digits_value}
 use Rattle.kt_tuple.specs.Grammar.{IsDigit, IsFirstDigit, IsInt, just_zero, positive, negative, IsCharacters, none, plain, quote}
-use Rattle.kt_tuple.specs.Grammar.{backslash, character_count, IsStr, quoted, IsValueText, int, str, IsPlaceText, actual, any_int, any_str}
+use Rattle.kt_tuple.specs.Grammar.{backslash, character_count, IsStr, quoted, int, str, IsPlaceText, actual, any_int, any_str}
 use Rattle.kt_tuple.specs.Reading.{is_numeral, int_of, has_range, is_short, unescaped, characters_of}
 use Rattle.kt_tuple.proofs.Ints.{is_numeral-fact, int_parsed}
 use Rattle.kt_tuple.proofs.IntShapes.{is_digit}
@@ -58,19 +58,12 @@ some_number p e = by (int_of p) refl e
 pub int_range : (p : List ℕ) → IsInt p → (has_range p ≡ true) ↔ FitsSigned w64 (signed_digits_value 10 p)
 int_range p is = (λ e. some_number p (sym (range_of_int p is) ∙ e), λ fits. range_of_int p is ∙ int_inside p is fits)
 
-pub str_range : (p : List ℕ) → IsStr p → has_range p ≡ true
-unfolding has_range
-str_range p (quoted h) = refl
-
 pub formal_range : (p : List ℕ) → IsPlaceText p → has_range p ≡ false → IsInt p
 unfolding has_range
 formal_range p (actual (int is)) e = is
 formal_range p (actual (str (quoted h))) e = absurd cc
 formal_range p any_int e = absurd cc
 formal_range p any_str e = absurd cc
-
-pub value_range : (p : List ℕ) → IsValueText p → has_range p ≡ false → IsInt p
-value_range p h e = formal_range p (actual h) e
 
 counted : (cs : List ℕ) (h : IsCharacters cs) → length (unescaped false cs) ≡ character_count h
 counted cs none = refl

@@ -23,7 +23,8 @@ use Rattle.kt_world.specs.State.{State, role_of, view}
 use Rattle.kt_world.specs.Judge.{service_by}
 use Rattle.kt_world.proofs.Plans as plans
 use Rattle.kt_world.proofs.Plans.{IsAlive, PlanOf}
-use Rattle.kt_world.proofs.Passed.{this, alive-is, up-passed}
+use Rattle.kt_node.proofs.Shared.{this}
+use Rattle.kt_world.proofs.Passed.{alive-is, up-passed}
 
 pub issue-found : (s : State) (t : Told) (p : NodeId) (plan : Plan) → IsTrue (is_worker s.cast p) → issue (view s p) ≡ Ok plan → PlanOf s t (Issue p) plan
 issue-found s t p plan there e = up-passed (view s p).node (λ n. issue_by (view s p) n (worker_in n.body)) plan (PlanOf s t (Issue p) plan) up e

@@ -34,7 +34,8 @@ use Rattle.kt_world.specs.State.{State, role_of, view, link}
 use Rattle.kt_world.specs.Judge.{hear, delivery}
 use Rattle.kt_world.proofs.Plans as plans
 use Rattle.kt_world.proofs.Plans.{IsAlive, Comes, Votes, PlanOf}
-use Rattle.kt_world.proofs.Passed.{planned, this, if-passed, alive-is}
+use Rattle.kt_node.proofs.Shared.{this}
+use Rattle.kt_world.proofs.Passed.{planned, if-passed, alive-is}
 
 post-found : (s : State) (t : Told) (p q : NodeId) (post : Post) (plan : Plan) → Comes s p q (messages.Post post)
     → hear_app (view s q) p post ≡ Ok plan → PlanOf s t (Deliver p q) plan

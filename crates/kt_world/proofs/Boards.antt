@@ -5,7 +5,6 @@ use Rattle.std.specs.Prelude.{fold, max, nat_lt}
 use Rattle.std.specs.List.{find}
 use Rattle.std.specs.Option.{option_map}
 use Rattle.std.proofs.lemmas.Bool.{cases_eq, and_parts, eq-eqb}
-use Rattle.std.proofs.lemmas.List.Elements.{All-cons}
 use Rattle.kt_tuple.specs.declared.node.NodeId.{NodeId}
 use Rattle.kt_tuple.specs.Node.{node_eq}
 use Rattle.kt_store.specs.declared.rows.Posted.{Posted}
@@ -15,8 +14,8 @@ use Rattle.kt_store.specs.declared.rows.Verdict.TheVariants as verdicts
 use Rattle.kt_store.specs.Verdict.{is_open, verdict_from}
 use Rattle.kt_store.specs.Content.{Content, IsBoard, greatest, next_instance, open_of, posted, verdict_of}
 use Rattle.kt_store.specs.Changes.{opening, decided, deciding, with_posted}
-use Rattle.kt_store.proofs.Shared.{others_begun, others_decided, decided_is_read, greatest_within, posted_last, still_board}
-use Rattle.kt_store.proofs.Shared.{IsOrder, placed_rising, placed_all}
+use Rattle.kt_store.proofs.Shared.{above_all, others_begun, others_decided, decided_is_read, greatest_within, posted_last, still_board}
+use Rattle.kt_store.proofs.Shared.{by_number_order, placed_rising, placed_all}
 
 -- ---- what is found
 
@@ -74,19 +73,6 @@ open-verdict c p i board e = by (find q c.board) refl e
 
 -- ---- the next instance
 
-above_start : (rows : List Posted) (a : ℕ) → a ≤ fold max a (map (λ (row : Posted). row.instance) rows)
-above_start [] a = omega arith
-above_start (x ∷ rows) a =
-    let rest : max a x.instance ≤ fold max (max a x.instance) (map (λ (row : Posted). row.instance) rows) = above_start rows (max a x.instance) in
-    grind (arith, rest)
-
-above_all : (rows : List Posted) (a : ℕ) → All (λ (row : Posted). row.instance ≤ fold max a (map (λ (row : Posted). row.instance) rows)) rows
-above_all [] a = λ k d h. absurd (omega (arith, h))
-above_all (x ∷ rows) a =
-    let n : ℕ = fold max (max a x.instance) (map (λ (row : Posted). row.instance) rows) in
-    let rest : max a x.instance ≤ n = above_start rows (max a x.instance) in
-    All-cons (λ (row : Posted). row.instance ≤ n) x rows (grind (arith, rest)) (above_all rows (max a x.instance))
-
 -- every instance on the board comes before the next
 below-next : (c : Content) → All (λ (row : Posted). row.instance ≤ next_instance c) c.board
 below-next c =
@@ -138,9 +124,6 @@ decided-own i agreed c v e =
 
 -- ---- a board stays one
 
-by_number : IsOrder (λ (a b : Posted). nat_lt a.instance b.instance)
-by_number = record { one_way = λ a b h. grind (arith, h); itself = λ a. grind arith; through = λ a b c h g. grind (arith, h, g) }
-
 pub begun-board : (p : NodeId) (purpose : Purpose) (c : Content) → next_instance c ≤ greatest → IsBoard c.board → IsBoard (opening p purpose c).board
 begun-board p purpose c room is =
     let new : Posted = record { instance = next_instance c; initiator = p; purpose = purpose; verdict = verdicts.Open } in
@@ -154,7 +137,7 @@ decided-board i agreed c is = by (posted c i) refl
     by (Some row) e =
         let new : Posted = record row { verdict = verdict_from agreed } in
         record {
-          rising = placed_rising (λ (a b : Posted). nat_lt a.instance b.instance) new c.board by_number is.rising;
+          rising = placed_rising (λ (a b : Posted). nat_lt a.instance b.instance) new c.board by_number_order is.rising;
           within = placed_all (λ (x : Posted). x.instance ≤ greatest) (λ (a b : Posted). nat_lt a.instance b.instance) new c.board
               (found-holds (λ (x : Posted). x.instance ≤ greatest) (λ (x : Posted). x.instance == i) c.board row is.within e).0 is.within;
         }

@@ -6,7 +6,7 @@ use Rattle.kt_tuple.specs.declared.node.NodeId.{NodeId}
 use Rattle.kt_tuple.specs.Node.{node_index}
 use Rattle.kt_tuple.proofs.Shared.{node_index-injective}
 use Rattle.kt_shard.specs.Table.{at, put}
-use Rattle.kt_lines.proofs.Shared.{at-put_same, at-put_other}
+use Rattle.kt_shard.proofs.Shared.{at-put_same, at-put_other}
 use Rattle.kt_node.specs.declared.plan.Plan.{Plan}
 use Rattle.kt_node.specs.Node.{Node}
 use Rattle.kt_node.specs.Turning.{changed}

@@ -10,7 +10,8 @@ use Rattle.kt_history.specs.declared.note.Note.{Note}
 use Rattle.kt_history.specs.WellFormed.{MayFollow}
 use Rattle.kt_history.specs.Chronicle.{node_of}
 use Rattle.kt_shard.specs.Table.{at}
-use Rattle.kt_lines.proofs.Shared.{length-put, all-at}
+use Rattle.kt_lines.proofs.Shared.{all-at}
+use Rattle.kt_shard.proofs.Shared.{length-put}
 use Rattle.kt_node.specs.declared.message.Message.{Message}
 use Rattle.kt_node.specs.declared.message.Post.{Post}
 use Rattle.kt_node.specs.declared.live.Phase.{Phase}

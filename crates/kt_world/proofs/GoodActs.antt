@@ -31,7 +31,8 @@ use Rattle.kt_world.proofs.Within.{issued-within, heard-within}
 use Rattle.kt_world.proofs.Heards as ways
 use Rattle.kt_world.proofs.Heards.{HeardOf, heard-is}
 use Rattle.kt_world.proofs.Good.{IsGood, IsKeeping, live-ready, turn-good}
-use Rattle.kt_world.proofs.Leaves.{can-stay, can-work, can-wait, can-serve, stay-body, work-body, wait-body, serve-body, can-count}
+use Rattle.kt_node.proofs.Shared.{serves, waits, works}
+use Rattle.kt_world.proofs.Leaves.{can-stay, stay-body, work-body, wait-body, serve-body, can-count}
 use Rattle.kt_world.proofs.OnLinks.{first-holds}
 
 no_cause : (s : State) → NamesAct s.history 0
@@ -44,7 +45,7 @@ issue-good s ready p n x r there at body =
     let place = neighbour-place s.cast ready.cast p (home (role_of s.cast p).peers r.1) near in
     turn-good s ready p n _ _ _ None (worker-node s.cast p there) at
     (record {
-      can = record { body = can-work n.body _; heard = tt; said = record { count = can-count s ready p n at; place = place } };
+      can = record { body = works n.body _; heard = tt; said = record { count = can-count s ready p n at; place = place } };
       body = work-body (role_of s.cast p).script s.made p n.body x _ body (issued-within (role_of s.cast p).script x) (live-ready s ready p n at).body;
       kept = tt;
       phase = tt;
@@ -72,7 +73,7 @@ serve-good s ready p w n v there other at =
     let place = neighbour-place s.cast ready.cast p (ids.Worker (node_number w)) near in
     turn-good s ready p n _ _ _ None (shard-node s.cast p there) at
     (record {
-      can = record { body = can-serve n.body (node_number w) v place; heard = tt; said = record { count = can-count s ready p n at; place = place } };
+      can = record { body = serves n.body (node_number w) v place; heard = tt; said = record { count = can-count s ready p n at; place = place } };
       body = serve-body (role_of s.cast p).script s.made p n.body (node_number w) v (live-ready s ready p n at).body;
       kept = tt;
       phase = tt;
@@ -107,7 +108,7 @@ heard-by s ready p from n kept post plan there at near names keeping (ways.misse
     hearing-good s ready p from n kept post _ _ there at near keeping (can-stay n.body)
     (stay-body (role_of s.cast p).script s.made p n.body (live-ready s ready p n at).body) names (role-id s.cast p)
 heard-by s ready p from n kept post plan there at near names keeping (ways.accepts {x = x} body talk awaited) =
-    hearing-good s ready p from n kept post _ _ there at near keeping (can-work n.body _)
+    hearing-good s ready p from n kept post _ _ there at near keeping (works n.body _)
     (work-body (role_of s.cast p).script s.made p n.body x _ body (heard-within (role_of s.cast p).script x _) (live-ready s ready p n at).body) names
     (role-id s.cast p)
 heard-by s ready p from n kept post plan there at near names keeping (ways.ignores_reply body talk other) =
@@ -115,7 +116,7 @@ heard-by s ready p from n kept post plan there at near names keeping (ways.ignor
     (stay-body (role_of s.cast p).script s.made p n.body (live-ready s ready p n at).body) names (role-id s.cast p)
 heard-by s ready p from n kept post plan there at near names keeping (ways.hears {request = request} body talk new) =
     hearing-good s ready p from n kept post _ _ there at near keeping
-    (can-wait n.body (node_number from) request (neighbour-place s.cast ready.cast p from near))
+    (waits n.body (node_number from) request (neighbour-place s.cast ready.cast p from near))
     (wait-body (role_of s.cast p).script s.made p n.body (node_number from) request (live-ready s ready p n at).body) names (role-id s.cast p)
 heard-by s ready p from n kept post plan there at near names keeping (ways.answers_again body talk old is) =
     let place = neighbour-place s.cast ready.cast p from near in

@@ -15,7 +15,8 @@ use Rattle.kt_history.specs.WellFormed.{CausesComeFirst, HasNoCut}
 use Rattle.kt_history.proofs.Shared.{line-own, InPast-back, Stands-no_cut, survives-decides}
 use Rattle.kt_lines.specs.ShardLine.{shard_of_acts, new_shard}
 use Rattle.kt_lines.proofs.Shared.{is_home, shares, shares-whole, flat_map-like, range_within}
-use Rattle.kt_lines.proofs.Shared.{surviving_tuples, survivors_run, survivors_order, survivors_bags, causes_come_first}
+use Rattle.kt_lines.proofs.Shared.{surviving_tuples, survivors_run, survivors_order, survivors_bags}
+use Rattle.kt_history.proofs.Shared.{CausesComeFirst-from_well_formed}
 use Rattle.kt_node.specs.Node.{Body, IsWorker, IsShard, Live}
 use Rattle.kt_world.specs.Cast.{is_shard}
 use Rattle.kt_world.specs.State.{State, node}
@@ -28,7 +29,7 @@ use Rattle.kt_world.proofs.ActLeaves.{alive_like}
 
 pub one_run : (s : State) → IsSound s → HasOneRun s
 one_run s sound =
-    let causes = causes_come_first s.history sound.well_formed in record {
+    let causes = CausesComeFirst-from_well_formed s.history sound.well_formed in record {
       well_formed = sound.well_formed;
       tuples = surviving_tuples s.history;
       one_run = survivors_run (setting_of s.cast) s.history causes sound.legal;
@@ -43,7 +44,7 @@ nothing_lost h none n act = Stands-no_cut h n none act
 pub survives_all : (s : State) → IsSound s → IsNothingLost s.history → (n : ℕ) → Stands s.history n → Survives s.history n
 survives_all s sound all n stands =
     let own = line-own s.history stands.0 n stands.1 in
-    let causes = causes_come_first s.history sound.well_formed in
+    let causes = CausesComeFirst-from_well_formed s.history sound.well_formed in
     λ e past lost. lost (all e (InPast-back s.history causes e (own.act, own.is_act) past).1)
 
 -- ---- where nothing that is remembered has lost anything of its past
@@ -69,10 +70,10 @@ bags_held s sound some all alive =
     (λ r c. let w = range_within 1 s.cast.shards r c in one r w.0 (omega (arith, w.1))))
   where
     causes : CausesComeFirst s.history
-    causes = causes_come_first s.history sound.well_formed
+    causes = CausesComeFirst-from_well_formed s.history sound.well_formed
 
     marked : (p : NodeId) (n : ℕ) → Contains (line s.history p) n → IsTrue (survives s.history n)
-    marked p n c = (survives-decides s.history (causes_come_first s.history sound.well_formed) n).1 (all n (p, c))
+    marked p n c = (survives-decides s.history (CausesComeFirst-from_well_formed s.history sound.well_formed) n).1 (all n (p, c))
 
     one : (r : ℕ) → 1 ≤ r → r ≤ s.cast.shards → IsPermutation (filter (is_home s.cast.shards r) (surviving_tuples s.history)) (bag_of (node s (ids.Shard r)))
     one r from below =

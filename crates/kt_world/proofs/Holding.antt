@@ -11,7 +11,8 @@ use Rattle.kt_history.specs.Line.{line}
 use Rattle.kt_history.specs.Closed.{acts_in_line}
 use Rattle.kt_lines.specs.Hearing.{WasHeardFor}
 use Rattle.kt_history.specs.WellFormed.{HasNoCut}
-use Rattle.kt_lines.proofs.Shared.{surviving_tuples, survivors_run, causes_come_first}
+use Rattle.kt_lines.proofs.Shared.{surviving_tuples, survivors_run}
+use Rattle.kt_history.proofs.Shared.{CausesComeFirst-from_well_formed}
 use Rattle.kt_node.specs.declared.plan.Plan.{Plan}
 use Rattle.kt_world.specs.declared.step.Step.{Step}
 use Rattle.kt_world.specs.declared.step.StepError.{StepError}
@@ -21,7 +22,7 @@ use Rattle.kt_world.specs.Cast.{Cast, IsCast}
 use Rattle.kt_world.specs.State.{State}
 use Rattle.kt_world.specs.Asks.{setting_of}
 use Rattle.kt_world.specs.Told.{told}
-use Rattle.kt_world.specs.Judge.{planned}
+use Rattle.kt_world.specs.Judge.{IsUndamaged, planned}
 use Rattle.kt_world.specs.Effect.{applied, applied_if, step_result}
 use Rattle.kt_world.specs.Reached.{IsReached, opening, or_as_it_was, next_state, after}
 use Rattle.kt_world.specs.Short.{AreShort}
@@ -41,12 +42,15 @@ use Rattle.kt_world.proofs.Headlines.{one_run, nothing_lost, survives_all, bags_
 use Rattle.kt_world.proofs.FirstCut.{IsCalm, shard-alive, stays_calm, failure_cuts_first, opening_calm}
 use Rattle.kt_world.proofs.LinesAfter.{notes_one, line_after, shorter_forgets}
 use Rattle.kt_world.proofs.Following.{workers_follow, service_heard}
+use Rattle.kt_world.proofs.Fit.{IsFitting, fits-fitting, plan-fits, opening-fitting}
+use Rattle.kt_world.proofs.Undamaged.{never-damaged}
 
 pub record Holds (s : State) : Type 0 where
   pub ready : IsReady s
   pub backed : IsBacked s
   pub sound : IsSound s
   pub calm : HasNoCut s.history → IsCalm s
+  pub fitting : IsFitting s
 
 -- how a step was made
 pub record IsMade (s : State) (step : Step) (new : State) : Type 0 where
@@ -68,6 +72,8 @@ made-holds s step new h m = let P : State → Type 0 = Holds in subst P m.leads 
   backed = stays_backed s h.backed m.few step m.plan m.is_plan;
   sound = step_sound s h.ready h.backed h.sound step m.plan m.is_plan;
   calm = stays_calm s h.ready h.calm (told s step) step m.plan m.is_plan;
+  fitting = fits-fitting s step m.plan h.fitting (step_keeps s h.ready h.backed h.sound step m.plan m.is_plan).may
+      (plan-fits s h.ready h.backed h.fitting step m.plan m.is_plan);
 })
 
 result-holds : (s : State) (step : Step) (r : Result State StepError) → Holds s → step_result s step ≡ r → Holds (or_as_it_was r s)
@@ -86,6 +92,7 @@ opening-holds cast is short = record {
   backed = opening-backed cast is;
   sound = opening_sound cast;
   calm = λ none. opening_calm cast is;
+  fitting = opening-fitting cast;
 }
 
 pub reached-holds : (s : State) → IsReached s → Holds s
@@ -103,6 +110,10 @@ pub services-reached : (s : State) → IsReached s → (r : ℕ) (before : List 
     → acts_in_line s.history (ids.Shard r) ≡ before ++ a ∷ later → a.what ≡ Served answer → WasHeardFor before a
 services-reached s is = service_heard s (reached-holds s is).sound
 
+-- what is stored fits its node
+pub undamaged-reached : (s : State) → IsReached s → IsUndamaged s
+undamaged-reached s is = let h = reached-holds s is in never-damaged s h.ready h.sound h.fitting
+
 -- without a cut nobody is down, so all tuples are there
 pub whole-reached : (s : State) → IsReached s → HasNoCut s.history → IsWhole s
 whole-reached s is none =
@@ -112,7 +123,7 @@ whole-reached s is none =
       all_stand = nothing_lost s.history none;
       all_survive = λ n act. all n (nothing_lost s.history none n act);
       tuples = surviving_tuples s.history;
-      one_run = survivors_run (setting_of s.cast) s.history (causes_come_first s.history h.sound.well_formed) h.sound.legal;
+      one_run = survivors_run (setting_of s.cast) s.history (CausesComeFirst-from_well_formed s.history h.sound.well_formed) h.sound.legal;
       are_held = bags_held s h.sound h.ready.cast.some_shards all (λ r there. shard-alive s h.ready (h.calm none) r there);
     }
 

@@ -1,5 +1,5 @@
 -- What the leaves of the tables are made of: whom they send to, and what becomes of a node's work.
-use Rattle.std.proofs.Common.{◌≡◌, ℕ, ◌+◌, ◌<◌, Bool, true, false, List, Contains, Option, None, Some, sym, subst, arith, refl, ap, ◌∙◌}
+use Rattle.std.proofs.Common.{◌≡◌, ℕ, ◌+◌, Bool, true, false, List, Contains, Option, None, Some, sym, subst, arith, refl, ap, ◌∙◌}
 use Rattle.std.specs.Prelude.{IfSome, IsTrue, unwrap_or}
 use Rattle.std.specs.List.{AllByRecursion}
 use Rattle.kt_tuple.specs.declared.node.NodeId.{NodeId}
@@ -9,7 +9,6 @@ use Rattle.kt_script.specs.declared.command.Command.{Command}
 use Rattle.kt_worker.specs.declared.worker.Worker.{Worker}
 use Rattle.kt_shard.specs.declared.request.Request.{Request}
 use Rattle.kt_shard.specs.Service.{Service}
-use Rattle.kt_shard.specs.Limits.{desks}
 use Rattle.kt_ckpt.specs.declared.marks.Marks.{Marks}
 use Rattle.kt_vote.specs.declared.asker.Asker.{Asker}
 use Rattle.kt_vote.specs.declared.vote.Vote.{Vote}
@@ -45,18 +44,6 @@ use Rattle.kt_world.specs.Told.{of_poll}
 pub can-stay : (b : Body) → CanChangeBody b bodies.Stay
 can-stay (IsWorker x) = tt
 can-stay (IsShard y) = tt
-
-pub can-work : (b : Body) (x : Worker) → CanChangeBody b (bodies.Work x)
-can-work (IsWorker w) x = tt
-can-work (IsShard y) x = tt
-
-pub can-wait : (b : Body) (worker : ℕ) (request : Request) → worker < desks → CanChangeBody b (bodies.Wait worker request)
-can-wait (IsWorker w) worker request lt = tt
-can-wait (IsShard y) worker request lt = lt
-
-pub can-serve : (b : Body) (worker : ℕ) (v : Service) → worker < desks → CanChangeBody b (bodies.Serve worker v)
-can-serve (IsWorker w) worker v lt = tt
-can-serve (IsShard y) worker v lt = lt
 
 pub stay-body : (script : List Command) (made : ℕ) (p : NodeId) (b : Body) → IsBodyReady script made p b
     → IsBodyReady script (made + 1) p (changed_body b bodies.Stay)

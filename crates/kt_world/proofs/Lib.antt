@@ -26,7 +26,6 @@ pub mod Boards
 pub mod Writes
 pub mod Backs
 pub mod StaysBacked
-pub mod Scripts
 pub mod Standing
 pub mod Sound
 pub mod NoteSound
@@ -52,6 +51,9 @@ pub mod Following
 pub mod FirstCut
 pub mod Cuts
 pub mod PermanentPart
+pub mod FitBodies
+pub mod Fit
+pub mod Undamaged
 pub mod Holding
 pub mod PermanentReached
 pub mod Shared

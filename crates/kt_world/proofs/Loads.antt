@@ -92,18 +92,18 @@ length-values (v ∷ vs) (u ∷ us) e = ap suc (length-values vs us (and_parts (
 
 within-misfit : (script : List Command) (x : Worker) → IsShort script → is_none (misfit_of script x) ≡ true → IsWithin script x
 within-misfit script x short e =
-    by (nat_lt (length script) x.position.pc) (nat_lt x.position.pc x.number) (are_values_of (variables_of script) x.position.memory.values) refl refl e
+    by (nat_lt (length script) x.position.pc) (nat_lt x.position.pc x.number) (are_values_of (variables_of script) x.position.memory.values) refl refl refl e
   where
-    by : (a b c : Bool) → nat_lt (length script) x.position.pc ≡ a → are_values_of (variables_of script) x.position.memory.values ≡ c
+    by : (a b c : Bool) → nat_lt (length script) x.position.pc ≡ a → nat_lt x.position.pc x.number ≡ b → are_values_of (variables_of script) x.position.memory.values ≡ c
         → is_none (if a then Some misfits.Position else if b then Some misfits.Number else if not c then Some misfits.Values else None) ≡ true
         → IsWithin script x
-    by true b c f g e = absurd cc
-    by false true c f g e = absurd cc
-    by false false false f g e = absurd cc
-    by false false true f g e =
+    by true b c f n g e = absurd cc
+    by false true c f n g e = absurd cc
+    by false false false f n g e = absurd cc
+    by false false true f n g e =
         let few = short.variables in
         let same = length-values (variables_of script) x.position.memory.values g in
-        record { pc = ltb-false (length script) x.position.pc f; values = omega (arith, few, same) }
+        record { pc = ltb-false (length script) x.position.pc f; numbered = ltb-false x.position.pc x.number n; values = omega (arith, few, same) }
 
 if_fits-passed : (b : Bool) (body got : Body) → if_fits b body ≡ Ok got → IsTrue b × (body ≡ got)
 if_fits-passed true body got e = (refl, cc)
@@ -116,7 +116,7 @@ pub short-script : (cast : Cast) → AreShort cast → (n : ℕ) → IsShort (un
 short-script cast short n = by (script_at cast.scripts n) (short n)
   where
     by : (o : Option (List Command)) → IfSome o IsShort → IsShort (unwrap_or o [])
-    by None is = record { commands = omega arith; variables = omega arith }
+    by None is = record { is_script = tt; commands = omega arith; variables = omega arith }
     by (Some script) is = is
 
 pub script-short : (s : State) → IsReady s → (n : ℕ) → IsShort (unwrap_or (script_at s.cast.scripts n) [])
@@ -148,7 +148,7 @@ opening-body cast short made (ids.Worker n) =
     let script : List Command = unwrap_or (script_at cast.scripts n) [] in
     let few = (short-script cast short n).variables in
     let same = within-opening script (short-script cast short n) in
-    record { pc = omega arith; values = omega (arith, same, few) }
+    record { pc = omega arith; numbered = omega arith; values = omega (arith, same, few) }
 opening-body cast short made (ids.Shard n) = omega arith
 
 body-at : (s : State) → IsReady s → (p : NodeId) (stored : Option Ckpt) (body : Body)

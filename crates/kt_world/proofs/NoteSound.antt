@@ -16,7 +16,8 @@ use Rattle.kt_history.proofs.Shared.{acts_in_line-other_act, acts_in_line-other_
 use Rattle.kt_history.proofs.Shared.{Contains-here, Contains-there}
 use Rattle.kt_shard.specs.declared.request.Request.{Request}
 use Rattle.kt_lines.specs.Legal.{AreLegal}
-use Rattle.kt_lines.proofs.Shared.{MayMake, AreLegal-act, AreLegal-cut, IsWellFormed-push}
+use Rattle.kt_lines.proofs.Shared.{MayMake, AreLegal-act, AreLegal-cut}
+use Rattle.kt_history.proofs.Shared.{IsWellFormed-push}
 use Rattle.kt_node.specs.declared.message.Talk.{Talk}
 use Rattle.kt_node.specs.declared.message.Talk.TheVariants as talks
 use Rattle.kt_node.specs.declared.message.Message.{Message}

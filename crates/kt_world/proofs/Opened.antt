@@ -30,7 +30,7 @@ at-replicate d zero k = refl
 at-replicate d (suc n) zero = refl
 at-replicate d (suc n) (suc k) = at-replicate d n k
 
-length-replicate : {A : Type 0} (n : ℕ) (x : A) → length (replicate n x) ≡ n
+pub length-replicate : {A : Type 0} (n : ℕ) (x : A) → length (replicate n x) ≡ n
 length-replicate zero x = refl
 length-replicate (suc n) x = ap suc (length-replicate n x)
 

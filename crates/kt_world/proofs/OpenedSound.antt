@@ -11,7 +11,8 @@ use Rattle.kt_link.specs.Network.{entry_at}
 use Rattle.kt_worker.proofs.Shared.{opening-after}
 use Rattle.kt_shard.specs.Limits.{desks}
 use Rattle.kt_shard.specs.Desk.{empty_desk}
-use Rattle.kt_lines.proofs.Shared.{AreLegal-empty, acts_in_line-empty, IsWellFormed-empty}
+use Rattle.kt_lines.proofs.Shared.{AreLegal-empty, acts_in_line-empty}
+use Rattle.kt_history.proofs.Shared.{IsWellFormed-empty}
 use Rattle.kt_node.specs.declared.message.Message.{Message}
 use Rattle.kt_node.specs.Node.{Node, opening_body, opening_node}
 use Rattle.kt_world.specs.Cast.{Cast, is_node}

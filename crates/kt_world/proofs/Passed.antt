@@ -1,5 +1,5 @@
 -- What was passed where something is planned: each test and each case on the way to an Ok.
-use Rattle.std.proofs.Common.{◌≡◌, ℕ, ◌<◌, Bool, true, false, if◌then◌else◌, Option, Some, None, Result, Ok, Err, refl, ap, subst}
+use Rattle.std.proofs.Common.{◌≡◌, ℕ, ◌<◌, Bool, true, false, if◌then◌else◌, Option, Some, None, Result, Ok, Err, refl, ap}
 use Rattle.std.specs.Prelude.{unwrap_or, IsTrue, nat_lt}
 use Rattle.std.proofs.lemmas.Bool.{ltb-true}
 use Rattle.kt_tuple.specs.declared.node.NodeId.{NodeId}
@@ -19,10 +19,6 @@ use Rattle.kt_world.proofs.Plans.{IsAlive}
 
 abbrev pub planned : Plan → Planned
 planned p = Ok p
-
--- what is planned is this plan
-pub this : (P : Plan → Type 0) (p q : Plan) → P p → planned p ≡ planned q → P q
-this P p q h e = let same : p ≡ q = cc in subst P same h
 
 pub if-passed : (b : Bool) (r : Planned) (refusal : Refusal) (plan : Plan) → (if b then r else Err refusal) ≡ Ok plan → IsTrue b × (r ≡ Ok plan)
 if-passed true r refusal plan e = (refl, e)
@@ -48,7 +44,7 @@ limit-passed made (Err refusals.Unresolved) x e = absurd cc
 limit-passed made (Err refusals.StepLimit) x e = absurd cc
 limit-passed made (Err refusals.OutOfMemory) x e = absurd cc
 
-owner-passed : (r : Planned) (plan : Plan) → of_owner r ≡ Ok plan → r ≡ Ok plan
+pub owner-passed : (r : Planned) (plan : Plan) → of_owner r ≡ Ok plan → r ≡ Ok plan
 owner-passed (Ok p) plan e = let same : p ≡ plan = cc in ap (λ q. Ok q) same
 owner-passed (Err refusal) plan e = absurd cc
 

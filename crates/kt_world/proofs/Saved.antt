@@ -110,7 +110,7 @@ no_desk y w (inl low) =
 no_desk y w (inr high) = past-numbers empty_desk (desk_with (shard_fields y).waiting (shard_fields y).kept) 0 9 w high
 
 -- a script stands at 1 to the number of scripts alone
-no_script-past : (scripts : List (List Command)) (k : ℕ) → length scripts ≤ k → slice_get scripts k ≡ None
+pub no_script-past : (scripts : List (List Command)) (k : ℕ) → length scripts ≤ k → slice_get scripts k ≡ None
 no_script-past [] k past = refl
 no_script-past (x ∷ scripts) zero past = absurd (omega (arith, past))
 no_script-past (x ∷ scripts) (suc k) past = no_script-past scripts k (omega (arith, past))

@@ -86,7 +86,7 @@ rising {A} of least from (suc n) low high = by (of from) (λ next le. rising of 
 rising-entries : {A : Type 0} (of : ℕ → Option A) → IsRising 1 (entries of)
 rising-entries of = rising of 1 1 most_workers (omega arith) (omega arith)
 
-length-listed : (peers : ℕ) (table : List Label) → length (listed peers table) ≡ peers
+pub length-listed : (peers : ℕ) (table : List Label) → length (listed peers table) ≡ peers
 length-listed peers table = length-map (numbers 1 peers) (label_at table) ∙ length-numbers 1 peers
 
 are-peers : (s : State) → IsReady s → (p : NodeId) (sent received : List Label)

@@ -1,7 +1,7 @@
 -- The nodes of a scene: their numbers are small, and neighbours are a worker and a shard.
 use Rattle.std.proofs.Common.{◌≡◌, ℕ, zero, suc, ◌<◌, ◌≤◌, Bool, true, false, ◌&&◌, ◌||◌, List, [], ◌∷◌, length, refl, arith, mod-lt}
-use Rattle.std.specs.Prelude.{is_some, slice_get, nat_le, IsTrue}
-use Rattle.std.proofs.lemmas.Bool.{and_parts, and_from, or_left, or_right, leb-true, le-leb}
+use Rattle.std.specs.Prelude.{is_some, slice_get, IsTrue}
+use Rattle.std.proofs.lemmas.Bool.{or_left, or_right}
 use Rattle.kt_tuple.specs.declared.node.NodeId.{NodeId}
 use Rattle.kt_tuple.specs.declared.node.NodeId.TheVariants as ids
 use Rattle.kt_tuple.specs.declared.op.Op.{Op}
@@ -17,6 +17,7 @@ use Rattle.kt_world.specs.Limits.{rows, most_of_a_kind}
 use Rattle.kt_world.specs.Cast.{Cast, IsCast, script_at, is_worker, is_shard, is_node, is_among}
 use Rattle.kt_world.specs.State.{role_of}
 use Rattle.kt_world.specs.Ready.{AreNeighbours}
+use Rattle.kt_link.proofs.Shared.{among-is, among-true}
 
 slice_get-some : {X : Type 0} (xs : List X) (k : ℕ) → is_some (slice_get xs k) ≡ true → k < length xs
 slice_get-some [] k e = absurd cc
@@ -36,12 +37,6 @@ pub script_at-there : (scripts : List (List Command)) (n : ℕ) → 1 ≤ n → 
 script_at-there scripts zero some few = absurd (omega (arith, some))
 script_at-there scripts (suc n) some few = slice_get-there scripts n (omega (arith, few))
 
-pub among-some : (count n : ℕ) → is_among count n ≡ true → (1 ≤ n) × (n ≤ count)
-among-some count n e = let both = and_parts (nat_le 1 n) (nat_le n count) e in (leb-true 1 n both.0, leb-true n count both.1)
-
-pub among-is : (count n : ℕ) → 1 ≤ n → n ≤ count → is_among count n ≡ true
-among-is count n low high = and_from (nat_le 1 n) (nat_le n count) (le-leb 1 n low) (le-leb n count high)
-
 -- ---- a worker or a shard of the scene
 
 pub data IsNode (cast : Cast) : NodeId → Type 0 where
@@ -57,7 +52,7 @@ of_node cast (ids.Worker n) e = by (is_some (script_at cast.scripts n)) refl e
 of_node cast (ids.Shard n) e = by (is_among cast.shards n) refl e
   where
     by : (b : Bool) → is_among cast.shards n ≡ b → (false || b) ≡ true → IsNode cast (ids.Shard n)
-    by true is e = let h = among-some cast.shards n is in a_shard h.0 h.1
+    by true is e = let h = among-true cast.shards n is in a_shard h.0 h.1
     by false is e = absurd cc
 
 pub worker-node : (cast : Cast) (p : NodeId) → IsTrue (is_worker cast p) → IsTrue (is_node cast p)
@@ -89,14 +84,14 @@ ends cast (ids.Worker w) (ids.Shard r) e = by (is_worker cast (ids.Worker w)) (i
   where
     by : (a b : Bool) → is_worker cast (ids.Worker w) ≡ a → is_shard cast (ids.Shard r) ≡ b → (a && b || false && false) ≡ true
         → Ends cast (ids.Worker w) (ids.Shard r)
-    by true true f g e = let h = script_at-some cast.scripts w f in let k = among-some cast.shards r g in to_shard h.0 h.1 k.0 k.1
+    by true true f g e = let h = script_at-some cast.scripts w f in let k = among-true cast.shards r g in to_shard h.0 h.1 k.0 k.1
     by true false f g e = absurd cc
     by false b f g e = absurd cc
 ends cast (ids.Shard r) (ids.Worker w) e = by (is_shard cast (ids.Shard r)) (is_worker cast (ids.Worker w)) refl refl e
   where
     by : (a b : Bool) → is_shard cast (ids.Shard r) ≡ a → is_worker cast (ids.Worker w) ≡ b → (false && false || a && b) ≡ true
         → Ends cast (ids.Shard r) (ids.Worker w)
-    by true true g f e = let h = script_at-some cast.scripts w f in let k = among-some cast.shards r g in to_worker h.0 h.1 k.0 k.1
+    by true true g f e = let h = script_at-some cast.scripts w f in let k = among-true cast.shards r g in to_worker h.0 h.1 k.0 k.1
     by true false f g e = absurd cc
     by false b f g e = absurd cc
 ends cast (ids.Worker w) (ids.Worker v) e = by (is_worker cast (ids.Worker w)) e
@@ -159,7 +154,7 @@ worker-neighbour cast p (ids.Shard n) e f = absurd cc
 worker-neighbour cast (ids.Worker n) (ids.Worker w) e f = absurd cc
 worker-neighbour cast (ids.Shard r) (ids.Worker w) e f =
     let h = script_at-some cast.scripts w f in
-    let k = among-some cast.shards r e in
+    let k = among-true cast.shards r e in
     from_ends cast (ids.Shard r) (ids.Worker w) (to_worker h.0 h.1 k.0 k.1)
 
 -- neighbours in the scene have a link

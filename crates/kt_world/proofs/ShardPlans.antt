@@ -31,7 +31,8 @@ use Rattle.kt_world.specs.Cast.{Cast, script_at}
 use Rattle.kt_world.specs.Asks.{setting_of}
 use Rattle.kt_lines.specs.Legal.{AreLegal}
 use Rattle.kt_lines.specs.ShardLine.{MadeShard, Hears, AnswersAgain, Ignores, shard_after, shard_of_acts, new_shard, put_row}
-use Rattle.kt_lines.proofs.Shared.{at-put_same, at-put_other, put_row_holds, step_like}
+use Rattle.kt_lines.proofs.Shared.{put_row_holds, step_like}
+use Rattle.kt_shard.proofs.Shared.{at-put_same, at-put_other}
 use Rattle.kt_shard.proofs.Shared.{service-due, service-step}
 use Rattle.kt_lines.proofs.Shared.{WasHeard, waits_heard, ServedIn, keeps_served, ShardLine-home, Contains-acts_at, cause_found, before_at}
 use Rattle.kt_lines.proofs.Shared.{shard_of_acts-push}

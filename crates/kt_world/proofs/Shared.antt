@@ -6,20 +6,22 @@ pub use Rattle.kt_world.proofs.CheckLeaves.{learnt}
 pub use Rattle.kt_world.proofs.Cutting.{held_marks}
 pub use Rattle.kt_world.proofs.Enough.{enough}
 pub use Rattle.kt_world.proofs.FailLeaves.{has_fallen}
+pub use Rattle.kt_world.proofs.Fit.{line-others}
 pub use Rattle.kt_world.proofs.Frames.{applied-other, applied-owner}
 pub use Rattle.kt_world.proofs.Headlines.{bags_held}
 pub use Rattle.kt_world.proofs.Heards.{HeardOf, accepts, answers_again, heard-is, hears, ignores_reply, ignores_request, misses_reply, misses_request}
-pub use Rattle.kt_world.proofs.Holding.{Holds, IsMade, made-holds, one_run-reached, made-noted, opening-holds, reached-holds, step-made}
+pub use Rattle.kt_world.proofs.Holding.{Holds, IsMade, made-holds, one_run-reached, made-noted, opening-holds, reached-holds, step-made, undamaged-reached}
 pub use Rattle.kt_world.proofs.Lists.{all-append, all-filter, all-map, all-numbers}
 pub use Rattle.kt_world.proofs.Loads.{load-passed}
 pub use Rattle.kt_world.proofs.NoteSound.{apart, line-long, note_at-next}
 pub use Rattle.kt_world.proofs.OnLinks.{first-holds, sent-cases, sent_between, taken_off-was}
-pub use Rattle.kt_world.proofs.Opened.{at-replicate, opening-node, opening-ready}
+pub use Rattle.kt_world.proofs.Opened.{at-replicate, length-replicate, opening-node, opening-ready}
+pub use Rattle.kt_world.proofs.Passed.{owner-passed}
 pub use Rattle.kt_world.proofs.PermanentReached.{permanent-reached, stores-reached}
 pub use Rattle.kt_world.proofs.Plans.{Comes, Fit, IsAlive, IsDown, IsDroppedBy, PlanOf, TentativeFits, Votes, holds, rolls}
 pub use Rattle.kt_world.proofs.PlansFound.{plan-few, plan-found}
 pub use Rattle.kt_world.proofs.Saves.{can_act, can_save_node}
-pub use Rattle.kt_world.proofs.Scene.{Ends, IsNode, a_shard, a_worker, across-neighbour, among-some, ends, from_ends, home-neighbour, linked, neighbour-node}
+pub use Rattle.kt_world.proofs.Scene.{Ends, IsNode, a_shard, a_worker, across-neighbour, ends, from_ends, home-neighbour, linked, neighbour-node}
 pub use Rattle.kt_world.proofs.Scene.{neighbour-place, neighbours-turned, of_node, role-id, shard-node, some_peers, to_shard, to_worker, worker-neighbour}
 pub use Rattle.kt_world.proofs.Scene.{worker-node}
 pub use Rattle.kt_world.proofs.Sound.{EndsAs, EndsDown, EndsRolling, MayNote}

@@ -27,7 +27,8 @@ use Rattle.kt_world.specs.Cast.{is_node}
 use Rattle.kt_world.specs.State.{State, role_of, view}
 use Rattle.kt_world.proofs.Plans as plans
 use Rattle.kt_world.proofs.Plans.{IsAlive, IsDown, Votes, PlanOf}
-use Rattle.kt_world.proofs.Passed.{this, if-passed, alive-is}
+use Rattle.kt_node.proofs.Shared.{this}
+use Rattle.kt_world.proofs.Passed.{if-passed, alive-is}
 
 held : (phase : Phase) (b : Poll) → phase ≡ phases.Held b → Votes phase b phases.Held
 held phase b is = subst (λ (x : Phase). Votes x b phases.Held) (sym is) plans.holds

@@ -1,6 +1,6 @@
 -- A worker stays within its script, and a shard's tuples grow by one at most.
-use Rattle.std.proofs.Common.{◌≡◌, ℕ, zero, suc, ◌+◌, ◌≤◌, Bool, true, false, if◌then◌else◌, List, [], ◌∷◌, length}
-use Rattle.std.proofs.Common.{drop, Option, None, Some, refl, ap, ◌∙◌, subst, arith, length-append}
+use Rattle.std.proofs.Common.{◌≡◌, ℕ, zero, suc, ◌+◌, ◌<◌, ◌≤◌, Bool, true, false, if◌then◌else◌, List, [], ◌∷◌, length}
+use Rattle.std.proofs.Common.{drop, Option, None, Some, refl, ◌∙◌, subst, arith, length-append}
 use Rattle.std.proofs.lemmas.List.{length-drop}
 use Rattle.kt_tuple.specs.declared.value.Value.{Value}
 use Rattle.kt_tuple.specs.declared.value.Kind.{Kind}
@@ -17,32 +17,23 @@ use Rattle.kt_script.specs.declared.command.Slot.{Slot}
 use Rattle.kt_script.specs.declared.command.Slot.TheVariants as slots
 use Rattle.kt_script.specs.declared.command.Command.{Command}
 use Rattle.kt_script.specs.declared.command.Command.TheVariants.{Ask, Set, Unless}
-use Rattle.kt_script.specs.Name.{same_name}
 use Rattle.kt_script.specs.Variables.{variables_of}
 use Rattle.kt_script.specs.Meaning.{has_kinds, op_of}
-use Rattle.kt_script.specs.Memory.{Memory, held, with_held, with_slot_held, with_tuple_held, values_after}
+use Rattle.kt_script.specs.Memory.{Memory, held, with_slot_held, with_tuple_held, values_after}
 use Rattle.kt_script.specs.Next.{Position, next_from, next_at, assigned, slots_before}
 use Rattle.kt_space.specs.Picking.{without_match}
 use Rattle.kt_shard.specs.Service.{left_by}
 use Rattle.kt_worker.specs.declared.worker.Worker.{Worker}
 use Rattle.kt_worker.specs.Standing.{unless_asked, asking, issued, heard}
 use Rattle.kt_world.specs.Ready.{IsWithin}
+use Rattle.kt_script.proofs.Shared.{length-with_held}
 
 -- ---- as many values as before
-
-length-held : (vs : List (Name × Kind)) (us : List Value) (x : Name) (w : Value) → length (with_held vs us x w) ≡ length us
-length-held [] us x w = refl
-length-held (v ∷ vs) [] x w = refl
-length-held (v ∷ vs) (u ∷ us) x w = by (same_name x v.0) (length-held vs us x w)
-  where
-    by : (b : Bool) → length (with_held vs us x w) ≡ length us → length (if b then w ∷ us else u ∷ with_held vs us x w) ≡ length (u ∷ us)
-    by true rest = refl
-    by false rest = ap suc rest
 
 length-slot : (vs : List (Name × Kind)) (us : List Value) (slot : Slot) (w : Value) → length (with_slot_held vs us slot w) ≡ length us
 length-slot vs us (slots.Actual actual) w = refl
 length-slot vs us (slots.Formal kind None) w = refl
-length-slot vs us (slots.Formal kind (Some name)) w = length-held vs us name w
+length-slot vs us (slots.Formal kind (Some name)) w = length-with_held vs us name w
 
 length-tuple : (vs : List (Name × Kind)) (us : List Value) (places : List Slot) (t : List Value) → length (with_tuple_held vs us places t) ≡ length us
 length-tuple vs us [] t = refl
@@ -60,27 +51,31 @@ length-after vs us places (answers.Got t) = by (has_kinds (held vs us) places t)
 
 -- ---- the next operation
 
-record IsAhead (end size : ℕ) (next : Next) : Type 0 where
+record IsAhead (start end size : ℕ) (next : Next) : Type 0 where
   pc : next.pc ≤ end
+  past : start < next.pc
   values : length next.env.values ≡ size
 
 ahead-from : (vs : List (Name × Kind)) (memory : Memory) (skipped pc end : ℕ) (commands : List Command) (next : Next) → pc + length commands ≤ end
-    → next_from vs memory skipped pc commands ≡ Some next → IsAhead end (length memory.values) next
+    → next_from vs memory skipped pc commands ≡ Some next → IsAhead pc end (length memory.values) next
 ahead-from vs memory skipped pc end [] next room e = absurd cc
-ahead-from vs memory (suc skipped) pc end (command ∷ later) next room e = ahead-from vs memory skipped (pc + 1) end later next (omega (arith, room)) e
+ahead-from vs memory (suc skipped) pc end (command ∷ later) next room e =
+    let h = ahead-from vs memory skipped (pc + 1) end later next (omega (arith, room)) e in
+    record { pc = h.pc; past = let far = h.past in omega (arith, far); values = h.values }
 ahead-from vs memory zero pc end (Set x y k ∷ later) next room e =
     let h = ahead-from vs (assigned vs memory x y k) 0 (pc + 1) end later next (omega (arith, room)) e in
-    record { pc = h.pc; values = h.values ∙ length-held vs memory.values x _ }
+    record { pc = h.pc; past = let far = h.past in omega (arith, far); values = h.values ∙ length-with_held vs memory.values x _ }
 ahead-from vs memory zero pc end (Unless count ∷ later) next room e =
-    ahead-from vs memory (if memory.was_none then count else 0) (pc + 1) end later next (omega (arith, room)) e
+    let h = ahead-from vs memory (if memory.was_none then count else 0) (pc + 1) end later next (omega (arith, room)) e in
+    record { pc = h.pc; past = let far = h.past in omega (arith, far); values = h.values }
 ahead-from vs memory zero pc end (Ask operation ∷ later) next room e =
     let is : Next = record { op = op_of (held vs memory.values) operation; pc = pc + 1; env = memory } in
     let same : is ≡ next = cc in
-    let P : Next → Type 0 = IsAhead end (length memory.values) in
-    subst P same (record { pc = omega (arith, room); values = refl })
+    let P : Next → Type 0 = IsAhead pc end (length memory.values) in
+    subst P same (record { pc = omega (arith, room); past = omega arith; values = refl })
 
 ahead : (script : List Command) (position : Position) (next : Next) → position.pc ≤ length script → next_at script position ≡ Some next
-    → IsAhead (length script) (length position.memory.values) next
+    → IsAhead position.pc (length script) (length position.memory.values) next
 ahead script position next within e =
     let long = length-drop position.pc script in
     ahead-from (variables_of script) position.memory 0 position.pc (length script) (drop position.pc script) next (omega (arith, within, long)) e
@@ -91,7 +86,11 @@ issued-within script x is = asks x.asked
     goes : (o : Option Next) → next_at script x.position ≡ o → IsWithin script (asking x o)
     goes None e = is
     goes (Some next) e =
-        let h = ahead script x.position next is.pc e in record { pc = h.pc; values = let same = h.values in let few = is.values in omega (arith, same, few) }
+        let h = ahead script x.position next is.pc e in record {
+          pc = h.pc;
+          numbered = let far = h.past in let was = is.numbered in omega (arith, far, was);
+          values = let same = h.values in let few = is.values in omega (arith, same, few);
+        }
 
     asks : (o : Option Op) → IsWithin script (asking x (unless_asked o (next_at script x.position)))
     asks None = goes (next_at script x.position) refl
@@ -101,7 +100,7 @@ pub heard-within : (script : List Command) (x : Worker) (answer : Answer) → Is
 heard-within script x answer is =
     let same = length-after (variables_of script) x.position.memory.values (slots_before script x.position.pc) answer in
     let few = is.values in
-    record { pc = is.pc; values = omega (arith, same, few) }
+    record { pc = is.pc; numbered = is.numbered; values = omega (arith, same, few) }
 
 -- ---- what a shard is left with
 

@@ -1,15 +1,15 @@
 -- What a write makes of what is stored: the owner's row, the rows of others, and the board.
-use Rattle.std.proofs.Common.{◌≡◌, ℕ, ◌+◌, ◌≤◌, Bool, true, false, cond, List, [], ◌∷◌, Option, None, Some, refl, ap, ◌∙◌, subst, arith}
+use Rattle.std.proofs.Common.{◌≡◌, ℕ, ◌+◌, ◌≤◌, Bool, Option, None, Some, refl, ap, ◌∙◌, subst, arith}
 use Rattle.std.specs.Prelude.{IfSome}
 use Rattle.std.specs.List.{find}
 use Rattle.kt_tuple.specs.declared.node.NodeId.{NodeId}
-use Rattle.kt_tuple.specs.Node.{node_eq, node_eq_decides}
+use Rattle.kt_tuple.specs.Node.{node_eq}
 use Rattle.kt_store.specs.declared.rows.NodeRow.{NodeRow}
 use Rattle.kt_store.specs.declared.rows.Purpose.TheVariants as purposes
 use Rattle.kt_store.specs.Content.{Content, IsBoard, greatest, next_instance, row_or, row_of}
 use Rattle.kt_store.specs.Changes.{storing, taken, decided, promoted_from}
 use Rattle.kt_store.specs.Others.{OtherNodesStay}
-use Rattle.kt_store.proofs.Shared.{others_stay_of, stored_is_read, nodes_stay}
+use Rattle.kt_store.proofs.Shared.{others_stay_of, own_row, stored_is_read, nodes_stay}
 use Rattle.kt_node.specs.declared.plan.Write.{Write}
 use Rattle.kt_node.specs.declared.plan.Write.TheVariants as writes
 use Rattle.kt_world.specs.Writing.{content_after}
@@ -17,16 +17,6 @@ use Rattle.kt_world.specs.Backed.{IsAllowed}
 use Rattle.kt_world.proofs.Boards.{Says, begun-says, decided-says, begun-board, decided-board, begun-next, decided-next}
 
 -- ---- rows
-
--- what is stored of a node is its own row
-own_row : (p : NodeId) (rows : List NodeRow) → (row_or p (find (λ (row : NodeRow). node_eq row.node p) rows)).node ≡ p
-own_row p [] = refl
-own_row p (x ∷ rows) = by (node_eq x.node p) refl (own_row p rows)
-  where
-    by : (b : Bool) → node_eq x.node p ≡ b → (row_or p (find (λ (row : NodeRow). node_eq row.node p) rows)).node ≡ p
-        → (row_or p (cond b (Some x) (find (λ (row : NodeRow). node_eq row.node p) rows))).node ≡ p
-    by true is rest = (node_eq_decides x.node p).0 is
-    by false is rest = rest
 
 -- a row that is made of what is stored of the node is read again
 row_read : (p : NodeId) (new : NodeRow) (c : Content) → new.node ≡ (row_of c p).node → row_of (storing new c) p ≡ new

@@ -1,6 +1,7 @@
 -- The plan of a step, or its refusal: of several refusals the first that stands is given.
-use Rattle.std.specs.Prelude.{ℕ, nat_lt, Bool, true, false, if◌then◌else◌, List, [], ◌∷◌, is_some, Result, Ok, Err}
+use Rattle.std.specs.Prelude.{◌≡◌, ℕ, nat_lt, Bool, true, false, if◌then◌else◌, List, [], ◌∷◌, is_some, Result, Ok, Err}
 use Rattle.kt_tuple.specs.declared.node.NodeId.{NodeId}
+use Rattle.kt_store.specs.declared.error.StoreError.{StoreError}
 use Rattle.kt_node.specs.declared.message.Message.{Message}
 use Rattle.kt_node.specs.declared.message.Message.TheVariants as messages
 use Rattle.kt_node.specs.declared.plan.Plan.{Plan}
@@ -77,6 +78,10 @@ abbrev pub within_limit : {X : Type 0} → ℕ → Result X StepError → Result
 within_limit made (Ok plan) = unless_over made (Ok plan)
 within_limit made (Err (refusals.Store refusal)) = unless_over made (Err (refusals.Store refusal))
 within_limit made (Err refusal) = Err refusal
+
+-- what the store says fits the node of each step: no step is refused for damage
+abbrev pub IsUndamaged : State → Type 0
+IsUndamaged s = (step : Step) (refusal : StoreError) → ¬ (judged s (told s step) step ≡ Err (refusals.Store refusal))
 
 -- the plan of a step whose owner is told so, or its refusal
 abbrev pub planned_by : State → Told → Step → Result Plan StepError

@@ -30,9 +30,10 @@ use Rattle.kt_world.specs.State.{State, node, role_of, view}
 abbrev pub AreNeighbours : Cast → NodeId → NodeId → Type 0
 AreNeighbours cast p q = IsTrue (are_neighbours cast p q)
 
--- the worker stands within its script
+-- the worker stands within its script, behind at least as many commands as it made requests
 pub record IsWithin (script : List Command) (x : Worker) : Type 0 where
   pub pc : x.position.pc ≤ length script
+  pub numbered : x.number ≤ x.position.pc
   pub values : length x.position.memory.values ≤ max_variables
 
 -- what a node of this name works with is of its kind, with no more tuples than steps were made

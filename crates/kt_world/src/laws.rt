@@ -16,6 +16,7 @@ ghost use Rattle.kt_world.specs.declared.step.Step.{Step};
 ghost use Rattle.kt_world.specs.Step.{owner};
 ghost use Rattle.kt_world.specs.State.{State};
 ghost use Rattle.kt_world.specs.Effect.{step_result};
+ghost use Rattle.kt_world.specs.Judge.{IsUndamaged};
 ghost use Rattle.kt_world.specs.Reached.{IsReached};
 ghost use Rattle.kt_world.specs.Headline.{HasOneRun, IsWhole, NotesOneAtMost, LineAfter, may_forget, HasCut, IsFailure};
 ghost use Rattle.kt_world.specs.Workers.{WorkersFollowLines};
@@ -67,6 +68,11 @@ pub fn lines_are_cut_by_their_own_node_alone()
 pub fn only_a_failure_makes_the_first_cut()
     ensures first { (s : State) → IsReached s → (step : Step) (new : State) → step_result s step ≡ Ok new
         → HasNoCut s.history → HasCut new.history → IsFailure step }
+{}
+
+/// What is stored fits its node: no step is refused because a checkpoint does not.
+pub fn no_step_is_refused_for_damage()
+    ensures undamaged { (s : State) → IsReached s → IsUndamaged s }
 {}
 
 /// Each stored permanent checkpoint, and each tentative one whose instance did not get No, holds the state behind the

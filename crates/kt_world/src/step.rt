@@ -111,7 +111,7 @@ pub enum StepError {
     /// 100,000 steps were made.
     #[error("StepLimit")]
     StepLimit,
-    /// A call of the store was refused, or gave a checkpoint that does not fit the node.
+    /// A call of the store was refused, or gave a checkpoint that does not fit the node, which no honest store does.
     #[error("Store")]
     Store(StoreError),
     /// Memory ran out.

@@ -6,7 +6,9 @@ use Rattle.kt_world.specs.State.{State}
 use Rattle.kt_world.specs.Step.{owner}
 use Rattle.kt_world.specs.Writing.{content_after}
 use Rattle.kt_core.specs.inner.Machine.{state_of}
-use Rattle.kt_core.proofs.Steps.{allowed, effect, numbers, on-error, ready-beside}
+use Rattle.kt_world.specs.declared.step.StepError.{StepError}
+use Rattle.kt_core.specs.Stepping.{IsCalledFor}
+use Rattle.kt_core.proofs.Steps.{allowed, called-write, effect, numbers, on-error, on-refusal, ready-beside}
 use Rattle.kt_core.proofs.stepping.make.Goals as goal
 
 pub returns-in_err-plan-clause-ready : goal.returns-in_err-plan-clause-ready
@@ -41,6 +43,14 @@ returns-in_err-write-clause-ready g c = let P : State → Type 0 = IsReady in su
 pub returns-in_err-write-clause-same : goal.returns-in_err-write-clause-same
 returns-in_err-write-clause-same g c = on-error _ _ (c.in_ok-plan.ensures.same empty_content)
 
+pub returns-in_err-write-clause-called : goal.returns-in_err-write-clause-called
+returns-in_err-write-clause-called g c =
+    let s = state_of c.args.machine.now (g.S.CkptStore.content c.args.store.now) in
+    let Called : StepError → Type 0 = IsCalledFor s c.args.step in
+    λ h. on-refusal c.from_residual-in_err-write.result _ Called c.from_residual-in_err-write.ensures.1
+    (λ e is. subst Called (sym is) (called-write s c.args.step c.in_ok-plan.plan c.in_err-write.field-0.0
+    (c.in_ok-plan.ensures.plan (c.write.ensures.written.honest h)) (λ none. absurd (cc (c.in_err-write.ensures.quiet none)))))
+
 pub returns-clause-ready : goal.returns-clause-ready
 returns-clause-ready g c =
     let P : State → Type 0 = IsReady in
@@ -52,6 +62,6 @@ pub returns-clause-effect : goal.returns-clause-effect
 returns-clause-effect g c =
     λ h. effect c.args.machine.now c.prepare.new.machine c.carry_out.new.self (g.S.CkptStore.content c.args.store.now)
     (g.S.CkptStore.content c.prepare.new.store) (g.S.CkptStore.content c.write.new.store)
-    c.args.step c.in_ok-plan.plan c.owner.result (c.in_ok-plan.ensures.plan (c.write.ensures.honest h)) c.in_ok-plan.ensures.same
-    (c.in_ok-plan.ensures.content (c.write.ensures.honest h)) c.owner.ensures
-    (c.in_ok-write.ensures.made h) c.carry_out.ensures
+    c.args.step c.in_ok-plan.plan c.owner.result (c.in_ok-plan.ensures.plan (c.write.ensures.written.honest h)) c.in_ok-plan.ensures.same
+    (c.in_ok-plan.ensures.content (c.write.ensures.written.honest h)) c.owner.ensures
+    (c.in_ok-write.ensures.written.made h) c.carry_out.ensures

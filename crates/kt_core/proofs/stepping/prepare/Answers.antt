@@ -4,8 +4,8 @@ use Rattle.kt_world.specs.declared.step.StepError.{StepError}
 use Rattle.kt_world.specs.Judge.{planned}
 use Rattle.kt_world.specs.Ready.{CanApply}
 use Rattle.kt_core.specs.inner.Machine.{state_of}
-use Rattle.kt_core.specs.Stepping.{IsCause, Refuses}
-use Rattle.kt_core.proofs.Steps.{asked, due-planned, refused, caused, only-damaged, is-ok, planned-can, planned-leads, on-refusal}
+use Rattle.kt_core.specs.Stepping.{IsCalledFor, IsCause, Refuses}
+use Rattle.kt_core.proofs.Steps.{asked, called-plan, due-planned, refused, caused, only-damaged, is-ok, planned-can, planned-leads, on-refusal}
 use Rattle.kt_core.proofs.stepping.prepare.Goals as goal
 
 pub returns-clause-can : goal.returns-clause-can
@@ -43,12 +43,21 @@ returns-in_err-plan-clause-cause g c =
     let honest = g.S.CkptStore.is_honest c.tell.new.store in
     let before = g.S.CkptStore.fault_count c.args.store.now in
     let now = g.S.CkptStore.fault_count c.tell.new.store in
-    let Caused : StepError → Type 0 = IsCause before now honest (planned s c.args.step) in
+    let Caused : StepError → Type 0 = IsCause before now honest in
     on-refusal c.from_residual-in_err-plan.result _ Caused c.from_residual-in_err-plan.ensures.1
     (λ e is. subst Caused (sym is) (caused honest before now s c.args.step c.in_ok-told.told c.in_err-plan.field-0.0 c.in_ok-told.ensures.told.later
     (λ h. asked s c.args.step c.in_ok-told.told c.needs.result c.owner-owner.result (c.in_ok-told.ensures.told.value h)
-    c.needs.ensures c.owner-owner.ensures) c.in_err-plan.ensures
+    c.needs.ensures c.owner-owner.ensures) (λ h. c.requires.undamaged (c.in_ok-told.ensures.told.honest h)) c.in_err-plan.ensures
     (only-damaged s c.in_ok-told.told c.args.step c.in_err-plan.field-0.0 c.in_err-plan.ensures)))
+
+pub returns-in_err-plan-clause-called : goal.returns-in_err-plan-clause-called
+returns-in_err-plan-clause-called g c =
+    let s = state_of c.args.machine.now (g.S.CkptStore.content c.args.store.now) in
+    let Called : StepError → Type 0 = IsCalledFor s c.args.step in
+    λ h. on-refusal c.from_residual-in_err-plan.result _ Called c.from_residual-in_err-plan.ensures.1
+    (λ e is. subst Called (sym is) (called-plan s c.args.step c.in_ok-told.told c.in_err-plan.field-0.0
+    (asked s c.args.step c.in_ok-told.told c.needs.result c.owner-owner.result (c.in_ok-told.ensures.told.value h) c.needs.ensures c.owner-owner.ensures)
+    (c.requires.undamaged (c.in_ok-told.ensures.told.honest h)) c.in_err-plan.ensures))
 
 pub returns-in_err-make_room-clause-refusal : goal.returns-in_err-make_room-clause-refusal
 returns-in_err-make_room-clause-refusal g c =

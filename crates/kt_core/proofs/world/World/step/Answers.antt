@@ -2,17 +2,19 @@ use Rattle.std.proofs.Common.{subst}
 use Rattle.std.specs.Prelude.{IfErr, IsTrue, OnOk}
 use Rattle.kt_world.specs.Forced.{IsForced}
 use Rattle.kt_world.specs.Headline.{IsNoted}
-use Rattle.kt_world.specs.Judge.{planned}
 use Rattle.kt_core.specs.inner.Machine.{state_of}
 use Rattle.kt_core.specs.Stepping.{IsCause}
 use Rattle.kt_core.specs.World.{Standing}
-use Rattle.kt_world.proofs.Shared.{reached-holds}
+use Rattle.kt_world.proofs.Shared.{reached-holds, undamaged-reached}
 use Rattle.kt_refinement.proofs.Shared.{headline-reached}
 use Rattle.kt_core.proofs.Worlds.{step-forced, step-noted, step-world}
 use Rattle.kt_core.proofs.world.World.step.Goals as goal
 
 pub make-requires-clause-backed : goal.make-requires-clause-backed
 make-requires-clause-backed g c = λ h. (reached-holds _ (c.self.invariant.reached h)).backed
+
+pub make-requires-clause-undamaged : goal.make-requires-clause-undamaged
+make-requires-clause-undamaged g c = λ h. undamaged-reached _ (c.self.invariant.reached h)
 
 pub invariant_of-self : goal.invariant_of-self
 invariant_of-self g c =
@@ -24,7 +26,7 @@ invariant_of-self g c =
 pub returns-clause-cause : goal.returns-clause-cause
 returns-clause-cause g c =
     let P : Standing → Type 0 = λ old. IfErr c.make.result
-    (IsCause old.faults (g.S.CkptStore.fault_count c.make.new.store) (g.S.CkptStore.is_honest c.make.new.store) (planned old.state c.args.step)) in
+    (IsCause old.faults (g.S.CkptStore.fault_count c.make.new.store) (g.S.CkptStore.is_honest c.make.new.store)) in
     subst P c.self.view_is c.make.ensures.cause
 
 pub returns-clause-headline : goal.returns-clause-headline
