@@ -1,15 +1,14 @@
 -- What the parts of judging a step come to.
-use Rattle.std.proofs.Common.{◌≡◌, ℕ, ◌<◌, ◌≤◌, Bool, true, false, List, [], ◌∷◌, Option, Some, None, Result, Ok, Err, ◌⊎◌, inl, inr, refl, sym, ap, ◌∙◌, subst}
-use Rattle.std.specs.Prelude.{nat_lt, slice_get, length, IsOk}
+use Rattle.std.proofs.Common.{◌≡◌, ℕ, ◌<◌, ◌≤◌, true, false, List, [], ◌∷◌, Some, None, Result, Ok, Err, refl, sym, ap, ◌∙◌, subst}
+use Rattle.std.specs.Prelude.{nat_lt, slice_get}
 use Rattle.std.proofs.lemmas.Bool.{lt-ltb, le-ltb}
 use Rattle.kt_tuple.specs.declared.node.NodeId.{NodeId}
-use Rattle.kt_link.specs.Network.{place, entry_at}
 use Rattle.kt_node.specs.declared.message.Message.{Message}
 use Rattle.kt_node.specs.declared.plan.Plan.{Plan}
 use Rattle.kt_node.specs.declared.refusal.Refusal.{Refusal}
 use Rattle.kt_node.specs.declared.refusal.Refusal.TheVariants as reasons
 use Rattle.kt_node.specs.View.{View}
-use Rattle.kt_node.specs.Plan.{Gives as Plans, Planned}
+use Rattle.kt_node.specs.Plan.{Gives as Plans}
 use Rattle.kt_world.specs.declared.step.Step.{Step}
 use Rattle.kt_world.specs.declared.step.Step.TheVariants as steps
 use Rattle.kt_world.specs.declared.step.StepError.{StepError}
@@ -18,7 +17,7 @@ use Rattle.kt_world.specs.declared.told.Told.{Told}
 use Rattle.kt_world.specs.Limits.{most_steps}
 use Rattle.kt_world.specs.Step.{owner}
 use Rattle.kt_world.specs.State.{State, link, view}
-use Rattle.kt_world.specs.Judge.{delivery, due, hear, within_limit, unless_over}
+use Rattle.kt_world.specs.Judge.{delivery, due, hear, within_limit}
 use Rattle.kt_core.specs.inner.Machine.{Gives}
 use Rattle.kt_core.specs.inner.Judged.{is_refused}
 

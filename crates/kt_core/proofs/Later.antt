@@ -1,14 +1,13 @@
 -- One reading after another.
 use Rattle.std.proofs.Common.{◌≡◌, ℕ, zero, suc, ◌+◌, ◌<◌, ◌≤◌, Bool, List, [], ◌∷◌, ◌++◌, refl}
-use Rattle.std.proofs.Common.{append-nil, append_assoc, add-one, Result, Ok, Err, ◌⊎◌, inl, inr, sym, ap, ◌∙◌, arith}
+use Rattle.std.proofs.Common.{append-nil, append_assoc, add-one, Ok, Err, ◌⊎◌, inl, inr, sym, ap, ◌∙◌, arith}
 use Rattle.std.specs.Prelude.{Option, map, ◌&&◌}
 use Rattle.std.specs.List.{flat_map, list_all, range_with_len}
 use Rattle.kt_node.specs.declared.node.Node.{Node}
 use Rattle.kt_world.specs.Headline.{is_steady_row}
 use Rattle.kt_core.specs.inner.Rows.{is_steady_code, row_view}
-use Rattle.std.specs.Prelude.{IfErr, IfOk, IsTrue}
+use Rattle.std.specs.Prelude.{IsTrue}
 use Rattle.kt_store.specs.declared.error.StoreError.{StoreError}
-use Rattle.kt_store.specs.declared.error.StoreError.TheVariants.{Device}
 use Rattle.kt_store.specs.Calls.{most_faults}
 use Rattle.kt_store.specs.Content.{Content}
 use Rattle.kt_core.specs.Store.{IsFault, IsRead}

@@ -1,11 +1,11 @@
 -- What a world lends of its nodes and links, and which steps it allows.
-use Rattle.std.specs.Prelude.{ℕ, Bool, List, Option, None, Some, slice_get, unwrap_or}
+use Rattle.std.specs.Prelude.{ℕ, Bool, List, Option, None, Some, slice_get}
 use Rattle.kt_tuple.specs.declared.node.NodeId.{NodeId}
 use Rattle.kt_worker.specs.declared.worker.Worker.{Worker}
 use Rattle.kt_shard.specs.Shard.{Shard}
 use Rattle.kt_node.specs.declared.message.Message.{Message}
 use Rattle.kt_node.specs.declared.message.Post.{Post}
-use Rattle.kt_node.specs.Node.{Live, Down, worker_in, shard_in}
+use Rattle.kt_node.specs.Node.{Live, worker_in, shard_in}
 use Rattle.kt_node.specs.Kept.{kept_of}
 use Rattle.kt_node.specs.Steps.{up_of}
 use Rattle.kt_world.specs.declared.step.Step.{Step}

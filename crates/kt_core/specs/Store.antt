@@ -1,5 +1,5 @@
 -- What reading from a store and writing to it leaves, and why either may be refused.
-use Rattle.std.specs.Prelude.{◌≡◌, ◌⊎◌, ◌<◌, ◌≤◌, ℕ, Bool, false, Result, Ok, Err, IfOk, IfErr, OnOk, OnErr, IsTrue}
+use Rattle.std.specs.Prelude.{◌≡◌, ◌⊎◌, ◌<◌, ◌≤◌, ℕ, Bool, false, Result, IfOk, IfErr, OnOk, OnErr, IsTrue}
 use Rattle.kt_store.specs.declared.error.StoreError.{StoreError}
 use Rattle.kt_store.specs.declared.error.StoreError.TheVariants.{Device, Damaged, Full}
 use Rattle.kt_store.specs.Content.{Content}

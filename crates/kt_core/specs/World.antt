@@ -1,5 +1,5 @@
 -- What a world is to its callers.
-use Rattle.std.specs.Prelude.{◌≡◌, ℕ, Bool, IsTrue}
+use Rattle.std.specs.Prelude.{ℕ, Bool, IsTrue}
 use Rattle.kt_core.specs.declared.world.OpenError.{OpenError}
 use Rattle.kt_core.specs.declared.world.OpenError.TheVariants as opened
 use Rattle.kt_core.specs.Store.{IsFault}

@@ -1,5 +1,5 @@
 -- A refusal of the store in the last of several calls is one of all of them.
-use Rattle.std.proofs.Common.{◌≡◌, ℕ, ◌<◌, ◌≤◌, ◌⊎◌, Bool, true, false, arith}
+use Rattle.std.proofs.Common.{ℕ, ◌≤◌, Bool, true, false}
 use Rattle.std.specs.Prelude.{IsTrue}
 use Rattle.kt_world.specs.declared.step.StepError.{StepError}
 use Rattle.kt_world.specs.declared.step.StepError.TheVariants as refusals

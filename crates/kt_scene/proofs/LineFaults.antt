@@ -22,7 +22,7 @@ use Rattle.kt_scene.specs.Commands.{spelled_of, fault_from as fault_of_command, 
 use Rattle.kt_scene.specs.Lines.{Sketch, nothing_read, is_word, is_ignored, is_ended, shards_of, titled, with_shards, closed, added, with_command}
 use Rattle.kt_scene.specs.Lines.{told, line_read}
 use Rattle.kt_scene.specs.Reading.{play_with}
-use Rattle.kt_scene.specs.Work.{Work, Steps, Faults, kind_of, work_word}
+use Rattle.kt_scene.specs.Work.{kind_of, work_word}
 use Rattle.kt_scene.specs.Text.{told_lines}
 use Rattle.kt_scene.specs.Scenario.{IsPlay, is_told}
 use Rattle.kt_scene.specs.Faults.{HasVerb, Spells, SpellsShards, IsInScript, IsWhole, title_line, AreShards, IsHead, IsNoHeader}

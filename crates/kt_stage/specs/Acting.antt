@@ -5,7 +5,8 @@ use Rattle.kt_world.specs.declared.step.Step.{Step}
 use Rattle.kt_world.specs.declared.step.StepError.{StepError}
 use Rattle.kt_world.specs.declared.step.StepError.TheVariants as refusals
 use Rattle.kt_world.specs.Step.{owner}
-use Rattle.kt_core.specs.Stepping.{IsCause, Refuses}
+use Rattle.kt_world.specs.State.{State}
+use Rattle.kt_core.specs.Stepping.{IsCalledFor, IsCause, Refuses}
 use Rattle.kt_stage.specs.declared.error.ActError.{ActError}
 use Rattle.kt_stage.specs.declared.error.ActError.TheVariants as errors
 
@@ -27,3 +28,8 @@ RefusesAct (errors.Step refusal) due = RefusesStep refusal due
 abbrev pub IsActCause : ℕ → ℕ → Bool → ActError → Type 0
 IsActCause before now is_honest errors.NotOwner = Unit {0}
 IsActCause before now is_honest (errors.Step refusal) = IsCause before now is_honest refusal
+
+-- and only of a step for which the store is called
+abbrev pub IsActCalledFor : State → Step → ActError → Type 0
+IsActCalledFor s step errors.NotOwner = Unit {0}
+IsActCalledFor s step (errors.Step refusal) = IsCalledFor s step refusal

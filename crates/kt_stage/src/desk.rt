@@ -2,9 +2,9 @@
 
 ghost use Rattle.std.specs.Prelude.{◌≡◌, ◌↔◌, ◌++◌, ◌∷◌, [], length, true, vec_len, IfErr, IfOk, IsTrue, Ok, OnErr};
 ghost use Rattle.std.specs.Prelude.{OnOk};
-ghost use Rattle.kt_core.specs.Stepping.{IsCause};
+ghost use Rattle.kt_core.specs.Stepping.{IsCalledFor, IsCause};
 ghost use Rattle.kt_core.specs.World.{beside};
-ghost use Rattle.kt_stage.specs.Acting.{IsActCause, IsOthers, RefusesAct, RefusesStep};
+ghost use Rattle.kt_stage.specs.Acting.{IsActCalledFor, IsActCause, IsOthers, RefusesAct, RefusesStep};
 ghost use Rattle.kt_stage.specs.Asking.{IsAsked};
 ghost use Rattle.kt_stage.specs.Journal.{Replays, are_owned, receipt};
 ghost use Rattle.kt_stage.specs.Policy.{next_step};
@@ -54,6 +54,7 @@ impl<S: CkptStore> Journal<S> {
         ensures refusal { IsTrue self.new.world.is_honest
             → IfErr result (λ e. RefusesStep e (planned self.old.world.state step)) }
         ensures cause { IfErr result (IsCause self.old.world.faults self.new.world.faults self.new.world.is_honest) }
+        ensures called { IsTrue self.new.world.is_honest → IfErr result (IsCalledFor self.old.world.state step) }
     {
         if self.steps.reserve(1).is_err() {
             return Err(StepError::OutOfMemory);
@@ -104,6 +105,8 @@ impl<S: CkptStore, L: Naming> Desk<S, L> {
             → IfErr result (λ e. RefusesAct e (planned self.old.journal.world.state step)) }
         ensures cause { IfErr result (IsActCause self.old.journal.world.faults self.new.journal.world.faults
             self.new.journal.world.is_honest) }
+        ensures called { IsTrue self.new.journal.world.is_honest
+            → IfErr result (IsActCalledFor self.old.journal.world.state step) }
         ensures same_seat { OnErr result (seat.new.receipts ≡ seat.old.receipts) }
         ensures same_steps { OnErr result (self.new.journal.steps ≡ self.old.journal.steps) }
         ensures same { IsTrue self.new.journal.world.is_honest

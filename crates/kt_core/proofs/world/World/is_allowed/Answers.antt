@@ -1,7 +1,5 @@
 use Rattle.std.proofs.Common.{◌≡◌, ◌∙◌, ap, subst}
-use Rattle.std.specs.Prelude.{not, IfOk, IsTrue}
-use Rattle.kt_node.specs.declared.plan.Plan.{Plan}
-use Rattle.kt_world.specs.declared.step.StepError.{StepError}
+use Rattle.std.specs.Prelude.{not, IsTrue}
 use Rattle.kt_world.proofs.Shared.{reached-holds}
 use Rattle.kt_core.specs.inner.Machine.{state_of, Gives}
 use Rattle.kt_core.specs.Lent.{is_allowed}
