@@ -107,7 +107,7 @@ def runs():
 
 
 def stored(file):
-    """What `sqlite3` shows of a run's store is what its journal tells: its instances, and that nodes came back so often."""
+    """What `sqlite3` shows of a run's store is what its journal tells: its instances, and how often nodes came back."""
     if not shutil.which("sqlite3"):
         print("skipped what sqlite3 shows of a run: it is not there")
         return

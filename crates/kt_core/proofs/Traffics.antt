@@ -11,7 +11,7 @@ use Rattle.kt_link.proofs.Shared.{other_room}
 use Rattle.kt_node.specs.declared.message.Message.{Message}
 use Rattle.kt_world.specs.Cast.{Cast}
 use Rattle.kt_world.specs.Ready as ready
-use Rattle.kt_world.proofs.Shared.{Ends, to_shard, to_worker, ends}
+use Rattle.kt_world.proofs.Shared.{Ends, all-through, to_shard, to_worker, ends}
 use Rattle.kt_world.specs.Effect.{Way, sent_one, sent}
 use Rattle.kt_core.specs.inner.Traffic.{IsSameTraffic}
 
@@ -68,10 +68,6 @@ rooms_used old new p q n only used x y has = elim (pairs p q x y) [
 
 -- ---- over lists of messages
 
-pub all-map : {X : Type 0} (P Q : X → Type 0) (xs : List X) → ((x : X) → P x → Q x) → AllByRecursion P xs → AllByRecursion Q xs
-all-map P Q [] f all = tt
-all-map P Q (x ∷ xs) f all = (f x all.0, all-map P Q xs f all.1)
-
 pub all-get : {X : Type 0} (P : X → Type 0) (xs : List X) (k : ℕ) (x d : X) → AllByRecursion P xs → k < length xs → x ≡ get_or xs k d → P x
 all-get P [] k x d all lt e = absurd (omega arith)
 all-get P (y ∷ ys) zero x d all lt e = subst P (sym e) all.0
@@ -104,8 +100,8 @@ pub wired : (cast : Cast) (net : Net) (p : NodeId) (send : List (NodeId × Messa
 wired cast net p send w s all =
     subst (λ (k : ℕ). AllByRecursion (λ (m : NodeId × Message). AreNeighbours k net.shards p m.0) send) (sym w)
     (subst (λ (k : ℕ). AllByRecursion (λ (m : NodeId × Message). AreNeighbours (length cast.scripts) k p m.0) send) (sym s)
-    (all-map (λ (m : NodeId × Message). ready.AreNeighbours cast p m.0) (λ (m : NodeId × Message). AreNeighbours (length cast.scripts) cast.shards p m.0) send
-    (λ m h. linked cast p m.0 (ends cast p m.0 h)) all))
+    (all-through (λ (m : NodeId × Message). ready.AreNeighbours cast p m.0) (λ (m : NodeId × Message). AreNeighbours (length cast.scripts) cast.shards p m.0)
+    send (λ m h. linked cast p m.0 (ends cast p m.0 h)) all))
 
 -- ---- sending all messages, one after the other
 
@@ -141,7 +137,7 @@ sent-next old now new owner all rest later m s is appended used only =
       queues = ap (λ (l : List (List Message)). sent way l owner later) one ∙ ap (sent way now.queues owner) (sym is) ∙ s.queues;
       there = (subst (AllByRecursion (λ (x : NodeId × Message). AreNeighbours old.workers old.shards owner x.0)) is s.there).1;
       room_left =
-          all-map (λ (x : NodeId × Message). suc (length later) ≤ room now owner x.0) (λ (x : NodeId × Message). length later ≤ room new owner x.0) later
+          all-through (λ (x : NodeId × Message). suc (length later) ≤ room now owner x.0) (λ (x : NodeId × Message). length later ≤ room new owner x.0) later
           (λ x h. rooms_used now new owner m.0 (length later) only used owner x.0 (omega (arith, h))) room_later;
     }
 

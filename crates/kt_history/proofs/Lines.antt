@@ -6,6 +6,7 @@ use Rattle.std.proofs.lemmas.List.{take-append-le, take_at, take-take, length-ta
 use Rattle.std.proofs.lemmas.List.Elements.{Contains-push_cases}
 use Rattle.std.proofs.lemmas.Option.{slice_get_within, none-some}
 use Rattle.std.proofs.lemmas.Bool.{eqb-true, eq-eqb, cases_Bool, cond-true, cond-false}
+use Rattle.kt_space.proofs.Shared.{read_pushed}
 use Rattle.kt_tuple.specs.declared.node.NodeId.{NodeId}
 use Rattle.kt_tuple.specs.Node.{node_index}
 use Rattle.kt_history.specs.declared.note.Act.{Act}
@@ -13,7 +14,7 @@ use Rattle.kt_history.specs.declared.note.Note.{Note}
 use Rattle.kt_history.specs.declared.note.Note.TheVariants as notes
 use Rattle.kt_history.specs.Line.{note_at, before, same_node, line_step, line_from, line}
 use Rattle.kt_tuple.proofs.Shared.{node_index-injective}
-use Rattle.kt_history.proofs.Lists.{snoc_ind, slice_get-append_left, slice_get-push, slice_get-push_cases, slice_get-take}
+use Rattle.kt_history.proofs.Lists.{snoc_ind, slice_get-append_left, slice_get-push_cases, slice_get-take}
 use Rattle.kt_history.proofs.Lists.{slice_get-take_below, Contains-from_slice_get, Contains-from_take, Contains-none}
 
 pub same_node-true : (p q : NodeId) → same_node p q ≡ true → p ≡ q
@@ -59,7 +60,7 @@ note_at-old h g zero le = refl
 note_at-old h g (suc n) le = slice_get-append_left h g n (omega (arith, le))
 
 pub note_at-new : (h : List Note) (note : Note) → note_at (h ++ note ∷ []) (suc (length h)) ≡ Some note
-note_at-new h note = slice_get-push h note
+note_at-new h note = read_pushed h note
 
 pub before-old : (h g : List Note) (n : ℕ) → n ≤ suc (length h) → before (h ++ g) n ≡ before h n
 before-old h g zero le = refl

@@ -19,10 +19,6 @@ slice_get-append_left [] ys i h = absurd (omega (arith, h))
 slice_get-append_left (x ∷ xs) ys zero h = refl
 slice_get-append_left (x ∷ xs) ys (suc i) h = slice_get-append_left xs ys i (omega (arith, h))
 
-pub slice_get-push : {X : Type 0} (xs : List X) (y : X) → slice_get (xs ++ y ∷ []) (length xs) ≡ Some y
-slice_get-push [] y = refl
-slice_get-push (x ∷ xs) y = slice_get-push xs y
-
 -- an element of a list with one more at its end
 pub slice_get-push_cases : {X : Type 0} (xs : List X) (y : X) (i : ℕ) (x : X) → slice_get (xs ++ y ∷ []) i ≡ Some x
     → ((i < length xs) × (slice_get xs i ≡ Some x)) ⊎ ((i ≡ length xs) × (y ≡ x))

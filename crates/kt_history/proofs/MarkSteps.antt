@@ -6,7 +6,7 @@ use Rattle.std.proofs.lemmas.List.{get_or-set_same, get_or-set_other, get_or-tak
 use Rattle.kt_history.proofs.Lists.{Contains-from_list_any}
 use Rattle.std.proofs.lemmas.List.Folds.{list_any-append}
 use Rattle.std.proofs.lemmas.Bool.{cases_Bool, cases_eq, eq-eqb, ne_eqb}
-use Rattle.std.proofs.Math.Bool.{and-true}
+use Rattle.std.proofs.Math.Bool.{and-false, and-true, or-false, or-true}
 use Rattle.kt_history.specs.declared.note.Note.{Note}
 use Rattle.kt_history.specs.declared.note.Note.TheVariants as notes
 use Rattle.kt_history.specs.declared.mark.Mark.{Mark}
@@ -16,18 +16,6 @@ use Rattle.kt_history.specs.inner.Marks.{IsRenewed, IsUnmarked, AreLost, HasLost
 pub unmarked-none : (k : ℕ) (m : Mark) → unmarked [] k m ≡ m
 unmarked-none k m = ap (λ b. let n : Mark = record { previous = m.previous; survives = b } in n) (and-true m.survives)
 
-false_last : (a : Bool) → (a && false) ≡ false
-false_last true = refl
-false_last false = refl
-
-true_last : (a : Bool) → (a || true) ≡ true
-true_last true = refl
-true_last false = refl
-
-or-false : (a : Bool) → (a || false) ≡ a
-or-false true = refl
-or-false false = refl
-
 -- one more number is lost
 pub unmarked-push : (xs : List ℕ) (n k : ℕ) (m : Mark)
     → unmarked (xs ++ n ∷ []) k m ≡ cond (n == suc k) (record { previous = m.previous; survives = false }) (unmarked xs k m)
@@ -35,8 +23,8 @@ unmarked-push xs n k m = go (n == suc k) refl where
   go : (b : Bool) → (n == suc k) ≡ b → unmarked (xs ++ n ∷ []) k m ≡ cond b (record { previous = m.previous; survives = false }) (unmarked xs k m)
   go true e =
       ap (λ t. let x : Mark = record { previous = m.previous; survives = m.survives && not t } in x)
-      (list_any-append (λ i. i == suc k) xs (n ∷ []) ∙ ap (λ t. list_any (λ i. i == suc k) xs || (t || false)) e ∙ true_last (list_any (λ i. i == suc k) xs))
-      ∙ ap (λ t. let x : Mark = record { previous = m.previous; survives = t } in x) (false_last m.survives)
+      (list_any-append (λ i. i == suc k) xs (n ∷ []) ∙ ap (λ t. list_any (λ i. i == suc k) xs || (t || false)) e ∙ or-true (list_any (λ i. i == suc k) xs))
+      ∙ ap (λ t. let x : Mark = record { previous = m.previous; survives = t } in x) (and-false m.survives)
   go false e =
       ap (λ t. let x : Mark = record { previous = m.previous; survives = m.survives && not t } in x)
       (list_any-append (λ i. i == suc k) xs (n ∷ []) ∙ ap (λ t. list_any (λ i. i == suc k) xs || (t || false)) e ∙ or-false (list_any (λ i. i == suc k) xs))

@@ -67,7 +67,8 @@ same_times (x ∷ xs) ys h =
 pub IsPermutation-uncons : (u : Tuple) (xs ys : List Tuple) → IsPermutation (u ∷ xs) (u ∷ ys) → IsPermutation xs ys
 IsPermutation-uncons u xs ys h = same_times xs ys (λ v. omega (arith, sum_by-IsPermutation (one v) (u ∷ xs) (u ∷ ys) h, times-cons v u xs, times-cons v u ys))
 
-pub like_none : (t : Template) (x y : List Tuple) → IsPermutation x y → ((u : Tuple) → Contains y u → ¬ Matches t u) → (u : Tuple) → Contains x u → ¬ Matches t u
+pub like_none : (t : Template) (x y : List Tuple) → IsPermutation x y → ((u : Tuple) → Contains y u → ¬ Matches t u)
+    → (u : Tuple) → Contains x u → ¬ Matches t u
 like_none t x y like h u c = h u (Contains-permutation x y u like c)
 
 -- a step from tuples is a step from the same in another order

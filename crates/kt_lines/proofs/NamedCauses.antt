@@ -11,6 +11,7 @@ use Rattle.kt_history.specs.Line.{note_at, line, IsAct}
 use Rattle.kt_history.specs.WellFormed.{CausesComeFirst}
 use Rattle.kt_history.specs.Closed.{act_of, acts_at}
 use Rattle.kt_history.proofs.Shared.{note_before}
+use Rattle.kt_lines.proofs.Lists.{all-append}
 use Rattle.kt_lines.specs.Cause.{hears_worker, cause_of, cause_of_waiting}
 
 -- the cause of an act of the history is an act of it
@@ -18,10 +19,6 @@ cause_named : (h : List Note) → CausesComeFirst h → (n : ℕ) (a : Act) → 
 cause_named h causes n a at some =
     let earlier = causes.follows n (notes.Act a) at some in
     (earlier.0, (note_before h n (notes.Act a) a.by (notes.Act earlier.0) at earlier.1).1)
-
-all-append : {X : Type 0} (P : X → Type 0) (xs ys : List X) → AllByRecursion P xs → AllByRecursion P ys → AllByRecursion P (xs ++ ys)
-all-append P [] ys h g = g
-all-append P (x ∷ xs) ys h g = (h.0, all-append P xs ys h.1 g)
 
 all-reverse : {X : Type 0} (P : X → Type 0) (xs : List X) → AllByRecursion P xs → AllByRecursion P (reverse xs)
 all-reverse P [] h = tt

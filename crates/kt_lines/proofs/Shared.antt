@@ -1,6 +1,6 @@
 -- What the crates above may cite of these proofs.
 pub use Rattle.kt_lines.proofs.Rows.{map-set_changed, map-set_same, set_counted}
-pub use Rattle.kt_lines.proofs.Lists.{all-at}
+pub use Rattle.kt_lines.proofs.Lists.{all-append, all-at}
 pub use Rattle.kt_lines.proofs.Homes.{is_home}
 pub use Rattle.kt_lines.proofs.Numbered.{put_row_holds}
 pub use Rattle.kt_lines.proofs.Causes.{before_at}

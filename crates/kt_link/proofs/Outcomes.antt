@@ -1,10 +1,6 @@
--- What holds where a call answered Ok, or an error.
+-- What holds of a queue where a push answered Ok, or an error.
 use Rattle.std.proofs.Common.{◌≡◌, ◌++◌, ◌∷◌, [], List, sym, ap, ◌∙◌, if◌then◌else◌}
 use Rattle.std.specs.Prelude.{Result, Ok, Err, OnOk, OnErr, is_ok}
-
-pub on_ok : {A E P Q : Type 0} (r : Result A E) → (P → Q) → OnOk r P → OnOk r Q
-on_ok (Ok x) f p = f p
-on_ok (Err e) f p = tt
 
 pub appended : {A E M : Type 0} (r : Result A E) (q was new old : List M) (m : M) → q ≡ new → was ≡ old
     → new ≡ (if is_ok r then old ++ m ∷ [] else old) → OnOk r (q ≡ was ++ m ∷ [])

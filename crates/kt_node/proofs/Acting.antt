@@ -38,9 +38,9 @@ use Rattle.kt_node.specs.Posts.{keep_plan, post_when_up, post_in, post_plan, hea
 abbrev Can : Live → Plan → Type 0
 Can n plan = CanChange (Alive n) plan.change
 
-stays : (b : Body) → CanChangeBody b bodies.Stay
-stays (IsWorker x) = tt
-stays (IsShard y) = tt
+pub can-stay : (b : Body) → CanChangeBody b bodies.Stay
+can-stay (IsWorker x) = tt
+can-stay (IsShard y) = tt
 
 pub works : (b : Body) (x : Worker) → CanChangeBody b (bodies.Work x)
 works (IsWorker w) x = tt
@@ -63,7 +63,7 @@ issues v n r x some few count =
 
 repeats : (v : View) (n : Live) (r : ℕ × Op) → 1 ≤ v.role.peers → v.role.peers < table_size → CanCount n → Can n (repeat_plan v n r)
 repeats v n r some few count =
-    record { body = stays n.body; heard = tt; said = record { count = count; place = home_has_place v.role.peers r.1 some few } }
+    record { body = can-stay n.body; heard = tt; said = record { count = count; place = home_has_place v.role.peers r.1 some few } }
 
 services : (v : View) (n : Live) (worker by : ℕ) (s : Service) → worker < desks → CanCount n → Can n (service_plan v n worker by s)
 services v n worker by s lt count =
@@ -73,8 +73,8 @@ requests : (v : View) (n : Live) (kept : KeptChange) (from : NodeId) (post : Pos
     → Can n (request_plan v n kept from post request a)
 requests v n kept from post request Waits place count = record { body = waits n.body (node_number from) request place; heard = place; said = tt }
 requests v n kept from post request (Again answer) place count =
-    record { body = stays n.body; heard = place; said = record { count = count; place = place } }
-requests v n kept from post request Ignored place count = record { body = stays n.body; heard = place; said = tt }
+    record { body = can-stay n.body; heard = place; said = record { count = count; place = place } }
+requests v n kept from post request Ignored place count = record { body = can-stay n.body; heard = place; said = tt }
 
 either : (P : Plan → Type 0) (b : Bool) (p q : Plan) → P p → P q → P (if b then p else q)
 either P true p q hp hq = hp
@@ -85,15 +85,15 @@ replies : (v : View) (n : Live) (x : Worker) (kept : KeptChange) (from : NodeId)
 replies v n x kept from post request answer place =
     either (Can n) (awaits x request.number request.op) _ _
     (record { body = works n.body (heard v.role.script x answer); heard = place; said = tt })
-    (record { body = stays n.body; heard = place; said = tt })
+    (record { body = can-stay n.body; heard = place; said = tt })
 
 talks_can : (v : View) (n : Live) (kept : KeptChange) (from : NodeId) (post : Post) (body : Body) (talk : Talk) → HasPlace from → CanCount n
     → Can n (talk_plan v n kept from post body talk)
 talks_can v n kept from post (IsWorker x) (talks.Reply request answer) place count = replies v n x kept from post request answer place
-talks_can v n kept from post (IsWorker x) (talks.Request request) place count = record { body = stays n.body; heard = place; said = tt }
+talks_can v n kept from post (IsWorker x) (talks.Request request) place count = record { body = can-stay n.body; heard = place; said = tt }
 talks_can v n kept from post (IsShard y) (talks.Request request) place count =
     requests v n kept from post request (arrival y (node_number from) request) place count
-talks_can v n kept from post (IsShard y) (talks.Reply request answer) place count = record { body = stays n.body; heard = place; said = tt }
+talks_can v n kept from post (IsShard y) (talks.Reply request answer) place count = record { body = can-stay n.body; heard = place; said = tt }
 
 heard_can : (v : View) (n : Live) (kept : KeptChange) (from : NodeId) (post : Post) → HasPlace from → CanCount n → Can n (heard_plan v n kept from post)
 heard_can v n kept from post place count = talks_can v n kept from post n.body post.talk place count
@@ -182,7 +182,7 @@ serve-can v worker place by p can lt e =
 -- ---- an underlying message
 
 keeps_can : (n : Live) (from : NodeId) (post : Post) → Can n (keep_plan from post)
-keeps_can n from post = record { body = stays n.body; heard = tt; said = tt }
+keeps_can n from post = record { body = can-stay n.body; heard = tt; said = tt }
 
 up-can : (v : View) (n : Live) (from : NodeId) (post : Post) (first : Option (NodeId × Post)) → HasPlace from → CanCount n
     → Can n (post_when_up v n from post first)

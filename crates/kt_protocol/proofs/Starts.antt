@@ -16,6 +16,7 @@ use Rattle.kt_protocol.proofs.Invariant.{Away, Meant, top_of, TokenOf, Pair, Eng
 use Rattle.kt_protocol.proofs.Frames.{Later, Later-refl, Token-map, lift, Pair-later, Local-later, Trees-later, Trees-same, at-map, at-same}
 use Rattle.kt_protocol.proofs.Cases.{some-none, none-some, some-one, up-down, up-gone, down-voting, check-rollback, true-false, pull-else, pull-here}
 use Rattle.kt_protocol.proofs.Cases.{pull-other, push-else, push-here}
+use Rattle.kt_protocol.proofs.Verdicts.{same_instance-refl}
 use Rattle.kt_protocol.proofs.Talks.{up-tent}
 use Rattle.kt_protocol.proofs.Keeps.{idle-out, idle-local}
 use Rattle.kt_protocol.proofs.Answers.{childless}
@@ -129,10 +130,6 @@ step_joins peer near s o x i l z rest cohort t first up opened asked w =
         (join-else i par cohort held free (λ j e g. nf (sym (ap (λ k. k.node) (some-one g)))) (w.pair p o u)))
 
 -- an instance is begun
-same_instance-refl : (i : Instance) → same_instance i i ≡ true
-same_instance-refl (Check k) = eq-eqb k k refl
-same_instance-refl (Rollback k) = eq-eqb k k refl
-
 pub begun-now : (i : Instance) (s : State) → (begin i s).board.begun i ≡ true
 begun-now i s = rw (same_instance-refl i) refl
 

@@ -22,7 +22,7 @@ decide-cases i v s j = go (same_instance j i) refl where
   go true e = inl (same_instance-true j i e, refl)
   go false e = inr refl
 
-same_instance-refl : (i : Instance) → same_instance i i ≡ true
+pub same_instance-refl : (i : Instance) → same_instance i i ≡ true
 same_instance-refl (Check k) = eq-eqb k k refl
 same_instance-refl (Rollback k) = eq-eqb k k refl
 

@@ -1,6 +1,6 @@
 -- Votes counted, and what another ballot leaves as it was.
 use Rattle.std.proofs.Common.{◌≡◌, ◌≢◌, ◌⊎◌, ℕ, Bool, true, false, not, ◌||◌, IsTrue, List, Some, inl, inr, refl, sym, ap, subst, ◌∙◌}
-use Rattle.std.proofs.lemmas.Bool.{cases_eq}
+use Rattle.std.proofs.lemmas.Bool.{cases_eq, or_left}
 use Rattle.kt_protocol.specs.Labels.{Label}
 use Rattle.kt_protocol.specs.Lines.{IsIn, top_heard}
 use Rattle.kt_protocol.specs.Machine.{Instance, Check, Rollback, Open, Ballot, Within, Post, Message, Ask, Vote, Mark, Node, Board, State, instance_of}
@@ -126,10 +126,6 @@ count-bits r y false e = inl (rw e (or-true r)) where
   or-true true = refl
   or-true false = refl
 
-or-more : (r x : Bool) → r ≡ true → (r || x) ≡ true
-or-more true x e = refl
-or-more false x e = true-false e refl
-
 pub step_counts : (peer : ℕ → ℕ → Bool) → AreNeighbours peer → (s : State) (o q : ℕ) (i : Instance) (b : Ballot) (y : Bool)
     → (s.node o).mode ≡ Within i b → b.awaited q ≡ true → IsTrue (peer o q)
     → IsIn (a_vote i (a_key o (s.node o).life) y) (s.node q).votes → Invariant peer s
@@ -159,7 +155,7 @@ step_counts peer near s o q i b y e waits t v w =
     out x (inr ne) (asked a k none d) = asked (at-else q false b.awaited x ne ∙ a) k none d
     out x (inr ne) (waiting a k none d) = waiting (at-else q false b.awaited x ne ∙ a) k none d
     out x (inr ne) (voted z k only g r h) = voted z k only g
-        (λ a. elim (r (sym (at-else q false b.awaited x ne) ∙ a)) [ inl f ↦ inl (or-more b.refused (not y) f) | inr f ↦ inr f ]) h
+        (λ a. elim (r (sym (at-else q false b.awaited x ne) ∙ a)) [ inl f ↦ inl (or_left b.refused (not y) f) | inr f ↦ inr f ]) h
 
     into : (p : ℕ) (j : Instance) (d : Ballot) → TokenOf s.board p o (s.node p) n (n.kept p) (s.link p o) j d
         → TokenOf s.board p o (s.node p) new (n.kept p) (s.link p o) j d

@@ -24,7 +24,8 @@ use Rattle.kt_world.specs.Cast.{is_node}
 use Rattle.kt_world.specs.State.{State as World, view}
 use Rattle.kt_world.specs.Told.{told}
 use Rattle.kt_world.specs.Writing.{content_after}
-use Rattle.kt_world.proofs.Shared.{IsAlive, backed-in, Holds, all-append}
+use Rattle.kt_lines.proofs.Shared.{all-append}
+use Rattle.kt_world.proofs.Shared.{IsAlive, backed-in, Holds}
 use Rattle.kt_protocol.specs.Machine.{Check, Node, State}
 use Rattle.kt_protocol.specs.Steps.{joining, asking, begins, begin, change, push}
 use Rattle.kt_protocol.specs.Runs.{nothing_done, one_more}

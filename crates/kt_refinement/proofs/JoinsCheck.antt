@@ -33,7 +33,8 @@ use Rattle.kt_world.specs.Told.{told, tentative_in}
 use Rattle.kt_world.specs.Effect.{applied}
 use Rattle.kt_world.specs.Writing.{content_after}
 use Rattle.kt_world.specs.Ready.{AreNeighbours}
-use Rattle.kt_world.proofs.Shared.{IsAlive, Comes, backed-in, Holds, all-append, neighbour-node, neighbours-turned}
+use Rattle.kt_lines.proofs.Shared.{all-append}
+use Rattle.kt_world.proofs.Shared.{IsAlive, Comes, backed-in, Holds, neighbour-node, neighbours-turned}
 use Rattle.kt_protocol.specs.Labels.{Under, at}
 use Rattle.kt_protocol.specs.Lines.{IsIn}
 use Rattle.kt_protocol.specs.Machine.{Check, Ballot, Within, Message, Mode, Mark, Vote, Node, State}

@@ -2,18 +2,13 @@
 use Rattle.std.proofs.Common.{◌≡◌, ◌≢◌, Bool, true, false, List, [], ◌∷◌, ◌++◌, refl, sym, ap, subst, ◌∙◌, append_assoc, append-nil, inl, inr, ℕ}
 use Rattle.kt_tuple.specs.declared.node.NodeId.{NodeId}
 use Rattle.kt_tuple.specs.Node.{node_index, node_eq, node_eq_decides}
+use Rattle.kt_tuple.proofs.Shared.{node_eq-refl}
 use Rattle.kt_node.specs.declared.message.Post.{Post as RealPost}
 use Rattle.kt_protocol.specs.Labels.{at}
 use Rattle.kt_protocol.specs.Machine.{Post}
 use Rattle.kt_protocol.proofs.Shared.{at-here, at-else}
 use Rattle.kt_refinement.proofs.Represents.{post_of, kept_one, kept_from}
 use Rattle.kt_refinement.proofs.Frames.{cases-node, apart-index}
-
-pub node-same : (p : NodeId) → node_eq p p ≡ true
-node-same p = by (node_eq p p) refl where
-  by : (b : Bool) → node_eq p p ≡ b → b ≡ true
-  by true e = refl
-  by false e = absurd (cc (e, (node_eq_decides p p).1 refl))
 
 pub node-else : (p q : NodeId) → p ≢ q → node_eq p q ≡ false
 node-else p q d = by (node_eq p q) refl where
@@ -22,7 +17,7 @@ node-else p q d = by (node_eq p q) refl where
   by false e = refl
 
 one-own : (p : NodeId) (post : RealPost) → kept_one p (p, post) ≡ post_of post ∷ []
-one-own p post = rw (node-same p) refl
+one-own p post = rw (node_eq-refl p) refl
 
 one-other : (p q : NodeId) (post : RealPost) → p ≢ q → kept_one q (p, post) ≡ []
 one-other p q post d = rw (node-else p q d) refl

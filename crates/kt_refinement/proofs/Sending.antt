@@ -42,7 +42,8 @@ use Rattle.kt_refinement.proofs.Frames.{cases-node, apart-index, Refines, owner-
 use Rattle.kt_refinement.proofs.Known.{alive-is, up-is, near-is}
 use Rattle.kt_refinement.proofs.Acting.{sent-more, heard-unsent}
 use Rattle.kt_refinement.proofs.Acted.{act_turn, acted-is}
-use Rattle.kt_refinement.proofs.Kept.{node-same, node-else}
+use Rattle.kt_tuple.proofs.Shared.{node_eq-refl}
+use Rattle.kt_refinement.proofs.Kept.{node-else}
 
 -- the plan of an act that sends to q
 abbrev pub saying_plan : BodyChange → NodeId → RealPost → Done → Plan
@@ -63,7 +64,7 @@ pub sent-alone : (o : NodeId) (q r : NodeId) (post : RealPost) (m : Message) →
     → only (node_index q) m (node_index r) ≡ carried (to r ((q, messages.Post post) ∷ []))
 unfolding carried to
 sent-alone o q r post m same = elim (cases-node r q) [
-  | inl e ↦ rw (eq-eqb (node_index r) (node_index q) (ap node_index e)) (rw (ap (node_eq q) e ∙ node-same q) (ap (λ x. x ∷ []) same))
+  | inl e ↦ rw (eq-eqb (node_index r) (node_index q) (ap node_index e)) (rw (ap (node_eq q) e ∙ node_eq-refl q) (ap (λ x. x ∷ []) same))
   | inr d ↦ rw (ne_eqb (node_index r) (node_index q) (apart-index r q d)) (rw (node-else q r (λ e. d (sym e))) refl)
 ]
 

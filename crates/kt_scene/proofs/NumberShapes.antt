@@ -10,7 +10,7 @@ use Rattle.std.specs.Option.{option_map}
 use Rattle.std.specs.Str.Parse.{digits_value, signed_digits_value}
 use Rattle.kt_tuple.specs.Grammar.{IsInt, just_zero, positive, negative}
 use Rattle.kt_tuple.specs.Reading.{begins_with_digit, int_at, int_of, has_range}
-use Rattle.kt_tuple.proofs.Shared.{int_of_some, no_sign, int_read, int_takes, int_range}
+use Rattle.kt_tuple.proofs.Shared.{int_of_some, no_sign, int_read, int_takes, int_range, range_of_int}
 use Rattle.kt_scene.specs.declared.fault.SceneError.{SceneError}
 use Rattle.kt_scene.specs.declared.fault.SceneError.TheVariants as faults
 use Rattle.kt_scene.specs.Number.{◌>>=◌, behind, ended, number_of, number_at}
@@ -18,15 +18,6 @@ use Rattle.kt_scene.specs.Lines.{shards_from, count_of, shards_of}
 use Rattle.kt_scene.specs.Faults.{IsNumber, just_zero as only_zero, positive as digits, SpellsShards, AreShards}
 use Rattle.kt_scene.proofs.NumberLaws.{both_read, mapped, ended_read, behind_taken}
 use Rattle.kt_scene.proofs.NumbersRead.{number_at_digit}
-
-range_of_int : (p : List ℕ) → IsInt p → has_range p ≡ is_some (int_of p)
-unfolding has_range
-range_of_int p just_zero = refl
-range_of_int p (positive {c} {ds} first others) =
-    let no_quote : eqb c 34 ≡ false = ne_eqb c 34 (λ e. omega (arith, first.0, e)) in
-    let no_mark : eqb c 63 ≡ false = ne_eqb c 63 (λ e. omega (arith, first.1, e)) in
-    rw (no_quote, no_mark) refl
-range_of_int p (negative first others) = refl
 
 -- an int that has no number is outside 64 bits
 pub int_outside : (p : List ℕ) → IsInt p → int_of p ≡ None → ¬ FitsSigned w64 (signed_digits_value 10 p)

@@ -1,6 +1,7 @@
 -- How many variables a script has with one command more.
 use Rattle.std.proofs.Common.{◌≡◌, ℕ, ◌+◌, Bool, true, false, true≢false, cond, List, [], ◌∷◌}
 use Rattle.std.proofs.Common.{◌++◌, length, length-append, Some, None, refl, sym, ap, ◌∙◌, arith}
+use Rattle.std.proofs.Math.Bool.{or-false, or-true}
 use Rattle.std.specs.Prelude.{if◌then◌else◌, is_some, ◌||◌}
 use Rattle.kt_tuple.specs.declared.value.Kind.{Kind}
 use Rattle.kt_script.specs.declared.name.Name.{Name}
@@ -42,14 +43,6 @@ one_later : (k : Bool) (p m n : ℕ) → (if k then 1 else 0) + m ≡ n → (if 
 one_later true p m n h = omega (arith, h)
 one_later false p m n h = omega (arith, h)
 
-or_false : (a : Bool) → (a || false) ≡ a
-or_false true = refl
-or_false false = refl
-
-or_true : (a : Bool) → (a || true) ≡ true
-or_true true = refl
-or_true false = refl
-
 -- a name that becomes known is counted no more
 pub count_new-push : (vs : List (Name × Kind)) (b : Name × Kind) (bs : List (Name × Kind)) → known vs b.0 ≡ false
     → (if known bs b.0 then 1 else 0) + count_new (vs ++ b ∷ []) bs ≡ count_new vs bs
@@ -61,14 +54,14 @@ count_new-push vs b (c ∷ cs) new = by (same_name b.0 c.0) refl (count_new-push
     by true e h =
         ap (λ d. (if is_some (cond d (Some c.1) (kind_in cs b.0)) then 1 else 0) + count_new (vs ++ b ∷ []) (c ∷ cs)) e
         ∙ ap (λ d. 1 + ((if d || known cs c.0 then 0 else 1) + count_new (vs ++ b ∷ []) cs))
-        (known-push vs b c.0 ∙ ap (λ d. known vs c.0 || d) (same-sym c.0 b.0 ∙ e) ∙ or_true (known vs c.0))
+        (known-push vs b c.0 ∙ ap (λ d. known vs c.0 || d) (same-sym c.0 b.0 ∙ e) ∙ or-true (known vs c.0))
         ∙ one_here (known cs b.0) (count_new (vs ++ b ∷ []) cs) (count_new vs cs) h
         ∙ ap (λ x. (if known cs x then 0 else 1) + count_new vs cs) (same_is b.0 c.0 e)
         ∙ ap (λ d. (if d || known cs c.0 then 0 else 1) + count_new vs cs) (sym new ∙ ap (λ x. known vs x) (same_is b.0 c.0 e))
     by false e h =
         ap (λ d. (if is_some (cond d (Some c.1) (kind_in cs b.0)) then 1 else 0) + count_new (vs ++ b ∷ []) (c ∷ cs)) e
         ∙ ap (λ d. (if known cs b.0 then 1 else 0) + ((if d || known cs c.0 then 0 else 1) + count_new (vs ++ b ∷ []) cs))
-        (known-push vs b c.0 ∙ ap (λ d. known vs c.0 || d) (same-sym c.0 b.0 ∙ e) ∙ or_false (known vs c.0))
+        (known-push vs b c.0 ∙ ap (λ d. known vs c.0 || d) (same-sym c.0 b.0 ∙ e) ∙ or-false (known vs c.0))
         ∙ one_later (known cs b.0) (if known vs c.0 || known cs c.0 then 0 else 1) (count_new (vs ++ b ∷ []) cs) (count_new vs cs) h
 
 -- as many variables as before, and one for each new name

@@ -11,14 +11,11 @@ use Rattle.kt_space.specs.declared.key.Key.{Key}
 use Rattle.kt_space.specs.inner.Grouping.{kinds_key, first_key}
 use Rattle.kt_space.specs.Picking.{could_match, matching, without_match, up_to_match}
 use Rattle.kt_space.specs.inner.Slots.{IsFound, IsIndexed, filled, keyed, passing, through_place}
+use Rattle.kt_space.proofs.Beside.{length-more}
 use Rattle.kt_space.proofs.Filled.{filled_pushed, keyed_pushed, keyed_without, length_without, found_match, found_up_to}
 use Rattle.kt_space.proofs.Filled.{filled_filled, keyed_filled, all_filled}
 use Rattle.kt_space.proofs.Passing.{at_most, mono, whole}
 use Rattle.kt_space.proofs.Picked.{without_none, up_to_all}
-
-length-more : {A : Type 0} (xs : List A) (y : A) → length (xs ++ y ∷ []) ≡ suc (length xs)
-length-more [] y = refl
-length-more (x ∷ xs) y = ap suc (length-more xs y)
 
 pub indexed_pushed : (slots slots' : List (Option Tuple)) (len : ℕ) (kinds firsts kinds' firsts' : List (Option Key)) (u : Tuple)
     → IsIndexed slots len kinds firsts

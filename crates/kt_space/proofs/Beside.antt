@@ -5,6 +5,10 @@ use Rattle.std.proofs.lemmas.Option.{none-some, same_Some}
 use Rattle.kt_space.specs.inner.Chaining.{Has, IsAfter, IsApart, Beside}
 
 -- reading a list with one item more, or one other item
+pub length-more : {A : Type 0} (xs : List A) (y : A) → length (xs ++ y ∷ []) ≡ suc (length xs)
+length-more [] y = refl
+length-more (x ∷ xs) y = ap suc (length-more xs y)
+
 pub read_pushed : {A : Type 0} (xs : List A) (y : A) → slice_get (xs ++ y ∷ []) (length xs) ≡ Some y
 read_pushed [] y = refl
 read_pushed (x ∷ xs) y = read_pushed xs y

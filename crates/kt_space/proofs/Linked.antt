@@ -54,7 +54,7 @@ elsewhere v f (x ∷ xs) (suc i) zero n = ap (λ ys. option_and_then v (slice_ge
 elsewhere v f (x ∷ xs) (suc i) (suc j) n = ap (λ ys. option_and_then v (slice_get ys (suc j))) (changed_later f x xs i)
     ∙ elsewhere v f xs i j (λ e. n (ap suc e))
 
-size_of_groups : (links : List Link) → length (groups_of links) ≡ length links
+pub size_of_groups : (links : List Link) → length (groups_of links) ≡ length links
 size_of_groups [] = refl
 size_of_groups (l ∷ links) = ap suc (size_of_groups links)
 

@@ -9,9 +9,9 @@ use Rattle.kt_space.specs.declared.chains.Ends.{Ends}
 use Rattle.kt_space.specs.declared.chains.Link.{Link}
 use Rattle.kt_space.specs.inner.Chaining.{Has, Fits, IsIn, AreChains, after_of, before_of, changed, groups_of, opened}
 use Rattle.kt_space.specs.inner.Chaining.{after_changed, first_changed, before_changed, last_changed}
-use Rattle.kt_space.proofs.Beside.{read_before, read_pushed}
+use Rattle.kt_space.proofs.Beside.{length-more, read_before, read_pushed}
 use Rattle.kt_space.proofs.Rechained.{unlinked, pushed, grown}
-use Rattle.kt_space.proofs.Linked.{next_hit, next_miss, next_back, next_groups, next_count}
+use Rattle.kt_space.proofs.Linked.{size_of_groups, next_hit, next_miss, next_back, next_groups, next_count}
 use Rattle.kt_space.proofs.Linked.{previous_hit, previous_miss, previous_forth, previous_groups, previous_count}
 use Rattle.kt_space.proofs.Linked.{left_forth, left_back, left_groups, more_forth, more_back, more_groups}
 
@@ -53,10 +53,6 @@ pub unlinked_groups : (links : List Link) (r : ℕ) (a b : Option ℕ)
 unlinked_groups links r a b =
     left_groups (before_changed (after_changed links a b) b a) r
     ∙ ap (λ gs. set gs r None) (previous_groups (after_changed links a b) b a ∙ next_groups links a b)
-
-size_of_groups : (links : List Link) → length (groups_of links) ≡ length links
-size_of_groups [] = refl
-size_of_groups (l ∷ links) = ap suc (size_of_groups links)
 
 pub table_pushed : (ends : List Ends) (links : List Link) (g : ℕ) → AreTables ends links → g < length ends
     → (a : Option ℕ) → a ≡ before_of ends links g None
@@ -107,10 +103,6 @@ pushed_groups links g a to =
     more_groups (after_changed links a to) (record { group = Some g; before = a; after = None }) ∙ ap (λ gs. gs ++ Some g ∷ []) (next_groups links a to)
 
 -- a new group is opened
-length-more : {A : Type 0} (xs : List A) (y : A) → length (xs ++ y ∷ []) ≡ suc (length xs)
-length-more [] y = refl
-length-more (x ∷ xs) y = ap suc (length-more xs y)
-
 pub table_opened : (ends : List Ends) (links : List Link) (g : ℕ) → AreTables ends links → g ≤ length ends
     → AreTables (opened ends g) links × (g < length (opened ends g)) × (length (opened ends g) ≡ max (length ends) (g + 1))
 table_opened ends links g chains le = by (nat_eq g (length ends)) refl

@@ -9,10 +9,6 @@ use Rattle.kt_store.specs.Content.{Content, row_of}
 use Rattle.kt_store.specs.Changes.{storing, restart_begun}
 use Rattle.kt_tables.specs.Rows.{placing}
 
-pub then_ok : {T E A B : Type 0} (r : Result T E) → (A → B) → OnOk r A → OnOk r B
-then_ok (Ok t) f h = f h
-then_ok (Err e) f h = tt
-
 -- what a restart writes
 pub restarts : (c one two : Content) (node : NodeId) (row new : NodeRow) (last : ℕ) → row ≡ row_of one node
     → new ≡ record row { incarnation = row.incarnation + 1 } → two ≡ one → one ≡ c → last ≡ fold max 0 (map (λ (p : Posted). p.instance) c.board)

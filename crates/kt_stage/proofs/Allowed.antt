@@ -3,7 +3,7 @@ use Rattle.std.proofs.Common.{◌≡◌, suc, ◌+◌, ◌-◌, ◌*◌, length,
 use Rattle.std.specs.Prelude.{Option, None, Some, cond, is_some, not, ◌&&◌, ◌||◌, if◌then◌else◌, slice_get, unwrap_or, IfOk, IfSome, IsTrue}
 use Rattle.std.specs.List.{find}
 use Rattle.std.specs.Option.{option_map}
-use Rattle.std.proofs.lemmas.Bool.{and_parts}
+use Rattle.std.proofs.lemmas.Bool.{and_parts, not-true, or_left}
 use Rattle.kt_tuple.specs.declared.node.NodeId.{NodeId}
 use Rattle.kt_tuple.specs.declared.node.NodeId.TheVariants as ids
 use Rattle.kt_store.specs.declared.error.StoreError.{StoreError}
@@ -169,10 +169,6 @@ allowed-restart s p found e =
     in-scene (is_node s.cast p) _ (stands s p (node_got_no s.content) refl found e)
     (restart-or (view s p) known.stored known.next (is_some known.tentative) known.undecided s.content (view s p).node e)
 
-not-true : (b : Bool) → not b ≡ true → b ≡ false
-not-true true e = absurd cc
-not-true false e = refl
-
 allowed-rule : (s : State) (lines : List FaultLine) (p : NodeId) → IsFound s p → (rule : Rule) (x : Step) → by_rule s lines p rule ≡ Some x
     → is_allowed s x ≡ true
 allowed-rule s lines p found rules.Fails x e =
@@ -213,17 +209,13 @@ hearer true false false false e = absurd cc
 hearer false false true false e = absurd cc
 hearer false false false false e = absurd cc
 
-of-worker : (a b : Bool) → a ≡ true → (a || b) ≡ true
-of-worker true b e = refl
-of-worker false b e = absurd cc
-
 of-shard : (a b : Bool) → b ≡ true → (a || b) ≡ true
 of-shard true b e = refl
 of-shard false b e = e
 
 owner-in-scene : (cast : Cast) (step : Step) → is_in_scene cast step ≡ true → is_node cast (owner step) ≡ true
-owner-in-scene cast (Issue p) e = of-worker (is_worker cast p) (is_shard cast p) e
-owner-in-scene cast (Repeat p) e = of-worker (is_worker cast p) (is_shard cast p) e
+owner-in-scene cast (Issue p) e = or_left (is_worker cast p) (is_shard cast p) e
+owner-in-scene cast (Repeat p) e = or_left (is_worker cast p) (is_shard cast p) e
 owner-in-scene cast (Deliver p q) e = hearer (is_worker cast p) (is_shard cast q) (is_shard cast p) (is_worker cast q) e
 owner-in-scene cast (Serve p w place) e = of-shard (is_worker cast p) (is_shard cast p) (and_parts (is_shard cast p) (is_worker cast w) e).0
 owner-in-scene cast (Take p) e = e

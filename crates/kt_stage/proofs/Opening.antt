@@ -5,11 +5,11 @@ use Rattle.kt_tuple.specs.declared.node.NodeId.{NodeId}
 use Rattle.kt_tuple.specs.Node.{node_eq}
 use Rattle.kt_world.specs.Cast.{Cast}
 use Rattle.kt_stage.specs.Order.{has_node, nodes_of}
-use Rattle.kt_stage.proofs.Seats.{same_node}
+use Rattle.kt_tuple.proofs.Shared.{node_eq-refl}
 
 found-at : (xs : List NodeId) (k : ℕ) (d : NodeId) → k < length xs → list_any (node_eq (get_or xs k d)) xs ≡ true
 found-at [] k d lt = absurd (omega (arith, lt))
-found-at (x ∷ xs) zero d lt = rw (same_node x) refl
+found-at (x ∷ xs) zero d lt = rw (node_eq-refl x) refl
 found-at (x ∷ xs) (suc k) d lt = later (node_eq (get_or xs k d) x) (found-at xs k d (omega (arith, lt)))
   where
     later : (b : Bool) → list_any (node_eq (get_or xs k d)) xs ≡ true → (b || list_any (node_eq (get_or xs k d)) xs) ≡ true

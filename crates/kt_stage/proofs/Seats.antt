@@ -10,6 +10,7 @@ use Rattle.std.proofs.lemmas.List.Sorted.{IsPermutation-append_left, IsPermutati
 use Rattle.std.proofs.lemmas.Bool.{and_parts}
 use Rattle.kt_tuple.specs.declared.node.NodeId.{NodeId}
 use Rattle.kt_tuple.specs.Node.{node_eq, node_eq_decides}
+use Rattle.kt_tuple.proofs.Shared.{node_eq-refl}
 use Rattle.kt_world.specs.declared.step.Step.{Step}
 use Rattle.kt_world.specs.Cast.{Cast}
 use Rattle.kt_world.specs.Step.{owner}
@@ -17,9 +18,6 @@ use Rattle.kt_stage.specs.declared.seat.Receipt.{Receipt}
 use Rattle.kt_stage.specs.Closing.{IsClosed, IsMatched, first_missing, full_seat, has_seat, numbered, receipts_in, seats_of}
 use Rattle.kt_stage.specs.Journal.{Held, are_owned, kept_of, receipt, receipts_of}
 use Rattle.kt_stage.specs.Order.{has_node, nodes_of}
-
-pub same_node : (p : NodeId) → node_eq p p ≡ true
-same_node p = (node_eq_decides p p).1 refl
 
 -- ---- the seats of one node
 
@@ -72,7 +70,7 @@ matched-here p steps seats seat later fits has split own are is = (λ e. to (and
     found : seats_of p seats ≡ seat ∷ seats_of p later
     found =
         ap (seats_of p) split
-        ∙ ap (λ (b : Bool). cond b (seat ∷ seats_of p later) (seats_of p later)) (ap (node_eq p) own ∙ same_node p)
+        ∙ ap (λ (b : Bool). cond b (seat ∷ seats_of p later) (seats_of p later)) (ap (node_eq p) own ∙ node_eq-refl p)
 
     to : (fits ≡ true) × (not has ≡ true) → IsMatched steps seats p
     to e =
@@ -139,7 +137,7 @@ pub kept : (steps : List Step) (seats : List Held) → All (λ seat. IsMatched s
     → All (λ seat. seat.receipts ≡ receipts_of seat.node 1 steps) seats
 kept steps seats are k d lt =
     let seat = get_or seats k d in
-    ap (λ (s : Held). s.receipts) (only-at (λ s. node_eq seat.node s.node) seats (full_seat steps seat.node) k d lt (same_node seat.node) (are k d lt))
+    ap (λ (s : Held). s.receipts) (only-at (λ s. node_eq seat.node s.node) seats (full_seat steps seat.node) k d lt (node_eq-refl seat.node) (are k d lt))
 
 -- ---- each step stands in one receipt
 

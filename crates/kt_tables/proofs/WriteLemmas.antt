@@ -5,6 +5,7 @@ use Rattle.std.proofs.Common.{IsPermutation}
 use Rattle.std.specs.Prelude.{nat_lt}
 use Rattle.std.specs.List.{AllByRecursion}
 use Rattle.std.specs.Ordering.{match_ordering, int_eq, is_eq}
+use Rattle.std.proofs.lemmas.Bool.{not-true}
 use Rattle.std.proofs.lemmas.Int.{ints}
 use Rattle.std.proofs.lemmas.List.Sorted.{IsPermutation-refl, IsPermutation-trans, IsPermutation-sym, IsPermutation-cons, IsPermutation-middle}
 use Rattle.std.proofs.lemmas.List.Sorted.{IsPermutation-map}
@@ -146,10 +147,6 @@ had P [] all x has = absurd has
 had P (y ∷ ys) all x (inl here) = subst P (sym here) all.0
 had P (y ∷ ys) all x (inr later) = had P ys all.1 x later
 
-is_not : (b : Bool) → not b ≡ true → b ≡ false
-is_not true h = absurd cc
-is_not false h = refl
-
 put_front : (new : Row) (key : ℤ) → rowid new ≡ Int key → (rows : List Row) → AllByRecursion (λ r. has_rowid key r ≡ false) rows
     → IsPermutation (new ∷ rows) (put_row new rows)
 put_front new key at [] none = IsPermutation-refl _
@@ -181,7 +178,7 @@ module _ {X : Type 0} (t : Table X) where
       ∙ sym (filter-map (λ r. not (has_rowid key r)) t.shown rows)
 
   gone : (key : ℤ) (rows : List Row) → AllByRecursion (λ r. has_rowid key r ≡ false) (without_rowid key rows)
-  gone key rows = all_weaker _ _ (λ r is. is_not (has_rowid key r) is) _ (passing (λ r. not (has_rowid key r)) rows)
+  gone key rows = all_weaker _ _ (λ r is. not-true (has_rowid key r) is) _ (passing (λ r. not (has_rowid key r)) rows)
 
   -- what the table shows then
   put_shown : (new : X) (xs : List X) (rows : List Row) → IsPermutation (map t.given xs) (map t.shown rows)

@@ -2,7 +2,7 @@
 use Rattle.std.proofs.Common.{◌≡◌, ℕ, zero, suc, ◌-◌, ◌^◌, ◌<◌, ◌≤◌, Bool, true, false, cond, ◌&&◌, eqb, leb, List, [], ◌∷◌, ◌++◌}
 use Rattle.std.proofs.Common.{length, get_or, drop, Some, None, Result, Ok, Err, refl, sym, ap, subst, ◌∙◌, arith, length-append}
 use Rattle.std.proofs.lemmas.List.{take_at, drop_at}
-use Rattle.std.proofs.lemmas.Bool.{ne_eqb, eqb-true, ltb-true, leb-true, le-leb}
+use Rattle.std.proofs.lemmas.Bool.{ne_eqb, eqb-true, ltb-true, leb-true, le-leb, and_parts}
 use Rattle.std.specs.Cmp.Derive.{both_true}
 use Rattle.std.specs.Prelude.{ℤ, pos, decimal}
 use Rattle.std.specs.Fmt.{signed_decimal}
@@ -49,17 +49,13 @@ pub data IsInt : List ℕ → Type 0 where
   positive : {ds : List ℕ} → IsPositive ds → IsInt ds
   negative : {ds : List ℕ} → IsPositive ds → IsInt (45 ∷ ds)
 
-both : (a b : Bool) → (a && b) ≡ true → (a ≡ true) × (b ≡ true)
-both true b e = (refl, e)
-both false b e = absurd cc
-
 digit_from_positive : (c : ℕ) → 49 ≤ c → c ≤ 57 → is_ascii_digit c ≡ true
 digit_from_positive c low high = both_true (le-leb 48 c (omega arith)) (le-leb c 57 high)
 
 positive_by_test : (b : Bool) (c : ℕ) (cs rest : List ℕ) → is_in_range 49 57 c ≡ b → (ds : List ℕ) × (cs ≡ ds ++ after_digits cs) × (all_ascii_digits ds ≡ true)
     → cond b (Ok (after_digits cs)) (Err (c ∷ cs)) ≡ Ok rest → (ds : List ℕ) × (c ∷ cs ≡ ds ++ rest) × IsPositive ds
 positive_by_test true c cs rest e (ds, parts, digits) read =
-    let bounds = both (leb 49 c) (leb c 57) e in
+    let bounds = and_parts (leb 49 c) (leb c 57) e in
     let low = leb-true 49 c bounds.0 in
     let same : after_digits cs ≡ rest = cc in (
       c ∷ ds,
@@ -122,8 +118,8 @@ int_taken (c ∷ cs) p rest e = int_by_zero (eqb c 48) c cs p rest refl e
 positive_first : (ds : List ℕ) → IsPositive ds → (c : ℕ) × (cs : List ℕ) × (ds ≡ c ∷ cs) × (eqb c 34 ≡ false) × (eqb c 63 ≡ false)
 positive_first [] h = absurd (omega (arith, h.some))
 positive_first (c ∷ cs) h =
-    let parts = both (is_ascii_digit c) (all_ascii_digits cs) h.digits in
-    let high = leb-true c 57 (both (leb 48 c) (leb c 57) parts.0).1 in
+    let parts = and_parts (is_ascii_digit c) (all_ascii_digits cs) h.digits in
+    let high = leb-true c 57 (and_parts (leb 48 c) (leb c 57) parts.0).1 in
     (c, cs, refl, ne_eqb c 34 (λ e. omega (arith, h.first, e)), ne_eqb c 63 (λ e. omega (arith, high, e)))
 
 pub int_first : (p : List ℕ) → IsInt p → (c : ℕ) × (cs : List ℕ) × (p ≡ c ∷ cs) × (eqb c 34 ≡ false) × (eqb c 63 ≡ false)
@@ -157,7 +153,7 @@ pub int_of_some : (p : List ℕ) (z : ℤ) → int_of p ≡ Some z → (signed_d
 unfolding int_of
 int_of_some p z e =
     let parts = some_chosen (is_numeral (without_leading_sign p) && is_i64 (signed_digits_value 10 p)) (signed_digits_value 10 p) z e in
-    let tests = both (is_numeral (without_leading_sign p)) (is_i64 (signed_digits_value 10 p)) parts.0 in
+    let tests = and_parts (is_numeral (without_leading_sign p)) (is_i64 (signed_digits_value 10 p)) parts.0 in
     (parts.1, ltb-true (mag (signed_digits_value 10 p)) (2 ^ 63) tests.1)
 
 pub no_sign : (ds : List ℕ) → 49 ≤ get_or ds 0 0 → signed_digits_value 10 ds ≡ pos (digits_value 10 ds)

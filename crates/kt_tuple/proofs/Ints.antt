@@ -4,36 +4,26 @@ use Rattle.std.specs.Prelude.{ℤ}
 use Rattle.std.specs.Int.{w64}
 use Rattle.std.specs.Int.RustNames.{FitsSigned}
 use Rattle.std.specs.Str.{IsAscii, IsUtf8, all_ascii_digits}
-use Rattle.std.specs.Str.Parse.{IsNumeral, digits_value, without_leading_sign, signed_digits_value}
+use Rattle.std.specs.Str.Parse.{IsNumeral, without_leading_sign, signed_digits_value}
 use Rattle.std.proofs.lemmas.Str.{IsUtf8-from_ascii}
-use Rattle.std.proofs.lemmas.Str.Parse.{IsNumeralModel, numerals_by_value, tells_all_ascii_digits}
 use Rattle.std.proofs.lemmas.Fmt.{IsAscii-from_digits}
-use Rattle.std.proofs.lemmas.Bool.{ltb-true, lt-ltb, eqb-true}
+use Rattle.std.proofs.lemmas.Bool.{ltb-true, lt-ltb, eqb-true, and_parts}
 use Rattle.std.proofs.lemmas.Str.Ascii.{IsAscii-cons, IsAscii-nil}
 use Rattle.std.specs.Cmp.Derive.{both_true}
 use lib.Signed.{mag}
 use mir.Val.{to_z, of_z}
 use Rattle.std.proofs.lemmas.Int.{to_z-of_z}
 use Rattle.kt_tuple.specs.Reading.{is_numeral, is_i64, int_of}
-
-own : IsNumeralModel (λ ds. all_ascii_digits ds ≡ true) (digits_value 10)
-own = numerals_by_value _ tells_all_ascii_digits
-
-both : (a b : Bool) → (a && b) ≡ true → (a ≡ true) × (b ≡ true)
-both true b e = (refl, e)
-both false b e = absurd cc
+use Rattle.kt_tuple.proofs.IntLaws.{own}
+use Rattle.kt_tuple.proofs.Strings.{chosen}
 
 pub is_numeral-true : (ds : List ℕ) → IsNumeral 10 ds → is_numeral ds ≡ true
 is_numeral-true ds h = rw (lt-ltb 0 (length ds) h.0) (own.from ds h.1)
 
 pub is_numeral-fact : (ds : List ℕ) → is_numeral ds ≡ true → IsNumeral 10 ds
 is_numeral-fact ds h =
-    let parts = both (ltb 0 (length ds)) (all_ascii_digits ds) h in
+    let parts = and_parts (ltb 0 (length ds)) (all_ascii_digits ds) h in
     (ltb-true 0 (length ds) parts.0, own.to ds parts.1)
-
-passed : {X : Type 0} (b : Bool) (x y : X) → b ≡ true → x ≡ cond b x y
-passed true x y e = refl
-passed false x y e = absurd cc
 
 -- a test that passes only where P holds, which it doesn't
 failed : {X : Type 0} (b : Bool) (x y : X) → ((b ≡ true) → ⊥) → y ≡ cond b x y
@@ -45,13 +35,13 @@ pub int_parsed : (bs : List ℕ) (n : ℤ) → IsNumeral 10 (without_leading_sig
 unfolding int_of
 int_parsed bs n h e =
     ap (λ z. Some z) e
-    ∙ passed (is_numeral (without_leading_sign bs) && is_i64 (signed_digits_value 10 bs)) (Some (signed_digits_value 10 bs)) None
+    ∙ chosen (is_numeral (without_leading_sign bs) && is_i64 (signed_digits_value 10 bs)) (Some (signed_digits_value 10 bs)) None
     (both_true (is_numeral-true (without_leading_sign bs) h.0) (lt-ltb (mag (signed_digits_value 10 bs)) (2 ^ 63) h.1.sfits))
 
 is_int-fact : (bs : List ℕ) → (is_numeral (without_leading_sign bs) && is_i64 (signed_digits_value 10 bs)) ≡ true → IsNumeral 10 (without_leading_sign bs)
     × FitsSigned w64 (signed_digits_value 10 bs)
 is_int-fact bs e =
-    let parts = both (is_numeral (without_leading_sign bs)) (is_i64 (signed_digits_value 10 bs)) e in
+    let parts = and_parts (is_numeral (without_leading_sign bs)) (is_i64 (signed_digits_value 10 bs)) e in
     (is_numeral-fact (without_leading_sign bs) parts.0, record { sfits = ltb-true (mag (signed_digits_value 10 bs)) (2 ^ 63) parts.1 })
 
 pub int_refused : (bs : List ℕ) → ¬ (IsNumeral 10 (without_leading_sign bs) × FitsSigned w64 (signed_digits_value 10 bs)) → None ≡ int_of bs

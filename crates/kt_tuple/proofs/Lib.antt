@@ -37,4 +37,5 @@ pub mod ByShape
 pub mod Explained
 pub mod Only
 pub mod Actuals
+pub mod Outcomes
 pub mod Shared

@@ -39,7 +39,7 @@ int_numeral p (negative {c} {ds} first digits) = is_numeral-fact (c ∷ ds) (num
 int_inside : (p : List ℕ) → IsInt p → FitsSigned w64 (signed_digits_value 10 p) → is_some (int_of p) ≡ true
 int_inside p is fits = ap is_some (sym (int_parsed p (signed_digits_value 10 p) (int_numeral p is, fits) refl))
 
-range_of_int : (p : List ℕ) → IsInt p → has_range p ≡ is_some (int_of p)
+pub range_of_int : (p : List ℕ) → IsInt p → has_range p ≡ is_some (int_of p)
 unfolding has_range
 range_of_int p just_zero = refl
 range_of_int p (positive {c} {ds} first digits) =

@@ -1,6 +1,6 @@
 -- What the crates above may cite of these proofs.
 pub use Rattle.kt_tuple.proofs.Homes.{Matches-signature}
-pub use Rattle.kt_tuple.proofs.Nodes.{node_index-injective}
+pub use Rattle.kt_tuple.proofs.Nodes.{node_eq-refl, node_index-injective}
 pub use Rattle.kt_tuple.proofs.Separated.{separator_after, separator_after_more, written_more}
 pub use Rattle.kt_tuple.proofs.Readers.{none_chosen}
 pub use Rattle.kt_tuple.proofs.Strings.{all_printable, are_printable}
@@ -12,4 +12,5 @@ pub use Rattle.kt_tuple.proofs.PlaceLaws.{value_first}
 pub use Rattle.kt_tuple.proofs.Wholes.{length-map_same, none_follows, separated-cons, some_follows}
 pub use Rattle.kt_tuple.proofs.WholesRead.{after_last, after_other}
 pub use Rattle.kt_tuple.proofs.IntShapes.{int_read, int_takes}
-pub use Rattle.kt_tuple.proofs.Outside.{int_range}
+pub use Rattle.kt_tuple.proofs.Outside.{int_range, range_of_int}
+pub use Rattle.kt_tuple.proofs.Outcomes.{on_ok}

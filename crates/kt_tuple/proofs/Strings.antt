@@ -12,7 +12,7 @@ use Rattle.kt_tuple.specs.Reading.{is_printable, str_of}
 printable : (c : ℕ) → IsPrintable c → is_printable c ≡ true
 printable c h = both_true (le-leb 32 c h.0) (le-leb c 126 h.1)
 
-chosen : {X : Type 0} (b : Bool) (x y : X) → b ≡ true → x ≡ cond b x y
+pub chosen : {X : Type 0} (b : Bool) (x y : X) → b ≡ true → x ≡ cond b x y
 chosen true x y e = refl
 chosen false x y e = absurd cc
 

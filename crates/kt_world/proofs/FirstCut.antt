@@ -47,7 +47,8 @@ use Rattle.kt_world.proofs.Plans.{IsAlive, IsDown, Comes, Votes, PlanOf}
 use Rattle.kt_world.proofs.OnLinks.{taken_off-was, sent-cases, first-holds}
 use Rattle.kt_world.proofs.Frames.{applied-rows}
 use Rattle.kt_world.proofs.Opened.{opening-node, no_messages}
-use Rattle.kt_world.proofs.Lists.{all-from, all-map, all-append}
+use Rattle.kt_lines.proofs.Shared.{all-append}
+use Rattle.kt_world.proofs.Lists.{all-from, all-map}
 use Rattle.kt_world.proofs.Leaves.{casting-all}
 use Rattle.kt_world.proofs.Heards as ways
 use Rattle.kt_world.proofs.Heards.{HeardOf, heard-is}

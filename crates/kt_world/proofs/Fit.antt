@@ -160,7 +160,8 @@ fits-fitting s step plan is may fit = record { rows = rows; ends = applied-rows 
     others q d =
         subst (λ (row : NodeRow). EndsIn (length (line (noted s.history plan.note) q)) row.tentative (node s q))
         (sym (other-rows p plan.write s.content q (λ e. d (sym e))))
-        (subst (λ (l : List ℕ). EndsIn (length l) (row_of s.content q).tentative (node s q)) (sym (line-others s.cast s.history p plan.note may q d)) (is.ends q))
+        (subst (λ (l : List ℕ). EndsIn (length l) (row_of s.content q).tentative (node s q))
+        (sym (line-others s.cast s.history p plan.note may q d)) (is.ends q))
 
 -- ---- kinds of plans
 
@@ -212,11 +213,13 @@ turn-fits s is p plan t change calm own = record {
     stored : Option Tentative
     stored = (row_after s.content (row_of s.content p) plan.write).tentative
 
-    by : (row : Option Node) → EndsIn (length (line s.history p)) (row_of s.content p).tentative row → EndsIn now stored (option_map (changed (changes.Turn t)) row)
+    by : (row : Option Node) → EndsIn (length (line s.history p)) (row_of s.content p).tentative row
+        → EndsIn now stored (option_map (changed (changes.Turn t)) row)
     by None ends = tt
     by (Some Down) ends = tt
     by (Some (Alive n)) ends =
-        written-within (role_of s.cast p) (length (line s.history p)) now s.content (row_of s.content p) plan.write (line-grows s.history p plan.note calm) own ends
+        written-within (role_of s.cast p) (length (line s.history p)) now s.content (row_of s.content p) plan.write
+        (line-grows s.history p plan.note calm) own ends
 
 -- one that stays as it is
 stay-fits : (s : State) → IsFitting s → (p : NodeId) (plan : Plan) → plan.change ≡ changes.Stay → IsNoCut plan.note
@@ -236,10 +239,12 @@ stay-fits s is p plan change calm own = record {
     by None ends = tt
     by (Some Down) ends = tt
     by (Some (Alive n)) ends =
-        written-within (role_of s.cast p) (length (line s.history p)) now s.content (row_of s.content p) plan.write (line-grows s.history p plan.note calm) own ends
+        written-within (role_of s.cast p) (length (line s.history p)) now s.content (row_of s.content p) plan.write
+        (line-grows s.history p plan.note calm) own ends
 
 -- one that falls
-fall-fits : (s : State) (p : NodeId) (plan : Plan) → plan.change ≡ changes.Fall → WritesOwn (role_of s.cast p) (length (line s.history p)) plan.write → Fits s p plan
+fall-fits : (s : State) (p : NodeId) (plan : Plan) → plan.change ≡ changes.Fall → WritesOwn (role_of s.cast p) (length (line s.history p)) plan.write
+    → Fits s p plan
 fall-fits s p plan change own =
     record { writes = own; ends = subst (λ (c : Change). EndsIn now stored (option_map (changed c) (node s p))) (sym change) (by (node s p)) }
   where

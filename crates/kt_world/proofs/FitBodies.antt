@@ -111,7 +111,8 @@ entries-of_scene workers from (suc n) of low none =
 shard-fits : (scripts : List (List Command)) (made : MadeShard) (y : Shard) (long : ℕ) → IsShardLike scripts made y → length made.bag ≤ long
     → (are_of_scene (length scripts) (shard_fields y).waiting && are_of_scene (length scripts) (shard_fields y).kept && nat_le (length y.bag) long) ≡ true
 shard-fits scripts made y long like few =
-    both _ _ _ (entries-of_scene (length scripts) 1 most_workers (λ w. (desk_of y w).waiting) (omega arith) (λ w past. ap (λ (d : Desk). d.waiting) (nobody w past)))
+    both _ _ _
+    (entries-of_scene (length scripts) 1 most_workers (λ w. (desk_of y w).waiting) (omega arith) (λ w past. ap (λ (d : Desk). d.waiting) (nobody w past)))
     (entries-of_scene (length scripts) 1 most_workers (λ w. (desk_of y w).kept) (omega arith) (λ w past. ap (λ (d : Desk). d.kept) (nobody w past)))
     (le-leb (length y.bag) long (let same = length_permutation made.bag y.bag like.bag in omega (arith, same, few)))
   where

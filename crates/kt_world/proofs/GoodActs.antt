@@ -31,8 +31,8 @@ use Rattle.kt_world.proofs.Within.{issued-within, heard-within}
 use Rattle.kt_world.proofs.Heards as ways
 use Rattle.kt_world.proofs.Heards.{HeardOf, heard-is}
 use Rattle.kt_world.proofs.Good.{IsGood, IsKeeping, live-ready, turn-good}
-use Rattle.kt_node.proofs.Shared.{serves, waits, works}
-use Rattle.kt_world.proofs.Leaves.{can-stay, stay-body, work-body, wait-body, serve-body, can-count}
+use Rattle.kt_node.proofs.Shared.{can-stay, serves, waits, works}
+use Rattle.kt_world.proofs.Leaves.{stay-body, work-body, wait-body, serve-body, can-count}
 use Rattle.kt_world.proofs.OnLinks.{first-holds}
 
 no_cause : (s : State) → NamesAct s.history 0

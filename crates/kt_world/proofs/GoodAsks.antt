@@ -34,16 +34,18 @@ use Rattle.kt_node.specs.Learning.{verdict_to, cut_of, held_learns, restoring_pl
 use Rattle.kt_node.specs.Arrivals.{answer_plan, sieved_answer_plan, voting_plan}
 use Rattle.kt_node.specs.Deciding.{decide_plan, no_plan, declined_plan}
 use Rattle.kt_node.specs.Failing.{line_left, fail_plan, restarting_plan}
+use Rattle.kt_node.proofs.Shared.{can-stay}
 use Rattle.kt_world.specs.Cast.{is_node}
 use Rattle.kt_world.specs.State.{State, role_of, view}
 use Rattle.kt_world.specs.Ready.{AreNeighbours, IsPollReady, IsPhaseReady, IsReady}
 use Rattle.kt_world.proofs.Plans.{IsAlive, Votes}
 use Rattle.kt_world.proofs.Scene.{role-id}
-use Rattle.kt_world.proofs.Lists.{all-append, all-through}
+use Rattle.kt_lines.proofs.Shared.{all-append}
+use Rattle.kt_world.proofs.Lists.{all-through}
 use Rattle.kt_world.proofs.Growing.{live-grown, message-noted}
 use Rattle.kt_world.proofs.Loads.{acts-fit, load-fits, load-ready}
 use Rattle.kt_world.proofs.Good.{IsGood, IsKeeping, live-ready, turn-good, stay-good, fall-good, load-good}
-use Rattle.kt_world.proofs.Leaves.{GoesNear, SaysReady, can-stay, stay-body, after-poll, poll-ready, phase-ready}
+use Rattle.kt_world.proofs.Leaves.{GoesNear, SaysReady, stay-body, after-poll, poll-ready, phase-ready}
 use Rattle.kt_world.proofs.Leaves.{neighbour-in, cohort-in, casting-near, casting-says, checks-near, checks-say}
 use Rattle.kt_world.proofs.Leaves.{rolls-near, rolls-say, verdicts-near, verdicts-say}
 

@@ -20,7 +20,7 @@ use Rattle.kt_node.specs.declared.live.Phase.{Phase}
 use Rattle.kt_node.specs.declared.change.BodyChange.TheVariants as bodies
 use Rattle.kt_node.specs.Labels.{numbers}
 use Rattle.kt_node.specs.Node.{Body, IsWorker, IsShard, Live, across, neighbours, poll_in, poll_of, Down}
-use Rattle.kt_node.specs.Ready.{CanChangeBody, CanCount}
+use Rattle.kt_node.specs.Ready.{CanCount}
 use Rattle.kt_node.specs.Turning.{changed_body}
 use Rattle.kt_node.specs.Voting.{casting_to, casting_unless, casting_of, casting, poll_after, votes}
 use Rattle.kt_node.specs.Joining.{is_in_cohort, cohort, check_asks, roll_asks}
@@ -40,10 +40,6 @@ use Rattle.kt_store.specs.Content.{verdict_of}
 use Rattle.kt_world.specs.Told.{of_poll}
 
 -- ---- the work
-
-pub can-stay : (b : Body) → CanChangeBody b bodies.Stay
-can-stay (IsWorker x) = tt
-can-stay (IsShard y) = tt
 
 pub stay-body : (script : List Command) (made : ℕ) (p : NodeId) (b : Body) → IsBodyReady script made p b
     → IsBodyReady script (made + 1) p (changed_body b bodies.Stay)

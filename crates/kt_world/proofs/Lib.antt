@@ -53,6 +53,7 @@ pub mod Cuts
 pub mod PermanentPart
 pub mod FitBodies
 pub mod Fit
+pub mod Gives
 pub mod Undamaged
 pub mod Holding
 pub mod PermanentReached

@@ -21,10 +21,6 @@ all-filter {A} P p (x ∷ xs) h = by (p x) (all-filter P p xs h.1)
     by true rest = (h.0, rest)
     by false rest = rest
 
-pub all-append : {A : Type 0} (P : A → Type 0) (xs ys : List A) → AllByRecursion P xs → AllByRecursion P ys → AllByRecursion P (xs ++ ys)
-all-append P [] ys h g = g
-all-append P (x ∷ xs) ys h g = (h.0, all-append P xs ys h.1 g)
-
 pub all-through : {A : Type 0} (P Q : A → Type 0) (xs : List A) → ((x : A) → P x → Q x) → AllByRecursion P xs → AllByRecursion Q xs
 all-through P Q [] f h = tt
 all-through P Q (x ∷ xs) f h = (f x h.0, all-through P Q xs f h.1)

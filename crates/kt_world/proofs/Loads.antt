@@ -94,7 +94,8 @@ within-misfit : (script : List Command) (x : Worker) → IsShort script → is_n
 within-misfit script x short e =
     by (nat_lt (length script) x.position.pc) (nat_lt x.position.pc x.number) (are_values_of (variables_of script) x.position.memory.values) refl refl refl e
   where
-    by : (a b c : Bool) → nat_lt (length script) x.position.pc ≡ a → nat_lt x.position.pc x.number ≡ b → are_values_of (variables_of script) x.position.memory.values ≡ c
+    by : (a b c : Bool) → nat_lt (length script) x.position.pc ≡ a → nat_lt x.position.pc x.number ≡ b
+        → are_values_of (variables_of script) x.position.memory.values ≡ c
         → is_none (if a then Some misfits.Position else if b then Some misfits.Number else if not c then Some misfits.Values else None) ≡ true
         → IsWithin script x
     by true b c f n g e = absurd cc

@@ -11,7 +11,7 @@ pub use Rattle.kt_world.proofs.Frames.{applied-other, applied-owner}
 pub use Rattle.kt_world.proofs.Headlines.{bags_held}
 pub use Rattle.kt_world.proofs.Heards.{HeardOf, accepts, answers_again, heard-is, hears, ignores_reply, ignores_request, misses_reply, misses_request}
 pub use Rattle.kt_world.proofs.Holding.{Holds, IsMade, made-holds, one_run-reached, made-noted, opening-holds, reached-holds, step-made, undamaged-reached}
-pub use Rattle.kt_world.proofs.Lists.{all-append, all-filter, all-map, all-numbers}
+pub use Rattle.kt_world.proofs.Lists.{all-filter, all-map, all-numbers, all-through}
 pub use Rattle.kt_world.proofs.Loads.{load-passed}
 pub use Rattle.kt_world.proofs.NoteSound.{apart, line-long, note_at-next}
 pub use Rattle.kt_world.proofs.OnLinks.{first-holds, sent-cases, sent_between, taken_off-was}

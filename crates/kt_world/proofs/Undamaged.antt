@@ -1,25 +1,17 @@
--- No step is refused for damage: in a state that steps lead to, what a store that tells what it holds gives of a node fits
--- the node.
-use Rattle.std.proofs.Common.{◌≡◌, ℕ, ◌+◌, ◌≤◌, ◌==◌, ◌&&◌, if◌then◌else◌, Bool, true, false, List, [], ◌∷◌, length, Option, None, Some, Result, Ok, Err, refl}
-use Rattle.std.proofs.Common.{ap, subst, arith, eq-eqb}
-use Rattle.std.specs.Prelude.{IfSome, is_some, nat_le}
-use Rattle.std.specs.Option.{option_map}
-use Rattle.std.proofs.lemmas.Bool.{le-leb}
+-- No step is refused for damage in a state that steps lead to.
+use Rattle.std.proofs.Common.{◌≡◌, ℕ, ◌+◌, ◌&&◌, if◌then◌else◌, Bool, true, false, List, [], ◌∷◌, Option, None, Some, Result, Ok, Err, refl}
+use Rattle.std.proofs.Common.{ap}
+use Rattle.std.specs.Prelude.{is_some}
 use Rattle.kt_tuple.specs.declared.node.NodeId.{NodeId}
-use Rattle.kt_tuple.specs.Node.{node_eq, node_eq_decides}
 use Rattle.kt_tuple.specs.declared.op.Op.{Op}
-use Rattle.kt_history.specs.Line.{line}
-use Rattle.kt_history.specs.Closed.{acts_in_line}
 use Rattle.kt_worker.specs.declared.worker.Worker.{Worker}
 use Rattle.kt_worker.specs.Standing.{next_request, again_request}
 use Rattle.kt_shard.specs.declared.error.ServeError.{ServeError}
 use Rattle.kt_shard.specs.declared.error.ServeError.TheVariants as unserved
 use Rattle.kt_shard.specs.Shard.{Shard}
 use Rattle.kt_shard.specs.Service.{Service, service}
-use Rattle.kt_ckpt.specs.declared.ckpt.Ckpt.{Ckpt}
-use Rattle.kt_ckpt.specs.Marks.{marks_of}
+use Rattle.kt_ckpt.specs.declared.marks.Marks.{Marks}
 use Rattle.kt_store.specs.declared.error.StoreError.{StoreError}
-use Rattle.kt_store.specs.declared.rows.Tentative.{Tentative}
 use Rattle.kt_store.specs.declared.rows.Verdict.{Verdict}
 use Rattle.kt_store.specs.declared.rows.Verdict.TheVariants as verdicts
 use Rattle.kt_store.specs.Content.{permanent_marks, row_of}
@@ -35,7 +27,7 @@ use Rattle.kt_node.specs.declared.reaction.Reaction.TheVariants as reactions
 use Rattle.kt_node.specs.declared.refusal.Refusal.{Refusal}
 use Rattle.kt_node.specs.declared.refusal.Refusal.TheVariants as reasons
 use Rattle.kt_node.specs.declared.stored.Stored.{Stored}
-use Rattle.kt_node.specs.Arrivals.{rollback_plan, rollback_reaction, verdict_by_parent, verdict_in}
+use Rattle.kt_node.specs.Arrivals.{rollback_plan, rollback_reaction, unless_down, verdict_by_parent, verdict_in, vote_in}
 use Rattle.kt_node.specs.Arrivals.{check_fitting as joining, is_in}
 use Rattle.kt_node.specs.Deciding.{abandon, abandon_by, abandon_down, abandon_in, abandon_of, check, check_in, check_of, decide, decide_by}
 use Rattle.kt_node.specs.Deciding.{decide_if, decide_in, decide_of, learn, learn_by, learn_held, learn_in, learn_of}
@@ -43,76 +35,27 @@ use Rattle.kt_node.specs.Deciding.{learn_rolling, learn_settled, settled}
 use Rattle.kt_node.specs.Failing.{fail_of, restart, restart_after, restart_by, restart_in, restart_of, restart_plan, restarted}
 use Rattle.kt_node.specs.Learning.{restored, rolling_learns}
 use Rattle.kt_node.specs.Loading.{load, loaded_by, marks_in}
-use Rattle.kt_node.specs.Node.{Role, Body, Live, Node, Down, Alive, node_number, shard_in, worker_in}
+use Rattle.kt_node.specs.Node.{Body, Live, Node, Down, Alive, node_number, shard_in, worker_in}
 use Rattle.kt_node.specs.Plan.{Planned}
 use Rattle.kt_node.specs.State.{body_at}
 use Rattle.kt_node.specs.Steps.{by_up, first_kept, issue, issue_by, issue_found, issue_unless_kept, repeat, repeat_by, repeat_found, serve, serve_by}
 use Rattle.kt_node.specs.Steps.{serve_found, take, take_first, up_in, up_of}
-use Rattle.kt_node.specs.Stored.{fits, is_undecided, marks_fit}
+use Rattle.kt_node.specs.Stored.{fits, is_undecided}
 use Rattle.kt_node.specs.View.{View}
 use Rattle.kt_world.specs.declared.step.Step.{Step}
 use Rattle.kt_world.specs.declared.step.Step.TheVariants.{Issue, Repeat, Deliver, Take, Serve, Check, Decide, Abandon, Learn, Fail, Restart}
 use Rattle.kt_world.specs.declared.step.StepError.TheVariants as refusals
 use Rattle.kt_world.specs.Cast.{is_in_scene}
-use Rattle.kt_world.specs.Cut.{acts_held}
+use Rattle.kt_world.specs.declared.told.Told.{Told}
+use Rattle.kt_world.specs.Step.{owner}
 use Rattle.kt_world.specs.Judge.{IsUndamaged, delivery, due, hear, of_owner, of_scene}
 use Rattle.kt_world.specs.Ready.{IsReady}
 use Rattle.kt_world.specs.State.{State, link, role_of, view}
 use Rattle.kt_world.specs.Told.{stored_of, tentative_in, told}
-use Rattle.kt_world.specs.Told as tells
-use Rattle.kt_world.proofs.Passed.{alive-is}
 use Rattle.kt_world.proofs.Sound.{IsSound}
-use Rattle.kt_world.proofs.NoteSound.{line-long}
-use Rattle.kt_world.proofs.FitBodies.{Fine, IsNumbered, body_at-fine}
-use Rattle.kt_world.proofs.Fit.{IsFitting, IsOfNode, IsWithinLine, EndsIn}
-
--- ---- what fits
-
-all-four : (a b c d : Bool) → a ≡ true → b ≡ true → c ≡ true → d ≡ true → (a && b && c && d) ≡ true
-all-four true true true true e f g h = refl
-all-four true true true false e f g h = absurd cc
-all-four true true false d e f g h = absurd cc
-all-four true false c d e f g h = absurd cc
-all-four false b c d e f g h = absurd cc
-
-marks-fit : (role : Role) (long : ℕ) (c : Ckpt) → IsOfNode role c → c.line_len ≤ long → marks_fit role long (marks_of c) ≡ true
-marks-fit role long c is short =
-    all-four (node_eq c.node role.id) (length c.sent == role.peers) (length c.received == role.peers) (nat_le c.line_len long)
-    ((node_eq_decides c.node role.id).1 is.own) (eq-eqb (length c.sent) role.peers is.sent) (eq-eqb (length c.received) role.peers is.received)
-    (le-leb c.line_len long short)
-
-marks-all : (role : Role) (long : ℕ) (o : Option Ckpt) → IfSome o (IsOfNode role) → acts_held o ≤ long → fits role long (option_map marks_of o) ≡ true
-marks-all role long None is short = refl
-marks-all role long (Some c) is short = marks-fit role long c is short
-
-taken-fits : (role : Role) (long : ℕ) (o : Option Tentative) → IfSome o (λ t. IsOfNode role t.checkpoint) → IsWithinLine long o
-    → fits role long (option_map tells.marks_in o) ≡ true
-taken-fits role long None is short = refl
-taken-fits role long (Some t) is short = marks-fit role long t.checkpoint is short
-
--- what a store that tells what it holds gives of a node, alive or not
-pub record GivesFitting (s : State) (p : NodeId) : Type 0 where
-  pub permanent : fits (role_of s.cast p) (view s p).line_len (permanent_marks s.content p) ≡ true
-  pub body : Fine (body_at (role_of s.cast p) (row_of s.content p).permanent)
-  pub tentative : (n : Live) → (view s p).node ≡ Alive n → fits (role_of s.cast p) (view s p).line_len (tentative_in s.content p) ≡ true
-
-numbered-of : (role : Role) (o : Option Ckpt) → IfSome o (IsOfNode role) → IfSome o (λ c. IsNumbered c.state)
-numbered-of role None is = tt
-numbered-of role (Some c) is = is.numbered
-
-pub gives-fitting : (s : State) → IsReady s → IsSound s → IsFitting s → (p : NodeId) → GivesFitting s p
-gives-fitting s ready sound is p =
-    let stored = (sound.nodes p).stored in
-    let long = line-long s.history p in
-    let row = is.rows p in
-    record {
-      permanent = marks-all (role_of s.cast p) (length (line s.history p)) (row_of s.content p).permanent row.permanent
-          (let short = stored.permanent.short in omega (arith, long, short));
-      body = body_at-fine s.cast ready.scripts p (acts_in_line s.history p) (row_of s.content p).permanent stored.permanent
-          (numbered-of (role_of s.cast p) (row_of s.content p).permanent row.permanent);
-      tentative = λ n at. taken-fits (role_of s.cast p) (length (line s.history p)) (row_of s.content p).tentative row.tentative
-          (subst (EndsIn (length (line s.history p)) (row_of s.content p).tentative) (alive-is s p n at) (is.ends p));
-    }
+use Rattle.kt_world.proofs.FitBodies.{Fine}
+use Rattle.kt_world.proofs.Fit.{IsFitting}
+use Rattle.kt_world.proofs.Gives.{GivesFitting, gives-fitting}
 
 -- ---- what is not refused for damage
 
@@ -211,7 +154,7 @@ loads-fine s p gives =
     by (Ok b) f = fine _
     by (Err refusal) f = λ e. f (let same : refusal ≡ reasons.Damaged = cc in ap (λ x. Err x) same)
 
-check-fine : (v : View) (next : ℕ) (o : Option Rattle.kt_ckpt.specs.declared.marks.Marks.Marks) → fits v.role v.line_len o ≡ true → Fine (check v next o)
+check-fine : (v : View) (next : ℕ) (o : Option Marks) → fits v.role v.line_len o ≡ true → Fine (check v next o)
 check-fine v next o fit = by v.node
   where
     in_phase : (n : Live) (phase : Phase) → Fine (check_in v next o n phase)
@@ -338,17 +281,27 @@ both-fit true true e f = refl
 both-fit true false e f = absurd cc
 both-fit false b e f = absurd cc
 
-hear-fine : (s : State) (p q : NodeId) → GivesFitting s q → (step : Step) → Rattle.kt_world.specs.Step.owner step ≡ q → (m : Message)
-    → Fine (hear (view s q) (record (told s step) { permanent = permanent_marks s.content q; tentative = tentative_in s.content q; stored = stored_of s.content q }) p m)
+-- what the store says to who hears a message
+told_on_arrival : State → NodeId → Step → Told
+told_on_arrival s q step =
+    record (told s step) {
+      permanent = permanent_marks s.content q;
+      tentative = tentative_in s.content q;
+      stored = stored_of s.content q;
+    }
+
+hear-fine : (s : State) (p q : NodeId) → GivesFitting s q → (step : Step) → owner step ≡ q → (m : Message)
+    → Fine (hear (view s q) (told_on_arrival s q step) p m)
 hear-fine s p q gives step own (messages.Post post) = fine _
 hear-fine s p q gives step own (messages.CheckAsk ask) = by (view s q).node refl
   where
     by : (x : Node) → (view s q).node ≡ x
-        → Fine (Rattle.kt_node.specs.Arrivals.unless_down x
+        → Fine (unless_down x
         (joining (view s q) p ask (told s step).verdict (permanent_marks s.content q) (tentative_in s.content q)))
     by Down at = fine _
     by (Alive n) at =
-        passes (fits (role_of s.cast q) (view s q).line_len (permanent_marks s.content q) && fits (role_of s.cast q) (view s q).line_len (tentative_in s.content q)) _
+        let Fits : Option Marks → Bool = fits (role_of s.cast q) (view s q).line_len in
+        passes (Fits (permanent_marks s.content q) && Fits (tentative_in s.content q)) _
         (both-fit _ _ gives.permanent (gives.tentative n at)) (fine _)
 hear-fine s p q gives step own (messages.RollAsk ask) = by (view s q).node
   where
@@ -357,13 +310,13 @@ hear-fine s p q gives step own (messages.RollAsk ask) = by (view s q).node
     reacts n reactions.Joins = passes (fits (role_of s.cast q) (view s q).line_len (permanent_marks s.content q)) _ gives.permanent (fine _)
 
     by : (x : Node)
-        → Fine (Rattle.kt_node.specs.Arrivals.unless_down x
+        → Fine (unless_down x
         (λ n. rollback_plan (view s q) n p ask (permanent_marks s.content q) (rollback_reaction n p ask (told s step).verdict)))
     by Down = fine _
     by (Alive n) = reacts n (rollback_reaction n p ask (told s step).verdict)
 hear-fine s p q gives step own (messages.Vote vote) = by (view s q).node
   where
-    by : (x : Node) → Fine (Rattle.kt_node.specs.Arrivals.unless_down x (λ n. Ok (Rattle.kt_node.specs.Arrivals.vote_in p vote n.phase)))
+    by : (x : Node) → Fine (unless_down x (λ n. Ok (vote_in p vote n.phase)))
     by Down = fine _
     by (Alive n) = fine _
 hear-fine s p q gives step own (messages.Verdict instance agreed) = by (view s q).node
@@ -377,7 +330,7 @@ hear-fine s p q gives step own (messages.Verdict instance agreed) = by (view s q
     in_phase (phases.Held b) = fine _
     in_phase (phases.Rolling b) = asked b b.parent
 
-    by : (x : Node) → Fine (Rattle.kt_node.specs.Arrivals.unless_down x (λ n. verdict_in (view s q) (stored_of s.content q) instance agreed n.phase))
+    by : (x : Node) → Fine (unless_down x (λ n. verdict_in (view s q) (stored_of s.content q) instance agreed n.phase))
     by Down = fine _
     by (Alive n) = in_phase n.phase
 
@@ -403,7 +356,8 @@ due-fine s gives (Fail p) = by (view s p).node refl
         → Fine (fail_of (view s p) (told s (Fail p)).verdict (permanent_marks s.content p) (tentative_in s.content p) x)
     by Down at = wrong
     by (Alive n) at =
-        passes (fits (role_of s.cast p) (view s p).line_len (permanent_marks s.content p) && fits (role_of s.cast p) (view s p).line_len (tentative_in s.content p)) _
+        let Fits : Option Marks → Bool = fits (role_of s.cast p) (view s p).line_len in
+        passes (Fits (permanent_marks s.content p) && Fits (tentative_in s.content p)) _
         (both-fit _ _ (gives p).permanent ((gives p).tentative n at)) (fine _)
 due-fine s gives (Restart p) = restart-fine (view s p) (stored_of s.content p) _ _ _ _ (loads-fine s p (gives p))
 

@@ -15,8 +15,8 @@ type Row = (&'static [u8], &'static [u8], usize);
 const ROWS: [Row; 4] = [
     // threads_and_a_fault
     (
-        b"linda-kt 1\nshards 2\nworker\nout (\"k\")\nout (\"k\", 7)\nin (\"k\", ?int x)\nout (\"done\", x)\nrd (\"k\")\n\
-faults\nfail s1 after 3\nend\n",
+        b"linda-kt 1\nshards 2\nworker\nout (\"k\")\nout (\"k\", 7)\nin (\"k\", ?int x)\nout (\"done\", x)\n\
+rd (\"k\")\nfaults\nfail s1 after 3\nend\n",
         b"survivors 5\nw1.1 out (\"k\") done\nw1.2 out (\"k\", 7) done\nw1.3 in (\"k\", ?int) got (\"k\", 7)\n\
 w1.4 out (\"done\", 7) done\nw1.5 rd (\"k\") got (\"k\")\nlost 4\nspace 2\n(\"done\", 7)\n(\"k\")\npermanent 0\n",
         200,

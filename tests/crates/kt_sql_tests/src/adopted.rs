@@ -8,10 +8,12 @@ use std::alloc::Global;
 use std::test::*;
 
 const NODES: &str =
-    "CREATE TABLE kt_node (id INTEGER PRIMARY KEY, incarnation INTEGER NOT NULL, permanent BLOB, tentative BLOB, instance INTEGER) STRICT";
+    "CREATE TABLE kt_node (id INTEGER PRIMARY KEY, incarnation INTEGER NOT NULL, permanent BLOB, tentative BLOB, \
+     instance INTEGER) STRICT";
 
 const BOARD: &str =
-    "CREATE TABLE kt_board (instance INTEGER PRIMARY KEY, initiator INTEGER NOT NULL, purpose INTEGER NOT NULL, verdict INTEGER NOT NULL) STRICT";
+    "CREATE TABLE kt_board (instance INTEGER PRIMARY KEY, initiator INTEGER NOT NULL, purpose INTEGER NOT NULL, \
+     verdict INTEGER NOT NULL) STRICT";
 
 const META: &str = "CREATE TABLE kt_meta (id INTEGER PRIMARY KEY, version INTEGER NOT NULL) STRICT";
 

@@ -5,7 +5,8 @@ use Rattle.kt_tuple.specs.declared.node.NodeId.{NodeId}
 use Rattle.kt_link.specs.Network.{AreNeighbours, room}
 use Rattle.kt_node.specs.declared.message.Message.{Message}
 use Rattle.kt_world.specs.Step.{owner}
-use Rattle.kt_core.proofs.Traffics.{wired, all-map}
+use Rattle.kt_world.proofs.Shared.{all-through}
+use Rattle.kt_core.proofs.Traffics.{wired}
 use Rattle.kt_core.proofs.machine.Machine.carry_out.Goals as goal
 
 pub send_all-requires-clause-there : goal.send_all-requires-clause-there
@@ -20,6 +21,6 @@ pub send_all-requires-clause-room : goal.send_all-requires-clause-room
 send_all-requires-clause-room c =
     let Room : List (NodeId × Message) → NodeId → Type 0 = λ send p. AllByRecursion (λ m. length send ≤ room c.take_off.new.links p m.0) send in
     subst (λ send. Room send c.owner-owner.result) (sym c.into_messages.ensures) (subst (Room c.args.plan.send) (sym c.owner-owner.ensures)
-    (all-map (λ (m : NodeId × Message). length c.args.plan.send ≤ room c.args.self.now.links (owner c.args.step) m.0)
+    (all-through (λ (m : NodeId × Message). length c.args.plan.send ≤ room c.args.self.now.links (owner c.args.step) m.0)
     (λ (m : NodeId × Message). length c.args.plan.send ≤ room c.take_off.new.links (owner c.args.step) m.0) c.args.plan.send
     (λ m h. let k = c.take_off.ensures.room (owner c.args.step) m.0 in omega (arith, h, k)) c.requires.room.links))

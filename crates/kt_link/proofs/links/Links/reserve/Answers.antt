@@ -1,6 +1,6 @@
 use Rattle.std.proofs.Common.{arith}
 use Rattle.kt_link.proofs.Changed.{IsAt, is_at, room_was, queue_becomes, room_is, changes_only}
-use Rattle.kt_link.proofs.Outcomes.{on_ok}
+use Rattle.kt_tuple.proofs.Shared.{on_ok}
 use Rattle.kt_link.proofs.links.Links.reserve.Goals as goal
 
 pub returns-clause-queue : goal.returns-clause-queue

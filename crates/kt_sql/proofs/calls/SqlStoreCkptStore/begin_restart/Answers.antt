@@ -1,13 +1,14 @@
 use Rattle.std.proofs.Common.{◌∙◌}
 use Rattle.kt_tables.specs.Held.{content_of}
-use Rattle.kt_sql.proofs.CallLemmas.{restarts, then_ok}
+use Rattle.kt_tuple.proofs.Shared.{on_ok}
+use Rattle.kt_sql.proofs.CallLemmas.{restarts}
 use Rattle.kt_sql.proofs.calls.SqlStoreCkptStore.begin_restart.Goals as goal
 
 pub returns-clause-written : goal.returns-clause-written
 returns-clause-written g c sure =
     let before = c.put_both.ensures.honest sure in
     let first = c.in_ok-row_of.ensures.honest before in
-    then_ok c.put_both.result
+    on_ok c.put_both.result
     (λ e. e ∙ restarts (content_of g.S.Store c.args.self.now.tables) (content_of g.S.Store c.last_instance.new.self.tables)
     (content_of g.S.Store c.row_of.new.self.tables) c.args.node c.in_ok-row_of.field-0 c.in-Some.row c.in_ok-last.last
     (c.in_ok-row_of.ensures.value before) c.in-Some.ensures (c.in_ok-row_of.ensures.same before)

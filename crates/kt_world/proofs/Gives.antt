@@ -1,0 +1,73 @@
+-- What a store that tells what it holds gives of a node fits the node.
+use Rattle.std.proofs.Common.{◌≡◌, ℕ, ◌≤◌, ◌==◌, ◌&&◌, Bool, true, false, length, Option, None, Some, refl}
+use Rattle.std.proofs.Common.{subst, arith, eq-eqb}
+use Rattle.std.specs.Prelude.{IfSome, nat_le}
+use Rattle.std.specs.Option.{option_map}
+use Rattle.std.proofs.lemmas.Bool.{le-leb}
+use Rattle.kt_tuple.specs.declared.node.NodeId.{NodeId}
+use Rattle.kt_tuple.specs.Node.{node_eq, node_eq_decides}
+use Rattle.kt_history.specs.Line.{line}
+use Rattle.kt_history.specs.Closed.{acts_in_line}
+use Rattle.kt_ckpt.specs.declared.ckpt.Ckpt.{Ckpt}
+use Rattle.kt_ckpt.specs.Marks.{marks_of}
+use Rattle.kt_store.specs.declared.rows.Tentative.{Tentative}
+use Rattle.kt_store.specs.Content.{permanent_marks, row_of}
+use Rattle.kt_node.specs.Node.{Role, Live, Alive}
+use Rattle.kt_node.specs.State.{body_at}
+use Rattle.kt_node.specs.Stored.{fits, marks_fit}
+use Rattle.kt_world.specs.Cut.{acts_held}
+use Rattle.kt_world.specs.Ready.{IsReady}
+use Rattle.kt_world.specs.State.{State, role_of, view}
+use Rattle.kt_world.specs.Told.{tentative_in}
+use Rattle.kt_world.specs.Told as tells
+use Rattle.kt_world.proofs.Passed.{alive-is}
+use Rattle.kt_world.proofs.Sound.{IsSound}
+use Rattle.kt_world.proofs.NoteSound.{line-long}
+use Rattle.kt_world.proofs.FitBodies.{Fine, IsNumbered, body_at-fine}
+use Rattle.kt_world.proofs.Fit.{IsFitting, IsOfNode, IsWithinLine, EndsIn}
+
+all-four : (a b c d : Bool) → a ≡ true → b ≡ true → c ≡ true → d ≡ true → (a && b && c && d) ≡ true
+all-four true true true true e f g h = refl
+all-four true true true false e f g h = absurd cc
+all-four true true false d e f g h = absurd cc
+all-four true false c d e f g h = absurd cc
+all-four false b c d e f g h = absurd cc
+
+marks-fit : (role : Role) (long : ℕ) (c : Ckpt) → IsOfNode role c → c.line_len ≤ long → marks_fit role long (marks_of c) ≡ true
+marks-fit role long c is short =
+    all-four (node_eq c.node role.id) (length c.sent == role.peers) (length c.received == role.peers) (nat_le c.line_len long)
+    ((node_eq_decides c.node role.id).1 is.own) (eq-eqb (length c.sent) role.peers is.sent) (eq-eqb (length c.received) role.peers is.received)
+    (le-leb c.line_len long short)
+
+marks-all : (role : Role) (long : ℕ) (o : Option Ckpt) → IfSome o (IsOfNode role) → acts_held o ≤ long → fits role long (option_map marks_of o) ≡ true
+marks-all role long None is short = refl
+marks-all role long (Some c) is short = marks-fit role long c is short
+
+taken-fits : (role : Role) (long : ℕ) (o : Option Tentative) → IfSome o (λ t. IsOfNode role t.checkpoint) → IsWithinLine long o
+    → fits role long (option_map tells.marks_in o) ≡ true
+taken-fits role long None is short = refl
+taken-fits role long (Some t) is short = marks-fit role long t.checkpoint is short
+
+-- what a store that tells what it holds gives of a node, alive or not
+pub record GivesFitting (s : State) (p : NodeId) : Type 0 where
+  pub permanent : fits (role_of s.cast p) (view s p).line_len (permanent_marks s.content p) ≡ true
+  pub body : Fine (body_at (role_of s.cast p) (row_of s.content p).permanent)
+  pub tentative : (n : Live) → (view s p).node ≡ Alive n → fits (role_of s.cast p) (view s p).line_len (tentative_in s.content p) ≡ true
+
+numbered-of : (role : Role) (o : Option Ckpt) → IfSome o (IsOfNode role) → IfSome o (λ c. IsNumbered c.state)
+numbered-of role None is = tt
+numbered-of role (Some c) is = is.numbered
+
+pub gives-fitting : (s : State) → IsReady s → IsSound s → IsFitting s → (p : NodeId) → GivesFitting s p
+gives-fitting s ready sound is p =
+    let stored = (sound.nodes p).stored in
+    let long = line-long s.history p in
+    let row = is.rows p in
+    record {
+      permanent = marks-all (role_of s.cast p) (length (line s.history p)) (row_of s.content p).permanent row.permanent
+          (let short = stored.permanent.short in omega (arith, long, short));
+      body = body_at-fine s.cast ready.scripts p (acts_in_line s.history p) (row_of s.content p).permanent stored.permanent
+          (numbered-of (role_of s.cast p) (row_of s.content p).permanent row.permanent);
+      tentative = λ n at. taken-fits (role_of s.cast p) (length (line s.history p)) (row_of s.content p).tentative row.tentative
+          (subst (EndsIn (length (line s.history p)) (row_of s.content p).tentative) (alive-is s p n at) (is.ends p));
+    }
