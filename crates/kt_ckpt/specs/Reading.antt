@@ -17,6 +17,10 @@ abbrev pub Gives : {X Y : Type 0} → (X → Y) → Result X CkptError → Resul
 Gives view (Ok x) read = read ≡ Ok (view x)
 Gives view (Err e) read = e ≢ OutOfMemory → read ≡ Err e
 
+-- what reads a value in front, and gives the bytes behind it
+abbrev pub Reader : Type 0 → Type 0
+Reader X = List ℕ → Result (X × List ℕ) CkptError
+
 -- what is read is a part of a value, or all that the value is made of
 abbrev pub made : {A B : Type 0} → (A → B) → Result (A × List ℕ) CkptError → Result (B × List ℕ) CkptError
 made make read = read >>= λ a. Ok (make a.0, a.1)
@@ -45,8 +49,7 @@ unfoldable pub byte_within : ℕ → ℕ → List ℕ → Result (ℕ × List �
 byte_within low high bytes = byte_at bytes >>= within low high
 
 -- so many values, one behind the other
-unfoldable pub list_at : {X : Type 0} → (List ℕ → Result (X × List ℕ) CkptError) → ℕ
-    → List ℕ → Result (List X × List ℕ) CkptError
+unfoldable pub list_at : {X : Type 0} → Reader X → ℕ → Reader (List X)
 list_at read zero bytes = Ok ([], bytes)
 list_at read (suc n) bytes = do
   first ← read bytes
@@ -54,8 +57,7 @@ list_at read (suc n) bytes = do
   Ok (first.0 ∷ others.0, others.1)
 
 -- so many values, each behind its worker, which is above the one before; the first is the least or above it
-unfoldable pub rising_at : {X : Type 0} → (List ℕ → Result (X × List ℕ) CkptError) → ℕ → ℕ
-    → List ℕ → Result (List (ℕ × X) × List ℕ) CkptError
+unfoldable pub rising_at : {X : Type 0} → Reader X → ℕ → ℕ → Reader (List (ℕ × X))
 rising_at read least zero bytes = Ok ([], bytes)
 rising_at read least (suc n) bytes = do
   worker ← byte_within least max_workers bytes

@@ -12,7 +12,7 @@ use Rattle.kt_shard.specs.declared.request.Request.{Request}
 use Rattle.kt_shard.specs.declared.request.Kept.{Kept}
 use Rattle.kt_ckpt.specs.Fields.{WorkerFields, worker_of, ShardFields}
 use Rattle.kt_ckpt.specs.Limits.{max_pc, max_variables, max_workers}
-use Rattle.kt_ckpt.specs.Reading.{◌>>=◌, made, byte_within, within, number_at, list_at, rising_at, IsRising}
+use Rattle.kt_ckpt.specs.Reading.{◌>>=◌, Reader, made, byte_within, within, number_at, list_at, rising_at, IsRising}
 use Rattle.kt_ckpt.specs.Value.{value_bytes, value_at}
 use Rattle.kt_ckpt.specs.Tuple.{IsTuple, tuple_bytes, tuple_at}
 use Rattle.kt_ckpt.specs.Op.{IsOp, IsAnswer, op_bytes, op_at, answer_bytes, answer_at}
@@ -136,8 +136,7 @@ kept_at bytes = do
   Ok (record { request = request.0; answer = answer.0 }, answer.1)
 
 -- how many entries there are, and these
-unfoldable pub entries_at : {X : Type 0} → (List ℕ → Result (X × List ℕ) CkptError)
-    → List ℕ → Result (List (ℕ × X) × List ℕ) CkptError
+unfoldable pub entries_at : {X : Type 0} → Reader X → Reader (List (ℕ × X))
 entries_at read bytes = do
   n ← byte_within 0 max_workers bytes
   rising_at read 1 n.0 n.1

@@ -4,6 +4,7 @@
 mod ckpt;
 mod decode;
 mod encode;
+mod entry;
 mod error;
 mod limits;
 mod marks;

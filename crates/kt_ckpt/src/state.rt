@@ -3,6 +3,7 @@
 ghost use Rattle.std.specs.Prelude.{◌≡◌, IfOk};
 ghost use Rattle.std.specs.Option.{option_copied};
 
+use crate::entry::copy_entries;
 use kt_shard::{Kept, Request};
 use kt_tuple::{Op, Tuple, Value};
 use std::alloc::{AllocError, Global};
@@ -193,8 +194,8 @@ impl ShardState {
     {
         Ok(ShardState {
             bag: copy_tuples(alloc, &self.bag)?,
-            waiting: copy_waiting(alloc, &self.waiting)?,
-            kept: copy_kept(alloc, &self.kept)?,
+            waiting: copy_entries(alloc, &self.waiting)?,
+            kept: copy_entries(alloc, &self.kept)?,
         })
     }
 }
@@ -227,26 +228,6 @@ fn copy_tuples(alloc: Global, tuples: &[Tuple]) -> Result<Vec<Tuple>, AllocError
     let mut copies = Vec::with_capacity(alloc, tuples.len())?;
     for tuple in tuples {
         copies.push(tuple.copy(alloc)?)?;
-    }
-    Ok(copies)
-}
-
-fn copy_waiting(alloc: Global, entries: &[(u8, Request)]) -> Result<Vec<(u8, Request)>, AllocError>
-    ensures { IfOk result (λ v. v.items ≡ entries.now) }
-{
-    let mut copies = Vec::with_capacity(alloc, entries.len())?;
-    for entry in entries {
-        copies.push((entry.0, entry.1.copy(alloc)?))?;
-    }
-    Ok(copies)
-}
-
-fn copy_kept(alloc: Global, entries: &[(u8, Kept)]) -> Result<Vec<(u8, Kept)>, AllocError>
-    ensures { IfOk result (λ v. v.items ≡ entries.now) }
-{
-    let mut copies = Vec::with_capacity(alloc, entries.len())?;
-    for entry in entries {
-        copies.push((entry.0, entry.1.copy(alloc)?))?;
     }
     Ok(copies)
 }
