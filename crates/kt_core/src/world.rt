@@ -151,8 +151,8 @@ impl<S: CkptStore> World<S> {
 
     /// Makes the step. It makes a node that is up roll back, or take a checkpoint that it did not begin, only where
     /// that has to be (`IsForced`). It notes one thing at most, and cuts no line but its owner's (`IsNoted`). A refused
-    /// step changes nothing; of several refusals the first that stands comes, `Store` only of a step for which the
-    /// store is called, and `OutOfMemory` only where memory ran out.
+    /// step changes nothing. Of several refusals the first that stands comes, but that of the store before all that it
+    /// would have told, and only of a step for which it is called; `OutOfMemory` only of a step that is enabled.
     pub fn step(&mut self, alloc: Global, step: Step) -> Result<(), StepError>
         ensures effect { IsTrue self.new.is_honest → OnOk result (step_result self.old.state step ≡ Ok self.new.state) }
         ensures refusal { IsTrue self.new.is_honest → IfErr result (λ e. Refuses e (planned self.old.state step)) }

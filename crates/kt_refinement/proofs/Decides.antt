@@ -1,6 +1,6 @@
 -- Who began an instance writes its verdict. Yes on a check is one step of the machine for all nodes at once.
 use Rattle.std.proofs.Common.{◌≡◌, ℕ, Bool, true, false, IsTrue, List, [], ◌∷◌, Option, Some, None, refl, sym, ap, subst, ◌∙◌, inl}
-use Rattle.std.specs.List.{AllByRecursion, list_any}
+use Rattle.std.specs.List.{list_any}
 use Rattle.kt_tuple.specs.declared.node.NodeId.{NodeId}
 use Rattle.kt_tuple.specs.Node.{node_index, node_eq}
 use Rattle.kt_history.specs.Line.{line}
@@ -34,7 +34,7 @@ use Rattle.kt_protocol.specs.Steps.{IsAgreed, consenting, change, decide, promot
 use Rattle.kt_protocol.specs.Runs.{nothing_done, one_more}
 use Rattle.kt_protocol.proofs.Shared.{at-both, sent-tail, Invariant}
 use Rattle.kt_refinement.proofs.Numbers.{named, index-named, peers}
-use Rattle.kt_refinement.proofs.Represents.{BallotIs, Votes, PhaseIs, StateIs, LiveIs, NodeIs, NodeIn, begun_as, is_for, Represents}
+use Rattle.kt_refinement.proofs.Represents.{BallotIs, PhaseIs, NodeIs, NodeIn, Represents}
 use Rattle.kt_refinement.proofs.Frames.{LinksLead, Refines, owner-in, nodes-at, votes-at, leads-represents}
 use Rattle.kt_refinement.proofs.Known.{alive-is, held-is, voting-begun, check-open}
 use Rattle.kt_refinement.proofs.RollsBack.{verdicts-cast}

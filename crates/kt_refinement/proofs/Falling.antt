@@ -16,7 +16,7 @@ use Rattle.kt_node.specs.Failing.{fail_plan, line_left}
 use Rattle.kt_node.specs.Learning.{cut_of}
 use Rattle.kt_world.specs.declared.step.Step.TheVariants.{Fail}
 use Rattle.kt_world.specs.State.{State as World, role_of, view, node}
-use Rattle.kt_world.specs.Told.{told, stored_of, to_learn}
+use Rattle.kt_world.specs.Told.{told}
 use Rattle.kt_world.specs.Told as tellings
 use Rattle.kt_world.specs.Cut.{acts_held, permanent_by}
 use Rattle.kt_world.specs.Effect.{noted}

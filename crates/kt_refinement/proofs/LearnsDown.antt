@@ -28,7 +28,7 @@ use Rattle.kt_protocol.specs.Machine.{Node, State}
 use Rattle.kt_protocol.specs.Steps.{falling, cutting, fails, change}
 use Rattle.kt_protocol.specs.Runs.{nothing_done, one_more}
 use Rattle.kt_protocol.proofs.Shared.{at-same}
-use Rattle.kt_refinement.proofs.Represents.{carried, NodeIs, NodeIn, Represents}
+use Rattle.kt_refinement.proofs.Represents.{carried, NodeIn, Represents}
 use Rattle.kt_refinement.proofs.Links.{to}
 use Rattle.kt_refinement.proofs.Frames.{Refines, owner-in, nodes-at, votes-at, links-idle, leads-represents}
 use Rattle.kt_refinement.proofs.Falling.{fallen-is}

@@ -13,7 +13,7 @@ use Rattle.kt_store.specs.Content.{Content, row_of, next_instance, verdict_on}
 use Rattle.kt_node.specs.declared.live.Phase.TheVariants as phases
 use Rattle.kt_node.specs.declared.plan.Plan.{Plan}
 use Rattle.kt_node.specs.Labels.{label_at}
-use Rattle.kt_node.specs.Node.{Node as RealNode, Live, Alive, neighbours, node_number}
+use Rattle.kt_node.specs.Node.{Live, Alive, neighbours, node_number}
 use Rattle.kt_node.specs.Loading.{load}
 use Rattle.kt_node.specs.Failing.{restarter, restarting_plan}
 use Rattle.kt_world.specs.declared.step.Step.{Step}

@@ -24,7 +24,7 @@ use Rattle.kt_protocol.specs.Labels.{at}
 use Rattle.kt_protocol.specs.Lines.{IsIn, here, there}
 use Rattle.kt_protocol.specs.Machine.{Instance, Check, Rollback, Key, Ballot, Mode, Within, Vote, Mark, Node, State}
 use Rattle.kt_protocol.specs.Steps as machine
-use Rattle.kt_protocol.specs.Steps.{change, counting, answering, consenting, agrees, declines}
+use Rattle.kt_protocol.specs.Steps.{change, answering, consenting, agrees, declines}
 use Rattle.kt_protocol.specs.Runs.{nothing_done, one_more}
 use Rattle.kt_protocol.proofs.Shared.{at-here, at-else, a_vote, a_key}
 use Rattle.kt_refinement.proofs.Mail.{QuietStep}

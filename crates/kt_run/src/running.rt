@@ -30,7 +30,7 @@ pub enum Output {
 
 /// Reads a scenario of fault lines, runs it by a thread for each node over the store, and writes the report of the
 /// world then, or the journal. It reads all, then runs, then writes; so a fault other than `Text(Write)` leaves nothing
-/// written. What was read before a fault is gone from the reader. It may wait for its threads.
+/// written. What was read before a fault is gone from the reader. It may wait for its threads. The store is dropped.
 pub fn run_text<T, R, W, S>(
     rt: &T,
     alloc: Global,

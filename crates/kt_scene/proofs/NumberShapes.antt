@@ -1,7 +1,7 @@
 -- A number that is read has the shape of one, and each number of this shape is read, whatever its size.
-use Rattle.std.proofs.Common.{◌≡◌, ℕ, ◌^◌, ◌≤◌, ◌⊎◌, inl, inr, Bool, true, false, cond, ◌&&◌, eqb, ltb, leb, List, [], ◌∷◌, ◌++◌, Option, Some, None, Result}
+use Rattle.std.proofs.Common.{◌≡◌, ℕ, ◌^◌, ◌≤◌, ◌⊎◌, inl, inr, Bool, true, false, cond, ◌&&◌, ltb, leb, List, [], ◌∷◌, ◌++◌, Option, Some, None, Result}
 use Rattle.std.proofs.Common.{Ok, Err, refl, sym, ap, subst, ◌∙◌, append-nil, arith}
-use Rattle.std.proofs.lemmas.Bool.{ne_eqb, ltb-true, ltb-false, le-leb, and_from}
+use Rattle.std.proofs.lemmas.Bool.{ltb-true, ltb-false, le-leb, and_from}
 use Rattle.std.specs.Prelude.{ℤ, pos, codes, nat_abs, is_some}
 use Rattle.std.specs.Char.{is_ascii_digit}
 use Rattle.std.specs.Int.{w64}
@@ -9,7 +9,7 @@ use Rattle.std.specs.Int.RustNames.{FitsSigned}
 use Rattle.std.specs.Option.{option_map}
 use Rattle.std.specs.Str.Parse.{digits_value, signed_digits_value}
 use Rattle.kt_tuple.specs.Grammar.{IsInt, just_zero, positive, negative}
-use Rattle.kt_tuple.specs.Reading.{begins_with_digit, int_at, int_of, has_range}
+use Rattle.kt_tuple.specs.Reading.{begins_with_digit, int_at, int_of}
 use Rattle.kt_tuple.proofs.Shared.{int_of_some, no_sign, int_read, int_takes, int_range, range_of_int}
 use Rattle.kt_scene.specs.declared.fault.SceneError.{SceneError}
 use Rattle.kt_scene.specs.declared.fault.SceneError.TheVariants as faults

@@ -23,7 +23,7 @@ use std::io::{Read, Write};
 
 /// Reads a scenario of steps, makes them over the store and writes the report. It reads all, then makes all steps, then
 /// writes; so a fault other than `Write` leaves nothing written. What was read before a fault is gone from
-/// the reader.
+/// the reader. The store is dropped.
 pub fn replay<R: Read, W: Write, S: CkptStore + Drop>(
     alloc: Global,
     reader: &mut Source<R>,
@@ -51,7 +51,8 @@ pub fn replay<R: Read, W: Write, S: CkptStore + Drop>(
     }
 }
 
-/// Reads a scenario of steps and makes them over the store: the world then. The first half of `replay`.
+/// Reads a scenario of steps and makes them over the store: the world then. The first half of `replay`. Where it is
+/// refused, the store is gone.
 pub fn replay_world<R: Read, S: CkptStore + Drop>(
     alloc: Global,
     reader: &mut Source<R>,

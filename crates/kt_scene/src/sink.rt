@@ -86,7 +86,7 @@ impl<W: Write> Sink<W> {
         };
     }
 
-    /// Writes the text and has the writer pass it on.
+    /// Writes the text and has the writer pass it on. Which bytes are written is tested alone.
     pub fn print<D: Display + Drop>(&mut self, text: D)
         ensures { self.new.outcome ≢ Outcome.Open }
     {

@@ -20,7 +20,7 @@ use Rattle.kt_script.specs.declared.command.Slot.TheVariants as slots
 use Rattle.kt_script.specs.declared.command.Command.{Command}
 use Rattle.kt_script.specs.declared.command.Command.TheVariants.{Ask, Set, Unless}
 use Rattle.kt_script.specs.Name.{same_name}
-use Rattle.kt_script.specs.Command.{slot_bindings, slots_of, bindings}
+use Rattle.kt_script.specs.Command.{slot_bindings, bindings}
 use Rattle.kt_script.specs.Variables.{kind_in, variables_of}
 use Rattle.kt_script.specs.Meaning.{Meaning, zero_of, place_of_slot, plus, has_kinds}
 use Rattle.kt_script.specs.Memory.{Memory, zeros_of, opening_memory, are_values_of, memory_of, held, with_held, with_slot_held, with_tuple_held, values_after}

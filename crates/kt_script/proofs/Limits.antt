@@ -1,6 +1,6 @@
 -- A script keeps the limits on commands and variables.
-use Rattle.std.proofs.Common.{◌≡◌, ℕ, ◌≤◌, Bool, true, false, List, [], ◌∷◌, ◌++◌, length, length-append}
-use Rattle.std.proofs.Common.{append_assoc, Option, None, Some, refl, sym, ap, subst, ◌∙◌, arith}
+use Rattle.std.proofs.Common.{◌≡◌, ◌≤◌, Bool, true, false, List, [], ◌∷◌, ◌++◌, length, length-append}
+use Rattle.std.proofs.Common.{append_assoc, None, Some, refl, sym, subst, arith}
 use Rattle.std.specs.Prelude.{nat_lt, nat_le, not, ◌&&◌, if◌then◌else◌}
 use Rattle.std.specs.Cmp.Lexicographic.{as_long}
 use Rattle.std.specs.Map.{values_of}
@@ -13,7 +13,6 @@ use Rattle.kt_tuple.specs.Signature.{kinds_of}
 use Rattle.kt_tuple.specs.Value.{kind_of}
 use Rattle.kt_script.specs.declared.name.Name.{Name}
 use Rattle.kt_script.specs.declared.command.Command.{Command}
-use Rattle.kt_script.specs.declared.script_error.ScriptError.{ScriptError}
 use Rattle.kt_script.specs.declared.script_error.ScriptError.TheVariants as refusals
 use Rattle.kt_script.specs.Command.{bindings}
 use Rattle.kt_script.specs.Memory.{are_values_of}

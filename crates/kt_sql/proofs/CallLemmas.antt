@@ -1,5 +1,5 @@
 -- What the calls of a store write.
-use Rattle.std.proofs.Common.{◌≡◌, ℕ, ◌+◌, OnOk, Ok, Err, Result, refl, map, fold, max}
+use Rattle.std.proofs.Common.{◌≡◌, ℕ, ◌+◌, refl, map, fold, max}
 use Rattle.kt_tuple.specs.declared.node.NodeId.{NodeId}
 use Rattle.kt_store.specs.declared.rows.NodeRow.{NodeRow}
 use Rattle.kt_store.specs.declared.rows.Posted.{Posted}

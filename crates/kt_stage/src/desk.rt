@@ -87,7 +87,7 @@ impl<S: CkptStore, L: Naming> Desk<S, L> {
 
     /// Makes the step of the seat's node, and gives the receipt that the seat keeps then. A refusal leaves the seat and
     /// the journal: `NotOwner` comes only where the step is another node's, and `Step` where the world refuses the
-    /// step, or memory runs out.
+    /// step, or where it is enabled and memory is wanting.
     pub fn act(
         &mut self,
         alloc: Global,

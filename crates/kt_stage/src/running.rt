@@ -230,7 +230,8 @@ where
 }
 
 /// Runs the scene: a thread for each node, each by the policy with these fault lines, until no node has a next step.
-/// Every thread is joined. The run ends early with the first step that is refused. It may wait for its threads.
+/// Every thread is joined. The run ends early with the first step that is refused. It may wait for its threads. Where
+/// it is refused, scene, fault lines and store are gone.
 ///
 /// Which steps are made, and in what order, is not promised; nor that the run ends.
 pub fn run_threads<R, S>(

@@ -142,7 +142,8 @@ impl<S: CkptStore, L: Naming> Stage<S, L> {
         Ok((stage, seats))
     }
 
-    /// Makes the step of the seat's node under the lock; the rest is as of `Desk::act`. It may wait for the lock.
+    /// Makes the step of the seat's node by `Desk::act` under the lock, for which it may wait. Of the world no clause
+    /// here speaks, since others act before and after.
     pub fn act(
         &self,
         rt: &impl Wait,

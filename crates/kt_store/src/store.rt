@@ -54,8 +54,8 @@ pub trait CkptStore {
         ensures honest { IsTrue (is_honest self.new) → IsTrue (is_honest self.old) }
         ensures cause { HasCause (fault_count self.old) (fault_count self.new) (is_honest self.new) ⊥ result };
 
-    /// The permanent checkpoint of the node without the node's state, if one is stored. It costs nothing that grows
-    /// with the state.
+    /// The permanent checkpoint of the node without the node's state, if one is stored. In memory it costs nothing that
+    /// grows with the state; a store in SQL reads the row whole.
     fn permanent_marks(&mut self, alloc: Global, node: NodeId) -> Result<Option<Marks>, StoreError>
         ensures value { IsTrue (is_honest self.new) → IfOk result (λ m. m ≡ permanent_marks (content self.old) node) }
         ensures same { IsTrue (is_honest self.new) → content self.new ≡ content self.old }

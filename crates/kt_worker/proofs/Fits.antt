@@ -1,5 +1,5 @@
 -- A worker that stands as its answers say fits its script.
-use Rattle.std.proofs.Common.{◌≡◌, ℕ, ◌≤◌, ◌<◌, Bool, true, false, List, length, Option, None, Some, refl, sym, ap, subst, ◌∙◌, arith}
+use Rattle.std.proofs.Common.{◌≡◌, ◌≤◌, Bool, true, false, List, length, Option, None, Some, refl, sym, subst}
 use Rattle.std.specs.Prelude.{nat_lt, not, if◌then◌else◌}
 use Rattle.std.proofs.lemmas.Bool.{le-ltb}
 use Rattle.kt_tuple.specs.declared.op.Op.{Op}
@@ -11,7 +11,6 @@ use Rattle.kt_script.specs.Next.{Position, IsInScript, next_at, position_after}
 use Rattle.kt_script.specs.Rules.{IsScript}
 use Rattle.kt_script.specs.Variables.{variables_of}
 use Rattle.kt_script.proofs.Shared.{in_script-after, in_script-next}
-use Rattle.kt_worker.specs.declared.misfit.Misfit.{Misfit}
 use Rattle.kt_worker.specs.declared.misfit.Misfit.TheVariants as misfits
 use Rattle.kt_worker.specs.Standing.{Standing}
 use Rattle.kt_worker.specs.After.{behind_next, position_when, IsAfter}

@@ -1,5 +1,5 @@
 -- What holds of each element of a list, of its map, of what is kept of it.
-use Rattle.std.proofs.Common.{◌≡◌, ℕ, zero, suc, ◌+◌, ◌<◌, ◌≤◌, Bool, true, false, cond, List, [], ◌∷◌, ◌++◌, map, filter, length, Contains, refl, ap, arith}
+use Rattle.std.proofs.Common.{◌≡◌, ℕ, zero, suc, ◌+◌, ◌<◌, ◌≤◌, Bool, true, false, cond, List, [], ◌∷◌, map, filter, length, Contains, refl, ap, arith}
 use Rattle.std.specs.List.{AllByRecursion}
 use Rattle.kt_history.proofs.Shared.{Contains-here, Contains-there}
 use Rattle.kt_node.specs.Labels.{numbers}

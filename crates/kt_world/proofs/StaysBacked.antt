@@ -38,7 +38,7 @@ use Rattle.kt_world.specs.Effect.{applied}
 use Rattle.kt_world.specs.Writing.{content_after}
 use Rattle.kt_world.specs.Backed.{IsTakenIn, IsPhaseBacked, IsBacked, IsAllowed}
 use Rattle.kt_world.proofs.Plans as plans
-use Rattle.kt_world.proofs.Plans.{IsAlive, IsDown, Comes, Votes, PlanOf}
+use Rattle.kt_world.proofs.Plans.{IsAlive, IsDown, Votes, PlanOf}
 use Rattle.kt_lines.proofs.Shared.{all-append}
 use Rattle.kt_world.proofs.Heards as ways
 use Rattle.kt_world.proofs.Heards.{HeardOf, heard-is}

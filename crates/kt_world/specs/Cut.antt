@@ -1,5 +1,5 @@
 -- Cuts: of each node's line so many acts (Koo and Toueg, "Checkpointing and Rollback-Recovery for Distributed Systems":
--- a consistent set, with all that follows from it). And the cut of the permanent checkpoints.
+-- a consistent set, with all that it follows from). And the cut of the permanent checkpoints.
 use Rattle.std.specs.Prelude.{ℕ, ◌==◌, Bool, false, List, [], take, Option, None, Some, Contains}
 use Rattle.std.specs.List.{flat_map, list_any, range_with_len}
 use Rattle.kt_tuple.specs.declared.node.NodeId.{NodeId}

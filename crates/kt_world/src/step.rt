@@ -87,7 +87,8 @@ impl Step {
     }
 }
 
-/// Why a step was refused. Of several reasons the first that stands here is given.
+/// Why a step was refused. Of several reasons the first that stands here is given, but that a refused call of the store
+/// is told at once: what it would have said is not known.
 #[derive(Clone, Copy, Debug, PartialEq, Eq, Error)]
 pub enum StepError {
     /// A node is not in the scene or is of the wrong kind, or the two are no neighbours.

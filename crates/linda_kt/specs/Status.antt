@@ -1,5 +1,5 @@
 -- How a run ends.
-use Rattle.std.specs.Prelude.{◌≡◌, ◌≢◌, ◌⊎◌, ℕ, Bool, true, List, Result, Ok, Err, Option, None, Some, codes}
+use Rattle.std.specs.Prelude.{◌≡◌, ◌≢◌, ◌⊎◌, ℕ, true, List, Result, Ok, Err, Option, None, Some, codes}
 use Rattle.clap.specs.Words.{Text}
 use Rattle.kt_store.specs.Content.{Content}
 use Rattle.kt_store.specs.declared.store.CkptStore.{Ghosts}
