@@ -1,6 +1,6 @@
-"""The protocol a second time, as a model that shares nothing with the sources: shards, checkpoints, failures and
-rollbacks. It is written from the rules (docs/FORMATS.md, docs/PROTOCOL.md) in the plainest way: a worker is the list
-of its answers.
+"""The protocol a second time, as a model that shares no code with the sources: shards, checkpoints, failures and
+rollbacks. It says the rules that crates/kt_node/specs has as definitions, in the plainest way: a worker is the list of
+its answers.
 
 A node is a name, `w1` or `s2`; a step a tuple of words. A message carries, as `by`, the number of the note that sent
 it.

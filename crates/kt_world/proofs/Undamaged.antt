@@ -282,7 +282,7 @@ both-fit true false e f = absurd cc
 both-fit false b e f = absurd cc
 
 -- what the store says to who hears a message
-told_on_arrival : State → NodeId → Step → Told
+abbrev told_on_arrival : State → NodeId → Step → Told
 told_on_arrival s q step =
     record (told s step) {
       permanent = permanent_marks s.content q;
