@@ -3,9 +3,11 @@
 ghost use Rattle.std.specs.Prelude.{◌≡◌, Err, IfErr, IfOk, IsTrue, None, OnOk, Some};
 ghost use Rattle.kt_scene.specs.declared.fault.ReplayFault.TheVariants as text_faults;
 ghost use Rattle.kt_scene.specs.Journal.{WritesJournal, WritesJournalFront};
+ghost use Rattle.kt_scene.specs.Run.{given_by};
 ghost use Rattle.kt_scene.specs.Stream.{IsReportFault, UnlessWrite};
 ghost use Rattle.kt_run.specs.Run.{IsRun, IsRunFault, IsRunOf, IsRunTextFault, IsTextFault, UnlessFront, Writes};
 ghost use Rattle.kt_run.specs.Run.{WritesFront, WritesRun, WritesRunFront};
+ghost use Rattle.kt_store.specs.Content.{is_fresh};
 
 use crate::fault::RunTextFault;
 use kt_scene::{
@@ -45,10 +47,13 @@ where
     W: Write,
     S: CkptStore + Send + Drop,
     ensures written { OnOk result
-        (WritesRun S.is_honest output reader.old reader.new writer.old writer.new) }
+        (WritesRun (given_by S.content S.is_honest S.fault_count store) output reader.old reader.new
+        writer.old writer.new) }
     ensures front { result ≡ Err (RunTextFault.Text text_faults.Write)
-        → WritesRunFront S.is_honest output reader.old reader.new writer.old writer.new }
-    ensures fault { IfErr result (IsRunTextFault S.is_honest S.fault_count reader.old reader.new) }
+        → WritesRunFront (given_by S.content S.is_honest S.fault_count store) output reader.old reader.new
+        writer.old writer.new }
+    ensures fault { IfErr result
+        (IsRunTextFault (given_by S.content S.is_honest S.fault_count store) reader.old reader.new) }
     // Before any fault but the writer's the writer is not called.
     ensures nothing { IfErr result (λ fault. UnlessFront fault (writer.new ≡ writer.old)) }
 {
@@ -76,8 +81,9 @@ where
     T: Threads + Wait + Sync,
     R: Read,
     S: CkptStore + Send + Drop,
-    ensures run { IfOk result (λ j. IsRun reader.old reader.new j.world.is_honest j.steps j.world.state) }
-    ensures fault { IfErr result (IsRunFault reader.old reader.new) }
+    ensures run { IfOk result (λ j. IsRun reader.old reader.new j.world.is_honest (is_fresh (S.content store)) j.steps
+        j.world.state) }
+    ensures fault { IfErr result (IsRunFault (given_by S.content S.is_honest S.fault_count store) reader.old reader.new) }
 {
     match read_text(alloc, reader) {
         Ok(text) => run_told(rt, alloc, &text, store),
@@ -90,8 +96,9 @@ fn run_told<T, S>(rt: &T, alloc: Global, text: &[u8], store: S) -> Result<Journa
 where
     T: Threads + Wait + Sync,
     S: CkptStore + Send + Drop,
-    ensures run { IfOk result (λ j. IsRunOf text.now j.world.is_honest j.steps j.world.state) }
-    ensures fault { IfErr result (IsTextFault text.now) }
+    ensures run { IfOk result (λ j. IsRunOf text.now j.world.is_honest (is_fresh (S.content store)) j.steps
+        j.world.state) }
+    ensures fault { IfErr result (IsTextFault (given_by S.content S.is_honest S.fault_count store) text.now) }
 {
     let Scenario { scene, work } = read_scene(alloc, text, WorkKind::Faults)?;
     // The work is of the kind that was asked for.

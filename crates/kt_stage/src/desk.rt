@@ -1,6 +1,6 @@
 //! What lies under a stage's lock.
 
-ghost use Rattle.std.specs.Prelude.{◌≡◌, ◌↔◌, ◌++◌, ◌∷◌, [], length, true, vec_len, IfErr, IfOk, IsTrue, Ok, OnErr};
+ghost use Rattle.std.specs.Prelude.{◌≡◌, ◌≢◌, ◌↔◌, ◌++◌, ◌∷◌, [], length, true, vec_len, Err, IfErr, IfOk, IsTrue, Ok, OnErr};
 ghost use Rattle.std.specs.Prelude.{OnOk};
 ghost use Rattle.kt_core.specs.Stepping.{IsCalledFor, IsCause};
 ghost use Rattle.kt_core.specs.World.{beside};
@@ -86,7 +86,7 @@ impl<S: CkptStore, L: Naming> Desk<S, L> {
     }
 
     /// Makes the step of the seat's node, and gives the receipt that the seat keeps then. A refusal leaves the seat and
-    /// the journal: `NotOwner` comes only where the step is another node's, and `Step` where the world refuses the
+    /// the journal: `NotOwner` comes just where the step is another node's, and `Step` where the world refuses the
     /// step, or where it is enabled and memory is wanting.
     pub fn act(
         &mut self,
@@ -101,6 +101,7 @@ impl<S: CkptStore, L: Naming> Desk<S, L> {
             → OnOk result (step_result self.old.journal.world.state step ≡ Ok self.new.journal.world.state) }
         ensures node { seat.new.node ≡ seat.old.node }
         ensures not_owner { IfErr result (IsOthers seat.old.node step) }
+        ensures others { owner step ≢ seat.old.node → result ≡ Err ActError.NotOwner }
         ensures refusal { IsTrue self.new.journal.world.is_honest
             → IfErr result (λ e. RefusesAct e (planned self.old.journal.world.state step)) }
         ensures cause { IfErr result (IsActCause self.old.journal.world.faults self.new.journal.world.faults

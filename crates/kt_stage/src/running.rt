@@ -1,10 +1,12 @@
 //! A run: a thread for each node, each by the policy, until no node has a next step.
 
-ghost use Rattle.std.specs.Prelude.{◌≡◌, length, IfOk, IsTrue, None, Ok};
+ghost use Rattle.std.specs.Prelude.{◌≡◌, length, true, IfErr, IfOk, IsTrue, None, Ok};
 ghost use denote.Param.Send.{IsSend, IsSync};
 ghost use Rattle.kt_stage.specs.Journal.{Replays, all_made};
 ghost use Rattle.kt_stage.specs.Order.{nodes_of};
 ghost use Rattle.kt_stage.specs.Policy.{first_unfinished, spent_by};
+ghost use Rattle.kt_stage.specs.Running.{IsStopped};
+ghost use Rattle.kt_store.specs.Content.{is_fresh};
 ghost use Rattle.kt_world.specs.Reached.{opening};
 
 use crate::closing::CloseError;
@@ -229,6 +231,14 @@ where
         .map_err(|(cause, _)| RunFault::Close(cause))
 }
 
+/// The fault of a run that ended where the node has a next step. The store is dropped.
+fn left_over<S: CkptStore + Drop>(store: S, node: NodeId) -> RunFault
+    ensures { result ≡ RunFault.Unfinished node }
+{
+    drop(store);
+    RunFault::Unfinished { node }
+}
+
 /// Runs the scene: a thread for each node, each by the policy with these fault lines, until no node has a next step.
 /// Every thread is joined. The run ends early with the first step that is refused. It may wait for its threads. Where
 /// it is refused, scene, fault lines and store are gone.
@@ -248,6 +258,9 @@ where
         IsTrue j.world.is_honest → all_made (opening scene) j.steps ≡ Ok j.world.state) }
     ensures finished { IfOk result (λ j.
         IsTrue j.world.is_honest → first_unfinished j.world.state (spent_by faults j.steps) ≡ None) }
+    ensures fresh { IfOk result (λ j. IsTrue j.world.is_honest → is_fresh (S.content store) ≡ true) }
+    ensures stopped { IfErr result
+        (IsStopped S.is_honest S.fault_count (is_fresh (S.content store)) (S.fault_count store) scene faults) }
 {
     let world = match World::open(alloc, scene, store) {
         Ok(world) => world,
@@ -266,6 +279,6 @@ where
     };
     match left {
         None => Ok(journal),
-        Some(node) => Err(RunFault::Unfinished { node }),
+        Some(node) => Err(left_over(journal.into_world().into_store(), node)),
     }
 }

@@ -1,10 +1,12 @@
 //! The stage: a journal under a lock, and a seat for each node.
 
-ghost use Rattle.std.specs.Prelude.{◌≡◌, ◌≤◌, ◌++◌, ◌∷◌, [], filter, length, map, All, IfErr, IfOk, IsTrue, OnErr};
+ghost use Rattle.std.specs.Prelude.{◌≡◌, ◌≢◌, ◌≤◌, ◌++◌, ◌∷◌, [], filter, length, map, All, Err, IfErr, IfOk, IsTrue};
+ghost use Rattle.std.specs.Prelude.{OnErr};
 ghost use Rattle.kt_stage.specs.Acting.{IsOthers};
 ghost use Rattle.kt_stage.specs.Journal.{empty_seat};
 ghost use Rattle.kt_stage.specs.Order.{has_node, nodes_of};
 ghost use Rattle.kt_world.specs.Cast.{is_node};
+ghost use Rattle.kt_world.specs.Step.{owner};
 
 use crate::desk::Desk;
 use crate::error::ActError;
@@ -155,6 +157,7 @@ impl<S: CkptStore, L: Naming> Stage<S, L> {
         ensures seat { IfOk result (λ r. seat.new.receipts ≡ seat.old.receipts ++ r ∷ []) }
         ensures same { OnErr result (seat.new.receipts ≡ seat.old.receipts) }
         ensures not_owner { IfErr result (IsOthers seat.old.node step) }
+        ensures others { owner step ≢ seat.old.node → result ≡ Err ActError.NotOwner }
         ensures node { seat.new.node ≡ seat.old.node }
     {
         let mut floor = self.floor.lock(rt);

@@ -64,7 +64,7 @@ module _ {S : Type 0} (given : Given S) where
 
   -- the same of a run
   leaves_run_writer : (output : Output) (before after : Reader) (old new : Writer) (fault : RunTextFault) → UnlessFront fault (new ≡ old)
-      → (fault ≡ texts.Text faults.Write → WritesRunFront given.is_honest output before after old new)
+      → (fault ≡ texts.Text faults.Write → WritesRunFront given output before after old new)
       → LeavesRunWriter given output before after old new fault
   leaves_run_writer output before after old new (texts.Text (faults.Scene line cause)) kept front = kept
   leaves_run_writer output before after old new (texts.Text (faults.Step at cause)) kept front = kept
@@ -77,9 +77,9 @@ module _ {S : Type 0} (given : Given S) where
 
   -- the status of what a run over a store answers
   pub run_told : {X : Type 0} (output : Output) (before after : Reader) (old new : Writer) (answer : Result X RunTextFault) (n : ℕ)
-      → n ≡ run_answer_status answer → OnOk answer (WritesRun given.is_honest output before after old new)
-      → (answer ≡ Err (texts.Text faults.Write) → WritesRunFront given.is_honest output before after old new)
-      → IfErr answer (IsRunTextFault given.is_honest given.fault_count before after) → IfErr answer (λ fault. UnlessFront fault (new ≡ old))
+      → n ≡ run_answer_status answer → OnOk answer (WritesRun given output before after old new)
+      → (answer ≡ Err (texts.Text faults.Write) → WritesRunFront given output before after old new)
+      → IfErr answer (IsRunTextFault given before after) → IfErr answer (λ fault. UnlessFront fault (new ≡ old))
       → EndsRun given output before after old new n
   run_told output before after old new (Ok x) n is written front fault nothing = ran is written
   run_told output before after old new (Err why) n is written front fault nothing =

@@ -99,15 +99,15 @@ pub data EndsOver {S : Type 0} (given : Given S) (before after : Reader) (old ne
 abbrev pub LeavesRunWriter : {S : Type 0} → Given S → Output → (before after : Reader) (old new : Writer) → RunTextFault
     → Type 0
 LeavesRunWriter given output before after old new (texts.Text Write) =
-    WritesRunFront given.is_honest output before after old new
+    WritesRunFront given output before after old new
 LeavesRunWriter given output before after old new fault = new ≡ old
 
 -- how a run over a store ends: with 0 where what was read was run and what was asked for written, and else with the
 -- status of the fault
 pub data EndsRun {S : Type 0} (given : Given S) (output : Output) (before after : Reader) (old new : Writer) (n : ℕ)
     : Type 0 where
-  ran : n ≡ 0 → WritesRun given.is_honest output before after old new → EndsRun given output before after old new n
-  stopped : (fault : RunTextFault) → IsRunTextFault given.is_honest given.fault_count before after fault
+  ran : n ≡ 0 → WritesRun given output before after old new → EndsRun given output before after old new n
+  stopped : (fault : RunTextFault) → IsRunTextFault given before after fault
       → LeavesRunWriter given output before after old new fault → n ≡ run_text_status fault
       → EndsRun given output before after old new n
 
