@@ -32,6 +32,14 @@ pub record IsLeftOver {S : Type 0} (is_honest : S → Bool) (cast : Cast) (lines
   pub made : IsTrue (is_honest left) → all_made (opening cast) steps ≡ Ok state
   pub next : IsTrue (is_honest left) → first_unfinished state (spent_by lines steps) ≡ Some p
 
+-- a fault of a run that was opened and did not come to its end
+abbrev pub IsMidway : RunFault → Type 0
+IsMidway (runs.Open cause) = ⊥
+IsMidway (runs.Step at cause) = Unit {0}
+IsMidway (runs.Close cause) = Unit {0}
+IsMidway runs.Memory = Unit {0}
+IsMidway (runs.Unfinished node) = ⊥
+
 -- what is known of a run that did not come to its end; of a step that was refused, of seats that do not fit and of
 -- memory nothing is
 abbrev pub IsStopped : {S : Type 0} → (S → Bool) → (S → ℕ) → Bool → ℕ → Cast → List FaultLine → RunFault → Type 0

@@ -5,7 +5,7 @@ ghost use denote.Param.Send.{IsSend, IsSync};
 ghost use Rattle.kt_stage.specs.Journal.{Replays, all_made};
 ghost use Rattle.kt_stage.specs.Order.{nodes_of};
 ghost use Rattle.kt_stage.specs.Policy.{first_unfinished, spent_by};
-ghost use Rattle.kt_stage.specs.Running.{IsStopped};
+ghost use Rattle.kt_stage.specs.Running.{IsMidway, IsStopped};
 ghost use Rattle.kt_store.specs.Content.{is_fresh};
 ghost use Rattle.kt_world.specs.Reached.{opening};
 
@@ -47,6 +47,27 @@ pub enum RunFault {
     Unfinished { node: NodeId },
 }
 
+/// Why a node's part of a run ended early.
+#[derive(Clone, Copy, Debug, PartialEq, Eq)]
+enum Halt {
+    /// A step was refused: the place in the journal that it would have had, counted from 1, and why.
+    Step { at: u64, cause: StepError },
+    /// Memory ran out, or a thread could not be started.
+    Memory,
+}
+
+impl Halt {
+    /// The run's own fault. A thread's type says that it is none of an opening or of an end.
+    fn fault(self) -> RunFault
+        ensures { IsMidway result }
+    {
+        match self {
+            Halt::Step { at, cause } => RunFault::Step { at, cause },
+            Halt::Memory => RunFault::Memory,
+        }
+    }
+}
+
 /// What a node has in a run: its seat, and the fault lines, of which it alone looks at its own, and spends them.
 #[derive(Drop)]
 struct Player<L: Naming> {
@@ -66,12 +87,12 @@ enum Turn {
 impl<S: CkptStore, L: Naming> Floor<S, L> {
     /// Makes the next step of the player's node, if it has one. It is chosen and made under one lock: another node's
     /// step between the two could make it one that is not allowed.
-    fn turn(&mut self, alloc: Global, player: &mut Player<L>) -> Result<Turn, RunFault> {
+    fn turn(&mut self, alloc: Global, player: &mut Player<L>) -> Result<Turn, Halt> {
         let Floor { desk, idle, .. } = self;
         let Player { seat, faults } = player;
         let at = desk.journal.steps.len() as u64 + 1;
         let next = desk.next_for(alloc, faults, seat.node);
-        let next = next.map_err(|refusal| RunFault::Step {
+        let next = next.map_err(|refusal| Halt::Step {
             at,
             cause: StepError::Store(refusal),
         })?;
@@ -81,10 +102,10 @@ impl<S: CkptStore, L: Naming> Floor<S, L> {
         };
         match desk.act(alloc, seat, step) {
             Ok(_) => {}
-            Err(ActError::Step(cause)) => return Err(RunFault::Step { at, cause }),
+            Err(ActError::Step(cause)) => return Err(Halt::Step { at, cause }),
             Err(ActError::NotOwner) => {
                 let cause = StepError::NoNode;
-                return Err(RunFault::Step { at, cause });
+                return Err(Halt::Step { at, cause });
             }
         }
         faults.spend(&step);
@@ -109,7 +130,7 @@ fn play<R: Wait, S: CkptStore, L: Naming>(
     alloc: Global,
     stage: &Stage<S, L>,
     player: &mut Player<L>,
-) -> Result<(), RunFault> {
+) -> Result<(), Halt> {
     for _ in rt.forever() {
         let mut floor = stage.floor.lock(rt);
         if floor.is_over {
@@ -141,7 +162,7 @@ fn play_to_end<R: Wait, S: CkptStore, L: Naming>(
     alloc: Global,
     stage: &Stage<S, L>,
     player: Player<L>,
-) -> (Seat<L>, Result<(), RunFault>) {
+) -> (Seat<L>, Result<(), Halt>) {
     let mut player = player;
     let ended = play(rt, alloc, stage, &mut player);
     (player.seat, ended)
@@ -167,7 +188,7 @@ fn perform<R, S, L>(
     alloc: Global,
     stage: &Stage<S, L>,
     players: Vec<Player<L>>,
-) -> Result<Vec<Seat<L>>, RunFault>
+) -> Result<Vec<Seat<L>>, Halt>
 where
     R: Threads + Wait + Sync,
     S: CkptStore + Send,
@@ -176,7 +197,7 @@ where
     thread::scope(
         thread::scope_env(),
         rt,
-        move |scope| -> Result<Vec<Seat<L>>, RunFault>
+        move |scope| -> Result<Vec<Seat<L>>, Halt>
             requires { IsSync R.row × IsSend S.row × IsSend L.row × IsSync L.row }
         {
             let mut seats = Vec::new(alloc);
@@ -190,14 +211,14 @@ where
                 };
                 if !is_started {
                     stage.end(rt);
-                    ended = Err(RunFault::Memory);
+                    ended = Err(Halt::Memory);
                 }
             }
             for handle in handles {
                 let (seat, how) = handle.join(rt);
                 ended = ended.and(how);
                 if seats.push(seat).is_err() {
-                    ended = Err(RunFault::Memory);
+                    ended = Err(Halt::Memory);
                 }
             }
             ended.map(|()| seats)
@@ -221,11 +242,12 @@ where
     requires parts { blank.parts ≡ L.parts }
     requires one_each { blank.parts ≡ length (nodes_of world.state.cast) }
     requires opening { L.opening ≡ world }
-    ensures { IfOk result (λ j. Replays L.opening j.world j.steps) }
+    ensures replays { IfOk result (λ j. Replays L.opening j.world j.steps) }
+    ensures midway { IfErr result IsMidway }
 {
     let (stage, seats) = Stage::<S, L>::open(alloc, world, blank).map_err(|_| RunFault::Memory)?;
     let players = players_of(alloc, seats, faults).map_err(|_| RunFault::Memory)?;
-    let seats = perform(rt, alloc, &stage, players)?;
+    let seats = perform(rt, alloc, &stage, players).map_err(Halt::fault)?;
     stage
         .close(seats)
         .map_err(|(cause, _)| RunFault::Close(cause))
