@@ -82,6 +82,7 @@ fn is_version_1<S: Alter>(conn: &mut Connection<S>) -> Result<bool, StoreError>
     ensures same { HasCleanDisk (state S.Store conn.new) → IsTrue (state S.Store conn.new).is_open
         → IsSettled (state S.Store conn.old)
         → ((state S.Store conn.new).now ≡ (state S.Store conn.old).now) × IsSettled (state S.Store conn.new) }
+    ensures foreign { (state S.Store conn.old).now.schema ≢ kt_schema → result ≡ Ok false }
     ensures whole { IfErr result (λ e. e ≢ StoreError.Damaged) }
 {
     if !is_kt_schema(conn.schema()) {
@@ -197,6 +198,7 @@ pub(crate) fn tested<S: Alter>(alloc: Global, conn: &mut Connection<S>) -> Resul
         → (state S.Store conn.new).now ≡ (state S.Store conn.old).now }
     ensures damaged { HasCleanDisk (state S.Store conn.new) → result ≡ Err StoreError.Damaged
         → IsVersion1 (state S.Store conn.old).now → ⊥ }
+    ensures foreign { (state S.Store conn.old).now.schema ≢ kt_schema → result ≡ Err StoreError.Damaged }
     ensures mode { (state S.Store conn.old).in_transaction ≡ false → (state S.Store conn.new).in_transaction ≡ false }
 {
     if !is_version_1(conn)? {
