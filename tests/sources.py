@@ -36,7 +36,8 @@ CRATES = sorted(name for name in os.listdir(f"{ROOT}/crates") if os.path.isdir(f
 def tokens_of(source):
     """The words and brackets of a source, without comments and texts."""
     bare = re.sub(r"//[^\n]*|b?\"(?:\\.|[^\"\\])*\"|b?'(?:\\.|[^'\\])'", " ", source)
-    return TOKEN.findall(bare)
+    # the dot behind what a `λ` binds is none before a member
+    return TOKEN.findall(re.sub(r"\.(?=\s)", " ", bare))
 
 
 def imports_of(words):
@@ -195,6 +196,60 @@ def cited_words():
             if not name.startswith("tests"):
                 for word in Source(path, exported).read():
                     found.setdefault(word, []).append(path)
+    return found
+
+
+# ---- what a word of specs/ stands on
+
+USE = re.compile(r"^\s*(?:pub )?use Rattle\.(\w+)\.specs\.([\w.]+)\.\{([^}]*)\}", re.MULTILINE)
+HEAD = re.compile(r" *((?:(?:pub|abbrev|unfoldable|record|data) )+)([^\W\d][\w']*)")
+WORD = re.compile(r"[^\W\d][\w']*")
+
+
+@functools.cache
+def specs_of(crate, module):
+    """A file's imports, the lines of its definitions, and the type of each constructor."""
+    path = f"crates/{crate}/specs/{module}.antt"
+    if not is_there(path):
+        return {}, {}, {}
+    imports, lines_of, types = {}, {}, {}
+    for other, place, names in USE.findall(text_of(path)):
+        for name in names.split(","):
+            word, _, alias = name.strip().partition(" as ")
+            imports[alias or word] = (other, place.replace(".", "/"), word)
+    current = None
+    for line in text_of(path).splitlines():
+        if not line.strip() or line.lstrip().startswith("--"):
+            continue
+        head = HEAD.match(line)
+        # a line within a record begins so too, and has no word before its name but `pub`
+        is_field = line.startswith(" ") and head and head[1] == "pub "
+        if head and not is_field:
+            current = head[2]
+        elif not line.startswith(" "):
+            # an equation of the definition above it, or an import
+            first = WORD.match(line)
+            current = first[0] if first and first[0] in lines_of else None
+        if current:
+            lines_of.setdefault(current, []).append(line)
+            constructor = re.match(r"  (\w+) :", line)
+            if constructor and " data " in f" {lines_of[current][0]}":
+                types[constructor[1]] = current
+    return imports, lines_of, types
+
+
+def stands_on(*starts):
+    """The definitions that these words stand on, themselves included: each with its number of lines."""
+    found, left = {}, list(starts)
+    while left:
+        crate, module, word = left.pop()
+        imports, lines_of, types = specs_of(crate, module)
+        word = types.get(word, word)
+        if word not in lines_of or (crate, module, word) in found:
+            continue
+        found[crate, module, word] = len(lines_of[word])
+        for cited in set(WORD.findall(" ".join(lines_of[word]))):
+            left.append(imports.get(cited, (crate, module, cited)))
     return found
 
 

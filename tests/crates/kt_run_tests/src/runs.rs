@@ -1,8 +1,11 @@
 //! Runs from bytes to bytes: what is written, and what a replay of the journal writes.
 
-use kt_run::{Output, RunTextFault, run_text};
+use kt_core::OpenError;
+use kt_run::{Output, RunTextFault, run_text, run_text_over};
 use kt_scene::{ReplayFault, Sink, Source, replay};
-use kt_store::MemStore;
+use kt_stage::RunFault;
+use kt_store::{CkptStore, MemStore};
+use kt_tuple::NodeId;
 use std::alloc::Global;
 use std::process::Abort;
 use std::sync::Wait;
@@ -92,5 +95,27 @@ fn runs(rt: HostRuntime) -> Result<(), Fail> {
             assert_run(&rt, rt.alloc(), text, expected)?;
         }
     }
+    Ok(())
+}
+
+/// The store is given back with what the run has left in it, and is not fresh for the next run, which gives it back
+/// too.
+#[test]
+fn the_store_is_given_back(rt: HostRuntime) -> Result<(), Fail> {
+    let alloc = rt.alloc();
+    let text = b"linda-kt 1\nshards 1\nworker\nout (1)\nfaults\ncheck w1 after 0\nend\n".as_slice();
+    let (mut source, mut sink) = (Source::new(text), Sink::new(Vec::new(alloc)));
+    let store = MemStore::new(alloc);
+    let (answer, left) =
+        run_text_over(&rt, alloc, &mut source, &mut sink, store, Output::Report);
+    assert!(rt; answer == Ok(()), "{answer:?}");
+    let mut left = left;
+    assert!(rt; left.initiator(1) == Ok(Some(NodeId::Worker(1))));
+    let (mut source, mut sink) = (Source::new(text), Sink::new(Vec::new(alloc)));
+    let (answer, left) = run_text_over(&rt, alloc, &mut source, &mut sink, left, Output::Report);
+    let not_fresh = RunTextFault::Run(RunFault::Open(OpenError::NotFresh));
+    assert!(rt; answer == Err(not_fresh), "{answer:?}");
+    let mut left = left;
+    assert!(rt; left.is_fresh() == Ok(false));
     Ok(())
 }

@@ -3,7 +3,7 @@
 use kt_core::{StepError, World};
 use kt_history::Note;
 use kt_node::Mode;
-use kt_scene::{OpenError, ReplayFault, Sink, Source, replay, replay_world};
+use kt_scene::{OpenError, ReplayFault, Sink, Source, replay, replay_over, replay_world};
 use kt_sql::SqlStore;
 use kt_store::{CkptStore, MemStore};
 use kt_tuple::NodeId;
@@ -314,6 +314,25 @@ fn a_store_that_was_used(rt: HostRuntime) -> Result<(), Fail> {
     let answer = replay(alloc, &mut source, &mut sink, store);
     assert_eq!(rt; answer, Err(ReplayFault::Open(OpenError::NotFresh)));
     assert!(rt; sink.into_inner().is_empty());
+    Ok(())
+}
+
+/// The store is given back with what the steps have left in it, and is not fresh for the next replay, which gives it
+/// back too.
+#[test]
+fn the_store_is_given_back(rt: HostRuntime) -> Result<(), Fail> {
+    let alloc = rt.alloc();
+    let text = text_of(alloc, &[ONE_WORKER, PUT, "check w1\n"])?;
+    let (mut source, mut sink) = (Source::new(text.as_slice()), Sink::new(Vec::new(alloc)));
+    let (answer, left) = replay_over(alloc, &mut source, &mut sink, MemStore::new(alloc));
+    assert_eq!(rt; answer, Ok(()));
+    let mut left = left;
+    assert!(rt; left.open_of(NodeId::Worker(1)) == Ok(Some(1)));
+    let (mut source, mut sink) = (Source::new(text.as_slice()), Sink::new(Vec::new(alloc)));
+    let (answer, left) = replay_over(alloc, &mut source, &mut sink, left);
+    assert_eq!(rt; answer, Err(ReplayFault::Open(OpenError::NotFresh)));
+    let mut left = left;
+    assert!(rt; left.next_instance() == Ok(2));
     Ok(())
 }
 

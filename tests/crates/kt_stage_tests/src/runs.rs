@@ -120,7 +120,9 @@ fn a_run_of_no_steps(rt: HostRuntime) -> Result<(), Fail> {
 #[test]
 fn checks_while_it_runs(rt: HostRuntime) -> Result<(), Fail> {
     for _ in 0..20u32 {
-        run(&rt, rt.alloc(), TWO_CHECKS)?;
+        let steps = run(&rt, rt.alloc(), TWO_CHECKS)?;
+        assert!(rt; steps.contains(&Step::Check { node: WORKER_1 }));
+        assert!(rt; steps.contains(&Step::Check { node: SHARD_1 }));
     }
     Ok(())
 }
