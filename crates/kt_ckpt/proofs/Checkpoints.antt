@@ -1,7 +1,7 @@
 -- A checkpoint is a field, and is all of its bytes.
 use Rattle.std.proofs.Common.{append_assoc, ◌≡◌, ℕ, ◌^◌, ◌<◌, Bool, true, false, cond, eqb, List, [], ◌∷◌, ◌++◌, length, map, Result, Ok, Err, refl, sym, ap}
-use Rattle.std.proofs.Common.{subst, ◌∙◌, arith}
-use Rattle.std.specs.Prelude.{IfOk, OnOk}
+use Rattle.std.proofs.Common.{◌≤◌, take, subst, ◌∙◌, arith}
+use Rattle.std.specs.Prelude.{◌≢◌, IfOk, OnOk}
 use Rattle.std.specs.Global.{Vec}
 use Rattle.std.specs.declared.alloc.AllocError.{AllocError}
 use Rattle.std.specs.List.{zip}
@@ -13,7 +13,7 @@ use Rattle.kt_tuple.specs.declared.node.NodeId.{NodeId}
 use Rattle.kt_tuple.specs.declared.node.NodeId.TheVariants.{Worker, Shard}
 use Rattle.kt_link.specs.declared.label.Label.{Label}
 use Rattle.kt_ckpt.specs.declared.error.CkptError.{CkptError}
-use Rattle.kt_ckpt.specs.declared.error.CkptError.TheVariants.{Cut, Extra}
+use Rattle.kt_ckpt.specs.declared.error.CkptError.TheVariants.{Cut, Extra, Magic, Version}
 use Rattle.kt_ckpt.specs.declared.state.State.{State}
 use Rattle.kt_ckpt.specs.declared.state.State.TheVariants as states
 use Rattle.kt_ckpt.specs.Fields.{WorkerFields, ShardFields}
@@ -27,7 +27,7 @@ use Rattle.kt_ckpt.proofs.Combined.{behind, behind_lasts, made_field, made_lasts
 use Rattle.kt_ckpt.proofs.Primitive.{wide64, number_field, number_lasts}
 use Rattle.kt_ckpt.proofs.Loop.{both_appended}
 use Rattle.kt_ckpt.proofs.States.{worker_field, worker_lasts, shard_field, shard_lasts}
-use Rattle.kt_ckpt.proofs.Front.{magic_field, magic_lasts, version_field, version_lasts}
+use Rattle.kt_ckpt.proofs.Front.{magic_field, magic_lasts, version_field, version_lasts, too_few, other_magic, other_version}
 use Rattle.kt_ckpt.proofs.Nodes.{node_field, node_lasts}
 use Rattle.kt_ckpt.proofs.Peers.{IsPeer, HavePeers, peers_field, peers_lasts, firsts, seconds, zipped, zip_len, zip_all}
 
@@ -179,6 +179,27 @@ unfolding read
 more_extra c bytes b more h e =
     ap (λ (r : Result (Checkpoint × List ℕ) CkptError). r >>= if_ended) (ap checkpoint_at e ∙ checkpoint_field.again c (b ∷ more) h)
     ∙ ap (λ (t : Bool). cond t (the_ok c) (Err Extra)) (ne_eqb (length (b ∷ more)) 0 (λ z. omega (arith, z)))
+
+-- ---- bytes that do not begin as a checkpoint does
+
+abbrev from_magic : Result (List ℕ × List ℕ) CkptError → Result Checkpoint CkptError
+from_magic front = (front >>= λ m. with_magic m.0 m.1) >>= if_ended
+
+pub begins_short : (bytes : List ℕ) → length bytes < 4 → read bytes ≡ Err Cut
+unfolding read checkpoint_at
+begins_short bytes h = ap from_magic (too_few bytes h)
+
+pub begins_otherwise : (bytes : List ℕ) → 4 ≤ length bytes → take 4 bytes ≢ magic → read bytes ≡ Err Magic
+unfolding read checkpoint_at
+begins_otherwise bytes h never = ap from_magic (other_magic bytes h never)
+
+pub is_otherwise : (bytes : List ℕ) (v : ℕ) (more : List ℕ) → bytes ≡ magic ++ v ∷ more → v ≢ version → read bytes ≡ Err Version
+unfolding read checkpoint_at
+is_otherwise bytes v more e never =
+    ap from_magic (ap magic_at e ∙ magic_field.again magic (v ∷ more) refl)
+    ∙ ap (λ (r : Result (ℕ × List ℕ) CkptError). (r >>= λ u. with_version u.0 u.1) >>= if_ended) (other_version v more never)
+
+-- ---- what the code answers
 
 pub is_found : (bytes : List ℕ) (r : Result Checkpoint CkptError) → IsBytes bytes → Gives (λ (c : Checkpoint). c) r (read bytes)
     → IfOk r (λ c. IsCheckpoint c × (bytes ≡ spelling c))

@@ -1,11 +1,13 @@
 -- The magic bytes and the version are fields with one value.
-use Rattle.std.proofs.Common.{◌≡◌, ℕ, Bool, true, false, cond, eqb, nat_eq, List, [], ◌∷◌, length, Result, Ok, Err, refl, sym, ap, subst, ◌∙◌, arith}
+use Rattle.std.proofs.Common.{◌≡◌, ℕ, ◌<◌, ◌≤◌, Bool, true, false, cond, eqb, nat_eq, List, [], ◌∷◌, length, take, drop, Result, Ok, Err, refl, sym, ap, subst}
+use Rattle.std.proofs.Common.{◌∙◌, arith}
+use Rattle.std.specs.Prelude.{◌≢◌}
 use Rattle.std.specs.Bool.{Decides}
 use Rattle.std.specs.Cmp.Lexicographic.{pointwise}
-use Rattle.std.proofs.lemmas.Bool.{eqb-true, eq-eqb}
+use Rattle.std.proofs.lemmas.Bool.{eqb-true, eq-eqb, ne_eqb, lt-ltb, le-ltb}
 use Rattle.kt_tuple.specs.Equality.{text_eq_decides}
 use Rattle.kt_ckpt.specs.declared.error.CkptError.{CkptError}
-use Rattle.kt_ckpt.specs.declared.error.CkptError.TheVariants.{Magic, Version}
+use Rattle.kt_ckpt.specs.declared.error.CkptError.TheVariants.{Cut, Magic, Version}
 use Rattle.kt_ckpt.specs.Limits.{magic, version}
 use Rattle.kt_ckpt.specs.Reading.{◌>>=◌, bytes_at}
 use Rattle.kt_ckpt.specs.Checkpoint.{magic_at, version_at}
@@ -68,3 +70,28 @@ version_field =
 pub version_lasts : Lasts version_at
 unfolding version_at
 version_lasts = let l = constant_lasts byte_lasts version Version (λ v. eqb v version) in record { goes_on = l.goes_on }
+
+-- ---- bytes that do not begin so
+
+says_no : {P : Type 0} (b : Bool) → Decides b P → (P → ⊥) → b ≡ false
+says_no true decides never = absurd (never (decides.0 refl))
+says_no false decides never = refl
+
+abbrev judged : List ℕ → Bool → Result (List ℕ × List ℕ) CkptError
+judged bytes few = cond few (Err Cut) (the_ok {X = List ℕ × List ℕ} (take 4 bytes, drop 4 bytes))
+    >>= if_this magic Magic (λ m. pointwise nat_eq m magic)
+
+pub too_few : (bytes : List ℕ) → length bytes < 4 → magic_at bytes ≡ Err Cut
+unfolding magic_at
+too_few bytes h = ap (judged bytes) (lt-ltb (length bytes) 4 h)
+
+pub other_magic : (bytes : List ℕ) → 4 ≤ length bytes → take 4 bytes ≢ magic → magic_at bytes ≡ Err Magic
+unfolding magic_at
+other_magic bytes h never =
+    ap (judged bytes) (le-ltb (length bytes) 4 h)
+    ∙ ap (λ (b : Bool). cond b (the_ok {X = List ℕ × List ℕ} (magic, drop 4 bytes)) (Err Magic))
+    (says_no (pointwise nat_eq (take 4 bytes) magic) (text_eq_decides (take 4 bytes) magic) never)
+
+pub other_version : (v : ℕ) (more : List ℕ) → v ≢ version → version_at (v ∷ more) ≡ Err Version
+unfolding version_at
+other_version v more never = ap (λ (b : Bool). cond b (the_ok {X = ℕ × List ℕ} (version, more)) (Err Version)) (ne_eqb v version never)

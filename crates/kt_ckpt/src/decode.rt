@@ -1,6 +1,6 @@
 //! A checkpoint, read.
 
-ghost use Rattle.std.specs.Prelude.{◌≡◌, ℕ, ◌≤◌, List, ◌∷◌, ◌++◌, IfOk, Ok, Err, length, map};
+ghost use Rattle.std.specs.Prelude.{◌≡◌, ◌≢◌, ℕ, ◌<◌, ◌≤◌, List, ◌∷◌, ◌++◌, IfOk, Ok, Err, length, map, take};
 ghost use Rattle.kt_ckpt.specs.Checkpoint.{Checkpoint, IsCheckpoint, HasCounts, IsNode, IsCountedState, Suits};
 ghost use Rattle.kt_ckpt.specs.Checkpoint.{spelling, read, magic_at, version_at, node_behind, node_at};
 ghost use Rattle.kt_ckpt.specs.Checkpoint.{label_at, peer_at, peers_at, state_at, checkpoint_of, checkpoint_at};
@@ -19,7 +19,7 @@ use kt_tuple::NodeId;
 use std::alloc::{AllocError, Global};
 
 impl Ckpt {
-    ghost use Rattle.kt_ckpt.specs.declared.error.CkptError.TheVariants.{Cut, Extra};
+    ghost use Rattle.kt_ckpt.specs.declared.error.CkptError.TheVariants.{Cut, Extra, Magic, Version};
 
     /// The checkpoint that the bytes spell, all of the bytes; else the first fault from the left. Want of memory
     /// aside, `decode` is exact.
@@ -33,6 +33,12 @@ impl Ckpt {
             → IsCheckpoint c → spelling c ≡ bytes.now ++ b ∷ more → Gives (λ c. c) result (Err Cut) }
         ensures extra { (c : Checkpoint) (b : ℕ) (more : List ℕ)
             → IsCheckpoint c → bytes.now ≡ spelling c ++ b ∷ more → Gives (λ c. c) result (Err Extra) }
+        // What is too short for the magic bytes is cut short; other bytes in their place, and another version behind
+        // them, are told by their names, whatever follows.
+        ensures short { length bytes.now < 4 → Gives (λ c. c) result (Err Cut) }
+        ensures other_magic { 4 ≤ length bytes.now → take 4 bytes.now ≢ magic → Gives (λ c. c) result (Err Magic) }
+        ensures other_version { (v : ℕ) (more : List ℕ) → bytes.now ≡ magic ++ v ∷ more → v ≢ version
+            → Gives (λ c. c) result (Err Version) }
         // Which fault it is.
         ensures exact { Gives (λ c. c) result (read bytes.now) }
     {

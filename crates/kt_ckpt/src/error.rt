@@ -24,7 +24,7 @@ pub enum CkptError {
     /// Bytes follow the last field.
     #[error("bytes behind the end")]
     Extra,
-    /// They are a checkpoint, and no memory was left for it.
+    /// Memory ran out before a fault was met; what is further right was not looked at.
     #[error("out of memory")]
     OutOfMemory,
 }

@@ -10,7 +10,8 @@ use Rattle.std.specs.Prelude.{IsTrue}
 use Rattle.kt_store.specs.declared.error.StoreError.{StoreError}
 use Rattle.kt_store.specs.Calls.{most_faults}
 use Rattle.kt_store.specs.Content.{Content}
-use Rattle.kt_core.specs.Store.{IsFault, IsRead}
+use Rattle.kt_core.specs.Store.{IsFault}
+use Rattle.kt_core.specs.inner.Calls.{IsRead}
 
 -- a fault in the last of several calls is one of all of them
 pub later-fault : (before between now : ℕ) (honest : Bool) (e : StoreError) → before ≤ between → IsFault between now honest e → IsFault before now honest e

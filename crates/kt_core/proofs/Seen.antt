@@ -4,7 +4,7 @@ use Rattle.kt_tuple.specs.declared.node.NodeId.{NodeId}
 use Rattle.kt_node.specs.Ready.{CanAct}
 use Rattle.kt_node.specs.Saving.{CanSaveNode}
 use Rattle.kt_node.specs.View.{View}
-use Rattle.kt_world.specs.Ready.{IsReady}
+use Rattle.kt_world.specs.inner.Ready.{IsReady}
 use Rattle.kt_world.specs.State.{State, view}
 use Rattle.kt_world.proofs.Shared.{can_act, can_save_node}
 

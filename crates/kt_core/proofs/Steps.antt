@@ -18,13 +18,14 @@ use Rattle.kt_node.specs.declared.refusal.Refusal.TheVariants as reasons
 use Rattle.kt_node.specs.Plan.{Planned}
 use Rattle.kt_world.specs.Effect.{applied, applied_if, step_result}
 use Rattle.kt_world.specs.Writing.{content_after}
-use Rattle.kt_world.specs.Backed.{HasNumbers, IsAllowed, IsBacked}
+use Rattle.kt_world.specs.inner.Backed.{HasNumbers, IsAllowed, IsBacked}
 use Rattle.kt_world.proofs.Shared.{planned-allowed, planned-numbers}
 use Rattle.kt_core.specs.declared.machine.Machine.{Machine}
 use Rattle.kt_core.specs.inner.Machine.{state_of}
-use Rattle.kt_world.specs.Needs.{needs_of, told_by}
+use Rattle.kt_world.specs.Needs.{needs_of}
+use Rattle.kt_world.specs.inner.Telling.{told_by}
 use Rattle.kt_world.specs.Told.{told}
-use Rattle.kt_world.specs.Ready.{CanApply, IsReady}
+use Rattle.kt_world.specs.inner.Ready.{CanApply, IsReady}
 use Rattle.kt_world.specs.State.{State}
 use Rattle.kt_world.specs.Step.{owner}
 use Rattle.kt_world.proofs.Shared.{enough, plan-found, plan-few, can_apply, stays_ready}

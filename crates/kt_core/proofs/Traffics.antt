@@ -10,7 +10,7 @@ use Rattle.kt_link.specs.Network.{Network, AreNeighbours, ChangesOnly, place, qu
 use Rattle.kt_link.proofs.Shared.{other_room}
 use Rattle.kt_node.specs.declared.message.Message.{Message}
 use Rattle.kt_world.specs.Cast.{Cast}
-use Rattle.kt_world.specs.Ready as ready
+use Rattle.kt_world.specs.inner.Ready as ready
 use Rattle.kt_world.proofs.Shared.{Ends, all-through, to_shard, to_worker, ends}
 use Rattle.kt_world.specs.Effect.{Way, sent_one, sent}
 use Rattle.kt_core.specs.inner.Traffic.{IsSameTraffic}

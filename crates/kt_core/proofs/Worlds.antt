@@ -13,12 +13,12 @@ use Rattle.kt_world.specs.declared.step.StepError.{StepError}
 use Rattle.kt_world.specs.Effect.{step_result}
 use Rattle.kt_world.specs.Forced.{IsForced}
 use Rattle.kt_world.specs.Headline.{IsNoted}
-use Rattle.kt_world.specs.Ready.{IsReady}
+use Rattle.kt_world.specs.inner.Ready.{IsReady}
 use Rattle.kt_world.specs.Reached.{opening, next_state, or_as_it_was, after, IsReached}
 use Rattle.kt_world.specs.State.{State}
 use Rattle.kt_core.specs.declared.machine.Machine.{Machine}
 use Rattle.kt_core.specs.inner.Machine.{state_of}
-use Rattle.kt_core.specs.World.{IsWorld}
+use Rattle.kt_core.specs.inner.Kept.{IsWorld}
 
 after-push : (s : State) (steps : List Step) (step : Step) → after s (steps ++ step ∷ []) ≡ next_state (after s steps) step
 unfolding after

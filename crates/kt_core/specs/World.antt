@@ -1,11 +1,9 @@
 -- What a world is to its callers.
-use Rattle.std.specs.Prelude.{ℕ, Bool, IsTrue}
+use Rattle.std.specs.Prelude.{ℕ, Bool}
 use Rattle.kt_core.specs.declared.world.OpenError.{OpenError}
 use Rattle.kt_core.specs.declared.world.OpenError.TheVariants as opened
 use Rattle.kt_core.specs.Store.{IsFault}
 use Rattle.kt_store.specs.Content.{empty_content}
-use Rattle.kt_world.specs.Ready.{IsReady}
-use Rattle.kt_world.specs.Reached.{IsReached}
 use Rattle.kt_world.specs.State.{State}
 
 -- its state, what the store holds among it; whether the store is honest, and how often its device has failed
@@ -17,11 +15,6 @@ pub record Standing : Type 0 where
 -- the state but for what the store holds
 abbrev pub beside : State → State
 beside s = record s { content = empty_content }
-
--- the next step can be made, whatever the store answers; and while it is honest, steps have led here
-pub record IsWorld (state : State) (is_honest : Bool) : Type 0 where
-  pub ready : IsReady (beside state)
-  pub reached : IsTrue is_honest → IsReached state
 
 -- a store's refusal comes where its call was refused
 abbrev pub IsOpenCause : ℕ → ℕ → Bool → OpenError → Type 0

@@ -4,3 +4,5 @@ pub mod Space
 pub mod Traffic
 pub mod Rows
 pub mod Machine
+pub mod Calls
+pub mod Kept

@@ -22,8 +22,11 @@ pub enum FaultKind {
 /// A fault line: what the node shall do once it has made so many steps of its own.
 #[derive(Clone, Copy, Debug, PartialEq, Eq)]
 pub struct Fault {
+    /// What the node shall do.
     pub kind: FaultKind,
+    /// Who shall do it.
     pub node: NodeId,
+    /// How many steps of its own it makes first; a scenario says at most 100,000.
     pub after: u64,
 }
 
@@ -43,7 +46,9 @@ impl Fault {
 /// A fault line, and whether a step has spent it.
 #[derive(Clone, Copy, Debug, PartialEq, Eq)]
 pub struct FaultLine {
+    /// What it asks for.
     pub fault: Fault,
+    /// Whether a step has spent it.
     pub is_marked: bool,
 }
 

@@ -113,7 +113,7 @@ impl Machine {
     ghost use Rattle.kt_world.specs.declared.step.Step.TheVariants as steps;
     ghost use Rattle.kt_world.specs.Judge.{due, judged};
     ghost use Rattle.kt_world.specs.Step.{owner};
-    ghost use Rattle.kt_world.specs.Ready.{IsReady};
+    ghost use Rattle.kt_world.specs.inner.Ready.{IsReady};
     ghost use Rattle.kt_world.specs.State.{view};
     ghost use Rattle.kt_core.specs.inner.Machine.{state_of};
 
@@ -138,7 +138,7 @@ impl Machine {
         }
     }
 
-    /// The same: it can act and be saved.
+    /// The same. For the proof alone: the owner can act and be saved, as in each state that is ready.
     fn seen(&self, id: NodeId) -> Result<View<'_>, StepError>
         requires { IsReady (state_of self.now empty_content) }
         ensures there { is_ok result ≡ is_node self.now.scene id }

@@ -64,7 +64,7 @@ impl Machine {
     ghost use Rattle.kt_world.specs.Step.{owner};
     ghost use Rattle.kt_world.specs.Effect.{applied};
     ghost use Rattle.kt_world.specs.Writing.{content_after};
-    ghost use Rattle.kt_world.specs.Ready.{IsReady, CanApply};
+    ghost use Rattle.kt_world.specs.inner.Ready.{IsReady, CanApply};
     ghost use Rattle.kt_world.specs.Reached.{opening};
     ghost use Rattle.kt_core.specs.inner.Machine.{state_of, HasRoomFor};
 

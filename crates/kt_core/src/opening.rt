@@ -13,11 +13,11 @@ use kt_script::Script;
 use kt_tuple::NodeId;
 use std::alloc::{AllocError, Global};
 
-/// How many rows a table with one for each node has: workers and shards are numbered from 1 to 8.
-const ROWS: usize = 18;
-
-/// The numbers that workers and shards can have, 0 counted.
+/// The numbers that workers and shards can have, from 1 to 8, and 0, which none has.
 const NUMBERS: u8 = 9;
+
+/// How many rows a table of nodes has: one for each number of a worker and for each of a shard.
+const ROWS: usize = 18;
 
 /// The row of the node, which is empty where the scene has no such node.
 fn row(
@@ -61,7 +61,7 @@ pub(crate) fn no_counts(alloc: Global) -> Result<Vec<u64>, AllocError>
     vec![in alloc; 0; ROWS]
 }
 
-/// Each of the scripts is within the limits that it was made with.
+/// Each of the scripts is within the limits that it was made with. For the proof alone: it does nothing.
 pub(crate) fn scripts_are_short(scripts: &[Script])
     ensures { (n : ℕ) → IfSome (slice_get scripts.now n) IsShort }
 {

@@ -2,9 +2,10 @@
 
 ghost use Rattle.std.specs.Prelude.{◌≡◌, ◌+◌, ◌<◌, ◌^◌, IfOk, IsOk, IsTrue, None, false, if◌then◌else◌};
 ghost use Rattle.kt_store.specs.Content.{next_instance, open_of, permanent_marks, row_of};
-ghost use Rattle.kt_world.specs.Needs.{answer_to, no_needs, nothing_stored, told_by};
+ghost use Rattle.kt_world.specs.Needs.{no_needs, nothing_stored};
+ghost use Rattle.kt_world.specs.inner.Telling.{answer_to, told_by};
 ghost use Rattle.kt_world.specs.Told.{stored_of, tentative_in};
-ghost use Rattle.kt_core.specs.Store.{IsRead};
+ghost use Rattle.kt_core.specs.inner.Calls.{IsRead};
 
 use kt_ckpt::Marks;
 use kt_node::Stored;

@@ -5,7 +5,7 @@ ghost use Rattle.std.specs.List.{flat_map, range_with_len};
 ghost use Rattle.kt_tuple.specs.declared.node.NodeId.TheVariants as ids;
 ghost use Rattle.kt_world.specs.Cut.{permanent_of, tuples_of};
 ghost use Rattle.kt_core.specs.inner.Space.{counts_in, taken_by};
-ghost use Rattle.kt_core.specs.Store.{IsRead};
+ghost use Rattle.kt_core.specs.inner.Calls.{IsRead};
 
 use kt_ckpt::{Ckpt, State};
 use kt_store::{CkptStore, StoreError, Tentative, TentativeMarks, Verdict};

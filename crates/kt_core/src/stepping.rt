@@ -2,10 +2,10 @@
 
 ghost use Rattle.std.specs.Prelude.{◌≡◌, ◌≤◌, IfErr, IfOk, IsTrue, Ok, OnErr, OnOk};
 ghost use Rattle.kt_store.specs.Content.{Content, empty_content};
-ghost use Rattle.kt_world.specs.Backed.{IsBacked};
+ghost use Rattle.kt_world.specs.inner.Backed.{IsBacked};
 ghost use Rattle.kt_world.specs.Effect.{applied, step_result};
 ghost use Rattle.kt_world.specs.Judge.{IsUndamaged, planned};
-ghost use Rattle.kt_world.specs.Ready.{CanApply, IsReady};
+ghost use Rattle.kt_world.specs.inner.Ready.{CanApply, IsReady};
 ghost use Rattle.kt_world.specs.Step.{owner};
 ghost use Rattle.kt_core.specs.inner.Machine.{HasRoomFor, state_of};
 ghost use Rattle.kt_core.specs.Stepping.{IsCalledFor, IsCause, Refuses};

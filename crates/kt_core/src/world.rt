@@ -64,7 +64,8 @@ pub struct World<S: CkptStore> {
 
 impl<S: CkptStore> Model for World<S> {
     ghost use Rattle.kt_core.specs.inner.Machine.{state_of};
-    ghost use Rattle.kt_core.specs.World.{IsWorld, Standing};
+    ghost use Rattle.kt_core.specs.World.{Standing};
+    ghost use Rattle.kt_core.specs.inner.Kept.{IsWorld};
 
     ghost Value = { Standing };
 

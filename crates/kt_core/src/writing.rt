@@ -1,9 +1,9 @@
 //! The write of a plan.
 
 ghost use Rattle.std.specs.Prelude.{◌≡◌, IfSome, IsOk, IsTrue, None};
-ghost use Rattle.kt_world.specs.Backed.{HasNumbers, IsAllowed};
+ghost use Rattle.kt_world.specs.inner.Backed.{HasNumbers, IsAllowed};
 ghost use Rattle.kt_world.specs.Writing.{content_after};
-ghost use Rattle.kt_core.specs.Store.{IsWritten};
+ghost use Rattle.kt_core.specs.inner.Calls.{IsWritten};
 
 use kt_node::Write;
 use kt_store::{CkptStore, StoreError};

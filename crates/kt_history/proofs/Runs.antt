@@ -19,7 +19,7 @@ use Rattle.kt_tuple.specs.Matching.{Matches, MatchesOnly}
 use Rattle.kt_tuple.specs.Space.{SpaceStep, RunsFrom}
 use Rattle.kt_space.specs.Picking.{matching, without_match}
 use Rattle.kt_space.proofs.Shared.{takes_out, match_permutes, nothing_matches}
-use Rattle.kt_history.specs.Run.{CanStep, IsThere, TakesOut}
+use Rattle.kt_history.specs.inner.Taking.{CanStep, IsThere, TakesOut}
 use Rattle.kt_history.proofs.Lists.{Contains-here, Contains-there}
 
 -- how often a tuple is among tuples

@@ -1,28 +1,9 @@
 -- Services as one run of the sequential space, and what one of them takes out.
-use Rattle.std.specs.Prelude.{◌≡◌, List, ◌∷◌, Contains, IsPermutation}
+use Rattle.std.specs.Prelude.{List}
 use Rattle.kt_tuple.specs.declared.tuple.Tuple.{Tuple}
-use Rattle.kt_tuple.specs.declared.op.Op.{Op}
-use Rattle.kt_tuple.specs.declared.op.Answer.{Answer}
-use Rattle.kt_tuple.specs.declared.op.Answer.TheVariants as answers
 use Rattle.kt_tuple.specs.declared.service.Service.{Service}
-use Rattle.kt_tuple.specs.Space.{SpaceStep, IsSpaceRun}
+use Rattle.kt_tuple.specs.Space.{IsSpaceRun}
 
 -- the services are one run of a space that was empty at first
 abbrev pub IsRun : List Service → Type 0
 IsRun services = (tuples : List Tuple) × IsSpaceRun services tuples
-
--- the space can answer the operation so
-abbrev pub CanStep : List Tuple → Op → Answer → Type 0
-CanStep old op answer = (new : List Tuple) × SpaceStep old op answer new
-
--- the tuple that was withdrawn is there
-abbrev pub IsThere : List Tuple → Answer → Type 0
-IsThere old answers.Done = Unit {0}
-IsThere old (answers.Got u) = Contains old u
-IsThere old answers.None = Unit {0}
-
--- the tuple that was withdrawn is taken out once
-abbrev pub TakesOut : List Tuple → Answer → List Tuple → Type 0
-TakesOut old answers.Done new = new ≡ old
-TakesOut old (answers.Got u) new = IsPermutation old (u ∷ new)
-TakesOut old answers.None new = new ≡ old

@@ -16,7 +16,8 @@ use Rattle.kt_history.specs.Past.{InPast}
 abbrev pub Stands : List Note → ℕ → Type 0
 Stands h e = (p : NodeId) × Contains (line h p) e
 
--- the act e is lost: a cut took it out of its line, and it stands in none
+-- e stands in no line: of an act that was made, a cut took it out of its line. A number that names no act, and that of
+-- a cut, stand in none either; but these are in no act's past.
 abbrev pub IsLost : List Note → ℕ → Type 0
 IsLost h e = ¬ Stands h e
 

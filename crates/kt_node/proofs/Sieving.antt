@@ -6,7 +6,8 @@ use Rattle.std.proofs.lemmas.List.Elements.{filter-append}
 use Rattle.kt_tuple.specs.declared.node.NodeId.{NodeId}
 use Rattle.kt_link.specs.declared.label.Label.{Label}
 use Rattle.kt_node.specs.declared.message.Post.{Post}
-use Rattle.kt_node.specs.Turning.{is_above, turned_over}
+use Rattle.kt_node.specs.Turning.{is_above}
+use Rattle.kt_node.specs.inner.Between.{turned_over}
 
 abbrev pub Kept : Type 0
 Kept = NodeId × Post

@@ -61,10 +61,6 @@ held_plan n b write = record {
   write = Some write;
 }
 
--- the ballot behind the vote that its node has to cast now, if it has to, and what a node sends that is held with it
-abbrev pub held_ballot : Live → Poll → Poll × List (NodeId × Message)
-held_ballot n b = (poll_after b (casting b), check_asks b.instance n b.asked ++ votes (casting b))
-
 -- the checkpoint of this moment
 abbrev pub checkpoint_now : View → Live → Ckpt
 checkpoint_now v n = checkpoint_of v.role n v.line_len

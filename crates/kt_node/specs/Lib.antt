@@ -12,7 +12,6 @@ pub mod Stored
 pub mod State
 pub mod Joining
 pub mod Saving
-pub mod Bodies
 pub mod Loading
 pub mod Learning
 pub mod Arrivals
@@ -20,3 +19,4 @@ pub mod Deciding
 pub mod Failing
 pub mod Steps
 pub mod Posts
+pub mod inner

@@ -29,11 +29,6 @@ changed_body body _ = body
 abbrev pub is_above : NodeId → Label → NodeId × Post → Bool
 is_above from l x = node_eq x.0 from && not (up_to x.1.label l)
 
--- the first kept message is taken off, and stands behind the others unless it is one of these
-abbrev pub turned_over : NodeId → Label → List (NodeId × Post) → List (NodeId × Post)
-turned_over from l [] = []
-turned_over from l (x ∷ later) = if is_above from l x then later else later ++ x ∷ []
-
 abbrev pub changed_kept : List (NodeId × Post) → KeptChange → List (NodeId × Post)
 changed_kept kept keeps.Stay = kept
 changed_kept kept (keeps.Append from post) = kept ++ (from, post) ∷ []

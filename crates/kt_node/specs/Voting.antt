@@ -4,8 +4,6 @@ use Rattle.kt_tuple.specs.declared.node.NodeId.{NodeId}
 use Rattle.kt_vote.specs.declared.asker.Asker.{Asker}
 use Rattle.kt_vote.specs.declared.vote.Vote.{Vote}
 use Rattle.kt_vote.specs.Poll.{Poll, outcome_of}
-use Rattle.kt_node.specs.declared.live.Phase.{Phase}
-use Rattle.kt_node.specs.declared.live.Phase.TheVariants as phases
 use Rattle.kt_node.specs.declared.message.Message.{Message}
 use Rattle.kt_node.specs.declared.message.Message.TheVariants as messages
 
@@ -43,9 +41,3 @@ poll_after b (Some vote) = voted b
 abbrev pub votes : Option (NodeId × Vote) → List (NodeId × Message)
 votes None = []
 votes (Some vote) = (vote.0, messages.Vote vote.1) ∷ []
-
--- the same phase with another ballot
-abbrev pub in_phase : Phase → Poll → Phase
-in_phase phases.Up b = phases.Up
-in_phase (phases.Held old) b = phases.Held b
-in_phase (phases.Rolling old) b = phases.Rolling b

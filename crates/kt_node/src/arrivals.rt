@@ -5,11 +5,11 @@ ghost use Rattle.std.specs.Option.{option_copied};
 ghost use Rattle.kt_node.specs.Plan.{Gives};
 ghost use Rattle.kt_node.specs.Saving.{CanSave, CanSaveNode};
 ghost use Rattle.kt_node.specs.View.{view_of};
-ghost use Rattle.kt_node.specs.Views.{live_view};
+ghost use Rattle.kt_node.specs.inner.Codes.{live_view};
 ghost use Rattle.kt_node.specs.Arrivals.{answer_plan, check_plan, hear_check, sieved_answer_plan, hear_rollback};
 ghost use Rattle.kt_node.specs.Arrivals.{counted_if, hear_vote, vote_in, vote_plan, voting_plan};
 ghost use Rattle.kt_node.specs.Arrivals.{hear_verdict, verdict_by_parent, verdict_in, verdict_when_held};
-ghost use Rattle.kt_node.specs.Voting.{in_phase};
+ghost use Rattle.kt_node.specs.inner.Between.{in_phase};
 
 use crate::change::{BodyChange, KeptChange, Turn};
 use crate::joining::asker_of;

@@ -3,7 +3,7 @@
 ghost use Rattle.std.specs.Prelude.{◌≡◌, IfOk};
 ghost use Rattle.kt_node.specs.Joining.{check_ask, check_asks, roll_ask, roll_asks};
 ghost use Rattle.kt_node.specs.Node.{node_number};
-ghost use Rattle.kt_node.specs.Views.{live_view, sent_view};
+ghost use Rattle.kt_node.specs.inner.Codes.{live_view, sent_view};
 
 use crate::labels::label_at;
 use crate::live::Live;

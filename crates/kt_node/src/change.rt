@@ -39,7 +39,9 @@ pub enum KeptChange {
 /// What becomes of a node that stays alive. The parts are independent of each other.
 #[derive(Debug, Drop)]
 pub struct Turn {
+    /// What becomes of its worker or shard.
     pub body: BodyChange,
+    /// What becomes of the messages that it keeps.
     pub kept: KeptChange,
     /// Of whom an underlying message is heard, and its label.
     pub heard: Option<(NodeId, Label)>,
@@ -59,7 +61,7 @@ pub struct Loaded {
 
 impl Model for Loaded {
     ghost use Rattle.kt_node.specs.Node.{Live as LiveData};
-    ghost use Rattle.kt_node.specs.Views.{HasTables, live_view};
+    ghost use Rattle.kt_node.specs.inner.Codes.{HasTables, live_view};
 
     ghost Value = { LiveData };
 

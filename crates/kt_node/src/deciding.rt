@@ -8,7 +8,8 @@ ghost use Rattle.kt_node.specs.View.{view_of};
 ghost use Rattle.kt_node.specs.Deciding.{check, decide, decide_by, decide_plan, decided_change};
 ghost use Rattle.kt_node.specs.Deciding.{abandon, abandon_by, abandon_open, declined_plan, no_plan};
 ghost use Rattle.kt_node.specs.Deciding.{learn, learn_by, learn_down, learn_held, learn_in, settled};
-ghost use Rattle.kt_node.specs.Voting.{in_phase, voted};
+ghost use Rattle.kt_node.specs.Voting.{voted};
+ghost use Rattle.kt_node.specs.inner.Between.{in_phase};
 ghost use Rattle.kt_node.specs.declared.plan.Write.TheVariants.{Decide};
 
 use crate::change::{Change, Turn};

@@ -8,7 +8,7 @@ ghost use Rattle.kt_worker.specs.Standing.{awaits, heard};
 ghost use Rattle.kt_shard.specs.Arrival.{arrival_view};
 ghost use Rattle.kt_node.specs.declared.change.BodyChange.TheVariants.{Stay, Wait, Work};
 ghost use Rattle.kt_node.specs.Node.{node_number};
-ghost use Rattle.kt_node.specs.Views.{live_view};
+ghost use Rattle.kt_node.specs.inner.Codes.{live_view};
 ghost use Rattle.kt_node.specs.View.{view_of};
 ghost use Rattle.kt_node.specs.Ready.{CanCount};
 ghost use Rattle.kt_node.specs.Talking.{hearing, note_of, again_plan, request_plan, reply_plan, heard_plan};

@@ -10,7 +10,8 @@ ghost use Rattle.kt_node.specs.Ready.{CanAct, CanChange, HasPlace};
 ghost use Rattle.kt_node.specs.Steps.{issue, repeat, serve, take};
 ghost use Rattle.kt_node.specs.Posts.{hear_app};
 
-/// The node of a plan can make its change.
+/// A node that can act can make the change of each plan of the underlying computation, where the worker that it serves
+/// has a desk and the node that it hears has a place in its tables.
 pub fn plans_can_be_carried_out()
     ensures issue { (v : View) (plan : Plan) → CanAct v → issue v ≡ Ok plan → CanChange v.node plan.change }
     ensures repeat { (v : View) (plan : Plan) → CanAct v → repeat v ≡ Ok plan → CanChange v.node plan.change }

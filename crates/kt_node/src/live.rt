@@ -11,7 +11,9 @@ use std::collections::VecDeque;
 /// What a node works with.
 #[derive(Debug, Drop)]
 pub enum Body {
+    /// What a worker is about.
     Worker(Worker),
+    /// What a shard holds.
     Shard(Shard),
 }
 
@@ -28,7 +30,7 @@ pub enum Phase {
 
 impl Phase {
     ghost use Rattle.std.specs.Prelude.{◌≡◌};
-    ghost use Rattle.kt_node.specs.Voting.{in_phase};
+    ghost use Rattle.kt_node.specs.inner.Between.{in_phase};
 
     /// The same phase with another ballot.
     pub(crate) fn with(&self, ballot: Ballot) -> Phase

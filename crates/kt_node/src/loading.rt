@@ -9,8 +9,9 @@ ghost use Rattle.kt_node.specs.Plan.{Gives};
 ghost use Rattle.kt_node.specs.State.{are_of_scene, is_of_scene, body_at, body_from, desk_with, entry_of};
 ghost use Rattle.kt_node.specs.State.{if_fits, shard_fits, shard_from, worker_from};
 ghost use Rattle.kt_node.specs.View.{view_of};
-ghost use Rattle.kt_node.specs.Views.{HasTables, body_view, live_view, role_view};
-ghost use Rattle.kt_node.specs.Bodies.{GivesBody};
+ghost use Rattle.kt_node.specs.Views.{role_view};
+ghost use Rattle.kt_node.specs.inner.Codes.{HasTables, body_view, live_view};
+ghost use Rattle.kt_node.specs.inner.Bodies.{GivesBody};
 ghost use Rattle.kt_node.specs.declared.live.Phase.TheVariants as phases;
 
 use crate::change::Loaded;

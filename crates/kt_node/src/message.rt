@@ -56,9 +56,11 @@ impl Post {
     }
 }
 
-/// Koo and Toueg's request to take a checkpoint or to roll back.
+/// The request to take a checkpoint, or to roll back, of Koo and Toueg, "Checkpointing and Rollback-Recovery for
+/// Distributed Systems", in their algorithms for checkpoints and for rollbacks.
 #[derive(Clone, Copy, Debug, PartialEq, Eq)]
 pub struct Ask {
+    /// The instance for which it asks.
     pub instance: u64,
     /// In a check the last label that the asker received from the asked node; in a rollback the last one
     /// that it sent to it before its permanent checkpoint.

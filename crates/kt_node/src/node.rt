@@ -32,7 +32,8 @@ pub struct Node {
 
 impl Model for Node {
     ghost use Rattle.std.specs.Prelude.{IfSome};
-    ghost use Rattle.kt_node.specs.Views.{HasTables, Standing, standing_of};
+    ghost use Rattle.kt_node.specs.Views.{Standing};
+    ghost use Rattle.kt_node.specs.inner.Codes.{HasTables, standing_of};
 
     ghost Value = { Standing };
 

@@ -92,9 +92,13 @@ impl Outbox {
 /// write of the store.
 #[derive(Debug, Drop)]
 pub struct Plan {
+    /// What becomes of the owner.
     pub change: Change,
+    /// What it sends.
     pub send: Outbox,
+    /// What is noted in the history, if anything is.
     pub note: Option<Note>,
+    /// What the store has to write, if anything.
     pub write: Option<Write>,
 }
 

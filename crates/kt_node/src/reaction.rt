@@ -1,10 +1,12 @@
-//! What a node answers to an ask.
+//! What a node answers to an ask: the tests on labels are those of Koo and Toueg, "Checkpointing and Rollback-Recovery
+//! for Distributed Systems", in their algorithms for checkpoints and for rollbacks; who takes part in another instance
+//! already answers by this project's own table.
 
 ghost use Rattle.std.specs.Prelude.{◌≡◌};
 ghost use Rattle.std.specs.Option.{option_copied};
 ghost use Rattle.kt_node.specs.Arrivals.{check_in, check_reaction, check_when_up, is_in};
 ghost use Rattle.kt_node.specs.Arrivals.{rollback_in, rollback_reaction};
-ghost use Rattle.kt_node.specs.Views.{live_view};
+ghost use Rattle.kt_node.specs.inner.Codes.{live_view};
 
 use crate::labels::{label_at, reaches, up_to};
 use crate::live::{Live, Phase};

@@ -18,7 +18,9 @@ pub struct Role<'a> {
 /// What the owner of a step sees, but for the store and for what it hears.
 #[derive(Clone, Copy, Debug)]
 pub struct View<'a> {
+    /// Who it is.
     pub role: Role<'a>,
+    /// The owner itself.
     pub node: &'a Node,
     /// The number of the next note.
     pub next: u64,

@@ -6,7 +6,8 @@ ghost use Rattle.kt_ckpt.specs.Limits.{max_pc};
 ghost use Rattle.kt_shard.specs.Shard.{desk_of};
 ghost use Rattle.kt_node.specs.Labels.{listed};
 ghost use Rattle.kt_node.specs.State.{body_fields, checkpoint_of, entries, entry, shard_fields, worker_fields};
-ghost use Rattle.kt_node.specs.Views.{body_view, live_view, role_view};
+ghost use Rattle.kt_node.specs.Views.{role_view};
+ghost use Rattle.kt_node.specs.inner.Codes.{body_view, live_view};
 
 use crate::live::{Body, Live};
 use crate::role::Role;

@@ -3,7 +3,7 @@
 ghost use Rattle.std.specs.Prelude.{◌≡◌, ◌≤◌, IfOk, is_some};
 ghost use Rattle.std.specs.Option.{option_copied, option_map};
 ghost use Rattle.kt_worker.specs.Standing.{issued, next_request};
-ghost use Rattle.kt_node.specs.Views.{live_view};
+ghost use Rattle.kt_node.specs.inner.Codes.{live_view};
 ghost use Rattle.kt_node.specs.View.{view_of};
 ghost use Rattle.kt_node.specs.Plan.{Gives};
 ghost use Rattle.kt_node.specs.Ready.{CanCount, CanSpeak};
@@ -161,8 +161,8 @@ impl<'a> View<'a> {
         Ok(self.heard_plan(alloc, live, KeptChange::TakeFirst, *from, post)?)
     }
 
-    /// A shard serves the worker of this number, which waits there, with the match of this place. The cause
-    /// is that of the hearing which put it in waiting.
+    /// A shard serves the worker of this number, which waits there, with the match of this place, counted from 0 in
+    /// order of arrival. The cause is that of the hearing which put it in waiting.
     pub fn serve(self, alloc: Global, worker: u8, place: u64, by: u64) -> Result<Plan, Refusal>
         requires { CanSpeak self.node.now.node }
         ensures { Gives result (serve (view_of self.entry) worker place by) }

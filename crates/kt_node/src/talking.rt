@@ -4,7 +4,7 @@ ghost use Rattle.std.specs.Prelude.{◌≡◌, ◌≤◌, [], ◌∷◌, IfOk};
 ghost use Rattle.kt_history.specs.declared.note.What.TheVariants.{Again, Served};
 ghost use Rattle.kt_node.specs.declared.message.Talk.TheVariants.{Request as Asked, Reply as Replied};
 ghost use Rattle.kt_node.specs.Node.{next_label, node_number};
-ghost use Rattle.kt_node.specs.Views.{live_view};
+ghost use Rattle.kt_node.specs.inner.Codes.{live_view};
 ghost use Rattle.kt_node.specs.View.{view_of};
 ghost use Rattle.kt_node.specs.Ready.{CanCount};
 ghost use Rattle.kt_node.specs.Talking.{home, note_of, post_of, issue_plan, repeat_plan, service_plan};

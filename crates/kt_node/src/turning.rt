@@ -6,9 +6,10 @@ ghost use Rattle.kt_shard.specs.Table.{put};
 ghost use Rattle.kt_node.specs.declared.change.Change.TheVariants.{Turn as Goes};
 ghost use Rattle.kt_node.specs.Labels.{first_at, no_label};
 ghost use Rattle.kt_node.specs.Node.{Alive, Down, IsShard, IsWorker, node_number};
-ghost use Rattle.kt_node.specs.Views.{body_view, body_has_room, live_view, live_has_room, HasTables};
+ghost use Rattle.kt_node.specs.inner.Codes.{body_view, body_has_room, live_view, live_has_room, HasTables};
 ghost use Rattle.kt_node.specs.Turning.{changed, changed_body, changed_kept, turned, turned_node};
-ghost use Rattle.kt_node.specs.Turning.{first_or, is_above, said, turned_over};
+ghost use Rattle.kt_node.specs.Turning.{first_or, is_above, said};
+ghost use Rattle.kt_node.specs.inner.Between.{turned_over};
 ghost use Rattle.kt_node.specs.Ready.{CanChange, CanChangeBody, CanSay, CanTurn};
 
 use crate::change::{BodyChange, Change, KeptChange, Loaded, Turn};

@@ -19,7 +19,7 @@ use Rattle.kt_node.specs.Node.{node_number, across}
 use Rattle.kt_world.specs.Cast.{Cast}
 use Rattle.kt_world.specs.Cut.{acts_held}
 use Rattle.kt_world.specs.Effect.{noted}
-use Rattle.kt_world.specs.Ready.{AreNeighbours}
+use Rattle.kt_world.specs.inner.Ready.{AreNeighbours}
 use Rattle.kt_world.proofs.Shared.{note_at-next}
 use Rattle.kt_protocol.specs.Labels.{Label}
 use Rattle.kt_protocol.specs.Lines.{IsIn, there, Act, Sends, Hears, top_sent, top_heard}

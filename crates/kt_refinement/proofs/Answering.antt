@@ -34,8 +34,8 @@ use Rattle.kt_node.specs.Arrivals.{rollback_in, rollback_when_open, rollback_rea
 use Rattle.kt_world.specs.declared.step.Step.TheVariants.{Deliver}
 use Rattle.kt_world.specs.State.{State as World}
 use Rattle.kt_world.specs.Told.{told, of_first, tentative_in, marks_in}
-use Rattle.kt_world.specs.Ready.{AreNeighbours}
-use Rattle.kt_world.specs.Backed.{IsTakenIn}
+use Rattle.kt_world.specs.inner.Ready.{AreNeighbours}
+use Rattle.kt_world.specs.inner.Backed.{IsTakenIn}
 use Rattle.kt_world.proofs.Shared.{IsAlive, Comes, backed-in, Holds, neighbours-turned}
 use Rattle.kt_protocol.specs.Labels.{UpTo}
 use Rattle.kt_protocol.specs.Lines.{IsIn, here, there, top_sent}

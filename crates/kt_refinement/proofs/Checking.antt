@@ -18,7 +18,7 @@ use Rattle.kt_node.specs.Stored.{received_in}
 use Rattle.kt_node.specs.Joining.{is_in_cohort, check_asks}
 use Rattle.kt_world.specs.Cast.{Cast}
 use Rattle.kt_world.specs.State.{State as World, role_of}
-use Rattle.kt_world.specs.Ready.{AreNeighbours}
+use Rattle.kt_world.specs.inner.Ready.{AreNeighbours}
 use Rattle.kt_protocol.specs.Labels.{Under, UpTo}
 use Rattle.kt_protocol.specs.Lines.{Act, top_sent, top_heard}
 use Rattle.kt_protocol.specs.Machine.{Check, Ask, Node, Vote}

@@ -17,7 +17,7 @@ use Rattle.kt_node.specs.Node.{across, neighbours, node_number}
 use Rattle.kt_node.specs.Turning.{is_above}
 use Rattle.kt_world.specs.Cast.{Cast, are_neighbours, is_node}
 use Rattle.kt_world.specs.State.{role_of}
-use Rattle.kt_world.specs.Ready.{AreNeighbours}
+use Rattle.kt_world.specs.inner.Ready.{AreNeighbours}
 use Rattle.kt_world.proofs.Shared.{all-map, all-filter, all-numbers, Ends, to_shard, to_worker, ends, across-neighbour, role-id}
 use Rattle.kt_protocol.specs.Steps.{sieve}
 use Rattle.kt_refinement.proofs.Numbers.{named, peers, peers-of, named-index, label_of}

@@ -29,7 +29,7 @@ use Rattle.kt_world.specs.Step.{owner}
 use Rattle.kt_world.specs.State.{State as World, node, link, link_place}
 use Rattle.kt_world.specs.Writing.{content_after}
 use Rattle.kt_world.specs.Effect.{noted, applied, taken_off}
-use Rattle.kt_world.specs.Ready.{AreNeighbours}
+use Rattle.kt_world.specs.inner.Ready.{AreNeighbours}
 use Rattle.kt_world.proofs.Shared.{applied-owner, applied-other, taken_off-was, sent-cases, sent_between, Ends, to_shard, to_worker, ends, apart}
 use Rattle.kt_world.proofs.Shared.{row_after, own-row, other-rows, line-others, Comes, MayNote}
 use Rattle.kt_protocol.specs.Labels.{at}

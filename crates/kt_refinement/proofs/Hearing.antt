@@ -23,7 +23,7 @@ use Rattle.kt_world.specs.declared.step.Step.{Step}
 use Rattle.kt_world.specs.Step.{owner}
 use Rattle.kt_world.specs.State.{State as World, node}
 use Rattle.kt_world.specs.Effect.{applied}
-use Rattle.kt_world.specs.Ready.{AreNeighbours}
+use Rattle.kt_world.specs.inner.Ready.{AreNeighbours}
 use Rattle.kt_world.proofs.Shared.{IsAlive, MayNote, Holds}
 use Rattle.kt_protocol.specs.Labels.{Label, at}
 use Rattle.kt_protocol.specs.Lines.{IsIn, here, there, Act, Sends, Hears, top_sent}

@@ -21,7 +21,7 @@ use Rattle.kt_world.specs.declared.step.Step.{Step}
 use Rattle.kt_world.specs.declared.step.Step.TheVariants.{Deliver, Take}
 use Rattle.kt_world.specs.Step.{owner}
 use Rattle.kt_world.specs.State.{State as World, role_of, view}
-use Rattle.kt_world.specs.Ready.{IsNodeReady, AreNeighbours}
+use Rattle.kt_world.specs.inner.Ready.{IsNodeReady, AreNeighbours}
 use Rattle.kt_world.proofs.Shared.{IsAlive, Comes}
 use Rattle.kt_world.proofs.Shared.{HeardOf, misses_request, accepts, ignores_reply, hears as hears_new, answers_again, ignores_request, misses_reply, heard-is}
 use Rattle.kt_world.proofs.Shared.{role-id, neighbours-turned, MayNote, Holds}

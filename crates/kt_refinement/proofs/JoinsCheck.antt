@@ -32,7 +32,7 @@ use Rattle.kt_world.specs.State.{State as World, node, view}
 use Rattle.kt_world.specs.Told.{told, tentative_in}
 use Rattle.kt_world.specs.Effect.{applied}
 use Rattle.kt_world.specs.Writing.{content_after}
-use Rattle.kt_world.specs.Ready.{AreNeighbours}
+use Rattle.kt_world.specs.inner.Ready.{AreNeighbours}
 use Rattle.kt_lines.proofs.Shared.{all-append}
 use Rattle.kt_world.proofs.Shared.{IsAlive, Comes, backed-in, Holds, neighbour-node, neighbours-turned}
 use Rattle.kt_protocol.specs.Labels.{Under, at}

@@ -27,7 +27,7 @@ use Rattle.kt_node.specs.Turning.{turned}
 use Rattle.kt_world.specs.declared.step.Step.TheVariants.{Deliver}
 use Rattle.kt_world.specs.State.{State as World, role_of, view}
 use Rattle.kt_world.specs.Told.{told}
-use Rattle.kt_world.specs.Ready.{AreNeighbours}
+use Rattle.kt_world.specs.inner.Ready.{AreNeighbours}
 use Rattle.kt_lines.proofs.Shared.{all-append}
 use Rattle.kt_world.proofs.Shared.{IsAlive, Comes, backed-in, Holds, some_peers, neighbour-node, neighbours-turned}
 use Rattle.kt_protocol.specs.Labels.{at}

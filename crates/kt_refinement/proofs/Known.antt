@@ -18,7 +18,7 @@ use Rattle.kt_node.specs.Node.{Alive, Live, across}
 use Rattle.kt_node.specs.Stored.{is_undecided}
 use Rattle.kt_vote.specs.Poll.{Poll, outcome_from}
 use Rattle.kt_world.specs.State.{State as World}
-use Rattle.kt_world.specs.Ready.{AreNeighbours}
+use Rattle.kt_world.specs.inner.Ready.{AreNeighbours}
 use Rattle.kt_world.proofs.Shared.{IsAlive, Comes}
 use Rattle.kt_protocol.specs.Machine.{Instance, Check, Rollback, Open, Ballot, Up, Within, State}
 use Rattle.kt_protocol.proofs.Shared.{Invariant}

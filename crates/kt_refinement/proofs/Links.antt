@@ -15,7 +15,7 @@ use Rattle.kt_world.specs.Cast.{Cast}
 use Rattle.kt_world.specs.State.{State, link, link_place}
 use Rattle.kt_world.specs.Step.{owner}
 use Rattle.kt_world.specs.Effect.{Way, sent_one, sent, taken_off, applied}
-use Rattle.kt_world.specs.Ready.{AreNeighbours}
+use Rattle.kt_world.specs.inner.Ready.{AreNeighbours}
 use Rattle.kt_node.specs.declared.plan.Plan.{Plan}
 use Rattle.kt_world.proofs.Shared.{linked}
 

@@ -26,7 +26,7 @@ use Rattle.kt_node.specs.Deciding.{settled}
 use Rattle.kt_world.specs.declared.step.Step.{Step}
 use Rattle.kt_world.specs.declared.step.Step.TheVariants.{Deliver, Learn}
 use Rattle.kt_world.specs.Step.{owner}
-use Rattle.kt_world.specs.Backed.{IsTakenIn}
+use Rattle.kt_world.specs.inner.Backed.{IsTakenIn}
 use Rattle.kt_world.specs.Cast.{Cast}
 use Rattle.kt_world.specs.Cut.{permanent_by}
 use Rattle.kt_world.specs.State.{State as World}

@@ -31,7 +31,7 @@ use Rattle.kt_node.specs.Stored.{sent_in, received_in}
 use Rattle.kt_world.specs.Cast.{Cast}
 use Rattle.kt_world.specs.State.{State as World, node, link}
 use Rattle.kt_world.specs.Cut.{acts_held, permanent_by}
-use Rattle.kt_world.specs.Ready.{AreNeighbours}
+use Rattle.kt_world.specs.inner.Ready.{AreNeighbours}
 use Rattle.kt_protocol.specs.Labels.{UpTo}
 use Rattle.kt_protocol.specs.Lines.{IsIn, Act, top_sent, top_heard}
 use Rattle.kt_protocol.specs.Machine.{Instance, Check, Rollback, Verdict, Open, Yes, No, Key, Ballot, Mode, Up, Within, Down, Post, Message, App, Ask, Vote}

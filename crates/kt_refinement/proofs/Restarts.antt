@@ -24,7 +24,7 @@ use Rattle.kt_world.specs.State.{State as World, role_of, view, node}
 use Rattle.kt_world.specs.Told.{stored_of}
 use Rattle.kt_world.specs.Cut.{acts_held, permanent_by}
 use Rattle.kt_world.specs.Effect.{applied}
-use Rattle.kt_world.specs.Ready.{AreNeighbours}
+use Rattle.kt_world.specs.inner.Ready.{AreNeighbours}
 use Rattle.kt_world.specs.Writing.{content_after}
 use Rattle.kt_world.proofs.Shared.{line-long, Holds}
 use Rattle.kt_protocol.specs.Lines.{IsIn, top_sent}

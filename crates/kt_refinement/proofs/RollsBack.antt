@@ -25,7 +25,7 @@ use Rattle.std.specs.Prelude.{unwrap_or}
 use Rattle.kt_world.specs.declared.step.Step.{Step}
 use Rattle.kt_world.specs.declared.step.Step.TheVariants.{Deliver, Learn}
 use Rattle.kt_world.specs.Step.{owner}
-use Rattle.kt_world.specs.Backed.{IsBoards}
+use Rattle.kt_world.specs.inner.Backed.{IsBoards}
 use Rattle.kt_world.proofs.Shared.{first-holds}
 use Rattle.kt_world.specs.State.{State as World, role_of, view, node}
 use Rattle.kt_world.specs.Told.{stored_of, told, to_learn, of_poll}

@@ -26,7 +26,7 @@ use Rattle.kt_world.specs.declared.step.Step.TheVariants.{Deliver}
 use Rattle.kt_world.specs.Step.{owner}
 use Rattle.kt_world.specs.State.{State as World}
 use Rattle.kt_world.specs.Effect.{noted}
-use Rattle.kt_world.specs.Ready.{AreNeighbours}
+use Rattle.kt_world.specs.inner.Ready.{AreNeighbours}
 use Rattle.kt_world.proofs.Shared.{IsAlive, note_at-next, MayNote, Holds}
 use Rattle.kt_protocol.specs.Labels.{Label}
 use Rattle.kt_protocol.specs.Lines.{IsIn, here, there, Act, Sends, Hears, top_sent}

@@ -23,7 +23,7 @@ use Rattle.kt_node.specs.Node.{Node as RealNode, Down as IsDown, Alive, node_num
 use Rattle.kt_node.specs.Stored.{sent_in}
 use Rattle.kt_world.specs.Cast.{Cast}
 use Rattle.kt_world.specs.Cut.{permanent_by}
-use Rattle.kt_world.specs.Ready.{AreNeighbours}
+use Rattle.kt_world.specs.inner.Ready.{AreNeighbours}
 use Rattle.kt_protocol.specs.Labels.{UpTo}
 use Rattle.kt_protocol.specs.Lines.{Act, top_sent}
 use Rattle.kt_protocol.specs.Machine.{Check, Rollback, Node, Board, at_instance}

@@ -2,3 +2,4 @@ pub mod Said
 pub mod Replayed
 pub mod Made
 pub mod Outcomes
+pub mod Left

@@ -1,5 +1,5 @@
 -- What a run came to, and what is written of it.
-use Rattle.std.proofs.Common.{◌≡◌, ℕ, Bool, List, Some, None, Result, Ok, Err, ap, subst, ◌∙◌}
+use Rattle.std.proofs.Common.{◌≡◌, ℕ, ◌≤◌, Bool, true, List, Some, None, Result, Ok, Err, ap, subst, ◌∙◌}
 use Rattle.std.specs.Prelude.{IfErr, OnOk, IsTrue}
 use Rattle.kt_core.specs.World.{Standing}
 use Rattle.kt_core.specs.declared.faults.FaultLine.{FaultLine}
@@ -10,13 +10,18 @@ use Rattle.kt_scene.specs.declared.fault.ReplayFault.{ReplayFault}
 use Rattle.kt_scene.specs.declared.fault.ReplayFault.TheVariants as faults
 use Rattle.kt_scene.specs.Outside.{Reader, Writer}
 use Rattle.kt_scene.specs.Reading.{Play}
+use Rattle.kt_scene.specs.Run.{Given, left_by}
+use Rattle.kt_store.specs.Content.{Content}
 use Rattle.kt_scene.specs.Scenario.{IsScenario}
 use Rattle.kt_scene.specs.Stream.{IsAllRead, IsReadFault, IsReportFault}
+use Rattle.kt_scene.proofs.Shared.{report_fault_since}
 use Rattle.kt_scene.specs.Work.{Work, Steps, Faults, lines_of_faults}
 use Rattle.kt_stage.specs.Journal.{all_made}
+use Rattle.kt_stage.specs.declared.running.RunFault.{RunFault}
 use Rattle.kt_stage.specs.Policy.{first_unfinished, spent_by}
+use Rattle.kt_stage.specs.Running.{IsStopped}
 use Rattle.kt_run.specs.declared.fault.RunTextFault.{RunTextFault}
-use Rattle.kt_run.specs.declared.fault.RunTextFault.TheVariants.{Text}
+use Rattle.kt_run.specs.declared.fault.RunTextFault.TheVariants.{Text, Run}
 use Rattle.kt_run.specs.declared.running.Output.{Output}
 use Rattle.kt_run.specs.Run.{IsRunOf, IsRun, Writes, WritesFront, WritesRun, WritesRunFront, IsTextFault, IsRunFault, of_reading, of_text, IsRunTextFault}
 use Rattle.kt_run.specs.Run.{in_writing}
@@ -29,30 +34,44 @@ work_is (Faults given) lines e =
     ap (λ (l : List FaultLine). Faults l) same
 
 -- the run of a scenario that was read
-pub run_of : (text : List ℕ) (is_honest : Bool) (steps : List Step) (s : State) (play : Play) (lines : List FaultLine) → IsScenario text play
+pub run_of : (text : List ℕ) (is_honest fresh : Bool) (steps : List Step) (s : State) (play : Play) (lines : List FaultLine) → IsScenario text play
     → lines_of_faults play.work ≡ Some lines → (IsTrue is_honest → all_made (opening play.cast) steps ≡ Ok s)
-    → (IsTrue is_honest → first_unfinished s (spent_by lines steps) ≡ None)
-    → IsRunOf text is_honest steps s
-run_of text is_honest steps s play lines scenario are made ended = record {
+    → (IsTrue is_honest → first_unfinished s (spent_by lines steps) ≡ None) → (IsTrue is_honest → fresh ≡ true)
+    → IsRunOf text is_honest fresh steps s
+run_of text is_honest fresh steps s play lines scenario are made ended was = record {
   play = play;
   lines = lines;
   trial = record { scenario = scenario; faults = work_is play.work lines are };
   runs = λ honest. all_made_runs (opening play.cast) steps s (made honest);
   ended = ended;
+  was_fresh = was;
+}
+
+-- why the run of a scenario that was read did not come to its end
+pub stopped_of : {S : Type 0} (given : Given S) (text : List ℕ) (play : Play) (lines : List FaultLine) (fault : RunFault) → IsScenario text play
+    → lines_of_faults play.work ≡ Some lines
+    → IsStopped given.is_honest given.fault_count given.fresh given.before play.cast lines fault → IsTextFault given text (Run fault)
+stopped_of given text play lines fault scenario are why = record {
+  play = play;
+  lines = lines;
+  trial = record { scenario = scenario; faults = work_is play.work lines are };
+  why = why;
 }
 
 -- what the text that was read answers comes before the writing
-pub told_before : {X : Type 0} (before after : Reader) (text held : List ℕ) (r : Result X RunTextFault) → IsAllRead before after text → held ≡ text
-    → IfErr r (IsTextFault held) → IfErr r (IsRunFault before after)
-told_before before after text held (Ok x) read same f = tt
-told_before before after text held (Err fault) read same f =
-    let P : List ℕ → Type 0 = λ t. IsTextFault t fault in
+pub told_over : {X S : Type 0} (content : S → Content) (is_honest : S → Bool) (fault_count : S → ℕ) (store : S) (before after : Reader)
+    (text held : List ℕ) (r : Result X (RunTextFault × S)) → IsAllRead before after text → held ≡ text
+    → IfErr r (λ e. IsTextFault (left_by content is_honest fault_count store e.1) held e.0)
+    → IfErr r (λ e. IsRunFault (left_by content is_honest fault_count store e.1) before after e.0)
+told_over content is_honest fault_count store before after text held (Ok x) read same f = tt
+told_over content is_honest fault_count store before after text held (Err e) read same f =
+    let P : List ℕ → Type 0 = λ t. IsTextFault (left_by content is_honest fault_count store e.1) t e.0 in
     of_text text read (subst P same f)
 
 -- a store that is honest when it is left was so when the run ended
-run_left : (before after : Reader) (ended left : Bool) (steps : List Step) (s : State) → (IsTrue left → IsTrue ended) → IsRun before after ended steps s
-    → IsRun before after left steps s
-run_left before after ended left steps s honest h = record {
+run_left : (before after : Reader) (ended left fresh : Bool) (steps : List Step) (s : State) → (IsTrue left → IsTrue ended)
+    → IsRun before after ended fresh steps s → IsRun before after left fresh steps s
+run_left before after ended left fresh steps s honest h = record {
   text = h.text;
   read = h.read;
   run = record {
@@ -61,55 +80,69 @@ run_left before after ended left steps s honest h = record {
     trial = h.run.trial;
     runs = λ now. h.run.runs (honest now);
     ended = λ now. h.run.ended (honest now);
+    was_fresh = λ now. h.run.was_fresh (honest now);
   };
 }
 
-pub run_written : {S : Type 0} (is_honest : S → Bool) (output : Output) (before after : Reader) (old new : Writer) (left : S) (world : Standing)
+pub run_written : {S : Type 0} (given : Given S) (output : Output) (before after : Reader) (old new : Writer) (left : S) (world : Standing)
     (steps : List Step)
-    → IsRun before after world.is_honest steps world.state → (IsTrue (is_honest left) → IsTrue world.is_honest)
-    → Writes output (is_honest left) world.state steps old new → WritesRun is_honest output before after old new
-run_written is_honest output before after old new left world steps run honest written = record {
+    → IsRun before after world.is_honest given.fresh steps world.state → (IsTrue (given.is_honest left) → IsTrue world.is_honest)
+    → (IsTrue (given.is_honest left) → given.content left ≡ world.state.content)
+    → Writes output (given.is_honest left) world.state steps old new → WritesRun given output before after old new
+run_written given output before after old new left world steps run honest kept written = record {
   left = left;
   steps = steps;
   state = world.state;
-  run = run_left before after world.is_honest (is_honest left) steps world.state honest run;
+  run = run_left before after world.is_honest (given.is_honest left) given.fresh steps world.state honest run;
+  kept = kept;
   written = written;
 }
 
-pub run_front : {S : Type 0} (is_honest : S → Bool) (output : Output) (before after : Reader) (old new : Writer) (left : S) (world : Standing)
+pub run_front : {S : Type 0} (given : Given S) (output : Output) (before after : Reader) (old new : Writer) (left : S) (world : Standing)
     (steps : List Step)
-    → IsRun before after world.is_honest steps world.state → (IsTrue (is_honest left) → IsTrue world.is_honest)
-    → WritesFront output (is_honest left) world.state steps old new → WritesRunFront is_honest output before after old new
-run_front is_honest output before after old new left world steps run honest written = record {
+    → IsRun before after world.is_honest given.fresh steps world.state → (IsTrue (given.is_honest left) → IsTrue world.is_honest)
+    → (IsTrue (given.is_honest left) → given.content left ≡ world.state.content)
+    → WritesFront output (given.is_honest left) world.state steps old new → WritesRunFront given output before after old new
+run_front given output before after old new left world steps run honest kept written = record {
   left = left;
   steps = steps;
   state = world.state;
-  run = run_left before after world.is_honest (is_honest left) steps world.state honest run;
+  run = run_left before after world.is_honest (given.is_honest left) given.fresh steps world.state honest run;
+  kept = kept;
   written = written;
 }
 
-pub fault_in_writing : {S : Type 0} (is_honest : S → Bool) (fault_count : S → ℕ) (before after : Reader) (left : S) (world : Standing) (steps : List Step)
+pub fault_in_writing : {S : Type 0} (given : Given S) (before after : Reader) (left : S) (world : Standing) (steps : List Step)
     (fault : ReplayFault)
-    → IsRun before after world.is_honest steps world.state → IsReportFault world.faults (fault_count left) (is_honest left) fault
-    → IsRunTextFault is_honest fault_count before after (Text fault)
-fault_in_writing is_honest fault_count before after left world steps fault run is =
-    in_writing (record { left = left; steps = steps; world = world; run = run; is = is })
+    → IsRun before after world.is_honest given.fresh steps world.state → (IsTrue (given.is_honest left) → IsTrue world.is_honest)
+    → (IsTrue (given.is_honest left) → given.content left ≡ world.state.content) → given.before ≤ world.faults
+    → IsReportFault world.faults (given.fault_count left) (given.is_honest left) fault
+    → IsRunTextFault given before after (Text fault)
+fault_in_writing given before after left world steps fault run honest kept later is = in_writing (record {
+  left = left;
+  steps = steps;
+  state = world.state;
+  run = run_left before after world.is_honest (given.is_honest left) given.fresh steps world.state honest run;
+  kept = kept;
+  is = report_fault_since given.before world.faults (given.fault_count left) (given.is_honest left) fault later is;
+})
 
 read_by_name : (before after : Reader) (fault : ReplayFault) → IsReadFault before after fault → fault ≡ faults.Write → ⊥
 read_by_name before after fault h e = subst (IsReadFault before after) e h
 
 -- before the writing nothing is answered of the writer
-pub never_written : (before after : Reader) (fault : RunTextFault) → IsRunFault before after fault → fault ≡ Text faults.Write → ⊥
-never_written before after _ (of_reading {fault} h) e =
+pub never_written : {S : Type 0} (given : Given S) (before after : Reader) (fault : RunTextFault) → IsRunFault given before after fault
+    → fault ≡ Text faults.Write → ⊥
+never_written given before after _ (of_reading {fault} h) e =
     let same : fault ≡ faults.Write = cc in
     read_by_name before after fault h same
-never_written before after fault (of_text text read h) e = subst (IsTextFault text) e h
+never_written given before after fault (of_text text read h) e = subst (IsTextFault given text) e h
 
-pub never_front : {X A : Type 0} (before after : Reader) (r : Result X RunTextFault) (fault : RunTextFault) → IsRunFault before after fault → r ≡ Err fault
-    → r ≡ Err (Text faults.Write) → A
-never_front before after r fault h is e =
+pub never_front : {X A S : Type 0} (given : Given S) (before after : Reader) (r : Result X RunTextFault) (fault : RunTextFault)
+    → IsRunFault given before after fault → r ≡ Err fault → r ≡ Err (Text faults.Write) → A
+never_front given before after r fault h is e =
     let same : fault ≡ Text faults.Write = cc in
-    absurd (never_written before after fault h same)
+    absurd (never_written given before after fault h same)
 
 -- ---- what is known of an answer by which of both it is
 

@@ -71,33 +71,34 @@ made_one_report cast steps s report h made fresh t leads text other one two =
 -- ---- a run
 
 -- the scene of the state is the one that was read
-same_scene : (text : List ℕ) (steps : List Step) (s : State) (h : IsRunOf text true steps s) → s.cast ≡ h.play.cast
-same_scene text steps s h = runs_cast steps (opening h.play.cast) s (h.runs refl)
+same_scene : (text : List ℕ) (fresh : Bool) (steps : List Step) (s : State) (h : IsRunOf text true fresh steps s) → s.cast ≡ h.play.cast
+same_scene text fresh steps s h = runs_cast steps (opening h.play.cast) s (h.runs refl)
 
-pub run_is_made : (text : List ℕ) (steps : List Step) (s : State) → IsRunOf text true steps s → RunsTo (opening s.cast) steps s
-run_is_made text steps s h = subst (λ (c : Cast). RunsTo (opening c) steps s) (sym (same_scene text steps s h)) (h.runs refl)
+pub run_is_made : (text : List ℕ) (fresh : Bool) (steps : List Step) (s : State) → IsRunOf text true fresh steps s → RunsTo (opening s.cast) steps s
+run_is_made text fresh steps s h = subst (λ (c : Cast). RunsTo (opening c) steps s) (sym (same_scene text fresh steps s h)) (h.runs refl)
 
-run_scene : (text : List ℕ) (steps : List Step) (s : State) → IsRunOf text true steps s → IsPlay (play_of_steps s.cast [])
-run_scene text steps s h =
+run_scene : (text : List ℕ) (fresh : Bool) (steps : List Step) (s : State) → IsRunOf text true fresh steps s → IsPlay (play_of_steps s.cast [])
+run_scene text fresh steps s h =
     let rules = h.trial.scenario.rules in
     let there : IsPlay (play_of_steps h.play.cast []) =
     record { cast = rules.cast; scripts = rules.scripts; commands = rules.commands; work = All-nil IsStep } in
-    subst (λ (c : Cast). IsPlay (play_of_steps c [])) (sym (same_scene text steps s h)) there
+    subst (λ (c : Cast). IsPlay (play_of_steps c [])) (sym (same_scene text fresh steps s h)) there
 
-pub run_is_scenario : (text : List ℕ) (steps : List Step) (s : State) (report : List ℕ) → IsRunOf text true steps s
+pub run_is_scenario : (text : List ℕ) (fresh : Bool) (steps : List Step) (s : State) (report : List ℕ) → IsRunOf text true fresh steps s
     → length (journal_text report s.cast steps) ≤ 1048576
     → IsScenario (journal_text report s.cast steps) (play_of_steps s.cast steps)
-run_is_scenario text steps s report h few = steps_are_scenario s.cast steps s report (run_scene text steps s h) (run_is_made text steps s h) few
+run_is_scenario text fresh steps s report h few =
+    steps_are_scenario s.cast steps s report (run_scene text fresh steps s h) (run_is_made text fresh steps s h) few
 
-pub replay_is_same : (text : List ℕ) (steps : List Step) (s : State) (report : List ℕ) → IsRunOf text true steps s
-    → (fresh : Bool) (t : State) → LeadsTo (journal_text report s.cast steps) true fresh t → t ≡ s
-replay_is_same text steps s report h fresh t leads =
-    steps_lead_there s.cast steps s report (run_scene text steps s h) (run_is_made text steps s h) fresh t leads
+pub replay_is_same : (text : List ℕ) (fresh : Bool) (steps : List Step) (s : State) (report : List ℕ) → IsRunOf text true fresh steps s
+    → (again : Bool) (t : State) → LeadsTo (journal_text report s.cast steps) true again t → t ≡ s
+replay_is_same text fresh steps s report h again t leads =
+    steps_lead_there s.cast steps s report (run_scene text fresh steps s h) (run_is_made text fresh steps s h) again t leads
 
 -- so the two have one report
-pub replay_reports_so : (text : List ℕ) (steps : List Step) (s : State) (report : List ℕ) → IsRunOf text true steps s
-    → (fresh : Bool) (t : State) → LeadsTo (journal_text report s.cast steps) true fresh t
+pub replay_reports_so : (text : List ℕ) (fresh : Bool) (steps : List Step) (s : State) (report : List ℕ) → IsRunOf text true fresh steps s
+    → (again : Bool) (t : State) → LeadsTo (journal_text report s.cast steps) true again t
     → (told other : List ℕ) → IsReportOf true s told → IsReportOf true t other → told ≡ other
-replay_reports_so text steps s report h fresh t leads told other one two =
+replay_reports_so text fresh steps s report h again t leads told other one two =
     let Reports : State → Type 0 = λ x. IsReportOf true x other in
-    one_report s told other one (subst Reports (replay_is_same text steps s report h fresh t leads) two)
+    one_report s told other one (subst Reports (replay_is_same text fresh steps s report h again t leads) two)

@@ -39,7 +39,7 @@ use Rattle.kt_world.specs.Judge.{of_scene, due, judged, within_limit, planned}
 use Rattle.kt_world.specs.Limits.{most_steps}
 use Rattle.kt_lines.specs.Cause.{cause_of_waiting}
 use Rattle.kt_world.specs.Reached.{opening}
-use Rattle.kt_world.specs.Ready.{IsReady, IsBodyReady, IsLiveReady, IsNodeReady}
+use Rattle.kt_world.specs.inner.Ready.{IsReady, IsBodyReady, IsLiveReady, IsNodeReady}
 use Rattle.kt_world.specs.Short.{IsShort, AreShort}
 use Rattle.kt_world.specs.State.{State, node, role_of, view}
 use Rattle.kt_world.specs.Told.{told}

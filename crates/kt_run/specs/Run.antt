@@ -1,6 +1,5 @@
 -- What a run from bytes to bytes answers, and what it leaves read and written.
-use Rattle.std.specs.Prelude.{◌≡◌, ℕ, Bool, List, IsTrue, None}
-use Rattle.kt_core.specs.World.{Standing}
+use Rattle.std.specs.Prelude.{◌≡◌, ℕ, Bool, true, List, IsTrue, None}
 use Rattle.kt_core.specs.declared.faults.FaultLine.{FaultLine}
 use Rattle.kt_world.specs.declared.step.Step.{Step}
 use Rattle.kt_world.specs.State.{State}
@@ -12,12 +11,15 @@ use Rattle.kt_scene.specs.Faults.{Explains}
 use Rattle.kt_scene.specs.Journal.{WritesJournal, WritesJournalFront}
 use Rattle.kt_scene.specs.Outside.{Reader, Writer}
 use Rattle.kt_scene.specs.Reading.{Play}
+use Rattle.kt_scene.specs.Run.{Given}
 use Rattle.kt_scene.specs.Report.{WritesReport, WritesReportFront}
 use Rattle.kt_scene.specs.Runs.{RunsTo}
 use Rattle.kt_scene.specs.Scenario.{IsScenario}
 use Rattle.kt_scene.specs.Stream.{IsAllRead, IsReadFault, IsReportFault, UnlessWrite}
 use Rattle.kt_scene.specs.Work.{Faults}
+use Rattle.kt_stage.specs.declared.running.RunFault.{RunFault}
 use Rattle.kt_stage.specs.Policy.{first_unfinished, spent_by}
+use Rattle.kt_stage.specs.Running.{IsStopped}
 use Rattle.kt_run.specs.declared.fault.RunTextFault.{RunTextFault}
 use Rattle.kt_run.specs.declared.fault.RunTextFault.TheVariants.{Text, Run}
 use Rattle.kt_run.specs.declared.running.Output.{Output}
@@ -29,19 +31,21 @@ pub record IsTrial (text : List ℕ) (play : Play) (lines : List FaultLine) : Ty
   pub faults : play.work ≡ Faults lines
 
 -- the text is that of a scenario of fault lines; as long as the store is honest, these steps led from the opening of
--- its scene to this state, and there no node has a next step, the fault lines being spent by the steps
-pub record IsRunOf (text : List ℕ) (is_honest : Bool) (steps : List Step) (s : State) : Type 0 where
+-- its scene to this state, and there no node has a next step, the fault lines being spent by the steps; and the store
+-- was fresh
+pub record IsRunOf (text : List ℕ) (is_honest fresh : Bool) (steps : List Step) (s : State) : Type 0 where
   pub play : Play
   pub lines : List FaultLine
   pub trial : IsTrial text play lines
   pub runs : IsTrue is_honest → RunsTo (opening play.cast) steps s
   pub ended : IsTrue is_honest → first_unfinished s (spent_by lines steps) ≡ None
+  pub was_fresh : IsTrue is_honest → fresh ≡ true
 
 -- what was read is such a text
-pub record IsRun (before after : Reader) (is_honest : Bool) (steps : List Step) (s : State) : Type 0 where
+pub record IsRun (before after : Reader) (is_honest fresh : Bool) (steps : List Step) (s : State) : Type 0 where
   pub text : List ℕ
   pub read : IsAllRead before after text
-  pub run : IsRunOf text is_honest steps s
+  pub run : IsRunOf text is_honest fresh steps s
 
 -- ---- what is written
 
@@ -54,24 +58,27 @@ WritesFront outputs.Report is_honest s steps old new = WritesReportFront is_hone
 WritesFront outputs.Journal is_honest s steps old new = WritesJournalFront is_honest s steps old new
 
 -- what is written and passed on is the report of the state that some run of the scenario that was read ended in, or
--- that report with the steps of the run, and nothing else. All this is said of the store as it was left: if it is
--- honest then, it was so all the time.
-pub record WritesRun {S : Type 0} (is_honest : S → Bool) (output : Output) (before after : Reader) (old new : Writer)
+-- that report with the steps of the run, and nothing else, and the store holds what it holds in that state. All this is
+-- said of some store of the given kind, which stands for the one that was left: if it is honest then, it was so all the
+-- time.
+pub record WritesRun {S : Type 0} (given : Given S) (output : Output) (before after : Reader) (old new : Writer)
     : Type 0 where
   pub left : S
   pub steps : List Step
   pub state : State
-  pub run : IsRun before after (is_honest left) steps state
-  pub written : Writes output (is_honest left) state steps old new
+  pub run : IsRun before after (given.is_honest left) given.fresh steps state
+  pub kept : IsTrue (given.is_honest left) → given.content left ≡ state.content
+  pub written : Writes output (given.is_honest left) state steps old new
 
 -- the writer failed, and a front of that is written
-pub record WritesRunFront {S : Type 0} (is_honest : S → Bool) (output : Output) (before after : Reader)
+pub record WritesRunFront {S : Type 0} (given : Given S) (output : Output) (before after : Reader)
     (old new : Writer) : Type 0 where
   pub left : S
   pub steps : List Step
   pub state : State
-  pub run : IsRun before after (is_honest left) steps state
-  pub written : WritesFront output (is_honest left) state steps old new
+  pub run : IsRun before after (given.is_honest left) given.fresh steps state
+  pub kept : IsTrue (given.is_honest left) → given.content left ≡ state.content
+  pub written : WritesFront output (given.is_honest left) state steps old new
 
 -- ---- faults
 
@@ -80,44 +87,44 @@ abbrev pub UnlessFront : RunTextFault → Type 0 → Type 0
 UnlessFront (Text fault) P = UnlessWrite fault P
 UnlessFront (Run fault) P = P
 
--- the text is that of some scenario of fault lines
-pub record IsSomeTrial (text : List ℕ) : Type 0 where
+-- the text is that of a scenario of fault lines, whose run did not come to its end
+pub record IsStoppedTrial {S : Type 0} (given : Given S) (text : List ℕ) (fault : RunFault) : Type 0 where
   pub play : Play
   pub lines : List FaultLine
   pub trial : IsTrial text play lines
+  pub why : IsStopped given.is_honest given.fault_count given.fresh given.before play.cast lines fault
 
--- what a text answers: its first fault, or want of memory before that; or it is that of a scenario of fault lines,
--- whose run did not come to its end
-abbrev pub IsTextFault : List ℕ → RunTextFault → Type 0
-IsTextFault text (Text (faults.Scene line cause)) = Explains kinds.Faults text line cause
-IsTextFault text (Text (faults.Step at cause)) = ⊥
-IsTextFault text (Text (faults.Open cause)) = ⊥
-IsTextFault text (Text (faults.Report cause)) = ⊥
-IsTextFault text (Text faults.Memory) = ⊥
-IsTextFault text (Text faults.Read) = ⊥
-IsTextFault text (Text faults.Write) = ⊥
-IsTextFault text (Run fault) = IsSomeTrial text
+-- what a text answers: its first fault, or want of memory before that; or why its run did not come to its end
+abbrev pub IsTextFault : {S : Type 0} → Given S → List ℕ → RunTextFault → Type 0
+IsTextFault given text (Text (faults.Scene line cause)) = Explains kinds.Faults text line cause
+IsTextFault given text (Text (faults.Step at cause)) = ⊥
+IsTextFault given text (Text (faults.Open cause)) = ⊥
+IsTextFault given text (Text (faults.Report cause)) = ⊥
+IsTextFault given text (Text faults.Memory) = ⊥
+IsTextFault given text (Text faults.Read) = ⊥
+IsTextFault given text (Text faults.Write) = ⊥
+IsTextFault given text (Run fault) = IsStoppedTrial given text fault
 
 -- what comes before the writing answers: what reading alone answers, or what the text that was read answers
-pub data IsRunFault (before after : Reader) : RunTextFault → Type 0 where
-  of_reading : {fault : ReplayFault} → IsReadFault before after fault → IsRunFault before after (Text fault)
-  of_text : {fault : RunTextFault} (text : List ℕ) → IsAllRead before after text → IsTextFault text fault
-      → IsRunFault before after fault
+pub data IsRunFault {S : Type 0} (given : Given S) (before after : Reader) : RunTextFault → Type 0 where
+  of_reading : {fault : ReplayFault} → IsReadFault before after fault → IsRunFault given before after (Text fault)
+  of_text : {fault : RunTextFault} (text : List ℕ) → IsAllRead before after text → IsTextFault given text fault
+      → IsRunFault given before after fault
 
--- the run ended in this world, and what a report alone answers came then
-pub record IsFaultInWriting {S : Type 0} (is_honest : S → Bool) (fault_count : S → ℕ) (before after : Reader)
-    (fault : ReplayFault) : Type 0 where
+-- the run ended, and what a report alone answers came then; all this is said of the store that was left
+pub record IsFaultInWriting {S : Type 0} (given : Given S) (before after : Reader) (fault : ReplayFault)
+    : Type 0 where
   pub left : S
   pub steps : List Step
-  pub world : Standing
-  pub run : IsRun before after world.is_honest steps world.state
-  pub is : IsReportFault world.faults (fault_count left) (is_honest left) fault
+  pub state : State
+  pub run : IsRun before after (given.is_honest left) given.fresh steps state
+  pub kept : IsTrue (given.is_honest left) → given.content left ≡ state.content
+  pub is : IsReportFault given.before (given.fault_count left) (given.is_honest left) fault
 
 -- what a run from bytes to bytes answers before it writes; or, once the run has ended, a refusal of the store, want of
 -- memory or a failure of the writer
-pub data IsRunTextFault {S : Type 0} (is_honest : S → Bool) (fault_count : S → ℕ) (before after : Reader)
-    : RunTextFault → Type 0 where
-  before_writing : {fault : RunTextFault} → IsRunFault before after fault
-      → IsRunTextFault is_honest fault_count before after fault
-  in_writing : {fault : ReplayFault} → IsFaultInWriting is_honest fault_count before after fault
-      → IsRunTextFault is_honest fault_count before after (Text fault)
+pub data IsRunTextFault {S : Type 0} (given : Given S) (before after : Reader) : RunTextFault → Type 0 where
+  before_writing : {fault : RunTextFault} → IsRunFault given before after fault
+      → IsRunTextFault given before after fault
+  in_writing : {fault : ReplayFault} → IsFaultInWriting given before after fault
+      → IsRunTextFault given before after (Text fault)

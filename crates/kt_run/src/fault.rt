@@ -39,7 +39,8 @@ impl From<RunFault> for RunTextFault {
     }
 }
 
-/// The line that tells of the fault, as that of a replay, or as `close: Unmatched`.
+/// The line that tells of the fault: as that of a replay, or `close: Unmatched`, `close: SeatMissing` or
+/// `close: Unfinished`, which name no node.
 impl Display for RunTextFault {
     fn fmt<W: fmt::Write>(&self, f: &mut Formatter<W>) -> fmt::Result {
         match *self {

@@ -14,8 +14,8 @@ ghost use Rattle.kt_scene.specs.Scenario.{IsPlay, IsScenario, IsStep};
 ghost use Rattle.kt_stage.specs.Journal.{all_made};
 ghost use Rattle.kt_run.specs.Run.{IsRunOf};
 
-/// Steps that lead from the opening of a scene to some state can be said by lines: each names nodes of the scene, and
-/// the place of a match below 100,000.
+/// Steps that lead from the opening of a scene to some state can be said by lines: each names nodes by numbers from 1
+/// to 99, and a match by a place below 100,000.
 pub fn what_was_made_can_be_said()
     ensures { (cast : Cast) (steps : List Step) (s : State) → IsCast cast → All IsScript cast.scripts
         → RunsTo (opening cast) steps s → All IsStep steps }
@@ -41,14 +41,16 @@ pub fn what_was_made_is_replayed()
 /// steps; and its replay over an honest store leads to the state that the run ended in, and to no other. So both have
 /// one report.
 pub fn what_a_run_tells_is_replayed()
-    ensures scenario { (text : List ℕ) (steps : List Step) (s : State) (report : List ℕ) → IsRunOf text true steps s
-        → length (journal_text report s.cast steps) ≤ 1048576
+    ensures scenario { (text : List ℕ) (fresh : Bool) (steps : List Step) (s : State) (report : List ℕ)
+        → IsRunOf text true fresh steps s → length (journal_text report s.cast steps) ≤ 1048576
         → IsScenario (journal_text report s.cast steps) (play_of_steps s.cast steps) }
-    ensures made { (text : List ℕ) (steps : List Step) (s : State) → IsRunOf text true steps s
+    ensures made { (text : List ℕ) (fresh : Bool) (steps : List Step) (s : State) → IsRunOf text true fresh steps s
         → RunsTo (opening s.cast) steps s }
-    ensures same { (text : List ℕ) (steps : List Step) (s : State) (report : List ℕ) → IsRunOf text true steps s
-        → (fresh : Bool) (t : State) → LeadsTo (journal_text report s.cast steps) true fresh t → t ≡ s }
-    ensures report { (text : List ℕ) (steps : List Step) (s : State) (report : List ℕ) → IsRunOf text true steps s
-        → (fresh : Bool) (t : State) → LeadsTo (journal_text report s.cast steps) true fresh t
+    ensures same { (text : List ℕ) (fresh : Bool) (steps : List Step) (s : State) (report : List ℕ)
+        → IsRunOf text true fresh steps s
+        → (again : Bool) (t : State) → LeadsTo (journal_text report s.cast steps) true again t → t ≡ s }
+    ensures report { (text : List ℕ) (fresh : Bool) (steps : List Step) (s : State) (report : List ℕ)
+        → IsRunOf text true fresh steps s
+        → (again : Bool) (t : State) → LeadsTo (journal_text report s.cast steps) true again t
         → (told other : List ℕ) → IsReportOf true s told → IsReportOf true t other → told ≡ other }
 {}

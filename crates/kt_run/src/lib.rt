@@ -9,4 +9,4 @@ pub use fault::RunTextFault;
 pub use laws::{
     what_a_run_tells_is_replayed, what_was_made_can_be_said, what_was_made_is_replayed,
 };
-pub use running::{Output, run_text};
+pub use running::{Output, run_text, run_text_over};

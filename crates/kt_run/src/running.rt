@@ -1,18 +1,20 @@
 //! From the bytes of a scenario to the bytes that tell of its run.
 
-ghost use Rattle.std.specs.Prelude.{◌≡◌, Err, IfErr, IfOk, IsTrue, None, OnOk, Some};
+ghost use Rattle.std.specs.Prelude.{◌≡◌, ◌≤◌, Err, IfErr, IfOk, IsTrue, None, OnOk, Some};
 ghost use Rattle.kt_scene.specs.declared.fault.ReplayFault.TheVariants as text_faults;
 ghost use Rattle.kt_scene.specs.Journal.{WritesJournal, WritesJournalFront};
+ghost use Rattle.kt_scene.specs.Run.{given_by, left_by};
 ghost use Rattle.kt_scene.specs.Stream.{IsReportFault, UnlessWrite};
 ghost use Rattle.kt_run.specs.Run.{IsRun, IsRunFault, IsRunOf, IsRunTextFault, IsTextFault, UnlessFront, Writes};
 ghost use Rattle.kt_run.specs.Run.{WritesFront, WritesRun, WritesRunFront};
+ghost use Rattle.kt_store.specs.Content.{is_fresh};
 
 use crate::fault::RunTextFault;
 use kt_scene::{
     ReplayFault, Scenario, Sink, Source, WorkKind, read_scene, read_text, write_journal,
     write_report,
 };
-use kt_stage::{Journal, run_threads};
+use kt_stage::{Journal, run_threads_over};
 use kt_store::CkptStore;
 use std::alloc::{AllocError, Global};
 use std::io::{Read, Write};
@@ -30,7 +32,9 @@ pub enum Output {
 
 /// Reads a scenario of fault lines, runs it by a thread for each node over the store, and writes the report of the
 /// world then, or the journal. It reads all, then runs, then writes; so a fault other than `Text(Write)` leaves nothing
-/// written. What was read before a fault is gone from the reader. It may wait for its threads. The store is dropped.
+/// written. What was read before a fault is gone from the reader. It may wait for its threads. The store is dropped, so
+/// its clauses speak of some store of its kind in place of the one that was left: of one that is not always honest
+/// `run_text_over` says more.
 pub fn run_text<T, R, W, S>(
     rt: &T,
     alloc: Global,
@@ -45,23 +49,55 @@ where
     W: Write,
     S: CkptStore + Send + Drop,
     ensures written { OnOk result
-        (WritesRun S.is_honest output reader.old reader.new writer.old writer.new) }
+        (WritesRun (given_by S.content S.is_honest S.fault_count store) output reader.old reader.new
+        writer.old writer.new) }
     ensures front { result ≡ Err (RunTextFault.Text text_faults.Write)
-        → WritesRunFront S.is_honest output reader.old reader.new writer.old writer.new }
-    ensures fault { IfErr result (IsRunTextFault S.is_honest S.fault_count reader.old reader.new) }
+        → WritesRunFront (given_by S.content S.is_honest S.fault_count store) output reader.old reader.new
+        writer.old writer.new }
+    ensures fault { IfErr result
+        (IsRunTextFault (given_by S.content S.is_honest S.fault_count store) reader.old reader.new) }
     // Before any fault but the writer's the writer is not called.
     ensures nothing { IfErr result (λ fault. UnlessFront fault (writer.new ≡ writer.old)) }
+{
+    let (answer, left) = run_text_over(rt, alloc, reader, writer, store, output);
+    drop(left);
+    answer
+}
+
+/// As `run_text`, and gives the store back: what is said of a store is said of it as it was left.
+pub fn run_text_over<T, R, W, S>(
+    rt: &T,
+    alloc: Global,
+    reader: &mut Source<R>,
+    writer: &mut Sink<W>,
+    store: S,
+    output: Output,
+) -> (Result<(), RunTextFault>, S)
+where
+    T: Threads + Wait + Sync,
+    R: Read,
+    W: Write,
+    S: CkptStore + Send + Drop,
+    ensures written { OnOk result.0
+        (WritesRun (left_by S.content S.is_honest S.fault_count store result.1) output reader.old reader.new
+        writer.old writer.new) }
+    ensures front { result.0 ≡ Err (RunTextFault.Text text_faults.Write)
+        → WritesRunFront (left_by S.content S.is_honest S.fault_count store result.1) output reader.old reader.new
+        writer.old writer.new }
+    ensures fault { IfErr result.0
+        (IsRunTextFault (left_by S.content S.is_honest S.fault_count store result.1) reader.old reader.new) }
+    // Before any fault but the writer's the writer is not called.
+    ensures nothing { IfErr result.0 (λ fault. UnlessFront fault (writer.new ≡ writer.old)) }
 {
     match run_read(rt, alloc, reader, store) {
         Ok(journal) => {
             let (answer, left) = write_run(alloc, journal, writer, output);
-            drop(left);
             match answer {
-                Ok(()) => Ok(()),
-                Err(fault) => Err(RunTextFault::Text(fault)),
+                Ok(()) => (Ok(()), left),
+                Err(fault) => (Err(RunTextFault::Text(fault)), left),
             }
         }
-        Err(fault) => Err(fault),
+        Err((fault, left)) => (Err(fault), left),
     }
 }
 
@@ -71,33 +107,49 @@ fn run_read<T, R, S>(
     alloc: Global,
     reader: &mut Source<R>,
     store: S,
-) -> Result<Journal<S>, RunTextFault>
+) -> Result<Journal<S>, (RunTextFault, S)>
 where
     T: Threads + Wait + Sync,
     R: Read,
     S: CkptStore + Send + Drop,
-    ensures run { IfOk result (λ j. IsRun reader.old reader.new j.world.is_honest j.steps j.world.state) }
-    ensures fault { IfErr result (IsRunFault reader.old reader.new) }
+    ensures run { IfOk result (λ j. IsRun reader.old reader.new j.world.is_honest (is_fresh (S.content store)) j.steps
+        j.world.state) }
+    ensures later { IfOk result (λ j. S.fault_count store ≤ j.world.faults) }
+    ensures fault { IfErr result (λ e.
+        IsRunFault (left_by S.content S.is_honest S.fault_count store e.1) reader.old reader.new e.0) }
 {
     match read_text(alloc, reader) {
         Ok(text) => run_told(rt, alloc, &text, store),
-        Err(fault) => Err(RunTextFault::Text(fault)),
+        Err(fault) => Err((RunTextFault::Text(fault), store)),
     }
 }
 
 /// Runs the scenario that the text spells.
-fn run_told<T, S>(rt: &T, alloc: Global, text: &[u8], store: S) -> Result<Journal<S>, RunTextFault>
+fn run_told<T, S>(
+    rt: &T,
+    alloc: Global,
+    text: &[u8],
+    store: S,
+) -> Result<Journal<S>, (RunTextFault, S)>
 where
     T: Threads + Wait + Sync,
     S: CkptStore + Send + Drop,
-    ensures run { IfOk result (λ j. IsRunOf text.now j.world.is_honest j.steps j.world.state) }
-    ensures fault { IfErr result (IsTextFault text.now) }
+    ensures run { IfOk result (λ j. IsRunOf text.now j.world.is_honest (is_fresh (S.content store)) j.steps
+        j.world.state) }
+    ensures later { IfOk result (λ j. S.fault_count store ≤ j.world.faults) }
+    ensures fault { IfErr result (λ e.
+        IsTextFault (left_by S.content S.is_honest S.fault_count store e.1) text.now e.0) }
 {
-    let Scenario { scene, work } = read_scene(alloc, text, WorkKind::Faults)?;
+    let Scenario { scene, work } = match read_scene(alloc, text, WorkKind::Faults) {
+        Ok(scenario) => scenario,
+        Err(fault) => return Err((RunTextFault::from(fault), store)),
+    };
     // The work is of the kind that was asked for.
     let faults = work.into_faults().unwrap();
-    let journal = run_threads(rt, alloc, scene, faults, store)?;
-    Ok(journal)
+    match run_threads_over(rt, alloc, scene, faults, store) {
+        Ok(journal) => Ok(journal),
+        Err((fault, left)) => Err((RunTextFault::from(fault), left)),
+    }
 }
 
 /// Writes what is asked for of the run: the store as it is left then.
@@ -108,6 +160,7 @@ fn write_run<W: Write, S: CkptStore + Drop>(
     output: Output,
 ) -> (Result<(), ReplayFault>, S)
     ensures honest { IsTrue (S.is_honest result.1) → IsTrue journal.world.is_honest }
+    ensures content { IsTrue (S.is_honest result.1) → S.content result.1 ≡ journal.world.state.content }
     ensures written { OnOk result.0
         (Writes output (S.is_honest result.1) journal.world.state journal.steps writer.old writer.new) }
     ensures front { result.0 ≡ Err ReplayFault.Write
@@ -133,6 +186,7 @@ fn write_steps<W: Write, S: CkptStore + Drop>(
     writer: &mut Sink<W>,
 ) -> (Result<(), ReplayFault>, S)
     ensures honest { IsTrue (S.is_honest result.1) → IsTrue journal.world.is_honest }
+    ensures content { IsTrue (S.is_honest result.1) → S.content result.1 ≡ journal.world.state.content }
     ensures written { OnOk result.0
         (WritesJournal (S.is_honest result.1) journal.world.state journal.steps writer.old writer.new) }
     ensures front { result.0 ≡ Err ReplayFault.Write

@@ -8,7 +8,8 @@ use Rattle.kt_scene.specs.declared.fault.SceneError.TheVariants as faults
 use Rattle.kt_scene.specs.declared.draft.Expected.TheVariants as awaited
 use Rattle.kt_scene.specs.Steps.{step_of}
 use Rattle.kt_scene.specs.Work.{Work, Steps}
-use Rattle.kt_scene.specs.Lines.{Sketch, cast_of, is_word, with_step, as_work, work_with, with_work, in_work, IsFaultOf}
+use Rattle.kt_scene.specs.Lines.{Sketch, cast_of, is_word, with_step, as_work, work_with, with_work, in_work}
+use Rattle.kt_scene.specs.inner.Drafts.{IsFaultOf}
 
 -- the fault that is due in one reading is due in another that has the same faults
 still_due : {A B : Type 0} (fault : SceneError) (due : Result A SceneError) (later : Result B SceneError)

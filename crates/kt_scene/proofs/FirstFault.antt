@@ -13,7 +13,8 @@ use Rattle.kt_scene.specs.declared.scenario.WorkKind.{WorkKind}
 use Rattle.kt_scene.specs.FaultNumber.{fault_number}
 use Rattle.kt_scene.specs.Work.{kind_of}
 use Rattle.kt_scene.specs.Lines.{Sketch, nothing_read}
-use Rattle.kt_scene.specs.Reading.{Play, Fault, with_byte, lines_of, read_from, sketch_of, played, play_of, IsBeforeFault, IsFirstFault, IsPlaceOf}
+use Rattle.kt_scene.specs.Reading.{Play, Fault, with_byte, lines_of, read_from, sketch_of, played, play_of, IsBeforeFault, IsFirstFault}
+use Rattle.kt_scene.specs.inner.Places.{IsPlaceOf}
 use Rattle.kt_scene.specs.Report.{text_line}
 use Rattle.kt_scene.specs.Scenario.{IsLine, IsScenario, is_told}
 use Rattle.kt_scene.specs.Faults.{Begin, HasFault, IsFaultAt, IsCutShort, HasFirstFault, too_long, at_line, cut_short, HasLineAt, Explains}

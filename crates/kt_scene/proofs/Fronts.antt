@@ -3,8 +3,10 @@ use Rattle.std.proofs.Common.{◌≡◌, ℕ, ◌+◌, ◌<◌, ◌≤◌, Bool,
 use Rattle.std.specs.Prelude.{IsOk}
 use Rattle.kt_scene.specs.declared.fault.SceneError.{SceneError}
 use Rattle.kt_scene.specs.declared.fault.SceneError.TheVariants as faults
-use Rattle.kt_scene.specs.Lines.{Sketch, line_read, is_ended, IsFaultOf}
-use Rattle.kt_scene.specs.Reading.{lines_of, Fault, went_on, is_empty, read_from, IsBeforeFault, IsFirstFault, IsPlaceOf}
+use Rattle.kt_scene.specs.Lines.{Sketch, line_read, is_ended}
+use Rattle.kt_scene.specs.inner.Drafts.{IsFaultOf}
+use Rattle.kt_scene.specs.Reading.{lines_of, Fault, went_on, is_empty, read_from, IsBeforeFault, IsFirstFault}
+use Rattle.kt_scene.specs.inner.Places.{IsPlaceOf}
 
 end_by_test : (b : Bool) (s : Sketch) (m n : ℕ) → m < n → IsBeforeFault m (cond b (Ok s) (Err (n, faults.End)))
 end_by_test true s m n lt = tt

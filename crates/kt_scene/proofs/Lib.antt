@@ -4,6 +4,7 @@ pub mod Reports
 pub mod Causes
 pub mod Runs
 pub mod Replays
+pub mod Left
 pub mod Names
 pub mod Slots
 pub mod FirstByte

@@ -9,7 +9,8 @@ use Rattle.kt_history.specs.Run.{IsRun}
 use Rattle.kt_history.specs.Survival.{services, lost_count}
 use Rattle.kt_tuple.specs.declared.tuple.Tuple.{Tuple}
 use Rattle.kt_history.specs.declared.note.Note.{Note}
-use Rattle.kt_scene.specs.Report.{count_line, service_line, AppendsTexts, IsReport}
+use Rattle.kt_scene.specs.Report.{count_line, service_line, IsReport}
+use Rattle.kt_scene.specs.inner.Texts.{AppendsTexts}
 
 -- the parts of a report, one behind the other
 pub reported : (is_honest : Bool) (h : List Note) (permanent space : List Tuple) (known served : List Service) (count lost : ℕ)

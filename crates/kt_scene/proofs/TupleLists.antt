@@ -11,7 +11,8 @@ use Rattle.std.proofs.lemmas.List.{length-map}
 use Rattle.std.proofs.lemmas.List.Sorted.{IsPermutation-map}
 use Rattle.kt_tuple.specs.declared.tuple.Tuple.{Tuple}
 use Rattle.kt_tuple.specs.Spelling.{tuple_text}
-use Rattle.kt_scene.specs.Report.{AppendsTexts, count_line, text_line, items_of}
+use Rattle.kt_scene.specs.Report.{count_line, text_line}
+use Rattle.kt_scene.specs.inner.Texts.{AppendsTexts, items_of}
 
 get_or-items : (texts : List (Vec ℕ)) (k : ℕ) (v : Vec ℕ) (d : List ℕ) → k < length texts → get_or (items_of texts) k d ≡ (get_or texts k v).items
 get_or-items [] k v d h = absurd (omega arith)

@@ -15,3 +15,4 @@ pub mod Faults
 pub mod Journal
 pub mod Runs
 pub mod Run
+pub mod inner

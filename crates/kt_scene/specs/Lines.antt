@@ -1,7 +1,6 @@
 -- What the lines of a scenario add to what was read before them, and the first fault of a text.
-use Rattle.std.specs.Prelude.{◌≡◌, ℕ, ◌+◌, ◌<◌, ◌≤◌, nat_lt, nat_le, nat_eq, ◌==◌, ◌&&◌, Bool, true, false}
+use Rattle.std.specs.Prelude.{ℕ, ◌+◌, nat_lt, nat_le, nat_eq, ◌==◌, ◌&&◌, Bool, true, false}
 use Rattle.std.specs.Prelude.{if◌then◌else◌, List, [], ◌∷◌, ◌++◌, length, codes, Option, Some, None, Result, Ok, Err}
-use Rattle.std.specs.Prelude.{IsOk}
 use Rattle.std.specs.Cmp.Lexicographic.{pointwise}
 use Rattle.kt_script.specs.declared.command.Command.{Command}
 use Rattle.kt_world.specs.declared.step.Step.{Step}
@@ -140,22 +139,3 @@ line_read s line =
     if is_ended s.expected then Err faults.End
     else if is_ignored line then Ok s
     else told s.expected s line
-
--- the fault is the one that is due; want of memory is answered where none is
-abbrev pub IsFaultOf : {A : Type 0} → SceneError → Result A SceneError → Type 0
-IsFaultOf faults.OutOfMemory due = IsOk due
-IsFaultOf fault due = due ≡ Err fault
-
--- where a reading can stand: how many scripts there are
-abbrev pub HasScripts : Expected → ℕ → Type 0
-HasScripts awaited.Title n = n ≡ 0
-HasScripts awaited.Shards n = n ≡ 0
-HasScripts awaited.Workers n = n ≡ 0
-HasScripts awaited.Commands n = n < 8
-HasScripts awaited.Work n = (1 ≤ n) × (n ≤ 8)
-HasScripts awaited.Ended n = (1 ≤ n) × (n ≤ 8)
-
-pub record IsSketch (s : Sketch) : Type 0 where
-  pub some_shards : 1 ≤ s.shards
-  pub few_shards : s.shards ≤ 8
-  pub workers : HasScripts s.expected (length s.scripts)

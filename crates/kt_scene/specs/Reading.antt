@@ -1,6 +1,6 @@
 -- What a text is read as: the scenario that it spells, or its first line that has a fault.
-use Rattle.std.specs.Prelude.{◌≡◌, ℕ, ◌+◌, ◌<◌, ◌≤◌, nat_lt, ◌==◌, ◌&&◌, Bool, true, false, if◌then◌else◌, List, []}
-use Rattle.std.specs.Prelude.{◌∷◌, length, Option, Some, None, Result, Ok, Err}
+use Rattle.std.specs.Prelude.{◌≡◌, ℕ, ◌+◌, ◌<◌, nat_lt, ◌==◌, ◌&&◌, Bool, true, false, if◌then◌else◌, List, []}
+use Rattle.std.specs.Prelude.{◌∷◌, length, Result, Ok, Err}
 use Rattle.kt_world.specs.Cast.{Cast}
 use Rattle.kt_scene.specs.declared.fault.SceneError.{SceneError}
 use Rattle.kt_scene.specs.declared.fault.SceneError.TheVariants as faults
@@ -66,12 +66,3 @@ IsBeforeFault n (Err fault) = n < fault.0
 abbrev pub IsFirstFault : {A : Type 0} → ℕ → SceneError → Result A Fault → Type 0
 IsFirstFault n faults.OutOfMemory due = IsBeforeFault n due
 IsFirstFault n fault due = due ≡ Err (n, fault)
-
--- the text has the line on which memory ran out
-abbrev pub IsPlaceOf : List ℕ → ℕ → SceneError → Type 0
-IsPlaceOf text n fault = fault ≡ faults.OutOfMemory → (1 ≤ n) × (n ≤ length (lines_of text).0)
-
--- the first of these lines, and what stands behind it; where there is none, no line feed stands in the text
-abbrev pub HasLine : List ℕ → Option (List ℕ × List ℕ) → Type 0
-HasLine text None = lines_of text ≡ ([], text)
-HasLine text (Some (line, rest)) = lines_of text ≡ (line ∷ (lines_of rest).0, (lines_of rest).1)

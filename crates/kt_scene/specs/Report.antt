@@ -10,7 +10,6 @@ use Rattle.kt_tuple.specs.Space.{IsSpaceRun}
 use Rattle.kt_tuple.specs.Spelling.{tuple_text, service_text}
 use Rattle.kt_history.specs.declared.note.Note.{Note}
 use Rattle.kt_history.specs.Survival.{services, lost_count}
-use Rattle.std.specs.Global.{Vec}
 use Rattle.kt_world.specs.State.{State}
 use Rattle.kt_world.specs.Cut.{permanent_tuples}
 use Rattle.kt_scene.specs.Outside.{Writer}
@@ -40,15 +39,6 @@ pub record IsTextList (word : List ℕ) (given : List (List ℕ)) (text : List �
 -- the list of the tuples' texts
 abbrev pub IsTupleList : List ℕ → List Tuple → List ℕ → Type 0
 IsTupleList word tuples text = IsTextList word (map tuple_text tuples) text
-
-abbrev pub items_of : List (Vec ℕ) → List (List ℕ)
-items_of texts = map (λ t. t.items) texts
-
--- the list of the texts stands at the end
-pub record AppendsTexts (word : List ℕ) (given : List (List ℕ)) (old new : List ℕ) : Type 0 where
-  pub text : List ℕ
-  pub listed : IsTextList word given text
-  pub appended : new ≡ old ++ text
 
 -- the surviving services, how many do not survive, the tuples that the survivors lead to as one run of a
 -- sequential tuple space, and the permanent tuples. Where the store was not honest, the survivors may be no run; what

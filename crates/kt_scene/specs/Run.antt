@@ -5,9 +5,7 @@ use Rattle.kt_store.specs.Content.{Content, is_fresh}
 use Rattle.kt_core.specs.Store.{IsFault}
 use Rattle.kt_core.specs.declared.world.OpenError.{OpenError}
 use Rattle.kt_core.specs.declared.world.OpenError.TheVariants as opens
-use Rattle.kt_world.specs.declared.step.Step.{Step}
 use Rattle.kt_world.specs.declared.step.StepError.{StepError}
-use Rattle.kt_world.specs.Cast.{Cast}
 use Rattle.kt_world.specs.State.{State}
 use Rattle.kt_world.specs.Reached.{opening}
 use Rattle.kt_scene.specs.declared.scenario.Scenario.{Scenario}
@@ -23,24 +21,13 @@ use Rattle.kt_scene.specs.Stream.{IsAllRead, IsReadFault, IsReportFault}
 use Rattle.kt_scene.specs.declared.fault.ReplayFault.{ReplayFault}
 use Rattle.kt_scene.specs.declared.fault.ReplayFault.TheVariants as faults
 
--- what making steps alone answers: the first step refused, as long as the store is honest, the faults of whose device
--- were counted before and are counted now
-abbrev pub IsStepFault : (before now : ℕ) → Bool → State → List Step → ReplayFault → Type 0
-IsStepFault before now is_honest old steps (faults.Scene line cause) = ⊥
-IsStepFault before now is_honest old steps (faults.Step at cause) =
-    IsTrue is_honest → IsRefusedAt old steps at cause before now
-IsStepFault before now is_honest old steps (faults.Open cause) = ⊥
-IsStepFault before now is_honest old steps (faults.Report cause) = ⊥
-IsStepFault before now is_honest old steps faults.Memory = ⊥
-IsStepFault before now is_honest old steps faults.Read = ⊥
-IsStepFault before now is_honest old steps faults.Write = ⊥
-
 -- what a scenario as the code has it stands for
 abbrev pub play_in : Scenario → Play
 play_in scenario = record { cast = scenario.scene; work = work_in scenario.work }
 
 -- a kind of stores, and what one was when a replay was given it: fresh or not, and how often its device had failed
 pub record Given (S : Type 0) : Type 0 where
+  pub content : S → Content
   pub is_honest : S → Bool
   pub fault_count : S → ℕ
   pub fresh : Bool
@@ -48,8 +35,19 @@ pub record Given (S : Type 0) : Type 0 where
 
 abbrev pub given_by : {S : Type 0} → (S → Content) → (S → Bool) → (S → ℕ) → S → Given S
 given_by content is_honest fault_count store = record {
+  content = content;
   is_honest = is_honest;
   fault_count = fault_count;
+  fresh = is_fresh (content store);
+  before = fault_count store;
+}
+
+-- the same where the store that was left is known: it stands for all of its kind
+abbrev pub left_by : {S : Type 0} → (S → Content) → (S → Bool) → (S → ℕ) → (store left : S) → Given (Unit {0})
+left_by content is_honest fault_count store left = record {
+  content = λ _. content left;
+  is_honest = λ _. is_honest left;
+  fault_count = λ _. fault_count left;
   fresh = is_fresh (content store);
   before = fault_count store;
 }
@@ -70,18 +68,6 @@ abbrev pub IsOpenFault : {S : Type 0} → Given S → OpenError → Type 0
 IsOpenFault given opens.NotFresh = IfLeftHonest given (λ now. given.fresh ≡ false)
 IsOpenFault given (opens.Store refusal) = IsStoreFault given refusal
 IsOpenFault given opens.OutOfMemory = Unit {0}
-
--- what making the steps of a scenario answers: that the world could not be opened over the store, or the first step
--- refused
-abbrev pub IsRunFault : {S : Type 0} → Given S → Cast → List Step → ReplayFault → Type 0
-IsRunFault given cast steps (faults.Scene line cause) = ⊥
-IsRunFault given cast steps (faults.Step at cause) =
-    IfLeftHonest given (IsRefusedAt (opening cast) steps at cause given.before)
-IsRunFault given cast steps (faults.Open cause) = IsOpenFault given cause
-IsRunFault given cast steps (faults.Report cause) = ⊥
-IsRunFault given cast steps faults.Memory = ⊥
-IsRunFault given cast steps faults.Read = ⊥
-IsRunFault given cast steps faults.Write = ⊥
 
 -- the text is that of a scenario of steps, and as long as the store is honest, it was fresh and the steps led to this
 -- state from the opening of the scene
@@ -131,11 +117,13 @@ pub data IsWorldFault {S : Type 0} (given : Given S) (before after : Reader) (fa
       → IsWorldFault given before after fault
 
 -- what is written and passed on is the report of the state that the steps of the scenario that was read led to, and
--- nothing else. All this is said of the store as it was left: if it is honest then, it was so all the time.
+-- nothing else, and the store holds what it holds in that state. All this is said of some store of the given kind,
+-- which stands for the one that was left: if it is honest then, it was so all the time.
 pub record WritesReplayed {S : Type 0} (given : Given S) (before after : Reader) (old new : Writer) : Type 0 where
   pub left : S
   pub state : State
   pub replayed : IsReplayed before after (given.is_honest left) given.fresh state
+  pub kept : IsTrue (given.is_honest left) → given.content left ≡ state.content
   pub report : WritesReport (given.is_honest left) state old new
 
 -- the writer failed, and a front of that report is written
@@ -143,6 +131,7 @@ pub record WritesReplayedFront {S : Type 0} (given : Given S) (before after : Re
   pub left : S
   pub state : State
   pub replayed : IsReplayed before after (given.is_honest left) given.fresh state
+  pub kept : IsTrue (given.is_honest left) → given.content left ≡ state.content
   pub report : WritesReportFront (given.is_honest left) state old new
 
 -- what a replay leaves of the writer where it ends with this fault: a front of the report where the writer failed, and
@@ -161,6 +150,7 @@ pub record IsFaultInReport {S : Type 0} (given : Given S) (before after : Reader
   pub left : S
   pub state : State
   pub replayed : IsReplayed before after (given.is_honest left) given.fresh state
+  pub kept : IsTrue (given.is_honest left) → given.content left ≡ state.content
   pub is : IsReportFault given.before (given.fault_count left) (given.is_honest left) fault
 
 -- what a replay answers before it writes; or, once the steps were made, a refusal of the store, want of memory or a

@@ -7,7 +7,8 @@ ghost use Rattle.kt_scene.specs.Reading.{is_empty, play_with};
 ghost use Rattle.kt_scene.specs.Run.{play_in};
 ghost use Rattle.kt_scene.specs.Lines.{nothing_read, is_word, is_ignored, count_of, shards_of, titled, with_shards};
 ghost use Rattle.kt_scene.specs.Lines.{with_worker, in_script, with_command, in_work, work_with, line_read, is_ended};
-ghost use Rattle.kt_scene.specs.Lines.{closed, HasScripts, IsFaultOf, cast_of, with_step, with_fault};
+ghost use Rattle.kt_scene.specs.Lines.{closed, cast_of, with_step, with_fault};
+ghost use Rattle.kt_scene.specs.inner.Drafts.{HasScripts, IsFaultOf};
 ghost use Rattle.kt_scene.specs.FaultLines.{fault_read};
 ghost use Rattle.kt_scene.specs.Steps.{step_of};
 ghost use Rattle.kt_scene.specs.Work.{work_in};
@@ -52,7 +53,8 @@ pub(crate) struct Draft {
 }
 
 impl Model for Draft {
-    ghost use Rattle.kt_scene.specs.Lines.{Sketch, IsSketch};
+    ghost use Rattle.kt_scene.specs.Lines.{Sketch};
+    ghost use Rattle.kt_scene.specs.inner.Drafts.{IsSketch};
     ghost use Rattle.kt_scene.specs.Work.{work_in};
 
     ghost Value = { Sketch };

@@ -61,7 +61,9 @@ impl SceneError {
 /// Why a text is no scenario: its first line that has a fault, counted from 1, and what is wrong there.
 #[derive(Clone, Copy, Debug, PartialEq, Eq)]
 pub struct SceneFault {
+    /// The line, ignored ones counted.
     pub line: usize,
+    /// What is wrong there.
     pub cause: SceneError,
 }
 

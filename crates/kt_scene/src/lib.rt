@@ -27,7 +27,7 @@ pub use laws::{
     what_was_read_is_written,
 };
 pub use reading::{MAX_TEXT, read_scene};
-pub use replaying::{replay, replay_world};
+pub use replaying::{replay, replay_over, replay_world};
 pub use report::write_report;
 pub use scenario::{Scenario, Work, WorkKind};
 pub use sink::Sink;

@@ -4,7 +4,8 @@ ghost use Rattle.std.specs.Prelude.{◌≡◌, ◌≤◌, ◌<◌, ◌+◌, ◌=
 ghost use Rattle.std.specs.Option.{option_map};
 ghost use Rattle.kt_scene.specs.Faults.{Explains};
 ghost use Rattle.kt_scene.specs.Lines.{nothing_read};
-ghost use Rattle.kt_scene.specs.Reading.{lines_of, read_from, sketch_of, play_of, IsFirstFault, IsPlaceOf, HasLine};
+ghost use Rattle.kt_scene.specs.Reading.{lines_of, read_from, sketch_of, play_of, IsFirstFault};
+ghost use Rattle.kt_scene.specs.inner.Places.{IsPlaceOf, HasLine};
 ghost use Rattle.kt_scene.specs.Reading.{is_empty};
 ghost use Rattle.kt_scene.specs.Run.{play_in};
 ghost use Rattle.kt_scene.specs.Scenario.{IsScenario};

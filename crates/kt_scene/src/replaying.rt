@@ -5,8 +5,9 @@ ghost use Rattle.kt_store.specs.Content.{is_fresh};
 ghost use Rattle.kt_world.specs.Reached.{opening};
 ghost use Rattle.kt_scene.specs.Work.{steps_of};
 ghost use Rattle.kt_scene.specs.Runs.{RunsTo};
-ghost use Rattle.kt_scene.specs.Run.{play_in, IsStepFault, IsRunFault, LeadsTo, IsTextFault, IsReplayed, IsWorldFault};
-ghost use Rattle.kt_scene.specs.Run.{given_by, WritesReplayed, WritesReplayedFront, IsReplayFault};
+ghost use Rattle.kt_scene.specs.Run.{play_in, LeadsTo, IsTextFault, IsReplayed, IsWorldFault};
+ghost use Rattle.kt_scene.specs.inner.Making.{IsStepFault, IsRunFault};
+ghost use Rattle.kt_scene.specs.Run.{given_by, left_by, WritesReplayed, WritesReplayedFront, IsReplayFault};
 ghost use Rattle.kt_scene.specs.Stream.{UnlessWrite};
 
 use crate::fault::{ReplayFault, SceneFault};
@@ -23,7 +24,8 @@ use std::io::{Read, Write};
 
 /// Reads a scenario of steps, makes them over the store and writes the report. It reads all, then makes all steps, then
 /// writes; so a fault other than `Write` leaves nothing written. What was read before a fault is gone from
-/// the reader. The store is dropped.
+/// the reader. The store is dropped, so its clauses speak of some store of its kind in place of the one that was left:
+/// of one that is not always honest `replay_over` says more.
 pub fn replay<R: Read, W: Write, S: CkptStore + Drop>(
     alloc: Global,
     reader: &mut Source<R>,
@@ -41,13 +43,35 @@ pub fn replay<R: Read, W: Write, S: CkptStore + Drop>(
     // Before any fault but the writer's the writer is not called.
     ensures nothing { IfErr result (λ fault. UnlessWrite fault (writer.new ≡ writer.old)) }
 {
-    match replay_world(alloc, reader, store) {
+    let (answer, left) = replay_over(alloc, reader, writer, store);
+    drop(left);
+    answer
+}
+
+/// As `replay`, and gives the store back: what is said of a store is said of it as it was left.
+pub fn replay_over<R: Read, W: Write, S: CkptStore + Drop>(
+    alloc: Global,
+    reader: &mut Source<R>,
+    writer: &mut Sink<W>,
+    store: S,
+) -> (Result<(), ReplayFault>, S)
+    ensures written { OnOk result.0
+        (WritesReplayed (left_by S.content S.is_honest S.fault_count store result.1)
+        reader.old reader.new writer.old writer.new) }
+    ensures front { result.0 ≡ Err ReplayFault.Write
+        → WritesReplayedFront (left_by S.content S.is_honest S.fault_count store result.1)
+        reader.old reader.new writer.old writer.new }
+    ensures fault { IfErr result.0
+        (IsReplayFault (left_by S.content S.is_honest S.fault_count store result.1) reader.old reader.new) }
+    // Before any fault but the writer's the writer is not called.
+    ensures nothing { IfErr result.0 (λ fault. UnlessWrite fault (writer.new ≡ writer.old)) }
+{
+    match world_over(alloc, reader, store) {
         Ok(mut world) => {
             let answer = write_report(alloc, &mut world, writer);
-            drop(world.into_store());
-            answer
+            (answer, world.into_store())
         }
-        Err(fault) => Err(fault),
+        Err((fault, left)) => (Err(fault), left),
     }
 }
 
@@ -64,8 +88,31 @@ pub fn replay_world<R: Read, S: CkptStore + Drop>(
     ensures fault { IfErr result
         (IsWorldFault (given_by S.content S.is_honest S.fault_count store) reader.old reader.new) }
 {
-    let text = read_text(alloc, reader)?;
-    world_told(alloc, &text, store)
+    match world_over(alloc, reader, store) {
+        Ok(world) => Ok(world),
+        Err((fault, left)) => {
+            drop(left);
+            Err(fault)
+        }
+    }
+}
+
+/// The same, which gives the store back where it is refused.
+fn world_over<R: Read, S: CkptStore + Drop>(
+    alloc: Global,
+    reader: &mut Source<R>,
+    store: S,
+) -> Result<World<S>, (ReplayFault, S)>
+    ensures replayed { IfOk result (λ world.
+        IsReplayed reader.old reader.new world.is_honest (is_fresh (S.content store)) world.state) }
+    ensures later { IfOk result (λ world. S.fault_count store ≤ world.faults) }
+    ensures fault { IfErr result (λ e.
+        IsWorldFault (left_by S.content S.is_honest S.fault_count store e.1) reader.old reader.new e.0) }
+{
+    match read_text(alloc, reader) {
+        Ok(text) => world_told(alloc, &text, store),
+        Err(fault) => Err((fault, store)),
+    }
 }
 
 /// The world after the steps of the scenario that the text spells.
@@ -73,14 +120,15 @@ fn world_told<S: CkptStore + Drop>(
     alloc: Global,
     text: &[u8],
     store: S,
-) -> Result<World<S>, ReplayFault>
+) -> Result<World<S>, (ReplayFault, S)>
     ensures leads { IfOk result (λ world. LeadsTo text.now world.is_honest (is_fresh (S.content store)) world.state) }
     ensures later { IfOk result (λ world. S.fault_count store ≤ world.faults) }
-    ensures fault { IfErr result (IsTextFault (given_by S.content S.is_honest S.fault_count store) text.now) }
+    ensures fault { IfErr result (λ e.
+        IsTextFault (left_by S.content S.is_honest S.fault_count store e.1) text.now e.0) }
 {
     match read_scene(alloc, text, WorkKind::Steps) {
         Ok(scenario) => run_scenario(alloc, scenario, store),
-        Err(SceneFault { line, cause }) => Err(ReplayFault::Scene { line, cause }),
+        Err(SceneFault { line, cause }) => Err((ReplayFault::Scene { line, cause }, store)),
     }
 }
 
@@ -88,13 +136,13 @@ fn run_scenario<S: CkptStore + Drop>(
     alloc: Global,
     scenario: Scenario,
     store: S,
-) -> Result<World<S>, ReplayFault>
+) -> Result<World<S>, (ReplayFault, S)>
     ensures replayed { IfOk result (λ world. IsTrue world.is_honest
         → RunsTo (opening (play_in scenario).cast) (steps_of (play_in scenario).work) world.state) }
     ensures fresh { IfOk result (λ world. IsTrue world.is_honest → is_fresh (S.content store) ≡ true) }
     ensures later { IfOk result (λ world. S.fault_count store ≤ world.faults) }
-    ensures fault { IfErr result (IsRunFault (given_by S.content S.is_honest S.fault_count store)
-        (play_in scenario).cast (steps_of (play_in scenario).work)) }
+    ensures fault { IfErr result (λ e. IsRunFault (left_by S.content S.is_honest S.fault_count store e.1)
+        (play_in scenario).cast (steps_of (play_in scenario).work) e.0) }
 {
     let Scenario { scene, work } = scenario;
     run(alloc, scene, work.steps(), store)
@@ -106,21 +154,19 @@ fn run<S: CkptStore + Drop>(
     scene: Scene,
     steps: &[Step],
     store: S,
-) -> Result<World<S>, ReplayFault>
+) -> Result<World<S>, (ReplayFault, S)>
     ensures replayed { IfOk result (λ world. IsTrue world.is_honest → RunsTo (opening scene) steps.now world.state) }
     ensures fresh { IfOk result (λ world. IsTrue world.is_honest → is_fresh (S.content store) ≡ true) }
     ensures later { IfOk result (λ world. S.fault_count store ≤ world.faults) }
-    ensures fault { IfErr result (IsRunFault (given_by S.content S.is_honest S.fault_count store) scene steps.now) }
+    ensures fault { IfErr result (λ e.
+        IsRunFault (left_by S.content S.is_honest S.fault_count store e.1) scene steps.now e.0) }
 {
     match World::open(alloc, scene, store) {
         Ok(mut world) => match make_steps(alloc, &mut world, steps) {
             Ok(()) => Ok(world),
-            Err(fault) => {
-                drop(world.into_store());
-                Err(fault)
-            }
+            Err(fault) => Err((fault, world.into_store())),
         },
-        Err(refused) => Err(ReplayFault::Open(refused.cause)),
+        Err(refused) => Err((ReplayFault::Open(refused.cause), refused.store)),
     }
 }
 

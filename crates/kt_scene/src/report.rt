@@ -4,8 +4,10 @@ ghost use Rattle.std.specs.Prelude.{◌≡◌, ◌≢◌, ◌≤◌, ◌++◌, L
 ghost use Rattle.std.specs.List.{flat_map};
 ghost use Rattle.kt_tuple.specs.Spelling.{tuple_text};
 ghost use Rattle.kt_core.specs.World.{beside};
-ghost use Rattle.kt_scene.specs.Report.{IsReport, IsReportOf, WritesReport, WritesReportFront, AppendsTexts};
-ghost use Rattle.kt_scene.specs.Report.{count_line, service_line, text_line, items_of};
+ghost use Rattle.kt_scene.specs.Report.{IsReport, IsReportOf, WritesReport, WritesReportFront};
+ghost use Rattle.kt_scene.specs.inner.Texts.{AppendsTexts};
+ghost use Rattle.kt_scene.specs.Report.{count_line, service_line, text_line};
+ghost use Rattle.kt_scene.specs.inner.Texts.{items_of};
 ghost use Rattle.kt_scene.specs.Stream.{UnlessWrite, IsReportFault};
 
 use crate::fault::ReplayFault;
@@ -75,20 +77,20 @@ fn report_of<S: CkptStore>(
     let survivors = history.survivors(alloc)?;
     let space = space_of(alloc, &survivors)?;
     let mut out = Vec::new(alloc);
-    push_count(&mut out, b"survivors ", survivors.len())?;
+    push_count(&mut out, b"survivors ", survivors.len() as u64)?;
     push_services(&mut out, &survivors)?;
-    push_count(&mut out, b"lost ", history.lost_count() as usize)?;
+    push_count(&mut out, b"lost ", history.lost_count())?;
     push_bag(alloc, &mut out, b"space ", &space)?;
     push_tuples(alloc, &mut out, b"permanent ", permanent)?;
     Ok(out)
 }
 
 /// The word, a number and the end of the line.
-fn push_count(out: &mut Vec<u8>, word: &[u8], count: usize) -> Result<(), AllocError>
+fn push_count(out: &mut Vec<u8>, word: &[u8], count: u64) -> Result<(), AllocError>
     ensures { OnOk result (out.new.items ≡ out.old.items ++ count_line word.now count) }
 {
     out.extend_from_slice(word)?;
-    push_number(out, count as u64)?;
+    push_number(out, count)?;
     out.push(b'\n')?;
     Ok(())
 }
@@ -131,7 +133,7 @@ fn push_sorted(out: &mut Vec<u8>, word: &[u8], texts: Vec<Vec<u8>>) -> Result<()
 {
     let mut texts = texts;
     texts.sort()?;
-    push_count(out, word, texts.len())?;
+    push_count(out, word, texts.len() as u64)?;
     push_texts(out, &texts)
 }
 

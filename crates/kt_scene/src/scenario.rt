@@ -24,7 +24,9 @@ pub enum Work {
 /// A kind of work: what `replay` wants, or what a run wants.
 #[derive(Clone, Copy, Debug, PartialEq, Eq)]
 pub enum WorkKind {
+    /// Steps that are said one by one.
     Steps,
+    /// Fault lines.
     Faults,
 }
 

@@ -61,6 +61,7 @@ impl<W: Write> Sink<W> {
         ensures on_its_way { self.new.outcome ≢ Outcome.Done }
     {
         self.outcome = Outcome::Failed;
+        // More turns than anybody waits for: a loop has to have an end.
         for _ in 0..u64::MAX {
             match self.writer.write(bytes) {
                 Ok(0) => return 0,

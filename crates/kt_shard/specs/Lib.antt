@@ -6,3 +6,4 @@ pub mod Arrival
 pub mod Service
 pub mod Standing
 pub mod Views
+pub mod inner

@@ -1,8 +1,5 @@
 -- What the code lends and prepares, as plain data.
-use Rattle.std.specs.Prelude.{◌≡◌, Option, None, Some, Result, Ok, Err}
-use Rattle.kt_tuple.specs.declared.tuple.Tuple.{Tuple}
-use Rattle.kt_tuple.specs.declared.op.Op.{Op}
-use Rattle.kt_tuple.specs.declared.op.Op.TheVariants.{Out, In, Rd, Inp, Rdp}
+use Rattle.std.specs.Prelude.{◌≡◌, Result, Ok, Err}
 use Rattle.kt_tuple.specs.declared.op.Answer.{Answer}
 use Rattle.kt_tuple.specs.declared.op.Answer.TheVariants as answers
 use Rattle.kt_shard.specs.declared.service.Reply.{Reply as ReplyCode}
@@ -18,14 +15,6 @@ reply_view replies.None = answers.None
 
 abbrev pub choice_view : ChoiceCode → Service
 choice_view c = record { request = c.request.now; place = c.place; answer = reply_view c.reply }
-
--- the tuple that the operation puts
-abbrev pub put_of : Op → Option Tuple
-put_of (Out u) = Some u
-put_of (In t) = None
-put_of (Rd t) = None
-put_of (Inp t) = None
-put_of (Rdp t) = None
 
 -- what was chosen is what is due
 abbrev pub Chooses : Result ChoiceCode ServeError → Result Service ServeError → Type 0

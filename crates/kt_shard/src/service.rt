@@ -74,7 +74,7 @@ pub struct Prepared {
 impl Model for Prepared {
     ghost use Rattle.std.specs.Prelude.{◌≡◌};
     ghost use Rattle.kt_shard.specs.Service.{Service};
-    ghost use Rattle.kt_shard.specs.Views.{put_of};
+    ghost use Rattle.kt_shard.specs.inner.Puts.{put_of};
 
     ghost Value = { Service };
 

@@ -7,7 +7,8 @@ ghost use Rattle.kt_shard.specs.Desk.{empty_desk};
 ghost use Rattle.kt_shard.specs.Shard.{empty_shard, desk_of, with_desk};
 ghost use Rattle.kt_shard.specs.Arrival.{arrival, arrival_view, heard_view, waiting_shard, heard};
 ghost use Rattle.kt_shard.specs.Service.{service, served, got_or_none, answer_at, left_by, Refuses, IsServed};
-ghost use Rattle.kt_shard.specs.Views.{Chooses, reply_view, put_of};
+ghost use Rattle.kt_shard.specs.Views.{Chooses, reply_view};
+ghost use Rattle.kt_shard.specs.inner.Puts.{put_of};
 
 use crate::arrival::{Arrival, Heard, arrival_of};
 use crate::desk::Desk;

@@ -1,12 +1,12 @@
 //! How a store is opened.
 
-ghost use Rattle.std.specs.Prelude.{◌≡◌, ◌≢◌, ◌↔◌, false, codes, Err, IfOk, IfErr, IsTrue};
+ghost use Rattle.std.specs.Prelude.{◌≡◌, ◌≢◌, ◌↔◌, false, codes, Err, IfOk, IfErr, OnOk, IsTrue};
 ghost use Rattle.sqlite.specs.Files.{over_files, file_state};
 ghost use Rattle.sqlite.specs.Held.{state};
 ghost use Rattle.sqlite.specs.State.{HasCleanDisk};
 ghost use Rattle.sqlite.specs.Steps.{over_memory};
 ghost use Rattle.kt_store.specs.Content.{empty_content};
-ghost use Rattle.kt_tables.specs.Schema.{no_schema};
+ghost use Rattle.kt_tables.specs.Schema.{kt_schema, no_schema};
 ghost use Rattle.kt_tables.specs.Rows.{AreAsSaid};
 ghost use Rattle.kt_tables.specs.Opened.{IsVersion1};
 ghost use Rattle.kt_tables.specs.Held.{is_sure, content_of};
@@ -51,7 +51,7 @@ fn closed(conn: Connection<FileStore<File>>, error: SqlOpenError) -> SqlOpenErro
 
 /// Why a connection is no store's.
 fn open_error(error: StoreError) -> SqlOpenError
-    ensures { result ≡ SqlOpenError.Damaged → error ≡ StoreError.Damaged }
+    ensures { result ≡ SqlOpenError.Damaged ↔ error ≡ StoreError.Damaged }
 {
     match error {
         StoreError::Memory => SqlOpenError::Memory,
@@ -80,6 +80,11 @@ impl<S: Alter> SqlStore<S> {
         ensures honest { IfOk result (λ s. HasCleanDisk (state S.Store s.tables.conn)
             → (IsTrue (is_sure S.Store s.tables) ↔ AreAsSaid (state S.Store s.tables.conn).now.trees)) }
         ensures faults { IfOk result (λ s. s.faults ≡ 0) }
+        // Other tables than a store's are refused, and by this name.
+        ensures foreign { (state S.Store conn).now.schema ≢ no_schema → (state S.Store conn).now.schema ≢ kt_schema
+            → OnOk result ⊥ }
+        ensures foreign_name { (state S.Store conn).now.schema ≢ no_schema
+            → (state S.Store conn).now.schema ≢ kt_schema → IfErr result (λ e. e.0 ≡ SqlOpenError.Damaged) }
         ensures damaged { IfErr result (λ e. e.0 ≡ SqlOpenError.Damaged → HasCleanDisk (state S.Store e.1)
             → ((state S.Store conn).now.schema ≢ no_schema) × (IsVersion1 (state S.Store conn).now → ⊥)) }
         ensures unchanged { IfErr result (λ e. HasCleanDisk (state S.Store e.1)
@@ -109,7 +114,8 @@ impl SqlStore<MemStore> {
 
 impl SqlStore<FileStore<File>> {
     /// The store in the database at the path, which is made where no file or an empty one is there. The file is locked
-    /// while the store lives.
+    /// while the store lives. That it is this file, that it is made and locked, and which rows it has then, is tested
+    /// and no clause says.
     pub fn open(rt: &HostRuntime, path: &str) -> Result<SqlStore<FileStore<File>>, SqlOpenError>
         ensures version { IfOk result (λ s. HasCleanDisk (file_state s.tables.conn)
             → IsVersion1 (file_state s.tables.conn).now) }

@@ -1,6 +1,6 @@
 //! A store over tables, which counts the faults.
 
-ghost use Rattle.std.specs.Prelude.{◌≡◌, ◌==◌, ◌&&◌, ◌⊎◌, ◌<◌, ◌≤◌, IfOk, IfSome, OnOk, OnErr, IsErrOf, IsTrue};
+ghost use Rattle.std.specs.Prelude.{◌≡◌, ◌==◌, ◌&&◌, ◌⊎◌, ◌+◌, ◌<◌, ◌≤◌, IfOk, IfSome, OnOk, OnErr, IsErrOf, IsTrue};
 ghost use Rattle.std.specs.Prelude.{fold, map, max};
 ghost use Rattle.std.specs.List.{find};
 ghost use Rattle.sqlite.specs.Held.{state};
@@ -40,6 +40,8 @@ impl<S: Alter + Drop> Drop for SqlStore<S> {
 /// Counts a fault, where the device failed.
 fn count<T>(faults: &mut u64, answer: &Result<T, StoreError>)
     ensures later { faults.old ≤ faults.new }
+    ensures once { faults.new ≤ faults.old + 1 }
+    ensures only { (faults.new ≡ faults.old) ⊎ IsErrOf answer.now StoreError.Device }
     ensures counted { IsErrOf answer.now StoreError.Device → (faults.old < faults.new) ⊎ (faults.new ≡ most_faults) }
 {
     if matches!(answer, Err(StoreError::Device)) {

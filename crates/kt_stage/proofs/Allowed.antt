@@ -17,7 +17,7 @@ use Rattle.kt_world.specs.declared.step.Step.TheVariants.{Issue, Repeat, Deliver
 use Rattle.kt_world.specs.declared.step.Step.TheVariants.{Learn, Fail, Restart}
 use Rattle.kt_world.specs.Cast.{Cast, are_neighbours, is_among, is_in_scene, is_node, is_shard, is_worker}
 use Rattle.kt_world.specs.Judge.{is_planned, of_scene}
-use Rattle.kt_world.specs.Ready.{AreNeighbours}
+use Rattle.kt_world.specs.inner.Ready.{AreNeighbours}
 use Rattle.kt_world.specs.State.{State, link, node, view}
 use Rattle.kt_world.specs.Told.{told}
 use Rattle.kt_link.proofs.Shared.{among-true}

@@ -1,5 +1,6 @@
 -- What one step more makes of a journal.
-use Rattle.std.proofs.Common.{◌≡◌, ℕ, ◌+◌, length, length-append, arith, Bool, true, false, List, [], ◌∷◌, ◌++◌, Result, Ok, refl, sym, ap, subst, ◌∙◌}
+use Rattle.std.proofs.Common.{◌≡◌, ℕ, ◌+◌, ◌≤◌, length, length-append, arith, Bool, true, false, List, [], ◌∷◌, ◌++◌, Result, Ok, refl, sym, ap, subst}
+use Rattle.std.proofs.Common.{◌∙◌}
 use Rattle.std.specs.Prelude.{◌&&◌, IsTrue}
 use Rattle.std.specs.List.{list_all}
 use Rattle.kt_tuple.specs.declared.node.NodeId.{NodeId}
@@ -14,7 +15,8 @@ use Rattle.kt_core.specs.Stepping.{Refuses}
 use Rattle.kt_core.specs.World.{Standing}
 use Rattle.kt_stage.specs.Acting.{RefusesStep}
 use Rattle.kt_stage.specs.Order.{has_node}
-use Rattle.kt_stage.specs.Journal.{Replays, all_made, are_owned, made_from, then_made}
+use Rattle.kt_stage.specs.Journal.{Replays, all_made, made_from, then_made}
+use Rattle.kt_stage.specs.inner.Midway.{are_owned}
 
 made-more : (so_far : Result State StepError) (steps : List Step) (step : Step)
     → made_from so_far (steps ++ step ∷ []) ≡ then_made (made_from so_far steps) step
@@ -38,6 +40,10 @@ replays_none opening h = (h, refl)
 pub replays_opened : (opening world : Standing) (steps : List Step) → opening ≡ world → steps ≡ [] → Replays opening world steps
 replays_opened opening world steps is none =
     subst (λ (w : Standing). Replays opening w steps) is (subst (λ (xs : List Step). Replays opening opening xs) (sym none) (replays_none opening))
+
+-- no fault was counted at the opening
+pub later_opened : (opening world : Standing) → opening ≡ world → opening.faults ≤ world.faults
+later_opened opening world is = omega (arith, ap (λ (w : Standing). w.faults) is)
 
 all-more : {A : Type 0} (p : A → Bool) (xs : List A) (x : A) → list_all p xs ≡ true → p x ≡ true → list_all p (xs ++ x ∷ []) ≡ true
 all-more p [] x all one = rw one refl

@@ -15,8 +15,10 @@ use Rattle.kt_world.specs.declared.step.Step.{Step}
 use Rattle.kt_world.specs.Cast.{Cast}
 use Rattle.kt_world.specs.Step.{owner}
 use Rattle.kt_stage.specs.declared.seat.Receipt.{Receipt}
-use Rattle.kt_stage.specs.Closing.{IsClosed, IsMatched, first_missing, full_seat, has_seat, numbered, receipts_in, seats_of}
-use Rattle.kt_stage.specs.Journal.{Held, are_owned, kept_of, receipt, receipts_of}
+use Rattle.kt_stage.specs.Closing.{IsMatched, first_missing, full_seat, has_seat, numbered, receipts_in, seats_of}
+use Rattle.kt_stage.specs.inner.Midway.{IsClosed}
+use Rattle.kt_stage.specs.Journal.{Held, kept_of, receipt, receipts_of}
+use Rattle.kt_stage.specs.inner.Midway.{are_owned}
 use Rattle.kt_stage.specs.Order.{has_node, nodes_of}
 
 -- ---- the seats of one node

@@ -44,10 +44,6 @@ IsCloseCause nodes steps seats (refusals.Unmatched p) = IsFirstUnmatched steps s
 IsCloseCause nodes steps seats (refusals.SeatMissing p) =
     IsFirstUnmatched steps seats seats None × (first_missing nodes seats ≡ Some p)
 
--- each seat is of a node that is matched, and each node has one
-abbrev pub IsClosed : List NodeId → List Step → List Held → Type 0
-IsClosed nodes steps seats = IsFirstUnmatched steps seats seats None × (first_missing nodes seats ≡ None)
-
 -- the steps with their places, of which the first has this one
 abbrev pub numbered : ℕ → List Step → List Receipt
 numbered number [] = []

@@ -1,17 +1,14 @@
 -- The journal of a stage: all steps that were made, each at its place; and what its seats keep of them.
-use Rattle.std.specs.Prelude.{◌≡◌, ℕ, ◌+◌, Bool, if◌then◌else◌, List, [], ◌∷◌, ◌++◌}
+use Rattle.std.specs.Prelude.{◌≡◌, ℕ, ◌+◌, if◌then◌else◌, List, [], ◌∷◌, ◌++◌}
 use Rattle.std.specs.Prelude.{Result, Ok, Err, IsTrue}
-use Rattle.std.specs.List.{list_all}
 use Rattle.kt_tuple.specs.declared.node.NodeId.{NodeId}
 use Rattle.kt_tuple.specs.Node.{node_eq}
 use Rattle.kt_world.specs.declared.step.Step.{Step}
 use Rattle.kt_world.specs.declared.step.StepError.{StepError}
-use Rattle.kt_world.specs.Cast.{Cast}
 use Rattle.kt_world.specs.Effect.{step_result}
 use Rattle.kt_world.specs.State.{State}
 use Rattle.kt_world.specs.Step.{owner}
 use Rattle.kt_core.specs.World.{Standing}
-use Rattle.kt_stage.specs.Order.{has_node}
 use Rattle.kt_stage.specs.declared.seat.Receipt.{Receipt}
 
 -- what a journal is to its callers
@@ -36,10 +33,6 @@ all_made s steps = made_from (Ok s) steps
 abbrev pub Replays : Standing → Standing → List Step → Type 0
 Replays opening world steps =
     IsTrue world.is_honest → IsTrue opening.is_honest × (all_made opening.state steps ≡ Ok world.state)
-
--- each step is of a node of the scene
-abbrev pub are_owned : Cast → List Step → Bool
-are_owned cast steps = list_all (λ step. has_node cast (owner step)) steps
 
 -- ---- what the seats keep
 

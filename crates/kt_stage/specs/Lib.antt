@@ -5,3 +5,5 @@ pub mod Asking
 pub mod Journal
 pub mod Acting
 pub mod Closing
+pub mod Running
+pub mod inner

@@ -1,5 +1,5 @@
 -- What is sought among the messages that are on their way, and among those that nodes keep back.
-use Rattle.std.specs.Prelude.{ℕ, ◌==◌, Bool, false, ◌&&◌, Option, None, Some}
+use Rattle.std.specs.Prelude.{ℕ, ◌==◌, Bool, false, ◌&&◌}
 use Rattle.std.specs.List.{list_any}
 use Rattle.kt_tuple.specs.declared.node.NodeId.{NodeId}
 use Rattle.kt_tuple.specs.Node.{node_eq}
@@ -34,11 +34,6 @@ is_sought (soughts.Ask instance incarnation) (messages.RollAsk ask) = is_ask ins
 is_sought (soughts.Vote instance incarnation) (messages.Vote vote) =
     (vote.instance == instance) && (vote.incarnation == incarnation)
 is_sought sought message = false
-
--- it passes this test, if it is there
-abbrev pub is_found : {A : Type 0} → (A → Bool) → Option A → Bool
-is_found test None = false
-is_found test (Some x) = test x
 
 -- such a message is on its way from p to q
 abbrev pub is_on_link : State → NodeId → NodeId → Sought → Bool

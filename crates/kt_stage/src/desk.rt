@@ -1,12 +1,13 @@
 //! What lies under a stage's lock.
 
-ghost use Rattle.std.specs.Prelude.{◌≡◌, ◌↔◌, ◌++◌, ◌∷◌, [], length, true, vec_len, IfErr, IfOk, IsTrue, Ok, OnErr};
-ghost use Rattle.std.specs.Prelude.{OnOk};
+ghost use Rattle.std.specs.Prelude.{◌≡◌, ◌≢◌, ◌↔◌, ◌++◌, ◌∷◌, [], length, true, vec_len, Err, IfErr, IfOk, IsTrue, Ok};
+ghost use Rattle.std.specs.Prelude.{◌≤◌, OnErr, OnOk};
 ghost use Rattle.kt_core.specs.Stepping.{IsCalledFor, IsCause};
 ghost use Rattle.kt_core.specs.World.{beside};
 ghost use Rattle.kt_stage.specs.Acting.{IsActCalledFor, IsActCause, IsOthers, RefusesAct, RefusesStep};
 ghost use Rattle.kt_stage.specs.Asking.{IsAsked};
-ghost use Rattle.kt_stage.specs.Journal.{Replays, are_owned, receipt};
+ghost use Rattle.kt_stage.specs.Journal.{Replays, receipt};
+ghost use Rattle.kt_stage.specs.inner.Midway.{are_owned};
 ghost use Rattle.kt_stage.specs.Policy.{next_step};
 ghost use Rattle.kt_world.specs.Effect.{step_result};
 ghost use Rattle.kt_world.specs.Judge.{planned};
@@ -30,6 +31,7 @@ pub struct Desk<S: CkptStore, L: Naming> {
     pub(crate) journal: Journal<S>,
     pub(crate) book: Book<L>,
     ghost replays: { Replays L.opening journal.world journal.steps },
+    ghost later: { L.opening.faults ≤ journal.world.faults },
     ghost counted: { book.total ≡ length journal.steps },
     ghost owned: { are_owned L.opening.state.cast journal.steps ≡ true },
 }
@@ -51,6 +53,7 @@ impl<S: CkptStore> Journal<S> {
         ensures same { IsTrue self.new.world.is_honest → OnErr result (self.new.world.state ≡ self.old.world.state) }
         ensures beside { OnErr result (beside self.new.world.state ≡ beside self.old.world.state) }
         ensures honest { IsTrue self.new.world.is_honest → IsTrue self.old.world.is_honest }
+        ensures later { self.old.world.faults ≤ self.new.world.faults }
         ensures refusal { IsTrue self.new.world.is_honest
             → IfErr result (λ e. RefusesStep e (planned self.old.world.state step)) }
         ensures cause { IfErr result (IsCause self.old.world.faults self.new.world.faults self.new.world.is_honest) }
@@ -86,8 +89,8 @@ impl<S: CkptStore, L: Naming> Desk<S, L> {
     }
 
     /// Makes the step of the seat's node, and gives the receipt that the seat keeps then. A refusal leaves the seat and
-    /// the journal: `NotOwner` comes only where the step is another node's, and `Step` where the world refuses the
-    /// step, or where it is enabled and memory is wanting.
+    /// the journal: `NotOwner` comes just where the step is another node's, and `Step` where the world refuses the
+    /// step, or where memory is wanting, which may come before it is known whether the step is enabled.
     pub fn act(
         &mut self,
         alloc: Global,
@@ -99,8 +102,10 @@ impl<S: CkptStore, L: Naming> Desk<S, L> {
         ensures journal { OnOk result (self.new.journal.steps ≡ self.old.journal.steps ++ step ∷ []) }
         ensures effect { IsTrue self.new.journal.world.is_honest
             → OnOk result (step_result self.old.journal.world.state step ≡ Ok self.new.journal.world.state) }
+        ensures later { self.old.journal.world.faults ≤ self.new.journal.world.faults }
         ensures node { seat.new.node ≡ seat.old.node }
         ensures not_owner { IfErr result (IsOthers seat.old.node step) }
+        ensures others { owner step ≢ seat.old.node → result ≡ Err ActError.NotOwner }
         ensures refusal { IsTrue self.new.journal.world.is_honest
             → IfErr result (λ e. RefusesAct e (planned self.old.journal.world.state step)) }
         ensures cause { IfErr result (IsActCause self.old.journal.world.faults self.new.journal.world.faults

@@ -22,7 +22,7 @@ pub use error::ActError;
 pub use journal::Journal;
 pub use naming::Naming;
 pub use policy::{Rule, next_for};
-pub use running::{RunFault, run_threads};
+pub use running::{RunFault, run_threads, run_threads_over};
 pub use seat::{Receipt, Seat};
 pub use stage::{Stage, node_count};
 pub use traffic::Sought;

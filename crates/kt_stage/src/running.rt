@@ -1,10 +1,13 @@
 //! A run: a thread for each node, each by the policy, until no node has a next step.
 
-ghost use Rattle.std.specs.Prelude.{◌≡◌, length, IfOk, IsTrue, None, Ok};
+ghost use Rattle.std.specs.Prelude.{◌≡◌, ◌≤◌, length, true, IfErr, IfOk, IsTrue, None, Ok};
 ghost use denote.Param.Send.{IsSend, IsSync};
 ghost use Rattle.kt_stage.specs.Journal.{Replays, all_made};
 ghost use Rattle.kt_stage.specs.Order.{nodes_of};
 ghost use Rattle.kt_stage.specs.Policy.{first_unfinished, spent_by};
+ghost use Rattle.kt_stage.specs.Running.{IsStopped, IsStoppedWith};
+ghost use Rattle.kt_stage.specs.inner.Midway.{IsMidway};
+ghost use Rattle.kt_store.specs.Content.{is_fresh};
 ghost use Rattle.kt_world.specs.Reached.{opening};
 
 use crate::closing::CloseError;
@@ -45,6 +48,27 @@ pub enum RunFault {
     Unfinished { node: NodeId },
 }
 
+/// Why a node's part of a run ended early.
+#[derive(Clone, Copy, Debug, PartialEq, Eq)]
+enum Halt {
+    /// A step was refused: the place in the journal that it would have had, counted from 1, and why.
+    Step { at: u64, cause: StepError },
+    /// Memory ran out, or a thread could not be started.
+    Memory,
+}
+
+impl Halt {
+    /// The run's own fault, which is none of an opening or of an end.
+    fn fault(self) -> RunFault
+        ensures { IsMidway result }
+    {
+        match self {
+            Halt::Step { at, cause } => RunFault::Step { at, cause },
+            Halt::Memory => RunFault::Memory,
+        }
+    }
+}
+
 /// What a node has in a run: its seat, and the fault lines, of which it alone looks at its own, and spends them.
 #[derive(Drop)]
 struct Player<L: Naming> {
@@ -64,12 +88,12 @@ enum Turn {
 impl<S: CkptStore, L: Naming> Floor<S, L> {
     /// Makes the next step of the player's node, if it has one. It is chosen and made under one lock: another node's
     /// step between the two could make it one that is not allowed.
-    fn turn(&mut self, alloc: Global, player: &mut Player<L>) -> Result<Turn, RunFault> {
+    fn turn(&mut self, alloc: Global, player: &mut Player<L>) -> Result<Turn, Halt> {
         let Floor { desk, idle, .. } = self;
         let Player { seat, faults } = player;
         let at = desk.journal.steps.len() as u64 + 1;
         let next = desk.next_for(alloc, faults, seat.node);
-        let next = next.map_err(|refusal| RunFault::Step {
+        let next = next.map_err(|refusal| Halt::Step {
             at,
             cause: StepError::Store(refusal),
         })?;
@@ -79,10 +103,11 @@ impl<S: CkptStore, L: Naming> Floor<S, L> {
         };
         match desk.act(alloc, seat, step) {
             Ok(_) => {}
-            Err(ActError::Step(cause)) => return Err(RunFault::Step { at, cause }),
+            Err(ActError::Step(cause)) => return Err(Halt::Step { at, cause }),
+            // The policy gives a node steps of its own alone.
             Err(ActError::NotOwner) => {
                 let cause = StepError::NoNode;
-                return Err(RunFault::Step { at, cause });
+                return Err(Halt::Step { at, cause });
             }
         }
         faults.spend(&step);
@@ -107,7 +132,7 @@ fn play<R: Wait, S: CkptStore, L: Naming>(
     alloc: Global,
     stage: &Stage<S, L>,
     player: &mut Player<L>,
-) -> Result<(), RunFault> {
+) -> Result<(), Halt> {
     for _ in rt.forever() {
         let mut floor = stage.floor.lock(rt);
         if floor.is_over {
@@ -139,7 +164,7 @@ fn play_to_end<R: Wait, S: CkptStore, L: Naming>(
     alloc: Global,
     stage: &Stage<S, L>,
     player: Player<L>,
-) -> (Seat<L>, Result<(), RunFault>) {
+) -> (Seat<L>, Result<(), Halt>) {
     let mut player = player;
     let ended = play(rt, alloc, stage, &mut player);
     (player.seat, ended)
@@ -165,7 +190,7 @@ fn perform<R, S, L>(
     alloc: Global,
     stage: &Stage<S, L>,
     players: Vec<Player<L>>,
-) -> Result<Vec<Seat<L>>, RunFault>
+) -> Result<Vec<Seat<L>>, Halt>
 where
     R: Threads + Wait + Sync,
     S: CkptStore + Send,
@@ -174,7 +199,7 @@ where
     thread::scope(
         thread::scope_env(),
         rt,
-        move |scope| -> Result<Vec<Seat<L>>, RunFault>
+        move |scope| -> Result<Vec<Seat<L>>, Halt>
             requires { IsSync R.row × IsSend S.row × IsSend L.row × IsSync L.row }
         {
             let mut seats = Vec::new(alloc);
@@ -188,14 +213,14 @@ where
                 };
                 if !is_started {
                     stage.end(rt);
-                    ended = Err(RunFault::Memory);
+                    ended = Err(Halt::Memory);
                 }
             }
             for handle in handles {
                 let (seat, how) = handle.join(rt);
                 ended = ended.and(how);
                 if seats.push(seat).is_err() {
-                    ended = Err(RunFault::Memory);
+                    ended = Err(Halt::Memory);
                 }
             }
             ended.map(|()| seats)
@@ -203,14 +228,23 @@ where
     )
 }
 
-/// Runs the world on the stage that L names, and closes it.
+/// The fault of a run that ended with this journal, and the store.
+fn stopped<S: CkptStore>(journal: Journal<S>, fault: RunFault) -> (RunFault, S)
+    ensures fault { result.0 ≡ fault }
+    ensures honest { S.is_honest result.1 ≡ journal.world.is_honest }
+    ensures faults { S.fault_count result.1 ≡ journal.world.faults }
+{
+    (fault, journal.into_world().into_store())
+}
+
+/// Runs the world on the stage that L names, and closes it. Where the run ends early the store is given back.
 fn run_on<R, S, L>(
     rt: &R,
     alloc: Global,
     world: World<S>,
     blank: Blank,
     faults: &Faults,
-) -> Result<Journal<S>, RunFault>
+) -> Result<Journal<S>, (RunFault, S)>
 where
     R: Threads + Wait + Sync,
     S: CkptStore + Send + Drop,
@@ -219,21 +253,33 @@ where
     requires parts { blank.parts ≡ L.parts }
     requires one_each { blank.parts ≡ length (nodes_of world.state.cast) }
     requires opening { L.opening ≡ world }
-    ensures { IfOk result (λ j. Replays L.opening j.world j.steps) }
+    ensures replays { IfOk result (λ j. Replays L.opening j.world j.steps) }
+    ensures later { IfOk result (λ j. L.opening.faults ≤ j.world.faults) }
+    ensures midway { IfErr result (λ e. IsMidway e.0) }
 {
-    let (stage, seats) = Stage::<S, L>::open(alloc, world, blank).map_err(|_| RunFault::Memory)?;
-    let players = players_of(alloc, seats, faults).map_err(|_| RunFault::Memory)?;
-    let seats = perform(rt, alloc, &stage, players)?;
-    stage
-        .close(seats)
-        .map_err(|(cause, _)| RunFault::Close(cause))
+    let (stage, seats) = match Stage::<S, L>::open_or_back(alloc, world, blank) {
+        Ok(opened) => opened,
+        Err(world) => return Err((RunFault::Memory, world.into_store())),
+    };
+    let Ok(players) = players_of(alloc, seats, faults) else {
+        return Err((RunFault::Memory, stage.into_store()));
+    };
+    match perform(rt, alloc, &stage, players) {
+        Ok(seats) => match stage.close(seats) {
+            Ok(journal) => Ok(journal),
+            Err((cause, journal)) => Err(stopped(journal, RunFault::Close(cause))),
+        },
+        Err(halt) => Err((halt.fault(), stage.into_store())),
+    }
 }
 
 /// Runs the scene: a thread for each node, each by the policy with these fault lines, until no node has a next step.
 /// Every thread is joined. The run ends early with the first step that is refused. It may wait for its threads. Where
-/// it is refused, scene, fault lines and store are gone.
+/// it is refused, scene, fault lines and store are gone, so its clause speaks of some store of its kind in place of the
+/// one that was left: of one that is not always honest `run_threads_over` says more.
 ///
-/// Which steps are made, and in what order, is not promised; nor that the run ends.
+/// Which steps are made, and in what order, is not promised; nor that the run ends. Of a step that is refused, of seats
+/// that do not fit and of want of memory nothing is promised but the name.
 pub fn run_threads<R, S>(
     rt: &R,
     alloc: Global,
@@ -248,10 +294,44 @@ where
         IsTrue j.world.is_honest → all_made (opening scene) j.steps ≡ Ok j.world.state) }
     ensures finished { IfOk result (λ j.
         IsTrue j.world.is_honest → first_unfinished j.world.state (spent_by faults j.steps) ≡ None) }
+    ensures fresh { IfOk result (λ j. IsTrue j.world.is_honest → is_fresh (S.content store) ≡ true) }
+    ensures later { IfOk result (λ j. S.fault_count store ≤ j.world.faults) }
+    ensures stopped { IfErr result
+        (IsStopped S.is_honest S.fault_count (is_fresh (S.content store)) (S.fault_count store) scene faults) }
+{
+    match run_threads_over(rt, alloc, scene, faults, store) {
+        Ok(journal) => Ok(journal),
+        Err((fault, left)) => {
+            drop(left);
+            Err(fault)
+        }
+    }
+}
+
+/// As `run_threads`, and gives the store back where the run ends early: what is said of a store is said of it as it was
+/// left.
+pub fn run_threads_over<R, S>(
+    rt: &R,
+    alloc: Global,
+    scene: Scene,
+    faults: Faults,
+    store: S,
+) -> Result<Journal<S>, (RunFault, S)>
+where
+    R: Threads + Wait + Sync,
+    S: CkptStore + Send + Drop,
+    ensures replays { IfOk result (λ j.
+        IsTrue j.world.is_honest → all_made (opening scene) j.steps ≡ Ok j.world.state) }
+    ensures finished { IfOk result (λ j.
+        IsTrue j.world.is_honest → first_unfinished j.world.state (spent_by faults j.steps) ≡ None) }
+    ensures fresh { IfOk result (λ j. IsTrue j.world.is_honest → is_fresh (S.content store) ≡ true) }
+    ensures later { IfOk result (λ j. S.fault_count store ≤ j.world.faults) }
+    ensures stopped { IfErr result (λ e. IsStoppedWith (S.is_honest e.1) (S.fault_count e.1)
+        (is_fresh (S.content store)) (S.fault_count store) scene faults e.0) }
 {
     let world = match World::open(alloc, scene, store) {
         Ok(world) => world,
-        Err(refused) => return Err(RunFault::Open(refused.cause)),
+        Err(refused) => return Err((RunFault::Open(refused.cause), refused.store)),
     };
     let blank = Blank::new(node_count(&world));
     let mut journal = run_on::<R, S, Brand>(rt, alloc, world, blank, &faults)?;
@@ -261,11 +341,11 @@ where
         Err(refusal) => {
             let at = journal.steps.len() as u64 + 1;
             let cause = StepError::Store(refusal);
-            return Err(RunFault::Step { at, cause });
+            return Err(stopped(journal, RunFault::Step { at, cause }));
         }
     };
     match left {
         None => Ok(journal),
-        Some(node) => Err(RunFault::Unfinished { node }),
+        Some(node) => Err(stopped(journal, RunFault::Unfinished { node })),
     }
 }

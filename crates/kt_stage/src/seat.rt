@@ -12,7 +12,9 @@ use std::sync::ledger::Share;
 /// The place that a step has in the journal, counted from 1.
 #[derive(Clone, Copy, Debug, PartialEq, Eq)]
 pub struct Receipt {
+    /// The place.
     pub number: u64,
+    /// The step that stands there.
     pub step: Step,
 }
 

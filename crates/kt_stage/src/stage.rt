@@ -1,10 +1,12 @@
 //! The stage: a journal under a lock, and a seat for each node.
 
-ghost use Rattle.std.specs.Prelude.{◌≡◌, ◌≤◌, ◌++◌, ◌∷◌, [], filter, length, map, All, IfErr, IfOk, IsTrue, OnErr};
+ghost use Rattle.std.specs.Prelude.{◌≡◌, ◌≢◌, ◌≤◌, ◌++◌, ◌∷◌, [], filter, length, map, All, Err, IfErr, IfOk, IsTrue};
+ghost use Rattle.std.specs.Prelude.{OnErr};
 ghost use Rattle.kt_stage.specs.Acting.{IsOthers};
 ghost use Rattle.kt_stage.specs.Journal.{empty_seat};
 ghost use Rattle.kt_stage.specs.Order.{has_node, nodes_of};
 ghost use Rattle.kt_world.specs.Cast.{is_node};
+ghost use Rattle.kt_world.specs.Step.{owner};
 
 use crate::desk::Desk;
 use crate::error::ActError;
@@ -123,9 +125,36 @@ impl<S: CkptStore, L: Naming> Stage<S, L> {
         requires opening { L.opening ≡ world }
         ensures { IfOk result (λ r. r.1.items ≡ map empty_seat (nodes_of world.state.cast)) }
     {
-        let nodes = nodes_among(alloc, &NAMES, &world)?;
+        match Stage::open_or_back(alloc, world, blank) {
+            Ok(opened) => Ok(opened),
+            Err(world) => {
+                drop(world.into_store());
+                Err(AllocError)
+            }
+        }
+    }
+
+    /// The same, which gives the world back where memory runs out.
+    pub(crate) fn open_or_back(
+        alloc: Global,
+        world: World<S>,
+        blank: Blank,
+    ) -> Result<(Stage<S, L>, Vec<Seat<L>>), World<S>>
+    where
+        S: Drop,
+        requires name { blank.name ≡ L.name }
+        requires parts { blank.parts ≡ L.parts }
+        requires one_each { blank.parts ≡ length (nodes_of world.state.cast) }
+        requires opening { L.opening ≡ world }
+        ensures { IfOk result (λ r. r.1.items ≡ map empty_seat (nodes_of world.state.cast)) }
+    {
+        let Ok(nodes) = nodes_among(alloc, &NAMES, &world) else {
+            return Err(world);
+        };
         let (book, share) = blank.open::<L>();
-        let seats = seats_of(alloc, &nodes, share)?;
+        let Ok(seats) = seats_of(alloc, &nodes, share) else {
+            return Err(world);
+        };
         let steps = Vec::new(alloc);
         let journal = Journal { world, steps };
         let desk = Desk { journal, book };
@@ -142,6 +171,12 @@ impl<S: CkptStore, L: Naming> Stage<S, L> {
         Ok((stage, seats))
     }
 
+    /// The store of its world, where it is not closed.
+    pub(crate) fn into_store(self) -> S {
+        let Stage { floor, .. } = self;
+        floor.into_inner().desk.journal.into_world().into_store()
+    }
+
     /// Makes the step of the seat's node by `Desk::act` under the lock, for which it may wait. Of the world no clause
     /// here speaks, since others act before and after.
     pub fn act(
@@ -155,6 +190,7 @@ impl<S: CkptStore, L: Naming> Stage<S, L> {
         ensures seat { IfOk result (λ r. seat.new.receipts ≡ seat.old.receipts ++ r ∷ []) }
         ensures same { OnErr result (seat.new.receipts ≡ seat.old.receipts) }
         ensures not_owner { IfErr result (IsOthers seat.old.node step) }
+        ensures others { owner step ≢ seat.old.node → result ≡ Err ActError.NotOwner }
         ensures node { seat.new.node ≡ seat.old.node }
     {
         let mut floor = self.floor.lock(rt);

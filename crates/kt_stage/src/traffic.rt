@@ -3,7 +3,8 @@
 ghost use Rattle.std.specs.Prelude.{◌≡◌, slice_get};
 ghost use Rattle.kt_core.specs.Lent.{kept};
 ghost use Rattle.kt_world.specs.State.{link};
-ghost use Rattle.kt_stage.specs.Traffic.{is_about, is_ask, is_found, is_kept, is_kept_of, is_on_link, is_sought};
+ghost use Rattle.kt_stage.specs.Traffic.{is_about, is_ask, is_kept, is_kept_of, is_on_link, is_sought};
+ghost use Rattle.kt_stage.specs.inner.Midway.{is_found};
 ghost use Rattle.kt_stage.specs.Traffic.{number_in};
 
 use kt_core::World;

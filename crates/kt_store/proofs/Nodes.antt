@@ -9,7 +9,8 @@ use Rattle.kt_tuple.specs.Node.{node_eq}
 use Rattle.kt_store.specs.declared.rows.NodeRow.{NodeRow}
 use Rattle.kt_store.specs.declared.change.Change.{Change}
 use Rattle.kt_store.specs.declared.change.Change.TheVariants.{Incarnation, Take, Promote, Discard}
-use Rattle.kt_store.specs.Content.{IsNodes, node_lt, row_or, greatest}
+use Rattle.kt_store.specs.Content.{node_lt, row_or, greatest}
+use Rattle.kt_store.specs.inner.Rising.{IsNodes}
 use Rattle.kt_store.specs.Changes.{with_row}
 use Rattle.kt_store.specs.inner.Row.{changed, IsWithin}
 use Rattle.kt_store.proofs.Tables.{IsOrder, placed_all, placed_among, placed_at, placed_last, placed_rising, none_passes, position_none}

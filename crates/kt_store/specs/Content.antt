@@ -1,6 +1,6 @@
 -- What a store holds, and what its reads give.
 use Rattle.std.specs.Prelude.{◌≡◌, ℕ, ◌+◌, ◌==◌, ◌^◌, max, Bool, true, false, nat_lt, ◌&&◌}
-use Rattle.std.specs.Prelude.{List, [], ◌∷◌, map, fold, Option, None, Some, All, AllPairs, ◌≤◌}
+use Rattle.std.specs.Prelude.{List, [], ◌∷◌, map, fold, Option, None, Some}
 use Rattle.std.specs.List.{find}
 use Rattle.std.specs.Option.{option_map}
 use Rattle.kt_tuple.specs.declared.node.NodeId.{NodeId}
@@ -91,13 +91,3 @@ verdict_on c (Some t) = verdict_of c t.instance
 -- the node has a tentative checkpoint, and its instance has this verdict
 abbrev pub HasVerdict : Content → NodeId → Verdict → Type 0
 HasVerdict c p verdict = verdict_on c (row_of c p).tentative ≡ Some verdict
-
--- the numbers of instances rise, and none is above the greatest
-pub record IsBoard (board : List Posted) : Type 0 where
-  pub rising : AllPairs (λ a b. nat_lt a.instance b.instance ≡ true) board
-  pub within : All (λ row. row.instance ≤ greatest) board
-
--- the rows of nodes rise in node order, and no incarnation is above the greatest
-pub record IsNodes (nodes : List NodeRow) : Type 0 where
-  pub rising : AllPairs (λ a b. node_lt a.node b.node ≡ true) nodes
-  pub within : All (λ row. row.incarnation ≤ greatest) nodes

@@ -4,7 +4,8 @@ ghost use Rattle.std.specs.Prelude.{◌≡◌, ◌<◌, length, AllPairs, None, 
 ghost use Rattle.std.specs.List.{find, position};
 ghost use Rattle.kt_tuple.specs.Node.{node_eq};
 ghost use Rattle.kt_store.specs.declared.rows.NodeRow.{NodeRow};
-ghost use Rattle.kt_store.specs.Content.{IsNodes, node_lt, row_or};
+ghost use Rattle.kt_store.specs.Content.{node_lt, row_or};
+ghost use Rattle.kt_store.specs.inner.Rising.{IsNodes};
 ghost use Rattle.kt_store.specs.Changes.{with_row};
 ghost use Rattle.kt_store.specs.inner.Row.{changed, IsWithin};
 

@@ -9,7 +9,8 @@ pub enum StoreError {
     /// Memory ran out.
     #[error("Memory")]
     Memory,
-    /// The device failed.
+    /// The device failed. A store in SQL answers so too where it is to hold a node whose number is above 99, or a
+    /// number above 2^62, for which its tables have no row.
     #[error("Device")]
     Device,
     /// What is stored is no checkpoint, or no row of a store.

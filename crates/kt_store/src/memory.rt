@@ -9,7 +9,8 @@ ghost use Rattle.kt_tuple.specs.Node.{node_eq};
 ghost use Rattle.kt_store.specs.declared.rows.NodeRow.{NodeRow};
 ghost use Rattle.kt_store.specs.declared.rows.Posted.{Posted};
 ghost use Rattle.kt_store.specs.Verdict.{is_open};
-ghost use Rattle.kt_store.specs.Content.{IsBoard, row_of, verdict_of, initiator_of, open_of, next_instance};
+ghost use Rattle.kt_store.specs.Content.{row_of, verdict_of, initiator_of, open_of, next_instance};
+ghost use Rattle.kt_store.specs.inner.Rising.{IsBoard};
 ghost use Rattle.kt_store.specs.Content.{is_fresh, greatest, permanent_marks, tentative_marks};
 ghost use Rattle.kt_store.specs.Changes.{decided, opening, storing, with_posted};
 ghost use Rattle.kt_store.specs.inner.Row.{changed, IsWithin};
@@ -34,7 +35,8 @@ pub struct MemStore {
 }
 
 impl Model for MemStore {
-    ghost use Rattle.kt_store.specs.Content.{Content, IsBoard, IsNodes};
+    ghost use Rattle.kt_store.specs.Content.{Content};
+    ghost use Rattle.kt_store.specs.inner.Rising.{IsBoard, IsNodes};
 
     ghost Value = { Content };
 

@@ -18,8 +18,11 @@ pub enum Purpose {
 /// What became of an instance.
 #[derive(Clone, Copy, Debug, PartialEq, Eq)]
 pub enum Verdict {
+    /// There is none yet.
     Open,
+    /// All agreed: tentative checkpoints become permanent, or nodes roll back.
     Yes,
+    /// Somebody did not, or the instance was given up.
     No,
 }
 
@@ -49,6 +52,7 @@ impl Verdict {
 pub struct Tentative {
     /// The instance in which it was taken.
     pub instance: u64,
+    /// The checkpoint, with its node's state.
     pub checkpoint: Ckpt,
 }
 
@@ -81,16 +85,20 @@ impl Tentative {
 pub struct TentativeMarks {
     /// The instance in which it was taken.
     pub instance: u64,
+    /// What it says besides.
     pub marks: Marks,
 }
 
 /// What is stored of a node.
 #[derive(Debug, Drop)]
 pub struct NodeRow {
+    /// Whose row it is.
     pub node: NodeId,
     /// From 1 on, at most 2^62.
     pub incarnation: u64,
+    /// The permanent checkpoint; none where it is the initial one.
     pub permanent: Option<Ckpt>,
+    /// The tentative checkpoint, while the node has one.
     pub tentative: Option<Tentative>,
 }
 
@@ -99,7 +107,10 @@ pub struct NodeRow {
 pub struct Posted {
     /// Its number, from 1 on, at most 2^62.
     pub instance: u64,
+    /// Who began it.
     pub initiator: NodeId,
+    /// What it is for.
     pub purpose: Purpose,
+    /// How it ended, once it has.
     pub verdict: Verdict,
 }

@@ -21,14 +21,15 @@ use Rattle.kt_store.specs.Content.{Content, greatest, is_empty}
 use Rattle.kt_tables.specs.Reason.{HasReason}
 use Rattle.kt_tables.specs.Schema.{kt_schema}
 use Rattle.kt_tables.specs.inner.Text.{put_node_text, put_posted_text, get_node_text, first_node_text, get_posted_text, last_posted_text, open_posted_text}
-use Rattle.kt_tables.specs.Rows.{whole, id_of, HasId, node_given, posted_given, IsNodeRow, IsPosted, Holds, Gives, IsReadError, content_in, number_of, placing}
+use Rattle.kt_tables.specs.Rows.{whole, id_of, HasId, node_given, posted_given, IsNodeRow, IsPosted, Holds, content_in, placing}
+use Rattle.kt_tables.specs.inner.Showing.{Gives, IsReadError, number_of}
 use Rattle.kt_tables.specs.Held.{Tabled, is_sure, content_of, IsKept}
 use Rattle.sqlite.specs.Held.{Held}
 use Rattle.sqlite.specs.State.{HasCleanDisk, Executes}
 use Rattle.sqlite.specs.declared.error.Error.{Error}
 use Rattle.sqlite_trees.specs.View.{doubt}
 use Rattle.kt_store.specs.Changes.{storing}
-use Rattle.kt_tables.specs.Settled.{Stays}
+use Rattle.kt_tables.specs.inner.Looking.{Stays}
 use Rattle.kt_tables.proofs.StateLemmas.{executed_open, refused_stays, written_settled}
 use Rattle.kt_tables.specs.inner.Both.{RanBoth}
 use Rattle.kt_tables.proofs.TabledLemmas.{stayed, wrote}

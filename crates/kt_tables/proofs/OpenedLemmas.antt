@@ -21,10 +21,12 @@ use Rattle.kt_store.specs.Content.{node_lt}
 use Rattle.kt_tables.specs.Schema.{kt_schema}
 use Rattle.kt_tables.specs.inner.Text.{all_nodes_text, all_posted_text, meta_text}
 use Rattle.kt_tables.specs.Rows.{whole, id_of, HasId, node_given, node_shown, posted_given, posted_shown, IsNodeRow, IsPosted}
-use Rattle.kt_tables.specs.Rows.{ShowsNode, HoldsNodes, HoldsBoard, AreAsSaid}
+use Rattle.kt_tables.specs.Rows.{HoldsNodes, HoldsBoard, AreAsSaid}
+use Rattle.kt_tables.specs.inner.Showing.{ShowsNode}
 use Rattle.kt_tables.specs.Settled.{IsSettled}
-use Rattle.kt_tables.specs.Opened.{meta_shown, meta_given, IsVersion1, IsReady, IsNodeWith, IsNoNode, IsInstanceWith, IsNoInstance}
-use Rattle.kt_tables.specs.Opened.{AreNodesFrom, AreInstancesFrom}
+use Rattle.kt_tables.specs.Opened.{meta_shown, meta_given, IsVersion1, IsReady}
+use Rattle.kt_tables.specs.inner.Testing.{IsNodeWith, IsNoNode, IsInstanceWith, IsNoInstance}
+use Rattle.kt_tables.specs.inner.Testing.{AreNodesFrom, AreInstancesFrom}
 use Rattle.kt_tables.proofs.WriteLemmas.{by_id}
 use Rattle.kt_tables.proofs.Texts.{from_table, rising, all_nodes, all_nodes_is, all_posted, all_posted_is, meta, meta_is, node_names, posted_names}
 use Rattle.kt_tables.proofs.TableRows.{nodes_table, posted_table}

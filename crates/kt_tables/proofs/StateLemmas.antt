@@ -16,7 +16,8 @@ use Rattle.sqlite.specs.State.{ExecutesInside, FailsToShow, FailsToQuery, ShowsR
 use Rattle.sqlite.specs.Listing.{understood}
 use Rattle.sqlite.proofs.Callers.{IsPlain}
 use Rattle.kt_tables.specs.Schema.{kt_schema}
-use Rattle.kt_tables.specs.Settled.{IsSettled, Stays, Looks}
+use Rattle.kt_tables.specs.Settled.{IsSettled}
+use Rattle.kt_tables.specs.inner.Looking.{Stays, Looks}
 
 abbrev Leaves : State → State → Type 0
 Leaves old new = IsTrue new.is_open → Stays old new

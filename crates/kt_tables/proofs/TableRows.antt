@@ -6,7 +6,8 @@ use Rattle.sqlite_trees.specs.Tree.{rowid}
 use Rattle.sqlite_sql.specs.Term.{Term, eval_all}
 use Rattle.kt_store.specs.declared.rows.NodeRow.{NodeRow}
 use Rattle.kt_store.specs.declared.rows.Posted.{Posted}
-use Rattle.kt_tables.specs.Rows.{id_of, node_given, node_stored, node_shown, posted_given, posted_stored, posted_shown}
+use Rattle.kt_tables.specs.Rows.{id_of, node_given, node_shown, posted_given, posted_shown}
+use Rattle.kt_tables.specs.inner.Showing.{node_stored, posted_stored}
 use Rattle.kt_tables.proofs.Texts.{node_columns, posted_columns}
 
 -- the row with the place of the key's column, which is empty

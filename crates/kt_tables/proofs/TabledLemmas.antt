@@ -8,7 +8,8 @@ use Rattle.sqlite_trees.specs.View.{doubt}
 use Rattle.sqlite_trees.proofs.Doubt.{no_doubt, clean_of}
 use Rattle.sqlite.specs.Effect.{Database}
 use Rattle.kt_tables.specs.Schema.{kt_schema}
-use Rattle.kt_tables.specs.Settled.{IsSettled, Stays}
+use Rattle.kt_tables.specs.Settled.{IsSettled}
+use Rattle.kt_tables.specs.inner.Looking.{Stays}
 use Rattle.kt_tables.specs.Opened.{IsReady}
 use Rattle.kt_tables.specs.Rows.{AreAsSaid, Holds, content_in}
 use Rattle.kt_store.specs.Content.{Content, empty_content}

@@ -41,8 +41,10 @@ use Rattle.kt_store.specs.Changes.{with_row, with_posted, storing}
 use Rattle.kt_store.proofs.Shared.{placed, IsOrder}
 use Rattle.kt_tables.specs.Schema.{kt_schema, node_table, board_table, meta_table}
 use Rattle.kt_tables.specs.inner.Text.{put_node_text, put_posted_text}
-use Rattle.kt_tables.specs.Rows.{placing, whole, id_of, HasId, instance_value, node_given, node_stored, node_shown, posted_given}
-use Rattle.kt_tables.specs.Rows.{posted_stored, posted_shown, IsNodeRow, IsPosted, HoldsNodes, HoldsBoard, Holds, purpose_code, verdict_code}
+use Rattle.kt_tables.specs.Rows.{placing, whole, id_of, HasId, instance_value, node_given, node_shown, posted_given}
+use Rattle.kt_tables.specs.inner.Showing.{node_stored}
+use Rattle.kt_tables.specs.Rows.{posted_shown, IsNodeRow, IsPosted, HoldsNodes, HoldsBoard, Holds, purpose_code, verdict_code}
+use Rattle.kt_tables.specs.inner.Showing.{posted_stored}
 use Rattle.kt_tables.proofs.PutLemmas.{went, same_value, AreNumbered, replaces}
 use Rattle.kt_tables.proofs.TableRows.{Table, nodes_table, posted_table}
 use Rattle.kt_tables.proofs.Texts.{node_terms, posted_terms, put_node, put_posted, put_node_is, put_node_plain, put_posted_is, put_posted_plain}

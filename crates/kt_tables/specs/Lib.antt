@@ -1,4 +1,3 @@
-pub mod Cells
 pub mod Held
 pub mod Made
 pub mod Opened

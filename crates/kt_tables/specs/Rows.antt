@@ -1,5 +1,5 @@
 -- How the rows of a store stand in the tables.
-use Rattle.std.specs.Prelude.{◌≡◌, ◌⊎◌, ℕ, ◌+◌, ◌-◌, ◌<◌, ◌≤◌, pos, nat_lt, true, if◌then◌else◌, List, [], ◌∷◌}
+use Rattle.std.specs.Prelude.{◌≡◌, ℕ, ◌+◌, ◌-◌, ◌<◌, ◌≤◌, pos, nat_lt, true, if◌then◌else◌, List, [], ◌∷◌}
 use Rattle.std.specs.Prelude.{map, Option, None, Some, Result, Ok, Err, ⊤, IsPermutation}
 use Rattle.std.specs.Option.{option_map}
 use Rattle.std.specs.List.{AllByRecursion}
@@ -17,8 +17,6 @@ use Rattle.kt_tuple.specs.declared.node.NodeId.TheVariants.{Worker, Shard}
 use Rattle.kt_ckpt.specs.declared.error.CkptError.{CkptError}
 use Rattle.kt_ckpt.specs.Checkpoint.{Checkpoint, IsCheckpoint, spelling, read}
 use Rattle.kt_ckpt.specs.declared.ckpt.Ckpt.{Ckpt}
-use Rattle.kt_store.specs.declared.error.StoreError.{StoreError}
-use Rattle.kt_store.specs.declared.error.StoreError.TheVariants.{Memory, Damaged}
 use Rattle.kt_store.specs.declared.rows.NodeRow.{NodeRow}
 use Rattle.kt_store.specs.declared.rows.Tentative.{Tentative}
 use Rattle.kt_store.specs.declared.rows.Posted.{Posted}
@@ -89,12 +87,6 @@ node_given r =
     whole (id_of r.node) ∷ whole r.incarnation ∷ spelled r.permanent ∷ checkpoint_value r.tentative
     ∷ instance_value r.tentative ∷ []
 
--- as the table keeps it: the key, no value in the key's column, and the other columns
-abbrev pub node_stored : NodeRow → Row
-node_stored r =
-    whole (id_of r.node) ∷ Null ∷ whole r.incarnation ∷ spelled r.permanent ∷ checkpoint_value r.tentative
-    ∷ instance_value r.tentative ∷ []
-
 -- what a query shows of a row that the table keeps
 abbrev pub node_shown : Row → Row
 node_shown r = column r 0 ∷ column r 2 ∷ column r 3 ∷ column r 4 ∷ column r 5 ∷ []
@@ -104,11 +96,6 @@ node_shown r = column r 0 ∷ column r 2 ∷ column r 3 ∷ column r 4 ∷ colum
 abbrev pub posted_given : Posted → Row
 posted_given p =
     whole p.instance ∷ whole (id_of p.initiator) ∷ whole (purpose_code p.purpose) ∷ whole (verdict_code p.verdict) ∷ []
-
-abbrev pub posted_stored : Posted → Row
-posted_stored p =
-    whole p.instance ∷ Null ∷ whole (id_of p.initiator) ∷ whole (purpose_code p.purpose)
-    ∷ whole (verdict_code p.verdict) ∷ []
 
 abbrev pub posted_shown : Row → Row
 posted_shown r = column r 0 ∷ column r 2 ∷ column r 3 ∷ column r 4 ∷ []
@@ -215,35 +202,6 @@ abbrev pub AreAsSaid : Trees → Type 0
 AreAsSaid db = (c : Content) × Holds db c
 
 -- ---- what is read of a row
-
--- the row shows this node, column by column
-pub record ShowsNode (row : Row) (r : NodeRow) : Type 0 where
-  pub id : column row 0 ≡ whole (id_of r.node)
-  pub incarnation : column row 1 ≡ whole r.incarnation
-  pub permanent : column row 2 ≡ spelled r.permanent
-  pub tentative : column row 3 ≡ checkpoint_value r.tentative
-  pub instance : column row 4 ≡ instance_value r.tentative
-
--- the row shows this instance
-pub record ShowsPosted (row : Row) (p : Posted) : Type 0 where
-  pub instance : column row 0 ≡ whole p.instance
-  pub initiator : column row 1 ≡ whole (id_of p.initiator)
-  pub purpose : column row 2 ≡ whole (purpose_code p.purpose)
-  pub verdict : column row 3 ≡ whole (verdict_code p.verdict)
-
--- this is read, unless memory runs out
-abbrev pub Gives : {X : Type 0} → X → Result X StoreError → Type 0
-Gives x (Ok read) = read ≡ x
-Gives x (Err e) = e ≡ Memory
-
--- what is refused for what the row has
-abbrev pub IsReadError : StoreError → Type 0
-IsReadError e = (e ≡ Memory) ⊎ (e ≡ Damaged)
-
--- the number of the instance, 0 where there is none
-abbrev pub number_of : Option Posted → ℕ
-number_of None = 0
-number_of (Some p) = p.instance
 
 -- the instance's row is this one
 abbrev pub placing : Posted → Content → Content

@@ -1,3 +1,7 @@
 -- What the code alone keeps, and no public clause cites.
 pub mod Both
 pub mod Text
+pub mod Cells
+pub mod Testing
+pub mod Showing
+pub mod Looking

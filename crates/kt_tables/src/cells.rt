@@ -7,7 +7,7 @@ ghost use Rattle.kt_ckpt.specs.Checkpoint.{IsCheckpoint};
 ghost use Rattle.kt_tables.specs.Rows.{bytes_of, spelled, checkpoint_value, instance_value, taken_checkpoint};
 ghost use Rattle.kt_tables.specs.Rows.{taken_instance};
 ghost use Rattle.kt_tables.specs.Rows.{IsLow, IsSpelled, IsNodeRow, IsPosted, purpose_code, verdict_code};
-ghost use Rattle.kt_tables.specs.Cells.{SpellsNode, SpellsPosted};
+ghost use Rattle.kt_tables.specs.inner.Cells.{SpellsNode, SpellsPosted};
 
 use crate::ids::id_of;
 use crate::number::Number;

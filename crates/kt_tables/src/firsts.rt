@@ -4,7 +4,8 @@ ghost use Rattle.std.specs.Prelude.{◌≡◌, ◌==◌, ◌≤◌, Option, opti
 ghost use Rattle.kt_store.specs.declared.rows.NodeRow.{NodeRow as NodeFields};
 ghost use Rattle.kt_store.specs.declared.rows.Posted.{Posted as PostedFields};
 ghost use Rattle.kt_store.specs.Content.{greatest};
-ghost use Rattle.kt_tables.specs.Rows.{node_given, posted_given, IsNodeRow, IsPosted, Gives, IsReadError, number_of};
+ghost use Rattle.kt_tables.specs.Rows.{node_given, posted_given, IsNodeRow, IsPosted};
+ghost use Rattle.kt_tables.specs.inner.Showing.{Gives, IsReadError, number_of};
 
 use crate::rows::{node_row, posted_row};
 use kt_store::{NodeRow, Posted, StoreError};

@@ -10,7 +10,7 @@ ghost use Rattle.kt_store.specs.declared.rows.Posted.{Posted as PostedFields};
 ghost use Rattle.kt_store.specs.Changes.{storing};
 ghost use Rattle.kt_tables.specs.Rows.{IsNodeRow, IsPosted, placing};
 ghost use Rattle.kt_tables.specs.Opened.{IsReady};
-ghost use Rattle.kt_tables.specs.Cells.{SpellsNode, SpellsPosted};
+ghost use Rattle.kt_tables.specs.inner.Cells.{SpellsNode, SpellsPosted};
 ghost use Rattle.sqlite.specs.Given.{IsPlain};
 ghost use Rattle.kt_tables.specs.Reason.{HasReason};
 ghost use Rattle.kt_tables.specs.Schema.{kt_schema};

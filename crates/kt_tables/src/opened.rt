@@ -10,10 +10,12 @@ ghost use Rattle.sqlite.specs.State.{HasCleanDisk, Shown};
 ghost use Rattle.kt_store.specs.declared.rows.NodeRow.{NodeRow as NodeFields};
 ghost use Rattle.kt_store.specs.declared.rows.Posted.{Posted as PostedFields};
 ghost use Rattle.kt_tables.specs.Schema.{kt_schema};
-ghost use Rattle.kt_tables.specs.Settled.{IsSettled, Looks};
+ghost use Rattle.kt_tables.specs.Settled.{IsSettled};
+ghost use Rattle.kt_tables.specs.inner.Looking.{Looks};
 ghost use Rattle.kt_tables.specs.Rows.{whole, HoldsNodes, HoldsBoard};
-ghost use Rattle.kt_tables.specs.Opened.{meta_given, IsVersion1, IsReady, IsNoNode, IsNodeWith, IsNoInstance};
-ghost use Rattle.kt_tables.specs.Opened.{IsInstanceWith, AreNodesFrom, AreInstancesFrom};
+ghost use Rattle.kt_tables.specs.Opened.{meta_given, IsVersion1, IsReady};
+ghost use Rattle.kt_tables.specs.inner.Testing.{IsNoNode, IsNodeWith, IsNoInstance};
+ghost use Rattle.kt_tables.specs.inner.Testing.{IsInstanceWith, AreNodesFrom, AreInstancesFrom};
 
 use crate::ids::id_of;
 use crate::rows::{node_row, posted_row};
@@ -82,6 +84,7 @@ fn is_version_1<S: Alter>(conn: &mut Connection<S>) -> Result<bool, StoreError>
     ensures same { HasCleanDisk (state S.Store conn.new) → IsTrue (state S.Store conn.new).is_open
         → IsSettled (state S.Store conn.old)
         → ((state S.Store conn.new).now ≡ (state S.Store conn.old).now) × IsSettled (state S.Store conn.new) }
+    ensures foreign { (state S.Store conn.old).now.schema ≢ kt_schema → result ≡ Ok false }
     ensures whole { IfErr result (λ e. e ≢ StoreError.Damaged) }
 {
     if !is_kt_schema(conn.schema()) {
@@ -197,6 +200,7 @@ pub(crate) fn tested<S: Alter>(alloc: Global, conn: &mut Connection<S>) -> Resul
         → (state S.Store conn.new).now ≡ (state S.Store conn.old).now }
     ensures damaged { HasCleanDisk (state S.Store conn.new) → result ≡ Err StoreError.Damaged
         → IsVersion1 (state S.Store conn.old).now → ⊥ }
+    ensures foreign { (state S.Store conn.old).now.schema ≢ kt_schema → result ≡ Err StoreError.Damaged }
     ensures mode { (state S.Store conn.old).in_transaction ≡ false → (state S.Store conn.new).in_transaction ≡ false }
 {
     if !is_version_1(conn)? {

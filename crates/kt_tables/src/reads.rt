@@ -89,6 +89,7 @@ impl<S: Alter> Tables<S> {
         ensures trusted { self.new.is_trusted ≡ self.old.is_trusted }
         ensures reason { HasReason (is_sure S.Store self.new) result }
     {
+        // For the proof alone: its clause says that the tables are those of a store.
         let _ = self.allocator();
         let Some(number) = Number::new(instance) else {
             return Ok(None);
@@ -107,6 +108,7 @@ impl<S: Alter> Tables<S> {
         ensures trusted { self.new.is_trusted ≡ self.old.is_trusted }
         ensures reason { HasReason (is_sure S.Store self.new) result }
     {
+        // For the proof alone, as above.
         let _ = self.allocator();
         let Some(id) = id_of(node) else {
             return Ok(None);

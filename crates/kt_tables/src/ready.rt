@@ -3,7 +3,7 @@
 ghost use Rattle.std.specs.Prelude.{◌≡◌, ◌≢◌, false, Err, IfOk, OnOk, OnErr, IsTrue};
 ghost use Rattle.sqlite.specs.Held.{state};
 ghost use Rattle.sqlite.specs.State.{HasCleanDisk};
-ghost use Rattle.kt_tables.specs.Schema.{no_schema};
+ghost use Rattle.kt_tables.specs.Schema.{kt_schema, no_schema};
 ghost use Rattle.kt_tables.specs.Opened.{IsVersion1, IsReady};
 ghost use Rattle.kt_tables.specs.Made.{IsMade};
 
@@ -24,6 +24,8 @@ pub fn readied<S: Alter>(alloc: Global, conn: &mut Connection<S>) -> Result<bool
         → OnOk result ((state S.Store conn.new).now ≡ (state S.Store conn.old).now) }
     ensures damaged { HasCleanDisk (state S.Store conn.new) → result ≡ Err StoreError.Damaged
         → ((state S.Store conn.old).now.schema ≢ no_schema) × (IsVersion1 (state S.Store conn.old).now → ⊥) }
+    ensures foreign { (state S.Store conn.old).now.schema ≢ no_schema → (state S.Store conn.old).now.schema ≢ kt_schema
+        → result ≡ Err StoreError.Damaged }
     ensures unchanged { HasCleanDisk (state S.Store conn.new) → IsTrue (state S.Store conn.new).is_open
         → OnErr result ((state S.Store conn.new).now ≡ (state S.Store conn.old).now) }
     ensures ended { conn.new.in_transaction ≡ false }

@@ -14,7 +14,8 @@ ghost use Rattle.kt_store.specs.Content.{greatest};
 ghost use Rattle.kt_tables.specs.Rows.{whole, id_of, bytes_of, purpose_code, verdict_code, spelled, checkpoint_value};
 ghost use Rattle.kt_tables.specs.Rows.{instance_value, node_given, posted_given};
 ghost use Rattle.kt_tables.specs.Rows.{HasId, taken_checkpoint, taken_instance, IsLow, IsSpelled, IsTaken, IsNodeRow};
-ghost use Rattle.kt_tables.specs.Rows.{IsPosted, ShowsNode, ShowsPosted, Gives, IsReadError};
+ghost use Rattle.kt_tables.specs.Rows.{IsPosted};
+ghost use Rattle.kt_tables.specs.inner.Showing.{ShowsNode, ShowsPosted, Gives, IsReadError};
 
 use crate::ids::node_of;
 use crate::number::GREATEST;

@@ -8,7 +8,7 @@ ghost use Rattle.kt_store.specs.declared.rows.NodeRow.{NodeRow as NodeFields};
 ghost use Rattle.kt_store.specs.declared.rows.Posted.{Posted as PostedFields};
 ghost use Rattle.kt_tables.specs.inner.Text.{put_node_text, put_posted_text};
 ghost use Rattle.kt_tables.specs.Rows.{node_given, posted_given};
-ghost use Rattle.kt_tables.specs.Cells.{SpellsNode, SpellsPosted};
+ghost use Rattle.kt_tables.specs.inner.Cells.{SpellsNode, SpellsPosted};
 ghost use Rattle.kt_tables.specs.inner.Both.{RanBoth};
 
 use crate::cells::{NodeCells, PostedCells};

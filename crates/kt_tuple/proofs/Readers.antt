@@ -5,7 +5,8 @@ use Rattle.std.proofs.lemmas.Bool.{ltb-false}
 use Rattle.std.specs.Prelude.{position}
 use Rattle.std.specs.Char.{is_ascii_digit}
 use Rattle.std.specs.List.{position_or_len}
-use Rattle.kt_tuple.specs.Reading.{is_no_digit, after_digits}
+use Rattle.kt_tuple.specs.Reading.{after_digits}
+use Rattle.kt_tuple.specs.inner.Digits.{is_no_digit}
 
 drop-by_test : (b : Bool) (n c : ℕ) (cs rest : List ℕ) → drop n cs ≡ rest → drop (cond (not (not b)) (1 + n) 0) (c ∷ cs) ≡ cond b rest (c ∷ cs)
 drop-by_test true n c cs rest e =

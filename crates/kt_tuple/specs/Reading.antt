@@ -33,9 +33,6 @@ word_at text [] = Ok text
 word_at [] (w ∷ word) = Err []
 word_at (c ∷ text) (w ∷ word) = if w == c then word_at text word else Err (c ∷ text)
 
-abbrev pub is_no_digit : ℕ → Bool
-is_no_digit c = not (is_ascii_digit c)
-
 abbrev pub begins_with_digit : List ℕ → Bool
 begins_with_digit [] = false
 begins_with_digit (c ∷ cs) = is_ascii_digit c

@@ -7,7 +7,8 @@ ghost use Rattle.std.specs.Prelude.{◌≡◌, ◌≤◌, ℕ, List, length, tak
 ghost use Rattle.std.specs.Option.{option_map};
 ghost use Rattle.kt_tuple.specs.Reading.{Gives, word_at, after_digits, after_positive, split_before, int_at};
 ghost use Rattle.kt_tuple.specs.Reading.{after_characters, str_at, value_at, formal_at, place_at, after_place};
-ghost use Rattle.kt_tuple.specs.Reading.{is_no_digit, is_printable, int_of, has_range, is_short, value_of};
+ghost use Rattle.kt_tuple.specs.Reading.{is_printable, int_of, has_range, is_short, value_of};
+ghost use Rattle.kt_tuple.specs.inner.Digits.{is_no_digit};
 ghost use Rattle.kt_tuple.specs.Reading.{place_of, between_quotes, characters_of, str_of, is_escape};
 
 use crate::string::{MAX_CHARACTERS, Str};

@@ -10,7 +10,8 @@ use Rattle.std.proofs.lemmas.List.Quantifiers.{all_pairs_push}
 use Rattle.kt_tuple.specs.declared.node.NodeId.{NodeId}
 use Rattle.kt_vote.specs.declared.asker.Asker.{Asker}
 use Rattle.kt_vote.specs.declared.vote.Vote.{Vote}
-use Rattle.kt_vote.specs.Order.{AreAsked, IsBefore, IsInOrder}
+use Rattle.kt_vote.specs.Order.{IsBefore, IsInOrder}
+use Rattle.kt_vote.specs.inner.Asked.{AreAsked}
 use Rattle.kt_vote.specs.Poll.{Poll, asked_too, asking_poll}
 use Rattle.kt_vote.specs.Counting.{IsAfter, is_no, said}
 

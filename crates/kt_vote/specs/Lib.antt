@@ -1,3 +1,4 @@
 pub mod Order
 pub mod Poll
 pub mod Counting
+pub mod inner

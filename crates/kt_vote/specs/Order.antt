@@ -1,5 +1,5 @@
 -- The order of nodes: first the workers, then the shards, each by their numbers.
-use Rattle.std.specs.Prelude.{◌<◌, List, All, AllPairs, Contains, ⊤}
+use Rattle.std.specs.Prelude.{◌<◌, List, AllPairs, ⊤}
 use Rattle.kt_tuple.specs.declared.node.NodeId.{NodeId}
 use Rattle.kt_tuple.specs.declared.node.NodeId.TheVariants.{Worker, Shard}
 
@@ -13,8 +13,3 @@ IsBefore (Shard m) (Shard n) = m < n
 -- each comes before all later ones, so none stands twice
 abbrev pub IsInOrder : List NodeId → Type 0
 IsInOrder nodes = AllPairs IsBefore nodes
-
--- these were asked, in node order, and those that are awaited are among them
-pub record AreAsked (asked awaited : List NodeId) : Type 0 where
-  pub in_order : IsInOrder asked
-  pub among : All (Contains asked) awaited

@@ -24,7 +24,7 @@ pub struct Ballot {
 }
 
 impl Model for Ballot {
-    ghost use Rattle.kt_vote.specs.Order.{AreAsked};
+    ghost use Rattle.kt_vote.specs.inner.Asked.{AreAsked};
     ghost use Rattle.kt_vote.specs.Poll.{Poll};
 
     ghost Value = { Poll };

@@ -34,7 +34,7 @@ use Rattle.kt_node.specs.Talking.{hearing, note_of, issue_plan, repeat_plan, ser
 use Rattle.kt_world.specs.Cast.{Cast, script_at, is_worker, is_shard, are_neighbours}
 use Rattle.kt_world.specs.State.{State, role_of, view}
 use Rattle.kt_world.specs.Asks.{script_numbered}
-use Rattle.kt_world.specs.Ready.{IsNodeReady, IsReady}
+use Rattle.kt_world.specs.inner.Ready.{IsNodeReady, IsReady}
 use Rattle.kt_world.proofs.Plans.{IsAlive, Comes}
 use Rattle.kt_world.specs.Like.{IsBodyLike, IsWorkerLike, IsShardLike}
 use Rattle.kt_world.proofs.Sound.{IsRequestOf, IsReplyOf, SaysSo, Carries, KeepsSo, NodeSoundIn, IsSound}

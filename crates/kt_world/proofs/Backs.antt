@@ -39,7 +39,7 @@ use Rattle.kt_world.specs.Limits.{most_steps}
 use Rattle.kt_world.specs.State.{State, node, link_place}
 use Rattle.kt_world.specs.Writing.{content_after}
 use Rattle.kt_world.specs.Effect.{taken_off, applied}
-use Rattle.kt_world.specs.Backed.{IsTakenIn, IsPhaseBacked, IsNodeBacked, IsBoards, IsBacked, IsAllowed, HasNumbers}
+use Rattle.kt_world.specs.inner.Backed.{IsTakenIn, IsPhaseBacked, IsNodeBacked, IsBoards, IsBacked, IsAllowed, HasNumbers}
 use Rattle.kt_world.proofs.Plans.{IsAlive, IsDown, Comes}
 use Rattle.kt_world.proofs.OnLinks.{taken_off-was, sent-cases, first-holds}
 use Rattle.kt_world.proofs.Frames.{applied-rows}

@@ -19,7 +19,7 @@ use Rattle.kt_world.specs.Limits.{most_steps}
 use Rattle.kt_world.specs.Cast.{is_node}
 use Rattle.kt_world.specs.State.{State}
 use Rattle.kt_world.specs.Effect.{applied}
-use Rattle.kt_world.specs.Ready.{AreNeighbours, IsReady, CanApply}
+use Rattle.kt_world.specs.inner.Ready.{AreNeighbours, IsReady, CanApply}
 use Rattle.kt_world.proofs.Plans as plans
 use Rattle.kt_world.proofs.Plans.{IsAlive, Comes, Votes, PlanOf}
 use Rattle.kt_world.proofs.Scene.{neighbour-node, neighbours-turned}

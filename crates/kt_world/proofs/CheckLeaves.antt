@@ -27,7 +27,7 @@ use Rattle.kt_world.specs.declared.step.Step.TheVariants.{Learn}
 use Rattle.kt_world.specs.Cast.{Cast}
 use Rattle.kt_world.specs.State.{State, view}
 use Rattle.kt_world.specs.Told.{of_poll, to_learn, verdict_for}
-use Rattle.kt_world.specs.Backed.{IsTakenIn, IsBacked}
+use Rattle.kt_world.specs.inner.Backed.{IsTakenIn, IsBacked}
 use Rattle.kt_world.proofs.Plans.{IsAlive, Comes}
 use Rattle.kt_world.specs.Like.{HoldsFront, IsNotNo}
 use Rattle.kt_world.proofs.Sound.{IsStored, IsSound, SendWell}

@@ -25,7 +25,8 @@ use Rattle.kt_world.specs.declared.told.Told.{Told}
 use Rattle.kt_world.specs.Step.{owner}
 use Rattle.kt_world.specs.State.{State, link, view}
 use Rattle.kt_world.specs.Told.{told, tentative_in, stored_of, of_ask, of_poll, of_first, to_learn}
-use Rattle.kt_world.specs.Needs.{told_by, no_needs, needs_in, needs_of, for_check, for_decide, if_initiator}
+use Rattle.kt_world.specs.Needs.{no_needs, needs_in, needs_of, for_check, for_decide, if_initiator}
+use Rattle.kt_world.specs.inner.Telling.{told_by}
 use Rattle.kt_world.specs.Needs.{for_abandon, for_learn, if_learner, for_fail, for_restart, if_restarter, for_ask}
 use Rattle.kt_world.specs.Needs.{for_verdict, if_participant, for_message, for_first}
 use Rattle.kt_world.specs.Cast.{is_in_scene}

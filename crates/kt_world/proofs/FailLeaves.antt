@@ -27,7 +27,7 @@ use Rattle.kt_node.specs.Failing.{fail_plan, line_left}
 use Rattle.kt_node.specs.Turning.{changed}
 use Rattle.kt_world.specs.declared.step.Step.TheVariants.{Learn}
 use Rattle.kt_world.specs.Cast.{Cast, is_node}
-use Rattle.kt_world.specs.Ready.{IsReady}
+use Rattle.kt_world.specs.inner.Ready.{IsReady}
 use Rattle.kt_world.specs.State.{State, node, view}
 use Rattle.kt_world.specs.Told.{marks_in, tentative_in, stored_of, to_learn, verdict_for}
 use Rattle.kt_world.specs.Writing.{content_after}

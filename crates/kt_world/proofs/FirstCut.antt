@@ -40,7 +40,7 @@ use Rattle.kt_world.specs.Cast.{Cast, IsCast, is_node, is_shard}
 use Rattle.kt_world.specs.State.{State, node, link_place, role_of, view}
 use Rattle.kt_world.specs.Effect.{taken_off, noted, applied}
 use Rattle.kt_world.specs.Reached.{opening}
-use Rattle.kt_world.specs.Ready.{IsReady}
+use Rattle.kt_world.specs.inner.Ready.{IsReady}
 use Rattle.kt_world.specs.Headline.{HasCut, IsFailure}
 use Rattle.kt_world.proofs.Plans as plans
 use Rattle.kt_world.proofs.Plans.{IsAlive, IsDown, Comes, Votes, PlanOf}

@@ -44,8 +44,8 @@ use Rattle.kt_world.specs.Cast.{Cast}
 use Rattle.kt_world.specs.State.{State, node, role_of, view}
 use Rattle.kt_world.specs.Effect.{noted, applied}
 use Rattle.kt_world.specs.Writing.{content_after}
-use Rattle.kt_world.specs.Backed.{IsBacked}
-use Rattle.kt_world.specs.Ready.{IsBodyReady, IsReady}
+use Rattle.kt_world.specs.inner.Backed.{IsBacked}
+use Rattle.kt_world.specs.inner.Ready.{IsBodyReady, IsReady}
 use Rattle.kt_world.specs.Reached.{opening}
 use Rattle.kt_world.specs.Told.{told}
 use Rattle.kt_world.proofs.Plans as plans

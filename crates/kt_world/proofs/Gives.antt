@@ -16,7 +16,7 @@ use Rattle.kt_node.specs.Node.{Role, Live, Alive}
 use Rattle.kt_node.specs.State.{body_at}
 use Rattle.kt_node.specs.Stored.{fits, marks_fit}
 use Rattle.kt_world.specs.Cut.{acts_held}
-use Rattle.kt_world.specs.Ready.{IsReady}
+use Rattle.kt_world.specs.inner.Ready.{IsReady}
 use Rattle.kt_world.specs.State.{State, role_of, view}
 use Rattle.kt_world.specs.Told.{tentative_in}
 use Rattle.kt_world.specs.Told as tells

@@ -30,7 +30,7 @@ use Rattle.kt_world.specs.Limits.{most_steps}
 use Rattle.kt_world.specs.Cast.{Cast, is_node}
 use Rattle.kt_world.specs.State.{State, node, link_place, role_of, view}
 use Rattle.kt_world.specs.Effect.{noted, taken_off, applied}
-use Rattle.kt_world.specs.Ready.{AreNeighbours, IsBodyReady, IsMessageReady, IsPhaseReady, IsKeptReady, IsLiveReady, IsNodeReady, IsReady, CanApply}
+use Rattle.kt_world.specs.inner.Ready.{AreNeighbours, IsBodyReady, IsMessageReady, IsPhaseReady, IsKeptReady, IsLiveReady, IsNodeReady, IsReady, CanApply}
 use Rattle.kt_world.proofs.Plans.{IsAlive}
 use Rattle.kt_world.proofs.OnLinks.{Contains-tail, taken_off-was, sent-cases}
 use Rattle.kt_world.proofs.Frames.{applied-rows, put-holds}

@@ -23,7 +23,7 @@ use Rattle.kt_lines.specs.Cause.{cause_of_waiting}
 use Rattle.kt_lines.proofs.Shared.{cause_of_waiting-named}
 use Rattle.kt_world.specs.Cast.{is_worker, is_shard, is_node}
 use Rattle.kt_world.specs.State.{State, role_of, view}
-use Rattle.kt_world.specs.Ready.{AreNeighbours, IsBodyReady, IsMessageReady, NamesAct, IsReady}
+use Rattle.kt_world.specs.inner.Ready.{AreNeighbours, IsBodyReady, IsMessageReady, NamesAct, IsReady}
 use Rattle.kt_world.proofs.Plans.{IsAlive, Comes}
 use Rattle.kt_world.proofs.Scene.{role-id, worker-node, shard-node, neighbour-place, home-neighbour, worker-neighbour}
 use Rattle.kt_world.proofs.Growing.{next-act}

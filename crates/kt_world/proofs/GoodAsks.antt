@@ -37,7 +37,7 @@ use Rattle.kt_node.specs.Failing.{line_left, fail_plan, restarting_plan}
 use Rattle.kt_node.proofs.Shared.{can-stay}
 use Rattle.kt_world.specs.Cast.{is_node}
 use Rattle.kt_world.specs.State.{State, role_of, view}
-use Rattle.kt_world.specs.Ready.{AreNeighbours, IsPollReady, IsPhaseReady, IsReady}
+use Rattle.kt_world.specs.inner.Ready.{AreNeighbours, IsPollReady, IsPhaseReady, IsReady}
 use Rattle.kt_world.proofs.Plans.{IsAlive, Votes}
 use Rattle.kt_world.proofs.Scene.{role-id}
 use Rattle.kt_lines.proofs.Shared.{all-append}

@@ -17,7 +17,7 @@ use Rattle.kt_node.specs.Node.{Body, IsWorker, IsShard, Live, Node, Down, Alive}
 use Rattle.kt_world.specs.Cast.{Cast}
 use Rattle.kt_world.specs.State.{role_of}
 use Rattle.kt_world.specs.Effect.{noted}
-use Rattle.kt_world.specs.Ready.{IsBodyReady, NamesAct, IsMessageReady, IsKeptReady, IsLiveReady, IsNodeReady}
+use Rattle.kt_world.specs.inner.Ready.{IsBodyReady, NamesAct, IsMessageReady, IsKeptReady, IsLiveReady, IsNodeReady}
 
 pub act-noted : (h : List Note) (note : Option Note) (n : ℕ) → IsAct h n → IsAct (noted h note) n
 act-noted h None n a = a

@@ -26,8 +26,8 @@ use Rattle.kt_world.specs.Judge.{IsUndamaged, planned}
 use Rattle.kt_world.specs.Effect.{applied, applied_if, step_result}
 use Rattle.kt_world.specs.Reached.{IsReached, opening, or_as_it_was, next_state, after}
 use Rattle.kt_world.specs.Short.{AreShort}
-use Rattle.kt_world.specs.Ready.{IsReady}
-use Rattle.kt_world.specs.Backed.{IsBacked}
+use Rattle.kt_world.specs.inner.Ready.{IsReady}
+use Rattle.kt_world.specs.inner.Backed.{IsBacked}
 use Rattle.kt_world.specs.Headline.{may_forget, HasOneRun, IsWhole, NotesOneAtMost, LineAfter, HasCut, IsFailure, IsNoted}
 use Rattle.kt_world.specs.Workers.{WorkersFollowLines}
 use Rattle.kt_world.proofs.Plans.{PlanOf}

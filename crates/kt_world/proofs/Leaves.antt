@@ -27,7 +27,7 @@ use Rattle.kt_node.specs.Joining.{is_in_cohort, cohort, check_asks, roll_asks}
 use Rattle.kt_node.specs.Learning.{verdict_to}
 use Rattle.kt_world.specs.Cast.{Cast, is_node}
 use Rattle.kt_world.specs.State.{State, role_of, view}
-use Rattle.kt_world.specs.Ready.{AreNeighbours, IsWithin, IsBodyReady, IsMessageReady, IsPollReady, IsPhaseReady, IsReady}
+use Rattle.kt_world.specs.inner.Ready.{AreNeighbours, IsWithin, IsBodyReady, IsMessageReady, IsPollReady, IsPhaseReady, IsReady}
 use Rattle.kt_world.proofs.Plans as plans
 use Rattle.kt_world.proofs.Plans.{IsAlive, Votes}
 use Rattle.kt_world.proofs.Scene.{role-id, across-neighbour}

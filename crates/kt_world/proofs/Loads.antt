@@ -40,7 +40,7 @@ use Rattle.kt_node.specs.State.{standing_from, are_of_scene, shard_fits, worker_
 use Rattle.kt_node.specs.Loading.{marks_in, loaded_from, loaded_by, load}
 use Rattle.kt_world.specs.Cast.{Cast, script_at}
 use Rattle.kt_world.specs.State.{State, role_of, view}
-use Rattle.kt_world.specs.Ready.{IsWithin, IsBodyReady, IsLiveReady, IsReady}
+use Rattle.kt_world.specs.inner.Ready.{IsWithin, IsBodyReady, IsLiveReady, IsReady}
 use Rattle.kt_world.specs.Short.{IsShort, AreShort}
 
 -- ---- lines are no longer than the history

@@ -14,10 +14,10 @@ use Rattle.kt_node.specs.Node.{Node, opening_node, opening_body, node_number}
 use Rattle.kt_world.specs.Limits.{rows}
 use Rattle.kt_world.specs.Cast.{Cast, IsCast, is_node}
 use Rattle.kt_world.specs.State.{node, role_of}
-use Rattle.kt_world.specs.Ready.{IsNodeReady, IsReady}
+use Rattle.kt_world.specs.inner.Ready.{IsNodeReady, IsReady}
 use Rattle.kt_world.specs.Short.{AreShort}
 use Rattle.kt_store.specs.Content.{empty_content, row_of}
-use Rattle.kt_world.specs.Backed.{IsNodeBacked, IsBacked}
+use Rattle.kt_world.specs.inner.Backed.{IsNodeBacked, IsBacked}
 use Rattle.kt_world.specs.Reached.{opening_row, opening_rows, opening}
 use Rattle.kt_world.proofs.Scene.{IsNode, a_worker, a_shard, of_node}
 use Rattle.kt_world.proofs.Loads.{opening-body, fresh-ready}

@@ -28,8 +28,8 @@ use Rattle.kt_node.specs.Turning.{changed}
 use Rattle.kt_world.specs.State.{State, node, view}
 use Rattle.kt_world.specs.Told.{tentative_in, stored_of}
 use Rattle.kt_world.specs.Writing.{content_after}
-use Rattle.kt_world.specs.Ready.{IsReady}
-use Rattle.kt_world.specs.Backed.{IsBacked}
+use Rattle.kt_world.specs.inner.Ready.{IsReady}
+use Rattle.kt_world.specs.inner.Backed.{IsBacked}
 use Rattle.kt_world.proofs.Plans.{IsAlive}
 use Rattle.kt_world.specs.Cut.{acts_held}
 use Rattle.kt_world.specs.Like.{IsBodyLike, HoldsFront}

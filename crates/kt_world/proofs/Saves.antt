@@ -21,7 +21,7 @@ use Rattle.kt_node.specs.Ready.{CanCount, CanSpeak, KeptHavePlaces, CanAct}
 use Rattle.kt_node.specs.Saving.{CanSave, CanSaveNode}
 use Rattle.kt_world.specs.Cast.{is_node}
 use Rattle.kt_world.specs.State.{State, node, role_of, view}
-use Rattle.kt_world.specs.Ready.{IsBodyReady, IsReady}
+use Rattle.kt_world.specs.inner.Ready.{IsBodyReady, IsReady}
 use Rattle.kt_world.proofs.Plans.{IsAlive, IsDown}
 use Rattle.kt_world.proofs.Passed.{alive-is}
 use Rattle.kt_world.proofs.Scene.{IsNode, a_worker, a_shard, of_node, some_peers, few_peers, neighbour-place}

@@ -16,7 +16,7 @@ use Rattle.kt_node.specs.Ready.{HasPlace}
 use Rattle.kt_world.specs.Limits.{rows, most_of_a_kind}
 use Rattle.kt_world.specs.Cast.{Cast, IsCast, script_at, is_worker, is_shard, is_node, is_among}
 use Rattle.kt_world.specs.State.{role_of}
-use Rattle.kt_world.specs.Ready.{AreNeighbours}
+use Rattle.kt_world.specs.inner.Ready.{AreNeighbours}
 use Rattle.kt_link.proofs.Shared.{among-is, among-true}
 
 slice_get-some : {X : Type 0} (xs : List X) (k : ℕ) → is_some (slice_get xs k) ≡ true → k < length xs

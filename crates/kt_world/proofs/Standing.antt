@@ -10,8 +10,8 @@ use Rattle.kt_world.specs.State.{State}
 use Rattle.kt_world.specs.Told.{told}
 use Rattle.kt_world.specs.Judge.{planned_by, planned}
 use Rattle.kt_world.specs.Effect.{applied}
-use Rattle.kt_world.specs.Ready.{IsReady, CanApply}
-use Rattle.kt_world.specs.Backed.{IsBacked, IsAllowed, HasNumbers}
+use Rattle.kt_world.specs.inner.Ready.{IsReady, CanApply}
+use Rattle.kt_world.specs.inner.Backed.{IsBacked, IsAllowed, HasNumbers}
 use Rattle.kt_world.proofs.PlansFound.{plan-found, plan-few}
 use Rattle.kt_world.proofs.CanApplies.{can_apply, stays_ready}
 use Rattle.kt_world.proofs.Backs.{numbers-left}

@@ -36,7 +36,7 @@ use Rattle.kt_world.specs.State.{State, role_of, view}
 use Rattle.kt_world.specs.Told.{told, of_poll, to_learn}
 use Rattle.kt_world.specs.Effect.{applied}
 use Rattle.kt_world.specs.Writing.{content_after}
-use Rattle.kt_world.specs.Backed.{IsTakenIn, IsPhaseBacked, IsBacked, IsAllowed}
+use Rattle.kt_world.specs.inner.Backed.{IsTakenIn, IsPhaseBacked, IsBacked, IsAllowed}
 use Rattle.kt_world.proofs.Plans as plans
 use Rattle.kt_world.proofs.Plans.{IsAlive, IsDown, Votes, PlanOf}
 use Rattle.kt_lines.proofs.Shared.{all-append}

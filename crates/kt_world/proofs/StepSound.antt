@@ -7,8 +7,8 @@ use Rattle.kt_world.specs.Step.{owner}
 use Rattle.kt_world.specs.State.{State}
 use Rattle.kt_world.specs.Told.{told}
 use Rattle.kt_world.specs.Effect.{applied}
-use Rattle.kt_world.specs.Ready.{IsReady}
-use Rattle.kt_world.specs.Backed.{IsBacked}
+use Rattle.kt_world.specs.inner.Ready.{IsReady}
+use Rattle.kt_world.specs.inner.Backed.{IsBacked}
 use Rattle.kt_world.proofs.Plans as plans
 use Rattle.kt_world.proofs.Plans.{PlanOf}
 use Rattle.kt_world.proofs.Sound.{IsSound}

@@ -49,7 +49,7 @@ use Rattle.kt_world.specs.Cast.{is_in_scene}
 use Rattle.kt_world.specs.declared.told.Told.{Told}
 use Rattle.kt_world.specs.Step.{owner}
 use Rattle.kt_world.specs.Judge.{IsUndamaged, delivery, due, hear, of_owner, of_scene}
-use Rattle.kt_world.specs.Ready.{IsReady}
+use Rattle.kt_world.specs.inner.Ready.{IsReady}
 use Rattle.kt_world.specs.State.{State, link, role_of, view}
 use Rattle.kt_world.specs.Told.{stored_of, tentative_in, told}
 use Rattle.kt_world.proofs.Sound.{IsSound}

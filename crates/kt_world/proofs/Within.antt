@@ -25,7 +25,7 @@ use Rattle.kt_space.specs.Picking.{without_match}
 use Rattle.kt_shard.specs.Service.{left_by}
 use Rattle.kt_worker.specs.declared.worker.Worker.{Worker}
 use Rattle.kt_worker.specs.Standing.{unless_asked, asking, issued, heard}
-use Rattle.kt_world.specs.Ready.{IsWithin}
+use Rattle.kt_world.specs.inner.Ready.{IsWithin}
 use Rattle.kt_script.proofs.Shared.{length-with_held}
 
 -- ---- as many values as before

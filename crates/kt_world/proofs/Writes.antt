@@ -6,14 +6,15 @@ use Rattle.kt_tuple.specs.declared.node.NodeId.{NodeId}
 use Rattle.kt_tuple.specs.Node.{node_eq}
 use Rattle.kt_store.specs.declared.rows.NodeRow.{NodeRow}
 use Rattle.kt_store.specs.declared.rows.Purpose.TheVariants as purposes
-use Rattle.kt_store.specs.Content.{Content, IsBoard, greatest, next_instance, row_or, row_of}
+use Rattle.kt_store.specs.Content.{Content, greatest, next_instance, row_or, row_of}
+use Rattle.kt_store.specs.inner.Rising.{IsBoard}
 use Rattle.kt_store.specs.Changes.{storing, taken, decided, promoted_from}
 use Rattle.kt_store.specs.Others.{OtherNodesStay}
 use Rattle.kt_store.proofs.Shared.{others_stay_of, own_row, stored_is_read, nodes_stay}
 use Rattle.kt_node.specs.declared.plan.Write.{Write}
 use Rattle.kt_node.specs.declared.plan.Write.TheVariants as writes
 use Rattle.kt_world.specs.Writing.{content_after}
-use Rattle.kt_world.specs.Backed.{IsAllowed}
+use Rattle.kt_world.specs.inner.Backed.{IsAllowed}
 use Rattle.kt_world.proofs.Boards.{Says, begun-says, decided-says, begun-board, decided-board, begun-next, decided-next}
 
 -- ---- rows

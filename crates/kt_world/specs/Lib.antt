@@ -11,11 +11,10 @@ pub mod Judge
 pub mod Writing
 pub mod Effect
 pub mod Reached
-pub mod Ready
-pub mod Backed
 pub mod Workers
 pub mod Cut
 pub mod Like
 pub mod PermanentRun
 pub mod Headline
 pub mod Forced
+pub mod inner

@@ -2,8 +2,6 @@
 -- without.
 use Rattle.std.specs.Prelude.{ℕ, ◌==◌, Bool, true, false, ◌&&◌, if◌then◌else◌, List, [], ◌∷◌, Option, None, Some}
 use Rattle.kt_tuple.specs.declared.node.NodeId.{NodeId}
-use Rattle.kt_store.specs.declared.rows.Verdict.{Verdict}
-use Rattle.kt_store.specs.Content.{Content, next_instance, open_of, permanent_marks, row_of, verdict_of, verdict_on}
 use Rattle.kt_vote.specs.declared.asker.Asker.{Asker}
 use Rattle.kt_vote.specs.Poll.{Poll}
 use Rattle.kt_node.specs.declared.message.Message.{Message}
@@ -16,12 +14,10 @@ use Rattle.kt_world.specs.declared.step.Step.{Step}
 use Rattle.kt_world.specs.declared.step.Step.TheVariants.{Issue, Repeat, Deliver, Take, Serve, Check, Decide, Abandon}
 use Rattle.kt_world.specs.declared.step.Step.TheVariants.{Learn, Fail, Restart}
 use Rattle.kt_world.specs.declared.needs.Needs.{Needs}
-use Rattle.kt_world.specs.declared.needs.Question.{Question}
 use Rattle.kt_world.specs.declared.needs.Question.TheVariants as questions
 use Rattle.kt_world.specs.declared.told.Told.{Told}
 use Rattle.kt_world.specs.Cast.{is_in_scene}
 use Rattle.kt_world.specs.State.{State, link, view}
-use Rattle.kt_world.specs.Told.{tentative_in, stored_of}
 
 -- ---- what is told where only this is asked for
 
@@ -36,21 +32,6 @@ no_told = record {
   stored = nothing_stored;
   undecided = None;
   next = 1;
-}
-
-abbrev pub answer_to : Content → NodeId → Question → Option Verdict
-answer_to c p questions.Nothing = None
-answer_to c p (questions.Of instance) = verdict_of c instance
-answer_to c p questions.OfTentative = verdict_on c (row_of c p).tentative
-
-abbrev pub told_by : Needs → Content → NodeId → Told
-told_by needs c p = record {
-  verdict = answer_to c p needs.verdict;
-  permanent = if needs.permanent then permanent_marks c p else None;
-  tentative = if needs.tentative then tentative_in c p else None;
-  stored = if needs.stored then stored_of c p else nothing_stored;
-  undecided = if needs.undecided then open_of c p else None;
-  next = if needs.next then next_instance c else 1;
 }
 
 -- ---- what the rule of each step needs

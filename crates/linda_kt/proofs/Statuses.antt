@@ -7,7 +7,6 @@ use Rattle.clap.specs.declared.error.kind.ErrorKind.TheVariants as kind
 use Rattle.kt_scene.specs.declared.fault.ReplayFault.{ReplayFault}
 use Rattle.kt_scene.specs.declared.fault.ReplayFault.TheVariants as faults
 use Rattle.kt_scene.specs.Outside.{Reader, Writer}
-use Rattle.kt_store.specs.Content.{Content}
 use Rattle.kt_store.specs.declared.store.CkptStore.{Ghosts}
 use Rattle.kt_scene.specs.Run.{Given, WritesReplayed, WritesReplayedFront, LeavesWriter, IsReplayFault}
 use Rattle.kt_scene.specs.Stream.{UnlessWrite}
@@ -18,8 +17,11 @@ use Rattle.kt_run.specs.declared.fault.RunTextFault.{RunTextFault}
 use Rattle.kt_run.specs.declared.fault.RunTextFault.TheVariants as texts
 use Rattle.kt_run.specs.declared.running.Output.{Output}
 use Rattle.kt_run.specs.Run.{IsRunTextFault, UnlessFront, WritesRun, WritesRunFront}
-use Rattle.linda_kt.specs.Status.{Ends, EndsCommand, EndsInFile, EndsOver, EndsRun, IsRunStatus, LeavesRunWriter, answer_status, done, given_of}
-use Rattle.linda_kt.specs.Status.{in_memory, opened, ran, refused, run_answer_status, stopped, unopened}
+use Rattle.linda_kt.specs.Status.{Ends, EndsCommand, EndsInFile, EndsLeaving, EndsOver, EndsRun, IsRunStatus, LeavesRunWriter, done}
+use Rattle.linda_kt.specs.inner.Answers.{answer_status}
+use Rattle.linda_kt.specs.Status.{EndsInMemory, opened, ran, refused, stopped, unopened}
+use Rattle.kt_store.specs.Content.{Content}
+use Rattle.linda_kt.specs.inner.Answers.{run_answer_status}
 use Rattle.linda_kt.specs.Words.{words_fault}
 
 only_memory : (e : Error) → HasKind [] e → kind_of e ≡ kind.OutOfMemory
@@ -64,7 +66,7 @@ module _ {S : Type 0} (given : Given S) where
 
   -- the same of a run
   leaves_run_writer : (output : Output) (before after : Reader) (old new : Writer) (fault : RunTextFault) → UnlessFront fault (new ≡ old)
-      → (fault ≡ texts.Text faults.Write → WritesRunFront given.is_honest output before after old new)
+      → (fault ≡ texts.Text faults.Write → WritesRunFront given output before after old new)
       → LeavesRunWriter given output before after old new fault
   leaves_run_writer output before after old new (texts.Text (faults.Scene line cause)) kept front = kept
   leaves_run_writer output before after old new (texts.Text (faults.Step at cause)) kept front = kept
@@ -77,23 +79,23 @@ module _ {S : Type 0} (given : Given S) where
 
   -- the status of what a run over a store answers
   pub run_told : {X : Type 0} (output : Output) (before after : Reader) (old new : Writer) (answer : Result X RunTextFault) (n : ℕ)
-      → n ≡ run_answer_status answer → OnOk answer (WritesRun given.is_honest output before after old new)
-      → (answer ≡ Err (texts.Text faults.Write) → WritesRunFront given.is_honest output before after old new)
-      → IfErr answer (IsRunTextFault given.is_honest given.fault_count before after) → IfErr answer (λ fault. UnlessFront fault (new ≡ old))
+      → n ≡ run_answer_status answer → OnOk answer (WritesRun given output before after old new)
+      → (answer ≡ Err (texts.Text faults.Write) → WritesRunFront given output before after old new)
+      → IfErr answer (IsRunTextFault given before after) → IfErr answer (λ fault. UnlessFront fault (new ≡ old))
       → EndsRun given output before after old new n
   run_told output before after old new (Ok x) n is written front fault nothing = ran is written
   run_told output before after old new (Err why) n is written front fault nothing =
       stopped why fault (leaves_run_writer output before after old new why nothing (λ same. front (ap (λ (f : RunTextFault). Err f) same))) is
 
 -- a store in memory, fresh or not
-abbrev pub memory_store : Bool → Given Content
-memory_store fresh = record { is_honest = λ store. true; fault_count = λ store. 0; fresh = fresh; before = 0 }
+abbrev pub memory_store : Content → Bool → Given (Unit {0})
+memory_store left fresh = record { content = λ _. left; is_honest = λ _. true; fault_count = λ _. 0; fresh = fresh; before = 0 }
 
 -- a fresh one is the program's
-pub in_memory_told : (command : Command) (fresh : Bool) (before after : Reader) (old new : Writer) (n : ℕ) → fresh ≡ true
-    → EndsCommand (memory_store fresh) command before after old new n → EndsCommand in_memory command before after old new n
-in_memory_told command fresh before after old new n e ends =
-    subst (λ (b : Bool). EndsCommand (memory_store b) command before after old new n) e ends
+pub in_memory_told : (left : Content) (command : Command) (fresh : Bool) (before after : Reader) (old new : Writer) (n : ℕ) → fresh ≡ true
+    → EndsCommand (memory_store left fresh) command before after old new n → EndsInMemory command before after old new n
+in_memory_told left command fresh before after old new n e ends =
+    record { left = left; ends = subst (λ (b : Bool). EndsCommand (memory_store left b) command before after old new n) e ends }
 
 refused_is_not_opened : {S : Type 0} (store : S) (why : SqlOpenError) → Ok store ≡ Err why → ⊥
 refused_is_not_opened store why e = cc
@@ -101,7 +103,7 @@ refused_is_not_opened store why e = cc
 -- the status over the store that an opening answers
 pub file_told : {S : Type 0} (files : Ghosts S) (command : Command) (path : Text) (before after : Reader) (old new : Writer) (n : ℕ)
     (answer : Result S SqlOpenError) → (path ≡ codes ":memory:" → answer ≡ Err Device) → IfOk answer (λ store. files.fault_count store ≡ 0)
-    → IfOk answer (λ store. EndsCommand (given_of files store) command before after old new n)
+    → IfOk answer (λ store. EndsLeaving files store command before after old new n)
     → IfErr answer (λ e. n ≡ 5) → IfErr answer (λ e. after ≡ before) → IfErr answer (λ e. new ≡ old)
     → EndsInFile files command path before after old new n
 file_told files command path before after old new n (Ok store) memory faultless ends status unread unwritten =
@@ -110,7 +112,7 @@ file_told files command path before after old new n (Err why) memory faultless e
 
 module _ {S : Type 0} (files : Ghosts S) (before after : Reader) (old new : Writer) (n : ℕ) where
   -- how a command ends where no file is named, and where one is
-  pub ends_in_memory : (command : Command) (store : Option (Bor Text)) → store ≡ None → EndsCommand in_memory command before after old new n
+  pub ends_in_memory : (command : Command) (store : Option (Bor Text)) → store ≡ None → EndsInMemory command before after old new n
       → Ends files command (option_map (λ (s : Bor Text). s.now) store) before after old new n
   ends_in_memory command store none ends =
       subst (λ (o : Option (Bor Text)). Ends files command (option_map (λ (s : Bor Text). s.now) o) before after old new n) (sym none) ends

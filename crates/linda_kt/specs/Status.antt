@@ -1,5 +1,5 @@
 -- How a run ends.
-use Rattle.std.specs.Prelude.{◌≡◌, ◌≢◌, ◌⊎◌, ℕ, true, List, Result, Ok, Err, Option, None, Some, codes}
+use Rattle.std.specs.Prelude.{◌≡◌, ◌≢◌, ◌⊎◌, ℕ, true, List, Option, None, Some, codes}
 use Rattle.clap.specs.Words.{Text}
 use Rattle.kt_store.specs.Content.{Content}
 use Rattle.kt_store.specs.declared.store.CkptStore.{Ghosts}
@@ -10,7 +10,7 @@ use Rattle.kt_core.specs.declared.world.OpenError.TheVariants as opens
 use Rattle.kt_scene.specs.declared.fault.SceneError.{SceneError}
 use Rattle.kt_scene.specs.declared.fault.SceneError.TheVariants as scene
 use Rattle.kt_scene.specs.Outside.{Reader, Writer}
-use Rattle.kt_scene.specs.Run.{Given, given_by, WritesReplayed, IsReplayFault, LeavesWriter}
+use Rattle.kt_scene.specs.Run.{Given, left_by, WritesReplayed, IsReplayFault, LeavesWriter}
 use Rattle.kt_scene.specs.declared.fault.ReplayFault.{ReplayFault}
 use Rattle.kt_scene.specs.declared.fault.ReplayFault.TheVariants.{Scene, Step, Open, Report, Memory, Read, Write}
 use Rattle.kt_stage.specs.declared.running.RunFault.{RunFault}
@@ -51,11 +51,6 @@ status_of Memory = 6
 status_of Read = 7
 status_of Write = 7
 
--- the exit status that tells of what a replay answers
-abbrev pub answer_status : {X : Type 0} → Result X ReplayFault → ℕ
-answer_status (Ok done) = 0
-answer_status (Err fault) = status_of fault
-
 -- the exit status that tells of a run's fault: 5 too where the seats do not fit the journal, or a node has a step
 -- left
 abbrev pub run_status : RunFault → ℕ
@@ -69,23 +64,19 @@ abbrev pub run_text_status : RunTextFault → ℕ
 run_text_status (texts.Text fault) = status_of fault
 run_text_status (texts.Run fault) = run_status fault
 
--- the exit status that tells of what a run answers
-abbrev pub run_answer_status : {X : Type 0} → Result X RunTextFault → ℕ
-run_answer_status (Ok done) = 0
-run_answer_status (Err fault) = run_text_status fault
-
 -- the exit status of words that name no command: 0 where help was shown, 2 where they are wrong, 6 where
 -- memory ran out, 7 where help could not be written
 abbrev pub IsWordsStatus : ℕ → Type 0
 IsWordsStatus n = (n ≡ 0) ⊎ ((n ≡ 2) ⊎ ((n ≡ 6) ⊎ (n ≡ 7)))
 
--- a store in memory with nothing stored on it: it is always honest, and its device never fails
-abbrev pub in_memory : Given Content
-in_memory = record { is_honest = λ store. true; fault_count = λ store. 0; fresh = true; before = 0 }
+-- a store in memory with nothing stored on it, and this when it is left: it is always honest, and its device never
+-- fails
+abbrev pub in_memory : Content → Given (Unit {0})
+in_memory left = record { content = λ _. left; is_honest = λ _. true; fault_count = λ _. 0; fresh = true; before = 0 }
 
--- what stores of a kind say of one that a command is given
-abbrev pub given_of : {S : Type 0} → Ghosts S → S → Given S
-given_of kind store = given_by kind.content kind.is_honest kind.fault_count store
+-- what stores of a kind say of one that a command is given, and of it as it is left
+abbrev pub left_of : {S : Type 0} → Ghosts S → (store left : S) → Given (Unit {0})
+left_of kind store left = left_by kind.content kind.is_honest kind.fault_count store left
 
 -- how a replay over a store ends: with 0 where what was read was replayed and its report written, and else with the
 -- status of the fault, before which nothing is written, or of the writer's a front of the report
@@ -99,15 +90,15 @@ pub data EndsOver {S : Type 0} (given : Given S) (before after : Reader) (old ne
 abbrev pub LeavesRunWriter : {S : Type 0} → Given S → Output → (before after : Reader) (old new : Writer) → RunTextFault
     → Type 0
 LeavesRunWriter given output before after old new (texts.Text Write) =
-    WritesRunFront given.is_honest output before after old new
+    WritesRunFront given output before after old new
 LeavesRunWriter given output before after old new fault = new ≡ old
 
 -- how a run over a store ends: with 0 where what was read was run and what was asked for written, and else with the
 -- status of the fault
 pub data EndsRun {S : Type 0} (given : Given S) (output : Output) (before after : Reader) (old new : Writer) (n : ℕ)
     : Type 0 where
-  ran : n ≡ 0 → WritesRun given.is_honest output before after old new → EndsRun given output before after old new n
-  stopped : (fault : RunTextFault) → IsRunTextFault given.is_honest given.fault_count before after fault
+  ran : n ≡ 0 → WritesRun given output before after old new → EndsRun given output before after old new n
+  stopped : (fault : RunTextFault) → IsRunTextFault given before after fault
       → LeavesRunWriter given output before after old new fault → n ≡ run_text_status fault
       → EndsRun given output before after old new n
 
@@ -116,19 +107,31 @@ abbrev pub EndsCommand : {S : Type 0} → Given S → Command → (before after 
 EndsCommand given Replay before after old new n = EndsOver given before after old new n
 EndsCommand given (Run output) before after old new n = EndsRun given output before after old new n
 
--- how a command over the store in a file ends: as one over the store that was opened there, of whose device no fault
--- was counted yet; or with 5, nothing read and nothing written, where none was opened. `:memory:` names no file.
+-- how a command over the store ends, by some store of its kind, which stands for the one that was left
+pub record EndsLeaving {S : Type 0} (files : Ghosts S) (store : S) (command : Command) (before after : Reader)
+    (old new : Writer) (n : ℕ) : Type 0 where
+  pub left : S
+  pub ends : EndsCommand (left_of files store left) command before after old new n
+
+-- how a command over the store in a file ends: as one over some store of that kind, which stands for the one that was
+-- opened there and of whose device no fault was counted yet; or with 5, nothing read and nothing written. `:memory:`
+-- names no file.
 pub data EndsInFile {S : Type 0} (files : Ghosts S) (command : Command) (path : Text) (before after : Reader)
     (old new : Writer) (n : ℕ) : Type 0 where
   opened : path ≢ codes ":memory:" → (store : S) → files.fault_count store ≡ 0
-      → EndsCommand (given_of files store) command before after old new n
+      → EndsLeaving files store command before after old new n
       → EndsInFile files command path before after old new n
   unopened : n ≡ 5 → after ≡ before → new ≡ old → EndsInFile files command path before after old new n
+
+-- how a command over a fresh store in memory ends
+pub record EndsInMemory (command : Command) (before after : Reader) (old new : Writer) (n : ℕ) : Type 0 where
+  pub left : Content
+  pub ends : EndsCommand (in_memory left) command before after old new n
 
 -- how a command ends, by the file that is named for its store, or none
 abbrev pub Ends : {S : Type 0} → Ghosts S → Command → Option Text → (before after : Reader) (old new : Writer) → ℕ
     → Type 0
-Ends files command None before after old new n = EndsCommand in_memory command before after old new n
+Ends files command None before after old new n = EndsInMemory command before after old new n
 Ends files command (Some path) before after old new n = EndsInFile files command path before after old new n
 
 -- the exit status of words without a fault: that of the command that they name over the store that they name; or 6,

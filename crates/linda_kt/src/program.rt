@@ -3,15 +3,16 @@ ghost use Rattle.std.specs.Prelude.{◌≡◌, ◌≢◌, ◌⊎◌, [], IsErr, 
 ghost use Rattle.std.specs.Vec.Iter.{into_iter_items};
 ghost use Rattle.clap.specs.Words.{kind_of};
 ghost use Rattle.clap.specs.declared.error.kind.ErrorKind.TheVariants as kind;
-ghost use Rattle.linda_kt.specs.Status.{Ends, EndsCommand, EndsInFile, IsRunStatus, IsWordsStatus, given_of, in_memory};
+ghost use Rattle.linda_kt.specs.Status.{Ends, EndsCommand, EndsInFile, EndsLeaving, IsRunStatus, IsWordsStatus};
+ghost use Rattle.linda_kt.specs.Status.{EndsInMemory, left_of};
 ghost use Rattle.linda_kt.specs.Words.{AreWrong, texts, words_behind, words_fault};
 
 use crate::status::{COMMAND_LINE, DONE, MEMORY, STORE, STREAM, end_replay, end_run};
 use crate::words::{Command, Request, read_words, refuse_bytes};
 use clap::Error;
 use clap::error::ErrorKind;
-use kt_run::run_text;
-use kt_scene::{Outcome, Sink, Source, replay};
+use kt_run::run_text_over;
+use kt_scene::{Outcome, Sink, Source, replay_over};
 use kt_sql::{SqlOpenError, SqlStore};
 use kt_store::{CkptStore, MemStore};
 use sqlite::{Alter, File, FileStore};
@@ -152,18 +153,13 @@ fn run_in_memory<T: Threads + Wait + Sync, R: Read, W: Write, E: Write>(
     writer: &mut Sink<W>,
     errors: &mut E,
 ) -> u8
-    ensures told { EndsCommand in_memory command reader.old reader.new writer.old writer.new result }
+    ensures told { EndsInMemory command reader.old reader.new writer.old writer.new result }
     ensures done_without_a_word { result ≡ DONE → errors.new ≡ errors.old }
 {
-    run_over(
-        threads,
-        rt.alloc(),
-        command,
-        MemStore::new(rt.alloc()),
-        reader,
-        writer,
-        errors,
-    )
+    let store = MemStore::new(rt.alloc());
+    let (status, left) = run_over(threads, rt.alloc(), command, store, reader, writer, errors);
+    drop(left);
+    status
 }
 
 /// Does the command over the store in the file, which is opened before anything is read.
@@ -194,7 +190,7 @@ fn run_opened<T: Threads + Wait + Sync, R: Read, W: Write, E: Write, S: Alter + 
     writer: &mut Sink<W>,
     errors: &mut E,
 ) -> u8
-    ensures told { IfOk opened (λ store. EndsCommand (given_of ⟦<SqlStore<S> as CkptStore>⟧ store) command
+    ensures told { IfOk opened (λ store. EndsLeaving ⟦<SqlStore<S> as CkptStore>⟧ store command
         reader.old reader.new writer.old writer.new result) }
     ensures unopened { IfErr opened (λ error. result ≡ STORE) }
     ensures unread { IfErr opened (λ error. reader.new ≡ reader.old) }
@@ -202,13 +198,17 @@ fn run_opened<T: Threads + Wait + Sync, R: Read, W: Write, E: Write, S: Alter + 
     ensures done_without_a_word { result ≡ DONE → errors.new ≡ errors.old }
 {
     match opened {
-        Ok(store) => run_over(threads, alloc, command, store, reader, writer, errors),
+        Ok(store) => {
+            let (status, left) = run_over(threads, alloc, command, store, reader, writer, errors);
+            drop(left);
+            status
+        }
         Err(error) => refuse_store(error, errors),
     }
 }
 
-/// Does the command over the store.
-fn run_over<T: Threads + Wait + Sync, R: Read, W: Write, E: Write, S: CkptStore + Send + Drop>(
+/// Does the command over the store, and gives it back: what is said of a store is said of it as it was left.
+pub fn run_over<T: Threads + Wait + Sync, R: Read, W: Write, E: Write, S: CkptStore + Send + Drop>(
     threads: &T,
     alloc: Global,
     command: Command,
@@ -216,18 +216,19 @@ fn run_over<T: Threads + Wait + Sync, R: Read, W: Write, E: Write, S: CkptStore 
     reader: &mut Source<R>,
     writer: &mut Sink<W>,
     errors: &mut E,
-) -> u8
-    ensures told { EndsCommand (given_of S.CkptStore store) command
-        reader.old reader.new writer.old writer.new result }
-    ensures done_without_a_word { result ≡ DONE → errors.new ≡ errors.old }
+) -> (u8, S)
+    ensures told { EndsCommand (left_of S.CkptStore store result.1) command
+        reader.old reader.new writer.old writer.new result.0 }
+    ensures done_without_a_word { result.0 ≡ DONE → errors.new ≡ errors.old }
 {
     match command {
-        Command::Replay => end_replay(replay(alloc, reader, writer, store), errors),
+        Command::Replay => {
+            let (answer, left) = replay_over(alloc, reader, writer, store);
+            (end_replay(answer, errors), left)
+        }
         Command::Run(output) => {
-            end_run(
-                run_text(threads, alloc, reader, writer, store, output),
-                errors,
-            )
+            let (answer, left) = run_text_over(threads, alloc, reader, writer, store, output);
+            (end_run(answer, errors), left)
         }
     }
 }

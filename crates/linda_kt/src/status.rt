@@ -1,6 +1,7 @@
 //! How a run of the program ends: the line that tells of a fault, and the exit status.
 ghost use Rattle.std.specs.Prelude.{◌≡◌, IsOk};
-ghost use Rattle.linda_kt.specs.Status.{answer_status, open_status, run_answer_status, run_text_status, status_of};
+ghost use Rattle.linda_kt.specs.Status.{open_status, run_text_status, status_of};
+ghost use Rattle.linda_kt.specs.inner.Answers.{answer_status, run_answer_status};
 ghost use Rattle.linda_kt.specs.Status.{step_status};
 
 use kt_run::RunTextFault;
@@ -16,13 +17,14 @@ pub const COMMAND_LINE: u8 = 2;
 pub const SCENARIO: u8 = 3;
 /// A step is not enabled.
 pub const STEP: u8 = 4;
-/// The store was not opened, is not fresh or refused a call.
+/// The store was not opened, is not fresh or refused a call; or a run ended whose seats do not fit its journal, or
+/// where a node has a step left.
 pub const STORE: u8 = 5;
-/// Memory was refused.
+/// Memory was refused, or a thread could not be started.
 pub const MEMORY: u8 = 6;
 /// Standard input or standard output failed.
 pub const STREAM: u8 = 7;
-/// The scenario has more steps than a run makes.
+/// There are more steps than a world makes, 100,000.
 pub const STEP_LIMIT: u8 = 8;
 
 /// Says on `errors` why a replay ended early, and answers the status that tells how it ended.

@@ -23,6 +23,7 @@ pub enum Command {
 /// A command, and the file that it is to keep its store in.
 #[derive(Clone, Copy, Debug, PartialEq, Eq)]
 pub struct Request<'a> {
+    /// What is to be done.
     pub command: Command,
     /// None for a store in memory.
     pub store: Option<&'a str>,

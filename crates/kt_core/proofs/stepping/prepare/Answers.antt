@@ -2,7 +2,7 @@ use Rattle.std.proofs.Common.{◌∙◌, subst, sym}
 use Rattle.kt_store.specs.Content.{empty_content}
 use Rattle.kt_world.specs.declared.step.StepError.{StepError}
 use Rattle.kt_world.specs.Judge.{planned}
-use Rattle.kt_world.specs.Ready.{CanApply}
+use Rattle.kt_world.specs.inner.Ready.{CanApply}
 use Rattle.kt_core.specs.inner.Machine.{state_of}
 use Rattle.kt_core.specs.Stepping.{IsCalledFor, IsCause, Refuses}
 use Rattle.kt_core.proofs.Steps.{asked, called-plan, due-planned, refused, caused, only-damaged, is-ok, planned-can, planned-leads, on-refusal}

@@ -1,5 +1,5 @@
 use Rattle.std.proofs.Common.{ap, ◌∙◌, add-one, arith}
-use Rattle.kt_node.specs.Turning.{turned_over}
+use Rattle.kt_node.specs.inner.Between.{turned_over}
 use Rattle.kt_node.proofs.Sieving.{turning-next}
 use Rattle.kt_node.proofs.turning.sieve.Goals as goal
 

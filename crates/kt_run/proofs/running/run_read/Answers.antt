@@ -1,10 +1,11 @@
 use Rattle.kt_run.specs.Run.{of_reading}
-use Rattle.kt_run.proofs.Outcomes.{told_before}
+use Rattle.kt_run.proofs.Outcomes.{told_over}
 use Rattle.kt_run.proofs.running.run_read.Goals as goal
 
 pub returns-in-Ok-clause-fault : goal.returns-in-Ok-clause-fault
 returns-in-Ok-clause-fault g c =
-    told_before _ _ c.in-Ok.text.items c.deref.result.now c.run_told.result c.in-Ok.ensures.read c.deref.ensures.value c.run_told.ensures.fault
+    told_over g.S.CkptStore.content g.S.CkptStore.is_honest g.S.CkptStore.fault_count c.args.store _ _ c.in-Ok.text.items c.deref.result.now
+    c.run_told.result c.in-Ok.ensures.read c.deref.ensures.value c.run_told.ensures.fault
 
 pub returns-in-Err-clause-fault : goal.returns-in-Err-clause-fault
 returns-in-Err-clause-fault g c = of_reading c.in-Err.ensures.only

@@ -2,7 +2,7 @@ use Rattle.std.proofs.Common.{sym, ◌∙◌}
 use Rattle.kt_run.proofs.Outcomes.{run_of}
 use Rattle.kt_run.proofs.running.run_told.Goals as goal
 
-pub returns-clause-run : goal.returns-clause-run
-returns-clause-run g c =
-    run_of _ _ _ _ _ _ c.in_ok-scene.ensures.spelled (sym c.into_faults.ensures ∙ c.unwrap-faults.ensures) c.in_ok-journal.ensures.replays
-    c.in_ok-journal.ensures.finished
+pub returns-in-Ok-run_threads_over-clause-run : goal.returns-in-Ok-run_threads_over-clause-run
+returns-in-Ok-run_threads_over-clause-run g c =
+    let ran = c.in-Ok-run_threads_over.ensures in
+    run_of _ _ _ _ _ _ _ c.in-Ok.ensures.spelled (sym c.into_faults.ensures ∙ c.unwrap-faults.ensures) ran.replays ran.finished ran.fresh

@@ -1,7 +1,7 @@
-use Rattle.kt_scene.proofs.Replays.{told_before}
+use Rattle.kt_scene.proofs.Left.{some_world}
 use Rattle.kt_scene.proofs.replaying.replay_world.Goals as goal
 
-pub returns-clause-fault : goal.returns-clause-fault
-returns-clause-fault g c =
-    told_before _ _ _ c.in_ok-text.text.items c.deref.result.now c.world_told.result c.in_ok-text.ensures.read c.deref.ensures.value
-    c.world_told.ensures.fault
+pub returns-in-Err-clause-fault : goal.returns-in-Err-clause-fault
+returns-in-Err-clause-fault g c =
+    some_world g.S.CkptStore.content g.S.CkptStore.is_honest g.S.CkptStore.fault_count c.args.store c.in-Err.left _ _ c.in-Err.fault
+    c.in-Err.ensures.fault

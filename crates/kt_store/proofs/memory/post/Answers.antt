@@ -1,5 +1,5 @@
 use Rattle.std.proofs.Common.{◌∙◌, sym, subst}
-use Rattle.kt_store.specs.Content.{IsBoard}
+use Rattle.kt_store.specs.inner.Rising.{IsBoard}
 use Rattle.kt_store.proofs.Board.{posted_last, still_board}
 use Rattle.kt_store.proofs.memory.post.Goals as goal
 

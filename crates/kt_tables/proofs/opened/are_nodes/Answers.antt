@@ -1,6 +1,6 @@
 use Rattle.std.proofs.Common.{◌≡◌, ◌∷◌, subst, sym}
 use Rattle.std.proofs.lemmas.Bool.{false≢true}
-use Rattle.kt_tables.specs.Opened.{IsNodeWith, IsNoNode, AreNodesFrom}
+use Rattle.kt_tables.specs.inner.Testing.{IsNodeWith, IsNoNode, AreNodesFrom}
 use Rattle.kt_tables.proofs.OpenedLemmas.{node_more, node_not, node_too_low}
 use Rattle.kt_tables.proofs.opened.are_nodes.Goals as goal
 

@@ -1,6 +1,6 @@
 use Rattle.std.proofs.Common.{length}
 use Rattle.std.specs.Prelude.{◌↔◌}
-use Rattle.kt_tables.specs.Opened.{AreNodesFrom}
+use Rattle.kt_tables.specs.inner.Testing.{AreNodesFrom}
 use Rattle.kt_tables.proofs.opened.are_nodes.Given as goal
 
 abbrev pub invariant-loop-row : goal.invariant-loop-row

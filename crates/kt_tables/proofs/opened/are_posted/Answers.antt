@@ -1,6 +1,6 @@
 use Rattle.std.proofs.Common.{◌≡◌, ◌∷◌, subst, sym}
 use Rattle.std.proofs.lemmas.Bool.{false≢true}
-use Rattle.kt_tables.specs.Opened.{IsInstanceWith, IsNoInstance, AreInstancesFrom}
+use Rattle.kt_tables.specs.inner.Testing.{IsInstanceWith, IsNoInstance, AreInstancesFrom}
 use Rattle.kt_tables.proofs.OpenedLemmas.{instance_more, instance_not, instance_too_low}
 use Rattle.kt_tables.proofs.opened.are_posted.Goals as goal
 

@@ -1,6 +1,6 @@
 use Rattle.std.proofs.Common.{length}
 use Rattle.std.specs.Prelude.{◌↔◌}
-use Rattle.kt_tables.specs.Opened.{AreInstancesFrom}
+use Rattle.kt_tables.specs.inner.Testing.{AreInstancesFrom}
 use Rattle.kt_tables.proofs.opened.are_posted.Given as goal
 
 abbrev pub invariant-loop-row : goal.invariant-loop-row

@@ -1,7 +1,7 @@
 use Rattle.std.proofs.Common.{IfOk, subst}
 use Rattle.std.specs.Prelude.{◌↔◌, IsTrue}
 use Rattle.sqlite.specs.Held.{state}
-use Rattle.kt_tables.specs.Opened.{AreInstancesFrom}
+use Rattle.kt_tables.specs.inner.Testing.{AreInstancesFrom}
 use Rattle.kt_tables.proofs.Texts.{all_posted_is}
 use Rattle.kt_tables.proofs.OpenedLemmas.{board_held, in_other_words}
 use Rattle.kt_tables.proofs.opened.holds_board.Goals as goal

@@ -1,7 +1,7 @@
 use Rattle.std.proofs.Common.{IfOk, subst}
 use Rattle.std.specs.Prelude.{◌↔◌, IsTrue}
 use Rattle.sqlite.specs.Held.{state}
-use Rattle.kt_tables.specs.Opened.{AreNodesFrom}
+use Rattle.kt_tables.specs.inner.Testing.{AreNodesFrom}
 use Rattle.kt_tables.proofs.Texts.{all_nodes_is}
 use Rattle.kt_tables.proofs.OpenedLemmas.{nodes_held, in_other_words}
 use Rattle.kt_tables.proofs.opened.holds_nodes.Goals as goal

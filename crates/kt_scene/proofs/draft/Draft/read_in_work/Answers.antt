@@ -1,7 +1,8 @@
 use Rattle.std.proofs.Common.{◌≡◌, ℕ, List, false, sym, ap, subst, ◌∙◌}
 use Rattle.std.specs.Prelude.{IfErr, codes}
 use Rattle.kt_script.specs.declared.command.Command.{Command}
-use Rattle.kt_scene.specs.Lines.{Sketch, is_word, work_with, in_work, IsFaultOf}
+use Rattle.kt_scene.specs.Lines.{Sketch, is_word, work_with, in_work}
+use Rattle.kt_scene.specs.inner.Drafts.{IsFaultOf}
 use Rattle.kt_scene.specs.Work.{work_in}
 use Rattle.kt_scene.proofs.Entries.{work_faults}
 use Rattle.kt_scene.proofs.draft.Draft.read_in_work.Goals as goal

@@ -1,5 +1,5 @@
 use Rattle.std.proofs.Common.{ap, ◌∙◌}
-use Rattle.kt_stage.specs.Closing.{IsClosed}
+use Rattle.kt_stage.specs.inner.Midway.{IsClosed}
 use Rattle.kt_stage.specs.Journal.{Journal}
 use Rattle.kt_stage.specs.Order.{nodes_of}
 use Rattle.kt_stage.proofs.Seats.{closed-of, each-step, kept, one-each}

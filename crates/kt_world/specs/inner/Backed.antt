@@ -5,7 +5,8 @@ use Rattle.kt_shard.specs.Table.{at}
 use Rattle.kt_store.specs.declared.rows.Tentative.{Tentative}
 use Rattle.kt_store.specs.Verdict.{verdict_from}
 use Rattle.kt_store.specs.declared.rows.Verdict.TheVariants as verdicts
-use Rattle.kt_store.specs.Content.{Content, HasVerdict, IsBoard, greatest, next_instance, row_of, verdict_of}
+use Rattle.kt_store.specs.Content.{Content, HasVerdict, greatest, next_instance, row_of, verdict_of}
+use Rattle.kt_store.specs.inner.Rising.{IsBoard}
 use Rattle.kt_node.specs.declared.message.Message.{Message}
 use Rattle.kt_node.specs.declared.message.Message.TheVariants as messages
 use Rattle.kt_node.specs.declared.plan.Write.{Write}

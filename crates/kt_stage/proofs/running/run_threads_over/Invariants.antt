@@ -1,4 +1,4 @@
-use Rattle.kt_stage.proofs.running.run_threads.Given as goal
+use Rattle.kt_stage.proofs.running.run_threads_over.Given as goal
 
 -- the stage is named by the blank and the world that it is opened with
 abbrev pub ghosts-run_on-L-Ledger : goal.ghosts-run_on-L-Ledger

@@ -1,0 +1,5 @@
+-- What the code alone keeps, and no public clause cites.
+pub mod Drafts
+pub mod Places
+pub mod Texts
+pub mod Making

@@ -1,0 +1,26 @@
+-- A scenario that is half read.
+use Rattle.std.specs.Prelude.{◌≡◌, ℕ, ◌<◌, ◌≤◌, length, Result, Err, IsOk}
+use Rattle.kt_scene.specs.declared.fault.SceneError.{SceneError}
+use Rattle.kt_scene.specs.declared.fault.SceneError.TheVariants as faults
+use Rattle.kt_scene.specs.declared.draft.Expected.{Expected}
+use Rattle.kt_scene.specs.declared.draft.Expected.TheVariants as awaited
+use Rattle.kt_scene.specs.Lines.{Sketch}
+
+-- the fault is the one that is due; want of memory is answered where none is
+abbrev pub IsFaultOf : {A : Type 0} → SceneError → Result A SceneError → Type 0
+IsFaultOf faults.OutOfMemory due = IsOk due
+IsFaultOf fault due = due ≡ Err fault
+
+-- where a reading can stand: how many scripts there are
+abbrev pub HasScripts : Expected → ℕ → Type 0
+HasScripts awaited.Title n = n ≡ 0
+HasScripts awaited.Shards n = n ≡ 0
+HasScripts awaited.Workers n = n ≡ 0
+HasScripts awaited.Commands n = n < 8
+HasScripts awaited.Work n = (1 ≤ n) × (n ≤ 8)
+HasScripts awaited.Ended n = (1 ≤ n) × (n ≤ 8)
+
+pub record IsSketch (s : Sketch) : Type 0 where
+  pub some_shards : 1 ≤ s.shards
+  pub few_shards : s.shards ≤ 8
+  pub workers : HasScripts s.expected (length s.scripts)

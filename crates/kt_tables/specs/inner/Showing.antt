@@ -1,0 +1,50 @@
+-- How a row is kept, and what is read of one.
+use Rattle.std.specs.Prelude.{◌≡◌, ◌⊎◌, ℕ, [], ◌∷◌, Option, None, Some, Result, Ok, Err}
+use Rattle.sqlite.specs.declared.types.Value.TheVariants.{Null}
+use Rattle.sqlite.specs.Order.{Row, column}
+use Rattle.kt_ckpt.specs.Checkpoint.{read}
+use Rattle.kt_store.specs.declared.error.StoreError.{StoreError}
+use Rattle.kt_store.specs.declared.error.StoreError.TheVariants.{Memory, Damaged}
+use Rattle.kt_store.specs.declared.rows.NodeRow.{NodeRow}
+use Rattle.kt_store.specs.declared.rows.Posted.{Posted}
+use Rattle.kt_tables.specs.Rows.{whole, id_of, purpose_code, verdict_code, spelled, checkpoint_value, instance_value}
+
+-- as the table keeps it: the key, no value in the key's column, and the other columns
+abbrev pub node_stored : NodeRow → Row
+node_stored r =
+    whole (id_of r.node) ∷ Null ∷ whole r.incarnation ∷ spelled r.permanent ∷ checkpoint_value r.tentative
+    ∷ instance_value r.tentative ∷ []
+
+abbrev pub posted_stored : Posted → Row
+posted_stored p =
+    whole p.instance ∷ Null ∷ whole (id_of p.initiator) ∷ whole (purpose_code p.purpose)
+    ∷ whole (verdict_code p.verdict) ∷ []
+
+-- the row shows this node, column by column
+pub record ShowsNode (row : Row) (r : NodeRow) : Type 0 where
+  pub id : column row 0 ≡ whole (id_of r.node)
+  pub incarnation : column row 1 ≡ whole r.incarnation
+  pub permanent : column row 2 ≡ spelled r.permanent
+  pub tentative : column row 3 ≡ checkpoint_value r.tentative
+  pub instance : column row 4 ≡ instance_value r.tentative
+
+-- the row shows this instance
+pub record ShowsPosted (row : Row) (p : Posted) : Type 0 where
+  pub instance : column row 0 ≡ whole p.instance
+  pub initiator : column row 1 ≡ whole (id_of p.initiator)
+  pub purpose : column row 2 ≡ whole (purpose_code p.purpose)
+  pub verdict : column row 3 ≡ whole (verdict_code p.verdict)
+
+-- this is read, unless memory runs out
+abbrev pub Gives : {X : Type 0} → X → Result X StoreError → Type 0
+Gives x (Ok read) = read ≡ x
+Gives x (Err e) = e ≡ Memory
+
+-- what is refused for what the row has
+abbrev pub IsReadError : StoreError → Type 0
+IsReadError e = (e ≡ Memory) ⊎ (e ≡ Damaged)
+
+-- the number of the instance, 0 where there is none
+abbrev pub number_of : Option Posted → ℕ
+number_of None = 0
+number_of (Some p) = p.instance
