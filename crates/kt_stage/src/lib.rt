@@ -14,6 +14,7 @@ mod running;
 mod seat;
 mod stage;
 mod traffic;
+mod waking;
 
 pub use closing::CloseError;
 pub use desk::Desk;

@@ -6,7 +6,8 @@ ghost use Rattle.kt_core.specs.Lent.{is_allowed};
 ghost use Rattle.kt_world.specs.Step.{owner};
 ghost use Rattle.kt_stage.specs.Asking.{IsAsked};
 ghost use Rattle.kt_stage.specs.Policy.{asks, by_rule, checks, comes_back, fails, first_some, first_unfinished};
-ghost use Rattle.kt_stage.specs.Policy.{gives_up, has_sent, hears, if_unfinished, lets_restart, next_step, repeats};
+ghost use Rattle.kt_stage.specs.Policy.{decides, gives_up, has_sent, hears, if_unfinished, learns, lets_restart, next_step};
+ghost use Rattle.kt_stage.specs.Policy.{repeats, serves, takes};
 ghost use Rattle.kt_stage.specs.Policy.{serves_with_first, tries_again};
 
 use crate::asking::{
@@ -14,6 +15,7 @@ use crate::asking::{
 };
 use crate::order::{NAMES, WORKERS};
 use kt_core::{FaultKind, Faults, Step, World};
+use kt_shard::Shard;
 use kt_store::{CkptStore, StoreError};
 use kt_tuple::NodeId;
 use std::alloc::Global;
@@ -165,6 +167,56 @@ fn repeats<S: CkptStore>(
     }
 }
 
+/// The node learns a verdict. One that is up learns none.
+fn learns<S: CkptStore>(
+    world: &mut World<S>,
+    alloc: Global,
+    node: NodeId,
+) -> Result<Option<Step>, StoreError>
+    ensures { IsAsked world.old world.new (λ s x. x ≡ learns s node) result }
+{
+    if is_up(world, node) {
+        return Ok(None);
+    }
+    if_allowed(world, alloc, Step::Learn { node })
+}
+
+/// The node decides. One that does not vote decides nothing.
+fn decides<S: CkptStore>(
+    world: &mut World<S>,
+    alloc: Global,
+    node: NodeId,
+) -> Result<Option<Step>, StoreError>
+    ensures { IsAsked world.old world.new (λ s x. x ≡ decides s node) result }
+{
+    if world.ballot(node).is_none() {
+        return Ok(None);
+    }
+    if_allowed(world, alloc, Step::Decide { node })
+}
+
+/// The node takes what it keeps back, where it keeps anything.
+fn takes<S: CkptStore>(
+    world: &mut World<S>,
+    alloc: Global,
+    node: NodeId,
+) -> Result<Option<Step>, StoreError>
+    ensures { IsAsked world.old world.new (λ s x. x ≡ takes s node) result }
+{
+    if world.kept_len(node) == 0 {
+        return Ok(None);
+    }
+    if_allowed(world, alloc, Step::Take { node })
+}
+
+/// Whether the worker that the node is, while it is up, has nothing unanswered.
+fn may_issue<S: CkptStore>(world: &World<S>, node: NodeId) -> bool {
+    match world.worker(node) {
+        None => false,
+        Some(worker) => worker.again().is_none(),
+    }
+}
+
 /// A worker asks for its next operation, or once more for the last one.
 fn asks<S: CkptStore>(
     world: &mut World<S>,
@@ -173,33 +225,39 @@ fn asks<S: CkptStore>(
 ) -> Result<Option<Step>, StoreError>
     ensures { IsAsked world.old world.new (λ s x. x ≡ asks s node) result }
 {
-    match if_allowed(world, alloc, Step::Issue { node })? {
-        Some(step) => Ok(Some(step)),
-        None => repeats(world, alloc, node),
+    if may_issue(world, node) {
+        if_allowed(world, alloc, Step::Issue { node })
+    } else {
+        repeats(world, alloc, node)
+    }
+}
+
+/// The shard serves this worker with the first match, if it can.
+fn serves_with_first(shard: &Shard, node: NodeId, worker: NodeId) -> Option<Step> {
+    match worker {
+        NodeId::Worker(number) if shard.can_serve(number, 0) => Some(Step::Serve {
+            shard: node,
+            worker,
+            place: 0,
+        }),
+        _ => None,
     }
 }
 
 /// The shard serves the first of these workers that it can serve with the first match.
-fn first_served<S: CkptStore>(
-    workers: &[NodeId],
-    world: &mut World<S>,
-    alloc: Global,
-    node: NodeId,
-) -> Result<Option<Step>, StoreError>
-    ensures { IsAsked world.old world.new (λ s x. x ≡ first_some (serves_with_first s node) workers.now) result }
-{
-    let Some((worker, later)) = workers.split_first() else {
-        return Ok(None);
-    };
-    let step = Step::Serve {
-        shard: node,
-        worker: *worker,
-        place: 0,
-    };
-    match if_allowed(world, alloc, step)? {
-        Some(step) => Ok(Some(step)),
-        None => first_served(later, world, alloc, node),
+fn first_served(workers: &[NodeId], shard: &Shard, node: NodeId) -> Option<Step> {
+    let (worker, later) = workers.split_first()?;
+    match serves_with_first(shard, node, *worker) {
+        Some(step) => Some(step),
+        None => first_served(later, shard, node),
     }
+}
+
+/// The shard serves the first worker that it can serve with the first match.
+fn serves<S: CkptStore>(world: &World<S>, node: NodeId) -> Option<Step>
+    ensures { result ≡ serves world.now.state node }
+{
+    first_served(&WORKERS, world.shard(node)?, node)
 }
 
 /// A node that votes gives up, where one that it awaits owes it no vote.
@@ -231,14 +289,14 @@ impl Rule {
         match self {
             Rule::Fails => Ok(fails(world, faults, node)),
             Rule::Checks => Ok(checks(world, faults, node)),
-            Rule::Learns => if_allowed(world, alloc, Step::Learn { node }),
+            Rule::Learns => learns(world, alloc, node),
             Rule::ComesBack => comes_back(world, alloc, node),
             Rule::TriesAgain => tries_again(world, alloc, node),
-            Rule::Decides => if_allowed(world, alloc, Step::Decide { node }),
+            Rule::Decides => decides(world, alloc, node),
             Rule::Hears => Ok(hears(world, node)),
-            Rule::Takes => if_allowed(world, alloc, Step::Take { node }),
+            Rule::Takes => takes(world, alloc, node),
             Rule::Asks => asks(world, alloc, node),
-            Rule::Serves => first_served(&WORKERS, world, alloc, node),
+            Rule::Serves => Ok(serves(world, node)),
             Rule::GivesUp => gives_up(world, alloc, node),
         }
     }

@@ -14,11 +14,12 @@ use crate::closing::CloseError;
 use crate::ending::unfinished;
 use crate::error::ActError;
 use crate::journal::Journal;
+use crate::policy::first_unfinished;
 use crate::naming::Naming;
 use crate::seat::Seat;
-use crate::stage::{Floor, Stage, node_count};
-use kt_core::{Faults, OpenError, Scene, StepError, World};
-use kt_store::CkptStore;
+use crate::stage::{Floor, MOST, Some16, Stage, node_count};
+use kt_core::{Faults, OpenError, Scene, Step, StepError, World};
+use kt_store::{CkptStore, StoreError};
 use kt_tuple::NodeId;
 use std::alloc::{AllocError, Global};
 use std::marker::Brand;
@@ -69,50 +70,136 @@ impl Halt {
     }
 }
 
-/// What a node has in a run: its seat, and the fault lines, of which it alone looks at its own, and spends them.
+/// How many steps a node makes at most before it lets the others at the lock.
+const TURNS: usize = 64;
+
+/// What a node has in a run: its seat, and its place in node order.
 #[derive(Drop)]
 struct Player<L: Naming> {
     seat: Seat<L>,
-    faults: Faults,
+    place: usize,
 }
 
-/// What came of a node's turn.
+/// What came of a node's turns.
 #[derive(Clone, Copy, Debug, PartialEq, Eq)]
 enum Turn {
-    /// It made a step.
+    /// It made as many steps as it may in a row.
     Made,
-    /// It has no next step at present.
+    /// It has no next step at present, and sleeps.
     Idle,
+    /// The run has ended: no node has a next step.
+    Over,
+}
+
+/// That the store refused what has to be known.
+fn refused(at: u64, refusal: StoreError) -> Halt {
+    Halt::Step {
+        at,
+        cause: StepError::Store(refusal),
+    }
+}
+
+/// That the world refused the step.
+fn not_made(at: u64, refusal: ActError) -> Halt {
+    let cause = match refusal {
+        ActError::Step(cause) => cause,
+        // The policy gives a node steps of its own alone.
+        ActError::NotOwner => StepError::NoNode,
+    };
+    Halt::Step { at, cause }
 }
 
 impl<S: CkptStore, L: Naming> Floor<S, L> {
-    /// Makes the next step of the player's node, if it has one. It is chosen and made under one lock: another node's
-    /// step between the two could make it one that is not allowed.
-    fn turn(&mut self, alloc: Global, player: &mut Player<L>) -> Result<Turn, Halt> {
-        let Floor { desk, idle, .. } = self;
-        let Player { seat, faults } = player;
-        let at = desk.journal.steps.len() as u64 + 1;
-        let next = desk.next_for(alloc, faults, seat.node);
-        let next = next.map_err(|refusal| Halt::Step {
-            at,
-            cause: StepError::Store(refusal),
-        })?;
-        let Some(step) = next else {
-            *idle = idle.saturating_add(1);
+    /// The place in the journal that the next step has.
+    fn at(&self) -> u64 {
+        self.desk.journal.steps.len() as u64 + 1
+    }
+
+    /// What the policy gives the node.
+    fn next(&mut self, alloc: Global, node: NodeId) -> Result<Option<Step>, StoreError> {
+        let Floor { desk, faults, .. } = self;
+        desk.next_for(alloc, faults, node)
+    }
+
+    /// Makes the player's next step, and wakes whom it may have given one.
+    fn make(
+        &mut self,
+        alloc: Global,
+        player: &mut Player<L>,
+        step: Step,
+        nodes: &[NodeId],
+        woken: &mut Some16,
+    ) -> Result<(), Halt> {
+        let at = self.at();
+        match self.act(alloc, &mut player.seat, step, nodes, woken) {
+            Ok(_) => {
+                self.faults.spend(&step);
+                Ok(())
+            }
+            Err(refusal) => Err(not_made(at, refusal)),
+        }
+    }
+
+    /// The player's node has nothing to do. The last that would sleep asks for each node whether it has a next step, and
+    /// ends the run where none has.
+    fn rest(
+        &mut self,
+        alloc: Global,
+        place: usize,
+        nodes: &[NodeId],
+        woken: &mut Some16,
+    ) -> Result<Turn, Halt> {
+        if let Some(sleeps) = self.asleep.get_mut(place) {
+            *sleeps = true;
+        }
+        if self.asleep.iter().zip(nodes.iter()).any(|(sleeps, _)| !*sleeps) {
             return Ok(Turn::Idle);
+        }
+        let at = self.at();
+        let Floor { desk, faults, .. } = self;
+        let left = match first_unfinished(&mut desk.journal.world, alloc, faults) {
+            Ok(left) => left,
+            Err(refusal) => return Err(refused(at, refusal)),
         };
-        match desk.act(alloc, seat, step) {
-            Ok(_) => {}
-            Err(ActError::Step(cause)) => return Err(Halt::Step { at, cause }),
-            // The policy gives a node steps of its own alone.
-            Err(ActError::NotOwner) => {
-                let cause = StepError::NoNode;
-                return Err(Halt::Step { at, cause });
+        let Some(left) = left else {
+            return Ok(Turn::Over);
+        };
+        for (place, node) in nodes.iter().enumerate() {
+            if *node == left {
+                if let (Some(sleeps), Some(wakes)) = (self.asleep.get_mut(place), woken.get_mut(place)) {
+                    *sleeps = false;
+                    *wakes = true;
+                }
             }
         }
-        faults.spend(&step);
-        *idle = 0;
+        Ok(Turn::Idle)
+    }
+
+    /// Makes the next steps of the player's node, one after the other, while it has one and may go on. Each is chosen and
+    /// made under one lock: another node's step between the two could make it one that is not allowed.
+    fn turns(
+        &mut self,
+        alloc: Global,
+        player: &mut Player<L>,
+        nodes: &[NodeId],
+        woken: &mut Some16,
+    ) -> Result<Turn, Halt> {
+        for _ in 0..TURNS {
+            let at = self.at();
+            let next = match self.next(alloc, player.seat.node) {
+                Ok(next) => next,
+                Err(refusal) => return Err(refused(at, refusal)),
+            };
+            match next {
+                Some(step) => self.make(alloc, player, step, nodes, woken)?,
+                None => return self.rest(alloc, player.place, nodes, woken),
+            }
+        }
         Ok(Turn::Made)
+    }
+
+    fn sleeps(&self, place: usize) -> bool {
+        matches!(self.asleep.get(place), Some(true))
     }
 }
 
@@ -120,13 +207,46 @@ impl<S: CkptStore, L: Naming> Stage<S, L> {
     /// Ends the run, of whose end each waiting thread is told.
     fn end(&self, rt: &impl Wait) {
         self.floor.lock(rt).is_over = true;
-        self.moved.notify_all();
+        self.ring(&[true; MOST]);
+    }
+
+    /// One turn of the player's, and whether the run goes on.
+    fn play_once<R: Wait>(
+        &self,
+        rt: &R,
+        alloc: Global,
+        player: &mut Player<L>,
+    ) -> Result<bool, Halt> {
+        let mut woken = [false; MOST];
+        let mut floor = self.floor.lock(rt);
+        if floor.is_over {
+            return Ok(false);
+        }
+        match floor.turns(alloc, player, &self.nodes, &mut woken)? {
+            Turn::Made => {
+                drop(floor);
+                self.ring(&woken);
+            }
+            Turn::Idle => {
+                drop(floor);
+                self.ring(&woken);
+                if let Some(bell) = self.bells.get(player.place) {
+                    let place = player.place;
+                    let floor = self.floor.lock(rt);
+                    drop(bell.wait_while(rt, floor, |floor| !floor.is_over && floor.sleeps(place)));
+                }
+            }
+            Turn::Over => {
+                drop(floor);
+                self.end(rt);
+                return Ok(false);
+            }
+        }
+        Ok(true)
     }
 }
 
-/// What a node's thread does: turn after turn, until the run has ended. The lock is let go after each turn. Where it
-/// has nothing to do it sleeps until the journal has grown. Nodes that found nothing to do since the last step are
-/// counted, and the last of them ends the run.
+/// What a node's thread does: turn after turn, until the run has ended.
 fn play<R: Wait, S: CkptStore, L: Naming>(
     rt: &R,
     alloc: Global,
@@ -134,24 +254,12 @@ fn play<R: Wait, S: CkptStore, L: Naming>(
     player: &mut Player<L>,
 ) -> Result<(), Halt> {
     for _ in rt.forever() {
-        let mut floor = stage.floor.lock(rt);
-        if floor.is_over {
-            return Ok(());
-        }
-        match floor.turn(alloc, player) {
-            Ok(Turn::Made) => stage.moved.notify_all(),
-            Ok(Turn::Idle) if floor.idle < stage.nodes.len() => {
-                let seen = floor.desk.journal.steps.len();
-                drop(
-                    stage.moved.wait_while(rt, floor, |floor| {
-                        !floor.is_over && floor.desk.journal.steps.len() == seen
-                    }),
-                );
-            }
-            ended => {
-                floor.is_over = true;
-                stage.moved.notify_all();
-                return ended.map(|_| ());
+        match stage.play_once(rt, alloc, player) {
+            Ok(true) => {}
+            Ok(false) => return Ok(()),
+            Err(halt) => {
+                stage.end(rt);
+                return Err(halt);
             }
         }
     }
@@ -170,16 +278,18 @@ fn play_to_end<R: Wait, S: CkptStore, L: Naming>(
     (player.seat, ended)
 }
 
-/// A player for each seat, each with a copy of the fault lines.
+/// A player for each seat.
 fn players_of<L: Naming>(
     alloc: Global,
     seats: Vec<Seat<L>>,
-    faults: &Faults,
 ) -> Result<Vec<Player<L>>, AllocError> {
     let mut players = Vec::with_capacity(alloc, seats.len())?;
     for seat in seats {
-        let faults = faults.copy(alloc)?;
-        players.push(Player { seat, faults })?;
+        let place = players.len();
+        players.push(Player {
+            seat,
+            place,
+        })?;
     }
     Ok(players)
 }
@@ -261,7 +371,12 @@ where
         Ok(opened) => opened,
         Err(world) => return Err((RunFault::Memory, world.into_store())),
     };
-    let Ok(players) = players_of(alloc, seats, faults) else {
+    let mut stage = stage;
+    let Ok(faults) = faults.copy(alloc) else {
+        return Err((RunFault::Memory, stage.into_store()));
+    };
+    stage.floor.get_mut().faults = faults;
+    let Ok(players) = players_of(alloc, seats) else {
         return Err((RunFault::Memory, stage.into_store()));
     };
     match perform(rt, alloc, &stage, players) {

@@ -14,30 +14,45 @@ use crate::journal::Journal;
 use crate::naming::Naming;
 use crate::order::NAMES;
 use crate::seat::{Receipt, Seat};
-use kt_core::{Step, World};
+use kt_core::{Faults, Step, World};
 use kt_store::CkptStore;
 use kt_tuple::NodeId;
 use std::alloc::{AllocError, Global};
 use std::sync::ledger::{Blank, Share};
 use std::sync::{Condvar, Mutex, Wait};
 
-/// What the lock keeps: the desk, and how near a run by threads is to its end.
+/// The most nodes that a scene can have.
+pub(crate) const MOST: usize = 16;
+
+/// For each node of the scene, in node order, whether it is one of these.
+pub(crate) type Some16 = [bool; MOST];
+
+/// What the lock keeps: the desk, the fault lines, which each node looks at and spends for itself, who sleeps, and
+/// whether the run has ended. A node that sleeps has no next step.
 #[derive(Drop)]
 pub(crate) struct Floor<S: CkptStore, L: Naming> {
     pub(crate) desk: Desk<S, L>,
-    /// How many nodes have found since the last step that they have none to make.
-    pub(crate) idle: usize,
-    /// Whether the run has ended.
+    pub(crate) faults: Faults,
+    pub(crate) asleep: Some16,
     pub(crate) is_over: bool,
 }
 
-/// The stage that L names: the journal, which one node at a time changes, and what tells the others that it has grown.
+/// The stage that L names: the journal, which one node at a time changes, and for each node what wakes it.
 #[derive(Drop)]
 pub struct Stage<S: CkptStore, L: Naming> {
     pub(crate) floor: Mutex<Floor<S, L>>,
-    pub(crate) moved: Condvar,
+    pub(crate) bells: Vec<Condvar>,
     pub(crate) nodes: Vec<NodeId>,
     ghost all: { nodes.items ≡ nodes_of L.opening.state.cast },
+}
+
+/// A bell for each of so many nodes.
+fn bells_of(alloc: Global, count: usize) -> Result<Vec<Condvar>, AllocError> {
+    let mut bells = Vec::with_capacity(alloc, count)?;
+    for _ in 0..count {
+        bells.push(Condvar::new())?;
+    }
+    Ok(bells)
 }
 
 /// How many of these nodes are in the world's scene.
@@ -151,6 +166,9 @@ impl<S: CkptStore, L: Naming> Stage<S, L> {
         let Ok(nodes) = nodes_among(alloc, &NAMES, &world) else {
             return Err(world);
         };
+        let Ok(bells) = bells_of(alloc, nodes.len()) else {
+            return Err(world);
+        };
         let (book, share) = blank.open::<L>();
         let Ok(seats) = seats_of(alloc, &nodes, share) else {
             return Err(world);
@@ -160,12 +178,13 @@ impl<S: CkptStore, L: Naming> Stage<S, L> {
         let desk = Desk { journal, book };
         let floor = Floor {
             desk,
-            idle: 0,
+            faults: Faults::new(alloc),
+            asleep: [false; MOST],
             is_over: false,
         };
         let stage = Stage {
             floor: Mutex::new(floor),
-            moved: Condvar::new(),
+            bells,
             nodes,
         };
         Ok((stage, seats))
@@ -193,12 +212,20 @@ impl<S: CkptStore, L: Naming> Stage<S, L> {
         ensures others { owner step ≢ seat.old.node → result ≡ Err ActError.NotOwner }
         ensures node { seat.new.node ≡ seat.old.node }
     {
+        let mut woken = [false; MOST];
         let mut floor = self.floor.lock(rt);
-        let acted = floor.desk.act(alloc, seat, step);
-        if acted.is_ok() {
-            floor.idle = 0;
-            self.moved.notify_all();
-        }
+        let acted = floor.act(alloc, seat, step, &self.nodes, &mut woken);
+        drop(floor);
+        self.ring(&woken);
         acted
+    }
+
+    /// Wakes these nodes.
+    pub(crate) fn ring(&self, woken: &Some16) {
+        for (bell, is_woken) in self.bells.iter().zip(woken.iter()) {
+            if *is_woken {
+                bell.notify_one();
+            }
+        }
     }
 }
