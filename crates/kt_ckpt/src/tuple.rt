@@ -62,7 +62,7 @@ pub(crate) fn tuple_at(alloc: Global, bytes: &[u8]) -> Result<(Tuple, &[u8]), Ck
 {
     let (count, rest) = byte_within(1, MAX_PLACES, bytes)?;
     let (values, rest) = values_at(alloc, count, rest)?;
-    let tuple = Tuple::new(values).ok_or(CkptError::Field)?;
+    let tuple = Tuple::new(alloc, values)?.ok_or(CkptError::Field)?;
     Ok((tuple, rest))
 }
 
@@ -92,7 +92,7 @@ pub(crate) fn template_at(alloc: Global, bytes: &[u8]) -> Result<(Template, &[u8
 {
     let (count, rest) = byte_within(1, MAX_PLACES, bytes)?;
     let (places, rest) = places_at(alloc, count, rest)?;
-    let template = Template::new(places).ok_or(CkptError::Field)?;
+    let template = Template::new(alloc, places)?.ok_or(CkptError::Field)?;
     Ok((template, rest))
 }
 

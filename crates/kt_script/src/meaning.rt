@@ -95,14 +95,14 @@ impl Scope<'_> {
         ensures { IfOk result (λ t. t ≡ template_of (meaning_in self.entry) pattern.now) }
     {
         let places = self.places_of(alloc, pattern.as_slice())?;
-        Ok(Template::new(places).unwrap())
+        Ok(Template::new(alloc, places)?.unwrap())
     }
 
     fn tuple_of(self, alloc: Global, actuals: &Actuals) -> Result<Tuple, AllocError>
         ensures { IfOk result (λ t. t ≡ map (value_of_actual (meaning_in self.entry)) actuals.now) }
     {
         let values = self.values_of(alloc, actuals.as_slice())?;
-        Ok(Tuple::new(values).unwrap())
+        Ok(Tuple::new(alloc, values)?.unwrap())
     }
 
     /// The operation as it is sent: with values and bare formals.

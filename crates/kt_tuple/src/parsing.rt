@@ -42,7 +42,11 @@ impl Tuple {
         // A text without a fault is refused for want of memory alone.
         ensures memory { tuple_fault text.now ≡ None → IfErr result (λ e. e ≡ ParseError.OutOfMemory) }
     {
-        Tuple::new(parsed::<Value>(alloc, text)?).ok_or(ParseError::TooLong)
+        let items = parsed::<Value>(alloc, text)?;
+        match Tuple::new(alloc, items) {
+            Ok(made) => made.ok_or(ParseError::TooLong),
+            Err(AllocError) => Err(ParseError::OutOfMemory),
+        }
     }
 }
 
@@ -62,7 +66,11 @@ impl Template {
         // A text without a fault is refused for want of memory alone.
         ensures memory { template_fault text.now ≡ None → IfErr result (λ e. e ≡ ParseError.OutOfMemory) }
     {
-        Template::new(parsed::<Place>(alloc, text)?).ok_or(ParseError::TooLong)
+        let items = parsed::<Place>(alloc, text)?;
+        match Template::new(alloc, items) {
+            Ok(made) => made.ok_or(ParseError::TooLong),
+            Err(AllocError) => Err(ParseError::OutOfMemory),
+        }
     }
 }
 

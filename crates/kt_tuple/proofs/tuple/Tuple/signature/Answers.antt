@@ -4,6 +4,6 @@ use Rattle.kt_tuple.proofs.tuple.Tuple.signature.Goals as goal
 
 pub then-signature-requires : goal.then-signature-requires
 then-signature-requires c =
-    let few : c.loop-value.value-index ≤ 8 = omega (arith, c.self.invariant.1) in
+    let few : c.loop-value.value-index ≤ 8 = omega (arith, c.before.before.before.before.before.before.args.self.invariant.1) in
     let small = pow-le-pow_right {n = 5} (omega arith) few in
     omega (arith, small, c.loop-value.invariant.1)
