@@ -139,7 +139,7 @@ impl Machine {
     }
 
     /// The same. For the proof alone: the owner can act and be saved, as in each state that is ready.
-    fn seen(&self, id: NodeId) -> Result<View<'_>, StepError>
+    pub(crate) fn seen(&self, id: NodeId) -> Result<View<'_>, StepError>
         requires { IsReady (state_of self.now empty_content) }
         ensures there { is_ok result ≡ is_node self.now.scene id }
         ensures view { IfOk result (λ v. view_of v ≡ view (state_of self.now empty_content) id) }

@@ -1,6 +1,7 @@
 //! The world of workers and shards, and its step.
 #![tactic(auto)]
 
+mod at_once;
 mod causes;
 mod change;
 mod faults;

@@ -1,6 +1,6 @@
 //! The messages that a step sends, takes off and makes room for, and its note.
 
-ghost use Rattle.std.specs.Prelude.{◌≡◌, ◌≤◌, length, OnOk, IfSome};
+ghost use Rattle.std.specs.Prelude.{◌≡◌, ◌≤◌, ◌∷◌, [], length, OnOk, IfSome};
 ghost use Rattle.std.specs.List.{AllByRecursion};
 ghost use Rattle.kt_history.specs.Chronicle.{node_of, room_of};
 ghost use Rattle.kt_history.specs.WellFormed.{MayFollow};
@@ -55,6 +55,18 @@ pub(crate) fn send_all(links: &mut Links<Message>, owner: NodeId, send: Vec<(Nod
     for (to, message) in send {
         links.push_reserved(owner, to, message);
     }
+}
+
+/// Sends one message of the owner, for which there is room.
+pub(crate) fn send_one(links: &mut Links<Message>, owner: NodeId, to: NodeId, message: Message)
+    requires there { AreNeighbours links.old.workers links.old.shards owner to }
+    requires room { 1 ≤ room links.old owner to }
+    ensures queues { links.new.queues ≡
+        sent (place links.old.workers links.old.shards) links.old.queues owner ((to, message) ∷ []) }
+    ensures workers { links.new.workers ≡ links.old.workers }
+    ensures shards { links.new.shards ≡ links.old.shards }
+{
+    links.push_reserved(owner, to, message);
 }
 
 /// Makes the note, if there is one, for which there is room.

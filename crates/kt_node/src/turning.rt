@@ -117,7 +117,7 @@ impl Live {
     }
 
     /// Sends the next underlying message to the node.
-    fn say(&mut self, to: NodeId)
+    pub(crate) fn say(&mut self, to: NodeId)
         requires tables { HasTables self.old }
         requires can { CanSay (live_view self.old) to }
         ensures tables { HasTables self.new }
