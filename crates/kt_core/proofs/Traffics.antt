@@ -151,3 +151,8 @@ pub sent-single : (old new : Net) (owner to : NodeId) (m : Message) → queue ne
     → new.queues ≡ sent (place old.workers old.shards) old.queues owner ((to, m) ∷ [])
 unfolding sent
 sent-single old new owner to m appended only = sent-one old new owner to m appended only
+
+-- nothing is sent
+pub sent-none : (way : Way) (links : List (List Message)) (owner : NodeId) → sent way links owner [] ≡ links
+unfolding sent
+sent-none way links owner = refl

@@ -104,10 +104,7 @@ pub(crate) fn make<S: CkptStore>(
     ensures called { IsTrue (S.is_honest store.new) →
         IfErr result (IsCalledFor (state_of machine.old (S.content store.old)) step) }
 {
-    let Step::Repeat { node } = step else {
-        return make_by_plan(machine, store, alloc, step);
-    };
-    match machine.repeat_at_once(alloc, node) {
+    match machine.at_once(alloc, step) {
         Ok(true) => Ok(()),
         Ok(false) => make_by_plan(machine, store, alloc, step),
         Err(_) => Err(StepError::OutOfMemory),

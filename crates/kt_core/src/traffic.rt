@@ -5,6 +5,7 @@ ghost use Rattle.std.specs.List.{AllByRecursion};
 ghost use Rattle.kt_history.specs.Chronicle.{node_of, room_of};
 ghost use Rattle.kt_history.specs.WellFormed.{MayFollow};
 ghost use Rattle.kt_link.specs.Network.{AreNeighbours, place, room};
+ghost use Rattle.kt_world.specs.declared.step.Step.TheVariants as steps;
 ghost use Rattle.kt_world.specs.Effect.{sent, taken_off, noted};
 ghost use Rattle.kt_core.specs.inner.Traffic.{IsSameTraffic};
 
@@ -41,6 +42,16 @@ pub(crate) fn take_off(links: &mut Links<Message>, step: Step)
     if let Step::Deliver { from, to } = step {
         links.pop(from, to);
     }
+}
+
+/// Takes the first message off the link, and sends nothing.
+pub(crate) fn take_one_off(links: &mut Links<Message>, from: NodeId, to: NodeId)
+    ensures queues { links.new.queues ≡ sent (place links.old.workers links.old.shards)
+        (taken_off (place links.old.workers links.old.shards) links.old.queues (steps.Deliver from to)) to [] }
+    ensures workers { links.new.workers ≡ links.old.workers }
+    ensures shards { links.new.shards ≡ links.old.shards }
+{
+    take_off(links, Step::Deliver { from, to });
 }
 
 /// Sends the messages of the owner, for which there is room.

@@ -29,7 +29,7 @@ mod talking;
 mod turning;
 mod voting;
 
-pub use at_once::Again;
+pub use at_once::{Again, Asked};
 pub use boxed::Boxed;
 pub use change::{BodyChange, Change, KeptChange, Loaded, Turn};
 pub use laws::plans_can_be_carried_out;

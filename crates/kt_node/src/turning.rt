@@ -180,7 +180,7 @@ fn change_shard(shard: &mut Shard, change: BodyChange)
 }
 
 /// Writes the label of the node.
-fn write(table: &mut Vec<Label>, node: NodeId, label: Label)
+pub(crate) fn write(table: &mut Vec<Label>, node: NodeId, label: Label)
     requires { node_number node < length table.old.items }
     ensures written { table.new.items ≡ put no_label table.old.items (node_number node) label }
     ensures long { length table.new.items ≡ length table.old.items }
