@@ -27,6 +27,7 @@ pub(crate) fn make_room_on_links(
     ensures room { OnOk result (AllByRecursion (λ m. length send.now ≤ room links.new owner m.0) send.now) }
 {
     for (to, _) in send {
+        // Each link gets room for all that is sent, which is at least its own share, so nobody has to count these.
         links.reserve(owner, *to, send.len())?;
     }
     Ok(())

@@ -23,7 +23,7 @@ use kt_worker::Worker;
 use std::alloc::{AllocError, Global};
 
 impl Live {
-    /// The label of the next underlying message.
+    /// The label of the next underlying message, to whomever: its incarnation, and its count and one.
     pub(crate) fn next_label(&self) -> Label
         requires { CanCount (live_view self.now) }
         ensures { result ≡ next_label (live_view self.now) }

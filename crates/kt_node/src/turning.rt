@@ -25,7 +25,8 @@ use std::alloc::AllocError;
 use std::collections::VecDeque;
 
 impl Node {
-    /// Makes room for one tuple more and for one kept message more.
+    /// Makes room for one tuple more and for one kept message more; a step needs no more of either, since it puts one
+    /// tuple at most and keeps one message at most (docs/DECISIONS.md#bags-and-links).
     pub fn reserve(&mut self) -> Result<(), AllocError>
         ensures same { self.new.node ≡ self.old.node }
         ensures room { OnOk result (IsTrue self.new.has_room) }

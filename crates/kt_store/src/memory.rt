@@ -24,7 +24,8 @@ use kt_tuple::NodeId;
 use std::alloc::{AllocError, Global};
 use std::marker::Model;
 
-/// The greatest incarnation, and the greatest number of an instance.
+/// The greatest incarnation, and the greatest number of an instance: a call that would go past it is `Full`. Why it is
+/// not 2^64 - 1: docs/DECISIONS.md#stores.
 const GREATEST: u64 = 1 << 62;
 
 /// A store in memory, which is always honest.
@@ -48,7 +49,7 @@ impl Model for MemStore {
 impl MemStore {
     ghost use Rattle.kt_store.specs.Content.{empty_content};
 
-    /// A fresh store.
+    /// A fresh store: no node has a row, and nothing is on the board.
     pub fn new(alloc: Global) -> MemStore
         ensures { result ≡ empty_content }
     {
@@ -58,6 +59,8 @@ impl MemStore {
         }
     }
 
+    /// The node's incarnation. A node without a row is in the first, so that a store needs no list of the nodes there
+    /// are.
     fn incarnation_of(&self, node: NodeId) -> u64
         ensures value { result ≡ (row_of self.now node).incarnation }
         ensures within { result ≤ greatest }
@@ -75,7 +78,7 @@ impl MemStore {
         row_at(&self.nodes, node)?.permanent.as_ref()
     }
 
-    /// The tentative one.
+    /// The node's tentative checkpoint, where one is stored.
     fn tentative_at(&self, node: NodeId) -> Option<&Tentative>
         ensures { option_copied result ≡ (row_of self.now node).tentative }
     {
@@ -91,6 +94,7 @@ impl MemStore {
         }
     }
 
+    /// The marks of the node's permanent checkpoint, read from where it stands: its state is not copied.
     fn permanent_marks_of(&self, alloc: Global, node: NodeId) -> Result<Option<Marks>, AllocError>
         ensures { IfOk result (λ m. m ≡ permanent_marks self.now node) }
     {
@@ -140,6 +144,7 @@ impl MemStore {
         Some(open_at(&self.board, node)?.instance)
     }
 
+    /// The number that the next instance gets: from 1 on, and above 2^62 where none is left.
     fn next_number(&self) -> u64
         ensures value { result ≡ next_instance self.now }
         ensures within { result ≤ greatest + 1 }
@@ -185,6 +190,7 @@ impl MemStore {
             (storing (changed change (row_of self.old node)) self.old)) }
         ensures unchanged { OnErr result (self.new ≡ self.old) }
     {
+        // All memory is taken before a row changes, so that a refused write changes nothing.
         self.board.reserve(1)?;
         change_row(&mut self.nodes, node, change)?;
         let new = Posted {
@@ -197,6 +203,7 @@ impl MemStore {
         Ok(())
     }
 
+    /// Whether nothing was ever stored: no node has a row, and nothing is on the board.
     fn has_nothing(&self) -> bool
         ensures { result ≡ is_fresh self.now }
     {
@@ -324,7 +331,7 @@ impl CkptStore for MemStore {
     }
 }
 
-/// The node's row, where it has one.
+/// The node's row; `None` where nothing was stored of it.
 fn row_at(rows: &[NodeRow], node: NodeId) -> Option<&NodeRow>
     ensures { option_copied result ≡ find (λ (row : NodeRow). node_eq row.node node) rows.now }
 {

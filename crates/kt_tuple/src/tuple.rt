@@ -44,7 +44,7 @@ impl Tuple {
         }
     }
 
-    /// The values, from left to right.
+    /// The values, from left to right: 1 to 8 of them.
     pub fn values(&self) -> &[Value]
         ensures value { result.now ≡ self.now }
         ensures arity { HasArity self.now }
@@ -52,7 +52,7 @@ impl Tuple {
         &self.values
     }
 
-    /// An equal tuple.
+    /// An equal tuple with memory of its own.
     pub fn copy(&self, alloc: Global) -> Result<Tuple, AllocError>
         ensures { IfOk result (λ t. t ≡ self.now) }
     {
