@@ -166,7 +166,12 @@ impl Asked<'_> {
     }
 
     /// The request that the worker waits with at the shard, and the note of it.
-    pub fn heard(self, alloc: Global, node: NodeId, from: NodeId) -> Result<(Request, Note), AllocError>
+    pub fn heard(
+        self,
+        alloc: Global,
+        node: NodeId,
+        from: NodeId,
+    ) -> Result<(Request, Note), AllocError>
         ensures request { IfOk result (λ heard. heard.0 ≡ self.entry.request.now) }
         ensures note { IfOk result (λ heard. heard.1 ≡ waiting_note node from self.entry) }
     {
