@@ -9,8 +9,9 @@ use kt_tuple::NodeId;
 use std::alloc::{AllocError, Global};
 use std::marker::Model;
 
-/// The checkpoint of a node (Koo and Toueg, "Checkpointing and Rollback-Recovery for Distributed Systems"):
-/// what the node needs to go on from a moment of its past.
+/// The checkpoint of a node (Koo and Toueg, "Checkpointing and Rollback-Recovery for Distributed Systems"): what the
+/// node needs to go on from a moment of its past. It has plain fields and no worker or shard, since bytes allow more
+/// than a node can hold. Whether it fits a node is asked where the node is made of it (docs/DECISIONS.md#checkpoints).
 #[derive(Debug, Drop)]
 pub struct Ckpt {
     pub(crate) node: NodeId,
@@ -34,10 +35,11 @@ impl Ckpt {
     ghost use Rattle.kt_ckpt.specs.Checkpoint.{HasCounts, made_of};
     ghost use Rattle.kt_ckpt.specs.Marks.{marks_of};
 
-    /// The checkpoint of this node, whose line has this length. For each neighbour, in node order, it has the
-    /// label of the last message sent to it and of the last heard from it, and it has the node's state. The
-    /// node is one of the workers or shards that there may be, it has a neighbour and no more than `MAX_PEERS`,
-    /// and the state is one of such a node, with counts within the format.
+    /// The checkpoint of this node, whose log (`line`) has this length. For each neighbour, in node order, it has the
+    /// label of the last message sent to it and of the last heard from it, and it has the node's state. The node is one
+    /// of the workers or shards that there may be, it has a neighbour and no more than `MAX_PEERS`, and the state is
+    /// one of such a node, with counts within the format. It asks for these counts and refuses nothing: a node keeps
+    /// them.
     pub fn new(
         node: NodeId,
         line_len: u64,
@@ -57,14 +59,14 @@ impl Ckpt {
         }
     }
 
-    /// The node.
+    /// Whose checkpoint it is.
     pub fn node(&self) -> NodeId
         ensures { result ≡ self.now.node }
     {
         self.node
     }
 
-    /// How many acts the node's line had.
+    /// How many acts the node's line had when it was taken.
     pub fn line_len(&self) -> u64
         ensures { result ≡ self.now.line_len }
     {
@@ -85,7 +87,7 @@ impl Ckpt {
         &self.received
     }
 
-    /// What the node held.
+    /// What the node held when it was taken.
     pub fn state(&self) -> &State
         ensures { result.now ≡ self.now.state }
     {
@@ -111,7 +113,7 @@ impl Ckpt {
         (node, line_len, sent, received, state)
     }
 
-    /// All of it but the state.
+    /// All of it but the state, so that what it costs does not grow with what the node held.
     pub fn marks(&self, alloc: Global) -> Result<Marks, AllocError>
         ensures { IfOk result (λ m. m ≡ marks_of self.now) }
     {
@@ -123,7 +125,7 @@ impl Ckpt {
         })
     }
 
-    /// An equal checkpoint.
+    /// An equal checkpoint with memory of its own.
     pub fn copy(&self, alloc: Global) -> Result<Ckpt, AllocError>
         ensures { IfOk result (λ c. c ≡ self.now) }
     {

@@ -6,7 +6,8 @@ use kt_link::Label;
 use kt_tuple::NodeId;
 use std::marker::Model;
 
-/// What a checkpoint says besides its node's state. It costs nothing that grows with what the node holds.
+/// What a checkpoint says besides its node's state. It costs nothing that grows with what the node holds. It has the
+/// same four readers as `Ckpt`, and is what a store tells of a checkpoint that it does not load.
 #[derive(Debug, Drop)]
 pub struct Marks {
     pub(crate) node: NodeId,
@@ -29,14 +30,14 @@ impl Model for Marks {
 }
 
 impl Marks {
-    /// The node.
+    /// Whose checkpoint it is.
     pub fn node(&self) -> NodeId
         ensures { result ≡ self.now.node }
     {
         self.node
     }
 
-    /// How many acts the node's line had.
+    /// How many acts the node's line had when it was taken.
     pub fn line_len(&self) -> u64
         ensures { result ≡ self.now.line_len }
     {

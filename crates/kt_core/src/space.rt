@@ -25,7 +25,7 @@ fn counts<S: CkptStore>(store: &mut S, alloc: Global, node: NodeId) -> Result<bo
     }
 }
 
-/// The tentative checkpoint.
+/// The node's tentative checkpoint, `None` where it has none.
 fn tentative_of<S: CkptStore>(
     store: &mut S,
     alloc: Global,
@@ -39,7 +39,8 @@ fn tentative_of<S: CkptStore>(
     }
 }
 
-/// The node's permanent checkpoint: a tentative one counts from the moment that its Yes is written.
+/// The node's permanent checkpoint. A tentative one counts from the moment that its Yes is written, whether or not its
+/// node knows: all those of a check become permanent at once, and some nodes may be down then.
 fn permanent_of<S: CkptStore>(
     store: &mut S,
     alloc: Global,
@@ -54,7 +55,7 @@ fn permanent_of<S: CkptStore>(
     }
 }
 
-/// The tuples of a stored shard.
+/// The tuples of a stored shard: none without a checkpoint, and none of a worker's.
 fn tuples_of(alloc: Global, checkpoint: Option<Ckpt>) -> Vec<Tuple>
     ensures { result.items ≡ tuples_of checkpoint }
 {

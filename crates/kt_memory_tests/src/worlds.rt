@@ -16,7 +16,7 @@ const W1: NodeId = NodeId::Worker(1);
 
 const S1: NodeId = NodeId::Shard(1);
 
-/// `out (7)` and `in (?int)`.
+/// A script of two commands, `out (7)` and `in (?int)`.
 fn script(alloc: Global) -> Result<Script, Fail> {
     let (mut actuals, mut slots) = (ArrayVec::new(), ArrayVec::new());
     let seven = Actual::Literal(Value::Int(7));
@@ -43,7 +43,8 @@ fn counts(world: &Game, node: NodeId) -> (usize, u64) {
     (world.history().notes().len(), world.steps_of(node))
 }
 
-/// All memory but what small blocks give back, one after the other.
+/// All memory is taken, `hoard`, but for small blocks that are given back one after the other, `spare`: so each call is
+/// tried with a little more than the one before.
 #[derive(Drop)]
 struct Little {
     hoard: Vec<Vec<u8>>,
@@ -104,8 +105,8 @@ fn is_of_memory(error: StepError) -> bool {
     error == StepError::OutOfMemory || error == StepError::Store(StoreError::Memory)
 }
 
-/// Makes the step with a little more memory each time. Until it is made nothing changes.
-/// Whether it was refused before it was made.
+/// Makes the step with a little more memory each time. Until it is made neither the notes nor the owner's count of
+/// steps change. Answers whether it was refused before it was made.
 fn step_with_little(
     rt: &impl Abort,
     alloc: Global,

@@ -31,7 +31,8 @@ use std::alloc::{AllocError, Global};
 use std::collections::VecDeque;
 use std::marker::Model;
 
-/// The worker of the state, where it is one of the script.
+/// The worker of the state, where it is one of the script. Bytes are judged by their format alone, which allows more
+/// than a node can hold; so this is asked here, where the node is made (docs/DECISIONS.md#checkpoints).
 fn worker_from(role: Role<'_>, state: WorkerState) -> Result<Body, Refusal>
     ensures { GivesBody result (worker_from (role_view role.entry) state) }
 {
@@ -160,7 +161,7 @@ fn opening_body(alloc: Global, role: Role<'_>) -> Result<Body, AllocError>
     }
 }
 
-/// The table of a checkpoint's list.
+/// The table of a checkpoint's list, which begins with neighbour 1: entry 0 and those behind the list are `(0, 0)`.
 #[tactic(auto, using(crate::proofs::Numbers::mapped_none, crate::proofs::Numbers::mapped_from_zero))]
 fn tabled(alloc: Global, labels: &[Label]) -> Result<Vec<Label>, AllocError>
     ensures { IfOk result (λ v. v.items ≡ tabled labels.now) }

@@ -56,7 +56,7 @@ fn unserved_as(refusal: ServeError) -> Refusal
 }
 
 impl Live {
-    /// The message that was kept first.
+    /// The message that was kept first, and who sent it; `None` where nothing is kept.
     pub(crate) fn first_kept(&self) -> Option<&(NodeId, Post)>
         ensures { option_copied result ≡ first_kept (live_view self.now) }
     {
@@ -65,7 +65,7 @@ impl Live {
 }
 
 impl<'a> View<'a> {
-    /// The node, where it is up.
+    /// The parts of a node that is up; `None` where it is down, held or rolls back.
     pub(crate) fn up(self) -> Option<&'a Live>
         ensures { option_map (λ n. live_view n.now) result ≡ up_of self.entry.node.now.node }
     {

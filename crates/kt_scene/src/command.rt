@@ -18,7 +18,7 @@ use kt_script::{
 use kt_tuple::reading::{after_place, int_at, int_of, value_at, value_of};
 use kt_tuple::{Kind, MAX_PLACES};
 
-/// What an operation does.
+/// The verb of an operation: the word that begins its line.
 #[derive(Clone, Copy, Debug, PartialEq, Eq)]
 pub(crate) enum Verb {
     Out,
@@ -85,7 +85,7 @@ fn actual_at(text: &[u8]) -> Option<(Actual, &[u8])>
     }
 }
 
-/// `?int` or `?str`.
+/// The kind of `?int` or `?str` in front, and the bytes behind it.
 fn kind_at(text: &[u8]) -> Option<(Kind, &[u8])>
     ensures { option_map (λ x. (x.0, x.1.now)) result ≡ kind_at text.now }
 {
@@ -110,7 +110,7 @@ fn named(kind: Kind, rest: &[u8]) -> Option<(Slot, &[u8])>
     }
 }
 
-/// A place of a command.
+/// A place of a command in front, and the bytes behind it: a formal, a variable or a value.
 #[tactic(auto, unfolding(crate::specs::Commands::slot_at))]
 fn slot_at(text: &[u8]) -> Option<(Slot, &[u8])>
     ensures { option_map (λ x. (x.0, x.1.now)) result ≡ slot_at text.now }
@@ -165,7 +165,7 @@ fn actuals_of(slots: &[Slot]) -> Option<ArrayVec<Actual, MAX_PLACES>>
 }
 
 impl Verb {
-    /// The operation with these places.
+    /// The operation with these places; `None` where the verb cannot have them, as `out` no formal.
     fn operation(self, slots: ArrayVec<Slot, MAX_PLACES>) -> Option<Operation>
         requires { HasArity slots.items }
         ensures { result ≡ operation_of self slots.items }
@@ -227,7 +227,7 @@ fn set_with(variable: Name, source: Name, number: Option<i64>) -> Spelled
     }
 }
 
-/// `x = y + K`.
+/// The command of `x = y + K`, which stands behind `set `; `None` where it is spelled otherwise.
 fn set_of(words: &[u8]) -> Option<Spelled>
     ensures { result ≡ set_of words.now }
 {
@@ -279,7 +279,8 @@ pub(crate) fn spelled_of(line: &[u8]) -> Result<Spelled, SceneError>
     }
 }
 
-/// Why the command may not follow the script, want of memory aside.
+/// Why the command may not follow the script, want of memory aside. A number that is too large counts only where the
+/// variables have no fault, which has the lower number (docs/DECISIONS.md#the-scenarios-text).
 pub(crate) fn fault_behind(script: &Script, spelled: &Spelled) -> Option<SceneError>
     ensures { result ≡ fault_behind script.now spelled.now }
 {

@@ -1,4 +1,5 @@
-//! A scenario, read line by line. Each line is judged without memory, and then kept.
+//! A scenario, read line by line. Each line is judged without memory, and then kept: so want of memory hides no other
+//! fault of a line (docs/DECISIONS.md#values).
 
 ghost use Rattle.std.specs.Prelude.{◌≡◌, ◌&&◌, ◌+◌, ◌<◌, ◌≤◌, ℕ, List, length, Ok, Err, OnOk, IfErr, IfOk, IsTrue};
 ghost use Rattle.std.specs.Prelude.{None};
@@ -29,7 +30,7 @@ use std::mem;
 pub(crate) enum Expected {
     Title,
     Shards,
-    /// The first worker.
+    /// The line `worker` of the first worker.
     Workers,
     /// A command, a worker or the line before the work.
     Commands,
@@ -46,9 +47,10 @@ pub(crate) struct Draft {
     shards: u8,
     /// The scripts of the workers before this one.
     scripts: Vec<Script>,
-    /// This worker's script.
+    /// The commands so far of the worker whose lines are read now.
     script: Script,
-    /// It is of the kind that is wanted.
+    /// The steps or fault lines so far. A scenario is read as one of the kind that is asked for: the other kind's word
+    /// is a line that no rule allows (docs/DECISIONS.md#the-scenarios-text).
     work: Work,
 }
 
@@ -116,7 +118,7 @@ impl Draft {
         }
     }
 
-    /// Whether the last line was read.
+    /// Whether the line `end` was read.
     fn is_ended(&self) -> bool
         ensures { result ≡ is_ended self.now.expected }
     {
@@ -145,7 +147,7 @@ impl Draft {
         self.is_ended() && rest.is_empty()
     }
 
-    /// Reads one line more.
+    /// Reads one line more, which comes without its line feed. The fault is the lowest that the line has.
     pub(crate) fn read(&mut self, line: &[u8]) -> Result<(), SceneError>
         ensures read { OnOk result (line_read self.old line.now ≡ Ok self.new) }
         ensures fault { IfErr result (λ fault. IsFaultOf fault (line_read self.old line.now)) }
@@ -219,7 +221,7 @@ impl Draft {
         }
     }
 
-    /// Ends this worker's script.
+    /// Ends this worker's script, and puts it behind the others; refused only for want of memory.
     fn close_script(&mut self, expected: Expected) -> Result<(), SceneError>
         requires { HasScripts expected (length self.old.scripts + 1) }
         ensures closed { OnOk result (self.new ≡ closed expected self.old) }

@@ -21,7 +21,7 @@ pub(crate) fn behind<'a>(text: &'a [u8], word: &[u8]) -> Option<&'a [u8]>
     }
 }
 
-/// What was read, where nothing stands behind it.
+/// What was read where nothing stands behind it, else `None`.
 pub(crate) fn ended<T: Drop>(read: T, rest: &[u8]) -> Option<T>
     ensures { result ≡ ended (read, rest.now) }
 {
@@ -114,7 +114,7 @@ fn serve_of(words: &[u8]) -> Option<Step>
     )
 }
 
-/// The step that the line says.
+/// The step that the line says; `None` where no rule allows such a line of steps.
 pub(crate) fn step_of(line: &[u8]) -> Option<Step>
     ensures { result ≡ step_of line.now }
 {

@@ -39,8 +39,8 @@ fn line_end(text: &[u8]) -> Option<usize>
     memchr(b'\n', text)
 }
 
-/// The scenario that the text spells, with work of this kind, or its first line that has a fault: of several faults
-/// of that line the one with the lowest number. A text with work of the other kind has one on the line before the
+/// The scenario that the text spells, with work of this kind, or its first line that has a fault. Of several faults of
+/// that line it is the one with the lowest number. A text with work of the other kind has one on the line before the
 /// work, on which no rule allows that word. Want of memory is answered only on a line that has no other fault, and
 /// before the first that has one.
 pub fn read_scene(alloc: Global, text: &[u8], kind: WorkKind) -> Result<Scenario, SceneFault>

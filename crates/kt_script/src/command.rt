@@ -11,7 +11,7 @@ use std::alloc::{AllocError, Global};
 /// A value of an operation: written out, or that of a variable.
 #[derive(Debug, PartialEq, Eq, Drop)]
 pub enum Actual {
-    /// This value.
+    /// This value, as the command's text has it.
     Literal(Value),
     /// The value of the variable with this name.
     Variable(Name),
@@ -26,10 +26,10 @@ pub enum Slot {
     Formal(Kind, Option<Name>),
 }
 
-/// The values of a command's tuple.
+/// The values of a command's tuple: 1 to 8.
 pub type Actuals = Places<Actual>;
 
-/// The places of a command's template.
+/// The places of a command's template: 1 to 8.
 pub type Pattern = Places<Slot>;
 
 /// An operation on the space as a script has it.
@@ -63,7 +63,7 @@ pub enum Command {
 }
 
 impl Actual {
-    /// An equal actual.
+    /// An equal actual. It takes no memory, so it is not refused.
     pub fn copy(&self) -> Actual
         ensures { result ≡ self.now }
     {

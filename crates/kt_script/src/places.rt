@@ -7,7 +7,8 @@ use arrayvec::ArrayVec;
 use kt_tuple::MAX_PLACES;
 use std::marker::Model;
 
-/// 1 to 8 places of one sort, from left to right.
+/// 1 to 8 places of one sort, from left to right. Their room is fixed and takes no memory, so that a line is judged
+/// whole before anything of it is kept (docs/DECISIONS.md#values).
 #[derive(Debug, Drop)]
 pub struct Places<T> {
     places: ArrayVec<T, MAX_PLACES>,
@@ -37,7 +38,7 @@ impl<T: Default + Drop> Places<T> {
         }
     }
 
-    /// The places, from left to right.
+    /// The places, from left to right: 1 to 8 of them.
     pub fn as_slice(&self) -> &[T]
         ensures value { result.now ≡ self.now }
         ensures arity { HasArity self.now }

@@ -15,10 +15,10 @@ use kt_tuple::Kind;
 use std::alloc::{AllocError, Global};
 use std::marker::Model;
 
-/// The most commands that a script has.
+/// The most commands that a script has: a further one is refused with `Limit`.
 pub const MAX_COMMANDS: usize = 200;
 
-/// The most variables that a script has.
+/// The most variables that a script has: a command that binds a further one is refused with `Limit`.
 pub const MAX_VARIABLES: usize = 64;
 
 /// The commands of a worker, from first to last, each of which keeps the rules of variables and the limits
@@ -50,7 +50,7 @@ impl Script {
     ghost use Rattle.kt_script.specs.Variables.{variables_of, kind_in};
     ghost use Rattle.std.specs.Map.{keys_of};
 
-    /// The script of no commands.
+    /// The script of no commands, which `push` fills.
     pub fn new(alloc: Global) -> Script
         ensures { result ≡ [] }
     {
@@ -111,6 +111,7 @@ impl Script {
         ensures ok { OnOk result (self.new ≡ self.old ++ command ∷ []) }
         ensures err { OnErr result (self.new ≡ self.old) }
     {
+        // All memory is taken before the script changes, so that a refusal leaves it as it was.
         let alloc = *self.commands.allocator();
         let bindings = command.bindings(alloc)?;
         self.commands.reserve(1)?;
@@ -143,7 +144,7 @@ impl Script {
         has_next_from(none, 0, self.commands_from(pc))
     }
 
-    /// The commands from the one of this number on.
+    /// The commands from the one of this number on; none behind the end.
     fn commands_from(&self, pc: usize) -> &[Command]
         ensures value { result.now ≡ drop pc self.now }
         ensures room { pc + length result.now < 2 ^ 64 }
@@ -154,7 +155,7 @@ impl Script {
         }
     }
 
-    /// The places of the command just before `pc`.
+    /// The places of the command just before `pc`; none at the beginning, and where no operation stands there.
     pub(crate) fn slots_before(&self, pc: usize) -> &[Slot]
         ensures { result.now ≡ slots_before self.now pc }
     {

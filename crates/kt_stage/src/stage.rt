@@ -27,7 +27,7 @@ pub(crate) struct Floor<S: CkptStore, L: Naming> {
     pub(crate) desk: Desk<S, L>,
     /// How many nodes have found since the last step that they have none to make.
     pub(crate) idle: usize,
-    /// Whether the run has ended.
+    /// Whether the run has ended: each thread that finds it so makes no further step.
     pub(crate) is_over: bool,
 }
 
@@ -134,7 +134,7 @@ impl<S: CkptStore, L: Naming> Stage<S, L> {
         }
     }
 
-    /// The same, which gives the world back where memory runs out.
+    /// As `open`, and gives the world back where memory runs out: a run hands the store on with its refusal.
     pub(crate) fn open_or_back(
         alloc: Global,
         world: World<S>,
@@ -171,7 +171,7 @@ impl<S: CkptStore, L: Naming> Stage<S, L> {
         Ok((stage, seats))
     }
 
-    /// The store of its world, where it is not closed.
+    /// The store of its world, from a stage that is given up and not closed: the steps are gone.
     pub(crate) fn into_store(self) -> S {
         let Stage { floor, .. } = self;
         floor.into_inner().desk.journal.into_world().into_store()

@@ -33,7 +33,7 @@ impl Place {
         }
     }
 
-    /// Whether the value may stand here.
+    /// Whether the value may stand here: the actual's value itself, or any of the formal's kind.
     pub fn admits(&self, value: &Value) -> bool
         ensures meaning { IsTrue result ↔ Admits self.now value.now }
         ensures decided { result ≡ admits self.now value.now }
@@ -44,7 +44,7 @@ impl Place {
         }
     }
 
-    /// An equal place.
+    /// An equal place. It takes no memory, so it is not refused.
     pub fn copy(&self) -> Place
         ensures { result ≡ self.now }
     {
@@ -100,7 +100,7 @@ impl Template {
         })
     }
 
-    /// The places, from left to right.
+    /// The places, from left to right: 1 to 8 of them.
     pub fn places(&self) -> &[Place]
         ensures value { result.now ≡ self.now }
         ensures arity { HasArity self.now }
@@ -108,7 +108,8 @@ impl Template {
         &self.places
     }
 
-    /// Whether the tuple has as many values as there are places, each admitted by its place.
+    /// Whether the tuple has as many values as there are places, each admitted by its place. `meaning` says so as a
+    /// relation, for a reader; `decided` as a test that computes, for the contracts above.
     pub fn matches(&self, tuple: &Tuple) -> bool
         ensures meaning { IsTrue result ↔ Matches self.now tuple.now }
         ensures decided { result ≡ matches self.now tuple.now }
@@ -137,6 +138,7 @@ impl Template {
     }
 }
 
+/// Whether each place admits the value beside it, and none is left over: one place, and then the rest.
 fn all_admit(places: &[Place], values: &[Value]) -> bool
     ensures meaning { IsTrue result ↔ Matches places.now values.now }
     ensures decided { result ≡ matches places.now values.now }

@@ -47,7 +47,7 @@ impl Tuple {
         }
     }
 
-    /// The values, from left to right.
+    /// The values, from left to right: 1 to 8 of them.
     pub fn values(&self) -> &[Value]
         ensures value { result.now ≡ self.now }
         ensures arity { HasArity self.now }

@@ -45,7 +45,7 @@ impl Worker {
     ghost use Rattle.kt_worker.specs.After.{IsAfter};
     ghost use Rattle.kt_worker.specs.Parts.{standing_of, misfit_of};
 
-    /// A worker that made no request yet.
+    /// A worker that made no request yet, before its script's first command.
     pub fn new(alloc: Global, script: &Script) -> Result<Worker, AllocError>
         ensures value { IfOk result (λ w. w ≡ opening_standing script.now) }
         ensures after { IfOk result (λ w. IsAfter script.now [] w) }
@@ -58,10 +58,13 @@ impl Worker {
         })
     }
 
-    /// The worker of these parts, which `number`, `asked`, `pc`, `was_none` and `values` read: the number of
-    /// the last request, what it asks for where it is unanswered, the number of the next command, whether
-    /// the last answer was none, and the values of the variables in the order of the script's names. Parts
-    /// that are no worker's of this script are refused; it takes no memory.
+    /// The worker of these parts, which its readers of the same names give. `number` is that of the last request, 0
+    /// before the first, and `asked` is what it asks for where it is unanswered. `pc` is the number of the next
+    /// command, counted from 0, and `was_none` says whether the last answer was none. `values` are those of the
+    /// variables in the order of the script's names.
+    ///
+    /// Parts that are no worker's of this script are refused with the first misfit; it takes no memory. What is
+    /// unanswered is not compared with the script: whether the parts were read of a worker, the caller has to know.
     pub fn from_parts(
         script: &Script,
         number: u64,
@@ -93,7 +96,7 @@ impl Worker {
         })
     }
 
-    /// An equal worker.
+    /// An equal worker with memory of its own.
     pub fn copy(&self, alloc: Global) -> Result<Worker, AllocError>
         ensures { IfOk result (λ w. w ≡ self.now) }
     {
@@ -178,12 +181,14 @@ impl Worker {
         let Some(Next { op, pc, env }) = script.next(alloc, self.pc, &self.env)? else {
             return Ok(None);
         };
+        // All memory is taken before the worker changes, so that a refusal leaves it as it was.
         let asked = op.copy(alloc)?;
         self.ask(asked, pc, env);
         Ok(Some((self.number, op)))
     }
 
-    /// The operation is asked for, with the next number. Behind it stand this command and these variables.
+    /// The operation is asked for, with the next number. Behind it stand this command and these variables. It takes no
+    /// memory.
     fn ask(&mut self, op: Op, pc: usize, env: Env)
         requires { self.old.number < pc }
         ensures { self.new ≡ record {
@@ -232,12 +237,14 @@ impl Worker {
         if !self.awaits(number, op) {
             return Ok(false);
         }
+        // `bind` gives a new environment, so that a refusal leaves the old one.
         self.env = self.env.bind(alloc, script, self.pc, answer)?;
         self.asked = None;
         Ok(true)
     }
 
-    /// Whether an operation is left after the answers so far: the unanswered one, or the next.
+    /// Whether an operation is left after the answers so far: the unanswered one, or the next. The unanswered one
+    /// counts as left, so that `is_done` is the opposite.
     pub fn has_next(&self, script: &Script) -> bool
         ensures exact { result ≡ is_left script.now self.now }
         ensures asks { (answers : List Answer) → IsAfter script.now answers self.now
