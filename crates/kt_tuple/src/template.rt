@@ -3,6 +3,7 @@
 ghost use Rattle.std.specs.Prelude.{◌≡◌, ◌↔◌, IsTrue, IsSome, IfSome, IfOk, map};
 ghost use Rattle.kt_tuple.specs.declared.template.Place.TheVariants.{Actual};
 ghost use Rattle.kt_tuple.specs.Matching.{HasArity, Admits, Matches, MatchesOnly, admits, matches};
+ghost use Rattle.kt_tuple.specs.Signature.{kinds_of_places, signature_of};
 
 use crate::signature::Signature;
 use crate::tuple::{MAX_PLACES, Tuple};
@@ -117,7 +118,7 @@ impl Template {
         all_admit(self.places(), tuple.values())
     }
 
-    /// An equal template.
+    /// An equal template, which shares the places with this one: it takes no memory.
     pub fn copy(&self, _alloc: Global) -> Result<Template, AllocError>
         ensures { IfOk result (λ t. t ≡ self.now) }
     {
@@ -130,12 +131,20 @@ impl Template {
     pub fn signature(&self) -> Signature
         ensures { result ≡ signature_of (kinds_of_places self.now) }
     {
-        let mut signature = Signature::empty();
-        for place in self.places() {
-            signature = signature.then(place.kind());
-        }
-        signature
+        signature_of(self.places())
     }
+}
+
+/// The kinds of these places, as one number.
+fn signature_of(places: &[Place]) -> Signature
+    requires { HasArity places.now }
+    ensures { result ≡ signature_of (kinds_of_places places.now) }
+{
+    let mut signature = Signature::empty();
+    for place in places {
+        signature = signature.then(place.kind());
+    }
+    signature
 }
 
 /// Whether each place admits the value beside it, and none is left over: one place, and then the rest.

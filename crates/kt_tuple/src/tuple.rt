@@ -2,6 +2,7 @@
 
 ghost use Rattle.std.specs.Prelude.{◌≡◌, ◌↔◌, IsTrue, IsSome, IfSome, IfOk};
 ghost use Rattle.kt_tuple.specs.Matching.{HasArity};
+ghost use Rattle.kt_tuple.specs.Signature.{kinds_of, signature_of};
 
 use crate::signature::Signature;
 use crate::value::Value;
@@ -55,7 +56,7 @@ impl Tuple {
         &self.values
     }
 
-    /// An equal tuple.
+    /// An equal tuple, which shares the values with this one: it takes no memory.
     pub fn copy(&self, _alloc: Global) -> Result<Tuple, AllocError>
         ensures { IfOk result (λ t. t ≡ self.now) }
     {
@@ -68,12 +69,20 @@ impl Tuple {
     pub fn signature(&self) -> Signature
         ensures { result ≡ signature_of (kinds_of self.now) }
     {
-        let mut signature = Signature::empty();
-        for value in self.values() {
-            signature = signature.then(value.kind());
-        }
-        signature
+        signature_of(self.values())
     }
+}
+
+/// The kinds of these values, as one number.
+fn signature_of(values: &[Value]) -> Signature
+    requires { HasArity values.now }
+    ensures { result ≡ signature_of (kinds_of values.now) }
+{
+    let mut signature = Signature::empty();
+    for value in values {
+        signature = signature.then(value.kind());
+    }
+    signature
 }
 
 impl PartialEq for Tuple {
