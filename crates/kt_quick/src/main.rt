@@ -1,5 +1,5 @@
-//! The program that answers before anything is proved: `replay`, `run` and `run --journal` as `linda_kt` does them, over
-//! a store in memory. Without the command-line reader and the store in SQL it is compiled in a third of the time.
+//! The program that answers before anything is proved: `replay`, `run` and `run --journal` as `linda_kt` does them,
+//! over a store in memory. Without the command-line reader and the store in SQL it is compiled in a third of the time.
 //!
 //! - Contract: `run_arguments`, clause `told`: words that name a command do it over a fresh store in memory, by the
 //!   same call as `linda_kt`. Any other words end with status 2, and nothing is read or written.
