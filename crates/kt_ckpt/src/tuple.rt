@@ -63,7 +63,7 @@ pub(crate) fn tuple_at(alloc: Global, bytes: &[u8]) -> Result<(Tuple, &[u8]), Ck
     let (count, rest) = byte_within(1, MAX_PLACES, bytes)?;
     let (values, rest) = values_at(alloc, count, rest)?;
     // Not refused here: there are 1 to 8 values by their count.
-    let tuple = Tuple::new(values).ok_or(CkptError::Field)?;
+    let tuple = Tuple::new(alloc, values)?.ok_or(CkptError::Field)?;
     Ok((tuple, rest))
 }
 
@@ -94,7 +94,7 @@ pub(crate) fn template_at(alloc: Global, bytes: &[u8]) -> Result<(Template, &[u8
     let (count, rest) = byte_within(1, MAX_PLACES, bytes)?;
     let (places, rest) = places_at(alloc, count, rest)?;
     // Not refused here: there are 1 to 8 places by their count.
-    let template = Template::new(places).ok_or(CkptError::Field)?;
+    let template = Template::new(alloc, places)?.ok_or(CkptError::Field)?;
     Ok((template, rest))
 }
 

@@ -143,7 +143,7 @@ impl Machine {
 
     /// As `found`, with two clauses more, which the plans ask for: the owner can act and be saved, as in each state
     /// that is ready. A function of its own for the proof alone.
-    fn seen(&self, id: NodeId) -> Result<View<'_>, StepError>
+    pub(crate) fn seen(&self, id: NodeId) -> Result<View<'_>, StepError>
         requires { IsReady (state_of self.now empty_content) }
         ensures there { is_ok result ≡ is_node self.now.scene id }
         ensures view { IfOk result (λ v. view_of v ≡ view (state_of self.now empty_content) id) }

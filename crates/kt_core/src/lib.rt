@@ -9,6 +9,7 @@
 //! - Begin in: `world.rt`, which has all public calls of a world, then `stepping.rt` for the order within a step.
 #![tactic(auto)]
 
+mod at_once;
 mod causes;
 mod change;
 mod faults;

@@ -1,10 +1,11 @@
 //! The messages that a step sends, takes off and makes room for, and its note.
 
-ghost use Rattle.std.specs.Prelude.{◌≡◌, ◌≤◌, length, OnOk, IfSome};
+ghost use Rattle.std.specs.Prelude.{◌≡◌, ◌≤◌, ◌∷◌, [], length, OnOk, IfSome};
 ghost use Rattle.std.specs.List.{AllByRecursion};
 ghost use Rattle.kt_history.specs.Chronicle.{node_of, room_of};
 ghost use Rattle.kt_history.specs.WellFormed.{MayFollow};
 ghost use Rattle.kt_link.specs.Network.{AreNeighbours, place, room};
+ghost use Rattle.kt_world.specs.declared.step.Step.TheVariants as steps;
 ghost use Rattle.kt_world.specs.Effect.{sent, taken_off, noted};
 ghost use Rattle.kt_core.specs.inner.Traffic.{IsSameTraffic};
 
@@ -44,6 +45,16 @@ pub(crate) fn take_off(links: &mut Links<Message>, step: Step)
     }
 }
 
+/// Takes the first message off the link, and sends nothing.
+pub(crate) fn take_one_off(links: &mut Links<Message>, from: NodeId, to: NodeId)
+    ensures queues { links.new.queues ≡ sent (place links.old.workers links.old.shards)
+        (taken_off (place links.old.workers links.old.shards) links.old.queues (steps.Deliver from to)) to [] }
+    ensures workers { links.new.workers ≡ links.old.workers }
+    ensures shards { links.new.shards ≡ links.old.shards }
+{
+    take_off(links, Step::Deliver { from, to });
+}
+
 /// Sends the messages of the owner, for which there is room.
 pub(crate) fn send_all(links: &mut Links<Message>, owner: NodeId, send: Vec<(NodeId, Message)>)
     requires there { AllByRecursion (λ m. AreNeighbours links.old.workers links.old.shards owner m.0) send.items }
@@ -56,6 +67,18 @@ pub(crate) fn send_all(links: &mut Links<Message>, owner: NodeId, send: Vec<(Nod
     for (to, message) in send {
         links.push_reserved(owner, to, message);
     }
+}
+
+/// Sends one message of the owner, for which there is room.
+pub(crate) fn send_one(links: &mut Links<Message>, owner: NodeId, to: NodeId, message: Message)
+    requires there { AreNeighbours links.old.workers links.old.shards owner to }
+    requires room { 1 ≤ room links.old owner to }
+    ensures queues { links.new.queues ≡
+        sent (place links.old.workers links.old.shards) links.old.queues owner ((to, message) ∷ []) }
+    ensures workers { links.new.workers ≡ links.old.workers }
+    ensures shards { links.new.shards ≡ links.old.shards }
+{
+    links.push_reserved(owner, to, message);
 }
 
 /// Makes the note, if there is one, for which there is room.

@@ -18,5 +18,6 @@ pub mod Arrivals
 pub mod Deciding
 pub mod Failing
 pub mod Steps
+pub mod AtOnce
 pub mod Posts
 pub mod inner

@@ -11,6 +11,7 @@
 
 mod arrivals;
 mod asking;
+mod at_once;
 mod boxed;
 mod change;
 mod deciding;
@@ -36,6 +37,7 @@ mod talking;
 mod turning;
 mod voting;
 
+pub use at_once::{Again, Asked};
 pub use boxed::Boxed;
 pub use change::{BodyChange, Change, KeptChange, Loaded, Turn};
 pub use laws::plans_can_be_carried_out;

@@ -24,7 +24,7 @@ use std::alloc::{AllocError, Global};
 
 impl Live {
     /// The label of the next underlying message, to whomever: its incarnation, and its count and one.
-    fn next_label(&self) -> Label
+    pub(crate) fn next_label(&self) -> Label
         requires { CanCount (live_view self.now) }
         ensures { result ≡ next_label (live_view self.now) }
     {
@@ -71,7 +71,7 @@ impl View<'_> {
     }
 
     /// The shard that is the home of the operation's tuples.
-    fn home(self, op: &Op) -> NodeId
+    pub(crate) fn home(self, op: &Op) -> NodeId
         requires { 1 ≤ self.role.peers }
         ensures { result ≡ home self.entry.role.peers op.now }
     {

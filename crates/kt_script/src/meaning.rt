@@ -100,7 +100,7 @@ impl Scope<'_> {
     {
         let places = self.places_of(alloc, pattern.as_slice())?;
         // A command's template has 1 to 8 places, so it makes a template.
-        Ok(Template::new(places).unwrap())
+        Ok(Template::new(alloc, places)?.unwrap())
     }
 
     fn tuple_of(self, alloc: Global, actuals: &Actuals) -> Result<Tuple, AllocError>
@@ -108,7 +108,7 @@ impl Scope<'_> {
     {
         let values = self.values_of(alloc, actuals.as_slice())?;
         // A command's tuple has 1 to 8 values, so it makes a tuple.
-        Ok(Tuple::new(values).unwrap())
+        Ok(Tuple::new(alloc, values)?.unwrap())
     }
 
     /// The operation as it is sent: with values and bare formals.

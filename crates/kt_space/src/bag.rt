@@ -12,6 +12,9 @@ use kt_tuple::{Template, Tuple};
 use std::alloc::{AllocError, AllocFailed, Global};
 use std::marker::Model;
 
+/// A bag with fewer slots is not tidied: making its index anew costs more than a few empty slots do.
+const LEAST_TIDIED: usize = 64;
+
 /// Tuples in order of arrival, equal ones too.
 #[derive(Debug, Drop)]
 pub struct Bag {
@@ -113,8 +116,9 @@ impl Bag {
             return Ok(());
         }
         // Only where the slots are full and half of them or more are empty: so neither empty slots nor groups without a
-        // tuple are ever more than the slots that the bag once filled.
-        if self.slots.len() == self.slots.capacity() && self.len <= self.slots.len() / 2 {
+        // tuple are ever more than the slots that the bag once filled, or a few.
+        let slots = self.slots.len();
+        if slots == self.slots.capacity() && LEAST_TIDIED <= slots && self.len <= slots / 2 {
             self.tidy()?;
         }
         self.slots.reserve(1)?;

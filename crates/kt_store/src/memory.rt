@@ -1,16 +1,17 @@
 //! A store in memory.
 
-ghost use Rattle.std.specs.Prelude.{◌≡◌, ◌+◌, ℕ, None, OnOk, OnErr, vec_len, vec_capacity, IfOk, IfSome};
+ghost use Rattle.std.specs.Prelude.{◌≡◌, ◌+◌, ℕ, None, OnOk, OnErr, vec_len, vec_capacity, IfOk, IfSome, true};
 ghost use Rattle.std.specs.Prelude.{IfNone, slice_get, length, fold, map, max, All, ◌<◌, ◌≤◌, ◌==◌, ◌&&◌};
 ghost use Rattle.std.specs.Option.{option_copied};
 ghost use Rattle.std.specs.List.{find, position};
 ghost use Rattle.kt_tuple.specs.declared.node.NodeId.{NodeId};
 ghost use Rattle.kt_tuple.specs.Node.{node_eq};
+ghost use Rattle.kt_store.specs.declared.memory.Opened.{Opened};
 ghost use Rattle.kt_store.specs.declared.rows.NodeRow.{NodeRow};
 ghost use Rattle.kt_store.specs.declared.rows.Posted.{Posted};
 ghost use Rattle.kt_store.specs.Verdict.{is_open};
 ghost use Rattle.kt_store.specs.Content.{row_of, verdict_of, initiator_of, open_of, next_instance};
-ghost use Rattle.kt_store.specs.inner.Rising.{IsBoard};
+ghost use Rattle.kt_store.specs.inner.Rising.{IsBoard, IsNumbered, opened};
 ghost use Rattle.kt_store.specs.Content.{is_fresh, greatest, permanent_marks, tentative_marks};
 ghost use Rattle.kt_store.specs.Changes.{decided, opening, storing, with_posted};
 ghost use Rattle.kt_store.specs.inner.Row.{changed, IsWithin};
@@ -28,22 +29,34 @@ use std::marker::Model;
 /// not 2^64 - 1: docs/DECISIONS.md#stores.
 const GREATEST: u64 = 1 << 62;
 
+/// An instance without a verdict, and the node that began it.
+#[derive(Clone, Copy, Debug)]
+struct Opened {
+    instance: u64,
+    initiator: NodeId,
+}
+
 /// A store in memory, which is always honest.
 #[derive(Debug, Drop)]
 pub struct MemStore {
     nodes: Vec<NodeRow>,
+    // The rows are numbered 1, 2, .. in their order, so that a row is found by its number without a search.
     board: Vec<Posted>,
+    // The rows of the board without a verdict: few, however long the board is.
+    undecided: Vec<Opened>,
 }
 
 impl Model for MemStore {
+    ghost use Rattle.std.specs.Prelude.{◌≡◌};
     ghost use Rattle.kt_store.specs.Content.{Content};
-    ghost use Rattle.kt_store.specs.inner.Rising.{IsBoard, IsNodes};
+    ghost use Rattle.kt_store.specs.inner.Rising.{IsBoard, IsNodes, IsNumbered, opened};
 
     ghost Value = { Content };
 
     ghost view = { λ s. record { nodes = s.nodes.items; board = s.board.items } };
 
-    ghost invariant = { λ s. IsNodes s.nodes.items × IsBoard s.board.items };
+    ghost invariant = { λ s. IsNodes s.nodes.items × IsBoard s.board.items × IsNumbered s.board.items
+        × (s.undecided.items ≡ opened s.board.items) };
 }
 
 impl MemStore {
@@ -56,6 +69,7 @@ impl MemStore {
         MemStore {
             nodes: Vec::new(alloc),
             board: Vec::new(alloc),
+            undecided: Vec::new(alloc),
         }
     }
 
@@ -141,7 +155,7 @@ impl MemStore {
     fn open_instance_of(&self, node: NodeId) -> Option<u64>
         ensures { result ≡ open_of self.now node }
     {
-        Some(open_at(&self.board, node)?.instance)
+        Some(opened_at(&self.undecided, node)?.instance)
     }
 
     /// The number that the next instance gets: from 1 on, and above 2^62 where none is left.
@@ -149,7 +163,7 @@ impl MemStore {
         ensures value { result ≡ next_instance self.now }
         ensures within { result ≤ greatest + 1 }
     {
-        greatest_of(&self.board) + 1
+        self.board.len() as u64 + 1
     }
 
     /// Gives the instance its verdict, where it was begun.
@@ -158,6 +172,7 @@ impl MemStore {
     {
         if let Some(place) = place_of(&self.board, instance) {
             self.board[place].verdict = Verdict::of(yes);
+            self.undecided.retain(|opened| opened.instance != instance);
         }
     }
 
@@ -192,6 +207,7 @@ impl MemStore {
     {
         // All memory is taken before a row changes, so that a refused write changes nothing.
         self.board.reserve(1)?;
+        self.undecided.reserve(1)?;
         change_row(&mut self.nodes, node, change)?;
         let new = Posted {
             instance,
@@ -199,7 +215,7 @@ impl MemStore {
             purpose,
             verdict: Verdict::Open,
         };
-        post(&mut self.board, new);
+        post(&mut self.board, &mut self.undecided, new);
         Ok(())
     }
 
@@ -340,48 +356,52 @@ fn row_at(rows: &[NodeRow], node: NodeId) -> Option<&NodeRow>
 
 /// The instance's row, where it was begun.
 fn posted_at(rows: &[Posted], instance: u64) -> Option<&Posted>
+    requires { IsNumbered rows.now }
     ensures { option_copied result ≡ find (λ (row : Posted). row.instance == instance) rows.now }
 {
-    rows.iter().find(|row| row.instance == instance)
+    let place = place_of(rows, instance)?;
+    Some(&rows[place])
+}
+
+/// The first of these instances that the node began.
+fn opened_at(rows: &[Opened], node: NodeId) -> Option<&Opened>
+    ensures { option_copied result ≡ find (λ (row : Opened). node_eq row.initiator node) rows.now }
+{
+    rows.iter().find(|row| row.initiator == node)
 }
 
 /// Where the instance's row stands.
 fn place_of(rows: &[Posted], instance: u64) -> Option<usize>
+    requires { IsNumbered rows.now }
     ensures value { result ≡ position (λ (row : Posted). row.instance == instance) rows.now }
     ensures within { IfSome result (λ place. place < length rows.now) }
 {
-    rows.iter().position(|row| row.instance == instance)
+    let count = rows.len() as u64;
+    if 1 <= instance && instance <= count {
+        Some((instance - 1) as usize)
+    } else {
+        None
+    }
 }
 
-/// Puts the next instance on the board, which has room for it.
-fn post(board: &mut Vec<Posted>, new: Posted)
+/// Puts the next instance on the board, which has room for it, as has the list of those without a verdict.
+fn post(board: &mut Vec<Posted>, undecided: &mut Vec<Opened>, new: Posted)
     requires board { IsBoard board.old.items }
+    requires numbered { IsNumbered board.old.items }
     requires next { new.instance ≡ fold max 0 (map (λ (row : Posted). row.instance) board.old.items) + 1 }
     requires within { new.instance ≤ greatest }
+    requires is_open { is_open new.verdict ≡ true }
+    requires opened { undecided.old.items ≡ opened board.old.items }
     requires room { vec_len board.old < vec_capacity board.old }
+    requires open_room { vec_len undecided.old < vec_capacity undecided.old }
     ensures written { board.new.items ≡ with_posted new board.old.items }
     ensures kept { IsBoard board.new.items }
+    ensures still_numbered { IsNumbered board.new.items }
+    ensures still_opened { undecided.new.items ≡ opened board.new.items }
 {
+    undecided.push_reserved(Opened {
+        instance: new.instance,
+        initiator: new.initiator,
+    });
     board.push_reserved(new);
-}
-
-/// The greatest number of an instance, 0 where there is none.
-fn greatest_of(rows: &[Posted]) -> u64
-    ensures value { result ≡ fold max 0 (map (λ (row : Posted). row.instance) rows.now) }
-    ensures within { All (λ (row : Posted). row.instance ≤ greatest) rows.now → result ≤ greatest }
-{
-    let mut greatest = 0;
-    for row in rows {
-        greatest = greatest.max(row.instance);
-    }
-    greatest
-}
-
-/// The first instance that the node began and that is open.
-fn open_at(rows: &[Posted], node: NodeId) -> Option<&Posted>
-    ensures { option_copied result ≡ find
-        (λ (row : Posted). node_eq row.initiator node && is_open row.verdict) rows.now }
-{
-    rows.iter()
-        .find(|row| row.initiator == node && row.verdict.is_open())
 }

@@ -43,7 +43,11 @@ impl Tuple {
         ensures memory { tuple_fault text.now ≡ None → IfErr result (λ e. e ≡ ParseError.OutOfMemory) }
     {
         // Not refused here: a text without a fault has 1 to 8 values (`a_text_read_is_spelled_so`, `tuple_arity`).
-        Tuple::new(parsed::<Value>(alloc, text)?).ok_or(ParseError::TooLong)
+        let items = parsed::<Value>(alloc, text)?;
+        match Tuple::new(alloc, items) {
+            Ok(made) => made.ok_or(ParseError::TooLong),
+            Err(AllocError) => Err(ParseError::OutOfMemory),
+        }
     }
 }
 
@@ -64,7 +68,11 @@ impl Template {
         ensures memory { template_fault text.now ≡ None → IfErr result (λ e. e ≡ ParseError.OutOfMemory) }
     {
         // Not refused here: a text without a fault has 1 to 8 places (`a_text_read_is_spelled_so`, `template_arity`).
-        Template::new(parsed::<Place>(alloc, text)?).ok_or(ParseError::TooLong)
+        let items = parsed::<Place>(alloc, text)?;
+        match Template::new(alloc, items) {
+            Ok(made) => made.ok_or(ParseError::TooLong),
+            Err(AllocError) => Err(ParseError::OutOfMemory),
+        }
     }
 }
 

@@ -3,12 +3,14 @@
 ghost use Rattle.std.specs.Prelude.{◌≡◌, ◌↔◌, IsTrue, IsSome, IfSome, IfOk, map};
 ghost use Rattle.kt_tuple.specs.declared.template.Place.TheVariants.{Actual};
 ghost use Rattle.kt_tuple.specs.Matching.{HasArity, Admits, Matches, MatchesOnly, admits, matches};
+ghost use Rattle.kt_tuple.specs.Signature.{kinds_of_places, signature_of};
 
 use crate::signature::Signature;
 use crate::tuple::{MAX_PLACES, Tuple};
 use crate::value::{Kind, Value};
 use std::alloc::{AllocError, Global};
 use std::marker::Model;
+use std::sync::Arc;
 
 /// One place of a template.
 #[derive(Debug, PartialEq, Eq, Drop)]
@@ -57,33 +59,35 @@ impl Place {
 /// An ordered list of 1 to 8 places (Gelernter, "Generative Communication in Linda").
 #[derive(Debug, Drop)]
 pub struct Template {
-    places: Vec<Place>,
+    places: Arc<Vec<Place>, Global>,
 }
 
 impl Model for Template {
+    ghost use Rattle.std.specs.Arc.{arc_value};
     ghost use Rattle.std.specs.Prelude.{List};
     ghost use Rattle.kt_tuple.specs.declared.template.Place.{Place};
     ghost use Rattle.kt_tuple.specs.Matching.{HasArity};
 
     ghost Value = { List Place };
 
-    ghost view = { λ t. t.places.items };
+    ghost view = { λ t. (arc_value t.places).items };
 
-    ghost invariant = { λ t. HasArity t.places.items };
+    ghost invariant = { λ t. HasArity (arc_value t.places).items };
 }
 
 impl Template {
     ghost use Rattle.kt_tuple.specs.Signature.{kinds_of_places, signature_of};
 
     /// The template of these places, or `None` where there are none or more than 8.
-    pub fn new(places: Vec<Place>) -> Option<Template>
-        ensures within { IsSome result ↔ HasArity places.items }
-        ensures value { IfSome result (λ t. t ≡ places.items) }
+    pub fn new(alloc: Global, places: Vec<Place>) -> Result<Option<Template>, AllocError>
+        ensures within { IfOk result (λ o. IsSome o ↔ HasArity places.items) }
+        ensures value { IfOk result (λ o. IfSome o (λ t. t ≡ places.items)) }
     {
         if 1 <= places.len() && places.len() <= MAX_PLACES {
-            Some(Template { places })
+            let places = Arc::new(alloc, places)?;
+            Ok(Some(Template { places }))
         } else {
-            None
+            Ok(None)
         }
     }
 
@@ -93,7 +97,7 @@ impl Template {
         ensures alone { IfOk result (λ t. MatchesOnly t tuple.now) }
     {
         Ok(Template {
-            places: actuals(alloc, tuple.values())?,
+            places: Arc::new(alloc, actuals(alloc, tuple.values())?)?,
         })
     }
 
@@ -111,15 +115,15 @@ impl Template {
         ensures meaning { IsTrue result ↔ Matches self.now tuple.now }
         ensures decided { result ≡ matches self.now tuple.now }
     {
-        all_admit(&self.places, tuple.values())
+        all_admit(self.places(), tuple.values())
     }
 
-    /// An equal template with memory of its own.
-    pub fn copy(&self, alloc: Global) -> Result<Template, AllocError>
+    /// An equal template, which shares the places with this one: it takes no memory.
+    pub fn copy(&self, _alloc: Global) -> Result<Template, AllocError>
         ensures { IfOk result (λ t. t ≡ self.now) }
     {
         Ok(Template {
-            places: copy_places(alloc, &self.places)?,
+            places: Arc::try_clone(&self.places)?,
         })
     }
 
@@ -127,12 +131,20 @@ impl Template {
     pub fn signature(&self) -> Signature
         ensures { result ≡ signature_of (kinds_of_places self.now) }
     {
-        let mut signature = Signature::empty();
-        for place in &self.places {
-            signature = signature.then(place.kind());
-        }
-        signature
+        signature_of(self.places())
     }
+}
+
+/// The kinds of these places, as one number.
+fn signature_of(places: &[Place]) -> Signature
+    requires { HasArity places.now }
+    ensures { result ≡ signature_of (kinds_of_places places.now) }
+{
+    let mut signature = Signature::empty();
+    for place in places {
+        signature = signature.then(place.kind());
+    }
+    signature
 }
 
 /// Whether each place admits the value beside it, and none is left over: one place, and then the rest.
@@ -159,16 +171,6 @@ fn actuals(alloc: Global, values: &[Value]) -> Result<Vec<Place>, AllocError>
     Ok(places)
 }
 
-fn copy_places(alloc: Global, places: &[Place]) -> Result<Vec<Place>, AllocError>
-    ensures { IfOk result (λ v. v.items ≡ places.now) }
-{
-    let mut copies = Vec::with_capacity(alloc, places.len())?;
-    for place in places {
-        copies.push(place.copy())?;
-    }
-    Ok(copies)
-}
-
 impl PartialEq for Template {
     ghost use Rattle.std.specs.Cmp.{partial_equiv_from_equiv};
     ghost use Rattle.std.specs.Cmp.Lexicographic.{pointwise, lists_equiv};
@@ -180,7 +182,7 @@ impl PartialEq for Template {
     ghost laws = { partial_equiv_from_equiv (lists_equiv (equivalence_from_decides place_eq place_eq_decides)) };
 
     fn eq(&self, other: &Template) -> bool {
-        self.places.as_slice() == other.places.as_slice()
+        self.places() == other.places()
     }
 }
 

@@ -145,7 +145,7 @@ impl Dice {
             };
             values.push(self.value(kind)?)?;
         }
-        Ok(Tuple::new(values).ok_or("a tuple")?)
+        Ok(Tuple::new(alloc, values)?.ok_or("a tuple")?)
     }
 
     fn answer(&mut self, alloc: Global, op: &Op) -> Result<Answer, Fail> {
@@ -191,7 +191,7 @@ impl Bindings<'_> {
         for actual in actuals.as_slice() {
             values.push(self.actual(actual)?)?;
         }
-        Ok(Tuple::new(values).ok_or("a tuple")?)
+        Ok(Tuple::new(alloc, values)?.ok_or("a tuple")?)
     }
 
     fn template(&self, alloc: Global, pattern: &Pattern) -> Result<Template, Fail> {
@@ -202,7 +202,7 @@ impl Bindings<'_> {
                 Slot::Formal(kind, _) => Place::Formal(*kind),
             })?;
         }
-        Ok(Template::new(places).ok_or("a template")?)
+        Ok(Template::new(alloc, places)?.ok_or("a template")?)
     }
 
     fn op(&self, alloc: Global, operation: &Operation) -> Result<Op, Fail> {

@@ -1,0 +1,60 @@
+-- What is made at once is what the plan of the step says.
+use Rattle.std.proofs.Common.{◌≡◌, Ok, Result, sym, ap, ◌∙◌, subst}
+use Rattle.std.specs.Prelude.{IsOk, OnErr}
+use Rattle.kt_tuple.specs.declared.node.NodeId.{NodeId}
+use Rattle.kt_history.specs.declared.note.Note.{Note}
+use Rattle.kt_shard.specs.declared.request.Request.{Request}
+use Rattle.kt_node.specs.declared.at_once.Again.{Again}
+use Rattle.kt_node.specs.declared.at_once.Asked.{Asked}
+use Rattle.kt_node.specs.declared.message.Message.{Message}
+use Rattle.kt_node.specs.declared.plan.Plan.{Plan}
+use Rattle.kt_node.specs.AtOnce.{again_message, again_note, again_plan, hearing_request, saying, waiting_note, waiting_plan}
+use Rattle.kt_store.specs.Content.{Content, empty_content}
+use Rattle.kt_world.specs.declared.step.Step.{Step}
+use Rattle.kt_world.specs.Effect.{applied, applied_if, step_result}
+use Rattle.kt_world.specs.inner.Ready.{CanApply, IsReady}
+use Rattle.kt_world.specs.Judge.{planned}
+use Rattle.kt_world.specs.State.{State}
+use Rattle.kt_world.specs.Step.{owner}
+use Rattle.kt_world.specs.Told.{told}
+use Rattle.kt_core.specs.declared.machine.Machine.{Machine}
+use Rattle.kt_core.specs.inner.Machine.{state_of}
+use Rattle.kt_core.proofs.Steps.{is-ok, on-error, planned-can, planned-leads}
+
+-- what is said with these is what the worker asks once more
+pub said-plan : (r : Again) (p : NodeId) (message : Message) (note : Note) → message ≡ again_message r → note ≡ again_note p r
+    → saying r.to message note ≡ again_plan p r
+said-plan r p message note m n = ap (λ x. saying r.to x note) m ∙ ap (saying r.to (again_message r)) n
+
+-- what is heard with these is the request that is there
+pub heard-plan : (r : Asked) (p from : NodeId) (request : Request) (note : Note) → request ≡ r.request.now → note ≡ waiting_note p from r
+    → hearing_request from r.label request note ≡ waiting_plan p from r
+heard-plan r p from request note m n =
+    ap (λ x. hearing_request from r.label x note) m ∙ ap (hearing_request from r.label r.request.now) n
+
+-- ---- over any step: what is said is its plan
+
+pub can-at-once : (old : Machine) (step : Step) (plan said : Plan) → IsReady (state_of old empty_content)
+    → ((c : Content) → planned (state_of old c) step ≡ Ok plan) → said ≡ plan → CanApply (state_of old empty_content) (owner step) said
+can-at-once old step plan said ready is same =
+    let s = state_of old empty_content in
+    let P : Plan → Type 0 = CanApply s (owner step) in subst P (sym same) (planned-can s step (told s step) plan ready (is empty_content))
+
+pub ready-at-once : (old new : Machine) (step : Step) (plan said : Plan) → IsReady (state_of old empty_content)
+    → ((c : Content) → planned (state_of old c) step ≡ Ok plan) → said ≡ plan
+    → ((c : Content) → state_of new c ≡ applied (state_of old c) step said) → IsReady (state_of new empty_content)
+ready-at-once old new step plan said ready is same made =
+    let s = state_of old empty_content in
+    let P : State → Type 0 = IsReady in
+    subst P (sym (made empty_content ∙ ap (applied s step) same)) (planned-leads s step (told s step) plan ready (is empty_content))
+
+pub made-at-once : (old new : Machine) (step : Step) (plan said : Plan)
+    → ((c : Content) → planned (state_of old c) step ≡ Ok plan) → said ≡ plan
+    → ((c : Content) → state_of new c ≡ applied (state_of old c) step said)
+    → (c : Content) → step_result (state_of old c) step ≡ Ok (state_of new c)
+made-at-once old new step plan said is same made c =
+    ap (applied_if (state_of old c) step) (is c) ∙ ap (λ (x : State). Ok x) (sym (made c ∙ ap (applied (state_of old c) step) same))
+
+pub enabled-at-once : {X E : Type 0} (r : Result X E) (old : Machine) (step : Step) (plan : Plan)
+    → ((c : Content) → planned (state_of old c) step ≡ Ok plan) → OnErr r ((c : Content) → IsOk (planned (state_of old c) step))
+enabled-at-once r old step plan is = on-error r _ (λ c. is-ok (planned (state_of old c) step) plan (is c))
