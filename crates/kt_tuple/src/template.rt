@@ -39,9 +39,11 @@ impl Place {
         ensures meaning { IsTrue result ↔ Admits self.now value.now }
         ensures decided { result ≡ admits self.now value.now }
     {
-        match self {
-            Place::Actual(actual) => actual == value,
-            Place::Formal(kind) => *kind == value.kind(),
+        match (self, value) {
+            // Two ints are told apart by one comparison, with no look at how strings are compared.
+            (Place::Actual(Value::Int(wanted)), Value::Int(found)) => wanted == found,
+            (Place::Actual(actual), _) => actual == value,
+            (Place::Formal(kind), _) => *kind == value.kind(),
         }
     }
 
@@ -147,18 +149,23 @@ fn signature_of(places: &[Place]) -> Signature
     signature
 }
 
-/// Whether each place admits the value beside it, and none is left over: one place, and then the rest.
+/// Whether each place admits the value beside it, and none is left over. The last place is compared first: tuples
+/// mostly begin alike, and so the places behind tell them apart sooner.
 fn all_admit(places: &[Place], values: &[Value]) -> bool
     ensures meaning { IsTrue result ↔ Matches places.now values.now }
     ensures decided { result ≡ matches places.now values.now }
 {
-    match (places.split_first(), values.split_first()) {
-        (None, None) => true,
-        (Some((place, places)), Some((value, values))) => {
-            place.admits(value) && all_admit(places, values)
-        }
-        _ => false,
+    if places.len() != values.len() {
+        return false;
     }
+    let mut left = places.len();
+    while left > 0 {
+        left -= 1;
+        if !places[left].admits(&values[left]) {
+            return false;
+        }
+    }
+    true
 }
 
 fn actuals(alloc: Global, values: &[Value]) -> Result<Vec<Place>, AllocError>
