@@ -3,3 +3,4 @@ pub mod Drafts
 pub mod Places
 pub mod Texts
 pub mod Making
+pub mod Starts
