@@ -89,7 +89,7 @@ fn ckpt_of(
 {
     let sent = sent_of(alloc, peers)?;
     let received = received_of(alloc, peers)?;
-    Ok(Ckpt::new(node, line_len, sent, received, state))
+    Ckpt::new(alloc, node, line_len, sent, received, state)
 }
 
 fn sent_of(alloc: Global, peers: &[(Label, Label)]) -> Result<Vec<Label>, AllocError>

@@ -27,10 +27,10 @@ impl Ckpt {
     {
         encode_parts(
             alloc,
-            self.node,
-            self.line_len,
-            &self.sent,
-            &self.received,
+            self.node(),
+            self.line_len(),
+            self.sent(),
+            self.received(),
             &self.state,
         )
     }

@@ -33,10 +33,10 @@ use std::marker::Model;
 
 /// The worker of the state, where it is one of the script. Bytes are judged by their format alone, which allows more
 /// than a node can hold; so this is asked here, where the node is made (docs/DECISIONS.md#checkpoints).
-fn worker_from(role: Role<'_>, state: WorkerState) -> Result<Body, Refusal>
-    ensures { GivesBody result (worker_from (role_view role.entry) state) }
+fn worker_from(alloc: Global, role: Role<'_>, state: &WorkerState) -> Result<Body, Refusal>
+    ensures { GivesBody result (worker_from (role_view role.entry) state.now) }
 {
-    let (pc, number, was_none, asked, variables) = state.into_parts();
+    let (pc, number, was_none, asked, variables) = state.copy(alloc)?.into_parts();
     match Worker::from_parts(
         role.script,
         number,
@@ -64,13 +64,14 @@ fn are_of_scene<T>(workers: u8, entries: &[(u8, T)]) -> bool
     entries.iter().all(|entry| is_of_scene(workers, entry.0))
 }
 
-fn bag_of(alloc: Global, tuples: Vec<Tuple>) -> Result<Bag, AllocError>
-    ensures { IfOk result (λ b. b.tuples ≡ tuples.items) }
+fn bag_of(alloc: Global, tuples: &[Tuple]) -> Result<Bag, AllocError>
+    ensures { IfOk result (λ b. b.tuples ≡ tuples.now) }
 {
     let mut bag = Bag::new(alloc);
     for tuple in tuples {
+        let copy = tuple.copy(alloc)?;
         bag.reserve()?;
-        bag.put_reserved(tuple);
+        bag.put_reserved(copy);
     }
     Ok(bag)
 }
@@ -127,25 +128,26 @@ fn desks_of(
 
 /// The shard of the state, where it is one of the scene and has no more tuples than there are acts.
 #[tactic(auto, using(crate::proofs::Numbers::whole_table))]
-fn shard_from(alloc: Global, role: Role<'_>, acts: u64, state: ShardState) -> Result<Body, Refusal>
-    ensures { GivesBody result (if_fits (shard_fits (role_view role.entry) acts state) (IsShard (shard_from state))) }
+fn shard_from(alloc: Global, role: Role<'_>, acts: u64, state: &ShardState) -> Result<Body, Refusal>
+    ensures { GivesBody result
+        (if_fits (shard_fits (role_view role.entry) acts state.now) (IsShard (shard_from state.now))) }
 {
-    let (tuples, waiting, kept) = state.into_parts();
-    let are_there = are_of_scene(role.peers, &waiting) && are_of_scene(role.peers, &kept);
+    let (tuples, waiting, kept) = (state.bag(), state.waiting(), state.kept());
+    let are_there = are_of_scene(role.peers, waiting) && are_of_scene(role.peers, kept);
     if !(are_there && tuples.len() as u64 <= acts) {
         return Err(Refusal::Damaged);
     }
     let bag = bag_of(alloc, tuples)?;
-    let desks = desks_of(alloc, &waiting, &kept)?;
+    let desks = desks_of(alloc, waiting, kept)?;
     Ok(Body::Shard(Shard::from_parts(bag, desks)))
 }
 
 /// What a node of this kind works with behind so many acts.
-fn body_from(alloc: Global, role: Role<'_>, acts: u64, state: State) -> Result<Body, Refusal>
-    ensures { GivesBody result (body_from (role_view role.entry) acts role.entry.id state) }
+fn body_from(alloc: Global, role: Role<'_>, acts: u64, state: &State) -> Result<Body, Refusal>
+    ensures { GivesBody result (body_from (role_view role.entry) acts role.entry.id state.now) }
 {
     match (role.id, state) {
-        (NodeId::Worker(_), State::Worker(state)) => worker_from(role, state),
+        (NodeId::Worker(_), State::Worker(state)) => worker_from(alloc, role, state),
         (NodeId::Shard(_), State::Shard(state)) => shard_from(alloc, role, acts, state),
         _ => Err(Refusal::Damaged),
     }
@@ -293,7 +295,7 @@ impl View<'_> {
         let incarnation = stored.incarnation + 1;
         match stored.permanent {
             None => Ok(load_opening(alloc, self.role, incarnation)?),
-            Some(checkpoint) => load_checkpoint(alloc, self.role, incarnation, checkpoint),
+            Some(checkpoint) => load_checkpoint(alloc, self.role, incarnation, &checkpoint),
         }
     }
 }
@@ -310,14 +312,14 @@ fn load_checkpoint(
     alloc: Global,
     role: Role<'_>,
     incarnation: u64,
-    checkpoint: Ckpt,
+    checkpoint: &Ckpt,
 ) -> Result<Loaded, Refusal>
     ensures { Gives result
-        (loaded_by (Some checkpoint) incarnation (body_at (role_view role.entry) (Some checkpoint))) }
+        (loaded_by (Some checkpoint.now) incarnation (body_at (role_view role.entry) (Some checkpoint.now))) }
 {
-    let (_, acts, sent, received, state) = checkpoint.into_parts();
-    let body = body_from(alloc, role, acts, state)?;
-    Ok(loaded_with(alloc, incarnation, body, &sent, &received)?)
+    let body = body_from(alloc, role, checkpoint.line_len(), checkpoint.state())?;
+    let (sent, received) = (checkpoint.sent(), checkpoint.received());
+    Ok(loaded_with(alloc, incarnation, body, sent, received)?)
 }
 
 /// The node of a checkpoint with these lists.

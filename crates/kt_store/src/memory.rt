@@ -108,7 +108,7 @@ impl MemStore {
         }
     }
 
-    /// The marks of the node's permanent checkpoint, read from where it stands: its state is not copied.
+    /// The marks of the node's permanent checkpoint, which they share.
     fn permanent_marks_of(&self, alloc: Global, node: NodeId) -> Result<Option<Marks>, AllocError>
         ensures { IfOk result (λ m. m ≡ permanent_marks self.now node) }
     {

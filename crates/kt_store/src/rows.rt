@@ -59,7 +59,7 @@ pub struct Tentative {
 impl Tentative {
     ghost use Rattle.kt_store.specs.Content.{marks_in};
 
-    /// An equal tentative checkpoint with memory of its own.
+    /// An equal tentative checkpoint, which shares marks and state with this one: it takes no memory.
     pub fn copy(&self, alloc: Global) -> Result<Tentative, AllocError>
         ensures { IfOk result (λ t. t ≡ self.now) }
     {
@@ -69,7 +69,7 @@ impl Tentative {
         })
     }
 
-    /// Its instance, and its checkpoint without the node's state.
+    /// Its instance, and its checkpoint without the node's state. It takes no memory.
     pub fn marks(&self, alloc: Global) -> Result<TentativeMarks, AllocError>
         ensures { IfOk result (λ m. m ≡ marks_in self.now) }
     {

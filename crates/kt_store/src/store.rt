@@ -39,7 +39,8 @@ pub trait CkptStore {
         ensures honest { IsTrue (is_honest self.new) → IsTrue (is_honest self.old) }
         ensures cause { HasCause (fault_count self.old) (fault_count self.new) (is_honest self.new) ⊥ result };
 
-    /// The permanent checkpoint of the node; `None` where it is the initial one. It has memory of its own.
+    /// The permanent checkpoint of the node; `None` where it is the initial one. It may share its memory with the
+    /// store.
     fn permanent(&mut self, alloc: Global, node: NodeId) -> Result<Option<Ckpt>, StoreError>
         ensures value { IsTrue (is_honest self.new)
             → IfOk result (λ c. c ≡ (row_of (content self.old) node).permanent) }
