@@ -3,12 +3,10 @@ use Rattle.std.proofs.Common.{◌≡◌, Ok, Result, sym, ap, ◌∙◌, subst}
 use Rattle.std.specs.Prelude.{IsOk, OnErr}
 use Rattle.kt_tuple.specs.declared.node.NodeId.{NodeId}
 use Rattle.kt_history.specs.declared.note.Note.{Note}
-use Rattle.kt_shard.specs.declared.request.Request.{Request}
 use Rattle.kt_node.specs.declared.at_once.Again.{Again}
-use Rattle.kt_node.specs.declared.at_once.Asked.{Asked}
 use Rattle.kt_node.specs.declared.message.Message.{Message}
 use Rattle.kt_node.specs.declared.plan.Plan.{Plan}
-use Rattle.kt_node.specs.AtOnce.{again_message, again_note, again_plan, hearing_request, saying, waiting_note, waiting_plan}
+use Rattle.kt_node.specs.AtOnce.{again_message, again_note, again_plan, saying}
 use Rattle.kt_store.specs.Content.{Content, empty_content}
 use Rattle.kt_world.specs.declared.step.Step.{Step}
 use Rattle.kt_world.specs.Effect.{applied, applied_if, step_result}
@@ -25,12 +23,6 @@ use Rattle.kt_core.proofs.Steps.{is-ok, on-error, planned-can, planned-leads}
 pub said-plan : (r : Again) (p : NodeId) (message : Message) (note : Note) → message ≡ again_message r → note ≡ again_note p r
     → saying r.to message note ≡ again_plan p r
 said-plan r p message note m n = ap (λ x. saying r.to x note) m ∙ ap (saying r.to (again_message r)) n
-
--- what is heard with these is the request that is there
-pub heard-plan : (r : Asked) (p from : NodeId) (request : Request) (note : Note) → request ≡ r.request.now → note ≡ waiting_note p from r
-    → hearing_request from r.label request note ≡ waiting_plan p from r
-heard-plan r p from request note m n =
-    ap (λ x. hearing_request from r.label x note) m ∙ ap (hearing_request from r.label r.request.now) n
 
 -- ---- over any step: what is said is its plan
 

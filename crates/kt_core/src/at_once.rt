@@ -1,9 +1,9 @@
-//! Steps that are made at once: look, make room, act. No plan is built; that of the step says what comes of it.
+//! A worker asks once more: look, make room, act. No plan is built; that of the step says what comes of it.
 
 ghost use Rattle.std.specs.Prelude.{◌≡◌, ◌≤◌, IfOk, IfSome, IsOk, IsTrue, Ok, OnErr, OnOk, false};
 ghost use Rattle.kt_history.specs.Chronicle.{room_of};
 ghost use Rattle.kt_link.specs.Network.{room};
-ghost use Rattle.kt_node.specs.AtOnce.{again_plan, hearing_request, saying, waiting_plan};
+ghost use Rattle.kt_node.specs.AtOnce.{again_plan, saying};
 ghost use Rattle.kt_store.specs.Content.{Content, empty_content};
 ghost use Rattle.kt_world.specs.declared.step.Step.TheVariants as steps;
 ghost use Rattle.kt_world.specs.Effect.{applied, step_result};
@@ -11,15 +11,13 @@ ghost use Rattle.kt_world.specs.Judge.{planned};
 ghost use Rattle.kt_world.specs.inner.Ready.{AreNeighbours, CanApply, IsReady};
 ghost use Rattle.kt_core.specs.inner.Machine.{state_of};
 
-use crate::change::{count, say_in_row, wait_in_row};
+use crate::change::{count, say_in_row};
 use crate::machine::Machine;
-use crate::traffic::{send_one, take_one_off};
+use crate::traffic::send_one;
 use kt_history::Note;
-use kt_link::Label;
-use kt_node::{Again, Asked, Message};
-use kt_shard::Request;
+use kt_node::{Again, Message};
 use kt_tuple::NodeId;
-use kt_world::{MAX_STEPS, Step};
+use kt_world::MAX_STEPS;
 use std::alloc::{AllocError, Global};
 
 impl Machine {
@@ -87,7 +85,7 @@ impl Machine {
 
     /// Makes the step in which the worker asks once more, where it is enabled and memory suffices. Where it is not
     /// enabled nothing is done: the plan says why.
-    fn repeat_at_once(&mut self, alloc: Global, node: NodeId) -> Result<bool, AllocError>
+    pub(crate) fn repeat_at_once(&mut self, alloc: Global, node: NodeId) -> Result<bool, AllocError>
         requires { IsReady (state_of self.old empty_content) }
         ensures ready { IsReady (state_of self.new empty_content) }
         ensures made { IfOk result (λ made. IsTrue made → (c : Content) →
@@ -104,104 +102,5 @@ impl Machine {
         let (message, note) = again.said(alloc, node)?;
         self.say_at_once(node, to, message, note)?;
         Ok(true)
-    }
-
-    /// The request that the shard hears next from the worker, where its worker waits with it then and the step is
-    /// enabled.
-    fn asked_there(&self, from: NodeId, to: NodeId) -> Option<Asked<'_>>
-        requires { IsReady (state_of self.now empty_content) }
-        ensures { IfSome result (λ r. (c : Content) →
-            planned (state_of self.now c) (steps.Deliver from to) ≡ Ok (waiting_plan to from r)) }
-    {
-        if !self.scene.are_neighbours(from, to) || self.made >= MAX_STEPS {
-            return None;
-        }
-        let Some(Message::Post(post)) = self.links.front(from, to) else {
-            return None;
-        };
-        match self.seen(to) {
-            Ok(seen) => seen.asked_by(from, post),
-            Err(_) => None,
-        }
-    }
-
-    /// The shard hears the request that comes next, and its worker waits.
-    fn hear(&mut self, from: NodeId, to: NodeId, label: Label, request: Request, note: Note)
-        requires ready { IsReady (state_of self.old empty_content) }
-        requires can { CanApply (state_of self.old empty_content) to (hearing_request from label request note) }
-        requires history { 1 ≤ room_of self.old.history to }
-        ensures { (c : Content) → state_of self.new c ≡
-            applied (state_of self.old c) (steps.Deliver from to) (hearing_request from label request note) }
-    {
-        let row = to.index();
-        take_one_off(&mut self.links, from, to);
-        self.history.add(note);
-        wait_in_row(&mut self.nodes, row, from, label, request);
-        count(&mut self.own, row);
-        self.made += 1;
-    }
-
-    /// Makes room for one note of the node. Nothing changes.
-    fn make_room_to_hear(&mut self, node: NodeId) -> Result<(), AllocError>
-        ensures same { (c : Content) → state_of self.new c ≡ state_of self.old c }
-        ensures history { OnOk result (1 ≤ room_of self.new.history node) }
-    {
-        self.history.make_room(node)
-    }
-
-    fn hear_with_room(
-        &mut self,
-        from: NodeId,
-        to: NodeId,
-        label: Label,
-        request: Request,
-        note: Note,
-    ) -> Result<(), AllocError>
-        requires ready { IsReady (state_of self.old empty_content) }
-        requires can { CanApply (state_of self.old empty_content) to (hearing_request from label request note) }
-        ensures made { OnOk result ((c : Content) → state_of self.new c ≡
-            applied (state_of self.old c) (steps.Deliver from to) (hearing_request from label request note)) }
-        ensures same { OnErr result ((c : Content) → state_of self.new c ≡ state_of self.old c) }
-    {
-        self.make_room_to_hear(to)?;
-        self.hear(from, to, label, request, note);
-        Ok(())
-    }
-
-    /// Makes the step in which a shard hears a request whose worker waits then, where it is that and memory suffices.
-    fn hear_at_once(&mut self, alloc: Global, from: NodeId, to: NodeId) -> Result<bool, AllocError>
-        requires { IsReady (state_of self.old empty_content) }
-        ensures ready { IsReady (state_of self.new empty_content) }
-        ensures made { IfOk result (λ made. IsTrue made → (c : Content) →
-            step_result (state_of self.old c) (steps.Deliver from to) ≡ Ok (state_of self.new c)) }
-        ensures left { IfOk result (λ made. made ≡ false → self.new ≡ self.old) }
-        ensures same { OnErr result ((c : Content) → state_of self.new c ≡ state_of self.old c) }
-        ensures enabled { OnErr result ((c : Content) →
-            IsOk (planned (state_of self.old c) (steps.Deliver from to))) }
-    {
-        let Some(asked) = self.asked_there(from, to) else {
-            return Ok(false);
-        };
-        let label = asked.label;
-        let (request, note) = asked.heard(alloc, to, from)?;
-        self.hear_with_room(from, to, label, request, note)?;
-        Ok(true)
-    }
-
-    /// Makes the step at once, where it is of these kinds, and enabled, and memory suffices.
-    pub(crate) fn at_once(&mut self, alloc: Global, step: Step) -> Result<bool, AllocError>
-        requires { IsReady (state_of self.old empty_content) }
-        ensures ready { IsReady (state_of self.new empty_content) }
-        ensures made { IfOk result (λ made. IsTrue made → (c : Content) →
-            step_result (state_of self.old c) step ≡ Ok (state_of self.new c)) }
-        ensures left { IfOk result (λ made. made ≡ false → self.new ≡ self.old) }
-        ensures same { OnErr result ((c : Content) → state_of self.new c ≡ state_of self.old c) }
-        ensures enabled { OnErr result ((c : Content) → IsOk (planned (state_of self.old c) step)) }
-    {
-        match step {
-            Step::Repeat { node } => self.repeat_at_once(alloc, node),
-            Step::Deliver { from, to } => self.hear_at_once(alloc, from, to),
-            _ => Ok(false),
-        }
     }
 }

@@ -4,16 +4,14 @@ ghost use Rattle.std.specs.Prelude.{◌≡◌, ◌<◌, ◌+◌, ◌^◌, None, 
 ghost use Rattle.std.specs.Option.{option_map};
 ghost use Rattle.kt_core.specs.inner.Rows.{HasRoom, row_view};
 ghost use Rattle.kt_node.specs.declared.change.Change.TheVariants.{Turn as Goes};
-ghost use Rattle.kt_node.specs.AtOnce.{waiting_turn};
+ghost use Rattle.kt_node.specs.Effect.{turn_of};
 ghost use Rattle.kt_node.specs.Node.{Down};
 ghost use Rattle.kt_node.specs.Plan.{no_turn};
 ghost use Rattle.kt_node.specs.Ready.{CanChange};
 ghost use Rattle.kt_node.specs.Turning.{changed};
 ghost use Rattle.kt_shard.specs.Table.{at, put};
 
-use kt_link::Label;
-use kt_node::{Change, Node};
-use kt_shard::Request;
+use kt_node::{Becomes, Change, Node};
 use kt_tuple::NodeId;
 use std::alloc::AllocError;
 
@@ -79,33 +77,25 @@ fn say(row: &mut Option<Node>, to: NodeId)
     }
 }
 
-/// The node of this row hears the message of this label from the worker, which waits with the request. It takes no
-/// memory.
-pub(crate) fn wait_in_row(
-    nodes: &mut Vec<Option<Node>>,
-    row: usize,
-    from: NodeId,
-    label: Label,
-    request: Request,
-)
+/// The node of this row becomes this, which takes no memory.
+pub(crate) fn become_in_row(nodes: &mut Vec<Option<Node>>, row: usize, becomes: Becomes)
     requires row { row < length nodes.old.items }
-    requires can { CanChange (unwrap_or (at None (map row_view nodes.old.items) row) Down)
-        (Goes (waiting_turn from label request)) }
+    requires can { CanChange (unwrap_or (at None (map row_view nodes.old.items) row) Down) (Goes (turn_of becomes)) }
+    requires room { HasRoom (at None nodes.old.items row) }
     ensures { map row_view nodes.new.items ≡ put None (map row_view nodes.old.items) row
-        (option_map (changed (Goes (waiting_turn from label request)))
-        (at None (map row_view nodes.old.items) row)) }
+        (option_map (changed (Goes (turn_of becomes))) (at None (map row_view nodes.old.items) row)) }
 {
-    wait(&mut nodes[row], from, label, request);
+    become_at_once(&mut nodes[row], becomes);
 }
 
-fn wait(row: &mut Option<Node>, from: NodeId, label: Label, request: Request)
-    requires { CanChange (unwrap_or (row_view row.old) Down) (Goes (waiting_turn from label request)) }
-    ensures { row_view row.new ≡
-        option_map (changed (Goes (waiting_turn from label request))) (row_view row.old) }
+fn become_at_once(row: &mut Option<Node>, becomes: Becomes)
+    requires can { CanChange (unwrap_or (row_view row.old) Down) (Goes (turn_of becomes)) }
+    requires room { HasRoom row.old }
+    ensures { row_view row.new ≡ option_map (changed (Goes (turn_of becomes))) (row_view row.old) }
 {
     match row {
-        Some(node) => node.wait(from, label, request),
-        None => drop(request),
+        Some(node) => node.become_at_once(becomes),
+        None => drop(becomes),
     }
 }
 

@@ -61,7 +61,7 @@ fn heard(
 }
 
 /// The node's number among its kind.
-fn number_of(node: NodeId) -> u8
+pub(crate) fn number_of(node: NodeId) -> u8
     ensures { result ≡ node_number node }
 {
     match node {

@@ -12,6 +12,7 @@
 mod at_once;
 mod causes;
 mod change;
+mod effects;
 mod faults;
 mod judging;
 mod lending;

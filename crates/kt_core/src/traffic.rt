@@ -1,11 +1,10 @@
 //! The messages that a step sends, takes off and makes room for, and its note.
 
-ghost use Rattle.std.specs.Prelude.{◌≡◌, ◌≤◌, ◌∷◌, [], length, OnOk, IfSome};
+ghost use Rattle.std.specs.Prelude.{◌≡◌, ◌≤◌, ◌∷◌, [], length, option_to_list, OnOk, IfSome};
 ghost use Rattle.std.specs.List.{AllByRecursion};
 ghost use Rattle.kt_history.specs.Chronicle.{node_of, room_of};
 ghost use Rattle.kt_history.specs.WellFormed.{MayFollow};
 ghost use Rattle.kt_link.specs.Network.{AreNeighbours, place, room};
-ghost use Rattle.kt_world.specs.declared.step.Step.TheVariants as steps;
 ghost use Rattle.kt_world.specs.Effect.{sent, taken_off, noted};
 ghost use Rattle.kt_core.specs.inner.Traffic.{IsSameTraffic};
 
@@ -45,16 +44,6 @@ pub(crate) fn take_off(links: &mut Links<Message>, step: Step)
     }
 }
 
-/// Takes the first message off the link, and sends nothing.
-pub(crate) fn take_one_off(links: &mut Links<Message>, from: NodeId, to: NodeId)
-    ensures queues { links.new.queues ≡ sent (place links.old.workers links.old.shards)
-        (taken_off (place links.old.workers links.old.shards) links.old.queues (steps.Deliver from to)) to [] }
-    ensures workers { links.new.workers ≡ links.old.workers }
-    ensures shards { links.new.shards ≡ links.old.shards }
-{
-    take_off(links, Step::Deliver { from, to });
-}
-
 /// Sends the messages of the owner, for which there is room.
 pub(crate) fn send_all(links: &mut Links<Message>, owner: NodeId, send: Vec<(NodeId, Message)>)
     requires there { AllByRecursion (λ m. AreNeighbours links.old.workers links.old.shards owner m.0) send.items }
@@ -79,6 +68,40 @@ pub(crate) fn send_one(links: &mut Links<Message>, owner: NodeId, to: NodeId, me
     ensures shards { links.new.shards ≡ links.old.shards }
 {
     links.push_reserved(owner, to, message);
+}
+
+/// Makes room on the link for the message of the owner, if there is one.
+pub(crate) fn make_room_on_link(
+    links: &mut Links<Message>,
+    owner: NodeId,
+    send: &Option<(NodeId, Message)>,
+) -> Result<(), AllocError>
+    requires { IfSome send.now (λ m. AreNeighbours links.old.workers links.old.shards owner m.0) }
+    ensures same { IsSameTraffic links.old links.new }
+    ensures room { OnOk result (IfSome send.now (λ m. 1 ≤ room links.new owner m.0)) }
+{
+    if let Some((to, _)) = send {
+        links.reserve(owner, *to, 1)?;
+    }
+    Ok(())
+}
+
+/// Sends the message of the owner, if there is one, for which there is room.
+pub(crate) fn send_if_any(
+    links: &mut Links<Message>,
+    owner: NodeId,
+    send: Option<(NodeId, Message)>,
+)
+    requires there { IfSome send (λ m. AreNeighbours links.old.workers links.old.shards owner m.0) }
+    requires room { IfSome send (λ m. 1 ≤ room links.old owner m.0) }
+    ensures queues { links.new.queues ≡
+        sent (place links.old.workers links.old.shards) links.old.queues owner (option_to_list send) }
+    ensures workers { links.new.workers ≡ links.old.workers }
+    ensures shards { links.new.shards ≡ links.old.shards }
+{
+    if let Some((to, message)) = send {
+        send_one(links, owner, to, message);
+    }
 }
 
 /// Makes the note, if there is one, for which there is room.

@@ -4,12 +4,7 @@ use Rattle.kt_tuple.specs.declared.node.NodeId.{NodeId}
 use Rattle.kt_history.specs.declared.note.What.TheVariants as whats
 use Rattle.kt_history.specs.declared.note.Note.{Note}
 use Rattle.kt_history.specs.declared.note.Note.TheVariants as notes
-use Rattle.kt_link.specs.declared.label.Label.{Label}
-use Rattle.kt_shard.specs.declared.request.Request.{Request}
 use Rattle.kt_node.specs.declared.at_once.Again.{Again}
-use Rattle.kt_node.specs.declared.at_once.Asked.{Asked}
-use Rattle.kt_node.specs.declared.change.BodyChange.TheVariants as bodies
-use Rattle.kt_node.specs.declared.change.Turn.{Turn}
 use Rattle.kt_node.specs.declared.change.Change.TheVariants as changes
 use Rattle.kt_node.specs.declared.message.Talk.TheVariants as talks
 use Rattle.kt_node.specs.declared.message.Message.{Message}
@@ -44,27 +39,3 @@ again_note p r = notes.Act record {
 -- the worker p asks once more
 abbrev pub again_plan : NodeId → Again → Plan
 again_plan p r = saying r.to (again_message r) (again_note p r)
-
--- ---- a request is heard, and its worker waits
-
-abbrev pub waiting_turn : NodeId → Label → Request → Turn
-waiting_turn from label request = record no_turn { body = bodies.Wait (node_number from) request; heard = Some (from, label) }
-
--- the message of this label is heard, and this is noted
-abbrev pub hearing_request : NodeId → Label → Request → Note → Plan
-hearing_request from label request note =
-    record { change = changes.Turn (waiting_turn from label request); send = []; note = Some note; write = None }
-
-abbrev pub waiting_note : NodeId → NodeId → Asked → Note
-waiting_note p from r = notes.Act record {
-  node = p;
-  by = r.by;
-  worker = node_number from;
-  number = r.request.now.number;
-  op = r.request.now.op;
-  what = whats.Heard;
-}
-
--- the shard p hears the request of the worker
-abbrev pub waiting_plan : NodeId → NodeId → Asked → Plan
-waiting_plan p from r = hearing_request from r.label r.request.now (waiting_note p from r)

@@ -19,5 +19,6 @@ pub mod Deciding
 pub mod Failing
 pub mod Steps
 pub mod AtOnce
+pub mod Effect
 pub mod Posts
 pub mod inner

@@ -59,7 +59,7 @@ impl View<'_> {
     }
 
     /// The message in which the next note's act of the live node says this.
-    fn post(self, live: &Live, talk: Talk) -> Message
+    pub(crate) fn post(self, live: &Live, talk: Talk) -> Message
         requires { CanCount (live_view live.now) }
         ensures { result ≡ post_of (view_of self.entry) (live_view live.now) talk }
     {

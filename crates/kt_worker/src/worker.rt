@@ -2,6 +2,7 @@
 
 ghost use Rattle.std.specs.Prelude.{◌≡◌, ◌↔◌, List, suc, length, [], ◌∷◌, ◌++◌, if◌then◌else◌, ◌+◌, ◌<◌};
 ghost use Rattle.std.specs.Prelude.{◌≤◌, Some, None, not, is_some, IsTrue, IfOk, IfErr, IfSome, OnOk, OnErr};
+ghost use Rattle.std.specs.Bool.{then_some};
 ghost use Rattle.std.specs.Option.{option_copied, option_map};
 
 use crate::misfit::Misfit;
@@ -40,7 +41,7 @@ impl Worker {
     ghost use Rattle.kt_tuple.specs.declared.op.Answer.{Answer};
     ghost use Rattle.kt_script.specs.declared.command.Command.{Command};
     ghost use Rattle.kt_script.specs.Asks.{asks};
-    ghost use Rattle.kt_worker.specs.Standing.{opening_standing, again_request, next_request};
+    ghost use Rattle.kt_worker.specs.Standing.{opening_standing, again_request, next_of, next_request};
     ghost use Rattle.kt_worker.specs.Standing.{numbered, issued, awaits, heard, is_left};
     ghost use Rattle.kt_worker.specs.After.{IsAfter};
     ghost use Rattle.kt_worker.specs.Parts.{standing_of, misfit_of};
@@ -162,6 +163,57 @@ impl Worker {
         }
     }
 
+    /// The operation that is asked for next: none while a request is unanswered.
+    fn next(&self, alloc: Global, script: &Script) -> Result<Option<Next>, AllocError>
+        ensures value { IfOk result (λ next. next ≡ next_of script.now self.now) }
+        // Each command makes one request at most.
+        ensures later { IfOk result (λ next. IfSome next (λ n. self.now.number < n.pc)) }
+    {
+        if self.asked.is_some() {
+            return Ok(None);
+        }
+        script.next(alloc, self.pc, &self.env)
+    }
+
+    /// The worker that has made the next request, beside this one, which stays. There is none while a request is
+    /// unanswered, nor where no operation is left.
+    pub fn asker(&self, alloc: Global, script: &Script) -> Result<Option<Worker>, AllocError>
+        ensures { IfOk result (λ w. w ≡ option_map (λ _. issued script.now self.now) (next_request script.now self.now)) }
+    {
+        let Some(Next { op, pc, env }) = self.next(alloc, script)? else {
+            return Ok(None);
+        };
+        Ok(Some(Worker {
+            number: self.number + 1,
+            asked: Some(op),
+            pc,
+            env,
+        }))
+    }
+
+    /// The worker that has heard this answer, beside this one, which stays. There is none where the answer is not that
+    /// to the unanswered request.
+    pub fn hearer(
+        &self,
+        alloc: Global,
+        script: &Script,
+        number: u64,
+        op: &Op,
+        answer: &Answer,
+    ) -> Result<Option<Worker>, AllocError>
+        ensures { IfOk result (λ w. w ≡ then_some (awaits self.now number op.now) (heard script.now self.now answer.now)) }
+    {
+        if !self.awaits(number, op) {
+            return Ok(None);
+        }
+        Ok(Some(Worker {
+            number: self.number,
+            asked: None,
+            pc: self.pc,
+            env: self.env.bind(alloc, script, self.pc, answer)?,
+        }))
+    }
+
     /// Makes the next request, and gives its number and operation. There is none while one is unanswered,
     /// nor where no operation is left; then nothing changes, and nor does it where memory runs out.
     pub fn issue(&mut self, alloc: Global, script: &Script) -> Result<Option<(u64, Op)>, AllocError>
@@ -175,10 +227,7 @@ impl Worker {
         ensures after { (answers : List Answer) → IsAfter script.now answers self.old
             → IsAfter script.now answers self.new }
     {
-        if self.asked.is_some() {
-            return Ok(None);
-        }
-        let Some(Next { op, pc, env }) = script.next(alloc, self.pc, &self.env)? else {
+        let Some(Next { op, pc, env }) = self.next(alloc, script)? else {
             return Ok(None);
         };
         // All memory is taken before the worker changes, so that a refusal leaves it as it was.

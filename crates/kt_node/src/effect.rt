@@ -1,0 +1,442 @@
+//! The frequent steps of workers and shards, found out without a plan of all that a step can be: an effect is small, and
+//! goes from who finds it out to who makes it (docs/DECISIONS.md#steps).
+
+ghost use Rattle.std.specs.Prelude.{◌≡◌, ◌≤◌, IfOk, IfSome, IsOk, IsTrue, OnErr, Ok};
+ghost use Rattle.kt_worker.specs.Standing.{next_request};
+ghost use Rattle.kt_history.specs.declared.note.What.TheVariants.{Heard as HeardIt};
+ghost use Rattle.kt_shard.specs.Arrival.{arrival_view};
+ghost use Rattle.kt_node.specs.declared.change.BodyChange.TheVariants.{Wait};
+ghost use Rattle.kt_node.specs.declared.change.Change.TheVariants.{Turn as Goes};
+ghost use Rattle.kt_node.specs.declared.change.KeptChange.TheVariants.{Stay as Keeps};
+ghost use Rattle.kt_node.specs.Effect.{plan_of, turn_of};
+ghost use Rattle.kt_node.specs.inner.Codes.{body_has_room, body_view, live_has_room, live_view, HasTables};
+ghost use Rattle.kt_node.specs.Posts.{hear_app};
+ghost use Rattle.kt_node.specs.Ready.{CanChange, CanChangeBody, CanCount, CanSpeak, CanTurn};
+ghost use Rattle.kt_node.specs.Steps.{issue, issue_found, serve};
+ghost use Rattle.kt_node.specs.Node.{node_number};
+ghost use Rattle.kt_node.specs.Talking.{again_plan, heard_plan, hearing, issue_plan, note_of};
+ghost use Rattle.kt_node.specs.Talking.{reply_plan, request_plan, service_plan};
+ghost use Rattle.kt_node.specs.Turning.{changed, changed_body, turned};
+ghost use Rattle.kt_node.specs.View.{view_of};
+
+use crate::labels::number_of;
+use crate::live::{Body, Live};
+use crate::message::{Message, Post, Talk};
+use crate::node::Node;
+use crate::role::View;
+use crate::steps::{can_issue, issued};
+use crate::turning::write;
+use kt_history::{Note, What};
+use kt_link::Label;
+use kt_shard::{Arrival, Prepared, Request};
+use kt_tuple::{Answer, NodeId};
+use kt_worker::Worker;
+use std::alloc::{AllocError, Global};
+
+/// What becomes of a node in a frequent step.
+#[derive(Debug, Drop)]
+pub enum Becomes {
+    /// The worker becomes this one, which asks the node.
+    Asks {
+        to: NodeId,
+        asker: Worker,
+    },
+    /// The worker becomes this one, which has heard the answer of this label from the node.
+    Accepts {
+        from: NodeId,
+        label: Label,
+        hearer: Worker,
+    },
+    /// The shard has heard the message of this label from the worker, which waits with the request.
+    Waits {
+        from: NodeId,
+        label: Label,
+        request: Request,
+    },
+    /// The shard has heard the message of this label from the node, and answers it once more.
+    Answers {
+        from: NodeId,
+        label: Label,
+    },
+    /// The shard has served the worker of this number.
+    Serves {
+        worker: u8,
+        service: Prepared,
+    },
+}
+
+/// What a frequent step does: it sends one message at most, and makes no write of the store.
+#[derive(Debug, Drop)]
+pub struct Effect {
+    /// What becomes of the owner.
+    pub becomes: Becomes,
+    /// What it sends, with the receiver.
+    pub send: Option<(NodeId, Message)>,
+    /// What is noted in the history.
+    pub note: Option<Note>,
+}
+
+impl View<'_> {
+    /// The effect of the worker's asking for this.
+    fn asking_effect(
+        self,
+        alloc: Global,
+        live: &Live,
+        request: Request,
+        asker: Worker,
+    ) -> Result<Effect, AllocError>
+        requires peers { 1 ≤ self.role.peers }
+        requires count { CanCount (live_view live.now) }
+        ensures { IfOk result (λ e. plan_of e ≡
+            issue_plan (view_of self.entry) (live_view live.now) (request.number, request.op) asker) }
+    {
+        let to = self.home(&request.op);
+        let note = self.note(alloc, 0, number_of(self.role.id), &request, What::Issue)?;
+        let message = self.post(live, Talk::Request(request));
+        Ok(Effect {
+            becomes: Becomes::Asks { to, asker },
+            send: Some((to, message)),
+            note,
+        })
+    }
+
+    /// The effect of the worker's asking for what is next, if anything is.
+    fn next_effect(
+        self,
+        alloc: Global,
+        live: &Live,
+        worker: &Worker,
+    ) -> Result<Option<Effect>, AllocError>
+        requires peers { 1 ≤ self.role.peers }
+        requires count { CanCount (live_view live.now) }
+        ensures { IfOk result (λ o. IfSome o (λ e.
+            issue_found (view_of self.entry) (live_view live.now) worker.now
+            (next_request self.entry.role.script.now worker.now) ≡ Ok (plan_of e))) }
+    {
+        match issued(alloc, worker, self.role.script)? {
+            Some((request, asker)) => Ok(Some(self.asking_effect(alloc, live, request, asker)?)),
+            None => Ok(None),
+        }
+    }
+
+    /// The effect of `issue`, where the node may issue.
+    pub fn issue_effect(self, alloc: Global) -> Result<Option<Effect>, AllocError>
+        requires peers { 1 ≤ self.role.peers }
+        requires count { CanSpeak self.node.now.node }
+        ensures plan { IfOk result (λ o. IfSome o (λ e. issue (view_of self.entry) ≡ Ok (plan_of e))) }
+        ensures enabled { OnErr result (IsOk (issue (view_of self.entry))) }
+    {
+        let Some(live) = self.up() else {
+            return Ok(None);
+        };
+        let Body::Worker(worker) = &live.body else {
+            return Ok(None);
+        };
+        if live.first_kept().is_some() || !can_issue(worker, self.role.script) {
+            return Ok(None);
+        }
+        self.next_effect(alloc, live, worker)
+    }
+
+    /// The effect of this service of the worker of this number.
+    fn serving_effect(
+        self,
+        alloc: Global,
+        live: &Live,
+        worker: u8,
+        by: u64,
+        service: Prepared,
+    ) -> Result<Effect, AllocError>
+        requires { CanCount (live_view live.now) }
+        ensures { IfOk result (λ e. plan_of e ≡
+            service_plan (view_of self.entry) (live_view live.now) worker by service) }
+    {
+        let request = service.request();
+        let what = What::Served(service.answer().copy(alloc)?);
+        let note = self.note(alloc, by, worker, request, what)?;
+        let talk = Talk::Reply {
+            request: request.copy(alloc)?,
+            answer: service.answer().copy(alloc)?,
+        };
+        let message = self.post(live, talk);
+        Ok(Effect {
+            becomes: Becomes::Serves { worker, service },
+            send: Some((NodeId::Worker(worker), message)),
+            note,
+        })
+    }
+
+    /// The effect of `serve`, where the node may serve so.
+    pub fn serve_effect(
+        self,
+        alloc: Global,
+        worker: u8,
+        place: u64,
+        by: u64,
+    ) -> Result<Option<Effect>, AllocError>
+        requires { CanSpeak self.node.now.node }
+        ensures plan { IfOk result (λ o. IfSome o (λ e.
+            serve (view_of self.entry) worker place by ≡ Ok (plan_of e))) }
+        ensures enabled { OnErr result (IsOk (serve (view_of self.entry) worker place by)) }
+    {
+        let Some(live) = self.up() else {
+            return Ok(None);
+        };
+        let Body::Shard(shard) = &live.body else {
+            return Ok(None);
+        };
+        match shard.choose(worker, place) {
+            Ok(choice) => {
+                let service = choice.prepare(alloc)?;
+                Ok(Some(self.serving_effect(alloc, live, worker, by, service)?))
+            }
+            Err(_) => Ok(None),
+        }
+    }
+
+    /// The effect of the shard's hearing the request, whose worker waits then.
+    fn waiting_effect(
+        self,
+        alloc: Global,
+        from: NodeId,
+        post: &Post,
+        request: &Request,
+    ) -> Result<Effect, AllocError>
+        ensures { IfOk result (λ e. plan_of e ≡ hearing Keeps from post.now.label (Wait (node_number from) request.now)
+            (note_of self.entry.role.id post.now.by (node_number from) request.now HeardIt)) }
+    {
+        let (request, note) = self.waiting(alloc, post.by, number_of(from), request)?;
+        Ok(Effect {
+            becomes: Becomes::Waits {
+                from,
+                label: post.label,
+                request,
+            },
+            send: None,
+            note,
+        })
+    }
+
+    /// The effect of the shard's answering once more.
+    fn again_effect(
+        self,
+        alloc: Global,
+        live: &Live,
+        from: NodeId,
+        post: &Post,
+        request: &Request,
+        answer: &Answer,
+    ) -> Result<Effect, AllocError>
+        requires { CanCount (live_view live.now) }
+        ensures { IfOk result (λ e. plan_of e ≡
+            again_plan (view_of self.entry) (live_view live.now) Keeps from post.now request.now answer.now) }
+    {
+        let what = What::Again(answer.copy(alloc)?);
+        let note = self.note(alloc, post.by, number_of(from), request, what)?;
+        let talk = Talk::Reply {
+            request: request.copy(alloc)?,
+            answer: answer.copy(alloc)?,
+        };
+        let message = self.post(live, talk);
+        Ok(Effect {
+            becomes: Becomes::Answers {
+                from,
+                label: post.label,
+            },
+            send: Some((from, message)),
+            note,
+        })
+    }
+
+    /// The effect of the worker's accepting the answer, where it does.
+    fn accept_effect(
+        self,
+        alloc: Global,
+        worker: &Worker,
+        from: NodeId,
+        post: &Post,
+        request: &Request,
+        answer: &Answer,
+    ) -> Result<Option<Effect>, AllocError>
+        ensures { IfOk result (λ o. IfSome o (λ e.
+            reply_plan (view_of self.entry) worker.now Keeps from post.now request.now answer.now ≡ plan_of e)) }
+    {
+        let Some(hearer) = self.heard_by(alloc, worker, request, answer)? else {
+            return Ok(None);
+        };
+        let note = self.note_accepted(alloc, post.by, request, answer)?;
+        Ok(Some(Effect {
+            becomes: Becomes::Accepts {
+                from,
+                label: post.label,
+                hearer,
+            },
+            send: None,
+            note,
+        }))
+    }
+
+    /// The effect of the shard's hearing the request of which this comes, unless it is ignored.
+    fn arrival_effect(
+        self,
+        alloc: Global,
+        live: &Live,
+        from: NodeId,
+        post: &Post,
+        request: &Request,
+        arrival: Arrival<'_>,
+    ) -> Result<Option<Effect>, AllocError>
+        requires { CanCount (live_view live.now) }
+        ensures { IfOk result (λ o. IfSome o (λ e.
+            request_plan (view_of self.entry) (live_view live.now) Keeps from post.now request.now
+            (arrival_view arrival.entry) ≡ plan_of e)) }
+    {
+        match arrival {
+            Arrival::Waits => Ok(Some(self.waiting_effect(alloc, from, post, request)?)),
+            Arrival::Again(answer) => {
+                Ok(Some(self.again_effect(alloc, live, from, post, request, answer)?))
+            }
+            Arrival::Ignored => Ok(None),
+        }
+    }
+
+    /// The effect of the live node's hearing the message: a request whose worker waits then or that is answered once
+    /// more, or an answer that is accepted. There is none of any other message.
+    fn talk_effect(
+        self,
+        alloc: Global,
+        live: &Live,
+        from: NodeId,
+        post: &Post,
+    ) -> Result<Option<Effect>, AllocError>
+        requires { CanCount (live_view live.now) }
+        ensures { IfOk result (λ o. IfSome o (λ e.
+            heard_plan (view_of self.entry) (live_view live.now) Keeps from post.now ≡ plan_of e)) }
+    {
+        match (&live.body, &post.talk) {
+            (Body::Worker(worker), Talk::Reply { request, answer }) => {
+                self.accept_effect(alloc, worker, from, post, request, answer)
+            }
+            (Body::Shard(shard), Talk::Request(request)) => {
+                self.arrival_effect(
+                    alloc,
+                    live,
+                    from,
+                    post,
+                    request,
+                    shard.arrival(number_of(from), request),
+                )
+            }
+            (Body::Worker(_), Talk::Request(_)) | (Body::Shard(_), Talk::Reply { .. }) => Ok(None),
+        }
+    }
+
+    /// The effect of the message from the node, where it is heard and not ignored.
+    pub fn hear_effect(
+        self,
+        alloc: Global,
+        from: NodeId,
+        post: &Post,
+    ) -> Result<Option<Effect>, AllocError>
+        requires { CanSpeak self.node.now.node }
+        ensures { IfOk result (λ o. IfSome o (λ e.
+            hear_app (view_of self.entry) from post.now ≡ Ok (plan_of e))) }
+    {
+        let Some(live) = self.up() else {
+            return Ok(None);
+        };
+        if live.first_kept().is_some() {
+            return Ok(None);
+        }
+        self.talk_effect(alloc, live, from, post)
+    }
+}
+
+impl Node {
+    /// The node becomes this. It takes no memory: there is room for one tuple more.
+    pub fn become_at_once(&mut self, becomes: Becomes)
+        requires can { CanChange self.old.node (Goes (turn_of becomes)) }
+        requires room { IsTrue self.old.has_room }
+        ensures { self.new.node ≡ changed (Goes (turn_of becomes)) self.old.node }
+    {
+        match &mut self.live {
+            Some(live) => live.become_at_once(becomes),
+            None => drop(becomes),
+        }
+    }
+}
+
+impl Live {
+    fn become_at_once(&mut self, becomes: Becomes)
+        requires tables { HasTables self.old }
+        requires can { CanTurn (live_view self.old) (turn_of becomes) }
+        requires room { IsTrue (live_has_room self.old) }
+        ensures turned { live_view self.new ≡ turned (turn_of becomes) (live_view self.old) }
+        ensures tables { HasTables self.new }
+    {
+        match becomes {
+            Becomes::Asks { to, asker } => {
+                self.body.work(asker);
+                self.say(to);
+            }
+            Becomes::Accepts {
+                from,
+                label,
+                hearer,
+            } => {
+                self.body.work(hearer);
+                write(&mut self.received, from, label);
+            }
+            Becomes::Waits {
+                from,
+                label,
+                request,
+            } => {
+                self.body.wait(number_of(from), request);
+                write(&mut self.received, from, label);
+            }
+            Becomes::Answers { from, label } => {
+                write(&mut self.received, from, label);
+                self.say(from);
+            }
+            Becomes::Serves { worker, service } => {
+                self.body.serve(worker, service);
+                self.say(NodeId::Worker(worker));
+            }
+        }
+    }
+}
+
+impl Body {
+    ghost use Rattle.kt_node.specs.declared.change.BodyChange.TheVariants as bodies;
+
+    fn work(&mut self, becomes: Worker)
+        ensures { body_view self.new ≡ changed_body (body_view self.old) (bodies.Work becomes) }
+    {
+        match self {
+            Body::Worker(worker) => *worker = becomes,
+            Body::Shard(_) => drop(becomes),
+        }
+    }
+
+    fn wait(&mut self, worker: u8, request: Request)
+        requires { CanChangeBody (body_view self.old) (bodies.Wait worker request) }
+        ensures { body_view self.new ≡ changed_body (body_view self.old) (bodies.Wait worker request) }
+    {
+        match self {
+            Body::Worker(_) => drop(request),
+            Body::Shard(shard) => shard.wait(worker, request),
+        }
+    }
+
+    fn serve(&mut self, worker: u8, service: Prepared)
+        requires can { CanChangeBody (body_view self.old) (bodies.Serve worker service) }
+        requires room { IsTrue (body_has_room self.old) }
+        ensures { body_view self.new ≡ changed_body (body_view self.old) (bodies.Serve worker service) }
+    {
+        match self {
+            Body::Worker(_) => drop(service),
+            Body::Shard(shard) => shard.carry_out(worker, service),
+        }
+    }
+}
