@@ -1,6 +1,7 @@
 -- What is made at once is what the plan of the step says.
-use Rattle.std.proofs.Common.{◌≡◌, Ok, Result, sym, ap, ◌∙◌, subst}
-use Rattle.std.specs.Prelude.{IsOk, OnErr}
+use Rattle.std.proofs.Common.{◌≡◌, ℕ, ◌≤◌, length, Option, None, Some, Ok, Result, sym, ap, ◌∙◌, subst}
+use Rattle.std.specs.Prelude.{IfSome, IsOk, OnErr, option_to_list}
+use Rattle.std.specs.List.{AllByRecursion}
 use Rattle.kt_tuple.specs.declared.node.NodeId.{NodeId}
 use Rattle.kt_history.specs.declared.note.Note.{Note}
 use Rattle.kt_node.specs.declared.at_once.Again.{Again}
@@ -50,3 +51,28 @@ made-at-once old new step plan said is same made c =
 pub enabled-at-once : {X E : Type 0} (r : Result X E) (old : Machine) (step : Step) (plan : Plan)
     → ((c : Content) → planned (state_of old c) step ≡ Ok plan) → OnErr r ((c : Content) → IsOk (planned (state_of old c) step))
 enabled-at-once r old step plan is = on-error r _ (λ c. is-ok (planned (state_of old c) step) plan (is c))
+
+-- ---- one message, if there is one
+
+pub if-listed : {X : Type 0} (P : X → Type 0) (o : Option X) → AllByRecursion P (option_to_list o) → IfSome o P
+if-listed P None all = tt
+if-listed P (Some x) all = all.0
+
+pub listed-if : {X : Type 0} (P : X → Type 0) (o : Option X) → IfSome o P → AllByRecursion P (option_to_list o)
+listed-if P None h = tt
+listed-if P (Some x) h = (h, tt)
+
+-- room for it is room for all that is sent
+pub roomy : {X : Type 0} (room : X → ℕ) (o : Option X) → IfSome o (λ x. 1 ≤ room x)
+    → AllByRecursion (λ x. length (option_to_list o) ≤ room x) (option_to_list o)
+roomy room None h = tt
+roomy room (Some x) h = (h, tt)
+
+pub has-room : {X : Type 0} (room : X → ℕ) (o : Option X) → AllByRecursion (λ x. length (option_to_list o) ≤ room x) (option_to_list o)
+    → IfSome o (λ x. 1 ≤ room x)
+has-room room None all = tt
+has-room room (Some x) all = all.0
+
+pub through-some : {X : Type 0} (P Q : X → Type 0) (o : Option X) → ((x : X) → P x → Q x) → IfSome o P → IfSome o Q
+through-some P Q None go h = tt
+through-some P Q (Some x) go h = go x h
