@@ -4,14 +4,14 @@ ghost use Rattle.std.specs.Prelude.{◌≡◌, ◌<◌, ◌+◌, ◌^◌, None, 
 ghost use Rattle.std.specs.Option.{option_map};
 ghost use Rattle.kt_core.specs.inner.Rows.{HasRoom, row_view};
 ghost use Rattle.kt_node.specs.declared.change.Change.TheVariants.{Turn as Goes};
-ghost use Rattle.kt_node.specs.Effect.{turn_of};
+ghost use Rattle.kt_node.specs.ShortPlan.{turn_of};
 ghost use Rattle.kt_node.specs.Node.{Down};
 ghost use Rattle.kt_node.specs.Plan.{no_turn};
 ghost use Rattle.kt_node.specs.Ready.{CanChange};
 ghost use Rattle.kt_node.specs.Turning.{changed};
 ghost use Rattle.kt_shard.specs.Table.{at, put};
 
-use kt_node::{Becomes, Change, Node};
+use kt_node::{Change, Node, ShortTurn};
 use kt_tuple::NodeId;
 use std::alloc::AllocError;
 
@@ -77,25 +77,25 @@ fn say(row: &mut Option<Node>, to: NodeId)
     }
 }
 
-/// The node of this row becomes this, which takes no memory.
-pub(crate) fn become_in_row(nodes: &mut Vec<Option<Node>>, row: usize, becomes: Becomes)
+/// Makes the turn of the node of this row, which takes no memory.
+pub(crate) fn turn_in_row(nodes: &mut Vec<Option<Node>>, row: usize, turn: ShortTurn)
     requires row { row < length nodes.old.items }
-    requires can { CanChange (unwrap_or (at None (map row_view nodes.old.items) row) Down) (Goes (turn_of becomes)) }
+    requires can { CanChange (unwrap_or (at None (map row_view nodes.old.items) row) Down) (Goes (turn_of turn)) }
     requires room { HasRoom (at None nodes.old.items row) }
     ensures { map row_view nodes.new.items ≡ put None (map row_view nodes.old.items) row
-        (option_map (changed (Goes (turn_of becomes))) (at None (map row_view nodes.old.items) row)) }
+        (option_map (changed (Goes (turn_of turn))) (at None (map row_view nodes.old.items) row)) }
 {
-    become_at_once(&mut nodes[row], becomes);
+    turn_short(&mut nodes[row], turn);
 }
 
-fn become_at_once(row: &mut Option<Node>, becomes: Becomes)
-    requires can { CanChange (unwrap_or (row_view row.old) Down) (Goes (turn_of becomes)) }
+fn turn_short(row: &mut Option<Node>, turn: ShortTurn)
+    requires can { CanChange (unwrap_or (row_view row.old) Down) (Goes (turn_of turn)) }
     requires room { HasRoom row.old }
-    ensures { row_view row.new ≡ option_map (changed (Goes (turn_of becomes))) (row_view row.old) }
+    ensures { row_view row.new ≡ option_map (changed (Goes (turn_of turn))) (row_view row.old) }
 {
     match row {
-        Some(node) => node.become_at_once(becomes),
-        None => drop(becomes),
+        Some(node) => node.turn_short(turn),
+        None => drop(turn),
     }
 }
 

@@ -12,7 +12,6 @@
 mod at_once;
 mod causes;
 mod change;
-mod effects;
 mod faults;
 mod judging;
 mod lending;
@@ -21,6 +20,7 @@ mod needing;
 mod opening;
 mod reading;
 mod scene;
+mod short_plans;
 mod space;
 mod stepping;
 mod tables;

@@ -19,6 +19,6 @@ pub mod Deciding
 pub mod Failing
 pub mod Steps
 pub mod AtOnce
-pub mod Effect
+pub mod ShortPlan
 pub mod Posts
 pub mod inner

@@ -1,5 +1,5 @@
-//! The frequent steps of workers and shards, found out without a plan of all that a step can be: an effect is small, and
-//! goes from who finds it out to who makes it (docs/DECISIONS.md#steps).
+//! The plans of the frequent steps of workers and shards. A `Plan` has room for all that a step can do; a short one has
+//! less, so that less is moved from who finds it out to who carries it out (docs/DECISIONS.md#steps).
 
 ghost use Rattle.std.specs.Prelude.{◌≡◌, ◌≤◌, IfOk, IfSome, IsOk, IsTrue, OnErr, Ok};
 ghost use Rattle.kt_worker.specs.Standing.{next_request};
@@ -8,7 +8,7 @@ ghost use Rattle.kt_shard.specs.Arrival.{arrival_view};
 ghost use Rattle.kt_node.specs.declared.change.BodyChange.TheVariants.{Wait};
 ghost use Rattle.kt_node.specs.declared.change.Change.TheVariants.{Turn as Goes};
 ghost use Rattle.kt_node.specs.declared.change.KeptChange.TheVariants.{Stay as Keeps};
-ghost use Rattle.kt_node.specs.Effect.{plan_of, turn_of};
+ghost use Rattle.kt_node.specs.ShortPlan.{plan_of, turn_of};
 ghost use Rattle.kt_node.specs.inner.Codes.{body_has_room, body_view, live_has_room, live_view, HasTables};
 ghost use Rattle.kt_node.specs.Posts.{hear_app};
 ghost use Rattle.kt_node.specs.Ready.{CanChange, CanChangeBody, CanCount, CanSpeak, CanTurn};
@@ -35,7 +35,7 @@ use std::alloc::{AllocError, Global};
 
 /// What becomes of a node in a frequent step.
 #[derive(Debug, Drop)]
-pub enum Becomes {
+pub enum ShortTurn {
     /// The worker becomes this one, which asks the node.
     Asks {
         to: NodeId,
@@ -67,9 +67,9 @@ pub enum Becomes {
 
 /// What a frequent step does: it sends one message at most, and makes no write of the store.
 #[derive(Debug, Drop)]
-pub struct Effect {
+pub struct ShortPlan {
     /// What becomes of the owner.
-    pub becomes: Becomes,
+    pub turn: ShortTurn,
     /// What it sends, with the receiver.
     pub send: Option<(NodeId, Message)>,
     /// What is noted in the history.
@@ -77,14 +77,14 @@ pub struct Effect {
 }
 
 impl View<'_> {
-    /// The effect of the worker's asking for this.
-    fn asking_effect(
+    /// The short plan of the worker's asking for this.
+    fn short_asking(
         self,
         alloc: Global,
         live: &Live,
         request: Request,
         asker: Worker,
-    ) -> Result<Effect, AllocError>
+    ) -> Result<ShortPlan, AllocError>
         requires peers { 1 ≤ self.role.peers }
         requires count { CanCount (live_view live.now) }
         ensures { IfOk result (λ e. plan_of e ≡
@@ -93,20 +93,20 @@ impl View<'_> {
         let to = self.home(&request.op);
         let note = self.note(alloc, 0, number_of(self.role.id), &request, What::Issue)?;
         let message = self.post(live, Talk::Request(request));
-        Ok(Effect {
-            becomes: Becomes::Asks { to, asker },
+        Ok(ShortPlan {
+            turn: ShortTurn::Asks { to, asker },
             send: Some((to, message)),
             note,
         })
     }
 
-    /// The effect of the worker's asking for what is next, if anything is.
-    fn next_effect(
+    /// The short plan of the worker's asking for what is next, if anything is.
+    fn short_next(
         self,
         alloc: Global,
         live: &Live,
         worker: &Worker,
-    ) -> Result<Option<Effect>, AllocError>
+    ) -> Result<Option<ShortPlan>, AllocError>
         requires peers { 1 ≤ self.role.peers }
         requires count { CanCount (live_view live.now) }
         ensures { IfOk result (λ o. IfSome o (λ e.
@@ -114,13 +114,13 @@ impl View<'_> {
             (next_request self.entry.role.script.now worker.now) ≡ Ok (plan_of e))) }
     {
         match issued(alloc, worker, self.role.script)? {
-            Some((request, asker)) => Ok(Some(self.asking_effect(alloc, live, request, asker)?)),
+            Some((request, asker)) => Ok(Some(self.short_asking(alloc, live, request, asker)?)),
             None => Ok(None),
         }
     }
 
-    /// The effect of `issue`, where the node may issue.
-    pub fn issue_effect(self, alloc: Global) -> Result<Option<Effect>, AllocError>
+    /// The short plan of `issue`, where the node may issue.
+    pub fn short_issue(self, alloc: Global) -> Result<Option<ShortPlan>, AllocError>
         requires peers { 1 ≤ self.role.peers }
         requires count { CanSpeak self.node.now.node }
         ensures plan { IfOk result (λ o. IfSome o (λ e. issue (view_of self.entry) ≡ Ok (plan_of e))) }
@@ -135,18 +135,18 @@ impl View<'_> {
         if live.first_kept().is_some() || !can_issue(worker, self.role.script) {
             return Ok(None);
         }
-        self.next_effect(alloc, live, worker)
+        self.short_next(alloc, live, worker)
     }
 
-    /// The effect of this service of the worker of this number.
-    fn serving_effect(
+    /// The short plan of this service of the worker of this number.
+    fn short_serving(
         self,
         alloc: Global,
         live: &Live,
         worker: u8,
         by: u64,
         service: Prepared,
-    ) -> Result<Effect, AllocError>
+    ) -> Result<ShortPlan, AllocError>
         requires { CanCount (live_view live.now) }
         ensures { IfOk result (λ e. plan_of e ≡
             service_plan (view_of self.entry) (live_view live.now) worker by service) }
@@ -159,21 +159,21 @@ impl View<'_> {
             answer: service.answer().copy(alloc)?,
         };
         let message = self.post(live, talk);
-        Ok(Effect {
-            becomes: Becomes::Serves { worker, service },
+        Ok(ShortPlan {
+            turn: ShortTurn::Serves { worker, service },
             send: Some((NodeId::Worker(worker), message)),
             note,
         })
     }
 
-    /// The effect of `serve`, where the node may serve so.
-    pub fn serve_effect(
+    /// The short plan of `serve`, where the node may serve so.
+    pub fn short_serve(
         self,
         alloc: Global,
         worker: u8,
         place: u64,
         by: u64,
-    ) -> Result<Option<Effect>, AllocError>
+    ) -> Result<Option<ShortPlan>, AllocError>
         requires { CanSpeak self.node.now.node }
         ensures plan { IfOk result (λ o. IfSome o (λ e.
             serve (view_of self.entry) worker place by ≡ Ok (plan_of e))) }
@@ -188,26 +188,26 @@ impl View<'_> {
         match shard.choose(worker, place) {
             Ok(choice) => {
                 let service = choice.prepare(alloc)?;
-                Ok(Some(self.serving_effect(alloc, live, worker, by, service)?))
+                Ok(Some(self.short_serving(alloc, live, worker, by, service)?))
             }
             Err(_) => Ok(None),
         }
     }
 
-    /// The effect of the shard's hearing the request, whose worker waits then.
-    fn waiting_effect(
+    /// The short plan of the shard's hearing the request, whose worker waits then.
+    fn short_waiting(
         self,
         alloc: Global,
         from: NodeId,
         post: &Post,
         request: &Request,
-    ) -> Result<Effect, AllocError>
+    ) -> Result<ShortPlan, AllocError>
         ensures { IfOk result (λ e. plan_of e ≡ hearing Keeps from post.now.label (Wait (node_number from) request.now)
             (note_of self.entry.role.id post.now.by (node_number from) request.now HeardIt)) }
     {
         let (request, note) = self.waiting(alloc, post.by, number_of(from), request)?;
-        Ok(Effect {
-            becomes: Becomes::Waits {
+        Ok(ShortPlan {
+            turn: ShortTurn::Waits {
                 from,
                 label: post.label,
                 request,
@@ -217,8 +217,8 @@ impl View<'_> {
         })
     }
 
-    /// The effect of the shard's answering once more.
-    fn again_effect(
+    /// The short plan of the shard's answering once more.
+    fn short_again(
         self,
         alloc: Global,
         live: &Live,
@@ -226,7 +226,7 @@ impl View<'_> {
         post: &Post,
         request: &Request,
         answer: &Answer,
-    ) -> Result<Effect, AllocError>
+    ) -> Result<ShortPlan, AllocError>
         requires { CanCount (live_view live.now) }
         ensures { IfOk result (λ e. plan_of e ≡
             again_plan (view_of self.entry) (live_view live.now) Keeps from post.now request.now answer.now) }
@@ -238,8 +238,8 @@ impl View<'_> {
             answer: answer.copy(alloc)?,
         };
         let message = self.post(live, talk);
-        Ok(Effect {
-            becomes: Becomes::Answers {
+        Ok(ShortPlan {
+            turn: ShortTurn::Answers {
                 from,
                 label: post.label,
             },
@@ -248,8 +248,8 @@ impl View<'_> {
         })
     }
 
-    /// The effect of the worker's accepting the answer, where it does.
-    fn accept_effect(
+    /// The short plan of the worker's accepting the answer, where it does.
+    fn short_accepting(
         self,
         alloc: Global,
         worker: &Worker,
@@ -257,7 +257,7 @@ impl View<'_> {
         post: &Post,
         request: &Request,
         answer: &Answer,
-    ) -> Result<Option<Effect>, AllocError>
+    ) -> Result<Option<ShortPlan>, AllocError>
         ensures { IfOk result (λ o. IfSome o (λ e.
             reply_plan (view_of self.entry) worker.now Keeps from post.now request.now answer.now ≡ plan_of e)) }
     {
@@ -265,8 +265,8 @@ impl View<'_> {
             return Ok(None);
         };
         let note = self.note_accepted(alloc, post.by, request, answer)?;
-        Ok(Some(Effect {
-            becomes: Becomes::Accepts {
+        Ok(Some(ShortPlan {
+            turn: ShortTurn::Accepts {
                 from,
                 label: post.label,
                 hearer,
@@ -276,8 +276,8 @@ impl View<'_> {
         }))
     }
 
-    /// The effect of the shard's hearing the request of which this comes, unless it is ignored.
-    fn arrival_effect(
+    /// The short plan of the shard's hearing the request of which this comes, unless it is ignored.
+    fn short_arrival(
         self,
         alloc: Global,
         live: &Live,
@@ -285,40 +285,40 @@ impl View<'_> {
         post: &Post,
         request: &Request,
         arrival: Arrival<'_>,
-    ) -> Result<Option<Effect>, AllocError>
+    ) -> Result<Option<ShortPlan>, AllocError>
         requires { CanCount (live_view live.now) }
         ensures { IfOk result (λ o. IfSome o (λ e.
             request_plan (view_of self.entry) (live_view live.now) Keeps from post.now request.now
             (arrival_view arrival.entry) ≡ plan_of e)) }
     {
         match arrival {
-            Arrival::Waits => Ok(Some(self.waiting_effect(alloc, from, post, request)?)),
+            Arrival::Waits => Ok(Some(self.short_waiting(alloc, from, post, request)?)),
             Arrival::Again(answer) => {
-                Ok(Some(self.again_effect(alloc, live, from, post, request, answer)?))
+                Ok(Some(self.short_again(alloc, live, from, post, request, answer)?))
             }
             Arrival::Ignored => Ok(None),
         }
     }
 
-    /// The effect of the live node's hearing the message: a request whose worker waits then or that is answered once
+    /// The short plan of the live node's hearing the message: a request whose worker waits then or that is answered once
     /// more, or an answer that is accepted. There is none of any other message.
-    fn talk_effect(
+    fn short_talk(
         self,
         alloc: Global,
         live: &Live,
         from: NodeId,
         post: &Post,
-    ) -> Result<Option<Effect>, AllocError>
+    ) -> Result<Option<ShortPlan>, AllocError>
         requires { CanCount (live_view live.now) }
         ensures { IfOk result (λ o. IfSome o (λ e.
             heard_plan (view_of self.entry) (live_view live.now) Keeps from post.now ≡ plan_of e)) }
     {
         match (&live.body, &post.talk) {
             (Body::Worker(worker), Talk::Reply { request, answer }) => {
-                self.accept_effect(alloc, worker, from, post, request, answer)
+                self.short_accepting(alloc, worker, from, post, request, answer)
             }
             (Body::Shard(shard), Talk::Request(request)) => {
-                self.arrival_effect(
+                self.short_arrival(
                     alloc,
                     live,
                     from,
@@ -331,13 +331,13 @@ impl View<'_> {
         }
     }
 
-    /// The effect of the message from the node, where it is heard and not ignored.
-    pub fn hear_effect(
+    /// The short plan of the message from the node, where it is heard and not ignored.
+    pub fn short_hear(
         self,
         alloc: Global,
         from: NodeId,
         post: &Post,
-    ) -> Result<Option<Effect>, AllocError>
+    ) -> Result<Option<ShortPlan>, AllocError>
         requires { CanSpeak self.node.now.node }
         ensures { IfOk result (λ o. IfSome o (λ e.
             hear_app (view_of self.entry) from post.now ≡ Ok (plan_of e))) }
@@ -348,38 +348,38 @@ impl View<'_> {
         if live.first_kept().is_some() {
             return Ok(None);
         }
-        self.talk_effect(alloc, live, from, post)
+        self.short_talk(alloc, live, from, post)
     }
 }
 
 impl Node {
-    /// The node becomes this. It takes no memory: there is room for one tuple more.
-    pub fn become_at_once(&mut self, becomes: Becomes)
-        requires can { CanChange self.old.node (Goes (turn_of becomes)) }
+    /// Makes the turn. It takes no memory: there is room for one tuple more.
+    pub fn turn_short(&mut self, turn: ShortTurn)
+        requires can { CanChange self.old.node (Goes (turn_of turn)) }
         requires room { IsTrue self.old.has_room }
-        ensures { self.new.node ≡ changed (Goes (turn_of becomes)) self.old.node }
+        ensures { self.new.node ≡ changed (Goes (turn_of turn)) self.old.node }
     {
         match &mut self.live {
-            Some(live) => live.become_at_once(becomes),
-            None => drop(becomes),
+            Some(live) => live.turn_short(turn),
+            None => drop(turn),
         }
     }
 }
 
 impl Live {
-    fn become_at_once(&mut self, becomes: Becomes)
+    fn turn_short(&mut self, turn: ShortTurn)
         requires tables { HasTables self.old }
-        requires can { CanTurn (live_view self.old) (turn_of becomes) }
+        requires can { CanTurn (live_view self.old) (turn_of turn) }
         requires room { IsTrue (live_has_room self.old) }
-        ensures turned { live_view self.new ≡ turned (turn_of becomes) (live_view self.old) }
+        ensures turned { live_view self.new ≡ turned (turn_of turn) (live_view self.old) }
         ensures tables { HasTables self.new }
     {
-        match becomes {
-            Becomes::Asks { to, asker } => {
+        match turn {
+            ShortTurn::Asks { to, asker } => {
                 self.body.work(asker);
                 self.say(to);
             }
-            Becomes::Accepts {
+            ShortTurn::Accepts {
                 from,
                 label,
                 hearer,
@@ -387,7 +387,7 @@ impl Live {
                 self.body.work(hearer);
                 write(&mut self.received, from, label);
             }
-            Becomes::Waits {
+            ShortTurn::Waits {
                 from,
                 label,
                 request,
@@ -395,11 +395,11 @@ impl Live {
                 self.body.wait(number_of(from), request);
                 write(&mut self.received, from, label);
             }
-            Becomes::Answers { from, label } => {
+            ShortTurn::Answers { from, label } => {
                 write(&mut self.received, from, label);
                 self.say(from);
             }
-            Becomes::Serves { worker, service } => {
+            ShortTurn::Serves { worker, service } => {
                 self.body.serve(worker, service);
                 self.say(NodeId::Worker(worker));
             }
@@ -410,12 +410,12 @@ impl Live {
 impl Body {
     ghost use Rattle.kt_node.specs.declared.change.BodyChange.TheVariants as bodies;
 
-    fn work(&mut self, becomes: Worker)
-        ensures { body_view self.new ≡ changed_body (body_view self.old) (bodies.Work becomes) }
+    fn work(&mut self, changed: Worker)
+        ensures { body_view self.new ≡ changed_body (body_view self.old) (bodies.Work changed) }
     {
         match self {
-            Body::Worker(worker) => *worker = becomes,
-            Body::Shard(_) => drop(becomes),
+            Body::Worker(worker) => *worker = changed,
+            Body::Shard(_) => drop(changed),
         }
     }
 
