@@ -15,11 +15,9 @@ use Rattle.kt_node.specs.Plan.{no_turn}
 abbrev pub turn_of : ShortTurn → Turn
 turn_of (turns.Asks to asker) = record no_turn { body = bodies.Work asker; said = Some to }
 turn_of (turns.Accepts from label hearer) = record no_turn { body = bodies.Work hearer; heard = Some (from, label) }
-turn_of (turns.Waits from label request) =
-    record no_turn { body = bodies.Wait (node_number from) request; heard = Some (from, label) }
+turn_of (turns.Waits p label r) = record no_turn { body = bodies.Wait (node_number p) r; heard = Some (p, label) }
 turn_of (turns.Answers from label) = record no_turn { heard = Some (from, label); said = Some from }
-turn_of (turns.Serves worker service) =
-    record no_turn { body = bodies.Serve worker service; said = Some (ids.Worker worker) }
+turn_of (turns.Serves worker s) = record no_turn { body = bodies.Serve worker s; said = Some (ids.Worker worker) }
 
 -- the plan that it stands for
 abbrev pub plan_of : ShortPlan → Plan
