@@ -1,7 +1,6 @@
 //! What a world makes of want of memory.
 
 use crate::hoard::{BLOCKS, hoard_all};
-use arrayvec::ArrayVec;
 use kt_core::{OpenError, OpenRefused, Scene, Step, StepError, World};
 use kt_script::{Actual, Actuals, Command, Operation, Pattern, Script, Slot};
 use kt_store::{MemStore, StoreError};
@@ -18,11 +17,11 @@ const S1: NodeId = NodeId::Shard(1);
 
 /// A script of two commands, `out (7)` and `in (?int)`.
 fn script(alloc: Global) -> Result<Script, Fail> {
-    let (mut actuals, mut slots) = (ArrayVec::new(), ArrayVec::new());
+    let (mut actuals, mut slots) = (Vec::new(alloc), Vec::new(alloc));
     let seven = Actual::Literal(Value::Int(7));
-    actuals.try_push(seven).map_err(|_| "room")?;
+    actuals.push(seven)?;
     let any_int = Slot::Formal(Kind::Int, None);
-    slots.try_push(any_int).map_err(|_| "room")?;
+    slots.push(any_int)?;
     let give = Operation::Out(Actuals::new(actuals).ok_or("a tuple")?);
     let take = Operation::In(Pattern::new(slots).ok_or("a template")?);
     let mut script = Script::new(alloc);

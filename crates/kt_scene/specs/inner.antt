@@ -4,3 +4,4 @@ pub mod Places
 pub mod Texts
 pub mod Making
 pub mod Starts
+pub mod Room

@@ -74,33 +74,6 @@ impl Actual {
     }
 }
 
-/// What a fixed room for actuals holds where none was put.
-impl Default for Actual {
-    ghost use Rattle.std.specs.Prelude.{◌≡◌, pos};
-    ghost use Rattle.kt_tuple.specs.declared.value.Value.TheVariants.{Int};
-    ghost use Rattle.kt_script.specs.declared.command.Actual.TheVariants.{Literal};
-
-    ghost is_default = { λ a. a ≡ Literal (Int (pos 0)) };
-
-    fn default() -> Self {
-        Actual::Literal(Value::Int(0))
-    }
-}
-
-/// What a fixed room for places holds where none was put.
-impl Default for Slot {
-    ghost use Rattle.std.specs.Prelude.{◌≡◌, pos};
-    ghost use Rattle.kt_tuple.specs.declared.value.Value.TheVariants.{Int};
-    ghost use Rattle.kt_script.specs.declared.command.Actual.TheVariants.{Literal};
-    ghost use Rattle.kt_script.specs.declared.command.Slot.TheVariants as slots;
-
-    ghost is_default = { λ s. s ≡ slots.Actual (Literal (Int (pos 0))) };
-
-    fn default() -> Self {
-        Slot::Actual(Actual::default())
-    }
-}
-
 impl Operation {
     ghost use Rattle.kt_script.specs.Command.{slots_of};
 
