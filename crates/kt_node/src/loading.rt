@@ -7,7 +7,7 @@ ghost use Rattle.kt_node.specs.Loading.{load, loaded_by, loaded_from};
 ghost use Rattle.kt_node.specs.Node.{IsShard, fresh_live, opening_body, opening_node};
 ghost use Rattle.kt_node.specs.Plan.{Gives};
 ghost use Rattle.kt_node.specs.State.{are_of_scene, is_of_scene, body_at, body_from, desk_with, entry_of};
-ghost use Rattle.kt_node.specs.State.{if_fits, shard_fits, shard_from, worker_from};
+ghost use Rattle.kt_node.specs.State.{if_fits, shard_fits, shard_from, worker_fits, worker_from};
 ghost use Rattle.kt_node.specs.View.{view_of};
 ghost use Rattle.kt_node.specs.Views.{role_view};
 ghost use Rattle.kt_node.specs.inner.Codes.{HasTables, body_view, live_view};
@@ -31,11 +31,29 @@ use std::alloc::{AllocError, Global};
 use std::collections::VecDeque;
 use std::marker::Model;
 
+/// Whether the script has a worker that stands so: no more is known of what it asked for.
+fn worker_fits(role: Role<'_>, state: &WorkerState) -> bool
+    ensures { result ≡ worker_fits (role_view role.entry) state.now }
+{
+    let pc = usize::from(state.pc());
+    if role.script.commands().len() < pc {
+        false
+    } else if (pc as u64) < state.number() {
+        false
+    } else {
+        role.script.has_values(state.variables())
+    }
+}
+
 /// The worker of the state, where it is one of the script. Bytes are judged by their format alone, which allows more
 /// than a node can hold; so this is asked here, where the node is made (docs/DECISIONS.md#checkpoints).
 fn worker_from(alloc: Global, role: Role<'_>, state: &WorkerState) -> Result<Body, Refusal>
     ensures { GivesBody result (worker_from (role_view role.entry) state.now) }
 {
+    // It is judged before it is copied, since want of memory is told only of a state that fits.
+    if !worker_fits(role, state) {
+        return Err(Refusal::Damaged);
+    }
     let (pc, number, was_none, asked, variables) = state.copy(alloc)?.into_parts();
     match Worker::from_parts(
         role.script,

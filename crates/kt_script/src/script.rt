@@ -9,9 +9,9 @@ use crate::name::Name;
 use crate::next::{Next, has_next_from, next_from};
 use crate::rules::{count_new, has_count, keeps_rules};
 use crate::script_error::ScriptError;
-use crate::variables::{Variables, bind_all, kind_in};
+use crate::variables::{Variables, are_values_of, bind_all, kind_in};
 use indexmap::IndexMap;
-use kt_tuple::Kind;
+use kt_tuple::{Kind, Value};
 use std::alloc::{AllocError, Global};
 use std::marker::Model;
 
@@ -47,6 +47,7 @@ impl Script {
     ghost use Rattle.kt_script.specs.Asks.{asks};
     ghost use Rattle.kt_script.specs.Next.{next_at, op_of_next, position_after, slots_before};
     ghost use Rattle.kt_script.specs.Rules.{refusal_of, is_within, IsScript};
+    ghost use Rattle.kt_script.specs.Memory.{are_values_of};
     ghost use Rattle.kt_script.specs.Variables.{variables_of, kind_in};
     ghost use Rattle.std.specs.Map.{keys_of};
 
@@ -188,5 +189,13 @@ impl Script {
         ensures { result ≡ kind_in (variables_of self.now) name.now }
     {
         kind_in(&self.variables, name)
+    }
+
+    /// Whether these are one value for each variable, in the order of `names`, and each of its variable's kind: values
+    /// of which `Env::from_parts` makes an environment. It takes no memory.
+    pub fn has_values(&self, values: &[Value]) -> bool
+        ensures { result ≡ are_values_of (variables_of self.now) values.now }
+    {
+        are_values_of(&self.variables, values)
     }
 }
