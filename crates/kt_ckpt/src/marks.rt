@@ -9,7 +9,8 @@ use std::marker::Model;
 use std::sync::Arc;
 
 /// What a checkpoint says besides its node's state. It costs nothing that grows with what the node holds. It has the
-/// same four readers as `Ckpt`, and is what a store tells of a checkpoint that it does not load. It is one shared block.
+/// same four readers as `Ckpt`, and is what a store tells of a checkpoint that it does not load. It is one shared
+/// block.
 #[derive(Debug, Drop)]
 pub struct Marks {
     parts: Arc<MarkParts, Global>,
