@@ -1,5 +1,5 @@
-//! The plans of the frequent steps of workers and shards. A `Plan` has room for all that a step can do; a short one has
-//! less, so that less is moved from who finds it out to who carries it out (docs/DECISIONS.md#steps).
+//! The plans of the frequent steps of workers and shards. A `Plan` stands on the heap in part, and goes through many
+//! hands; a short one takes no memory for itself and goes through few (docs/DECISIONS.md#steps).
 
 ghost use Rattle.std.specs.Prelude.{◌≡◌, ◌≤◌, IfOk, IfSome, IsOk, IsTrue, OnErr, Ok};
 ghost use Rattle.kt_worker.specs.Standing.{next_request};
