@@ -1,10 +1,11 @@
 -- What is made at once is what the plan of the step says.
-use Rattle.std.proofs.Common.{◌≡◌, ℕ, ◌≤◌, length, Option, None, Some, Ok, Result, sym, ap, ◌∙◌, subst}
-use Rattle.std.specs.Prelude.{IfSome, IsOk, OnErr, option_to_list}
+use Rattle.std.proofs.Common.{◌≡◌, ℕ, ◌≤◌, length, Option, None, Some, Ok, Err, Result, sym, ap, ◌∙◌, subst}
+use Rattle.std.specs.Prelude.{IfOk, IfSome, IsOk, OnErr, option_to_list}
 use Rattle.std.specs.List.{AllByRecursion}
 use Rattle.kt_tuple.specs.declared.node.NodeId.{NodeId}
 use Rattle.kt_history.specs.declared.note.Note.{Note}
 use Rattle.kt_node.specs.declared.at_once.Again.{Again}
+use Rattle.kt_node.specs.declared.short_plan.ShortPlan.{ShortPlan}
 use Rattle.kt_node.specs.declared.message.Message.{Message}
 use Rattle.kt_node.specs.declared.plan.Plan.{Plan}
 use Rattle.kt_node.specs.AtOnce.{again_message, again_note, again_plan, saying}
@@ -76,3 +77,10 @@ has-room room (Some x) all = all.0
 pub through-some : {X : Type 0} (P Q : X → Type 0) (o : Option X) → ((x : X) → P x → Q x) → IfSome o P → IfSome o Q
 through-some P Q None go h = tt
 through-some P Q (Some x) go h = go x h
+
+-- what follows of each short plan follows of the one that was found, if one was
+pub of-found : {E : Type 0} (r : Result (Option ShortPlan) E) (P Q : ShortPlan → Type 0) → ((e : ShortPlan) → P e → Q e)
+    → IfOk r (λ o. IfSome o P) → IfOk r (λ o. IfSome o Q)
+of-found (Ok None) P Q go h = tt
+of-found (Ok (Some e)) P Q go h = go e h
+of-found (Err x) P Q go h = tt

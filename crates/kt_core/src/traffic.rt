@@ -99,8 +99,9 @@ pub(crate) fn send_if_any(
     ensures workers { links.new.workers ≡ links.old.workers }
     ensures shards { links.new.shards ≡ links.old.shards }
 {
-    if let Some((to, message)) = send {
-        send_one(links, owner, to, message);
+    match send {
+        Some((to, message)) => send_one(links, owner, to, message),
+        None => {}
     }
 }
 

@@ -10,7 +10,7 @@ use Rattle.kt_core.proofs.machine.Machine.make_short.Goals as goal
 
 pub make_room_for_short-requires-clause-can : goal.make_room_for_short-requires-clause-can
 make_room_for_short-requires-clause-can c =
-    subst (λ p. CanApply (state_of c.args.self.now empty_content) p (plan_of c.args.short)) (sym c.owner-owner.ensures) c.requires.can
+    subst (λ p. CanApply (state_of c.args.self.now empty_content) p (plan_of c.args.short)) (sym c.owner.ensures) c.requires.can
 
 pub carry_out_short-requires-clause-ready : goal.carry_out_short-requires-clause-ready
 carry_out_short-requires-clause-ready c =
@@ -23,7 +23,7 @@ carry_out_short-requires-clause-can c =
 
 pub carry_out_short-requires-clause-room : goal.carry_out_short-requires-clause-room
 carry_out_short-requires-clause-room c =
-    subst (λ p. HasRoomFor c.make_room_for_short.new.self p (plan_of c.args.short)) c.owner-owner.ensures c.in_ok-make_room_for_short.ensures.room
+    subst (λ p. HasRoomFor c.make_room_for_short.new.self p (plan_of c.args.short)) c.owner.ensures c.in_ok-make_room_for_short.ensures.room
 
 pub returns-clause-made : goal.returns-clause-made
 returns-clause-made c =

@@ -1,5 +1,6 @@
-use Rattle.std.proofs.Common.{subst, sym}
-use Rattle.std.specs.Prelude.{IsOk, OnErr}
+use Rattle.std.proofs.Common.{◌≡◌, Ok, subst, sym}
+use Rattle.std.specs.Prelude.{IfOk, IfSome, IsOk, OnErr}
+use Rattle.kt_node.specs.ShortPlan.{plan_of}
 use Rattle.kt_store.specs.Content.{Content}
 use Rattle.kt_world.specs.declared.step.Step.{Step}
 use Rattle.kt_world.specs.Judge.{planned}
@@ -20,3 +21,15 @@ pub returns-in-Serve-clause-enabled : goal.returns-in-Serve-clause-enabled
 returns-in-Serve-clause-enabled c =
     let P : Step → Type 0 = λ step. OnErr c.short_serve.result ((held : Content) → IsOk (planned (state_of c.args.self.now held) step)) in
     subst P (sym c.in-Serve.is) c.short_serve.ensures.enabled
+
+pub returns-in-Issue-clause-plan : goal.returns-in-Issue-clause-plan
+returns-in-Issue-clause-plan c =
+    let P : Step → Type 0 = λ step.
+    IfOk c.short_issue.result (λ o. IfSome o (λ e. (held : Content) → planned (state_of c.args.self.now held) step ≡ Ok (plan_of e))) in
+    subst P (sym c.in-Issue.is) c.short_issue.ensures.plan
+
+pub returns-in-Serve-clause-plan : goal.returns-in-Serve-clause-plan
+returns-in-Serve-clause-plan c =
+    let P : Step → Type 0 = λ step.
+    IfOk c.short_serve.result (λ o. IfSome o (λ e. (held : Content) → planned (state_of c.args.self.now held) step ≡ Ok (plan_of e))) in
+    subst P (sym c.in-Serve.is) c.short_serve.ensures.plan
