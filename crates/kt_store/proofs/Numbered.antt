@@ -11,7 +11,7 @@ use Rattle.std.proofs.lemmas.Option.{get_or_from_slice_get, none-some, same_Some
 use Rattle.kt_store.specs.Content.{greatest}
 use Rattle.kt_tuple.specs.declared.node.NodeId.{NodeId}
 use Rattle.kt_tuple.specs.Node.{node_eq}
-use Rattle.kt_store.specs.declared.memory.Opened.{Opened}
+use Rattle.kt_store.specs.declared.posted.Opened.{Opened}
 use Rattle.kt_store.specs.declared.rows.Posted.{Posted}
 use Rattle.kt_store.specs.Verdict.{is_open, verdict_from}
 use Rattle.kt_store.specs.inner.Rising.{IsBoard, IsNumberedFrom, opened, opened_of}

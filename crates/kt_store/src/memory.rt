@@ -1,23 +1,23 @@
 //! A store in memory.
 
-ghost use Rattle.std.specs.Prelude.{◌≡◌, ◌+◌, ℕ, None, OnOk, OnErr, vec_len, vec_capacity, IfOk, IfSome, true};
-ghost use Rattle.std.specs.Prelude.{IfNone, slice_get, length, fold, map, max, All, ◌<◌, ◌≤◌, ◌==◌, ◌&&◌};
+ghost use Rattle.std.specs.Prelude.{◌≡◌, ◌+◌, None, OnOk, OnErr, IfOk, true};
+ghost use Rattle.std.specs.Prelude.{All, ◌<◌, ◌≤◌, ◌==◌, ◌&&◌};
 ghost use Rattle.std.specs.Option.{option_copied};
-ghost use Rattle.std.specs.List.{find, position};
+ghost use Rattle.std.specs.List.{find};
 ghost use Rattle.kt_tuple.specs.declared.node.NodeId.{NodeId};
 ghost use Rattle.kt_tuple.specs.Node.{node_eq};
-ghost use Rattle.kt_store.specs.declared.memory.Opened.{Opened};
+ghost use Rattle.kt_store.specs.declared.posted.Opened.{Opened};
 ghost use Rattle.kt_store.specs.declared.rows.NodeRow.{NodeRow};
 ghost use Rattle.kt_store.specs.declared.rows.Posted.{Posted};
-ghost use Rattle.kt_store.specs.Verdict.{is_open};
 ghost use Rattle.kt_store.specs.Content.{row_of, verdict_of, initiator_of, open_of, next_instance};
 ghost use Rattle.kt_store.specs.inner.Rising.{IsBoard, IsNumbered, opened};
 ghost use Rattle.kt_store.specs.Content.{is_fresh, greatest, permanent_marks, tentative_marks};
-ghost use Rattle.kt_store.specs.Changes.{decided, opening, storing, with_posted};
+ghost use Rattle.kt_store.specs.Changes.{decided, opening, storing};
 ghost use Rattle.kt_store.specs.inner.Row.{changed, IsWithin};
 
 use crate::change::{Change, change_row};
 use crate::error::StoreError;
+use crate::posted::{Opened, opened_at, place_of, post, posted_at};
 use crate::rows::{NodeRow, Posted, Purpose, Tentative, TentativeMarks, Verdict};
 use crate::store::CkptStore;
 use kt_ckpt::{Ckpt, Marks};
@@ -28,13 +28,6 @@ use std::marker::Model;
 /// The greatest incarnation, and the greatest number of an instance: a call that would go past it is `Full`. Why it is
 /// not 2^64 - 1: docs/DECISIONS.md#stores.
 const GREATEST: u64 = 1 << 62;
-
-/// An instance without a verdict, and the node that began it.
-#[derive(Clone, Copy, Debug)]
-struct Opened {
-    instance: u64,
-    initiator: NodeId,
-}
 
 /// A store in memory, which is always honest.
 #[derive(Debug, Drop)]
@@ -352,56 +345,4 @@ fn row_at(rows: &[NodeRow], node: NodeId) -> Option<&NodeRow>
     ensures { option_copied result ≡ find (λ (row : NodeRow). node_eq row.node node) rows.now }
 {
     rows.iter().find(|row| row.node == node)
-}
-
-/// The instance's row, where it was begun.
-fn posted_at(rows: &[Posted], instance: u64) -> Option<&Posted>
-    requires { IsNumbered rows.now }
-    ensures { option_copied result ≡ find (λ (row : Posted). row.instance == instance) rows.now }
-{
-    let place = place_of(rows, instance)?;
-    Some(&rows[place])
-}
-
-/// The first of these instances that the node began.
-fn opened_at(rows: &[Opened], node: NodeId) -> Option<&Opened>
-    ensures { option_copied result ≡ find (λ (row : Opened). node_eq row.initiator node) rows.now }
-{
-    rows.iter().find(|row| row.initiator == node)
-}
-
-/// Where the instance's row stands.
-fn place_of(rows: &[Posted], instance: u64) -> Option<usize>
-    requires { IsNumbered rows.now }
-    ensures value { result ≡ position (λ (row : Posted). row.instance == instance) rows.now }
-    ensures within { IfSome result (λ place. place < length rows.now) }
-{
-    let count = rows.len() as u64;
-    if 1 <= instance && instance <= count {
-        Some((instance - 1) as usize)
-    } else {
-        None
-    }
-}
-
-/// Puts the next instance on the board, which has room for it, as has the list of those without a verdict.
-fn post(board: &mut Vec<Posted>, undecided: &mut Vec<Opened>, new: Posted)
-    requires board { IsBoard board.old.items }
-    requires numbered { IsNumbered board.old.items }
-    requires next { new.instance ≡ fold max 0 (map (λ (row : Posted). row.instance) board.old.items) + 1 }
-    requires within { new.instance ≤ greatest }
-    requires is_open { is_open new.verdict ≡ true }
-    requires opened { undecided.old.items ≡ opened board.old.items }
-    requires room { vec_len board.old < vec_capacity board.old }
-    requires open_room { vec_len undecided.old < vec_capacity undecided.old }
-    ensures written { board.new.items ≡ with_posted new board.old.items }
-    ensures kept { IsBoard board.new.items }
-    ensures still_numbered { IsNumbered board.new.items }
-    ensures still_opened { undecided.new.items ≡ opened board.new.items }
-{
-    undecided.push_reserved(Opened {
-        instance: new.instance,
-        initiator: new.initiator,
-    });
-    board.push_reserved(new);
 }

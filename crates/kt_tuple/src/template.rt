@@ -80,7 +80,8 @@ impl Model for Template {
 impl Template {
     ghost use Rattle.kt_tuple.specs.Signature.{kinds_of_places, signature_of};
 
-    /// The template of these places, or `None` where there are none or more than 8.
+    /// The template of these places, or `None` where there are none or more than 8. `AllocError` where memory is wanting
+    /// for the block that its copies share.
     pub fn new(alloc: Global, places: Vec<Place>) -> Result<Option<Template>, AllocError>
         ensures within { IfOk result (λ o. IsSome o ↔ HasArity places.items) }
         ensures value { IfOk result (λ o. IfSome o (λ t. t ≡ places.items)) }
@@ -93,7 +94,7 @@ impl Template {
         }
     }
 
-    /// The template that this tuple alone matches: its values as actuals.
+    /// The template that this tuple alone matches: its values as actuals. `AllocError` where memory is wanting.
     pub fn of(alloc: Global, tuple: &Tuple) -> Result<Template, AllocError>
         ensures value { IfOk result (λ t. t ≡ map Actual tuple.now) }
         ensures alone { IfOk result (λ t. MatchesOnly t tuple.now) }
@@ -149,11 +150,28 @@ fn signature_of(places: &[Place]) -> Signature
     signature
 }
 
-/// Whether each place admits the value beside it, and none is left over. The last place is compared first: tuples
-/// mostly begin alike, and so the places behind tell them apart sooner.
+/// Whether each place admits the value beside it, and none is left over. The last place is compared before all others:
+/// tuples mostly begin alike, and so the places behind tell them apart sooner.
 fn all_admit(places: &[Place], values: &[Value]) -> bool
     ensures meaning { IsTrue result ↔ Matches places.now values.now }
     ensures decided { result ≡ matches places.now values.now }
+{
+    let count = places.len();
+    if count != values.len() {
+        return false;
+    }
+    if count == 0 {
+        return true;
+    }
+    let last = count - 1;
+    places[last].admits(&values[last]) && each_admits(places, values)
+}
+
+/// The same, place by place from the last. It is a call of its own, so that a search that compares the last places of
+/// many tuples stays a short loop.
+#[inline(never)]
+fn each_admits(places: &[Place], values: &[Value]) -> bool
+    ensures { result ≡ matches places.now values.now }
 {
     if places.len() != values.len() {
         return false;

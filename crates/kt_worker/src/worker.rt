@@ -178,7 +178,8 @@ impl Worker {
     /// The worker that has made the next request, beside this one, which stays. There is none while a request is
     /// unanswered, nor where no operation is left.
     pub fn asker(&self, alloc: Global, script: &Script) -> Result<Option<Worker>, AllocError>
-        ensures { IfOk result (λ w. w ≡ option_map (λ _. issued script.now self.now) (next_request script.now self.now)) }
+        ensures { IfOk result (λ w.
+            w ≡ option_map (λ _. issued script.now self.now) (next_request script.now self.now)) }
     {
         let Some(Next { op, pc, env }) = self.next(alloc, script)? else {
             return Ok(None);
@@ -201,7 +202,8 @@ impl Worker {
         op: &Op,
         answer: &Answer,
     ) -> Result<Option<Worker>, AllocError>
-        ensures { IfOk result (λ w. w ≡ then_some (awaits self.now number op.now) (heard script.now self.now answer.now)) }
+        ensures { IfOk result (λ w.
+            w ≡ then_some (awaits self.now number op.now) (heard script.now self.now answer.now)) }
     {
         if !self.awaits(number, op) {
             return Ok(None);

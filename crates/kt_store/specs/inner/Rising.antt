@@ -3,7 +3,7 @@ use Rattle.std.specs.Prelude.{◌≡◌, ℕ, ◌+◌, true, nat_lt, List, All, 
 use Rattle.std.specs.List.{slice_get}
 use Rattle.kt_store.specs.declared.rows.NodeRow.{NodeRow}
 use Rattle.kt_store.specs.declared.rows.Posted.{Posted}
-use Rattle.kt_store.specs.declared.memory.Opened.{Opened}
+use Rattle.kt_store.specs.declared.posted.Opened.{Opened}
 use Rattle.kt_store.specs.Content.{greatest, node_lt}
 use Rattle.kt_store.specs.Verdict.{is_open}
 

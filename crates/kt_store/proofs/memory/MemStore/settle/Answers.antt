@@ -2,7 +2,7 @@ use Rattle.std.proofs.Common.{rules, ◌≡◌, ◌==◌, ◌<◌, ◌+◌, leng
 use Rattle.std.specs.List.{position, slice_get}
 use Rattle.std.proofs.lemmas.Fn.{filter_same}
 use Rattle.std.proofs.lemmas.Option.{slice_get_read}
-use Rattle.kt_store.specs.declared.memory.Opened.{Opened}
+use Rattle.kt_store.specs.declared.posted.Opened.{Opened}
 use Rattle.kt_store.specs.declared.rows.Posted.{Posted}
 use Rattle.kt_store.specs.Content.{Content, posted}
 use Rattle.kt_store.specs.Changes.{decided}

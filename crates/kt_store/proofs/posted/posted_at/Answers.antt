@@ -3,7 +3,7 @@ use Rattle.std.specs.List.{position}
 use Rattle.std.proofs.lemmas.Option.{slice_get-get_or}
 use Rattle.kt_store.specs.declared.rows.Posted.{Posted}
 use Rattle.kt_store.proofs.Tables.{position_found, position_none}
-use Rattle.kt_store.proofs.memory.posted_at.Goals as goal
+use Rattle.kt_store.proofs.posted.posted_at.Goals as goal
 
 pub returns-in_err-place : goal.returns-in_err-place
 returns-in_err-place c =

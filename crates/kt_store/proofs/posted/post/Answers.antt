@@ -1,9 +1,9 @@
 use Rattle.std.proofs.Common.{◌≡◌, ◌∙◌, ◌+◌, ◌++◌, ◌∷◌, [], ℕ, List, sym, subst, ap}
-use Rattle.kt_store.specs.declared.memory.Opened.{Opened}
+use Rattle.kt_store.specs.declared.posted.Opened.{Opened}
 use Rattle.kt_store.specs.inner.Rising.{IsBoard, IsNumbered, opened, opened_of}
 use Rattle.kt_store.proofs.Board.{posted_last, still_board}
 use Rattle.kt_store.proofs.Numbered.{greatest_numbered, next_numbered, opened_next}
-use Rattle.kt_store.proofs.memory.post.Goals as goal
+use Rattle.kt_store.proofs.posted.post.Goals as goal
 
 pub returns-clause-written : goal.returns-clause-written
 returns-clause-written c = c.push_reserved-2.ensures.items ∙ posted_last c.args.new c.args.board.now.items c.requires.next

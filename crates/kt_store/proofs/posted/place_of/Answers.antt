@@ -1,7 +1,7 @@
 use Rattle.std.proofs.Common.{◌-◌, inl, inr, arith}
 use Rattle.kt_store.proofs.Numbered.{place_there, place_none}
-use Rattle.kt_store.proofs.memory.place_of.Goals.{else-instance-ge1-via-then-instance-ge1+else-instance-count, else-instance-ge1-via-else-instance-ge1}
-use Rattle.kt_store.proofs.memory.place_of.Goals as goal
+use Rattle.kt_store.proofs.posted.place_of.Goals.{else-instance-ge1-via-then-instance-ge1+else-instance-count, else-instance-ge1-via-else-instance-ge1}
+use Rattle.kt_store.proofs.posted.place_of.Goals as goal
 
 pub returns-then-instance-count-clause-value : goal.returns-then-instance-count-clause-value
 returns-then-instance-count-clause-value c =

@@ -1,6 +1,6 @@
 use Rattle.std.proofs.Common.{◌≡◌, ◌≤◌, length, take}
 use Rattle.kt_tuple.specs.Matching.{matches}
-use Rattle.kt_tuple.proofs.template.all_admit.Given as goal
+use Rattle.kt_tuple.proofs.template.each_admits.Given as goal
 
 -- the places that are left decide
 abbrev pub invariant-loop-left : goal.invariant-loop-left
