@@ -2,13 +2,8 @@
 use Rattle.std.proofs.Common.{◌≡◌, ℕ, ◌≤◌, length, Option, None, Some, Ok, Err, Result, sym, ap, ◌∙◌, subst}
 use Rattle.std.specs.Prelude.{IfOk, IfSome, IsOk, OnErr, option_to_list}
 use Rattle.std.specs.List.{AllByRecursion}
-use Rattle.kt_tuple.specs.declared.node.NodeId.{NodeId}
-use Rattle.kt_history.specs.declared.note.Note.{Note}
-use Rattle.kt_node.specs.declared.at_once.Again.{Again}
 use Rattle.kt_node.specs.declared.short_plan.ShortPlan.{ShortPlan}
-use Rattle.kt_node.specs.declared.message.Message.{Message}
 use Rattle.kt_node.specs.declared.plan.Plan.{Plan}
-use Rattle.kt_node.specs.AtOnce.{again_message, again_note, again_plan, saying}
 use Rattle.kt_store.specs.Content.{Content, empty_content}
 use Rattle.kt_world.specs.declared.step.Step.{Step}
 use Rattle.kt_world.specs.Effect.{applied, applied_if, step_result}
@@ -20,11 +15,6 @@ use Rattle.kt_world.specs.Told.{told}
 use Rattle.kt_core.specs.declared.machine.Machine.{Machine}
 use Rattle.kt_core.specs.inner.Machine.{state_of}
 use Rattle.kt_core.proofs.Steps.{is-ok, on-error, planned-can, planned-leads}
-
--- what is said with these is what the worker asks once more
-pub said-plan : (r : Again) (p : NodeId) (message : Message) (note : Note) → message ≡ again_message r → note ≡ again_note p r
-    → saying r.to message note ≡ again_plan p r
-said-plan r p message note m n = ap (λ x. saying r.to x note) m ∙ ap (saying r.to (again_message r)) n
 
 -- ---- over any step: what is said is its plan
 

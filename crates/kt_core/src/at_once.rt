@@ -3,7 +3,7 @@
 ghost use Rattle.std.specs.Prelude.{◌≡◌, ◌≤◌, IfOk, IfSome, IsOk, IsTrue, Ok, OnErr, OnOk, false};
 ghost use Rattle.kt_history.specs.Chronicle.{room_of};
 ghost use Rattle.kt_link.specs.Network.{room};
-ghost use Rattle.kt_node.specs.AtOnce.{again_plan, saying};
+ghost use Rattle.kt_node.specs.AtOnce.{again_plan, said_plan};
 ghost use Rattle.kt_store.specs.Content.{Content, empty_content};
 ghost use Rattle.kt_world.specs.declared.step.Step.TheVariants as steps;
 ghost use Rattle.kt_world.specs.Effect.{applied, step_result};
@@ -14,8 +14,7 @@ ghost use Rattle.kt_core.specs.inner.Machine.{state_of};
 use crate::change::{count, say_in_row};
 use crate::machine::Machine;
 use crate::traffic::send_one;
-use kt_history::Note;
-use kt_node::{Again, Message};
+use kt_node::{Again, Said};
 use kt_tuple::NodeId;
 use kt_world::MAX_STEPS;
 use std::alloc::{AllocError, Global};
@@ -47,16 +46,18 @@ impl Machine {
         self.history.make_room(node)
     }
 
-    /// The node says one thing, for which there is room, and this is noted.
-    fn say(&mut self, node: NodeId, to: NodeId, message: Message, note: Note)
+    /// The worker says this, for which there is room, and it is noted.
+    fn say(&mut self, node: NodeId, said: Said)
         requires ready { IsReady (state_of self.old empty_content) }
-        requires can { CanApply (state_of self.old empty_content) node (saying to message note) }
-        requires link { 1 ≤ room self.old.links node to }
+        requires can { CanApply (state_of self.old empty_content) node (said_plan node said) }
+        requires link { 1 ≤ room self.old.links node said.to }
         requires history { 1 ≤ room_of self.old.history node }
         ensures { (c : Content) → state_of self.new c ≡
-            applied (state_of self.old c) (steps.Repeat node) (saying to message note) }
+            applied (state_of self.old c) (steps.Repeat node) (said_plan node said) }
     {
         let row = node.index();
+        let to = said.to;
+        let (message, note) = said.into_parts(node);
         send_one(&mut self.links, node, to, message);
         self.history.add(note);
         say_in_row(&mut self.nodes, row, to);
@@ -64,22 +65,16 @@ impl Machine {
         self.made += 1;
     }
 
-    /// The node says one thing, and this is noted, or nothing changes.
-    fn say_at_once(
-        &mut self,
-        node: NodeId,
-        to: NodeId,
-        message: Message,
-        note: Note,
-    ) -> Result<(), AllocError>
+    /// The worker says this, and it is noted, or nothing changes.
+    fn say_at_once(&mut self, node: NodeId, said: Said) -> Result<(), AllocError>
         requires ready { IsReady (state_of self.old empty_content) }
-        requires can { CanApply (state_of self.old empty_content) node (saying to message note) }
+        requires can { CanApply (state_of self.old empty_content) node (said_plan node said) }
         ensures made { OnOk result ((c : Content) → state_of self.new c ≡
-            applied (state_of self.old c) (steps.Repeat node) (saying to message note)) }
+            applied (state_of self.old c) (steps.Repeat node) (said_plan node said)) }
         ensures same { OnErr result ((c : Content) → state_of self.new c ≡ state_of self.old c) }
     {
-        self.make_room_to_say(node, to)?;
-        self.say(node, to, message, note);
+        self.make_room_to_say(node, said.to)?;
+        self.say(node, said);
         Ok(())
     }
 
@@ -98,9 +93,8 @@ impl Machine {
         let Some(again) = self.asked_again(node) else {
             return Ok(false);
         };
-        let to = again.to;
-        let (message, note) = again.said(alloc, node)?;
-        self.say_at_once(node, to, message, note)?;
+        let said = again.said(alloc)?;
+        self.say_at_once(node, said)?;
         Ok(true)
     }
 }

@@ -38,8 +38,8 @@ impl Machine {
         }
     }
 
-    /// The short plan of the message that comes next from one to the other, where it is of workers and shards and heard,
-    /// and the step is enabled.
+    /// The short plan of the message that comes next from one to the other, where it is of workers and shards and
+    /// heard, and the step is enabled.
     fn short_deliver(
         &self,
         alloc: Global,
@@ -96,7 +96,8 @@ impl Machine {
         }
     }
 
-    /// The short plan of the step, where it is a frequent one and enabled. `None` says nothing of the step: its plan tells.
+    /// The short plan of the step, where it is a frequent one and enabled. `None` says nothing of the step: its plan
+    /// tells.
     fn short(&self, alloc: Global, step: Step) -> Result<Option<ShortPlan>, AllocError>
         requires { IsReady (state_of self.now empty_content) }
         ensures plan { IfOk result (λ o. IfSome o (λ e. (c : Content) →

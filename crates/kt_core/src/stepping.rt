@@ -52,7 +52,9 @@ fn prepare<S: CkptStore>(
     Ok(plan)
 }
 
-/// Makes the step by its plan, or changes nothing.
+/// Makes the step by its plan, or changes nothing. It is a call of its own, since a plan takes much of the stack, which
+/// a frequent step does not need.
+#[inline(never)]
 fn make_by_plan<S: CkptStore>(
     machine: &mut Machine,
     store: &mut S,

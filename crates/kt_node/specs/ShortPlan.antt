@@ -4,8 +4,8 @@ use Rattle.kt_tuple.specs.declared.node.NodeId.TheVariants as ids
 use Rattle.kt_node.specs.declared.change.BodyChange.TheVariants as bodies
 use Rattle.kt_node.specs.declared.change.Turn.{Turn}
 use Rattle.kt_node.specs.declared.change.Change.TheVariants as changes
-use Rattle.kt_node.specs.declared.short_plan.ShortTurn.{ShortTurn}
-use Rattle.kt_node.specs.declared.short_plan.ShortTurn.TheVariants as turns
+use Rattle.kt_node.specs.declared.short_turn.ShortTurn.{ShortTurn}
+use Rattle.kt_node.specs.declared.short_turn.ShortTurn.TheVariants as turns
 use Rattle.kt_node.specs.declared.short_plan.ShortPlan.{ShortPlan}
 use Rattle.kt_node.specs.declared.plan.Plan.{Plan}
 use Rattle.kt_node.specs.Node.{node_number}

@@ -3,7 +3,7 @@
 
 ghost use Rattle.std.specs.Prelude.{◌≡◌, ◌≤◌, IfOk, IfSome, Ok, Some};
 ghost use Rattle.kt_node.specs.declared.change.Change.TheVariants.{Turn as Goes};
-ghost use Rattle.kt_node.specs.AtOnce.{again_message, again_note, again_plan};
+ghost use Rattle.kt_node.specs.AtOnce.{again_plan, said_message, said_note, said_plan};
 ghost use Rattle.kt_node.specs.Plan.{no_turn};
 ghost use Rattle.kt_node.specs.Ready.{CanChange, CanSpeak};
 ghost use Rattle.kt_node.specs.Steps.{repeat};
@@ -36,6 +36,23 @@ pub struct Again<'a> {
     pub by: u64,
 }
 
+/// What a worker says that asks once more.
+#[derive(Debug, Drop)]
+pub struct Said {
+    /// The shard that it asks.
+    pub to: NodeId,
+    /// The request's number.
+    number: u64,
+    /// The label of the message.
+    label: Label,
+    /// The number of the note.
+    by: u64,
+    /// The operation, as the message has it.
+    asked: Op,
+    /// The same, as the note has it.
+    noted: Op,
+}
+
 impl<'a> View<'a> {
     /// What a worker asks once more, where it may.
     pub fn asked_again(self) -> Option<Again<'a>>
@@ -59,40 +76,49 @@ impl<'a> View<'a> {
 }
 
 impl Again<'_> {
-    fn message(self, alloc: Global) -> Result<Message, AllocError>
-        ensures { IfOk result (λ m. m ≡ again_message self.entry) }
+    /// The same with operations of its own, one for the message and one for the note.
+    pub fn said(self, alloc: Global) -> Result<Said, AllocError>
+        ensures { IfOk result (λ s. (p : NodeId) → said_plan p s ≡ again_plan p self.entry) }
     {
-        let op = self.op.copy(alloc)?;
-        let number = self.number;
-        Ok(Message::Post(Post {
-            talk: Talk::Request(Request { number, op }),
+        Ok(Said {
+            to: self.to,
+            number: self.number,
             label: self.label,
             by: self.by,
-        }))
+            asked: self.op.copy(alloc)?,
+            noted: self.op.copy(alloc)?,
+        })
     }
+}
 
-    fn note(self, alloc: Global, node: NodeId) -> Result<Note, AllocError>
-        ensures { IfOk result (λ n. n ≡ again_note node self.entry) }
+impl Said {
+    /// The message of the worker, and the note of it. They are made where they are put, so that neither is moved twice.
+    pub fn into_parts(self, node: NodeId) -> (Message, Note)
+        ensures message { result.0 ≡ said_message self }
+        ensures note { result.1 ≡ said_note node self }
     {
-        let op = self.op.copy(alloc)?;
-        Ok(Note::Act(Act {
+        let Said {
+            number,
+            label,
+            by,
+            asked: op,
+            noted,
+            ..
+        } = self;
+        let message = Message::Post(Post {
+            talk: Talk::Request(Request { number, op }),
+            label,
+            by,
+        });
+        let note = Note::Act(Act {
             node,
             by: 0,
             worker: number_of(node),
-            number: self.number,
-            op,
+            number,
+            op: noted,
             what: What::Repeat,
-        }))
-    }
-
-    /// The message of the worker, and the note of it.
-    pub fn said(self, alloc: Global, node: NodeId) -> Result<(Message, Note), AllocError>
-        ensures message { IfOk result (λ said. said.0 ≡ again_message self.entry) }
-        ensures note { IfOk result (λ said. said.1 ≡ again_note node self.entry) }
-    {
-        let message = self.message(alloc)?;
-        let note = self.note(alloc, node)?;
-        Ok((message, note))
+        });
+        (message, note)
     }
 }
 

@@ -25,6 +25,7 @@ pub returns-clause-room : goal.returns-clause-room
 returns-clause-room c =
     on_ok-map c.make_room.result c.make_room.ensures.ok (λ h. record {
       node = subst (λ k. HasRoom (at None c.make_room_in_row.new.nodes.items k)) c.index.ensures.value c.in_ok-make_room_in_row.ensures.room;
-      links = roomy (λ (m : NodeId × Message). room c.make_room_on_link.new.links c.args.owner m.0) c.args.short.now.send c.in_ok-make_room_on_link.ensures.room;
+      links = roomy (λ (m : NodeId × Message). room c.make_room_on_link.new.links c.args.owner m.0) c.args.short.now.send
+          c.in_ok-make_room_on_link.ensures.room;
       history = h;
     })

@@ -1,5 +1,5 @@
 use Rattle.std.proofs.Common.{◌∙◌, ap, subst, sym}
-use Rattle.kt_node.specs.AtOnce.{saying}
+use Rattle.kt_node.specs.AtOnce.{said_plan}
 use Rattle.kt_store.specs.Content.{empty_content}
 use Rattle.kt_world.specs.declared.step.Step.TheVariants as steps
 use Rattle.kt_world.specs.Effect.{applied}
@@ -13,10 +13,10 @@ say-requires-clause-ready c =
 
 pub say-requires-clause-can : goal.say-requires-clause-can
 say-requires-clause-can c =
-    let P : State → Type 0 = λ s. CanApply s c.args.node (saying c.args.to c.args.message c.args.note) in
+    let P : State → Type 0 = λ s. CanApply s c.args.node (said_plan c.args.node c.args.said) in
     subst P (sym (c.make_room_to_say.ensures.same empty_content)) c.requires.can
 
 pub returns-clause-made : goal.returns-clause-made
 returns-clause-made c =
     λ held. c.say.ensures held
-    ∙ ap (λ (s : State). applied s (steps.Repeat c.args.node) (saying c.args.to c.args.message c.args.note)) (c.make_room_to_say.ensures.same held)
+    ∙ ap (λ (s : State). applied s (steps.Repeat c.args.node) (said_plan c.args.node c.args.said)) (c.make_room_to_say.ensures.same held)
