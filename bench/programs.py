@@ -16,7 +16,7 @@ def crates(stands_on):
     lines = {}
     for path in ("crates.txt", "tests/crates/crates.list"):
         with open(f"{ROOT}/{path}", encoding="ascii") as file:
-            lines |= dict(line.strip().split(":", 1) for line in file if not line.startswith("#"))
+            lines.update(line.strip().split(":", 1) for line in file if not line.startswith("#"))
     found, left = {}, list(stands_on)
     while left:
         crate = left.pop()
@@ -28,7 +28,7 @@ def crates(stands_on):
 
 def copied_as_rt(old, new):
     """The sources of tests end in `.rs`."""
-    return shutil.copy(old, f"{new.removesuffix('.rs')}.rt")
+    return shutil.copy(old, re.sub(r"\.rs$", ".rt", new))
 
 
 def build(name, stands_on):

@@ -9,7 +9,7 @@ TOKEN = re.compile(r"[^\W\d][\w']*|[{}()\[\];:,=#.]|->")
 CLAUSES = {"ensures", "requires", "where"}
 
 
-@functools.cache
+@functools.lru_cache(maxsize=None)
 def text_of(path):
     with open(f"{ROOT}/{path}", encoding="utf-8") as file:
         return file.read()
@@ -206,7 +206,7 @@ HEAD = re.compile(r" *((?:(?:pub|abbrev|unfoldable|record|data) )+)([^\W\d][\w']
 WORD = re.compile(r"[^\W\d][\w']*")
 
 
-@functools.cache
+@functools.lru_cache(maxsize=None)
 def specs_of(crate, module):
     """A file's imports, the lines of its definitions, and the type of each constructor."""
     path = f"crates/{crate}/specs/{module}.antt"
@@ -312,7 +312,7 @@ def names_of(crate):
     return found
 
 
-@functools.cache
+@functools.lru_cache(maxsize=None)
 def clauses_of(crate):
     """The names of the clauses of each function."""
     found = {}

@@ -60,6 +60,63 @@ COUNTER = report(
 )
 
 
+def instead(old, *news):
+    """Texts in which each of these stands in the place of a part of the page's scenario, once."""
+    return lambda text: [text.replace(old, new, 1) for new in news]
+
+
+def before_steps(text):
+    return text[: text.index("steps\n")]
+
+
+# The table of docs/FORMATS.md of what is usually wrong: how a row's first cell begins, and the texts that it means, made
+# from the page's scenario. They go to `run` where the cell says so, else to `replay`; the row has what is printed.
+PUT = 'out ("a", 1)\n'
+MISTAKES = [
+    ("`faults` in place of `steps`", instead("steps\n", "faults\n")),
+    ("`steps`, for `run`", lambda text: [text]),
+    ("`fail s1` behind `faults`", lambda text: [before_steps(text) + "faults\nfail s1\nend\n"]),
+    ("line ends of carriage return", lambda text: [text.replace("\n", "\r\n")]),
+    ("a byte order mark", lambda text: ["\ufeff" + text]),
+    ("`shards 1` as the first line", instead("linda-kt 1\n", "")),
+    ("a tab for the space", instead(PUT, 'out\t("a", 1)\n', f"  {PUT}")),
+    ("a space at the end of the line `worker`", instead("worker\n", "worker \n")),
+    ("an empty line before `steps`", instead("steps\n", "\nsteps\n")),
+    ("an empty line behind `end`", lambda text: [text + "\n"]),
+    ("`end` without its line feed", lambda text: [text[:-1]]),
+    ("no `end`", instead("end\n", "")),
+    ("`issue w1 # it asks`", instead("issue w1\n", "issue w1 # it asks\n")),
+    ("`OUT", instead("out ", "OUT ", "put ")),
+    ('`out ("a",1)`', instead(PUT, 'out ("a",1)\n')),
+    ("`out ('a', 1)`", instead(PUT, "out ('a', 1)\n")),
+    ('`out ("a", 1.5)`', instead(PUT, 'out ("a", 1.5)\n', 'out ("a", true)\n')),
+    ('`out ("a", ?int)`', instead(PUT, 'out ("a", ?int)\n')),
+    ('`out ("a", y)`', instead(PUT, 'out ("a", y)\n')),
+    ("`set x = x - 1`", instead("steps\n", "set x = x - 1\nsteps\n")),
+    ("`serve s1 w1`", instead("serve s1 w1 0\n", "serve s1 w1\n")),
+    ("`issue w2`", instead("issue w1\n", "issue w2\n")),
+    ("`serve s1 w1 0` right behind", instead("deliver w1 s1\n", "")),
+    ("`deliver s1 w1` right behind", instead("deliver w1 s1\n", "deliver s1 w1\n")),
+    ("`issue w1` right behind", instead("issue w1\n", "issue w1\nissue w1\n")),
+]
+
+
+def mistakes(page, scenario):
+    """Each mistake of the page's table is told by the line that stands beside it."""
+    table = page[page.index("| What was written | What is printed |") :].split("\n\n")[0]
+    rows = [line for line in table.split("\n")[2:] if line]
+    for row, (head, texts) in zip(rows, MISTAKES):
+        if not row.startswith(f"| {head}"):
+            yield tell(f"the page's mistake {head}", (b"", b"", 0), (None, row.encode(), None))
+            continue
+        line = re.search(r" \| `((?:line|step) \d+: \d \w+)` \| ", row)[1]
+        word = "run" if "for `run` |" in row else "replay"
+        wanted = (b"", f"{line}\n".encode(), 3 if line.startswith("line") else 4)
+        for text in texts(scenario):
+            yield tell(f"the page's mistake {head}", wanted, start([word], text.encode(), b""))
+    yield told("the page's mistakes are as many", len(MISTAKES), len(rows))
+
+
 def formats_page():
     """What docs/FORMATS.md shows is read and written so."""
     with open(f"{ROOT}/docs/FORMATS.md", encoding="utf-8") as file:
@@ -68,10 +125,11 @@ def formats_page():
     blocks = re.findall(r"^```(\w*)\n(.*?)^```$", page, re.MULTILINE | re.DOTALL)
     script, text, written, journal = (inside for language, inside in blocks if not language)
     yield tell("the page's scenario", (written.encode(), b"", 0), start(["replay"], text.encode(), b""))
-    told = "".join(line[2:] for line in journal.splitlines(True) if line.startswith("# "))
-    yield tell("the page's journal", (told.encode(), b"", 0), start(["replay"], journal.encode(), b""))
+    remarks = "".join(line[2:] for line in journal.splitlines(True) if line.startswith("# "))
+    yield tell("the page's journal", (remarks.encode(), b"", 0), start(["replay"], journal.encode(), b""))
     counting = f"{WORKER}{script}{COUNTER_STEPS}".encode()
     yield tell("the page's script", (COUNTER, b"", 0), start(["replay"], counting, b""))
+    yield from mistakes(page, text)
     lines = EXAMPLES + [(WORKER, f"out {bad}", "3 Tuple") for bad in TUPLES]
     for name, given, line in [("end without its line feed", STEPS + "end", 5), ("empty text", "", 1)]:
         wanted = (b"", f"line {line}: 7 End\n".encode(), 3)

@@ -2,11 +2,20 @@
 
 import os
 import subprocess
+import sys
 
 ROOT = os.path.dirname(os.path.dirname(os.path.dirname(os.path.realpath(__file__))))
 LAUNCHER = f"{ROOT}/linda_kt"
 PROGRAM = f"{ROOT}/out/linda_kt"
 SECONDS = 60
+
+
+def build():
+    """Has the launcher prove and build the program, which does nothing where the kept one is current. No other start of
+    it does so, and a program that was not proved is not what is to be tested."""
+    built = subprocess.run([LAUNCHER, "build"], stdin=subprocess.DEVNULL, stdout=subprocess.DEVNULL)
+    if built.returncode:
+        sys.exit("the program was not built")
 
 
 def scenario(name):

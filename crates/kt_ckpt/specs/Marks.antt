@@ -11,6 +11,9 @@ pub record MarkFields : Type 0 where
   pub sent : List Label
   pub received : List Label
 
+abbrev pub fields_of : NodeId → ℕ → List Label → List Label → MarkFields
+fields_of node line_len sent received = record { node = node; line_len = line_len; sent = sent; received = received }
+
 -- what of a checkpoint is no state
 abbrev pub marks_of : Checkpoint → MarkFields
-marks_of c = record { node = c.node; line_len = c.line_len; sent = c.sent; received = c.received }
+marks_of c = fields_of c.node c.line_len c.sent c.received

@@ -21,8 +21,8 @@ use std::alloc::{AllocError, Global};
 impl Ckpt {
     ghost use Rattle.kt_ckpt.specs.declared.error.CkptError.TheVariants.{Cut, Extra, Magic, Version};
 
-    /// The checkpoint that the bytes spell, all of the bytes; else the first fault from the left. Want of memory
-    /// aside, `decode` is exact.
+    /// The checkpoint that the bytes spell, all of the bytes; else the first fault from the left. Want of memory aside,
+    /// `decode` is exact. Memory may run out before a fault further right is met.
     pub fn decode(alloc: Global, bytes: &[u8]) -> Result<Ckpt, CkptError>
         // What is read is spelled so.
         ensures found { IfOk result (λ c. IsCheckpoint c × (bytes.now ≡ spelling c)) }
@@ -89,7 +89,7 @@ fn ckpt_of(
 {
     let sent = sent_of(alloc, peers)?;
     let received = received_of(alloc, peers)?;
-    Ok(Ckpt::new(node, line_len, sent, received, state))
+    Ckpt::new(alloc, node, line_len, sent, received, state)
 }
 
 fn sent_of(alloc: Global, peers: &[(Label, Label)]) -> Result<Vec<Label>, AllocError>
@@ -104,11 +104,12 @@ fn received_of(alloc: Global, peers: &[(Label, Label)]) -> Result<Vec<Label>, Al
     peers.iter().map(|peer| peer.1).collect(alloc)
 }
 
-/// The bytes behind the magic ones.
+/// The bytes behind the magic ones; else `Cut` or `Magic`.
 #[tactic(auto, unfolding(crate::specs::Checkpoint::magic_at))]
 fn magic_at(bytes: &[u8]) -> Result<&[u8], CkptError>
     ensures { Gives (λ rest. (magic, rest.now)) result (magic_at bytes.now) }
 {
+    // The four magic bytes are one field: how many there are is judged before what they are.
     let (front, rest) = bytes_at(MAGIC.len(), bytes)?;
     if front == MAGIC.as_slice() {
         Ok(rest)
@@ -117,7 +118,7 @@ fn magic_at(bytes: &[u8]) -> Result<&[u8], CkptError>
     }
 }
 
-/// The bytes behind the version.
+/// The bytes behind the version; else `Cut` or `Version`.
 #[tactic(auto, unfolding(crate::specs::Checkpoint::version_at))]
 fn version_at(bytes: &[u8]) -> Result<&[u8], CkptError>
     ensures { Gives (λ rest. (version, rest.now)) result (version_at bytes.now) }
@@ -201,7 +202,7 @@ fn so_many_peers_at(
     Ok((peers, rest))
 }
 
-/// The state of this node.
+/// The state of this node, of its kind, and the bytes behind it.
 #[tactic(auto, unfolding(crate::specs::Checkpoint::state_at))]
 fn state_at(alloc: Global, node: NodeId, bytes: &[u8]) -> Result<(State, &[u8]), CkptError>
     ensures value { Gives (λ x. (x.0, x.1.now)) result (state_at node bytes.now) }

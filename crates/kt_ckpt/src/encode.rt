@@ -18,7 +18,7 @@ use kt_tuple::NodeId;
 use std::alloc::{AllocError, Global};
 
 impl Ckpt {
-    /// Its one spelling.
+    /// Its one spelling in bytes, as docs/FORMATS.md#checkpoints has it. It is refused only for want of memory.
     pub fn encode(&self, alloc: Global) -> Result<Vec<u8>, AllocError>
         ensures value { IfOk result (λ v. v.items ≡ spelling self.now) }
         ensures held { OnOk result (IsCheckpoint self.now) }
@@ -27,10 +27,10 @@ impl Ckpt {
     {
         encode_parts(
             alloc,
-            self.node,
-            self.line_len,
-            &self.sent,
-            &self.received,
+            self.node(),
+            self.line_len(),
+            self.sent(),
+            self.received(),
             &self.state,
         )
     }

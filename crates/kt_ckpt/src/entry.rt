@@ -12,7 +12,8 @@ use crate::op::{answer_at, op_at, push_answer, push_op};
 use kt_shard::{Kept, Request};
 use std::alloc::{AllocError, Global};
 
-/// What is kept for one worker.
+/// What a shard keeps for one worker: a request that waits, or the last one that was served. Both lists are written and
+/// read alike.
 pub(crate) trait Entry: Sized + Drop {
     ghost spelled: { Self → List ℕ };
 
@@ -20,16 +21,16 @@ pub(crate) trait Entry: Sized + Drop {
 
     ghost reader: { Reader Self };
 
-    /// Appends it.
+    /// Appends its bytes. The worker's number stands before them and is not among them.
     fn push_to(&self, out: &mut Vec<u8>) -> Result<(), AllocError>
         ensures ok { OnOk result (out.new.items ≡ out.old.items ++ spelled self.now) }
         ensures held { OnOk result (is_spelled self.now) };
 
-    /// The one that stands in front, and the bytes behind it.
+    /// Reads the entry in front, and gives the bytes behind it.
     fn read(alloc: Global, bytes: &[u8]) -> Result<(Self, &[u8]), CkptError>
         ensures { Gives (λ x. (x.0, x.1.now)) result (reader bytes.now) };
 
-    /// An equal one.
+    /// An equal entry with memory of its own.
     fn copy_entry(&self, alloc: Global) -> Result<Self, AllocError>
         ensures { IfOk result (λ x. x ≡ self.now) };
 }
@@ -86,7 +87,8 @@ impl Entry for Kept {
     }
 }
 
-/// Appends how many entries there are, and the entries.
+/// Appends how many entries there are, and the entries. They are pairs by rising worker, as in the bytes, and no table
+/// with a place for each worker (docs/DECISIONS.md#checkpoints).
 pub(crate) fn push_entries<E: Entry>(
     out: &mut Vec<u8>,
     entries: &[(u8, E)],
@@ -123,6 +125,7 @@ pub(crate) fn entries_at<E: Entry>(
     rising_at(alloc, count, rest)
 }
 
+/// So many entries, each of a worker above the one before.
 fn rising_at<E: Entry>(
     alloc: Global,
     count: u8,
@@ -144,7 +147,7 @@ fn rising_at<E: Entry>(
     Ok((entries, rest))
 }
 
-/// Equal ones.
+/// Equal entries in the same order.
 pub(crate) fn copy_entries<E: Entry>(
     alloc: Global,
     entries: &[(u8, E)],

@@ -15,7 +15,7 @@ pub enum CkptError {
     /// They are of a version that is not read.
     #[error("another version")]
     Version,
-    /// They end before a field is whole.
+    /// They end before a field is whole, whatever stands in its first bytes.
     #[error("cut short")]
     Cut,
     /// A field has a value that the format does not allow.

@@ -1,4 +1,12 @@
-//! A checkpoint of a node, and its one spelling in bytes.
+//! A checkpoint of a node as plain fields, and its one spelling (canonical encoding) in bytes.
+//!
+//! - Contract: each checkpoint has one spelling, which is read as this checkpoint (`Ckpt::encode`, clauses `value` and
+//!   `read_back`). Other bytes are refused with their first fault from the left, want of memory aside (`Ckpt::decode`,
+//!   clause `exact`).
+//! - Stands on: kt_tuple, kt_link, kt_shard; of the kit: thiserror
+//! - Used by: kt_store, kt_tables, kt_sql, kt_node, kt_world, kt_refinement, kt_core, kt_stage
+//! - Begin in: `ckpt.rt` and `state.rt` for the fields, then `decode.rt` and `encode.rt`, field by field. `limits.rt`
+//!   has the codes of the format.
 #![tactic(auto)]
 
 mod ckpt;

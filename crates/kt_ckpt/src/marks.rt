@@ -1,59 +1,104 @@
 //! A checkpoint without its node's state: what a node decides by before it loads one.
 
-ghost use Rattle.std.specs.Prelude.{◌≡◌};
+ghost use Rattle.std.specs.Prelude.{◌≡◌, IfOk};
 
 use kt_link::Label;
 use kt_tuple::NodeId;
+use std::alloc::{AllocError, Global};
 use std::marker::Model;
+use std::sync::Arc;
 
-/// What a checkpoint says besides its node's state. It costs nothing that grows with what the node holds.
+/// What a checkpoint says besides its node's state. It costs nothing that grows with what the node holds. It has the
+/// same four readers as `Ckpt`, and is what a store tells of a checkpoint that it does not load. It is one shared
+/// block.
 #[derive(Debug, Drop)]
 pub struct Marks {
-    pub(crate) node: NodeId,
-    pub(crate) line_len: u64,
-    pub(crate) sent: Vec<Label>,
-    pub(crate) received: Vec<Label>,
+    parts: Arc<MarkParts, Global>,
+}
+
+#[derive(Debug, Drop)]
+struct MarkParts {
+    node: NodeId,
+    line_len: u64,
+    sent: Vec<Label>,
+    received: Vec<Label>,
+}
+
+impl Model for MarkParts {
+    ghost use Rattle.kt_ckpt.specs.Marks.{MarkFields, fields_of};
+
+    ghost Value = { MarkFields };
+
+    ghost view = { λ m. fields_of m.node m.line_len m.sent.items m.received.items };
 }
 
 impl Model for Marks {
+    ghost use Rattle.std.specs.Arc.{arc_value};
     ghost use Rattle.kt_ckpt.specs.Marks.{MarkFields};
 
     ghost Value = { MarkFields };
 
-    ghost view = { λ m. record {
-      node = m.node;
-      line_len = m.line_len;
-      sent = m.sent.items;
-      received = m.received.items;
-    } };
+    ghost view = { λ m. arc_value m.parts };
 }
 
 impl Marks {
-    /// The node.
+    ghost use Rattle.kt_ckpt.specs.Marks.{fields_of};
+
+    /// The marks of a checkpoint with these parts.
+    pub(crate) fn new(
+        alloc: Global,
+        node: NodeId,
+        line_len: u64,
+        sent: Vec<Label>,
+        received: Vec<Label>,
+    ) -> Result<Marks, AllocError>
+        ensures { IfOk result (λ m. m ≡ fields_of node line_len sent.items received.items) }
+    {
+        let parts = MarkParts {
+            node,
+            line_len,
+            sent,
+            received,
+        };
+        Ok(Marks {
+            parts: Arc::new(alloc, parts)?,
+        })
+    }
+
+    /// Equal marks, which share the block with these: they take no memory.
+    pub(crate) fn copy(&self, _alloc: Global) -> Result<Marks, AllocError>
+        ensures { IfOk result (λ m. m ≡ self.now) }
+    {
+        Ok(Marks {
+            parts: Arc::try_clone(&self.parts)?,
+        })
+    }
+
+    /// Whose checkpoint it is.
     pub fn node(&self) -> NodeId
         ensures { result ≡ self.now.node }
     {
-        self.node
+        self.parts.node
     }
 
-    /// How many acts the node's line had.
+    /// How many acts the node's line had when it was taken.
     pub fn line_len(&self) -> u64
         ensures { result ≡ self.now.line_len }
     {
-        self.line_len
+        self.parts.line_len
     }
 
     /// For each neighbour, in node order, the label of the last message sent to it.
     pub fn sent(&self) -> &[Label]
         ensures { result.now ≡ self.now.sent }
     {
-        &self.sent
+        &self.parts.sent
     }
 
     /// For each neighbour, in node order, the label of the last message heard from it.
     pub fn received(&self) -> &[Label]
         ensures { result.now ≡ self.now.received }
     {
-        &self.received
+        &self.parts.received
     }
 }

@@ -7,28 +7,28 @@ ghost use Rattle.kt_ckpt.specs.Reading.{Gives, byte_at, bytes_at, byte_within, n
 use crate::error::CkptError;
 use std::alloc::AllocError;
 
-/// Appends two bytes.
+/// Appends the number in two bytes.
 pub(crate) fn push_u16(out: &mut Vec<u8>, number: u16) -> Result<(), AllocError>
     ensures { OnOk result (out.new.items ≡ out.old.items ++ to_be_bytes w16 number) }
 {
     out.extend_from_slice(&number.to_be_bytes())
 }
 
-/// Appends four bytes.
+/// Appends the number in four bytes.
 pub(crate) fn push_u32(out: &mut Vec<u8>, number: u32) -> Result<(), AllocError>
     ensures { OnOk result (out.new.items ≡ out.old.items ++ to_be_bytes w32 number) }
 {
     out.extend_from_slice(&number.to_be_bytes())
 }
 
-/// Appends eight bytes.
+/// Appends the number in eight bytes.
 pub(crate) fn push_u64(out: &mut Vec<u8>, number: u64) -> Result<(), AllocError>
     ensures { OnOk result (out.new.items ≡ out.old.items ++ to_be_bytes w64 number) }
 {
     out.extend_from_slice(&number.to_be_bytes())
 }
 
-/// A byte, and the bytes behind it.
+/// A byte, and the bytes behind it; `Cut` where there is none.
 pub(crate) fn byte_at(bytes: &[u8]) -> Result<(u8, &[u8]), CkptError>
     ensures { Gives (λ x. (x.0, x.1.now)) result (byte_at bytes.now) }
 {
@@ -38,7 +38,7 @@ pub(crate) fn byte_at(bytes: &[u8]) -> Result<(u8, &[u8]), CkptError>
     }
 }
 
-/// A byte from `low` to `high`.
+/// A byte from `low` to `high`, and the bytes behind it; another byte is a bad `Field`.
 #[tactic(auto, unfolding(crate::specs::Reading::byte_within))]
 pub(crate) fn byte_within(low: u8, high: u8, bytes: &[u8]) -> Result<(u8, &[u8]), CkptError>
     ensures value { Gives (λ x. (x.0, x.1.now)) result (byte_within low high bytes.now) }
@@ -52,7 +52,7 @@ pub(crate) fn byte_within(low: u8, high: u8, bytes: &[u8]) -> Result<(u8, &[u8])
     }
 }
 
-/// Two bytes.
+/// The number in the first two bytes, and the bytes behind them; `Cut` where there are fewer.
 pub(crate) fn u16_at(bytes: &[u8]) -> Result<(u16, &[u8]), CkptError>
     ensures { Gives (λ x. (x.0, x.1.now)) result (number_at w16 bytes.now) }
 {
@@ -64,7 +64,7 @@ pub(crate) fn u16_at(bytes: &[u8]) -> Result<(u16, &[u8]), CkptError>
     Ok((number, rest))
 }
 
-/// Four bytes.
+/// The number in the first four bytes, and the bytes behind them; `Cut` where there are fewer.
 pub(crate) fn u32_at(bytes: &[u8]) -> Result<(u32, &[u8]), CkptError>
     ensures { Gives (λ x. (x.0, x.1.now)) result (number_at w32 bytes.now) }
 {
@@ -76,7 +76,7 @@ pub(crate) fn u32_at(bytes: &[u8]) -> Result<(u32, &[u8]), CkptError>
     Ok((number, rest))
 }
 
-/// Eight bytes.
+/// The number in the first eight bytes, and the bytes behind them; `Cut` where there are fewer.
 pub(crate) fn u64_at(bytes: &[u8]) -> Result<(u64, &[u8]), CkptError>
     ensures { Gives (λ x. (x.0, x.1.now)) result (number_at w64 bytes.now) }
 {
@@ -90,7 +90,8 @@ pub(crate) fn u64_at(bytes: &[u8]) -> Result<(u64, &[u8]), CkptError>
     Ok((number, rest))
 }
 
-/// So many bytes, and the bytes behind them.
+/// So many bytes, and the bytes behind them. They are one field: where there are fewer it is `Cut`, whatever stands in
+/// them.
 pub(crate) fn bytes_at(n: usize, bytes: &[u8]) -> Result<(&[u8], &[u8]), CkptError>
     ensures { Gives (λ x. (x.0.now, x.1.now)) result (bytes_at n bytes.now) }
 {

@@ -11,7 +11,7 @@ use crate::tuple::{push_template, push_tuple, template_at, tuple_at};
 use kt_tuple::{Answer, Op};
 use std::alloc::{AllocError, Global};
 
-/// Appends an operation.
+/// Appends the operation's code and its tuple or template.
 pub(crate) fn push_op(out: &mut Vec<u8>, op: &Op) -> Result<(), AllocError>
     ensures ok { OnOk result (out.new.items ≡ out.old.items ++ op_bytes op.now) }
     ensures held { OnOk result (IsOp op.now) }
@@ -40,7 +40,7 @@ pub(crate) fn push_op(out: &mut Vec<u8>, op: &Op) -> Result<(), AllocError>
     }
 }
 
-/// Appends an answer.
+/// Appends the answer's code and, behind that of `Got`, the tuple.
 pub(crate) fn push_answer(out: &mut Vec<u8>, answer: &Answer) -> Result<(), AllocError>
     ensures ok { OnOk result (out.new.items ≡ out.old.items ++ answer_bytes answer.now) }
     ensures held { OnOk result (IsAnswer answer.now) }
@@ -73,6 +73,7 @@ fn op_behind(alloc: Global, code: u8, bytes: &[u8]) -> Result<(Op, &[u8]), CkptE
         let (tuple, rest) = tuple_at(alloc, bytes)?;
         return Ok((Op::Out(tuple), rest));
     }
+    // A bad code is told before what stands behind it: the first fault is that further left.
     if code < IN || RDP < code {
         return Err(CkptError::Field);
     }

@@ -15,7 +15,7 @@ use crate::tuple::{push_tuple, tuple_at};
 use kt_tuple::Tuple;
 use std::alloc::{AllocError, Global};
 
-/// Appends a shard.
+/// Appends the tuples, the requests that wait, and the kept answers, in this order.
 pub(crate) fn push_shard(out: &mut Vec<u8>, shard: &ShardState) -> Result<(), AllocError>
     requires { IsCountedShard shard.now }
     ensures ok { OnOk result (out.new.items ≡ out.old.items ++ shard_bytes shard.now) }
@@ -26,6 +26,7 @@ pub(crate) fn push_shard(out: &mut Vec<u8>, shard: &ShardState) -> Result<(), Al
     push_entries(out, &shard.kept)
 }
 
+/// Appends how many tuples there are, in four bytes, and the tuples in order of arrival.
 fn push_bag(out: &mut Vec<u8>, tuples: &[Tuple]) -> Result<(), AllocError>
     requires { length tuples.now < 2 ^ 32 }
     ensures ok { OnOk result (out.new.items ≡ out.old.items ++ bag_bytes tuples.now) }

@@ -9,7 +9,7 @@ use kt_tuple::{Op, Tuple, Value};
 use std::alloc::{AllocError, Global};
 use std::marker::Model;
 
-/// Where a worker stands.
+/// Where a worker stands. Its fields are not public, so that the counts of a checkpoint hold while it is in one.
 #[derive(Debug, Drop)]
 pub struct WorkerState {
     pub(crate) pc: u16,
@@ -27,7 +27,8 @@ impl Model for WorkerState {
     ghost view = { λ w. worker_of w.pc w.number w.was_none w.asked w.variables.items };
 }
 
-/// What a shard holds.
+/// What a shard holds. Its requests and kept answers are those of kt_shard, so that what is loaded need not be copied
+/// into other types.
 #[derive(Debug, Drop)]
 pub struct ShardState {
     pub(crate) bag: Vec<Tuple>,
@@ -43,12 +44,12 @@ impl Model for ShardState {
     ghost view = { λ s. record { bag = s.bag.items; waiting = s.waiting.items; kept = s.kept.items } };
 }
 
-/// What a node holds.
+/// What a node holds, by its kind.
 #[derive(Debug, Drop)]
 pub enum State {
-    /// A worker.
+    /// Where a worker stands.
     Worker(WorkerState),
-    /// A shard.
+    /// What a shard holds.
     Shard(ShardState),
 }
 
@@ -56,9 +57,9 @@ impl WorkerState {
     ghost use Rattle.kt_tuple.specs.declared.op.Op.{Op};
     ghost use Rattle.kt_ckpt.specs.Fields.{worker_of};
 
-    /// A worker whose next command has the number `pc`, counted from 0; whose last request had this number,
-    /// 0 before the first; whose last answer was none or not; which asked for this and has no answer yet; and
-    /// whose variables have these values, in the order in which the script's text binds them first.
+    /// Where a worker stands. `pc` is the number of its next command, counted from 0, and `number` that of its last
+    /// request, 0 before the first. `was_none` says whether its last answer was none, and `asked` is what it asked for
+    /// and has no answer to. `variables` are the values in the order in which the script's text binds the names first.
     pub fn new(
         pc: u16,
         number: u64,
@@ -91,7 +92,7 @@ impl WorkerState {
         self.number
     }
 
-    /// Whether the last answer was none.
+    /// Whether the last answer was none; not so before any answer.
     pub fn was_none(&self) -> bool
         ensures { result ≡ self.now.was_none }
     {
@@ -112,7 +113,7 @@ impl WorkerState {
         &self.variables
     }
 
-    /// What `new` takes, in that order.
+    /// What `new` takes, in that order. Nothing is copied.
     pub fn into_parts(self) -> (u16, u64, bool, Option<Op>, Vec<Value>)
         ensures pc { result.0 ≡ self.pc }
         ensures number { result.1 ≡ self.number }
@@ -130,7 +131,7 @@ impl WorkerState {
         (pc, number, was_none, asked, variables)
     }
 
-    /// An equal one.
+    /// An equal state of a worker, with memory of its own.
     pub fn copy(&self, alloc: Global) -> Result<WorkerState, AllocError>
         ensures { IfOk result (λ w. w ≡ self.now) }
     {
@@ -164,7 +165,7 @@ impl ShardState {
         &self.bag
     }
 
-    /// The requests that wait, by rising worker.
+    /// The requests that wait, by rising worker: at most one of each.
     pub fn waiting(&self) -> &[(u8, Request)]
         ensures { result.now ≡ self.now.waiting }
     {
@@ -178,7 +179,7 @@ impl ShardState {
         &self.kept
     }
 
-    /// What `new` takes, in that order.
+    /// What `new` takes, in that order. Nothing is copied.
     pub fn into_parts(self) -> (Vec<Tuple>, Vec<(u8, Request)>, Vec<(u8, Kept)>)
         ensures bag { result.0.items ≡ self.bag }
         ensures waiting { result.1.items ≡ self.waiting }
@@ -188,7 +189,7 @@ impl ShardState {
         (bag, waiting, kept)
     }
 
-    /// An equal one.
+    /// An equal state of a shard, with memory of its own.
     pub fn copy(&self, alloc: Global) -> Result<ShardState, AllocError>
         ensures { IfOk result (λ s. s ≡ self.now) }
     {
@@ -201,7 +202,7 @@ impl ShardState {
 }
 
 impl State {
-    /// An equal one.
+    /// An equal state with memory of its own.
     pub fn copy(&self, alloc: Global) -> Result<State, AllocError>
         ensures { IfOk result (λ s. s ≡ self.now) }
     {

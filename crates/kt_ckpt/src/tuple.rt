@@ -14,7 +14,7 @@ use crate::value::{place_at, push_place, push_value, value_at};
 use kt_tuple::{Place, Template, Tuple, Value};
 use std::alloc::{AllocError, Global};
 
-/// Appends a tuple.
+/// Appends how many values there are, in one byte, and the values.
 pub(crate) fn push_tuple(out: &mut Vec<u8>, tuple: &Tuple) -> Result<(), AllocError>
     ensures ok { OnOk result (out.new.items ≡ out.old.items ++ tuple_bytes tuple.now) }
     ensures held { OnOk result (IsTuple tuple.now) }
@@ -24,7 +24,7 @@ pub(crate) fn push_tuple(out: &mut Vec<u8>, tuple: &Tuple) -> Result<(), AllocEr
     push_values(out, values)
 }
 
-/// Appends values, one behind the other.
+/// Appends values, one behind the other, without their count.
 pub(crate) fn push_values(out: &mut Vec<u8>, values: &[Value]) -> Result<(), AllocError>
     ensures ok { OnOk result (out.new.items ≡ out.old.items ++ flat_map value_bytes values.now) }
     ensures held { OnOk result (All IsValue values.now) }
@@ -35,7 +35,7 @@ pub(crate) fn push_values(out: &mut Vec<u8>, values: &[Value]) -> Result<(), All
     Ok(())
 }
 
-/// Appends a template.
+/// Appends how many places there are, in one byte, and the places.
 pub(crate) fn push_template(out: &mut Vec<u8>, template: &Template) -> Result<(), AllocError>
     ensures ok { OnOk result (out.new.items ≡ out.old.items ++ template_bytes template.now) }
     ensures held { OnOk result (IsTemplate template.now) }
@@ -62,7 +62,8 @@ pub(crate) fn tuple_at(alloc: Global, bytes: &[u8]) -> Result<(Tuple, &[u8]), Ck
 {
     let (count, rest) = byte_within(1, MAX_PLACES, bytes)?;
     let (values, rest) = values_at(alloc, count, rest)?;
-    let tuple = Tuple::new(values).ok_or(CkptError::Field)?;
+    // Not refused here: there are 1 to 8 values by their count.
+    let tuple = Tuple::new(alloc, values)?.ok_or(CkptError::Field)?;
     Ok((tuple, rest))
 }
 
@@ -92,7 +93,8 @@ pub(crate) fn template_at(alloc: Global, bytes: &[u8]) -> Result<(Template, &[u8
 {
     let (count, rest) = byte_within(1, MAX_PLACES, bytes)?;
     let (places, rest) = places_at(alloc, count, rest)?;
-    let template = Template::new(places).ok_or(CkptError::Field)?;
+    // Not refused here: there are 1 to 8 places by their count.
+    let template = Template::new(alloc, places)?.ok_or(CkptError::Field)?;
     Ok((template, rest))
 }
 

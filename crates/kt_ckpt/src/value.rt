@@ -12,7 +12,7 @@ use crate::numbers::{byte_at, byte_within, bytes_at, u64_at};
 use kt_tuple::{Kind, Place, Str, Value};
 use std::alloc::AllocError;
 
-/// Appends a value.
+/// Appends the value's code, and the eight bytes of an int or the length and characters of a str.
 pub(crate) fn push_value(out: &mut Vec<u8>, value: &Value) -> Result<(), AllocError>
     ensures ok { OnOk result (out.new.items ≡ out.old.items ++ value_bytes value.now) }
     ensures held { IsValue value.now }
@@ -32,7 +32,7 @@ pub(crate) fn push_value(out: &mut Vec<u8>, value: &Value) -> Result<(), AllocEr
     }
 }
 
-/// Appends a place.
+/// Appends the bytes of an actual's value, or the code of a formal.
 pub(crate) fn push_place(out: &mut Vec<u8>, place: &Place) -> Result<(), AllocError>
     ensures ok { OnOk result (out.new.items ≡ out.old.items ++ place_bytes place.now) }
     ensures held { IsPlace place.now }
@@ -78,6 +78,7 @@ fn str_at(bytes: &[u8]) -> Result<(Value, &[u8]), CkptError>
     ensures { Gives (λ x. (x.0, x.1.now)) result (str_at bytes.now) }
 {
     let (len, rest) = byte_within(0, MAX_CHARACTERS, bytes)?;
+    // The characters are one field: that there are too few is told before one that is not printable.
     let (characters, rest) = bytes_at(len as usize, rest)?;
     match Str::new(characters) {
         Some(string) => Ok((Value::Str(string), rest)),

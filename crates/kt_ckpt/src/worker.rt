@@ -18,7 +18,7 @@ use crate::tuple::{push_values, values_at};
 use kt_tuple::{Op, Value};
 use std::alloc::{AllocError, Global};
 
-/// Appends a worker.
+/// Appends a worker's fields in the order of `WorkerState::new`: two bytes of the position first, the variables last.
 pub(crate) fn push_worker(out: &mut Vec<u8>, worker: &WorkerState) -> Result<(), AllocError>
     requires { IsCountedWorker worker.now }
     ensures ok { OnOk result (out.new.items ≡ out.old.items ++ worker_bytes worker.now) }

@@ -4,6 +4,9 @@ use Rattle.std.specs.Prelude.{nat_lt, slice_get}
 use Rattle.std.proofs.lemmas.Bool.{lt-ltb, le-ltb}
 use Rattle.kt_tuple.specs.declared.node.NodeId.{NodeId}
 use Rattle.kt_node.specs.declared.message.Message.{Message}
+use Rattle.kt_node.specs.declared.message.Message.TheVariants as messages
+use Rattle.kt_node.specs.declared.message.Post.{Post}
+use Rattle.kt_node.specs.Posts.{hear_app}
 use Rattle.kt_node.specs.declared.plan.Plan.{Plan}
 use Rattle.kt_node.specs.declared.refusal.Refusal.{Refusal}
 use Rattle.kt_node.specs.declared.refusal.Refusal.TheVariants as reasons
@@ -17,7 +20,9 @@ use Rattle.kt_world.specs.declared.told.Told.{Told}
 use Rattle.kt_world.specs.Limits.{most_steps}
 use Rattle.kt_world.specs.Step.{owner}
 use Rattle.kt_world.specs.State.{State, link, view}
-use Rattle.kt_world.specs.Judge.{delivery, due, hear, within_limit}
+use Rattle.kt_world.specs.Cast.{are_neighbours}
+use Rattle.kt_world.specs.Judge.{delivery, due, hear, judged, of_scene, planned, within_limit}
+use Rattle.kt_world.specs.Told.{told}
 use Rattle.kt_core.specs.inner.Machine.{Gives}
 use Rattle.kt_core.specs.inner.Judged.{is_refused}
 
@@ -41,6 +46,17 @@ due-first s t step p q v m r is seen first plans =
 pub due-none : (s : State) (t : Told) (step : Step) (p q : NodeId) → step ≡ steps.Deliver p q
     → slice_get (link s p q) 0 ≡ None → due s t step ≡ Err reasons.NothingThere
 due-none s t step p q is none = ap (due s t) is ∙ delivery-none (view s q) t p (link s p q) none
+
+-- what is heard of workers and shards, below the limit
+pub heard-planned : (s : State) (p q : NodeId) (post : Post) (plan : Plan) → are_neighbours s.cast p q ≡ true → s.made < most_steps
+    → slice_get (link s p q) 0 ≡ Some (messages.Post post) → hear_app (view s q) p post ≡ Ok plan → planned s (steps.Deliver p q) ≡ Ok plan
+heard-planned s p q post plan there few first heard =
+    let step : Step = steps.Deliver p q in
+    let t = told s step in
+    let is : due s t step ≡ Ok plan = delivery-first (view s q) t p (link s p q) (messages.Post post) first ∙ heard in
+    let of : judged s t step ≡ Ok plan = ap (λ b. of_scene b (due s t step)) there ∙ ap (of_scene true) is in
+    let within : within_limit s.made (Ok plan) ≡ Ok plan = rw (lt-ltb s.made most_steps few) refl in
+    ap (within_limit s.made) of ∙ within
 
 -- the limit is asked where the step is allowed
 pub over : (made : ℕ) (r : Result Plan StepError) (due : Result Plan StepError) → Gives r due

@@ -5,6 +5,7 @@ pub mod Later
 pub mod Seen
 pub mod Shorts
 pub mod Steps
+pub mod AtOnce
 pub mod Worlds
 pub mod Judged
 pub mod Traffics

@@ -145,3 +145,14 @@ pub sent-all : (old now : Net) (owner : NodeId) (all rest : List (NodeId × Mess
     → now.queues ≡ sent (place old.workers old.shards) old.queues owner all
 unfolding sent
 sent-all old now owner all rest s is = sym (ap (sent (place old.workers old.shards) now.queues owner) is) ∙ s.queues
+
+-- one message is sent by itself
+pub sent-single : (old new : Net) (owner to : NodeId) (m : Message) → queue new owner to ≡ queue old owner to ++ m ∷ [] → ChangesOnly old new owner to
+    → new.queues ≡ sent (place old.workers old.shards) old.queues owner ((to, m) ∷ [])
+unfolding sent
+sent-single old new owner to m appended only = sent-one old new owner to m appended only
+
+-- nothing is sent
+pub sent-none : (way : Way) (links : List (List Message)) (owner : NodeId) → sent way links owner [] ≡ links
+unfolding sent
+sent-none way links owner = refl

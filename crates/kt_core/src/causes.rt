@@ -13,10 +13,11 @@ fn hears(act: &Act, worker: u8) -> bool
     matches!(act.what, What::Heard) && act.worker == worker
 }
 
-/// The cause of the hearing that put the worker's request in waiting.
+/// The cause of the hearing that put the worker's request in waiting; 0 where the shard's line has none.
 pub(crate) fn cause_of_waiting(history: &History, shard: NodeId, worker: u8) -> u64
     ensures { result ≡ cause_of_waiting history.now.notes shard worker }
 {
+    // From the end: a shard hears a request only where its number is above all before, so the last one waits.
     let mut rest = history.line(shard);
     while let Some((number, before)) = rest.split_last() {
         if let Some(act) = history.act(*number) {

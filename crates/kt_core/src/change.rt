@@ -1,14 +1,18 @@
 //! Changing a node, once nothing can be refused any more.
 
-ghost use Rattle.std.specs.Prelude.{◌≡◌, ◌<◌, ◌+◌, ◌^◌, None, length, map, OnOk, IfSome, IsTrue, unwrap_or};
+ghost use Rattle.std.specs.Prelude.{◌≡◌, ◌<◌, ◌+◌, ◌^◌, None, Some, length, map, OnOk, IfSome, IsTrue, unwrap_or};
 ghost use Rattle.std.specs.Option.{option_map};
 ghost use Rattle.kt_core.specs.inner.Rows.{HasRoom, row_view};
+ghost use Rattle.kt_node.specs.declared.change.Change.TheVariants.{Turn as Goes};
+ghost use Rattle.kt_node.specs.ShortPlan.{turn_of};
 ghost use Rattle.kt_node.specs.Node.{Down};
+ghost use Rattle.kt_node.specs.Plan.{no_turn};
 ghost use Rattle.kt_node.specs.Ready.{CanChange};
 ghost use Rattle.kt_node.specs.Turning.{changed};
 ghost use Rattle.kt_shard.specs.Table.{at, put};
 
-use kt_node::{Change, Node};
+use kt_node::{Change, Node, ShortTurn};
+use kt_tuple::NodeId;
 use std::alloc::AllocError;
 
 /// Makes room for one more tuple and one more kept message in the node of this row.
@@ -48,6 +52,50 @@ fn change_row(row: &mut Option<Node>, change: Change)
 {
     if let Some(node) = row {
         node.change(change);
+    }
+}
+
+/// The node of this row sends its next underlying message to the other, which takes no memory.
+pub(crate) fn say_in_row(nodes: &mut Vec<Option<Node>>, row: usize, to: NodeId)
+    requires row { row < length nodes.old.items }
+    requires can { CanChange (unwrap_or (at None (map row_view nodes.old.items) row) Down)
+        (Goes (record no_turn { said = Some to })) }
+    ensures { map row_view nodes.new.items ≡ put None (map row_view nodes.old.items) row
+        (option_map (changed (Goes (record no_turn { said = Some to })))
+        (at None (map row_view nodes.old.items) row)) }
+{
+    say(&mut nodes[row], to);
+}
+
+fn say(row: &mut Option<Node>, to: NodeId)
+    requires { CanChange (unwrap_or (row_view row.old) Down) (Goes (record no_turn { said = Some to })) }
+    ensures { row_view row.new ≡
+        option_map (changed (Goes (record no_turn { said = Some to }))) (row_view row.old) }
+{
+    if let Some(node) = row {
+        node.say(to);
+    }
+}
+
+/// Makes the turn of the node of this row, which takes no memory.
+pub(crate) fn turn_in_row(nodes: &mut Vec<Option<Node>>, row: usize, turn: ShortTurn)
+    requires row { row < length nodes.old.items }
+    requires can { CanChange (unwrap_or (at None (map row_view nodes.old.items) row) Down) (Goes (turn_of turn)) }
+    requires room { HasRoom (at None nodes.old.items row) }
+    ensures { map row_view nodes.new.items ≡ put None (map row_view nodes.old.items) row
+        (option_map (changed (Goes (turn_of turn))) (at None (map row_view nodes.old.items) row)) }
+{
+    turn_short(&mut nodes[row], turn);
+}
+
+fn turn_short(row: &mut Option<Node>, turn: ShortTurn)
+    requires can { CanChange (unwrap_or (row_view row.old) Down) (Goes (turn_of turn)) }
+    requires room { HasRoom row.old }
+    ensures { row_view row.new ≡ option_map (changed (Goes (turn_of turn))) (row_view row.old) }
+{
+    match row {
+        Some(node) => node.turn_short(turn),
+        None => drop(turn),
     }
 }
 

@@ -22,16 +22,16 @@ pub enum FaultKind {
 /// A fault line: what the node shall do once it has made so many steps of its own.
 #[derive(Clone, Copy, Debug, PartialEq, Eq)]
 pub struct Fault {
-    /// What the node shall do.
+    /// What the node shall do: fail, or begin a check.
     pub kind: FaultKind,
-    /// Who shall do it.
+    /// The node that shall do it; it alone spends the line.
     pub node: NodeId,
     /// How many steps of its own it makes first; a scenario says at most 100,000.
     pub after: u64,
 }
 
 impl Fault {
-    /// The step that it asks for.
+    /// The step that it asks for: the node's failure, or its check.
     pub fn step(self) -> Step
         ensures { result ≡ step_of self }
     {
@@ -46,7 +46,7 @@ impl Fault {
 /// A fault line, and whether a step has spent it.
 #[derive(Clone, Copy, Debug, PartialEq, Eq)]
 pub struct FaultLine {
-    /// What it asks for.
+    /// What it asks for, of which node, and when.
     pub fault: Fault,
     /// Whether a step has spent it.
     pub is_marked: bool,
@@ -106,7 +106,7 @@ impl Model for Faults {
 impl Faults {
     ghost use Rattle.std.specs.Prelude.{false};
 
-    /// No lines.
+    /// A list without lines. It takes no memory.
     pub fn new(alloc: Global) -> Faults
         ensures { result ≡ [] }
     {
@@ -115,14 +115,14 @@ impl Faults {
         }
     }
 
-    /// The lines, in order.
+    /// The lines in the scenario's order, the spent ones too.
     pub fn lines(&self) -> &[FaultLine]
         ensures { result.now ≡ self.now }
     {
         &self.lines
     }
 
-    /// An equal list.
+    /// An equal list, marks too, with memory of its own; refused only for want of memory.
     pub fn copy(&self, alloc: Global) -> Result<Faults, AllocError>
         ensures { IfOk result (λ f. f ≡ self.now) }
     {

@@ -61,7 +61,7 @@ fn heard(
 }
 
 /// The node's number among its kind.
-fn number_of(node: NodeId) -> u8
+pub(crate) fn number_of(node: NodeId) -> u8
     ensures { result ≡ node_number node }
 {
     match node {
@@ -93,11 +93,14 @@ fn voting(view: View<'_>, alloc: Global, told: Told, step: Step) -> Result<Plan,
         Step::Restart { .. } => {
             view.restart(alloc, stored, next, tentative.is_some(), undecided, verdict)
         }
+        // `due` hands over the six steps above alone. A match has to answer for the other five of `Step` too, and the
+        // definition that it meets, `voting_due`, has this answer for them.
         _ => Err(Refusal::WrongMode),
     }
 }
 
-/// Whether the step is not allowed. A store's refusal and want of memory come only where it is.
+/// Whether the step is not allowed. A store's refusal and want of memory come only where it is: want of memory is no
+/// rule of the tables, and damage spoils a step that they allow (docs/DECISIONS.md#the-world-with-failures).
 pub(crate) fn is_refused(judged: &Result<Plan, StepError>) -> bool
     ensures { result ≡ is_refused judged.now }
 {
@@ -138,8 +141,9 @@ impl Machine {
         }
     }
 
-    /// The same. For the proof alone: the owner can act and be saved, as in each state that is ready.
-    fn seen(&self, id: NodeId) -> Result<View<'_>, StepError>
+    /// As `found`, with two clauses more, which the plans ask for: the owner can act and be saved, as in each state
+    /// that is ready. A function of its own for the proof alone.
+    pub(crate) fn seen(&self, id: NodeId) -> Result<View<'_>, StepError>
         requires { IsReady (state_of self.now empty_content) }
         ensures there { is_ok result ≡ is_node self.now.scene id }
         ensures view { IfOk result (λ v. view_of v ≡ view (state_of self.now empty_content) id) }
@@ -180,7 +184,7 @@ impl Machine {
         }
     }
 
-    /// The plan of the step whose owner is told so, or its refusal; the limit is left aside.
+    /// The plan of the step whose owner is told so, or its refusal; the limit of steps is left aside.
     pub(crate) fn judged(&self, alloc: Global, told: Told, step: Step) -> Result<Plan, StepError>
         requires ready { IsReady (state_of self.now empty_content) }
         requires small { told.stored.incarnation + 1 < 2 ^ 64 }
@@ -200,6 +204,8 @@ impl Machine {
         ensures { Gives result (planned_by (state_of self.now empty_content) told step) }
     {
         let judged = self.judged(alloc, told, step);
+        // The limit stands behind all reasons of the tables: a step that is not enabled has its own reason at the limit
+        // too (docs/DECISIONS.md#steps).
         if self.made < MAX_STEPS || is_refused(&judged) {
             return judged;
         }

@@ -15,7 +15,7 @@ use kt_tuple::NodeId;
 use kt_worker::Worker;
 
 impl Machine {
-    /// The node, where the scene has it.
+    /// The node, down ones too; `None` where the scene has no such node.
     fn node_at(&self, id: NodeId) -> Option<&Node>
         ensures { unwrap_or (option_map (λ n. n.now.node) result) Down ≡
             (view (state_of self.now empty_content) id).node }
@@ -40,7 +40,7 @@ impl Machine {
         self.node_at(id)?.kept(index)
     }
 
-    /// How many messages it keeps back.
+    /// How many messages the node keeps back: 0 where it is down or not in the scene.
     pub(crate) fn kept_len(&self, id: NodeId) -> usize
         ensures { result ≡ length (kept (state_of self.now empty_content) id) }
     {

@@ -24,15 +24,15 @@ use std::alloc::{AllocError, Global};
 #[derive(Debug, Drop)]
 pub(crate) struct Machine {
     pub(crate) scene: Scene,
-    /// The script with no command, which a shard has.
+    /// The script with no command: each node's role lends a script, and a shard's is this one.
     pub(crate) no_script: Script,
-    /// By the nodes' numbers. A row with no node of the scene is empty.
+    /// By the nodes' numbers. A row is `None` where the scene has no such node; one that is down has its row.
     pub(crate) nodes: Vec<Option<Node>>,
     pub(crate) links: Links<Message>,
     pub(crate) history: History,
     /// How many steps each node made, by the nodes' numbers.
     pub(crate) own: Vec<u64>,
-    /// How many steps were made.
+    /// How many steps were made, by all nodes together: at most 100,000.
     pub(crate) made: u64,
     ghost workers: { links.workers ≡ length scene.scripts },
     ghost shards: { links.shards ≡ scene.shards },

@@ -158,7 +158,7 @@ impl Machine {
     ghost use Rattle.kt_core.specs.inner.Machine.{state_of};
     ghost use Rattle.kt_world.specs.Needs.{mode_at, needs_of, poll_at};
 
-    /// The node's mode; one that is not in the scene counts as down.
+    /// The node's mode; a node that is not in the scene counts as down.
     fn mode_at(&self, id: NodeId) -> Mode
         ensures { result ≡ mode_at (state_of self.now empty_content) id }
     {
@@ -168,7 +168,7 @@ impl Machine {
         }
     }
 
-    /// The node's ballot, while it votes.
+    /// The node's ballot while it is held or rolls back; else `None`.
     pub(crate) fn ballot_at(&self, id: NodeId) -> Option<&Ballot>
         ensures { option_copied result ≡ poll_at (state_of self.now empty_content) id }
     {
@@ -182,6 +182,7 @@ impl Machine {
     pub(crate) fn needs(&self, step: Step) -> Needs
         ensures { result ≡ needs_of (state_of self.now empty_content) step }
     {
+        // Of a step that names no nodes of the scene nothing is asked (docs/DECISIONS.md#steps).
         if !self.scene.is_for(step) {
             return Needs::none();
         }

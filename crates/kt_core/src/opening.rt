@@ -35,7 +35,7 @@ fn row(
     }
 }
 
-/// The table of nodes.
+/// The table of nodes, by their numbers: a row for each that a node can have, and a node where the scene has it.
 pub(crate) fn opening_nodes(
     alloc: Global,
     scene: &Scene,
@@ -61,7 +61,8 @@ pub(crate) fn no_counts(alloc: Global) -> Result<Vec<u64>, AllocError>
     vec![in alloc; 0; ROWS]
 }
 
-/// Each of the scripts is within the limits that it was made with. For the proof alone: it does nothing.
+/// Each of the scripts is within the limits that it was made with. For the proof alone: it does nothing. The laws speak
+/// of scenes whose scripts a checkpoint can count, and of a script the proof learns so only where `commands` is called.
 pub(crate) fn scripts_are_short(scripts: &[Script])
     ensures { (n : ℕ) → IfSome (slice_get scripts.now n) IsShort }
 {

@@ -14,7 +14,8 @@ use kt_tuple::NodeId;
 use kt_world::{Needs, Question, Told};
 use std::alloc::Global;
 
-/// The verdict that is asked after.
+/// The verdict that is asked after: read from the board at each step that goes by it, and remembered by nobody. A node
+/// that fails forgets all but what is stored, and one that is down drops the message that tells of a verdict.
 fn verdict_told<S: CkptStore>(
     store: &mut S,
     alloc: Global,
@@ -35,7 +36,8 @@ fn verdict_told<S: CkptStore>(
     }
 }
 
-/// Acts and labels of the permanent checkpoint, where they are asked for.
+/// Acts and labels of the permanent checkpoint, where they are asked for. The marks have a call of their own, so that a
+/// failure over a store in memory costs nothing that grows with the tuples (docs/DECISIONS.md#stores).
 fn permanent_told<S: CkptStore>(
     store: &mut S,
     alloc: Global,
@@ -53,7 +55,7 @@ fn permanent_told<S: CkptStore>(
     }
 }
 
-/// Acts and labels of the tentative one.
+/// Acts and labels of the tentative checkpoint, where they are asked for; `None` where the node has none.
 fn tentative_told<S: CkptStore>(
     store: &mut S,
     alloc: Global,
@@ -74,7 +76,7 @@ fn tentative_told<S: CkptStore>(
 }
 
 /// The incarnation and the permanent checkpoint, where they are asked for. No incarnation of an honest store is the
-/// greatest number of all.
+/// greatest number of all. From another store it is damage, since who loads the checkpoint counts one further.
 fn stored_told<S: CkptStore>(
     store: &mut S,
     alloc: Global,

@@ -53,7 +53,7 @@ impl Scene {
         }
     }
 
-    /// How many shards there are.
+    /// How many shards there are, from 1 to 8.
     pub fn shards(&self) -> u8
         ensures value { result ≡ self.now.shards }
         ensures some { 1 ≤ result }

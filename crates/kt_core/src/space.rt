@@ -1,6 +1,6 @@
 //! The space of the permanent checkpoints.
 
-ghost use Rattle.std.specs.Prelude.{◌≡◌, ◌++◌};
+ghost use Rattle.std.specs.Prelude.{◌≡◌, ◌++◌, IfOk};
 ghost use Rattle.std.specs.List.{flat_map, range_with_len};
 ghost use Rattle.kt_tuple.specs.declared.node.NodeId.TheVariants as ids;
 ghost use Rattle.kt_world.specs.Cut.{permanent_of, tuples_of};
@@ -10,7 +10,7 @@ ghost use Rattle.kt_core.specs.inner.Calls.{IsRead};
 use kt_ckpt::{Ckpt, State};
 use kt_store::{CkptStore, StoreError, Tentative, TentativeMarks, Verdict};
 use kt_tuple::{NodeId, Tuple};
-use std::alloc::Global;
+use std::alloc::{AllocError, Global};
 
 /// Whether the node's tentative checkpoint counts as permanent: its instance has Yes.
 fn counts<S: CkptStore>(store: &mut S, alloc: Global, node: NodeId) -> Result<bool, StoreError>
@@ -25,7 +25,7 @@ fn counts<S: CkptStore>(store: &mut S, alloc: Global, node: NodeId) -> Result<bo
     }
 }
 
-/// The tentative checkpoint.
+/// The node's tentative checkpoint, `None` where it has none.
 fn tentative_of<S: CkptStore>(
     store: &mut S,
     alloc: Global,
@@ -39,7 +39,8 @@ fn tentative_of<S: CkptStore>(
     }
 }
 
-/// The node's permanent checkpoint: a tentative one counts from the moment that its Yes is written.
+/// The node's permanent checkpoint. A tentative one counts from the moment that its Yes is written, whether or not its
+/// node knows: all those of a check become permanent at once, and some nodes may be down then.
 fn permanent_of<S: CkptStore>(
     store: &mut S,
     alloc: Global,
@@ -54,21 +55,27 @@ fn permanent_of<S: CkptStore>(
     }
 }
 
-/// The tuples of a stored shard.
-fn tuples_of(alloc: Global, checkpoint: Option<Ckpt>) -> Vec<Tuple>
-    ensures { result.items ≡ tuples_of checkpoint }
+/// The tuples of a stored shard: none without a checkpoint, and none of a worker's.
+fn tuples_of(checkpoint: &Option<Ckpt>) -> &[Tuple]
+    ensures { result.now ≡ tuples_of checkpoint.now }
 {
     let Some(checkpoint) = checkpoint else {
-        return Vec::new(alloc);
+        return &[];
     };
-    let (.., state) = checkpoint.into_parts();
-    match state {
-        State::Worker(_) => Vec::new(alloc),
-        State::Shard(shard) => {
-            let (bag, ..) = shard.into_parts();
-            bag
-        }
+    match checkpoint.state() {
+        State::Worker(_) => &[],
+        State::Shard(shard) => shard.bag(),
     }
+}
+
+fn copy_tuples(alloc: Global, tuples: &[Tuple]) -> Result<Vec<Tuple>, AllocError>
+    ensures { IfOk result (λ v. v.items ≡ tuples.now) }
+{
+    let mut copies = Vec::with_capacity(alloc, tuples.len())?;
+    for tuple in tuples {
+        copies.push(tuple.copy(alloc)?)?;
+    }
+    Ok(copies)
 }
 
 /// One shard's tuples behind the others.
@@ -82,7 +89,7 @@ fn add_tuples<S: CkptStore>(
         (λ c x. tuples.new.items ≡ tuples.old.items ++ tuples_of (permanent_of c node)) result }
 {
     let checkpoint = permanent_of(store, alloc, node)?;
-    let mut more = tuples_of(alloc, checkpoint);
+    let mut more = copy_tuples(alloc, tuples_of(&checkpoint))?;
     tuples.append(&mut more)?;
     Ok(())
 }

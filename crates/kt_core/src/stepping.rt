@@ -46,12 +46,16 @@ fn prepare<S: CkptStore>(
     let owner = step.owner();
     let told = tell(store, alloc, owner, machine.needs(step))?;
     let plan = machine.plan(alloc, told, step)?;
+    // All room is made before the one write, and the tables change after it: a refusal leaves all as it was, and no
+    // write is made for a step that is refused then (docs/DECISIONS.md#the-world-over-a-store).
     machine.make_room(owner, &plan)?;
     Ok(plan)
 }
 
-/// Makes the step, or changes nothing.
-pub(crate) fn make<S: CkptStore>(
+/// Makes the step by its plan, or changes nothing. It is a call of its own, since a plan takes much of the stack, which
+/// a frequent step does not need.
+#[inline(never)]
+fn make_by_plan<S: CkptStore>(
     machine: &mut Machine,
     store: &mut S,
     alloc: Global,
@@ -78,4 +82,35 @@ pub(crate) fn make<S: CkptStore>(
     write(store, step.owner(), &plan.write)?;
     machine.carry_out(step, plan);
     Ok(())
+}
+
+/// Makes the step, or changes nothing.
+pub(crate) fn make<S: CkptStore>(
+    machine: &mut Machine,
+    store: &mut S,
+    alloc: Global,
+    step: Step,
+) -> Result<(), StepError>
+    requires ready { IsReady (state_of machine.old empty_content) }
+    requires backed { IsTrue (S.is_honest store.old) → IsBacked (state_of machine.old (S.content store.old)) }
+    requires undamaged { IsTrue (S.is_honest store.old) → IsUndamaged (state_of machine.old (S.content store.old)) }
+    ensures ready { IsReady (state_of machine.new empty_content) }
+    ensures effect { IsTrue (S.is_honest store.new) → OnOk result
+        (step_result (state_of machine.old (S.content store.old)) step
+        ≡ Ok (state_of machine.new (S.content store.new))) }
+    ensures refusal { IsTrue (S.is_honest store.new) →
+        IfErr result (λ e. Refuses e (planned (state_of machine.old (S.content store.old)) step)) }
+    ensures same { OnErr result (state_of machine.new empty_content ≡ state_of machine.old empty_content) }
+    ensures content { IsTrue (S.is_honest store.new) → OnErr result (S.content store.new ≡ S.content store.old) }
+    ensures honest { IsTrue (S.is_honest store.new) → IsTrue (S.is_honest store.old) }
+    ensures later { S.fault_count store.old ≤ S.fault_count store.new }
+    ensures cause { IfErr result (IsCause (S.fault_count store.old) (S.fault_count store.new) (S.is_honest store.new)) }
+    ensures called { IsTrue (S.is_honest store.new) →
+        IfErr result (IsCalledFor (state_of machine.old (S.content store.old)) step) }
+{
+    match machine.at_once(alloc, step) {
+        Ok(true) => Ok(()),
+        Ok(false) => make_by_plan(machine, store, alloc, step),
+        Err(_) => Err(StepError::OutOfMemory),
+    }
 }

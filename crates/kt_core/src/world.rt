@@ -31,13 +31,13 @@ use thiserror::Error;
 /// Why a world was not opened.
 #[derive(Clone, Copy, Debug, PartialEq, Eq, Error)]
 pub enum OpenError {
-    /// Something was stored before.
+    /// Something was stored on the store before; a world begins with nothing.
     #[error("NotFresh")]
     NotFresh,
     /// A call of the store was refused.
     #[error("Store")]
     Store(StoreError),
-    /// Memory ran out.
+    /// Memory ran out for the tables of the world.
     #[error("OutOfMemory")]
     OutOfMemory,
 }
@@ -45,11 +45,11 @@ pub enum OpenError {
 /// A world that was not opened, and what was to be its own.
 #[derive(Debug, Drop)]
 pub struct OpenRefused<S> {
-    /// Why.
+    /// Why the world was not opened.
     pub cause: OpenError,
-    /// The scene that was handed in.
+    /// The scene that was handed in, unchanged.
     pub scene: Scene,
-    /// The store that was handed in.
+    /// The store that was handed in. While it is honest, it holds what it held.
     pub store: S,
 }
 
@@ -129,7 +129,7 @@ impl<S: CkptStore> World<S> {
         }
     }
 
-    /// The same over a store that says that nothing was ever stored on it.
+    /// As `open`, over a store that says that nothing was ever stored on it: want of memory alone refuses it.
     fn open_fresh(alloc: Global, scene: Scene, store: S) -> Result<World<S>, OpenRefused<S>>
         requires { IsTrue (S.is_honest store) → is_fresh (S.content store) ≡ true }
         ensures opened { IfOk result (λ w. IsTrue w.is_honest → w.state ≡ opening scene) }
@@ -152,8 +152,9 @@ impl<S: CkptStore> World<S> {
 
     /// Makes the step. It makes a node that is up roll back, or take a checkpoint that it did not begin, only where
     /// that has to be (`IsForced`). It notes one thing at most, and cuts no line but its owner's (`IsNoted`). A refused
-    /// step changes nothing. Of several refusals the first that stands comes, but that of the store before all that it
-    /// would have told, and only of a step for which it is called; `OutOfMemory` only of a step that is enabled.
+    /// step changes nothing. Of several refusals the first that stands comes. A refusal of the store comes before all
+    /// that the store would have told, and only of a step for which it is called. `OutOfMemory` comes only of a step
+    /// that is enabled.
     pub fn step(&mut self, alloc: Global, step: Step) -> Result<(), StepError>
         ensures effect { IsTrue self.new.is_honest → OnOk result (step_result self.old.state step ≡ Ok self.new.state) }
         ensures refusal { IsTrue self.new.is_honest → IfErr result (λ e. Refuses e (planned self.old.state step)) }
@@ -171,7 +172,8 @@ impl<S: CkptStore> World<S> {
     }
 
     /// Whether the step is enabled: nothing but the store or want of memory would refuse it. The store's refusal, where
-    /// something has to be known of it that it does not say. It takes what the making of the step's plan takes.
+    /// something has to be known of it that it does not say. It makes the plan and drops it, and takes the memory for
+    /// it; where that is wanting it answers yes (docs/DECISIONS.md#the-world-over-a-store).
     pub fn can(&mut self, alloc: Global, step: Step) -> Result<bool, StoreError>
         ensures value { IsTrue self.new.is_honest → IfOk result (λ can. can ≡ is_enabled self.old.state step) }
         ensures same { IsTrue self.new.is_honest → self.new.state ≡ self.old.state }
@@ -188,7 +190,8 @@ impl<S: CkptStore> World<S> {
     }
 
     /// Whether the step is enabled, the limit of steps left aside: nothing but the limit, the store or want of memory
-    /// would refuse it. All else is as of `can`.
+    /// would refuse it. So who asks what a node could do next has an answer at the limit too, and the step is then
+    /// refused by the limit's own number (docs/DECISIONS.md#steps). All else is as of `can`.
     pub fn is_allowed(&mut self, alloc: Global, step: Step) -> Result<bool, StoreError>
         ensures value { IsTrue self.new.is_honest → IfOk result (λ can. can ≡ is_allowed self.old.state step) }
         ensures same { IsTrue self.new.is_honest → self.new.state ≡ self.old.state }
@@ -204,7 +207,7 @@ impl<S: CkptStore> World<S> {
         Ok(!is_refused(&judged))
     }
 
-    /// What happened so far.
+    /// What happened so far: a note for each act and each cut, in order.
     pub fn history(&self) -> &History
         ensures value { result.now.notes ≡ self.now.state.history }
         ensures headline { IsTrue self.now.is_honest → Headline self.now.state }
@@ -233,7 +236,7 @@ impl<S: CkptStore> World<S> {
         }
     }
 
-    /// What state the node is in, `None` for a node that is not in the scene.
+    /// What mode the node is in, `None` for a node that is not in the scene.
     pub fn mode(&self, id: NodeId) -> Option<Mode>
         ensures value { result ≡ option_map mode_of (node self.now.state id) }
         ensures there { is_some result ≡ is_node self.now.state.cast id }
@@ -244,35 +247,37 @@ impl<S: CkptStore> World<S> {
         }
     }
 
-    /// The message on its way from one to the other that has so many before it.
+    /// Of the messages on their way from one to the other the one at this place, counted from 0 in the order of
+    /// sending; `None` past the last, and for two that are no neighbours.
     pub fn link_at(&self, from: NodeId, to: NodeId, index: usize) -> Option<&Message>
         ensures { option_copied result ≡ message_at self.now.state from to index }
     {
         self.machine.message_at(from, to, index)
     }
 
-    /// How many messages are on their way from one to the other.
+    /// How many messages are on their way from one to the other: 0 for two that are no neighbours.
     pub fn link_len(&self, from: NodeId, to: NodeId) -> usize
         ensures { result ≡ length (link self.now.state from to) }
     {
         self.machine.link_len(from, to)
     }
 
-    /// The message with so many before it of those that the node keeps back, and who sent it.
+    /// Of the messages that the node keeps back the one at this place, counted from 0, and who sent it; `None` past the
+    /// last, and for a node that is down or not in the scene.
     pub fn kept_at(&self, id: NodeId, index: usize) -> Option<&(NodeId, Post)>
         ensures { option_copied result ≡ slice_get (kept self.now.state id) index }
     {
         self.machine.kept_at(id, index)
     }
 
-    /// How many messages the node keeps back.
+    /// How many messages the node keeps back: 0 for a node that is down or not in the scene.
     pub fn kept_len(&self, id: NodeId) -> usize
         ensures { result ≡ length (kept self.now.state id) }
     {
         self.machine.kept_len(id)
     }
 
-    /// The node's ballot, while it votes.
+    /// The node's ballot while it is held or rolls back, as the initiator or as a participant; else `None`.
     pub fn ballot(&self, id: NodeId) -> Option<&Ballot>
         ensures { option_copied result ≡ poll_at self.now.state id }
     {
@@ -334,7 +339,7 @@ impl<S: CkptStore> World<S> {
         permanent_tuples(&mut self.store, alloc, self.machine.scene.shards())
     }
 
-    /// Hands the store on.
+    /// Ends the world and hands its store on, with all that is stored.
     pub fn into_store(self) -> S
         ensures content { S.content result ≡ self.state.content }
         ensures honest { S.is_honest result ≡ self.is_honest }

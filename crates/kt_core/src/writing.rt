@@ -9,7 +9,7 @@ use kt_node::Write;
 use kt_store::{CkptStore, StoreError};
 use kt_tuple::NodeId;
 
-/// Makes the write of the node's plan, if there is one.
+/// Makes the write of the node's plan, if there is one. Where there is none the store is not called.
 pub(crate) fn write<S: CkptStore>(
     store: &mut S,
     node: NodeId,

@@ -2,7 +2,6 @@
 //! the shard fails. So the second rolls back, takes the task again, and says which one it has done.
 #![tactic(auto)]
 
-use arrayvec::ArrayVec;
 use kt_core::{Scene, Step, World};
 use kt_script::{Actual, Actuals, Command, Name, Operation, Pattern, Script, Slot};
 use kt_store::MemStore;
@@ -34,9 +33,12 @@ fn main(rt: HostRuntime) -> Result<(), Fail> {
 fn opened(alloc: Global) -> Result<World<MemStore>, Fail> {
     let task = Name::new(b"task").ok_or("a name")?;
     let done = Str::new(b"done").ok_or("a string")?;
-    let seven = tuple(&[Actual::Literal(Value::Int(7))])?;
-    let any_task = template(Slot::Formal(Kind::Int, Some(task.copy())))?;
-    let said = tuple(&[Actual::Literal(Value::Str(done)), Actual::Variable(task)])?;
+    let seven = tuple(alloc, &[Actual::Literal(Value::Int(7))])?;
+    let any_task = template(alloc, Slot::Formal(Kind::Int, Some(task.copy())))?;
+    let said = tuple(
+        alloc,
+        &[Actual::Literal(Value::Str(done)), Actual::Variable(task)],
+    )?;
     let (mut gives, mut takes) = (Script::new(alloc), Script::new(alloc));
     gives.push(Command::Ask(Operation::Out(seven)))?;
     takes.push(Command::Ask(Operation::In(any_task)))?;
@@ -49,17 +51,17 @@ fn opened(alloc: Global) -> Result<World<MemStore>, Fail> {
     Ok(world.ok_or("a world")?)
 }
 
-fn tuple(actuals: &[Actual]) -> Result<Actuals, Fail> {
-    let mut places = ArrayVec::new();
+fn tuple(alloc: Global, actuals: &[Actual]) -> Result<Actuals, Fail> {
+    let mut places = Vec::new(alloc);
     for actual in actuals {
-        places.try_push(actual.copy()).map_err(|_| "room")?;
+        places.push(actual.copy())?;
     }
     Ok(Actuals::new(places).ok_or("a tuple")?)
 }
 
-fn template(slot: Slot) -> Result<Pattern, Fail> {
-    let mut places = ArrayVec::new();
-    places.try_push(slot).map_err(|_| "room")?;
+fn template(alloc: Global, slot: Slot) -> Result<Pattern, Fail> {
+    let mut places = Vec::new(alloc);
+    places.push(slot)?;
     Ok(Pattern::new(places).ok_or("a template")?)
 }
 

@@ -1,4 +1,4 @@
-//! That `==` is equality.
+//! That `==` of notes, acts and what was done is equality, by the law of `kt_tuple::Equality`.
 
 ghost use Rattle.std.proofs.Common.{rules};
 ghost use Rattle.std.specs.Cmp.Rules.{comparing};

@@ -20,9 +20,13 @@ use std::marker::Model;
 /// so that both are known without a look at the notes.
 #[derive(Debug, Drop)]
 pub struct History {
+    /// The notes, oldest first; the first has the number 1.
     notes: Vec<Note>,
+    /// Each node's log (`line`), by `NodeId::index`, as numbers of acts.
     lines: Rows,
+    /// One mark for each note.
     marks: Vec<Mark>,
+    /// How many services do not survive.
     lost: u64,
 }
 
@@ -40,7 +44,7 @@ impl Model for History {
 impl History {
     ghost use Rattle.kt_history.specs.declared.note.Note.TheVariants as notes;
 
-    /// The history of nothing.
+    /// The history of nothing: no note, and all lines empty.
     pub fn new(alloc: Global) -> History
         ensures { result.notes ≡ [] }
     {
@@ -103,11 +107,11 @@ impl History {
         }
     }
 
-    /// Appends the note, which must be one that may follow, as `may_follow` tells. Where memory is wanting
-    /// the notes stay as they were.
+    /// Appends the note, which must be one that may follow, as `may_follow` tells. Where memory is wanting the notes
+    /// stay as they were.
     ///
     /// An act costs the same however long the history is. A cut looks once at each note from the first act that it
-    /// takes out of its line on: filling is linear where cuts take what is new, and quadratic where each cut keeps
+    /// takes out of its line on. So filling is linear where cuts take what is new. It is quadratic where each cut keeps
     /// less than the one before, so that it goes back further.
     pub fn push(&mut self, note: Note) -> Result<(), AllocError>
         requires { MayFollow self.old.notes note }
@@ -119,7 +123,8 @@ impl History {
         Ok(())
     }
 
-    /// Makes room for one more note of the node, and leaves the notes as they are.
+    /// Makes room for one more note of the node, and leaves the notes as they are. So a caller takes all memory before
+    /// it changes anything, and `add` has no refusal.
     pub fn make_room(&mut self, node: NodeId) -> Result<(), AllocError>
         ensures same { self.new.notes ≡ self.old.notes }
         ensures ok { OnOk result (1 ≤ room_of self.new node) }
@@ -177,8 +182,9 @@ impl History {
         1 <= number && number <= self.marks.len() as u64 && self.marks[number as usize - 1].survives
     }
 
-    /// The surviving services, oldest first.
+    /// The surviving services, oldest first, with memory of their own.
     pub fn survivors(&self, alloc: Global) -> Result<Vec<Service>, AllocError>
+        // Said twice: by the test that computes, which proofs use, and by the relation, which a reader wants.
         ensures services { IfOk result (λ found. found.items ≡ services self.now.notes) }
         ensures survive { IfOk result (λ found. AreSurvivors self.now.notes found.items) }
     {
@@ -189,7 +195,7 @@ impl History {
         Ok(services)
     }
 
-    /// How many services do not survive.
+    /// How many services do not survive: those with something undone in their past.
     pub fn lost_count(&self) -> u64
         ensures count { result ≡ lost_count self.now.notes }
         ensures lost { IsLostCount self.now.notes result }

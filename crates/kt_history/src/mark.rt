@@ -7,7 +7,7 @@ ghost use Rattle.kt_history.specs.inner.Marks.{LooksBack, AreMarksOf, AreLost, I
 
 use crate::note::Note;
 
-/// What is known of one note.
+/// What is kept of one note.
 #[derive(Clone, Copy, Debug, PartialEq, Eq)]
 pub(crate) struct Mark {
     /// The act that stood last in the node's line before this one, or 0.
@@ -61,6 +61,8 @@ pub(crate) fn lose(notes: &[Note], marks: &mut [Mark], numbers: &[u64], lost: u6
     }
 }
 
+/// As `lose`, of one number at least. No mark before that of the first of them can change, so only the notes from it on
+/// are counted again.
 fn lose_some(notes: &[Note], marks: &mut [Mark], numbers: &[u64], lost: u64) -> u64
     requires marks_of { AreMarksOf notes.now marks.old }
     requires numbers { AreLost notes.now numbers.now }
@@ -99,7 +101,9 @@ fn unmark_one(marks: &mut [Mark], number: u64)
     };
 }
 
-/// Carries what was lost on to all that came after it, from the note at this place on.
+/// Carries what was lost on to all that came after it, from the note at this place on. It looks at every note, and not
+/// only at those that depend on the lost ones: to find these it would have to keep for each act who named it as a cause
+/// (docs/DECISIONS.md#the-history).
 fn renew(notes: &[Note], marks: &mut [Mark], first: usize)
     requires marks_of { AreMarksOf notes.now marks.old }
     requires first { first ≤ length notes.now }

@@ -5,7 +5,7 @@ ghost use Rattle.std.specs.Prelude.{◌≡◌, IfOk};
 use kt_tuple::{Answer, NodeId, Op, Service};
 use std::alloc::{AllocError, Global};
 
-/// What a node did.
+/// What a node did about a request.
 #[derive(Debug, PartialEq, Eq, Drop)]
 pub enum What {
     /// A worker asked for an operation for the first time.
@@ -30,15 +30,15 @@ pub enum What {
 pub struct Act {
     /// The node that acts.
     pub node: NodeId,
-    /// The number of the act that sent what was heard, or 0 where the node acts of itself.
+    /// The cause: the number of the act that sent what was heard, or 0 where the node acts of itself.
     pub by: u64,
     /// The worker whose request it is, counted from 1.
     pub worker: u8,
     /// The number of the request, counted from 1 for each worker.
     pub number: u64,
-    /// What the request asks.
+    /// The operation that the request asks for, as it was sent.
     pub op: Op,
-    /// What the node did.
+    /// What the node did about it.
     pub what: What,
 }
 
@@ -47,7 +47,7 @@ pub struct Act {
 pub enum Note {
     /// A node acted.
     Act(Act),
-    /// A node gave up all but the first so many acts that it remembered.
+    /// A node gave up all but the first `keep` acts that it remembered: it failed, or it was rolled back.
     Cut { node: NodeId, keep: u64 },
 }
 
@@ -55,7 +55,7 @@ impl Note {
     ghost use Rattle.kt_history.specs.Chronicle.{node_of};
     ghost use Rattle.kt_history.specs.Survival.{is_service, note_service};
 
-    /// The node that it is of.
+    /// The node that acted, or that gave acts up.
     pub fn node(&self) -> NodeId
         ensures { result ≡ node_of self.now }
     {
@@ -75,7 +75,7 @@ impl Note {
         }
     }
 
-    /// The service that it is, if it is one.
+    /// The service that it is; `None` where it is no service. It has memory of its own.
     pub fn service(&self, alloc: Global) -> Result<Option<Service>, AllocError>
         ensures { IfOk result (λ service. service ≡ note_service self.now) }
     {

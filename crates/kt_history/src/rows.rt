@@ -7,7 +7,8 @@ ghost use Rattle.kt_history.specs.inner.Marks.{rows_of, row_at, HasRoom, SameRow
 
 use std::alloc::AllocError;
 
-/// A list of numbers for each place.
+/// For each node, by `NodeId::index`, the numbers of the acts in its line. It has rows up to the last node that room
+/// was made for.
 pub(crate) type Rows = Vec<Vec<u64>>;
 
 /// The last number, or 0 where there is none.
@@ -20,7 +21,7 @@ pub(crate) fn last_number(numbers: &[u64]) -> u64
     }
 }
 
-/// Makes room for one more number in the row at this place.
+/// Makes room for one more number in the row at this place, and empty rows up to it where there are too few.
 pub(crate) fn reserve_row(rows: &mut Rows, place: usize) -> Result<(), AllocError>
     requires { place < names }
     ensures same { SameRows rows.old rows.new }

@@ -9,8 +9,9 @@ use kt_space::Bag;
 use kt_tuple::{Answer, Op, Service, Template, Tuple};
 use std::alloc::{AllocError, Global};
 
-/// The tuples to which services lead from the empty space, where they are one run of it. Of others each does what
-/// it can: a tuple that is not there is not withdrawn.
+/// The tuples to which services lead from the empty space, where they are one run of it. Of others each does what it
+/// can: a tuple that is not there is not withdrawn. So a report is never refused for services that are no run, which
+/// can be only after a store was not honest (docs/DECISIONS.md#the-report).
 pub fn space_of(alloc: Global, services: &[Service]) -> Result<Bag, AllocError>
     ensures { IsRun services.now → IfOk result (λ bag. IsSpaceRun services.now bag.tuples) }
 {
@@ -35,7 +36,7 @@ fn serve(alloc: Global, bag: &mut Bag, service: &Service) -> Result<(), AllocErr
     }
 }
 
-/// Adds an equal tuple.
+/// Adds a copy of the tuple.
 fn add(alloc: Global, bag: &mut Bag, tuple: &Tuple) -> Result<(), AllocError>
     ensures { OnOk result (IsPermutation (tuple.now ∷ bag.old.tuples) bag.new.tuples) }
 {
@@ -53,7 +54,7 @@ fn take_out(alloc: Global, bag: &mut Bag, answer: &Answer) -> Result<(), AllocEr
     Ok(())
 }
 
-/// Takes out the first tuple that equals this one.
+/// Takes out the first tuple that equals this one: the template of its values matches it alone.
 fn withdraw(alloc: Global, bag: &mut Bag, tuple: &Tuple) -> Result<(), AllocError>
     ensures { Contains bag.old.tuples tuple.now
         → OnOk result (IsPermutation bag.old.tuples (tuple.now ∷ bag.new.tuples)) }

@@ -1,4 +1,10 @@
-//! Labels of messages, and a queue for each ordered pair of neighbours.
+//! Labels of messages, and links: a queue for each ordered pair of a worker and a shard.
+//!
+//! - Contract: a message is sent behind all others of its pair (`Links::push`, clause `sent`) and taken off in front of
+//!   them (`Links::pop`, clause `first`). No call touches another pair's queue (clause `alone`).
+//! - Stands on: kt_tuple
+//! - Used by: kt_ckpt, kt_node, kt_world, kt_refinement, kt_core, kt_stage
+//! - Begin in: `links.rt`, then `label.rt`.
 #![tactic(auto)]
 
 mod label;

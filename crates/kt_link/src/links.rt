@@ -15,6 +15,8 @@ use std::marker::Model;
 pub struct Links<M> {
     workers: u8,
     shards: u8,
+    /// The two queues of a pair stand side by side, the way to the shard first. Pairs that are no neighbours have no
+    /// place.
     queues: Vec<VecDeque<M>>,
 }
 
@@ -33,7 +35,7 @@ impl<M> Model for Links<M> {
 impl<M: Drop> Links<M> {
     ghost use Rattle.kt_link.specs.Network.{queue, room, ChangesOnly};
 
-    /// Empty queues between so many workers and shards.
+    /// Empty queues between so many workers and shards, each counted from 1.
     pub fn new(alloc: Global, workers: u8, shards: u8) -> Result<Links<M>, AllocError>
         ensures workers { IfOk result (λ links. links.workers ≡ workers) }
         ensures shards { IfOk result (λ links. links.shards ≡ shards) }
@@ -53,21 +55,21 @@ impl<M: Drop> Links<M> {
         self.place(from, to).is_some()
     }
 
-    /// What is on its way and was sent first.
+    /// The message on its way that was sent first; `None` where there is none, or no link.
     pub fn front(&self, from: NodeId, to: NodeId) -> Option<&M>
         ensures { option_copied result ≡ slice_get (queue self.now from to) 0 }
     {
         self.queues[self.place(from, to)?].front()
     }
 
-    /// The message with so many before it.
+    /// The message on its way with so many before it; `None` where there is none, or no link.
     pub fn get(&self, from: NodeId, to: NodeId, index: usize) -> Option<&M>
         ensures { option_copied result ≡ slice_get (queue self.now from to) index }
     {
         self.queues[self.place(from, to)?].get(index)
     }
 
-    /// How many messages are on their way.
+    /// How many messages are on their way; 0 where there is no link.
     pub fn len(&self, from: NodeId, to: NodeId) -> usize
         ensures { result ≡ length (queue self.now from to) }
     {
@@ -77,7 +79,9 @@ impl<M: Drop> Links<M> {
         }
     }
 
-    /// Makes room for so many more messages, which changes nothing else.
+    /// Makes room for so many more messages, which changes nothing else. Room is a number here, since one step may send
+    /// several. That there is a link is a condition and no refusal: who sends knows the scene
+    /// (docs/DECISIONS.md#bags-and-links).
     pub fn reserve(&mut self, from: NodeId, to: NodeId, additional: usize) -> Result<(), AllocError>
         requires { AreNeighbours self.old.workers self.old.shards from to }
         ensures queue { queue self.new from to ≡ queue self.old from to }
@@ -102,7 +106,8 @@ impl<M: Drop> Links<M> {
         self.queues[place].push_back_reserved(message);
     }
 
-    /// Sends the message behind all others. Where memory is wanting it comes back, and nothing changes.
+    /// Sends the message behind all others. Where memory is wanting it comes back, so that nothing is lost, and nothing
+    /// changes.
     pub fn push(&mut self, from: NodeId, to: NodeId, message: M) -> Result<(), AllocFailed<M>>
         requires { AreNeighbours self.old.workers self.old.shards from to }
         ensures sent { OnOk result (queue self.new from to ≡ queue self.old from to ++ message ∷ []) }
@@ -115,7 +120,7 @@ impl<M: Drop> Links<M> {
         self.queues[place].push_back(message)
     }
 
-    /// Takes off what was sent first.
+    /// Takes off what was sent first; `None` where nothing is on its way, or there is no link.
     pub fn pop(&mut self, from: NodeId, to: NodeId) -> Option<M>
         ensures first { result ≡ slice_get (queue self.old from to) 0 }
         ensures rest { queue self.new from to ≡ drop 1 (queue self.old from to) }
@@ -126,6 +131,7 @@ impl<M: Drop> Links<M> {
         self.queues[place].pop_front()
     }
 
+    /// Where the queue of this ordered pair stands; `None` where the two are no neighbours.
     fn place(&self, from: NodeId, to: NodeId) -> Option<usize>
         ensures value { result ≡ place self.now.workers self.now.shards from to }
         ensures within { IfSome result (λ place. place < length self.now.queues) }

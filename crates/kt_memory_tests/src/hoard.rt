@@ -2,10 +2,11 @@
 
 use std::alloc::{AllocError, Global};
 
-/// How many blocks the hoard may have.
+/// How many blocks the hoard may have of each size, at most.
 pub(crate) const BLOCKS: usize = 200_000;
 
-/// Takes all the memory that is left, in blocks that nothing touches.
+/// Takes all the memory that is left, in blocks that nothing touches. Their sizes are halved from 2^45 bytes down, so
+/// that what no large block fits into is taken by smaller ones.
 pub(crate) fn hoard_all(alloc: Global, hoard: &mut Vec<Vec<u8>>) -> Result<(), AllocError> {
     let mut size = 1usize << 45;
     for _ in 0..42usize {

@@ -2,6 +2,8 @@
 
 use crate::hoard::{BLOCKS, hoard_all};
 use kt_scene::{WorkKind, read_scene};
+use kt_script::{Actual, Slot};
+use kt_tuple::MAX_PLACES;
 use std::alloc::Global;
 use std::process::Abort;
 use std::test::Fail;
@@ -17,15 +19,22 @@ fn fault_of(alloc: Global, text: &[u8]) -> (usize, u8) {
     }
 }
 
-/// Texts, and the line and the number of their fault where no memory is left. The first command and the first
-/// script that ends are the first that have to be kept.
-const WITHOUT_MEMORY: [Text; 19] = [
+/// Texts, and the line and the number of their fault where no memory is left. Room for the places of a command is the
+/// first that has to be made, behind the line of the worker.
+const WITHOUT_MEMORY: [Text; 8] = [
     (b"", 1, 7),
     (b"linda-kt 2\n", 1, 1),
     (b"linda-kt 1\nshards x\n", 2, 1),
     (b"linda-kt 1\nshards 9\n", 2, 5),
     (b"linda-kt 1\nshards 1\n", 3, 7),
     (b"linda-kt 1\nshards 1\nsteps\n", 3, 2),
+    (b"linda-kt 1\nshards 1\nworker", 3, 7),
+    (b"linda-kt 1\nshards 1\nworker\nout (01)\n", 3, 8),
+];
+
+/// The same where memory is left for the places of one command alone. The first command and the first script that ends
+/// are the first that have to be kept.
+const WITH_ROOM_FOR_ONE: [Text; 13] = [
     (b"linda-kt 1\nshards 1\nworker\nend\n", 4, 2),
     (b"linda-kt 1\nshards 1\nworker\nout (01)\nout (1)\n", 4, 3),
     (b"linda-kt 1\nshards 1\nworker\nin (?int x, x)\n", 4, 4),
@@ -45,20 +54,28 @@ const WITHOUT_MEMORY: [Text; 19] = [
     (b"linda-kt 1\nshards 1\nworker\nsteps\nend\n#", 4, 8),
 ];
 
+fn have_faults(rt: &impl Abort, alloc: Global, texts: &[Text]) {
+    for (text, line, number) in texts {
+        assert_eq!(rt; fault_of(alloc, text), (*line, *number), "{text:?}");
+    }
+}
+
 /// A line's other fault comes before want of memory.
 #[test]
 fn no_memory(rt: HostRuntime) -> Result<(), Fail> {
     let alloc = rt.alloc();
+    let slots = Vec::<Slot>::with_capacity(alloc, MAX_PLACES)?;
+    let actuals = Vec::<Actual>::with_capacity(alloc, MAX_PLACES)?;
     let mut hoard = Vec::with_capacity(alloc, BLOCKS)?;
     hoard_all(alloc, &mut hoard)?;
-    for (text, line, number) in &WITHOUT_MEMORY {
-        assert_eq!(rt; fault_of(alloc, text), (*line, *number), "{text:?}");
-    }
+    have_faults(&rt, alloc, &WITHOUT_MEMORY);
+    drop((slots, actuals));
+    have_faults(&rt, alloc, &WITH_ROOM_FOR_ONE);
     Ok(())
 }
 
 /// Reads the text with a little more memory each time, until it answers as with much memory: this line and
-/// number. Want of memory is answered on the 4th line or a later one, not on the 5th, which is ignored, and
+/// number. Want of memory is answered on the 3rd line or a later one, not on the 5th, which is ignored, and
 /// before the fault's. Answers on how many different lines.
 fn refused_lines(
     rt: &impl Abort,
@@ -79,7 +96,7 @@ fn refused_lines(
             assert_eq!(rt; (line, number), expected);
             return Ok(lines);
         }
-        let is_kept = 4 <= line && line != 5;
+        let is_kept = 3 <= line && line != 5;
         let is_before = line < expected.0 || expected.1 == 0;
         assert!(rt; is_kept && is_before, "refused on line {line}");
         if line != last {

@@ -1,7 +1,6 @@
 //! What a world makes of want of memory.
 
 use crate::hoard::{BLOCKS, hoard_all};
-use arrayvec::ArrayVec;
 use kt_core::{OpenError, OpenRefused, Scene, Step, StepError, World};
 use kt_script::{Actual, Actuals, Command, Operation, Pattern, Script, Slot};
 use kt_store::{MemStore, StoreError};
@@ -16,13 +15,13 @@ const W1: NodeId = NodeId::Worker(1);
 
 const S1: NodeId = NodeId::Shard(1);
 
-/// `out (7)` and `in (?int)`.
+/// A script of two commands, `out (7)` and `in (?int)`.
 fn script(alloc: Global) -> Result<Script, Fail> {
-    let (mut actuals, mut slots) = (ArrayVec::new(), ArrayVec::new());
+    let (mut actuals, mut slots) = (Vec::new(alloc), Vec::new(alloc));
     let seven = Actual::Literal(Value::Int(7));
-    actuals.try_push(seven).map_err(|_| "room")?;
+    actuals.push(seven)?;
     let any_int = Slot::Formal(Kind::Int, None);
-    slots.try_push(any_int).map_err(|_| "room")?;
+    slots.push(any_int)?;
     let give = Operation::Out(Actuals::new(actuals).ok_or("a tuple")?);
     let take = Operation::In(Pattern::new(slots).ok_or("a template")?);
     let mut script = Script::new(alloc);
@@ -43,7 +42,8 @@ fn counts(world: &Game, node: NodeId) -> (usize, u64) {
     (world.history().notes().len(), world.steps_of(node))
 }
 
-/// All memory but what small blocks give back, one after the other.
+/// All memory is taken, `hoard`, but for small blocks that are given back one after the other, `spare`: so each call is
+/// tried with a little more than the one before.
 #[derive(Drop)]
 struct Little {
     hoard: Vec<Vec<u8>>,
@@ -104,8 +104,8 @@ fn is_of_memory(error: StepError) -> bool {
     error == StepError::OutOfMemory || error == StepError::Store(StoreError::Memory)
 }
 
-/// Makes the step with a little more memory each time. Until it is made nothing changes.
-/// Whether it was refused before it was made.
+/// Makes the step with a little more memory each time. Until it is made neither the notes nor the owner's count of
+/// steps change. Answers whether it was refused before it was made.
 fn step_with_little(
     rt: &impl Abort,
     alloc: Global,

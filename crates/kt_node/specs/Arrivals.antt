@@ -57,7 +57,7 @@ check_when_open n from ask permanent tentative =
     if up_to ask.label (sent_in permanent (node_number from)) then reactions.Says true
     else check_in n from ask tentative n.phase
 
--- no where the check is decided
+-- no where the check is not open on the board
 abbrev pub check_reaction : Live → NodeId → Ask → Option Verdict → Option Marks → Option Marks → Reaction
 check_reaction n from ask verdict permanent tentative =
     if is_undecided verdict then check_when_open n from ask permanent tentative else reactions.Says false
@@ -102,7 +102,7 @@ abbrev pub rollback_when_open : Live → NodeId → Ask → Reaction
 rollback_when_open n from ask =
     if up_to (label_at n.received (node_number from)) ask.label then reactions.Says true else rollback_in ask n.phase
 
--- no where the rollback is decided
+-- no where the rollback is not open on the board
 abbrev pub rollback_reaction : Live → NodeId → Ask → Option Verdict → Reaction
 rollback_reaction n from ask verdict =
     if is_undecided verdict then rollback_when_open n from ask else reactions.Says false

@@ -18,5 +18,7 @@ pub mod Arrivals
 pub mod Deciding
 pub mod Failing
 pub mod Steps
+pub mod AtOnce
+pub mod ShortPlan
 pub mod Posts
 pub mod inner

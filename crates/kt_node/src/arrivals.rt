@@ -37,7 +37,8 @@ fn answer_plan(alloc: Global, from: NodeId, ask: Ask, yes: bool) -> Result<Plan,
     Plan::of(alloc, Turn::none(), send, None)
 }
 
-/// A vote at once; what is kept from the asker above the label is dropped.
+/// A vote at once; what is kept from the asker above the label is dropped. A Yes undoes the act that sent such a
+/// message, and who votes yes says that nothing of it is left.
 fn sieved_answer_plan(alloc: Global, from: NodeId, ask: Ask, yes: bool) -> Result<Plan, AllocError>
     ensures { IfOk result (λ p. p ≡ sieved_answer_plan from ask yes) }
 {

@@ -54,7 +54,7 @@ pub(crate) enum Sent<'a> {
 }
 
 impl Sent<'_> {
-    /// The last label sent to the node.
+    /// The last label sent to the node before the permanent checkpoint, `(0, 0)` where there is none.
     fn to(self, node: NodeId) -> Label
         ensures { result ≡ sent_view self.entry (node_number node) }
     {

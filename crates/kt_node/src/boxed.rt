@@ -5,7 +5,8 @@ ghost use Rattle.std.specs.Prelude.{◌≡◌, IfOk};
 use std::alloc::{AllocError, Global};
 use std::marker::Model;
 
-/// A `Box` that contracts see as its value. What is large goes into plans in one, since plans are handed on often.
+/// A `Box` that contracts see as its value. A plan goes through many hands before it is carried out, and each would
+/// move some hundred bytes; so what is large stands on the heap (docs/DECISIONS.md#steps).
 #[derive(Debug, Drop)]
 pub struct Boxed<T> {
     inner: Box<T>,
@@ -20,14 +21,14 @@ impl<T> Model for Boxed<T> {
 }
 
 impl<T> Boxed<T> {
-    /// The value.
+    /// Lends the value.
     pub fn get(&self) -> &T
         ensures { result.now ≡ self.now }
     {
         &self.inner
     }
 
-    /// Hands the value on.
+    /// Takes the value off the heap and hands it on.
     pub fn into_inner(self) -> T
         ensures { result ≡ self }
     {
@@ -37,7 +38,7 @@ impl<T> Boxed<T> {
 }
 
 impl<T: Drop> Boxed<T> {
-    /// Puts the value on the heap.
+    /// Puts the value on the heap; refused only for want of memory, and the value is dropped then.
     pub fn new(alloc: Global, value: T) -> Result<Boxed<T>, AllocError>
         ensures { IfOk result (λ b. b ≡ value) }
     {

@@ -15,7 +15,7 @@ use std::marker::Model;
 pub enum BodyChange {
     /// It stays as it is.
     Stay,
-    /// The worker becomes this one.
+    /// The worker becomes this one: it has asked for an operation, or has accepted an answer.
     Work(Worker),
     /// The worker of this number waits with this.
     Wait { worker: u8, request: Request },
@@ -30,7 +30,7 @@ pub enum KeptChange {
     Stay,
     /// One more stands behind them.
     Append { from: NodeId, post: Post },
-    /// The first is taken off.
+    /// The first is taken off, since the node hears it.
     TakeFirst,
     /// Those from this node above the label are dropped.
     Sieve { from: NodeId, label: Label },
@@ -39,13 +39,13 @@ pub enum KeptChange {
 /// What becomes of a node that stays alive. The parts are independent of each other.
 #[derive(Debug, Drop)]
 pub struct Turn {
-    /// What becomes of its worker or shard.
+    /// What becomes of its worker or shard; a change for the other kind changes nothing.
     pub body: BodyChange,
     /// What becomes of the messages that it keeps.
     pub kept: KeptChange,
-    /// Of whom an underlying message is heard, and its label.
+    /// Of whom an underlying message is heard, and its label; `None` where none is heard.
     pub heard: Option<(NodeId, Label)>,
-    /// To whom the next underlying message is sent.
+    /// To whom the next underlying message is sent; `None` where none is sent.
     pub said: Option<NodeId>,
     /// The checkpoint is permanent: from now on nothing was sent since.
     pub promoted: bool,
@@ -70,16 +70,17 @@ impl Model for Loaded {
     ghost invariant = { λ l. HasTables l.live };
 }
 
-/// What becomes of a node.
+/// What becomes of a node. It is a change and no whole new node: a node holds its bag, and a step may not cost what the
+/// bag holds (docs/DECISIONS.md#steps).
 #[derive(Debug, Drop)]
 pub enum Change {
     /// It stays as it is: a node that is down, too.
     Stay,
     /// It goes on, with these parts changed.
     Turn(Boxed<Turn>),
-    /// It fails.
+    /// It fails: all that it has but its name is lost.
     Fall,
-    /// It becomes this one: its permanent checkpoint is loaded.
+    /// It becomes this one, as its permanent checkpoint has it.
     Load(Boxed<Loaded>),
 }
 

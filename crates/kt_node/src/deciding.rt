@@ -89,7 +89,7 @@ fn declined_plan(
     Plan::of(alloc, Turn::to(phase), send, None)
 }
 
-/// The verdict that there is.
+/// The verdict as a yes or a no; `None` while the instance is open, and where the board has no row of it.
 fn settled(verdict: Option<Verdict>) -> Option<bool>
     ensures { result ≡ settled verdict }
 {
@@ -202,6 +202,8 @@ impl View<'_> {
         let node = self.node;
         let Some(live) = &node.live else {
             return match undecided {
+                // The ballot went with the failure, so it knows nobody to tell: who votes in it can learn No from
+                // the board.
                 Some(instance) => Ok(no_plan(Change::Stay, instance, Outbox::empty(alloc))),
                 None => Err(Refusal::NothingThere),
             };

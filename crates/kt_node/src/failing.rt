@@ -32,7 +32,8 @@ use kt_vote::Ballot;
 use std::alloc::{AllocError, Global};
 
 /// How many acts a node that fails remembers: those of the tentative checkpoint if there is one whose instance did
-/// not get No, else those of the permanent one.
+/// not get No, else those of the permanent one. Without a row on the board it is undecided: only a No takes it back
+/// (docs/DECISIONS.md#the-world-with-failures).
 fn line_left(verdict: Option<Verdict>, permanent: Option<&Marks>, tentative: Option<&Marks>) -> u64
     ensures { result ≡ line_left verdict (option_copied permanent.entry) (option_copied tentative.entry) }
 {
@@ -55,6 +56,8 @@ fn may_restart(
 {
     let Some(live) = &node.live else {
         if is_tentative || undecided.is_some() {
+            // Its asks to roll back have the labels of the permanent checkpoint, and a Yes would make the tentative one
+            // permanent after them; so it learns first what became of that.
             return Err(Refusal::Unresolved);
         }
         return Ok(());
@@ -115,8 +118,8 @@ fn restarting_plan(
 }
 
 impl View<'_> {
-    /// The node fails. `verdict` is what the board has of the instance of its tentative checkpoint; `permanent` and
-    /// `tentative` are the marks of its checkpoints, `Damaged` where these do not fit it.
+    /// The node fails. `verdict` is what the board has of the instance of its tentative checkpoint. `permanent` and
+    /// `tentative` are the marks of its checkpoints: `Damaged` where these do not fit it.
     pub fn fail(
         self,
         alloc: Global,
@@ -143,11 +146,13 @@ impl View<'_> {
         })
     }
 
-    /// The node goes on from its permanent checkpoint, in the next incarnation, and asks all neighbours to roll back:
-    /// where it is down, has nothing tentative and began no instance that is open, or where it began a rollback that
-    /// got No. `stored` is what the store has of it, `is_tentative` whether it has a tentative checkpoint,
-    /// `undecided` the open instance that it began, `verdict` what the board has of its ballot's instance; the
-    /// rollback has the number `next`. `Damaged` where the checkpoint does not fit the node.
+    /// The node goes on from its permanent checkpoint, in the next incarnation, and asks all neighbours to roll back.
+    /// It may where it is down, has nothing tentative and began no instance that is open. It may too where it began a
+    /// rollback that got No.
+    ///
+    /// `stored` is what the store has of it, and `is_tentative` whether it has a tentative checkpoint. `undecided` is
+    /// the open instance that it began, `verdict` what the board has of its ballot's instance. The rollback has the
+    /// number `next`. `Damaged` where the checkpoint does not fit the node.
     pub fn restart(
         self,
         alloc: Global,
@@ -168,6 +173,7 @@ impl View<'_> {
         requires { stored.incarnation + 1 < 2 ^ 64 }
         ensures { Gives result (restart_plan (view_of self.entry) stored next) }
     {
+        // Labels have to rise along a line, and the old incarnation may have used those that come next.
         let incarnation = stored.incarnation + 1;
         let loaded = self.load(alloc, stored)?;
         Ok(restarting_plan(alloc, self.role, loaded, next, incarnation)?)

@@ -55,7 +55,7 @@ impl View<'_> {
     }
 
     /// The request that the worker waits with, and the note that the shard heard it.
-    fn waiting(
+    pub(crate) fn waiting(
         self,
         alloc: Global,
         by: u64,
@@ -152,7 +152,7 @@ impl View<'_> {
     }
 
     /// What the reply makes of the worker, where it accepts it.
-    fn heard_by(
+    pub(crate) fn heard_by(
         self,
         alloc: Global,
         worker: &Worker,
@@ -163,17 +163,11 @@ impl View<'_> {
             then_some (awaits worker.now request.now.number request.now.op)
             (heard self.entry.role.script.now worker.now answer.now)) }
     {
-        let mut hearer = worker.copy(alloc)?;
-        let script = self.role.script;
-        if hearer.hear(alloc, script, request.number, &request.op, answer)? {
-            Ok(Some(hearer))
-        } else {
-            Ok(None)
-        }
+        worker.hearer(alloc, self.role.script, request.number, &request.op, answer)
     }
 
     /// The note that the node accepts the answer to its request.
-    fn note_accepted(
+    pub(crate) fn note_accepted(
         self,
         alloc: Global,
         by: u64,

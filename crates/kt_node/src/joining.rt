@@ -31,7 +31,7 @@ use kt_tuple::NodeId;
 use kt_vote::{Asker, Ballot};
 use std::alloc::{AllocError, Global};
 
-/// Who asks.
+/// The asker of this ask: the node that sent it, and the incarnation in which it asked.
 pub(crate) fn asker_of(from: NodeId, ask: Ask) -> Asker
     ensures { result ≡ asker_of from ask }
 {
@@ -194,7 +194,8 @@ impl View<'_> {
         held_plan(alloc, ballot, send, write)
     }
 
-    /// The node takes part in the rollback of the ask.
+    /// The node takes part in the rollback of the ask. It asks all neighbours, not only a cohort. A link is first in,
+    /// first out, and who rolls sends no underlying message: so once its ask has arrived, none is left on that link.
     pub(crate) fn join_rollback_plan(
         self,
         alloc: Global,

@@ -50,7 +50,7 @@ pub(crate) fn label_at(table: &[Label], node: NodeId) -> Label
     }
 }
 
-/// Whether the label is at least the first one of the node, which there is.
+/// Whether the table has a first label of the node, and the label is that or above it.
 pub(crate) fn reaches(table: &[Option<Label>], node: NodeId, label: Label) -> bool
     ensures { result ≡ reaches (first_at table.now (node_number node)) label }
 {

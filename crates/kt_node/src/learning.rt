@@ -20,7 +20,7 @@ use kt_history::Note;
 use kt_tuple::NodeId;
 use std::alloc::{AllocError, Global};
 
-/// The verdict goes to each of these.
+/// The verdict of the instance for each of these, in their order; refused only for want of memory.
 pub(crate) fn verdict_to(
     alloc: Global,
     instance: u64,

@@ -11,20 +11,20 @@ use std::collections::VecDeque;
 /// What a node works with.
 #[derive(Debug, Drop)]
 pub enum Body {
-    /// What a worker is about.
+    /// A worker: its place in the script, its variables, and its request if one is unanswered.
     Worker(Worker),
-    /// What a shard holds.
+    /// A shard: its tuples, and a desk for each worker.
     Shard(Shard),
 }
 
 /// What a node that is not down does.
 #[derive(Debug, Drop)]
 pub enum Phase {
-    /// It works.
+    /// It works, and votes in nothing.
     Up,
-    /// It votes in a check.
+    /// It takes part in a check with this ballot, as its initiator or as a participant.
     Held(Ballot),
-    /// It votes in a rollback.
+    /// It takes part in a rollback with this ballot, as its initiator or as a participant.
     Rolling(Ballot),
 }
 
@@ -32,7 +32,7 @@ impl Phase {
     ghost use Rattle.std.specs.Prelude.{◌≡◌};
     ghost use Rattle.kt_node.specs.inner.Between.{in_phase};
 
-    /// The same phase with another ballot.
+    /// The phase with this ballot in place of its own; `Up` has none and stays.
     pub(crate) fn with(&self, ballot: Ballot) -> Phase
         ensures { result ≡ in_phase self.now ballot }
     {
@@ -50,7 +50,7 @@ impl Phase {
 pub(crate) struct Live {
     pub(crate) phase: Phase,
     pub(crate) body: Body,
-    /// The incarnation that the store holds too.
+    /// Its incarnation, from 1 on: the store holds the same number.
     pub(crate) incarnation: u64,
     /// How many underlying messages it sent in this incarnation, to all neighbours together.
     pub(crate) count: u64,
@@ -58,7 +58,7 @@ pub(crate) struct Live {
     pub(crate) sent: Vec<Label>,
     /// The last label received from each neighbour, `(0, 0)` where there is none.
     pub(crate) received: Vec<Label>,
-    /// The first label sent to each neighbour since the permanent checkpoint.
+    /// The first label sent to each neighbour since the permanent checkpoint; `None` where nothing was.
     pub(crate) first: Vec<Option<Label>>,
     /// The underlying messages that came while it was held, and those behind them, with their senders.
     pub(crate) kept: VecDeque<(NodeId, Post)>,

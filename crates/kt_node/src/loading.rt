@@ -7,7 +7,7 @@ ghost use Rattle.kt_node.specs.Loading.{load, loaded_by, loaded_from};
 ghost use Rattle.kt_node.specs.Node.{IsShard, fresh_live, opening_body, opening_node};
 ghost use Rattle.kt_node.specs.Plan.{Gives};
 ghost use Rattle.kt_node.specs.State.{are_of_scene, is_of_scene, body_at, body_from, desk_with, entry_of};
-ghost use Rattle.kt_node.specs.State.{if_fits, shard_fits, shard_from, worker_from};
+ghost use Rattle.kt_node.specs.State.{if_fits, shard_fits, shard_from, worker_fits, worker_from};
 ghost use Rattle.kt_node.specs.View.{view_of};
 ghost use Rattle.kt_node.specs.Views.{role_view};
 ghost use Rattle.kt_node.specs.inner.Codes.{HasTables, body_view, live_view};
@@ -31,11 +31,30 @@ use std::alloc::{AllocError, Global};
 use std::collections::VecDeque;
 use std::marker::Model;
 
-/// The worker of the state, where it is one of the script.
-fn worker_from(role: Role<'_>, state: WorkerState) -> Result<Body, Refusal>
-    ensures { GivesBody result (worker_from (role_view role.entry) state) }
+/// Whether the script has a worker that stands so: no more is known of what it asked for.
+fn worker_fits(role: Role<'_>, state: &WorkerState) -> bool
+    ensures { result ≡ worker_fits (role_view role.entry) state.now }
 {
-    let (pc, number, was_none, asked, variables) = state.into_parts();
+    let pc = usize::from(state.pc());
+    if role.script.commands().len() < pc {
+        false
+    } else if (pc as u64) < state.number() {
+        false
+    } else {
+        role.script.has_values(state.variables())
+    }
+}
+
+/// The worker of the state, where it is one of the script. Bytes are judged by their format alone, which allows more
+/// than a node can hold; so this is asked here, where the node is made (docs/DECISIONS.md#checkpoints).
+fn worker_from(alloc: Global, role: Role<'_>, state: &WorkerState) -> Result<Body, Refusal>
+    ensures { GivesBody result (worker_from (role_view role.entry) state.now) }
+{
+    // It is judged before it is copied, since want of memory is told only of a state that fits.
+    if !worker_fits(role, state) {
+        return Err(Refusal::Damaged);
+    }
+    let (pc, number, was_none, asked, variables) = state.copy(alloc)?.into_parts();
     match Worker::from_parts(
         role.script,
         number,
@@ -63,13 +82,14 @@ fn are_of_scene<T>(workers: u8, entries: &[(u8, T)]) -> bool
     entries.iter().all(|entry| is_of_scene(workers, entry.0))
 }
 
-fn bag_of(alloc: Global, tuples: Vec<Tuple>) -> Result<Bag, AllocError>
-    ensures { IfOk result (λ b. b.tuples ≡ tuples.items) }
+fn bag_of(alloc: Global, tuples: &[Tuple]) -> Result<Bag, AllocError>
+    ensures { IfOk result (λ b. b.tuples ≡ tuples.now) }
 {
     let mut bag = Bag::new(alloc);
     for tuple in tuples {
+        let copy = tuple.copy(alloc)?;
         bag.reserve()?;
-        bag.put_reserved(tuple);
+        bag.put_reserved(copy);
     }
     Ok(bag)
 }
@@ -126,25 +146,26 @@ fn desks_of(
 
 /// The shard of the state, where it is one of the scene and has no more tuples than there are acts.
 #[tactic(auto, using(crate::proofs::Numbers::whole_table))]
-fn shard_from(alloc: Global, role: Role<'_>, acts: u64, state: ShardState) -> Result<Body, Refusal>
-    ensures { GivesBody result (if_fits (shard_fits (role_view role.entry) acts state) (IsShard (shard_from state))) }
+fn shard_from(alloc: Global, role: Role<'_>, acts: u64, state: &ShardState) -> Result<Body, Refusal>
+    ensures { GivesBody result
+        (if_fits (shard_fits (role_view role.entry) acts state.now) (IsShard (shard_from state.now))) }
 {
-    let (tuples, waiting, kept) = state.into_parts();
-    let are_there = are_of_scene(role.peers, &waiting) && are_of_scene(role.peers, &kept);
+    let (tuples, waiting, kept) = (state.bag(), state.waiting(), state.kept());
+    let are_there = are_of_scene(role.peers, waiting) && are_of_scene(role.peers, kept);
     if !(are_there && tuples.len() as u64 <= acts) {
         return Err(Refusal::Damaged);
     }
     let bag = bag_of(alloc, tuples)?;
-    let desks = desks_of(alloc, &waiting, &kept)?;
+    let desks = desks_of(alloc, waiting, kept)?;
     Ok(Body::Shard(Shard::from_parts(bag, desks)))
 }
 
 /// What a node of this kind works with behind so many acts.
-fn body_from(alloc: Global, role: Role<'_>, acts: u64, state: State) -> Result<Body, Refusal>
-    ensures { GivesBody result (body_from (role_view role.entry) acts role.entry.id state) }
+fn body_from(alloc: Global, role: Role<'_>, acts: u64, state: &State) -> Result<Body, Refusal>
+    ensures { GivesBody result (body_from (role_view role.entry) acts role.entry.id state.now) }
 {
     match (role.id, state) {
-        (NodeId::Worker(_), State::Worker(state)) => worker_from(role, state),
+        (NodeId::Worker(_), State::Worker(state)) => worker_from(alloc, role, state),
         (NodeId::Shard(_), State::Shard(state)) => shard_from(alloc, role, acts, state),
         _ => Err(Refusal::Damaged),
     }
@@ -160,7 +181,7 @@ fn opening_body(alloc: Global, role: Role<'_>) -> Result<Body, AllocError>
     }
 }
 
-/// The table of a checkpoint's list.
+/// The table of a checkpoint's list, which begins with neighbour 1: entry 0 and those behind the list are `(0, 0)`.
 #[tactic(auto, using(crate::proofs::Numbers::mapped_none, crate::proofs::Numbers::mapped_from_zero))]
 fn tabled(alloc: Global, labels: &[Label]) -> Result<Vec<Label>, AllocError>
     ensures { IfOk result (λ v. v.items ≡ tabled labels.now) }
@@ -292,7 +313,7 @@ impl View<'_> {
         let incarnation = stored.incarnation + 1;
         match stored.permanent {
             None => Ok(load_opening(alloc, self.role, incarnation)?),
-            Some(checkpoint) => load_checkpoint(alloc, self.role, incarnation, checkpoint),
+            Some(checkpoint) => load_checkpoint(alloc, self.role, incarnation, &checkpoint),
         }
     }
 }
@@ -309,14 +330,14 @@ fn load_checkpoint(
     alloc: Global,
     role: Role<'_>,
     incarnation: u64,
-    checkpoint: Ckpt,
+    checkpoint: &Ckpt,
 ) -> Result<Loaded, Refusal>
     ensures { Gives result
-        (loaded_by (Some checkpoint) incarnation (body_at (role_view role.entry) (Some checkpoint))) }
+        (loaded_by (Some checkpoint.now) incarnation (body_at (role_view role.entry) (Some checkpoint.now))) }
 {
-    let (_, acts, sent, received, state) = checkpoint.into_parts();
-    let body = body_from(alloc, role, acts, state)?;
-    Ok(loaded_with(alloc, incarnation, body, &sent, &received)?)
+    let body = body_from(alloc, role, checkpoint.line_len(), checkpoint.state())?;
+    let (sent, received) = (checkpoint.sent(), checkpoint.received());
+    Ok(loaded_with(alloc, incarnation, body, sent, received)?)
 }
 
 /// The node of a checkpoint with these lists.

@@ -11,14 +11,14 @@ use std::alloc::{AllocError, Global};
 /// What a worker and a shard say to each other.
 #[derive(Debug, Drop)]
 pub enum Talk {
-    /// A worker asks.
+    /// A worker asks a shard for an operation: the request has the worker's number for it, from 1 on.
     Request(Request),
-    /// A shard answers.
+    /// A shard answers. The request stands beside the answer: by it the worker knows whether it awaits this one.
     Reply { request: Request, answer: Answer },
 }
 
 impl Talk {
-    /// The same once more.
+    /// An equal value with memory of its own; refused only for want of memory.
     pub fn copy(&self, alloc: Global) -> Result<Talk, AllocError>
         ensures { IfOk result (λ t. t ≡ self.now) }
     {
@@ -32,19 +32,19 @@ impl Talk {
     }
 }
 
-/// An underlying message.
+/// An underlying message: a request or a reply, with its label and its cause.
 #[derive(Debug, Drop)]
 pub struct Post {
-    /// What is said.
+    /// The request or the reply that it carries.
     pub talk: Talk,
     /// When it was sent: rises with each underlying message of its sender, over all receivers.
     pub label: Label,
-    /// The number of the note whose act sent it.
+    /// The number of the note whose act sent it, counted from 1: the cause of the act that hears it.
     pub by: u64,
 }
 
 impl Post {
-    /// The same once more.
+    /// An equal message, label and cause too, with memory of its own; refused only for want of memory.
     pub fn copy(&self, alloc: Global) -> Result<Post, AllocError>
         ensures { IfOk result (λ p. p ≡ self.now) }
     {
@@ -60,7 +60,7 @@ impl Post {
 /// Distributed Systems", in their algorithms for checkpoints and for rollbacks.
 #[derive(Clone, Copy, Debug, PartialEq, Eq)]
 pub struct Ask {
-    /// The instance for which it asks.
+    /// The check or rollback for which it asks: instances are numbered from 1, both kinds together.
     pub instance: u64,
     /// In a check the last label that the asker received from the asked node; in a rollback the last one
     /// that it sent to it before its permanent checkpoint.
@@ -69,17 +69,17 @@ pub struct Ask {
     pub incarnation: u64,
 }
 
-/// What stands on a link.
+/// What stands on a link: an underlying message, or one of the four kinds of control messages.
 #[derive(Debug, Drop)]
 pub enum Message {
     /// An underlying message; all others are control messages.
     Post(Post),
-    /// Take a tentative checkpoint.
+    /// Asks the receiver to take a tentative checkpoint.
     CheckAsk(Ask),
-    /// Roll back.
+    /// Asks the receiver to roll back.
     RollAsk(Ask),
-    /// Whether the sender, and all that it asked in its turn, can.
+    /// The answer to an ask: whether the sender, and all that it asked in its turn, can.
     Vote(Vote),
-    /// What the initiator decided.
+    /// What the board has for the instance: `yes` or no. Whoever learns it by a message passes it on.
     Verdict { instance: u64, yes: bool },
 }

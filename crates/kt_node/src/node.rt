@@ -14,7 +14,7 @@ use std::marker::Model;
 /// What state a node is in.
 #[derive(Clone, Copy, Debug, PartialEq, Eq)]
 pub enum Mode {
-    /// It works.
+    /// It works, and takes part in no check and no rollback.
     Up,
     /// It has taken a tentative checkpoint and sends no underlying message until it learns the verdict.
     Held,
@@ -46,7 +46,7 @@ impl Node {
     ghost use Rattle.kt_node.specs.Kept.{kept_of};
     ghost use Rattle.kt_node.specs.Node.{mode_of, worker_of, shard_of, poll_of};
 
-    /// Its mode.
+    /// Which of the four modes it is in. One that is down has nothing but its name.
     pub fn mode(&self) -> Mode
         ensures { result ≡ mode_of self.now.node }
     {
@@ -60,7 +60,7 @@ impl Node {
         }
     }
 
-    /// The worker that it is, unless it is down.
+    /// The worker that it is; `None` for a shard, and while it is down.
     pub fn worker(&self) -> Option<&Worker>
         ensures { option_copied result ≡ worker_of self.now.node }
     {
@@ -70,7 +70,7 @@ impl Node {
         }
     }
 
-    /// The shard that it is, unless it is down.
+    /// The shard that it is; `None` for a worker, and while it is down.
     pub fn shard(&self) -> Option<&Shard>
         ensures { option_map (λ y. y.now.state) result ≡ shard_of self.now.node }
     {
@@ -80,7 +80,7 @@ impl Node {
         }
     }
 
-    /// The ballot, while it votes.
+    /// Its ballot while it is held or rolls back, as the initiator or as a participant; else `None`.
     pub fn ballot(&self) -> Option<&Ballot>
         ensures { option_copied result ≡ poll_of self.now.node }
     {
@@ -91,14 +91,14 @@ impl Node {
         }
     }
 
-    /// The message with so many before it of those that it keeps back, and who sent it.
+    /// Of the messages that it keeps back the one at this place, counted from 0, and who sent it; `None` past the last.
     pub fn kept(&self, index: usize) -> Option<&(NodeId, Post)>
         ensures { option_copied result ≡ slice_get (kept_of self.now.node) index }
     {
         self.live.as_ref()?.kept.get(index)
     }
 
-    /// How many messages it keeps back.
+    /// How many messages it keeps back: 0 while it is down.
     pub fn kept_len(&self) -> usize
         ensures { result ≡ length (kept_of self.now.node) }
     {

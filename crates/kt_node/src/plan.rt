@@ -19,15 +19,15 @@ pub enum Write {
     BeginCheck(Ckpt),
     /// The tentative checkpoint of a participant.
     PutTentative { instance: u64, checkpoint: Ckpt },
-    /// The tentative checkpoint becomes permanent.
+    /// The tentative checkpoint becomes permanent: its instance got Yes.
     Promote,
-    /// The tentative checkpoint is given up.
+    /// The tentative checkpoint is given up: its instance got No.
     Discard,
     /// The incarnation is raised, and the next instance begun as a rollback.
     BeginRestart,
-    /// The incarnation is raised.
+    /// The incarnation is raised by one: a participant learns the Yes of a rollback.
     Bump,
-    /// The verdict is written.
+    /// The verdict of the instance is written on the board.
     Decide { instance: u64, yes: bool },
 }
 
@@ -48,7 +48,7 @@ impl Model for Outbox {
 }
 
 impl Outbox {
-    /// No message.
+    /// The outbox of a plan that sends nothing. It takes no memory.
     pub(crate) fn empty(alloc: Global) -> Outbox
         ensures { result ≡ [] }
     {
@@ -57,7 +57,7 @@ impl Outbox {
         }
     }
 
-    /// One message.
+    /// The outbox of a plan that sends one message; refused only for want of memory.
     pub(crate) fn one(alloc: Global, to: NodeId, message: Message) -> Result<Outbox, AllocError>
         ensures { IfOk result (λ b. b ≡ (to, message) ∷ []) }
     {
@@ -66,21 +66,21 @@ impl Outbox {
         Ok(outbox)
     }
 
-    /// One message more, behind the others.
+    /// Puts one message more behind the others; refused only for want of memory.
     pub(crate) fn add(&mut self, to: NodeId, message: Message) -> Result<(), AllocError>
         ensures { OnOk result (self.new ≡ self.old ++ (to, message) ∷ []) }
     {
         Ok(self.messages.push((to, message))?)
     }
 
-    /// All messages with their receivers.
+    /// Receivers and messages, in the order in which they are sent.
     pub fn messages(&self) -> &[(NodeId, Message)]
         ensures { result.now ≡ self.now }
     {
         &self.messages
     }
 
-    /// Hands all messages on.
+    /// Hands receivers and messages on, in the order in which they are sent.
     pub fn into_messages(self) -> Vec<(NodeId, Message)>
         ensures { result.items ≡ self }
     {
@@ -92,9 +92,9 @@ impl Outbox {
 /// write of the store.
 #[derive(Debug, Drop)]
 pub struct Plan {
-    /// What becomes of the owner.
+    /// What becomes of the owner: `Stay` where nothing does.
     pub change: Change,
-    /// What it sends.
+    /// What it sends, with the receivers; empty where nothing is sent.
     pub send: Outbox,
     /// What is noted in the history, if anything is.
     pub note: Option<Note>,
@@ -133,7 +133,7 @@ impl Plan {
         })
     }
 
-    /// This becomes of the node, it sends these, and this is written.
+    /// The plan of this change, which sends these and has the store write; it makes no note.
     pub(crate) fn writing(change: Change, send: Outbox, write: Write) -> Plan
         ensures { result ≡ record { change = change; send = send; note = None; write = Some write } }
     {

@@ -33,7 +33,8 @@ fn keep_plan(alloc: Global, from: NodeId, post: &Post) -> Result<Plan, AllocErro
 
 impl View<'_> {
     /// A node that is up hears the message, or keeps it behind what is kept; a held node keeps it; one that
-    /// rolls back or is down drops it.
+    /// rolls back or is down drops it. What is kept came first, and the labels heard of a node have to rise; so nothing
+    /// is heard before it. A held node hears nothing, so that its line stays that of its tentative checkpoint.
     pub fn hear_app(self, alloc: Global, from: NodeId, post: &Post) -> Result<Plan, Refusal>
         requires { CanSpeak self.node.now.node }
         ensures { Gives result (hear_app (view_of self.entry) from post.now) }

@@ -1,6 +1,6 @@
-//! What a node answers to an ask: the tests on labels are those of Koo and Toueg, "Checkpointing and Rollback-Recovery
-//! for Distributed Systems", in their algorithms for checkpoints and for rollbacks; who takes part in another instance
-//! already answers by this project's own table.
+//! What a node answers to an ask. The tests on labels are those of Koo and Toueg, "Checkpointing and Rollback-Recovery
+//! for Distributed Systems", in their algorithms for checkpoints and for rollbacks. A node that takes part in another
+//! instance already answers by this project's own table.
 
 ghost use Rattle.std.specs.Prelude.{◌≡◌};
 ghost use Rattle.std.specs.Option.{option_copied};
@@ -17,12 +17,12 @@ use kt_store::Verdict;
 use kt_tuple::NodeId;
 use kt_vote::Ballot;
 
-/// What is answered.
+/// What a node answers to an ask.
 #[derive(Clone, Copy, Debug, PartialEq, Eq)]
 pub enum Reaction {
-    /// A vote at once.
+    /// A vote at once, yes or no: the node does not begin to take part.
     Says(bool),
-    /// The vote comes later: the node takes part.
+    /// The node takes part, and votes once its own ballot has come out.
     Joins,
 }
 

@@ -24,7 +24,7 @@ pub enum Refusal {
     /// A tentative checkpoint or an open instance of its own stands in the way.
     #[error("Unresolved")]
     Unresolved,
-    /// A checkpoint that the store gave does not fit the node.
+    /// A checkpoint that the store gave does not fit the node; no honest store gives such.
     #[error("Damaged")]
     Damaged,
     /// The step is allowed, and memory ran out.

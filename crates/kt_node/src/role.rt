@@ -7,7 +7,7 @@ use kt_tuple::NodeId;
 /// Who a node is, which the scene says.
 #[derive(Clone, Copy, Debug)]
 pub struct Role<'a> {
-    /// Its name.
+    /// Its name: worker or shard, and its number.
     pub id: NodeId,
     /// How many neighbours it has, from 1 to 8.
     pub peers: u8,
@@ -18,12 +18,12 @@ pub struct Role<'a> {
 /// What the owner of a step sees, but for the store and for what it hears.
 #[derive(Clone, Copy, Debug)]
 pub struct View<'a> {
-    /// Who it is.
+    /// Who the owner is, by the scene.
     pub role: Role<'a>,
-    /// The owner itself.
+    /// The owner as it is before the step, down or not.
     pub node: &'a Node,
-    /// The number of the next note.
+    /// The number that the next note will have, counted from 1.
     pub next: u64,
-    /// How many acts the node remembers.
+    /// How many acts the node remembers: the length of its line.
     pub line_len: u64,
 }

@@ -31,7 +31,7 @@ pub(crate) fn checkpoint_of(
     let sent = listed(alloc, role.peers, &live.sent)?;
     let received = listed(alloc, role.peers, &live.received)?;
     let state = body_state(alloc, &live.body)?;
-    Ok(Ckpt::new(role.id, line_len, sent, received, state))
+    Ckpt::new(alloc, role.id, line_len, sent, received, state)
 }
 
 /// The labels of so many neighbours.

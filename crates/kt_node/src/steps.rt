@@ -23,14 +23,14 @@ use kt_worker::Worker;
 use std::alloc::{AllocError, Global};
 
 /// Whether the worker waits for nothing and has an operation left.
-fn can_issue(worker: &Worker, script: &Script) -> bool
+pub(crate) fn can_issue(worker: &Worker, script: &Script) -> bool
     ensures { result ≡ is_some (next_request script.now worker.now) }
 {
     worker.asked().is_none() && worker.has_next(script)
 }
 
 /// What the worker asks for next, and the worker that has asked for it.
-fn issued(
+pub(crate) fn issued(
     alloc: Global,
     worker: &Worker,
     script: &Script,
@@ -38,11 +38,17 @@ fn issued(
     ensures { IfOk result (λ r. r ≡ option_map (λ q. (request_for q, issued script.now worker.now))
         (next_request script.now worker.now)) }
 {
-    let mut asker = worker.copy(alloc)?;
-    match asker.issue(alloc, script)? {
-        Some((number, op)) => Ok(Some((Request { number, op }, asker))),
-        None => Ok(None),
-    }
+    let Some(asker) = worker.asker(alloc, script)? else {
+        return Ok(None);
+    };
+    let request = match asker.again() {
+        Some((number, op)) => Request {
+            number,
+            op: op.copy(alloc)?,
+        },
+        None => return Ok(None),
+    };
+    Ok(Some((request, asker)))
 }
 
 /// Why a step is refused whose service the shard refuses. A choice takes no memory.
@@ -56,7 +62,7 @@ fn unserved_as(refusal: ServeError) -> Refusal
 }
 
 impl Live {
-    /// The message that was kept first.
+    /// The message that was kept first, and who sent it; `None` where nothing is kept.
     pub(crate) fn first_kept(&self) -> Option<&(NodeId, Post)>
         ensures { option_copied result ≡ first_kept (live_view self.now) }
     {
@@ -65,7 +71,7 @@ impl Live {
 }
 
 impl<'a> View<'a> {
-    /// The node, where it is up.
+    /// The parts of a node that is up; `None` where it is down, held or rolls back.
     pub(crate) fn up(self) -> Option<&'a Live>
         ensures { option_map (λ n. live_view n.now) result ≡ up_of self.entry.node.now.node }
     {

@@ -17,9 +17,9 @@ use kt_tuple::NodeId;
 /// What the store says to a node that is to go on from its permanent checkpoint.
 #[derive(Debug, Drop)]
 pub struct Stored {
-    /// The node's last incarnation.
+    /// The node's last incarnation, from 1 on; the one that begins now is one more.
     pub incarnation: u64,
-    /// Where there is none, the node goes on from its beginning.
+    /// Its permanent checkpoint; `None` where it has none, and goes on from its beginning.
     pub permanent: Option<Ckpt>,
 }
 
@@ -62,7 +62,7 @@ pub(crate) fn is_undecided(verdict: Option<Verdict>) -> bool
     }
 }
 
-/// How many acts the checkpoint holds.
+/// How many acts the checkpoint holds: 0 where there is none.
 pub(crate) fn acts_in(stored: Option<&Marks>) -> u64
     ensures { result ≡ acts_in (option_copied stored.entry) }
 {
@@ -72,7 +72,7 @@ pub(crate) fn acts_in(stored: Option<&Marks>) -> u64
     }
 }
 
-/// The last label that the checkpoint has sent to the node.
+/// The last label that the checkpoint has sent to the node, `(0, 0)` where there is none.
 pub(crate) fn sent_in(stored: Option<&Marks>, node: NodeId) -> Label
     ensures { result ≡ sent_in (option_copied stored.entry) (node_number node) }
 {
@@ -82,7 +82,7 @@ pub(crate) fn sent_in(stored: Option<&Marks>, node: NodeId) -> Label
     }
 }
 
-/// The last label that the checkpoint has received from the node.
+/// The last label that the checkpoint has received from the node, `(0, 0)` where there is none.
 pub(crate) fn received_in(stored: Option<&Marks>, node: NodeId) -> Label
     ensures { result ≡ received_in (option_copied stored.entry) (node_number node) }
 {
@@ -92,7 +92,7 @@ pub(crate) fn received_in(stored: Option<&Marks>, node: NodeId) -> Label
     }
 }
 
-/// Whether acts and labels of the checkpoint fit the node, which remembers so many acts.
+/// Whether acts and labels of the checkpoint fit the node, which remembers so many acts. No checkpoint always fits.
 pub(crate) fn fits(role: Role<'_>, line_len: u64, stored: Option<&Marks>) -> bool
     ensures { result ≡ fits (role_view role.entry) line_len (option_copied stored.entry) }
 {
@@ -109,7 +109,7 @@ pub(crate) fn fits(role: Role<'_>, line_len: u64, stored: Option<&Marks>) -> boo
     }
 }
 
-/// The same of a checkpoint with these parts.
+/// The test of both: the checkpoint is the node's own, has a label for each neighbour, and no more acts than the node.
 pub(crate) fn parts_fit(
     role: Role<'_>,
     line_len: u64,

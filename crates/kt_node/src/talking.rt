@@ -23,8 +23,8 @@ use kt_worker::Worker;
 use std::alloc::{AllocError, Global};
 
 impl Live {
-    /// The label of the next underlying message.
-    fn next_label(&self) -> Label
+    /// The label of the next underlying message, to whomever: its incarnation, and its count and one.
+    pub(crate) fn next_label(&self) -> Label
         requires { CanCount (live_view self.now) }
         ensures { result ≡ next_label (live_view self.now) }
     {
@@ -59,7 +59,7 @@ impl View<'_> {
     }
 
     /// The message in which the next note's act of the live node says this.
-    fn post(self, live: &Live, talk: Talk) -> Message
+    pub(crate) fn post(self, live: &Live, talk: Talk) -> Message
         requires { CanCount (live_view live.now) }
         ensures { result ≡ post_of (view_of self.entry) (live_view live.now) talk }
     {
@@ -71,10 +71,14 @@ impl View<'_> {
     }
 
     /// The shard that is the home of the operation's tuples.
-    fn home(self, op: &Op) -> NodeId
+    pub(crate) fn home(self, op: &Op) -> NodeId
         requires { 1 ≤ self.role.peers }
         ensures { result ≡ home self.entry.role.peers op.now }
     {
+        // One shard alone is the home of all.
+        if self.role.peers == 1 {
+            return NodeId::Shard(1);
+        }
         NodeId::Shard(op.signature().shard_of(self.role.peers))
     }
 

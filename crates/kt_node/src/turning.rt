@@ -25,7 +25,8 @@ use std::alloc::AllocError;
 use std::collections::VecDeque;
 
 impl Node {
-    /// Makes room for one tuple more and for one kept message more.
+    /// Makes room for one tuple more and for one kept message more; a step needs no more of either, since it puts one
+    /// tuple at most and keeps one message at most (docs/DECISIONS.md#bags-and-links).
     pub fn reserve(&mut self) -> Result<(), AllocError>
         ensures same { self.new.node ≡ self.old.node }
         ensures room { OnOk result (IsTrue self.new.has_room) }
@@ -117,7 +118,7 @@ impl Live {
     }
 
     /// Sends the next underlying message to the node.
-    fn say(&mut self, to: NodeId)
+    pub(crate) fn say(&mut self, to: NodeId)
         requires tables { HasTables self.old }
         requires can { CanSay (live_view self.old) to }
         ensures tables { HasTables self.new }
@@ -180,7 +181,7 @@ fn change_shard(shard: &mut Shard, change: BodyChange)
 }
 
 /// Writes the label of the node.
-fn write(table: &mut Vec<Label>, node: NodeId, label: Label)
+pub(crate) fn write(table: &mut Vec<Label>, node: NodeId, label: Label)
     requires { node_number node < length table.old.items }
     ensures written { table.new.items ≡ put no_label table.old.items (node_number node) label }
     ensures long { length table.new.items ≡ length table.old.items }

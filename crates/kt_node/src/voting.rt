@@ -9,7 +9,8 @@ use kt_tuple::NodeId;
 use kt_vote::{Asker, Ballot, Vote};
 use std::alloc::{AllocError, Global};
 
-/// The vote that answers an ask. It repeats the incarnation in which the asker asked.
+/// The vote that answers an ask. It repeats the asker's incarnation, not its own: the vote comes when the ask is long
+/// gone, and the asker may have begun another life since (docs/DECISIONS.md#ballots).
 pub(crate) fn vote_for(instance: u64, asker: Asker, yes: bool) -> (NodeId, Vote)
     ensures { result ≡ vote_for instance asker yes }
 {

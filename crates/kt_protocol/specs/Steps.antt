@@ -1,6 +1,6 @@
--- The steps of the machine: what a node may do, when, and what becomes of the state. The machine may do all
--- that the tables of steps and arrivals allow, and more: a vote or a verdict has no message of its own that must
--- be taken off a link; a message may be kept or dropped, a no said, an open instance given up at any time.
+-- The steps of the machine: what a node may do, when, and what becomes of the state. The machine may do all that the
+-- tables of steps and arrivals allow, and more. A vote or a verdict has no message of its own that must be taken off a
+-- link. A message may be kept or dropped, a no said, an open instance given up at any time.
 use Rattle.std.specs.Prelude.{◌≡◌, ◌⊎◌, ℕ, suc, eqb, Bool, true, false, not, ◌||◌, if◌then◌else◌, IsTrue, List, [], ◌∷◌}
 use Rattle.std.specs.Prelude.{◌++◌, Option, Some, None, ⊤}
 use Rattle.kt_protocol.specs.Labels.{Label, Under, UpTo, up_to, at}

@@ -51,7 +51,7 @@ pub fn the_row_of_a_check_ask_is_a_step()
         → Step peer s (hear_check_ask peer k o x a first s (s.node o).mode) }
 {}
 
-/// There is a run in which a rollback gets Yes and cuts a line.
+/// There is a run in which a rollback gets Yes and cuts a line: nobody shall think the steps empty.
 pub fn a_rollback_can_cut_a_line()
     ensures { (peer : ℕ → ℕ → Bool) × CutsALine peer }
 {}

@@ -45,7 +45,8 @@ pub fn checkpoints_and_rollbacks_are_forced()
         → IsForced s step new }
 {}
 
-/// All that is promised of a state holds of each.
+/// All that is promised of a state (`Headline`) holds of each: what the laws above say of states, with the stored
+/// states and the survivors' run, as one record.
 pub fn all_that_is_promised_holds()
     ensures headline { (s : State) → IsReached s → Headline s }
 {}

@@ -1,6 +1,13 @@
-//! The world refines the abstract machine of checkpoints and rollbacks: each state of the world stands for a state of
-//! the machine, and each step of the world is a short run of the machine. So what is proved of the machine holds of the
-//! world, in its own words.
+//! The world refines the abstract machine of checkpoints and rollbacks: each of its steps is a short run of the
+//! machine. So what is proved of the machine holds of the world, in its own words. Lemmas and laws, no code.
+//!
+//! - Contract: every state that steps lead to keeps the headline (the law `all_that_is_promised_holds`, clause
+//!   `headline`). The survivors are one run, and in a steady state nothing remembered is lost. The permanent
+//!   checkpoints are a consistent cut.
+//! - Stands on: kt_tuple, kt_script, kt_space, kt_link, kt_shard, kt_worker, kt_vote, kt_history, kt_ckpt, kt_store,
+//!   kt_protocol, kt_lines, kt_node, kt_world
+//! - Used by: kt_core
+//! - Begin in: `laws.rt`, then `proofs/Represents.antt`: how a state of the world stands for one of the machine.
 #![tactic(auto)]
 
 mod laws;

@@ -11,7 +11,7 @@ use std::fmt::{Display, Formatter};
 pub enum RunTextFault {
     /// Reading, the scenario or writing, as of a replay: `Scene`, `Report`, `Memory`, `Read` or `Write`.
     Text(ReplayFault),
-    /// The run itself.
+    /// The run itself: a world that was not opened, a refused step, or an end that was none.
     Run(RunFault),
 }
 

@@ -14,7 +14,7 @@ ghost use Rattle.kt_scene.specs.Scenario.{IsPlay, IsScenario, IsStep};
 ghost use Rattle.kt_stage.specs.Journal.{all_made};
 ghost use Rattle.kt_run.specs.Run.{IsRunOf};
 
-/// Steps that lead from the opening of a scene to some state can be said by lines: each names nodes by numbers from 1
+/// Steps that lead from the opening of a scene to some state can be said by lines. Each names nodes by numbers from 1
 /// to 99, and a match by a place below 100,000.
 pub fn what_was_made_can_be_said()
     ensures { (cast : Cast) (steps : List Step) (s : State) → IsCast cast → All IsScript cast.scripts
@@ -22,8 +22,8 @@ pub fn what_was_made_can_be_said()
 {}
 
 /// The steps of a journal that began with the opening of a scene are told by a scenario of steps, where its text is not
-/// too long, whatever report stands before it; and its replay over an honest store leads to the state that the journal
-/// has, and to no other. So both have one report.
+/// too long, whatever report stands before it. Its replay over an honest store leads to the state that the journal has,
+/// and to no other. So both have one report.
 pub fn what_was_made_is_replayed()
     ensures scenario { (cast : Cast) (steps : List Step) (s : State) (report : List ℕ) → IsPlay (play_of_steps cast [])
         → all_made (opening cast) steps ≡ Ok s → length (journal_text report cast steps) ≤ 1048576
@@ -38,8 +38,8 @@ pub fn what_was_made_is_replayed()
 {}
 
 /// What a run over an honest store tells as its journal, where that is not too long, is the text of a scenario of
-/// steps; and its replay over an honest store leads to the state that the run ended in, and to no other. So both have
-/// one report.
+/// steps. Its replay over an honest store leads to the state that the run ended in, and to no other. So both have one
+/// report.
 pub fn what_a_run_tells_is_replayed()
     ensures scenario { (text : List ℕ) (fresh : Bool) (steps : List Step) (s : State) (report : List ℕ)
         → IsRunOf text true fresh steps s → length (journal_text report s.cast steps) ≤ 1048576

@@ -1,4 +1,11 @@
-//! From the bytes of a scenario of fault lines to the bytes of the report of a run, or of its journal.
+//! From the bytes of a scenario of fault lines to the bytes of the report of its run by threads, or of its journal.
+//!
+//! - Contract: if the store that is given back is honest, some list of steps led from the opening of the scene to what
+//!   is told, and no node had a next step then (`run_text_over`, clause `written`).
+//! - Stands on: kt_tuple, kt_script, kt_space, kt_shard, kt_store, kt_lines, kt_node, kt_world, kt_core, kt_scene,
+//!   kt_stage
+//! - Used by: kt_command, linda_kt, kt_quick
+//! - Begin in: `running.rt`, the whole way, then `laws.rt`: the replay of a journal leads to the same state.
 #![tactic(auto)]
 
 mod fault;

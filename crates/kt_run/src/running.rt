@@ -24,7 +24,7 @@ use std::thread::Threads;
 /// What is written of a run.
 #[derive(Clone, Copy, Debug, PartialEq, Eq)]
 pub enum Output {
-    /// The report.
+    /// The report of the world at the end of the run.
     Report,
     /// The report with `# ` before each line, and then the scenario whose steps are those of the run.
     Journal,
@@ -32,9 +32,10 @@ pub enum Output {
 
 /// Reads a scenario of fault lines, runs it by a thread for each node over the store, and writes the report of the
 /// world then, or the journal. It reads all, then runs, then writes; so a fault other than `Text(Write)` leaves nothing
-/// written. What was read before a fault is gone from the reader. It may wait for its threads. The store is dropped, so
-/// its clauses speak of some store of its kind in place of the one that was left: of one that is not always honest
-/// `run_text_over` says more.
+/// written. What was read before a fault is gone from the reader. It may wait for its threads.
+///
+/// The store is dropped, so its clauses speak of some store of its kind in place of the one that was left. Of a kind
+/// that is not always honest `run_text_over` says more.
 pub fn run_text<T, R, W, S>(
     rt: &T,
     alloc: Global,
@@ -64,7 +65,8 @@ where
     answer
 }
 
-/// As `run_text`, and gives the store back: what is said of a store is said of it as it was left.
+/// As `run_text`, and gives the store back. `run_text` drops it, so its clauses can name no store that a caller sees;
+/// these speak of the one that is given back (docs/DECISIONS.md#the-report).
 pub fn run_text_over<T, R, W, S>(
     rt: &T,
     alloc: Global,
@@ -124,7 +126,7 @@ where
     }
 }
 
-/// Runs the scenario that the text spells.
+/// Runs the scenario that the text spells, and gives the journal; with a fault comes the store as it was left.
 fn run_told<T, S>(
     rt: &T,
     alloc: Global,
@@ -179,7 +181,7 @@ fn write_run<W: Write, S: CkptStore + Drop>(
     }
 }
 
-/// Writes the journal.
+/// Writes the journal. The steps are copied first, since the world is taken out of the journal to be reported on.
 fn write_steps<W: Write, S: CkptStore + Drop>(
     alloc: Global,
     journal: Journal<S>,

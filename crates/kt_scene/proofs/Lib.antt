@@ -24,6 +24,8 @@ pub mod FaultShapes
 pub mod ToldLaws
 pub mod ReadLaws
 pub mod NumbersRead
+pub mod ShortNumbers
+pub mod Prefixes
 pub mod StepsRead
 pub mod SlotsRead
 pub mod CommandsRead

@@ -3,3 +3,5 @@ pub mod Drafts
 pub mod Places
 pub mod Texts
 pub mod Making
+pub mod Starts
+pub mod Room

@@ -7,10 +7,11 @@ ghost use Rattle.kt_script.specs.Name.{begins_with_letter, is_name_character};
 ghost use Rattle.kt_scene.specs.Commands.{name_length, name_at, actual_at, kind_at, named, slot_at, slots_in};
 ghost use Rattle.kt_scene.specs.Commands.{actuals_of, operation_of, verb_at, set_with, set_of, unless_with, unless_of};
 ghost use Rattle.kt_scene.specs.Commands.{asked, spelled_of, fault_behind};
+ghost use Rattle.kt_scene.specs.inner.Room.{HasRoom, IsReady};
 
 use crate::fault::SceneError;
 use crate::line::{behind, ended, number_at};
-use arrayvec::ArrayVec;
+use crate::rooms::Rooms;
 use kt_script::{
     Actual, Actuals, Command, Name, Operation, Pattern, Script, ScriptError, Slot,
     is_name_character,
@@ -18,7 +19,7 @@ use kt_script::{
 use kt_tuple::reading::{after_place, int_at, int_of, value_at, value_of};
 use kt_tuple::{Kind, MAX_PLACES};
 
-/// What an operation does.
+/// The verb of an operation: the word that begins its line.
 #[derive(Clone, Copy, Debug, PartialEq, Eq)]
 pub(crate) enum Verb {
     Out,
@@ -85,7 +86,7 @@ fn actual_at(text: &[u8]) -> Option<(Actual, &[u8])>
     }
 }
 
-/// `?int` or `?str`.
+/// The kind of `?int` or `?str` in front, and the bytes behind it.
 fn kind_at(text: &[u8]) -> Option<(Kind, &[u8])>
     ensures { option_map (λ x. (x.0, x.1.now)) result ≡ kind_at text.now }
 {
@@ -110,7 +111,7 @@ fn named(kind: Kind, rest: &[u8]) -> Option<(Slot, &[u8])>
     }
 }
 
-/// A place of a command.
+/// A place of a command in front, and the bytes behind it: a formal, a variable or a value.
 #[tactic(auto, unfolding(crate::specs::Commands::slot_at))]
 fn slot_at(text: &[u8]) -> Option<(Slot, &[u8])>
     ensures { option_map (λ x. (x.0, x.1.now)) result ≡ slot_at text.now }
@@ -128,18 +129,19 @@ fn slot_at(text: &[u8]) -> Option<(Slot, &[u8])>
     }
 }
 
-/// The 1 to 8 places of a text in parentheses.
-fn slots_in(text: &[u8]) -> Option<ArrayVec<Slot, MAX_PLACES>>
+/// The 1 to 8 places of a text in parentheses, in this room.
+fn slots_in(text: &[u8], room: Vec<Slot>) -> Option<Vec<Slot>>
+    requires { HasRoom room }
     ensures value { option_map (λ s. s.items) result ≡ slots_in text.now }
     ensures arity { IfSome result (λ s. HasArity s.items) }
 {
-    let mut slots = ArrayVec::new();
+    let mut slots = room;
     let mut rest = behind(text, b"(")?;
     for _ in 0..MAX_PLACES {
         let Some((slot, after)) = slot_at(rest) else {
             return None;
         };
-        slots.push(slot);
+        slots.push_reserved(slot);
         match after_place(after) {
             Ok(None) => return Some(slots),
             Ok(Some(next)) => rest = next,
@@ -149,15 +151,16 @@ fn slots_in(text: &[u8]) -> Option<ArrayVec<Slot, MAX_PLACES>>
     None
 }
 
-/// The places as those of a tuple: none of them is a formal.
-fn actuals_of(slots: &[Slot]) -> Option<ArrayVec<Actual, MAX_PLACES>>
-    requires { length slots.now ≤ 8 }
-    ensures { option_map (λ a. a.items) result ≡ actuals_of slots.now }
+/// The places as those of a tuple, in this room: none of them is a formal.
+fn actuals_of(slots: &[Slot], room: Vec<Actual>) -> Option<Vec<Actual>>
+    requires { (length slots.now ≤ 8) × HasRoom room }
+    ensures value { option_map (λ a. a.items) result ≡ actuals_of slots.now }
+    ensures count { IfSome result (λ a. length a.items ≡ length slots.now) }
 {
-    let mut actuals = ArrayVec::new();
+    let mut actuals = room;
     for slot in slots {
         match slot {
-            Slot::Actual(actual) => actuals.push(actual.copy()),
+            Slot::Actual(actual) => actuals.push_reserved(actual.copy()),
             Slot::Formal(..) => return None,
         }
     }
@@ -165,13 +168,16 @@ fn actuals_of(slots: &[Slot]) -> Option<ArrayVec<Actual, MAX_PLACES>>
 }
 
 impl Verb {
-    /// The operation with these places.
-    fn operation(self, slots: ArrayVec<Slot, MAX_PLACES>) -> Option<Operation>
-        requires { HasArity slots.items }
+    /// The operation with these places; `None` where the verb cannot have them, as `out` no formal.
+    fn operation(self, slots: Vec<Slot>, rooms: &mut Rooms) -> Option<Operation>
+        requires { HasArity slots.items × HasRoom rooms.old.actuals }
         ensures { result ≡ operation_of self slots.items }
     {
         match self {
-            Verb::Out => Some(Operation::Out(Actuals::new(actuals_of(&slots)?)?)),
+            Verb::Out => {
+                let actuals = actuals_of(&slots, rooms.for_actuals())?;
+                Some(Operation::Out(Actuals::new(actuals)?))
+            }
             Verb::In => Some(Operation::In(Pattern::new(slots)?)),
             Verb::Rd => Some(Operation::Rd(Pattern::new(slots)?)),
             Verb::Inp => Some(Operation::Inp(Pattern::new(slots)?)),
@@ -199,11 +205,12 @@ fn verb_at(line: &[u8]) -> Option<(Verb, &[u8])>
     }
 }
 
-fn asked(verb: Verb, text: &[u8]) -> Option<Spelled>
+fn asked(verb: Verb, text: &[u8], rooms: &mut Rooms) -> Option<Spelled>
+    requires { IsReady rooms.old }
     ensures { result ≡ asked verb text.now }
 {
-    let slots = slots_in(text)?;
-    let operation = verb.operation(slots)?;
+    let slots = slots_in(text, rooms.for_slots())?;
+    let operation = verb.operation(slots, rooms)?;
     Some(Spelled {
         command: Command::Ask(operation),
         fits: true,
@@ -227,7 +234,7 @@ fn set_with(variable: Name, source: Name, number: Option<i64>) -> Spelled
     }
 }
 
-/// `x = y + K`.
+/// The command of `x = y + K`, which stands behind `set `; `None` where it is spelled otherwise.
 fn set_of(words: &[u8]) -> Option<Spelled>
     ensures { result ≡ set_of words.now }
 {
@@ -264,12 +271,13 @@ fn unless_of(words: &[u8]) -> Option<Spelled>
     ended(unless_with(count), rest)
 }
 
-/// The command that the line spells, or what is wrong with the line by itself.
-pub(crate) fn spelled_of(line: &[u8]) -> Result<Spelled, SceneError>
+/// The command that the line spells, its places in these rooms; or what is wrong with the line by itself.
+pub(crate) fn spelled_of(line: &[u8], rooms: &mut Rooms) -> Result<Spelled, SceneError>
+    requires { IsReady rooms.old }
     ensures { result ≡ spelled_of line.now }
 {
     if let Some((verb, text)) = verb_at(line) {
-        asked(verb, text).ok_or(SceneError::Tuple)
+        asked(verb, text, rooms).ok_or(SceneError::Tuple)
     } else if let Some(words) = behind(line, b"set ") {
         set_of(words).ok_or(SceneError::Word)
     } else if let Some(words) = behind(line, b"unless ") {
@@ -279,7 +287,8 @@ pub(crate) fn spelled_of(line: &[u8]) -> Result<Spelled, SceneError>
     }
 }
 
-/// Why the command may not follow the script, want of memory aside.
+/// Why the command may not follow the script, want of memory aside. A number that is too large counts only where the
+/// variables have no fault, which has the lower number (docs/DECISIONS.md#the-scenarios-text).
 pub(crate) fn fault_behind(script: &Script, spelled: &Spelled) -> Option<SceneError>
     ensures { result ≡ fault_behind script.now spelled.now }
 {

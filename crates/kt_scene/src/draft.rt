@@ -1,4 +1,5 @@
-//! A scenario, read line by line. Each line is judged without memory, and then kept.
+//! A scenario, read line by line. Each line is judged without memory, and then kept: so want of memory hides no other
+//! fault of a line (docs/DECISIONS.md#values). Room for the places of a command is made behind the line before it.
 
 ghost use Rattle.std.specs.Prelude.{◌≡◌, ◌&&◌, ◌+◌, ◌<◌, ◌≤◌, ℕ, List, length, Ok, Err, OnOk, IfErr, IfOk, IsTrue};
 ghost use Rattle.std.specs.Prelude.{None};
@@ -9,6 +10,7 @@ ghost use Rattle.kt_scene.specs.Lines.{nothing_read, is_word, is_ignored, count_
 ghost use Rattle.kt_scene.specs.Lines.{with_worker, in_script, with_command, in_work, work_with, line_read, is_ended};
 ghost use Rattle.kt_scene.specs.Lines.{closed, cast_of, with_step, with_fault};
 ghost use Rattle.kt_scene.specs.inner.Drafts.{HasScripts, IsFaultOf};
+ghost use Rattle.kt_scene.specs.inner.Room.{IsReady};
 ghost use Rattle.kt_scene.specs.FaultLines.{fault_read};
 ghost use Rattle.kt_scene.specs.Steps.{step_of};
 ghost use Rattle.kt_scene.specs.Work.{work_in};
@@ -17,6 +19,7 @@ use crate::command::{Spelled, fault_behind, spelled_of};
 use crate::fault::SceneError;
 use crate::fault_line::fault_read;
 use crate::line::{behind, ended, number_at, step_of};
+use crate::rooms::Rooms;
 use crate::scenario::{Scenario, Work, WorkKind};
 use kt_core::{Faults, MAX_SHARDS, MAX_WORKERS, Scene, Step};
 use kt_script::Script;
@@ -29,7 +32,7 @@ use std::mem;
 pub(crate) enum Expected {
     Title,
     Shards,
-    /// The first worker.
+    /// The line `worker` of the first worker.
     Workers,
     /// A command, a worker or the line before the work.
     Commands,
@@ -46,9 +49,10 @@ pub(crate) struct Draft {
     shards: u8,
     /// The scripts of the workers before this one.
     scripts: Vec<Script>,
-    /// This worker's script.
+    /// The commands so far of the worker whose lines are read now.
     script: Script,
-    /// It is of the kind that is wanted.
+    /// The steps or fault lines so far. A scenario is read as one of the kind that is asked for: the other kind's word
+    /// is a line that no rule allows (docs/DECISIONS.md#the-scenarios-text).
     work: Work,
 }
 
@@ -116,7 +120,7 @@ impl Draft {
         }
     }
 
-    /// Whether the last line was read.
+    /// Whether the line `end` was read.
     fn is_ended(&self) -> bool
         ensures { result ≡ is_ended self.now.expected }
     {
@@ -145,8 +149,23 @@ impl Draft {
         self.is_ended() && rest.is_empty()
     }
 
-    /// Reads one line more.
-    pub(crate) fn read(&mut self, line: &[u8]) -> Result<(), SceneError>
+    /// Reads one line more, which comes without its line feed. The fault is the lowest that the line has. Where the
+    /// next line may be a command, there is room for its places then.
+    pub(crate) fn read(&mut self, line: &[u8], rooms: &mut Rooms) -> Result<(), SceneError>
+        requires { self.old.expected ≡ Expected.Commands → IsReady rooms.old }
+        ensures read { OnOk result (line_read self.old line.now ≡ Ok self.new) }
+        ensures fault { IfErr result (λ fault. IsFaultOf fault (line_read self.old line.now)) }
+        ensures ready { OnOk result (self.new.expected ≡ Expected.Commands → IsReady rooms.new) }
+    {
+        self.read_line(line, rooms)?;
+        if self.expected == Expected::Commands {
+            rooms.make().map_err(|_| SceneError::OutOfMemory)?;
+        }
+        Ok(())
+    }
+
+    fn read_line(&mut self, line: &[u8], rooms: &mut Rooms) -> Result<(), SceneError>
+        requires { self.old.expected ≡ Expected.Commands → IsReady rooms.old }
         ensures read { OnOk result (line_read self.old line.now ≡ Ok self.new) }
         ensures fault { IfErr result (λ fault. IsFaultOf fault (line_read self.old line.now)) }
     {
@@ -160,7 +179,7 @@ impl Draft {
             Expected::Title => self.read_title(line),
             Expected::Shards => self.read_shards(line),
             Expected::Workers => self.read_worker(line),
-            Expected::Commands => self.read_in_script(line),
+            Expected::Commands => self.read_in_script(line, rooms),
             Expected::Work => self.read_in_work(line),
             Expected::Ended => Err(SceneError::End),
         }
@@ -201,8 +220,8 @@ impl Draft {
     }
 
     /// Reads another worker, the line before the work or a command.
-    fn read_in_script(&mut self, line: &[u8]) -> Result<(), SceneError>
-        requires { self.old.expected ≡ Expected.Commands }
+    fn read_in_script(&mut self, line: &[u8], rooms: &mut Rooms) -> Result<(), SceneError>
+        requires { (self.old.expected ≡ Expected.Commands) × IsReady rooms.old }
         ensures read { OnOk result (in_script self.old line.now ≡ Ok self.new) }
         ensures fault { IfErr result (λ fault. IsFaultOf fault (in_script self.old line.now)) }
     {
@@ -215,11 +234,11 @@ impl Draft {
         } else if line == self.work.kind().word() {
             self.close_script(Expected::Work)
         } else {
-            self.add_command(spelled_of(line)?)
+            self.add_command(spelled_of(line, rooms)?)
         }
     }
 
-    /// Ends this worker's script.
+    /// Ends this worker's script, and puts it behind the others; refused only for want of memory.
     fn close_script(&mut self, expected: Expected) -> Result<(), SceneError>
         requires { HasScripts expected (length self.old.scripts + 1) }
         ensures closed { OnOk result (self.new ≡ closed expected self.old) }

@@ -24,7 +24,7 @@ pub enum SceneError {
     /// A name breaks the rules of variables.
     #[error("Variable")]
     Variable,
-    /// A limit is passed.
+    /// A limit is passed: a number is out of its bounds, or there are too many commands, workers or bytes.
     #[error("Limit")]
     Limit,
     /// A fault line names a node that is not in the scene.
@@ -41,7 +41,7 @@ pub enum SceneError {
 impl SceneError {
     ghost use Rattle.kt_scene.specs.FaultNumber.{fault_number};
 
-    /// The fault's number.
+    /// The fault's number, from 1 to 8: of several faults of one line the lowest is answered.
     pub fn number(self) -> u8
         ensures { result ≡ fault_number self }
     {
@@ -61,9 +61,9 @@ impl SceneError {
 /// Why a text is no scenario: its first line that has a fault, counted from 1, and what is wrong there.
 #[derive(Clone, Copy, Debug, PartialEq, Eq)]
 pub struct SceneFault {
-    /// The line, ignored ones counted.
+    /// The line, counted from 1, ignored ones too.
     pub line: usize,
-    /// What is wrong there.
+    /// What is wrong there: the fault of the line with the lowest number.
     pub cause: SceneError,
 }
 
@@ -102,7 +102,8 @@ pub enum ReplayFault {
 }
 
 /// The line that tells of the fault, as `line 4: 3 Tuple`, `step 9: 4 NoSuchMatch`, `store: NotFresh`, `memory`, `read`
-/// or `write`.
+/// or `write`. It is written by hand, since its form goes by the cause; it is tested and not proved
+/// (docs/DECISIONS.md#the-program).
 impl Display for ReplayFault {
     fn fmt<W: fmt::Write>(&self, f: &mut Formatter<W>) -> fmt::Result {
         match *self {

@@ -22,7 +22,7 @@ pub(crate) struct Asked {
     after: Option<u64>,
 }
 
-/// `NODE after N`.
+/// What `NODE after N` asks for, in a line of this kind; `None` where it is spelled otherwise.
 fn asked_of(kind: FaultKind, words: &[u8]) -> Option<Asked>
     ensures { result ≡ asked_of kind words.now }
 {
@@ -31,7 +31,7 @@ fn asked_of(kind: FaultKind, words: &[u8]) -> Option<Asked>
     ended(Asked { kind, node, after }, rest)
 }
 
-/// What the line asks for.
+/// What the line asks for; `None` where no rule allows such a line.
 fn asked_by(line: &[u8]) -> Option<Asked>
     ensures { result ≡ asked_by line.now }
 {
@@ -64,7 +64,8 @@ fn has_node(shards: u8, scripts: &[Script], node: NodeId) -> bool
     }
 }
 
-/// The fault that is asked for, or why there is none: its number is judged before its node.
+/// The fault that is asked for, or why there is none. The number is judged before the node: a line with both wrong has
+/// the lower fault, that of the limit (docs/DECISIONS.md#the-scenarios-text).
 fn fault_from(shards: u8, scripts: &[Script], asked: Asked) -> Result<Fault, SceneError>
     ensures { result ≡ fault_from (record { shards = shards; scripts = scripts.now }) (Some asked) }
 {

@@ -42,9 +42,11 @@ pub fn what_was_read_is_written()
 {}
 
 /// The text that is written of a scenario is read as it, where it is not too long. So what `read_scene` gives of
-/// the text that `write_scene` wrote is the scenario that was written. This holds of each scenario that has a
-/// text: node numbers from 1 to 99, places of matches up to 99,999, fault lines of nodes of the scene that no step
-/// has spent and that are due after at most 100,000 steps, and at most 1,048,576 bytes.
+/// the text that `write_scene` wrote is the scenario that was written.
+///
+/// This holds of each scenario that has a text: of at most 1,048,576 bytes, with node numbers from 1 to 99 and places
+/// of matches up to 99,999. Its fault lines are of nodes of the scene, none is spent by a step, and each is due after
+/// at most 100,000 steps.
 pub fn what_is_written_is_read()
     ensures { (play : Play) → IsPlay play → length (scenario_text play) ≤ 1048576
         → play_of (kind_of play.work) (scenario_text play) ≡ Ok play }
@@ -57,8 +59,8 @@ pub fn what_a_journal_tells_is_read()
         → play_of kinds.Steps (journal_text report cast steps) ≡ Ok (play_of_steps cast steps) }
 {}
 
-/// The fault that a text is refused for is its first: the lines before it are the first of some scenario, with this
-/// one they are not, and of its faults it is the lowest.
+/// The fault that a text is refused for is its first: the lines before it are the first of some scenario, and with this
+/// one they are not. Of this line's faults it is the lowest.
 pub fn what_is_refused_has_this_fault_first()
     ensures { (kind : WorkKind) (text : List ℕ) (n : ℕ) (fault : SceneError) → play_of kind text ≡ Err (n, fault)
         → HasFirstFault kind text n fault }
@@ -70,7 +72,7 @@ pub fn what_has_a_fault_is_refused()
         → play_of kind text ≡ Err (n, fault) }
 {}
 
-/// A state has one report, whatever order its tuples were found in: while the store is honest, what is written is a
+/// A state has one report, whatever order its tuples were found in. So while the store is honest, what is written is a
 /// function of the state.
 pub fn a_state_has_one_report()
     ensures { (s : State) (text other : List ℕ) → IsReportOf true s text → IsReportOf true s other → text ≡ other }

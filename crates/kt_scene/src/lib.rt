@@ -1,4 +1,12 @@
-//! Scenarios and reports as text, and the replay that turns one into the other.
+//! Scenarios of steps and of fault lines, reports and journals as text, and the replay that turns a scenario into its
+//! report.
+//!
+//! - Contract: the bytes that go out are the report of the run of the scenario that the bytes that came in spell
+//!   (`replay_over`, clause `written`), while the store that is given back is honest.
+//! - Stands on: kt_tuple, kt_script, kt_space, kt_history, kt_store, kt_world, kt_core; of the kit: memchr, thiserror
+//! - Used by: kt_run, kt_command, linda_kt, kt_quick, kt_memory_tests
+//! - Begin in: `replaying.rt`, the whole way from bytes to bytes, then `draft.rt` for reading and `report.rt` for
+//!   writing.
 #![tactic(auto)]
 
 mod command;
@@ -11,6 +19,7 @@ mod line;
 mod reading;
 mod replaying;
 mod report;
+mod rooms;
 mod scenario;
 mod sink;
 mod source;

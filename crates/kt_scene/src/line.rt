@@ -2,35 +2,69 @@
 //!
 //! A reader is given the bytes that are left. It answers what it read and the bytes behind it, or `None`.
 
-ghost use Rattle.std.specs.Prelude.{◌≡◌, ◌+◌, ◌<◌, length, List, ℕ};
+ghost use Rattle.std.specs.Prelude.{◌≡◌, ◌+◌, ◌<◌, length, List, ℕ, IfSome, Some};
 ghost use Rattle.std.specs.Option.{option_map};
 ghost use Rattle.kt_scene.specs.Number.{behind, ended, number_at, number_within};
+ghost use Rattle.kt_scene.specs.inner.Starts.{DigitAt, node_behind, deliver_or_decide, repeat_or_restart, step_from};
 ghost use Rattle.kt_scene.specs.Steps.{node_at, node_before_space, node_alone, deliver_of, serve_of, step_of};
 
 use kt_core::Step;
 use kt_tuple::NodeId;
-use kt_tuple::reading::{int_at, int_of, word_at};
+use kt_tuple::reading::{int_at, int_of};
 
 /// The bytes behind the word, where it stands in front.
 pub(crate) fn behind<'a>(text: &'a [u8], word: &[u8]) -> Option<&'a [u8]>
     ensures { option_map (λ rest. rest.now) result ≡ behind text.now word.now }
 {
-    match word_at(text, word) {
-        Ok(rest) => Some(rest),
-        Err(_) => None,
-    }
+    text.strip_prefix(word)
 }
 
-/// What was read, where nothing stands behind it.
+/// What was read where nothing stands behind it, else `None`.
 pub(crate) fn ended<T: Drop>(read: T, rest: &[u8]) -> Option<T>
     ensures { result ≡ ended (read, rest.now) }
 {
     if rest.is_empty() { Some(read) } else { None }
 }
 
+/// The digit in front, as a number, and the bytes behind it.
+fn digit_at(text: &[u8]) -> Option<(u64, &[u8])>
+    ensures { DigitAt text.now (option_map (λ x. (x.0, x.1.now)) result) }
+{
+    let (first, rest) = text.split_first()?;
+    if first.is_ascii_digit() {
+        Some((u64::from(*first - b'0'), rest))
+    } else {
+        None
+    }
+}
+
+/// A number of one digit or two with no digit behind it, as most are. `None` says nothing: `long_at` reads any number.
+fn short_at(text: &[u8]) -> Option<(u64, &[u8])>
+    ensures { IfSome result (λ x. number_at text.now ≡ Some (Some x.0, x.1.now)) }
+{
+    let (tens, rest) = digit_at(text)?;
+    let Some((ones, behind)) = digit_at(rest) else {
+        return Some((tens, rest));
+    };
+    match digit_at(behind) {
+        None if 0 < tens => Some((10 * tens + ones, behind)),
+        _ => None,
+    }
+}
+
 /// A number without a sign: its value, `None` where that is above the greatest int.
-#[tactic(auto, unfolding(crate::specs::Number::number_at))]
 pub(crate) fn number_at(text: &[u8]) -> Option<(Option<u64>, &[u8])>
+    ensures { option_map (λ x. (x.0, x.1.now)) result ≡ number_at text.now }
+{
+    if let Some((number, rest)) = short_at(text) {
+        return Some((Some(number), rest));
+    }
+    long_at(text)
+}
+
+/// The same, by way of a number with a sign, for a number of any length.
+#[tactic(auto, unfolding(crate::specs::Number::number_at))]
+fn long_at(text: &[u8]) -> Option<(Option<u64>, &[u8])>
     ensures { option_map (λ x. (x.0, x.1.now)) result ≡ number_at text.now }
 {
     if !text.first()?.is_ascii_digit() {
@@ -114,42 +148,77 @@ fn serve_of(words: &[u8]) -> Option<Step>
     )
 }
 
-/// The step that the line says.
+/// The node that stands alone behind the word.
+fn node_behind(line: &[u8], word: &[u8]) -> Option<NodeId>
+    ensures { result ≡ node_behind line.now word.now }
+{
+    node_alone(behind(line, word)?)
+}
+
+/// A line that begins with `d`.
+fn deliver_or_decide(line: &[u8]) -> Option<Step>
+    ensures { result ≡ deliver_or_decide line.now }
+{
+    if let Some(words) = behind(line, b"deliver ") {
+        deliver_of(words)
+    } else {
+        let node = node_behind(line, b"decide ")?;
+        Some(Step::Decide { node })
+    }
+}
+
+/// A line that begins with `r`.
+fn repeat_or_restart(line: &[u8]) -> Option<Step>
+    ensures { result ≡ repeat_or_restart line.now }
+{
+    if let Some(words) = behind(line, b"repeat ") {
+        let node = node_alone(words)?;
+        Some(Step::Repeat { node })
+    } else {
+        let node = node_behind(line, b"restart ")?;
+        Some(Step::Restart { node })
+    }
+}
+
+/// The step of a line that begins with this byte: at most two of the words do, and only those are compared.
+fn step_from(first: u8, line: &[u8]) -> Option<Step>
+    ensures { result ≡ step_from first line.now }
+{
+    match first {
+        b'i' => {
+            let node = node_behind(line, b"issue ")?;
+            Some(Step::Issue { node })
+        }
+        b'd' => deliver_or_decide(line),
+        b's' => serve_of(behind(line, b"serve ")?),
+        b'r' => repeat_or_restart(line),
+        b't' => {
+            let node = node_behind(line, b"take ")?;
+            Some(Step::Take { node })
+        }
+        b'c' => {
+            let node = node_behind(line, b"check ")?;
+            Some(Step::Check { node })
+        }
+        b'a' => {
+            let node = node_behind(line, b"abandon ")?;
+            Some(Step::Abandon { node })
+        }
+        b'l' => {
+            let node = node_behind(line, b"learn ")?;
+            Some(Step::Learn { node })
+        }
+        b'f' => {
+            let node = node_behind(line, b"fail ")?;
+            Some(Step::Fail { node })
+        }
+        _ => None,
+    }
+}
+
+/// The step that the line says; `None` where no rule allows such a line of steps.
 pub(crate) fn step_of(line: &[u8]) -> Option<Step>
     ensures { result ≡ step_of line.now }
 {
-    if let Some(words) = behind(line, b"issue ") {
-        let node = node_alone(words)?;
-        Some(Step::Issue { node })
-    } else if let Some(words) = behind(line, b"repeat ") {
-        let node = node_alone(words)?;
-        Some(Step::Repeat { node })
-    } else if let Some(words) = behind(line, b"deliver ") {
-        deliver_of(words)
-    } else if let Some(words) = behind(line, b"take ") {
-        let node = node_alone(words)?;
-        Some(Step::Take { node })
-    } else if let Some(words) = behind(line, b"serve ") {
-        serve_of(words)
-    } else if let Some(words) = behind(line, b"check ") {
-        let node = node_alone(words)?;
-        Some(Step::Check { node })
-    } else if let Some(words) = behind(line, b"decide ") {
-        let node = node_alone(words)?;
-        Some(Step::Decide { node })
-    } else if let Some(words) = behind(line, b"abandon ") {
-        let node = node_alone(words)?;
-        Some(Step::Abandon { node })
-    } else if let Some(words) = behind(line, b"learn ") {
-        let node = node_alone(words)?;
-        Some(Step::Learn { node })
-    } else if let Some(words) = behind(line, b"fail ") {
-        let node = node_alone(words)?;
-        Some(Step::Fail { node })
-    } else if let Some(words) = behind(line, b"restart ") {
-        let node = node_alone(words)?;
-        Some(Step::Restart { node })
-    } else {
-        None
-    }
+    step_from(*line.first()?, line)
 }

@@ -13,6 +13,7 @@ ghost use Rattle.kt_scene.specs.Work.{kind_of, work_in};
 
 use crate::draft::{Draft, Expected};
 use crate::fault::{SceneError, SceneFault};
+use crate::rooms::Rooms;
 use crate::scenario::{Scenario, WorkKind};
 use memchr::memchr;
 use std::alloc::Global;
@@ -39,8 +40,8 @@ fn line_end(text: &[u8]) -> Option<usize>
     memchr(b'\n', text)
 }
 
-/// The scenario that the text spells, with work of this kind, or its first line that has a fault: of several faults
-/// of that line the one with the lowest number. A text with work of the other kind has one on the line before the
+/// The scenario that the text spells, with work of this kind, or its first line that has a fault. Of several faults of
+/// that line it is the one with the lowest number. A text with work of the other kind has one on the line before the
 /// work, on which no rule allows that word. Want of memory is answered only on a line that has no other fault, and
 /// before the first that has one.
 pub fn read_scene(alloc: Global, text: &[u8], kind: WorkKind) -> Result<Scenario, SceneFault>
@@ -64,10 +65,11 @@ fn read_lines(alloc: Global, text: &[u8], kind: WorkKind) -> Result<Draft, Scene
     ensures place { IfErr result (λ fault. IsPlaceOf text.now fault.line fault.cause) }
 {
     let mut draft = Draft::new(alloc, kind);
+    let mut rooms = Rooms::new(alloc);
     let mut rest = text;
     let mut line = 1;
     while let Some((words, after)) = line_at(rest) {
-        if let Err(cause) = draft.read(words) {
+        if let Err(cause) = draft.read(words, &mut rooms) {
             return Err(SceneFault { line, cause });
         }
         line += 1;

@@ -23,9 +23,10 @@ use std::alloc::Global;
 use std::io::{Read, Write};
 
 /// Reads a scenario of steps, makes them over the store and writes the report. It reads all, then makes all steps, then
-/// writes; so a fault other than `Write` leaves nothing written. What was read before a fault is gone from
-/// the reader. The store is dropped, so its clauses speak of some store of its kind in place of the one that was left:
-/// of one that is not always honest `replay_over` says more.
+/// writes; so a fault other than `Write` leaves nothing written. What was read before a fault is gone from the reader.
+///
+/// The store is dropped, so its clauses speak of some store of its kind in place of the one that was left. Of a kind
+/// that is not always honest `replay_over` says more.
 pub fn replay<R: Read, W: Write, S: CkptStore + Drop>(
     alloc: Global,
     reader: &mut Source<R>,
@@ -48,7 +49,8 @@ pub fn replay<R: Read, W: Write, S: CkptStore + Drop>(
     answer
 }
 
-/// As `replay`, and gives the store back: what is said of a store is said of it as it was left.
+/// As `replay`, and gives the store back. `replay` drops it, so its clauses can name no store that a caller sees; these
+/// speak of the one that is given back (docs/DECISIONS.md#the-report).
 pub fn replay_over<R: Read, W: Write, S: CkptStore + Drop>(
     alloc: Global,
     reader: &mut Source<R>,
@@ -75,8 +77,8 @@ pub fn replay_over<R: Read, W: Write, S: CkptStore + Drop>(
     }
 }
 
-/// Reads a scenario of steps and makes them over the store: the world then. The first half of `replay`. Where it is
-/// refused, the store is gone.
+/// Reads a scenario of steps, makes them over the store, and gives the world then: the first half of `replay`. Where it
+/// is refused, the store is gone.
 pub fn replay_world<R: Read, S: CkptStore + Drop>(
     alloc: Global,
     reader: &mut Source<R>,
@@ -97,7 +99,7 @@ pub fn replay_world<R: Read, S: CkptStore + Drop>(
     }
 }
 
-/// The same, which gives the store back where it is refused.
+/// As `replay_world`, and gives the store back where it is refused, so that the clause can speak of that store.
 fn world_over<R: Read, S: CkptStore + Drop>(
     alloc: Global,
     reader: &mut Source<R>,

@@ -23,7 +23,8 @@ use std::alloc::{AllocError, Global};
 use std::io::Write;
 
 /// Writes the report of the world. Refused by the store or by want of memory, which leaves nothing written, or by
-/// the writer, which leaves a front of the report.
+/// the writer, which leaves a front of the report. The store is asked for the permanent tuples before anything is
+/// written, so that a store that refuses leaves nothing written (docs/DECISIONS.md#the-report).
 pub fn write_report<S: CkptStore, W: Write>(
     alloc: Global,
     world: &mut World<S>,
@@ -119,7 +120,7 @@ fn push_tuples(
     push_sorted(out, word, texts)
 }
 
-/// The same of the tuples of a bag.
+/// How many tuples the bag holds, and then each on a line, in rising order of their text's bytes.
 fn push_bag(alloc: Global, out: &mut Vec<u8>, word: &[u8], bag: &Bag) -> Result<(), AllocError>
     ensures { OnOk result (AppendsTexts word.now (map tuple_text bag.now.tuples) out.old.items out.new.items) }
 {
@@ -147,7 +148,7 @@ fn push_texts(out: &mut Vec<u8>, texts: &[Vec<u8>]) -> Result<(), AllocError>
     Ok(())
 }
 
-/// The text of each tuple.
+/// The text of each tuple, in the tuples' order.
 fn texts_of(alloc: Global, tuples: &[Tuple]) -> Result<Vec<Vec<u8>>, AllocError>
     ensures { IfOk result (λ texts. items_of texts.items ≡ map tuple_text tuples.now) }
 {

@@ -6,9 +6,9 @@ use std::alloc::Global;
 /// What a scenario's text stands for.
 #[derive(Debug, Drop)]
 pub struct Scenario {
-    /// Who takes part.
+    /// Who takes part: the shards, and a script for each worker.
     pub scene: Scene,
-    /// What is done.
+    /// What is done: steps one by one, or fault lines.
     pub work: Work,
 }
 
@@ -24,9 +24,9 @@ pub enum Work {
 /// A kind of work: what `replay` wants, or what a run wants.
 #[derive(Clone, Copy, Debug, PartialEq, Eq)]
 pub enum WorkKind {
-    /// Steps that are said one by one.
+    /// Steps that are said one by one, as `replay` wants them.
     Steps,
-    /// Fault lines.
+    /// Fault lines, as a run wants them; the nodes find their steps themselves.
     Faults,
 }
 
@@ -34,7 +34,7 @@ impl WorkKind {
     ghost use Rattle.std.specs.Prelude.{◌≡◌};
     ghost use Rattle.kt_scene.specs.Work.{work_word};
 
-    /// The line before the work.
+    /// The word on the line before the work, which tells the two kinds apart: `steps` or `faults`.
     pub(crate) fn word(self) -> &'static [u8]
         ensures { result.now ≡ work_word self }
     {
@@ -49,7 +49,7 @@ impl Work {
     ghost use Rattle.std.specs.Prelude.{◌≡◌};
     ghost use Rattle.kt_scene.specs.Work.{kind_of, no_work, steps_of, lines_of_faults, work_in};
 
-    /// No work of this kind.
+    /// Work of this kind with no step or no fault line: what a reading begins with. It takes no memory.
     pub(crate) fn none(alloc: Global, kind: WorkKind) -> Work
         ensures { work_in result ≡ no_work kind }
     {
@@ -59,7 +59,7 @@ impl Work {
         }
     }
 
-    /// Of which kind it is.
+    /// Whether it is steps or fault lines.
     pub fn kind(&self) -> WorkKind
         ensures { result ≡ kind_of (work_in self.now) }
     {
@@ -79,7 +79,7 @@ impl Work {
         }
     }
 
-    /// The fault lines, of work that is such.
+    /// The fault lines; `None` where the work is steps.
     pub fn into_faults(self) -> Option<Faults>
         ensures { result ≡ lines_of_faults (work_in self) }
     {

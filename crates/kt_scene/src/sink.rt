@@ -5,7 +5,8 @@ use std::fmt::Display;
 use std::io::{ErrorKind, Write};
 use std::marker::Model;
 
-/// A writer, and what its calls came to.
+/// A writer, and what its calls came to. Without it a body that never has the writer pass on what was written would
+/// meet the contract (docs/DECISIONS.md#the-program).
 #[derive(Drop)]
 pub struct Sink<W: Write> {
     writer: W,
@@ -25,7 +26,7 @@ impl<W: Write> Sink<W> {
     ghost use Rattle.std.specs.Io.KnownBytes.{Appends, Keeps};
     ghost use Rattle.kt_scene.specs.Outside.{Writer};
 
-    /// The writer before any call.
+    /// The writer before any call: `Open`.
     pub fn new(writer: W) -> Sink<W>
         ensures bytes { result.bytes ≡ W.contents writer }
         ensures outcome { result.outcome ≡ Outcome.Open }
@@ -36,14 +37,14 @@ impl<W: Write> Sink<W> {
         }
     }
 
-    /// What the calls came to.
+    /// What the calls came to so far: `Open` before the first.
     pub fn outcome(&self) -> Outcome
         ensures { result ≡ self.now.outcome }
     {
         self.outcome
     }
 
-    /// The writer itself.
+    /// Hands the writer on; what its calls came to is dropped.
     pub fn into_inner(self) -> W
         ensures { W.contents result ≡ self.bytes }
     {
@@ -61,7 +62,7 @@ impl<W: Write> Sink<W> {
         ensures on_its_way { self.new.outcome ≢ Outcome.Done }
     {
         self.outcome = Outcome::Failed;
-        // More turns than anybody waits for: a loop has to have an end.
+        // More turns than anybody waits for: a loop has to have an end, and an interrupted call is no failure.
         for _ in 0..u64::MAX {
             match self.writer.write(bytes) {
                 Ok(0) => return 0,

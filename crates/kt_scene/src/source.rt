@@ -17,7 +17,9 @@ pub enum Outcome {
     Failed,
 }
 
-/// A reader, how often it was called, and what that came to. It is called at most 2,000,000 times.
+/// A reader, how often it was called, and what that came to. It is called at most 2,000,000 times. A plain reader's
+/// contract says which bytes it gave and not whether it failed: a body that blames the reader would meet it
+/// (docs/DECISIONS.md#the-program).
 #[derive(Drop)]
 pub struct Source<R: Read> {
     reader: R,
@@ -41,7 +43,7 @@ impl<R: Read> Source<R> {
     ghost use Rattle.std.specs.Io.KnownBytes.{Consumes, IsAtEnd};
     ghost use Rattle.kt_scene.specs.Outside.{Reader};
 
-    /// The reader before any call.
+    /// The reader before any call: none of the 2,000,000 is used up.
     pub fn new(reader: R) -> Source<R>
         ensures bytes { result.bytes ≡ R.remaining reader }
         ensures calls { result.calls ≡ 0 }
@@ -54,7 +56,7 @@ impl<R: Read> Source<R> {
         }
     }
 
-    /// What the calls came to.
+    /// What the calls came to so far: `Open` before the first.
     pub fn outcome(&self) -> Outcome
         ensures { result ≡ self.now.outcome }
     {
@@ -69,7 +71,7 @@ impl<R: Read> Source<R> {
         self.calls
     }
 
-    /// The reader itself.
+    /// Hands the reader on, behind what was read; what its calls came to is dropped.
     pub fn into_inner(self) -> R
         ensures { R.remaining result ≡ self.bytes }
     {

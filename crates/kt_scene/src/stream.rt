@@ -10,7 +10,7 @@ use crate::source::{MAX_READS, Outcome, Source};
 use std::alloc::Global;
 use std::io::{Read, Write};
 
-/// How many bytes are asked for at once.
+/// How many bytes a call of the reader is asked for at most.
 const CHUNK: usize = 8192;
 
 /// All bytes of the reader. Refused by a fault of line 1 where there are more than 1,048,576, by want
@@ -23,7 +23,7 @@ pub fn read_text<R: Read>(alloc: Global, reader: &mut Source<R>) -> Result<Vec<u
 {
     let mut text = Vec::new(alloc);
     let mut chunk = [0u8; CHUNK];
-    // A round more than the reader has calls: in that one it has failed.
+    // One round more than the reader has calls: in it the source answers `Failed` without a call.
     for _ in 0..MAX_READS + 1 {
         let count = reader.read(&mut chunk);
         match reader.outcome() {

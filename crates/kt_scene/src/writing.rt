@@ -77,7 +77,7 @@ fn push_work(out: &mut Vec<u8>, work: &Work) -> Result<(), AllocError>
     }
 }
 
-/// The line before the steps, and the steps.
+/// The line `steps`, and a line for each step.
 fn push_step_work(out: &mut Vec<u8>, steps: &[Step]) -> Result<(), AllocError>
     ensures { OnOk result (out.new.items ≡ out.old.items ++ flat_map text_line (work_lines (Steps steps.now))) }
 {

@@ -11,7 +11,7 @@ use std::alloc::{AllocError, Global};
 /// A value of an operation: written out, or that of a variable.
 #[derive(Debug, PartialEq, Eq, Drop)]
 pub enum Actual {
-    /// This value.
+    /// This value, as the command's text has it.
     Literal(Value),
     /// The value of the variable with this name.
     Variable(Name),
@@ -26,10 +26,10 @@ pub enum Slot {
     Formal(Kind, Option<Name>),
 }
 
-/// The values of a command's tuple.
+/// The values of a command's tuple: 1 to 8.
 pub type Actuals = Places<Actual>;
 
-/// The places of a command's template.
+/// The places of a command's template: 1 to 8.
 pub type Pattern = Places<Slot>;
 
 /// An operation on the space as a script has it.
@@ -63,7 +63,7 @@ pub enum Command {
 }
 
 impl Actual {
-    /// An equal actual.
+    /// An equal actual. It takes no memory, so it is not refused.
     pub fn copy(&self) -> Actual
         ensures { result ≡ self.now }
     {
@@ -71,33 +71,6 @@ impl Actual {
             Actual::Literal(value) => Actual::Literal(value.copy()),
             Actual::Variable(name) => Actual::Variable(name.copy()),
         }
-    }
-}
-
-/// What a fixed room for actuals holds where none was put.
-impl Default for Actual {
-    ghost use Rattle.std.specs.Prelude.{◌≡◌, pos};
-    ghost use Rattle.kt_tuple.specs.declared.value.Value.TheVariants.{Int};
-    ghost use Rattle.kt_script.specs.declared.command.Actual.TheVariants.{Literal};
-
-    ghost is_default = { λ a. a ≡ Literal (Int (pos 0)) };
-
-    fn default() -> Self {
-        Actual::Literal(Value::Int(0))
-    }
-}
-
-/// What a fixed room for places holds where none was put.
-impl Default for Slot {
-    ghost use Rattle.std.specs.Prelude.{◌≡◌, pos};
-    ghost use Rattle.kt_tuple.specs.declared.value.Value.TheVariants.{Int};
-    ghost use Rattle.kt_script.specs.declared.command.Actual.TheVariants.{Literal};
-    ghost use Rattle.kt_script.specs.declared.command.Slot.TheVariants as slots;
-
-    ghost is_default = { λ s. s ≡ slots.Actual (Literal (Int (pos 0))) };
-
-    fn default() -> Self {
-        Slot::Actual(Actual::default())
     }
 }
 

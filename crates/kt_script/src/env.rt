@@ -18,7 +18,9 @@ use std::marker::Model;
 /// the script's names, and whether the last answer was none.
 #[derive(Debug, Drop)]
 pub struct Env {
+    /// One value for each variable, in the order of the script's names, and of the variable's kind.
     pub(crate) values: Vec<Value>,
+    /// Whether the last answer was none: what `unless` asks.
     pub(crate) was_none: bool,
 }
 
@@ -94,7 +96,7 @@ impl Env {
         self.was_none
     }
 
-    /// An equal environment.
+    /// An equal environment with memory of its own.
     pub fn copy(&self, alloc: Global) -> Result<Env, AllocError>
         ensures { IfOk result (λ e. e ≡ self.now) }
     {
@@ -114,7 +116,7 @@ fn is_none_answer(answer: &Answer) -> bool
     }
 }
 
-/// The values after an answer to a template.
+/// The values after an answer to a template. They are copied first, so that a refusal leaves the old ones whole.
 fn values_after(
     alloc: Global,
     variables: &Variables,

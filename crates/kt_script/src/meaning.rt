@@ -12,7 +12,9 @@ use crate::variables::{Variables, held, hold};
 use kt_tuple::{Kind, Op, Place, Template, Tuple, Value};
 use std::alloc::{AllocError, Global};
 
-/// The variables of a script with a value for each: what names stand for.
+/// The variables of a script with a value for each: what names stand for. They go together where commands are looked up
+/// by name. Where values are changed, the values alone are lent for it, and the variables beside them
+/// (docs/DECISIONS.md#values).
 #[derive(Clone, Copy)]
 pub(crate) struct Scope<'a> {
     pub(crate) variables: &'a Variables,
@@ -22,7 +24,8 @@ pub(crate) struct Scope<'a> {
 impl Scope<'_> {
     ghost use Rattle.kt_script.specs.inner.Scope.{meaning_in};
 
-    /// The value of the name.
+    /// The value of the name. It is 0 where the name is not bound: by the rules of a script no command uses such a
+    /// name.
     fn value_of(self, name: &Name) -> Value
         ensures { result ≡ meaning_in self.entry name.now }
     {
@@ -32,7 +35,7 @@ impl Scope<'_> {
         }
     }
 
-    /// The kind of the name's value.
+    /// The kind of the name's value; `Int` where it is not bound, as `value_of` gives 0 then.
     fn kind_of(self, name: &Name) -> Kind
         ensures { result ≡ kind_of (meaning_in self.entry name.now) }
     {
@@ -42,7 +45,8 @@ impl Scope<'_> {
         }
     }
 
-    /// The name's value plus a number, held at the ends of 64 bits.
+    /// The name's value plus a number, held at the ends of 64 bits. A str counts as 0: the rules of a script let a
+    /// command add to ints alone.
     pub(crate) fn sum_of(self, name: &Name, number: i64) -> Value
         ensures { result ≡ plus (meaning_in self.entry name.now) number }
     {
@@ -95,14 +99,16 @@ impl Scope<'_> {
         ensures { IfOk result (λ t. t ≡ template_of (meaning_in self.entry) pattern.now) }
     {
         let places = self.places_of(alloc, pattern.as_slice())?;
-        Ok(Template::new(places).unwrap())
+        // A command's template has 1 to 8 places, so it makes a template.
+        Ok(Template::new(alloc, places)?.unwrap())
     }
 
     fn tuple_of(self, alloc: Global, actuals: &Actuals) -> Result<Tuple, AllocError>
         ensures { IfOk result (λ t. t ≡ map (value_of_actual (meaning_in self.entry)) actuals.now) }
     {
         let values = self.values_of(alloc, actuals.as_slice())?;
-        Ok(Tuple::new(values).unwrap())
+        // A command's tuple has 1 to 8 values, so it makes a tuple.
+        Ok(Tuple::new(alloc, values)?.unwrap())
     }
 
     /// The operation as it is sent: with values and bare formals.

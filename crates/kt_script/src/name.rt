@@ -8,11 +8,12 @@ use arrayvec::ArrayVec;
 use std::hash::{Hash, Hasher};
 use std::marker::Model;
 
-/// The most characters that a name has.
+/// The most characters that a name has, each of one byte.
 pub const MAX_NAME: usize = 16;
 
-/// What a variable is called: a letter a to z and up to 15 of a to z, 0 to 9 and `_`, and none of the
-/// words `int`, `str`, `bool`, `true` and `false`.
+/// What a variable is called: a letter a to z and up to 15 of a to z, 0 to 9 and `_`, and none of the words `int`,
+/// `str`, `bool`, `true` and `false`. It is a type of its own beside `Str`, whose body is alike: what each may hold
+/// differs, and so does its room (docs/DECISIONS.md#values).
 #[derive(Debug, Drop)]
 pub struct Name {
     characters: ArrayVec<u8, MAX_NAME>,
@@ -45,7 +46,7 @@ impl Name {
         }
     }
 
-    /// The characters, one byte each.
+    /// The characters, one byte each: 1 to 16 of them.
     pub fn as_bytes(&self) -> &[u8]
         ensures value { result.now ≡ self.now }
         ensures name { IsName self.now }
@@ -53,17 +54,18 @@ impl Name {
         &self.characters
     }
 
-    /// An equal name.
+    /// An equal name. It takes no memory, so it is not refused.
     pub fn copy(&self) -> Name
         ensures { result ≡ self.now }
     {
         let mut characters = ArrayVec::new();
+        // Both have room for 16 characters, so all of them fit.
         let _ = characters.try_extend_from_slice(&self.characters);
         Name { characters }
     }
 }
 
-/// Whether these characters are a name.
+/// Whether these characters are a name: the rule of `Name`, judged without making one.
 pub fn is_name(word: &[u8]) -> bool
     ensures { result ≡ is_name word.now }
 {
@@ -88,7 +90,7 @@ fn are_name_characters(word: &[u8]) -> bool
     word.iter().all(|c| is_name_character(*c))
 }
 
-/// Whether a name may have this character.
+/// Whether a name may have this character behind its first: a to z, 0 to 9 or `_`.
 pub fn is_name_character(c: u8) -> bool
     ensures { result ≡ is_name_character c }
 {

@@ -21,12 +21,12 @@ pub struct Next {
     pub op: Op,
     /// The number of the command behind it, counted from 0.
     pub pc: usize,
-    /// The variables as they are then.
+    /// The variables after each `set` on the way to the operation, and before its answer.
     pub env: Env,
 }
 
 impl Env {
-    /// The variables after `set`.
+    /// The environment after `set variable = source + number`, the sum held at the ends of 64 bits.
     fn assigned(self, variables: &Variables, variable: &Name, source: &Name, number: i64) -> Env
         ensures { result ≡ assigned variables.now.entries self variable.now source.now number }
     {
@@ -45,7 +45,7 @@ impl Env {
 }
 
 impl Env {
-    /// The operation as it is sent.
+    /// The operation as it is sent: with the variables' values in place of their names.
     fn op_of(
         &self,
         alloc: Global,
@@ -104,7 +104,8 @@ pub(crate) fn next_from(
     }
 }
 
-/// Whether an operation stands among the commands, of which the first so many are skipped.
+/// Whether an operation stands among the commands, of which the first so many are skipped. It needs no values and takes
+/// no memory: which commands are skipped depends on the last answer alone.
 pub(crate) fn has_next_from(was_none: bool, skipped: u8, commands: &[Command]) -> bool
     ensures { result ≡ has_next_from was_none skipped commands.now }
 {

@@ -3,14 +3,14 @@
 ghost use Rattle.std.specs.Prelude.{◌≡◌, ◌↔◌, IsSome, IfSome};
 ghost use Rattle.kt_tuple.specs.Matching.{HasArity};
 
-use arrayvec::ArrayVec;
 use kt_tuple::MAX_PLACES;
 use std::marker::Model;
 
-/// 1 to 8 places of one sort, from left to right.
+/// 1 to 8 places of one sort, from left to right. They stand apart from the command, which so is small where it is
+/// moved.
 #[derive(Debug, Drop)]
 pub struct Places<T> {
-    places: ArrayVec<T, MAX_PLACES>,
+    places: Vec<T>,
 }
 
 impl<T> Model for Places<T> {
@@ -24,20 +24,20 @@ impl<T> Model for Places<T> {
     ghost invariant = { λ p. HasArity p.places.items };
 }
 
-impl<T: Default + Drop> Places<T> {
-    /// These places, or `None` where there are none.
-    pub fn new(places: ArrayVec<T, MAX_PLACES>) -> Option<Places<T>>
+impl<T: Drop> Places<T> {
+    /// These places, or `None` where there are none or more than 8. It takes no memory.
+    pub fn new(places: Vec<T>) -> Option<Places<T>>
         ensures within { IsSome result ↔ HasArity places.items }
         ensures value { IfSome result (λ p. p ≡ places.items) }
     {
-        if places.is_empty() {
-            None
-        } else {
+        if 1 <= places.len() && places.len() <= MAX_PLACES {
             Some(Places { places })
+        } else {
+            None
         }
     }
 
-    /// The places, from left to right.
+    /// The places, from left to right: 1 to 8 of them.
     pub fn as_slice(&self) -> &[T]
         ensures value { result.now ≡ self.now }
         ensures arity { HasArity self.now }

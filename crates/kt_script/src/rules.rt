@@ -117,6 +117,7 @@ fn are_kinds_kept(variables: &Variables, command: &Command) -> bool
     }
 }
 
+/// Whether each formal binds its name with the kind that the name has, before this template and further right in it.
 fn are_slot_kinds_kept(variables: &Variables, slots: &[Slot]) -> bool
     ensures { result ≡ are_kinds_kept variables.now.entries (flat_map slot_bindings slots.now) }
 {
@@ -142,6 +143,7 @@ fn first_kind(slots: &[Slot], name: &Name) -> Option<Kind>
     }
 }
 
+/// How many new names the places bind. A name that they bind twice is counted where it stands last, so once.
 fn count_new_slots(variables: &Variables, slots: &[Slot]) -> usize
     ensures value { result ≡ count_new variables.now.entries (flat_map slot_bindings slots.now) }
     ensures bounded { result ≤ length slots.now }

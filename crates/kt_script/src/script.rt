@@ -9,16 +9,16 @@ use crate::name::Name;
 use crate::next::{Next, has_next_from, next_from};
 use crate::rules::{count_new, has_count, keeps_rules};
 use crate::script_error::ScriptError;
-use crate::variables::{Variables, bind_all, kind_in};
+use crate::variables::{Variables, are_values_of, bind_all, kind_in};
 use indexmap::IndexMap;
-use kt_tuple::Kind;
+use kt_tuple::{Kind, Value};
 use std::alloc::{AllocError, Global};
 use std::marker::Model;
 
-/// The most commands that a script has.
+/// The most commands that a script has: a further one is refused with `Limit`.
 pub const MAX_COMMANDS: usize = 200;
 
-/// The most variables that a script has.
+/// The most variables that a script has: a command that binds a further one is refused with `Limit`.
 pub const MAX_VARIABLES: usize = 64;
 
 /// The commands of a worker, from first to last, each of which keeps the rules of variables and the limits
@@ -47,10 +47,11 @@ impl Script {
     ghost use Rattle.kt_script.specs.Asks.{asks};
     ghost use Rattle.kt_script.specs.Next.{next_at, op_of_next, position_after, slots_before};
     ghost use Rattle.kt_script.specs.Rules.{refusal_of, is_within, IsScript};
+    ghost use Rattle.kt_script.specs.Memory.{are_values_of};
     ghost use Rattle.kt_script.specs.Variables.{variables_of, kind_in};
     ghost use Rattle.std.specs.Map.{keys_of};
 
-    /// The script of no commands.
+    /// The script of no commands, which `push` fills.
     pub fn new(alloc: Global) -> Script
         ensures { result ≡ [] }
     {
@@ -111,6 +112,7 @@ impl Script {
         ensures ok { OnOk result (self.new ≡ self.old ++ command ∷ []) }
         ensures err { OnErr result (self.new ≡ self.old) }
     {
+        // All memory is taken before the script changes, so that a refusal leaves it as it was.
         let alloc = *self.commands.allocator();
         let bindings = command.bindings(alloc)?;
         self.commands.reserve(1)?;
@@ -143,7 +145,7 @@ impl Script {
         has_next_from(none, 0, self.commands_from(pc))
     }
 
-    /// The commands from the one of this number on.
+    /// The commands from the one of this number on; none behind the end.
     fn commands_from(&self, pc: usize) -> &[Command]
         ensures value { result.now ≡ drop pc self.now }
         ensures room { pc + length result.now < 2 ^ 64 }
@@ -154,7 +156,7 @@ impl Script {
         }
     }
 
-    /// The places of the command just before `pc`.
+    /// The places of the command just before `pc`; none at the beginning, and where no operation stands there.
     pub(crate) fn slots_before(&self, pc: usize) -> &[Slot]
         ensures { result.now ≡ slots_before self.now pc }
     {
@@ -187,5 +189,13 @@ impl Script {
         ensures { result ≡ kind_in (variables_of self.now) name.now }
     {
         kind_in(&self.variables, name)
+    }
+
+    /// Whether these are one value for each variable, in the order of `names`, and each of its variable's kind: values
+    /// of which `Env::from_parts` makes an environment. It takes no memory.
+    pub fn has_values(&self, values: &[Value]) -> bool
+        ensures { result ≡ are_values_of (variables_of self.now) values.now }
+    {
+        are_values_of(&self.variables, values)
     }
 }

@@ -12,7 +12,7 @@ pub enum ScriptError {
     /// More than 200 commands or 64 variables, or `unless` with a number that is not 1 to 200.
     #[error("too many")]
     Limit,
-    /// No memory was left.
+    /// No memory was left for a command that may follow.
     #[error("out of memory")]
     OutOfMemory,
 }

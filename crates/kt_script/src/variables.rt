@@ -28,7 +28,7 @@ pub(crate) fn kind_in(variables: &Variables, name: &Name) -> Option<Kind>
     variables.get(name).copied()
 }
 
-/// The number of the name, where it is bound.
+/// The number of the name, where it is bound: the place of its value too.
 fn place_of(variables: &Variables, name: &Name) -> Option<usize>
     ensures { result ≡ position (same_name name.now) (keys_of variables.now.entries) }
 {
@@ -46,7 +46,7 @@ pub(crate) fn held<'a>(variables: &Variables, values: &'a [Value], name: &Name) 
     }
 }
 
-/// Gives the name this value.
+/// Gives the name this value. A name that is not bound has no place, and nothing changes.
 #[tactic(auto, using(crate::proofs::PlaceLemmas::with_held_laws))]
 pub(crate) fn hold(variables: &Variables, values: &mut [Value], name: &Name, value: Value)
     ensures { values.new ≡ with_held variables.now.entries values.old name.now value }
@@ -65,6 +65,7 @@ pub(crate) fn are_values_of(variables: &Variables, values: &[Value]) -> bool
     have_kinds(variables.values().as_slice(), values)
 }
 
+/// Whether there are as many values as kinds, and each is of its kind.
 fn have_kinds(kinds: &[Kind], values: &[Value]) -> bool
     ensures { result ≡ pointwise kind_eq kinds.now (kinds_of values.now) }
 {
@@ -77,6 +78,7 @@ fn have_kinds(kinds: &[Kind], values: &[Value]) -> bool
     }
 }
 
+/// What a variable of this kind holds before it is bound: 0 or the empty string.
 fn zero_of(kind: Kind) -> Value
     ensures { result ≡ zero_of (Some kind) }
 {

@@ -9,19 +9,19 @@ use crate::request::{Kept, Request};
 use kt_tuple::Answer;
 use std::alloc::{AllocError, Global};
 
-/// What hearing a request comes to.
+/// What becomes of a request that is heard: it waits, is answered again, or is ignored.
 #[derive(Clone, Copy, Debug)]
 pub enum Arrival<'a> {
     /// Its number is above all that were heard of the worker: the worker waits with it from now on.
     Waits,
     /// It is the request that was served last, and the worker does not wait: it is answered so once more.
     Again(&'a Answer),
-    /// Nothing comes of it.
+    /// Its number is not new, and there is no kept answer to give: nothing changes.
     Ignored,
 }
 
 impl Arrival<'_> {
-    /// The same, with an answer of its own.
+    /// The same outcome with a copy of the answer, so that it lends nothing of the shard.
     pub fn to_heard(self, alloc: Global) -> Result<Heard, AllocError>
         ensures { IfOk result (λ h. heard_view h ≡ arrival_view self.entry) }
     {
@@ -33,18 +33,18 @@ impl Arrival<'_> {
     }
 }
 
-/// What came of a request that was heard.
+/// What became of a request that was heard: an `Arrival` that owns its answer.
 #[derive(Debug, Drop)]
 pub enum Heard {
     /// The worker waits with it from now on.
     Waits,
-    /// It is answered so once more.
+    /// It was served last, and this kept answer is sent once more.
     Again(Answer),
-    /// Nothing comes of it.
+    /// Its number is not new, and there is no kept answer to give.
     Ignored,
 }
 
-/// What hearing the request comes to at a desk with these.
+/// What becomes of the request at a desk with this waiting request and this kept answer.
 pub(crate) fn arrival_of<'a>(
     waiting: Option<&Request>,
     kept: Option<&'a Kept>,

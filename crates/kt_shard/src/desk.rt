@@ -5,17 +5,18 @@ ghost use Rattle.std.specs.Prelude.{◌≡◌, Some, None, IfOk};
 use crate::request::{Kept, Request};
 use std::alloc::{AllocError, Global};
 
-/// What a shard remembers of one worker.
+/// What a shard remembers of one worker: the worker's slot.
 #[derive(Debug, Drop)]
 pub struct Desk {
-    /// What the worker waits with.
+    /// The request that the worker waits with, `None` while it waits with none.
     pub waiting: Option<Request>,
-    /// The last request of the worker that was served.
+    /// The last request that was served, `None` before the first. It is kept with its answer, so that asked again it is
+    /// answered again and not served twice.
     pub kept: Option<Kept>,
 }
 
 impl Desk {
-    /// An equal desk.
+    /// An equal desk with memory of its own.
     pub fn copy(&self, alloc: Global) -> Result<Desk, AllocError>
         ensures { IfOk result (λ d. d ≡ self.now) }
     {
@@ -30,7 +31,7 @@ impl Desk {
         Ok(Desk { waiting, kept })
     }
 
-    /// The worker waits with the request.
+    /// The worker waits with the request; what is kept stays.
     pub(crate) fn wait(&mut self, request: Request)
         ensures { self.new ≡ record { waiting = Some request; kept = self.old.kept } }
     {

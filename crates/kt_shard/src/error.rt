@@ -6,13 +6,13 @@ use thiserror::Error;
 /// Why a request was not served. Of several reasons the first that stands here is given.
 #[derive(Clone, Copy, Debug, PartialEq, Eq, Error)]
 pub enum ServeError {
-    /// The worker does not wait.
+    /// No request of the worker waits at this shard.
     #[error("NotWaiting")]
     NotWaiting,
-    /// No tuple that matches stands at this place.
+    /// There is no match of this place. An `out`, which has nothing to choose from, is served at place 0 alone.
     #[error("NoSuchMatch")]
     NoSuchMatch,
-    /// Memory ran out.
+    /// Memory ran out; the request waits as before.
     #[error("OutOfMemory")]
     OutOfMemory,
 }

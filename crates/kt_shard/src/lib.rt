@@ -1,4 +1,12 @@
 //! A shard: its tuples, which workers wait there, and what each was answered last.
+//!
+//! - Contract: a service is a step of the sequential space on the shard's own tuples, with what the worker waited with
+//!   (`Shard::serve`, clause `step`). A request waits once, and is answered again once it was served (`Shard::hear`,
+//!   clause `comes_of_it`).
+//! - Stands on: kt_tuple, kt_space; of the kit: thiserror
+//! - Used by: kt_ckpt, kt_lines, kt_node, kt_world, kt_refinement, kt_core, kt_stage, kt_run
+//! - Begin in: `desk.rt`, a worker's slot (`Desk`) at the shard, then `arrival.rt` for what hearing does and
+//!   `service.rt` for what serving does. `shard.rt` puts them together.
 #![tactic(auto)]
 
 mod arrival;

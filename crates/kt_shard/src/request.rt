@@ -6,17 +6,17 @@ ghost use Rattle.kt_shard.specs.Desk.{same_request};
 use kt_tuple::{Answer, Op};
 use std::alloc::{AllocError, Global};
 
-/// A request of a worker.
+/// A request of a worker; whose it is, its desk says.
 #[derive(Debug, Drop)]
 pub struct Request {
-    /// The worker counts its requests from 1.
+    /// The number that the worker gave it, counted from 1.
     pub number: u64,
-    /// What it asks for.
+    /// The operation, as it was sent: with values and bare formals.
     pub op: Op,
 }
 
 impl Request {
-    /// An equal request.
+    /// An equal request with memory of its own.
     pub fn copy(&self, alloc: Global) -> Result<Request, AllocError>
         ensures { IfOk result (λ r. r ≡ self.now) }
     {
@@ -37,14 +37,14 @@ impl Request {
 /// A request that was served, with its answer.
 #[derive(Debug, Drop)]
 pub struct Kept {
-    /// What was asked.
+    /// The request whole: one is the same only by number and operation.
     pub request: Request,
-    /// What was answered.
+    /// The answer that was sent when it was served.
     pub answer: Answer,
 }
 
 impl Kept {
-    /// An equal one.
+    /// An equal request with an equal answer, with memory of their own.
     pub fn copy(&self, alloc: Global) -> Result<Kept, AllocError>
         ensures { IfOk result (λ k. k ≡ self.now) }
     {

@@ -7,21 +7,21 @@ use kt_tuple::{Answer, Op, Tuple};
 use std::alloc::{AllocError, Global};
 use std::marker::Model;
 
-/// An answer that lends its tuple.
+/// An answer that lends its tuple, so that it can be found out without memory.
 #[derive(Clone, Copy, Debug)]
 pub enum Reply<'a> {
-    /// The operation's tuple is put.
+    /// The operation is an `out`: its tuple is put.
     Done,
-    /// This tuple is withdrawn or read.
+    /// This tuple is withdrawn (`in`, `inp`) or read (`rd`, `rdp`).
     Got(&'a Tuple),
-    /// No tuple matches.
+    /// No tuple matches an `inp` or `rdp`.
     None,
 }
 
 impl Reply<'_> {
     ghost use Rattle.kt_shard.specs.Views.{reply_view};
 
-    /// The answer itself.
+    /// The answer with a copy of the tuple.
     pub fn to_answer(self, alloc: Global) -> Result<Answer, AllocError>
         ensures { IfOk result (λ answer. answer ≡ reply_view self.entry) }
     {
@@ -33,7 +33,8 @@ impl Reply<'_> {
     }
 }
 
-/// How a request can be served, found out without memory.
+/// How a request can be served, found out without memory. Serving goes in two parts: what takes memory changes nothing
+/// (`prepare`), and what changes is not refused (`Shard::carry_out`).
 #[derive(Clone, Copy, Debug)]
 pub struct Choice<'a> {
     pub(crate) request: &'a Request,
@@ -67,7 +68,7 @@ pub struct Prepared {
     pub(crate) request: Request,
     pub(crate) place: u64,
     pub(crate) answer: Answer,
-    /// The tuple that an `out` puts.
+    /// The tuple that an `out` puts, `None` for other operations: a copy, since the request is kept with its own.
     pub(crate) put: Option<Tuple>,
 }
 
@@ -84,14 +85,14 @@ impl Model for Prepared {
 }
 
 impl Prepared {
-    /// What is served.
+    /// The request that is served.
     pub fn request(&self) -> &Request
         ensures { result.now ≡ self.now.request }
     {
         &self.request
     }
 
-    /// How it is answered.
+    /// The answer that its worker gets.
     pub fn answer(&self) -> &Answer
         ensures { result.now ≡ self.now.answer }
     {

@@ -23,7 +23,7 @@ use std::marker::Model;
 /// The most workers that a shard knows. They are numbered from 1.
 pub const MAX_WORKERS: u8 = 8;
 
-/// The numbers from 0 to that of the last worker.
+/// The numbers from 0 to that of the last worker: a worker's number is the place of its desk. Workers count from 1.
 const DESKS: u8 = MAX_WORKERS + 1;
 
 /// A shard: its tuples in order of arrival, and what it remembers of each worker.
@@ -59,7 +59,7 @@ impl Shard {
         })
     }
 
-    /// An equal shard.
+    /// An equal shard with memory of its own.
     pub fn copy(&self, alloc: Global) -> Result<Shard, AllocError>
         ensures { IfOk result (λ s. s.state ≡ self.now.state) }
     {
@@ -81,7 +81,7 @@ impl Shard {
         }
     }
 
-    /// The tuples.
+    /// The tuples that it holds, in order of arrival.
     pub fn bag(&self) -> &Bag
         ensures { result.now.tuples ≡ self.now.state.bag }
     {
@@ -96,21 +96,21 @@ impl Shard {
         &self.desks
     }
 
-    /// What the worker of this number waits with.
+    /// The request that the worker of this number waits with; `None` where it waits with none.
     pub fn waiting(&self, worker: u8) -> Option<&Request>
         ensures { option_copied result ≡ (desk_of self.now.state worker).waiting }
     {
         self.desks.get(usize::from(worker))?.waiting.as_ref()
     }
 
-    /// The request of the worker of this number that was served last, and its answer.
+    /// The request of the worker of this number that was served last, and its answer; `None` before the first.
     pub fn kept(&self, worker: u8) -> Option<&Kept>
         ensures { option_copied result ≡ (desk_of self.now.state worker).kept }
     {
         self.desks.get(usize::from(worker))?.kept.as_ref()
     }
 
-    /// What hearing this request of the worker of this number comes to. A new number waits, the request that
+    /// What becomes of this request of the worker of this number if it is heard. A new number waits, the request that
     /// was served last is answered again while the worker does not wait, and all else is ignored.
     pub fn arrival(&self, worker: u8, request: &Request) -> Arrival<'_>
         ensures { arrival_view result ≡ arrival self.now.state worker request.now }
@@ -127,7 +127,8 @@ impl Shard {
         self.desks[usize::from(worker)].wait(request);
     }
 
-    /// Hears the request of the worker of this number, and says what comes of it.
+    /// Hears the request of the worker of this number, at most 8, and says what became of it. Where memory is wanting
+    /// nothing changes.
     pub fn hear(&mut self, alloc: Global, worker: u8, request: Request) -> Result<Heard, AllocError>
         requires { worker < desks }
         ensures state { OnOk result (self.new.state ≡ heard self.old.state worker request) }
@@ -168,7 +169,7 @@ impl Shard {
         self.choose(worker, place).is_ok()
     }
 
-    /// Makes room for one more tuple.
+    /// Makes room for one more tuple; one service puts at most one.
     pub fn reserve(&mut self) -> Result<(), AllocError>
         ensures state { self.new.state ≡ self.old.state }
         ensures room { OnOk result (IsTrue self.new.has_room) }
@@ -178,7 +179,8 @@ impl Shard {
         self.bag.reserve()
     }
 
-    /// Carries out the service of the worker of this number. There is room for one more tuple.
+    /// Carries out the service of the worker of this number. There is room for one more tuple, whatever is served, and
+    /// so no refusal is left.
     pub fn carry_out(&mut self, worker: u8, prepared: Prepared)
         requires desk { worker < desks }
         requires room { IsTrue self.old.has_room }
@@ -235,7 +237,7 @@ fn got_or_none(found: Option<&Tuple>, place: u64) -> Option<Reply<'_>>
     }
 }
 
-/// Does to the bag what the operation does.
+/// Does to the bag what the operation does: `out` puts, `in` and `inp` take, `rd` and `rdp` leave it.
 fn change_bag(bag: &mut Bag, op: &Op, place: u64, put: Option<Tuple>)
     requires put { put ≡ put_of op.now }
     requires room { IsTrue bag.old.has_room }

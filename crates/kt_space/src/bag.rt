@@ -12,13 +12,21 @@ use kt_tuple::{Template, Tuple};
 use std::alloc::{AllocError, AllocFailed, Global};
 use std::marker::Model;
 
-/// Tuples in order of arrival.
+/// A bag with fewer slots is not tidied: making its index anew costs more than a few empty slots do.
+const LEAST_TIDIED: usize = 64;
+
+/// Tuples in order of arrival, equal ones too.
 #[derive(Debug, Drop)]
 pub struct Bag {
-    /// The tuples in order of arrival. A slot whose tuple was taken stays, until the slots move together.
+    /// The tuples in order of arrival. A slot whose tuple was taken stays empty until the slots move together, since
+    /// its number is the tuple's number in the index (docs/DECISIONS.md#bags-and-links).
     slots: Vec<Option<Tuple>>,
+    /// How many of the slots have a tuple.
     len: usize,
+    /// Which slots a template may match.
     index: Index,
+    /// Whether room was made that no `put` has used yet. It is a flag and no count: a map does not say how much room it
+    /// has after a refusal.
     has_room: bool,
 }
 
@@ -42,7 +50,7 @@ impl Model for Bag {
 }
 
 impl Bag {
-    /// The empty bag.
+    /// The empty bag. It takes no memory.
     pub fn new(alloc: Global) -> Bag
         ensures { result.tuples ≡ [] }
     {
@@ -54,7 +62,7 @@ impl Bag {
         }
     }
 
-    /// How many tuples there are.
+    /// How many tuples there are: the empty slots do not count.
     pub fn len(&self) -> usize
         ensures { result ≡ length self.now.tuples }
     {
@@ -73,13 +81,15 @@ impl Bag {
     pub fn get(&self, place: usize) -> Option<&Tuple>
         ensures { option_copied result ≡ slice_get self.now.tuples place }
     {
+        // No slot is empty, so the place is that of the slot.
         if self.len == self.slots.len() {
             return tuple_at(&self.slots, Some(place));
         }
         nth_tuple(&self.slots, place)
     }
 
-    /// Puts the tuple behind all others. Where memory is wanting it comes back, and the bag stays.
+    /// Puts the tuple behind all others. Where memory is wanting it comes back, so that nothing is lost, and the bag
+    /// stays.
     pub fn put(&mut self, tuple: Tuple) -> Result<(), AllocFailed<Tuple>>
         ensures put { OnOk result (self.new.tuples ≡ self.old.tuples ++ tuple ∷ []) }
         ensures unchanged { OnErr result (self.new ≡ self.old) }
@@ -95,7 +105,7 @@ impl Bag {
         }
     }
 
-    /// Makes room for one more tuple, of whatever kind.
+    /// Makes room for one more tuple, of whatever kind: one step puts at most one. A refusal changes nothing.
     pub fn reserve(&mut self) -> Result<(), AllocError>
         ensures tuples { self.new.tuples ≡ self.old.tuples }
         ensures room { OnOk result (IsTrue self.new.has_room) }
@@ -105,7 +115,10 @@ impl Bag {
         if self.has_room {
             return Ok(());
         }
-        if self.slots.len() == self.slots.capacity() && self.len <= self.slots.len() / 2 {
+        // Only where the slots are full and half of them or more are empty: so neither empty slots nor groups without a
+        // tuple are ever more than the slots that the bag once filled, or a few.
+        let slots = self.slots.len();
+        if slots == self.slots.capacity() && LEAST_TIDIED <= slots && self.len <= slots / 2 {
             self.tidy()?;
         }
         self.slots.reserve(1)?;
@@ -114,7 +127,8 @@ impl Bag {
         Ok(())
     }
 
-    /// Moves the slots together, and forgets what was only asked for by tuples that are gone.
+    /// Moves the slots together, which numbers them anew, and forgets what was only asked for by tuples that are gone.
+    /// The index is made anew first, so that a refusal changes nothing.
     fn tidy(&mut self) -> Result<(), AllocError>
         ensures tuples { self.new.tuples ≡ self.old.tuples }
         ensures room { OnOk result (self.new.has_room ≡ false) }
@@ -140,7 +154,7 @@ impl Bag {
         self.slots.push_reserved(Some(tuple));
     }
 
-    /// How many tuples match.
+    /// How many tuples match: the numbers of matches are those below it.
     pub fn count_matches(&self, template: &Template) -> usize
         ensures { result ≡ length (matching template.now self.now.tuples) }
     {
@@ -181,7 +195,8 @@ impl Bag {
         taken
     }
 
-    /// Equal tuples in the same order.
+    /// Equal tuples in the same order. It goes through the slots once, where reading them by `get` would count anew for
+    /// each.
     pub fn to_vec(&self, alloc: Global) -> Result<Vec<Tuple>, AllocError>
         ensures { IfOk result (λ tuples. tuples.items ≡ self.now.tuples) }
     {
@@ -246,6 +261,7 @@ fn nth_tuple(slots: &[Option<Tuple>], number: usize) -> Option<&Tuple>
     None
 }
 
+/// Takes the empty slots out; the others keep their order.
 fn drop_empty(slots: &mut Vec<Option<Tuple>>)
     ensures { slots.new.items ≡ filter (λ s. is_some s) slots.old.items }
 {

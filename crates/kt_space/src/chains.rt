@@ -10,14 +10,15 @@ ghost use Rattle.kt_space.specs.inner.Chaining.{after_changed, before_changed, f
 use std::alloc::{AllocError, Global};
 use std::marker::Model;
 
-/// Where the chain of a group begins and ends.
+/// Where the chain of a group begins and ends; `None` twice where the group has no place.
 #[derive(Clone, Copy, Debug)]
 struct Ends {
     first: Option<usize>,
     last: Option<usize>,
 }
 
-/// A place: its group, and the places beside it in the group's chain.
+/// A place: its group, `None` once its tuple was taken, and the places beside it in the group's chain. The chain is
+/// linked both ways, so that a place leaves it without a look at others.
 #[derive(Clone, Copy, Debug)]
 struct Link {
     group: Option<usize>,
@@ -25,7 +26,8 @@ struct Link {
     after: Option<usize>,
 }
 
-/// A row for each group, and one for each place.
+/// A row for each group, and one for each place. Groups are no lists of their own: room for one tuple more must be room
+/// in whatever group it comes to, and here that is one row in each list.
 #[derive(Debug, Drop)]
 struct Table {
     ends: Vec<Ends>,
@@ -33,7 +35,7 @@ struct Table {
 }
 
 impl Table {
-    /// The group of the place.
+    /// The group of the place; `None` where it is of none, or there is no such place.
     fn group(&self, place: usize) -> Option<usize>
         ensures { result ≡ option_and_then (λ l. l.group) (slice_get self.now.links.items place) }
     {
@@ -196,17 +198,18 @@ impl Chains {
         });
     }
 
-    /// The first place of the group.
+    /// The first place of the group; `None` where it has none.
     pub(crate) fn first(&self, group: usize) -> Option<usize>
         ensures { group < self.now.count → Beside self.now.groups group None result }
     {
         self.table.after(group, None)
     }
 
-    /// The next place of the group that this place is of.
+    /// The next place of the group that this place is of; `None` behind the last.
     pub(crate) fn next(&self, place: usize) -> Option<usize>
         ensures { (g : ℕ) → Has self.now.groups place g → Beside self.now.groups g (Some place) result }
     {
+        // Behind a place the group is not asked for, so any number does.
         self.table.after(0, Some(place))
     }
 

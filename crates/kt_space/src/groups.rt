@@ -11,7 +11,7 @@ use indexmap::IndexSet;
 use std::alloc::{AllocError, Global};
 use std::marker::Model;
 
-/// The key of each place. A key that has no place any more keeps its number.
+/// The key of each place. A key that has no place any more keeps its number until the bag makes its index anew.
 #[derive(Debug, Drop)]
 pub(crate) struct Groups {
     keys: IndexSet<Key>,
@@ -34,7 +34,7 @@ impl Model for Groups {
 }
 
 impl Groups {
-    /// No places.
+    /// No places, and so no groups.
     pub(crate) fn new(alloc: Global) -> Groups
         ensures { result.keys ≡ [] }
     {
@@ -65,7 +65,7 @@ impl Groups {
         }
     }
 
-    /// The first place of the key.
+    /// The first place of the key; `None` where no place has it.
     pub(crate) fn first(&self, key: &Key) -> Option<usize>
         ensures { Beside self.now.keys key.now None result }
     {
@@ -73,7 +73,7 @@ impl Groups {
         self.chains.first(group)
     }
 
-    /// The next place of the key that this place has.
+    /// The next place of the key that this place has; `None` behind the last.
     pub(crate) fn next(&self, place: usize) -> Option<usize>
         ensures { (key : Key) → Has self.now.keys place key → Beside self.now.keys key (Some place) result }
     {

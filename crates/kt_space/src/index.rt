@@ -10,7 +10,8 @@ use crate::key::Key;
 use kt_tuple::Tuple;
 use std::alloc::{AllocError, Global};
 
-/// The places of tuples by their kinds, and by their kinds and first values.
+/// The places of tuples by their kinds, and by their kinds and first values. A template whose first place is a formal
+/// goes by the kinds alone, so that it needs no merging of groups.
 #[derive(Debug, Drop)]
 pub(crate) struct Index {
     pub(crate) by_kinds: Groups,
@@ -18,7 +19,7 @@ pub(crate) struct Index {
 }
 
 impl Index {
-    /// No places.
+    /// The index of no tuples.
     pub(crate) fn new(alloc: Global) -> Index
         ensures kinds { result.by_kinds.keys ≡ [] }
         ensures firsts { result.by_first.keys ≡ [] }
@@ -49,7 +50,7 @@ impl Index {
         self.by_first.push(Key::of_first(tuple));
     }
 
-    /// There is no tuple at the place any more.
+    /// Takes the place out of both groups that it is in: its tuple is gone.
     pub(crate) fn remove(&mut self, place: usize)
         ensures kinds { self.new.by_kinds.keys ≡ set self.old.by_kinds.keys place None }
         ensures firsts { self.new.by_first.keys ≡ set self.old.by_first.keys place None }

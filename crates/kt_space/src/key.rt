@@ -14,7 +14,7 @@ pub(crate) struct Key {
 }
 
 impl Key {
-    /// The kinds of the tuple.
+    /// The key of the kinds of the tuple, without a first value.
     pub(crate) fn of_kinds(tuple: &Tuple) -> Key
         ensures { result ≡ kinds_key tuple.now }
     {
@@ -48,7 +48,7 @@ impl Key {
         }
     }
 
-    /// Whether a first value belongs to it.
+    /// Whether a first value belongs to it: then it is looked up by kinds and first value, else by kinds alone.
     pub(crate) fn has_first(&self) -> bool
         ensures { result ≡ is_some self.now.first }
     {

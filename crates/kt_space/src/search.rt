@@ -12,14 +12,15 @@ use crate::index::Index;
 use crate::key::Key;
 use kt_tuple::{Template, Tuple};
 
-/// What a search came to.
+/// What a search found, and what it did for it.
 #[derive(Clone, Copy, Debug)]
 pub(crate) struct Search {
-    /// Where the match stands.
+    /// The slot of the match; `None` where there are too few matches.
     pub(crate) place: Option<usize>,
     /// How many matches more it would have had to pass, where there are too few.
     pub(crate) left: usize,
-    /// How many tuples it compared with the template.
+    /// How many tuples it compared with the template: a `usize`, since there are no more of them than slots, so that
+    /// the count is exact.
     pub(crate) compared: usize,
 }
 
@@ -89,7 +90,7 @@ fn among(
     }
 }
 
-/// The one call that compares a tuple with a template.
+/// Whether the tuple of the slot matches. It is the one call that compares, so the loop above counts each comparison.
 fn fits(template: &Template, slots: &[Option<Tuple>], place: usize) -> bool
     ensures { result ≡ slot_matches template.now (slice_get slots.now place) }
 {

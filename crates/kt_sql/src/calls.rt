@@ -1,4 +1,4 @@
-//! The calls of a store.
+//! The calls of a store. A write reads a row whole, changes it and writes it whole (docs/DECISIONS.md#stores).
 
 ghost use Rattle.kt_tables.specs.Held.{is_sure, content_of};
 
@@ -138,6 +138,7 @@ impl<S: Alter> CkptStore for SqlStore<S> {
                 posted.verdict = Verdict::of(yes);
                 self.put_posted(posted)
             }
+            // Not met while the store is honest: who calls `decide` sees to it that the instance is open.
             None => Ok(()),
         }
     }

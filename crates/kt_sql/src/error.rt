@@ -6,13 +6,13 @@ use thiserror::Error;
 /// Why a store can't be opened.
 #[derive(Clone, Copy, Debug, PartialEq, Eq, Error)]
 pub enum SqlOpenError {
-    /// Memory ran out.
+    /// Memory ran out before the store was open.
     #[error("Memory")]
     Memory,
-    /// The device failed.
+    /// The device failed, or the file can't be opened; so too for `:memory:`, which names no file.
     #[error("Device")]
     Device,
-    /// The tables are not those of a store.
+    /// The tables are not those of a store of version 1, or the file is no database.
     #[error("Damaged")]
     Damaged,
 }

@@ -18,7 +18,7 @@ use kt_tables::readied;
 use sqlite::{Alter, Connection, Error, ErrorCode, File, FileStore, MemStore};
 use std::alloc::Global;
 
-/// Why a file was not opened. One that is no database has no such tables.
+/// Why a file was not opened. One that is no database has no tables of a store, so it is damaged.
 fn file_error(error: Error) -> SqlOpenError
     ensures { error ≡ Error.SqliteFailure ErrorCode.CannotOpen → result ≡ SqlOpenError.Device }
 {
@@ -49,7 +49,7 @@ fn closed(conn: Connection<FileStore<File>>, error: SqlOpenError) -> SqlOpenErro
     error
 }
 
-/// Why a connection is no store's.
+/// Why a connection is no store's: for memory, for damage, or for the device, as which `Full` is told too.
 fn open_error(error: StoreError) -> SqlOpenError
     ensures { result ≡ SqlOpenError.Damaged ↔ error ≡ StoreError.Damaged }
 {
@@ -99,7 +99,7 @@ impl<S: Alter> SqlStore<S> {
 }
 
 impl SqlStore<MemStore> {
-    /// A fresh store in memory.
+    /// A fresh store in a database that lies in memory, and in no file.
     pub fn in_memory(alloc: Global) -> Result<SqlStore<MemStore>, SqlOpenError>
         ensures honest { IfOk result (λ s. IsTrue (is_sure over_memory s.tables)) }
         ensures fresh { IfOk result (λ s. content_of over_memory s.tables ≡ empty_content) }
@@ -114,8 +114,8 @@ impl SqlStore<MemStore> {
 
 impl SqlStore<FileStore<File>> {
     /// The store in the database at the path, which is made where no file or an empty one is there. The file is locked
-    /// while the store lives. That it is this file, that it is made and locked, and which rows it has then, is tested
-    /// and no clause says.
+    /// while the store lives. That it is this file, that it is made and locked, and which rows it has then, is tested,
+    /// and no clause says it.
     pub fn open(rt: &HostRuntime, path: &str) -> Result<SqlStore<FileStore<File>>, SqlOpenError>
         ensures version { IfOk result (λ s. HasCleanDisk (file_state s.tables.conn)
             → IsVersion1 (file_state s.tables.conn).now) }

@@ -24,7 +24,9 @@ use std::alloc::Global;
 /// A store in the tables of a database. It is honest while its connection is open, the disk has returned what was
 /// written, and each row was as said when it was opened.
 pub struct SqlStore<S: Alter> {
+    /// What is stored, and whether it is sure.
     tables: Tables<S>,
+    /// How often the device failed since the opening, up to 2^64 - 1.
     faults: u64,
 }
 
@@ -37,7 +39,7 @@ impl<S: Alter + Drop> Drop for SqlStore<S> {
     }
 }
 
-/// Counts a fault, where the device failed.
+/// Counts a fault where the device failed, and nothing else. The count stays at the greatest number.
 fn count<T>(faults: &mut u64, answer: &Result<T, StoreError>)
     ensures later { faults.old ≤ faults.new }
     ensures once { faults.new ≤ faults.old + 1 }
@@ -62,7 +64,7 @@ impl<S: Alter> SqlStore<S> {
         }
     }
 
-    /// Its connection.
+    /// The connection as it is now; the count of faults is forgotten.
     pub fn into_connection(self) -> Connection<S>
         ensures { result ≡ self.tables.conn }
     {
@@ -75,14 +77,14 @@ impl<S: Alter> SqlStore<S> {
         self.tables.allocator()
     }
 
-    /// How many faults were counted.
+    /// How many faults of the device were counted since the opening.
     pub(crate) fn counted(&self) -> u64
         ensures { result ≡ self.now.faults }
     {
         self.faults
     }
 
-    /// What is stored of the node.
+    /// What is stored of the node. As in each call below, the tables answer, and a fault is counted.
     pub(crate) fn row_of(&mut self, node: NodeId) -> Result<NodeRow, StoreError>
         ensures value { IsTrue (is_sure S.Store self.new.tables)
             → IfOk result (λ r. r ≡ row_of (content_of S.Store self.old.tables) node) }
@@ -203,7 +205,7 @@ impl<S: Alter> SqlStore<S> {
         answer
     }
 
-    /// Stores both rows in one transaction.
+    /// Stores both rows in one transaction, or neither.
     pub(crate) fn put_both(&mut self, row: NodeRow, posted: Posted) -> Result<(), StoreError>
         requires incarnation { 1 ≤ row.incarnation }
         requires instance { 1 ≤ posted.instance }

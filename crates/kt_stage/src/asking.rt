@@ -22,7 +22,7 @@ use kt_tuple::{NodeId, Op};
 use kt_vote::Ballot;
 use std::alloc::Global;
 
-/// Whether the node is up.
+/// Whether the node is up: no where it is held, rolls back, is down or is not in the scene.
 pub(crate) fn is_up<S: CkptStore>(world: &World<S>, node: NodeId) -> bool
     ensures value { result ≡ is_up world.now.state node }
     ensures there { IsTrue result → IsTrue (is_node world.now.state.cast node) }
@@ -38,7 +38,7 @@ pub(crate) fn is_down<S: CkptStore>(world: &World<S>, node: NodeId) -> bool
     matches!(world.mode(node), None | Some(Mode::Down))
 }
 
-/// The step, where it is allowed.
+/// The step where it is allowed, the limit of steps left aside; else `None`.
 pub(crate) fn if_allowed<S: CkptStore>(
     world: &mut World<S>,
     alloc: Global,
@@ -53,7 +53,7 @@ pub(crate) fn if_allowed<S: CkptStore>(
     }
 }
 
-/// Whether the node began a rollback that got No, and still rolls.
+/// Whether the node began a rollback that got No, and still rolls: of nodes that roll these alone may restart.
 pub(crate) fn got_no<S: CkptStore>(
     world: &mut World<S>,
     alloc: Global,
@@ -114,7 +114,9 @@ fn number_of(node: NodeId) -> u8
     }
 }
 
-/// Whether the request has come to nothing with this shard.
+/// Whether the request has come to nothing with this shard: it is up, does not hold it as waiting, and nothing with its
+/// number goes between the two. Another worker's request with the same number does not count: counted, it could keep a
+/// lost one from ever being asked again (docs/DECISIONS.md#threads).
 fn is_forgotten<S: CkptStore>(
     world: &World<S>,
     node: NodeId,
@@ -192,7 +194,7 @@ fn has_silent<S: CkptStore>(world: &World<S>, node: NodeId, ballot: &Ballot) -> 
         && !owes_vote(world, node, ballot, *other))
 }
 
-/// The same, where the node votes.
+/// Whether the node votes, and a node that it awaits owes it no vote; no where it does not vote.
 pub(crate) fn waits_in_vain<S: CkptStore>(world: &World<S>, node: NodeId) -> bool
     ensures { result ≡ waits_in_vain world.now.state node (poll_at world.now.state node) }
 {

@@ -25,7 +25,7 @@ pub enum CloseError {
     /// A seat of this node keeps other receipts than those of the journal's steps of the node, or is a second one.
     #[error("Unmatched")]
     Unmatched { node: NodeId },
-    /// There is no seat of this node.
+    /// None of the seats is this node's.
     #[error("SeatMissing")]
     SeatMissing { node: NodeId },
 }
@@ -46,7 +46,8 @@ fn behind(node: NodeId, rest: &[Receipt], number: u64, step: Step) -> Option<&[R
     }
 }
 
-/// Whether these are just the receipts of the node for these steps.
+/// Whether these are just the receipts of the node for these steps. It is found out at run time, since no type says
+/// which step a receipt names (docs/DECISIONS.md#threads).
 fn fits(node: NodeId, receipts: &[Receipt], steps: &[Step]) -> bool
     ensures { IsTrue result ↔ (receipts.now ≡ receipts_of node 1 steps.now) }
 {

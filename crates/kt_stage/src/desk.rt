@@ -25,7 +25,8 @@ use std::alloc::Global;
 use std::sync::ledger::Book;
 
 /// The journal of the stage that L names, and the book of its ledger. While the store is honest the world is what the
-/// steps lead to from the world that the stage was opened with; the book's total is their number.
+/// steps lead to from the world that the stage was opened with; the book's total is their number. All of it stands in
+/// this type, since a proof knows nothing else of what it finds when the lock is taken (docs/DECISIONS.md#threads).
 #[derive(Drop)]
 pub struct Desk<S: CkptStore, L: Naming> {
     pub(crate) journal: Journal<S>,
@@ -44,7 +45,7 @@ fn is_own(node: NodeId, step: Step) -> bool
 }
 
 impl<S: CkptStore> Journal<S> {
-    /// Makes the step, and adds it to the list.
+    /// Makes the step, and adds it to the list. Where it is refused neither world nor list has changed.
     fn make(&mut self, alloc: Global, step: Step) -> Result<(), StepError>
         ensures made { OnOk result (self.new.steps ≡ self.old.steps ++ step ∷ []) }
         ensures effect { IsTrue self.new.world.is_honest
@@ -121,6 +122,8 @@ impl<S: CkptStore, L: Naming> Desk<S, L> {
         if !is_own(seat.node, step) {
             return Err(ActError::NotOwner);
         }
+        // Room in seat, list and world comes before the store is asked to write, so that nothing is refused after the
+        // write; want of memory may then come before a reason that the step has (docs/DECISIONS.md#threads).
         if seat.receipts.reserve(1).is_err() {
             return Err(ActError::Step(StepError::OutOfMemory));
         }

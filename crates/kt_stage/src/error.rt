@@ -6,10 +6,10 @@ use thiserror::Error;
 /// Why a node did not act.
 #[derive(Clone, Copy, Debug, PartialEq, Eq, Error)]
 pub enum ActError {
-    /// The step is another node's.
+    /// The step is another node's than the seat's; nothing was tried.
     #[error("NotOwner")]
     NotOwner,
-    /// The step was refused.
+    /// The world refused the step, or memory ran out for the receipt or the list.
     #[error("Step")]
     Step(StepError),
 }

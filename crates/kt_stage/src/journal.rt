@@ -22,21 +22,21 @@ impl<S: CkptStore> Model for Journal<S> {
 }
 
 impl<S: CkptStore> Journal<S> {
-    /// The world.
+    /// The world as the steps left it.
     pub fn world(&self) -> &World<S>
         ensures { result.now ≡ self.now.world }
     {
         &self.world
     }
 
-    /// The steps, the first first.
+    /// The steps that were made on the stage, the first first; refused ones are not among them.
     pub fn steps(&self) -> &[Step]
         ensures { result.now ≡ self.now.steps }
     {
         &self.steps
     }
 
-    /// Hands the world on.
+    /// Hands the world on; the list of steps is dropped.
     pub fn into_world(self) -> World<S>
         ensures { result ≡ self.world }
     {

@@ -1,4 +1,14 @@
-//! The stage: what the nodes of a scenario of fault lines do, by threads and step by step.
+//! The stage: a world and the steps made in it under one lock, and a seat for each node. On it the nodes of a scenario
+//! of fault lines go their way, by threads or step by step, each by a policy of eleven rules.
+//!
+//! - Contract: while the store is honest, a closed stage gives a world that its listed steps lead to (`Stage::close`,
+//!   clause `replays`). Each seat kept the receipts of just its node's steps (`kept`). Of `run_threads_over` the
+//!   clauses `replays` and `finished` say the same of a run: its steps lead to its world, where no node has a next one.
+//! - Stands on: kt_tuple, kt_script, kt_space, kt_link, kt_shard, kt_worker, kt_vote, kt_history, kt_ckpt, kt_store,
+//!   kt_node, kt_world, kt_core; of the kit: thiserror
+//! - Used by: kt_run, kt_command, linda_kt
+//! - Begin in: `desk.rt`, which has what lies under the lock, then `policy.rt` for the rules and `running.rt` for
+//!   threads.
 #![tactic(auto)]
 
 mod asking;

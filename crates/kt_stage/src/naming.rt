@@ -8,6 +8,7 @@ use std::marker::Brand;
 use std::sync::ledger::Ledger;
 
 /// Names a stage: the ledger that counts its steps, with a part for each node, and the world that it was opened with.
+/// The name is a type, so a seat of another stage does not compile where this one is closed.
 pub trait Naming: Ledger {
     ghost opening: { Standing };
 }

@@ -27,13 +27,13 @@ pub enum Rule {
     Fails,
     /// It begins a check, where that is due.
     Checks,
-    /// It learns a verdict.
+    /// It learns from the board a verdict for which it waits.
     Learns,
     /// It is down, and gives up the instance that it began, or restarts.
     ComesBack,
     /// Its rollback got No, and it restarts.
     TriesAgain,
-    /// It decides.
+    /// It began an instance, and writes the verdict that the votes come to.
     Decides,
     /// It hears the first node that has sent it something.
     Hears,
@@ -120,8 +120,8 @@ fn all_let_restart<S: CkptStore>(
     }
 }
 
-/// A node whose rollback got No restarts, where every other node is up, or began a rollback that got No and comes
-/// later.
+/// A node whose rollback got No restarts where each other node is up, or began a rollback that got No and comes later
+/// in node order. All sixteen names are asked: one that is not in the scene stands in nobody's way.
 fn tries_again<S: CkptStore>(
     world: &mut World<S>,
     alloc: Global,
@@ -276,7 +276,7 @@ fn gives_up<S: CkptStore>(
 }
 
 impl Rule {
-    /// What the rule gives.
+    /// The step that the rule gives the node, `None` where the rule does not apply.
     fn step<S: CkptStore>(
         self,
         world: &mut World<S>,
@@ -323,7 +323,8 @@ fn first_by<S: CkptStore>(
 
 /// The step that the first rule of the policy gives that applies to the node, where the fault lines are spent so;
 /// `None` where none applies, and for a node that is not in the scene. It is a step of the node itself, and enabled but
-/// for the limit of steps. The store's refusal, where the store does not say what has to be known. The world stays.
+/// for the limit of steps, which it leaves aside as `World::is_allowed` does. The store's refusal, where the store does
+/// not say what has to be known. The world stays.
 pub fn next_for<S: CkptStore>(
     alloc: Global,
     world: &mut World<S>,
@@ -359,7 +360,9 @@ fn first_with_step<S: CkptStore>(
     }
 }
 
-/// The first node, in node order, that has a next step, where the fault lines are spent so. The world stays.
+/// The first node, in node order, that has a next step, where the fault lines are spent so. The world stays. All
+/// sixteen names are asked, since of a node that is not in the scene the policy gives nothing
+/// (docs/DECISIONS.md#threads).
 pub(crate) fn first_unfinished<S: CkptStore>(
     world: &mut World<S>,
     alloc: Global,

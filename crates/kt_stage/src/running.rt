@@ -32,13 +32,13 @@ use thiserror::Error;
 /// Why a run did not come to its end.
 #[derive(Clone, Copy, Debug, PartialEq, Eq, Error)]
 pub enum RunFault {
-    /// The world was not opened.
+    /// The world was not opened, for this reason; no step was made.
     #[error("Open")]
     Open(OpenError),
     /// A step was refused. Counted from 1, `at` is the place in the journal that it would have had.
     #[error("Step")]
     Step { at: u64, cause: StepError },
-    /// The seats do not fit the journal.
+    /// The seats do not fit the journal, for this reason.
     #[error("Close")]
     Close(CloseError),
     /// Memory ran out, or a thread could not be started.
@@ -266,7 +266,7 @@ fn play<R: Wait, S: CkptStore, L: Naming>(
     unreachable!()
 }
 
-/// The same, and gives the seat back.
+/// As `play`, and gives the seat back, how the thread ended too: the stage is closed with all seats.
 fn play_to_end<R: Wait, S: CkptStore, L: Naming>(
     rt: &R,
     alloc: Global,
@@ -317,6 +317,8 @@ where
             let mut ended = Ok(());
             for player in players {
                 let started = scope.spawn(move || play_to_end(rt, alloc, stage, player));
+                // A thread that cannot be started ends the run as want of memory does; those that were started are
+                // joined all the same (docs/DECISIONS.md#threads).
                 let is_started = match started {
                     Ok(handle) => handles.push(handle).is_ok(),
                     Err(_) => false,
@@ -389,9 +391,10 @@ where
 }
 
 /// Runs the scene: a thread for each node, each by the policy with these fault lines, until no node has a next step.
-/// Every thread is joined. The run ends early with the first step that is refused. It may wait for its threads. Where
-/// it is refused, scene, fault lines and store are gone, so its clause speaks of some store of its kind in place of the
-/// one that was left: of one that is not always honest `run_threads_over` says more.
+/// Every thread is joined. The run ends early with the first step that is refused. It may wait for its threads.
+///
+/// Where it is refused, scene, fault lines and store are gone. So its clause speaks of some store of its kind in place
+/// of the one that was left; of a kind that is not always honest `run_threads_over` says more.
 ///
 /// Which steps are made, and in what order, is not promised; nor that the run ends. Of a step that is refused, of seats
 /// that do not fit and of want of memory nothing is promised but the name.
@@ -423,8 +426,8 @@ where
     }
 }
 
-/// As `run_threads`, and gives the store back where the run ends early: what is said of a store is said of it as it was
-/// left.
+/// As `run_threads`, and gives the store back where the run ends early. `run_threads` drops it, so its clauses can name
+/// no store that a caller sees; these speak of the one that is given back (docs/DECISIONS.md#the-report).
 pub fn run_threads_over<R, S>(
     rt: &R,
     alloc: Global,
@@ -451,6 +454,7 @@ where
     let blank = Blank::new(node_count(&world));
     let mut journal = run_on::<R, S, Brand>(rt, alloc, world, blank, &faults)?;
     let mut faults = faults;
+    // What the threads counted as idle stands in no clause, so the journal itself is asked whether it is at its end.
     let left = match unfinished(alloc, &mut journal, &mut faults) {
         Ok(left) => left,
         Err(refusal) => {

@@ -12,14 +12,16 @@ use std::sync::ledger::Share;
 /// The place that a step has in the journal, counted from 1.
 #[derive(Clone, Copy, Debug, PartialEq, Eq)]
 pub struct Receipt {
-    /// The place.
+    /// The place, from 1 on: as many steps stand before it as the number less one.
     pub number: u64,
-    /// The step that stands there.
+    /// The step that stands there, which the seat's node made.
     pub step: Step,
 }
 
 /// A node's seat on the stage that L names: it keeps the receipts of the node's steps, and a share of one part of the
-/// stage's ledger, whose amount is their number.
+/// stage's ledger, whose amount is their number. Seats keep receipts although the journal lists all steps: the ledger
+/// says how many steps there are, and not which step a receipt names, so `Stage::close` compares the two
+/// (docs/DECISIONS.md#threads).
 #[derive(Drop)]
 pub struct Seat<L: Naming> {
     pub(crate) node: NodeId,
@@ -41,7 +43,7 @@ impl<L: Naming> Model for Seat<L> {
 }
 
 impl<L: Naming> Seat<L> {
-    /// Whose seat it is.
+    /// The node whose seat it is: one of the scene.
     pub fn node(&self) -> NodeId
         ensures value { result ≡ self.now.node }
         ensures there { IsTrue (has_node L.opening.state.cast self.now.node) }
@@ -49,7 +51,7 @@ impl<L: Naming> Seat<L> {
         self.node
     }
 
-    /// The receipts of its steps, the first first.
+    /// The receipts of its node's steps, the first first: none on a stage that was just opened.
     pub fn receipts(&self) -> &[Receipt]
         ensures { result.now ≡ self.now.receipts }
     {

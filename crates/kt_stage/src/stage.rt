@@ -149,7 +149,7 @@ impl<S: CkptStore, L: Naming> Stage<S, L> {
         }
     }
 
-    /// The same, which gives the world back where memory runs out.
+    /// As `open`, and gives the world back where memory runs out: a run hands the store on with its refusal.
     pub(crate) fn open_or_back(
         alloc: Global,
         world: World<S>,
@@ -190,7 +190,7 @@ impl<S: CkptStore, L: Naming> Stage<S, L> {
         Ok((stage, seats))
     }
 
-    /// The store of its world, where it is not closed.
+    /// The store of its world, from a stage that is given up and not closed: the steps are gone.
     pub(crate) fn into_store(self) -> S {
         let Stage { floor, .. } = self;
         floor.into_inner().desk.journal.into_world().into_store()

@@ -15,7 +15,7 @@ use kt_tuple::NodeId;
 /// Which messages are sought.
 #[derive(Clone, Copy, Debug, PartialEq, Eq)]
 pub enum Sought {
-    /// Underlying messages with this number.
+    /// Underlying messages about a request with this number: the request, or a reply to it.
     Number(u64),
     /// Asks in this instance and in this incarnation of the asker.
     Ask { instance: u64, incarnation: u64 },
@@ -46,7 +46,7 @@ fn is_ask(instance: u64, incarnation: u64, ask: &Ask) -> bool
 }
 
 impl Sought {
-    /// Whether the message is one of these.
+    /// Whether the message is one of those that are sought.
     fn is_met(self, message: &Message) -> bool
         ensures { result ≡ is_sought self message.now }
     {
@@ -78,7 +78,7 @@ impl Sought {
     }
 }
 
-/// Whether the message that has so many before it is such a one.
+/// Whether the message at this place of the link, counted from 0, is such a one; no past the last.
 fn is_met_at<S: CkptStore>(
     world: &World<S>,
     from: NodeId,

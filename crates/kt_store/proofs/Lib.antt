@@ -1,5 +1,6 @@
 pub mod Tables
 pub mod Board
+pub mod Numbered
 pub mod Nodes
 pub mod Others
 pub mod OtherNodes

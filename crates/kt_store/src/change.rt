@@ -22,11 +22,12 @@ pub(crate) enum Change {
     Take(Tentative),
     /// The tentative checkpoint, where there is one, becomes permanent.
     Promote,
-    /// The tentative checkpoint is given up.
+    /// The tentative checkpoint is given up; the permanent one stays.
     Discard,
 }
 
 impl Change {
+    /// Makes the change. To promote or to discard where there is no tentative checkpoint changes nothing.
     fn apply(self, row: &mut NodeRow)
         ensures { row.new ≡ changed self row.old }
     {

@@ -6,7 +6,7 @@ use thiserror::Error;
 /// Why a call of a store is refused. It changes nothing then.
 #[derive(Clone, Copy, Debug, PartialEq, Eq, Error)]
 pub enum StoreError {
-    /// Memory ran out.
+    /// Memory ran out, of the program or within a database.
     #[error("Memory")]
     Memory,
     /// The device failed. A store in SQL answers so too where it is to hold a node whose number is above 99, or a

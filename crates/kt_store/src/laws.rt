@@ -1,4 +1,6 @@
-//! Laws about what writes make of a store's content, each the contract of a function with nothing to do.
+//! Laws about what writes make of a store's content, each the contract of a function with nothing to do. That other
+//! nodes and instances stay is said here of the changes, and in no clause of a call: a clause says the whole content,
+//! and a law holds of every store (docs/DECISIONS.md#stores).
 
 ghost use Rattle.std.specs.Prelude.{◌≡◌, ℕ, Bool, Some};
 ghost use Rattle.std.specs.Option.{option_map};

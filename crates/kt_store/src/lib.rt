@@ -1,10 +1,20 @@
-//! Where checkpoints and verdicts are kept: what a store promises, and a store in memory.
+//! Where checkpoints, incarnations and verdicts are kept: what a store promises, and a store in memory that keeps it.
+//!
+//! - Contract: while a store is honest, each write is its one change of the whole content, and a refused one changes
+//!   nothing (`CkptStore::promote` and its sisters, clauses `written` and `unchanged`). The store in memory,
+//!   `MemStore`, always is.
+//! - Stands on: kt_tuple, kt_ckpt; of the kit: thiserror
+//! - Used by: kt_tables, kt_sql, kt_node, kt_world, kt_refinement, kt_core, kt_scene, kt_stage, kt_run, kt_command,
+//!   linda_kt, kt_example, kt_memory_tests
+//! - Begin in: `store.rt` for the promises and `rows.rt` for what is stored. `memory.rt`, `posted.rt` and
+//!   `change.rt` are the store in memory.
 #![tactic(auto)]
 
 mod change;
 mod error;
 mod laws;
 mod memory;
+mod posted;
 mod rows;
 mod store;
 

@@ -1,22 +1,23 @@
 //! A store in memory.
 
-ghost use Rattle.std.specs.Prelude.{◌≡◌, ◌+◌, ℕ, None, OnOk, OnErr, vec_len, vec_capacity, IfOk, IfSome};
-ghost use Rattle.std.specs.Prelude.{IfNone, slice_get, length, fold, map, max, All, ◌<◌, ◌≤◌, ◌==◌, ◌&&◌};
+ghost use Rattle.std.specs.Prelude.{◌≡◌, ◌+◌, None, OnOk, OnErr, IfOk, true};
+ghost use Rattle.std.specs.Prelude.{All, ◌<◌, ◌≤◌, ◌==◌, ◌&&◌};
 ghost use Rattle.std.specs.Option.{option_copied};
-ghost use Rattle.std.specs.List.{find, position};
+ghost use Rattle.std.specs.List.{find};
 ghost use Rattle.kt_tuple.specs.declared.node.NodeId.{NodeId};
 ghost use Rattle.kt_tuple.specs.Node.{node_eq};
+ghost use Rattle.kt_store.specs.declared.posted.Opened.{Opened};
 ghost use Rattle.kt_store.specs.declared.rows.NodeRow.{NodeRow};
 ghost use Rattle.kt_store.specs.declared.rows.Posted.{Posted};
-ghost use Rattle.kt_store.specs.Verdict.{is_open};
 ghost use Rattle.kt_store.specs.Content.{row_of, verdict_of, initiator_of, open_of, next_instance};
-ghost use Rattle.kt_store.specs.inner.Rising.{IsBoard};
+ghost use Rattle.kt_store.specs.inner.Rising.{IsBoard, IsNumbered, opened};
 ghost use Rattle.kt_store.specs.Content.{is_fresh, greatest, permanent_marks, tentative_marks};
-ghost use Rattle.kt_store.specs.Changes.{decided, opening, storing, with_posted};
+ghost use Rattle.kt_store.specs.Changes.{decided, opening, storing};
 ghost use Rattle.kt_store.specs.inner.Row.{changed, IsWithin};
 
 use crate::change::{Change, change_row};
 use crate::error::StoreError;
+use crate::posted::{Opened, opened_at, place_of, post, posted_at};
 use crate::rows::{NodeRow, Posted, Purpose, Tentative, TentativeMarks, Verdict};
 use crate::store::CkptStore;
 use kt_ckpt::{Ckpt, Marks};
@@ -24,40 +25,49 @@ use kt_tuple::NodeId;
 use std::alloc::{AllocError, Global};
 use std::marker::Model;
 
-/// The greatest incarnation, and the greatest number of an instance.
+/// The greatest incarnation, and the greatest number of an instance: a call that would go past it is `Full`. Why it is
+/// not 2^64 - 1: docs/DECISIONS.md#stores.
 const GREATEST: u64 = 1 << 62;
 
 /// A store in memory, which is always honest.
 #[derive(Debug, Drop)]
 pub struct MemStore {
     nodes: Vec<NodeRow>,
+    // The rows are numbered 1, 2, .. in their order, so that a row is found by its number without a search.
     board: Vec<Posted>,
+    // The rows of the board without a verdict: few, however long the board is.
+    undecided: Vec<Opened>,
 }
 
 impl Model for MemStore {
+    ghost use Rattle.std.specs.Prelude.{◌≡◌};
     ghost use Rattle.kt_store.specs.Content.{Content};
-    ghost use Rattle.kt_store.specs.inner.Rising.{IsBoard, IsNodes};
+    ghost use Rattle.kt_store.specs.inner.Rising.{IsBoard, IsNodes, IsNumbered, opened};
 
     ghost Value = { Content };
 
     ghost view = { λ s. record { nodes = s.nodes.items; board = s.board.items } };
 
-    ghost invariant = { λ s. IsNodes s.nodes.items × IsBoard s.board.items };
+    ghost invariant = { λ s. IsNodes s.nodes.items × IsBoard s.board.items × IsNumbered s.board.items
+        × (s.undecided.items ≡ opened s.board.items) };
 }
 
 impl MemStore {
     ghost use Rattle.kt_store.specs.Content.{empty_content};
 
-    /// A fresh store.
+    /// A fresh store: no node has a row, and nothing is on the board.
     pub fn new(alloc: Global) -> MemStore
         ensures { result ≡ empty_content }
     {
         MemStore {
             nodes: Vec::new(alloc),
             board: Vec::new(alloc),
+            undecided: Vec::new(alloc),
         }
     }
 
+    /// The node's incarnation. A node without a row is in the first, so that a store needs no list of the nodes there
+    /// are.
     fn incarnation_of(&self, node: NodeId) -> u64
         ensures value { result ≡ (row_of self.now node).incarnation }
         ensures within { result ≤ greatest }
@@ -75,7 +85,7 @@ impl MemStore {
         row_at(&self.nodes, node)?.permanent.as_ref()
     }
 
-    /// The tentative one.
+    /// The node's tentative checkpoint, where one is stored.
     fn tentative_at(&self, node: NodeId) -> Option<&Tentative>
         ensures { option_copied result ≡ (row_of self.now node).tentative }
     {
@@ -91,6 +101,7 @@ impl MemStore {
         }
     }
 
+    /// The marks of the node's permanent checkpoint, which they share.
     fn permanent_marks_of(&self, alloc: Global, node: NodeId) -> Result<Option<Marks>, AllocError>
         ensures { IfOk result (λ m. m ≡ permanent_marks self.now node) }
     {
@@ -137,14 +148,15 @@ impl MemStore {
     fn open_instance_of(&self, node: NodeId) -> Option<u64>
         ensures { result ≡ open_of self.now node }
     {
-        Some(open_at(&self.board, node)?.instance)
+        Some(opened_at(&self.undecided, node)?.instance)
     }
 
+    /// The number that the next instance gets: from 1 on, and above 2^62 where none is left.
     fn next_number(&self) -> u64
         ensures value { result ≡ next_instance self.now }
         ensures within { result ≤ greatest + 1 }
     {
-        greatest_of(&self.board) + 1
+        self.board.len() as u64 + 1
     }
 
     /// Gives the instance its verdict, where it was begun.
@@ -153,6 +165,7 @@ impl MemStore {
     {
         if let Some(place) = place_of(&self.board, instance) {
             self.board[place].verdict = Verdict::of(yes);
+            self.undecided.retain(|opened| opened.instance != instance);
         }
     }
 
@@ -185,7 +198,9 @@ impl MemStore {
             (storing (changed change (row_of self.old node)) self.old)) }
         ensures unchanged { OnErr result (self.new ≡ self.old) }
     {
+        // All memory is taken before a row changes, so that a refused write changes nothing.
         self.board.reserve(1)?;
+        self.undecided.reserve(1)?;
         change_row(&mut self.nodes, node, change)?;
         let new = Posted {
             instance,
@@ -193,10 +208,11 @@ impl MemStore {
             purpose,
             verdict: Verdict::Open,
         };
-        post(&mut self.board, new);
+        post(&mut self.board, &mut self.undecided, new);
         Ok(())
     }
 
+    /// Whether nothing was ever stored: no node has a row, and nothing is on the board.
     fn has_nothing(&self) -> bool
         ensures { result ≡ is_fresh self.now }
     {
@@ -324,57 +340,9 @@ impl CkptStore for MemStore {
     }
 }
 
-/// The node's row, where it has one.
+/// The node's row; `None` where nothing was stored of it.
 fn row_at(rows: &[NodeRow], node: NodeId) -> Option<&NodeRow>
     ensures { option_copied result ≡ find (λ (row : NodeRow). node_eq row.node node) rows.now }
 {
     rows.iter().find(|row| row.node == node)
-}
-
-/// The instance's row, where it was begun.
-fn posted_at(rows: &[Posted], instance: u64) -> Option<&Posted>
-    ensures { option_copied result ≡ find (λ (row : Posted). row.instance == instance) rows.now }
-{
-    rows.iter().find(|row| row.instance == instance)
-}
-
-/// Where the instance's row stands.
-fn place_of(rows: &[Posted], instance: u64) -> Option<usize>
-    ensures value { result ≡ position (λ (row : Posted). row.instance == instance) rows.now }
-    ensures within { IfSome result (λ place. place < length rows.now) }
-{
-    rows.iter().position(|row| row.instance == instance)
-}
-
-/// Puts the next instance on the board, which has room for it.
-fn post(board: &mut Vec<Posted>, new: Posted)
-    requires board { IsBoard board.old.items }
-    requires next { new.instance ≡ fold max 0 (map (λ (row : Posted). row.instance) board.old.items) + 1 }
-    requires within { new.instance ≤ greatest }
-    requires room { vec_len board.old < vec_capacity board.old }
-    ensures written { board.new.items ≡ with_posted new board.old.items }
-    ensures kept { IsBoard board.new.items }
-{
-    board.push_reserved(new);
-}
-
-/// The greatest number of an instance, 0 where there is none.
-fn greatest_of(rows: &[Posted]) -> u64
-    ensures value { result ≡ fold max 0 (map (λ (row : Posted). row.instance) rows.now) }
-    ensures within { All (λ (row : Posted). row.instance ≤ greatest) rows.now → result ≤ greatest }
-{
-    let mut greatest = 0;
-    for row in rows {
-        greatest = greatest.max(row.instance);
-    }
-    greatest
-}
-
-/// The first instance that the node began and that is open.
-fn open_at(rows: &[Posted], node: NodeId) -> Option<&Posted>
-    ensures { option_copied result ≡ find
-        (λ (row : Posted). node_eq row.initiator node && is_open row.verdict) rows.now }
-{
-    rows.iter()
-        .find(|row| row.initiator == node && row.verdict.is_open())
 }

@@ -6,7 +6,7 @@ use kt_ckpt::{Ckpt, Marks};
 use kt_tuple::NodeId;
 use std::alloc::{AllocError, Global};
 
-/// What an instance is for.
+/// What an instance is for: a check or a rollback.
 #[derive(Clone, Copy, Debug, PartialEq, Eq)]
 pub enum Purpose {
     /// Nodes take checkpoints together.
@@ -15,10 +15,10 @@ pub enum Purpose {
     Rollback,
 }
 
-/// What became of an instance.
+/// How an instance ended, which the node that began it writes on the board.
 #[derive(Clone, Copy, Debug, PartialEq, Eq)]
 pub enum Verdict {
-    /// There is none yet.
+    /// It has not ended.
     Open,
     /// All agreed: tentative checkpoints become permanent, or nodes roll back.
     Yes,
@@ -29,14 +29,14 @@ pub enum Verdict {
 impl Verdict {
     ghost use Rattle.kt_store.specs.Verdict.{is_open, verdict_from};
 
-    /// The verdict that says so.
+    /// `Yes` where all agreed, else `No`: never `Open`.
     pub fn of(yes: bool) -> Verdict
         ensures { result ≡ verdict_from yes }
     {
         if yes { Verdict::Yes } else { Verdict::No }
     }
 
-    /// Whether there is none yet.
+    /// Whether the instance has not ended.
     pub fn is_open(self) -> bool
         ensures { result ≡ is_open self }
     {
@@ -50,7 +50,7 @@ impl Verdict {
 /// A checkpoint that a verdict makes permanent or gives up.
 #[derive(Debug, Drop)]
 pub struct Tentative {
-    /// The instance in which it was taken.
+    /// The number of the check in which it was taken.
     pub instance: u64,
     /// The checkpoint, with its node's state.
     pub checkpoint: Ckpt,
@@ -59,7 +59,7 @@ pub struct Tentative {
 impl Tentative {
     ghost use Rattle.kt_store.specs.Content.{marks_in};
 
-    /// An equal one.
+    /// An equal tentative checkpoint, which shares marks and state with this one: it takes no memory.
     pub fn copy(&self, alloc: Global) -> Result<Tentative, AllocError>
         ensures { IfOk result (λ t. t ≡ self.now) }
     {
@@ -69,7 +69,7 @@ impl Tentative {
         })
     }
 
-    /// The same without the node's state.
+    /// Its instance, and its checkpoint without the node's state. It takes no memory.
     pub fn marks(&self, alloc: Global) -> Result<TentativeMarks, AllocError>
         ensures { IfOk result (λ m. m ≡ marks_in self.now) }
     {
@@ -83,34 +83,34 @@ impl Tentative {
 /// What a tentative checkpoint says besides its node's state.
 #[derive(Debug, Drop)]
 pub struct TentativeMarks {
-    /// The instance in which it was taken.
+    /// The number of the check in which it was taken.
     pub instance: u64,
-    /// What it says besides.
+    /// What its checkpoint says besides the node's state.
     pub marks: Marks,
 }
 
-/// What is stored of a node.
+/// What is stored of a node; one without a row is in incarnation 1 and has nothing stored.
 #[derive(Debug, Drop)]
 pub struct NodeRow {
     /// Whose row it is.
     pub node: NodeId,
-    /// From 1 on, at most 2^62.
+    /// The node's incarnation, from 1 on, at most 2^62.
     pub incarnation: u64,
-    /// The permanent checkpoint; none where it is the initial one.
+    /// The permanent checkpoint; `None` where it is the initial one.
     pub permanent: Option<Ckpt>,
     /// The tentative checkpoint, while the node has one.
     pub tentative: Option<Tentative>,
 }
 
-/// An instance on the board.
+/// An instance, as the board has it.
 #[derive(Clone, Copy, Debug)]
 pub struct Posted {
     /// Its number, from 1 on, at most 2^62.
     pub instance: u64,
-    /// Who began it.
+    /// The node that began it, and that gives it its verdict.
     pub initiator: NodeId,
-    /// What it is for.
+    /// Whether it is a check or a rollback.
     pub purpose: Purpose,
-    /// How it ended, once it has.
+    /// How it ended; `Open` until it has.
     pub verdict: Verdict,
 }

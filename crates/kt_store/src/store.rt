@@ -15,22 +15,23 @@ use kt_tuple::NodeId;
 use std::alloc::Global;
 
 /// Where a world keeps what outlasts the failure of a node. What is said of the content is said while the store is
-/// honest; one that is honest after a call was so before it.
+/// honest. One that is honest after a call was so before it, so who finds it honest at the end knows of all calls.
 pub trait CkptStore {
-    /// What is stored.
+    /// What is stored: the abstract state of the store.
     ghost content: { Self → Content };
 
-    /// What it answers is what is stored.
+    /// Whether it has answered so far as a store must: what it answers is what is stored.
     ghost is_honest: { Self → Bool };
 
-    /// How often its device has failed.
+    /// How often its device has failed so far.
     ghost fault_count: { Self → ℕ };
 
-    /// How often the device has failed so far, counted up to 2^64 - 1.
+    /// How often the device has failed so far, counted up to 2^64 - 1. A refusal is told from damage by it: `Device`
+    /// only where it rose or stands at its greatest value.
     fn faults(&self) -> u64
         ensures { result ≡ fault_count self.now };
 
-    /// The incarnation of the node, 1 at first.
+    /// The incarnation of the node: 1 at first, one more by each `begin_restart` and `bump`, and 2^62 at most.
     fn incarnation(&mut self, node: NodeId) -> Result<u64, StoreError>
         ensures value { IsTrue (is_honest self.new)
             → IfOk result (λ n. n ≡ (row_of (content self.old) node).incarnation) }
@@ -38,7 +39,8 @@ pub trait CkptStore {
         ensures honest { IsTrue (is_honest self.new) → IsTrue (is_honest self.old) }
         ensures cause { HasCause (fault_count self.old) (fault_count self.new) (is_honest self.new) ⊥ result };
 
-    /// The permanent checkpoint of the node, if one is stored.
+    /// The permanent checkpoint of the node; `None` where it is the initial one. It may share its memory with the
+    /// store.
     fn permanent(&mut self, alloc: Global, node: NodeId) -> Result<Option<Ckpt>, StoreError>
         ensures value { IsTrue (is_honest self.new)
             → IfOk result (λ c. c ≡ (row_of (content self.old) node).permanent) }
@@ -54,8 +56,9 @@ pub trait CkptStore {
         ensures honest { IsTrue (is_honest self.new) → IsTrue (is_honest self.old) }
         ensures cause { HasCause (fault_count self.old) (fault_count self.new) (is_honest self.new) ⊥ result };
 
-    /// The permanent checkpoint of the node without the node's state, if one is stored. In memory it costs nothing that
-    /// grows with the state; a store in SQL reads the row whole.
+    /// The permanent checkpoint of the node without the node's state, if one is stored. It is a call of its own, so
+    /// that in memory it costs nothing that grows with the state; a store in SQL reads the row whole
+    /// (docs/DECISIONS.md#stores).
     fn permanent_marks(&mut self, alloc: Global, node: NodeId) -> Result<Option<Marks>, StoreError>
         ensures value { IsTrue (is_honest self.new) → IfOk result (λ m. m ≡ permanent_marks (content self.old) node) }
         ensures same { IsTrue (is_honest self.new) → content self.new ≡ content self.old }
@@ -87,28 +90,30 @@ pub trait CkptStore {
         ensures honest { IsTrue (is_honest self.new) → IsTrue (is_honest self.old) }
         ensures cause { HasCause (fault_count self.old) (fault_count self.new) (is_honest self.new) ⊥ result };
 
-    /// The first instance that the node began and that has no verdict, if there is one.
+    /// The first instance that the node began and that has no verdict, if there is one. A node has one at most, but
+    /// that is for the callers to keep.
     fn open_of(&mut self, node: NodeId) -> Result<Option<u64>, StoreError>
         ensures value { IsTrue (is_honest self.new) → IfOk result (λ i. i ≡ open_of (content self.old) node) }
         ensures same { IsTrue (is_honest self.new) → content self.new ≡ content self.old }
         ensures honest { IsTrue (is_honest self.new) → IsTrue (is_honest self.old) }
         ensures cause { HasCause (fault_count self.old) (fault_count self.new) (is_honest self.new) ⊥ result };
 
-    /// The number that the next instance gets.
+    /// The number that the next instance gets: one more than the greatest that was begun, 1 at first.
     fn next_instance(&mut self) -> Result<u64, StoreError>
         ensures value { IsTrue (is_honest self.new) → IfOk result (λ i. i ≡ next_instance (content self.old)) }
         ensures same { IsTrue (is_honest self.new) → content self.new ≡ content self.old }
         ensures honest { IsTrue (is_honest self.new) → IsTrue (is_honest self.old) }
         ensures cause { HasCause (fault_count self.old) (fault_count self.new) (is_honest self.new) ⊥ result };
 
-    /// Whether nothing was ever stored.
+    /// Whether nothing was ever stored: no node's row and no instance.
     fn is_fresh(&mut self) -> Result<bool, StoreError>
         ensures value { IsTrue (is_honest self.new) → IfOk result (λ fresh. fresh ≡ is_fresh (content self.old)) }
         ensures same { IsTrue (is_honest self.new) → content self.new ≡ content self.old }
         ensures honest { IsTrue (is_honest self.new) → IsTrue (is_honest self.old) }
         ensures cause { HasCause (fault_count self.old) (fault_count self.new) (is_honest self.new) ⊥ result };
 
-    /// Begins a check: the next instance, of this node, and its tentative checkpoint in it. It has none.
+    /// Begins a check: the next instance, of this node, and its tentative checkpoint in it. The node has no tentative
+    /// one before. `Full` only where the greatest number, 2^62, was given.
     fn begin_check(&mut self, node: NodeId, ckpt: &Ckpt) -> Result<(), StoreError>
         requires { IsTrue (is_honest self.old) → (row_of (content self.old) node).tentative ≡ None }
         ensures written { IsTrue (is_honest self.new)
@@ -118,7 +123,7 @@ pub trait CkptStore {
         ensures cause { HasCause (fault_count self.old) (fault_count self.new) (is_honest self.new)
             (IsTrue (is_honest self.new) → next_instance (content self.old) ≡ greatest + 1) result };
 
-    /// Stores the node's tentative checkpoint in the instance. It has none.
+    /// Stores the node's tentative checkpoint in the instance. The node has no tentative one before.
     fn put_tentative(&mut self, node: NodeId, instance: u64, ckpt: &Ckpt) -> Result<(), StoreError>
         requires { IsTrue (is_honest self.old) → (row_of (content self.old) node).tentative ≡ None }
         ensures written { IsTrue (is_honest self.new)
@@ -145,7 +150,8 @@ pub trait CkptStore {
         ensures honest { IsTrue (is_honest self.new) → IsTrue (is_honest self.old) }
         ensures cause { HasCause (fault_count self.old) (fault_count self.new) (is_honest self.new) ⊥ result };
 
-    /// Begins a rollback: the next incarnation of the node, and the next instance, of this node.
+    /// Begins a rollback: the next incarnation of the node, and the next instance, of this node. `Full` only where one
+    /// of the two has no next number.
     fn begin_restart(&mut self, node: NodeId) -> Result<(), StoreError>
         ensures written { IsTrue (is_honest self.new)
             → OnOk result (content self.new ≡ restart_begun node (content self.old)) }
@@ -155,7 +161,7 @@ pub trait CkptStore {
             (IsTrue (is_honest self.new) → (next_instance (content self.old) ≡ greatest + 1)
             ⊎ ((row_of (content self.old) node).incarnation ≡ greatest)) result };
 
-    /// Raises the incarnation of the node.
+    /// Raises the incarnation of the node by one. `Full` only where it is 2^62.
     fn bump(&mut self, node: NodeId) -> Result<(), StoreError>
         ensures written { IsTrue (is_honest self.new)
             → OnOk result (content self.new ≡ bumped node (content self.old)) }
@@ -164,7 +170,7 @@ pub trait CkptStore {
         ensures cause { HasCause (fault_count self.old) (fault_count self.new) (is_honest self.new)
             (IsTrue (is_honest self.new) → (row_of (content self.old) node).incarnation ≡ greatest) result };
 
-    /// Gives the instance its verdict. It is open.
+    /// Gives the instance its verdict. It has none before.
     fn decide(&mut self, instance: u64, yes: bool) -> Result<(), StoreError>
         requires { IsTrue (is_honest self.old) → verdict_of (content self.old) instance ≡ Some verdicts.Open }
         ensures written { IsTrue (is_honest self.new)

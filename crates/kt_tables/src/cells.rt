@@ -18,31 +18,32 @@ use std::alloc::{AllocError, Global};
 /// The cells of a row of the nodes.
 #[derive(Debug, Drop)]
 pub(crate) struct NodeCells {
-    /// The number of the node.
+    /// The id of the node: a worker's own number, or 100 more than a shard's.
     pub id: u32,
-    /// Its incarnation.
+    /// Its incarnation, from 1 to 2^62.
     pub incarnation: Number,
-    /// The bytes of its permanent checkpoint.
+    /// The bytes of its permanent checkpoint; `None` (NULL) where it is the initial one.
     pub permanent: Option<Vec<u8>>,
-    /// The bytes of its tentative checkpoint.
+    /// The bytes of its tentative checkpoint; `None` (NULL) while it has none.
     pub tentative: Option<Vec<u8>>,
-    /// The instance of that.
+    /// The instance of the tentative checkpoint; `None` (NULL) while there is none.
     pub instance: Option<Number>,
 }
 
 /// The cells of a row of the board.
 #[derive(Clone, Copy, Debug)]
 pub(crate) struct PostedCells {
-    /// The number of the instance.
+    /// The number of the instance, from 1 to 2^62.
     pub instance: Number,
-    /// The number of the node that began it.
+    /// The id of the node that began it.
     pub initiator: u32,
-    /// The code of what it is for.
+    /// What it is for: 1 a check, 2 a rollback.
     pub purpose: u32,
-    /// The code of what became of it.
+    /// How it ended: 0 open, 1 yes, 2 no.
     pub verdict: u32,
 }
 
+/// The bytes of a checkpoint, which a blob of the table holds as they are.
 #[tactic(auto, unfolding(crate::specs::Rows::bytes_of))]
 fn encoded(alloc: Global, checkpoint: &Ckpt) -> Result<Vec<u8>, AllocError>
     ensures { IfOk result (λ v. IsCheckpoint checkpoint.now × (v.items ≡ bytes_of checkpoint.now)) }
@@ -72,7 +73,8 @@ fn tentative_cell(
     }
 }
 
-/// The number of the instance; none outside where it is too great.
+/// The cell of the instance: `Some(None)` where there is no tentative checkpoint, `None` where its instance is above
+/// 2^62, which no cell holds.
 fn instance_cell(tentative: &Option<Tentative>) -> Option<Option<Number>>
     ensures { IfSome result (λ n. IsLow (taken_instance tentative.now)
         × (or_null (λ n. Int (pos n.value)) n ≡ instance_value tentative.now)) }
@@ -83,7 +85,7 @@ fn instance_cell(tentative: &Option<Tentative>) -> Option<Option<Number>>
     }
 }
 
-/// The cells of the row, where the tables have a number for the node and hold its numbers.
+/// The cells of the row; `None` where the tables have no id for the node, or a number of it is above 2^62.
 fn node_cells(alloc: Global, row: &NodeRow) -> Result<Option<NodeCells>, AllocError>
     requires { 1 ≤ row.now.incarnation }
     ensures { IfOk result (λ o. IfSome o (λ c. IsNodeRow row.now × SpellsNode c row.now)) }
@@ -104,7 +106,8 @@ fn node_cells(alloc: Global, row: &NodeRow) -> Result<Option<NodeCells>, AllocEr
     }))
 }
 
-/// The same of a row that is no more needed.
+/// The cells of a row that is needed no more. It ends here, and not in the call of the store, for the reason that
+/// `changes.rt` tells.
 pub(crate) fn into_node_cells(alloc: Global, row: NodeRow) -> Result<Option<NodeCells>, AllocError>
     requires { 1 ≤ row.incarnation }
     ensures { IfOk result (λ o. IfSome o (λ c. IsNodeRow row × SpellsNode c row)) }
@@ -112,7 +115,7 @@ pub(crate) fn into_node_cells(alloc: Global, row: NodeRow) -> Result<Option<Node
     node_cells(alloc, &row)
 }
 
-/// The cells of the row, where the tables have a number for the initiator and hold that of the instance.
+/// The cells of the row; `None` where the tables have no id for the initiator, or the instance is above 2^62.
 pub(crate) fn posted_cells(row: Posted) -> Option<PostedCells>
     requires { 1 ≤ row.instance }
     ensures { IfSome result (λ c. IsPosted row × SpellsPosted c row) }
@@ -132,7 +135,7 @@ pub(crate) fn posted_cells(row: Posted) -> Option<PostedCells>
     })
 }
 
-/// The cells of both rows.
+/// The cells of both rows; `None` where one of them has none. Both are made before either is written.
 pub(crate) fn both_cells(
     alloc: Global,
     row: NodeRow,

@@ -1,5 +1,6 @@
-//! What is read of the row of a node, and what each write makes of it. Rows are given back here: where one is alive as
-//! a call of the store ends early, the proof of that call grows by all that a row may hold.
+//! What is read of the row of a node, and what each write makes of it. Each call takes the row itself and not a
+//! reference: where a row is alive as a call of the store ends early, the proof of that call grows by all that a row
+//! may hold.
 
 ghost use Rattle.std.specs.Prelude.{◌≡◌, ◌≤◌, ◌+◌, None, IfOk, MatchOption, option_map};
 ghost use Rattle.kt_ckpt.specs.Marks.{marks_of};
@@ -11,21 +12,21 @@ use kt_ckpt::{Ckpt, Marks};
 use kt_store::{NodeRow, Tentative, TentativeMarks};
 use std::alloc::{AllocError, Global};
 
-/// The incarnation of the row.
+/// The incarnation of the row, from 1 on. The row ends here, as in each read below.
 pub fn incarnation_in(row: NodeRow) -> u64
     ensures { result ≡ row.incarnation }
 {
     row.incarnation
 }
 
-/// Its permanent checkpoint.
+/// The permanent checkpoint of the row; `None` where it is the initial one.
 pub fn permanent_in(row: NodeRow) -> Option<Ckpt>
     ensures { result ≡ row.permanent }
 {
     row.permanent
 }
 
-/// Its tentative checkpoint, with the instance.
+/// The tentative checkpoint of the row with its instance; `None` while there is none.
 pub fn tentative_in(row: NodeRow) -> Option<Tentative>
     ensures { result ≡ row.tentative }
 {
@@ -53,21 +54,21 @@ fn marks_in(
     }
 }
 
-/// The marks of its permanent checkpoint.
+/// The permanent checkpoint of the row without the node's state. The row was read whole all the same.
 pub fn permanent_marks_in(alloc: Global, row: NodeRow) -> Result<Option<Marks>, AllocError>
     ensures { IfOk result (λ m. m ≡ option_map marks_of row.permanent) }
 {
     marks_of(alloc, &row.permanent)
 }
 
-/// The marks of its tentative checkpoint, with the instance.
+/// The tentative checkpoint of the row with its instance and without the node's state.
 pub fn tentative_marks_in(alloc: Global, row: NodeRow) -> Result<Option<TentativeMarks>, AllocError>
     ensures { IfOk result (λ m. m ≡ option_map marks_in row.tentative) }
 {
     marks_in(alloc, &row.tentative)
 }
 
-/// The row with a tentative checkpoint in the instance.
+/// The row with a copy of this checkpoint as its tentative one, in the instance.
 pub fn with_tentative(
     alloc: Global,
     mut row: NodeRow,
@@ -93,7 +94,7 @@ pub fn promoted(mut row: NodeRow) -> NodeRow
     row
 }
 
-/// The row in its next incarnation, where a table holds its number.
+/// The row in its next incarnation; `None` where it is in the greatest, 2^62.
 pub fn bumped(mut row: NodeRow) -> Option<NodeRow>
     requires { row.incarnation ≤ greatest }
     ensures { MatchOption result (row.incarnation ≡ greatest)

@@ -12,7 +12,7 @@ use kt_store::{NodeRow, Posted, StoreError};
 use sqlite::Row;
 use std::alloc::Global;
 
-/// The node of the first row.
+/// The node of the first row; `None` where there is no row. `Damaged` where the row is not as said.
 pub(crate) fn first_node(alloc: Global, rows: &[Row]) -> Result<Option<NodeRow>, StoreError>
     ensures found { IfOk result (λ o. IfSome o IsNodeRow) }
     ensures exact { (o : Option NodeFields) → IfSome o IsNodeRow → slice_get rows.now 0 ≡ option_map node_given o
@@ -25,7 +25,7 @@ pub(crate) fn first_node(alloc: Global, rows: &[Row]) -> Result<Option<NodeRow>,
     }
 }
 
-/// The instance of the first row.
+/// The instance of the first row; `None` where there is no row. `Damaged` where the row is not as said.
 pub(crate) fn first_posted(rows: &[Row]) -> Result<Option<Posted>, StoreError>
     ensures found { IfOk result (λ o. IfSome o IsPosted) }
     ensures exact { (o : Option PostedFields) → IfSome o IsPosted → slice_get rows.now 0 ≡ option_map posted_given o
@@ -38,7 +38,7 @@ pub(crate) fn first_posted(rows: &[Row]) -> Result<Option<Posted>, StoreError>
     }
 }
 
-/// Whether there is no row.
+/// Whether there is no row. What stands in a row is not looked at.
 pub(crate) fn has_no_row(rows: &[Row]) -> bool
     ensures { result ≡ (length rows.now == 0) }
 {

@@ -29,7 +29,10 @@ use std::marker::Model;
 /// was written, and each row was as said when they were opened.
 pub struct Tables<S: Alter> {
     conn: Connection<S>,
+    /// Whether each row was as said when the tables were opened. No write changes it: to write over one bad row must
+    /// not make a store honest (docs/DECISIONS.md#stores).
     is_trusted: bool,
+    /// Where rows take their memory from.
     alloc: Global,
 }
 
@@ -71,7 +74,7 @@ impl<S: Alter> Tables<S> {
         }
     }
 
-    /// Their connection.
+    /// The connection as it is now.
     pub fn into_connection(self) -> Connection<S>
         ensures { result ≡ self.conn }
     {
@@ -83,7 +86,7 @@ impl<S: Alter> Tables<S> {
         conn
     }
 
-    /// Where rows take their memory from.
+    /// Where rows take their memory from. Its clause tells a proof what the tables hold while they are sure.
     pub fn allocator(&self) -> Global
         ensures kept { IsTrue (is_sure S.Store self.now) → IsKept S.Store self.now }
     {
@@ -109,7 +112,8 @@ impl<S: Alter> Tables<S> {
         }
     }
 
-    /// Stores the row, in place of the one that the node has.
+    /// Stores the row, in place of the one that the node has: one statement writes it whole. `Device` where the tables
+    /// have no id for the node, or hold no number that great.
     pub fn put_node(&mut self, row: NodeRow) -> Result<(), StoreError>
         requires { 1 ≤ row.incarnation }
         ensures written { IsTrue (is_sure S.Store self.new)
@@ -142,7 +146,8 @@ impl<S: Alter> Tables<S> {
         }
     }
 
-    /// Stores the row, in place of the one that the instance has.
+    /// Stores the row, in place of the one that the instance has. `Device` where the tables have no id for the
+    /// initiator, or hold no number that great.
     pub fn put_posted(&mut self, row: Posted) -> Result<(), StoreError>
         requires { 1 ≤ row.instance }
         ensures written { IsTrue (is_sure S.Store self.new)
@@ -175,7 +180,7 @@ impl<S: Alter> Tables<S> {
         }
     }
 
-    /// Stores both rows in one transaction.
+    /// Stores both rows in one transaction, or neither.
     pub fn put_both(&mut self, row: NodeRow, posted: Posted) -> Result<(), StoreError>
         requires incarnation { 1 ≤ row.incarnation }
         requires instance { 1 ≤ posted.instance }

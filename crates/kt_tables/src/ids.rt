@@ -5,10 +5,11 @@ ghost use Rattle.kt_tables.specs.Rows.{HasId, id_of, node_of};
 
 use kt_tuple::NodeId;
 
-/// What a shard's number in the tables is above its own.
+/// What a shard's id is above its own number: so ids below 100 are workers, and those from 100 to 199 shards.
 const SHARDS: u8 = 100;
 
-/// The node's number. A node whose own number is 100 or more has none.
+/// The node's id. A node whose own number is 100 or more has none: a write of it is refused, and it reads as one
+/// without a row (docs/DECISIONS.md#stores).
 pub(crate) fn id_of(node: NodeId) -> Option<u32>
     ensures { MatchOption result (¬ HasId node) (λ id. HasId node × (id ≡ id_of node)) }
 {
@@ -19,7 +20,7 @@ pub(crate) fn id_of(node: NodeId) -> Option<u32>
     }
 }
 
-/// The node that has the number.
+/// The node that has the id; `None` from 200 on.
 pub(crate) fn node_of(id: u64) -> Option<NodeId>
     ensures { MatchOption result (¬ (id < 200)) (λ node. HasId node × (node ≡ node_of id) × (id_of node ≡ id)) }
 {

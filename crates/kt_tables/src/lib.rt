@@ -1,4 +1,14 @@
-//! The three tables of a store in SQL: their rows, how they are made, tested and opened, and the statements that write.
+//! The three tables of a store in SQL: their rows, how they are made, tested and opened, and the statements that read
+//! and write them.
+//!
+//! - Contract: a call reads or makes its one change of what the tables hold (`Tables::row_of`, clause `value`;
+//!   `Tables::put_node`, clauses `written` and `unchanged`). This is said while the connection is open, the disk
+//!   returns what was written, and each row was as said at the opening.
+//! - Stands on: kt_tuple, kt_ckpt, kt_store; of the kit: sqlite, sqlite_disk, sqlite_tied, sqlite_sql, sqlite_value,
+//!   sqlite_trees, sqlite_resolve, sqlite_rules, sqlite_schema, sqlite_keyed, sqlite_typed
+//! - Used by: kt_sql
+//! - Begin in: `tables.rt` for how they are made, then `held.rt` for `Tables` and `reads.rt`. `cells.rt` and `rows.rt`
+//!   have the rows, out and in.
 #![tactic(auto)]
 
 mod cells;

@@ -6,10 +6,10 @@ ghost use Rattle.kt_store.specs.Content.{greatest};
 
 use sqlite::types::{ToSql, ValueRef};
 
-/// The greatest number in a table.
+/// The greatest number in a table, of incarnations and of instances.
 pub const GREATEST: u64 = 1 << 62;
 
-/// A number that a table holds.
+/// A number that a table holds: at most 2^62. So it fits an integer of SQL, which has 64 bits with a sign.
 #[derive(Clone, Copy, Debug)]
 pub(crate) struct Number {
     value: u64,
@@ -17,7 +17,7 @@ pub(crate) struct Number {
 }
 
 impl Number {
-    /// The number, where a table holds it.
+    /// The number; `None` where it is above 2^62.
     pub(crate) fn new(value: u64) -> Option<Number>
         ensures { MatchOption result (greatest < value) (λ n. n.value ≡ value) }
     {

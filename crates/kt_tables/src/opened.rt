@@ -44,7 +44,7 @@ pub(crate) fn statement_error(error: Error) -> StoreError
     }
 }
 
-/// All rows of the answer to a query.
+/// All rows of the answer to a query without parameters.
 fn ask<S: Alter>(conn: &mut Connection<S>, sql: &str) -> Result<Vec<Row>, StoreError>
     requires { IsPlain (understood kt_schema sql.now) }
     ensures shown { HasCleanDisk (state S.Store conn.new)
@@ -94,7 +94,7 @@ fn is_version_1<S: Alter>(conn: &mut Connection<S>) -> Result<bool, StoreError>
     Ok(is_first_meta(&rows))
 }
 
-/// The number of the node whose row this is, with all that is said of it.
+/// The id of the node whose row this is; `None` where the row is not as said.
 fn node_id(alloc: Global, row: &Row) -> Result<Option<u32>, StoreError>
     ensures value { IfOk result (λ o. MatchOption o (IsNoNode row.now) (IsNodeWith row.now)) }
     ensures whole { IfErr result (λ e. e ≢ StoreError.Damaged) }
@@ -105,11 +105,12 @@ fn node_id(alloc: Global, row: &Row) -> Result<Option<u32>, StoreError>
     match node_row(alloc, row) {
         Ok(node) => Ok(id_of(node.node)),
         Err(StoreError::Memory) => Err(StoreError::Memory),
+        // A row that is not as said is no refusal: the store opens, and is not honest.
         Err(_) => Ok(None),
     }
 }
 
-/// The number of the instance whose row this is, with all that is said of it.
+/// The number of the instance whose row this is; `None` where the row is not as said.
 fn instance_in(row: &Row) -> Result<Option<u64>, StoreError>
     ensures value { IfOk result (λ o. MatchOption o (IsNoInstance row.now) (IsInstanceWith row.now)) }
     ensures whole { IfErr result (λ e. e ≢ StoreError.Damaged) }
@@ -190,7 +191,8 @@ fn holds_board<S: Alter>(conn: &mut Connection<S>) -> Result<bool, StoreError>
     are_posted(&rows)
 }
 
-/// Tests tables that are there, and answers whether each row is as said.
+/// Tests tables that are there, and answers whether each row is as said. `Damaged` where they are not the tables of a
+/// store of version 1.
 pub(crate) fn tested<S: Alter>(alloc: Global, conn: &mut Connection<S>) -> Result<bool, StoreError>
     ensures ready { HasCleanDisk (state S.Store conn.new)
         → (IsTrue (state S.Store conn.old).is_open → IsSettled (state S.Store conn.old))

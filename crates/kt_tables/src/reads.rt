@@ -37,7 +37,8 @@ const OPEN_POSTED: &str =
      ORDER BY instance LIMIT 1";
 
 impl<S: Alter> Tables<S> {
-    /// The row of the node, where it has one.
+    /// The row of the node, where it has one. It is read to the end, its checkpoints too, so what is damaged is told at
+    /// the first call that wants anything of it.
     fn find_node(&mut self, node: NodeId) -> Result<Option<NodeRow>, StoreError>
         ensures value { IsTrue (is_sure S.Store self.new)
             → IfOk result (λ o.
@@ -49,6 +50,7 @@ impl<S: Alter> Tables<S> {
         ensures reason { HasReason (is_sure S.Store self.new) result }
     {
         let alloc = self.allocator();
+        // A node that the tables have no id for has no row.
         let Some(id) = id_of(node) else {
             return Ok(None);
         };
@@ -56,7 +58,7 @@ impl<S: Alter> Tables<S> {
         first_node(alloc, &rows)
     }
 
-    /// What is stored of the node.
+    /// What is stored of the node. A node without a row is in incarnation 1 and has no checkpoint stored.
     pub fn row_of(&mut self, node: NodeId) -> Result<NodeRow, StoreError>
         ensures value { IsTrue (is_sure S.Store self.new)
             → IfOk result (λ r. r ≡ row_of (content_of S.Store self.old) node) }
@@ -91,6 +93,7 @@ impl<S: Alter> Tables<S> {
     {
         // For the proof alone: its clause says that the tables are those of a store.
         let _ = self.allocator();
+        // No instance above 2^62 is on the board.
         let Some(number) = Number::new(instance) else {
             return Ok(None);
         };
@@ -98,7 +101,7 @@ impl<S: Alter> Tables<S> {
         first_posted(&rows)
     }
 
-    /// The first instance that the node began and that is open.
+    /// The first instance that the node began and that is open, by rising number.
     pub fn find_open(&mut self, node: NodeId) -> Result<Option<Posted>, StoreError>
         ensures value { IsTrue (is_sure S.Store self.new)
             → IfOk result (λ o. o ≡ find (λ (p : PostedFields). node_eq p.initiator node && is_open p.verdict)
@@ -108,7 +111,7 @@ impl<S: Alter> Tables<S> {
         ensures trusted { self.new.is_trusted ≡ self.old.is_trusted }
         ensures reason { HasReason (is_sure S.Store self.new) result }
     {
-        // For the proof alone, as above.
+        // For the proof alone, as in `find_posted`.
         let _ = self.allocator();
         let Some(id) = id_of(node) else {
             return Ok(None);
@@ -132,7 +135,7 @@ impl<S: Alter> Tables<S> {
         first_number(&rows)
     }
 
-    /// Whether the table of nodes has no row.
+    /// Whether the table of nodes has no row. Only whether there is one is asked, so a damaged row is not told here.
     pub fn has_no_node(&mut self) -> Result<bool, StoreError>
         ensures value { IsTrue (is_sure S.Store self.new)
             → IfOk result (λ b. b ≡ is_empty (content_of S.Store self.old).nodes) }
@@ -145,7 +148,7 @@ impl<S: Alter> Tables<S> {
         Ok(has_no_row(&rows))
     }
 
-    /// Whether the board has no row.
+    /// Whether the board has no row. Only whether there is one is asked, so a damaged row is not told here.
     pub fn has_no_posted(&mut self) -> Result<bool, StoreError>
         ensures value { IsTrue (is_sure S.Store self.new)
             → IfOk result (λ b. b ≡ is_empty (content_of S.Store self.old).board) }

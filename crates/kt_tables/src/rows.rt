@@ -26,7 +26,7 @@ use sqlite::types::ValueRef;
 use sqlite::{Error, ErrorCode, Row};
 use std::alloc::Global;
 
-/// What a value is refused for.
+/// Why a value of a row was refused: `Memory` where memory ran out, else `Damaged`.
 fn read_error(error: Error) -> StoreError
     ensures named { IsReadError result }
     ensures memory { error ≡ Error.SqliteFailure ErrorCode.OutOfMemory → result ≡ StoreError.Memory }
@@ -37,7 +37,7 @@ fn read_error(error: Error) -> StoreError
     }
 }
 
-/// The number in a column.
+/// The number in a column; `Damaged` where another value stands there.
 fn number_at(row: &Row, at: usize) -> Result<u64, StoreError>
     ensures found { IfOk result (λ n. column row.now at ≡ whole n) }
     ensures exact { (n : ℕ) → at < length row.now → column row.now at ≡ whole n → Gives n result }
@@ -46,7 +46,7 @@ fn number_at(row: &Row, at: usize) -> Result<u64, StoreError>
     row.get(at).map_err(read_error)
 }
 
-/// The number in a column, which may have none.
+/// The number in a column, `None` where it is NULL; `Damaged` where another value stands there.
 fn optional_number_at(row: &Row, at: usize) -> Result<Option<u64>, StoreError>
     ensures found { IfOk result (λ o. column row.now at ≡ or_null whole o) }
     ensures exact { (o : Option ℕ) → at < length row.now → column row.now at ≡ or_null whole o → Gives o result }
@@ -55,7 +55,7 @@ fn optional_number_at(row: &Row, at: usize) -> Result<Option<u64>, StoreError>
     row.get(at).map_err(read_error)
 }
 
-/// The checkpoint in a column, which may have none.
+/// The checkpoint in a column, `None` where it is NULL; `Damaged` where another value stands there.
 fn checkpoint_at(alloc: Global, row: &Row, at: usize) -> Result<Option<Ckpt>, StoreError>
     ensures found { IfOk result (λ c. IsSpelled c × (column row.now at ≡ spelled c)) }
     ensures exact { (c : Option Checkpoint) → IsSpelled c → at < length row.now → column row.now at ≡ spelled c
@@ -69,7 +69,7 @@ fn checkpoint_at(alloc: Global, row: &Row, at: usize) -> Result<Option<Ckpt>, St
     }
 }
 
-/// The checkpoint that the bytes are.
+/// The checkpoint that the bytes spell; `Damaged` where they spell none.
 #[tactic(auto, unfolding(crate::specs::Rows::bytes_of))]
 fn decoded(alloc: Global, bytes: &[u8]) -> Result<Ckpt, StoreError>
     ensures found { IfOk result (λ c. IsCheckpoint c × (bytes.now ≡ bytes_of c)) }
@@ -141,7 +141,7 @@ fn positive_at(row: &Row, at: usize) -> Result<u64, StoreError>
     }
 }
 
-/// The row of a node.
+/// The row of a node, read whole from its five columns.
 pub(crate) fn node_row(alloc: Global, row: &Row) -> Result<NodeRow, StoreError>
     ensures found { IfOk result (λ r. IsNodeRow r × ShowsNode row.now r) }
     ensures exact { (r : NodeFields) → IsNodeRow r → row.now ≡ node_given r → Gives r result }
@@ -159,7 +159,7 @@ pub(crate) fn node_row(alloc: Global, row: &Row) -> Result<NodeRow, StoreError>
     })
 }
 
-/// What an instance is for.
+/// What an instance is for, by its code: 1 a check, 2 a rollback; any other is `Damaged`.
 fn purpose_at(row: &Row, at: usize) -> Result<Purpose, StoreError>
     ensures found { IfOk result (λ p. column row.now at ≡ whole (purpose_code p)) }
     ensures exact { (p : Aim) → at < length row.now → column row.now at ≡ whole (purpose_code p) → Gives p result }
@@ -172,7 +172,7 @@ fn purpose_at(row: &Row, at: usize) -> Result<Purpose, StoreError>
     }
 }
 
-/// What became of an instance.
+/// How an instance ended, by its code: 0 open, 1 yes, 2 no; any other is `Damaged`.
 fn verdict_at(row: &Row, at: usize) -> Result<Verdict, StoreError>
     ensures found { IfOk result (λ v. column row.now at ≡ whole (verdict_code v)) }
     ensures exact { (v : Outcome) → at < length row.now → column row.now at ≡ whole (verdict_code v) → Gives v result }
@@ -186,7 +186,7 @@ fn verdict_at(row: &Row, at: usize) -> Result<Verdict, StoreError>
     }
 }
 
-/// The row of an instance.
+/// The row of an instance, read whole from its four columns.
 pub(crate) fn posted_row(row: &Row) -> Result<Posted, StoreError>
     ensures found { IfOk result (λ p. IsPosted p × ShowsPosted row.now p) }
     ensures exact { (p : PostedFields) → IsPosted p → row.now ≡ posted_given p → Gives p result }

@@ -14,11 +14,12 @@ ghost use Rattle.kt_tables.specs.inner.Both.{RanBoth};
 use crate::cells::{NodeCells, PostedCells};
 use sqlite::{Alter, Connection, Error, Transaction, params};
 
+/// A row is read whole, changed and written whole: one statement serves every change of a node.
 const PUT_NODE: &str = "INSERT OR REPLACE INTO kt_node VALUES (?1, ?2, ?3, ?4, ?5)";
 
 const PUT_POSTED: &str = "INSERT OR REPLACE INTO kt_board VALUES (?1, ?2, ?3, ?4)";
 
-/// Puts the row of a node.
+/// Puts the row of a node, in place of the one with its id.
 pub(crate) fn execute_node<S: Alter>(
     conn: &mut Connection<S>,
     cells: &NodeCells,
@@ -39,7 +40,7 @@ pub(crate) fn execute_node<S: Alter>(
     )
 }
 
-/// Puts the row of an instance.
+/// Puts the row of an instance, in place of the one with its number.
 pub(crate) fn execute_posted<S: Alter>(
     conn: &mut Connection<S>,
     cells: PostedCells,

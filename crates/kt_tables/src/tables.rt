@@ -20,6 +20,7 @@ const CREATE_BOARD: &str =
 const CREATE_META: &str =
     "CREATE TABLE kt_meta (id INTEGER PRIMARY KEY, version INTEGER NOT NULL) STRICT";
 
+/// The one row of the third table says that the tables are of version 1.
 const FIRST_META: &str = "INSERT OR REPLACE INTO kt_meta VALUES (1, 1)";
 
 /// Runs a statement without parameters.

@@ -37,5 +37,6 @@ pub mod ByShape
 pub mod Explained
 pub mod Only
 pub mod Actuals
+pub mod Backwards
 pub mod Outcomes
 pub mod Shared

@@ -15,7 +15,8 @@ use crate::template::{Place, Template};
 use crate::tuple::Tuple;
 use crate::value::{Kind, Value};
 
-/// A type whose `==` is equality: it answers true exactly where both are one.
+/// A type whose `==` is equality: it answers true exactly where both are one. This one law serves all types: no method
+/// `equals` stands beside `==`, and a derived `==` that leaves a field out is refused (docs/DECISIONS.md#values).
 pub trait Equality: Eq {
     ghost is_equality: { (a b : Self) → Decides (Self.PartialEq.eq a b) (a ≡ b) };
 }

@@ -23,14 +23,14 @@ pub enum Op {
     Rdp(Template),
 }
 
-/// What an operation was answered.
+/// What an operation was answered. An `in` or `rd` that waits has none yet.
 #[derive(Debug, Drop)]
 pub enum Answer {
-    /// The tuple was added.
+    /// The tuple was added: the answer to `out`.
     Done,
-    /// This tuple was withdrawn or read.
+    /// This tuple was withdrawn (`in`, `inp`) or read (`rd`, `rdp`).
     Got(Tuple),
-    /// No tuple matched.
+    /// No tuple matched: an answer to `inp` and `rdp` alone, since `in` and `rd` wait.
     None,
 }
 
@@ -47,7 +47,7 @@ impl Op {
         }
     }
 
-    /// An equal operation.
+    /// An equal operation with memory of its own.
     pub fn copy(&self, alloc: Global) -> Result<Op, AllocError>
         ensures { IfOk result (λ op. op ≡ self.now) }
     {
@@ -62,7 +62,7 @@ impl Op {
 }
 
 impl Answer {
-    /// An equal answer.
+    /// An equal answer with memory of its own.
     pub fn copy(&self, alloc: Global) -> Result<Answer, AllocError>
         ensures { IfOk result (λ answer. answer ≡ self.now) }
     {

@@ -42,7 +42,12 @@ impl Tuple {
         // A text without a fault is refused for want of memory alone.
         ensures memory { tuple_fault text.now ≡ None → IfErr result (λ e. e ≡ ParseError.OutOfMemory) }
     {
-        Tuple::new(parsed::<Value>(alloc, text)?).ok_or(ParseError::TooLong)
+        // Not refused here: a text without a fault has 1 to 8 values (`a_text_read_is_spelled_so`, `tuple_arity`).
+        let items = parsed::<Value>(alloc, text)?;
+        match Tuple::new(alloc, items) {
+            Ok(made) => made.ok_or(ParseError::TooLong),
+            Err(AllocError) => Err(ParseError::OutOfMemory),
+        }
     }
 }
 
@@ -62,11 +67,17 @@ impl Template {
         // A text without a fault is refused for want of memory alone.
         ensures memory { template_fault text.now ≡ None → IfErr result (λ e. e ≡ ParseError.OutOfMemory) }
     {
-        Template::new(parsed::<Place>(alloc, text)?).ok_or(ParseError::TooLong)
+        // Not refused here: a text without a fault has 1 to 8 places (`a_text_read_is_spelled_so`, `template_arity`).
+        let items = parsed::<Place>(alloc, text)?;
+        match Template::new(alloc, items) {
+            Ok(made) => made.ok_or(ParseError::TooLong),
+            Err(AllocError) => Err(ParseError::OutOfMemory),
+        }
     }
 }
 
-/// The items that the text spells, or its lowest fault.
+/// The items that the text spells, or its lowest fault. The text is judged whole before any memory is taken, so that
+/// want of memory hides no other fault (docs/DECISIONS.md#the-scenarios-text).
 #[tactic(auto, using(crate::proofs::Making::made_of_text))]
 fn parsed<I: Item>(alloc: Global, text: &[u8]) -> Result<Vec<I>, ParseError>
     ensures fault { IfSome (fault_of I.reader text.now) (λ fault. result ≡ Err fault) }
@@ -80,6 +91,7 @@ fn parsed<I: Item>(alloc: Global, text: &[u8]) -> Result<Vec<I>, ParseError>
 }
 
 impl Findings {
+    /// Before the first place: no fault was found.
     fn none() -> Findings
         ensures { result ≡ nothing_found }
     {
@@ -104,6 +116,7 @@ impl Findings {
         }
     }
 
+    /// The lower of the two faults: an int out of range comes before a text that is too long.
     fn fault(self) -> Option<ParseError>
         ensures { result ≡ lower_fault self.out_of_range self.too_long }
     {
@@ -146,7 +159,8 @@ fn found_in<I: Item>(text: &[u8]) -> Result<Findings, &[u8]>
     Err(rest)
 }
 
-/// The items of a text in which no fault was found.
+/// The items of a text in which no fault was found. It reads the text a second time, now to build what it spells. A
+/// refusal of a reader ends the list: it is not met, since the text was judged.
 fn items_in<I: Item>(alloc: Global, text: &[u8]) -> Result<Vec<I>, AllocError>
     ensures { IfOk result (λ items. items.items ≡ made_in I.reader I.of_spelling text.now) }
 {

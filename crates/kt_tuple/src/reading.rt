@@ -16,7 +16,7 @@ use crate::template::Place;
 use crate::value::{Kind, Value};
 use arrayvec::ArrayVec;
 
-/// Reads a value.
+/// Reads a value. A text that begins with a quote is read as a str, any other as an int.
 #[tactic(auto, unfolding(crate::specs::Reading::value_at))]
 pub fn value_at(text: &[u8]) -> Result<(&[u8], &[u8]), &[u8]>
     ensures { Gives (λ x. (x.0.now, x.1.now)) (λ e. e.now) result (value_at text.now) }
@@ -62,7 +62,7 @@ pub fn word_at<'a>(text: &'a [u8], word: &[u8]) -> Result<&'a [u8], &'a [u8]>
     }
 }
 
-/// Reads `?int` or `?str`.
+/// Reads `?int` or `?str`. What does not go on with an `i` is read as `?str`, so its fault is where that breaks off.
 #[tactic(auto, unfolding(crate::specs::Reading::formal_at))]
 pub(crate) fn formal_at(text: &[u8]) -> Result<(&[u8], &[u8]), &[u8]>
     ensures { Gives (λ x. (x.0.now, x.1.now)) (λ e. e.now) result (formal_at text.now) }
@@ -117,7 +117,7 @@ fn after_digits(text: &[u8]) -> &[u8]
     }
 }
 
-/// Where the digits in front end.
+/// How many digits stand in front; `None` where all of the text is digits.
 fn first_no_digit(text: &[u8]) -> Option<usize>
     ensures value { result ≡ position is_no_digit text.now }
     ensures within { IfSome result (λ count. count ≤ length text.now) }
@@ -125,7 +125,7 @@ fn first_no_digit(text: &[u8]) -> Option<usize>
     text.iter().position(|c| !c.is_ascii_digit())
 }
 
-/// Reads characters between quotes.
+/// Reads a quote, characters and the closing quote.
 #[tactic(auto, unfolding(crate::specs::Reading::str_at))]
 fn str_at(text: &[u8]) -> Result<(&[u8], &[u8]), &[u8]>
     ensures { Gives (λ x. (x.0.now, x.1.now)) (λ e. e.now) result (str_at text.now) }
@@ -153,9 +153,11 @@ fn after_characters(text: &[u8]) -> Result<&[u8], &[u8]>
             return Err(&text[i..]);
         }
     }
+    // The closing quote is missing: the fault is at the end of the text, where no byte is left.
     Err(&[])
 }
 
+/// Whether a str may have this byte: ASCII from space to tilde.
 fn is_printable(c: u8) -> bool
     ensures { result ≡ is_printable c }
 {
@@ -222,7 +224,7 @@ pub fn int_of(spelling: &[u8]) -> Option<i64>
     }
 }
 
-/// What stands between the quotes.
+/// What stands between the quotes, with the backslashes of escapes.
 fn between_quotes(spelling: &[u8]) -> &[u8]
     ensures { result.now ≡ between_quotes spelling.now }
 {
@@ -264,7 +266,7 @@ fn is_escape(behind_backslash: bool, c: u8) -> bool
     !behind_backslash && c == b'\\'
 }
 
-/// How many characters the str has.
+/// How many characters the str has: an escaped one counts once.
 fn character_count(spelling: &[u8]) -> usize
     ensures { result ≡ length (characters_of spelling.now) }
 {

@@ -9,8 +9,8 @@ pub struct Service {
     pub worker: u8,
     /// The number of the worker's request, counted from 1.
     pub number: u64,
-    /// What it asked.
+    /// The operation that it asked for, as it was sent: with values and bare formals.
     pub op: Op,
-    /// What it was answered.
+    /// The answer of the shard that served it.
     pub answer: Answer,
 }

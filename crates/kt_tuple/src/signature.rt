@@ -45,7 +45,7 @@ impl Signature {
         }
     }
 
-    /// The number.
+    /// The signature as a plain number: 0 for no places, above 0 for any.
     pub fn number(self) -> u64
         ensures { result ≡ self }
     {

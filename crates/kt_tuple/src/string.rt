@@ -6,10 +6,11 @@ ghost use Rattle.kt_tuple.specs.Text.{IsText, ArePrintable};
 use arrayvec::ArrayVec;
 use std::marker::Model;
 
-/// The most characters that a string has.
+/// The most characters that a string has, each of one byte.
 pub const MAX_CHARACTERS: usize = 64;
 
-/// A string: 0 to 64 printable ASCII characters, each a byte from 32 to 126.
+/// A string: 0 to 64 printable ASCII characters, each a byte from 32 to 126. Its room is fixed and takes no memory, so
+/// that a line can be judged whole before anything of it is kept (docs/DECISIONS.md#values).
 #[derive(Debug, Drop)]
 pub struct Str {
     characters: ArrayVec<u8, MAX_CHARACTERS>,
@@ -39,7 +40,7 @@ impl Str {
         }
     }
 
-    /// The characters, one byte each.
+    /// The characters, one byte each: 0 to 64 of them.
     pub fn as_bytes(&self) -> &[u8]
         ensures value { result.now ≡ self.now }
         ensures text { IsText self.now }
@@ -47,11 +48,12 @@ impl Str {
         &self.characters
     }
 
-    /// An equal string.
+    /// An equal string. It takes no memory, so it is not refused.
     pub fn copy(&self) -> Str
         ensures { result ≡ self.now }
     {
         let mut characters = ArrayVec::new();
+        // Both have room for 64 characters, so all of them fit.
         let _ = characters.try_extend_from_slice(&self.characters);
         Str { characters }
     }

@@ -2,11 +2,13 @@
 
 ghost use Rattle.std.specs.Prelude.{◌≡◌, ◌↔◌, IsTrue, IsSome, IfSome, IfOk};
 ghost use Rattle.kt_tuple.specs.Matching.{HasArity};
+ghost use Rattle.kt_tuple.specs.Signature.{kinds_of, signature_of};
 
 use crate::signature::Signature;
 use crate::value::Value;
 use std::alloc::{AllocError, Global};
 use std::marker::Model;
+use std::sync::Arc;
 
 /// The most places that a tuple or a template has.
 pub const MAX_PLACES: usize = 8;
@@ -14,37 +16,40 @@ pub const MAX_PLACES: usize = 8;
 /// An ordered list of 1 to 8 values (Gelernter, "Generative Communication in Linda").
 #[derive(Debug, Drop)]
 pub struct Tuple {
-    values: Vec<Value>,
+    values: Arc<Vec<Value>, Global>,
 }
 
 impl Model for Tuple {
+    ghost use Rattle.std.specs.Arc.{arc_value};
     ghost use Rattle.std.specs.Prelude.{List};
     ghost use Rattle.kt_tuple.specs.declared.value.Value.{Value as Datum};
     ghost use Rattle.kt_tuple.specs.Matching.{HasArity};
 
     ghost Value = { List Datum };
 
-    ghost view = { λ t. t.values.items };
+    ghost view = { λ t. (arc_value t.values).items };
 
-    ghost invariant = { λ t. HasArity t.values.items };
+    ghost invariant = { λ t. HasArity (arc_value t.values).items };
 }
 
 impl Tuple {
     ghost use Rattle.kt_tuple.specs.Signature.{kinds_of, signature_of};
 
-    /// The tuple of these values, or `None` where there are none or more than 8.
-    pub fn new(values: Vec<Value>) -> Option<Tuple>
-        ensures within { IsSome result ↔ HasArity values.items }
-        ensures value { IfSome result (λ t. t ≡ values.items) }
+    /// The tuple of these values, or `None` where there are none or more than 8. `AllocError` where memory is wanting for
+    /// the block that its copies share.
+    pub fn new(alloc: Global, values: Vec<Value>) -> Result<Option<Tuple>, AllocError>
+        ensures within { IfOk result (λ o. IsSome o ↔ HasArity values.items) }
+        ensures value { IfOk result (λ o. IfSome o (λ t. t ≡ values.items)) }
     {
         if 1 <= values.len() && values.len() <= MAX_PLACES {
-            Some(Tuple { values })
+            let values = Arc::new(alloc, values)?;
+            Ok(Some(Tuple { values }))
         } else {
-            None
+            Ok(None)
         }
     }
 
-    /// The values, from left to right.
+    /// The values, from left to right: 1 to 8 of them.
     pub fn values(&self) -> &[Value]
         ensures value { result.now ≡ self.now }
         ensures arity { HasArity self.now }
@@ -52,12 +57,12 @@ impl Tuple {
         &self.values
     }
 
-    /// An equal tuple.
-    pub fn copy(&self, alloc: Global) -> Result<Tuple, AllocError>
+    /// An equal tuple, which shares the values with this one: it takes no memory.
+    pub fn copy(&self, _alloc: Global) -> Result<Tuple, AllocError>
         ensures { IfOk result (λ t. t ≡ self.now) }
     {
         Ok(Tuple {
-            values: copy_values(alloc, &self.values)?,
+            values: Arc::try_clone(&self.values)?,
         })
     }
 
@@ -65,22 +70,20 @@ impl Tuple {
     pub fn signature(&self) -> Signature
         ensures { result ≡ signature_of (kinds_of self.now) }
     {
-        let mut signature = Signature::empty();
-        for value in &self.values {
-            signature = signature.then(value.kind());
-        }
-        signature
+        signature_of(self.values())
     }
 }
 
-fn copy_values(alloc: Global, values: &[Value]) -> Result<Vec<Value>, AllocError>
-    ensures { IfOk result (λ v. v.items ≡ values.now) }
+/// The kinds of these values, as one number.
+fn signature_of(values: &[Value]) -> Signature
+    requires { HasArity values.now }
+    ensures { result ≡ signature_of (kinds_of values.now) }
 {
-    let mut copies = Vec::with_capacity(alloc, values.len())?;
+    let mut signature = Signature::empty();
     for value in values {
-        copies.push(value.copy())?;
+        signature = signature.then(value.kind());
     }
-    Ok(copies)
+    signature
 }
 
 impl PartialEq for Tuple {
@@ -93,7 +96,7 @@ impl PartialEq for Tuple {
     ghost laws = { partial_equiv_from_equiv (lists_equiv (equivalence_from_decides value_eq value_eq_decides)) };
 
     fn eq(&self, other: &Tuple) -> bool {
-        self.values.as_slice() == other.values.as_slice()
+        self.values() == other.values()
     }
 }
 

@@ -11,7 +11,7 @@ use crate::string::Str;
 pub enum Value {
     /// A whole number of 64 bits with a sign.
     Int(i64),
-    /// A string.
+    /// A string of at most 64 printable characters.
     Str(Str),
 }
 
@@ -25,7 +25,7 @@ pub enum Kind {
 }
 
 impl Value {
-    /// What kind of value it is.
+    /// `Int` or `Str`, as the value is.
     pub fn kind(&self) -> Kind
         ensures { result ≡ kind_of self.now }
     {
@@ -35,7 +35,7 @@ impl Value {
         }
     }
 
-    /// An equal value.
+    /// An equal value. It takes no memory, so it is not refused.
     pub fn copy(&self) -> Value
         ensures { result ≡ self.now }
     {

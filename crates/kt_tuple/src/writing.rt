@@ -31,7 +31,7 @@ pub trait Spelled {
     fn push_to(&self, out: &mut Vec<u8>) -> Result<(), AllocError>
         ensures ok { OnOk result (out.new.items ≡ out.old.items ++ text_of self.now) }
         ensures front { StartsWith out.new.items out.old.items }
-        // What the type keeps of its values.
+        // The invariant of the type, which the laws of reading a text back ask for.
         ensures held { is_held self.now };
 }
 
@@ -158,7 +158,8 @@ impl Answer {
     }
 }
 
-/// Takes away what was appended behind the first so many bytes, where not all of it was.
+/// Where a write was refused, takes away what it appended behind the first `start` bytes. A writer appends piece by
+/// piece, and no half of a text is to stay.
 pub fn cut_back(
     out: &mut Vec<u8>,
     start: usize,

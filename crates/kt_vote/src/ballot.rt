@@ -14,12 +14,19 @@ use std::marker::Model;
 /// What a node keeps of an instance in which it votes: whom it asked, who of these has voted, and how.
 #[derive(Debug, Drop)]
 pub struct Ballot {
+    /// The number of the check or rollback.
     instance: u64,
+    /// The incarnation in which its node asks.
     incarnation: u64,
+    /// Who asked the node itself; `None` where it began the instance.
     parent: Option<Asker>,
+    /// Whom it asked, in node order.
     asked: Vec<NodeId>,
+    /// Those of them that have not voted.
     awaited: Vec<NodeId>,
+    /// Whether one of them said no. It stays: a vote that comes after a no is counted all the same.
     refused: bool,
+    /// Whether the node itself has voted.
     voted: bool,
 }
 
@@ -91,7 +98,7 @@ impl Ballot {
         })
     }
 
-    /// An equal ballot.
+    /// An equal ballot with memory of its own.
     pub fn copy(&self, alloc: Global) -> Result<Ballot, AllocError>
         ensures { IfOk result (λ b. b ≡ self.now) }
     {
@@ -106,7 +113,7 @@ impl Ballot {
         })
     }
 
-    /// The number of the instance.
+    /// The number of the check or rollback in which it is a ballot.
     pub fn instance(&self) -> u64
         ensures { result ≡ self.now.instance }
     {
@@ -163,7 +170,8 @@ impl Ballot {
         self.refused
     }
 
-    /// What the votes come to: no as soon as one said no, yes where all said yes.
+    /// What the votes come to: no as soon as one said no, yes where all said yes, and `None` before that. Where nobody
+    /// was asked it is yes.
     pub fn outcome(&self) -> Option<bool>
         ensures { result ≡ outcome_of self.now }
     {
@@ -176,14 +184,15 @@ impl Ballot {
         }
     }
 
-    /// Whether the node itself has voted.
+    /// Whether the node itself has voted: `mark_voted` was called.
     pub fn has_voted(&self) -> bool
         ensures { result ≡ self.now.voted }
     {
         self.voted
     }
 
-    /// Asks one node more, which comes after all those that were asked. Where memory runs out nothing changes.
+    /// Asks one node more, which comes after all those that were asked. So none is asked twice, and `asked` lends them
+    /// in the order in which verdicts are sent. Where memory runs out nothing changes.
     pub fn ask(&mut self, node: NodeId) -> Result<(), AllocError>
         requires { All (λ x. IsBefore x node) self.old.asked }
         ensures asked { OnOk result (self.new ≡ asked_too node self.old) }
@@ -200,7 +209,7 @@ impl Ballot {
         Ok(())
     }
 
-    /// Whether the vote is one that is counted.
+    /// Whether the vote is counted: of this instance, on an ask of this incarnation, and of a node that is awaited.
     fn counts(&self, from: NodeId, vote: Vote) -> bool
         ensures meaning { IsTrue result ↔ Counts self.now from vote }
         ensures exact { result ≡ counts self.now from vote }
@@ -224,7 +233,7 @@ impl Ballot {
         true
     }
 
-    /// The node has voted so.
+    /// The node has voted so: it is awaited no more, and a no is remembered.
     fn count(&mut self, from: NodeId, yes: bool)
         ensures { self.new ≡ counted self.old from yes }
     {
@@ -232,7 +241,7 @@ impl Ballot {
         self.refused = self.refused || !yes;
     }
 
-    /// The node itself has voted now.
+    /// The node itself has voted now. Which votes came, and what they come to, stays.
     pub fn mark_voted(&mut self)
         ensures voted { self.new ≡ record self.old { voted = true } }
         ensures after { (votes : List (NodeId × Vote)) → IsAfter votes self.old → IsAfter votes self.new }

@@ -2,6 +2,7 @@
 
 ghost use Rattle.std.specs.Prelude.{◌≡◌, ◌↔◌, List, suc, length, [], ◌∷◌, ◌++◌, if◌then◌else◌, ◌+◌, ◌<◌};
 ghost use Rattle.std.specs.Prelude.{◌≤◌, Some, None, not, is_some, IsTrue, IfOk, IfErr, IfSome, OnOk, OnErr};
+ghost use Rattle.std.specs.Bool.{then_some};
 ghost use Rattle.std.specs.Option.{option_copied, option_map};
 
 use crate::misfit::Misfit;
@@ -40,12 +41,12 @@ impl Worker {
     ghost use Rattle.kt_tuple.specs.declared.op.Answer.{Answer};
     ghost use Rattle.kt_script.specs.declared.command.Command.{Command};
     ghost use Rattle.kt_script.specs.Asks.{asks};
-    ghost use Rattle.kt_worker.specs.Standing.{opening_standing, again_request, next_request};
+    ghost use Rattle.kt_worker.specs.Standing.{opening_standing, again_request, next_of, next_request};
     ghost use Rattle.kt_worker.specs.Standing.{numbered, issued, awaits, heard, is_left};
     ghost use Rattle.kt_worker.specs.After.{IsAfter};
     ghost use Rattle.kt_worker.specs.Parts.{standing_of, misfit_of};
 
-    /// A worker that made no request yet.
+    /// A worker that made no request yet, before its script's first command.
     pub fn new(alloc: Global, script: &Script) -> Result<Worker, AllocError>
         ensures value { IfOk result (λ w. w ≡ opening_standing script.now) }
         ensures after { IfOk result (λ w. IsAfter script.now [] w) }
@@ -58,10 +59,13 @@ impl Worker {
         })
     }
 
-    /// The worker of these parts, which `number`, `asked`, `pc`, `was_none` and `values` read: the number of
-    /// the last request, what it asks for where it is unanswered, the number of the next command, whether
-    /// the last answer was none, and the values of the variables in the order of the script's names. Parts
-    /// that are no worker's of this script are refused; it takes no memory.
+    /// The worker of these parts, which its readers of the same names give. `number` is that of the last request, 0
+    /// before the first, and `asked` is what it asks for where it is unanswered. `pc` is the number of the next
+    /// command, counted from 0, and `was_none` says whether the last answer was none. `values` are those of the
+    /// variables in the order of the script's names.
+    ///
+    /// Parts that are no worker's of this script are refused with the first misfit; it takes no memory. What is
+    /// unanswered is not compared with the script: whether the parts were read of a worker, the caller has to know.
     pub fn from_parts(
         script: &Script,
         number: u64,
@@ -93,7 +97,7 @@ impl Worker {
         })
     }
 
-    /// An equal worker.
+    /// An equal worker with memory of its own.
     pub fn copy(&self, alloc: Global) -> Result<Worker, AllocError>
         ensures { IfOk result (λ w. w ≡ self.now) }
     {
@@ -159,6 +163,59 @@ impl Worker {
         }
     }
 
+    /// The operation that is asked for next: none while a request is unanswered.
+    fn next(&self, alloc: Global, script: &Script) -> Result<Option<Next>, AllocError>
+        ensures value { IfOk result (λ next. next ≡ next_of script.now self.now) }
+        // Each command makes one request at most.
+        ensures later { IfOk result (λ next. IfSome next (λ n. self.now.number < n.pc)) }
+    {
+        if self.asked.is_some() {
+            return Ok(None);
+        }
+        script.next(alloc, self.pc, &self.env)
+    }
+
+    /// The worker that has made the next request, beside this one, which stays. There is none while a request is
+    /// unanswered, nor where no operation is left.
+    pub fn asker(&self, alloc: Global, script: &Script) -> Result<Option<Worker>, AllocError>
+        ensures { IfOk result (λ w.
+            w ≡ option_map (λ _. issued script.now self.now) (next_request script.now self.now)) }
+    {
+        let Some(Next { op, pc, env }) = self.next(alloc, script)? else {
+            return Ok(None);
+        };
+        Ok(Some(Worker {
+            number: self.number + 1,
+            asked: Some(op),
+            pc,
+            env,
+        }))
+    }
+
+    /// The worker that has heard this answer, beside this one, which stays. There is none where the answer is not that
+    /// to the unanswered request.
+    pub fn hearer(
+        &self,
+        alloc: Global,
+        script: &Script,
+        number: u64,
+        op: &Op,
+        answer: &Answer,
+    ) -> Result<Option<Worker>, AllocError>
+        ensures { IfOk result (λ w.
+            w ≡ then_some (awaits self.now number op.now) (heard script.now self.now answer.now)) }
+    {
+        if !self.awaits(number, op) {
+            return Ok(None);
+        }
+        Ok(Some(Worker {
+            number: self.number,
+            asked: None,
+            pc: self.pc,
+            env: self.env.bind(alloc, script, self.pc, answer)?,
+        }))
+    }
+
     /// Makes the next request, and gives its number and operation. There is none while one is unanswered,
     /// nor where no operation is left; then nothing changes, and nor does it where memory runs out.
     pub fn issue(&mut self, alloc: Global, script: &Script) -> Result<Option<(u64, Op)>, AllocError>
@@ -172,18 +229,17 @@ impl Worker {
         ensures after { (answers : List Answer) → IsAfter script.now answers self.old
             → IsAfter script.now answers self.new }
     {
-        if self.asked.is_some() {
-            return Ok(None);
-        }
-        let Some(Next { op, pc, env }) = script.next(alloc, self.pc, &self.env)? else {
+        let Some(Next { op, pc, env }) = self.next(alloc, script)? else {
             return Ok(None);
         };
+        // All memory is taken before the worker changes, so that a refusal leaves it as it was.
         let asked = op.copy(alloc)?;
         self.ask(asked, pc, env);
         Ok(Some((self.number, op)))
     }
 
-    /// The operation is asked for, with the next number. Behind it stand this command and these variables.
+    /// The operation is asked for, with the next number. Behind it stand this command and these variables. It takes no
+    /// memory.
     fn ask(&mut self, op: Op, pc: usize, env: Env)
         requires { self.old.number < pc }
         ensures { self.new ≡ record {
@@ -232,12 +288,14 @@ impl Worker {
         if !self.awaits(number, op) {
             return Ok(false);
         }
+        // `bind` gives a new environment, so that a refusal leaves the old one.
         self.env = self.env.bind(alloc, script, self.pc, answer)?;
         self.asked = None;
         Ok(true)
     }
 
-    /// Whether an operation is left after the answers so far: the unanswered one, or the next.
+    /// Whether an operation is left after the answers so far: the unanswered one, or the next. The unanswered one
+    /// counts as left, so that `is_done` is the opposite.
     pub fn has_next(&self, script: &Script) -> bool
         ensures exact { result ≡ is_left script.now self.now }
         ensures asks { (answers : List Answer) → IsAfter script.now answers self.now

@@ -1,6 +1,6 @@
--- What a step does to the state of a world. A step is a refusal, or one plan of its owner that is put into effect:
--- the owner changes, what was heard is off its link, what is sent is on its way, at most one note is made, and at most
--- one write of the store.
+-- What a step does to the state of a world. A step is a refusal, or one plan of its owner that is put into effect.
+-- Then the owner changes, what was heard is off its link, and what is sent is on its way. At most one note is made, and
+-- at most one write of the store.
 use Rattle.std.specs.Prelude.{ℕ, ◌+◌, List, [], ◌∷◌, ◌++◌, drop, Option, None, Some, Result, Ok, Err}
 use Rattle.std.specs.Option.{option_map}
 use Rattle.kt_tuple.specs.declared.node.NodeId.{NodeId}

@@ -1,8 +1,8 @@
 -- What holds of every state that steps lead to. Read `Headline` first, at the end of this file: each of its five fields
 -- has its line of English. Of the words in them `HasOneRun` and `IsSteadyRun` stand here, with `is_steady` and the
--- tuples of all shards between them; `IsCausallyClosed` and `permanent_length` in `Cut`, `IsPermanentRun` in
--- `PermanentRun`, `StoresFollowLines` in `Like`; `services` and `Survives` in `Survival` of kt_history, `IsSpaceRun` in
--- `Space` of kt_tuple. What a state is says `State`, and what a step makes of it `Effect`.
+-- tuples of all shards between them. `IsCausallyClosed` and `permanent_length` stand in `Cut`, `IsPermanentRun` in
+-- `PermanentRun`, `StoresFollowLines` in `Like`. Of kt_history are `services` and `Survives`, in `Survival`; of
+-- kt_tuple is `IsSpaceRun`, in `Space`. What a state is says `State`, and what a step makes of it `Effect`.
 -- The rest of the file is for other clauses of a step: what becomes of what a node remembers, and failures.
 use Rattle.std.specs.Prelude.{◌≡◌, ℕ, ◌+◌, Bool, true, false, List, [], ◌∷◌, map}
 use Rattle.std.specs.Prelude.{◌++◌, take, length, ◌≤◌, Option, None, Some, IsTrue, IsPermutation}

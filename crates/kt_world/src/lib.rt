@@ -1,5 +1,14 @@
-//! The world as plain data: its state, its steps, what each step makes of it, and what holds of every state that
-//! steps lead to. The code that meets these definitions stands in the crate above.
+//! The world as plain data: its state, its steps, what each step makes of it, and what holds of every state that steps
+//! lead to. The code that meets these definitions is kt_core's, so a law is not checked again when a body changes
+//! there.
+//!
+//! - Contract: in every state that steps lead to, the surviving services are one run of a sequential tuple space, in
+//!   the order of the scripts (the law `survivors_are_one_run`, clause `one_run`). The other laws stand in `laws.rt`
+//!   too.
+//! - Stands on: kt_tuple, kt_script, kt_space, kt_link, kt_shard, kt_worker, kt_vote, kt_history, kt_ckpt, kt_store,
+//!   kt_lines, kt_node; of the kit: thiserror
+//! - Used by: kt_refinement, kt_core, kt_scene, kt_stage, kt_run, kt_command
+//! - Begin in: `step.rt`, the steps and why one is refused, then `specs/State.antt` and `specs/Effect.antt`.
 #![tactic(auto)]
 
 mod laws;

@@ -6,19 +6,19 @@ use kt_node::Stored;
 /// After which verdict a rule asks.
 #[derive(Clone, Copy, Debug, PartialEq, Eq)]
 pub enum Question {
-    /// After none.
+    /// After no verdict; the board is not read for one.
     Nothing,
-    /// After that on this instance.
+    /// After the verdict on the instance of this number.
     Of(u64),
-    /// After that on the instance of the owner's tentative checkpoint, where it has one.
+    /// After the verdict on the instance of the owner's tentative checkpoint, where it has one.
     OfTentative,
 }
 
 /// What of the store the rule of a step looks at. Only this is asked for, so that a step costs nothing that it can do
-/// without.
+/// without. That this is enough is proved (docs/DECISIONS.md#the-world-with-failures).
 #[derive(Clone, Copy, Debug, PartialEq, Eq)]
 pub struct Needs {
-    /// After which verdict it asks.
+    /// The verdict after which it asks, if after any.
     pub verdict: Question,
     /// Acts and labels of the owner's permanent checkpoint.
     pub permanent: bool,
@@ -36,7 +36,7 @@ impl Needs {
     ghost use Rattle.std.specs.Prelude.{◌≡◌};
     ghost use Rattle.kt_world.specs.Needs.{no_needs};
 
-    /// Nothing is looked at.
+    /// The rule looks at nothing stored, so nothing is read of the store.
     pub fn none() -> Needs
         ensures { result ≡ no_needs }
     {
@@ -55,7 +55,7 @@ impl Told {
     ghost use Rattle.std.specs.Prelude.{◌≡◌};
     ghost use Rattle.kt_world.specs.Needs.{no_told};
 
-    /// Nothing is told.
+    /// What is told where nothing is asked: all as a fresh store has it.
     pub fn none() -> Told
         ensures { result ≡ no_told }
     {

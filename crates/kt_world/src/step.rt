@@ -8,10 +8,10 @@ use kt_tuple::NodeId;
 use std::alloc::AllocError;
 use thiserror::Error;
 
-/// The most steps of a world.
+/// The most steps of a world, by all its nodes together.
 pub const MAX_STEPS: u64 = 100_000;
 
-/// One step of one node.
+/// One step of one node: a scenario of steps has a line for each.
 #[derive(Clone, Copy, Debug, PartialEq, Eq)]
 pub enum Step {
     /// The worker asks for its next operation.
@@ -54,7 +54,7 @@ pub enum Step {
     Learn {
         node: NodeId,
     },
-    /// The node fails.
+    /// The node fails, at any moment while it is not down: all that it has but what is stored is lost.
     Fail {
         node: NodeId,
     },
@@ -67,7 +67,7 @@ pub enum Step {
 impl Step {
     ghost use Rattle.kt_world.specs.Step.{owner};
 
-    /// The node whose step it is.
+    /// The node whose step it is; a delivery is the receiver's.
     pub fn owner(self) -> NodeId
         ensures { result ≡ owner self }
     {
@@ -87,8 +87,8 @@ impl Step {
     }
 }
 
-/// Why a step was refused. Of several reasons the first that stands here is given, but that a refused call of the store
-/// is told at once: what it would have said is not known.
+/// Why a step was refused. Of several reasons the first that stands here is given. But a refused call of the store is
+/// told at once, since what it would have said is not known.
 #[derive(Clone, Copy, Debug, PartialEq, Eq, Error)]
 pub enum StepError {
     /// A node is not in the scene or is of the wrong kind, or the two are no neighbours.
@@ -109,13 +109,13 @@ pub enum StepError {
     /// A tentative checkpoint or an open instance stands in the way.
     #[error("Unresolved")]
     Unresolved,
-    /// 100,000 steps were made.
+    /// 100,000 steps were made. It comes only of a step that no reason above this one refuses.
     #[error("StepLimit")]
     StepLimit,
     /// A call of the store was refused, or gave a checkpoint that does not fit the node, which no honest store does.
     #[error("Store")]
     Store(StoreError),
-    /// Memory ran out.
+    /// Memory ran out. It comes only of a step that is enabled.
     #[error("OutOfMemory")]
     OutOfMemory,
 }

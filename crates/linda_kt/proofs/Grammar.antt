@@ -12,8 +12,9 @@ use Rattle.clap.specs.declared.parser.matches.ArgMatches.{ArgMatches}
 use Rattle.clap.specs.declared.parser.matches.Found.{Found}
 use Rattle.clap.specs.declared.parser.matches.ArgMatches.TheViews.{out-ArgMatches}
 use Rattle.clap.proofs.WalkLemmas.{first_value-rows}
-use Rattle.linda_kt.specs.declared.words.Command.{Command}
-use Rattle.linda_kt.specs.Words.{asked_by, command_line_app, command_of, has_flag, is_true, request_of, words_fault}
+use Rattle.kt_command.specs.declared.command.Command.{Command}
+use Rattle.kt_command.specs.Command.{command_of}
+use Rattle.linda_kt.specs.Words.{asked_by, command_line_app, has_flag, is_true, request_of, words_fault}
 
 -- the text is there, and is one of these two
 abbrev pub IsOneOf : Text → Text → Option Text → Type 0

@@ -1,111 +1,16 @@
--- How a run ends.
-use Rattle.std.specs.Prelude.{◌≡◌, ◌≢◌, ◌⊎◌, ℕ, true, List, Option, None, Some, codes}
+-- How a run of the program ends, over the store in memory or the file that it names.
+use Rattle.std.specs.Prelude.{◌≡◌, ◌≢◌, ◌⊎◌, ℕ, List, Option, None, Some, codes}
 use Rattle.clap.specs.Words.{Text}
-use Rattle.kt_store.specs.Content.{Content}
 use Rattle.kt_store.specs.declared.store.CkptStore.{Ghosts}
-use Rattle.kt_world.specs.declared.step.StepError.{StepError}
-use Rattle.kt_world.specs.declared.step.StepError.TheVariants as step
-use Rattle.kt_core.specs.declared.world.OpenError.{OpenError}
-use Rattle.kt_core.specs.declared.world.OpenError.TheVariants as opens
-use Rattle.kt_scene.specs.declared.fault.SceneError.{SceneError}
-use Rattle.kt_scene.specs.declared.fault.SceneError.TheVariants as scene
 use Rattle.kt_scene.specs.Outside.{Reader, Writer}
-use Rattle.kt_scene.specs.Run.{Given, left_by, WritesReplayed, IsReplayFault, LeavesWriter}
-use Rattle.kt_scene.specs.declared.fault.ReplayFault.{ReplayFault}
-use Rattle.kt_scene.specs.declared.fault.ReplayFault.TheVariants.{Scene, Step, Open, Report, Memory, Read, Write}
-use Rattle.kt_stage.specs.declared.running.RunFault.{RunFault}
-use Rattle.kt_stage.specs.declared.running.RunFault.TheVariants as runs
-use Rattle.kt_run.specs.declared.fault.RunTextFault.{RunTextFault}
-use Rattle.kt_run.specs.declared.fault.RunTextFault.TheVariants as texts
-use Rattle.kt_run.specs.declared.running.Output.{Output}
-use Rattle.kt_run.specs.Run.{IsRunTextFault, WritesRun, WritesRunFront}
-use Rattle.linda_kt.specs.declared.words.Command.{Command}
-use Rattle.linda_kt.specs.declared.words.Command.TheVariants.{Replay, Run}
+use Rattle.kt_command.specs.declared.command.Command.{Command}
+use Rattle.kt_command.specs.Status.{EndsCommand, EndsInMemory, left_of}
 use Rattle.linda_kt.specs.Words.{asked_by}
-
--- 3 for a fault of the scenario, but 6 where memory ran out
-abbrev pub scene_status : SceneError → ℕ
-scene_status scene.OutOfMemory = 6
-scene_status _ = 3
-
--- 4 for a step that is not enabled, but 8 for one past the limit, 5 for a refusal of the store and 6 where memory ran
--- out
-abbrev pub step_status : StepError → ℕ
-step_status step.StepLimit = 8
-step_status (step.Store refusal) = 5
-step_status step.OutOfMemory = 6
-step_status _ = 4
-
--- 5 for a store that is not fresh or refuses a call, and 6 where memory ran out
-abbrev pub open_status : OpenError → ℕ
-open_status opens.OutOfMemory = 6
-open_status _ = 5
-
--- the exit status that tells of a fault; 7 is for the streams
-abbrev pub status_of : ReplayFault → ℕ
-status_of (Scene line cause) = scene_status cause
-status_of (Step at cause) = step_status cause
-status_of (Open cause) = open_status cause
-status_of (Report cause) = 5
-status_of Memory = 6
-status_of Read = 7
-status_of Write = 7
-
--- the exit status that tells of a run's fault: 5 too where the seats do not fit the journal, or a node has a step
--- left
-abbrev pub run_status : RunFault → ℕ
-run_status (runs.Open cause) = open_status cause
-run_status (runs.Step at cause) = step_status cause
-run_status (runs.Close cause) = 5
-run_status runs.Memory = 6
-run_status (runs.Unfinished node) = 5
-
-abbrev pub run_text_status : RunTextFault → ℕ
-run_text_status (texts.Text fault) = status_of fault
-run_text_status (texts.Run fault) = run_status fault
 
 -- the exit status of words that name no command: 0 where help was shown, 2 where they are wrong, 6 where
 -- memory ran out, 7 where help could not be written
 abbrev pub IsWordsStatus : ℕ → Type 0
 IsWordsStatus n = (n ≡ 0) ⊎ ((n ≡ 2) ⊎ ((n ≡ 6) ⊎ (n ≡ 7)))
-
--- a store in memory with nothing stored on it, and this when it is left: it is always honest, and its device never
--- fails
-abbrev pub in_memory : Content → Given (Unit {0})
-in_memory left = record { content = λ _. left; is_honest = λ _. true; fault_count = λ _. 0; fresh = true; before = 0 }
-
--- what stores of a kind say of one that a command is given, and of it as it is left
-abbrev pub left_of : {S : Type 0} → Ghosts S → (store left : S) → Given (Unit {0})
-left_of kind store left = left_by kind.content kind.is_honest kind.fault_count store left
-
--- how a replay over a store ends: with 0 where what was read was replayed and its report written, and else with the
--- status of the fault, before which nothing is written, or of the writer's a front of the report
-pub data EndsOver {S : Type 0} (given : Given S) (before after : Reader) (old new : Writer) (n : ℕ) : Type 0 where
-  done : n ≡ 0 → WritesReplayed given before after old new → EndsOver given before after old new n
-  refused : (fault : ReplayFault) → IsReplayFault given before after fault
-      → LeavesWriter given before after old new fault → n ≡ status_of fault → EndsOver given before after old new n
-
--- what a run leaves of the writer where it ends with this fault: where the writer failed a front of what was to be
--- there, and else all as it was
-abbrev pub LeavesRunWriter : {S : Type 0} → Given S → Output → (before after : Reader) (old new : Writer) → RunTextFault
-    → Type 0
-LeavesRunWriter given output before after old new (texts.Text Write) =
-    WritesRunFront given output before after old new
-LeavesRunWriter given output before after old new fault = new ≡ old
-
--- how a run over a store ends: with 0 where what was read was run and what was asked for written, and else with the
--- status of the fault
-pub data EndsRun {S : Type 0} (given : Given S) (output : Output) (before after : Reader) (old new : Writer) (n : ℕ)
-    : Type 0 where
-  ran : n ≡ 0 → WritesRun given output before after old new → EndsRun given output before after old new n
-  stopped : (fault : RunTextFault) → IsRunTextFault given before after fault
-      → LeavesRunWriter given output before after old new fault → n ≡ run_text_status fault
-      → EndsRun given output before after old new n
-
--- how a command over a store ends
-abbrev pub EndsCommand : {S : Type 0} → Given S → Command → (before after : Reader) (old new : Writer) → ℕ → Type 0
-EndsCommand given Replay before after old new n = EndsOver given before after old new n
-EndsCommand given (Run output) before after old new n = EndsRun given output before after old new n
 
 -- how a command over the store ends, by some store of its kind, which stands for the one that was left
 pub record EndsLeaving {S : Type 0} (files : Ghosts S) (store : S) (command : Command) (before after : Reader)
@@ -122,11 +27,6 @@ pub data EndsInFile {S : Type 0} (files : Ghosts S) (command : Command) (path : 
       → EndsLeaving files store command before after old new n
       → EndsInFile files command path before after old new n
   unopened : n ≡ 5 → after ≡ before → new ≡ old → EndsInFile files command path before after old new n
-
--- how a command over a fresh store in memory ends
-pub record EndsInMemory (command : Command) (before after : Reader) (old new : Writer) (n : ℕ) : Type 0 where
-  pub left : Content
-  pub ends : EndsCommand (in_memory left) command before after old new n
 
 -- how a command ends, by the file that is named for its store, or none
 abbrev pub Ends : {S : Type 0} → Ghosts S → Command → Option Text → (before after : Reader) (old new : Writer) → ℕ

@@ -1,9 +1,6 @@
 -- The words of the command line.
-use Rattle.std.specs.Prelude.{◌≡◌, ◌≢◌, ◌⊎◌, Bool, true, false, if◌then◌else◌, nat_eq, List, [], ◌∷◌, Option, None}
-use Rattle.std.specs.Prelude.{Some, refl, codes, map, option_map, option_and_then, String, string_bytes, drop}
-use Rattle.std.specs.Borrow.{Bor}
-use Rattle.std.specs.Global.{Global}
-use Rattle.std.specs.Cmp.Lexicographic.{pointwise}
+use Rattle.std.specs.Prelude.{◌≡◌, ◌≢◌, ◌⊎◌, Bool, true, false, List, [], ◌∷◌, Option, None, Some, refl, codes}
+use Rattle.std.specs.Prelude.{option_map, option_and_then}
 use Rattle.clap.specs.Words.{App, IsAmong, Kinds, Row, Rule, Shape, Text, fault_of, first_of, new_app, new_rule}
 use Rattle.clap.specs.Words.{subcommand_of, with_subcommand}
 use Rattle.clap.specs.declared.builder.action.ArgAction.TheVariants.{SetTrue}
@@ -11,27 +8,11 @@ use Rattle.clap.specs.Simple.{new_shape, on_top}
 use Rattle.clap.specs.declared.error.kind.ErrorKind.TheVariants.{DisplayHelp, DisplayVersion, InvalidSubcommand}
 use Rattle.clap.specs.declared.error.kind.ErrorKind.TheVariants.{InvalidValue, MissingSubcommand, UnknownArgument}
 use Rattle.clap.proofs.OnLiterals.{clap_on_literals}
-use Rattle.kt_run.specs.declared.running.Output.{Output}
 use Rattle.kt_run.specs.declared.running.Output.TheVariants as outputs
-use Rattle.linda_kt.specs.declared.words.Command.{Command}
-use Rattle.linda_kt.specs.declared.words.Command.TheVariants.{Replay, Run}
+use Rattle.kt_command.specs.declared.command.Command.{Command}
+use Rattle.kt_command.specs.declared.command.Command.TheVariants.{Replay, Run}
+use Rattle.kt_command.specs.Command.{command_of, is_word}
 use Rattle.linda_kt.specs.declared.words.Request.{Request}
-
--- the text is this word
-abbrev pub is_word : Text → Text → Bool
-is_word text word = pointwise nat_eq text word
-
--- what is written of a run, with the flag or without it
-abbrev pub output_of : Bool → Output
-output_of true = outputs.Journal
-output_of false = outputs.Report
-
--- the command that a word asks for, with the flag behind it or without
-abbrev pub command_of : Text → Bool → Option Command
-command_of word has_flag =
-    if is_word word (codes "replay") then Some Replay
-    else if is_word word (codes "run") then Some (Run (output_of has_flag))
-    else None
 
 -- a command, and the file that is named for its store, or none
 abbrev pub asked : Request → Command × Option Text
@@ -63,14 +44,6 @@ command_line_app =
       subcommand_required = true;
       disable_help_subcommand = true;
     }) program_app) replay_shape) run_shape
-
--- the texts behind references
-abbrev pub texts : List (Bor Text) → List Text
-texts = map (λ w. w.now)
-
--- the words behind the first text, which is the program's name
-abbrev pub words_behind : List (String Global) → List Text
-words_behind arguments = map string_bytes (drop 1 arguments)
 
 -- the flag stands among a command's words: its text is that of `true` then
 abbrev pub is_true : Option Text → Bool

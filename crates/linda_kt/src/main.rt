@@ -1,11 +1,16 @@
-//! A Linda tuple space that survives failures: `linda_kt replay` reads a scenario on standard input, makes its steps
-//! and writes the report to standard output; `linda_kt run` runs it, by a thread for each node.
+//! The program: `linda_kt replay` reads a scenario on standard input, makes its steps and writes the report to standard
+//! output. `linda_kt run` runs one by a thread for each node. With `--store FILE` checkpoints are kept in a file.
+//!
+//! - Contract: `run_program`, clause `told`: words without a fault do their command over the store that they name, and
+//!   the exit status says how it ended; what `linda_kt` writes is what that command may write.
+//! - Stands on: kt_tuple, kt_store, kt_sql, kt_scene, kt_stage, kt_run, kt_command; of the kit: sqlite, clap
+//! - Used by: none
+//! - Begin in: `program.rt`; the grammar of the words is in `words.rt`.
 #![tactic(auto)]
 
 mod program;
 #[cfg(test)]
 mod run_tests;
-mod status;
 #[cfg(test)]
 mod tests;
 mod words;
@@ -19,6 +24,7 @@ fn main(rt: HostRuntime) -> ExitCode {
     let mut reader = Source::new(rt.stdin());
     let mut writer = Sink::new(rt.stdout());
     let mut errors = rt.stderr();
+    // The runtime twice: by the first a file is opened, by the second threads are started.
     let status = program::run_arguments(&rt, &rt, arguments, &mut reader, &mut writer, &mut errors);
     ExitCode::from(status)
 }

@@ -3,18 +3,20 @@ ghost use Rattle.std.specs.Prelude.{◌≡◌, ◌≢◌, ◌⊎◌, [], IsErr, 
 ghost use Rattle.std.specs.Vec.Iter.{into_iter_items};
 ghost use Rattle.clap.specs.Words.{kind_of};
 ghost use Rattle.clap.specs.declared.error.kind.ErrorKind.TheVariants as kind;
-ghost use Rattle.linda_kt.specs.Status.{Ends, EndsCommand, EndsInFile, EndsLeaving, IsRunStatus, IsWordsStatus};
-ghost use Rattle.linda_kt.specs.Status.{EndsInMemory, left_of};
-ghost use Rattle.linda_kt.specs.Words.{AreWrong, texts, words_behind, words_fault};
+ghost use Rattle.kt_command.specs.Command.{texts, words_behind};
+ghost use Rattle.linda_kt.specs.Status.{Ends, EndsInFile, EndsLeaving, IsRunStatus, IsWordsStatus};
+ghost use Rattle.linda_kt.specs.Words.{AreWrong, words_fault};
 
-use crate::status::{COMMAND_LINE, DONE, MEMORY, STORE, STREAM, end_replay, end_run};
-use crate::words::{Command, Request, read_words, refuse_bytes};
+use crate::words::{Request, read_words, refuse_bytes};
 use clap::Error;
 use clap::error::ErrorKind;
-use kt_run::run_text_over;
-use kt_scene::{Outcome, Sink, Source, replay_over};
+use kt_command::{
+    COMMAND_LINE, Command, DONE, MEMORY, STORE, STREAM, run_in_memory, run_over, texts_of,
+    words_behind,
+};
+use kt_scene::{Outcome, Sink, Source};
 use kt_sql::{SqlOpenError, SqlStore};
-use kt_store::{CkptStore, MemStore};
+use kt_store::CkptStore;
 use sqlite::{Alter, File, FileStore};
 use std::alloc::{AllocError, Global};
 use std::env::Args;
@@ -57,13 +59,6 @@ pub fn run_arguments<T: Threads + Wait + Sync, R: Read, W: Write, E: Write>(
     }
 }
 
-/// All arguments, in order.
-fn texts_of(alloc: Global, arguments: Args) -> Result<Vec<String>, AllocError>
-    ensures { IfOk result (λ all. all.items ≡ into_iter_items arguments) }
-{
-    arguments.collect(alloc)
-}
-
 /// Runs the program on these texts, of which the first is its name.
 fn run_texts<T: Threads + Wait + Sync, R: Read, W: Write, E: Write>(
     rt: &HostRuntime,
@@ -83,19 +78,6 @@ fn run_texts<T: Threads + Wait + Sync, R: Read, W: Write, E: Write>(
         Ok(words) => run_program(rt, threads, words.as_slice(), reader, writer, errors),
         Err(AllocError) => end_by("memory", MEMORY, errors),
     }
-}
-
-/// The words behind the program's name.
-fn words_behind<'a>(alloc: Global, arguments: &'a [String]) -> Result<Vec<&'a str>, AllocError>
-    ensures { IfOk result (λ words. texts words.items ≡ words_behind arguments.entry.now) }
-{
-    let mut words = Vec::new(alloc);
-    if let Some((_, behind)) = arguments.split_first() {
-        for word in behind {
-            words.push(word.as_str())?;
-        }
-    }
-    Ok(words)
 }
 
 /// Does what the words ask, which are those after the program's name, and answers the exit status.
@@ -139,27 +121,9 @@ fn run_request<T: Threads + Wait + Sync, R: Read, W: Write, E: Write>(
     ensures done_without_a_word { result ≡ DONE → errors.new ≡ errors.old }
 {
     match request.store {
-        None => run_in_memory(rt, threads, request.command, reader, writer, errors),
+        None => run_in_memory(threads, rt.alloc(), request.command, reader, writer, errors),
         Some(path) => run_in(rt, threads, request.command, path, reader, writer, errors),
     }
-}
-
-/// Does the command over a store in memory, which is fresh.
-fn run_in_memory<T: Threads + Wait + Sync, R: Read, W: Write, E: Write>(
-    rt: &HostRuntime,
-    threads: &T,
-    command: Command,
-    reader: &mut Source<R>,
-    writer: &mut Sink<W>,
-    errors: &mut E,
-) -> u8
-    ensures told { EndsInMemory command reader.old reader.new writer.old writer.new result }
-    ensures done_without_a_word { result ≡ DONE → errors.new ≡ errors.old }
-{
-    let store = MemStore::new(rt.alloc());
-    let (status, left) = run_over(threads, rt.alloc(), command, store, reader, writer, errors);
-    drop(left);
-    status
 }
 
 /// Does the command over the store in the file, which is opened before anything is read.
@@ -204,32 +168,6 @@ fn run_opened<T: Threads + Wait + Sync, R: Read, W: Write, E: Write, S: Alter + 
             status
         }
         Err(error) => refuse_store(error, errors),
-    }
-}
-
-/// Does the command over the store, and gives it back: what is said of a store is said of it as it was left.
-pub fn run_over<T: Threads + Wait + Sync, R: Read, W: Write, E: Write, S: CkptStore + Send + Drop>(
-    threads: &T,
-    alloc: Global,
-    command: Command,
-    store: S,
-    reader: &mut Source<R>,
-    writer: &mut Sink<W>,
-    errors: &mut E,
-) -> (u8, S)
-    ensures told { EndsCommand (left_of S.CkptStore store result.1) command
-        reader.old reader.new writer.old writer.new result.0 }
-    ensures done_without_a_word { result.0 ≡ DONE → errors.new ≡ errors.old }
-{
-    match command {
-        Command::Replay => {
-            let (answer, left) = replay_over(alloc, reader, writer, store);
-            (end_replay(answer, errors), left)
-        }
-        Command::Run(output) => {
-            let (answer, left) = run_text_over(threads, alloc, reader, writer, store, output);
-            (end_run(answer, errors), left)
-        }
     }
 }
 

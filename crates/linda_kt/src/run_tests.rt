@@ -1,6 +1,6 @@
 //! Runs by the program: its words, its output, its line on the errors and its status.
-use crate::status::end_run;
 use crate::tests::run;
+use kt_command::end_run;
 use kt_run::RunTextFault;
 use kt_scene::{OpenError, ReplayFault, SceneError, StepError};
 use kt_stage::{CloseError, RunFault};

@@ -1,6 +1,6 @@
 //! The program from its words to its output, its line on the errors and its status.
 use crate::program::run_program;
-use crate::status::end_replay;
+use kt_command::end_replay;
 use kt_scene::{OpenError, ReplayFault, Sink, Source, StepError};
 use kt_store::StoreError;
 use std::alloc::{AllocError, Global};

@@ -3,22 +3,14 @@ ghost use Rattle.std.specs.Prelude.{◌≡◌, ◌⊎◌, false, IfOk, Some};
 ghost use Rattle.clap.specs.Words.{app_of, FailsBy, found_of, kind_of, rows_of, rule_of};
 ghost use Rattle.clap.specs.declared.builder.command.Command.TheViews.{out-Command as fields_of};
 ghost use Rattle.clap.specs.Simple.{shape_of};
-ghost use Rattle.linda_kt.specs.Words.{asked, asked_by, command_line_app, command_of, has_flag, journal_rule};
-ghost use Rattle.linda_kt.specs.Words.{program_app, replay_shape, run_shape, store_rule, texts, words_fault};
+ghost use Rattle.kt_command.specs.Command.{texts};
+ghost use Rattle.linda_kt.specs.Words.{asked, asked_by, command_line_app, has_flag, journal_rule};
+ghost use Rattle.linda_kt.specs.Words.{program_app, replay_shape, run_shape, store_rule, words_fault};
 
 use clap::error::ErrorKind;
 use clap::{Arg, ArgAction, ArgMatches, Error};
-use kt_run::Output;
+use kt_command::Command;
 use std::alloc::{AllocError, Global};
-
-/// What the program is asked to do.
-#[derive(Clone, Copy, Debug, PartialEq, Eq)]
-pub enum Command {
-    /// Make the steps of a scenario and write the report.
-    Replay,
-    /// Run a scenario of fault lines by threads, and write this of it.
-    Run(Output),
-}
 
 /// A command, and the file that it is to keep its store in.
 #[derive(Clone, Copy, Debug, PartialEq, Eq)]
@@ -27,26 +19,6 @@ pub struct Request<'a> {
     pub command: Command,
     /// None for a store in memory.
     pub store: Option<&'a str>,
-}
-
-impl Command {
-    /// The command of that name, with or without its flag.
-    fn of_name(name: &str, has_flag: bool) -> Option<Command>
-        ensures { result ≡ command_of name.now has_flag }
-    {
-        if name == "replay" {
-            Some(Command::Replay)
-        } else if name == "run" {
-            let output = if has_flag {
-                Output::Journal
-            } else {
-                Output::Report
-            };
-            Some(Command::Run(output))
-        } else {
-            None
-        }
-    }
 }
 
 /// The command that the words name, and the file of its store; the words are those after the program's

@@ -70,9 +70,11 @@ fn is_same_request(a: &Request, b: &Request) -> bool {
 }
 
 /// The checkpoint made again of its parts.
-fn made_again(ckpt: Ckpt) -> Ckpt {
-    let (node, line_len, sent, received, state) = ckpt.into_parts();
-    Ckpt::new(node, line_len, sent, received, state_made_again(state))
+fn made_again(alloc: Global, ckpt: &Ckpt) -> Result<Ckpt, AllocError> {
+    let state = state_made_again(ckpt.state().copy(alloc)?);
+    let sent = Vec::from_slice(alloc, ckpt.sent())?;
+    let received = Vec::from_slice(alloc, ckpt.received())?;
+    Ckpt::new(alloc, ckpt.node(), ckpt.line_len(), sent, received, state)
 }
 
 fn state_made_again(state: State) -> State {
@@ -104,7 +106,7 @@ fn is_copied(alloc: Global, ckpt: &Ckpt) -> Result<bool, AllocError> {
     if !is_same(ckpt, &copy) {
         return Ok(false);
     }
-    Ok(is_same(ckpt, &made_again(copy)))
+    Ok(is_same(ckpt, &made_again(alloc, &copy)?))
 }
 
 /// Whether the bytes are a checkpoint that is written as these bytes again, and read the same once more.

@@ -2,7 +2,6 @@
 
 use crate::making::{SHARD_1, SHARD_2, WORKER_1, WORKER_2, WORKER_3, opened, scripts};
 use crate::rows::{Played, Row, Stage, play, play_all};
-use arrayvec::ArrayVec;
 use kt_core::{OpenError, Scene, StepError};
 use kt_script::{Actual, Actuals, Command, Name, Operation, Pattern, Script, Slot};
 use kt_tuple::{Kind, Value};
@@ -187,20 +186,20 @@ fn formal() -> Result<Slot, Fail> {
 }
 
 /// `rd (5, ?int x)`
-fn read() -> Result<Command, Fail> {
+fn read(alloc: Global) -> Result<Command, Fail> {
     let x = formal()?;
-    let mut slots = ArrayVec::new();
-    slots.push(Slot::Actual(Actual::Literal(Value::Int(5))));
-    slots.push(x);
+    let mut slots = Vec::new(alloc);
+    slots.push(Slot::Actual(Actual::Literal(Value::Int(5))))?;
+    slots.push(x)?;
     let found = Pattern::new(slots).ok_or("a template")?;
     Ok(Command::Ask(Operation::Rd(found)))
 }
 
 /// `out (x)`
-fn put_found() -> Result<Command, Fail> {
+fn put_found(alloc: Global) -> Result<Command, Fail> {
     let x = Name::new(b"x").ok_or("a name")?;
-    let mut found = ArrayVec::new();
-    found.push(Actual::Variable(x));
+    let mut found = Vec::new(alloc);
+    found.push(Actual::Variable(x))?;
     let found = Actuals::new(found).ok_or("a tuple")?;
     Ok(Command::Ask(Operation::Out(found)))
 }
@@ -212,8 +211,8 @@ fn reader_and_putter(alloc: Global) -> Result<Vec<Script>, Fail> {
         &[&["inp (\"a\")", "unless 1", "out (\"b\")"], &["out (5, 7)"]],
     )?;
     let reader = scripts.first_mut().ok_or("a reader")?;
-    reader.push(read()?)?;
-    reader.push(put_found()?)?;
+    reader.push(read(alloc)?)?;
+    reader.push(put_found(alloc)?)?;
     Ok(scripts)
 }
 

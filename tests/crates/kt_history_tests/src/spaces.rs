@@ -6,7 +6,7 @@ use std::alloc::Global;
 use std::test::Fail;
 
 fn tuple_of(alloc: Global, int: i64) -> Result<Tuple, Fail> {
-    Ok(Tuple::new(vec![in alloc; Value::Int(int)]?).ok_or("a tuple")?)
+    Ok(Tuple::new(alloc, vec![in alloc; Value::Int(int)]?)?.ok_or("a tuple")?)
 }
 
 /// `out` of this int, done.
@@ -25,7 +25,7 @@ fn take(alloc: Global, int: i64) -> Result<Service, Fail> {
     Ok(Service {
         worker: 2,
         number: 1,
-        op: Op::In(Template::new(places).ok_or("a template")?),
+        op: Op::In(Template::new(alloc, places)?.ok_or("a template")?),
         answer: Answer::Got(tuple_of(alloc, int)?),
     })
 }

@@ -1,7 +1,6 @@
 //! Scripts and steps, made of their texts.
 
 use crate::words::{answer, first_word, is_yes, label, node, number, op, small};
-use arrayvec::ArrayVec;
 use kt_node::{Ask, Post, Talk};
 use kt_script::{Actual, Actuals, Command, Operation, Pattern, Script, Slot};
 use kt_shard::Request;
@@ -12,10 +11,10 @@ use std::test::Fail;
 
 /// The values of a tuple.
 fn actuals(alloc: Global, text: &str) -> Result<Actuals, Fail> {
-    let mut actuals = ArrayVec::new();
+    let mut actuals = Vec::new(alloc);
     for value in Tuple::parse(alloc, text.as_bytes())?.values() {
         let actual = Actual::Literal(value.copy());
-        actuals.try_push(actual).map_err(|_| "room")?;
+        actuals.push(actual)?;
     }
     Ok(Actuals::new(actuals).ok_or("a tuple")?)
 }
@@ -30,9 +29,9 @@ fn slot(place: &Place) -> Slot {
 
 /// The places of a template.
 fn pattern(alloc: Global, text: &str) -> Result<Pattern, Fail> {
-    let mut slots = ArrayVec::new();
+    let mut slots = Vec::new(alloc);
     for place in Template::parse(alloc, text.as_bytes())?.places() {
-        slots.try_push(slot(place)).map_err(|_| "room")?;
+        slots.push(slot(place))?;
     }
     Ok(Pattern::new(slots).ok_or("a template")?)
 }

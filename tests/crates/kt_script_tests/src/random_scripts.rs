@@ -1,11 +1,10 @@
 //! Random scripts and answers, each operation compared with a slow reading of the script from its beginning.
 
-use arrayvec::ArrayVec;
 use kt_script::{
     Actual, Actuals, Command, Env, MAX_COMMANDS, Name, Operation, Pattern, Script, ScriptError,
     Slot,
 };
-use kt_tuple::{Answer, Kind, MAX_PLACES, Op, Place, Str, Template, Tuple, Value};
+use kt_tuple::{Answer, Kind, Op, Place, Str, Template, Tuple, Value};
 use std::alloc::{AllocError, Global};
 use std::process::Abort;
 use std::test::Fail;
@@ -83,29 +82,29 @@ impl Dice {
         }
     }
 
-    fn actuals(&mut self) -> Result<Actuals, Fail> {
-        let mut actuals: ArrayVec<Actual, MAX_PLACES> = ArrayVec::new();
+    fn actuals(&mut self, alloc: Global) -> Result<Actuals, Fail> {
+        let mut actuals = Vec::new(alloc);
         for _ in 0..=self.below(3) {
-            actuals.try_push(self.actual()?).map_err(|_| "room")?;
+            actuals.push(self.actual()?)?;
         }
         Ok(Actuals::new(actuals).ok_or("a tuple")?)
     }
 
-    fn pattern(&mut self) -> Result<Pattern, Fail> {
-        let mut slots: ArrayVec<Slot, MAX_PLACES> = ArrayVec::new();
+    fn pattern(&mut self, alloc: Global) -> Result<Pattern, Fail> {
+        let mut slots = Vec::new(alloc);
         for _ in 0..=self.below(3) {
-            slots.try_push(self.slot()?).map_err(|_| "room")?;
+            slots.push(self.slot()?)?;
         }
         Ok(Pattern::new(slots).ok_or("a template")?)
     }
 
-    fn command(&mut self) -> Result<Command, Fail> {
+    fn command(&mut self, alloc: Global) -> Result<Command, Fail> {
         Ok(match self.below(9) {
-            0 | 1 => Command::Ask(Operation::Out(self.actuals()?)),
-            2 => Command::Ask(Operation::In(self.pattern()?)),
-            3 => Command::Ask(Operation::Rd(self.pattern()?)),
-            4 => Command::Ask(Operation::Inp(self.pattern()?)),
-            5 => Command::Ask(Operation::Rdp(self.pattern()?)),
+            0 | 1 => Command::Ask(Operation::Out(self.actuals(alloc)?)),
+            2 => Command::Ask(Operation::In(self.pattern(alloc)?)),
+            3 => Command::Ask(Operation::Rd(self.pattern(alloc)?)),
+            4 => Command::Ask(Operation::Inp(self.pattern(alloc)?)),
+            5 => Command::Ask(Operation::Rdp(self.pattern(alloc)?)),
             6 | 7 => Command::Set {
                 variable: self.name()?,
                 source: self.name()?,
@@ -125,7 +124,7 @@ impl Dice {
     fn script(&mut self, alloc: Global, most: u64) -> Result<Script, Fail> {
         let mut script = Script::new(alloc);
         for _ in 0..most {
-            let command = self.command()?;
+            let command = self.command(alloc)?;
             match script.push(command) {
                 Ok(()) | Err(ScriptError::Variable | ScriptError::Limit) => {}
                 Err(ScriptError::OutOfMemory) => return Err(Fail::from("memory")),
@@ -145,7 +144,7 @@ impl Dice {
             };
             values.push(self.value(kind)?)?;
         }
-        Ok(Tuple::new(values).ok_or("a tuple")?)
+        Ok(Tuple::new(alloc, values)?.ok_or("a tuple")?)
     }
 
     fn answer(&mut self, alloc: Global, op: &Op) -> Result<Answer, Fail> {
@@ -191,7 +190,7 @@ impl Bindings<'_> {
         for actual in actuals.as_slice() {
             values.push(self.actual(actual)?)?;
         }
-        Ok(Tuple::new(values).ok_or("a tuple")?)
+        Ok(Tuple::new(alloc, values)?.ok_or("a tuple")?)
     }
 
     fn template(&self, alloc: Global, pattern: &Pattern) -> Result<Template, Fail> {
@@ -202,7 +201,7 @@ impl Bindings<'_> {
                 Slot::Formal(kind, _) => Place::Formal(*kind),
             })?;
         }
-        Ok(Template::new(places).ok_or("a template")?)
+        Ok(Template::new(alloc, places)?.ok_or("a template")?)
     }
 
     fn op(&self, alloc: Global, operation: &Operation) -> Result<Op, Fail> {

@@ -1,6 +1,5 @@
 //! Scripts at their limits, and what they ask.
 
-use arrayvec::ArrayVec;
 use kt_script::{
     Actual, Actuals, Command, Env, Name, Operation, Pattern, Script, ScriptError, Slot, is_name,
     is_name_character,
@@ -18,26 +17,26 @@ fn string(text: &str) -> Result<Actual, Fail> {
     Ok(Actual::Literal(Value::Str(text.ok_or("no string")?)))
 }
 
-fn out(actual: Actual) -> Result<Command, Fail> {
-    let mut actuals = ArrayVec::new();
-    actuals.try_push(actual).map_err(|_| "no room")?;
+fn out(alloc: Global, actual: Actual) -> Result<Command, Fail> {
+    let mut actuals = Vec::new(alloc);
+    actuals.push(actual)?;
     let actuals = Actuals::new(actuals);
     Ok(Command::Ask(Operation::Out(actuals.ok_or("no tuple")?)))
 }
 
-fn out_variable(text: &str) -> Result<Command, Fail> {
-    out(Actual::Variable(name(text)?))
+fn out_variable(alloc: Global, text: &str) -> Result<Command, Fail> {
+    out(alloc, Actual::Variable(name(text)?))
 }
 
 fn formal(text: &str) -> Result<Slot, Fail> {
     Ok(Slot::Formal(Kind::Int, Some(name(text)?)))
 }
 
-fn pattern(first: Slot, second: Option<Slot>) -> Result<Pattern, Fail> {
-    let mut slots = ArrayVec::new();
-    slots.try_push(first).map_err(|_| "no room")?;
+fn pattern(alloc: Global, first: Slot, second: Option<Slot>) -> Result<Pattern, Fail> {
+    let mut slots = Vec::new(alloc);
+    slots.push(first)?;
     if let Some(second) = second {
-        slots.try_push(second).map_err(|_| "no room")?;
+        slots.push(second)?;
     }
     Ok(Pattern::new(slots).ok_or("no template")?)
 }
@@ -77,11 +76,11 @@ fn puts(alloc: Global, script: &Script, answer: Answer, text: &str) -> Result<bo
 /// `inp ("a")`, `unless 2`, `out ("b")`, `out ("c")`, `out ("d")`.
 fn unless_script(alloc: Global) -> Result<Script, Fail> {
     let mut script = Script::new(alloc);
-    let a = pattern(Slot::Actual(string("a")?), None)?;
+    let a = pattern(alloc, Slot::Actual(string("a")?), None)?;
     script.push(Command::Ask(Operation::Inp(a)))?;
     script.push(Command::Unless(2))?;
     for text in ["b", "c", "d"] {
-        script.push(out(string(text)?)?)?;
+        script.push(out(alloc, string(text)?)?)?;
     }
     Ok(script)
 }
@@ -102,10 +101,10 @@ fn unless_skips(rt: HostRuntime) -> Result<(), Fail> {
 /// `in (?int x)`, `set y = x + 1`, `out (y)`.
 fn set_script(alloc: Global) -> Result<Script, Fail> {
     let mut script = Script::new(alloc);
-    let x = pattern(formal("x")?, None)?;
+    let x = pattern(alloc, formal("x")?, None)?;
     script.push(Command::Ask(Operation::In(x)))?;
     script.push(add_one("y", "x")?)?;
-    script.push(out_variable("y")?)?;
+    script.push(out_variable(alloc, "y")?)?;
     Ok(script)
 }
 
@@ -120,9 +119,9 @@ fn saturating_set(rt: HostRuntime) -> Result<(), Fail> {
 /// `in (?int x, ?int x)`, `out (x)`.
 fn twice_script(alloc: Global) -> Result<Script, Fail> {
     let mut script = Script::new(alloc);
-    let twice = pattern(formal("x")?, Some(formal("x")?))?;
+    let twice = pattern(alloc, formal("x")?, Some(formal("x")?))?;
     script.push(Command::Ask(Operation::In(twice)))?;
-    script.push(out_variable("x")?)?;
+    script.push(out_variable(alloc, "x")?)?;
     Ok(script)
 }
 
@@ -162,11 +161,12 @@ fn names(rt: HostRuntime) -> Result<(), Fail> {
 fn judges(rt: HostRuntime) -> Result<(), Fail> {
     let mut script = Script::new(rt.alloc());
     assert_eq!(rt;
-        script.refusal_of(&out_variable("x")?),
+        script.refusal_of(&out_variable(rt.alloc(), "x")?),
         Some(ScriptError::Variable)
     );
-    script.push(Command::Ask(Operation::In(pattern(formal("x")?, None)?)))?;
-    assert_eq!(rt; script.refusal_of(&out_variable("x")?), None);
+    let x = pattern(rt.alloc(), formal("x")?, None)?;
+    script.push(Command::Ask(Operation::In(x)))?;
+    assert_eq!(rt; script.refusal_of(&out_variable(rt.alloc(), "x")?), None);
     assert_eq!(rt;
         script.refusal_of(&Command::Unless(201)),
         Some(ScriptError::Limit)

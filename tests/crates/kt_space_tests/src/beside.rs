@@ -22,7 +22,7 @@ fn tuple(alloc: Global, draws: &mut Draws) -> Result<Tuple, Fail> {
     if draws.below(4) != 0 {
         values.push(value(draws).ok_or("a value")?)?;
     }
-    Ok(Tuple::new(values).ok_or("a tuple")?)
+    Ok(Tuple::new(alloc, values)?.ok_or("a tuple")?)
 }
 
 /// A place out of a few: half of them formals.
@@ -40,7 +40,7 @@ fn template(alloc: Global, draws: &mut Draws) -> Result<Template, Fail> {
     if draws.below(4) != 0 {
         places.push(place(draws).ok_or("a place")?)?;
     }
-    Ok(Template::new(places).ok_or("a template")?)
+    Ok(Template::new(alloc, places)?.ok_or("a template")?)
 }
 
 /// Whether both are nothing, or equal tuples.

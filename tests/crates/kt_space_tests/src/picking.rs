@@ -124,7 +124,7 @@ fn what_is_taken_leaves_the_others_in_order(rt: HostRuntime) -> Result<(), Fail>
 fn numbered(alloc: Global, number: i64) -> Result<Tuple, Fail> {
     let key = Value::Str(Str::new(b"k".as_slice()).ok_or("text")?);
     let values = vec![in alloc; key, Value::Int(number)]?;
-    Ok(Tuple::new(values).ok_or("arity")?)
+    Ok(Tuple::new(alloc, values)?.ok_or("arity")?)
 }
 
 /// 1,000 tuples `("k", number)`, and one `("m", 5)` behind them.

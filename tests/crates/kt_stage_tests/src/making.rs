@@ -1,6 +1,5 @@
 //! Scenes, fault lines, and the reports and journals of worlds.
 
-use arrayvec::ArrayVec;
 use kt_core::{Fault, FaultKind, Faults, Scene, Step, World};
 use kt_scene::{Sink, Source, replay, write_journal, write_report};
 use kt_script::{Actual, Actuals, Command, Name, Operation, Pattern, Script, Slot};
@@ -34,27 +33,27 @@ fn text(text: &[u8]) -> Result<Actual, Fail> {
 }
 
 /// `in ("k", ?int x)`
-fn takes_x() -> Result<Command, Fail> {
-    let mut slots = ArrayVec::new();
-    slots.push(Slot::Actual(text(b"k")?));
-    slots.push(Slot::Formal(Kind::Int, Some(x()?)));
+fn takes_x(alloc: Global) -> Result<Command, Fail> {
+    let mut slots = Vec::new(alloc);
+    slots.push(Slot::Actual(text(b"k")?))?;
+    slots.push(Slot::Formal(Kind::Int, Some(x()?)))?;
     let pattern = Pattern::new(slots).ok_or("a pattern")?;
     Ok(Command::Ask(Operation::In(pattern)))
 }
 
 /// `out ("done", x)`
-fn puts_x() -> Result<Command, Fail> {
-    let mut actuals = ArrayVec::new();
-    actuals.push(text(b"done")?);
-    actuals.push(Actual::Variable(x()?));
+fn puts_x(alloc: Global) -> Result<Command, Fail> {
+    let mut actuals = Vec::new(alloc);
+    actuals.push(text(b"done")?)?;
+    actuals.push(Actual::Variable(x()?))?;
     let actuals = Actuals::new(actuals).ok_or("actuals")?;
     Ok(Command::Ask(Operation::Out(actuals)))
 }
 
 fn command(alloc: Global, text: &str) -> Result<Command, Fail> {
     match text {
-        "in (\"k\", ?int x)" => takes_x(),
-        "out (\"done\", x)" => puts_x(),
+        "in (\"k\", ?int x)" => takes_x(alloc),
+        "out (\"done\", x)" => puts_x(alloc),
         _ => Ok(scripts::command(alloc, text)?),
     }
 }

@@ -46,8 +46,8 @@ fn places(rt: HostRuntime) -> Result<(), Fail> {
             values.push(Value::Int(7))?;
             places.push(Place::Formal(Kind::Int))?;
         }
-        let tuple = Tuple::new(values);
-        let template = Template::new(places);
+        let tuple = Tuple::new(rt.alloc(), values)?;
+        let template = Template::new(rt.alloc(), places)?;
         assert_eq!(rt; tuple.is_some(), is_made, "a tuple of {count}");
         assert_eq!(rt; template.is_some(), is_made, "a template of {count}");
         if let (Some(tuple), Some(template)) = (tuple, template) {

@@ -61,7 +61,7 @@ fn one_of(draws: &mut Draws, texts: &[&'static str]) -> &'static str {
 /// A command; half of them put a tuple, and every sixth has a variable.
 fn random_command(alloc: Global, draws: &mut Draws) -> Result<Command, Finding> {
     match draws.below(6) {
-        0 => with_variable(draws.below(4)),
+        0 => with_variable(alloc, draws.below(4)),
         1..=3 => command(alloc, one_of(draws, &PUTS)),
         _ => command(alloc, one_of(draws, &OTHERS)),
     }

@@ -1,7 +1,6 @@
 //! Scripts, made of the texts of their commands.
 
 use crate::finding::Finding;
-use arrayvec::ArrayVec;
 use kt_script::{Actual, Actuals, Command, Operation, Pattern, Script, Slot};
 use kt_tuple::{Place, Template, Tuple};
 use std::alloc::Global;
@@ -15,10 +14,10 @@ const NO_COMMAND: Finding = Finding::NotMade("a command");
 /// The values of a tuple.
 fn actuals(alloc: Global, text: &str) -> Result<Actuals, Finding> {
     let tuple = Tuple::parse(alloc, text.as_bytes()).ok().ok_or(NO_TUPLE)?;
-    let mut actuals = ArrayVec::new();
+    let mut actuals = Vec::new(alloc);
     for value in tuple.values() {
         let actual = Actual::Literal(value.copy());
-        actuals.try_push(actual).ok().ok_or(NO_TUPLE)?;
+        actuals.push(actual).ok().ok_or(NO_TUPLE)?;
     }
     Actuals::new(actuals).ok_or(NO_TUPLE)
 }
@@ -36,9 +35,9 @@ fn pattern(alloc: Global, text: &str) -> Result<Pattern, Finding> {
     let template = Template::parse(alloc, text.as_bytes())
         .ok()
         .ok_or(NO_TEMPLATE)?;
-    let mut slots = ArrayVec::new();
+    let mut slots = Vec::new(alloc);
     for place in template.places() {
-        slots.try_push(slot(place)).ok().ok_or(NO_TEMPLATE)?;
+        slots.push(slot(place)).ok().ok_or(NO_TEMPLATE)?;
     }
     Pattern::new(slots).ok_or(NO_TEMPLATE)
 }

@@ -1,24 +1,23 @@
 //! Scripts, and what a worker asks as a text.
 
-use arrayvec::ArrayVec;
 use kt_script::{Actual, Actuals, Command, Name, Operation, Pattern, Script, Slot};
 use kt_tuple::{Kind, Op, Value};
 use kt_worker::Worker;
 use std::alloc::Global;
 use std::test::Fail;
 
-fn out(actual: Actual) -> Result<Command, Fail> {
-    let mut actuals = ArrayVec::new();
-    actuals.try_push(actual).map_err(|_| "room")?;
+fn out(alloc: Global, actual: Actual) -> Result<Command, Fail> {
+    let mut actuals = Vec::new(alloc);
+    actuals.push(actual)?;
     let actuals = Actuals::new(actuals).ok_or("no tuple")?;
     Ok(Command::Ask(Operation::Out(actuals)))
 }
 
-fn pattern(first: Slot, second: Option<Slot>) -> Result<Pattern, Fail> {
-    let mut slots = ArrayVec::new();
-    slots.try_push(first).map_err(|_| "room")?;
+fn pattern(alloc: Global, first: Slot, second: Option<Slot>) -> Result<Pattern, Fail> {
+    let mut slots = Vec::new(alloc);
+    slots.push(first)?;
     if let Some(second) = second {
-        slots.try_push(second).map_err(|_| "room")?;
+        slots.push(second)?;
     }
     Ok(Pattern::new(slots).ok_or("no template")?)
 }
@@ -30,11 +29,11 @@ fn number(n: i64) -> Actual {
 /// `inp (1)`, `unless 1`, `out (2)`, `out (2)`.
 pub(crate) fn skipping_script(alloc: Global) -> Result<Script, Fail> {
     let mut script = Script::new(alloc);
-    let one = pattern(Slot::Actual(number(1)), None)?;
+    let one = pattern(alloc, Slot::Actual(number(1)), None)?;
     script.push(Command::Ask(Operation::Inp(one)))?;
     script.push(Command::Unless(1))?;
-    script.push(out(number(2))?)?;
-    script.push(out(number(2))?)?;
+    script.push(out(alloc, number(2))?)?;
+    script.push(out(alloc, number(2))?)?;
     Ok(script)
 }
 
@@ -46,10 +45,11 @@ fn formal(kind: Kind, name: &[u8]) -> Result<Slot, Fail> {
 /// `in (?int x, ?str y)`, `out (y)`.
 pub(crate) fn binding_script(alloc: Global) -> Result<Script, Fail> {
     let mut script = Script::new(alloc);
-    let both = pattern(formal(Kind::Int, b"x")?, Some(formal(Kind::Str, b"y")?))?;
+    let (x, y) = (formal(Kind::Int, b"x")?, formal(Kind::Str, b"y")?);
+    let both = pattern(alloc, x, Some(y))?;
     script.push(Command::Ask(Operation::In(both)))?;
     let y = Name::new(b"y").ok_or("no name")?;
-    script.push(out(Actual::Variable(y))?)?;
+    script.push(out(alloc, Actual::Variable(y))?)?;
     Ok(script)
 }
 

@@ -1,67 +1,8 @@
-use Rattle.std.proofs.Common.{subst, sym}
 use Rattle.kt_store.specs.Content.{empty_content}
-use Rattle.kt_world.specs.Effect.{applied}
-use Rattle.kt_world.specs.inner.Ready.{CanApply, IsReady}
-use Rattle.kt_world.specs.State.{State}
-use Rattle.kt_world.specs.Step.{owner}
-use Rattle.kt_world.specs.Writing.{content_after}
-use Rattle.kt_core.specs.inner.Machine.{state_of}
-use Rattle.kt_world.specs.declared.step.StepError.{StepError}
-use Rattle.kt_core.specs.Stepping.{IsCalledFor}
-use Rattle.kt_core.proofs.Steps.{allowed, called-write, effect, numbers, on-error, on-refusal, ready-beside}
 use Rattle.kt_core.proofs.stepping.make.Goals as goal
 
-pub returns-in_err-plan-clause-ready : goal.returns-in_err-plan-clause-ready
-returns-in_err-plan-clause-ready g c = let P : State → Type 0 = IsReady in subst P (sym (c.in_err-plan.ensures.same empty_content)) c.requires.ready
+pub returns-in-Err-clause-refusal : goal.returns-in-Err-clause-refusal
+returns-in-Err-clause-refusal g c = λ h. c.in-Err.ensures.enabled (g.S.CkptStore.content c.args.store.now)
 
-pub returns-in_err-plan-clause-same : goal.returns-in_err-plan-clause-same
-returns-in_err-plan-clause-same g c = on-error _ _ (c.in_err-plan.ensures.same empty_content)
-
-pub carry_out-requires-clause-ready : goal.carry_out-requires-clause-ready
-carry_out-requires-clause-ready g c = let P : State → Type 0 = IsReady in subst P (sym (c.in_ok-plan.ensures.same empty_content)) c.requires.ready
-
-pub carry_out-requires-clause-can : goal.carry_out-requires-clause-can
-carry_out-requires-clause-can g c =
-    let P : State → Type 0 = λ s. CanApply s (owner c.args.step) c.in_ok-plan.plan in
-    subst P (sym (c.in_ok-plan.ensures.same empty_content)) c.in_ok-plan.ensures.can
-
-pub write-requires-clause-allowed : goal.write-requires-clause-allowed
-write-requires-clause-allowed g c =
-    λ h. allowed (state_of c.args.machine.now (g.S.CkptStore.content c.args.store.now)) c.args.step c.in_ok-plan.plan
-    (g.S.CkptStore.content c.prepare.new.store) c.owner.result
-    (c.requires.backed (c.in_ok-plan.ensures.honest h)) (c.in_ok-plan.ensures.plan h) (c.in_ok-plan.ensures.content h) c.owner.ensures
-
-pub write-requires-clause-numbers : goal.write-requires-clause-numbers
-write-requires-clause-numbers g c =
-    λ h. numbers (state_of c.args.machine.now (g.S.CkptStore.content c.args.store.now)) c.args.step c.in_ok-plan.plan
-    (g.S.CkptStore.content c.prepare.new.store) c.owner.result
-    (c.requires.backed (c.in_ok-plan.ensures.honest h)) (c.in_ok-plan.ensures.plan h) (c.in_ok-plan.ensures.content h) c.owner.ensures
-
-pub returns-in_err-write-clause-ready : goal.returns-in_err-write-clause-ready
-returns-in_err-write-clause-ready g c = let P : State → Type 0 = IsReady in subst P (sym (c.in_ok-plan.ensures.same empty_content)) c.requires.ready
-
-pub returns-in_err-write-clause-same : goal.returns-in_err-write-clause-same
-returns-in_err-write-clause-same g c = on-error _ _ (c.in_ok-plan.ensures.same empty_content)
-
-pub returns-in_err-write-clause-called : goal.returns-in_err-write-clause-called
-returns-in_err-write-clause-called g c =
-    let s = state_of c.args.machine.now (g.S.CkptStore.content c.args.store.now) in
-    let Called : StepError → Type 0 = IsCalledFor s c.args.step in
-    λ h. on-refusal c.from_residual-in_err-write.result _ Called c.from_residual-in_err-write.ensures.1
-    (λ e is. subst Called (sym is) (called-write s c.args.step c.in_ok-plan.plan c.in_err-write.field-0.0
-    (c.in_ok-plan.ensures.plan (c.write.ensures.written.honest h)) (λ none. absurd (cc (c.in_err-write.ensures.quiet none)))))
-
-pub returns-clause-ready : goal.returns-clause-ready
-returns-clause-ready g c =
-    let P : State → Type 0 = IsReady in
-    let Q : State → Type 0 = λ s. IsReady (applied s c.args.step c.in_ok-plan.plan) in
-    let there = subst P (sym (c.carry_out.ensures empty_content)) (subst Q (sym (c.in_ok-plan.ensures.same empty_content)) c.in_ok-plan.ensures.leads) in
-    ready-beside (state_of c.carry_out.new.self (content_after (owner c.args.step) c.in_ok-plan.plan.write empty_content)) empty_content there
-
-pub returns-clause-effect : goal.returns-clause-effect
-returns-clause-effect g c =
-    λ h. effect c.args.machine.now c.prepare.new.machine c.carry_out.new.self (g.S.CkptStore.content c.args.store.now)
-    (g.S.CkptStore.content c.prepare.new.store) (g.S.CkptStore.content c.write.new.store)
-    c.args.step c.in_ok-plan.plan c.owner.result (c.in_ok-plan.ensures.plan (c.write.ensures.written.honest h)) c.in_ok-plan.ensures.same
-    (c.in_ok-plan.ensures.content (c.write.ensures.written.honest h)) c.owner.ensures
-    (c.in_ok-write.ensures.written.made h) c.carry_out.ensures
+pub returns-in-Err-clause-same : goal.returns-in-Err-clause-same
+returns-in-Err-clause-same g c = c.in-Err.ensures.same empty_content

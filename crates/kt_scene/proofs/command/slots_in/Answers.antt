@@ -8,7 +8,7 @@ returns-in_default-clause-value c =
 
 pub returns-in-Ok-None-clause-value : goal.returns-in-Ok-None-clause-value
 returns-in-Ok-None-clause-value c =
-    rw c.push.ensures.items
+    rw c.push_reserved.ensures.items
     (last_slot c.loop.counter c.loop.rest.now c.loop.slots.items _ c.loop-test.true c.loop.invariant.so_far _ _ (sym (rw c.in-Some.is at c.slot_at.ensures))
     (rw c.in-Ok-None.field-0-is at c.in-Ok-None.ensures))
 
@@ -19,8 +19,9 @@ returns-in-Err-clause-value c =
 
 pub loop-preserved : goal.loop-preserved
 loop-preserved c = record {
-  count = c.push.ensures.len ∙ ap (λ n. n + 1) c.loop.invariant.count;
-  so_far = rw c.push.ensures.items
+  count = c.push_reserved.ensures.len ∙ ap (λ n. n + 1) c.loop.invariant.count;
+  room = rw c.push_reserved.ensures.capacity c.loop.invariant.room;
+  so_far = rw c.push_reserved.ensures.items
       (slots_go_on c.loop.counter c.loop.rest.now c.loop.slots.items _ c.loop-test.true c.loop.invariant.so_far _ _ _
       (sym (rw c.in-Some.is at c.slot_at.ensures)) (rw c.in-Ok-Some.field-0-is at c.in-Ok-Some.ensures));
 }

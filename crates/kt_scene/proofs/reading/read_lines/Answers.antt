@@ -18,6 +18,7 @@ loop-words-preserved c = record {
       c.loop-words.invariant.due c.read.new.self c.in_default-read.ensures.read;
   lines = omega (arith, c.loop-words.invariant.lines, c.in-Some.ensures.shorter);
   counted = omega (arith, c.loop-words.invariant.counted);
+  ready = c.in_default-read.ensures.ready;
   left = left_behind c.loop-words.line c.args.text.now c.loop-words.rest.now c.in-Some.words.now c.in-Some.after.now c.in-Some.ensures.line
       c.loop-words.invariant.left;
 }

@@ -1,6 +1,7 @@
 use Rattle.std.proofs.Common.{◌≡◌, ◌∙◌, refl, sym, ap, subst}
 use Rattle.std.specs.Vec.Iter.{into_iter_items}
-use Rattle.linda_kt.specs.Words.{AreWrong, words_behind}
+use Rattle.kt_command.specs.Command.{words_behind}
+use Rattle.linda_kt.specs.Words.{AreWrong}
 use Rattle.linda_kt.specs.Status.{unread}
 use Rattle.linda_kt.proofs.Statuses.{told_of_same}
 use Rattle.linda_kt.proofs.program.run_arguments.Goals as goal

@@ -1,5 +1,5 @@
 use Rattle.std.proofs.Common.{◌≡◌, ◌∙◌, refl, ap}
-use Rattle.linda_kt.specs.Words.{texts, words_behind}
+use Rattle.kt_command.specs.Command.{texts, words_behind}
 use Rattle.linda_kt.specs.Status.{unread}
 use Rattle.linda_kt.proofs.Statuses.{told_of_same}
 use Rattle.linda_kt.proofs.program.run_texts.Goals as goal

@@ -1,5 +1,5 @@
 use Rattle.std.proofs.Common.{rules, ◌∙◌, codes, sym, ap, subst}
-use Rattle.linda_kt.specs.Words.{command_of}
+use Rattle.kt_command.specs.Command.{command_of}
 use Rattle.linda_kt.proofs.words.read_words.Goals as goal
 use Rattle.linda_kt.proofs.Grammar.{IsOneOf, asked_is, has_no_fault, is_known, met_command}
 

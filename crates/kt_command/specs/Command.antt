@@ -1,0 +1,38 @@
+-- The names of the commands, and the words of a process.
+use Rattle.std.specs.Prelude.{ℕ, Bool, true, false, if◌then◌else◌, nat_eq, List, Option, None, Some, codes, map, String}
+use Rattle.std.specs.Prelude.{string_bytes, drop}
+use Rattle.std.specs.Borrow.{Bor}
+use Rattle.std.specs.Global.{Global}
+use Rattle.std.specs.Cmp.Lexicographic.{pointwise}
+use Rattle.kt_run.specs.declared.running.Output.{Output}
+use Rattle.kt_run.specs.declared.running.Output.TheVariants as outputs
+use Rattle.kt_command.specs.declared.command.Command.{Command}
+use Rattle.kt_command.specs.declared.command.Command.TheVariants.{Replay, Run}
+
+-- the bytes of a word
+abbrev pub Text : Type 0
+Text = List ℕ
+
+-- the text is this word
+abbrev pub is_word : Text → Text → Bool
+is_word text word = pointwise nat_eq text word
+
+-- what is written of a run, with the flag or without it
+abbrev pub output_of : Bool → Output
+output_of true = outputs.Journal
+output_of false = outputs.Report
+
+-- the command that a word asks for, with the flag behind it or without
+abbrev pub command_of : Text → Bool → Option Command
+command_of word has_flag =
+    if is_word word (codes "replay") then Some Replay
+    else if is_word word (codes "run") then Some (Run (output_of has_flag))
+    else None
+
+-- the texts behind references
+abbrev pub texts : List (Bor Text) → List Text
+texts = map (λ w. w.now)
+
+-- the words behind the first text, which is the program's name
+abbrev pub words_behind : List (String Global) → List Text
+words_behind arguments = map string_bytes (drop 1 arguments)

@@ -1,0 +1,58 @@
+//! A command over a store, from the reader to the writer and the exit status.
+ghost use Rattle.std.specs.Prelude.{◌≡◌};
+ghost use Rattle.kt_command.specs.Status.{EndsCommand, EndsInMemory, left_of};
+
+use crate::command::Command;
+use crate::status::{DONE, end_replay, end_run};
+use kt_run::run_text_over;
+use kt_scene::{Sink, Source, replay_over};
+use kt_store::{CkptStore, MemStore};
+use std::alloc::Global;
+use std::io::{Read, Write};
+use std::sync::Wait;
+use std::thread::Threads;
+
+/// Does the command over the store and answers the exit status, with the store as it was left. A fault is one line on
+/// `errors`; before any fault but the writer's nothing is written. It may wait for its threads.
+pub fn run_over<T: Threads + Wait + Sync, R: Read, W: Write, E: Write, S: CkptStore + Send + Drop>(
+    threads: &T,
+    alloc: Global,
+    command: Command,
+    store: S,
+    reader: &mut Source<R>,
+    writer: &mut Sink<W>,
+    errors: &mut E,
+) -> (u8, S)
+    ensures told { EndsCommand (left_of S.CkptStore store result.1) command
+        reader.old reader.new writer.old writer.new result.0 }
+    ensures done_without_a_word { result.0 ≡ DONE → errors.new ≡ errors.old }
+{
+    match command {
+        Command::Replay => {
+            let (answer, left) = replay_over(alloc, reader, writer, store);
+            (end_replay(answer, errors), left)
+        }
+        Command::Run(output) => {
+            let (answer, left) = run_text_over(threads, alloc, reader, writer, store, output);
+            (end_run(answer, errors), left)
+        }
+    }
+}
+
+/// Does the command over a store of its own in memory, which is fresh and is gone when the command ends.
+pub fn run_in_memory<T: Threads + Wait + Sync, R: Read, W: Write, E: Write>(
+    threads: &T,
+    alloc: Global,
+    command: Command,
+    reader: &mut Source<R>,
+    writer: &mut Sink<W>,
+    errors: &mut E,
+) -> u8
+    ensures told { EndsInMemory command reader.old reader.new writer.old writer.new result }
+    ensures done_without_a_word { result ≡ DONE → errors.new ≡ errors.old }
+{
+    let store = MemStore::new(alloc);
+    let (status, left) = run_over(threads, alloc, command, store, reader, writer, errors);
+    drop(left);
+    status
+}

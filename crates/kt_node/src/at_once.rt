@@ -1,0 +1,135 @@
+//! A worker asks once more, without a plan of all that a step can be: what is looked at, what is said, and what becomes
+//! of the node.
+
+ghost use Rattle.std.specs.Prelude.{◌≡◌, ◌≤◌, IfOk, IfSome, Ok, Some};
+ghost use Rattle.kt_node.specs.declared.change.Change.TheVariants.{Turn as Goes};
+ghost use Rattle.kt_node.specs.AtOnce.{again_plan, said_message, said_note, said_plan};
+ghost use Rattle.kt_node.specs.Plan.{no_turn};
+ghost use Rattle.kt_node.specs.Ready.{CanChange, CanSpeak};
+ghost use Rattle.kt_node.specs.Steps.{repeat};
+ghost use Rattle.kt_node.specs.Turning.{changed};
+ghost use Rattle.kt_node.specs.View.{view_of};
+
+use crate::labels::number_of;
+use crate::live::Body;
+use crate::message::{Message, Post, Talk};
+use crate::node::Node;
+use crate::role::View;
+use kt_history::{Act, Note, What};
+use kt_link::Label;
+use kt_shard::Request;
+use kt_tuple::{NodeId, Op};
+use std::alloc::{AllocError, Global};
+
+/// What a worker asks once more.
+#[derive(Clone, Copy, Debug)]
+pub struct Again<'a> {
+    /// The shard that it asks.
+    pub to: NodeId,
+    /// The request's number.
+    pub number: u64,
+    /// Its operation.
+    pub op: &'a Op,
+    /// The label of the message.
+    pub label: Label,
+    /// The number of the note.
+    pub by: u64,
+}
+
+/// What a worker says that asks once more.
+#[derive(Debug, Drop)]
+pub struct Said {
+    /// The shard that it asks.
+    pub to: NodeId,
+    /// The request's number.
+    number: u64,
+    /// The label of the message.
+    label: Label,
+    /// The number of the note.
+    by: u64,
+    /// The operation, as the message has it.
+    asked: Op,
+    /// The same, as the note has it.
+    noted: Op,
+}
+
+impl<'a> View<'a> {
+    /// What a worker asks once more, where it may.
+    pub fn asked_again(self) -> Option<Again<'a>>
+        requires peers { 1 ≤ self.role.peers }
+        requires count { CanSpeak self.node.now.node }
+        ensures { IfSome result (λ r. repeat (view_of self.entry) ≡ Ok (again_plan self.entry.role.id r)) }
+    {
+        let live = self.up()?;
+        let Body::Worker(worker) = &live.body else {
+            return None;
+        };
+        let (number, op) = worker.again()?;
+        Some(Again {
+            to: self.home(op),
+            number,
+            op,
+            label: live.next_label(),
+            by: self.next,
+        })
+    }
+}
+
+impl Again<'_> {
+    /// The same with operations of its own, one for the message and one for the note.
+    pub fn said(self, alloc: Global) -> Result<Said, AllocError>
+        ensures { IfOk result (λ s. (p : NodeId) → said_plan p s ≡ again_plan p self.entry) }
+    {
+        Ok(Said {
+            to: self.to,
+            number: self.number,
+            label: self.label,
+            by: self.by,
+            asked: self.op.copy(alloc)?,
+            noted: self.op.copy(alloc)?,
+        })
+    }
+}
+
+impl Said {
+    /// The message of the worker, and the note of it. They are made where they are put, so that neither is moved twice.
+    pub fn into_parts(self, node: NodeId) -> (Message, Note)
+        ensures message { result.0 ≡ said_message self }
+        ensures note { result.1 ≡ said_note node self }
+    {
+        let Said {
+            number,
+            label,
+            by,
+            asked: op,
+            noted,
+            ..
+        } = self;
+        let message = Message::Post(Post {
+            talk: Talk::Request(Request { number, op }),
+            label,
+            by,
+        });
+        let note = Note::Act(Act {
+            node,
+            by: 0,
+            worker: number_of(node),
+            number,
+            op: noted,
+            what: What::Repeat,
+        });
+        (message, note)
+    }
+}
+
+impl Node {
+    /// The next underlying message goes to the node. It takes no memory.
+    pub fn say(&mut self, to: NodeId)
+        requires { CanChange self.old.node (Goes (record no_turn { said = Some to })) }
+        ensures { self.new.node ≡ changed (Goes (record no_turn { said = Some to })) self.old.node }
+    {
+        if let Some(live) = &mut self.live {
+            live.say(to);
+        }
+    }
+}

@@ -1,0 +1,317 @@
+//! The plans of the frequent steps of workers and shards. A `Plan` stands on the heap in part, and goes through many
+//! hands; a short one takes no memory for itself and goes through few (docs/DECISIONS.md#steps).
+
+ghost use Rattle.std.specs.Prelude.{◌≡◌, ◌≤◌, IfOk, IfSome, IsOk, OnErr, Ok};
+ghost use Rattle.kt_worker.specs.Standing.{next_request};
+ghost use Rattle.kt_history.specs.declared.note.What.TheVariants.{Heard as HeardIt};
+ghost use Rattle.kt_shard.specs.Arrival.{arrival_view};
+ghost use Rattle.kt_node.specs.declared.change.BodyChange.TheVariants.{Wait};
+ghost use Rattle.kt_node.specs.declared.change.KeptChange.TheVariants.{Stay as Keeps};
+ghost use Rattle.kt_node.specs.ShortPlan.{plan_of};
+ghost use Rattle.kt_node.specs.inner.Codes.{live_view};
+ghost use Rattle.kt_node.specs.Posts.{hear_app};
+ghost use Rattle.kt_node.specs.Ready.{CanCount, CanSpeak};
+ghost use Rattle.kt_node.specs.Steps.{issue, issue_found, serve};
+ghost use Rattle.kt_node.specs.Node.{node_number};
+ghost use Rattle.kt_node.specs.Talking.{again_plan, heard_plan, hearing, issue_plan, note_of};
+ghost use Rattle.kt_node.specs.Talking.{reply_plan, request_plan, service_plan};
+ghost use Rattle.kt_node.specs.View.{view_of};
+
+use crate::labels::number_of;
+use crate::live::{Body, Live};
+use crate::message::{Message, Post, Talk};
+use crate::role::View;
+use crate::short_turn::ShortTurn;
+use crate::steps::{can_issue, issued};
+use kt_history::{Note, What};
+use kt_shard::{Arrival, Prepared, Request};
+use kt_tuple::{Answer, NodeId};
+use kt_worker::Worker;
+use std::alloc::{AllocError, Global};
+
+/// What a frequent step does: it sends one message at most, and makes no write of the store.
+#[derive(Debug, Drop)]
+pub struct ShortPlan {
+    /// What becomes of the owner.
+    pub turn: ShortTurn,
+    /// What it sends, with the receiver.
+    pub send: Option<(NodeId, Message)>,
+    /// What is noted in the history.
+    pub note: Option<Note>,
+}
+
+impl View<'_> {
+    /// The short plan of the worker's asking for this.
+    fn short_asking(
+        self,
+        alloc: Global,
+        live: &Live,
+        request: Request,
+        asker: Worker,
+    ) -> Result<ShortPlan, AllocError>
+        requires peers { 1 ≤ self.role.peers }
+        requires count { CanCount (live_view live.now) }
+        ensures { IfOk result (λ e. plan_of e ≡
+            issue_plan (view_of self.entry) (live_view live.now) (request.number, request.op) asker) }
+    {
+        let to = self.home(&request.op);
+        let note = self.note(alloc, 0, number_of(self.role.id), &request, What::Issue)?;
+        let message = self.post(live, Talk::Request(request));
+        Ok(ShortPlan {
+            turn: ShortTurn::Asks { to, asker },
+            send: Some((to, message)),
+            note,
+        })
+    }
+
+    /// The short plan of the worker's asking for what is next, if anything is.
+    fn short_next(
+        self,
+        alloc: Global,
+        live: &Live,
+        worker: &Worker,
+    ) -> Result<Option<ShortPlan>, AllocError>
+        requires peers { 1 ≤ self.role.peers }
+        requires count { CanCount (live_view live.now) }
+        ensures { IfOk result (λ o. IfSome o (λ e.
+            issue_found (view_of self.entry) (live_view live.now) worker.now
+            (next_request self.entry.role.script.now worker.now) ≡ Ok (plan_of e))) }
+    {
+        match issued(alloc, worker, self.role.script)? {
+            Some((request, asker)) => Ok(Some(self.short_asking(alloc, live, request, asker)?)),
+            None => Ok(None),
+        }
+    }
+
+    /// The short plan of `issue`, where the node may issue.
+    pub fn short_issue(self, alloc: Global) -> Result<Option<ShortPlan>, AllocError>
+        requires peers { 1 ≤ self.role.peers }
+        requires count { CanSpeak self.node.now.node }
+        ensures plan { IfOk result (λ o. IfSome o (λ e. issue (view_of self.entry) ≡ Ok (plan_of e))) }
+        ensures enabled { OnErr result (IsOk (issue (view_of self.entry))) }
+    {
+        let Some(live) = self.up() else {
+            return Ok(None);
+        };
+        let Body::Worker(worker) = &live.body else {
+            return Ok(None);
+        };
+        if live.first_kept().is_some() || !can_issue(worker, self.role.script) {
+            return Ok(None);
+        }
+        self.short_next(alloc, live, worker)
+    }
+
+    /// The short plan of this service of the worker of this number.
+    fn short_serving(
+        self,
+        alloc: Global,
+        live: &Live,
+        worker: u8,
+        by: u64,
+        service: Prepared,
+    ) -> Result<ShortPlan, AllocError>
+        requires { CanCount (live_view live.now) }
+        ensures { IfOk result (λ e. plan_of e ≡
+            service_plan (view_of self.entry) (live_view live.now) worker by service) }
+    {
+        let request = service.request();
+        let what = What::Served(service.answer().copy(alloc)?);
+        let note = self.note(alloc, by, worker, request, what)?;
+        let talk = Talk::Reply {
+            request: request.copy(alloc)?,
+            answer: service.answer().copy(alloc)?,
+        };
+        let message = self.post(live, talk);
+        Ok(ShortPlan {
+            turn: ShortTurn::Serves { worker, service },
+            send: Some((NodeId::Worker(worker), message)),
+            note,
+        })
+    }
+
+    /// The short plan of `serve`, where the node may serve so.
+    pub fn short_serve(
+        self,
+        alloc: Global,
+        worker: u8,
+        place: u64,
+        by: u64,
+    ) -> Result<Option<ShortPlan>, AllocError>
+        requires { CanSpeak self.node.now.node }
+        ensures plan { IfOk result (λ o. IfSome o (λ e.
+            serve (view_of self.entry) worker place by ≡ Ok (plan_of e))) }
+        ensures enabled { OnErr result (IsOk (serve (view_of self.entry) worker place by)) }
+    {
+        let Some(live) = self.up() else {
+            return Ok(None);
+        };
+        let Body::Shard(shard) = &live.body else {
+            return Ok(None);
+        };
+        match shard.choose(worker, place) {
+            Ok(choice) => {
+                let service = choice.prepare(alloc)?;
+                Ok(Some(self.short_serving(alloc, live, worker, by, service)?))
+            }
+            Err(_) => Ok(None),
+        }
+    }
+
+    /// The short plan of the shard's hearing the request, whose worker waits then.
+    fn short_waiting(
+        self,
+        alloc: Global,
+        from: NodeId,
+        post: &Post,
+        request: &Request,
+    ) -> Result<ShortPlan, AllocError>
+        ensures { IfOk result (λ e. plan_of e ≡ hearing Keeps from post.now.label (Wait (node_number from) request.now)
+            (note_of self.entry.role.id post.now.by (node_number from) request.now HeardIt)) }
+    {
+        let (request, note) = self.waiting(alloc, post.by, number_of(from), request)?;
+        Ok(ShortPlan {
+            turn: ShortTurn::Waits {
+                from,
+                label: post.label,
+                request,
+            },
+            send: None,
+            note,
+        })
+    }
+
+    /// The short plan of the shard's answering once more.
+    fn short_again(
+        self,
+        alloc: Global,
+        live: &Live,
+        from: NodeId,
+        post: &Post,
+        request: &Request,
+        answer: &Answer,
+    ) -> Result<ShortPlan, AllocError>
+        requires { CanCount (live_view live.now) }
+        ensures { IfOk result (λ e. plan_of e ≡
+            again_plan (view_of self.entry) (live_view live.now) Keeps from post.now request.now answer.now) }
+    {
+        let what = What::Again(answer.copy(alloc)?);
+        let note = self.note(alloc, post.by, number_of(from), request, what)?;
+        let talk = Talk::Reply {
+            request: request.copy(alloc)?,
+            answer: answer.copy(alloc)?,
+        };
+        let message = self.post(live, talk);
+        Ok(ShortPlan {
+            turn: ShortTurn::Answers {
+                from,
+                label: post.label,
+            },
+            send: Some((from, message)),
+            note,
+        })
+    }
+
+    /// The short plan of the worker's accepting the answer, where it does.
+    fn short_accepting(
+        self,
+        alloc: Global,
+        worker: &Worker,
+        from: NodeId,
+        post: &Post,
+        request: &Request,
+        answer: &Answer,
+    ) -> Result<Option<ShortPlan>, AllocError>
+        ensures { IfOk result (λ o. IfSome o (λ e.
+            reply_plan (view_of self.entry) worker.now Keeps from post.now request.now answer.now ≡ plan_of e)) }
+    {
+        let Some(hearer) = self.heard_by(alloc, worker, request, answer)? else {
+            return Ok(None);
+        };
+        let note = self.note_accepted(alloc, post.by, request, answer)?;
+        Ok(Some(ShortPlan {
+            turn: ShortTurn::Accepts {
+                from,
+                label: post.label,
+                hearer,
+            },
+            send: None,
+            note,
+        }))
+    }
+
+    /// The short plan of the shard's hearing the request of which this comes, unless it is ignored.
+    fn short_arrival(
+        self,
+        alloc: Global,
+        live: &Live,
+        from: NodeId,
+        post: &Post,
+        request: &Request,
+        arrival: Arrival<'_>,
+    ) -> Result<Option<ShortPlan>, AllocError>
+        requires { CanCount (live_view live.now) }
+        ensures { IfOk result (λ o. IfSome o (λ e.
+            request_plan (view_of self.entry) (live_view live.now) Keeps from post.now request.now
+            (arrival_view arrival.entry) ≡ plan_of e)) }
+    {
+        match arrival {
+            Arrival::Waits => Ok(Some(self.short_waiting(alloc, from, post, request)?)),
+            Arrival::Again(answer) => {
+                Ok(Some(self.short_again(alloc, live, from, post, request, answer)?))
+            }
+            Arrival::Ignored => Ok(None),
+        }
+    }
+
+    /// The short plan of the live node's hearing the message: a request whose worker waits then, or that is answered
+    /// once more, or an answer that is accepted. There is none of any other message.
+    fn short_talk(
+        self,
+        alloc: Global,
+        live: &Live,
+        from: NodeId,
+        post: &Post,
+    ) -> Result<Option<ShortPlan>, AllocError>
+        requires { CanCount (live_view live.now) }
+        ensures { IfOk result (λ o. IfSome o (λ e.
+            heard_plan (view_of self.entry) (live_view live.now) Keeps from post.now ≡ plan_of e)) }
+    {
+        match (&live.body, &post.talk) {
+            (Body::Worker(worker), Talk::Reply { request, answer }) => {
+                self.short_accepting(alloc, worker, from, post, request, answer)
+            }
+            (Body::Shard(shard), Talk::Request(request)) => {
+                self.short_arrival(
+                    alloc,
+                    live,
+                    from,
+                    post,
+                    request,
+                    shard.arrival(number_of(from), request),
+                )
+            }
+            (Body::Worker(_), Talk::Request(_)) | (Body::Shard(_), Talk::Reply { .. }) => Ok(None),
+        }
+    }
+
+    /// The short plan of the message from the node, where it is heard and not ignored.
+    pub fn short_hear(
+        self,
+        alloc: Global,
+        from: NodeId,
+        post: &Post,
+    ) -> Result<Option<ShortPlan>, AllocError>
+        requires { CanSpeak self.node.now.node }
+        ensures { IfOk result (λ o. IfSome o (λ e.
+            hear_app (view_of self.entry) from post.now ≡ Ok (plan_of e))) }
+    {
+        let Some(live) = self.up() else {
+            return Ok(None);
+        };
+        if live.first_kept().is_some() {
+            return Ok(None);
+        }
+        self.short_talk(alloc, live, from, post)
+    }
+}

@@ -1,0 +1,30 @@
+-- The words that the program knows, and how it ends by them.
+use Rattle.std.specs.Prelude.{◌≡◌, ℕ, Bool, false, if◌then◌else◌, List, [], ◌∷◌, Option, None, Some, codes}
+use Rattle.kt_scene.specs.Outside.{Reader, Writer}
+use Rattle.kt_run.specs.declared.running.Output.TheVariants as outputs
+use Rattle.kt_command.specs.declared.command.Command.{Command}
+use Rattle.kt_command.specs.declared.command.Command.TheVariants.{Run}
+use Rattle.kt_command.specs.Command.{Text, command_of, is_word}
+use Rattle.kt_command.specs.Status.{EndsInMemory}
+
+-- the command that two words name
+abbrev pub command_of_two : Text → Text → Option Command
+command_of_two name flag =
+    if is_word name (codes "run")
+    then if is_word flag (codes "--journal") then Some (Run outputs.Journal) else None
+    else None
+
+-- the command that the words name: `replay`, `run`, or `run --journal`
+abbrev pub command_asked : List Text → Option Command
+command_asked [] = None
+command_asked (name ∷ []) = command_of name false
+command_asked (name ∷ flag ∷ []) = command_of_two name flag
+command_asked (name ∷ flag ∷ more ∷ words) = None
+
+-- the exit status by the words: that of the command that they name, over a fresh store in memory; 2 where they name
+-- none; 6 where memory ran out before they were read. Of the last two nothing is read and nothing written.
+pub data IsQuickStatus (words : List Text) (before after : Reader) (old new : Writer) (n : ℕ) : Type 0 where
+  did : (command : Command) → command_asked words ≡ Some command → EndsInMemory command before after old new n
+      → IsQuickStatus words before after old new n
+  refused : command_asked words ≡ None → n ≡ 2 → after ≡ before → new ≡ old → IsQuickStatus words before after old new n
+  unread : n ≡ 6 → after ≡ before → new ≡ old → IsQuickStatus words before after old new n

@@ -1,0 +1,110 @@
+//! What the program does with its words and its three streams.
+ghost use Rattle.std.specs.Prelude.{◌≡◌, ◌⊎◌, IfOk, IsErr};
+ghost use Rattle.std.specs.Vec.Iter.{into_iter_items};
+ghost use Rattle.kt_command.specs.Command.{texts, words_behind};
+ghost use Rattle.kt_quick.specs.Words.{IsQuickStatus, command_asked};
+
+use kt_command::{COMMAND_LINE, Command, DONE, MEMORY, run_in_memory, texts_of, words_behind};
+use kt_run::Output;
+use kt_scene::{Sink, Source};
+use std::alloc::{AllocError, Global};
+use std::env::Args;
+use std::io;
+use std::io::{Read, Write};
+use std::sync::Wait;
+use std::thread::Threads;
+
+/// Runs the program on the arguments of its process, of which the first is its name, and answers the exit status. A
+/// fault is one line on `errors`. A run starts its threads by `threads`.
+pub fn run_arguments<T: Threads + Wait + Sync, R: Read, W: Write, E: Write>(
+    threads: &T,
+    alloc: Global,
+    arguments: io::Result<Args>,
+    reader: &mut Source<R>,
+    writer: &mut Sink<W>,
+    errors: &mut E,
+) -> u8
+    ensures told { IfOk arguments (λ a. IsQuickStatus (words_behind (into_iter_items a))
+        reader.old reader.new writer.old writer.new result) }
+    ensures no_text { IsErr arguments → result ≡ COMMAND_LINE }
+    ensures no_text_reads_nothing { IsErr arguments → reader.new ≡ reader.old }
+    ensures no_text_prints_nothing { IsErr arguments → writer.new ≡ writer.old }
+    ensures done_without_a_word { result ≡ DONE → errors.new ≡ errors.old }
+{
+    match arguments {
+        Ok(arguments) => match texts_of(alloc, arguments) {
+            Ok(texts) => run_texts(threads, alloc, &texts, reader, writer, errors),
+            Err(AllocError) => end_by("memory", MEMORY, errors),
+        },
+        Err(_) => refuse_words(errors),
+    }
+}
+
+/// Runs the program on these texts, of which the first is its name.
+fn run_texts<T: Threads + Wait + Sync, R: Read, W: Write, E: Write>(
+    threads: &T,
+    alloc: Global,
+    arguments: &[String],
+    reader: &mut Source<R>,
+    writer: &mut Sink<W>,
+    errors: &mut E,
+) -> u8
+    ensures told { IsQuickStatus (words_behind arguments.now) reader.old reader.new writer.old writer.new result }
+    ensures done_without_a_word { result ≡ DONE → errors.new ≡ errors.old }
+{
+    match words_behind(alloc, arguments) {
+        Ok(words) => run_words(threads, alloc, &words, reader, writer, errors),
+        Err(AllocError) => end_by("memory", MEMORY, errors),
+    }
+}
+
+/// Does what the words ask over a store in memory.
+fn run_words<T: Threads + Wait + Sync, R: Read, W: Write, E: Write>(
+    threads: &T,
+    alloc: Global,
+    words: &[&str],
+    reader: &mut Source<R>,
+    writer: &mut Sink<W>,
+    errors: &mut E,
+) -> u8
+    ensures told { IsQuickStatus (texts words.now) reader.old reader.new writer.old writer.new result }
+    ensures done_without_a_word { result ≡ DONE → errors.new ≡ errors.old }
+{
+    match command_asked(words) {
+        Some(command) => run_in_memory(threads, alloc, command, reader, writer, errors),
+        None => refuse_words(errors),
+    }
+}
+
+/// The command that the words name: `replay`, `run` or `run --journal`. None of any others.
+fn command_asked(words: &[&str]) -> Option<Command>
+    ensures { result ≡ command_asked (texts words.now) }
+{
+    match words {
+        [name] => Command::of_name(name, false),
+        [name, flag] if *name == "run" && *flag == "--journal" => {
+            Some(Command::Run(Output::Journal))
+        }
+        _ => None,
+    }
+}
+
+/// Says which words the program knows.
+fn refuse_words<E: Write>(errors: &mut E) -> u8
+    ensures { result ≡ COMMAND_LINE }
+{
+    end_by(
+        "the words are `replay`, `run` or `run --journal`",
+        COMMAND_LINE,
+        errors,
+    )
+}
+
+/// Writes the line of a fault, and answers `status`.
+fn end_by<E: Write>(line: &str, status: u8, errors: &mut E) -> u8
+    ensures { result ≡ status }
+{
+    // A standard error that is closed leaves the status alone to tell.
+    let _ = writeln!(errors, "{line}");
+    status
+}
