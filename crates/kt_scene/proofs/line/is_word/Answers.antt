@@ -1,4 +1,4 @@
-use Rattle.std.proofs.Common.{ap, ◌∙◌}
+use Rattle.std.proofs.Common.{◌∙◌}
 use Rattle.kt_scene.proofs.Prefixes.{whole_is}
 use Rattle.kt_scene.proofs.line.is_word.Goals as goal
 

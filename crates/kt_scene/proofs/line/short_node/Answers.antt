@@ -1,4 +1,4 @@
-use Rattle.std.proofs.Common.{sym, ap, ◌∙◌, ◌∷◌, List, ℕ}
+use Rattle.std.proofs.Common.{sym, ap, ◌∙◌, ◌∷◌, ℕ}
 use Rattle.kt_scene.proofs.ShortNodes.{short_worker, short_shard}
 use Rattle.kt_scene.proofs.line.short_node.Goals as goal
 
