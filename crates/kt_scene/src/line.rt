@@ -14,8 +14,8 @@ use kt_core::Step;
 use kt_tuple::NodeId;
 use kt_tuple::reading::{int_at, int_of};
 
-/// The bytes behind the word, where it stands in front. A short word is compared byte by byte: with a word that is known
-/// here and a body that stands at the caller, that is a few instructions.
+/// The bytes behind the word, where it stands in front. It is compared byte by byte, and stands at the caller: with a
+/// word that is known there, that is a few instructions, where a comparison of slices is a call.
 #[inline(always)]
 pub(crate) fn behind<'a>(text: &'a [u8], word: &[u8]) -> Option<&'a [u8]>
     ensures { option_map (λ rest. rest.now) result ≡ behind text.now word.now }
