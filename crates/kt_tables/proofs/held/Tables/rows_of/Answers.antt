@@ -1,4 +1,4 @@
-use Rattle.std.proofs.Common.{◌≡◌, [], ◌∷◌, None, IfOk, refl, sym, subst}
+use Rattle.std.proofs.Common.{[], ◌∷◌, None, IfOk, refl, sym, subst}
 use Rattle.std.specs.List.{find}
 use Rattle.sqlite.specs.Held.{state}
 use Rattle.sqlite.specs.State.{Shown}
