@@ -8,12 +8,12 @@ def scenario(scripts, steps, shards=1):
     return "".join(f"{line}\n" for line in [*lines, "steps", *steps, "end"])
 
 
-def alike(tenths):
-    """Eight workers, of one for every tenth at least 20 commands: they put tuples that all begin with one value, and
-    take them back, the last first. 160 services for every tenth."""
+def put_and_taken(tenths, put, take):
+    """Eight workers of 20 commands each for every tenth: they put tuples, and take them back, the last first. 160
+    services for every tenth."""
     count = 20 * tenths
     half = count // 2
-    script = [f'out ("k", {n})' for n in range(half)] + [f'in ("k", {n})' for n in reversed(range(count - half))]
+    script = [put(n) for n in range(half)] + [take(n) for n in reversed(range(count - half))]
     steps = [
         step
         for _ in range(count)
@@ -21,6 +21,16 @@ def alike(tenths):
         for step in (f"issue w{w}", f"deliver w{w} s1", f"serve s1 w{w} 0", f"deliver s1 w{w}")
     ]
     return scenario([script] * 8, steps)
+
+
+def alike(tenths):
+    """All tuples begin with one value, so that it tells none apart."""
+    return put_and_taken(tenths, lambda n: f'out ("k", {n})', lambda n: f'in ("k", {n})')
+
+
+def newest(tenths):
+    """The newest tuple is asked for by a formal first place, so that no value finds it."""
+    return put_and_taken(tenths, lambda n: f"out ({n}, {n})", lambda n: f"in (?int, {n})")
 
 
 def answered_again(tenths):

@@ -21,6 +21,7 @@ use Rattle.kt_ckpt.specs.Limits.{magic, version}
 use Rattle.kt_ckpt.specs.Reading.{◌>>=◌, Gives, made, number_at}
 use Rattle.kt_ckpt.specs.State.{IsWorker, IsShard}
 use Rattle.kt_ckpt.specs.Checkpoint.{Checkpoint, IsNode, Suits, IsLabel, IsState, IsCheckpoint, node_bytes, peers_bytes, state_bytes, spelling, magic_at}
+use Rattle.kt_ckpt.specs.Marks.{MarkFields, fields_of, marks_at, marks_of}
 use Rattle.kt_ckpt.specs.Checkpoint.{version_at, node_at, peers_at, state_at, checkpoint_of, checkpoint_at, read}
 use Rattle.kt_ckpt.proofs.Field.{IsBytes, Takes, IsField, Lasts, the_ok, bind_ok, front_is_cut}
 use Rattle.kt_ckpt.proofs.Combined.{behind, behind_lasts, made_field, made_lasts}
@@ -144,10 +145,36 @@ checkpoint_lasts =
     (λ ps. made_lasts (checkpoint_of n l ps) (state_lasts n)))))) in
     record { goes_on = l.goes_on }
 
+-- ---- its marks
+
+abbrev marks_peers : NodeId → ℕ → List (Label × Label) → Result MarkFields CkptError
+marks_peers n l ps = Ok (fields_of n l (map (λ p. p.0) ps) (map (λ p. p.1) ps))
+
+abbrev marks_line : NodeId → ℕ → List ℕ → Result MarkFields CkptError
+marks_line n l bytes = peers_at bytes >>= λ ps. marks_peers n l ps.0
+
+abbrev marks_node : NodeId → List ℕ → Result MarkFields CkptError
+marks_node n bytes = number_at w64 bytes >>= λ l. marks_line n l.0 l.1
+
+abbrev marks_version : List ℕ → Result MarkFields CkptError
+marks_version bytes = node_at bytes >>= λ n. marks_node n.0 n.1
+
+abbrev marks_magic : List ℕ → Result MarkFields CkptError
+marks_magic bytes = version_at bytes >>= λ v. marks_version v.1
+
 -- ---- all of the bytes
 
 abbrev if_ended : Checkpoint × List ℕ → Result Checkpoint CkptError
 if_ended c = cond (eqb (length c.1) 0) (Ok c.0) (Err Extra)
+
+ended : (x : Checkpoint × List ℕ) (c : Checkpoint) → if_ended x ≡ Ok c → x.0 ≡ c
+ended x c e = by (eqb (length x.1) 0) e where
+  by : (b : Bool) → cond b (the_ok x.0) (Err Extra) ≡ Ok c → x.0 ≡ c
+  by true e = cc
+  by false e = absurd cc
+
+same_checkpoint : {k c : Checkpoint} {rest : List ℕ} {x : Checkpoint × List ℕ} → the_ok (k, rest) ≡ Ok x → x.0 ≡ c → k ≡ c
+same_checkpoint e same = cc
 
 pub read_again : (c : Checkpoint) → IsCheckpoint c → read (spelling c) ≡ Ok c
 unfolding read
@@ -226,6 +253,24 @@ read_checkpoint bytes r1 r2 n r3 l r4 ps r5 s r6 a b c d e f =
     ∙ ap (λ (r : Result (ℕ × List ℕ) CkptError). r >>= λ l. with_line n l.0 l.1) d
     ∙ ap (λ (r : Result (List (Label × Label) × List ℕ) CkptError). r >>= λ ps. with_peers n l ps.0 ps.1) e
     ∙ ap (made (checkpoint_of n l ps)) f
+
+-- the marks of a checkpoint are read of its spelling
+pub marks_again : (c : Checkpoint) → IsCheckpoint c → marks_at (spelling c) ≡ Ok (marks_of c)
+unfolding marks_at read checkpoint_at
+marks_again c h =
+    let all = bind_ok (checkpoint_at (spelling c)) if_ended c (read_again c h) in
+    let m = bind_ok (magic_at (spelling c)) (λ m. with_magic m.0 m.1) all.0 all.1 in
+    let v = bind_ok (version_at m.0.1) (λ v. with_version v.0 v.1) all.0 m.2 in
+    let n = bind_ok (node_at v.0.1) (λ n. with_node n.0 n.1) all.0 v.2 in
+    let l = bind_ok (number_at w64 n.0.1) (λ l. with_line n.0.0 l.0 l.1) all.0 n.2 in
+    let ps = bind_ok (peers_at l.0.1) (λ ps. with_peers n.0.0 l.0.0 ps.0 ps.1) all.0 l.2 in
+    let s = bind_ok (state_at n.0.0 ps.0.1) (λ s. the_ok (checkpoint_of n.0.0 l.0.0 ps.0.0 s.0, s.1)) all.0 ps.2 in
+    ap (λ (r : Result (List ℕ × List ℕ) CkptError). r >>= λ m. marks_magic m.1) m.1
+    ∙ ap (λ (r : Result (ℕ × List ℕ) CkptError). r >>= λ v. marks_version v.1) v.1
+    ∙ ap (λ (r : Result (NodeId × List ℕ) CkptError). r >>= λ n. marks_node n.0 n.1) n.1
+    ∙ ap (λ (r : Result (ℕ × List ℕ) CkptError). r >>= λ l. marks_line n.0.0 l.0 l.1) l.1
+    ∙ ap (λ (r : Result (List (Label × Label) × List ℕ) CkptError). r >>= λ ps. marks_peers n.0.0 l.0.0 ps.0) ps.1
+    ∙ ap (λ (k : Checkpoint). the_ok (marks_of k)) (same_checkpoint s.2 (ended all.0 c all.2))
 
 pub spelled_out : (o0 o1 o2 o3 o4 o5 : List ℕ) (c : Checkpoint) → o0 ≡ [] → o1 ≡ o0 ++ (magic ++ version ∷ []) → o2 ≡ o1 ++ node_bytes c.node
     → o3 ≡ o2 ++ to_be_bytes w64 c.line_len → o4 ≡ o3 ++ peers_bytes (zip c.sent c.received) → o5 ≡ o4 ++ state_bytes c.state

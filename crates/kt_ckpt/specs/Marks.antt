@@ -1,8 +1,11 @@
 -- A checkpoint without its node's state.
-use Rattle.std.specs.Prelude.{ℕ, List}
+use Rattle.std.specs.Prelude.{ℕ, List, map, Result, Ok}
+use Rattle.std.specs.Int.{w64}
 use Rattle.kt_tuple.specs.declared.node.NodeId.{NodeId}
 use Rattle.kt_link.specs.declared.label.Label.{Label}
-use Rattle.kt_ckpt.specs.Checkpoint.{Checkpoint}
+use Rattle.kt_ckpt.specs.declared.error.CkptError.{CkptError}
+use Rattle.kt_ckpt.specs.Reading.{◌>>=◌, number_at}
+use Rattle.kt_ckpt.specs.Checkpoint.{Checkpoint, magic_at, version_at, node_at, peers_at}
 
 -- a node, the length of its line, and for each neighbour in node order the last label sent to it and heard from it
 pub record MarkFields : Type 0 where
@@ -17,3 +20,13 @@ fields_of node line_len sent received = record { node = node; line_len = line_le
 -- what of a checkpoint is no state
 abbrev pub marks_of : Checkpoint → MarkFields
 marks_of c = fields_of c.node c.line_len c.sent c.received
+
+-- what stands before the state
+unfoldable pub marks_at : List ℕ → Result MarkFields CkptError
+marks_at bytes = do
+  front ← magic_at bytes
+  version ← version_at front.1
+  node ← node_at version.1
+  line_len ← number_at w64 node.1
+  peers ← peers_at line_len.1
+  Ok (fields_of node.0 line_len.0 (map (λ p. p.0) peers.0) (map (λ p. p.1) peers.0))

@@ -5,11 +5,13 @@ ghost use Rattle.kt_ckpt.specs.Checkpoint.{Checkpoint, IsCheckpoint, HasCounts, 
 ghost use Rattle.kt_ckpt.specs.Checkpoint.{spelling, read, magic_at, version_at, node_behind, node_at};
 ghost use Rattle.kt_ckpt.specs.Checkpoint.{label_at, peer_at, peers_at, state_at, checkpoint_of, checkpoint_at};
 ghost use Rattle.kt_ckpt.specs.Limits.{magic, version, max_peers};
+ghost use Rattle.kt_ckpt.specs.Marks.{fields_of, marks_at};
 ghost use Rattle.kt_ckpt.specs.Reading.{Gives, list_at};
 
 use crate::ckpt::Ckpt;
 use crate::error::CkptError;
 use crate::limits::{MAGIC, MAX_PEERS, MAX_SHARDS, MAX_WORKERS, SHARD, VERSION, WORKER};
+use crate::marks::Marks;
 use crate::numbers::{byte_at, byte_within, bytes_at, u64_at};
 use crate::shard::shard_at;
 use crate::state::State;
@@ -44,6 +46,51 @@ impl Ckpt {
     {
         decode(alloc, bytes)
     }
+}
+
+impl Marks {
+    ghost use Rattle.kt_ckpt.specs.Marks.{marks_of};
+
+    /// The marks of the checkpoint that the bytes spell. What stands behind them is not read: whether all bytes spell a
+    /// checkpoint only `Ckpt::decode` tells. The faults are those of the marks, the first from the left, as there.
+    pub fn decode(alloc: Global, bytes: &[u8]) -> Result<Marks, CkptError>
+        ensures of_checkpoint { (c : Checkpoint) → IsCheckpoint c → bytes.now ≡ spelling c
+            → Gives (λ m. m) result (Ok (marks_of c)) }
+        // Which fault it is.
+        ensures exact { Gives (λ m. m) result (marks_at bytes.now) }
+    {
+        decode_marks(alloc, bytes)
+    }
+}
+
+#[tactic(auto, unfolding(crate::specs::Marks::marks_at))]
+fn decode_marks(alloc: Global, bytes: &[u8]) -> Result<Marks, CkptError>
+    ensures { Gives (λ m. m) result (marks_at bytes.now) }
+{
+    let behind_magic = magic_at(bytes)?;
+    let behind_version = version_at(behind_magic)?;
+    let (node, rest) = node_at(behind_version)?;
+    let (line_len, rest) = u64_at(rest)?;
+    let (peers, _) = peers_at(alloc, rest)?;
+    Ok(marks_of(alloc, node, line_len, &peers)?)
+}
+
+/// The marks with these labels sent to the neighbours, and received from them.
+fn marks_of(
+    alloc: Global,
+    node: NodeId,
+    line_len: u64,
+    peers: &[(Label, Label)],
+) -> Result<Marks, AllocError>
+    ensures { IfOk result (λ m. m ≡ fields_of node line_len (map (λ p. p.0) peers.now) (map (λ p. p.1) peers.now)) }
+{
+    Marks::new(
+        alloc,
+        node,
+        line_len,
+        sent_of(alloc, peers)?,
+        received_of(alloc, peers)?,
+    )
 }
 
 #[tactic(auto, unfolding(crate::specs::Checkpoint::read))]

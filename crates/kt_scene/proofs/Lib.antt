@@ -25,6 +25,7 @@ pub mod ToldLaws
 pub mod ReadLaws
 pub mod NumbersRead
 pub mod ShortNumbers
+pub mod ShortNodes
 pub mod Prefixes
 pub mod StepsRead
 pub mod SlotsRead

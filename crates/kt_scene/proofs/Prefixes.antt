@@ -1,48 +1,85 @@
--- A word stands in front exactly where the bytes there are its own.
-use Rattle.std.proofs.Common.{◌≡◌, ℕ, ◌+◌, Bool, true, false, ◌&&◌, eqb, List, [], ◌∷◌, length, take, drop, Option, Some, None, Ok, Bor, refl, sym, ap, ◌∙◌}
-use Rattle.std.proofs.lemmas.Bool.{false≢true, eqb-true, eq-eqb, and_parts}
-use Rattle.std.specs.Prelude.{nat_eq, MatchOption}
-use Rattle.std.specs.Cmp.Lexicographic.{pointwise}
-use Rattle.std.specs.Option.{option_map}
+-- A word stands in front exactly where the bytes there are its own, one by one.
+use Rattle.std.proofs.Common.{◌≡◌, ℕ, suc, ◌+◌, ◌<◌, ◌≤◌, Bool, true, false, eqb, cond, List, [], ◌∷◌, length, drop, get_or, Option, Some, None, Err, refl, sym, ap, ◌∙◌, arith}
+use Rattle.std.proofs.Math.Seq.{drop-cons}
+use Rattle.std.proofs.lemmas.List.{drop_all}
+use Rattle.std.proofs.lemmas.Bool.{false≢true, eqb-true, eq-eqb}
 use Rattle.std.specs.Result.{result_ok}
 use Rattle.kt_tuple.specs.Reading.{word_at}
 use Rattle.kt_scene.specs.Number.{behind}
+use Rattle.kt_scene.specs.Lines.{is_word}
 
--- the test whether the word stands in front
-abbrev in_front : List ℕ → List ℕ → Bool
-in_front text word = pointwise nat_eq (take (length word) text) word
+-- where the rest of the word does not stand behind its first byte, or another byte stands there
+stopped : (b : Bool) (c : ℕ) (text word : List ℕ) → (b ≡ true → behind text word ≡ None) → result_ok (cond b (word_at text word) (Err (c ∷ text))) ≡ None
+stopped true c text word later = later refl
+stopped false c text word later = refl
+
+-- a text that is shorter than the word
+pub too_short : (text word : List ℕ) → length text < length word → behind text word ≡ None
+too_short text [] h = absurd (omega (arith, h))
+too_short [] (w ∷ word) h = refl
+too_short (c ∷ text) (w ∷ word) h = stopped (eqb w c) c text word (λ same. too_short text word (omega (arith, h)))
+
+-- what is to come of the word from place i on
+abbrev Due : List ℕ → List ℕ → ℕ → Option (List ℕ) → Type 0
+Due rest word i due = behind rest (drop i word) ≡ due
+
+opened : (rest after word : List ℕ) (i c : ℕ) (due : Option (List ℕ)) → rest ≡ c ∷ after → i < length word → Due rest word i due
+    → behind (c ∷ after) (get_or word i 0 ∷ drop (suc i) word) ≡ due
+opened rest after word i c due is lt h =
+    sym (ap (λ (t : List ℕ). behind t (get_or word i 0 ∷ drop (suc i) word)) is) ∙ sym (ap (behind rest) (drop-cons word i 0 lt)) ∙ h
+
+-- no byte is left
+pub no_byte : (rest word : List ℕ) (i : ℕ) (due : Option (List ℕ)) → length rest ≡ 0 → i < length word → Due rest word i due → due ≡ None
+no_byte [] word i due none lt h = sym h ∙ ap (behind []) (drop-cons word i 0 lt)
+no_byte (c ∷ rest) word i due none lt h = absurd (omega (arith, none))
+
+-- the next byte is another
+pub other_byte : (rest after word : List ℕ) (i c : ℕ) (due : Option (List ℕ)) → rest ≡ c ∷ after → i < length word → ¬ (c ≡ get_or word i 0)
+    → Due rest word i due → due ≡ None
+other_byte rest after word i c due is lt other h =
+    let w = get_or word i 0 in
+    sym (opened rest after word i c due is lt h)
+    ∙ stopped (eqb w c) c after (drop (suc i) word) (λ same. absurd (other (sym (eqb-true w c same))))
+
+-- the next byte is the word's own
+pub same_byte : (rest after word : List ℕ) (i c : ℕ) (due : Option (List ℕ)) → rest ≡ c ∷ after → i < length word → c ≡ get_or word i 0
+    → Due rest word i due → Due after word (i + 1) due
+same_byte rest after word i c due is lt own h =
+    let next : i + 1 ≡ suc i = omega arith in
+    let same : eqb (get_or word i 0) c ≡ true = eq-eqb (get_or word i 0) c (sym own) in
+    let read : behind (c ∷ after) (get_or word i 0 ∷ drop (suc i) word) ≡ behind after (drop (suc i) word) = rw same refl in
+    rw next (sym read ∙ opened rest after word i c due is lt h)
+
+-- the whole word was read
+pub all_read : (rest word : List ℕ) (i : ℕ) (due : Option (List ℕ)) → length word ≤ i → Due rest word i due → Some rest ≡ due
+all_read rest word i due over h =
+    ap (behind rest) (sym (drop_all i word over)) ∙ h
+
+unequal : (b : Bool) (c w : ℕ) → eqb c w ≡ b → ¬ (c ≡ w) → b ≡ false
+unequal true c w e other = absurd (other (eqb-true c w e))
+unequal false c w e other = refl
 
 -- a test of two bytes, the other way round
 turned : (c w : ℕ) (b : Bool) → eqb c w ≡ b → eqb w c ≡ b
 turned c w true e = eq-eqb w c (sym (eqb-true c w e))
-turned c w false e = other (eqb w c) refl
-  where
-    other : (b : Bool) → eqb w c ≡ b → eqb w c ≡ false
-    other true is = absurd (false≢true (sym e ∙ eq-eqb c w (sym (eqb-true w c is))))
-    other false is = is
+turned c w false e = unequal (eqb w c) w c refl (λ is. false≢true (sym e ∙ eq-eqb c w (sym is)))
 
-front_read : (word text : List ℕ) → in_front text word ≡ true → word_at text word ≡ Ok (drop (length word) text)
-front_read [] text e = refl
-front_read (w ∷ word) [] e = absurd (false≢true e)
-front_read (w ∷ word) (c ∷ text) e =
-    let both = and_parts (eqb c w) (in_front text word) e in
-    rw (turned c w true both.0) (front_read word text both.1)
+-- whether nothing is left
+abbrev is_all : Option (List ℕ) → Bool
+is_all None = false
+is_all (Some rest) = eqb (length rest) 0
 
--- where the rest of the word does not stand behind its first byte, or another byte stands there
-by_first : (b : Bool) (c w : ℕ) (text word : List ℕ) → eqb c w ≡ b → (b && in_front text word) ≡ false
-    → (in_front text word ≡ false → behind text word ≡ None) → behind (c ∷ text) (w ∷ word) ≡ None
-by_first true c w text word is e later = rw (turned c w true is) (later e)
-by_first false c w text word is e later = rw (turned c w false is) refl
+whole_by : (b : Bool) (c w : ℕ) (line word : List ℕ) → eqb c w ≡ b → is_word line word ≡ is_all (behind line word)
+    → is_word (c ∷ line) (w ∷ word) ≡ is_all (behind (c ∷ line) (w ∷ word))
+whole_by true c w line word is h = rw (is, turned c w true is) h
+whole_by false c w line word is h = rw (is, turned c w false is) refl
 
-no_front : (word text : List ℕ) → in_front text word ≡ false → behind text word ≡ None
-no_front [] text e = absurd (false≢true (sym e))
-no_front (w ∷ word) [] e = refl
-no_front (w ∷ word) (c ∷ text) e = by_first (eqb c w) c w text word refl e (no_front word text)
+-- a line is the word where nothing is left behind it
+pub whole : (line word : List ℕ) → is_word line word ≡ is_all (behind line word)
+whole [] [] = refl
+whole [] (w ∷ word) = refl
+whole (c ∷ line) [] = sym (unequal (eqb (suc (length line)) 0) (suc (length line)) 0 refl (λ e. absurd (omega (arith, e))))
+whole (c ∷ line) (w ∷ word) = whole_by (eqb c w) c w line word refl (whole line word)
 
--- what a comparison of the front gives is what is behind the word
-pub front_compared : (r : Option (Bor (List ℕ))) (text word : List ℕ)
-    → MatchOption r (in_front text word ≡ false)
-    (λ x. (in_front text word ≡ true) × (x.now ≡ drop (length word) text) × (length x.now + length word ≡ length text))
-    → option_map (λ x. x.now) r ≡ behind text word
-front_compared None text word e = sym (no_front word text e)
-front_compared (Some x) text word e = ap (λ (t : List ℕ). Some t) e.1 ∙ sym (ap result_ok (front_read word text e.0))
+pub whole_is : (line word : List ℕ) (due : Option (List ℕ)) → due ≡ behind line word → is_all due ≡ is_word line word
+whole_is line word due is = ap is_all is ∙ sym (whole line word)

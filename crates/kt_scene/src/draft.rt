@@ -18,7 +18,7 @@ ghost use Rattle.kt_scene.specs.Work.{work_in};
 use crate::command::{Spelled, fault_behind, spelled_of};
 use crate::fault::SceneError;
 use crate::fault_line::fault_read;
-use crate::line::{behind, ended, number_at, step_of};
+use crate::line::{behind, ended, is_word, number_at, step_of};
 use crate::rooms::Rooms;
 use crate::scenario::{Scenario, Work, WorkKind};
 use kt_core::{Faults, MAX_SHARDS, MAX_WORKERS, Scene, Step};
@@ -226,12 +226,12 @@ impl Draft {
         ensures fault { IfErr result (λ fault. IsFaultOf fault (in_script self.old line.now)) }
     {
         let workers = self.scripts.len() + 1;
-        if line == b"worker".as_slice() {
+        if is_word(line, b"worker") {
             if workers >= MAX_WORKERS {
                 return Err(SceneError::Limit);
             }
             self.close_script(Expected::Commands)
-        } else if line == self.work.kind().word() {
+        } else if is_word(line, self.work.kind().word()) {
             self.close_script(Expected::Work)
         } else {
             self.add_command(spelled_of(line, rooms)?)
@@ -273,7 +273,7 @@ impl Draft {
         ensures read { OnOk result (in_work self.old line.now ≡ Ok self.new) }
         ensures fault { IfErr result (λ fault. IsFaultOf fault (in_work self.old line.now)) }
     {
-        if line == b"end".as_slice() {
+        if is_word(line, b"end") {
             self.expected = Expected::Ended;
             return Ok(());
         }

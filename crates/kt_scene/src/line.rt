@@ -4,7 +4,9 @@
 
 ghost use Rattle.std.specs.Prelude.{◌≡◌, ◌+◌, ◌<◌, length, List, ℕ, IfSome, Some};
 ghost use Rattle.std.specs.Option.{option_map};
+ghost use Rattle.kt_tuple.specs.Reading.{begins_with_digit};
 ghost use Rattle.kt_scene.specs.Number.{behind, ended, number_at, number_within};
+ghost use Rattle.kt_scene.specs.Lines.{is_word};
 ghost use Rattle.kt_scene.specs.inner.Starts.{DigitAt, node_behind, deliver_or_decide, repeat_or_restart, step_from};
 ghost use Rattle.kt_scene.specs.Steps.{node_at, node_before_space, node_alone, deliver_of, serve_of, step_of};
 
@@ -12,11 +14,24 @@ use kt_core::Step;
 use kt_tuple::NodeId;
 use kt_tuple::reading::{int_at, int_of};
 
-/// The bytes behind the word, where it stands in front.
+/// The bytes behind the word, where it stands in front. It is compared byte by byte, and stands at the caller: with a
+/// word that is known there, that is a few instructions, where a comparison of slices is a call.
+#[inline(always)]
 pub(crate) fn behind<'a>(text: &'a [u8], word: &[u8]) -> Option<&'a [u8]>
     ensures { option_map (λ rest. rest.now) result ≡ behind text.now word.now }
 {
-    text.strip_prefix(word)
+    if text.len() < word.len() {
+        return None;
+    }
+    let mut rest = text;
+    for expected in word {
+        let (found, after) = rest.split_first()?;
+        if found != expected {
+            return None;
+        }
+        rest = after;
+    }
+    Some(rest)
 }
 
 /// What was read where nothing stands behind it, else `None`.
@@ -26,7 +41,29 @@ pub(crate) fn ended<T: Drop>(read: T, rest: &[u8]) -> Option<T>
     if rest.is_empty() { Some(read) } else { None }
 }
 
+/// Whether the line is this word.
+#[inline(always)]
+pub(crate) fn is_word(line: &[u8], word: &[u8]) -> bool
+    ensures { result ≡ is_word line.now word.now }
+{
+    match behind(line, word) {
+        Some(rest) => rest.is_empty(),
+        None => false,
+    }
+}
+
+#[inline(always)]
+fn begins_with_digit(text: &[u8]) -> bool
+    ensures { result ≡ begins_with_digit text.now }
+{
+    match text.first() {
+        Some(c) => c.is_ascii_digit(),
+        None => false,
+    }
+}
+
 /// The digit in front, as a number, and the bytes behind it.
+#[inline(always)]
 fn digit_at(text: &[u8]) -> Option<(u64, &[u8])>
     ensures { DigitAt text.now (option_map (λ x. (x.0, x.1.now)) result) }
 {
@@ -39,6 +76,7 @@ fn digit_at(text: &[u8]) -> Option<(u64, &[u8])>
 }
 
 /// A number of one digit or two with no digit behind it, as most are. `None` says nothing: `long_at` reads any number.
+#[inline(always)]
 fn short_at(text: &[u8]) -> Option<(u64, &[u8])>
     ensures { IfSome result (λ x. number_at text.now ≡ Some (Some x.0, x.1.now)) }
 {
@@ -53,6 +91,7 @@ fn short_at(text: &[u8]) -> Option<(u64, &[u8])>
 }
 
 /// A number without a sign: its value, `None` where that is above the greatest int.
+#[inline(always)]
 pub(crate) fn number_at(text: &[u8]) -> Option<(Option<u64>, &[u8])>
     ensures { option_map (λ x. (x.0, x.1.now)) result ≡ number_at text.now }
 {
@@ -64,6 +103,8 @@ pub(crate) fn number_at(text: &[u8]) -> Option<(Option<u64>, &[u8])>
 
 /// The same, by way of a number with a sign, for a number of any length.
 #[tactic(auto, unfolding(crate::specs::Number::number_at))]
+#[cold]
+#[inline(never)]
 fn long_at(text: &[u8]) -> Option<(Option<u64>, &[u8])>
     ensures { option_map (λ x. (x.0, x.1.now)) result ≡ number_at text.now }
 {
@@ -77,6 +118,7 @@ fn long_at(text: &[u8]) -> Option<(Option<u64>, &[u8])>
 }
 
 /// A number from `low` to `high`.
+#[inline(always)]
 pub(crate) fn number_within(low: u64, high: u64, text: &[u8]) -> Option<(u64, &[u8])>
     ensures { option_map (λ x. (x.0, x.1.now)) result ≡ number_within low high text.now }
 {
@@ -89,9 +131,40 @@ pub(crate) fn number_within(low: u64, high: u64, text: &[u8]) -> Option<(u64, &[
     }
 }
 
+/// `w` or `s` and one digit from 1 to 9 with no digit behind it, as a node is spelled in nearly every line. `None` says
+/// nothing: `long_node` reads any node.
+#[inline(always)]
+fn short_node(text: &[u8]) -> Option<(NodeId, &[u8])>
+    ensures { IfSome result (λ x. node_at text.now ≡ Some (x.0, x.1.now)) }
+{
+    let (kind, digits) = text.split_first()?;
+    let (digit, rest) = digit_at(digits)?;
+    if digit == 0 || begins_with_digit(rest) {
+        return None;
+    }
+    match kind {
+        b'w' => Some((NodeId::Worker(digit as u8), rest)),
+        b's' => Some((NodeId::Shard(digit as u8), rest)),
+        _ => None,
+    }
+}
+
 /// `w` or `s`, and a number from 1 to 99.
-#[tactic(auto, unfolding(crate::specs::Steps::node_at))]
+#[inline(always)]
 pub(crate) fn node_at(text: &[u8]) -> Option<(NodeId, &[u8])>
+    ensures { option_map (λ x. (x.0, x.1.now)) result ≡ node_at text.now }
+{
+    if let Some((node, rest)) = short_node(text) {
+        return Some((node, rest));
+    }
+    long_node(text)
+}
+
+/// The same, whatever the number is.
+#[cold]
+#[inline(never)]
+#[tactic(auto, unfolding(crate::specs::Steps::node_at))]
+fn long_node(text: &[u8]) -> Option<(NodeId, &[u8])>
     ensures { option_map (λ x. (x.0, x.1.now)) result ≡ node_at text.now }
 {
     match text.split_first() {
@@ -108,6 +181,7 @@ pub(crate) fn node_at(text: &[u8]) -> Option<(NodeId, &[u8])>
 }
 
 /// A node, and a space behind it.
+#[inline(always)]
 fn node_before_space(text: &[u8]) -> Option<(NodeId, &[u8])>
     ensures { option_map (λ x. (x.0, x.1.now)) result ≡ node_before_space text.now }
 {
@@ -117,6 +191,7 @@ fn node_before_space(text: &[u8]) -> Option<(NodeId, &[u8])>
 }
 
 /// The node that is all of the text.
+#[inline(never)]
 fn node_alone(text: &[u8]) -> Option<NodeId>
     ensures { result ≡ node_alone text.now }
 {

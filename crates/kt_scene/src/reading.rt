@@ -15,7 +15,7 @@ use crate::draft::{Draft, Expected};
 use crate::fault::{SceneError, SceneFault};
 use crate::rooms::Rooms;
 use crate::scenario::{Scenario, WorkKind};
-use memchr::memchr;
+use memchr::memchr_iter;
 use std::alloc::Global;
 
 /// The most bytes that a scenario has.
@@ -37,7 +37,7 @@ fn line_end(text: &[u8]) -> Option<usize>
     ensures value { result ≡ position (λ c. c == 10) text.now }
     ensures within { IfSome result (λ n. n < length text.now) }
 {
-    memchr(b'\n', text)
+    memchr_iter(b'\n', text).next()
 }
 
 /// The scenario that the text spells, with work of this kind, or its first line that has a fault. Of several faults of

@@ -1,4 +1,5 @@
-//! The calls of a store. A write reads a row whole, changes it and writes it whole (docs/DECISIONS.md#stores).
+//! The calls of a store. A write reads a row whole, changes it and writes it whole; a question about an incarnation or
+//! about marks decodes no state (docs/DECISIONS.md#stores).
 
 ghost use Rattle.kt_tables.specs.Held.{is_sure, content_of};
 
@@ -6,10 +7,7 @@ use crate::changes::discarded;
 use crate::store::SqlStore;
 use kt_ckpt::{Ckpt, Marks};
 use kt_store::{CkptStore, Posted, Purpose, StoreError, Tentative, TentativeMarks, Verdict};
-use kt_tables::{
-    GREATEST, bumped, incarnation_in, permanent_in, permanent_marks_in, promoted, tentative_in,
-    tentative_marks_in, with_tentative,
-};
+use kt_tables::{GREATEST, bumped, permanent_in, promoted, tentative_in, with_tentative};
 use kt_tuple::NodeId;
 use sqlite::Alter;
 use std::alloc::Global;
@@ -26,7 +24,7 @@ impl<S: Alter> CkptStore for SqlStore<S> {
     }
 
     fn incarnation(&mut self, node: NodeId) -> Result<u64, StoreError> {
-        Ok(incarnation_in(self.row_of(node)?))
+        self.incarnation_of(node)
     }
 
     fn permanent(&mut self, _: Global, node: NodeId) -> Result<Option<Ckpt>, StoreError> {
@@ -42,7 +40,7 @@ impl<S: Alter> CkptStore for SqlStore<S> {
         alloc: Global,
         node: NodeId,
     ) -> Result<Option<Marks>, StoreError> {
-        Ok(permanent_marks_in(alloc, self.row_of(node)?)?)
+        self.permanent_marks_of(alloc, node)
     }
 
     fn tentative_marks(
@@ -50,7 +48,7 @@ impl<S: Alter> CkptStore for SqlStore<S> {
         alloc: Global,
         node: NodeId,
     ) -> Result<Option<TentativeMarks>, StoreError> {
-        Ok(tentative_marks_in(alloc, self.row_of(node)?)?)
+        self.tentative_marks_of(alloc, node)
     }
 
     fn verdict(&mut self, instance: u64) -> Result<Option<Verdict>, StoreError> {

@@ -8,14 +8,15 @@ ghost use Rattle.sqlite.specs.State.{HasCleanDisk};
 ghost use Rattle.kt_tuple.specs.Node.{node_eq};
 ghost use Rattle.kt_store.specs.declared.rows.Posted.{Posted as PostedFields};
 ghost use Rattle.kt_store.specs.Verdict.{is_open};
-ghost use Rattle.kt_store.specs.Content.{greatest, is_empty, row_of};
+ghost use Rattle.kt_store.specs.Content.{greatest, is_empty, permanent_marks, row_of, tentative_marks};
 ghost use Rattle.kt_store.specs.Changes.{storing};
 ghost use Rattle.kt_store.specs.Calls.{HasCause, most_faults};
 ghost use Rattle.kt_tables.specs.Rows.{IsPosted, placing};
 ghost use Rattle.kt_tables.specs.Opened.{IsReady};
 ghost use Rattle.kt_tables.specs.Held.{is_sure, content_of};
 
-use kt_store::{NodeRow, Posted, StoreError};
+use kt_ckpt::Marks;
+use kt_store::{NodeRow, Posted, StoreError, TentativeMarks};
 use kt_tables::Tables;
 use kt_tuple::NodeId;
 use sqlite::{Alter, Connection};
@@ -96,6 +97,56 @@ impl<S: Alter> SqlStore<S> {
         ensures cause { HasCause self.old.faults self.new.faults (is_sure S.Store self.new.tables) ⊥ result }
     {
         let answer = self.tables.row_of(node);
+        count(&mut self.faults, &answer);
+        answer
+    }
+
+    /// The incarnation of the node.
+    pub(crate) fn incarnation_of(&mut self, node: NodeId) -> Result<u64, StoreError>
+        ensures value { IsTrue (is_sure S.Store self.new.tables)
+            → IfOk result (λ n. n ≡ (row_of (content_of S.Store self.old.tables) node).incarnation) }
+        ensures same { IsTrue (is_sure S.Store self.new.tables)
+            → content_of S.Store self.new.tables ≡ content_of S.Store self.old.tables }
+        ensures honest { IsTrue (is_sure S.Store self.new.tables) → IsTrue (is_sure S.Store self.old.tables) }
+        ensures cause { HasCause self.old.faults self.new.faults (is_sure S.Store self.new.tables) ⊥ result }
+    {
+        let answer = self.tables.incarnation_of(node);
+        count(&mut self.faults, &answer);
+        answer
+    }
+
+    /// The permanent checkpoint of the node without its state.
+    pub(crate) fn permanent_marks_of(
+        &mut self,
+        alloc: Global,
+        node: NodeId,
+    ) -> Result<Option<Marks>, StoreError>
+        ensures value { IsTrue (is_sure S.Store self.new.tables)
+            → IfOk result (λ m. m ≡ permanent_marks (content_of S.Store self.old.tables) node) }
+        ensures same { IsTrue (is_sure S.Store self.new.tables)
+            → content_of S.Store self.new.tables ≡ content_of S.Store self.old.tables }
+        ensures honest { IsTrue (is_sure S.Store self.new.tables) → IsTrue (is_sure S.Store self.old.tables) }
+        ensures cause { HasCause self.old.faults self.new.faults (is_sure S.Store self.new.tables) ⊥ result }
+    {
+        let answer = self.tables.permanent_marks_of(alloc, node);
+        count(&mut self.faults, &answer);
+        answer
+    }
+
+    /// The tentative checkpoint of the node with its instance and without its state.
+    pub(crate) fn tentative_marks_of(
+        &mut self,
+        alloc: Global,
+        node: NodeId,
+    ) -> Result<Option<TentativeMarks>, StoreError>
+        ensures value { IsTrue (is_sure S.Store self.new.tables)
+            → IfOk result (λ m. m ≡ tentative_marks (content_of S.Store self.old.tables) node) }
+        ensures same { IsTrue (is_sure S.Store self.new.tables)
+            → content_of S.Store self.new.tables ≡ content_of S.Store self.old.tables }
+        ensures honest { IsTrue (is_sure S.Store self.new.tables) → IsTrue (is_sure S.Store self.old.tables) }
+        ensures cause { HasCause self.old.faults self.new.faults (is_sure S.Store self.new.tables) ⊥ result }
+    {
+        let answer = self.tables.tentative_marks_of(alloc, node);
         count(&mut self.faults, &answer);
         answer
     }

@@ -48,6 +48,10 @@ pub gives_memory : {X : Type 0} (x : X) (r : Result X StoreError) → Gives x r 
 gives_memory x (Ok o) h = tt
 gives_memory x (Err e) h = h
 
+pub through_ok : {X E : Type 0} (r : Result X E) (P Q : X → Type 0) → ((x : X) → P x → Q x) → IfOk r P → IfOk r Q
+through_ok (Ok x) P Q go h = go x h
+through_ok (Err e) P Q go h = tt
+
 -- a row that could not be read is damaged only where the tables are not sure
 pub read_reason : {X : Type 0} (sure : Bool) (r : Result X StoreError) → IfErr r IsReadError → (sure ≡ true → IfErr r (λ e. e ≡ Memory))
     → HasReason sure r

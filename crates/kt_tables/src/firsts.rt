@@ -6,9 +6,11 @@ ghost use Rattle.kt_store.specs.declared.rows.Posted.{Posted as PostedFields};
 ghost use Rattle.kt_store.specs.Content.{greatest};
 ghost use Rattle.kt_tables.specs.Rows.{node_given, posted_given, IsNodeRow, IsPosted};
 ghost use Rattle.kt_tables.specs.inner.Showing.{Gives, IsReadError, number_of};
+ghost use Rattle.kt_tables.specs.inner.Showing.{incarnation_of, permanent_of, tentative_of};
 
-use crate::rows::{node_row, posted_row};
-use kt_store::{NodeRow, Posted, StoreError};
+use crate::rows::{marks_at, node_row, positive_at, posted_row, tentative_marks_at};
+use kt_ckpt::Marks;
+use kt_store::{NodeRow, Posted, StoreError, TentativeMarks};
 use sqlite::Row;
 use std::alloc::Global;
 
@@ -21,6 +23,45 @@ pub(crate) fn first_node(alloc: Global, rows: &[Row]) -> Result<Option<NodeRow>,
 {
     match rows.first() {
         Some(row) => Ok(Some(node_row(alloc, row)?)),
+        None => Ok(None),
+    }
+}
+
+/// The incarnation of the node of the first row, 1 where there is no row. Nothing else of the row is read.
+pub(crate) fn first_incarnation(rows: &[Row]) -> Result<u64, StoreError>
+    ensures exact { (o : Option NodeFields) → IfSome o IsNodeRow → slice_get rows.now 0 ≡ option_map node_given o
+        → Gives (incarnation_of o) result }
+    ensures named { IfErr result IsReadError }
+{
+    match rows.first() {
+        Some(row) => positive_at(row, 1),
+        None => Ok(1),
+    }
+}
+
+/// The marks of the permanent checkpoint of the first row; `None` where there is none, or no row.
+pub(crate) fn first_permanent(alloc: Global, rows: &[Row]) -> Result<Option<Marks>, StoreError>
+    ensures exact { (o : Option NodeFields) → IfSome o IsNodeRow → slice_get rows.now 0 ≡ option_map node_given o
+        → Gives (permanent_of o) result }
+    ensures named { IfErr result IsReadError }
+{
+    match rows.first() {
+        Some(row) => marks_at(alloc, row, 2),
+        None => Ok(None),
+    }
+}
+
+/// The marks of the tentative checkpoint of the first row, with its instance; `None` where there is none, or no row.
+pub(crate) fn first_tentative(
+    alloc: Global,
+    rows: &[Row],
+) -> Result<Option<TentativeMarks>, StoreError>
+    ensures exact { (o : Option NodeFields) → IfSome o IsNodeRow → slice_get rows.now 0 ≡ option_map node_given o
+        → Gives (tentative_of o) result }
+    ensures named { IfErr result IsReadError }
+{
+    match rows.first() {
+        Some(row) => tentative_marks_at(alloc, row),
         None => Ok(None),
     }
 }

@@ -25,10 +25,7 @@ mod schema;
 mod statements;
 mod tables;
 
-pub use changes::{
-    bumped, incarnation_in, permanent_in, permanent_marks_in, promoted, tentative_in,
-    tentative_marks_in, with_tentative,
-};
+pub use changes::{bumped, permanent_in, promoted, tentative_in, with_tentative};
 pub use held::Tables;
 pub use number::GREATEST;
 pub use ready::readied;

@@ -7,18 +7,24 @@ ghost use Rattle.kt_tuple.specs.Node.{node_eq};
 ghost use Rattle.kt_store.specs.declared.rows.NodeRow.{NodeRow as NodeFields};
 ghost use Rattle.kt_store.specs.declared.rows.Posted.{Posted as PostedFields};
 ghost use Rattle.kt_store.specs.Verdict.{is_open};
-ghost use Rattle.kt_store.specs.Content.{greatest, is_empty, row_of};
+ghost use Rattle.kt_store.specs.Content.{greatest, is_empty, permanent_marks, row_of, tentative_marks};
 ghost use Rattle.kt_tables.specs.Reason.{HasReason};
 ghost use Rattle.kt_tables.specs.Rows.{IsNodeRow, IsPosted};
+ghost use Rattle.kt_tables.specs.inner.Showing.{AreRowsOf};
 ghost use Rattle.kt_tables.specs.Held.{is_sure, content_of};
 
-use crate::firsts::{first_node, first_number, first_posted, has_no_row};
+use crate::firsts::{
+    first_incarnation, first_node, first_number, first_permanent, first_posted, first_tentative,
+    has_no_row,
+};
 use crate::held::Tables;
 use crate::ids::id_of;
 use crate::number::Number;
-use kt_store::{NodeRow, Posted, StoreError};
+use kt_ckpt::Marks;
+use kt_store::{NodeRow, Posted, StoreError, TentativeMarks};
 use kt_tuple::NodeId;
-use sqlite::{Alter, params};
+use sqlite::{Alter, Row, params};
+use std::alloc::Global;
 
 const GET_NODE: &str =
     "SELECT id, incarnation, permanent, tentative, instance FROM kt_node WHERE id = ?1 ORDER BY id";
@@ -37,8 +43,24 @@ const OPEN_POSTED: &str =
      ORDER BY instance LIMIT 1";
 
 impl<S: Alter> Tables<S> {
-    /// The row of the node, where it has one. It is read to the end, its checkpoints too, so what is damaged is told at
-    /// the first call that wants anything of it.
+    /// The rows of the node: one, or none where nothing is stored of it.
+    fn rows_of(&mut self, node: NodeId) -> Result<Vec<Row>, StoreError>
+        ensures rows { IsTrue (is_sure S.Store self.new) → IfOk result (λ rows. AreRowsOf
+            (find (λ (r : NodeFields). node_eq r.node node) (content_of S.Store self.old).nodes) rows.items) }
+        ensures same { IsTrue (is_sure S.Store self.new) → content_of S.Store self.new ≡ content_of S.Store self.old }
+        ensures honest { IsTrue (is_sure S.Store self.new) → IsTrue (is_sure S.Store self.old) }
+        ensures trusted { self.new.is_trusted ≡ self.old.is_trusted }
+        ensures reason { HasReason (is_sure S.Store self.new) result }
+    {
+        let alloc = self.allocator();
+        // A node that the tables have no id for has no row.
+        let Some(id) = id_of(node) else {
+            return Ok(Vec::new(alloc));
+        };
+        self.ask(GET_NODE, params![id])
+    }
+
+    /// The row of the node, where it has one, read to the end, its checkpoints too.
     fn find_node(&mut self, node: NodeId) -> Result<Option<NodeRow>, StoreError>
         ensures value { IsTrue (is_sure S.Store self.new)
             → IfOk result (λ o.
@@ -50,12 +72,55 @@ impl<S: Alter> Tables<S> {
         ensures reason { HasReason (is_sure S.Store self.new) result }
     {
         let alloc = self.allocator();
-        // A node that the tables have no id for has no row.
-        let Some(id) = id_of(node) else {
-            return Ok(None);
-        };
-        let rows = self.ask(GET_NODE, params![id])?;
+        let rows = self.rows_of(node)?;
         first_node(alloc, &rows)
+    }
+
+    /// The incarnation of the node, 1 where it has no row. Nothing else of the row is read.
+    pub fn incarnation_of(&mut self, node: NodeId) -> Result<u64, StoreError>
+        ensures value { IsTrue (is_sure S.Store self.new)
+            → IfOk result (λ n. n ≡ (row_of (content_of S.Store self.old) node).incarnation) }
+        ensures same { IsTrue (is_sure S.Store self.new) → content_of S.Store self.new ≡ content_of S.Store self.old }
+        ensures honest { IsTrue (is_sure S.Store self.new) → IsTrue (is_sure S.Store self.old) }
+        ensures trusted { self.new.is_trusted ≡ self.old.is_trusted }
+        ensures reason { HasReason (is_sure S.Store self.new) result }
+    {
+        let rows = self.rows_of(node)?;
+        first_incarnation(&rows)
+    }
+
+    /// The permanent checkpoint of the node without the node's state, which is not read.
+    pub fn permanent_marks_of(
+        &mut self,
+        alloc: Global,
+        node: NodeId,
+    ) -> Result<Option<Marks>, StoreError>
+        ensures value { IsTrue (is_sure S.Store self.new)
+            → IfOk result (λ m. m ≡ permanent_marks (content_of S.Store self.old) node) }
+        ensures same { IsTrue (is_sure S.Store self.new) → content_of S.Store self.new ≡ content_of S.Store self.old }
+        ensures honest { IsTrue (is_sure S.Store self.new) → IsTrue (is_sure S.Store self.old) }
+        ensures trusted { self.new.is_trusted ≡ self.old.is_trusted }
+        ensures reason { HasReason (is_sure S.Store self.new) result }
+    {
+        let rows = self.rows_of(node)?;
+        first_permanent(alloc, &rows)
+    }
+
+    /// The tentative checkpoint of the node with its instance and without the node's state, which is not read.
+    pub fn tentative_marks_of(
+        &mut self,
+        alloc: Global,
+        node: NodeId,
+    ) -> Result<Option<TentativeMarks>, StoreError>
+        ensures value { IsTrue (is_sure S.Store self.new)
+            → IfOk result (λ m. m ≡ tentative_marks (content_of S.Store self.old) node) }
+        ensures same { IsTrue (is_sure S.Store self.new) → content_of S.Store self.new ≡ content_of S.Store self.old }
+        ensures honest { IsTrue (is_sure S.Store self.new) → IsTrue (is_sure S.Store self.old) }
+        ensures trusted { self.new.is_trusted ≡ self.old.is_trusted }
+        ensures reason { HasReason (is_sure S.Store self.new) result }
+    {
+        let rows = self.rows_of(node)?;
+        first_tentative(alloc, &rows)
     }
 
     /// What is stored of the node. A node without a row is in incarnation 1 and has no checkpoint stored.

@@ -1,16 +1,17 @@
 //! Rows of an answer, read.
 
-ghost use Rattle.std.specs.Prelude.{◌≡◌, ◌<◌, ◌≤◌, ℕ, Option, IfOk, IfErr, length};
+ghost use Rattle.std.specs.Prelude.{◌≡◌, ◌<◌, ◌≤◌, ℕ, Option, IfOk, IfErr, length, option_map};
 ghost use Rattle.sqlite.specs.Order.{column};
 ghost use Rattle.sqlite.specs.Values.{or_null};
 ghost use Rattle.kt_tuple.specs.declared.node.NodeId.{NodeId as NodeName};
 ghost use Rattle.kt_ckpt.specs.Checkpoint.{Checkpoint, IsCheckpoint};
+ghost use Rattle.kt_ckpt.specs.Marks.{marks_of};
 ghost use Rattle.kt_store.specs.declared.rows.Purpose.{Purpose as Aim};
 ghost use Rattle.kt_store.specs.declared.rows.Verdict.{Verdict as Outcome};
 ghost use Rattle.kt_store.specs.declared.rows.NodeRow.{NodeRow as NodeFields};
 ghost use Rattle.kt_store.specs.declared.rows.Posted.{Posted as PostedFields};
 ghost use Rattle.kt_store.specs.declared.rows.Tentative.{Tentative as TentativeFields};
-ghost use Rattle.kt_store.specs.Content.{greatest};
+ghost use Rattle.kt_store.specs.Content.{greatest, marks_in};
 ghost use Rattle.kt_tables.specs.Rows.{whole, id_of, bytes_of, purpose_code, verdict_code, spelled, checkpoint_value};
 ghost use Rattle.kt_tables.specs.Rows.{instance_value, node_given, posted_given};
 ghost use Rattle.kt_tables.specs.Rows.{HasId, taken_checkpoint, taken_instance, IsLow, IsSpelled, IsTaken, IsNodeRow};
@@ -19,8 +20,8 @@ ghost use Rattle.kt_tables.specs.inner.Showing.{ShowsNode, ShowsPosted, Gives, I
 
 use crate::ids::node_of;
 use crate::number::GREATEST;
-use kt_ckpt::{Ckpt, CkptError};
-use kt_store::{NodeRow, Posted, Purpose, StoreError, Tentative, Verdict};
+use kt_ckpt::{Ckpt, CkptError, Marks};
+use kt_store::{NodeRow, Posted, Purpose, StoreError, Tentative, TentativeMarks, Verdict};
 use kt_tuple::NodeId;
 use sqlite::types::ValueRef;
 use sqlite::{Error, ErrorCode, Row};
@@ -83,6 +84,53 @@ fn decoded(alloc: Global, bytes: &[u8]) -> Result<Ckpt, StoreError>
     }
 }
 
+/// The marks of the checkpoint in a column, `None` where it is NULL. The state behind them is not read.
+pub(crate) fn marks_at(alloc: Global, row: &Row, at: usize) -> Result<Option<Marks>, StoreError>
+    ensures exact { (c : Option Checkpoint) → IsSpelled c → at < length row.now → column row.now at ≡ spelled c
+        → Gives (option_map marks_of c) result }
+    ensures named { IfErr result IsReadError }
+{
+    match row.get_ref(at) {
+        Ok(ValueRef::Null) => Ok(None),
+        Ok(ValueRef::Blob(bytes)) => Ok(Some(decoded_marks(alloc, bytes)?)),
+        _ => Err(StoreError::Damaged),
+    }
+}
+
+/// The marks of the checkpoint that the bytes spell.
+#[tactic(auto, unfolding(crate::specs::Rows::bytes_of))]
+fn decoded_marks(alloc: Global, bytes: &[u8]) -> Result<Marks, StoreError>
+    ensures exact { (c : Checkpoint) → IsCheckpoint c → bytes.now ≡ bytes_of c → Gives (marks_of c) result }
+    ensures named { IfErr result IsReadError }
+{
+    match Marks::decode(alloc, bytes) {
+        Ok(marks) => Ok(marks),
+        Err(CkptError::OutOfMemory) => Err(StoreError::Memory),
+        Err(_) => Err(StoreError::Damaged),
+    }
+}
+
+/// The marks of the tentative checkpoint of the row of a node, with its instance.
+pub(crate) fn tentative_marks_at(
+    alloc: Global,
+    row: &Row,
+) -> Result<Option<TentativeMarks>, StoreError>
+    ensures exact { (t : Option TentativeFields) → IsTaken t → 4 < length row.now
+        → column row.now 3 ≡ checkpoint_value t
+        → column row.now 4 ≡ instance_value t → Gives (option_map marks_in t) result }
+    ensures named { IfErr result IsReadError }
+{
+    let marks = marks_at(alloc, row, 3)?;
+    let instance = optional_number_at(row, 4)?;
+    match (marks, instance) {
+        (None, None) => Ok(None),
+        (Some(marks), Some(instance)) if instance <= GREATEST => {
+            Ok(Some(TentativeMarks { instance, marks }))
+        }
+        _ => Err(StoreError::Damaged),
+    }
+}
+
 /// The tentative checkpoint of the row of a node, with its instance.
 fn tentative_at(alloc: Global, row: &Row) -> Result<Option<Tentative>, StoreError>
     ensures found { IfOk result (λ t. IsTaken t × (column row.now 3 ≡ checkpoint_value t)
@@ -127,7 +175,7 @@ fn node_at(row: &Row, at: usize) -> Result<NodeId, StoreError>
 }
 
 /// The number in a column, from 1 to the greatest.
-fn positive_at(row: &Row, at: usize) -> Result<u64, StoreError>
+pub(crate) fn positive_at(row: &Row, at: usize) -> Result<u64, StoreError>
     ensures found { IfOk result (λ n. (1 ≤ n) × (n ≤ greatest) × (column row.now at ≡ whole n)) }
     ensures exact { (n : ℕ) → 1 ≤ n → n ≤ greatest → at < length row.now → column row.now at ≡ whole n
         → Gives n result }

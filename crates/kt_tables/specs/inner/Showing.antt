@@ -1,5 +1,6 @@
 -- How a row is kept, and what is read of one.
-use Rattle.std.specs.Prelude.{◌≡◌, ◌⊎◌, ℕ, [], ◌∷◌, Option, None, Some, Result, Ok, Err}
+use Rattle.std.specs.Prelude.{◌≡◌, ◌⊎◌, ℕ, List, [], ◌∷◌, Option, None, Some, Result, Ok, Err, IfSome, slice_get}
+use Rattle.std.specs.Option.{option_map}
 use Rattle.sqlite.specs.declared.types.Value.TheVariants.{Null}
 use Rattle.sqlite.specs.Order.{Row, column}
 use Rattle.kt_ckpt.specs.Checkpoint.{read}
@@ -7,7 +8,11 @@ use Rattle.kt_store.specs.declared.error.StoreError.{StoreError}
 use Rattle.kt_store.specs.declared.error.StoreError.TheVariants.{Memory, Damaged}
 use Rattle.kt_store.specs.declared.rows.NodeRow.{NodeRow}
 use Rattle.kt_store.specs.declared.rows.Posted.{Posted}
+use Rattle.kt_store.specs.declared.rows.TentativeMarks.{TentativeMarks}
+use Rattle.kt_store.specs.Content.{marks_in}
+use Rattle.kt_ckpt.specs.Marks.{MarkFields, marks_of}
 use Rattle.kt_tables.specs.Rows.{whole, id_of, purpose_code, verdict_code, spelled, checkpoint_value, instance_value}
+use Rattle.kt_tables.specs.Rows.{node_given, IsNodeRow}
 
 -- as the table keeps it: the key, no value in the key's column, and the other columns
 abbrev pub node_stored : NodeRow → Row
@@ -48,3 +53,20 @@ IsReadError e = (e ≡ Memory) ⊎ (e ≡ Damaged)
 abbrev pub number_of : Option Posted → ℕ
 number_of None = 0
 number_of (Some p) = p.instance
+
+-- what is stored of a node, where that is a row or nothing: its incarnation, and what its checkpoints say besides states
+abbrev pub incarnation_of : Option NodeRow → ℕ
+incarnation_of None = 1
+incarnation_of (Some r) = r.incarnation
+
+abbrev pub permanent_of : Option NodeRow → Option MarkFields
+permanent_of None = None
+permanent_of (Some r) = option_map marks_of r.permanent
+
+abbrev pub tentative_of : Option NodeRow → Option TentativeMarks
+tentative_of None = None
+tentative_of (Some r) = option_map marks_in r.tentative
+
+-- the rows are those of one node: the first shows it, where anything is stored of it
+abbrev pub AreRowsOf : Option NodeRow → List Row → Type 0
+AreRowsOf o rows = (slice_get rows 0 ≡ option_map node_given o) × IfSome o IsNodeRow

@@ -1,6 +1,6 @@
 //! The bytes of a shard's and of a worker's checkpoint, against bytes worked out by hand.
 
-use kt_ckpt::{Ckpt, CkptError, State};
+use kt_ckpt::{Ckpt, CkptError, Marks, State};
 use kt_link::Label;
 use kt_tuple::NodeId;
 use std::test::*;
@@ -150,5 +150,28 @@ fn fields(rt: HostRuntime) -> Result<(), Fail> {
     assert!(rt; worker.was_none());
     assert!(rt; worker.asked().is_some());
     assert_eq!(rt; worker.variables().len(), 2);
+    Ok(())
+}
+
+/// How many bytes of `WORKER` stand before its state.
+const WORKER_MARKS: usize = 80;
+
+/// The marks are those of the checkpoint. The state behind them may be cut or be none: it is not looked at.
+#[test]
+fn marks(rt: HostRuntime) -> Result<(), Fail> {
+    let ckpt = Ckpt::decode(rt.alloc(), &WORKER)
+        .ok()
+        .ok_or("the bytes are a checkpoint")?;
+    for bytes in [&WORKER[..], &WORKER[..WORKER_MARKS]] {
+        let marks = Marks::decode(rt.alloc(), bytes)
+            .ok()
+            .ok_or("the bytes begin with marks")?;
+        assert_eq!(rt; marks.node(), ckpt.node());
+        assert_eq!(rt; marks.line_len(), ckpt.line_len());
+        assert!(rt; marks.sent() == ckpt.sent() && marks.received() == ckpt.received());
+    }
+    for n in 0..WORKER_MARKS {
+        assert!(rt; matches!(Marks::decode(rt.alloc(), &WORKER[..n]), Err(CkptError::Cut)));
+    }
     Ok(())
 }

@@ -1,4 +1,4 @@
-use Rattle.std.proofs.Common.{◌≡◌, ℕ, List, false, sym, ap, subst, ◌∙◌}
+use Rattle.std.proofs.Common.{◌≡◌, List, false, sym, subst, ◌∙◌}
 use Rattle.std.specs.Prelude.{IfErr, codes}
 use Rattle.kt_script.specs.declared.command.Command.{Command}
 use Rattle.kt_scene.specs.Lines.{Sketch, is_word, work_with, in_work}
@@ -9,8 +9,7 @@ use Rattle.kt_scene.proofs.draft.Draft.read_in_work.Goals as goal
 
 pub returns-clause-fault : goal.returns-clause-fault
 returns-clause-fault c =
-    let other : is_word c.args.line.now (codes "end") ≡ false =
-    ap (λ (word : List ℕ). is_word c.args.line.now word) (sym c.as_slice.ensures) ∙ sym c.eq.ensures ∙ c.if-eq.false in
+    let other : is_word c.args.line.now (codes "end") ≡ false = sym c.is_word.ensures ∙ c.if-is_word.false in
     let Due : List (List Command) → Type 0 = λ scripts. IfErr c.add_to_work.result
     (λ fault. IsFaultOf fault (work_with (record { shards = c.self.inside.shards; scripts = scripts }) (work_in c.self.inside.work) c.args.line.now)) in
     let P : Sketch → Type 0 = λ s. IfErr c.add_to_work.result (λ fault. IsFaultOf fault (in_work s c.args.line.now)) in
