@@ -6,4 +6,5 @@ pub mod Opening
 pub mod Ended
 pub mod Planned
 pub mod Allowed
+pub mod Cheap
 pub mod Shared

@@ -106,7 +106,7 @@ fn is_in_traffic<S: CkptStore>(world: &World<S>, p: NodeId, q: NodeId, number: u
 }
 
 /// The node's number among its kind.
-fn number_of(node: NodeId) -> u8
+pub(crate) fn number_of(node: NodeId) -> u8
     ensures { result ≡ node_number node }
 {
     match node {

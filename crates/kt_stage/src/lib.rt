@@ -7,8 +7,8 @@
 //! - Stands on: kt_tuple, kt_script, kt_space, kt_link, kt_shard, kt_worker, kt_vote, kt_history, kt_ckpt, kt_store,
 //!   kt_node, kt_world, kt_core; of the kit: thiserror
 //! - Used by: kt_run, kt_command, linda_kt
-//! - Begin in: `desk.rt`, which has what lies under the lock, then `policy.rt` for the rules and `running.rt` for
-//!   threads.
+//! - Begin in: `desk.rt`, which has what lies under the lock, then `policy.rt` for the rules, and `running.rt`,
+//!   `playing.rt` and `waking.rt` for threads.
 #![tactic(auto)]
 
 mod asking;
@@ -19,9 +19,11 @@ mod error;
 mod journal;
 mod naming;
 mod order;
+mod playing;
 mod policy;
 mod running;
 mod seat;
+mod serving;
 mod stage;
 mod traffic;
 mod waking;

@@ -17,8 +17,11 @@ pub(crate) const WORKERS: [NodeId; 8] = [
     NodeId::Worker(8),
 ];
 
+/// The most nodes that a scene can have.
+pub(crate) const MAX_NODES: usize = 16;
+
 /// All nodes that a scene can have, in node order.
-pub(crate) const NAMES: [NodeId; 16] = [
+pub(crate) const NAMES: [NodeId; MAX_NODES] = [
     NodeId::Worker(1),
     NodeId::Worker(2),
     NodeId::Worker(3),

@@ -2,22 +2,24 @@
 
 ghost use Rattle.std.specs.Prelude.{◌≡◌, IfOk, IfSome, IsTrue};
 ghost use Rattle.std.specs.List.{list_all};
+ghost use Rattle.std.specs.Option.{option_copied};
 ghost use Rattle.kt_core.specs.Lent.{is_allowed};
 ghost use Rattle.kt_world.specs.Step.{owner};
 ghost use Rattle.kt_stage.specs.Asking.{IsAsked};
 ghost use Rattle.kt_stage.specs.Policy.{asks, by_rule, checks, comes_back, fails, first_some, first_unfinished};
-ghost use Rattle.kt_stage.specs.Policy.{decides, gives_up, has_sent, hears, if_unfinished, learns, lets_restart, next_step};
-ghost use Rattle.kt_stage.specs.Policy.{repeats, serves, takes};
-ghost use Rattle.kt_stage.specs.Policy.{serves_with_first, tries_again};
+ghost use Rattle.kt_stage.specs.Policy.{decides, gives_up, has_sent, hears, if_unfinished, learns, lets_restart};
+ghost use Rattle.kt_stage.specs.Policy.{next_step, repeats, takes, tries_again};
+ghost use Rattle.kt_stage.specs.inner.Cheap.{may_issue};
 
 use crate::asking::{
     got_no, if_allowed, is_down, is_lost_request, is_up, lets_restart, waits_in_vain,
 };
-use crate::order::{NAMES, WORKERS};
+use crate::order::NAMES;
+use crate::serving::serves;
 use kt_core::{FaultKind, Faults, Step, World};
-use kt_shard::Shard;
 use kt_store::{CkptStore, StoreError};
 use kt_tuple::NodeId;
+use kt_worker::Worker;
 use std::alloc::Global;
 
 /// A rule of the policy: what a node does where it applies.
@@ -209,15 +211,18 @@ fn takes<S: CkptStore>(
     if_allowed(world, alloc, Step::Take { node })
 }
 
-/// Whether the worker that the node is, while it is up, has nothing unanswered.
-fn may_issue<S: CkptStore>(world: &World<S>, node: NodeId) -> bool {
-    match world.worker(node) {
+/// Whether this worker, if there is one, has nothing unanswered.
+fn may_issue(worker: Option<&Worker>) -> bool
+    ensures { result ≡ may_issue (option_copied worker.entry) }
+{
+    match worker {
         None => false,
         Some(worker) => worker.again().is_none(),
     }
 }
 
-/// A worker asks for its next operation, or once more for the last one.
+/// A worker asks for its next operation, or once more for the last one: only one that has nothing unanswered may do the
+/// one, and only one that has something the other.
 fn asks<S: CkptStore>(
     world: &mut World<S>,
     alloc: Global,
@@ -225,39 +230,11 @@ fn asks<S: CkptStore>(
 ) -> Result<Option<Step>, StoreError>
     ensures { IsAsked world.old world.new (λ s x. x ≡ asks s node) result }
 {
-    if may_issue(world, node) {
+    if may_issue(world.worker(node)) {
         if_allowed(world, alloc, Step::Issue { node })
     } else {
         repeats(world, alloc, node)
     }
-}
-
-/// The shard serves this worker with the first match, if it can.
-fn serves_with_first(shard: &Shard, node: NodeId, worker: NodeId) -> Option<Step> {
-    match worker {
-        NodeId::Worker(number) if shard.can_serve(number, 0) => Some(Step::Serve {
-            shard: node,
-            worker,
-            place: 0,
-        }),
-        _ => None,
-    }
-}
-
-/// The shard serves the first of these workers that it can serve with the first match.
-fn first_served(workers: &[NodeId], shard: &Shard, node: NodeId) -> Option<Step> {
-    let (worker, later) = workers.split_first()?;
-    match serves_with_first(shard, node, *worker) {
-        Some(step) => Some(step),
-        None => first_served(later, shard, node),
-    }
-}
-
-/// The shard serves the first worker that it can serve with the first match.
-fn serves<S: CkptStore>(world: &World<S>, node: NodeId) -> Option<Step>
-    ensures { result ≡ serves world.now.state node }
-{
-    first_served(&WORKERS, world.shard(node)?, node)
 }
 
 /// A node that votes gives up, where one that it awaits owes it no vote.

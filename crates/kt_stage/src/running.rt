@@ -12,13 +12,12 @@ ghost use Rattle.kt_world.specs.Reached.{opening};
 
 use crate::closing::CloseError;
 use crate::ending::unfinished;
-use crate::error::ActError;
 use crate::journal::Journal;
-use crate::policy::first_unfinished;
 use crate::naming::Naming;
+use crate::playing::{Halt, Player, play_to_end};
 use crate::seat::Seat;
-use crate::stage::{Floor, MOST, Some16, Stage, node_count};
-use kt_core::{Faults, OpenError, Scene, Step, StepError, World};
+use crate::stage::{Stage, node_count};
+use kt_core::{Faults, OpenError, Scene, StepError, World};
 use kt_store::{CkptStore, StoreError};
 use kt_tuple::NodeId;
 use std::alloc::{AllocError, Global};
@@ -49,247 +48,12 @@ pub enum RunFault {
     Unfinished { node: NodeId },
 }
 
-/// Why a node's part of a run ended early.
-#[derive(Clone, Copy, Debug, PartialEq, Eq)]
-enum Halt {
-    /// A step was refused: the place in the journal that it would have had, counted from 1, and why.
-    Step { at: u64, cause: StepError },
-    /// Memory ran out, or a thread could not be started.
-    Memory,
-}
-
-impl Halt {
-    /// The run's own fault, which is none of an opening or of an end.
-    fn fault(self) -> RunFault
-        ensures { IsMidway result }
-    {
-        match self {
-            Halt::Step { at, cause } => RunFault::Step { at, cause },
-            Halt::Memory => RunFault::Memory,
-        }
-    }
-}
-
-/// How many steps a node makes at most before it lets the others at the lock.
-const TURNS: usize = 64;
-
-/// What a node has in a run: its seat, and its place in node order.
-#[derive(Drop)]
-struct Player<L: Naming> {
-    seat: Seat<L>,
-    place: usize,
-}
-
-/// What came of a node's turns.
-#[derive(Clone, Copy, Debug, PartialEq, Eq)]
-enum Turn {
-    /// It made as many steps as it may in a row.
-    Made,
-    /// It has no next step at present, and sleeps.
-    Idle,
-    /// The run has ended: no node has a next step.
-    Over,
-}
-
-/// That the store refused what has to be known.
-fn refused(at: u64, refusal: StoreError) -> Halt {
-    Halt::Step {
-        at,
-        cause: StepError::Store(refusal),
-    }
-}
-
-/// That the world refused the step.
-fn not_made(at: u64, refusal: ActError) -> Halt {
-    let cause = match refusal {
-        ActError::Step(cause) => cause,
-        // The policy gives a node steps of its own alone.
-        ActError::NotOwner => StepError::NoNode,
-    };
-    Halt::Step { at, cause }
-}
-
-impl<S: CkptStore, L: Naming> Floor<S, L> {
-    /// The place in the journal that the next step has.
-    fn at(&self) -> u64 {
-        self.desk.journal.steps.len() as u64 + 1
-    }
-
-    /// What the policy gives the node.
-    fn next(&mut self, alloc: Global, node: NodeId) -> Result<Option<Step>, StoreError> {
-        let Floor { desk, faults, .. } = self;
-        desk.next_for(alloc, faults, node)
-    }
-
-    /// Makes the player's next step, and wakes whom it may have given one.
-    fn make(
-        &mut self,
-        alloc: Global,
-        player: &mut Player<L>,
-        step: Step,
-        nodes: &[NodeId],
-        woken: &mut Some16,
-    ) -> Result<(), Halt> {
-        let at = self.at();
-        match self.act(alloc, &mut player.seat, step, nodes, woken) {
-            Ok(_) => {
-                self.faults.spend(&step);
-                Ok(())
-            }
-            Err(refusal) => Err(not_made(at, refusal)),
-        }
-    }
-
-    /// The player's node has nothing to do. The last that would sleep asks for each node whether it has a next step, and
-    /// ends the run where none has.
-    fn rest(
-        &mut self,
-        alloc: Global,
-        place: usize,
-        nodes: &[NodeId],
-        woken: &mut Some16,
-    ) -> Result<Turn, Halt> {
-        if let Some(sleeps) = self.asleep.get_mut(place) {
-            *sleeps = true;
-        }
-        if self.asleep.iter().zip(nodes.iter()).any(|(sleeps, _)| !*sleeps) {
-            return Ok(Turn::Idle);
-        }
-        let at = self.at();
-        let Floor { desk, faults, .. } = self;
-        let left = match first_unfinished(&mut desk.journal.world, alloc, faults) {
-            Ok(left) => left,
-            Err(refusal) => return Err(refused(at, refusal)),
-        };
-        let Some(left) = left else {
-            return Ok(Turn::Over);
-        };
-        for (place, node) in nodes.iter().enumerate() {
-            if *node == left {
-                if let (Some(sleeps), Some(wakes)) = (self.asleep.get_mut(place), woken.get_mut(place)) {
-                    *sleeps = false;
-                    *wakes = true;
-                }
-            }
-        }
-        Ok(Turn::Idle)
-    }
-
-    /// Makes the next steps of the player's node, one after the other, while it has one and may go on. Each is chosen and
-    /// made under one lock: another node's step between the two could make it one that is not allowed.
-    fn turns(
-        &mut self,
-        alloc: Global,
-        player: &mut Player<L>,
-        nodes: &[NodeId],
-        woken: &mut Some16,
-    ) -> Result<Turn, Halt> {
-        for _ in 0..TURNS {
-            let at = self.at();
-            let next = match self.next(alloc, player.seat.node) {
-                Ok(next) => next,
-                Err(refusal) => return Err(refused(at, refusal)),
-            };
-            match next {
-                Some(step) => self.make(alloc, player, step, nodes, woken)?,
-                None => return self.rest(alloc, player.place, nodes, woken),
-            }
-        }
-        Ok(Turn::Made)
-    }
-
-    fn sleeps(&self, place: usize) -> bool {
-        matches!(self.asleep.get(place), Some(true))
-    }
-}
-
-impl<S: CkptStore, L: Naming> Stage<S, L> {
-    /// Ends the run, of whose end each waiting thread is told.
-    fn end(&self, rt: &impl Wait) {
-        self.floor.lock(rt).is_over = true;
-        self.ring(&[true; MOST]);
-    }
-
-    /// One turn of the player's, and whether the run goes on.
-    fn play_once<R: Wait>(
-        &self,
-        rt: &R,
-        alloc: Global,
-        player: &mut Player<L>,
-    ) -> Result<bool, Halt> {
-        let mut woken = [false; MOST];
-        let mut floor = self.floor.lock(rt);
-        if floor.is_over {
-            return Ok(false);
-        }
-        match floor.turns(alloc, player, &self.nodes, &mut woken)? {
-            Turn::Made => {
-                drop(floor);
-                self.ring(&woken);
-            }
-            Turn::Idle => {
-                drop(floor);
-                self.ring(&woken);
-                if let Some(bell) = self.bells.get(player.place) {
-                    let place = player.place;
-                    let floor = self.floor.lock(rt);
-                    drop(bell.wait_while(rt, floor, |floor| !floor.is_over && floor.sleeps(place)));
-                }
-            }
-            Turn::Over => {
-                drop(floor);
-                self.end(rt);
-                return Ok(false);
-            }
-        }
-        Ok(true)
-    }
-}
-
-/// What a node's thread does: turn after turn, until the run has ended.
-fn play<R: Wait, S: CkptStore, L: Naming>(
-    rt: &R,
-    alloc: Global,
-    stage: &Stage<S, L>,
-    player: &mut Player<L>,
-) -> Result<(), Halt> {
-    for _ in rt.forever() {
-        match stage.play_once(rt, alloc, player) {
-            Ok(true) => {}
-            Ok(false) => return Ok(()),
-            Err(halt) => {
-                stage.end(rt);
-                return Err(halt);
-            }
-        }
-    }
-    unreachable!()
-}
-
-/// As `play`, and gives the seat back, how the thread ended too: the stage is closed with all seats.
-fn play_to_end<R: Wait, S: CkptStore, L: Naming>(
-    rt: &R,
-    alloc: Global,
-    stage: &Stage<S, L>,
-    player: Player<L>,
-) -> (Seat<L>, Result<(), Halt>) {
-    let mut player = player;
-    let ended = play(rt, alloc, stage, &mut player);
-    (player.seat, ended)
-}
-
 /// A player for each seat.
-fn players_of<L: Naming>(
-    alloc: Global,
-    seats: Vec<Seat<L>>,
-) -> Result<Vec<Player<L>>, AllocError> {
+fn players_of<L: Naming>(alloc: Global, seats: Vec<Seat<L>>) -> Result<Vec<Player<L>>, AllocError> {
     let mut players = Vec::with_capacity(alloc, seats.len())?;
     for seat in seats {
         let place = players.len();
-        players.push(Player {
-            seat,
-            place,
-        })?;
+        players.push(Player { seat, place })?;
     }
     Ok(players)
 }
@@ -454,7 +218,7 @@ where
     let blank = Blank::new(node_count(&world));
     let mut journal = run_on::<R, S, Brand>(rt, alloc, world, blank, &faults)?;
     let mut faults = faults;
-    // What the threads counted as idle stands in no clause, so the journal itself is asked whether it is at its end.
+    // That all nodes slept in the end stands in no clause, so the journal itself is asked whether it is at its end.
     let left = match unfinished(alloc, &mut journal, &mut faults) {
         Ok(left) => left,
         Err(refusal) => {

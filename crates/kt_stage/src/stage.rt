@@ -12,7 +12,7 @@ use crate::desk::Desk;
 use crate::error::ActError;
 use crate::journal::Journal;
 use crate::naming::Naming;
-use crate::order::NAMES;
+use crate::order::{MAX_NODES, NAMES};
 use crate::seat::{Receipt, Seat};
 use kt_core::{Faults, Step, World};
 use kt_store::CkptStore;
@@ -21,19 +21,18 @@ use std::alloc::{AllocError, Global};
 use std::sync::ledger::{Blank, Share};
 use std::sync::{Condvar, Mutex, Wait};
 
-/// The most nodes that a scene can have.
-pub(crate) const MOST: usize = 16;
-
 /// For each node of the scene, in node order, whether it is one of these.
-pub(crate) type Some16 = [bool; MOST];
+pub(crate) type Flags = [bool; MAX_NODES];
 
-/// What the lock keeps: the desk, the fault lines, which each node looks at and spends for itself, who sleeps, and
-/// whether the run has ended. A node that sleeps has no next step.
+/// What the lock keeps: the desk, and what a run by threads has to know.
 #[derive(Drop)]
 pub(crate) struct Floor<S: CkptStore, L: Naming> {
     pub(crate) desk: Desk<S, L>,
+    /// The fault lines that are left. A node's lines are looked at and spent by its own steps alone.
     pub(crate) faults: Faults,
-    pub(crate) asleep: Some16,
+    /// The nodes that sleep: each had no next step when it fell asleep, and no step since may have given it one.
+    pub(crate) asleep: Flags,
+    /// Whether the run has ended: each thread that finds it so makes no further step.
     pub(crate) is_over: bool,
 }
 
@@ -41,6 +40,7 @@ pub(crate) struct Floor<S: CkptStore, L: Naming> {
 #[derive(Drop)]
 pub struct Stage<S: CkptStore, L: Naming> {
     pub(crate) floor: Mutex<Floor<S, L>>,
+    /// What wakes each node, in node order.
     pub(crate) bells: Vec<Condvar>,
     pub(crate) nodes: Vec<NodeId>,
     ghost all: { nodes.items ≡ nodes_of L.opening.state.cast },
@@ -179,7 +179,7 @@ impl<S: CkptStore, L: Naming> Stage<S, L> {
         let floor = Floor {
             desk,
             faults: Faults::new(alloc),
-            asleep: [false; MOST],
+            asleep: [false; MAX_NODES],
             is_over: false,
         };
         let stage = Stage {
@@ -212,7 +212,7 @@ impl<S: CkptStore, L: Naming> Stage<S, L> {
         ensures others { owner step ≢ seat.old.node → result ≡ Err ActError.NotOwner }
         ensures node { seat.new.node ≡ seat.old.node }
     {
-        let mut woken = [false; MOST];
+        let mut woken = [false; MAX_NODES];
         let mut floor = self.floor.lock(rt);
         let acted = floor.act(alloc, seat, step, &self.nodes, &mut woken);
         drop(floor);
@@ -220,8 +220,9 @@ impl<S: CkptStore, L: Naming> Stage<S, L> {
         acted
     }
 
-    /// Wakes these nodes.
-    pub(crate) fn ring(&self, woken: &Some16) {
+    /// Wakes these nodes. It is called with the lock let go: a thread that is woken under it would sleep again at once,
+    /// at the lock.
+    pub(crate) fn ring(&self, woken: &Flags) {
         for (bell, is_woken) in self.bells.iter().zip(woken.iter()) {
             if *is_woken {
                 bell.notify_one();

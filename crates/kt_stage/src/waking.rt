@@ -1,74 +1,86 @@
-//! Whom a step can have given something to do.
+//! Whom a step may have given something to do: only these are woken (docs/DECISIONS.md#threads).
 
-use crate::asking::is_lost_request;
+ghost use Rattle.std.specs.Prelude.{◌≡◌, ◌≢◌, ◌++◌, ◌∷◌, [], Err, IfErr, IfOk, OnErr};
+ghost use Rattle.kt_stage.specs.Acting.{IsOthers};
+ghost use Rattle.kt_world.specs.Step.{owner};
+
+use crate::asking::{is_down, is_lost_request};
 use crate::desk::Desk;
 use crate::error::ActError;
 use crate::naming::Naming;
 use crate::seat::{Receipt, Seat};
-use crate::stage::{Floor, Some16};
+use crate::stage::{Flags, Floor};
 use kt_core::{Step, World};
 use kt_node::Mode;
 use kt_store::CkptStore;
 use kt_tuple::NodeId;
 use std::alloc::Global;
 
-/// Whether the step may give any node a next step: its owner changed its mode, or wrote a verdict.
-fn is_wide<S: CkptStore>(world: &World<S>, step: Step, before: Option<Mode>) -> bool {
+/// Whether the step may give any node a next step: it wrote a verdict, or its owner's mode is another than before it.
+/// What a node may do hangs on the modes of all others, and on verdicts.
+fn concerns_all<S: CkptStore>(world: &World<S>, step: Step, before: Option<Mode>) -> bool {
     matches!(step, Step::Decide { .. } | Step::Abandon { .. }) || world.mode(step.owner()) != before
 }
 
-/// Whether the step that its owner made last, which changed no mode and wrote no verdict, may have given this other
-/// node a next step. It sent the node something; or it took something of the node's that came to nothing: a node that
-/// is down drops what it is asked, and a worker's request may be lost.
-fn is_given_step<S: CkptStore>(world: &World<S>, step: Step, node: NodeId) -> bool {
+/// Whether a step that concerns not all, made last, may have given this other node a next step. Its owner sent the
+/// node something, or took up what the node had sent, and this came to nothing: one that is down drops it, and a
+/// worker's request may be lost, so that it has to be asked once more.
+fn concerns<S: CkptStore>(world: &World<S>, step: Step, node: NodeId) -> bool {
     let owner = step.owner();
     if world.link_len(owner, node) != 0 {
         return true;
     }
     match step {
         Step::Deliver { from, .. } => {
-            from == node && (matches!(world.mode(owner), Some(Mode::Down)) || is_lost_request(world, node))
+            from == node && (is_down(world, owner) || is_lost_request(world, node))
         }
         Step::Take { .. } => is_lost_request(world, node),
         _ => false,
     }
 }
 
+/// Marks the sleepers that the step, made last, may have given a next step: they sleep no more, and are to be woken.
+fn wake<S: CkptStore, L: Naming>(
+    desk: &Desk<S, L>,
+    step: Step,
+    before: Option<Mode>,
+    nodes: &[NodeId],
+    asleep: &mut Flags,
+    woken: &mut Flags,
+) {
+    let world = &desk.journal.world;
+    let is_wide = concerns_all(world, step, before);
+    for (place, node) in nodes.iter().enumerate() {
+        if let (Some(sleeps), Some(wakes)) = (asleep.get_mut(place), woken.get_mut(place)) {
+            if *sleeps && (is_wide || concerns(world, step, *node)) {
+                *sleeps = false;
+                *wakes = true;
+            }
+        }
+    }
+}
+
 impl<S: CkptStore, L: Naming> Floor<S, L> {
-    /// Makes the step of the seat's node, and wakes whom it may have given a next step.
+    /// Makes the step of the seat's node by `Desk::act`, and marks whom it may have given a next step.
     pub(crate) fn act(
         &mut self,
         alloc: Global,
         seat: &mut Seat<L>,
         step: Step,
         nodes: &[NodeId],
-        woken: &mut Some16,
-    ) -> Result<Receipt, ActError> {
+        woken: &mut Flags,
+    ) -> Result<Receipt, ActError>
+        ensures step { IfOk result (λ r. r.step ≡ step) }
+        ensures seat { IfOk result (λ r. seat.new.receipts ≡ seat.old.receipts ++ r ∷ []) }
+        ensures same { OnErr result (seat.new.receipts ≡ seat.old.receipts) }
+        ensures not_owner { IfErr result (IsOthers seat.old.node step) }
+        ensures others { owner step ≢ seat.old.node → result ≡ Err ActError.NotOwner }
+        ensures node { seat.new.node ≡ seat.old.node }
+    {
         let Floor { desk, asleep, .. } = self;
         let before = desk.journal.world.mode(step.owner());
         let receipt = desk.act(alloc, seat, step)?;
         wake(desk, step, before, nodes, asleep, woken);
         Ok(receipt)
-    }
-}
-
-/// The sleepers that the step may have given a next step are woken.
-fn wake<S: CkptStore, L: Naming>(
-    desk: &Desk<S, L>,
-    step: Step,
-    before: Option<Mode>,
-    nodes: &[NodeId],
-    asleep: &mut Some16,
-    woken: &mut Some16,
-) {
-    let world = &desk.journal.world;
-    let is_wide = is_wide(world, step, before);
-    for (place, node) in nodes.iter().enumerate() {
-        if let (Some(sleeps), Some(wakes)) = (asleep.get_mut(place), woken.get_mut(place)) {
-            if *sleeps && (is_wide || is_given_step(world, step, *node)) {
-                *sleeps = false;
-                *wakes = true;
-            }
-        }
     }
 }
