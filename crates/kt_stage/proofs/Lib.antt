@@ -6,5 +6,4 @@ pub mod Opening
 pub mod Ended
 pub mod Planned
 pub mod Allowed
-pub mod Cheap
 pub mod Shared
