@@ -52,6 +52,7 @@ pub(crate) fn is_word(line: &[u8], word: &[u8]) -> bool
     }
 }
 
+/// Whether a digit stands in front.
 #[inline(always)]
 fn begins_with_digit(text: &[u8]) -> bool
     ensures { result ≡ begins_with_digit text.now }
@@ -190,7 +191,8 @@ fn node_before_space(text: &[u8]) -> Option<(NodeId, &[u8])>
     Some((node, rest))
 }
 
-/// The node that is all of the text.
+/// The node that is all of the text. It is a call of its own: most kinds of steps end so, and what reads a node stands
+/// at its caller, so it would be in the program as often.
 #[inline(never)]
 fn node_alone(text: &[u8]) -> Option<NodeId>
     ensures { result ≡ node_alone text.now }

@@ -1,3 +1,3 @@
 -- What the code alone keeps, and no public clause cites.
 pub mod Midway
-pub mod Cheap
+pub mod Unanswered

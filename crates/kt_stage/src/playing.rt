@@ -128,9 +128,9 @@ impl<S: CkptStore, L: Naming> Floor<S, L> {
         Ok(Turn::Made)
     }
 
-    /// The node at this place has no next step, and sleeps. The last that would sleep looks at all nodes: where none has
-    /// a next step the run is over. So a node that was not woken when it should have been delays the run, and neither
-    /// ends nor hangs it.
+    /// The node at this place has no next step, and sleeps. The last that would sleep looks at all nodes: where none
+    /// has a next step the run is over. So a node that was not woken when it should have been delays the run, and
+    /// neither ends nor hangs it.
     fn rest(
         &mut self,
         alloc: Global,

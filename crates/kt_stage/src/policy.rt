@@ -9,7 +9,7 @@ ghost use Rattle.kt_stage.specs.Asking.{IsAsked};
 ghost use Rattle.kt_stage.specs.Policy.{asks, by_rule, checks, comes_back, fails, first_some, first_unfinished};
 ghost use Rattle.kt_stage.specs.Policy.{decides, gives_up, has_sent, hears, if_unfinished, learns, lets_restart};
 ghost use Rattle.kt_stage.specs.Policy.{next_step, repeats, takes, tries_again};
-ghost use Rattle.kt_stage.specs.inner.Cheap.{may_issue};
+ghost use Rattle.kt_stage.specs.inner.Unanswered.{may_issue};
 
 use crate::asking::{
     got_no, if_allowed, is_down, is_lost_request, is_up, lets_restart, waits_in_vain,
@@ -211,7 +211,7 @@ fn takes<S: CkptStore>(
     if_allowed(world, alloc, Step::Take { node })
 }
 
-/// Whether this worker, if there is one, has nothing unanswered.
+/// Whether there is a worker, and it has nothing unanswered.
 fn may_issue(worker: Option<&Worker>) -> bool
     ensures { result ≡ may_issue (option_copied worker.entry) }
 {

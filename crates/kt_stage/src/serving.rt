@@ -1,5 +1,5 @@
-//! Whom a shard serves next. The shard itself is asked, as the world lends it: to ask of each worker whether its step is
-//! allowed would plan each of these steps.
+//! Whom a shard serves next. The shard itself is asked, as the world lends it: to ask of each worker whether its step
+//! is allowed would plan each of these steps.
 
 ghost use Rattle.std.specs.Prelude.{◌≡◌, IsTrue, Some};
 ghost use Rattle.kt_core.specs.Lent.{shard};

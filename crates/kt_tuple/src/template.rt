@@ -80,8 +80,8 @@ impl Model for Template {
 impl Template {
     ghost use Rattle.kt_tuple.specs.Signature.{kinds_of_places, signature_of};
 
-    /// The template of these places, or `None` where there are none or more than 8. `AllocError` where memory is wanting
-    /// for the block that its copies share.
+    /// The template of these places, or `None` where there are none or more than 8. `AllocError` where memory is
+    /// wanting for the block that its copies share.
     pub fn new(alloc: Global, places: Vec<Place>) -> Result<Option<Template>, AllocError>
         ensures within { IfOk result (λ o. IsSome o ↔ HasArity places.items) }
         ensures value { IfOk result (λ o. IfSome o (λ t. t ≡ places.items)) }

@@ -35,8 +35,8 @@ impl Model for Tuple {
 impl Tuple {
     ghost use Rattle.kt_tuple.specs.Signature.{kinds_of, signature_of};
 
-    /// The tuple of these values, or `None` where there are none or more than 8. `AllocError` where memory is wanting for
-    /// the block that its copies share.
+    /// The tuple of these values, or `None` where there are none or more than 8. `AllocError` where memory is wanting
+    /// for the block that its copies share.
     pub fn new(alloc: Global, values: Vec<Value>) -> Result<Option<Tuple>, AllocError>
         ensures within { IfOk result (λ o. IsSome o ↔ HasArity values.items) }
         ensures value { IfOk result (λ o. IfSome o (λ t. t ≡ values.items)) }

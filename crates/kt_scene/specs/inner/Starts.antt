@@ -24,7 +24,8 @@ deliver_or_decide line =
 
 abbrev pub repeat_or_restart : List ℕ → Option Step
 repeat_or_restart line =
-    behind_or (behind line (codes "repeat ")) (step_by Repeat) (option_map Restart (node_behind line (codes "restart ")))
+    behind_or (behind line (codes "repeat ")) (step_by Repeat)
+    (option_map Restart (node_behind line (codes "restart ")))
 
 -- the step of a line that begins with this byte
 abbrev pub step_from : ℕ → List ℕ → Option Step

@@ -54,7 +54,8 @@ abbrev pub number_of : Option Posted → ℕ
 number_of None = 0
 number_of (Some p) = p.instance
 
--- what is stored of a node, where that is a row or nothing: its incarnation, and what its checkpoints say besides states
+-- what is stored of a node, where that is a row or nothing: its incarnation, and what its checkpoints say besides
+-- their states
 abbrev pub incarnation_of : Option NodeRow → ℕ
 incarnation_of None = 1
 incarnation_of (Some r) = r.incarnation

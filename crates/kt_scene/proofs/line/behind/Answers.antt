@@ -9,7 +9,8 @@ returns-then-text-word c = sym (too_short c.args.text.now c.args.word.now c.if-t
 pub returns-in_err-found : goal.returns-in_err-found
 returns-in_err-found c =
     ap (λ x. option_map (λ r. r.now) x) c.from_residual.ensures
-    ∙ sym (no_byte c.loop-expected.rest.now c.args.word.now c.loop-expected.expected-index _ c.in_err-found.ensures.cases c.loop-expected-test.true c.loop-expected.invariant)
+    ∙ sym (no_byte c.loop-expected.rest.now c.args.word.now c.loop-expected.expected-index _ c.in_err-found.ensures.cases
+    c.loop-expected-test.true c.loop-expected.invariant)
 
 pub returns-then-found-expected : goal.returns-then-found-expected
 returns-then-found-expected c =
