@@ -1,19 +1,22 @@
 //! Changing a node, once nothing can be refused any more.
 
-ghost use Rattle.std.specs.Prelude.{◌≡◌, ◌<◌, ◌+◌, ◌^◌, None, Some, length, map, OnOk, IfSome, IsTrue, unwrap_or};
+ghost use Rattle.std.specs.Prelude.{◌≡◌, ◌<◌, ◌+◌, ◌^◌, None, Some, length, map, IfOk, OnOk, IfSome, IsTrue, unwrap_or};
 ghost use Rattle.std.specs.Option.{option_map};
+ghost use Rattle.kt_core.specs.Lent.{shard_up};
 ghost use Rattle.kt_core.specs.inner.Rows.{HasRoom, row_view};
 ghost use Rattle.kt_node.specs.declared.change.Change.TheVariants.{Turn as Goes};
 ghost use Rattle.kt_node.specs.ShortPlan.{turn_of};
 ghost use Rattle.kt_node.specs.Node.{Down};
 ghost use Rattle.kt_node.specs.Plan.{no_turn};
 ghost use Rattle.kt_node.specs.Ready.{CanChange};
+ghost use Rattle.kt_node.specs.Steps.{up_of};
 ghost use Rattle.kt_node.specs.Turning.{changed};
 ghost use Rattle.kt_shard.specs.Table.{at, put};
 
-use kt_node::{Change, Node, ShortTurn};
+use kt_node::{Change, Mode, Node, ShortTurn};
+use kt_shard::Shard;
 use kt_tuple::NodeId;
-use std::alloc::AllocError;
+use std::alloc::{AllocError, Global};
 
 /// Makes room for one more tuple and one more kept message in the node of this row.
 pub(crate) fn make_room_in_row(nodes: &mut Vec<Option<Node>>, row: usize) -> Result<(), AllocError>
@@ -32,6 +35,31 @@ fn make_room(row: &mut Option<Node>) -> Result<(), AllocError>
         node.reserve()?;
     }
     Ok(())
+}
+
+/// A shard equal to the one that the node of this row is, which shares all with it; `None` where it is none or not up.
+pub(crate) fn share_in_row(
+    nodes: &mut Vec<Option<Node>>,
+    alloc: Global,
+    row: usize,
+) -> Result<Option<Shard>, AllocError>
+    requires { row < length nodes.old.items }
+    ensures value { IfOk result (λ found. option_map (λ y. y.state) found
+        ≡ shard_up (up_of (unwrap_or (at None (map row_view nodes.old.items) row) Down))) }
+    ensures same { map row_view nodes.new.items ≡ map row_view nodes.old.items }
+{
+    share(&mut nodes[row], alloc)
+}
+
+fn share(row: &mut Option<Node>, alloc: Global) -> Result<Option<Shard>, AllocError>
+    ensures value { IfOk result (λ found.
+        option_map (λ y. y.state) found ≡ shard_up (up_of (unwrap_or (row_view row.old) Down))) }
+    ensures same { row_view row.new ≡ row_view row.old }
+{
+    match row {
+        Some(node) if matches!(node.mode(), Mode::Up) => node.share_shard(alloc),
+        _ => Ok(None),
+    }
 }
 
 /// Changes the node of this row, which takes no memory.

@@ -1,18 +1,20 @@
 //! What a machine lends of its nodes and of what is on its way.
 
-ghost use Rattle.std.specs.Prelude.{◌≡◌, length, slice_get, unwrap_or};
+ghost use Rattle.std.specs.Prelude.{◌≡◌, length, slice_get, unwrap_or, IfOk};
 ghost use Rattle.std.specs.Option.{option_copied, option_map};
-ghost use Rattle.kt_store.specs.Content.{empty_content};
+ghost use Rattle.kt_store.specs.Content.{Content, empty_content};
 ghost use Rattle.kt_core.specs.Lent.{kept, message_at, shard, worker};
 ghost use Rattle.kt_core.specs.inner.Machine.{state_of};
 ghost use Rattle.kt_node.specs.Node.{Down};
 ghost use Rattle.kt_world.specs.State.{link, view};
 
+use crate::change::share_in_row;
 use crate::machine::Machine;
 use kt_node::{Message, Mode, Node, Post};
 use kt_shard::Shard;
 use kt_tuple::NodeId;
 use kt_worker::Worker;
+use std::alloc::{AllocError, Global};
 
 impl Machine {
     /// The node, down ones too; `None` where the scene has no such node.
@@ -76,6 +78,24 @@ impl Machine {
         match node.mode() {
             Mode::Up => node.shard(),
             Mode::Held | Mode::Rolling | Mode::Down => None,
+        }
+    }
+
+    /// A shard equal to the one that the node is, while it is up, which shares all with it.
+    pub(crate) fn share_shard_at(
+        &mut self,
+        alloc: Global,
+        id: NodeId,
+    ) -> Result<Option<Shard>, AllocError>
+        ensures value { IfOk result (λ found.
+            option_map (λ y. y.state) found ≡ shard (state_of self.old empty_content) id) }
+        ensures same { (c : Content) → state_of self.new c ≡ state_of self.old c }
+    {
+        let row = id.index();
+        if row < self.nodes.len() {
+            share_in_row(&mut self.nodes, alloc, row)
+        } else {
+            Ok(None)
         }
     }
 }

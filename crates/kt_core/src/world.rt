@@ -24,7 +24,7 @@ use kt_tuple::{NodeId, Tuple};
 use kt_vote::Ballot;
 use kt_worker::Worker;
 use kt_world::{Step, StepError};
-use std::alloc::Global;
+use std::alloc::{AllocError, Global};
 use std::marker::Model;
 use thiserror::Error;
 
@@ -296,6 +296,16 @@ impl<S: CkptStore> World<S> {
         ensures { option_map (λ y. y.now.state) result ≡ shard self.now.state id }
     {
         self.machine.shard_at(id)
+    }
+
+    /// A shard equal to the one that the node is, while it is up; else `None`. The two share all until the node's next
+    /// step, so nothing is copied where the one given is dropped before; else that step copies it. Where memory is
+    /// wanting nothing changes.
+    pub fn share_shard(&mut self, alloc: Global, id: NodeId) -> Result<Option<Shard>, AllocError>
+        ensures value { IfOk result (λ found. option_map (λ y. y.state) found ≡ shard self.old.state id) }
+        ensures same { self.new ≡ self.old }
+    {
+        self.machine.share_shard_at(alloc, id)
     }
 
     /// Whether no node is down or rolls back. It takes no memory.

@@ -1,6 +1,8 @@
 -- What is said at once, with no plan made of it: the plan that it comes to.
-use Rattle.std.specs.Prelude.{[], ◌∷◌, None, Some}
+use Rattle.std.specs.Prelude.{ℕ, [], ◌∷◌, None, Some}
 use Rattle.kt_tuple.specs.declared.node.NodeId.{NodeId}
+use Rattle.kt_tuple.specs.declared.op.Op.{Op}
+use Rattle.kt_link.specs.declared.label.Label.{Label}
 use Rattle.kt_history.specs.declared.note.What.TheVariants as whats
 use Rattle.kt_history.specs.declared.note.Note.{Note}
 use Rattle.kt_history.specs.declared.note.Note.TheVariants as notes
@@ -23,45 +25,35 @@ saying to message note = record {
   write = None;
 }
 
-abbrev pub again_message : Again → Message
-again_message r = messages.Post record {
-  talk = talks.Request record { number = r.number; op = r.op.now };
-  label = r.label;
-  by = r.by;
+-- a request that is asked once more, with its number and its operation, and what is noted of that
+abbrev pub repeat_message : ℕ → Op → Label → ℕ → Message
+repeat_message number op label by = messages.Post record {
+  talk = talks.Request record { number = number; op = op };
+  label = label;
+  by = by;
 }
 
-abbrev pub again_note : NodeId → Again → Note
-again_note p r = notes.Act record {
+abbrev pub repeat_note : NodeId → ℕ → Op → Note
+repeat_note p number op = notes.Act record {
   node = p;
   by = 0;
   worker = node_number p;
-  number = r.number;
-  op = r.op.now;
+  number = number;
+  op = op;
   what = whats.Repeat;
 }
 
 -- the worker p asks once more
 abbrev pub again_plan : NodeId → Again → Plan
-again_plan p r = saying r.to (again_message r) (again_note p r)
+again_plan p r = saying r.to (repeat_message r.number r.op.now r.label r.by) (repeat_note p r.number r.op.now)
 
 -- ---- the same, of what has operations of its own
 
 abbrev pub said_message : Said → Message
-said_message s = messages.Post record {
-  talk = talks.Request record { number = s.number; op = s.asked };
-  label = s.label;
-  by = s.by;
-}
+said_message s = repeat_message s.number s.asked s.label s.by
 
 abbrev pub said_note : NodeId → Said → Note
-said_note p s = notes.Act record {
-  node = p;
-  by = 0;
-  worker = node_number p;
-  number = s.number;
-  op = s.noted;
-  what = whats.Repeat;
-}
+said_note p s = repeat_note p s.number s.noted
 
 abbrev pub said_plan : NodeId → Said → Plan
 said_plan p s = saying s.to (said_message s) (said_note p s)

@@ -1,6 +1,6 @@
 //! A node of the scene.
 
-ghost use Rattle.std.specs.Prelude.{◌≡◌, length, slice_get};
+ghost use Rattle.std.specs.Prelude.{◌≡◌, length, slice_get, IfOk};
 ghost use Rattle.std.specs.Option.{option_copied, option_map};
 
 use crate::live::{Body, Live, Phase};
@@ -9,6 +9,7 @@ use kt_shard::Shard;
 use kt_tuple::NodeId;
 use kt_vote::Ballot;
 use kt_worker::Worker;
+use std::alloc::{AllocError, Global};
 use std::marker::Model;
 
 /// What state a node is in.
@@ -80,6 +81,18 @@ impl Node {
         }
     }
 
+    /// A shard equal to the one that it is, which shares all with it; `None` for a worker, and while it is down. Nothing
+    /// is copied before the node makes room again (`reserve`). Where memory is wanting the node stays as it is.
+    pub fn share_shard(&mut self, alloc: Global) -> Result<Option<Shard>, AllocError>
+        ensures value { IfOk result (λ found. option_map (λ y. y.state) found ≡ shard_of self.old.node) }
+        ensures same { self.new.node ≡ self.old.node }
+    {
+        match &mut self.live {
+            None => Ok(None),
+            Some(live) => live.body.share_shard(alloc),
+        }
+    }
+
     /// Its ballot while it is held or rolls back, as the initiator or as a participant; else `None`.
     pub fn ballot(&self) -> Option<&Ballot>
         ensures { option_copied result ≡ poll_of self.now.node }
@@ -105,6 +118,21 @@ impl Node {
         match &self.live {
             None => 0,
             Some(live) => live.kept.len(),
+        }
+    }
+}
+
+impl Body {
+    ghost use Rattle.kt_node.specs.Node.{shard_in};
+    ghost use Rattle.kt_node.specs.inner.Codes.{body_view};
+
+    fn share_shard(&mut self, alloc: Global) -> Result<Option<Shard>, AllocError>
+        ensures value { IfOk result (λ found. option_map (λ y. y.state) found ≡ shard_in (body_view self.old)) }
+        ensures same { body_view self.new ≡ body_view self.old }
+    {
+        match self {
+            Body::Worker(_) => Ok(None),
+            Body::Shard(shard) => Ok(Some(shard.share(alloc)?)),
         }
     }
 }

@@ -116,7 +116,8 @@ impl Body {
     }
 
     fn wait(&mut self, worker: u8, request: Request)
-        requires { CanChangeBody (body_view self.old) (bodies.Wait worker request) }
+        requires can { CanChangeBody (body_view self.old) (bodies.Wait worker request) }
+        requires room { IsTrue (body_has_room self.old) }
         ensures { body_view self.new ≡ changed_body (body_view self.old) (bodies.Wait worker request) }
     {
         match self {

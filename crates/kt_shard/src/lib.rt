@@ -6,13 +6,14 @@
 //! - Stands on: kt_tuple, kt_space; of the kit: thiserror
 //! - Used by: kt_ckpt, kt_lines, kt_node, kt_world, kt_refinement, kt_core, kt_stage, kt_run
 //! - Begin in: `desk.rt`, a worker's slot (`Desk`) at the shard, then `arrival.rt` for what hearing does and
-//!   `service.rt` for what serving does. `shard.rt` puts them together.
+//!   `service.rt` for what serving does. `parts.rt` puts them together, and `shard.rt` shares them.
 #![tactic(auto)]
 
 mod arrival;
 mod desk;
 mod error;
 mod laws;
+mod parts;
 mod request;
 mod service;
 mod shard;
@@ -24,6 +25,7 @@ pub use laws::{
     a_served_request_is_answered_again, a_shard_is_its_parts, a_table_reads_what_was_put,
     other_desks_stay, services_are_steps_of_the_space,
 };
+pub use parts::MAX_WORKERS;
 pub use request::{Kept, Request};
 pub use service::{Choice, Prepared, Reply};
-pub use shard::{MAX_WORKERS, Shard};
+pub use shard::Shard;

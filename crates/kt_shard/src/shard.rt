@@ -1,51 +1,55 @@
-//! Shards: their tuples, and a desk for each worker.
+//! Shards: what each has, alone or with others that look at it.
 
-ghost use Rattle.std.specs.Prelude.{◌≡◌, ◌<◌, ◌↔◌, length, replicate, IsTrue, IsOk, IfOk, IfErr, OnOk, OnErr};
+ghost use Rattle.std.specs.Prelude.{◌≡◌, ◌<◌, ◌↔◌, false, length, IsTrue, IsOk, IfOk, IfErr, OnOk, OnErr, OnSome};
 ghost use Rattle.std.specs.Option.{option_copied, option_map};
 ghost use Rattle.kt_shard.specs.Limits.{desks};
-ghost use Rattle.kt_shard.specs.Desk.{empty_desk};
-ghost use Rattle.kt_shard.specs.Shard.{empty_shard, desk_of, with_desk};
+ghost use Rattle.kt_shard.specs.Shard.{empty_shard, desk_of};
 ghost use Rattle.kt_shard.specs.Arrival.{arrival, arrival_view, heard_view, waiting_shard, heard};
-ghost use Rattle.kt_shard.specs.Service.{service, served, got_or_none, answer_at, left_by, Refuses, IsServed};
+ghost use Rattle.kt_shard.specs.Service.{service, served, got_or_none, answer_at, Refuses, IsServed};
 ghost use Rattle.kt_shard.specs.Views.{Chooses, reply_view};
-ghost use Rattle.kt_shard.specs.inner.Puts.{put_of};
+ghost use Rattle.kt_shard.specs.inner.Sharing.{desks_in, standing_of, state_in};
+ghost use Rattle.kt_shard.specs.declared.shard.Held.TheVariants.{Own};
 
 use crate::arrival::{Arrival, Heard, arrival_of};
 use crate::desk::Desk;
 use crate::error::ServeError;
+use crate::parts::Parts;
 use crate::request::{Kept, Request};
 use crate::service::{Choice, Prepared, Reply};
 use kt_space::Bag;
 use kt_tuple::{Op, Tuple};
 use std::alloc::{AllocError, Global};
 use std::marker::Model;
+use std::mem;
+use std::sync::Arc;
 
-/// The most workers that a shard knows. They are numbered from 1.
-pub const MAX_WORKERS: u8 = 8;
+/// Whose parts a shard has.
+#[derive(Debug, Drop)]
+pub(crate) enum Held {
+    /// Its own alone, which it may change.
+    Own(Parts),
+    /// Parts that other shards may have too. None of them changes them.
+    Shared(Arc<Parts, Global>),
+}
 
-/// The numbers from 0 to that of the last worker: a worker's number is the place of its desk. Workers count from 1.
-const DESKS: u8 = MAX_WORKERS + 1;
-
-/// A shard: its tuples in order of arrival, and what it remembers of each worker.
+/// A shard: its tuples in order of arrival, and what it remembers of each worker. It can share them (`share`) with a
+/// shard that only looks. Then it takes parts of its own before it changes (`reserve`).
 #[derive(Debug, Drop)]
 pub struct Shard {
-    bag: Bag,
-    desks: Vec<Desk>,
+    held: Held,
 }
 
 impl Model for Shard {
     ghost use Rattle.std.specs.Prelude.{◌≡◌, length};
     ghost use Rattle.kt_shard.specs.Limits.{desks as desk_count};
     ghost use Rattle.kt_shard.specs.Standing.{Standing};
+    ghost use Rattle.kt_shard.specs.inner.Sharing.{desks_in, standing_of};
 
     ghost Value = { Standing };
 
-    ghost view = { λ s. record {
-      state = record { bag = s.bag.tuples; desks = s.desks.items };
-      has_room = s.bag.has_room;
-    } };
+    ghost view = { λ s. standing_of s.held };
 
-    ghost invariant = { λ s. length s.desks.items ≡ desk_count };
+    ghost invariant = { λ s. length (desks_in s.held) ≡ desk_count };
 }
 
 impl Shard {
@@ -53,20 +57,16 @@ impl Shard {
     pub fn new(alloc: Global) -> Result<Shard, AllocError>
         ensures { IfOk result (λ s. s.state ≡ empty_shard) }
     {
-        Ok(Shard {
-            bag: Bag::new(alloc),
-            desks: empty_desks(alloc)?,
-        })
+        let held = Held::Own(Parts::new(alloc)?);
+        Ok(Shard { held })
     }
 
     /// An equal shard with memory of its own.
     pub fn copy(&self, alloc: Global) -> Result<Shard, AllocError>
         ensures { IfOk result (λ s. s.state ≡ self.now.state) }
     {
-        Ok(Shard {
-            bag: self.bag.copy(alloc)?,
-            desks: copy_desks(alloc, &self.desks)?,
-        })
+        let held = Held::Own(self.parts().copy(alloc)?);
+        Ok(Shard { held })
     }
 
     /// A shard of these tuples, with a desk for each number that a worker can have, by the number from 0.
@@ -75,9 +75,33 @@ impl Shard {
         ensures state { result.state ≡ record { bag = bag.tuples; desks = by_worker.items } }
         ensures room { result.has_room ≡ bag.has_room }
     {
+        let desks = by_worker;
         Shard {
-            bag,
-            desks: by_worker,
+            held: Held::Own(Parts { bag, desks }),
+        }
+    }
+
+    /// An equal shard that shares all with this one. The first time it takes one block, and nothing is copied. As long
+    /// as the two share, neither has room: the one that makes room first (`reserve`) copies all, unless the other is gone
+    /// by then. Refused or not, this shard stays what it is.
+    pub fn share(&mut self, alloc: Global) -> Result<Shard, AllocError>
+        ensures equal { IfOk result (λ s. s.state ≡ self.old.state) }
+        ensures same { self.new.state ≡ self.old.state }
+    {
+        let held = mem::replace(&mut self.held, Held::Own(Parts::none(alloc)));
+        let (held, again) = shared(alloc, held);
+        self.held = held;
+        again
+    }
+
+    /// What it has, whether others have it too or not.
+    fn parts(&self) -> &Parts
+        ensures state { state_in result.now ≡ self.now.state }
+        ensures long { length result.now.desks.items ≡ desks }
+    {
+        match &self.held {
+            Held::Own(parts) => parts,
+            Held::Shared(shared) => shared,
         }
     }
 
@@ -85,7 +109,7 @@ impl Shard {
     pub fn bag(&self) -> &Bag
         ensures { result.now.tuples ≡ self.now.state.bag }
     {
-        &self.bag
+        &self.parts().bag
     }
 
     /// What is remembered of each worker, by the worker's number from 0.
@@ -93,21 +117,22 @@ impl Shard {
         ensures desks { result.now ≡ self.now.state.desks }
         ensures one_for_each { length result.now ≡ desks }
     {
-        &self.desks
+        &self.parts().desks
     }
 
     /// The request that the worker of this number waits with; `None` where it waits with none.
     pub fn waiting(&self, worker: u8) -> Option<&Request>
-        ensures { option_copied result ≡ (desk_of self.now.state worker).waiting }
+        ensures request { option_copied result ≡ (desk_of self.now.state worker).waiting }
+        ensures desk { OnSome result (worker < desks) }
     {
-        self.desks.get(usize::from(worker))?.waiting.as_ref()
+        self.desks().get(usize::from(worker))?.waiting.as_ref()
     }
 
     /// The request of the worker of this number that was served last, and its answer; `None` before the first.
     pub fn kept(&self, worker: u8) -> Option<&Kept>
         ensures { option_copied result ≡ (desk_of self.now.state worker).kept }
     {
-        self.desks.get(usize::from(worker))?.kept.as_ref()
+        self.desks().get(usize::from(worker))?.kept.as_ref()
     }
 
     /// What becomes of this request of the worker of this number if it is heard. A new number waits, the request that
@@ -118,13 +143,16 @@ impl Shard {
         arrival_of(self.waiting(worker), self.kept(worker), request)
     }
 
-    /// The worker of this number waits with the request from now on.
+    /// The worker of this number waits with the request from now on. There is room, and so the parts are its own.
     pub fn wait(&mut self, worker: u8, request: Request)
-        requires { worker < desks }
+        requires desk { worker < desks }
+        requires room { IsTrue self.old.has_room }
         ensures state { self.new.state ≡ waiting_shard self.old.state worker request }
         ensures room { self.new.has_room ≡ self.old.has_room }
     {
-        self.desks[usize::from(worker)].wait(request);
+        if let Held::Own(parts) = &mut self.held {
+            parts.wait(worker, request);
+        }
     }
 
     /// Hears the request of the worker of this number, at most 8, and says what became of it. Where memory is wanting
@@ -133,11 +161,12 @@ impl Shard {
         requires { worker < desks }
         ensures state { OnOk result (self.new.state ≡ heard self.old.state worker request) }
         ensures comes_of_it { IfOk result (λ h. heard_view h ≡ arrival self.old.state worker request) }
-        ensures room { self.new.has_room ≡ self.old.has_room }
+        ensures room { IsTrue self.old.has_room → IsTrue self.new.has_room }
         ensures unchanged { OnErr result (self.new ≡ self.old) }
     {
         let heard = self.arrival(worker, &request).to_heard(alloc)?;
         if let Heard::Waits = heard {
+            self.reserve()?;
             self.wait(worker, request);
         }
         Ok(heard)
@@ -147,12 +176,13 @@ impl Shard {
     /// counted from 0 in order of arrival; the place is 0 where there is nothing to choose from. `NotWaiting`
     /// where the worker does not wait, `NoSuchMatch` where there is no such match.
     pub fn choose(&self, worker: u8, place: u64) -> Result<Choice<'_>, ServeError>
-        ensures { Chooses result (service self.now.state worker place) }
+        ensures service { Chooses result (service self.now.state worker place) }
+        ensures desk { OnOk result (worker < desks) }
     {
         let Some(request) = self.waiting(worker) else {
             return Err(ServeError::NotWaiting);
         };
-        match reply_at(&self.bag, &request.op, place) {
+        match reply_at(self.bag(), &request.op, place) {
             Some(reply) => Ok(Choice {
                 request,
                 place,
@@ -169,31 +199,34 @@ impl Shard {
         self.choose(worker, place).is_ok()
     }
 
-    /// Makes room for one more tuple; one service puts at most one.
+    /// Makes room for one more tuple; one service puts at most one. What it shares it copies first, unless no other
+    /// shard has it any more.
     pub fn reserve(&mut self) -> Result<(), AllocError>
         ensures state { self.new.state ≡ self.old.state }
         ensures room { OnOk result (IsTrue self.new.has_room) }
         ensures unchanged { OnErr result (self.new ≡ self.old) }
         ensures succeeds { IsTrue self.old.has_room → IsOk result }
     {
-        self.bag.reserve()
+        if let Held::Own(parts) = &mut self.held {
+            return parts.bag.reserve();
+        }
+        let alloc = self.parts().allocator();
+        let held = mem::replace(&mut self.held, Held::Own(Parts::none(alloc)));
+        let (held, made) = with_room(held);
+        self.held = held;
+        made
     }
 
     /// Carries out the service of the worker of this number. There is room for one more tuple, whatever is served, and
-    /// so no refusal is left.
+    /// so the parts are its own, and no refusal is left.
     pub fn carry_out(&mut self, worker: u8, prepared: Prepared)
         requires desk { worker < desks }
         requires room { IsTrue self.old.has_room }
         ensures { self.new.state ≡ served self.old.state worker prepared }
     {
-        let Prepared {
-            request,
-            place,
-            answer,
-            put,
-        } = prepared;
-        change_bag(&mut self.bag, &request.op, place, put);
-        self.desks[usize::from(worker)].keep(Kept { request, answer });
+        if let Held::Own(parts) = &mut self.held {
+            parts.carry_out(worker, prepared);
+        }
     }
 
     /// Serves the waiting request of the worker of this number with the match of this place, counted from 0
@@ -208,7 +241,7 @@ impl Shard {
         ensures same { OnErr result (self.new.state ≡ self.old.state) }
     {
         let prepared = self.choose(worker, place)?.prepare(alloc)?;
-        self.bag.reserve()?;
+        self.reserve()?;
         self.carry_out(worker, prepared);
         Ok(())
     }
@@ -237,40 +270,58 @@ fn got_or_none(found: Option<&Tuple>, place: u64) -> Option<Reply<'_>>
     }
 }
 
-/// Does to the bag what the operation does: `out` puts, `in` and `inp` take, `rd` and `rdp` leave it.
-fn change_bag(bag: &mut Bag, op: &Op, place: u64, put: Option<Tuple>)
-    requires put { put ≡ put_of op.now }
-    requires room { IsTrue bag.old.has_room }
-    ensures { bag.new.tuples ≡ left_by bag.old.tuples op.now place }
+/// The same parts as ones that others may have too, and a shard that has them.
+fn shared(alloc: Global, held: Held) -> (Held, Result<Shard, AllocError>)
+    requires long { length (desks_in held) ≡ desks }
+    ensures state { (standing_of result.0).state ≡ (standing_of held).state }
+    ensures equal { IfOk result.1 (λ s. s.state ≡ (standing_of held).state) }
+    ensures long { length (desks_in result.0) ≡ desks }
 {
-    match (op, put) {
-        (Op::Out(_), Some(tuple)) => bag.put_reserved(tuple),
-        (Op::In(template), _) => drop(bag.take_nth(template, place as usize)),
-        (Op::Inp(template), _) => drop(bag.take_nth(template, place as usize)),
-        _ => {}
+    let parts = match held {
+        Held::Shared(parts) => parts,
+        Held::Own(own) => match Arc::new(alloc, own) {
+            Ok(parts) => parts,
+            Err(refused) => return (Held::Own(refused.value), Err(AllocError)),
+        },
+    };
+    match Arc::try_clone(&parts) {
+        Ok(again) => {
+            let held = Held::Shared(again);
+            (Held::Shared(parts), Ok(Shard { held }))
+        }
+        Err(refusal) => (Held::Shared(parts), Err(refusal)),
     }
 }
 
-/// A desk for each number that a worker can have, and for 0.
-fn empty_desks(alloc: Global) -> Result<Vec<Desk>, AllocError>
-    ensures { IfOk result (λ made. made.items ≡ replicate desks empty_desk) }
+/// The same parts as ones that no other shard has, with room for one more tuple. They are copied where another shard
+/// has them too.
+fn with_room(held: Held) -> (Held, Result<(), AllocError>)
+    requires long { length (desks_in held) ≡ desks }
+    ensures state { (standing_of result.0).state ≡ (standing_of held).state }
+    ensures room { OnOk result.1 (IsTrue (standing_of result.0).has_room) }
+    ensures unchanged { OnErr result.1 (standing_of result.0 ≡ standing_of held) }
+    ensures long { length (desks_in result.0) ≡ desks }
 {
-    let mut desks = Vec::with_capacity(alloc, usize::from(DESKS))?;
-    for number in 0..DESKS {
-        desks.push(Desk {
-            waiting: None,
-            kept: None,
-        })?;
+    match held {
+        Held::Own(own) => own_with_room(own),
+        Held::Shared(parts) => match Arc::try_unwrap(parts) {
+            Ok(own) => own_with_room(own),
+            Err(parts) => match parts.copy(parts.allocator()) {
+                Ok(own) => own_with_room(own),
+                Err(refusal) => (Held::Shared(parts), Err(refusal)),
+            },
+        },
     }
-    Ok(desks)
 }
 
-fn copy_desks(alloc: Global, desks: &[Desk]) -> Result<Vec<Desk>, AllocError>
-    ensures { IfOk result (λ copies. copies.items ≡ desks.now) }
+fn own_with_room(own: Parts) -> (Held, Result<(), AllocError>)
+    ensures state { (standing_of result.0).state ≡ state_in own }
+    ensures room { OnOk result.1 (IsTrue (standing_of result.0).has_room) }
+    ensures unchanged { OnErr result.1 (standing_of result.0 ≡ standing_of (Own own)) }
+    ensures none { OnErr result.1 (own.bag.has_room ≡ false) }
+    ensures desks { desks_in result.0 ≡ own.desks.items }
 {
-    let mut copies = Vec::with_capacity(alloc, desks.len())?;
-    for desk in desks {
-        copies.push(desk.copy(alloc)?)?;
-    }
-    Ok(copies)
+    let mut own = own;
+    let made = own.bag.reserve();
+    (Held::Own(own), made)
 }

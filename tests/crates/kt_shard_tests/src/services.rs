@@ -14,6 +14,7 @@ fn out(alloc: Global, text: &str) -> Result<Request, Fail> {
 fn asked(alloc: Global, text: &str) -> Result<Shard, Fail> {
     let request = out(alloc, text)?;
     let mut shard = Shard::new(alloc)?;
+    shard.reserve()?;
     shard.wait(1, request);
     Ok(shard)
 }
@@ -61,5 +62,32 @@ fn a_service_in_two_halves_leaves_the_copy_alone(rt: HostRuntime) -> Result<(), 
     assert!(rt; served_in_halves(alloc, &mut shard)?);
     assert!(rt; shard.bag().len() == 1 && shard.waiting(1).is_none() && shard.kept(1).is_some());
     assert!(rt; copy.bag().is_empty() && copy.waiting(1).is_some() && copy.kept(1).is_none());
+    Ok(())
+}
+
+/// Each of two shards that share goes its own way once it makes room, and the other stays.
+#[test]
+fn what_is_shared_stays(rt: HostRuntime) -> Result<(), Fail> {
+    let alloc = rt.alloc();
+    let mut shard = asked(alloc, "(7)")?;
+    let mut seen = shard.share(alloc)?;
+    let again = shard.share(alloc)?;
+    assert!(rt; seen.can_serve(1, 0) && again.can_serve(1, 0));
+    assert!(rt; shard.serve(alloc, 1, 0) == Ok(()));
+    assert!(rt; shard.bag().len() == 1 && shard.waiting(1).is_none());
+    assert!(rt; seen.bag().is_empty() && seen.waiting(1).is_some());
+    assert!(rt; seen.serve(alloc, 1, 0) == Ok(()));
+    assert!(rt; seen.bag().len() == 1 && again.bag().is_empty() && again.can_serve(1, 0));
+    Ok(())
+}
+
+/// Where the other is gone, what was shared is one's own again.
+#[test]
+fn what_was_shared_is_changed(rt: HostRuntime) -> Result<(), Fail> {
+    let alloc = rt.alloc();
+    let mut shard = asked(alloc, "(7)")?;
+    drop(shard.share(alloc)?);
+    assert!(rt; served_in_halves(alloc, &mut shard)?);
+    assert_eq!(rt; heard(alloc, &mut shard, "(7)")?, "again");
     Ok(())
 }
