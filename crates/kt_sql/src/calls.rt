@@ -1,13 +1,12 @@
-//! The calls of a store. A write reads a row whole, changes it and writes it whole; a question about an incarnation or
-//! about marks decodes no state (docs/DECISIONS.md#stores).
+//! The calls of a store. A write reads the cells of a row, changes them and writes the row whole; it decodes no
+//! checkpoint, and a question about an incarnation or about marks decodes no state (docs/DECISIONS.md#stores).
 
 ghost use Rattle.kt_tables.specs.Held.{is_sure, content_of};
 
-use crate::changes::discarded;
 use crate::store::SqlStore;
 use kt_ckpt::{Ckpt, Marks};
 use kt_store::{CkptStore, Posted, Purpose, StoreError, Tentative, TentativeMarks, Verdict};
-use kt_tables::{GREATEST, bumped, permanent_in, promoted, tentative_in, with_tentative};
+use kt_tables::{GREATEST, bumped, discarded, permanent_in, promoted, tentative_in};
 use kt_tuple::NodeId;
 use sqlite::Alter;
 use std::alloc::Global;
@@ -76,14 +75,14 @@ impl<S: Alter> CkptStore for SqlStore<S> {
         if last == GREATEST {
             return Err(StoreError::Full);
         }
-        let row = with_tentative(self.allocator(), self.row_of(node)?, last + 1, ckpt)?;
+        let cells = self.cells_with(node, last + 1, ckpt)?;
         let check = Posted {
             instance: last + 1,
             initiator: node,
             purpose: Purpose::Check,
             verdict: Verdict::Open,
         };
-        self.put_both(row, check)
+        self.put_both(cells, check)
     }
 
     fn put_tentative(
@@ -92,18 +91,18 @@ impl<S: Alter> CkptStore for SqlStore<S> {
         instance: u64,
         ckpt: &Ckpt,
     ) -> Result<(), StoreError> {
-        let row = with_tentative(self.allocator(), self.row_of(node)?, instance, ckpt)?;
-        self.put_node(row)
+        let cells = self.cells_with(node, instance, ckpt)?;
+        self.put_node(cells)
     }
 
     fn promote(&mut self, node: NodeId) -> Result<(), StoreError> {
-        let row = promoted(self.row_of(node)?);
-        self.put_node(row)
+        let cells = promoted(self.cells_of(node)?);
+        self.put_node(cells)
     }
 
     fn discard(&mut self, node: NodeId) -> Result<(), StoreError> {
-        let row = discarded(self.row_of(node)?);
-        self.put_node(row)
+        let cells = discarded(self.cells_of(node)?);
+        self.put_node(cells)
     }
 
     fn begin_restart(&mut self, node: NodeId) -> Result<(), StoreError> {
@@ -111,7 +110,7 @@ impl<S: Alter> CkptStore for SqlStore<S> {
         if last == GREATEST {
             return Err(StoreError::Full);
         }
-        let Some(row) = bumped(self.row_of(node)?) else {
+        let Some(cells) = bumped(self.cells_of(node)?) else {
             return Err(StoreError::Full);
         };
         let rollback = Posted {
@@ -120,12 +119,12 @@ impl<S: Alter> CkptStore for SqlStore<S> {
             purpose: Purpose::Rollback,
             verdict: Verdict::Open,
         };
-        self.put_both(row, rollback)
+        self.put_both(cells, rollback)
     }
 
     fn bump(&mut self, node: NodeId) -> Result<(), StoreError> {
-        match bumped(self.row_of(node)?) {
-            Some(row) => self.put_node(row),
+        match bumped(self.cells_of(node)?) {
+            Some(cells) => self.put_node(cells),
             None => Err(StoreError::Full),
         }
     }

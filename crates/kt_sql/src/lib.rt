@@ -3,14 +3,14 @@
 //!
 //! - Contract: `SqlStore` keeps each promise of `CkptStore` while its tables keep theirs, and counts the faults of the
 //!   device (clause `cause` of each call).
-//! - Stands on: kt_tuple, kt_ckpt, kt_store, kt_tables; of the kit: sqlite, sqlite_trees, thiserror
+//! - Stands on: kt_tuple, kt_ckpt, kt_store, kt_tables; of the kit: sqlite, sqlite_std_file, sqlite_trees,
+//!   thiserror
 //! - Used by: linda_kt
 //! - Begin in: `open.rt` for how a store is opened, then `calls.rt` for what each call makes of a row. `store.rt`
 //!   counts the faults.
 #![tactic(auto)]
 
 mod calls;
-mod changes;
 mod error;
 mod open;
 mod store;

@@ -1,6 +1,6 @@
 //! How a store is opened.
 
-ghost use Rattle.std.specs.Prelude.{◌≡◌, ◌≢◌, ◌↔◌, false, codes, Err, IfOk, IfErr, OnOk, IsTrue};
+ghost use Rattle.std.specs.Prelude.{◌≡◌, ◌≢◌, ◌↔◌, ◌⊎◌, false, codes, Err, IfOk, IfErr, OnOk, IsTrue};
 ghost use Rattle.sqlite.specs.Files.{over_files, file_state};
 ghost use Rattle.sqlite.specs.Held.{state};
 ghost use Rattle.sqlite.specs.State.{HasCleanDisk};
@@ -15,8 +15,15 @@ use crate::error::SqlOpenError;
 use crate::store::SqlStore;
 use kt_store::StoreError;
 use kt_tables::readied;
-use sqlite::{Alter, Connection, Error, ErrorCode, File, FileStore, MemStore};
+use sqlite::{Alter, Connection, Error, ErrorCode, File, FileStore, MemStore, Options, Unknown};
+use sqlite_std_file::OpenError as PathError;
 use std::alloc::Global;
+use std::hash::{BuildHasher, RandomState};
+use std::io::ErrorKind;
+
+/// How many pages that were read are kept in memory: a megabyte, in which a board of 80,000 instances lies. The kit
+/// keeps 2,000 if not told, and fills the memory of all as it opens (docs/DECISIONS.md#stores).
+const CACHE_PAGES: usize = 256;
 
 /// Why a file was not opened. One that is no database has no tables of a store, so it is damaged.
 fn file_error(error: Error) -> SqlOpenError
@@ -30,7 +37,31 @@ fn file_error(error: Error) -> SqlOpenError
     }
 }
 
-/// The connection to the database at the path.
+/// Why the files at a path were not opened.
+fn path_error(error: PathError) -> SqlOpenError
+    ensures named { (result ≡ SqlOpenError.Memory) ⊎ (result ≡ SqlOpenError.Device) }
+{
+    match error {
+        PathError::OutOfMemory => SqlOpenError::Memory,
+        PathError::Io(error) if error.kind() == ErrorKind::OutOfMemory => SqlOpenError::Memory,
+        _ => SqlOpenError::Device,
+    }
+}
+
+/// The kit's own options but for what is kept in memory.
+fn options(rt: &HostRuntime) -> Result<Options, SqlOpenError>
+    ensures { IfErr result (λ e. e ≡ SqlOpenError.Device) }
+{
+    let Ok(seeds) = RandomState::new(rt) else {
+        return Err(SqlOpenError::Device);
+    };
+    let mut options = Options::new(seeds.hash_one(&0u8));
+    options.cache_pages = CACHE_PAGES;
+    Ok(options)
+}
+
+/// The connection to the database at the path: as the kit's `Connection::open` makes it, but for these options, and it
+/// tells no time.
 fn file_connection(
     rt: &HostRuntime,
     path: &str,
@@ -38,7 +69,18 @@ fn file_connection(
     ensures ended { IfOk result (λ c. c.in_transaction ≡ false) }
     ensures memory { path.now ≡ codes ":memory:" → result ≡ Err SqlOpenError.Device }
 {
-    Connection::open(rt, path).map_err(file_error)
+    // Neither names a file to the kit.
+    if path == ":memory:" || path.starts_with("file:") {
+        return Err(SqlOpenError::Device);
+    }
+    let options = options(rt)?;
+    match sqlite_std_file::open(rt, path, Unknown) {
+        Ok(files) => match Connection::open_files(rt.alloc(), files, options) {
+            Ok(conn) => Ok(conn),
+            Err((error, _)) => Err(file_error(error)),
+        },
+        Err(error) => Err(path_error(error)),
+    }
 }
 
 /// Closes a connection that was refused, and hands back why it was.

@@ -9,15 +9,16 @@ ghost use Rattle.kt_tuple.specs.Node.{node_eq};
 ghost use Rattle.kt_store.specs.declared.rows.Posted.{Posted as PostedFields};
 ghost use Rattle.kt_store.specs.Verdict.{is_open};
 ghost use Rattle.kt_store.specs.Content.{greatest, is_empty, permanent_marks, row_of, tentative_marks};
-ghost use Rattle.kt_store.specs.Changes.{storing};
+ghost use Rattle.kt_store.specs.Changes.{storing, taken};
 ghost use Rattle.kt_store.specs.Calls.{HasCause, most_faults};
+ghost use Rattle.kt_tables.specs.Cells.{cells_node, AreSaid};
 ghost use Rattle.kt_tables.specs.Rows.{IsPosted, placing};
 ghost use Rattle.kt_tables.specs.Opened.{IsReady};
 ghost use Rattle.kt_tables.specs.Held.{is_sure, content_of};
 
-use kt_ckpt::Marks;
+use kt_ckpt::{Ckpt, Marks};
 use kt_store::{NodeRow, Posted, StoreError, TentativeMarks};
-use kt_tables::Tables;
+use kt_tables::{NodeCells, Tables};
 use kt_tuple::NodeId;
 use sqlite::{Alter, Connection};
 use std::alloc::Global;
@@ -73,11 +74,6 @@ impl<S: Alter> SqlStore<S> {
         tables.into_connection()
     }
 
-    /// Where the store takes its memory from.
-    pub(crate) fn allocator(&self) -> Global {
-        self.tables.allocator()
-    }
-
     /// How many faults of the device were counted since the opening.
     pub(crate) fn counted(&self) -> u64
         ensures { result ≡ self.now.faults }
@@ -97,6 +93,43 @@ impl<S: Alter> SqlStore<S> {
         ensures cause { HasCause self.old.faults self.new.faults (is_sure S.Store self.new.tables) ⊥ result }
     {
         let answer = self.tables.row_of(node);
+        count(&mut self.faults, &answer);
+        answer
+    }
+
+    /// The cells of the node's row.
+    pub(crate) fn cells_of(&mut self, node: NodeId) -> Result<NodeCells, StoreError>
+        ensures said { IsTrue (is_sure S.Store self.new.tables) → IfOk result AreSaid }
+        ensures value { IsTrue (is_sure S.Store self.new.tables)
+            → IfOk result (λ c. cells_node c ≡ row_of (content_of S.Store self.old.tables) node) }
+        ensures same { IsTrue (is_sure S.Store self.new.tables)
+            → content_of S.Store self.new.tables ≡ content_of S.Store self.old.tables }
+        ensures honest { IsTrue (is_sure S.Store self.new.tables) → IsTrue (is_sure S.Store self.old.tables) }
+        ensures cause { HasCause self.old.faults self.new.faults (is_sure S.Store self.new.tables) ⊥ result }
+    {
+        let answer = self.tables.cells_of(node);
+        count(&mut self.faults, &answer);
+        answer
+    }
+
+    /// The cells of the node's row with this checkpoint as the tentative one, in the instance.
+    pub(crate) fn cells_with(
+        &mut self,
+        node: NodeId,
+        instance: u64,
+        ckpt: &Ckpt,
+    ) -> Result<NodeCells, StoreError>
+        ensures said { IsTrue (is_sure S.Store self.new.tables) → IfOk result AreSaid }
+        ensures value { IsTrue (is_sure S.Store self.new.tables)
+            → IfOk result (λ c. cells_node c ≡ record (row_of (content_of S.Store self.old.tables) node) {
+              tentative = taken instance ckpt.now;
+            }) }
+        ensures same { IsTrue (is_sure S.Store self.new.tables)
+            → content_of S.Store self.new.tables ≡ content_of S.Store self.old.tables }
+        ensures honest { IsTrue (is_sure S.Store self.new.tables) → IsTrue (is_sure S.Store self.old.tables) }
+        ensures cause { HasCause self.old.faults self.new.faults (is_sure S.Store self.new.tables) ⊥ result }
+    {
+        let answer = self.tables.cells_with(node, instance, ckpt);
         count(&mut self.faults, &answer);
         answer
     }
@@ -226,17 +259,18 @@ impl<S: Alter> SqlStore<S> {
         answer
     }
 
-    /// Stores the row, in place of the one that the node has.
-    pub(crate) fn put_node(&mut self, row: NodeRow) -> Result<(), StoreError>
-        requires { 1 ≤ row.incarnation }
+    /// Stores the row of these cells, in place of the one that the node has.
+    pub(crate) fn put_node(&mut self, cells: NodeCells) -> Result<(), StoreError>
+        requires { IsTrue (is_sure S.Store self.old.tables) → AreSaid cells }
         ensures written { IsTrue (is_sure S.Store self.new.tables)
-            → OnOk result (content_of S.Store self.new.tables ≡ storing row (content_of S.Store self.old.tables)) }
+            → OnOk result (content_of S.Store self.new.tables
+            ≡ storing (cells_node cells) (content_of S.Store self.old.tables)) }
         ensures unchanged { IsTrue (is_sure S.Store self.new.tables)
             → OnErr result (content_of S.Store self.new.tables ≡ content_of S.Store self.old.tables) }
         ensures honest { IsTrue (is_sure S.Store self.new.tables) → IsTrue (is_sure S.Store self.old.tables) }
         ensures cause { HasCause self.old.faults self.new.faults (is_sure S.Store self.new.tables) ⊥ result }
     {
-        let answer = self.tables.put_node(row);
+        let answer = self.tables.put_node(cells);
         count(&mut self.faults, &answer);
         answer
     }
@@ -257,18 +291,18 @@ impl<S: Alter> SqlStore<S> {
     }
 
     /// Stores both rows in one transaction, or neither.
-    pub(crate) fn put_both(&mut self, row: NodeRow, posted: Posted) -> Result<(), StoreError>
-        requires incarnation { 1 ≤ row.incarnation }
+    pub(crate) fn put_both(&mut self, cells: NodeCells, posted: Posted) -> Result<(), StoreError>
+        requires cells { IsTrue (is_sure S.Store self.old.tables) → AreSaid cells }
         requires instance { 1 ≤ posted.instance }
         ensures written { IsTrue (is_sure S.Store self.new.tables)
             → OnOk result (content_of S.Store self.new.tables ≡ placing posted
-            (storing row (content_of S.Store self.old.tables))) }
+            (storing (cells_node cells) (content_of S.Store self.old.tables))) }
         ensures unchanged { IsTrue (is_sure S.Store self.new.tables)
             → OnErr result (content_of S.Store self.new.tables ≡ content_of S.Store self.old.tables) }
         ensures honest { IsTrue (is_sure S.Store self.new.tables) → IsTrue (is_sure S.Store self.old.tables) }
         ensures cause { HasCause self.old.faults self.new.faults (is_sure S.Store self.new.tables) ⊥ result }
     {
-        let answer = self.tables.put_both(row, posted);
+        let answer = self.tables.put_both(cells, posted);
         count(&mut self.faults, &answer);
         answer
     }

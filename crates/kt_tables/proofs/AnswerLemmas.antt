@@ -32,6 +32,9 @@ use Rattle.kt_store.specs.Changes.{storing}
 use Rattle.kt_tables.specs.inner.Looking.{Stays}
 use Rattle.kt_tables.proofs.StateLemmas.{executed_open, refused_stays, written_settled}
 use Rattle.kt_tables.specs.inner.Both.{RanBoth}
+use Rattle.kt_tables.specs.declared.cells.NodeCells.{NodeCells}
+use Rattle.kt_tables.specs.Cells.{cells_given, cells_node, AreSaid}
+use Rattle.kt_tables.proofs.CellLemmas.{spelled_given}
 use Rattle.kt_tables.proofs.TabledLemmas.{stayed, wrote}
 use Rattle.kt_tables.proofs.OrderLemmas.{all_inserted}
 use Rattle.kt_tables.proofs.WriteLemmas.{put_node_does, put_posted_does}
@@ -192,19 +195,22 @@ module _ {S : Type 0} (g : Ghosts S) (s : Tabled S) (h : Held S) (kept : IsTrue 
   abbrev after : Tabled S
   after = record { conn = h; is_trusted = s.is_trusted }
 
-  pub node_wrote : (r : NodeRow) (count : ℕ) → IsNodeRow r
-      → (HasCleanDisk (state g h) → Executes put_node_text (node_given r) (state g s.conn) (state g h) (Ok count))
-      → IsTrue (is_sure g after) → IsTrue (is_sure g s) × (content_of g after ≡ storing r (content_of g s)) × IsKept g after
-  node_wrote r count good ran =
-      wrote g s h (storing r (content_of g s)) kept clean (λ cl on. executed_open put_node_text (node_given r) _ _ count (ran cl) on)
-      (λ cl k. let it = put_node_does _ _ r (content_of g s) count good k.schema k.holds (ran cl) in (written_settled _ _ k.settled it.0, it.1, it.2))
+  pub node_wrote : (c : NodeCells) (count : ℕ) → (IsTrue (is_sure g s) → AreSaid c)
+      → (HasCleanDisk (state g h) → Executes put_node_text (cells_given c) (state g s.conn) (state g h) (Ok count))
+      → IsTrue (is_sure g after) → IsTrue (is_sure g s) × (content_of g after ≡ storing (cells_node c) (content_of g s)) × IsKept g after
+  node_wrote c count are ran =
+      wrote g s h (storing (cells_node c) (content_of g s)) kept clean (λ cl on. executed_open put_node_text (cells_given c) _ _ count (ran cl) on)
+      (λ cl was k.
+      let good = are was in
+      let run = subst (λ row. Executes put_node_text row (state g s.conn) (state g h) (Ok count)) (spelled_given c (cells_node c) good.spells) (ran cl) in
+      let it = put_node_does _ _ (cells_node c) (content_of g s) count good.said k.schema k.holds run in (written_settled _ _ k.settled it.0, it.1, it.2))
 
   pub posted_wrote : (p : Posted) (count : ℕ) → IsPosted p
       → (HasCleanDisk (state g h) → Executes put_posted_text (posted_given p) (state g s.conn) (state g h) (Ok count))
       → IsTrue (is_sure g after) → IsTrue (is_sure g s) × (content_of g after ≡ placing p (content_of g s)) × IsKept g after
   posted_wrote p count good ran =
       wrote g s h (placing p (content_of g s)) kept clean (λ cl on. executed_open put_posted_text (posted_given p) _ _ count (ran cl) on)
-      (λ cl k. let it = put_posted_does _ _ p (content_of g s) count good k.schema k.holds (ran cl) in (written_settled _ _ k.settled it.0, it.1, it.2))
+      (λ cl _ k. let it = put_posted_does _ _ p (content_of g s) count good k.schema k.holds (ran cl) in (written_settled _ _ k.settled it.0, it.1, it.2))
 
   pub not_wrote : (sql : List ℕ) (params : Row) (e : Error) → (HasCleanDisk (state g h) → Executes sql params (state g s.conn) (state g h) (Err e))
       → IsTrue (is_sure g after) → IsTrue (is_sure g s) × (content_of g after ≡ content_of g s) × IsKept g after
@@ -212,14 +218,19 @@ module _ {S : Type 0} (g : Ghosts S) (s : Tabled S) (h : Held S) (kept : IsTrue 
       let it = stayed g s h kept clean (λ cl on. refused_stays sql params _ _ e (ran cl) on) sure in
       (it.0, ap (λ (d : Database). content_in d.trees) it.1, it.2)
 
-  pub both_wrote : (r : NodeRow) (p : Posted) → IsNodeRow r → IsPosted p → (HasCleanDisk (state g h) → RanBoth g r p s.conn h)
-      → IsTrue (is_sure g after) → IsTrue (is_sure g s) × (content_of g after ≡ placing p (storing r (content_of g s))) × IsKept g after
-  both_wrote r p good fine ran =
+  pub both_wrote : (c : NodeCells) (p : Posted) → (IsTrue (is_sure g s) → AreSaid c) → IsPosted p
+      → (HasCleanDisk (state g h) → RanBoth g (cells_given c) p s.conn h)
+      → IsTrue (is_sure g after)
+      → IsTrue (is_sure g s) × (content_of g after ≡ placing p (storing (cells_node c) (content_of g s))) × IsKept g after
+  both_wrote c p are fine ran =
+      let r = cells_node c in
       wrote g s h (placing p (storing r (content_of g s))) kept clean (λ cl _. (ran cl).was_open)
-      (λ cl k.
+      (λ cl was k.
       let it = ran cl in
-      let one =
-      put_node_does (state g (record s.conn { in_transaction = true })) (state g it.mid) r (content_of g s) it.counts.0 good k.schema k.holds it.one in
+      let good = are was in
+      let begun = state g (record s.conn { in_transaction = true }) in
+      let run = subst (λ row. Executes put_node_text row begun (state g it.mid) (Ok it.counts.0)) (spelled_given c r good.spells) it.one in
+      let one = put_node_does begun (state g it.mid) r (content_of g s) it.counts.0 good.said k.schema k.holds run in
       let two = put_posted_does (state g it.mid) (state g it.last) p (storing r (content_of g s)) it.counts.1 fine one.1 one.2 it.two in (
         it.settled,
         ap (λ (d : Database). d.schema) it.now ∙ two.1,

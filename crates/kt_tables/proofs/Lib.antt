@@ -1,4 +1,5 @@
 pub mod AnswerLemmas
+pub mod CellLemmas
 pub mod FoundLemmas
 pub mod HeldLemmas
 pub mod MadeLemmas

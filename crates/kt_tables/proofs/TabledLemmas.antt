@@ -83,16 +83,17 @@ module _ {S : Type 0} (g : Ghosts S) where
         },
       )
 
-  -- a call after which the store is sure, and which changed its tables
+  -- a call after which the store is sure, so that it was so before, and which changed its tables
   pub wrote : (s : Tabled S) (h : Held S) (c : Content) → (IsTrue (is_sure g s) → IsKept g s)
       → doubt (state g s.conn).is_clean ≤ doubt (state g h).is_clean
       → (HasCleanDisk (state g h) → IsTrue (state g h).is_open → IsTrue (state g s.conn).is_open)
-      → (HasCleanDisk (state g h) → IsKept g s → IsSettled (state g h) × ((state g h).now.schema ≡ kt_schema) × Holds (state g h).now.trees c)
+      → (HasCleanDisk (state g h) → IsTrue (is_sure g s) → IsKept g s
+      → IsSettled (state g h) × ((state g h).now.schema ≡ kt_schema) × Holds (state g h).now.trees c)
       → let after : Tabled S = record { conn = h; is_trusted = s.is_trusted } in
       IsTrue (is_sure g after) → IsTrue (is_sure g s) × (content_of g after ≡ c) × IsKept g after
   wrote s h c kept clean opened does sure =
       let is = sure_parts (record { conn = h; is_trusted = s.is_trusted }) sure in
       let was = sure_whole s (record { trusted = is.trusted; is_open = opened is.clean is.is_open; clean = omega (arith, clean, is.clean) }) in
-      let done = does is.clean (kept was) in
+      let done = does is.clean was (kept was) in
       let same = holds_content c done.2 in
       (was, same, record { settled = done.0; schema = done.1; holds = subst (Holds (state g h).now.trees) (sym same) done.2 })

@@ -1,3 +1,4 @@
+pub mod Cells
 pub mod Held
 pub mod Made
 pub mod Opened

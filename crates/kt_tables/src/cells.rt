@@ -1,33 +1,35 @@
 //! Rows, as they are written.
 
-ghost use Rattle.std.specs.Prelude.{◌≡◌, ◌≤◌, pos, IfOk, IfSome};
-ghost use Rattle.sqlite.specs.declared.types.Value.TheVariants.{Int, Blob};
-ghost use Rattle.sqlite.specs.Values.{or_null};
+ghost use Rattle.std.specs.Prelude.{◌≡◌, ◌≤◌, None, IfOk, IfErr, IfSome};
 ghost use Rattle.kt_ckpt.specs.Checkpoint.{IsCheckpoint};
-ghost use Rattle.kt_tables.specs.Rows.{bytes_of, spelled, checkpoint_value, instance_value, taken_checkpoint};
-ghost use Rattle.kt_tables.specs.Rows.{taken_instance};
-ghost use Rattle.kt_tables.specs.Rows.{IsLow, IsSpelled, IsNodeRow, IsPosted, purpose_code, verdict_code};
-ghost use Rattle.kt_tables.specs.inner.Cells.{SpellsNode, SpellsPosted};
+ghost use Rattle.kt_store.specs.Changes.{taken};
+ghost use Rattle.kt_store.specs.declared.rows.NodeRow.{NodeRow as NodeFields};
+ghost use Rattle.kt_tables.specs.Rows.{bytes_of, id_of, node_given, IsNodeRow, IsPosted, purpose_code, verdict_code};
+ghost use Rattle.kt_tables.specs.Cells.{cells_node, AreSaid, SpellsNode};
+ghost use Rattle.kt_tables.specs.inner.Cells.{GivesCells, SpellsPosted};
+ghost use Rattle.kt_tables.specs.inner.Showing.{IsReadError};
 
 use crate::ids::id_of;
 use crate::number::Number;
+use crate::rows::{bytes_at, id_at, instance_at, positive_at};
 use kt_ckpt::Ckpt;
-use kt_store::{NodeRow, Posted, Purpose, Tentative, Verdict};
+use kt_store::{Posted, Purpose, StoreError, Verdict};
+use sqlite::Row;
 use std::alloc::{AllocError, Global};
 
-/// The cells of a row of the nodes.
+/// The cells of a row of the nodes. What stays at a write is carried as the bytes that stand in the table.
 #[derive(Debug, Drop)]
-pub(crate) struct NodeCells {
+pub struct NodeCells {
     /// The id of the node: a worker's own number, or 100 more than a shard's.
-    pub id: u32,
+    pub(crate) id: u32,
     /// Its incarnation, from 1 to 2^62.
-    pub incarnation: Number,
+    pub(crate) incarnation: Number,
     /// The bytes of its permanent checkpoint; `None` (NULL) where it is the initial one.
-    pub permanent: Option<Vec<u8>>,
+    pub(crate) permanent: Option<Vec<u8>>,
     /// The bytes of its tentative checkpoint; `None` (NULL) while it has none.
-    pub tentative: Option<Vec<u8>>,
+    pub(crate) tentative: Option<Vec<u8>>,
     /// The instance of the tentative checkpoint; `None` (NULL) while there is none.
-    pub instance: Option<Number>,
+    pub(crate) instance: Option<Number>,
 }
 
 /// The cells of a row of the board.
@@ -43,6 +45,42 @@ pub(crate) struct PostedCells {
     pub verdict: u32,
 }
 
+/// The cells of a row of the nodes as it stands in the table. The numbers are tested, and no checkpoint is decoded.
+pub(crate) fn cells_at(row: &Row) -> Result<NodeCells, StoreError>
+    ensures exact { (r : NodeFields) → IsNodeRow r → row.now ≡ node_given r → GivesCells r result }
+    ensures named { IfErr result IsReadError }
+{
+    let id = id_at(row)?;
+    // Each number from 1 to the greatest is one.
+    let Some(incarnation) = Number::new(positive_at(row, 1)?) else {
+        return Err(StoreError::Damaged);
+    };
+    let permanent = bytes_at(row, 2)?;
+    let tentative = bytes_at(row, 3)?;
+    let instance = instance_at(row, tentative.is_some())?;
+    Ok(NodeCells {
+        id,
+        incarnation,
+        permanent,
+        tentative,
+        instance,
+    })
+}
+
+/// The cells of a node without a row: it is in incarnation 1, and has no checkpoint stored.
+pub(crate) fn first_cells(id: u32) -> NodeCells
+    ensures { (r : NodeFields) → id ≡ id_of r.node → r.incarnation ≡ 1 → r.permanent ≡ None → r.tentative ≡ None
+        → SpellsNode result r }
+{
+    NodeCells {
+        id,
+        incarnation: Number::first(),
+        permanent: None,
+        tentative: None,
+        instance: None,
+    }
+}
+
 /// The bytes of a checkpoint, which a blob of the table holds as they are.
 #[tactic(auto, unfolding(crate::specs::Rows::bytes_of))]
 fn encoded(alloc: Global, checkpoint: &Ckpt) -> Result<Vec<u8>, AllocError>
@@ -51,68 +89,30 @@ fn encoded(alloc: Global, checkpoint: &Ckpt) -> Result<Vec<u8>, AllocError>
     checkpoint.encode(alloc)
 }
 
-fn permanent_cell(alloc: Global, checkpoint: &Option<Ckpt>) -> Result<Option<Vec<u8>>, AllocError>
-    ensures { IfOk result (λ v. IsSpelled checkpoint.now × (or_null (λ b. Blob b.items) v ≡ spelled checkpoint.now)) }
-{
-    match checkpoint {
-        Some(checkpoint) => Ok(Some(encoded(alloc, checkpoint)?)),
-        None => Ok(None),
-    }
-}
-
-fn tentative_cell(
+/// The cells with this checkpoint as the tentative one, in the instance. What else they have stays.
+pub(crate) fn with_tentative(
     alloc: Global,
-    tentative: &Option<Tentative>,
-) -> Result<Option<Vec<u8>>, AllocError>
-    ensures { IfOk result (λ v. IsSpelled (taken_checkpoint tentative.now)
-        × (or_null (λ b. Blob b.items) v ≡ checkpoint_value tentative.now)) }
+    cells: NodeCells,
+    instance: Number,
+    ckpt: &Ckpt,
+) -> Result<NodeCells, AllocError>
+    ensures said { IfOk result (λ c. AreSaid cells → AreSaid c) }
+    ensures value { IfOk result (λ c. AreSaid cells
+        → cells_node c ≡ record (cells_node cells) { tentative = taken instance.value ckpt.now }) }
 {
-    match tentative {
-        Some(tentative) => Ok(Some(encoded(alloc, &tentative.checkpoint)?)),
-        None => Ok(None),
-    }
-}
-
-/// The cell of the instance: `Some(None)` where there is no tentative checkpoint, `None` where its instance is above
-/// 2^62, which no cell holds.
-fn instance_cell(tentative: &Option<Tentative>) -> Option<Option<Number>>
-    ensures { IfSome result (λ n. IsLow (taken_instance tentative.now)
-        × (or_null (λ n. Int (pos n.value)) n ≡ instance_value tentative.now)) }
-{
-    match tentative {
-        Some(tentative) => Some(Some(Number::new(tentative.instance)?)),
-        None => Some(None),
-    }
-}
-
-/// The cells of the row; `None` where the tables have no id for the node, or a number of it is above 2^62.
-fn node_cells(alloc: Global, row: &NodeRow) -> Result<Option<NodeCells>, AllocError>
-    requires { 1 ≤ row.now.incarnation }
-    ensures { IfOk result (λ o. IfSome o (λ c. IsNodeRow row.now × SpellsNode c row.now)) }
-{
-    let (Some(id), Some(incarnation), Some(instance)) = (
-        id_of(row.node),
-        Number::new(row.incarnation),
-        instance_cell(&row.tentative),
-    ) else {
-        return Ok(None);
-    };
-    Ok(Some(NodeCells {
+    let NodeCells {
         id,
         incarnation,
-        permanent: permanent_cell(alloc, &row.permanent)?,
-        tentative: tentative_cell(alloc, &row.tentative)?,
-        instance,
-    }))
-}
-
-/// The cells of a row that is needed no more. It ends here, and not in the call of the store, for the reason that
-/// `changes.rt` tells.
-pub(crate) fn into_node_cells(alloc: Global, row: NodeRow) -> Result<Option<NodeCells>, AllocError>
-    requires { 1 ≤ row.incarnation }
-    ensures { IfOk result (λ o. IfSome o (λ c. IsNodeRow row × SpellsNode c row)) }
-{
-    node_cells(alloc, &row)
+        permanent,
+        ..
+    } = cells;
+    Ok(NodeCells {
+        id,
+        incarnation,
+        permanent,
+        tentative: Some(encoded(alloc, ckpt)?),
+        instance: Some(instance),
+    })
 }
 
 /// The cells of the row; `None` where the tables have no id for the initiator, or the instance is above 2^62.
@@ -133,21 +133,4 @@ pub(crate) fn posted_cells(row: Posted) -> Option<PostedCells>
             Verdict::No => 2,
         },
     })
-}
-
-/// The cells of both rows; `None` where one of them has none. Both are made before either is written.
-pub(crate) fn both_cells(
-    alloc: Global,
-    row: NodeRow,
-    posted: Posted,
-) -> Result<Option<(NodeCells, PostedCells)>, AllocError>
-    requires incarnation { 1 ≤ row.incarnation }
-    requires instance { 1 ≤ posted.instance }
-    ensures { IfOk result (λ o. IfSome o (λ c. (IsNodeRow row × SpellsNode c.0 row)
-        × (IsPosted posted × SpellsPosted c.1 posted))) }
-{
-    match (into_node_cells(alloc, row)?, posted_cells(posted)) {
-        (Some(node), Some(posted)) => Ok(Some((node, posted))),
-        _ => Ok(None),
-    }
 }

@@ -1,15 +1,16 @@
-//! What is read of the row of a node, and what each write makes of it. Each call takes the row itself and not a
+//! What is read of the row of a node, and what each write makes of its cells. Each call takes the row itself and not a
 //! reference: where a row is alive as a call of the store ends early, the proof of that call grows by all that a row
 //! may hold.
 
-ghost use Rattle.std.specs.Prelude.{◌≡◌, ◌≤◌, ◌+◌, None, IfOk, MatchOption};
+ghost use Rattle.std.specs.Prelude.{◌≡◌, ◌+◌, None, IfSome, MatchOption};
 ghost use Rattle.kt_store.specs.Content.{greatest};
-ghost use Rattle.kt_store.specs.Changes.{promoted_from, taken};
+ghost use Rattle.kt_store.specs.Changes.{promoted_from};
+ghost use Rattle.kt_tables.specs.Cells.{cells_node, AreSaid};
+ghost use Rattle.kt_tables.specs.inner.Cells.{later};
 
-use crate::number::GREATEST;
+use crate::cells::NodeCells;
 use kt_ckpt::Ckpt;
 use kt_store::{NodeRow, Tentative};
-use std::alloc::{AllocError, Global};
 
 /// The permanent checkpoint of the row; `None` where it is the initial one. The row ends here, as in the read below.
 pub fn permanent_in(row: NodeRow) -> Option<Ckpt>
@@ -25,41 +26,82 @@ pub fn tentative_in(row: NodeRow) -> Option<Tentative>
     row.tentative
 }
 
-/// The row with a copy of this checkpoint as its tentative one, in the instance.
-pub fn with_tentative(
-    alloc: Global,
-    mut row: NodeRow,
-    instance: u64,
-    ckpt: &Ckpt,
-) -> Result<NodeRow, AllocError>
-    ensures { IfOk result (λ r. r ≡ record row { tentative = taken instance ckpt.now }) }
+/// The bytes of the tentative checkpoint, or those of the permanent one where there is none.
+fn later(permanent: Option<Vec<u8>>, tentative: Option<Vec<u8>>) -> Option<Vec<u8>>
+    ensures { result ≡ later permanent tentative }
 {
-    row.tentative = Some(Tentative {
+    match tentative {
+        Some(bytes) => Some(bytes),
+        None => permanent,
+    }
+}
+
+/// The cells with the tentative checkpoint made permanent, where there is one. Its bytes are carried as they are.
+pub fn promoted(cells: NodeCells) -> NodeCells
+    ensures said { AreSaid cells → AreSaid result }
+    ensures value { AreSaid cells → cells_node result ≡ record (cells_node cells) {
+      permanent = promoted_from (cells_node cells).permanent (cells_node cells).tentative;
+      tentative = None;
+    } }
+{
+    let NodeCells {
+        id,
+        incarnation,
+        permanent,
+        tentative,
+        instance: _,
+    } = cells;
+    NodeCells {
+        id,
+        incarnation,
+        permanent: later(permanent, tentative),
+        tentative: None,
+        instance: None,
+    }
+}
+
+/// The cells without the tentative checkpoint; the permanent one stays.
+pub fn discarded(cells: NodeCells) -> NodeCells
+    ensures said { AreSaid cells → AreSaid result }
+    ensures value { AreSaid cells → cells_node result ≡ record (cells_node cells) { tentative = None } }
+{
+    let NodeCells {
+        id,
+        incarnation,
+        permanent,
+        tentative: _,
+        instance: _,
+    } = cells;
+    NodeCells {
+        id,
+        incarnation,
+        permanent,
+        tentative: None,
+        instance: None,
+    }
+}
+
+/// The cells in the next incarnation; `None` where they are in the greatest, 2^62.
+pub fn bumped(cells: NodeCells) -> Option<NodeCells>
+    ensures said { AreSaid cells → IfSome result AreSaid }
+    ensures value { AreSaid cells → MatchOption result ((cells_node cells).incarnation ≡ greatest)
+        (λ c. cells_node c ≡ record (cells_node cells) { incarnation = (cells_node cells).incarnation + 1 }) }
+{
+    let NodeCells {
+        id,
+        incarnation,
+        permanent,
+        tentative,
         instance,
-        checkpoint: ckpt.copy(alloc)?,
-    });
-    Ok(row)
-}
-
-/// The row with its tentative checkpoint made permanent, where there is one.
-pub fn promoted(mut row: NodeRow) -> NodeRow
-    ensures { result ≡ record row { permanent = promoted_from row.permanent row.tentative; tentative = None } }
-{
-    if let Some(Tentative { checkpoint, .. }) = row.tentative.take() {
-        row.permanent = Some(checkpoint);
+    } = cells;
+    match incarnation.next() {
+        Some(incarnation) => Some(NodeCells {
+            id,
+            incarnation,
+            permanent,
+            tentative,
+            instance,
+        }),
+        None => None,
     }
-    row
-}
-
-/// The row in its next incarnation; `None` where it is in the greatest, 2^62.
-pub fn bumped(mut row: NodeRow) -> Option<NodeRow>
-    requires { row.incarnation ≤ greatest }
-    ensures { MatchOption result (row.incarnation ≡ greatest)
-        (λ r. r ≡ record row { incarnation = row.incarnation + 1 }) }
-{
-    if row.incarnation == GREATEST {
-        return None;
-    }
-    row.incarnation += 1;
-    Some(row)
 }

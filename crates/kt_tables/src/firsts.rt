@@ -5,9 +5,11 @@ ghost use Rattle.kt_store.specs.declared.rows.NodeRow.{NodeRow as NodeFields};
 ghost use Rattle.kt_store.specs.declared.rows.Posted.{Posted as PostedFields};
 ghost use Rattle.kt_store.specs.Content.{greatest};
 ghost use Rattle.kt_tables.specs.Rows.{node_given, posted_given, IsNodeRow, IsPosted};
+ghost use Rattle.kt_tables.specs.inner.Cells.{GivesRow};
 ghost use Rattle.kt_tables.specs.inner.Showing.{Gives, IsReadError, number_of};
 ghost use Rattle.kt_tables.specs.inner.Showing.{incarnation_of, permanent_of, tentative_of};
 
+use crate::cells::{NodeCells, cells_at, first_cells};
 use crate::rows::{marks_at, node_row, positive_at, posted_row, tentative_marks_at};
 use kt_ckpt::Marks;
 use kt_store::{NodeRow, Posted, StoreError, TentativeMarks};
@@ -25,6 +27,27 @@ pub(crate) fn first_node(alloc: Global, rows: &[Row]) -> Result<Option<NodeRow>,
         Some(row) => Ok(Some(node_row(alloc, row)?)),
         None => Ok(None),
     }
+}
+
+/// The cells of the first row, or those of the node with this id where there is no row. A row that was maybe not as
+/// said at the opening is decoded too, so that no write goes over one that is damaged.
+pub(crate) fn first_cells_of(
+    alloc: Global,
+    id: u32,
+    is_trusted: bool,
+    rows: &[Row],
+) -> Result<NodeCells, StoreError>
+    ensures exact { (o : Option NodeFields) → IfSome o IsNodeRow → slice_get rows.now 0 ≡ option_map node_given o
+        → GivesRow id o result }
+    ensures named { IfErr result IsReadError }
+{
+    let Some(row) = rows.first() else {
+        return Ok(first_cells(id));
+    };
+    if !is_trusted {
+        let _ = node_row(alloc, row)?;
+    }
+    cells_at(row)
 }
 
 /// The incarnation of the node of the first row, 1 where there is no row. Nothing else of the row is read.

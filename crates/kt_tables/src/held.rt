@@ -5,21 +5,21 @@ ghost use Rattle.sqlite.specs.Values.{bound};
 ghost use Rattle.sqlite.specs.Held.{state};
 ghost use Rattle.sqlite.specs.Listing.{understood};
 ghost use Rattle.sqlite.specs.State.{HasCleanDisk, Shown};
-ghost use Rattle.kt_store.specs.declared.rows.NodeRow.{NodeRow as NodeFields};
 ghost use Rattle.kt_store.specs.declared.rows.Posted.{Posted as PostedFields};
 ghost use Rattle.kt_store.specs.Changes.{storing};
-ghost use Rattle.kt_tables.specs.Rows.{IsNodeRow, IsPosted, placing};
+ghost use Rattle.kt_tables.specs.Rows.{IsPosted, placing};
+ghost use Rattle.kt_tables.specs.Cells.{cells_node, AreSaid};
 ghost use Rattle.kt_tables.specs.Opened.{IsReady};
-ghost use Rattle.kt_tables.specs.inner.Cells.{SpellsNode, SpellsPosted};
+ghost use Rattle.kt_tables.specs.inner.Cells.{SpellsPosted};
 ghost use Rattle.sqlite.specs.Given.{IsPlain};
 ghost use Rattle.kt_tables.specs.Reason.{HasReason};
 ghost use Rattle.kt_tables.specs.Schema.{kt_schema};
 ghost use Rattle.kt_tables.specs.Held.{is_sure, content_of, IsKept};
 
-use crate::cells::{NodeCells, PostedCells, both_cells, into_node_cells, posted_cells};
+use crate::cells::{NodeCells, PostedCells, posted_cells};
 use crate::opened::statement_error;
 use crate::statements::{execute_both, execute_node, execute_posted};
-use kt_store::{NodeRow, Posted, StoreError};
+use kt_store::{Posted, StoreError};
 use sqlite::types::ValueRef;
 use sqlite::{Alter, Connection, Row};
 use std::alloc::Global;
@@ -112,28 +112,31 @@ impl<S: Alter> Tables<S> {
         }
     }
 
-    /// Stores the row, in place of the one that the node has: one statement writes it whole. `Device` where the tables
-    /// have no id for the node, or hold no number that great.
-    pub fn put_node(&mut self, row: NodeRow) -> Result<(), StoreError>
-        requires { 1 ≤ row.incarnation }
+    /// Whether each row was as said when the tables were opened.
+    pub(crate) fn is_trusted(&self) -> bool
+        ensures { result ≡ self.now.is_trusted }
+    {
+        self.is_trusted
+    }
+
+    /// Stores the row of these cells, in place of the one that the node has: one statement writes it whole.
+    pub fn put_node(&mut self, cells: NodeCells) -> Result<(), StoreError>
+        requires { IsTrue (is_sure S.Store self.old) → AreSaid cells }
         ensures written { IsTrue (is_sure S.Store self.new)
-            → OnOk result (content_of S.Store self.new ≡ storing row (content_of S.Store self.old)) }
+            → OnOk result (content_of S.Store self.new ≡ storing (cells_node cells) (content_of S.Store self.old)) }
         ensures unchanged { IsTrue (is_sure S.Store self.new)
             → OnErr result (content_of S.Store self.new ≡ content_of S.Store self.old) }
         ensures honest { IsTrue (is_sure S.Store self.new) → IsTrue (is_sure S.Store self.old) }
         ensures trusted { self.new.is_trusted ≡ self.old.is_trusted }
         ensures reason { HasReason (is_sure S.Store self.new) result }
     {
-        match into_node_cells(self.alloc, row)? {
-            Some(cells) => self.write_node(&cells),
-            None => Err(StoreError::Device),
-        }
+        self.write_node(&cells)
     }
 
     fn write_node(&mut self, cells: &NodeCells) -> Result<(), StoreError>
-        requires { (r : NodeFields) × IsNodeRow r × SpellsNode cells.now r }
-        ensures written { (r : NodeFields) → IsNodeRow r → SpellsNode cells.now r → IsTrue (is_sure S.Store self.new)
-            → OnOk result (content_of S.Store self.new ≡ storing r (content_of S.Store self.old)) }
+        requires { IsTrue (is_sure S.Store self.old) → AreSaid cells.now }
+        ensures written { IsTrue (is_sure S.Store self.new)
+            → OnOk result (content_of S.Store self.new ≡ storing (cells_node cells.now) (content_of S.Store self.old)) }
         ensures unchanged { IsTrue (is_sure S.Store self.new)
             → OnErr result (content_of S.Store self.new ≡ content_of S.Store self.old) }
         ensures honest { IsTrue (is_sure S.Store self.new) → IsTrue (is_sure S.Store self.old) }
@@ -180,31 +183,32 @@ impl<S: Alter> Tables<S> {
         }
     }
 
-    /// Stores both rows in one transaction, or neither.
-    pub fn put_both(&mut self, row: NodeRow, posted: Posted) -> Result<(), StoreError>
-        requires incarnation { 1 ≤ row.incarnation }
+    /// Stores both rows in one transaction, or neither. `Device` where the tables have no id for the initiator, or hold
+    /// no number that great.
+    pub fn put_both(&mut self, cells: NodeCells, posted: Posted) -> Result<(), StoreError>
+        requires cells { IsTrue (is_sure S.Store self.old) → AreSaid cells }
         requires instance { 1 ≤ posted.instance }
         ensures written { IsTrue (is_sure S.Store self.new)
             → OnOk result (content_of S.Store self.new ≡ placing posted
-            (storing row (content_of S.Store self.old))) }
+            (storing (cells_node cells) (content_of S.Store self.old))) }
         ensures unchanged { IsTrue (is_sure S.Store self.new)
             → OnErr result (content_of S.Store self.new ≡ content_of S.Store self.old) }
         ensures honest { IsTrue (is_sure S.Store self.new) → IsTrue (is_sure S.Store self.old) }
         ensures trusted { self.new.is_trusted ≡ self.old.is_trusted }
         ensures reason { HasReason (is_sure S.Store self.new) result }
     {
-        match both_cells(self.alloc, row, posted)? {
-            Some((node, posted)) => self.write_both(&node, posted),
+        match posted_cells(posted) {
+            Some(posted) => self.write_both(&cells, posted),
             None => Err(StoreError::Device),
         }
     }
 
     fn write_both(&mut self, node: &NodeCells, posted: PostedCells) -> Result<(), StoreError>
-        requires { (r : NodeFields) × (p : PostedFields) × IsNodeRow r × IsPosted p × SpellsNode node.now r
-            × SpellsPosted posted p }
-        ensures written { (r : NodeFields) (p : PostedFields) → IsNodeRow r → IsPosted p → SpellsNode node.now r
-            → SpellsPosted posted p → IsTrue (is_sure S.Store self.new)
-            → OnOk result (content_of S.Store self.new ≡ placing p (storing r (content_of S.Store self.old))) }
+        requires node { IsTrue (is_sure S.Store self.old) → AreSaid node.now }
+        requires posted { (p : PostedFields) × IsPosted p × SpellsPosted posted p }
+        ensures written { (p : PostedFields) → IsPosted p → SpellsPosted posted p → IsTrue (is_sure S.Store self.new)
+            → OnOk result (content_of S.Store self.new ≡ placing p
+            (storing (cells_node node.now) (content_of S.Store self.old))) }
         ensures unchanged { IsTrue (is_sure S.Store self.new)
             → OnErr result (content_of S.Store self.new ≡ content_of S.Store self.old) }
         ensures honest { IsTrue (is_sure S.Store self.new) → IsTrue (is_sure S.Store self.old) }

@@ -25,7 +25,8 @@ mod schema;
 mod statements;
 mod tables;
 
-pub use changes::{bumped, permanent_in, promoted, tentative_in, with_tentative};
+pub use cells::NodeCells;
+pub use changes::{bumped, discarded, permanent_in, promoted, tentative_in};
 pub use held::Tables;
 pub use number::GREATEST;
 pub use ready::readied;

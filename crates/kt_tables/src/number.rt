@@ -1,6 +1,6 @@
 //! The numbers of the tables.
 
-ghost use Rattle.std.specs.Prelude.{◌≡◌, ◌<◌, ◌≤◌, pos, MatchOption};
+ghost use Rattle.std.specs.Prelude.{◌≡◌, ◌+◌, ◌<◌, ◌≤◌, pos, MatchOption};
 ghost use Rattle.sqlite.specs.declared.types.Value.TheVariants.{Int};
 ghost use Rattle.kt_store.specs.Content.{greatest};
 
@@ -26,6 +26,20 @@ impl Number {
         } else {
             None
         }
+    }
+
+    /// The number 1.
+    pub(crate) fn first() -> Number
+        ensures { result.value ≡ 1 }
+    {
+        Number { value: 1 }
+    }
+
+    /// The next number; `None` after the greatest.
+    pub(crate) fn next(self) -> Option<Number>
+        ensures { MatchOption result (self.value ≡ greatest) (λ n. n.value ≡ self.value + 1) }
+    {
+        Number::new(self.value + 1)
     }
 }
 

@@ -8,19 +8,22 @@ ghost use Rattle.kt_store.specs.declared.rows.NodeRow.{NodeRow as NodeFields};
 ghost use Rattle.kt_store.specs.declared.rows.Posted.{Posted as PostedFields};
 ghost use Rattle.kt_store.specs.Verdict.{is_open};
 ghost use Rattle.kt_store.specs.Content.{greatest, is_empty, permanent_marks, row_of, tentative_marks};
+ghost use Rattle.kt_store.specs.Changes.{taken};
 ghost use Rattle.kt_tables.specs.Reason.{HasReason};
+ghost use Rattle.kt_tables.specs.Cells.{cells_node, AreSaid};
 ghost use Rattle.kt_tables.specs.Rows.{IsNodeRow, IsPosted};
 ghost use Rattle.kt_tables.specs.inner.Showing.{AreRowsOf};
 ghost use Rattle.kt_tables.specs.Held.{is_sure, content_of};
 
+use crate::cells::{NodeCells, with_tentative};
 use crate::firsts::{
-    first_incarnation, first_node, first_number, first_permanent, first_posted, first_tentative,
-    has_no_row,
+    first_cells_of, first_incarnation, first_node, first_number, first_permanent, first_posted,
+    first_tentative, has_no_row,
 };
 use crate::held::Tables;
 use crate::ids::id_of;
 use crate::number::Number;
-use kt_ckpt::Marks;
+use kt_ckpt::{Ckpt, Marks};
 use kt_store::{NodeRow, Posted, StoreError, TentativeMarks};
 use kt_tuple::NodeId;
 use sqlite::{Alter, Row, params};
@@ -142,6 +145,50 @@ impl<S: Alter> Tables<S> {
                 permanent: None,
                 tentative: None,
             }),
+        }
+    }
+
+    /// The cells of the node's row, where its checkpoints stay the bytes that stand there. A node without a row is in
+    /// incarnation 1 and has no checkpoint stored. `Device` where the tables have no id for the node.
+    pub fn cells_of(&mut self, node: NodeId) -> Result<NodeCells, StoreError>
+        ensures said { IsTrue (is_sure S.Store self.new) → IfOk result AreSaid }
+        ensures value { IsTrue (is_sure S.Store self.new)
+            → IfOk result (λ c. cells_node c ≡ row_of (content_of S.Store self.old) node) }
+        ensures same { IsTrue (is_sure S.Store self.new) → content_of S.Store self.new ≡ content_of S.Store self.old }
+        ensures honest { IsTrue (is_sure S.Store self.new) → IsTrue (is_sure S.Store self.old) }
+        ensures trusted { self.new.is_trusted ≡ self.old.is_trusted }
+        ensures reason { HasReason (is_sure S.Store self.new) result }
+    {
+        let Some(id) = id_of(node) else {
+            return Err(StoreError::Device);
+        };
+        let alloc = self.allocator();
+        let is_trusted = self.is_trusted();
+        let rows = self.rows_of(node)?;
+        first_cells_of(alloc, id, is_trusted, &rows)
+    }
+
+    /// The cells of the node's row with this checkpoint as the tentative one, in the instance. `Device` where the
+    /// tables have no id for the node, or hold no number that great.
+    pub fn cells_with(
+        &mut self,
+        node: NodeId,
+        instance: u64,
+        ckpt: &Ckpt,
+    ) -> Result<NodeCells, StoreError>
+        ensures said { IsTrue (is_sure S.Store self.new) → IfOk result AreSaid }
+        ensures value { IsTrue (is_sure S.Store self.new) → IfOk result (λ c. cells_node c
+            ≡ record (row_of (content_of S.Store self.old) node) { tentative = taken instance ckpt.now }) }
+        ensures same { IsTrue (is_sure S.Store self.new) → content_of S.Store self.new ≡ content_of S.Store self.old }
+        ensures honest { IsTrue (is_sure S.Store self.new) → IsTrue (is_sure S.Store self.old) }
+        ensures trusted { self.new.is_trusted ≡ self.old.is_trusted }
+        ensures reason { HasReason (is_sure S.Store self.new) result }
+    {
+        let alloc = self.allocator();
+        let cells = self.cells_of(node)?;
+        match Number::new(instance) {
+            Some(instance) => Ok(with_tentative(alloc, cells, instance, ckpt)?),
+            None => Err(StoreError::Device),
         }
     }
 

@@ -1,6 +1,7 @@
 //! Rows of an answer, read.
 
-ghost use Rattle.std.specs.Prelude.{◌≡◌, ◌<◌, ◌≤◌, ℕ, Option, IfOk, IfErr, length, option_map};
+ghost use Rattle.std.specs.Prelude.{◌≡◌, ◌<◌, ◌≤◌, ℕ, Option, is_some, IfOk, IfErr, length, option_map};
+ghost use Rattle.sqlite.specs.declared.types.Value.TheVariants.{Blob};
 ghost use Rattle.sqlite.specs.Order.{column};
 ghost use Rattle.sqlite.specs.Values.{or_null};
 ghost use Rattle.kt_tuple.specs.declared.node.NodeId.{NodeId as NodeName};
@@ -16,10 +17,11 @@ ghost use Rattle.kt_tables.specs.Rows.{whole, id_of, bytes_of, purpose_code, ver
 ghost use Rattle.kt_tables.specs.Rows.{instance_value, node_given, posted_given};
 ghost use Rattle.kt_tables.specs.Rows.{HasId, taken_checkpoint, taken_instance, IsLow, IsSpelled, IsTaken, IsNodeRow};
 ghost use Rattle.kt_tables.specs.Rows.{IsPosted};
+ghost use Rattle.kt_tables.specs.inner.Cells.{GivesInstance};
 ghost use Rattle.kt_tables.specs.inner.Showing.{ShowsNode, ShowsPosted, Gives, IsReadError};
 
-use crate::ids::node_of;
-use crate::number::GREATEST;
+use crate::ids::{id_of, node_of};
+use crate::number::{GREATEST, Number};
 use kt_ckpt::{Ckpt, CkptError, Marks};
 use kt_store::{NodeRow, Posted, Purpose, StoreError, Tentative, TentativeMarks, Verdict};
 use kt_tuple::NodeId;
@@ -84,6 +86,17 @@ fn decoded(alloc: Global, bytes: &[u8]) -> Result<Ckpt, StoreError>
     }
 }
 
+/// The bytes in a column, `None` where it is NULL; `Damaged` where another value stands there. Whether they spell a
+/// checkpoint is not looked at.
+pub(crate) fn bytes_at(row: &Row, at: usize) -> Result<Option<Vec<u8>>, StoreError>
+    ensures found { IfOk result (λ o. column row.now at ≡ or_null (λ b. Blob b.items) o) }
+    ensures exact { (c : Option Checkpoint) → at < length row.now → column row.now at ≡ spelled c
+        → IfErr result (λ e. e ≡ StoreError.Memory) }
+    ensures named { IfErr result IsReadError }
+{
+    row.get(at).map_err(read_error)
+}
+
 /// The marks of the checkpoint in a column, `None` where it is NULL. The state behind them is not read.
 pub(crate) fn marks_at(alloc: Global, row: &Row, at: usize) -> Result<Option<Marks>, StoreError>
     ensures exact { (c : Option Checkpoint) → IsSpelled c → at < length row.now → column row.now at ≡ spelled c
@@ -145,6 +158,22 @@ fn tentative_at(alloc: Global, row: &Row) -> Result<Option<Tentative>, StoreErro
     paired(checkpoint, instance)
 }
 
+/// The instance of the tentative checkpoint of the row of a node; `Damaged` where the one is there without the other.
+pub(crate) fn instance_at(row: &Row, is_taken: bool) -> Result<Option<Number>, StoreError>
+    ensures exact { (t : Option TentativeFields) → IsTaken t → 4 < length row.now → column row.now 4 ≡ instance_value t
+        → is_taken ≡ is_some t → GivesInstance t result }
+    ensures named { IfErr result IsReadError }
+{
+    match optional_number_at(row, 4)? {
+        None if !is_taken => Ok(None),
+        Some(instance) if is_taken => match Number::new(instance) {
+            Some(number) => Ok(Some(number)),
+            None => Err(StoreError::Damaged),
+        },
+        _ => Err(StoreError::Damaged),
+    }
+}
+
 /// A checkpoint and its instance, which are both there or both not.
 fn paired(checkpoint: Option<Ckpt>, instance: Option<u64>) -> Result<Option<Tentative>, StoreError>
     ensures found { IfOk result (λ t. (checkpoint ≡ taken_checkpoint t) × (instance ≡ taken_instance t)
@@ -172,6 +201,15 @@ fn node_at(row: &Row, at: usize) -> Result<NodeId, StoreError>
     ensures named { IfErr result IsReadError }
 {
     node_of(number_at(row, at)?).ok_or(StoreError::Damaged)
+}
+
+/// The id of the node whose row this is.
+pub(crate) fn id_at(row: &Row) -> Result<u32, StoreError>
+    ensures exact { (n : NodeName) → HasId n → 0 < length row.now → column row.now 0 ≡ whole (id_of n)
+        → Gives (id_of n) result }
+    ensures named { IfErr result IsReadError }
+{
+    id_of(node_at(row, 0)?).ok_or(StoreError::Damaged)
 }
 
 /// The number in a column, from 1 to the greatest.

@@ -4,11 +4,11 @@ ghost use Rattle.std.specs.Prelude.{◌≡◌, ◌≤◌, true, false, IfOk, OnO
 ghost use Rattle.sqlite_trees.specs.View.{doubt};
 ghost use Rattle.sqlite.specs.Held.{state};
 ghost use Rattle.sqlite.specs.State.{HasCleanDisk, Executes, ExecutesInside, KeepsCommit, Survives};
-ghost use Rattle.kt_store.specs.declared.rows.NodeRow.{NodeRow as NodeFields};
 ghost use Rattle.kt_store.specs.declared.rows.Posted.{Posted as PostedFields};
 ghost use Rattle.kt_tables.specs.inner.Text.{put_node_text, put_posted_text};
-ghost use Rattle.kt_tables.specs.Rows.{node_given, posted_given};
-ghost use Rattle.kt_tables.specs.inner.Cells.{SpellsNode, SpellsPosted};
+ghost use Rattle.kt_tables.specs.Rows.{posted_given};
+ghost use Rattle.kt_tables.specs.Cells.{cells_given};
+ghost use Rattle.kt_tables.specs.inner.Cells.{SpellsPosted};
 ghost use Rattle.kt_tables.specs.inner.Both.{RanBoth};
 
 use crate::cells::{NodeCells, PostedCells};
@@ -24,8 +24,8 @@ pub(crate) fn execute_node<S: Alter>(
     conn: &mut Connection<S>,
     cells: &NodeCells,
 ) -> Result<usize, Error>
-    ensures runs { HasCleanDisk (state S.Store conn.new) → (r : NodeFields) → SpellsNode cells.now r
-        → Executes put_node_text (node_given r) (state S.Store conn.old) (state S.Store conn.new) result }
+    ensures runs { HasCleanDisk (state S.Store conn.new)
+        → Executes put_node_text (cells_given cells.now) (state S.Store conn.old) (state S.Store conn.new) result }
     ensures clean { doubt (state S.Store conn.old).is_clean ≤ doubt (state S.Store conn.new).is_clean }
 {
     conn.execute(
@@ -63,8 +63,7 @@ pub(crate) fn execute_posted<S: Alter>(
 fn put_node<S: Alter>(tx: &mut Transaction<'_, S>, cells: &NodeCells) -> Result<usize, Error>
     ensures same_reference { tx.new.conn.ghost_name ≡ tx.old.conn.ghost_name }
     ensures runs { HasCleanDisk (state S.Store tx.new.conn.now) → IsTrue (state S.Store tx.old.conn.now).in_transaction
-        → (r : NodeFields) → SpellsNode cells.now r
-        → ExecutesInside 0 put_node_text (node_given r) (state S.Store tx.old.conn.now)
+        → ExecutesInside 0 put_node_text (cells_given cells.now) (state S.Store tx.old.conn.now)
         (state S.Store tx.new.conn.now) result }
     ensures inside { HasCleanDisk (state S.Store tx.new.conn.now)
         → IsTrue (state S.Store tx.old.conn.now).in_transaction
@@ -116,9 +115,8 @@ pub(crate) fn execute_both<S: Alter>(
     posted: PostedCells,
 ) -> Result<bool, Error>
     ensures both { HasCleanDisk (state S.Store conn.new)
-        → IfOk result (λ done. IsTrue done → (r : NodeFields) (p : PostedFields) → SpellsNode node.now r
-        → SpellsPosted posted p
-        → RanBoth S.Store r p conn.old conn.new) }
+        → IfOk result (λ done. IsTrue done → (p : PostedFields) → SpellsPosted posted p
+        → RanBoth S.Store (cells_given node.now) p conn.old conn.new) }
     ensures neither { HasCleanDisk (state S.Store conn.new) → IsTrue (state S.Store conn.new).is_open
         → OnErr result (((state S.Store conn.new).now ≡ (state S.Store conn.old).now)
         × ((state S.Store conn.new).committed ≡ (state S.Store conn.old).committed)) }

@@ -1,20 +1,20 @@
 -- Two rows in one transaction.
 use Rattle.std.specs.Prelude.{◌≡◌, ℕ, true, Ok, IsTrue}
 use Rattle.sqlite.specs.Store.{Ghosts}
+use Rattle.sqlite.specs.Order.{Row}
 use Rattle.sqlite.specs.State.{Executes}
 use Rattle.sqlite.specs.Held.{Held, state}
-use Rattle.kt_store.specs.declared.rows.NodeRow.{NodeRow}
 use Rattle.kt_store.specs.declared.rows.Posted.{Posted}
 use Rattle.kt_tables.specs.Settled.{IsSettled}
-use Rattle.kt_tables.specs.Rows.{node_given, posted_given}
+use Rattle.kt_tables.specs.Rows.{posted_given}
 use Rattle.kt_tables.specs.inner.Text.{put_node_text, put_posted_text}
 
 -- both were put, the one after the other, and committed
-pub record RanBoth {S : Type 0} (g : Ghosts S) (r : NodeRow) (p : Posted) (old new : Held S) : Type 0 where
+pub record RanBoth {S : Type 0} (g : Ghosts S) (node : Row) (p : Posted) (old new : Held S) : Type 0 where
   pub mid : Held S
   pub last : Held S
   pub counts : ℕ × ℕ
-  pub one : Executes put_node_text (node_given r) (state g (record old { in_transaction = true })) (state g mid)
+  pub one : Executes put_node_text node (state g (record old { in_transaction = true })) (state g mid)
       (Ok counts.0)
   pub two : Executes put_posted_text (posted_given p) (state g mid) (state g last) (Ok counts.1)
   pub was_open : IsTrue (state g old).is_open

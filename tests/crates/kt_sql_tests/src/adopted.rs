@@ -232,6 +232,8 @@ fn rows_of_nodes(rt: HostRuntime) -> Result<(), Fail> {
         let mut store = with_row(alloc, row)?;
         assert_eq!(rt; permanent_line(&mut store, alloc), *permanent, "{row}");
         assert_eq!(rt; tentative_line(&mut store, alloc), *tentative, "{row}");
+        // No write goes over a row that is damaged.
+        assert_eq!(rt; store.bump(FIRST).is_err(), permanent.is_err(), "{row}");
         assert!(rt; matches!(store.is_fresh(), Ok(false)) && store.faults() == 0);
     }
     Ok(())

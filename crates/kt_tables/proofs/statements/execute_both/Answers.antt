@@ -2,10 +2,11 @@ use Rattle.std.proofs.Common.{◌≡◌, ◌∙◌, sym, subst, arith, rules}
 use Rattle.sqlite.specs.State.{HasCleanDisk}
 use Rattle.sqlite.specs.Held.{state}
 use Rattle.kt_tables.specs.inner.Both.{RanBoth}
+use Rattle.kt_tables.specs.Cells.{cells_given}
 use Rattle.kt_tables.proofs.statements.execute_both.Goals as goal
 
 pub returns-clause-both : goal.returns-clause-both
-returns-clause-both g c clean _ r p node posted =
+returns-clause-both g c clean _ p posted =
     let old = c.args.conn.now in
     let mid = c.put_node.new.tx.conn.now in
     let last = c.put_posted.new.tx.conn.now in
@@ -14,10 +15,10 @@ returns-clause-both g c clean _ r p node posted =
     let same : end ≡ c.conn-2-1.given.0 = search rules in
     let late : HasCleanDisk (state g.S.Store end) = search rules in
     let later : HasCleanDisk (state g.S.Store last) = omega (arith, c.commit.ensures.survives.clean, late) in
-    let one = c.in_ok-put_node.ensures.runs (omega (arith, c.put_posted.ensures.survives.clean, later)) (rw begun) r node in
+    let one = c.in_ok-put_node.ensures.runs (omega (arith, c.put_posted.ensures.survives.clean, later)) (rw begun) in
     let two = c.in_ok-put_posted.ensures.runs later one.1.mode p posted in
     let done = c.in_ok-commit.ensures.ok late in
-    let ran : RanBoth g.S.Store r p old end = record {
+    let ran : RanBoth g.S.Store (cells_given c.args.node.now) p old end = record {
       mid = mid;
       last = last;
       counts = (c.in_ok-put_node.field-0, c.in_ok-put_posted.field-0);
@@ -27,4 +28,4 @@ returns-clause-both g c clean _ r p node posted =
       now = done.1.now_is;
       settled = record { autocommit = done.1.mode; same = done.1.now_is ∙ sym done.1.committed_is };
     } in
-    subst (RanBoth g.S.Store r p old) same ran
+    subst (RanBoth g.S.Store (cells_given c.args.node.now) p old) same ran

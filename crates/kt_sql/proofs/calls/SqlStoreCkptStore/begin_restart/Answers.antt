@@ -1,5 +1,6 @@
 use Rattle.std.proofs.Common.{◌∙◌}
 use Rattle.kt_tables.specs.Held.{content_of}
+use Rattle.kt_tables.specs.Cells.{cells_node}
 use Rattle.kt_tuple.proofs.Shared.{on_ok}
 use Rattle.kt_sql.proofs.CallLemmas.{restarts}
 use Rattle.kt_sql.proofs.calls.SqlStoreCkptStore.begin_restart.Goals as goal
@@ -7,10 +8,10 @@ use Rattle.kt_sql.proofs.calls.SqlStoreCkptStore.begin_restart.Goals as goal
 pub returns-clause-written : goal.returns-clause-written
 returns-clause-written g c sure =
     let before = c.put_both.ensures.honest sure in
-    let first = c.in_ok-row_of.ensures.honest before in
+    let first = c.in_ok-cells_of.ensures.honest before in
     on_ok c.put_both.result
     (λ e. e ∙ restarts (content_of g.S.Store c.args.self.now.tables) (content_of g.S.Store c.last_instance.new.self.tables)
-    (content_of g.S.Store c.row_of.new.self.tables) c.args.node c.in_ok-row_of.field-0 c.in-Some.row c.in_ok-last.last
-    (c.in_ok-row_of.ensures.value before) c.in-Some.ensures (c.in_ok-row_of.ensures.same before)
+    (content_of g.S.Store c.cells_of.new.self.tables) c.args.node (cells_node c.in_ok-cells_of.field-0) (cells_node c.in-Some.cells) c.in_ok-last.last
+    (c.in_ok-cells_of.ensures.value before) (c.in-Some.ensures.value (c.in_ok-cells_of.ensures.said before)) (c.in_ok-cells_of.ensures.same before)
     (c.in_ok-last.ensures.same first) (c.in_ok-last.ensures.value first))
     (c.put_both.ensures.written sure)

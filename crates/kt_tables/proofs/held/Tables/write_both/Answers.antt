@@ -3,6 +3,7 @@ use Rattle.std.specs.Prelude.{IsTrue}
 use Rattle.sqlite.specs.Held.{Held}
 use Rattle.kt_store.specs.Changes.{storing}
 use Rattle.kt_tables.specs.Rows.{placing}
+use Rattle.kt_tables.specs.Cells.{cells_node, AreSaid}
 use Rattle.kt_tables.specs.Held.{Tabled, is_sure, content_of, IsKept}
 use Rattle.kt_tables.proofs.StateLemmas.{undone_stays}
 use Rattle.kt_tables.proofs.AnswerLemmas.{both_wrote, neither_wrote}
@@ -13,11 +14,12 @@ pub invariant_of-self : goal.invariant_of-self
 invariant_of-self g c sure =
     let s : Tabled _ = record { conn = c.self.inside.conn; is_trusted = c.self.inside.is_trusted } in
     let at : Held _ → Tabled _ = λ h. record { conn = h; is_trusted = c.self.inside.is_trusted } in
-    let r = c.requires in
+    let are = subst (λ (s : Tabled _). is_sure g.S.Store s ≡ true → AreSaid c.args.node.now) (sym c.self.view_is) c.requires.node in
+    let p = c.requires.posted in
     elim c.match-execute_both.branch [
       | in-Ok-true w ↦
-          (both_wrote g.S.Store s c.execute_both.new.conn c.self.invariant c.execute_both.ensures.clean r.0 r.1 r.2 r.3
-          (λ clean. w.in-Ok-true.ensures.both clean w.in-Ok-true.field-0-test r.0 r.1 r.4 r.5) sure).2
+          (both_wrote g.S.Store s c.execute_both.new.conn c.self.invariant c.execute_both.ensures.clean c.args.node.now p.0 are p.1
+          (λ clean. w.in-Ok-true.ensures.both clean w.in-Ok-true.field-0-test p.0 p.2) sure).2
       | in-Ok-false w ↦
           let same = (w.in-Ok-false.ensures.not_begun w.in-Ok-false.field-0-test).0 in
           subst (λ h. IsTrue (is_sure g.S.Store (at h)) → IsKept g.S.Store (at h)) (sym same) c.self.invariant sure
@@ -27,14 +29,15 @@ invariant_of-self g c sure =
     ]
 
 pub returns-clause-written : goal.returns-clause-written
-returns-clause-written g c r p good fine node posted sure =
+returns-clause-written g c p fine posted sure =
     let s : Tabled _ = record { conn = c.self.inside.conn; is_trusted = c.self.inside.is_trusted } in
+    let are = subst (λ (s : Tabled _). is_sure g.S.Store s ≡ true → AreSaid c.args.node.now) (sym c.self.view_is) c.requires.node in
     elim c.match-execute_both.branch [
       | in-Ok-true w ↦
           rw w.result-is
-          ((both_wrote g.S.Store s c.execute_both.new.conn c.self.invariant c.execute_both.ensures.clean r p good fine
-          (λ clean. w.in-Ok-true.ensures.both clean w.in-Ok-true.field-0-test r p node posted) sure).1
-          ∙ ap (λ (s : Tabled _). placing p (storing r (content_of g.S.Store s))) c.self.view_is)
+          ((both_wrote g.S.Store s c.execute_both.new.conn c.self.invariant c.execute_both.ensures.clean c.args.node.now p are fine
+          (λ clean. w.in-Ok-true.ensures.both clean w.in-Ok-true.field-0-test p posted) sure).1
+          ∙ ap (λ (s : Tabled _). placing p (storing (cells_node c.args.node.now) (content_of g.S.Store s))) c.self.view_is)
       | in-Ok-false w ↦ rw w.result-is tt
       | in-Err w ↦ rw w.result-is tt
     ]
@@ -59,12 +62,13 @@ pub returns-clause-honest : goal.returns-clause-honest
 returns-clause-honest g c sure =
     let s : Tabled _ = record { conn = c.self.inside.conn; is_trusted = c.self.inside.is_trusted } in
     let at : Held _ → Tabled _ = λ h. record { conn = h; is_trusted = c.self.inside.is_trusted } in
-    let r = c.requires in
+    let are = subst (λ (s : Tabled _). is_sure g.S.Store s ≡ true → AreSaid c.args.node.now) (sym c.self.view_is) c.requires.node in
+    let p = c.requires.posted in
     subst (λ (s : Tabled _). is_sure g.S.Store s ≡ true) c.self.view_is
     (elim c.match-execute_both.branch [
       | in-Ok-true w ↦
-          (both_wrote g.S.Store s c.execute_both.new.conn c.self.invariant c.execute_both.ensures.clean r.0 r.1 r.2 r.3
-          (λ clean. w.in-Ok-true.ensures.both clean w.in-Ok-true.field-0-test r.0 r.1 r.4 r.5) sure).0
+          (both_wrote g.S.Store s c.execute_both.new.conn c.self.invariant c.execute_both.ensures.clean c.args.node.now p.0 are p.1
+          (λ clean. w.in-Ok-true.ensures.both clean w.in-Ok-true.field-0-test p.0 p.2) sure).0
       | in-Ok-false w ↦
           let same = (w.in-Ok-false.ensures.not_begun w.in-Ok-false.field-0-test).0 in
           subst (λ h. IsTrue (is_sure g.S.Store (at h))) same sure

@@ -1,7 +1,7 @@
-use Rattle.std.proofs.Common.{◌≡◌, ◌∙◌, true, ap, subst}
+use Rattle.std.proofs.Common.{◌≡◌, ◌∙◌, true, sym, ap, subst}
 use Rattle.kt_store.specs.Changes.{storing}
-use Rattle.kt_tables.specs.Rows.{node_given}
 use Rattle.kt_tables.specs.inner.Text.{put_node_text}
+use Rattle.kt_tables.specs.Cells.{cells_given, cells_node, AreSaid}
 use Rattle.kt_tables.specs.Held.{Tabled, is_sure, content_of}
 use Rattle.kt_tables.proofs.AnswerLemmas.{node_wrote, not_wrote}
 use Rattle.kt_tables.proofs.held.Tables.write_node.Goals as goal
@@ -10,53 +10,53 @@ use Rattle.kt_tables.proofs.held.Tables.write_node.Goals.{in-Ok, in-Err}
 pub invariant_of-self : goal.invariant_of-self
 invariant_of-self g c sure =
     let s : Tabled _ = record { conn = c.self.inside.conn; is_trusted = c.self.inside.is_trusted } in
-    let k = c.requires in
+    let are = subst (λ (s : Tabled _). is_sure g.S.Store s ≡ true → AreSaid c.args.cells.now) (sym c.self.view_is) c.requires in
     elim c.match-execute_node.branch [
       | in-Ok w ↦
-          (node_wrote g.S.Store s c.execute_node.new.conn c.self.invariant c.execute_node.ensures.clean k.0 _ k.1
-          (λ clean. w.in-Ok.ensures.runs clean k.0 k.2) sure).2
+          (node_wrote g.S.Store s c.execute_node.new.conn c.self.invariant c.execute_node.ensures.clean c.args.cells.now _ are
+          w.in-Ok.ensures.runs sure).2
       | in-Err w ↦
-          (not_wrote g.S.Store s c.execute_node.new.conn c.self.invariant c.execute_node.ensures.clean put_node_text (node_given k.0) w.in-Err.error
-          (λ clean. w.in-Err.ensures.runs clean k.0 k.2) sure).2
+          (not_wrote g.S.Store s c.execute_node.new.conn c.self.invariant c.execute_node.ensures.clean put_node_text (cells_given c.args.cells.now)
+          w.in-Err.error w.in-Err.ensures.runs sure).2
     ]
 
 pub returns-clause-written : goal.returns-clause-written
-returns-clause-written g c r good spells sure =
+returns-clause-written g c sure =
     let s : Tabled _ = record { conn = c.self.inside.conn; is_trusted = c.self.inside.is_trusted } in
+    let are = subst (λ (s : Tabled _). is_sure g.S.Store s ≡ true → AreSaid c.args.cells.now) (sym c.self.view_is) c.requires in
     elim c.match-execute_node.branch [
       | in-Ok w ↦
           rw w.result-is
-          ((node_wrote g.S.Store s c.execute_node.new.conn c.self.invariant c.execute_node.ensures.clean r _ good
-          (λ clean. w.in-Ok.ensures.runs clean r spells) sure).1
-          ∙ ap (λ (s : Tabled _). storing r (content_of g.S.Store s)) c.self.view_is)
+          ((node_wrote g.S.Store s c.execute_node.new.conn c.self.invariant c.execute_node.ensures.clean c.args.cells.now _ are
+          w.in-Ok.ensures.runs sure).1
+          ∙ ap (λ (s : Tabled _). storing (cells_node c.args.cells.now) (content_of g.S.Store s)) c.self.view_is)
       | in-Err w ↦ rw w.result-is tt
     ]
 
 pub returns-clause-unchanged : goal.returns-clause-unchanged
 returns-clause-unchanged g c sure =
     let s : Tabled _ = record { conn = c.self.inside.conn; is_trusted = c.self.inside.is_trusted } in
-    let k = c.requires in
     elim c.match-execute_node.branch [
       | in-Ok w ↦ rw w.result-is tt
       | in-Err w ↦
           rw w.result-is
-          ((not_wrote g.S.Store s c.execute_node.new.conn c.self.invariant c.execute_node.ensures.clean put_node_text (node_given k.0) w.in-Err.error
-          (λ clean. w.in-Err.ensures.runs clean k.0 k.2) sure).1
+          ((not_wrote g.S.Store s c.execute_node.new.conn c.self.invariant c.execute_node.ensures.clean put_node_text (cells_given c.args.cells.now)
+          w.in-Err.error w.in-Err.ensures.runs sure).1
           ∙ ap (content_of g.S.Store) c.self.view_is)
     ]
 
 pub returns-clause-honest : goal.returns-clause-honest
 returns-clause-honest g c sure =
     let s : Tabled _ = record { conn = c.self.inside.conn; is_trusted = c.self.inside.is_trusted } in
-    let k = c.requires in
+    let are = subst (λ (s : Tabled _). is_sure g.S.Store s ≡ true → AreSaid c.args.cells.now) (sym c.self.view_is) c.requires in
     subst (λ (s : Tabled _). is_sure g.S.Store s ≡ true) c.self.view_is
     (elim c.match-execute_node.branch [
       | in-Ok w ↦
-          (node_wrote g.S.Store s c.execute_node.new.conn c.self.invariant c.execute_node.ensures.clean k.0 _ k.1
-          (λ clean. w.in-Ok.ensures.runs clean k.0 k.2) sure).0
+          (node_wrote g.S.Store s c.execute_node.new.conn c.self.invariant c.execute_node.ensures.clean c.args.cells.now _ are
+          w.in-Ok.ensures.runs sure).0
       | in-Err w ↦
-          (not_wrote g.S.Store s c.execute_node.new.conn c.self.invariant c.execute_node.ensures.clean put_node_text (node_given k.0) w.in-Err.error
-          (λ clean. w.in-Err.ensures.runs clean k.0 k.2) sure).0
+          (not_wrote g.S.Store s c.execute_node.new.conn c.self.invariant c.execute_node.ensures.clean put_node_text (cells_given c.args.cells.now)
+          w.in-Err.error w.in-Err.ensures.runs sure).0
     ])
 
 pub returns-clause-trusted : goal.returns-clause-trusted

@@ -1,0 +1,33 @@
+use Rattle.std.proofs.Common.{slice_get, ap, ◌∙◌}
+use Rattle.std.specs.List.{find}
+use Rattle.kt_tuple.specs.Node.{node_eq}
+use Rattle.kt_store.specs.declared.rows.NodeRow.{NodeRow}
+use Rattle.kt_tables.specs.Cells.{AreSaid}
+use Rattle.kt_tables.specs.Held.{is_sure, content_of}
+use Rattle.kt_tables.proofs.AnswerLemmas.{read_reason, through_ok}
+use Rattle.kt_tables.proofs.CellLemmas.{gives_row}
+use Rattle.kt_tables.proofs.held.Tables.cells_of.Goals as goal
+
+pub returns-clause-said : goal.returns-clause-said
+returns-clause-said g c sure =
+    let found = c.in_ok-rows.ensures.rows sure in
+    let o = find (λ (r : NodeRow). node_eq r.node c.args.node) (content_of g.S.Store c.args.self.now).nodes in
+    let first = c.first_cells_of.ensures.exact o found.1 (ap (λ rows. slice_get rows 0) c.deref.ensures.value ∙ found.0) in
+    let it = gives_row c.args.node c.in-Some.id o c.first_cells_of.result c.in-Some.ensures.0 c.in-Some.ensures.1 found.1 first in
+    through_ok c.first_cells_of.result _ AreSaid (λ _ h. h.0) it.0
+
+pub returns-clause-value : goal.returns-clause-value
+returns-clause-value g c sure =
+    let found = c.in_ok-rows.ensures.rows sure in
+    let o = find (λ (r : NodeRow). node_eq r.node c.args.node) (content_of g.S.Store c.args.self.now).nodes in
+    let first = c.first_cells_of.ensures.exact o found.1 (ap (λ rows. slice_get rows 0) c.deref.ensures.value ∙ found.0) in
+    let it = gives_row c.args.node c.in-Some.id o c.first_cells_of.result c.in-Some.ensures.0 c.in-Some.ensures.1 found.1 first in
+    through_ok c.first_cells_of.result _ _ (λ _ h. h.1) it.0
+
+pub returns-clause-reason : goal.returns-clause-reason
+returns-clause-reason g c =
+    read_reason (is_sure g.S.Store c.rows_of.new.self) c.first_cells_of.result c.first_cells_of.ensures.named (λ sure.
+    let found = c.in_ok-rows.ensures.rows sure in
+    let o = find (λ (r : NodeRow). node_eq r.node c.args.node) (content_of g.S.Store c.args.self.now).nodes in
+    let first = c.first_cells_of.ensures.exact o found.1 (ap (λ rows. slice_get rows 0) c.deref.ensures.value ∙ found.0) in
+    (gives_row c.args.node c.in-Some.id o c.first_cells_of.result c.in-Some.ensures.0 c.in-Some.ensures.1 found.1 first).1)
