@@ -6,6 +6,7 @@ use crate::command::Command;
 use crate::status::{DONE, end_replay, end_run};
 use kt_run::run_text_over;
 use kt_scene::{Sink, Source, replay_over};
+use kt_stage::OpenGate;
 use kt_store::{CkptStore, MemStore};
 use std::alloc::Global;
 use std::io::{Read, Write};
@@ -33,7 +34,9 @@ pub fn run_over<T: Threads + Wait + Sync, R: Read, W: Write, E: Write, S: CkptSt
             (end_replay(answer, errors), left)
         }
         Command::Run(output) => {
-            let (answer, left) = run_text_over(threads, alloc, reader, writer, store, output);
+            let (answer, left) = run_text_over(
+                threads, alloc, reader, writer, store, output, &OpenGate,
+            );
             (end_run(answer, errors), left)
         }
     }

@@ -11,7 +11,7 @@ use Rattle.kt_scene.specs.declared.fault.ReplayFault.TheVariants as faults
 use Rattle.kt_scene.specs.Outside.{Reader, Writer}
 use Rattle.kt_scene.specs.Reading.{Play}
 use Rattle.kt_scene.specs.Run.{Given, left_by}
-use Rattle.kt_store.specs.Content.{Content}
+use Rattle.kt_store.specs.Content.{Content, is_fresh}
 use Rattle.kt_scene.specs.Scenario.{IsScenario}
 use Rattle.kt_scene.specs.Stream.{IsAllRead, IsReadFault, IsReportFault}
 use Rattle.kt_scene.proofs.Shared.{report_fault_since}
@@ -19,7 +19,8 @@ use Rattle.kt_scene.specs.Work.{Work, Steps, Faults, lines_of_faults}
 use Rattle.kt_stage.specs.Journal.{all_made}
 use Rattle.kt_stage.specs.declared.running.RunFault.{RunFault}
 use Rattle.kt_stage.specs.Policy.{first_unfinished, spent_by}
-use Rattle.kt_stage.specs.Running.{IsStopped}
+use Rattle.kt_stage.specs.Running.{IsStopped, IsStoppedWith}
+use Rattle.kt_stage.proofs.Shared.{stopped-same}
 use Rattle.kt_run.specs.declared.fault.RunTextFault.{RunTextFault}
 use Rattle.kt_run.specs.declared.fault.RunTextFault.TheVariants.{Text, Run}
 use Rattle.kt_run.specs.declared.running.Output.{Output}
@@ -57,6 +58,17 @@ stopped_of given text play lines fault scenario are why = record {
   trial = record { scenario = scenario; faults = work_is play.work lines are };
   why = why;
 }
+
+-- the same of what was left, whose store was taken out of it
+pub left_stopped : {S : Type 0} (content : S → Content) (is_honest : S → Bool) (fault_count : S → ℕ) (store left : S) (honest : Bool) (faults : ℕ)
+    (text : List ℕ) (play : Play) (lines : List FaultLine) (fault : RunFault) → IsScenario text play → lines_of_faults play.work ≡ Some lines
+    → is_honest left ≡ honest → fault_count left ≡ faults
+    → IsStoppedWith honest faults (is_fresh (content store)) (fault_count store) play.cast lines fault
+    → IsTextFault (left_by content is_honest fault_count store left) text (Run fault)
+left_stopped content is_honest fault_count store left honest faults text play lines fault scenario are same_honest same_faults why =
+    stopped_of (left_by content is_honest fault_count store left) text play lines fault scenario are
+    (stopped-same (is_honest left) honest (fault_count left) faults (is_fresh (content store)) (fault_count store) play.cast lines fault
+    same_honest same_faults why)
 
 -- what the text that was read answers comes before the writing
 pub told_over : {X S : Type 0} (content : S → Content) (is_honest : S → Bool) (fault_count : S → ℕ) (store : S) (before after : Reader)

@@ -14,7 +14,7 @@ use kt_scene::{
     ReplayFault, Scenario, Sink, Source, WorkKind, read_scene, read_text, write_journal,
     write_report,
 };
-use kt_stage::{Journal, run_threads_over};
+use kt_stage::{Gate, Journal, run_threads_over};
 use kt_store::CkptStore;
 use std::alloc::{AllocError, Global};
 use std::io::{Read, Write};
@@ -32,23 +32,25 @@ pub enum Output {
 
 /// Reads a scenario of fault lines, runs it by a thread for each node over the store, and writes the report of the
 /// world then, or the journal. It reads all, then runs, then writes; so a fault other than `Text(Write)` leaves nothing
-/// written. What was read before a fault is gone from the reader. It may wait for its threads.
+/// written. What was read before a fault is gone from the reader. It may wait for its threads and the gate.
 ///
 /// The store is dropped, so its clauses speak of some store of its kind in place of the one that was left. Of a kind
 /// that is not always honest `run_text_over` says more.
-pub fn run_text<T, R, W, S>(
+pub fn run_text<T, R, W, S, G>(
     rt: &T,
     alloc: Global,
     reader: &mut Source<R>,
     writer: &mut Sink<W>,
     store: S,
     output: Output,
+    gate: &G,
 ) -> Result<(), RunTextFault>
 where
     T: Threads + Wait + Sync,
     R: Read,
     W: Write,
     S: CkptStore + Send + Drop,
+    G: Gate + Sync,
     ensures written { OnOk result
         (WritesRun (given_by S.content S.is_honest S.fault_count store) output reader.old reader.new
         writer.old writer.new) }
@@ -60,26 +62,28 @@ where
     // Before any fault but the writer's the writer is not called.
     ensures nothing { IfErr result (λ fault. UnlessFront fault (writer.new ≡ writer.old)) }
 {
-    let (answer, left) = run_text_over(rt, alloc, reader, writer, store, output);
+    let (answer, left) = run_text_over(rt, alloc, reader, writer, store, output, gate);
     drop(left);
     answer
 }
 
 /// As `run_text`, and gives the store back. `run_text` drops it, so its clauses can name no store that a caller sees;
 /// these speak of the one that is given back (docs/DECISIONS.md#the-report).
-pub fn run_text_over<T, R, W, S>(
+pub fn run_text_over<T, R, W, S, G>(
     rt: &T,
     alloc: Global,
     reader: &mut Source<R>,
     writer: &mut Sink<W>,
     store: S,
     output: Output,
+    gate: &G,
 ) -> (Result<(), RunTextFault>, S)
 where
     T: Threads + Wait + Sync,
     R: Read,
     W: Write,
     S: CkptStore + Send + Drop,
+    G: Gate + Sync,
     ensures written { OnOk result.0
         (WritesRun (left_by S.content S.is_honest S.fault_count store result.1) output reader.old reader.new
         writer.old writer.new) }
@@ -91,7 +95,7 @@ where
     // Before any fault but the writer's the writer is not called.
     ensures nothing { IfErr result.0 (λ fault. UnlessFront fault (writer.new ≡ writer.old)) }
 {
-    match run_read(rt, alloc, reader, store) {
+    match run_read(rt, alloc, reader, store, gate) {
         Ok(journal) => {
             let (answer, left) = write_run(alloc, journal, writer, output);
             match answer {
@@ -104,16 +108,18 @@ where
 }
 
 /// Reads a scenario of fault lines and runs it: the journal then.
-fn run_read<T, R, S>(
+fn run_read<T, R, S, G>(
     rt: &T,
     alloc: Global,
     reader: &mut Source<R>,
     store: S,
+    gate: &G,
 ) -> Result<Journal<S>, (RunTextFault, S)>
 where
     T: Threads + Wait + Sync,
     R: Read,
     S: CkptStore + Send + Drop,
+    G: Gate + Sync,
     ensures run { IfOk result (λ j. IsRun reader.old reader.new j.world.is_honest (is_fresh (S.content store)) j.steps
         j.world.state) }
     ensures later { IfOk result (λ j. S.fault_count store ≤ j.world.faults) }
@@ -121,21 +127,23 @@ where
         IsRunFault (left_by S.content S.is_honest S.fault_count store e.1) reader.old reader.new e.0) }
 {
     match read_text(alloc, reader) {
-        Ok(text) => run_told(rt, alloc, &text, store),
+        Ok(text) => run_told(rt, alloc, &text, store, gate),
         Err(fault) => Err((RunTextFault::Text(fault), store)),
     }
 }
 
 /// Runs the scenario that the text spells, and gives the journal; with a fault comes the store as it was left.
-fn run_told<T, S>(
+fn run_told<T, S, G>(
     rt: &T,
     alloc: Global,
     text: &[u8],
     store: S,
+    gate: &G,
 ) -> Result<Journal<S>, (RunTextFault, S)>
 where
     T: Threads + Wait + Sync,
     S: CkptStore + Send + Drop,
+    G: Gate + Sync,
     ensures run { IfOk result (λ j. IsRunOf text.now j.world.is_honest (is_fresh (S.content store)) j.steps
         j.world.state) }
     ensures later { IfOk result (λ j. S.fault_count store ≤ j.world.faults) }
@@ -148,9 +156,9 @@ where
     };
     // The work is of the kind that was asked for.
     let faults = work.into_faults().unwrap();
-    match run_threads_over(rt, alloc, scene, faults, store) {
+    match run_threads_over(rt, alloc, scene, faults, store, gate) {
         Ok(journal) => Ok(journal),
-        Err((fault, left)) => Err((RunTextFault::from(fault), left)),
+        Err((fault, left)) => Err((RunTextFault::from(fault), left.into_store())),
     }
 }
 

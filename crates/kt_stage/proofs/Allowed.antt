@@ -1,5 +1,5 @@
 -- What the policy gives is a step of the node itself, and allowed.
-use Rattle.std.proofs.Common.{◌≡◌, suc, ◌+◌, ◌-◌, ◌*◌, length, Bool, true, false, List, [], ◌∷◌, Result, Ok, Err, refl, sym, ap, ◌∙◌, arith}
+use Rattle.std.proofs.Common.{◌≡◌, suc, ◌+◌, ◌-◌, ◌*◌, length, Bool, true, false, List, [], ◌∷◌, Result, Ok, Err, refl, sym, ap, subst, ◌∙◌, arith}
 use Rattle.std.specs.Prelude.{Option, None, Some, cond, is_some, not, ◌&&◌, ◌||◌, if◌then◌else◌, slice_get, unwrap_or, IfOk, IfSome, IsTrue}
 use Rattle.std.specs.List.{find}
 use Rattle.std.specs.Option.{option_map}
@@ -31,7 +31,8 @@ use Rattle.kt_stage.specs.declared.policy.Rule.{Rule}
 use Rattle.kt_stage.specs.declared.policy.Rule.TheVariants as rules
 use Rattle.kt_stage.specs.Order.{names, workers}
 use Rattle.kt_stage.specs.Policy.{by_rule, first_some, got_no, has_sent, if_allowed, is_down, is_mode, is_up, next_step}
-use Rattle.kt_stage.specs.Policy.{node_got_no, or_else, policy, serves_with_first, step_if}
+use Rattle.kt_stage.specs.Policy.{before_serving, node_got_no, or_else, policy, serves_with_first, step_if}
+use Rattle.kt_stage.specs.inner.Serving.{next_before_serving}
 use Rattle.kt_stage.proofs.Planned.{check-or, delivery-or, fail-or, in-scene, restart-or}
 
 -- ---- the words of the rules
@@ -274,4 +275,60 @@ asked-nobody w lines p mode value there none = record {
   honest = λ h. h;
   later = omega arith;
   cause = tt;
+}
+
+-- ---- the same by the rules before that of serving
+
+before-rules : (s : State) (lines : List FaultLine) (p : NodeId) (x : Step) → next_before_serving s lines p ≡ Some x
+    → first_some (by_rule s lines p) before_serving ≡ Some x
+before-rules s lines p x e = by (is_node s.cast p) e
+  where
+    by : (b : Bool) → (if b then first_some (by_rule s lines p) before_serving else None) ≡ Some x
+        → first_some (by_rule s lines p) before_serving ≡ Some x
+    by true e = e
+    by false e = absurd cc
+
+pub before-own : (s : State) (lines : List FaultLine) (p : NodeId) (r : Result (Option Step) StoreError) → IfOk r (λ x. x ≡ next_before_serving s lines p)
+    → IfOk r (λ x. IfSome x (λ step. owner step ≡ p))
+before-own s lines p (Ok None) is = tt
+before-own s lines p (Ok (Some x)) is =
+    first-of (by_rule s lines p) before_serving x (owner x ≡ p) (λ rule. own-rule s lines p rule x) (before-rules s lines p x (sym is))
+before-own s lines p (Err e) is = tt
+
+pub before-allowed : (s : State) (lines : List FaultLine) (p : NodeId) (r : Result (Option Step) StoreError) → is_some (node s p) ≡ is_node s.cast p
+    → IfOk r (λ x. x ≡ next_before_serving s lines p) → IfOk r (λ x. IfSome x (λ step. IsTrue (is_allowed s step)))
+before-allowed s lines p (Ok None) found is = tt
+before-allowed s lines p (Ok (Some x)) found is =
+    first-of (by_rule s lines p) before_serving x (is_allowed s x ≡ true) (λ rule. allowed-rule s lines p found rule x) (before-rules s lines p x (sym is))
+before-allowed s lines p (Err e) found is = tt
+
+pub before-there : (s : State) (lines : List FaultLine) (p : NodeId) (r : Result (Option Step) StoreError) → is_node s.cast p ≡ true
+    → IfOk r (λ x. x ≡ first_some (by_rule s lines p) before_serving) → IfOk r (λ x. x ≡ next_before_serving s lines p)
+before-there s lines p (Ok x) there is =
+    is ∙ sym (ap (λ (b : Bool). if b then first_some (by_rule s lines p) before_serving else None) there)
+before-there s lines p (Err e) there is = tt
+
+pub before-nobody : (w : Standing) (lines : List FaultLine) (p : NodeId) (mode : Option Mode) → is_some mode ≡ is_node w.state.cast p → mode ≡ None
+    → IsAsked w w (λ s x. x ≡ next_before_serving s lines p) (Ok None)
+before-nobody w lines p mode there none = record {
+  value = λ h. sym (ap (λ (b : Bool). if b then first_some (by_rule w.state lines p) before_serving else None) (sym there ∙ ap is_some none));
+  same = λ h. refl;
+  beside = refl;
+  honest = λ h. h;
+  later = omega arith;
+  cause = tt;
+}
+
+pub before-asked : (old new : Standing) (lines : List FaultLine) (p : NodeId) (rules : List Rule) (r : Result (Option Step) StoreError) → rules ≡ before_serving
+    → is_node old.state.cast p ≡ true → IsAsked old new (λ s x. x ≡ first_some (by_rule s lines p) rules) r
+    → IsAsked old new (λ s x. x ≡ next_before_serving s lines p) r
+before-asked old new lines p rules r same there asked = record {
+  value = λ h.
+      before-there old.state lines p r there
+      (subst (λ (all : List Rule). IfOk r (λ x. x ≡ first_some (by_rule old.state lines p) all)) same (asked.value h));
+  same = asked.same;
+  beside = asked.beside;
+  honest = asked.honest;
+  later = asked.later;
+  cause = asked.cause;
 }

@@ -3,6 +3,7 @@ pub mod Asked
 pub mod Making
 pub mod Seats
 pub mod Opening
+pub mod Halts
 pub mod Ended
 pub mod Planned
 pub mod Allowed

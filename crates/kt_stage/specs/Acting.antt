@@ -1,14 +1,20 @@
 -- Why a node does not act.
-use Rattle.std.specs.Prelude.{◌≢◌, ℕ, Bool, Result}
+use Rattle.std.specs.Prelude.{◌≡◌, ◌≢◌, ◌+◌, ◌++◌, ◌∷◌, [], ℕ, Bool, length, Result, Ok, Err}
+use Rattle.std.specs.Prelude.{IfOk, IfErr, OnOk, OnErr, IsTrue}
 use Rattle.kt_tuple.specs.declared.node.NodeId.{NodeId}
 use Rattle.kt_world.specs.declared.step.Step.{Step}
 use Rattle.kt_world.specs.declared.step.StepError.{StepError}
 use Rattle.kt_world.specs.declared.step.StepError.TheVariants as refusals
 use Rattle.kt_world.specs.Step.{owner}
 use Rattle.kt_world.specs.State.{State}
+use Rattle.kt_world.specs.Effect.{step_result}
+use Rattle.kt_world.specs.Judge.{planned}
 use Rattle.kt_core.specs.Stepping.{IsCalledFor, IsCause, Refuses}
+use Rattle.kt_core.specs.World.{Standing, beside}
 use Rattle.kt_stage.specs.declared.error.ActError.{ActError}
 use Rattle.kt_stage.specs.declared.error.ActError.TheVariants as errors
+use Rattle.kt_stage.specs.declared.seat.Receipt.{Receipt}
+use Rattle.kt_stage.specs.Journal.{Journal, Replays, receipt}
 
 -- it is said to be another node's only where it is
 abbrev pub IsOthers : NodeId → Step → ActError → Type 0
@@ -33,3 +39,30 @@ IsActCause before now is_honest (errors.Step refusal) = IsCause before now is_ho
 abbrev pub IsActCalledFor : State → Step → ActError → Type 0
 IsActCalledFor s step errors.NotOwner = Unit {0}
 IsActCalledFor s step (errors.Step refusal) = IsCalledFor s step refusal
+
+-- ---- what came of a step that a seat of p tried, while the journal went from the one to the other
+
+pub record IsActed (old new : Journal) (p : NodeId) (step : Step) (result : Result Receipt ActError) : Type 0 where
+  -- made: it stands behind all steps before it, with the place that it has there
+  pub receipt : IfOk result (λ r. r ≡ receipt (length old.steps + 1) step)
+  pub journal : OnOk result (new.steps ≡ old.steps ++ step ∷ [])
+  pub effect : IsTrue new.world.is_honest → OnOk result (step_result old.world.state step ≡ Ok new.world.state)
+  pub honest : IsTrue new.world.is_honest → IsTrue old.world.is_honest
+  -- refused: for the reason that is due in the world as it was
+  pub not_owner : IfErr result (IsOthers p step)
+  pub others : owner step ≢ p → result ≡ Err errors.NotOwner
+  pub refusal : IsTrue new.world.is_honest → IfErr result (λ e. RefusesAct e (planned old.world.state step))
+  pub cause : IfErr result (IsActCause old.world.faults new.world.faults new.world.is_honest)
+  pub called : IsTrue new.world.is_honest → IfErr result (IsActCalledFor old.world.state step)
+  -- and then nothing has changed
+  pub same_steps : OnErr result (new.steps ≡ old.steps)
+  pub same : IsTrue new.world.is_honest → OnErr result (new.world.state ≡ old.world.state)
+  pub beside : OnErr result (beside new.world.state ≡ beside old.world.state)
+
+-- so it was, for two journals of the stage that was opened with this: to each its steps lead
+pub record IsActedOn (opening : Standing) (p : NodeId) (step : Step) (result : Result Receipt ActError) : Type 0 where
+  pub old : Journal
+  pub new : Journal
+  pub replayed : Replays opening old.world old.steps
+  pub replays : Replays opening new.world new.steps
+  pub acted : IsActed old new p step result

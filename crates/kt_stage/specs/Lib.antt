@@ -4,6 +4,7 @@ pub mod Policy
 pub mod Asking
 pub mod Journal
 pub mod Acting
+pub mod Glancing
 pub mod Closing
 pub mod Running
 pub mod inner

@@ -1,6 +1,6 @@
 -- What a node does next of itself, while a scenario of fault lines is run: the step of the first rule that applies to
 -- it. A step is allowed where it is enabled, the limit of steps left aside.
-use Rattle.std.specs.Prelude.{ℕ, ◌==◌, Bool, true, false, not, ◌&&◌, ◌||◌, if◌then◌else◌, List, [], ◌∷◌}
+use Rattle.std.specs.Prelude.{ℕ, ◌==◌, Bool, true, false, not, ◌&&◌, ◌||◌, if◌then◌else◌, List, [], ◌∷◌, ◌++◌}
 use Rattle.std.specs.Prelude.{Option, None, Some, fold, is_some}
 use Rattle.std.specs.List.{find, list_all, list_any}
 use Rattle.std.specs.Option.{option_map}
@@ -244,11 +244,15 @@ by_rule s lines p rules.Asks = asks s p
 by_rule s lines p rules.Serves = serves s p
 by_rule s lines p rules.GivesUp = gives_up s p
 
--- the rules in their order
-abbrev pub policy : List Rule
-policy =
+-- the rules that come before that of serving
+abbrev pub before_serving : List Rule
+before_serving =
     rules.Fails ∷ rules.Checks ∷ rules.Learns ∷ rules.ComesBack ∷ rules.TriesAgain ∷ rules.Decides
-    ∷ rules.Hears ∷ rules.Takes ∷ rules.Asks ∷ rules.Serves ∷ rules.GivesUp ∷ []
+    ∷ rules.Hears ∷ rules.Takes ∷ rules.Asks ∷ []
+
+-- all rules in their order
+abbrev pub policy : List Rule
+policy = before_serving ++ rules.Serves ∷ rules.GivesUp ∷ []
 
 -- the step of the first rule that applies to p, where these fault lines are left
 abbrev pub next_step : State → List FaultLine → NodeId → Option Step

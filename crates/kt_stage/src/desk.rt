@@ -1,14 +1,16 @@
 //! What lies under a stage's lock.
 
 ghost use Rattle.std.specs.Prelude.{◌≡◌, ◌≢◌, ◌↔◌, ◌++◌, ◌∷◌, [], length, true, vec_len, Err, IfErr, IfOk, IsTrue, Ok};
-ghost use Rattle.std.specs.Prelude.{◌≤◌, OnErr, OnOk};
+ghost use Rattle.std.specs.Prelude.{◌≤◌, IfSome, OnErr, OnOk};
 ghost use Rattle.kt_core.specs.Stepping.{IsCalledFor, IsCause};
 ghost use Rattle.kt_core.specs.World.{beside};
 ghost use Rattle.kt_stage.specs.Acting.{IsActCalledFor, IsActCause, IsOthers, RefusesAct, RefusesStep};
 ghost use Rattle.kt_stage.specs.Asking.{IsAsked};
 ghost use Rattle.kt_stage.specs.Journal.{Replays, receipt};
 ghost use Rattle.kt_stage.specs.inner.Midway.{are_owned};
-ghost use Rattle.kt_stage.specs.Policy.{next_step};
+ghost use Rattle.kt_stage.specs.Policy.{first_unfinished, next_step};
+ghost use Rattle.kt_stage.specs.inner.Serving.{next_before_serving};
+ghost use Rattle.kt_stage.specs.inner.Halting.{IsGiven};
 ghost use Rattle.kt_world.specs.Effect.{step_result};
 ghost use Rattle.kt_world.specs.Judge.{planned};
 ghost use Rattle.kt_world.specs.Step.{owner};
@@ -16,7 +18,7 @@ ghost use Rattle.kt_world.specs.Step.{owner};
 use crate::error::ActError;
 use crate::journal::Journal;
 use crate::naming::Naming;
-use crate::policy::next_for;
+use crate::policy::{first_unfinished, next_before_serving, next_for};
 use crate::seat::{Receipt, Seat};
 use kt_core::{Faults, Step, StepError};
 use kt_store::{CkptStore, StoreError};
@@ -83,10 +85,39 @@ impl<S: CkptStore, L: Naming> Desk<S, L> {
     ) -> Result<Option<Step>, StoreError>
         ensures next { IsAsked self.old.journal.world self.new.journal.world
             (λ s x. x ≡ next_step s faults.now node) result }
+        ensures given { IfOk result (λ x. IfSome x (IsGiven self.new.journal.world node)) }
         ensures steps { self.new.journal.steps ≡ self.old.journal.steps }
     {
         let Desk { journal, .. } = self;
         next_for(alloc, &mut journal.world, faults, node)
+    }
+
+    /// The same by the rules before that of serving alone.
+    pub(crate) fn next_before_serving(
+        &mut self,
+        alloc: Global,
+        faults: &Faults,
+        node: NodeId,
+    ) -> Result<Option<Step>, StoreError>
+        ensures next { IsAsked self.old.journal.world self.new.journal.world
+            (λ s x. x ≡ next_before_serving s faults.now node) result }
+        ensures given { IfOk result (λ x. IfSome x (IsGiven self.new.journal.world node)) }
+        ensures steps { self.new.journal.steps ≡ self.old.journal.steps }
+    {
+        let Desk { journal, .. } = self;
+        next_before_serving(alloc, &mut journal.world, faults, node)
+    }
+
+    /// The first node, in node order, that has a next step.
+    pub(crate) fn first_unfinished(
+        &mut self,
+        alloc: Global,
+        faults: &Faults,
+    ) -> Result<Option<NodeId>, StoreError>
+        ensures { IsAsked self.old.journal.world self.new.journal.world
+            (λ s x. x ≡ first_unfinished s faults.now) result }
+    {
+        first_unfinished(&mut self.journal.world, alloc, faults)
     }
 
     /// Makes the step of the seat's node, and gives the receipt that the seat keeps then. A refusal leaves the seat and
@@ -103,6 +134,7 @@ impl<S: CkptStore, L: Naming> Desk<S, L> {
         ensures journal { OnOk result (self.new.journal.steps ≡ self.old.journal.steps ++ step ∷ []) }
         ensures effect { IsTrue self.new.journal.world.is_honest
             → OnOk result (step_result self.old.journal.world.state step ≡ Ok self.new.journal.world.state) }
+        ensures honest { IsTrue self.new.journal.world.is_honest → IsTrue self.old.journal.world.is_honest }
         ensures later { self.old.journal.world.faults ≤ self.new.journal.world.faults }
         ensures node { seat.new.node ≡ seat.old.node }
         ensures not_owner { IfErr result (IsOthers seat.old.node step) }

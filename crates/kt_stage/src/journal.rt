@@ -1,9 +1,10 @@
 //! The journal: a world, and all steps that were made in it.
 
-ghost use Rattle.std.specs.Prelude.{◌≡◌};
+ghost use Rattle.std.specs.Prelude.{◌≡◌, []};
 
 use kt_core::{Step, World};
 use kt_store::CkptStore;
+use std::alloc::Global;
 use std::marker::Model;
 
 /// A world, and all steps that were made in it on a stage.
@@ -22,6 +23,15 @@ impl<S: CkptStore> Model for Journal<S> {
 }
 
 impl<S: CkptStore> Journal<S> {
+    /// The journal of a world in which nothing was done yet. It takes no memory.
+    pub(crate) fn unbegun(alloc: Global, world: World<S>) -> Journal<S>
+        ensures world { result.world ≡ world }
+        ensures steps { result.steps ≡ [] }
+    {
+        let steps = Vec::new(alloc);
+        Journal { world, steps }
+    }
+
     /// The world as the steps left it.
     pub fn world(&self) -> &World<S>
         ensures { result.now ≡ self.now.world }

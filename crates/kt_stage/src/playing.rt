@@ -1,58 +1,27 @@
-//! What a thread of a run does for its node: step after step by the policy, and sleep where there is none.
+//! What a thread of a run does for its node: step after step by the policy, and sleep where there is none. Whom a shard
+//! serves is searched outside the lock.
 
-ghost use Rattle.kt_stage.specs.inner.Midway.{IsMidway};
+ghost use Rattle.std.specs.Prelude.{IfErr, IfOk, IfSome, IsTrue};
+ghost use Rattle.kt_stage.specs.Running.{is_fault_since, is_run_cause};
+ghost use Rattle.kt_stage.specs.inner.Halting.{IsGiven};
 
 use crate::error::ActError;
+use crate::gate::Gate;
+use crate::glance::{Glance, Proposal, propose};
 use crate::naming::Naming;
-use crate::order::MAX_NODES;
-use crate::policy::first_unfinished;
-use crate::running::RunFault;
+use crate::order::{MAX_NODES, WORKERS};
 use crate::seat::Seat;
-use crate::stage::{Flags, Floor, Stage};
+use crate::stage::{Flags, Floor, Refused, Stage};
 use kt_core::{Step, StepError};
 use kt_store::{CkptStore, StoreError};
 use kt_tuple::NodeId;
 use std::alloc::Global;
 use std::sync::Wait;
 
-/// Why a node's part of a run ended early.
+/// That a node's part of a run ended early: something was refused, which the floor says, or else memory ran out or a
+/// thread could not be started.
 #[derive(Clone, Copy, Debug, PartialEq, Eq)]
-pub(crate) enum Halt {
-    /// A step was refused: the place in the journal that it would have had, counted from 1, and why.
-    Step { at: u64, cause: StepError },
-    /// Memory ran out, or a thread could not be started.
-    Memory,
-}
-
-impl Halt {
-    /// The store refused what has to be known of the next step, whose place this is.
-    fn asked(at: u64, refusal: StoreError) -> Halt {
-        Halt::Step {
-            at,
-            cause: StepError::Store(refusal),
-        }
-    }
-
-    /// The step at this place was refused.
-    fn refused(at: u64, refusal: ActError) -> Halt {
-        let cause = match refusal {
-            ActError::Step(cause) => cause,
-            // The policy gives a node steps of its own alone.
-            ActError::NotOwner => StepError::NoNode,
-        };
-        Halt::Step { at, cause }
-    }
-
-    /// The run's own fault, which is none of an opening or of an end.
-    pub(crate) fn fault(self) -> RunFault
-        ensures { IsMidway result }
-    {
-        match self {
-            Halt::Step { at, cause } => RunFault::Step { at, cause },
-            Halt::Memory => RunFault::Memory,
-        }
-    }
-}
+pub(crate) struct Halted;
 
 /// How many steps a node makes at most before it lets the others at the lock. To let go of the lock and to take it
 /// again costs more than a step does.
@@ -63,13 +32,18 @@ const TURNS: usize = 64;
 pub(crate) struct Player<L: Naming> {
     pub(crate) seat: Seat<L>,
     pub(crate) place: usize,
+    /// How many receipts the seat had when its shard was searched and nobody could be served. A shard changes by its
+    /// own steps alone, so it is not searched again before there is one more.
+    pub(crate) in_vain: Option<u64>,
 }
 
 /// What came of a node's turns.
-#[derive(Clone, Copy, Debug, PartialEq, Eq)]
+#[derive(Debug, Drop)]
 enum Turn {
     /// It made as many steps as it may in a row.
     Made,
+    /// It is a shard where somebody waits, and has seen what it may serve.
+    Looks(Glance),
     /// It has no next step at present, and sleeps.
     Idle,
     /// No node has a next step.
@@ -77,17 +51,54 @@ enum Turn {
 }
 
 impl<S: CkptStore, L: Naming> Floor<S, L> {
-    /// The place in the journal that the next step has, counted from 1.
-    fn at(&self) -> u64 {
-        self.desk.journal.steps.len() as u64 + 1
+    /// Ends the run: what was tried last is refused, for this reason.
+    fn refuse(&mut self, cause: StepError) -> Halted
+        requires { IsTrue (is_run_cause L.opening.faults self.old.desk.journal.world cause) }
+    {
+        let at = self.desk.journal.steps.len() as u64 + 1;
+        self.refused = Some(Refused { at, cause });
+        self.is_over = true;
+        Halted
     }
 
-    /// The node's next step; where the store does not say what has to be known, the run halts.
-    fn next(&mut self, alloc: Global, node: NodeId) -> Result<Option<Step>, Halt> {
-        let at = self.at();
+    /// The node's next step, but for the service of a shard that is up: it is searched outside the lock, and the rule
+    /// behind it is of no use to a node that is up. Where the store does not say what has to be known, the run halts.
+    fn next(&mut self, alloc: Global, node: NodeId) -> Result<Option<Step>, Halted>
+        ensures { IfOk result (λ x. IfSome x (IsGiven self.new.desk.journal.world node)) }
+    {
+        if self.desk.journal.world.shard(node).is_none() {
+            return self.next_by_all(alloc, node);
+        }
+        self.refused = None;
         let Floor { desk, faults, .. } = self;
-        desk.next_for(alloc, faults, node)
-            .map_err(|refusal| Halt::asked(at, refusal))
+        match desk.next_before_serving(alloc, faults, node) {
+            Ok(next) => Ok(next),
+            Err(refusal) => Err(self.refuse(StepError::Store(refusal))),
+        }
+    }
+
+    /// The node's next step, by all rules of the policy.
+    fn next_by_all(&mut self, alloc: Global, node: NodeId) -> Result<Option<Step>, Halted>
+        ensures { IfOk result (λ x. IfSome x (IsGiven self.new.desk.journal.world node)) }
+    {
+        self.refused = None;
+        let Floor { desk, faults, .. } = self;
+        match desk.next_for(alloc, faults, node) {
+            Ok(next) => Ok(next),
+            Err(refusal) => Err(self.refuse(StepError::Store(refusal))),
+        }
+    }
+
+    /// Whether the player's node is a shard that is up, where somebody waits, and which was not searched in vain since
+    /// its last step.
+    fn is_searched(&self, player: &Player<L>) -> bool {
+        if player.in_vain == Some(player.seat.receipts.len() as u64) {
+            return false;
+        }
+        match self.desk.journal.world.shard(player.seat.node) {
+            None => false,
+            Some(shard) => shard.desks().iter().any(|desk| desk.waiting.is_some()),
+        }
     }
 
     /// Makes the player's next step, and marks whom it may have given one.
@@ -98,14 +109,50 @@ impl<S: CkptStore, L: Naming> Floor<S, L> {
         step: Step,
         nodes: &[NodeId],
         woken: &mut Flags,
-    ) -> Result<(), Halt> {
-        let at = self.at();
+    ) -> Result<(), Halted>
+        requires { IsGiven self.old.desk.journal.world player.old.seat.node step }
+    {
         match self.act(alloc, &mut player.seat, step, nodes, woken) {
             Ok(_) => {
                 self.faults.spend(&step);
                 Ok(())
             }
-            Err(refusal) => Err(Halt::refused(at, refusal)),
+            Err(ActError::Step(cause)) => Err(self.refuse(cause)),
+            // The policy gives a node steps of its own alone.
+            Err(ActError::NotOwner) => Err(self.refuse(StepError::NoNode)),
+        }
+    }
+
+    /// Makes the service that the player's shard has found, and marks whom it may have given a next step. Where it is
+    /// refused the policy is asked under this lock. It gives the same step, since a shard changes by its own steps
+    /// alone, and that is refused for the same reason.
+    fn confirm(
+        &mut self,
+        alloc: Global,
+        player: &mut Player<L>,
+        step: Step,
+        nodes: &[NodeId],
+        woken: &mut Flags,
+    ) -> Result<(), Halted> {
+        match self.act(alloc, &mut player.seat, step, nodes, woken) {
+            Ok(_) => Ok(()),
+            Err(ActError::Step(StepError::OutOfMemory)) => Err(self.refuse(StepError::OutOfMemory)),
+            Err(_) => self.make_next(alloc, player, nodes, woken),
+        }
+    }
+
+    /// Makes the player's next step by all rules of the policy, if there is one. The shard is not searched again.
+    fn make_next(
+        &mut self,
+        alloc: Global,
+        player: &mut Player<L>,
+        nodes: &[NodeId],
+        woken: &mut Flags,
+    ) -> Result<(), Halted> {
+        player.in_vain = Some(player.seat.receipts.len() as u64);
+        match self.next_by_all(alloc, player.seat.node)? {
+            Some(step) => self.make(alloc, player, step, nodes, woken),
+            None => Ok(()),
         }
     }
 
@@ -118,14 +165,23 @@ impl<S: CkptStore, L: Naming> Floor<S, L> {
         player: &mut Player<L>,
         nodes: &[NodeId],
         woken: &mut Flags,
-    ) -> Result<Turn, Halt> {
+    ) -> Result<Turn, Halted> {
         for _ in 0..TURNS {
             match self.next(alloc, player.seat.node)? {
                 Some(step) => self.make(alloc, player, step, nodes, woken)?,
+                None if self.is_searched(player) => return self.look(alloc, player),
                 None => return self.rest(alloc, player.place, nodes, woken),
             }
         }
         Ok(Turn::Made)
+    }
+
+    /// The player's shard, as it is now. Of a shard that is up nothing but want of memory is refused.
+    fn look(&mut self, alloc: Global, player: &Player<L>) -> Result<Turn, Halted> {
+        match self.desk.glance(alloc, &player.seat) {
+            Ok(glance) => Ok(Turn::Looks(glance)),
+            Err(_) => Err(Halted),
+        }
     }
 
     /// The node at this place has no next step, and sleeps. The last that would sleep looks at all nodes: where none
@@ -137,16 +193,15 @@ impl<S: CkptStore, L: Naming> Floor<S, L> {
         place: usize,
         nodes: &[NodeId],
         woken: &mut Flags,
-    ) -> Result<Turn, Halt> {
+    ) -> Result<Turn, Halted> {
         mark(&mut self.asleep, place, true);
         if self.asleep.iter().zip(nodes).any(|(sleeps, _)| !*sleeps) {
             return Ok(Turn::Idle);
         }
-        let at = self.at();
-        let Floor { desk, faults, .. } = self;
-        let left = first_unfinished(&mut desk.journal.world, alloc, faults);
-        let Some(left) = left.map_err(|refusal| Halt::asked(at, refusal))? else {
-            return Ok(Turn::Over);
+        let left = match self.left(alloc) {
+            Ok(Some(left)) => left,
+            Ok(None) => return Ok(Turn::Over),
+            Err(refusal) => return Err(self.refuse(StepError::Store(refusal))),
         };
         if let Some(place) = nodes.iter().position(|node| *node == left) {
             mark(&mut self.asleep, place, false);
@@ -155,10 +210,26 @@ impl<S: CkptStore, L: Naming> Floor<S, L> {
         Ok(Turn::Idle)
     }
 
+    /// The first node that has a next step.
+    fn left(&mut self, alloc: Global) -> Result<Option<NodeId>, StoreError>
+        ensures { IfErr result (λ e. IsTrue (is_fault_since L.opening.faults self.new.desk.journal.world e)) }
+    {
+        self.refused = None;
+        let Floor { desk, faults, .. } = self;
+        desk.first_unfinished(alloc, faults)
+    }
+
     /// Whether the node at this place is to sleep on.
     fn sleeps(&self, place: usize) -> bool {
         !self.is_over && matches!(self.asleep.get(place), Some(true))
     }
+}
+
+/// Whom the shard that was seen can serve first, in node order.
+fn first_proposal(glance: &Glance) -> Option<(NodeId, Proposal)> {
+    WORKERS
+        .iter()
+        .find_map(|worker| Some((*worker, propose(glance, *worker)?)))
 }
 
 /// Marks the node at this place so, if there is one.
@@ -183,13 +254,61 @@ impl<S: CkptStore, L: Naming> Stage<S, L> {
         }
     }
 
+    /// Confirms what the player's shard has proposed, unless the run has ended meanwhile. Its place in the journal is
+    /// found under the same lock. No other has the seat, so the proposal is not stale.
+    fn confirm_in_run(
+        &self,
+        rt: &impl Wait,
+        alloc: Global,
+        player: &mut Player<L>,
+        proposal: Proposal,
+    ) -> Result<(), Halted> {
+        let Ok(step) = proposal.fresh_step(&player.seat) else {
+            return Ok(());
+        };
+        let mut woken = [false; MAX_NODES];
+        let mut floor = self.floor.lock(rt);
+        if floor.is_over {
+            return Ok(());
+        }
+        let made = floor.confirm(alloc, player, step, &self.nodes, &mut woken);
+        drop(floor);
+        self.ring(&woken);
+        made
+    }
+
+    /// Searches what the player's shard has seen, with the lock let go, and serves whom it finds. What was seen is
+    /// dropped before the step, which would have to copy the shard else.
+    fn serve<G: Gate>(
+        &self,
+        rt: &impl Wait,
+        alloc: Global,
+        player: &mut Player<L>,
+        glance: Glance,
+        gate: &G,
+    ) -> Result<(), Halted> {
+        let count = glance.count();
+        let found = first_proposal(&glance);
+        drop(glance);
+        let Some((worker, proposal)) = found else {
+            player.in_vain = Some(count);
+            return Ok(());
+        };
+        let shard = player.seat.node;
+        gate.before(shard, worker);
+        let confirmed = self.confirm_in_run(rt, alloc, player, proposal);
+        gate.after(shard, worker);
+        confirmed
+    }
+
     /// The player's turns, and whether the run goes on after them.
-    fn play_once<R: Wait>(
+    fn play_once<R: Wait, G: Gate>(
         &self,
         rt: &R,
         alloc: Global,
         player: &mut Player<L>,
-    ) -> Result<bool, Halt> {
+        gate: &G,
+    ) -> Result<bool, Halted> {
         let mut woken = [false; MAX_NODES];
         let mut floor = self.floor.lock(rt);
         if floor.is_over {
@@ -200,6 +319,10 @@ impl<S: CkptStore, L: Naming> Stage<S, L> {
         self.ring(&woken);
         match turn {
             Turn::Made => Ok(true),
+            Turn::Looks(glance) => {
+                self.serve(rt, alloc, player, glance, gate)?;
+                Ok(true)
+            }
             Turn::Idle => {
                 self.sleep(rt, player.place);
                 Ok(true)
@@ -213,14 +336,15 @@ impl<S: CkptStore, L: Naming> Stage<S, L> {
 }
 
 /// What a node's thread does: turn after turn, until the run has ended.
-fn play<R: Wait, S: CkptStore, L: Naming>(
+fn play<R: Wait, S: CkptStore, L: Naming, G: Gate>(
     rt: &R,
     alloc: Global,
     stage: &Stage<S, L>,
     player: &mut Player<L>,
-) -> Result<(), Halt> {
+    gate: &G,
+) -> Result<(), Halted> {
     for _ in rt.forever() {
-        match stage.play_once(rt, alloc, player) {
+        match stage.play_once(rt, alloc, player, gate) {
             Ok(true) => {}
             Ok(false) => return Ok(()),
             Err(halt) => {
@@ -233,13 +357,14 @@ fn play<R: Wait, S: CkptStore, L: Naming>(
 }
 
 /// As `play`, and gives the seat back, how the thread ended too: the stage is closed with all seats.
-pub(crate) fn play_to_end<R: Wait, S: CkptStore, L: Naming>(
+pub(crate) fn play_to_end<R: Wait, S: CkptStore, L: Naming, G: Gate>(
     rt: &R,
     alloc: Global,
     stage: &Stage<S, L>,
     player: Player<L>,
-) -> (Seat<L>, Result<(), Halt>) {
+    gate: &G,
+) -> (Seat<L>, Result<(), Halted>) {
     let mut player = player;
-    let ended = play(rt, alloc, stage, &mut player);
+    let ended = play(rt, alloc, stage, &mut player, gate);
     (player.seat, ended)
 }

@@ -9,6 +9,7 @@ ghost use Rattle.kt_stage.specs.Asking.{IsAsked};
 ghost use Rattle.kt_stage.specs.Policy.{asks, by_rule, checks, comes_back, fails, first_some, first_unfinished};
 ghost use Rattle.kt_stage.specs.Policy.{decides, gives_up, has_sent, hears, if_unfinished, learns, lets_restart};
 ghost use Rattle.kt_stage.specs.Policy.{next_step, repeats, takes, tries_again};
+ghost use Rattle.kt_stage.specs.inner.Serving.{next_before_serving};
 ghost use Rattle.kt_stage.specs.inner.Unanswered.{may_issue};
 
 use crate::asking::{
@@ -63,6 +64,9 @@ const POLICY: [Rule; 11] = [
     Rule::Serves,
     Rule::GivesUp,
 ];
+
+/// How many of them come before that of serving.
+const BEFORE_SERVING: usize = 9;
 
 /// A failure that is due, of a node that is not down.
 fn fails<S: CkptStore>(world: &World<S>, faults: &Faults, node: NodeId) -> Option<Step>
@@ -316,6 +320,24 @@ pub fn next_for<S: CkptStore>(
     match world.mode(node) {
         None => Ok(None),
         Some(_) => first_by(&POLICY, world, alloc, faults, node),
+    }
+}
+
+/// As `next_for`, by the rules before that of serving alone.
+pub(crate) fn next_before_serving<S: CkptStore>(
+    alloc: Global,
+    world: &mut World<S>,
+    faults: &Faults,
+    node: NodeId,
+) -> Result<Option<Step>, StoreError>
+    ensures next { IsAsked world.old world.new (λ s x. x ≡ next_before_serving s faults.now node) result }
+    ensures own { IsTrue world.new.is_honest → IfOk result (λ x. IfSome x (λ step. owner step ≡ node)) }
+    ensures allowed { IsTrue world.new.is_honest
+        → IfOk result (λ x. IfSome x (λ step. IsTrue (is_allowed world.old.state step))) }
+{
+    match world.mode(node) {
+        None => Ok(None),
+        Some(_) => first_by(&POLICY[..BEFORE_SERVING], world, alloc, faults, node),
     }
 }
 

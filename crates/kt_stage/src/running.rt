@@ -5,16 +5,17 @@ ghost use denote.Param.Send.{IsSend, IsSync};
 ghost use Rattle.kt_stage.specs.Journal.{Replays, all_made};
 ghost use Rattle.kt_stage.specs.Order.{nodes_of};
 ghost use Rattle.kt_stage.specs.Policy.{first_unfinished, spent_by};
-ghost use Rattle.kt_stage.specs.Running.{IsStopped, IsStoppedWith};
-ghost use Rattle.kt_stage.specs.inner.Midway.{IsMidway};
+ghost use Rattle.kt_stage.specs.Running.{IsLeft, IsStopped, IsStoppedWith, left_faults, left_honest};
+ghost use Rattle.kt_stage.specs.inner.Halting.{IsHalted};
 ghost use Rattle.kt_store.specs.Content.{is_fresh};
 ghost use Rattle.kt_world.specs.Reached.{opening};
 
 use crate::closing::CloseError;
 use crate::ending::unfinished;
+use crate::gate::Gate;
 use crate::journal::Journal;
 use crate::naming::Naming;
-use crate::playing::{Halt, Player, play_to_end};
+use crate::playing::{Halted, Player, play_to_end};
 use crate::seat::Seat;
 use crate::stage::{Stage, node_count};
 use kt_core::{Faults, OpenError, Scene, StepError, World};
@@ -48,39 +49,67 @@ pub enum RunFault {
     Unfinished { node: NodeId },
 }
 
+/// What is left of a run that did not come to its end.
+#[derive(Debug, Drop)]
+pub enum Left<S: CkptStore> {
+    /// The store: no world was opened over it.
+    Store(S),
+    /// The journal: the world, and all steps that were made.
+    Journal(Journal<S>),
+}
+
+impl<S: CkptStore> Left<S> {
+    /// The store, as the steps left it.
+    pub fn into_store(self) -> S
+        ensures honest { S.is_honest result ≡ left_honest S.is_honest self }
+        ensures faults { S.fault_count result ≡ left_faults S.fault_count self }
+    {
+        match self {
+            Left::Store(store) => store,
+            Left::Journal(journal) => journal.into_world().into_store(),
+        }
+    }
+}
+
 /// A player for each seat.
 fn players_of<L: Naming>(alloc: Global, seats: Vec<Seat<L>>) -> Result<Vec<Player<L>>, AllocError> {
     let mut players = Vec::with_capacity(alloc, seats.len())?;
     for seat in seats {
         let place = players.len();
-        players.push(Player { seat, place })?;
+        players.push(Player {
+            seat,
+            place,
+            in_vain: None,
+        })?;
     }
     Ok(players)
 }
 
 /// Starts a thread for each player, and joins them all. Where one could not be started the others are told to end.
-fn perform<R, S, L>(
+fn perform<R, S, L, G>(
     rt: &R,
     alloc: Global,
     stage: &Stage<S, L>,
     players: Vec<Player<L>>,
-) -> Result<Vec<Seat<L>>, Halt>
+    gate: &G,
+) -> Result<Vec<Seat<L>>, Halted>
 where
     R: Threads + Wait + Sync,
     S: CkptStore + Send,
     L: Naming + Send + Sync,
+    G: Gate + Sync,
 {
     thread::scope(
         thread::scope_env(),
         rt,
-        move |scope| -> Result<Vec<Seat<L>>, Halt>
-            requires { IsSync R.row × IsSend S.row × IsSend L.row × IsSync L.row }
+        move |scope| -> Result<Vec<Seat<L>>, Halted>
+            requires { IsSync R.row × IsSend S.row × IsSend L.row × IsSync L.row × IsSync G.row }
         {
             let mut seats = Vec::new(alloc);
             let mut handles = Vec::new(alloc);
             let mut ended = Ok(());
             for player in players {
-                let started = scope.spawn(move || play_to_end(rt, alloc, stage, player));
+                let started = scope.spawn(move || play_to_end(rt, alloc, stage, player, gate));
                 // A thread that cannot be started ends the run as want of memory does; those that were started are
                 // joined all the same (docs/DECISIONS.md#threads).
                 let is_started = match started {
@@ -89,14 +118,14 @@ where
                 };
                 if !is_started {
                     stage.end(rt);
-                    ended = Err(Halt::Memory);
+                    ended = Err(Halted);
                 }
             }
             for handle in handles {
                 let (seat, how) = handle.join(rt);
                 ended = ended.and(how);
                 if seats.push(seat).is_err() {
-                    ended = Err(Halt::Memory);
+                    ended = Err(Halted);
                 }
             }
             ended.map(|()| seats)
@@ -104,74 +133,72 @@ where
     )
 }
 
-/// The fault of a run that ended with this journal, and the store.
-fn stopped<S: CkptStore>(journal: Journal<S>, fault: RunFault) -> (RunFault, S)
-    ensures fault { result.0 ≡ fault }
-    ensures honest { S.is_honest result.1 ≡ journal.world.is_honest }
-    ensures faults { S.fault_count result.1 ≡ journal.world.faults }
-{
-    (fault, journal.into_world().into_store())
-}
-
-/// Runs the world on the stage that L names, and closes it. Where the run ends early the store is given back.
-fn run_on<R, S, L>(
+/// Runs the world on the stage that L names, and closes it. Where the run ends early the journal is given all the same.
+fn run_on<R, S, L, G>(
     rt: &R,
     alloc: Global,
     world: World<S>,
     blank: Blank,
     faults: &Faults,
-) -> Result<Journal<S>, (RunFault, S)>
+    gate: &G,
+) -> Result<Journal<S>, (RunFault, Journal<S>)>
 where
     R: Threads + Wait + Sync,
     S: CkptStore + Send + Drop,
     L: Naming + Send + Sync,
+    G: Gate + Sync,
     requires name { blank.name ≡ L.name }
     requires parts { blank.parts ≡ L.parts }
     requires one_each { blank.parts ≡ length (nodes_of world.state.cast) }
     requires opening { L.opening ≡ world }
     ensures replays { IfOk result (λ j. Replays L.opening j.world j.steps) }
     ensures later { IfOk result (λ j. L.opening.faults ≤ j.world.faults) }
-    ensures midway { IfErr result (λ e. IsMidway e.0) }
+    ensures replays_back { IfErr result (λ e. Replays L.opening e.1.world e.1.steps) }
+    ensures later_back { IfErr result (λ e. L.opening.faults ≤ e.1.world.faults) }
+    ensures halted { IfErr result (λ e. IsHalted L.opening e.1 e.0) }
 {
     let (stage, seats) = match Stage::<S, L>::open_or_back(alloc, world, blank) {
         Ok(opened) => opened,
-        Err(world) => return Err((RunFault::Memory, world.into_store())),
+        Err(world) => return Err((RunFault::Memory, Journal::unbegun(alloc, world))),
     };
     let mut stage = stage;
     let Ok(faults) = faults.copy(alloc) else {
-        return Err((RunFault::Memory, stage.into_store()));
+        return Err(stage.into_halted());
     };
     stage.floor.get_mut().faults = faults;
     let Ok(players) = players_of(alloc, seats) else {
-        return Err((RunFault::Memory, stage.into_store()));
+        return Err(stage.into_halted());
     };
-    match perform(rt, alloc, &stage, players) {
+    match perform(rt, alloc, &stage, players, gate) {
         Ok(seats) => match stage.close(seats) {
             Ok(journal) => Ok(journal),
-            Err((cause, journal)) => Err(stopped(journal, RunFault::Close(cause))),
+            Err((cause, journal)) => Err((RunFault::Close(cause), journal)),
         },
-        Err(halt) => Err((halt.fault(), stage.into_store())),
+        Err(Halted) => Err(stage.into_halted()),
     }
 }
 
 /// Runs the scene: a thread for each node, each by the policy with these fault lines, until no node has a next step.
-/// Every thread is joined. The run ends early with the first step that is refused. It may wait for its threads.
+/// Whom a shard serves is searched with the lock let go, and the gate is called before and after it is confirmed. Every
+/// thread is joined. The run ends early with the first step that is refused. It may wait for its threads and the gate.
 ///
 /// Where it is refused, scene, fault lines and store are gone. So its clause speaks of some store of its kind in place
 /// of the one that was left; of a kind that is not always honest `run_threads_over` says more.
 ///
 /// Which steps are made, and in what order, is not promised; nor that the run ends. Of a step that is refused, of seats
 /// that do not fit and of want of memory nothing is promised but the name.
-pub fn run_threads<R, S>(
+pub fn run_threads<R, S, G>(
     rt: &R,
     alloc: Global,
     scene: Scene,
     faults: Faults,
     store: S,
+    gate: &G,
 ) -> Result<Journal<S>, RunFault>
 where
     R: Threads + Wait + Sync,
     S: CkptStore + Send + Drop,
+    G: Gate + Sync,
     ensures replays { IfOk result (λ j.
         IsTrue j.world.is_honest → all_made (opening scene) j.steps ≡ Ok j.world.state) }
     ensures finished { IfOk result (λ j.
@@ -181,42 +208,49 @@ where
     ensures stopped { IfErr result
         (IsStopped S.is_honest S.fault_count (is_fresh (S.content store)) (S.fault_count store) scene faults) }
 {
-    match run_threads_over(rt, alloc, scene, faults, store) {
+    match run_threads_over(rt, alloc, scene, faults, store, gate) {
         Ok(journal) => Ok(journal),
         Err((fault, left)) => {
-            drop(left);
+            drop(left.into_store());
             Err(fault)
         }
     }
 }
 
-/// As `run_threads`, and gives the store back where the run ends early. `run_threads` drops it, so its clauses can name
-/// no store that a caller sees; these speak of the one that is given back (docs/DECISIONS.md#the-report).
-pub fn run_threads_over<R, S>(
+/// As `run_threads`, and gives back what is left where the run ends early: the journal of the steps that were made, or,
+/// where no world was opened, the store. `run_threads` drops it, so its clauses can name nothing that a caller sees;
+/// these speak of what is given back (docs/DECISIONS.md#the-report).
+pub fn run_threads_over<R, S, G>(
     rt: &R,
     alloc: Global,
     scene: Scene,
     faults: Faults,
     store: S,
-) -> Result<Journal<S>, (RunFault, S)>
+    gate: &G,
+) -> Result<Journal<S>, (RunFault, Left<S>)>
 where
     R: Threads + Wait + Sync,
     S: CkptStore + Send + Drop,
+    G: Gate + Sync,
     ensures replays { IfOk result (λ j.
         IsTrue j.world.is_honest → all_made (opening scene) j.steps ≡ Ok j.world.state) }
     ensures finished { IfOk result (λ j.
         IsTrue j.world.is_honest → first_unfinished j.world.state (spent_by faults j.steps) ≡ None) }
     ensures fresh { IfOk result (λ j. IsTrue j.world.is_honest → is_fresh (S.content store) ≡ true) }
     ensures later { IfOk result (λ j. S.fault_count store ≤ j.world.faults) }
-    ensures stopped { IfErr result (λ e. IsStoppedWith (S.is_honest e.1) (S.fault_count e.1)
+    ensures stopped { IfErr result (λ e. IsStoppedWith (left_honest S.is_honest e.1) (left_faults S.fault_count e.1)
         (is_fresh (S.content store)) (S.fault_count store) scene faults e.0) }
+    ensures left { IfErr result (λ e. IsLeft (S.fault_count store) scene faults e.0 e.1) }
 {
     let world = match World::open(alloc, scene, store) {
         Ok(world) => world,
-        Err(refused) => return Err((RunFault::Open(refused.cause), refused.store)),
+        Err(refused) => return Err((RunFault::Open(refused.cause), Left::Store(refused.store))),
     };
     let blank = Blank::new(node_count(&world));
-    let mut journal = run_on::<R, S, Brand>(rt, alloc, world, blank, &faults)?;
+    let mut journal = match run_on::<R, S, Brand, G>(rt, alloc, world, blank, &faults, gate) {
+        Ok(journal) => journal,
+        Err((fault, journal)) => return Err((fault, Left::Journal(journal))),
+    };
     let mut faults = faults;
     // That all nodes slept in the end stands in no clause, so the journal itself is asked whether it is at its end.
     let left = match unfinished(alloc, &mut journal, &mut faults) {
@@ -224,11 +258,11 @@ where
         Err(refusal) => {
             let at = journal.steps.len() as u64 + 1;
             let cause = StepError::Store(refusal);
-            return Err(stopped(journal, RunFault::Step { at, cause }));
+            return Err((RunFault::Step { at, cause }, Left::Journal(journal)));
         }
     };
     match left {
         None => Ok(journal),
-        Some(node) => Err(stopped(journal, RunFault::Unfinished { node })),
+        Some(node) => Err((RunFault::Unfinished { node }, Left::Journal(journal))),
     }
 }

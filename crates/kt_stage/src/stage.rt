@@ -2,8 +2,11 @@
 
 ghost use Rattle.std.specs.Prelude.{◌≡◌, ◌≢◌, ◌≤◌, ◌++◌, ◌∷◌, [], filter, length, map, All, Err, IfErr, IfOk, IsTrue};
 ghost use Rattle.std.specs.Prelude.{OnErr};
-ghost use Rattle.kt_stage.specs.Acting.{IsOthers};
-ghost use Rattle.kt_stage.specs.Journal.{empty_seat};
+ghost use Rattle.kt_stage.specs.Acting.{IsActedOn, IsOthers};
+ghost use Rattle.kt_stage.specs.Journal.{Replays, empty_seat};
+ghost use Rattle.std.specs.Option.{ForSome};
+ghost use Rattle.kt_stage.specs.Running.{IsRefusedAt};
+ghost use Rattle.kt_stage.specs.inner.Halting.{IsHalted};
 ghost use Rattle.kt_stage.specs.Order.{has_node, nodes_of};
 ghost use Rattle.kt_world.specs.Cast.{is_node};
 ghost use Rattle.kt_world.specs.Step.{owner};
@@ -13,8 +16,9 @@ use crate::error::ActError;
 use crate::journal::Journal;
 use crate::naming::Naming;
 use crate::order::{MAX_NODES, NAMES};
+use crate::running::RunFault;
 use crate::seat::{Receipt, Seat};
-use kt_core::{Faults, Step, World};
+use kt_core::{Faults, Step, StepError, World};
 use kt_store::CkptStore;
 use kt_tuple::NodeId;
 use std::alloc::{AllocError, Global};
@@ -23,6 +27,14 @@ use std::sync::{Condvar, Mutex, Wait};
 
 /// For each node of the scene, in node order, whether it is one of these.
 pub(crate) type Flags = [bool; MAX_NODES];
+
+/// What was refused in a run.
+#[derive(Clone, Copy, Debug, PartialEq, Eq)]
+pub(crate) struct Refused {
+    /// The place in the journal that the step would have had, counted from 1.
+    pub(crate) at: u64,
+    pub(crate) cause: StepError,
+}
 
 /// What the lock keeps: the desk, and what a run by threads has to know.
 #[derive(Drop)]
@@ -34,6 +46,9 @@ pub(crate) struct Floor<S: CkptStore, L: Naming> {
     pub(crate) asleep: Flags,
     /// Whether the run has ended: each thread that finds it so makes no further step.
     pub(crate) is_over: bool,
+    /// What was refused in a run, while nothing was tried since: why it ends early.
+    pub(crate) refused: Option<Refused>,
+    ghost due: { ForSome refused (λ r. IsRefusedAt L.opening.faults desk.journal r.at r.cause) },
 }
 
 /// The stage that L names: the journal, which one node at a time changes, and for each node what wakes it.
@@ -149,7 +164,7 @@ impl<S: CkptStore, L: Naming> Stage<S, L> {
         }
     }
 
-    /// As `open`, and gives the world back where memory runs out: a run hands the store on with its refusal.
+    /// As `open`, and gives the world back where memory runs out: a run hands it on with its refusal.
     pub(crate) fn open_or_back(
         alloc: Global,
         world: World<S>,
@@ -161,7 +176,8 @@ impl<S: CkptStore, L: Naming> Stage<S, L> {
         requires parts { blank.parts ≡ L.parts }
         requires one_each { blank.parts ≡ length (nodes_of world.state.cast) }
         requires opening { L.opening ≡ world }
-        ensures { IfOk result (λ r. r.1.items ≡ map empty_seat (nodes_of world.state.cast)) }
+        ensures seats { IfOk result (λ r. r.1.items ≡ map empty_seat (nodes_of world.state.cast)) }
+        ensures back { IfErr result (λ back. back ≡ world) }
     {
         let Ok(nodes) = nodes_among(alloc, &NAMES, &world) else {
             return Err(world);
@@ -181,6 +197,7 @@ impl<S: CkptStore, L: Naming> Stage<S, L> {
             faults: Faults::new(alloc),
             asleep: [false; MAX_NODES],
             is_over: false,
+            refused: None,
         };
         let stage = Stage {
             floor: Mutex::new(floor),
@@ -190,14 +207,23 @@ impl<S: CkptStore, L: Naming> Stage<S, L> {
         Ok((stage, seats))
     }
 
-    /// The store of its world, from a stage that is given up and not closed: the steps are gone.
-    pub(crate) fn into_store(self) -> S {
+    /// The journal of a stage that is given up and not closed, and why: what was refused, or else want of memory.
+    pub(crate) fn into_halted(self) -> (RunFault, Journal<S>)
+        ensures replays { Replays L.opening result.1.world result.1.steps }
+        ensures later { L.opening.faults ≤ result.1.world.faults }
+        ensures halted { IsHalted L.opening result.1 result.0 }
+    {
         let Stage { floor, .. } = self;
-        floor.into_inner().desk.journal.into_world().into_store()
+        let Floor { desk, refused, .. } = floor.into_inner();
+        let fault = match refused {
+            Some(Refused { at, cause }) => RunFault::Step { at, cause },
+            None => RunFault::Memory,
+        };
+        (fault, desk.journal)
     }
 
-    /// Makes the step of the seat's node by `Desk::act` under the lock, for which it may wait. Of the world no clause
-    /// here speaks, since others act before and after.
+    /// Makes the step of the seat's node by `Desk::act` under the lock, for which it may wait. Others act before and
+    /// after: so `acted` says of some journal of the stage what `Desk::act` says of the one that it is lent.
     pub fn act(
         &self,
         rt: &impl Wait,
@@ -205,6 +231,7 @@ impl<S: CkptStore, L: Naming> Stage<S, L> {
         seat: &mut Seat<L>,
         step: Step,
     ) -> Result<Receipt, ActError>
+        ensures acted { IsActedOn L.opening seat.old.node step result }
         ensures step { IfOk result (λ r. r.step ≡ step) }
         ensures seat { IfOk result (λ r. seat.new.receipts ≡ seat.old.receipts ++ r ∷ []) }
         ensures same { OnErr result (seat.new.receipts ≡ seat.old.receipts) }

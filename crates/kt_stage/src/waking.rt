@@ -1,8 +1,7 @@
 //! Whom a step may have given something to do: only these are woken (docs/DECISIONS.md#threads).
 
-ghost use Rattle.std.specs.Prelude.{◌≡◌, ◌≢◌, ◌++◌, ◌∷◌, [], Err, IfErr, IfOk, OnErr};
-ghost use Rattle.kt_stage.specs.Acting.{IsOthers};
-ghost use Rattle.kt_world.specs.Step.{owner};
+ghost use Rattle.std.specs.Prelude.{◌≡◌, ◌++◌, ◌∷◌, [], IfOk, OnErr};
+ghost use Rattle.kt_stage.specs.Acting.{IsActed};
 
 use crate::asking::{is_down, is_lost_request};
 use crate::desk::Desk;
@@ -70,13 +69,12 @@ impl<S: CkptStore, L: Naming> Floor<S, L> {
         nodes: &[NodeId],
         woken: &mut Flags,
     ) -> Result<Receipt, ActError>
-        ensures step { IfOk result (λ r. r.step ≡ step) }
+        ensures acted { IsActed self.old.desk.journal self.new.desk.journal seat.old.node step result }
         ensures seat { IfOk result (λ r. seat.new.receipts ≡ seat.old.receipts ++ r ∷ []) }
         ensures same { OnErr result (seat.new.receipts ≡ seat.old.receipts) }
-        ensures not_owner { IfErr result (IsOthers seat.old.node step) }
-        ensures others { owner step ≢ seat.old.node → result ≡ Err ActError.NotOwner }
         ensures node { seat.new.node ≡ seat.old.node }
     {
+        self.refused = None;
         let Floor { desk, asleep, .. } = self;
         let before = desk.journal.world.mode(step.owner());
         let receipt = desk.act(alloc, seat, step)?;

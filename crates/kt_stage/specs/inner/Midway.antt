@@ -7,8 +7,6 @@ use Rattle.std.specs.List.{list_all}
 use Rattle.kt_world.specs.Cast.{Cast}
 use Rattle.kt_world.specs.Step.{owner}
 use Rattle.kt_stage.specs.Order.{has_node}
-use Rattle.kt_stage.specs.declared.running.RunFault.{RunFault}
-use Rattle.kt_stage.specs.declared.running.RunFault.TheVariants as runs
 use Rattle.kt_stage.specs.Closing.{IsFirstUnmatched, first_missing}
 
 -- each seat is of a node that is matched, and each node has one
@@ -18,14 +16,6 @@ IsClosed nodes steps seats = IsFirstUnmatched steps seats seats None × (first_m
 -- each step is of a node of the scene
 abbrev pub are_owned : Cast → List Step → Bool
 are_owned cast steps = list_all (λ step. has_node cast (owner step)) steps
-
--- a fault of a run that was opened and did not come to its end
-abbrev pub IsMidway : RunFault → Type 0
-IsMidway (runs.Open cause) = ⊥
-IsMidway (runs.Step at cause) = Unit {0}
-IsMidway (runs.Close cause) = Unit {0}
-IsMidway runs.Memory = Unit {0}
-IsMidway (runs.Unfinished node) = ⊥
 
 -- it passes this test, if it is there
 abbrev pub is_found : {A : Type 0} → (A → Bool) → Option A → Bool

@@ -1,0 +1,178 @@
+-- Why a run halts.
+use Rattle.std.proofs.Common.{◌≡◌, ◌<◌, ◌≤◌, ℕ, Bool, true, false, if◌then◌else◌, Result, Ok, Err, Option, None, Some, refl, sym, ap, subst, ◌∙◌, arith}
+use Rattle.std.proofs.Common.{◌⊎◌, inl, inr, lt-ltb, ltb-true, ltb-false, le-leb, eq-eqb}
+use Rattle.std.specs.Prelude.{◌==◌, nat_lt, not, ◌||◌, IsTrue, IfErr, IfOk, IfSome}
+use Rattle.kt_tuple.specs.declared.node.NodeId.{NodeId}
+use Rattle.kt_store.specs.declared.error.StoreError.{StoreError}
+use Rattle.kt_store.specs.declared.error.StoreError.TheVariants as stores
+use Rattle.kt_store.specs.Calls.{most_faults}
+use Rattle.kt_node.specs.declared.plan.Plan.{Plan}
+use Rattle.kt_world.specs.declared.step.Step.{Step}
+use Rattle.kt_world.specs.declared.step.StepError.{StepError}
+use Rattle.kt_world.specs.declared.step.StepError.TheVariants as refusals
+use Rattle.kt_world.specs.Judge.{is_planned, judged, planned, within_limit}
+use Rattle.kt_world.specs.Limits.{most_steps}
+use Rattle.kt_world.specs.State.{State}
+use Rattle.kt_world.specs.Step.{owner}
+use Rattle.kt_world.specs.Told.{told}
+use Rattle.kt_core.specs.Lent.{is_allowed}
+use Rattle.kt_core.specs.World.{Standing}
+use Rattle.kt_core.specs.Store.{IsFault}
+use Rattle.kt_stage.specs.declared.error.ActError.TheVariants as errors
+use Rattle.kt_stage.specs.Acting.{IsActed}
+use Rattle.kt_stage.specs.Journal.{Journal}
+use Rattle.kt_stage.specs.Running.{IsRefusedAt, is_fault_since, is_run_cause}
+use Rattle.kt_stage.specs.inner.Halting.{IsGiven, is_any_steps}
+
+-- ---- a step that is allowed is refused by the limit, by the store, or for want of memory
+
+abbrev refused : StepError → Result Plan StepError
+refused e = Err e
+
+planned-any : (made : ℕ) (r : Result Plan StepError) (e : StepError) → is_planned r ≡ true → within_limit made r ≡ Err e → is_any_steps e ≡ true
+planned-any made (Ok plan) e is same = by (nat_lt made most_steps) same
+  where
+    by : (b : Bool) → (if b then Ok plan else refused refusals.StepLimit) ≡ refused e → is_any_steps e ≡ true
+    by true same = absurd cc
+    by false same = ap is_any_steps (let here : e ≡ refusals.StepLimit = cc in here)
+planned-any made (Err (refusals.Store x)) e is same = by (nat_lt made most_steps) same
+  where
+    by : (b : Bool) → (if b then refused (refusals.Store x) else refused refusals.StepLimit) ≡ refused e → is_any_steps e ≡ true
+    by true same = ap is_any_steps (let here : e ≡ refusals.Store x = cc in here)
+    by false same = ap is_any_steps (let here : e ≡ refusals.StepLimit = cc in here)
+planned-any made (Err refusals.NoNode) e is same = absurd cc
+planned-any made (Err refusals.WrongMode) e is same = absurd cc
+planned-any made (Err refusals.NothingThere) e is same = absurd cc
+planned-any made (Err refusals.NoSuchMatch) e is same = absurd cc
+planned-any made (Err refusals.NotDecided) e is same = absurd cc
+planned-any made (Err refusals.Unresolved) e is same = absurd cc
+planned-any made (Err refusals.StepLimit) e is same = absurd cc
+planned-any made (Err refusals.OutOfMemory) e is same = absurd cc
+
+limit-reached : (made : ℕ) (r : Result Plan StepError) → is_planned r ≡ true → within_limit made r ≡ Err refusals.StepLimit → most_steps ≤ made
+limit-reached made (Ok plan) is same = by (nat_lt made most_steps) refl same
+  where
+    by : (b : Bool) → nat_lt made most_steps ≡ b → (if b then Ok plan else refused refusals.StepLimit) ≡ refused refusals.StepLimit → most_steps ≤ made
+    by true at same = absurd cc
+    by false at same = ltb-false made most_steps at
+limit-reached made (Err (refusals.Store x)) is same = by (nat_lt made most_steps) refl same
+  where
+    by : (b : Bool) → nat_lt made most_steps ≡ b → (if b then refused (refusals.Store x) else refused refusals.StepLimit) ≡ refused refusals.StepLimit
+        → most_steps ≤ made
+    by true at same = absurd cc
+    by false at same = ltb-false made most_steps at
+limit-reached made (Err refusals.NoNode) is same = absurd cc
+limit-reached made (Err refusals.WrongMode) is same = absurd cc
+limit-reached made (Err refusals.NothingThere) is same = absurd cc
+limit-reached made (Err refusals.NoSuchMatch) is same = absurd cc
+limit-reached made (Err refusals.NotDecided) is same = absurd cc
+limit-reached made (Err refusals.Unresolved) is same = absurd cc
+limit-reached made (Err refusals.StepLimit) is same = absurd cc
+limit-reached made (Err refusals.OutOfMemory) is same = absurd cc
+
+-- no other refusal comes while the store is honest
+never : (s : State) (step : Step) (e : StepError) → is_any_steps e ≡ false → IsTrue (is_allowed s step) → planned s step ≡ Err e → ⊥
+never s step e other allowed due =
+    let any : is_any_steps e ≡ true = planned-any s.made (judged s (told s step) step) e allowed due in
+    let off : false ≡ true = sym other ∙ any in
+    absurd cc
+
+-- ---- a refusal of the store
+
+right-holds : (a b : Bool) → b ≡ true → (a || b) ≡ true
+right-holds true b e = refl
+right-holds false b e = e
+
+left-holds : (a b : Bool) → a ≡ true → (a || b) ≡ true
+left-holds true b e = refl
+left-holds false b e = absurd cc
+
+pub fault-since : (before old : ℕ) (w : Standing) (e : StoreError) → before ≤ old → IsFault old w.faults w.is_honest e
+    → is_fault_since before w e ≡ true
+fault-since before old w stores.Device le f = by (f.device refl)
+  where
+    by : (old < w.faults) ⊎ (w.faults ≡ most_faults) → (nat_lt before w.faults || (w.faults == most_faults)) ≡ true
+    by (inl lt) = left-holds (nat_lt before w.faults) _ (lt-ltb before w.faults (omega (arith, le, lt)))
+    by (inr most) = right-holds (nat_lt before w.faults) _ (eq-eqb w.faults most_faults most)
+fault-since before old w stores.Damaged le f = ap not (f.damaged refl)
+fault-since before old w stores.Full le f = ap not (f.full refl)
+fault-since before old w stores.Memory le f = refl
+
+fault-older : (older old : ℕ) (w : Standing) (e : StoreError) → older ≤ old → is_fault_since old w e ≡ true → is_fault_since older w e ≡ true
+fault-older older old w stores.Device le is = by (nat_lt old w.faults) refl is
+  where
+    by : (b : Bool) → nat_lt old w.faults ≡ b → (b || (w.faults == most_faults)) ≡ true → (nat_lt older w.faults || (w.faults == most_faults)) ≡ true
+    by true at e =
+        let lt = ltb-true old w.faults at in
+        left-holds (nat_lt older w.faults) _ (lt-ltb older w.faults (omega (arith, le, lt)))
+    by false at e = right-holds (nat_lt older w.faults) _ e
+fault-older older old w stores.Damaged le is = is
+fault-older older old w stores.Full le is = is
+fault-older older old w stores.Memory le is = refl
+
+-- a store that is asked, and refuses
+pub asked-since : {A : Type 0} (before old : ℕ) (w : Standing) (r : Result A StoreError) → before ≤ old → IfErr r (IsFault old w.faults w.is_honest)
+    → IfErr r (λ e. is_fault_since before w e ≡ true)
+asked-since before old w (Ok x) le f = tt
+asked-since before old w (Err e) le f = fault-since before old w e le f
+
+-- ---- a step that the policy gives
+
+unless-honest : (b more : Bool) → (b ≡ true → more ≡ true) → (not b || more) ≡ true
+unless-honest true more f = f refl
+unless-honest false more f = refl
+
+never-honest : (b : Bool) → (b ≡ true → ⊥) → not b ≡ true
+never-honest true f = absurd (f refl)
+never-honest false f = refl
+
+pub given-cause : (before : ℕ) (old new : Journal) (p : NodeId) (step : Step) (e : StepError) → before ≤ old.world.faults → IsGiven old.world p step
+    → IsActed old new p step (Err (errors.Step e)) → is_run_cause before new.world e ≡ true
+given-cause before old new p step refusals.StepLimit later given acted = unless-honest new.world.is_honest _ (λ h.
+    le-leb most_steps new.world.state.made (subst (λ (s : State). most_steps ≤ s.made) (sym (acted.same h))
+    (limit-reached old.world.state.made (judged old.world.state (told old.world.state step) step) (given (acted.honest h)).1 (acted.refusal h))))
+given-cause before old new p step (refusals.Store refusal) later given acted = fault-since before old.world.faults new.world refusal later acted.cause
+given-cause before old new p step refusals.OutOfMemory later given acted = refl
+given-cause before old new p step refusals.NoNode later given acted = never-honest new.world.is_honest (λ h.
+    never old.world.state step refusals.NoNode refl (given (acted.honest h)).1 (acted.refusal h))
+given-cause before old new p step refusals.WrongMode later given acted = never-honest new.world.is_honest (λ h.
+    never old.world.state step refusals.WrongMode refl (given (acted.honest h)).1 (acted.refusal h))
+given-cause before old new p step refusals.NothingThere later given acted = never-honest new.world.is_honest (λ h.
+    never old.world.state step refusals.NothingThere refl (given (acted.honest h)).1 (acted.refusal h))
+given-cause before old new p step refusals.NoSuchMatch later given acted = never-honest new.world.is_honest (λ h.
+    never old.world.state step refusals.NoSuchMatch refl (given (acted.honest h)).1 (acted.refusal h))
+given-cause before old new p step refusals.NotDecided later given acted = never-honest new.world.is_honest (λ h.
+    never old.world.state step refusals.NotDecided refl (given (acted.honest h)).1 (acted.refusal h))
+given-cause before old new p step refusals.Unresolved later given acted = never-honest new.world.is_honest (λ h.
+    never old.world.state step refusals.Unresolved refl (given (acted.honest h)).1 (acted.refusal h))
+
+-- the policy gives a node steps of its own alone
+pub given-own-cause : (before : ℕ) (old new : Journal) (p : NodeId) (step : Step) → IsGiven old.world p step
+    → IsActed old new p step (Err errors.NotOwner) → is_run_cause before new.world refusals.NoNode ≡ true
+given-own-cause before old new p step given acted = never-honest new.world.is_honest (λ h. acted.not_owner (given (acted.honest h)).0)
+
+-- the store said what had to be known, or its refusal ends the run
+pub given-from : (old new : Standing) (p : NodeId) (r : Result (Option Step) StoreError)
+    → (IsTrue new.is_honest → IfOk r (λ x. IfSome x (λ step. owner step ≡ p)))
+    → (IsTrue new.is_honest → IfOk r (λ x. IfSome x (λ step. IsTrue (is_allowed old.state step)))) → (IsTrue new.is_honest → new.state ≡ old.state)
+    → IfOk r (λ x. IfSome x (IsGiven new p))
+given-from old new p (Ok None) own allowed same = tt
+given-from old new p (Ok (Some step)) own allowed same = λ h.
+    (own h, subst (λ (s : State). IsTrue (is_allowed s step)) (sym (same h)) (allowed h))
+given-from old new p (Err e) own allowed same = tt
+
+-- ---- the count of faults at an earlier time
+
+cause-since : (older old : ℕ) (w : Standing) (e : StepError) → older ≤ old → is_run_cause old w e ≡ true → is_run_cause older w e ≡ true
+cause-since older old w (refusals.Store refusal) le is = fault-older older old w refusal le is
+cause-since older old w refusals.OutOfMemory le is = refl
+cause-since older old w refusals.StepLimit le is = is
+cause-since older old w refusals.NoNode le is = is
+cause-since older old w refusals.WrongMode le is = is
+cause-since older old w refusals.NothingThere le is = is
+cause-since older old w refusals.NoSuchMatch le is = is
+cause-since older old w refusals.NotDecided le is = is
+cause-since older old w refusals.Unresolved le is = is
+
+pub refused-since : (older old : ℕ) (j : Journal) (at : ℕ) (e : StepError) → older ≤ old → IsRefusedAt old j at e → IsRefusedAt older j at e
+refused-since older old j at e le is = (is.0, cause-since older old j.world e le is.1)

@@ -1,0 +1,7 @@
+use Rattle.kt_stage.proofs.Halts.{asked-since}
+use Rattle.kt_stage.proofs.stage.Floor.left.Goals as goal
+
+pub returns : goal.returns
+returns g c =
+    asked-since g.L.Naming.opening.faults c.args.self.now.desk.journal.world.faults c.first_unfinished.new.self.journal.world c.first_unfinished.result
+    c.args.self.now.desk.later c.first_unfinished.ensures.cause

@@ -1,0 +1,33 @@
+-- Why a run halts, as it stands under the lock.
+use Rattle.std.specs.Prelude.{◌≡◌, Bool, true, false, IsTrue}
+use Rattle.kt_tuple.specs.declared.node.NodeId.{NodeId}
+use Rattle.kt_world.specs.declared.step.Step.{Step}
+use Rattle.kt_world.specs.declared.step.StepError.{StepError}
+use Rattle.kt_world.specs.declared.step.StepError.TheVariants as refusals
+use Rattle.kt_world.specs.Step.{owner}
+use Rattle.kt_core.specs.Lent.{is_allowed}
+use Rattle.kt_core.specs.World.{Standing}
+use Rattle.kt_stage.specs.declared.running.RunFault.{RunFault}
+use Rattle.kt_stage.specs.declared.running.RunFault.TheVariants as runs
+use Rattle.kt_stage.specs.Journal.{Journal}
+use Rattle.kt_stage.specs.Running.{IsRefusedAt}
+
+-- what the policy gives a node in this world: a step of its own, which is allowed
+abbrev pub IsGiven : Standing → NodeId → Step → Type 0
+IsGiven world p step =
+    IsTrue world.is_honest → (owner step ≡ p) × IsTrue (is_allowed world.state step)
+
+-- only the limit of steps, the store and want of memory refuse it
+abbrev pub is_any_steps : StepError → Bool
+is_any_steps refusals.StepLimit = true
+is_any_steps (refusals.Store refusal) = true
+is_any_steps refusals.OutOfMemory = true
+is_any_steps refusal = false
+
+-- the fault of a run that was opened and did not come to its end
+abbrev pub IsHalted : Standing → Journal → RunFault → Type 0
+IsHalted opening j (runs.Open cause) = ⊥
+IsHalted opening j (runs.Step at cause) = IsRefusedAt opening.faults j at cause
+IsHalted opening j (runs.Close cause) = Unit {0}
+IsHalted opening j runs.Memory = Unit {0}
+IsHalted opening j (runs.Unfinished node) = ⊥

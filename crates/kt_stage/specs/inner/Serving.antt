@@ -1,0 +1,12 @@
+-- What a shard does before it serves.
+use Rattle.std.specs.Prelude.{if◌then◌else◌, List, Option, None}
+use Rattle.kt_tuple.specs.declared.node.NodeId.{NodeId}
+use Rattle.kt_world.specs.declared.step.Step.{Step}
+use Rattle.kt_world.specs.Cast.{is_node}
+use Rattle.kt_world.specs.State.{State}
+use Rattle.kt_core.specs.declared.faults.FaultLine.{FaultLine}
+use Rattle.kt_stage.specs.Policy.{before_serving, by_rule, first_some}
+
+-- the step of the first rule before that of serving that applies to p, where these fault lines are left
+abbrev pub next_before_serving : State → List FaultLine → NodeId → Option Step
+next_before_serving s lines p = if is_node s.cast p then first_some (by_rule s lines p) before_serving else None
