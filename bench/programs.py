@@ -8,14 +8,13 @@ import subprocess
 import sys
 
 ROOT = os.path.dirname(os.path.dirname(os.path.realpath(__file__)))
-PLACE = f"{ROOT}/out/bench"
 
 
-def crates(stands_on):
+def crates(stands_on, root):
     """What each of these crates and those below them stands on, as crates.txt has it."""
     lines = {}
     for path in ("crates.txt", "tests/crates/crates.list"):
-        with open(f"{ROOT}/{path}", encoding="ascii") as file:
+        with open(f"{root}/{path}", encoding="ascii") as file:
             lines.update(line.strip().split(":", 1) for line in file if not line.startswith("#"))
     found, left = {}, list(stands_on)
     while left:
@@ -31,33 +30,33 @@ def copied_as_rt(old, new):
     return shutil.copy(old, re.sub(r"\.rs$", ".rt", new))
 
 
-def build(name, stands_on):
-    """Proves and builds the program over what the crates are now, and gives its path."""
-    below = crates(stands_on)
+def build(name, stands_on, root=ROOT):
+    """Proves and builds the program of a checkout over what its crates are now, and gives its path."""
+    place, below = f"{root}/out/bench", crates(stands_on, root)
     for crate in [*below, name]:
-        kept = f"{PLACE}/crates/{crate}"
+        kept = f"{place}/crates/{crate}"
         for part in ("src", "specs", "proofs"):
             shutil.rmtree(f"{kept}/{part}", ignore_errors=True)
-            if crate != name and os.path.isdir(f"{ROOT}/crates/{crate}/{part}"):
-                shutil.copytree(f"{ROOT}/crates/{crate}/{part}", f"{kept}/{part}")
-        if os.path.isdir(f"{ROOT}/tests/crates/{crate}"):
-            shutil.copytree(f"{ROOT}/tests/crates/{crate}/src", f"{kept}/src", copy_function=copied_as_rt)
+            if crate != name and os.path.isdir(f"{root}/crates/{crate}/{part}"):
+                shutil.copytree(f"{root}/crates/{crate}/{part}", f"{kept}/{part}")
+        if os.path.isdir(f"{root}/tests/crates/{crate}"):
+            shutil.copytree(f"{root}/tests/crates/{crate}/src", f"{kept}/src", copy_function=copied_as_rt)
         # What was checked already need not be checked again; `rt` takes of it what fits these sources.
-        if not os.path.isdir(f"{kept}/out") and os.path.isdir(f"{ROOT}/crates/{crate}/out"):
-            shutil.copytree(f"{ROOT}/crates/{crate}/out", f"{kept}/out", symlinks=True)
-    os.makedirs(f"{PLACE}/crates/{name}/src")
-    shutil.copy(f"{ROOT}/bench/{name}.txt", f"{PLACE}/crates/{name}/src/main.rt")
-    shutil.copy(f"{ROOT}/HANDLES", f"{PLACE}/HANDLES")
-    with open(f"{PLACE}/crates.txt", "w", encoding="ascii") as file:
+        if not os.path.isdir(f"{kept}/out") and os.path.isdir(f"{root}/crates/{crate}/out"):
+            shutil.copytree(f"{root}/crates/{crate}/out", f"{kept}/out", symlinks=True)
+    os.makedirs(f"{place}/crates/{name}/src")
+    shutil.copy(f"{root}/bench/{name}.txt", f"{place}/crates/{name}/src/main.rt")
+    shutil.copy(f"{root}/HANDLES", f"{place}/HANDLES")
+    with open(f"{place}/crates.txt", "w", encoding="ascii") as file:
         file.writelines(f"{crate}: {others}\n" for crate, others in below.items())
         file.write(f"{name}: {' '.join(stands_on)}\n")
     ran = subprocess.run(
-        ["rt", "run", "--", "0"], cwd=f"{PLACE}/crates/{name}",
+        ["rt", "run", "--", "0"], cwd=f"{place}/crates/{name}",
         stdin=subprocess.DEVNULL, stdout=subprocess.PIPE, stderr=subprocess.STDOUT, text=True,
     )
     if ran.returncode:
         sys.exit(ran.stdout[-2000:] + "\nthe program was not built")
-    return f"{PLACE}/crates/{name}/out/{name}"
+    return f"{place}/crates/{name}/out/{name}"
 
 
 def measured(program, *words):

@@ -4,7 +4,7 @@ use crate::runs::run;
 use kt_core::{OpenError, StepError};
 use kt_run::{Output, RunTextFault, run_text};
 use kt_scene::{ReplayFault, SceneError, Sink, Source};
-use kt_stage::{CloseError, RunFault};
+use kt_stage::{CloseError, OpenGate, RunFault};
 use kt_store::{MemStore, StoreError};
 use kt_tuple::NodeId;
 use std::io;
@@ -91,7 +91,7 @@ fn a_front(rt: HostRuntime) -> Result<(), Fail> {
         let bytes = Vec::new(rt.alloc());
         let (mut source, mut sink) = (Source::new(text), Sink::new(Short { bytes, room }));
         let store = MemStore::new(rt.alloc());
-        let answer = run_text(&rt, rt.alloc(), &mut source, &mut sink, store, output);
+        let answer = run_text(&rt, rt.alloc(), &mut source, &mut sink, store, output, &OpenGate);
         assert_eq!(rt; answer, Err(RunTextFault::Text(ReplayFault::Write)));
         assert_eq!(rt; sink.into_inner().bytes.as_slice(), front);
     }
@@ -119,6 +119,7 @@ fn a_reader_that_fails(rt: HostRuntime) {
         &mut sink,
         store,
         Output::Report,
+        &OpenGate,
     );
     assert_eq!(rt; answer, Err(RunTextFault::Text(ReplayFault::Read)));
     assert!(rt; sink.into_inner().is_empty());

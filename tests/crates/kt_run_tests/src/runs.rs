@@ -3,7 +3,7 @@
 use kt_core::OpenError;
 use kt_run::{Output, RunTextFault, run_text, run_text_over};
 use kt_scene::{ReplayFault, Sink, Source, replay};
-use kt_stage::RunFault;
+use kt_stage::{OpenGate, RunFault};
 use kt_store::{CkptStore, MemStore};
 use kt_tuple::NodeId;
 use std::alloc::Global;
@@ -59,6 +59,7 @@ pub(crate) fn run<T: Threads + Wait + Sync>(
         &mut sink,
         MemStore::new(alloc),
         output,
+        &OpenGate,
     );
     (answer, sink.into_inner())
 }
@@ -107,12 +108,12 @@ fn the_store_is_given_back(rt: HostRuntime) -> Result<(), Fail> {
     let (mut source, mut sink) = (Source::new(text), Sink::new(Vec::new(alloc)));
     let store = MemStore::new(alloc);
     let (answer, left) =
-        run_text_over(&rt, alloc, &mut source, &mut sink, store, Output::Report);
+        run_text_over(&rt, alloc, &mut source, &mut sink, store, Output::Report, &OpenGate);
     assert!(rt; answer == Ok(()), "{answer:?}");
     let mut left = left;
     assert!(rt; left.initiator(1) == Ok(Some(NodeId::Worker(1))));
     let (mut source, mut sink) = (Source::new(text), Sink::new(Vec::new(alloc)));
-    let (answer, left) = run_text_over(&rt, alloc, &mut source, &mut sink, left, Output::Report);
+    let (answer, left) = run_text_over(&rt, alloc, &mut source, &mut sink, left, Output::Report, &OpenGate);
     let not_fresh = RunTextFault::Run(RunFault::Open(OpenError::NotFresh));
     assert!(rt; answer == Err(not_fresh), "{answer:?}");
     let mut left = left;

@@ -2,6 +2,10 @@
 #![tactic(auto)]
 
 #[cfg(test)]
+mod gates;
+#[cfg(test)]
+mod glances;
+#[cfg(test)]
 mod making;
 #[cfg(test)]
 mod policy;

@@ -4,8 +4,8 @@ use crate::making::{
     Cast, Line, SHARD_1, WORKER_1, faults, journal_of, make_all, opened, replayed, report, scene,
 };
 use kt_core::{FaultKind, Faults, OpenError, Scene, Step};
-use kt_stage::{RunFault, run_threads, unfinished};
-use kt_store::MemStore;
+use kt_stage::{Left, OpenGate, RunFault, run_threads, run_threads_over, unfinished};
+use kt_store::{CkptStore, MemStore};
 use std::alloc::Global;
 use std::process::Abort;
 use std::sync::Wait;
@@ -69,7 +69,7 @@ pub(crate) fn run_and_replay<R: Threads + Wait + Sync + Abort>(
     faults: Faults,
 ) -> Result<Outcome, Fail> {
     let mut left = faults.copy(alloc)?;
-    let run = run_threads(rt, alloc, scene, faults, MemStore::new(alloc));
+    let run = run_threads(rt, alloc, scene, faults, MemStore::new(alloc), &OpenGate);
     let mut journal = run.ok().ok_or("a run")?;
     assert!(rt; unfinished(alloc, &mut journal, &mut left) == Ok(None));
     let steps = Vec::from_slice(alloc, journal.steps())?;
@@ -135,7 +135,24 @@ fn a_store_that_was_used(rt: HostRuntime) -> Result<(), Fail> {
     make_all(alloc, &mut world, &[Step::Check { node: WORKER_1 }])?;
     let store = world.into_store();
     let faults = Faults::new(alloc);
-    let fault = run_threads(&rt, alloc, scene(alloc, cast)?, faults, store).err();
+    let fault = run_threads(&rt, alloc, scene(alloc, cast)?, faults, store, &OpenGate).err();
     assert!(rt; fault == Some(RunFault::Open(OpenError::NotFresh)));
+    Ok(())
+}
+
+/// A world that is not opened leaves the store alone, which is given back.
+#[test]
+fn the_store_is_given_back(rt: HostRuntime) -> Result<(), Fail> {
+    let alloc = rt.alloc();
+    let (cast, _, _) = TWO_CHECKS;
+    let mut world = opened(alloc, scene(alloc, cast)?)?;
+    make_all(alloc, &mut world, &[Step::Check { node: WORKER_1 }])?;
+    let (scene, faults) = (scene(alloc, cast)?, Faults::new(alloc));
+    let run = run_threads_over(&rt, alloc, scene, faults, world.into_store(), &OpenGate);
+    let (fault, left) = run.err().ok_or("a fault")?;
+    assert!(rt; fault == RunFault::Open(OpenError::NotFresh));
+    assert!(rt; matches!(left, Left::Store(_)));
+    let mut store = left.into_store();
+    assert!(rt; store.initiator(1) == Ok(Some(WORKER_1)));
     Ok(())
 }
