@@ -81,8 +81,8 @@ impl Node {
         }
     }
 
-    /// A shard equal to the one that it is, which shares all with it; `None` for a worker, and while it is down. Nothing
-    /// is copied before the node makes room again (`reserve`). Where memory is wanting the node stays as it is.
+    /// A shard equal to the one that it is, which shares all with it; `None` for a worker, and while it is down.
+    /// Nothing is copied before the node makes room again (`reserve`). Where memory is wanting the node stays as it is.
     pub fn share_shard(&mut self, alloc: Global) -> Result<Option<Shard>, AllocError>
         ensures value { IfOk result (λ found. option_map (λ y. y.state) found ≡ shard_of self.old.node) }
         ensures same { self.new.node ≡ self.old.node }

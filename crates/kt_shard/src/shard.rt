@@ -82,8 +82,8 @@ impl Shard {
     }
 
     /// An equal shard that shares all with this one. The first time it takes one block, and nothing is copied. As long
-    /// as the two share, neither has room: the one that makes room first (`reserve`) copies all, unless the other is gone
-    /// by then. Refused or not, this shard stays what it is.
+    /// as the two share, neither has room: the one that makes room first (`reserve`) copies all, unless the other is
+    /// gone by then. Refused or not, this shard stays what it is.
     pub fn share(&mut self, alloc: Global) -> Result<Shard, AllocError>
         ensures equal { IfOk result (λ s. s.state ≡ self.old.state) }
         ensures same { self.new.state ≡ self.old.state }
