@@ -210,6 +210,18 @@ impl Shard {
         if let Held::Own(parts) = &mut self.held {
             return parts.bag.reserve();
         }
+        self.take_back()
+    }
+
+    /// Takes parts of its own, with room for one more tuple. It is a call of its own, since the parts are moved on the
+    /// stack, for which a step that finds them its own does not pay.
+    #[inline(never)]
+    fn take_back(&mut self) -> Result<(), AllocError>
+        ensures state { self.new.state ≡ self.old.state }
+        ensures room { OnOk result (IsTrue self.new.has_room) }
+        ensures unchanged { OnErr result (self.new ≡ self.old) }
+        ensures none { OnErr result (self.old.has_room ≡ false) }
+    {
         let alloc = self.parts().allocator();
         let held = mem::replace(&mut self.held, Held::Own(Parts::none(alloc)));
         let (held, made) = with_room(held);
@@ -300,6 +312,7 @@ fn with_room(held: Held) -> (Held, Result<(), AllocError>)
     ensures state { (standing_of result.0).state ≡ (standing_of held).state }
     ensures room { OnOk result.1 (IsTrue (standing_of result.0).has_room) }
     ensures unchanged { OnErr result.1 (standing_of result.0 ≡ standing_of held) }
+    ensures none { OnErr result.1 ((standing_of held).has_room ≡ false) }
     ensures long { length (desks_in result.0) ≡ desks }
 {
     match held {
