@@ -1,13 +1,12 @@
 //! Searching outside the lock: a shard's seat looks at its shard, searches what it saw, and proposes whom to serve.
 
-ghost use Rattle.std.specs.Prelude.{◌≡◌, ◌<◌, ◌≤◌, ◌≢◌, ◌++◌, ◌∷◌, ℕ, [], length, true, false, None, Some};
-ghost use Rattle.std.specs.Prelude.{Err, IfErr, IfOk, IsTrue, OnErr};
+ghost use Rattle.std.specs.Prelude.{◌≡◌, ◌<◌, ◌≤◌, ◌++◌, ◌∷◌, ℕ, [], length, true, false, None, Some};
+ghost use Rattle.std.specs.Prelude.{Err, IfErr, IfOk, OnErr};
 ghost use Rattle.kt_core.specs.Lent.{shard};
 ghost use Rattle.kt_stage.specs.Glancing.{IsConfirmed, IsGlance, IsGlanceCause, IsSeen, can_serve, is_shard_name};
 ghost use Rattle.kt_stage.specs.Glancing.{proposal_of};
 ghost use Rattle.kt_stage.specs.declared.glance.GlanceError.TheVariants as glances;
 ghost use Rattle.kt_stage.specs.declared.glance.ConfirmError.TheVariants as confirms;
-ghost use Rattle.kt_world.specs.Step.{owner};
 
 use crate::desk::Desk;
 use crate::error::ActError;
