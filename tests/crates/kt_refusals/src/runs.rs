@@ -1,0 +1,216 @@
+//! Replays and runs from text to text, with each growth refused in turn.
+
+use crate::fresh::Fresh;
+use crate::refusing::{MOST, Turns, never, refuse, was_spared};
+use kt_core::{OpenError, StepError};
+use kt_run::{Output, RunTextFault, run_text};
+use kt_scene::{ReplayFault, Scenario, SceneError, Sink, Source, WorkKind, read_scene, replay};
+use kt_stage::{OpenGate, RunFault, run_threads};
+use kt_store::{CkptStore, StoreError};
+use std::alloc::Global;
+use std::sync::Wait;
+use std::test::Fail;
+use std::thread::Threads;
+
+/// How many bytes a report or journal that is written here has at most.
+const ROOM: usize = 1 << 16;
+
+/// As many runs by threads in a row have to be spared: another run can have another count of growths.
+const SPARED: u8 = 3;
+
+fn is_of_step(cause: StepError) -> bool {
+    matches!(
+        cause,
+        StepError::OutOfMemory | StepError::Store(StoreError::Memory)
+    )
+}
+
+fn is_of_opening(cause: OpenError) -> bool {
+    matches!(
+        cause,
+        OpenError::OutOfMemory | OpenError::Store(StoreError::Memory)
+    )
+}
+
+/// Whether memory ran out in the replay: for its text, a step, its store or its report.
+fn is_of_replay(fault: ReplayFault) -> bool {
+    match fault {
+        ReplayFault::Scene { cause, .. } => cause == SceneError::OutOfMemory,
+        ReplayFault::Step { cause, .. } => is_of_step(cause),
+        ReplayFault::Open(cause) => is_of_opening(cause),
+        ReplayFault::Report(cause) => cause == StoreError::Memory,
+        ReplayFault::Memory => true,
+        ReplayFault::Read | ReplayFault::Write => false,
+    }
+}
+
+/// Whether memory ran out in the run, or for one of its threads.
+fn is_of_run(fault: RunFault) -> bool {
+    match fault {
+        RunFault::Open(cause) => is_of_opening(cause),
+        RunFault::Step { cause, .. } => is_of_step(cause),
+        RunFault::Memory => true,
+        RunFault::Close(_) | RunFault::Unfinished { .. } => false,
+    }
+}
+
+/// A writer that has room for all that is written.
+fn sink(alloc: Global) -> Result<Sink<Vec<u8>>, Fail> {
+    Ok(Sink::new(Vec::with_capacity(alloc, ROOM)?))
+}
+
+/// What a replay or a run came to, whether no growth of it was refused, and what was written.
+type Ended<F> = (Result<(), F>, bool, Vec<u8>);
+
+/// Replays the text over a fresh store, with the growth of this number refused.
+fn replayed_once<S: CkptStore + Fresh + Drop>(
+    alloc: Global,
+    text: &[u8],
+    number: usize,
+) -> Result<Ended<ReplayFault>, Fail> {
+    let mut source = Source::new(text);
+    let mut sink = sink(alloc)?;
+    let store = S::fresh(alloc)?;
+    refuse(alloc, number)?;
+    let answer = replay(alloc, &mut source, &mut sink, store);
+    let is_spared = was_spared(alloc, number)?;
+    Ok((answer, is_spared, sink.into_inner()))
+}
+
+/// Replays the text, each time with another reader, writer and store. Refused, it leaves nothing written.
+pub(crate) fn replayed_in_turn<S: CkptStore + Fresh + Drop>(
+    rt: &HostRuntime,
+    alloc: Global,
+    text: &[u8],
+) -> Result<(), Fail> {
+    let (_, _, expected) = replayed_once::<S>(alloc, text, 0)?;
+    let mut turns = Turns::new("replay");
+    for number in 1..MOST {
+        let (answer, is_spared, written) = replayed_once::<S>(alloc, text, number)?;
+        let is_right = match answer {
+            Ok(()) => written == expected,
+            Err(fault) => is_of_replay(fault) && written.is_empty(),
+        };
+        turns.hold(rt, is_right, "another end")?;
+        if is_spared {
+            return turns.end(rt, number);
+        }
+        if answer.is_ok() {
+            turns.bear();
+        }
+    }
+    Err(never())
+}
+
+/// Runs the text by threads over a fresh store, with the growth of this number refused.
+fn run_once<T: Threads + Wait + Sync, S: CkptStore + Fresh + Send + Drop>(
+    threads: &T,
+    alloc: Global,
+    text: &[u8],
+    number: usize,
+) -> Result<Ended<RunTextFault>, Fail> {
+    let mut source = Source::new(text);
+    let mut sink = sink(alloc)?;
+    let store = S::fresh(alloc)?;
+    refuse(alloc, number)?;
+    let answer = run_text(
+        threads,
+        alloc,
+        &mut source,
+        &mut sink,
+        store,
+        Output::Journal,
+        &OpenGate,
+    );
+    let is_spared = was_spared(alloc, number)?;
+    Ok((answer, is_spared, sink.into_inner()))
+}
+
+/// As many turns in a row in which no growth was refused, with this one.
+fn spared_now(spared: u8, is_spared: bool) -> u8 {
+    if is_spared {
+        spared.saturating_add(1)
+    } else {
+        0
+    }
+}
+
+/// Runs the text by threads, each time with another reader, writer and store. Refused, it leaves nothing written; else
+/// what is written is a journal that replays.
+pub(crate) fn run_in_turn<T: Threads + Wait + Sync, S: CkptStore + Fresh + Send + Drop>(
+    rt: &HostRuntime,
+    threads: &T,
+    alloc: Global,
+    text: &[u8],
+) -> Result<(), Fail> {
+    let mut turns = Turns::new("run_text");
+    let mut spared = 0u8;
+    for number in 1..MOST {
+        let (answer, is_spared, written) = run_once::<T, S>(threads, alloc, text, number)?;
+        let is_right = match answer {
+            Ok(()) => {
+                let (replayed, _, _) = replayed_once::<S>(alloc, &written, 0)?;
+                replayed == Ok(())
+            }
+            Err(RunTextFault::Text(fault)) => is_of_replay(fault) && written.is_empty(),
+            Err(RunTextFault::Run(fault)) => is_of_run(fault) && written.is_empty(),
+        };
+        turns.hold(rt, is_right, "another end")?;
+        if answer.is_ok() && !is_spared {
+            turns.bear();
+        }
+        spared = spared_now(spared, is_spared);
+        if SPARED <= spared {
+            return turns.end(rt, number.saturating_sub(usize::from(SPARED - 1)));
+        }
+    }
+    Err(never())
+}
+
+/// Runs the scene of the text by threads over a fresh store, with the growth of this number refused. Says why it was
+/// refused, or that it came to no end, and whether there was no such growth.
+fn threads_once<T: Threads + Wait + Sync, S: CkptStore + Fresh + Send + Drop>(
+    threads: &T,
+    alloc: Global,
+    text: &[u8],
+    number: usize,
+) -> Result<(Result<bool, RunFault>, bool), Fail> {
+    let Scenario { scene, work } = read_scene(alloc, text, WorkKind::Faults)?;
+    let faults = work.into_faults().ok_or("fault lines")?;
+    let store = S::fresh(alloc)?;
+    refuse(alloc, number)?;
+    let answer = run_threads(threads, alloc, scene, faults, store, &OpenGate);
+    let is_spared = was_spared(alloc, number)?;
+    let ended = match answer {
+        Ok(journal) => Ok(journal.world().is_steady()),
+        Err(fault) => Err(fault),
+    };
+    Ok((ended, is_spared))
+}
+
+/// Runs the scene of the text by threads, each time over another store.
+pub(crate) fn threads_in_turn<T: Threads + Wait + Sync, S: CkptStore + Fresh + Send + Drop>(
+    rt: &HostRuntime,
+    threads: &T,
+    alloc: Global,
+    text: &[u8],
+) -> Result<(), Fail> {
+    let mut turns = Turns::new("run_threads");
+    let mut spared = 0u8;
+    for number in 1..MOST {
+        let (ended, is_spared) = threads_once::<T, S>(threads, alloc, text, number)?;
+        let is_right = match ended {
+            Ok(is_steady) => is_steady,
+            Err(fault) => is_of_run(fault),
+        };
+        turns.hold(rt, is_right, "another end")?;
+        if ended.is_ok() && !is_spared {
+            turns.bear();
+        }
+        spared = spared_now(spared, is_spared);
+        if SPARED <= spared {
+            return turns.end(rt, number.saturating_sub(usize::from(SPARED - 1)));
+        }
+    }
+    Err(never())
+}
