@@ -1,9 +1,9 @@
 /* Stands before the allocator of C, and refuses the growths that it is told of.
  *
  * A program that knows of it speaks by sizes that no machine has. REFUSE + N refuses the N-th growth from now on and no
- * other, REFUSE + FROM + N that one and all later ones, REFUSE + 0 none. COUNTED + N is given where at most N growths
- * were asked for since. For a program that knows nothing of it, REFUSE_GROWTH is N in its environment, and a byte on
- * the descriptor REFUSE_MARKS tells that there was such a growth. */
+ * other, REFUSE + ALL all from now on, REFUSE + 0 none. COUNTED + N is given where at most N growths were asked for
+ * since. For a program that knows nothing of it, REFUSE_GROWTH is N in its environment, and a byte on the descriptor
+ * REFUSE_MARKS tells that there was such a growth. */
 
 typedef unsigned long size_t;
 
@@ -15,7 +15,7 @@ extern long write(int descriptor, const void *bytes, size_t count);
 
 #define REFUSE (1ul << 60)
 #define COUNTED (1ul << 61)
-#define FROM (1ul << 40)
+#define ALL (1ul << 40)
 
 static size_t refused;
 static size_t counted;
@@ -36,7 +36,7 @@ static int is_refused(void)
 {
     size_t count = __atomic_add_fetch(&counted, 1, __ATOMIC_SEQ_CST);
     size_t which = __atomic_load_n(&refused, __ATOMIC_SEQ_CST);
-    int is = which == count || (which > FROM && count >= which - FROM);
+    int is = which == count || which == ALL;
     if (is && marks >= 0)
         write(marks, "", 1);
     return is;

@@ -1,5 +1,6 @@
-//! Stores that nothing was stored in.
+//! Stores that nothing was stored in, and writers that nothing was written to.
 
+use kt_scene::Sink;
 use kt_sql::SqlStore;
 use kt_store::MemStore;
 use sqlite::MemStore as Disk;
@@ -22,4 +23,12 @@ impl Fresh for SqlStore<Disk> {
     fn fresh(alloc: Global) -> Result<SqlStore<Disk>, Fail> {
         Ok(SqlStore::in_memory(alloc)?)
     }
+}
+
+/// How many bytes a text that is written here has at most.
+const ROOM: usize = 1 << 16;
+
+/// A writer that has room for all that is written, so that it asks for no memory itself.
+pub(crate) fn sink(alloc: Global) -> Result<Sink<Vec<u8>>, Fail> {
+    Ok(Sink::new(Vec::with_capacity(alloc, ROOM)?))
 }

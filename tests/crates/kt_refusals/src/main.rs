@@ -5,7 +5,6 @@
 #![tactic(auto)]
 
 mod fresh;
-mod lines;
 mod refusing;
 mod runs;
 mod scripts;
@@ -16,7 +15,6 @@ mod stores;
 mod texts;
 
 use crate::fresh::Fresh;
-use crate::lines::lines_in_turn;
 use crate::runs::{replayed_in_turn, run_in_turn, threads_in_turn};
 use crate::scripts::scripts_in_turn;
 use crate::stages::{Way, leads_to};
@@ -118,7 +116,6 @@ fn main(rt: HostRuntime) -> Result<(), Fail> {
         b"run" => try_run::<_, MemStore>(&rt, &rt, alloc, &text),
         b"run-in-sql" => try_run::<_, SqlStore<Disk>>(&rt, &rt, alloc, &text),
         b"sql" => sql_in_turn(&rt, alloc),
-        b"lines" => lines_in_turn(&rt, alloc),
         _ => Err(Fail::new("this is not tried")),
     }
 }

@@ -10,8 +10,8 @@ const REFUSE: usize = 1 << 60;
 /// From this size on the library is asked whether so many growths were asked for since: it says so by an answer.
 const COUNTED: usize = 1 << 61;
 
-/// Above `REFUSE`: the growth of the number that is above this, and all later ones.
-const FROM: usize = 1 << 40;
+/// Above `REFUSE`: all growths from now on.
+const ALL: usize = 1 << 40;
 
 /// More growths than any call that is tried has.
 pub(crate) const MOST: usize = 100_000;
@@ -35,18 +35,13 @@ pub(crate) fn refuse(alloc: Global, number: usize) -> Result<(), Fail> {
     tell(alloc, number)
 }
 
-/// From now on the growth of this number and all later ones are refused, counted from 1.
-pub(crate) fn refuse_from(alloc: Global, number: usize) -> Result<(), Fail> {
-    tell(alloc, FROM.saturating_add(number))
-}
-
 /// From now on every growth is refused.
 pub(crate) fn refuse_all(alloc: Global) -> Result<(), Fail> {
-    refuse_from(alloc, 1)
+    tell(alloc, ALL)
 }
 
 /// From now on no growth is refused.
-pub(crate) fn refuse_none(alloc: Global) -> Result<(), Fail> {
+fn refuse_none(alloc: Global) -> Result<(), Fail> {
     tell(alloc, 0)
 }
 
@@ -70,15 +65,6 @@ pub(crate) fn was_spared(alloc: Global, number: usize) -> Result<bool, Fail> {
     Ok(is_spared)
 }
 
-/// Ends the test where this is not so, and says of what.
-pub(crate) fn holds(rt: &HostRuntime, is_so: bool, of: &str, what: &str) -> Result<(), Fail> {
-    if is_so {
-        return Ok(());
-    }
-    println!(rt; "{of}: {what}")?;
-    Err(Fail::new("it is not so"))
-}
-
 /// The refusals of one call, each of another growth.
 #[derive(Clone, Copy)]
 pub(crate) struct Turns {
@@ -97,9 +83,14 @@ impl Turns {
         self.borne = self.borne.saturating_add(1);
     }
 
-    /// Ends the test where this is not so of the call.
+    /// Ends the test where this is not so of the call, and says what is wrong.
     pub(crate) fn hold(&self, rt: &HostRuntime, is_so: bool, what: &str) -> Result<(), Fail> {
-        holds(rt, is_so, self.of, what)
+        if is_so {
+            return Ok(());
+        }
+        let of = self.of;
+        println!(rt; "{of}: {what}")?;
+        Err(Fail::new("it is not so"))
     }
 
     /// The growth of this number was not there any more. Says how many there were, and without how many of them the

@@ -1,19 +1,17 @@
 //! Replays and runs from text to text, with each growth refused in turn.
 
-use crate::fresh::Fresh;
+use crate::fresh::{Fresh, sink};
 use crate::refusing::{MOST, Turns, never, refuse, was_spared};
-use kt_core::{OpenError, StepError};
+use crate::stepping::is_of_opening;
+use kt_core::StepError;
 use kt_run::{Output, RunTextFault, run_text};
-use kt_scene::{ReplayFault, Scenario, SceneError, Sink, Source, WorkKind, read_scene, replay};
+use kt_scene::{ReplayFault, Scenario, SceneError, Source, WorkKind, read_scene, replay};
 use kt_stage::{OpenGate, RunFault, run_threads};
 use kt_store::{CkptStore, StoreError};
 use std::alloc::Global;
 use std::sync::Wait;
 use std::test::Fail;
 use std::thread::Threads;
-
-/// How many bytes a report or journal that is written here has at most.
-const ROOM: usize = 1 << 16;
 
 /// As many runs by threads in a row have to be spared: another run can have another count of growths.
 const SPARED: u8 = 3;
@@ -22,13 +20,6 @@ fn is_of_step(cause: StepError) -> bool {
     matches!(
         cause,
         StepError::OutOfMemory | StepError::Store(StoreError::Memory)
-    )
-}
-
-fn is_of_opening(cause: OpenError) -> bool {
-    matches!(
-        cause,
-        OpenError::OutOfMemory | OpenError::Store(StoreError::Memory)
     )
 }
 
@@ -52,11 +43,6 @@ fn is_of_run(fault: RunFault) -> bool {
         RunFault::Memory => true,
         RunFault::Close(_) | RunFault::Unfinished { .. } => false,
     }
-}
-
-/// A writer that has room for all that is written.
-fn sink(alloc: Global) -> Result<Sink<Vec<u8>>, Fail> {
-    Ok(Sink::new(Vec::with_capacity(alloc, ROOM)?))
 }
 
 /// What a replay or a run came to, whether no growth of it was refused, and what was written.

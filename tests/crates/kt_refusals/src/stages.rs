@@ -9,7 +9,8 @@ use crate::seen::shows;
 use crate::stepping::{Moment, is_of_memory};
 use kt_core::{Step, World};
 use kt_stage::{
-    ActError, ConfirmError, GlanceError, Naming, Receipt, Seat, Stage, node_count, propose,
+    ActError, ConfirmError, GlanceError, Naming, Proposal, Receipt, Seat, Stage, node_count,
+    propose,
 };
 use kt_store::CkptStore;
 use kt_tuple::NodeId;
@@ -24,13 +25,13 @@ use std::test::Fail;
 pub(crate) enum Way {
     /// The seat acts.
     Act,
-    /// The seat looks at its shard, and confirms what is proposed with ample memory.
+    /// The seat looks at its shard, and then acts with ample memory.
     Glance,
     /// The seat confirms what was proposed.
     Confirm,
 }
 
-/// A stage, its seats, and the step that is made on it in the end.
+/// A stage and its seats.
 #[derive(Drop)]
 struct Table<S: CkptStore, L: Naming> {
     stage: Stage<S, L>,
@@ -48,40 +49,71 @@ fn place_of<L: Naming>(seats: &[Seat<L>], node: NodeId) -> usize {
     place
 }
 
+fn seat_of<L: Naming>(seats: &mut [Seat<L>], node: NodeId) -> Result<&mut Seat<L>, Fail> {
+    let place = place_of(seats, node);
+    Ok(seats.get_mut(place).ok_or("a seat")?)
+}
+
 impl<S: CkptStore, L: Naming> Table<S, L> {
     fn acts(&mut self, waits: &impl Wait, alloc: Global, step: Step) -> Result<(), Fail> {
-        let place = place_of(&self.seats, step.owner());
-        let seat = self.seats.get_mut(place).ok_or("a seat")?;
+        let seat = seat_of(&mut self.seats, step.owner())?;
         self.stage.act(waits, alloc, seat, step)?;
         Ok(())
     }
 
-    /// Makes the step by `act` with the growth of this number refused, and says whether there was none such. Where it
-    /// is refused, the seat is as it was, and makes the step with memory.
-    fn act_refused(
+    /// What the seat proposes with every growth refused, by a glance for which there is memory.
+    fn proposed(
         &mut self,
         rt: &HostRuntime,
         waits: &impl Wait,
         alloc: Global,
         step: Step,
+        turns: &Turns,
+    ) -> Result<Proposal, Fail> {
+        let seat = seat_of(&mut self.seats, step.owner())?;
+        let glance = self.stage.glance(waits, alloc, seat)?;
+        refuse_all(alloc)?;
+        let proposal = propose(&glance, served(step));
+        turns.hold(rt, asked_for_none(alloc)?, "a proposal has a growth")?;
+        let proposal = proposal.ok_or("a proposal")?;
+        turns.hold(rt, proposal.step() == step, "another proposal")?;
+        Ok(proposal)
+    }
+
+    /// Makes the step, by confirming the proposal where there is one, with the growth of this number refused. Says
+    /// whether there was none such. Where it is refused, the seat is as it was, and makes the step with memory.
+    fn made_refused(
+        &mut self,
+        rt: &HostRuntime,
+        waits: &impl Wait,
+        alloc: Global,
+        step: Step,
+        proposal: Option<Proposal>,
         number: usize,
-        turns: Turns,
+        turns: &mut Turns,
     ) -> Result<bool, Fail> {
-        let place = place_of(&self.seats, step.owner());
-        let seat = self.seats.get_mut(place).ok_or("a seat")?;
+        let seat = seat_of(&mut self.seats, step.owner())?;
         let count = seat.receipts().len();
         refuse(alloc, number)?;
-        let made = self.stage.act(waits, alloc, seat, step);
+        let made = match proposal {
+            None => self
+                .stage
+                .act(waits, alloc, seat, step)
+                .map_err(ConfirmError::Act),
+            Some(proposal) => self.stage.confirm(waits, alloc, seat, proposal),
+        };
         let is_spared = was_spared(alloc, number)?;
-        is_right(rt, turns, step, made)?;
+        turns.hold(rt, is_right(step, made), "another answer")?;
         if made.is_err() {
             turns.hold(rt, seat.receipts().len() == count, "the seat")?;
             self.stage.act(waits, alloc, seat, step)?;
+        } else if !is_spared {
+            turns.bear();
         }
         Ok(is_spared)
     }
 
-    /// As `act_refused`, by a look at the shard whose growth is refused; the step is confirmed then.
+    /// The seat looks with the growth of this number refused, and then with memory. Says whether there was none such.
     fn glance_refused(
         &mut self,
         rt: &HostRuntime,
@@ -89,33 +121,25 @@ impl<S: CkptStore, L: Naming> Table<S, L> {
         alloc: Global,
         step: Step,
         number: usize,
-        turns: Turns,
+        turns: &mut Turns,
     ) -> Result<bool, Fail> {
-        let place = place_of(&self.seats, step.owner());
-        let seat = self.seats.get_mut(place).ok_or("a seat")?;
+        let seat = seat_of(&mut self.seats, step.owner())?;
         refuse(alloc, number)?;
-        let looked = self.stage.glance(waits, alloc, seat);
+        let looked = self.stage.glance(waits, alloc, seat).err();
         let is_spared = was_spared(alloc, number)?;
-        let glance = match looked {
-            Ok(glance) => glance,
-            Err(cause) => {
+        match looked {
+            Some(cause) => {
                 let is_memory = cause == GlanceError::OutOfMemory;
                 turns.hold(rt, is_memory, "another refusal")?;
-                self.stage.glance(waits, alloc, seat)?
             }
-        };
-        refuse_all(alloc)?;
-        let proposal = propose(&glance, served(step));
-        drop(glance);
-        turns.hold(rt, asked_for_none(alloc)?, "a proposal has a growth")?;
-        let proposal = proposal.ok_or("a proposal")?;
-        turns.hold(rt, proposal.step() == step, "another proposal")?;
-        self.stage.confirm(waits, alloc, seat, proposal)?;
+            None if is_spared => {}
+            None => turns.bear(),
+        }
         Ok(is_spared)
     }
 
     /// Makes the step this way with the growth of this number refused, and says whether there was none such.
-    fn made_refused(
+    fn goes(
         &mut self,
         rt: &HostRuntime,
         waits: &impl Wait,
@@ -123,60 +147,30 @@ impl<S: CkptStore, L: Naming> Table<S, L> {
         step: Step,
         way: Way,
         number: usize,
-        turns: Turns,
+        turns: &mut Turns,
     ) -> Result<bool, Fail> {
         match way {
-            Way::Act => self.act_refused(rt, waits, alloc, step, number, turns),
-            Way::Glance => self.glance_refused(rt, waits, alloc, step, number, turns),
-            Way::Confirm => self.confirm_refused(rt, waits, alloc, step, number, turns),
+            Way::Act => self.made_refused(rt, waits, alloc, step, None, number, turns),
+            Way::Glance => {
+                let is_spared = self.glance_refused(rt, waits, alloc, step, number, turns)?;
+                self.acts(waits, alloc, step)?;
+                Ok(is_spared)
+            }
+            Way::Confirm => {
+                let proposal = self.proposed(rt, waits, alloc, step, turns)?;
+                self.made_refused(rt, waits, alloc, step, Some(proposal), number, turns)
+            }
         }
-    }
-
-    /// As `act_refused`, by `confirm`.
-    fn confirm_refused(
-        &mut self,
-        rt: &HostRuntime,
-        waits: &impl Wait,
-        alloc: Global,
-        step: Step,
-        number: usize,
-        turns: Turns,
-    ) -> Result<bool, Fail> {
-        let place = place_of(&self.seats, step.owner());
-        let seat = self.seats.get_mut(place).ok_or("a seat")?;
-        let count = seat.receipts().len();
-        let glance = self.stage.glance(waits, alloc, seat)?;
-        let proposal = propose(&glance, served(step)).ok_or("a proposal")?;
-        drop(glance);
-        refuse(alloc, number)?;
-        let made = self.stage.confirm(waits, alloc, seat, proposal);
-        let is_spared = was_spared(alloc, number)?;
-        match made {
-            Ok(receipt) => is_right(rt, turns, step, Ok(receipt))?,
-            Err(ConfirmError::Act(cause)) => is_right(rt, turns, step, Err(cause))?,
-            Err(ConfirmError::Stale { .. }) => turns.hold(rt, false, "stale")?,
-        }
-        if made.is_err() {
-            turns.hold(rt, seat.receipts().len() == count, "the seat")?;
-            self.stage.act(waits, alloc, seat, step)?;
-        }
-        Ok(is_spared)
     }
 }
 
-/// A step was made, or refused for memory.
-fn is_right(
-    rt: &HostRuntime,
-    turns: Turns,
-    step: Step,
-    made: Result<Receipt, ActError>,
-) -> Result<(), Fail> {
-    let is_right = match made {
+/// Whether the step was made, or refused for memory.
+fn is_right(step: Step, made: Result<Receipt, ConfirmError>) -> bool {
+    match made {
         Ok(receipt) => receipt.step == step,
-        Err(ActError::Step(error)) => is_of_memory(step, error),
-        Err(ActError::NotOwner) => false,
-    };
-    turns.hold(rt, is_right, "another answer")
+        Err(ConfirmError::Act(ActError::Step(error))) => is_of_memory(step, error),
+        Err(ConfirmError::Act(ActError::NotOwner) | ConfirmError::Stale { .. }) => false,
+    }
 }
 
 /// Whom the step serves; its owner, where it serves nobody.
@@ -242,7 +236,7 @@ fn on_stage<W: Wait, S: CkptStore + Drop, L: Naming>(
     moment: Moment<'_>,
     way: Way,
     number: usize,
-    turns: Turns,
+    turns: &mut Turns,
     shown: &[u8],
 ) -> Result<bool, Fail>
     requires name { blank.name ≡ L.name }
@@ -251,7 +245,7 @@ fn on_stage<W: Wait, S: CkptStore + Drop, L: Naming>(
     requires opening { L.opening ≡ world }
 {
     let mut table = staged::<W, S, L>(waits, alloc, world, blank, moment)?;
-    let is_spared = table.made_refused(rt, waits, alloc, moment.step, way, number, turns)?;
+    let is_spared = table.goes(rt, waits, alloc, moment.step, way, number, turns)?;
     let is_right = closes(alloc, table, moment, shown)?;
     turns.hold(rt, is_right, "the journal")?;
     Ok(is_spared)
@@ -267,7 +261,7 @@ impl Moment<'_> {
         alloc: Global,
         way: Way,
         number: usize,
-        turns: Turns,
+        turns: &mut Turns,
         shown: &[u8],
     ) -> Result<bool, Fail> {
         let world = self.opened::<S>(alloc)?;
@@ -286,13 +280,13 @@ impl Moment<'_> {
         way: Way,
     ) -> Result<(), Fail> {
         let after = self.shown_after::<S>(alloc)?;
-        let turns = match way {
+        let mut turns = match way {
             Way::Act => Turns::new("act"),
             Way::Glance => Turns::new("glance"),
             Way::Confirm => Turns::new("confirm"),
         };
         for number in 1..MOST {
-            if self.acted_once::<W, S>(rt, waits, alloc, way, number, turns, &after)? {
+            if self.acted_once::<W, S>(rt, waits, alloc, way, number, &mut turns, &after)? {
                 return turns.end(rt, number);
             }
         }

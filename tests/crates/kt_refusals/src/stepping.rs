@@ -43,6 +43,14 @@ pub(crate) fn is_of_memory(step: Step, error: StepError) -> bool {
     }
 }
 
+/// Whether memory ran out in the opening, in the world or in its store.
+pub(crate) fn is_of_opening(cause: OpenError) -> bool {
+    matches!(
+        cause,
+        OpenError::OutOfMemory | OpenError::Store(StoreError::Memory)
+    )
+}
+
 /// The scenario of steps that the text is.
 pub(crate) fn scenario(alloc: Global, text: &[u8]) -> Result<Scenario, Fail> {
     Ok(read_scene(alloc, text, WorkKind::Steps)?)
@@ -59,14 +67,10 @@ fn opens_again<S: CkptStore + Drop>(
         scene,
         mut store,
     } = refused;
-    let is_memory = matches!(
-        cause,
-        OpenError::OutOfMemory | OpenError::Store(StoreError::Memory)
-    );
     let is_same = has_stored(alloc, &mut store, &before.1)?;
     let scene_now = format!(in alloc; "{scene:?}")?;
     let is_same = is_same && scene_now.as_str() == before.0.as_str();
-    Ok(is_memory && is_same && World::open(alloc, scene, store).is_ok())
+    Ok(is_of_opening(cause) && is_same && World::open(alloc, scene, store).is_ok())
 }
 
 /// What an opening came to, and whether no growth of it was refused.

@@ -1,6 +1,6 @@
 //! Texts, bytes and reports, with each growth refused in turn.
 
-use crate::fresh::Fresh;
+use crate::fresh::{Fresh, sink};
 use crate::refusing::{MOST, Turns, never, refuse, was_spared};
 use crate::seen::NAMES;
 use crate::stepping::{Moment, played};
@@ -8,21 +8,13 @@ use kt_ckpt::{Ckpt, CkptError};
 use kt_core::Step;
 use kt_history::{History, space_of};
 use kt_scene::{
-    ReplayFault, SceneError, Sink, WorkKind, read_scene, write_journal, write_report, write_scene,
+    ReplayFault, SceneError, WorkKind, read_scene, write_journal, write_report, write_scene,
 };
 use kt_space::Bag;
 use kt_store::{CkptStore, StoreError};
 use kt_tuple::{NodeId, Service};
 use std::alloc::Global;
 use std::test::Fail;
-
-/// How many bytes a text that is written here has at most.
-const ROOM: usize = 1 << 16;
-
-/// A writer that has room for all that is written.
-fn sink(alloc: Global) -> Result<Sink<Vec<u8>>, Fail> {
-    Ok(Sink::new(Vec::with_capacity(alloc, ROOM)?))
-}
 
 /// Reads the text. Refused for memory, it names a line of it.
 pub(crate) fn read_in_turn(
