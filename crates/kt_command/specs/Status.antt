@@ -1,6 +1,8 @@
 -- How a command ends.
 use Rattle.std.specs.Prelude.{◌≡◌, ℕ, true}
-use Rattle.kt_store.specs.Content.{Content}
+use Rattle.kt_store.specs.Content.{empty_content}
+use Rattle.kt_store.specs.Stored.{Stored}
+use Rattle.kt_core.specs.Store.{StoreValue, store_value}
 use Rattle.kt_store.specs.declared.store.CkptStore.{Ghosts}
 use Rattle.kt_world.specs.declared.step.StepError.{StepError}
 use Rattle.kt_world.specs.declared.step.StepError.TheVariants as step
@@ -9,7 +11,7 @@ use Rattle.kt_core.specs.declared.world.OpenError.TheVariants as opens
 use Rattle.kt_scene.specs.declared.fault.SceneError.{SceneError}
 use Rattle.kt_scene.specs.declared.fault.SceneError.TheVariants as scene
 use Rattle.kt_scene.specs.Outside.{Reader, Writer}
-use Rattle.kt_scene.specs.Run.{Given, left_by, WritesReplayed, IsReplayFault, LeavesWriter}
+use Rattle.kt_scene.specs.Run.{WritesReplayed, IsReplayFault, LeavesWriter}
 use Rattle.kt_scene.specs.declared.fault.ReplayFault.{ReplayFault}
 use Rattle.kt_scene.specs.declared.fault.ReplayFault.TheVariants.{Scene, Step, Open, Report, Memory, Read, Write}
 use Rattle.kt_stage.specs.declared.running.RunFault.{RunFault}
@@ -62,45 +64,51 @@ abbrev pub run_text_status : RunTextFault → ℕ
 run_text_status (texts.Text fault) = status_of fault
 run_text_status (texts.Run fault) = run_status fault
 
--- a store in memory with nothing stored on it, and this when it is left: it is always honest, and its device never
--- fails
-abbrev pub in_memory : Content → Given (Unit {0})
-in_memory left = record { content = λ _. left; is_honest = λ _. true; fault_count = λ _. 0; fresh = true; before = 0 }
-
--- what stores of a kind say of one that a command is given, and of it as it is left
-abbrev pub left_of : {S : Type 0} → Ghosts S → (store left : S) → Given (Unit {0})
-left_of kind store left = left_by kind.content kind.is_honest kind.fault_count store left
+-- A store was given, which was like this, and is left as it is when the command ends.
 
 -- how a replay over a store ends: with 0 where what was read was replayed and its report written, and else with the
 -- status of the fault, before which nothing is written, or of the writer's a front of the report
-pub data EndsOver {S : Type 0} (given : Given S) (before after : Reader) (old new : Writer) (n : ℕ) : Type 0 where
-  done : n ≡ 0 → WritesReplayed given before after old new → EndsOver given before after old new n
-  refused : (fault : ReplayFault) → IsReplayFault given before after fault
-      → LeavesWriter given before after old new fault → n ≡ status_of fault → EndsOver given before after old new n
+pub data EndsOver (was left : StoreValue) (before after : Reader) (old new : Writer) (n : ℕ) : Type 0 where
+  done : n ≡ 0 → WritesReplayed was left before after old new → EndsOver was left before after old new n
+  refused : (fault : ReplayFault) → IsReplayFault was left before after fault
+      → LeavesWriter was left before after old new fault → n ≡ status_of fault → EndsOver was left before after old new n
 
 -- what a run leaves of the writer where it ends with this fault: where the writer failed a front of what was to be
 -- there, and else all as it was
-abbrev pub LeavesRunWriter : {S : Type 0} → Given S → Output → (before after : Reader) (old new : Writer) → RunTextFault
-    → Type 0
-LeavesRunWriter given output before after old new (texts.Text Write) =
-    WritesRunFront given output before after old new
-LeavesRunWriter given output before after old new fault = new ≡ old
+abbrev pub LeavesRunWriter : (was left : StoreValue) → Output → (before after : Reader) (old new : Writer)
+    → RunTextFault → Type 0
+LeavesRunWriter was left output before after old new (texts.Text Write) =
+    WritesRunFront was left output before after old new
+LeavesRunWriter was left output before after old new fault = new ≡ old
 
 -- how a run over a store ends: with 0 where what was read was run and what was asked for written, and else with the
 -- status of the fault
-pub data EndsRun {S : Type 0} (given : Given S) (output : Output) (before after : Reader) (old new : Writer) (n : ℕ)
+pub data EndsRun (was left : StoreValue) (output : Output) (before after : Reader) (old new : Writer) (n : ℕ)
     : Type 0 where
-  ran : n ≡ 0 → WritesRun given output before after old new → EndsRun given output before after old new n
-  stopped : (fault : RunTextFault) → IsRunTextFault given before after fault
-      → LeavesRunWriter given output before after old new fault → n ≡ run_text_status fault
-      → EndsRun given output before after old new n
+  ran : n ≡ 0 → WritesRun was left output before after old new → EndsRun was left output before after old new n
+  stopped : (fault : RunTextFault) → IsRunTextFault was left before after fault
+      → LeavesRunWriter was left output before after old new fault → n ≡ run_text_status fault
+      → EndsRun was left output before after old new n
 
 -- how a command over a store ends
-abbrev pub EndsCommand : {S : Type 0} → Given S → Command → (before after : Reader) (old new : Writer) → ℕ → Type 0
-EndsCommand given Replay before after old new n = EndsOver given before after old new n
-EndsCommand given (Run output) before after old new n = EndsRun given output before after old new n
+abbrev pub EndsCommand : (was left : StoreValue) → Command → (before after : Reader) (old new : Writer) → ℕ → Type 0
+EndsCommand was left Replay before after old new n = EndsOver was left before after old new n
+EndsCommand was left (Run output) before after old new n = EndsRun was left output before after old new n
+
+-- how a command over this store of a kind ends, which is left like that one
+abbrev pub EndsAs : {S : Type 0} → Ghosts S → (store left : S) → Command → (before after : Reader)
+    (old new : Writer) → ℕ → Type 0
+EndsAs kind store left = EndsCommand (store_value kind store) (store_value kind left)
+
+-- a store in memory, which is always honest, and whose device never fails
+abbrev pub memory_value : Stored → StoreValue
+memory_value s = record { content = s.content; is_honest = true; counts = record { faults = 0; wants = s.wants } }
+
+-- nothing is stored on it, and memory was never refused
+abbrev pub fresh_memory : Stored
+fresh_memory = record { content = empty_content; wants = 0 }
 
 -- how a command over a fresh store in memory ends
 pub record EndsInMemory (command : Command) (before after : Reader) (old new : Writer) (n : ℕ) : Type 0 where
-  pub left : Content
-  pub ends : EndsCommand (in_memory left) command before after old new n
+  pub left : Stored
+  pub ends : EndsCommand (memory_value fresh_memory) (memory_value left) command before after old new n

@@ -1,6 +1,6 @@
 //! A command over a store, from the reader to the writer and the exit status.
 ghost use Rattle.std.specs.Prelude.{◌≡◌};
-ghost use Rattle.kt_command.specs.Status.{EndsCommand, EndsInMemory, left_of};
+ghost use Rattle.kt_command.specs.Status.{EndsAs, EndsInMemory};
 
 use crate::command::Command;
 use crate::status::{DONE, end_replay, end_run};
@@ -24,7 +24,7 @@ pub fn run_over<T: Threads + Wait + Sync, R: Read, W: Write, E: Write, S: CkptSt
     writer: &mut Sink<W>,
     errors: &mut E,
 ) -> (u8, S)
-    ensures told { EndsCommand (left_of S.CkptStore store result.1) command
+    ensures told { EndsAs S.CkptStore store result.1 command
         reader.old reader.new writer.old writer.new result.0 }
     ensures done_without_a_word { result.0 ≡ DONE → errors.new ≡ errors.old }
 {

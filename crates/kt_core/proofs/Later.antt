@@ -1,6 +1,6 @@
 -- One reading after another.
-use Rattle.std.proofs.Common.{◌≡◌, ℕ, zero, suc, ◌+◌, ◌<◌, ◌≤◌, Bool, List, [], ◌∷◌, ◌++◌, refl}
-use Rattle.std.proofs.Common.{append-nil, append_assoc, add-one, Ok, Err, ◌⊎◌, inl, inr, sym, ap, ◌∙◌, arith}
+use Rattle.std.proofs.Common.{◌≡◌, ℕ, zero, suc, ◌+◌, Bool, List, [], ◌∷◌, ◌++◌, refl}
+use Rattle.std.proofs.Common.{append-nil, append_assoc, add-one, Ok, Err, sym, ap, ◌∙◌, subst, arith}
 use Rattle.std.specs.Prelude.{Option, map, ◌&&◌}
 use Rattle.std.specs.List.{flat_map, list_all, range_with_len}
 use Rattle.kt_node.specs.declared.node.Node.{Node}
@@ -8,43 +8,44 @@ use Rattle.kt_world.specs.Headline.{is_steady_row}
 use Rattle.kt_core.specs.inner.Rows.{is_steady_code, row_view}
 use Rattle.std.specs.Prelude.{IsTrue}
 use Rattle.kt_store.specs.declared.error.StoreError.{StoreError}
-use Rattle.kt_store.specs.Calls.{most_faults}
+use Rattle.kt_store.specs.Calls.{Counts}
 use Rattle.kt_store.specs.Content.{Content}
-use Rattle.kt_core.specs.Store.{IsFault}
-use Rattle.kt_core.specs.inner.Calls.{IsRead}
+use Rattle.kt_store.specs.declared.error.StoreError.TheVariants.{Memory, Device, Damaged, Full}
+use Rattle.kt_core.specs.Store.{IsCountedBeside}
+use Rattle.kt_core.specs.inner.Calls.{IsGathered}
 
--- a fault in the last of several calls is one of all of them
-pub later-fault : (before between now : ℕ) (honest : Bool) (e : StoreError) → before ≤ between → IsFault between now honest e → IsFault before now honest e
-later-fault before between now honest e le f = record { device = λ is. by (f.device is); damaged = f.damaged; full = f.full }
-  where
-    by : (between < now) ⊎ (now ≡ most_faults) → (before < now) ⊎ (now ≡ most_faults)
-    by (inl lt) = inl (omega (arith, le, lt))
-    by (inr most) = inr most
+-- where nothing was counted before, what is counted of the last of several calls is counted of all of them
+counted-later : (T U : Type 0) (before between now : Counts) (e : StoreError) → between ≡ before
+    → IsCountedBeside {T = T} (Err e) between now → IsCountedBeside {T = U} (Err e) before now
+counted-later T U before between now Memory is c = subst (λ (x : Counts). IsCountedBeside {T = T} (Err Memory) x now) is c
+counted-later T U before between now Device is c = subst (λ (x : Counts). IsCountedBeside {T = T} (Err Device) x now) is c
+counted-later T U before between now Damaged is c = subst (λ (x : Counts). IsCountedBeside {T = T} (Err Damaged) x now) is c
+counted-later T U before between now Full is c = subst (λ (x : Counts). IsCountedBeside {T = T} (Err Full) x now) is c
 
 -- what has been read so far of a store, which stays as it was
-pub record Follows {S : Type 0} (content : S → Content) (is_honest : S → Bool) (faults : S → ℕ) (old new : S) : Type 0 where
+pub record Follows {S : Type 0} (content : S → Content) (is_honest : S → Bool) (counts_of : S → Counts) (old new : S) : Type 0 where
   pub same : IsTrue (is_honest new) → content new ≡ content old
   pub honest : IsTrue (is_honest new) → IsTrue (is_honest old)
-  pub later : faults old ≤ faults new
+  pub counts : counts_of new ≡ counts_of old
 
-pub refused-later : {S T U : Type 0} (content : S → Content) (is_honest : S → Bool) (faults : S → ℕ) (old between new : S)
+pub refused-later : {S T U : Type 0} (content : S → Content) (is_honest : S → Bool) (counts_of : S → Counts) (old between new : S)
     (Says : Content → T → Type 0) (Claims : Content → U → Type 0) (e : StoreError)
-    → Follows content is_honest faults old between → IsRead content is_honest faults between new Says (Err e)
-    → IsRead content is_honest faults old new Claims (Err e)
-refused-later content is_honest faults old between new Says Claims e f r = record {
+    → Follows content is_honest counts_of old between → IsGathered content is_honest counts_of between new Says (Err e)
+    → IsGathered content is_honest counts_of old new Claims (Err e)
+refused-later {T = T} {U = U} content is_honest counts_of old between new Says Claims e f r = record {
   value = λ h. tt;
   same = λ h. r.same h ∙ f.same (r.honest h);
   honest = λ h. f.honest (r.honest h);
-  later = let a = f.later in let b = r.later in omega (arith, a, b);
-  cause = later-fault (faults old) (faults between) (faults new) (is_honest new) e f.later r.cause;
+  counts = counted-later T U (counts_of old) (counts_of between) (counts_of new) e f.counts r.counts;
+  cause = r.cause;
 }
 
-pub read-later : {S T : Type 0} (content : S → Content) (is_honest : S → Bool) (faults : S → ℕ) (old between new : S) (Says : Content → T → Type 0) (x : T)
-    → Follows content is_honest faults old between → IsRead content is_honest faults between new Says (Ok x) → Follows content is_honest faults old new
-read-later content is_honest faults old between new Says x f r = record {
+pub read-later : {S T : Type 0} (content : S → Content) (is_honest : S → Bool) (counts_of : S → Counts) (old between new : S) (Says : Content → T → Type 0) (x : T)
+    → Follows content is_honest counts_of old between → IsGathered content is_honest counts_of between new Says (Ok x) → Follows content is_honest counts_of old new
+read-later content is_honest counts_of old between new Says x f r = record {
   same = λ h. r.same h ∙ f.same (r.honest h);
   honest = λ h. f.honest (r.honest h);
-  later = let a = f.later in let b = r.later in omega (arith, a, b);
+  counts = r.counts ∙ f.counts;
 }
 
 -- one number more
@@ -57,13 +58,13 @@ flat-more f a (suc n) j e = ap (λ l. f a ++ l) (flat-more f (a + 1) n j (omega 
     ∙ sym (append_assoc (f a) (flat_map f (range_with_len (a + 1) n)) (f j))
 
 -- what one more reading adds
-pub added : {S A T : Type 0} (content : S → Content) (is_honest : S → Bool) (faults : S → ℕ) (old between new : S)
+pub added : {S A T : Type 0} (content : S → Content) (is_honest : S → Bool) (counts_of : S → Counts) (old between new : S)
     (f : Content → ℕ → List A) (so_far all : List A) (k : ℕ) (x : T)
-    → Follows content is_honest faults old between → (IsTrue (is_honest between) → so_far ≡ flat_map (f (content old)) (range_with_len 1 k))
-    → IsRead content is_honest faults between new (λ c y. all ≡ so_far ++ f c (k + 1)) (Ok x)
-    → Follows content is_honest faults old new × (IsTrue (is_honest new) → all ≡ flat_map (f (content old)) (range_with_len 1 (k + 1)))
-added {A = A} content is_honest faults old between new f so_far all k x follows before r = (
-  read-later content is_honest faults old between new (λ c y. all ≡ so_far ++ f c (k + 1)) x follows r,
+    → Follows content is_honest counts_of old between → (IsTrue (is_honest between) → so_far ≡ flat_map (f (content old)) (range_with_len 1 k))
+    → IsGathered content is_honest counts_of between new (λ c y. all ≡ so_far ++ f c (k + 1)) (Ok x)
+    → Follows content is_honest counts_of old new × (IsTrue (is_honest new) → all ≡ flat_map (f (content old)) (range_with_len 1 (k + 1)))
+added {A = A} content is_honest counts_of old between new f so_far all k x follows before r = (
+  read-later content is_honest counts_of old between new (λ c y. all ≡ so_far ++ f c (k + 1)) x follows r,
   λ h.
       let held = r.honest h in
       let there : content between ≡ content old = follows.same held in

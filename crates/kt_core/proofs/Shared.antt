@@ -1,3 +1,2 @@
 -- What the crates above may cite of these proofs.
-pub use Rattle.kt_core.proofs.Later.{later-fault}
 pub use Rattle.kt_core.proofs.Shorts.{of_script}

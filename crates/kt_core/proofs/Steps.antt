@@ -1,6 +1,6 @@
 -- What the parts of a step come to.
-use Rattle.std.proofs.Common.{◌≡◌, ℕ, ◌+◌, ◌<◌, ◌≤◌, ◌^◌, if◌then◌else◌, Bool, true, false, Result, None, Ok, Err, refl, sym, ap, ◌∙◌, subst, arith}
-use Rattle.std.specs.Prelude.{nat_lt, not, IfErr, IfSome, IsOk, IsTrue, OnErr}
+use Rattle.std.proofs.Common.{◌≡◌, ℕ, ◌+◌, ◌<◌, ◌^◌, if◌then◌else◌, Bool, true, false, Result, None, Ok, Err, refl, sym, ap, ◌∙◌, subst, arith}
+use Rattle.std.specs.Prelude.{nat_lt, not, IfErr, IfSome, IsOk, IsTrue, OnErr, OnOk}
 use Rattle.kt_store.specs.declared.error.StoreError.{StoreError}
 use Rattle.kt_store.specs.declared.error.StoreError.TheVariants as stores
 use Rattle.kt_store.specs.Content.{Content, row_of}
@@ -33,7 +33,9 @@ use Rattle.std.specs.Result.{IsErrAnd}
 use Rattle.kt_core.specs.inner.Machine as machine
 use Rattle.kt_core.specs.Store.{IsFault}
 use Rattle.kt_core.specs.inner.Judged.{is_refused}
-use Rattle.kt_core.specs.Stepping.{IsCalledFor, IsCause, Refuses, Writes, has_write}
+use Rattle.kt_store.specs.Calls.{Counts, raised_by}
+use Rattle.kt_core.specs.Stepping.{IsByPlan, IsCalledFor, IsCause, Refuses, Writes, has_write, step_counted}
+use Rattle.kt_core.specs.World.{beside}
 
 -- what is asked for is what the rule of the step looks at
 pub asked : (s : State) (step : Step) (t : Told) (needs : Needs) (p : NodeId) → t ≡ told_by needs s.content p → needs ≡ needs_of s step → p ≡ owner step
@@ -63,8 +65,8 @@ pub refused : (s : State) (step : Step) (t : Told) (e : StepError) → t ≡ tol
     → machine.Gives {Y = Plan} (Err e) (planned_by s t step) → Refuses e (planned s step)
 refused s step t e is gives = weaker e (planned s step) (subst (machine.Refuses e) (due-planned s step t is) gives)
 
-fault-of : (before now : ℕ) (refusal : StoreError) → before ≤ now → (refusal ≡ stores.Damaged) → IsFault before now false refusal
-fault-of before now refusal le is = record { device = λ e. absurd (let h = is in cc); damaged = λ e. refl; full = λ e. refl }
+fault-of : (refusal : StoreError) → IsFault false refusal
+fault-of refusal = record { damaged = λ e. refl; full = λ e. refl }
 
 limit-store : (made : ℕ) (r : Result Plan StepError) (x : StoreError) → within_limit made r ≡ Err (refusals.Store x) → r ≡ Err (refusals.Store x)
 limit-store made r x = by (nat_lt made most_steps) refl r
@@ -96,21 +98,20 @@ limit-store made r x = by (nat_lt made most_steps) refl r
     by b lt (Err refusals.OutOfMemory) e = e
 
 -- a checkpoint that does not fit is the store's fault: an honest one gives none
-pub caused : (honest : Bool) (before now : ℕ) (s : State) (step : Step) (t : Told) (e : StepError)
-    → before ≤ now → (IsTrue honest → t ≡ told_by (needs_of s step) s.content (owner step)) → (IsTrue honest → IsUndamaged s)
-    → machine.Gives {Y = Plan} (Err e) (planned_by s t step) → ((x : StoreError) → e ≡ refusals.Store x → x ≡ stores.Damaged)
-    → IsCause before now honest e
-caused honest before now s step t refusals.OutOfMemory le is fits gives only = tt
-caused true before now s step t (refusals.Store x) le is fits gives only =
+pub caused : (honest : Bool) (s : State) (step : Step) (t : Told) (e : StepError)
+    → (IsTrue honest → t ≡ told_by (needs_of s step) s.content (owner step)) → (IsTrue honest → IsUndamaged s)
+    → machine.Gives {Y = Plan} (Err e) (planned_by s t step) → IsCause honest e
+caused honest s step t refusals.OutOfMemory is fits gives = tt
+caused true s step t (refusals.Store x) is fits gives =
     absurd (fits refl step x (limit-store s.made (judged s (told s step) step) x (sym (due-planned s step t (is refl)) ∙ gives)))
-caused false before now s step t (refusals.Store x) le is fits gives only = fault-of before now x le (only x refl)
-caused honest before now s step t refusals.NoNode le is fits gives only = tt
-caused honest before now s step t refusals.WrongMode le is fits gives only = tt
-caused honest before now s step t refusals.NothingThere le is fits gives only = tt
-caused honest before now s step t refusals.NoSuchMatch le is fits gives only = tt
-caused honest before now s step t refusals.NotDecided le is fits gives only = tt
-caused honest before now s step t refusals.Unresolved le is fits gives only = tt
-caused honest before now s step t refusals.StepLimit le is fits gives only = tt
+caused false s step t (refusals.Store x) is fits gives = fault-of x
+caused honest s step t refusals.NoNode is fits gives = tt
+caused honest s step t refusals.WrongMode is fits gives = tt
+caused honest s step t refusals.NothingThere is fits gives = tt
+caused honest s step t refusals.NoSuchMatch is fits gives = tt
+caused honest s step t refusals.NotDecided is fits gives = tt
+caused honest s step t refusals.Unresolved is fits gives = tt
+caused honest s step t refusals.StepLimit is fits gives = tt
 
 owner-damaged : (r : Planned) (x : StoreError) → of_owner r ≡ Err (refusals.Store x) → x ≡ stores.Damaged
 owner-damaged (Ok plan) x e = absurd cc
@@ -133,6 +134,24 @@ only-damaged s t step e gives x is =
     let P : StepError → Type 0 = λ y. machine.Refuses y (planned_by s t step) in
     let h : planned_by s t step ≡ Err (refusals.Store x) = subst P is gives in
     scene-damaged (is_in_scene s.cast step) (due s t step) x (limit-store s.made (judged s t step) x h)
+
+-- so it raises no count of the store
+plan-uncounted : (T : Type 0) (e : StepError) (c : Counts) → ((x : StoreError) → e ≡ refusals.Store x → x ≡ stores.Damaged) → c ≡ step_counted {T = T} (Err e) c
+plan-uncounted T (refusals.Store x) c only = ap (λ (y : StoreError). raised_by y c) (sym (only x refl))
+plan-uncounted T refusals.OutOfMemory c only = refl
+plan-uncounted T refusals.NoNode c only = refl
+plan-uncounted T refusals.WrongMode c only = refl
+plan-uncounted T refusals.NothingThere c only = refl
+plan-uncounted T refusals.NoSuchMatch c only = refl
+plan-uncounted T refusals.NotDecided c only = refl
+plan-uncounted T refusals.Unresolved c only = refl
+plan-uncounted T refusals.StepLimit c only = refl
+
+pub plan-counted : {T : Type 0} (r : Result T StepError) (e : StepError) (before now : Counts) → IsErrAnd r (λ x. x ≡ e) → now ≡ before
+    → ((x : StoreError) → e ≡ refusals.Store x → x ≡ stores.Damaged) → now ≡ step_counted r before
+plan-counted (Ok x) e before now is same only = absurd is
+plan-counted {T = T} (Err y) e before now is same only =
+    same ∙ plan-uncounted T e before only ∙ ap (λ (z : StepError). step_counted {T = T} (Err z) before) (sym is)
 
 pub is-ok : {X E : Type 0} (r : Result X E) (x : X) → r ≡ Ok x → IsOk r
 is-ok {X = X} {E = E} r x e = let P : Result X E → Type 0 = IsOk in subst P (sym e) refl
@@ -199,6 +218,22 @@ effect old mid new before between after step plan p is same read owned wrote car
     let new_is : state_of new after ≡ applied (state_of old before) step plan = ap (state_of new) written ∙ carried between
     ∙ ap (λ (s : State). applied s step plan) mid_is in
     ap (applied_if (state_of old before) step) is ∙ ap (λ (s : State). Ok s) (sym new_is)
+
+-- what a step leads to it leads to by its plan
+pub by-result : (old new : State) (step : Step) → step_result old step ≡ Ok new → IsByPlan old step new
+by-result old new step e = by (planned old step) refl e
+  where
+    by : (r : Result Plan StepError) → planned old step ≡ r → applied_if old step r ≡ Ok new → IsByPlan old step new
+    by (Ok plan) is e =
+        let same : applied old step plan ≡ new = cc in
+        record { told = told old step; plan = plan; is = is; leads = ap beside (sym same) }
+    by (Err refusal) is e = absurd cc
+
+-- whatever the store holds
+pub planned-beside : {X : Type 0} (r : Result X StepError) (old new : Machine) (first before after : Content) (step : Step)
+    → OnOk r (IsByPlan (state_of old first) step (state_of new first)) → OnOk r (IsByPlan (state_of old before) step (state_of new after))
+planned-beside (Ok x) old new first before after step h = record { told = h.told; plan = h.plan; is = h.is; leads = h.leads }
+planned-beside (Err e) old new first before after step h = tt
 
 -- the write of what is planned is one that the store allows
 pub allowed : (s : State) (step : Step) (plan : Plan) (c : Content) (p : NodeId) → IsBacked s → planned s step ≡ Ok plan

@@ -1,13 +1,17 @@
 -- Why a step is refused.
-use Rattle.std.specs.Prelude.{◌≡◌, ◌≢◌, ℕ, Bool, Result, Ok, Err, None, IsOk}
+use Rattle.std.specs.Prelude.{◌≡◌, ◌≢◌, Bool, Result, Ok, Err, None, IsOk}
 use Rattle.kt_node.specs.declared.plan.Plan.{Plan}
 use Rattle.kt_world.specs.declared.step.Step.{Step}
 use Rattle.kt_world.specs.declared.step.StepError.{StepError}
 use Rattle.kt_world.specs.declared.step.StepError.TheVariants as refusals
-use Rattle.kt_world.specs.Judge.{planned}
+use Rattle.kt_world.specs.declared.told.Told.{Told}
+use Rattle.kt_world.specs.Effect.{applied}
+use Rattle.kt_world.specs.Judge.{planned, planned_by}
 use Rattle.kt_world.specs.Needs.{needs_of, no_needs}
 use Rattle.kt_world.specs.State.{State}
+use Rattle.kt_store.specs.Calls.{Counts, raised_by}
 use Rattle.kt_core.specs.Store.{IsFault}
+use Rattle.kt_core.specs.World.{beside}
 
 -- the refusal is the one that is due; want of memory comes only where none is. A store's refusal stands for itself.
 abbrev pub Refuses : {Y : Type 0} → StepError → Result Y StepError → Type 0
@@ -15,11 +19,23 @@ Refuses refusals.OutOfMemory due = IsOk due
 Refuses (refusals.Store refusal) due = Unit {0}
 Refuses refusal due = due ≡ Err refusal
 
--- a store's refusal comes where a call of the store was refused; one for damage or for a full store never while the
--- store is honest
-abbrev pub IsCause : ℕ → ℕ → Bool → StepError → Type 0
-IsCause before now is_honest (refusals.Store refusal) = IsFault before now is_honest refusal
-IsCause before now is_honest refusal = Unit {0}
+-- a store's refusal for damage or for a full store comes never while it is honest
+abbrev pub IsCause : Bool → StepError → Type 0
+IsCause is_honest (refusals.Store refusal) = IsFault is_honest refusal
+IsCause is_honest refusal = Unit {0}
+
+-- what a step leaves of the store's counts: raised by the store's own refusal, and by nothing else. So a step that the
+-- store refused for memory is told from one that had no memory itself.
+abbrev pub step_counted : {T : Type 0} → Result T StepError → Counts → Counts
+step_counted (Err (refusals.Store refusal)) before = raised_by refusal before
+step_counted result before = before
+
+-- one step was made by the plan that some answers of the store lead to, whatever the store holds
+pub record IsByPlan (old : State) (step : Step) (new : State) : Type 0 where
+  pub told : Told
+  pub plan : Plan
+  pub is : planned_by old told step ≡ Ok plan
+  pub leads : beside new ≡ beside (applied old step plan)
 
 -- the plan has something to write
 abbrev pub Writes : Result Plan StepError → Type 0

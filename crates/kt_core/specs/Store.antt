@@ -1,12 +1,40 @@
--- What reading from a store and writing to it leaves, and why either may be refused.
-use Rattle.std.specs.Prelude.{◌≡◌, ◌⊎◌, ◌<◌, ℕ, Bool, false}
+-- A store as its callers see it, why reading from it and writing to it may be refused, and what it counts.
+use Rattle.std.specs.Prelude.{◌≡◌, ◌⊎◌, ◌≤◌, Bool, false, Result, Err}
 use Rattle.kt_store.specs.declared.error.StoreError.{StoreError}
-use Rattle.kt_store.specs.declared.error.StoreError.TheVariants.{Device, Damaged, Full}
-use Rattle.kt_store.specs.Calls.{most_faults}
+use Rattle.kt_store.specs.declared.error.StoreError.TheVariants.{Memory, Damaged, Full}
+use Rattle.kt_store.specs.Calls.{Counts, counted, raised_by}
+use Rattle.kt_store.specs.Content.{Content}
+use Rattle.kt_store.specs.declared.store.CkptStore.{Ghosts}
 
--- a refusal for the device only where it failed since or the count can't show it; for damage, or for a store that is
--- full, never while the store is honest
-pub record IsFault (before now : ℕ) (is_honest : Bool) (refusal : StoreError) : Type 0 where
-  pub device : refusal ≡ Device → (before < now) ⊎ (now ≡ most_faults)
+-- what a store holds, whether it is honest, and how often it refused a call
+pub record StoreValue : Type 0 where
+  pub content : Content
+  pub is_honest : Bool
+  pub counts : Counts
+
+-- what stores of a kind say of one of them
+abbrev pub store_value : {S : Type 0} → Ghosts S → S → StoreValue
+store_value kind store = record {
+  content = kind.content store;
+  is_honest = kind.is_honest store;
+  counts = kind.counts store;
+}
+
+-- some store of this kind was left, of which this holds
+abbrev pub IsLeftSome : {S : Type 0} → (S → StoreValue) → (StoreValue → Type 0) → Type 0
+IsLeftSome {S = S} value Holds = (left : S) × Holds (value left)
+
+-- a refusal for damage, or for a store that is full, comes never while the store is honest
+pub record IsFault (is_honest : Bool) (refusal : StoreError) : Type 0 where
   pub damaged : refusal ≡ Damaged → is_honest ≡ false
   pub full : refusal ≡ Full → is_honest ≡ false
+
+-- as a call of the store is counted, but what is copied beside it may want memory too, which the store does not count
+abbrev pub IsCountedBeside : {T : Type 0} → Result T StoreError → Counts → Counts → Type 0
+IsCountedBeside (Err Memory) before now = (now ≡ before) ⊎ (now ≡ raised_by Memory before)
+IsCountedBeside result before now = now ≡ counted result before
+
+-- more calls were refused since, or none
+pub record AreLater (before now : Counts) : Type 0 where
+  pub faults : before.faults ≤ now.faults
+  pub wants : before.wants ≤ now.wants

@@ -1,14 +1,15 @@
 //! A step: all that the store says, then the plan, then all memory, then the store's write, then the change.
 
-ghost use Rattle.std.specs.Prelude.{◌≡◌, ◌≤◌, IfErr, IfOk, IsTrue, Ok, OnErr, OnOk};
+ghost use Rattle.std.specs.Prelude.{◌≡◌, IfErr, IfOk, IsTrue, Ok, OnErr, OnOk};
 ghost use Rattle.kt_store.specs.Content.{Content, empty_content};
 ghost use Rattle.kt_world.specs.inner.Backed.{IsBacked};
 ghost use Rattle.kt_world.specs.Effect.{applied, step_result};
-ghost use Rattle.kt_world.specs.Judge.{IsUndamaged, planned};
+ghost use Rattle.kt_world.specs.Judge.{IsUndamaged, planned, planned_by};
+ghost use Rattle.kt_world.specs.declared.told.Told.{Told};
 ghost use Rattle.kt_world.specs.inner.Ready.{CanApply, IsReady};
 ghost use Rattle.kt_world.specs.Step.{owner};
 ghost use Rattle.kt_core.specs.inner.Machine.{HasRoomFor, state_of};
-ghost use Rattle.kt_core.specs.Stepping.{IsCalledFor, IsCause, Refuses};
+ghost use Rattle.kt_core.specs.Stepping.{IsByPlan, IsCalledFor, IsCause, Refuses, step_counted};
 
 use crate::machine::Machine;
 use crate::reading::tell;
@@ -30,6 +31,7 @@ fn prepare<S: CkptStore>(
     requires undamaged { IsTrue (S.is_honest store.old) → IsUndamaged (state_of machine.old (S.content store.old)) }
     ensures plan { IsTrue (S.is_honest store.new) →
         IfOk result (λ p. planned (state_of machine.old (S.content store.old)) step ≡ Ok p) }
+    ensures told { IfOk result (λ p. (t : Told) × (planned_by (state_of machine.old empty_content) t step ≡ Ok p)) }
     ensures can { IfOk result (λ p. CanApply (state_of machine.old empty_content) (owner step) p) }
     ensures leads { IfOk result (λ p. IsReady (applied (state_of machine.old empty_content) step p)) }
     ensures room { IfOk result (λ p. HasRoomFor machine.new (owner step) p) }
@@ -38,8 +40,8 @@ fn prepare<S: CkptStore>(
     ensures same { (c : Content) → state_of machine.new c ≡ state_of machine.old c }
     ensures content { IsTrue (S.is_honest store.new) → S.content store.new ≡ S.content store.old }
     ensures honest { IsTrue (S.is_honest store.new) → IsTrue (S.is_honest store.old) }
-    ensures later { S.fault_count store.old ≤ S.fault_count store.new }
-    ensures cause { IfErr result (IsCause (S.fault_count store.old) (S.fault_count store.new) (S.is_honest store.new)) }
+    ensures counts { S.counts store.new ≡ step_counted result (S.counts store.old) }
+    ensures cause { IfErr result (IsCause (S.is_honest store.new)) }
     ensures called { IsTrue (S.is_honest store.new) →
         IfErr result (IsCalledFor (state_of machine.old (S.content store.old)) step) }
 {
@@ -68,13 +70,15 @@ fn make_by_plan<S: CkptStore>(
     ensures effect { IsTrue (S.is_honest store.new) → OnOk result
         (step_result (state_of machine.old (S.content store.old)) step
         ≡ Ok (state_of machine.new (S.content store.new))) }
+    ensures by_plan { OnOk result
+        (IsByPlan (state_of machine.old empty_content) step (state_of machine.new empty_content)) }
     ensures refusal { IsTrue (S.is_honest store.new) →
         IfErr result (λ e. Refuses e (planned (state_of machine.old (S.content store.old)) step)) }
     ensures same { OnErr result (state_of machine.new empty_content ≡ state_of machine.old empty_content) }
     ensures content { IsTrue (S.is_honest store.new) → OnErr result (S.content store.new ≡ S.content store.old) }
     ensures honest { IsTrue (S.is_honest store.new) → IsTrue (S.is_honest store.old) }
-    ensures later { S.fault_count store.old ≤ S.fault_count store.new }
-    ensures cause { IfErr result (IsCause (S.fault_count store.old) (S.fault_count store.new) (S.is_honest store.new)) }
+    ensures counts { S.counts store.new ≡ step_counted result (S.counts store.old) }
+    ensures cause { IfErr result (IsCause (S.is_honest store.new)) }
     ensures called { IsTrue (S.is_honest store.new) →
         IfErr result (IsCalledFor (state_of machine.old (S.content store.old)) step) }
 {
@@ -98,13 +102,15 @@ pub(crate) fn make<S: CkptStore>(
     ensures effect { IsTrue (S.is_honest store.new) → OnOk result
         (step_result (state_of machine.old (S.content store.old)) step
         ≡ Ok (state_of machine.new (S.content store.new))) }
+    ensures by_plan { OnOk result
+        (IsByPlan (state_of machine.old empty_content) step (state_of machine.new empty_content)) }
     ensures refusal { IsTrue (S.is_honest store.new) →
         IfErr result (λ e. Refuses e (planned (state_of machine.old (S.content store.old)) step)) }
     ensures same { OnErr result (state_of machine.new empty_content ≡ state_of machine.old empty_content) }
     ensures content { IsTrue (S.is_honest store.new) → OnErr result (S.content store.new ≡ S.content store.old) }
     ensures honest { IsTrue (S.is_honest store.new) → IsTrue (S.is_honest store.old) }
-    ensures later { S.fault_count store.old ≤ S.fault_count store.new }
-    ensures cause { IfErr result (IsCause (S.fault_count store.old) (S.fault_count store.new) (S.is_honest store.new)) }
+    ensures counts { S.counts store.new ≡ step_counted result (S.counts store.old) }
+    ensures cause { IfErr result (IsCause (S.is_honest store.new)) }
     ensures called { IsTrue (S.is_honest store.new) →
         IfErr result (IsCalledFor (state_of machine.old (S.content store.old)) step) }
 {

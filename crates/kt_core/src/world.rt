@@ -1,6 +1,6 @@
 //! The world: what its callers see of it, and its step.
 
-ghost use Rattle.std.specs.Prelude.{◌≡◌, ◌≢◌, ◌≤◌, ◌↔◌, false, true, is_some, length, map, slice_get};
+ghost use Rattle.std.specs.Prelude.{◌≡◌, ◌≢◌, ◌↔◌, ◌+◌, false, true, is_some, length, map, slice_get};
 ghost use Rattle.std.specs.Prelude.{IfErr, IfOk, IsTrue, Ok, OnErr, OnOk};
 ghost use Rattle.std.specs.Option.{option_copied, option_map};
 ghost use Rattle.kt_store.specs.Content.{is_fresh};
@@ -72,7 +72,7 @@ impl<S: CkptStore> Model for World<S> {
     ghost view = { λ w. record {
       state = state_of w.machine (S.content w.store);
       is_honest = S.is_honest w.store;
-      faults = S.fault_count w.store;
+      counts = S.counts w.store;
     } };
 
     ghost invariant = { λ w. IsWorld (state_of w.machine (S.content w.store)) (S.is_honest w.store) };
@@ -80,9 +80,10 @@ impl<S: CkptStore> Model for World<S> {
 
 impl<S: CkptStore> World<S> {
     ghost use Rattle.kt_core.specs.Lent.{is_allowed, kept, message_at, shard, worker};
-    ghost use Rattle.kt_core.specs.Stepping.{IsCalledFor, IsCause, Refuses};
-    ghost use Rattle.kt_core.specs.Store.{IsFault};
-    ghost use Rattle.kt_core.specs.World.{IsOpenCause, beside};
+    ghost use Rattle.kt_core.specs.Stepping.{IsByPlan, IsCalledFor, IsCause, Refuses, step_counted};
+    ghost use Rattle.kt_core.specs.Store.{IsCountedBeside, IsFault};
+    ghost use Rattle.kt_core.specs.World.{IsOpenCause, beside, opening_counted};
+    ghost use Rattle.kt_store.specs.Calls.{counted};
     ghost use Rattle.kt_world.specs.Cast.{is_node};
     ghost use Rattle.kt_world.specs.Effect.{step_result};
     ghost use Rattle.kt_world.specs.Cut.{permanent_tuples};
@@ -90,7 +91,7 @@ impl<S: CkptStore> World<S> {
     ghost use Rattle.kt_world.specs.Headline.{Headline, IsNoted, is_steady, lent_bags};
     ghost use Rattle.kt_world.specs.Judge.{is_enabled, planned};
     ghost use Rattle.kt_world.specs.Needs.{needs_of, no_needs, poll_at};
-    ghost use Rattle.kt_world.specs.Reached.{opening};
+    ghost use Rattle.kt_world.specs.Reached.{IsReached, opening};
     ghost use Rattle.kt_world.specs.State.{link, node};
     ghost use Rattle.kt_node.specs.Node.{mode_of};
 
@@ -98,6 +99,7 @@ impl<S: CkptStore> World<S> {
     /// back, and the store holds what it held.
     pub fn open(alloc: Global, scene: Scene, store: S) -> Result<World<S>, OpenRefused<S>>
         ensures opened { IfOk result (λ w. IsTrue w.is_honest → w.state ≡ opening scene) }
+        ensures beside { IfOk result (λ w. beside w.state ≡ opening scene) }
         ensures fresh { IfOk result (λ w. IsTrue w.is_honest → is_fresh (S.content store) ≡ true) }
         ensures honest { IfOk result (λ w. IsTrue w.is_honest → IsTrue (S.is_honest store)) }
         ensures headline { IfOk result (λ w. IsTrue w.is_honest → Headline w.state) }
@@ -108,10 +110,12 @@ impl<S: CkptStore> World<S> {
             IsTrue (S.is_honest refused.store) → IsTrue (S.is_honest store)) }
         ensures not_fresh { IfErr result (λ refused.
             refused.cause ≡ opened.NotFresh → IsTrue (S.is_honest refused.store) → is_fresh (S.content store) ≡ false) }
-        ensures cause { IfErr result (λ refused.
-            IsOpenCause (S.fault_count store) (S.fault_count refused.store) (S.is_honest refused.store) refused.cause) }
-        ensures later { IfOk result (λ w. S.fault_count store ≤ w.faults) }
-        ensures later_back { IfErr result (λ refused. S.fault_count store ≤ S.fault_count refused.store) }
+        ensures wanted { IfErr result (λ refused.
+            refused.cause ≡ opened.OutOfMemory → IsTrue (S.is_honest refused.store) → is_fresh (S.content store) ≡ true) }
+        ensures cause { IfErr result (λ refused. IsOpenCause (S.is_honest refused.store) refused.cause) }
+        ensures counts { IfOk result (λ w. w.counts ≡ S.counts store) }
+        ensures counts_back { IfErr result (λ refused.
+            S.counts refused.store ≡ opening_counted refused.cause (S.counts store)) }
     {
         let mut store = store;
         match store.is_fresh() {
@@ -133,10 +137,11 @@ impl<S: CkptStore> World<S> {
     fn open_fresh(alloc: Global, scene: Scene, store: S) -> Result<World<S>, OpenRefused<S>>
         requires { IsTrue (S.is_honest store) → is_fresh (S.content store) ≡ true }
         ensures opened { IfOk result (λ w. IsTrue w.is_honest → w.state ≡ opening scene) }
+        ensures beside { IfOk result (λ w. beside w.state ≡ opening scene) }
         ensures honest { IfOk result (λ w. w.is_honest ≡ S.is_honest store) }
         ensures headline { IfOk result (λ w. IsTrue w.is_honest → Headline w.state) }
         ensures scene_back { IfErr result (λ refused. refused.scene ≡ scene) }
-        ensures faults { IfOk result (λ w. w.faults ≡ S.fault_count store) }
+        ensures counts { IfOk result (λ w. w.counts ≡ S.counts store) }
         ensures store_back { IfErr result (λ refused. refused.store ≡ store) }
         ensures cause { IfErr result (λ refused. refused.cause ≡ opened.OutOfMemory) }
     {
@@ -157,12 +162,15 @@ impl<S: CkptStore> World<S> {
     /// that is enabled.
     pub fn step(&mut self, alloc: Global, step: Step) -> Result<(), StepError>
         ensures effect { IsTrue self.new.is_honest → OnOk result (step_result self.old.state step ≡ Ok self.new.state) }
+        ensures by_plan { OnOk result (IsByPlan self.old.state step self.new.state) }
+        ensures made { OnOk result (self.new.state.made ≡ self.old.state.made + 1) }
+        ensures scene { OnOk result (self.new.state.cast ≡ self.old.state.cast) }
         ensures refusal { IsTrue self.new.is_honest → IfErr result (λ e. Refuses e (planned self.old.state step)) }
         ensures same { IsTrue self.new.is_honest → OnErr result (self.new.state ≡ self.old.state) }
         ensures beside { OnErr result (beside self.new.state ≡ beside self.old.state) }
         ensures honest { IsTrue self.new.is_honest → IsTrue self.old.is_honest }
-        ensures later { self.old.faults ≤ self.new.faults }
-        ensures cause { IfErr result (IsCause self.old.faults self.new.faults self.new.is_honest) }
+        ensures counts { self.new.counts ≡ step_counted result self.old.counts }
+        ensures cause { IfErr result (IsCause self.new.is_honest) }
         ensures called { IsTrue self.new.is_honest → IfErr result (IsCalledFor self.old.state step) }
         ensures headline { IsTrue self.new.is_honest → Headline self.new.state }
         ensures forced { IsTrue self.new.is_honest → OnOk result (IsForced self.old.state step self.new.state) }
@@ -179,8 +187,8 @@ impl<S: CkptStore> World<S> {
         ensures same { IsTrue self.new.is_honest → self.new.state ≡ self.old.state }
         ensures beside { beside self.new.state ≡ beside self.old.state }
         ensures honest { IsTrue self.new.is_honest → IsTrue self.old.is_honest }
-        ensures later { self.old.faults ≤ self.new.faults }
-        ensures cause { IfErr result (IsFault self.old.faults self.new.faults self.new.is_honest) }
+        ensures counts { self.new.counts ≡ counted result self.old.counts }
+        ensures cause { IfErr result (IsFault self.new.is_honest) }
         ensures called { OnErr result (needs_of self.old.state step ≢ no_needs) }
     {
         let needs = self.machine.needs(step);
@@ -197,8 +205,8 @@ impl<S: CkptStore> World<S> {
         ensures same { IsTrue self.new.is_honest → self.new.state ≡ self.old.state }
         ensures beside { beside self.new.state ≡ beside self.old.state }
         ensures honest { IsTrue self.new.is_honest → IsTrue self.old.is_honest }
-        ensures later { self.old.faults ≤ self.new.faults }
-        ensures cause { IfErr result (IsFault self.old.faults self.new.faults self.new.is_honest) }
+        ensures counts { self.new.counts ≡ counted result self.old.counts }
+        ensures cause { IfErr result (IsFault self.new.is_honest) }
         ensures called { OnErr result (needs_of self.old.state step ≢ no_needs) }
     {
         let needs = self.machine.needs(step);
@@ -210,9 +218,32 @@ impl<S: CkptStore> World<S> {
     /// What happened so far: a note for each act and each cut, in order.
     pub fn history(&self) -> &History
         ensures value { result.now.notes ≡ self.now.state.history }
+        ensures reached { IsTrue self.now.is_honest → IsReached self.now.state }
         ensures headline { IsTrue self.now.is_honest → Headline self.now.state }
     {
         &self.machine.history
+    }
+
+    /// How many steps were made so far, 100,000 at most.
+    pub fn made(&self) -> u64
+        ensures { result ≡ self.now.state.made }
+    {
+        self.machine.made
+    }
+
+    /// How often the device of its store has failed so far, as the store counts it.
+    pub fn faults(&self) -> u64
+        ensures { result ≡ self.now.counts.faults }
+    {
+        self.store.faults()
+    }
+
+    /// How often its store refused memory so far, as the store counts it. So a step that the store refused for memory
+    /// is told from one that had no memory itself.
+    pub fn wants(&self) -> u64
+        ensures { result ≡ self.now.counts.wants }
+    {
+        self.store.wants()
     }
 
     /// The scene that it was opened with.
@@ -343,8 +374,8 @@ impl<S: CkptStore> World<S> {
         ensures same { IsTrue self.new.is_honest → self.new.state ≡ self.old.state }
         ensures beside { beside self.new.state ≡ beside self.old.state }
         ensures honest { IsTrue self.new.is_honest → IsTrue self.old.is_honest }
-        ensures later { self.old.faults ≤ self.new.faults }
-        ensures cause { IfErr result (IsFault self.old.faults self.new.faults self.new.is_honest) }
+        ensures counts { IsCountedBeside result self.old.counts self.new.counts }
+        ensures cause { IfErr result (IsFault self.new.is_honest) }
     {
         permanent_tuples(&mut self.store, alloc, self.machine.scene.shards())
     }
@@ -353,7 +384,7 @@ impl<S: CkptStore> World<S> {
     pub fn into_store(self) -> S
         ensures content { S.content result ≡ self.state.content }
         ensures honest { S.is_honest result ≡ self.is_honest }
-        ensures faults { S.fault_count result ≡ self.faults }
+        ensures counts { S.counts result ≡ self.counts }
     {
         self.store
     }

@@ -2,4 +2,3 @@ pub mod Said
 pub mod Replayed
 pub mod Made
 pub mod Outcomes
-pub mod Left

@@ -1,5 +1,8 @@
 -- What a run from bytes to bytes answers, and what it leaves read and written.
 use Rattle.std.specs.Prelude.{◌≡◌, ℕ, Bool, true, List, IsTrue, None}
+use Rattle.kt_store.specs.Calls.{Counts}
+use Rattle.kt_store.specs.Content.{is_fresh}
+use Rattle.kt_core.specs.Store.{AreLater, StoreValue}
 use Rattle.kt_core.specs.declared.faults.FaultLine.{FaultLine}
 use Rattle.kt_world.specs.declared.step.Step.{Step}
 use Rattle.kt_world.specs.State.{State}
@@ -11,7 +14,6 @@ use Rattle.kt_scene.specs.Faults.{Explains}
 use Rattle.kt_scene.specs.Journal.{WritesJournal, WritesJournalFront}
 use Rattle.kt_scene.specs.Outside.{Reader, Writer}
 use Rattle.kt_scene.specs.Reading.{Play}
-use Rattle.kt_scene.specs.Run.{Given}
 use Rattle.kt_scene.specs.Report.{WritesReport, WritesReportFront}
 use Rattle.kt_scene.specs.Runs.{RunsTo}
 use Rattle.kt_scene.specs.Scenario.{IsScenario}
@@ -58,27 +60,25 @@ WritesFront outputs.Report is_honest s steps old new = WritesReportFront is_hone
 WritesFront outputs.Journal is_honest s steps old new = WritesJournalFront is_honest s steps old new
 
 -- what is written and passed on is the report of the state that some run of the scenario that was read ended in, or
--- that report with the steps of the run, and nothing else, and the store holds what it holds in that state. All this is
--- said of some store of the given kind, which stands for the one that was left: if it is honest then, it was so all the
--- time.
-pub record WritesRun {S : Type 0} (given : Given S) (output : Output) (before after : Reader) (old new : Writer)
-    : Type 0 where
-  pub left : S
+-- that report with the steps of the run, and nothing else, and the store holds what it holds in that state. If it is
+-- honest then, it was so all the time.
+pub record WritesRun (was left : StoreValue) (output : Output) (before after : Reader) (old new : Writer) : Type 0 where
   pub steps : List Step
   pub state : State
-  pub run : IsRun before after (given.is_honest left) given.fresh steps state
-  pub kept : IsTrue (given.is_honest left) → given.content left ≡ state.content
-  pub written : Writes output (given.is_honest left) state steps old new
+  pub run : IsRun before after left.is_honest (is_fresh was.content) steps state
+  pub kept : IsTrue left.is_honest → left.content ≡ state.content
+  pub later : AreLater was.counts left.counts
+  pub written : Writes output left.is_honest state steps old new
 
 -- the writer failed, and a front of that is written
-pub record WritesRunFront {S : Type 0} (given : Given S) (output : Output) (before after : Reader)
-    (old new : Writer) : Type 0 where
-  pub left : S
+pub record WritesRunFront (was left : StoreValue) (output : Output) (before after : Reader) (old new : Writer)
+    : Type 0 where
   pub steps : List Step
   pub state : State
-  pub run : IsRun before after (given.is_honest left) given.fresh steps state
-  pub kept : IsTrue (given.is_honest left) → given.content left ≡ state.content
-  pub written : WritesFront output (given.is_honest left) state steps old new
+  pub run : IsRun before after left.is_honest (is_fresh was.content) steps state
+  pub kept : IsTrue left.is_honest → left.content ≡ state.content
+  pub later : AreLater was.counts left.counts
+  pub written : WritesFront output left.is_honest state steps old new
 
 -- ---- faults
 
@@ -88,43 +88,46 @@ UnlessFront (Text fault) P = UnlessWrite fault P
 UnlessFront (Run fault) P = P
 
 -- the text is that of a scenario of fault lines, whose run did not come to its end
-pub record IsStoppedTrial {S : Type 0} (given : Given S) (text : List ℕ) (fault : RunFault) : Type 0 where
+pub record IsStoppedTrial (was left : StoreValue) (text : List ℕ) (fault : RunFault) : Type 0 where
   pub play : Play
   pub lines : List FaultLine
   pub trial : IsTrial text play lines
-  pub why : IsStopped given.is_honest given.fault_count given.fresh given.before play.cast lines fault
+  pub why : IsStopped was left play.cast lines fault
 
--- what a text answers: its first fault, or want of memory before that; or why its run did not come to its end
-abbrev pub IsTextFault : {S : Type 0} → Given S → List ℕ → RunTextFault → Type 0
-IsTextFault given text (Text (faults.Scene line cause)) = Explains kinds.Faults text line cause
-IsTextFault given text (Text (faults.Step at cause)) = ⊥
-IsTextFault given text (Text (faults.Open cause)) = ⊥
-IsTextFault given text (Text (faults.Report cause)) = ⊥
-IsTextFault given text (Text faults.Memory) = ⊥
-IsTextFault given text (Text faults.Read) = ⊥
-IsTextFault given text (Text faults.Write) = ⊥
-IsTextFault given text (Run fault) = IsStoppedTrial given text fault
+-- what a text answers: its first fault, or want of memory before that, and the store that was given is left; or why its
+-- run did not come to its end
+abbrev pub IsTextFault : (was left : StoreValue) → List ℕ → RunTextFault → Type 0
+IsTextFault was left text (Text (faults.Scene line cause)) = Explains kinds.Faults text line cause × (left ≡ was)
+IsTextFault was left text (Text (faults.Step at cause)) = ⊥
+IsTextFault was left text (Text (faults.Open cause)) = ⊥
+IsTextFault was left text (Text (faults.Report cause)) = ⊥
+IsTextFault was left text (Text faults.Memory) = ⊥
+IsTextFault was left text (Text faults.Read) = ⊥
+IsTextFault was left text (Text faults.Write) = ⊥
+IsTextFault was left text (Run fault) = IsStoppedTrial was left text fault
 
--- what comes before the writing answers: what reading alone answers, or what the text that was read answers
-pub data IsRunFault {S : Type 0} (given : Given S) (before after : Reader) : RunTextFault → Type 0 where
-  of_reading : {fault : ReplayFault} → IsReadFault before after fault → IsRunFault given before after (Text fault)
-  of_text : {fault : RunTextFault} (text : List ℕ) → IsAllRead before after text → IsTextFault given text fault
-      → IsRunFault given before after fault
+-- what comes before the writing answers: what reading alone answers, and the store that was given is left; or what the
+-- text that was read answers
+pub data IsRunFault (was left : StoreValue) (before after : Reader) : RunTextFault → Type 0 where
+  of_reading : {fault : ReplayFault} → IsReadFault before after fault → left ≡ was
+      → IsRunFault was left before after (Text fault)
+  of_text : {fault : RunTextFault} (text : List ℕ) → IsAllRead before after text → IsTextFault was left text fault
+      → IsRunFault was left before after fault
 
--- the run ended, and what a report alone answers came then; all this is said of the store that was left
-pub record IsFaultInWriting {S : Type 0} (given : Given S) (before after : Reader) (fault : ReplayFault)
-    : Type 0 where
-  pub left : S
+-- the run ended, with these counts of the store, and what a report alone answers came then
+pub record IsFaultInWriting (was left : StoreValue) (before after : Reader) (fault : ReplayFault) : Type 0 where
   pub steps : List Step
   pub state : State
-  pub run : IsRun before after (given.is_honest left) given.fresh steps state
-  pub kept : IsTrue (given.is_honest left) → given.content left ≡ state.content
-  pub is : IsReportFault given.before (given.fault_count left) (given.is_honest left) fault
+  pub run : IsRun before after left.is_honest (is_fresh was.content) steps state
+  pub kept : IsTrue left.is_honest → left.content ≡ state.content
+  pub counts : Counts
+  pub later : AreLater was.counts counts
+  pub is : IsReportFault counts left.counts left.is_honest fault
 
 -- what a run from bytes to bytes answers before it writes; or, once the run has ended, a refusal of the store, want of
 -- memory or a failure of the writer
-pub data IsRunTextFault {S : Type 0} (given : Given S) (before after : Reader) : RunTextFault → Type 0 where
-  before_writing : {fault : RunTextFault} → IsRunFault given before after fault
-      → IsRunTextFault given before after fault
-  in_writing : {fault : ReplayFault} → IsFaultInWriting given before after fault
-      → IsRunTextFault given before after (Text fault)
+pub data IsRunTextFault (was left : StoreValue) (before after : Reader) : RunTextFault → Type 0 where
+  before_writing : {fault : RunTextFault} → IsRunFault was left before after fault
+      → IsRunTextFault was left before after fault
+  in_writing : {fault : ReplayFault} → IsFaultInWriting was left before after fault
+      → IsRunTextFault was left before after (Text fault)

@@ -1,9 +1,9 @@
 //! From the bytes of a scenario to the bytes that tell of its run.
 
-ghost use Rattle.std.specs.Prelude.{◌≡◌, ◌≤◌, Err, IfErr, IfOk, IsTrue, None, OnOk, Some};
+ghost use Rattle.std.specs.Prelude.{◌≡◌, Err, IfErr, IfOk, IsTrue, None, OnOk, Some};
 ghost use Rattle.kt_scene.specs.declared.fault.ReplayFault.TheVariants as text_faults;
 ghost use Rattle.kt_scene.specs.Journal.{WritesJournal, WritesJournalFront};
-ghost use Rattle.kt_scene.specs.Run.{given_by, left_by};
+ghost use Rattle.kt_core.specs.Store.{AreLater, IsLeftSome, store_value};
 ghost use Rattle.kt_scene.specs.Stream.{IsReportFault, UnlessWrite};
 ghost use Rattle.kt_run.specs.Run.{IsRun, IsRunFault, IsRunOf, IsRunTextFault, IsTextFault, UnlessFront, Writes};
 ghost use Rattle.kt_run.specs.Run.{WritesFront, WritesRun, WritesRunFront};
@@ -51,14 +51,13 @@ where
     W: Write,
     S: CkptStore + Send + Drop,
     G: Gate + Sync,
-    ensures written { OnOk result
-        (WritesRun (given_by S.content S.is_honest S.fault_count store) output reader.old reader.new
-        writer.old writer.new) }
+    ensures written { OnOk result (IsLeftSome (store_value S.CkptStore) (λ left.
+        WritesRun (store_value S.CkptStore store) left output reader.old reader.new writer.old writer.new)) }
     ensures front { result ≡ Err (RunTextFault.Text text_faults.Write)
-        → WritesRunFront (given_by S.content S.is_honest S.fault_count store) output reader.old reader.new
-        writer.old writer.new }
-    ensures fault { IfErr result
-        (IsRunTextFault (given_by S.content S.is_honest S.fault_count store) reader.old reader.new) }
+        → IsLeftSome (store_value S.CkptStore) (λ left.
+        WritesRunFront (store_value S.CkptStore store) left output reader.old reader.new writer.old writer.new) }
+    ensures fault { IfErr result (λ fault. IsLeftSome (store_value S.CkptStore) (λ left.
+        IsRunTextFault (store_value S.CkptStore store) left reader.old reader.new fault)) }
     // Before any fault but the writer's the writer is not called.
     ensures nothing { IfErr result (λ fault. UnlessFront fault (writer.new ≡ writer.old)) }
 {
@@ -84,14 +83,13 @@ where
     W: Write,
     S: CkptStore + Send + Drop,
     G: Gate + Sync,
-    ensures written { OnOk result.0
-        (WritesRun (left_by S.content S.is_honest S.fault_count store result.1) output reader.old reader.new
-        writer.old writer.new) }
+    ensures written { OnOk result.0 (WritesRun (store_value S.CkptStore store) (store_value S.CkptStore result.1)
+        output reader.old reader.new writer.old writer.new) }
     ensures front { result.0 ≡ Err (RunTextFault.Text text_faults.Write)
-        → WritesRunFront (left_by S.content S.is_honest S.fault_count store result.1) output reader.old reader.new
-        writer.old writer.new }
+        → WritesRunFront (store_value S.CkptStore store) (store_value S.CkptStore result.1)
+        output reader.old reader.new writer.old writer.new }
     ensures fault { IfErr result.0
-        (IsRunTextFault (left_by S.content S.is_honest S.fault_count store result.1) reader.old reader.new) }
+        (IsRunTextFault (store_value S.CkptStore store) (store_value S.CkptStore result.1) reader.old reader.new) }
     // Before any fault but the writer's the writer is not called.
     ensures nothing { IfErr result.0 (λ fault. UnlessFront fault (writer.new ≡ writer.old)) }
 {
@@ -122,9 +120,9 @@ where
     G: Gate + Sync,
     ensures run { IfOk result (λ j. IsRun reader.old reader.new j.world.is_honest (is_fresh (S.content store)) j.steps
         j.world.state) }
-    ensures later { IfOk result (λ j. S.fault_count store ≤ j.world.faults) }
+    ensures later { IfOk result (λ j. AreLater (S.counts store) j.world.counts) }
     ensures fault { IfErr result (λ e.
-        IsRunFault (left_by S.content S.is_honest S.fault_count store e.1) reader.old reader.new e.0) }
+        IsRunFault (store_value S.CkptStore store) (store_value S.CkptStore e.1) reader.old reader.new e.0) }
 {
     match read_text(alloc, reader) {
         Ok(text) => run_told(rt, alloc, &text, store, gate),
@@ -146,9 +144,9 @@ where
     G: Gate + Sync,
     ensures run { IfOk result (λ j. IsRunOf text.now j.world.is_honest (is_fresh (S.content store)) j.steps
         j.world.state) }
-    ensures later { IfOk result (λ j. S.fault_count store ≤ j.world.faults) }
+    ensures later { IfOk result (λ j. AreLater (S.counts store) j.world.counts) }
     ensures fault { IfErr result (λ e.
-        IsTextFault (left_by S.content S.is_honest S.fault_count store e.1) text.now e.0) }
+        IsTextFault (store_value S.CkptStore store) (store_value S.CkptStore e.1) text.now e.0) }
 {
     let Scenario { scene, work } = match read_scene(alloc, text, WorkKind::Faults) {
         Ok(scenario) => scenario,
@@ -176,8 +174,9 @@ fn write_run<W: Write, S: CkptStore + Drop>(
     ensures front { result.0 ≡ Err ReplayFault.Write
         → WritesFront output (S.is_honest result.1) journal.world.state journal.steps writer.old writer.new }
     ensures nothing { IfErr result.0 (λ fault. UnlessWrite fault (writer.new ≡ writer.old)) }
+    ensures counts { OnOk result.0 (S.counts result.1 ≡ journal.world.counts) }
     ensures only { IfErr result.0
-        (IsReportFault journal.world.faults (S.fault_count result.1) (S.is_honest result.1)) }
+        (IsReportFault journal.world.counts (S.counts result.1) (S.is_honest result.1)) }
 {
     match output {
         Output::Report => {
@@ -202,8 +201,9 @@ fn write_steps<W: Write, S: CkptStore + Drop>(
     ensures front { result.0 ≡ Err ReplayFault.Write
         → WritesJournalFront (S.is_honest result.1) journal.world.state journal.steps writer.old writer.new }
     ensures nothing { IfErr result.0 (λ fault. UnlessWrite fault (writer.new ≡ writer.old)) }
+    ensures counts { OnOk result.0 (S.counts result.1 ≡ journal.world.counts) }
     ensures only { IfErr result.0
-        (IsReportFault journal.world.faults (S.fault_count result.1) (S.is_honest result.1)) }
+        (IsReportFault journal.world.counts (S.counts result.1) (S.is_honest result.1)) }
 {
     let steps = match Vec::from_slice(alloc, journal.steps()) {
         Ok(steps) => steps,

@@ -1,16 +1,17 @@
 -- Steps that were made, and one more.
 use Rattle.std.proofs.Common.{◌≡◌, ℕ, suc, ◌+◌, ◌<◌, List, [], ◌∷◌, ◌++◌, length, take, drop, get_or, Ok, refl, sym, ap, subst, ◌∙◌, arith, length-take}
-use Rattle.std.proofs.Common.{take-append-drop, drop-cons, Bool, true, ◌≤◌}
+use Rattle.std.proofs.Common.{take-append-drop, drop-cons, Bool, true}
 use Rattle.std.specs.Prelude.{IsTrue}
 use Rattle.std.proofs.lemmas.List.{take_more, get_or_default}
 use Rattle.kt_world.specs.declared.step.Step.{Step}
 use Rattle.kt_world.specs.declared.step.StepError.{StepError}
+use Rattle.kt_store.specs.Content.{Content}
 use Rattle.kt_world.specs.State.{State}
 use Rattle.kt_world.specs.Effect.{step_result}
 use Rattle.kt_world.specs.Judge.{planned}
-use Rattle.kt_core.specs.Stepping.{IsCause, Refuses}
+use Rattle.kt_core.specs.Stepping.{IsCalledFor, IsCause, Refuses}
 use Rattle.kt_scene.specs.Runs.{RunsTo, IsRefusedAt}
-use Rattle.kt_scene.proofs.Causes.{cause_since, cause_honest}
+use Rattle.kt_scene.proofs.Causes.{cause_honest}
 
 pub RunsTo-push : (old : State) (steps : List Step) (between : State) (step : Step) (new : State) → RunsTo old steps between → step_result between step ≡ Ok new
     → RunsTo old (steps ++ step ∷ []) new
@@ -27,10 +28,10 @@ made_more old steps i between step new lt at runs e =
     subst P more (RunsTo-push old (take i steps) between step new runs e)
 
 -- the step at this place was the first refused
-pub refused_at : (old : State) (steps : List Step) (i : ℕ) (between : State) (step : Step) (cause : StepError) (before now : ℕ) → i < length steps
-    → step ≡ get_or steps i step → RunsTo old (take i steps) between → Refuses cause (planned between step)
-    → IsCause before now true cause → IsRefusedAt old steps (i + 1) cause before now
-refused_at old steps i between step cause before now lt at runs e why = record {
+pub refused_at : (old : State) (steps : List Step) (i : ℕ) (between : State) (step : Step) (cause : StepError) (left : Content) → i < length steps
+    → step ≡ get_or steps i step → RunsTo old (take i steps) between → Refuses cause (planned between step) → IsCalledFor between step cause
+    → IsCause true cause → left ≡ between.content → IsRefusedAt old steps (i + 1) cause left
+refused_at old steps i between step cause left lt at runs e called why same = record {
   made = take i steps;
   refused = step;
   later = drop (suc i) steps;
@@ -40,7 +41,9 @@ refused_at old steps i between step cause before now lt at runs e why = record {
   reached = between;
   runs = runs;
   refusal = e;
+  called = called;
   why = why;
+  content = same;
 }
 
 -- the same of the step as it is read from the list, whatever is read past its end
@@ -48,11 +51,11 @@ pub made_next : (old : State) (steps : List Step) (i : ℕ) (between : State) (d
     → step_result between (get_or steps i d) ≡ Ok new → RunsTo old (take (i + 1) steps) new
 made_next old steps i between d new lt runs e = made_more old steps i between (get_or steps i d) new lt (get_or_default steps i d (get_or steps i d) lt) runs e
 
-pub refused_next : (old : State) (steps : List Step) (i : ℕ) (between : State) (d : Step) (cause : StepError) (before middle now : ℕ) (honest : Bool)
-    → i < length steps → RunsTo old (take i steps) between → Refuses cause (planned between (get_or steps i d)) → IsTrue honest → before ≤ middle
-    → IsCause middle now honest cause → IsRefusedAt old steps (i + 1) cause before now
-refused_next old steps i between d cause before middle now honest lt runs e is_honest later why =
+pub refused_next : (old : State) (steps : List Step) (i : ℕ) (between : State) (d : Step) (cause : StepError) (honest : Bool) (left : State)
+    → i < length steps → RunsTo old (take i steps) between → Refuses cause (planned between (get_or steps i d))
+    → IsCalledFor between (get_or steps i d) cause → IsTrue honest → IsCause honest cause → left ≡ between
+    → IsRefusedAt old steps (i + 1) cause left.content
+refused_next old steps i between d cause honest left lt runs e called is_honest why same =
     let step = get_or steps i d in
-    let since = cause_since before middle now honest cause later why in
-    refused_at old steps i between step cause before now lt (get_or_default steps i d step lt) runs e
-    (cause_honest before now honest cause is_honest since)
+    refused_at old steps i between step cause left.content lt (get_or_default steps i d step lt) runs e called
+    (cause_honest honest cause is_honest why) (ap (λ (s : State). s.content) same)

@@ -2,19 +2,20 @@
 use Rattle.std.specs.Prelude.{◌≡◌, ℕ, ◌+◌, true, List, [], ◌∷◌, ◌++◌, length, Ok}
 use Rattle.kt_world.specs.declared.step.Step.{Step}
 use Rattle.kt_world.specs.declared.step.StepError.{StepError}
+use Rattle.kt_store.specs.Content.{Content}
 use Rattle.kt_world.specs.State.{State}
 use Rattle.kt_world.specs.Judge.{planned}
 use Rattle.kt_world.specs.Effect.{step_result}
-use Rattle.kt_core.specs.Stepping.{IsCause, Refuses}
+use Rattle.kt_core.specs.Stepping.{IsCalledFor, IsCause, Refuses}
 
 -- each of the steps is made, in order, and they lead from the one state to the other
 abbrev pub RunsTo : State → List Step → State → Type 0
 RunsTo old [] new = new ≡ old
 RunsTo old (step ∷ later) new = (between : State) × (step_result old step ≡ Ok between) × RunsTo between later new
 
--- the step with this number, counted from 1, is the first that is refused, for this cause; an honest store's refusal
--- has its own cause, which came since the count of its faults was the first of these
-pub record IsRefusedAt (old : State) (steps : List Step) (at : ℕ) (cause : StepError) (before now : ℕ) : Type 0 where
+-- the step with this number, counted from 1, is the first that is refused, for this cause. An honest store refuses for
+-- no damage, and holds what it held before that step.
+pub record IsRefusedAt (old : State) (steps : List Step) (at : ℕ) (cause : StepError) (left : Content) : Type 0 where
   pub made : List Step
   pub refused : Step
   pub later : List Step
@@ -23,4 +24,6 @@ pub record IsRefusedAt (old : State) (steps : List Step) (at : ℕ) (cause : Ste
   pub reached : State
   pub runs : RunsTo old made reached
   pub refusal : Refuses cause (planned reached refused)
-  pub why : IsCause before now true cause
+  pub called : IsCalledFor reached refused cause
+  pub why : IsCause true cause
+  pub content : left ≡ reached.content

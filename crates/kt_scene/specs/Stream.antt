@@ -1,7 +1,9 @@
 -- What is read of a reader and written to a writer.
-use Rattle.std.specs.Prelude.{◌≡◌, ℕ, ◌<◌, Bool, List, length, take, Option, Some, None}
+use Rattle.std.specs.Prelude.{◌≡◌, ℕ, ◌<◌, Bool, List, length, take, Option, Some, None, Err}
 use Rattle.std.specs.Io.KnownBytes.{Appends, Consumes, IsAtEnd}
-use Rattle.kt_core.specs.Store.{IsFault}
+use Rattle.kt_core.specs.Store.{IsCountedBeside, IsFault}
+use Rattle.kt_store.specs.Calls.{Counts}
+use Rattle.kt_store.specs.declared.error.StoreError.{StoreError}
 use Rattle.kt_scene.specs.declared.fault.SceneError.TheVariants.{Limit}
 use Rattle.kt_scene.specs.declared.fault.ReplayFault.{ReplayFault}
 use Rattle.kt_scene.specs.declared.fault.ReplayFault.TheVariants as faults
@@ -55,13 +57,18 @@ UnlessWrite faults.Memory P = P
 UnlessWrite faults.Read P = P
 UnlessWrite faults.Write P = Unit {0}
 
--- what writing a report alone answers: a refusal of the store with its cause, which came since the count of its faults
--- was the first of these; want of memory; or a failure of the writer
-abbrev pub IsReportFault : (before now : ℕ) → Bool → ReplayFault → Type 0
+-- a refusal of the store, which it counts, or of a copy of what it holds
+pub record IsReportRefused (before now : Counts) (is_honest : Bool) (refusal : StoreError) : Type 0 where
+  pub counts : IsCountedBeside {T = Unit {0}} (Err refusal) before now
+  pub why : IsFault is_honest refusal
+
+-- what writing a report alone answers: a refusal of the store; or want of memory or a failure of the writer, of which
+-- the store counts nothing
+abbrev pub IsReportFault : (before now : Counts) → Bool → ReplayFault → Type 0
 IsReportFault before now is_honest (faults.Scene line cause) = ⊥
 IsReportFault before now is_honest (faults.Step at cause) = ⊥
 IsReportFault before now is_honest (faults.Open cause) = ⊥
-IsReportFault before now is_honest (faults.Report cause) = IsFault before now is_honest cause
-IsReportFault before now is_honest faults.Memory = Unit {0}
+IsReportFault before now is_honest (faults.Report cause) = IsReportRefused before now is_honest cause
+IsReportFault before now is_honest faults.Memory = now ≡ before
 IsReportFault before now is_honest faults.Read = ⊥
-IsReportFault before now is_honest faults.Write = Unit {0}
+IsReportFault before now is_honest faults.Write = now ≡ before

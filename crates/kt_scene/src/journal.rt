@@ -1,6 +1,6 @@
 //! The text of a journal: a report as remarks, and then the scenario of the steps that led to it.
 
-ghost use Rattle.std.specs.Prelude.{◌≡◌, ◌≤◌, ◌++◌, IfErr, IfOk, IsTrue, OnOk, Err};
+ghost use Rattle.std.specs.Prelude.{◌≡◌, ◌++◌, IfErr, IfOk, IsTrue, OnOk, Err};
 ghost use Rattle.kt_core.specs.World.{beside};
 ghost use Rattle.kt_scene.specs.Journal.{WritesJournal, WritesJournalFront, journal_text, remarks};
 ghost use Rattle.kt_scene.specs.Stream.{UnlessWrite, IsReportFault};
@@ -35,8 +35,8 @@ pub fn write_journal<S: CkptStore, W: Write>(
         → WritesJournalFront world.new.is_honest world.old.state steps.now writer.old writer.new }
     // Before any fault but the writer's the writer is not called.
     ensures nothing { IfErr result (λ fault. UnlessWrite fault (writer.new ≡ writer.old)) }
-    ensures later { world.old.faults ≤ world.new.faults }
-    ensures only { IfErr result (IsReportFault world.old.faults world.new.faults world.new.is_honest) }
+    ensures counts { OnOk result (world.new.counts ≡ world.old.counts) }
+    ensures only { IfErr result (IsReportFault world.old.counts world.new.counts world.new.is_honest) }
 {
     match report_text(alloc, world) {
         Ok(report) => match journal_of(alloc, &report, world.scene(), steps) {

@@ -1,14 +1,15 @@
 //! From the bytes of a scenario to the bytes of its report.
 
-ghost use Rattle.std.specs.Prelude.{◌≡◌, ◌≤◌, true, Err, IfOk, IfErr, IsTrue, OnOk};
+ghost use Rattle.std.specs.Prelude.{◌≡◌, true, Err, IfOk, IfErr, IsTrue, OnOk};
 ghost use Rattle.kt_store.specs.Content.{is_fresh};
 ghost use Rattle.kt_world.specs.Reached.{opening};
 ghost use Rattle.kt_scene.specs.Work.{steps_of};
 ghost use Rattle.kt_scene.specs.Runs.{RunsTo};
 ghost use Rattle.kt_scene.specs.Run.{play_in, LeadsTo, IsTextFault, IsReplayed, IsWorldFault};
 ghost use Rattle.kt_scene.specs.inner.Making.{IsStepFault, IsRunFault};
-ghost use Rattle.kt_scene.specs.Run.{given_by, left_by, WritesReplayed, WritesReplayedFront, IsReplayFault};
+ghost use Rattle.kt_scene.specs.Run.{WritesReplayed, WritesReplayedFront, IsReplayFault};
 ghost use Rattle.kt_scene.specs.Stream.{UnlessWrite};
+ghost use Rattle.kt_core.specs.Store.{IsLeftSome, store_value};
 
 use crate::fault::{ReplayFault, SceneFault};
 use crate::reading::read_scene;
@@ -33,14 +34,15 @@ pub fn replay<R: Read, W: Write, S: CkptStore + Drop>(
     writer: &mut Sink<W>,
     store: S,
 ) -> Result<(), ReplayFault>
-    ensures written { OnOk result
-        (WritesReplayed (given_by S.content S.is_honest S.fault_count store)
-        reader.old reader.new writer.old writer.new) }
+    ensures written { OnOk result (IsLeftSome (store_value S.CkptStore) (λ left.
+        WritesReplayed (store_value S.CkptStore store) left
+        reader.old reader.new writer.old writer.new)) }
     ensures front { result ≡ Err ReplayFault.Write
-        → WritesReplayedFront (given_by S.content S.is_honest S.fault_count store)
-        reader.old reader.new writer.old writer.new }
-    ensures fault { IfErr result
-        (IsReplayFault (given_by S.content S.is_honest S.fault_count store) reader.old reader.new) }
+        → IsLeftSome (store_value S.CkptStore) (λ left.
+        WritesReplayedFront (store_value S.CkptStore store) left
+        reader.old reader.new writer.old writer.new) }
+    ensures fault { IfErr result (λ fault. IsLeftSome (store_value S.CkptStore) (λ left.
+        IsReplayFault (store_value S.CkptStore store) left reader.old reader.new fault)) }
     // Before any fault but the writer's the writer is not called.
     ensures nothing { IfErr result (λ fault. UnlessWrite fault (writer.new ≡ writer.old)) }
 {
@@ -57,14 +59,13 @@ pub fn replay_over<R: Read, W: Write, S: CkptStore + Drop>(
     writer: &mut Sink<W>,
     store: S,
 ) -> (Result<(), ReplayFault>, S)
-    ensures written { OnOk result.0
-        (WritesReplayed (left_by S.content S.is_honest S.fault_count store result.1)
-        reader.old reader.new writer.old writer.new) }
+    ensures written { OnOk result.0 (WritesReplayed (store_value S.CkptStore store)
+        (store_value S.CkptStore result.1) reader.old reader.new writer.old writer.new) }
     ensures front { result.0 ≡ Err ReplayFault.Write
-        → WritesReplayedFront (left_by S.content S.is_honest S.fault_count store result.1)
-        reader.old reader.new writer.old writer.new }
-    ensures fault { IfErr result.0
-        (IsReplayFault (left_by S.content S.is_honest S.fault_count store result.1) reader.old reader.new) }
+        → WritesReplayedFront (store_value S.CkptStore store)
+        (store_value S.CkptStore result.1) reader.old reader.new writer.old writer.new }
+    ensures fault { IfErr result.0 (IsReplayFault (store_value S.CkptStore store)
+        (store_value S.CkptStore result.1) reader.old reader.new) }
     // Before any fault but the writer's the writer is not called.
     ensures nothing { IfErr result.0 (λ fault. UnlessWrite fault (writer.new ≡ writer.old)) }
 {
@@ -86,9 +87,9 @@ pub fn replay_world<R: Read, S: CkptStore + Drop>(
 ) -> Result<World<S>, ReplayFault>
     ensures replayed { IfOk result (λ world.
         IsReplayed reader.old reader.new world.is_honest (is_fresh (S.content store)) world.state) }
-    ensures later { IfOk result (λ world. S.fault_count store ≤ world.faults) }
-    ensures fault { IfErr result
-        (IsWorldFault (given_by S.content S.is_honest S.fault_count store) reader.old reader.new) }
+    ensures counts { IfOk result (λ world. world.counts ≡ S.counts store) }
+    ensures fault { IfErr result (λ fault. IsLeftSome (store_value S.CkptStore) (λ left.
+        IsWorldFault (store_value S.CkptStore store) left reader.old reader.new fault)) }
 {
     match world_over(alloc, reader, store) {
         Ok(world) => Ok(world),
@@ -107,9 +108,9 @@ fn world_over<R: Read, S: CkptStore + Drop>(
 ) -> Result<World<S>, (ReplayFault, S)>
     ensures replayed { IfOk result (λ world.
         IsReplayed reader.old reader.new world.is_honest (is_fresh (S.content store)) world.state) }
-    ensures later { IfOk result (λ world. S.fault_count store ≤ world.faults) }
-    ensures fault { IfErr result (λ e.
-        IsWorldFault (left_by S.content S.is_honest S.fault_count store e.1) reader.old reader.new e.0) }
+    ensures counts { IfOk result (λ world. world.counts ≡ S.counts store) }
+    ensures fault { IfErr result (λ e. IsWorldFault (store_value S.CkptStore store)
+        (store_value S.CkptStore e.1) reader.old reader.new e.0) }
 {
     match read_text(alloc, reader) {
         Ok(text) => world_told(alloc, &text, store),
@@ -124,9 +125,9 @@ fn world_told<S: CkptStore + Drop>(
     store: S,
 ) -> Result<World<S>, (ReplayFault, S)>
     ensures leads { IfOk result (λ world. LeadsTo text.now world.is_honest (is_fresh (S.content store)) world.state) }
-    ensures later { IfOk result (λ world. S.fault_count store ≤ world.faults) }
-    ensures fault { IfErr result (λ e.
-        IsTextFault (left_by S.content S.is_honest S.fault_count store e.1) text.now e.0) }
+    ensures counts { IfOk result (λ world. world.counts ≡ S.counts store) }
+    ensures fault { IfErr result (λ e. IsTextFault (store_value S.CkptStore store)
+        (store_value S.CkptStore e.1) text.now e.0) }
 {
     match read_scene(alloc, text, WorkKind::Steps) {
         Ok(scenario) => run_scenario(alloc, scenario, store),
@@ -142,8 +143,9 @@ fn run_scenario<S: CkptStore + Drop>(
     ensures replayed { IfOk result (λ world. IsTrue world.is_honest
         → RunsTo (opening (play_in scenario).cast) (steps_of (play_in scenario).work) world.state) }
     ensures fresh { IfOk result (λ world. IsTrue world.is_honest → is_fresh (S.content store) ≡ true) }
-    ensures later { IfOk result (λ world. S.fault_count store ≤ world.faults) }
-    ensures fault { IfErr result (λ e. IsRunFault (left_by S.content S.is_honest S.fault_count store e.1)
+    ensures counts { IfOk result (λ world. world.counts ≡ S.counts store) }
+    ensures fault { IfErr result (λ e. IsRunFault (store_value S.CkptStore store)
+        (store_value S.CkptStore e.1)
         (play_in scenario).cast (steps_of (play_in scenario).work) e.0) }
 {
     let Scenario { scene, work } = scenario;
@@ -159,9 +161,9 @@ fn run<S: CkptStore + Drop>(
 ) -> Result<World<S>, (ReplayFault, S)>
     ensures replayed { IfOk result (λ world. IsTrue world.is_honest → RunsTo (opening scene) steps.now world.state) }
     ensures fresh { IfOk result (λ world. IsTrue world.is_honest → is_fresh (S.content store) ≡ true) }
-    ensures later { IfOk result (λ world. S.fault_count store ≤ world.faults) }
-    ensures fault { IfErr result (λ e.
-        IsRunFault (left_by S.content S.is_honest S.fault_count store e.1) scene steps.now e.0) }
+    ensures counts { IfOk result (λ world. world.counts ≡ S.counts store) }
+    ensures fault { IfErr result (λ e. IsRunFault (store_value S.CkptStore store)
+        (store_value S.CkptStore e.1) scene steps.now e.0) }
 {
     match World::open(alloc, scene, store) {
         Ok(mut world) => match make_steps(alloc, &mut world, steps) {
@@ -179,10 +181,9 @@ fn make_steps<S: CkptStore>(
     steps: &[Step],
 ) -> Result<(), ReplayFault>
     ensures made { IsTrue world.new.is_honest → OnOk result (RunsTo world.old.state steps.now world.new.state) }
-    ensures refused { IfErr result
-        (IsStepFault world.old.faults world.new.faults world.new.is_honest world.old.state steps.now) }
+    ensures refused { IfErr result (IsStepFault world.old world.new steps.now) }
     ensures honest { IsTrue world.new.is_honest → IsTrue world.old.is_honest }
-    ensures later { world.old.faults ≤ world.new.faults }
+    ensures counts { OnOk result (world.new.counts ≡ world.old.counts) }
 {
     for (i, step) in steps.iter().enumerate() {
         if let Err(cause) = world.step(alloc, *step) {

@@ -1,6 +1,6 @@
 //! The report of a world: what survives, what is lost, and the tuples.
 
-ghost use Rattle.std.specs.Prelude.{◌≡◌, ◌≢◌, ◌≤◌, ◌++◌, List, ℕ, map, IfOk, IfErr, IsTrue, OnErr, OnOk, Err};
+ghost use Rattle.std.specs.Prelude.{◌≡◌, ◌≢◌, ◌++◌, List, ℕ, map, IfOk, IfErr, IsTrue, OnErr, OnOk, Err};
 ghost use Rattle.std.specs.List.{flat_map};
 ghost use Rattle.kt_tuple.specs.Spelling.{tuple_text};
 ghost use Rattle.kt_core.specs.World.{beside};
@@ -38,8 +38,8 @@ pub fn write_report<S: CkptStore, W: Write>(
         → WritesReportFront world.new.is_honest world.old.state writer.old writer.new }
     // Before any fault but the writer's the writer is not called.
     ensures nothing { IfErr result (λ fault. UnlessWrite fault (writer.new ≡ writer.old)) }
-    ensures later { world.old.faults ≤ world.new.faults }
-    ensures only { IfErr result (IsReportFault world.old.faults world.new.faults world.new.is_honest) }
+    ensures counts { OnOk result (world.new.counts ≡ world.old.counts) }
+    ensures only { IfErr result (IsReportFault world.old.counts world.new.counts world.new.is_honest) }
 {
     match report_text(alloc, world) {
         Ok(report) => put(writer, &report),
@@ -56,8 +56,8 @@ pub(crate) fn report_text<S: CkptStore>(
     ensures beside { beside world.new.state ≡ beside world.old.state }
     ensures honest { IsTrue world.new.is_honest → IsTrue world.old.is_honest }
     ensures report { IfOk result (λ text. IsReportOf world.new.is_honest world.old.state text.items) }
-    ensures later { world.old.faults ≤ world.new.faults }
-    ensures only { IfErr result (IsReportFault world.old.faults world.new.faults world.new.is_honest) }
+    ensures counts { OnOk result (world.new.counts ≡ world.old.counts) }
+    ensures only { IfErr result (IsReportFault world.old.counts world.new.counts world.new.is_honest) }
     ensures unwritten { IfErr result (λ fault. fault ≢ ReplayFault.Write) }
 {
     match world.permanent_space(alloc) {

@@ -16,10 +16,14 @@ impl<S: Alter> CkptStore for SqlStore<S> {
 
     ghost is_honest = { λ s. is_sure S.Store s.tables };
 
-    ghost fault_count = { λ s. s.faults };
+    ghost counts = { λ s. s.counts };
 
     fn faults(&self) -> u64 {
-        self.counted()
+        self.counted_faults()
+    }
+
+    fn wants(&self) -> u64 {
+        self.counted_wants()
     }
 
     fn incarnation(&mut self, node: NodeId) -> Result<u64, StoreError> {

@@ -1,19 +1,20 @@
 //! The store in SQL: checkpoints, incarnations and verdicts in tables of a database that `sqlite3` opens, over a file
 //! or in memory.
 //!
-//! - Contract: `SqlStore` keeps each promise of `CkptStore` while its tables keep theirs, and counts the faults of the
-//!   device (clause `cause` of each call).
+//! - Contract: `SqlStore` keeps each promise of `CkptStore` while its tables keep theirs, and counts exactly how often
+//!   its device failed and how often memory was refused (clause `cause` of each call).
 //! - Stands on: kt_tuple, kt_ckpt, kt_store, kt_tables; of the kit: sqlite, sqlite_std_file, sqlite_trees,
 //!   thiserror
 //! - Used by: linda_kt
 //! - Begin in: `open.rt` for how a store is opened, then `calls.rt` for what each call makes of a row. `store.rt`
-//!   counts the faults.
+//!   has each answer counted by `tally.rt`.
 #![tactic(auto)]
 
 mod calls;
 mod error;
 mod open;
 mod store;
+mod tally;
 
 pub use error::SqlOpenError;
 pub use store::SqlStore;

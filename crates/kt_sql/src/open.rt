@@ -5,6 +5,7 @@ ghost use Rattle.sqlite.specs.Files.{over_files, file_state};
 ghost use Rattle.sqlite.specs.Held.{state};
 ghost use Rattle.sqlite.specs.State.{HasCleanDisk};
 ghost use Rattle.sqlite.specs.Steps.{over_memory};
+ghost use Rattle.kt_store.specs.Calls.{nothing_counted};
 ghost use Rattle.kt_store.specs.Content.{empty_content};
 ghost use Rattle.kt_tables.specs.Schema.{kt_schema, no_schema};
 ghost use Rattle.kt_tables.specs.Rows.{AreAsSaid};
@@ -121,7 +122,7 @@ impl<S: Alter> SqlStore<S> {
             → IsVersion1 (state S.Store s.tables.conn).now) }
         ensures honest { IfOk result (λ s. HasCleanDisk (state S.Store s.tables.conn)
             → (IsTrue (is_sure S.Store s.tables) ↔ AreAsSaid (state S.Store s.tables.conn).now.trees)) }
-        ensures faults { IfOk result (λ s. s.faults ≡ 0) }
+        ensures counts { IfOk result (λ s. s.counts ≡ nothing_counted) }
         // Other tables than a store's are refused, and by this name.
         ensures foreign { (state S.Store conn).now.schema ≢ no_schema → (state S.Store conn).now.schema ≢ kt_schema
             → OnOk result ⊥ }
@@ -145,7 +146,7 @@ impl SqlStore<MemStore> {
     pub fn in_memory(alloc: Global) -> Result<SqlStore<MemStore>, SqlOpenError>
         ensures honest { IfOk result (λ s. IsTrue (is_sure over_memory s.tables)) }
         ensures fresh { IfOk result (λ s. content_of over_memory s.tables ≡ empty_content) }
-        ensures faults { IfOk result (λ s. s.faults ≡ 0) }
+        ensures counts { IfOk result (λ s. s.counts ≡ nothing_counted) }
     {
         match SqlStore::adopt(alloc, Connection::open_in_memory(alloc)?) {
             Ok(store) => Ok(store),
@@ -163,7 +164,7 @@ impl SqlStore<FileStore<File>> {
             → IsVersion1 (file_state s.tables.conn).now) }
         ensures honest { IfOk result (λ s. HasCleanDisk (file_state s.tables.conn)
             → (IsTrue (is_sure over_files s.tables) ↔ AreAsSaid (file_state s.tables.conn).now.trees)) }
-        ensures faults { IfOk result (λ s. s.faults ≡ 0) }
+        ensures counts { IfOk result (λ s. s.counts ≡ nothing_counted) }
         ensures memory { path.now ≡ codes ":memory:" → result ≡ Err SqlOpenError.Device }
     {
         match SqlStore::adopt(rt.alloc(), file_connection(rt, path)?) {

@@ -1,6 +1,6 @@
-//! A store over tables, which counts the faults.
+//! A store over tables, which counts the faults of its device and the memory that was refused.
 
-ghost use Rattle.std.specs.Prelude.{◌≡◌, ◌==◌, ◌&&◌, ◌⊎◌, ◌+◌, ◌<◌, ◌≤◌, IfOk, IfSome, OnOk, OnErr, IsErrOf, IsTrue};
+ghost use Rattle.std.specs.Prelude.{◌≡◌, ◌==◌, ◌&&◌, ◌≤◌, IfOk, IfSome, OnOk, OnErr, IsTrue};
 ghost use Rattle.std.specs.Prelude.{fold, map, max};
 ghost use Rattle.std.specs.List.{find};
 ghost use Rattle.sqlite.specs.Held.{state};
@@ -10,12 +10,13 @@ ghost use Rattle.kt_store.specs.declared.rows.Posted.{Posted as PostedFields};
 ghost use Rattle.kt_store.specs.Verdict.{is_open};
 ghost use Rattle.kt_store.specs.Content.{greatest, is_empty, permanent_marks, row_of, tentative_marks};
 ghost use Rattle.kt_store.specs.Changes.{storing, taken};
-ghost use Rattle.kt_store.specs.Calls.{HasCause, most_faults};
+ghost use Rattle.kt_store.specs.Calls.{HasCause, nothing_counted};
 ghost use Rattle.kt_tables.specs.Cells.{cells_node, AreSaid};
 ghost use Rattle.kt_tables.specs.Rows.{IsPosted, placing};
 ghost use Rattle.kt_tables.specs.Opened.{IsReady};
 ghost use Rattle.kt_tables.specs.Held.{is_sure, content_of};
 
+use crate::tally::Tally;
 use kt_ckpt::{Ckpt, Marks};
 use kt_store::{NodeRow, Posted, StoreError, TentativeMarks};
 use kt_tables::{NodeCells, Tables};
@@ -28,28 +29,16 @@ use std::alloc::Global;
 pub struct SqlStore<S: Alter> {
     /// What is stored, and whether it is sure.
     tables: Tables<S>,
-    /// How often the device failed since the opening, up to 2^64 - 1.
-    faults: u64,
+    /// How often the device failed and memory was refused, since the opening.
+    counts: Tally,
 }
 
 impl<S: Alter + Drop> Drop for SqlStore<S> {
     fn drop(self) {
         let SqlStore {
             tables: _,
-            faults: _,
+            counts: _,
         } = self;
-    }
-}
-
-/// Counts a fault where the device failed, and nothing else. The count stays at the greatest number.
-fn count<T>(faults: &mut u64, answer: &Result<T, StoreError>)
-    ensures later { faults.old ≤ faults.new }
-    ensures once { faults.new ≤ faults.old + 1 }
-    ensures only { (faults.new ≡ faults.old) ⊎ IsErrOf answer.now StoreError.Device }
-    ensures counted { IsErrOf answer.now StoreError.Device → (faults.old < faults.new) ⊎ (faults.new ≡ most_faults) }
-{
-    if matches!(answer, Err(StoreError::Device)) {
-        *faults = faults.saturating_add(1);
     }
 }
 
@@ -58,30 +47,37 @@ impl<S: Alter> SqlStore<S> {
     pub(crate) fn over(alloc: Global, conn: Connection<S>, is_trusted: bool) -> SqlStore<S>
         requires { HasCleanDisk (state S.Store conn) → IsReady (state S.Store conn) is_trusted }
         ensures tables { result.tables ≡ record { conn = conn; is_trusted = is_trusted } }
-        ensures faults { result.faults ≡ 0 }
+        ensures counts { result.counts ≡ nothing_counted }
     {
         SqlStore {
             tables: Tables::over(alloc, conn, is_trusted),
-            faults: 0,
+            counts: Tally::new(),
         }
     }
 
-    /// The connection as it is now; the count of faults is forgotten.
+    /// The connection as it is now; the counts are forgotten.
     pub fn into_connection(self) -> Connection<S>
         ensures { result ≡ self.tables.conn }
     {
-        let SqlStore { tables, faults: _ } = self;
+        let SqlStore { tables, counts: _ } = self;
         tables.into_connection()
     }
 
     /// How many faults of the device were counted since the opening.
-    pub(crate) fn counted(&self) -> u64
-        ensures { result ≡ self.now.faults }
+    pub(crate) fn counted_faults(&self) -> u64
+        ensures { result ≡ self.now.counts.faults }
     {
-        self.faults
+        self.counts.faults()
     }
 
-    /// What is stored of the node. As in each call below, the tables answer, and a fault is counted.
+    /// How often it was counted that memory was refused, since the opening.
+    pub(crate) fn counted_wants(&self) -> u64
+        ensures { result ≡ self.now.counts.wants }
+    {
+        self.counts.wants()
+    }
+
+    /// What is stored of the node. As in each call below, the tables answer, and the answer is counted.
     pub(crate) fn row_of(&mut self, node: NodeId) -> Result<NodeRow, StoreError>
         ensures value { IsTrue (is_sure S.Store self.new.tables)
             → IfOk result (λ r. r ≡ row_of (content_of S.Store self.old.tables) node) }
@@ -90,10 +86,10 @@ impl<S: Alter> SqlStore<S> {
         ensures same { IsTrue (is_sure S.Store self.new.tables)
             → content_of S.Store self.new.tables ≡ content_of S.Store self.old.tables }
         ensures honest { IsTrue (is_sure S.Store self.new.tables) → IsTrue (is_sure S.Store self.old.tables) }
-        ensures cause { HasCause self.old.faults self.new.faults (is_sure S.Store self.new.tables) ⊥ result }
+        ensures cause { HasCause self.old.counts self.new.counts (is_sure S.Store self.new.tables) ⊥ result }
     {
         let answer = self.tables.row_of(node);
-        count(&mut self.faults, &answer);
+        self.counts.count(&answer);
         answer
     }
 
@@ -105,10 +101,10 @@ impl<S: Alter> SqlStore<S> {
         ensures same { IsTrue (is_sure S.Store self.new.tables)
             → content_of S.Store self.new.tables ≡ content_of S.Store self.old.tables }
         ensures honest { IsTrue (is_sure S.Store self.new.tables) → IsTrue (is_sure S.Store self.old.tables) }
-        ensures cause { HasCause self.old.faults self.new.faults (is_sure S.Store self.new.tables) ⊥ result }
+        ensures cause { HasCause self.old.counts self.new.counts (is_sure S.Store self.new.tables) ⊥ result }
     {
         let answer = self.tables.cells_of(node);
-        count(&mut self.faults, &answer);
+        self.counts.count(&answer);
         answer
     }
 
@@ -127,10 +123,10 @@ impl<S: Alter> SqlStore<S> {
         ensures same { IsTrue (is_sure S.Store self.new.tables)
             → content_of S.Store self.new.tables ≡ content_of S.Store self.old.tables }
         ensures honest { IsTrue (is_sure S.Store self.new.tables) → IsTrue (is_sure S.Store self.old.tables) }
-        ensures cause { HasCause self.old.faults self.new.faults (is_sure S.Store self.new.tables) ⊥ result }
+        ensures cause { HasCause self.old.counts self.new.counts (is_sure S.Store self.new.tables) ⊥ result }
     {
         let answer = self.tables.cells_with(node, instance, ckpt);
-        count(&mut self.faults, &answer);
+        self.counts.count(&answer);
         answer
     }
 
@@ -141,10 +137,10 @@ impl<S: Alter> SqlStore<S> {
         ensures same { IsTrue (is_sure S.Store self.new.tables)
             → content_of S.Store self.new.tables ≡ content_of S.Store self.old.tables }
         ensures honest { IsTrue (is_sure S.Store self.new.tables) → IsTrue (is_sure S.Store self.old.tables) }
-        ensures cause { HasCause self.old.faults self.new.faults (is_sure S.Store self.new.tables) ⊥ result }
+        ensures cause { HasCause self.old.counts self.new.counts (is_sure S.Store self.new.tables) ⊥ result }
     {
         let answer = self.tables.incarnation_of(node);
-        count(&mut self.faults, &answer);
+        self.counts.count(&answer);
         answer
     }
 
@@ -159,10 +155,10 @@ impl<S: Alter> SqlStore<S> {
         ensures same { IsTrue (is_sure S.Store self.new.tables)
             → content_of S.Store self.new.tables ≡ content_of S.Store self.old.tables }
         ensures honest { IsTrue (is_sure S.Store self.new.tables) → IsTrue (is_sure S.Store self.old.tables) }
-        ensures cause { HasCause self.old.faults self.new.faults (is_sure S.Store self.new.tables) ⊥ result }
+        ensures cause { HasCause self.old.counts self.new.counts (is_sure S.Store self.new.tables) ⊥ result }
     {
         let answer = self.tables.permanent_marks_of(alloc, node);
-        count(&mut self.faults, &answer);
+        self.counts.count(&answer);
         answer
     }
 
@@ -177,10 +173,10 @@ impl<S: Alter> SqlStore<S> {
         ensures same { IsTrue (is_sure S.Store self.new.tables)
             → content_of S.Store self.new.tables ≡ content_of S.Store self.old.tables }
         ensures honest { IsTrue (is_sure S.Store self.new.tables) → IsTrue (is_sure S.Store self.old.tables) }
-        ensures cause { HasCause self.old.faults self.new.faults (is_sure S.Store self.new.tables) ⊥ result }
+        ensures cause { HasCause self.old.counts self.new.counts (is_sure S.Store self.new.tables) ⊥ result }
     {
         let answer = self.tables.tentative_marks_of(alloc, node);
-        count(&mut self.faults, &answer);
+        self.counts.count(&answer);
         answer
     }
 
@@ -193,10 +189,10 @@ impl<S: Alter> SqlStore<S> {
         ensures same { IsTrue (is_sure S.Store self.new.tables)
             → content_of S.Store self.new.tables ≡ content_of S.Store self.old.tables }
         ensures honest { IsTrue (is_sure S.Store self.new.tables) → IsTrue (is_sure S.Store self.old.tables) }
-        ensures cause { HasCause self.old.faults self.new.faults (is_sure S.Store self.new.tables) ⊥ result }
+        ensures cause { HasCause self.old.counts self.new.counts (is_sure S.Store self.new.tables) ⊥ result }
     {
         let answer = self.tables.find_posted(instance);
-        count(&mut self.faults, &answer);
+        self.counts.count(&answer);
         answer
     }
 
@@ -208,10 +204,10 @@ impl<S: Alter> SqlStore<S> {
         ensures same { IsTrue (is_sure S.Store self.new.tables)
             → content_of S.Store self.new.tables ≡ content_of S.Store self.old.tables }
         ensures honest { IsTrue (is_sure S.Store self.new.tables) → IsTrue (is_sure S.Store self.old.tables) }
-        ensures cause { HasCause self.old.faults self.new.faults (is_sure S.Store self.new.tables) ⊥ result }
+        ensures cause { HasCause self.old.counts self.new.counts (is_sure S.Store self.new.tables) ⊥ result }
     {
         let answer = self.tables.find_open(node);
-        count(&mut self.faults, &answer);
+        self.counts.count(&answer);
         answer
     }
 
@@ -224,10 +220,10 @@ impl<S: Alter> SqlStore<S> {
         ensures same { IsTrue (is_sure S.Store self.new.tables)
             → content_of S.Store self.new.tables ≡ content_of S.Store self.old.tables }
         ensures honest { IsTrue (is_sure S.Store self.new.tables) → IsTrue (is_sure S.Store self.old.tables) }
-        ensures cause { HasCause self.old.faults self.new.faults (is_sure S.Store self.new.tables) ⊥ result }
+        ensures cause { HasCause self.old.counts self.new.counts (is_sure S.Store self.new.tables) ⊥ result }
     {
         let answer = self.tables.last_instance();
-        count(&mut self.faults, &answer);
+        self.counts.count(&answer);
         answer
     }
 
@@ -238,10 +234,10 @@ impl<S: Alter> SqlStore<S> {
         ensures same { IsTrue (is_sure S.Store self.new.tables)
             → content_of S.Store self.new.tables ≡ content_of S.Store self.old.tables }
         ensures honest { IsTrue (is_sure S.Store self.new.tables) → IsTrue (is_sure S.Store self.old.tables) }
-        ensures cause { HasCause self.old.faults self.new.faults (is_sure S.Store self.new.tables) ⊥ result }
+        ensures cause { HasCause self.old.counts self.new.counts (is_sure S.Store self.new.tables) ⊥ result }
     {
         let answer = self.tables.has_no_node();
-        count(&mut self.faults, &answer);
+        self.counts.count(&answer);
         answer
     }
 
@@ -252,10 +248,10 @@ impl<S: Alter> SqlStore<S> {
         ensures same { IsTrue (is_sure S.Store self.new.tables)
             → content_of S.Store self.new.tables ≡ content_of S.Store self.old.tables }
         ensures honest { IsTrue (is_sure S.Store self.new.tables) → IsTrue (is_sure S.Store self.old.tables) }
-        ensures cause { HasCause self.old.faults self.new.faults (is_sure S.Store self.new.tables) ⊥ result }
+        ensures cause { HasCause self.old.counts self.new.counts (is_sure S.Store self.new.tables) ⊥ result }
     {
         let answer = self.tables.has_no_posted();
-        count(&mut self.faults, &answer);
+        self.counts.count(&answer);
         answer
     }
 
@@ -268,10 +264,10 @@ impl<S: Alter> SqlStore<S> {
         ensures unchanged { IsTrue (is_sure S.Store self.new.tables)
             → OnErr result (content_of S.Store self.new.tables ≡ content_of S.Store self.old.tables) }
         ensures honest { IsTrue (is_sure S.Store self.new.tables) → IsTrue (is_sure S.Store self.old.tables) }
-        ensures cause { HasCause self.old.faults self.new.faults (is_sure S.Store self.new.tables) ⊥ result }
+        ensures cause { HasCause self.old.counts self.new.counts (is_sure S.Store self.new.tables) ⊥ result }
     {
         let answer = self.tables.put_node(cells);
-        count(&mut self.faults, &answer);
+        self.counts.count(&answer);
         answer
     }
 
@@ -283,10 +279,10 @@ impl<S: Alter> SqlStore<S> {
         ensures unchanged { IsTrue (is_sure S.Store self.new.tables)
             → OnErr result (content_of S.Store self.new.tables ≡ content_of S.Store self.old.tables) }
         ensures honest { IsTrue (is_sure S.Store self.new.tables) → IsTrue (is_sure S.Store self.old.tables) }
-        ensures cause { HasCause self.old.faults self.new.faults (is_sure S.Store self.new.tables) ⊥ result }
+        ensures cause { HasCause self.old.counts self.new.counts (is_sure S.Store self.new.tables) ⊥ result }
     {
         let answer = self.tables.put_posted(row);
-        count(&mut self.faults, &answer);
+        self.counts.count(&answer);
         answer
     }
 
@@ -300,10 +296,10 @@ impl<S: Alter> SqlStore<S> {
         ensures unchanged { IsTrue (is_sure S.Store self.new.tables)
             → OnErr result (content_of S.Store self.new.tables ≡ content_of S.Store self.old.tables) }
         ensures honest { IsTrue (is_sure S.Store self.new.tables) → IsTrue (is_sure S.Store self.old.tables) }
-        ensures cause { HasCause self.old.faults self.new.faults (is_sure S.Store self.new.tables) ⊥ result }
+        ensures cause { HasCause self.old.counts self.new.counts (is_sure S.Store self.new.tables) ⊥ result }
     {
         let answer = self.tables.put_both(cells, posted);
-        count(&mut self.faults, &answer);
+        self.counts.count(&answer);
         answer
     }
 }

@@ -1,5 +1,5 @@
 -- What the policy gives is a step of the node itself, and allowed.
-use Rattle.std.proofs.Common.{◌≡◌, suc, ◌+◌, ◌-◌, ◌*◌, length, Bool, true, false, List, [], ◌∷◌, Result, Ok, Err, refl, sym, ap, subst, ◌∙◌, arith}
+use Rattle.std.proofs.Common.{◌≡◌, suc, ◌+◌, ◌-◌, ◌*◌, length, Bool, true, false, List, [], ◌∷◌, Result, Ok, Err, refl, sym, ap, subst, ◌∙◌}
 use Rattle.std.specs.Prelude.{Option, None, Some, cond, is_some, not, ◌&&◌, ◌||◌, if◌then◌else◌, slice_get, unwrap_or, IfOk, IfSome, IsTrue}
 use Rattle.std.specs.List.{find}
 use Rattle.std.specs.Option.{option_map}
@@ -273,7 +273,7 @@ asked-nobody w lines p mode value there none = record {
   same = λ h. refl;
   beside = refl;
   honest = λ h. h;
-  later = omega arith;
+  counts = refl;
   cause = tt;
 }
 
@@ -315,7 +315,7 @@ before-nobody w lines p mode there none = record {
   same = λ h. refl;
   beside = refl;
   honest = λ h. h;
-  later = omega arith;
+  counts = refl;
   cause = tt;
 }
 
@@ -329,6 +329,6 @@ before-asked old new lines p rules r same there asked = record {
   same = asked.same;
   beside = asked.beside;
   honest = asked.honest;
-  later = asked.later;
+  counts = asked.counts;
   cause = asked.cause;
 }

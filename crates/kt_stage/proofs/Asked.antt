@@ -1,11 +1,10 @@
 -- One asking after another.
-use Rattle.std.proofs.Common.{◌≡◌, List, ◌∷◌, Result, Ok, Err, sym, ap, ◌∙◌, arith}
-use Rattle.std.specs.Prelude.{Option, None, IfErr, IfOk}
+use Rattle.std.proofs.Common.{◌≡◌, List, ◌∷◌, Result, Ok, Err, sym, ap, ◌∙◌}
+use Rattle.std.specs.Prelude.{Option, None, IfOk}
 use Rattle.kt_store.specs.declared.error.StoreError.{StoreError}
 use Rattle.kt_world.specs.State.{State}
-use Rattle.kt_core.specs.Store.{IsFault}
+use Rattle.kt_store.specs.Calls.{counted}
 use Rattle.kt_core.specs.World.{Standing}
-use Rattle.kt_core.proofs.Shared.{later-fault}
 use Rattle.kt_stage.specs.Asking.{IsAsked}
 use Rattle.kt_stage.specs.Policy.{first_some, or_else}
 
@@ -19,8 +18,8 @@ first_later {A} {B} f xs later x old between new r split one two = record {
   same = λ h. two.same h ∙ one.same (two.honest h);
   beside = two.beside ∙ one.beside;
   honest = λ h. one.honest (two.honest h);
-  later = let a = one.later in let b = two.later in omega (arith, a, b);
-  cause = caused r two.cause;
+  counts = two.counts ∙ ap (counted r) one.counts;
+  cause = two.cause;
 }
   where
     by : (r : Result (Option B) StoreError) → IfOk r (λ y. y ≡ first_some (f between.state) later) → between.state ≡ old.state → None ≡ f old.state x
@@ -31,8 +30,3 @@ first_later {A} {B} f xs later x old between new r split one two = record {
         ∙ ap (λ (o : Option B). or_else o (first_some (f old.state) later)) none
         ∙ ap (first_some (f old.state)) (sym split)
     by (Err e) is there none = tt
-
-    caused : (r : Result (Option B) StoreError) → IfErr r (IsFault between.faults new.faults new.is_honest)
-        → IfErr r (IsFault old.faults new.faults new.is_honest)
-    caused (Ok y) c = c
-    caused (Err e) c = later-fault old.faults between.faults new.faults new.is_honest e one.later c

@@ -1,17 +1,19 @@
 -- What a run has come to.
-use Rattle.std.proofs.Common.{◌≡◌, ◌≤◌, ℕ, Bool, false, List, Ok, None, Some, IsTrue, refl, sym, ap, subst, ◌∙◌}
+use Rattle.std.proofs.Common.{◌≡◌, List, Ok, None, Some, IsTrue, refl, sym, ap, ◌∙◌}
 use Rattle.kt_world.specs.declared.step.Step.{Step}
 use Rattle.kt_world.specs.Cast.{Cast}
 use Rattle.kt_world.specs.Reached.{opening}
 use Rattle.kt_world.specs.State.{State}
 use Rattle.kt_core.specs.declared.faults.FaultLine.{FaultLine}
-use Rattle.kt_core.specs.World.{Standing}
+use Rattle.kt_core.specs.Store.{AreLater, StoreValue}
+use Rattle.kt_core.specs.World.{Standing, store_of}
+use Rattle.kt_store.specs.Calls.{Counts}
 use Rattle.kt_tuple.specs.declared.node.NodeId.{NodeId}
 use Rattle.kt_stage.specs.declared.running.RunFault.{RunFault}
 use Rattle.kt_stage.specs.declared.running.RunFault.TheVariants as runs
 use Rattle.kt_stage.specs.Journal.{Journal, Replays, all_made}
 use Rattle.kt_stage.specs.Policy.{first_unfinished, spent_by}
-use Rattle.kt_stage.specs.Running.{IsLeftJournal, IsStopped, IsStoppedWith}
+use Rattle.kt_stage.specs.Running.{IsLeftJournal, IsStopped}
 use Rattle.kt_stage.proofs.Halts.{refused-since}
 use Rattle.kt_stage.specs.inner.Halting.{IsHalted}
 
@@ -30,25 +32,6 @@ pub still-finished : (old new : Standing) (lines : List FaultLine) (steps same :
 still-finished old new lines steps same none is stays =
     ap (λ (s : State). first_unfinished s (spent_by lines same)) stays ∙ ap (λ (xs : List Step). first_unfinished old.state (spent_by lines xs)) is ∙ sym none
 
--- what is said of the store that was left is said of some store of its kind
-pub some-stopped : {S : Type 0} (is_honest : S → Bool) (fault_count : S → ℕ) (left : S) (fresh : Bool) (before : ℕ) (cast : Cast) (lines : List FaultLine)
-    (fault : RunFault) → IsStoppedWith (is_honest left) (fault_count left) fresh before cast lines fault
-    → IsStopped is_honest fault_count fresh before cast lines fault
-some-stopped is_honest fault_count left fresh before cast lines (runs.Open cause) h = record { left = left; why = h.why; not_fresh = h.not_fresh }
-some-stopped is_honest fault_count left fresh before cast lines (runs.Step at cause) h =
-    record { left = left; journal = h.journal; honest = h.honest; faults = h.faults; made = h.made; refused = h.refused }
-some-stopped is_honest fault_count left fresh before cast lines (runs.Close cause) h = tt
-some-stopped is_honest fault_count left fresh before cast lines runs.Memory h = tt
-some-stopped is_honest fault_count left fresh before cast lines (runs.Unfinished node) h =
-    record { left = left; steps = h.steps; state = h.state; made = h.made; next = h.next }
-
--- the store that is taken out of what was left
-pub stopped-same : (a b : Bool) (m n : ℕ) (fresh : Bool) (before : ℕ) (cast : Cast) (lines : List FaultLine) (fault : RunFault) → a ≡ b → m ≡ n
-    → IsStoppedWith b n fresh before cast lines fault → IsStoppedWith a m fresh before cast lines fault
-stopped-same a b m n fresh before cast lines fault honest faults h =
-    subst (λ (x : Bool). IsStoppedWith x m fresh before cast lines fault) (sym honest)
-    (subst (λ (k : ℕ). IsStoppedWith b k fresh before cast lines fault) (sym faults) h)
-
 -- the node that has a next step is the first one in the state that was looked at
 pub still-left : (old new : Standing) (lines : List FaultLine) (steps same : List Step) (p : NodeId)
     → Some p ≡ first_unfinished old.state (spent_by lines steps) → same ≡ steps → new.state ≡ old.state
@@ -58,21 +41,22 @@ still-left old new lines steps same p some is stays =
 
 -- ---- of a run that was opened, and its journal
 
-pub halted-stopped : (opened : Standing) (fresh : Bool) (before : ℕ) (cast : Cast) (lines : List FaultLine) (j : Journal) (fault : RunFault)
-    → before ≤ opened.faults → (IsTrue j.world.is_honest → all_made (opening cast) j.steps ≡ Ok j.world.state) → IsHalted opened j fault
-    → IsStoppedWith j.world.is_honest j.world.faults fresh before cast lines fault
-halted-stopped opened fresh before cast lines j (runs.Open cause) le made h = absurd h
-halted-stopped opened fresh before cast lines j (runs.Step at cause) le made h =
-    record { left = tt; journal = j; honest = refl; faults = refl; made = made; refused = refused-since before opened.faults j at cause le h }
-halted-stopped opened fresh before cast lines j (runs.Close cause) le made h = tt
-halted-stopped opened fresh before cast lines j runs.Memory le made h = tt
-halted-stopped opened fresh before cast lines j (runs.Unfinished node) le made h = absurd h
+pub halted-stopped : (opened : Standing) (was : StoreValue) (cast : Cast) (lines : List FaultLine) (j : Journal) (fault : RunFault)
+    → AreLater was.counts opened.counts → (IsTrue j.world.is_honest → all_made (opening cast) j.steps ≡ Ok j.world.state) → IsHalted opened j fault
+    → IsStopped was (store_of j.world) cast lines fault
+halted-stopped opened was cast lines j (runs.Open cause) le made h = absurd h
+halted-stopped opened was cast lines j (runs.Step at cause) le made h =
+    record { journal = j; store = refl; made = made; refused = refused-since was.counts opened.counts j at cause le h }
+halted-stopped opened was cast lines j (runs.Close cause) le made h = tt
+halted-stopped opened was cast lines j runs.Memory le made h = tt
+halted-stopped opened was cast lines j (runs.Unfinished node) le made h = absurd h
 
-pub halted-left : (opened : Standing) (before : ℕ) (cast : Cast) (lines : List FaultLine) (j : Journal) (fault : RunFault) → before ≤ opened.faults
+pub halted-left : (opened : Standing) (before : Counts) (cast : Cast) (lines : List FaultLine) (j : Journal) (fault : RunFault)
+    → AreLater before opened.counts
     → (IsTrue j.world.is_honest → all_made (opening cast) j.steps ≡ Ok j.world.state) → IsHalted opened j fault
     → IsLeftJournal before cast lines fault j
 halted-left opened before cast lines j (runs.Open cause) le made h = absurd h
-halted-left opened before cast lines j (runs.Step at cause) le made h = record { made = made; shown = refused-since before opened.faults j at cause le h }
+halted-left opened before cast lines j (runs.Step at cause) le made h = record { made = made; shown = refused-since before opened.counts j at cause le h }
 halted-left opened before cast lines j (runs.Close cause) le made h = record { made = made; shown = tt }
 halted-left opened before cast lines j runs.Memory le made h = record { made = made; shown = tt }
 halted-left opened before cast lines j (runs.Unfinished node) le made h = absurd h
@@ -84,8 +68,8 @@ made-back scene first j opened replays h =
     let r = replays h in ap (λ (s : State). all_made s j.steps) (sym (opened r.0)) ∙ r.1
 
 -- this node has a next step in the world that the journal has
-pub left-over : (cast : Cast) (lines : List FaultLine) (p : NodeId) (j : Journal)
+pub left-over : (was : StoreValue) (cast : Cast) (lines : List FaultLine) (p : NodeId) (j : Journal)
     → (IsTrue j.world.is_honest → all_made (opening cast) j.steps ≡ Ok j.world.state)
     → (IsTrue j.world.is_honest → first_unfinished j.world.state (spent_by lines j.steps) ≡ Some p)
-    → IsStoppedWith j.world.is_honest j.world.faults false 0 cast lines (runs.Unfinished p)
-left-over cast lines p j made next = record { left = tt; steps = j.steps; state = j.world.state; made = made; next = next }
+    → IsStopped was (store_of j.world) cast lines (runs.Unfinished p)
+left-over was cast lines p j made next = record { steps = j.steps; state = j.world.state; made = made; next = next; kept = λ h. refl }

@@ -1,11 +1,11 @@
 -- Why a run halts.
-use Rattle.std.proofs.Common.{◌≡◌, ◌<◌, ◌≤◌, ℕ, Bool, true, false, if◌then◌else◌, Result, Ok, Err, Option, None, Some, refl, sym, ap, subst, ◌∙◌, arith}
-use Rattle.std.proofs.Common.{◌⊎◌, inl, inr, lt-ltb, ltb-true, ltb-false, le-leb, eq-eqb}
+use Rattle.std.proofs.Common.{◌≡◌, ◌+◌, ◌≤◌, ℕ, Bool, true, false, if◌then◌else◌, Result, Ok, Err, Option, None, Some, refl, sym, ap, subst, ◌∙◌, arith}
+use Rattle.std.proofs.Common.{lt-ltb, ltb-true, ltb-false, le-leb}
 use Rattle.std.specs.Prelude.{◌==◌, nat_lt, not, ◌||◌, IsTrue, IfErr, IfOk, IfSome}
 use Rattle.kt_tuple.specs.declared.node.NodeId.{NodeId}
 use Rattle.kt_store.specs.declared.error.StoreError.{StoreError}
 use Rattle.kt_store.specs.declared.error.StoreError.TheVariants as stores
-use Rattle.kt_store.specs.Calls.{most_faults}
+use Rattle.kt_store.specs.Calls.{Counts, counted, most, raised, raised_by}
 use Rattle.kt_node.specs.declared.plan.Plan.{Plan}
 use Rattle.kt_world.specs.declared.step.Step.{Step}
 use Rattle.kt_world.specs.declared.step.StepError.{StepError}
@@ -17,11 +17,11 @@ use Rattle.kt_world.specs.Step.{owner}
 use Rattle.kt_world.specs.Told.{told}
 use Rattle.kt_core.specs.Lent.{is_allowed}
 use Rattle.kt_core.specs.World.{Standing}
-use Rattle.kt_core.specs.Store.{IsFault}
+use Rattle.kt_core.specs.Store.{AreLater, IsFault}
 use Rattle.kt_stage.specs.declared.error.ActError.TheVariants as errors
 use Rattle.kt_stage.specs.Acting.{IsActed}
 use Rattle.kt_stage.specs.Journal.{Journal}
-use Rattle.kt_stage.specs.Running.{IsRefusedAt, is_fault_since, is_run_cause}
+use Rattle.kt_stage.specs.Running.{IsRefusedAt, has_risen, is_fault_since, is_run_cause}
 use Rattle.kt_stage.specs.inner.Halting.{IsGiven, is_any_steps}
 
 -- ---- a step that is allowed is refused by the limit, by the store, or for want of memory
@@ -87,34 +87,43 @@ left-holds : (a b : Bool) → a ≡ true → (a || b) ≡ true
 left-holds true b e = refl
 left-holds false b e = absurd cc
 
-pub fault-since : (before old : ℕ) (w : Standing) (e : StoreError) → before ≤ old → IsFault old w.faults w.is_honest e
-    → is_fault_since before w e ≡ true
-fault-since before old w stores.Device le f = by (f.device refl)
+-- a count that was raised has risen
+risen : (before n : ℕ) → before ≤ n → has_risen before (raised n) ≡ true
+risen before n le = by (n == most) refl
   where
-    by : (old < w.faults) ⊎ (w.faults ≡ most_faults) → (nat_lt before w.faults || (w.faults == most_faults)) ≡ true
-    by (inl lt) = left-holds (nat_lt before w.faults) _ (lt-ltb before w.faults (omega (arith, le, lt)))
-    by (inr most) = right-holds (nat_lt before w.faults) _ (eq-eqb w.faults most_faults most)
-fault-since before old w stores.Damaged le f = ap not (f.damaged refl)
-fault-since before old w stores.Full le f = ap not (f.full refl)
-fault-since before old w stores.Memory le f = refl
+    by : (b : Bool) → (n == most) ≡ b → has_risen before (if b then n else n + 1) ≡ true
+    by true at = right-holds (nat_lt before n) _ at
+    by false at = left-holds (nat_lt before (n + 1)) _ (lt-ltb before (n + 1) (omega (arith, le)))
 
-fault-older : (older old : ℕ) (w : Standing) (e : StoreError) → older ≤ old → is_fault_since old w e ≡ true → is_fault_since older w e ≡ true
-fault-older older old w stores.Device le is = by (nat_lt old w.faults) refl is
+risen-older : (older old now : ℕ) → older ≤ old → has_risen old now ≡ true → has_risen older now ≡ true
+risen-older older old now le is = by (nat_lt old now) refl is
   where
-    by : (b : Bool) → nat_lt old w.faults ≡ b → (b || (w.faults == most_faults)) ≡ true → (nat_lt older w.faults || (w.faults == most_faults)) ≡ true
+    by : (b : Bool) → nat_lt old now ≡ b → (b || (now == most)) ≡ true → has_risen older now ≡ true
     by true at e =
-        let lt = ltb-true old w.faults at in
-        left-holds (nat_lt older w.faults) _ (lt-ltb older w.faults (omega (arith, le, lt)))
-    by false at e = right-holds (nat_lt older w.faults) _ e
+        let lt = ltb-true old now at in
+        left-holds (nat_lt older now) _ (lt-ltb older now (omega (arith, le, lt)))
+    by false at e = right-holds (nat_lt older now) _ e
+
+pub fault-since : (before old : Counts) (w : Standing) (e : StoreError) → AreLater before old → w.counts ≡ raised_by e old → IsFault w.is_honest e
+    → is_fault_since before w e ≡ true
+fault-since before old w stores.Device le is f =
+    ap (λ (c : Counts). has_risen before.faults c.faults) is ∙ risen before.faults old.faults le.faults
+fault-since before old w stores.Memory le is f =
+    ap (λ (c : Counts). has_risen before.wants c.wants) is ∙ risen before.wants old.wants le.wants
+fault-since before old w stores.Damaged le is f = ap not (f.damaged refl)
+fault-since before old w stores.Full le is f = ap not (f.full refl)
+
+fault-older : (older old : Counts) (w : Standing) (e : StoreError) → AreLater older old → is_fault_since old w e ≡ true → is_fault_since older w e ≡ true
+fault-older older old w stores.Device le is = risen-older older.faults old.faults w.counts.faults le.faults is
+fault-older older old w stores.Memory le is = risen-older older.wants old.wants w.counts.wants le.wants is
 fault-older older old w stores.Damaged le is = is
 fault-older older old w stores.Full le is = is
-fault-older older old w stores.Memory le is = refl
 
 -- a store that is asked, and refuses
-pub asked-since : {A : Type 0} (before old : ℕ) (w : Standing) (r : Result A StoreError) → before ≤ old → IfErr r (IsFault old w.faults w.is_honest)
-    → IfErr r (λ e. is_fault_since before w e ≡ true)
-asked-since before old w (Ok x) le f = tt
-asked-since before old w (Err e) le f = fault-since before old w e le f
+pub asked-since : {A : Type 0} (before old : Counts) (w : Standing) (r : Result A StoreError) → AreLater before old → w.counts ≡ counted r old
+    → IfErr r (IsFault w.is_honest) → IfErr r (λ e. is_fault_since before w e ≡ true)
+asked-since before old w (Ok x) le is f = tt
+asked-since before old w (Err e) le is f = fault-since before old w e le is f
 
 -- ---- a step that the policy gives
 
@@ -126,12 +135,12 @@ never-honest : (b : Bool) → (b ≡ true → ⊥) → not b ≡ true
 never-honest true f = absurd (f refl)
 never-honest false f = refl
 
-pub given-cause : (before : ℕ) (old new : Journal) (p : NodeId) (step : Step) (e : StepError) → before ≤ old.world.faults → IsGiven old.world p step
+pub given-cause : (before : Counts) (old new : Journal) (p : NodeId) (step : Step) (e : StepError) → AreLater before old.world.counts → IsGiven old.world p step
     → IsActed old new p step (Err (errors.Step e)) → is_run_cause before new.world e ≡ true
 given-cause before old new p step refusals.StepLimit later given acted = unless-honest new.world.is_honest _ (λ h.
     le-leb most_steps new.world.state.made (subst (λ (s : State). most_steps ≤ s.made) (sym (acted.same h))
     (limit-reached old.world.state.made (judged old.world.state (told old.world.state step) step) (given (acted.honest h)).1 (acted.refusal h))))
-given-cause before old new p step (refusals.Store refusal) later given acted = fault-since before old.world.faults new.world refusal later acted.cause
+given-cause before old new p step (refusals.Store refusal) later given acted = fault-since before old.world.counts new.world refusal later acted.counts acted.cause
 given-cause before old new p step refusals.OutOfMemory later given acted = refl
 given-cause before old new p step refusals.NoNode later given acted = never-honest new.world.is_honest (λ h.
     never old.world.state step refusals.NoNode refl (given (acted.honest h)).1 (acted.refusal h))
@@ -147,7 +156,7 @@ given-cause before old new p step refusals.Unresolved later given acted = never-
     never old.world.state step refusals.Unresolved refl (given (acted.honest h)).1 (acted.refusal h))
 
 -- the policy gives a node steps of its own alone
-pub given-own-cause : (before : ℕ) (old new : Journal) (p : NodeId) (step : Step) → IsGiven old.world p step
+pub given-own-cause : (before : Counts) (old new : Journal) (p : NodeId) (step : Step) → IsGiven old.world p step
     → IsActed old new p step (Err errors.NotOwner) → is_run_cause before new.world refusals.NoNode ≡ true
 given-own-cause before old new p step given acted = never-honest new.world.is_honest (λ h. acted.not_owner (given (acted.honest h)).0)
 
@@ -161,9 +170,9 @@ given-from old new p (Ok (Some step)) own allowed same = λ h.
     (own h, subst (λ (s : State). IsTrue (is_allowed s step)) (sym (same h)) (allowed h))
 given-from old new p (Err e) own allowed same = tt
 
--- ---- the count of faults at an earlier time
+-- ---- the counts at an earlier time
 
-cause-since : (older old : ℕ) (w : Standing) (e : StepError) → older ≤ old → is_run_cause old w e ≡ true → is_run_cause older w e ≡ true
+cause-since : (older old : Counts) (w : Standing) (e : StepError) → AreLater older old → is_run_cause old w e ≡ true → is_run_cause older w e ≡ true
 cause-since older old w (refusals.Store refusal) le is = fault-older older old w refusal le is
 cause-since older old w refusals.OutOfMemory le is = refl
 cause-since older old w refusals.StepLimit le is = is
@@ -174,5 +183,5 @@ cause-since older old w refusals.NoSuchMatch le is = is
 cause-since older old w refusals.NotDecided le is = is
 cause-since older old w refusals.Unresolved le is = is
 
-pub refused-since : (older old : ℕ) (j : Journal) (at : ℕ) (e : StepError) → older ≤ old → IsRefusedAt old j at e → IsRefusedAt older j at e
+pub refused-since : (older old : Counts) (j : Journal) (at : ℕ) (e : StepError) → AreLater older old → IsRefusedAt old j at e → IsRefusedAt older j at e
 refused-since older old j at e le is = (is.0, cause-since older old j.world e le is.1)

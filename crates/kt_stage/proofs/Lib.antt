@@ -1,3 +1,4 @@
+pub mod Counts
 pub mod Finding
 pub mod Asked
 pub mod Making

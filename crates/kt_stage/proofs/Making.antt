@@ -1,5 +1,5 @@
 -- What one step more makes of a journal.
-use Rattle.std.proofs.Common.{◌≡◌, ℕ, ◌+◌, ◌≤◌, length, length-append, arith, Bool, true, false, List, [], ◌∷◌, ◌++◌, Result, Ok, refl, sym, ap, subst}
+use Rattle.std.proofs.Common.{◌≡◌, ℕ, ◌+◌, length, length-append, arith, Bool, true, false, List, [], ◌∷◌, ◌++◌, Result, Ok, refl, sym, ap, subst}
 use Rattle.std.proofs.Common.{◌∙◌}
 use Rattle.std.specs.Prelude.{◌&&◌, IsTrue}
 use Rattle.std.specs.List.{list_all}
@@ -12,11 +12,13 @@ use Rattle.kt_world.specs.Effect.{step_result}
 use Rattle.kt_world.specs.State.{State}
 use Rattle.kt_world.specs.Step.{owner}
 use Rattle.kt_core.specs.Stepping.{Refuses}
+use Rattle.kt_core.specs.Store.{AreLater}
 use Rattle.kt_core.specs.World.{Standing}
 use Rattle.kt_stage.specs.Acting.{RefusesStep}
 use Rattle.kt_stage.specs.Order.{has_node}
 use Rattle.kt_stage.specs.Journal.{Replays, all_made, made_from, then_made}
 use Rattle.kt_stage.specs.inner.Midway.{are_owned}
+use Rattle.kt_stage.proofs.Counts.{never-fewer}
 
 made-more : (so_far : Result State StepError) (steps : List Step) (step : Step)
     → made_from so_far (steps ++ step ∷ []) ≡ then_made (made_from so_far steps) step
@@ -42,8 +44,8 @@ replays_opened opening world steps is none =
     subst (λ (w : Standing). Replays opening w steps) is (subst (λ (xs : List Step). Replays opening opening xs) (sym none) (replays_none opening))
 
 -- no fault was counted at the opening
-pub later_opened : (opening world : Standing) → opening ≡ world → opening.faults ≤ world.faults
-later_opened opening world is = omega (arith, ap (λ (w : Standing). w.faults) is)
+pub later_opened : (opening world : Standing) → opening ≡ world → AreLater opening.counts world.counts
+later_opened opening world is = subst (λ (w : Standing). AreLater opening.counts w.counts) is (never-fewer opening.counts)
 
 all-more : {A : Type 0} (p : A → Bool) (xs : List A) (x : A) → list_all p xs ≡ true → p x ≡ true → list_all p (xs ++ x ∷ []) ≡ true
 all-more p [] x all one = rw one refl

@@ -1,2 +1,2 @@
 -- What the crates above may cite of these proofs.
-pub use Rattle.kt_stage.proofs.Ended.{some-stopped, stopped-same}
+pub use Rattle.kt_stage.proofs.Counts.{later-still, never-fewer}

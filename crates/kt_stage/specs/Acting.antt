@@ -1,5 +1,5 @@
 -- Why a node does not act.
-use Rattle.std.specs.Prelude.{◌≡◌, ◌≢◌, ◌+◌, ◌++◌, ◌∷◌, [], ℕ, Bool, length, Result, Ok, Err}
+use Rattle.std.specs.Prelude.{◌≡◌, ◌≢◌, ◌+◌, ◌++◌, ◌∷◌, [], Bool, length, Result, Ok, Err}
 use Rattle.std.specs.Prelude.{IfOk, IfErr, OnOk, OnErr, IsTrue}
 use Rattle.kt_tuple.specs.declared.node.NodeId.{NodeId}
 use Rattle.kt_world.specs.declared.step.Step.{Step}
@@ -9,8 +9,9 @@ use Rattle.kt_world.specs.Step.{owner}
 use Rattle.kt_world.specs.State.{State}
 use Rattle.kt_world.specs.Effect.{step_result}
 use Rattle.kt_world.specs.Judge.{planned}
-use Rattle.kt_core.specs.Stepping.{IsCalledFor, IsCause, Refuses}
+use Rattle.kt_core.specs.Stepping.{IsCalledFor, IsCause, Refuses, step_counted}
 use Rattle.kt_core.specs.World.{Standing, beside}
+use Rattle.kt_store.specs.Calls.{Counts}
 use Rattle.kt_stage.specs.declared.error.ActError.{ActError}
 use Rattle.kt_stage.specs.declared.error.ActError.TheVariants as errors
 use Rattle.kt_stage.specs.declared.seat.Receipt.{Receipt}
@@ -30,10 +31,15 @@ abbrev pub RefusesAct : {Y : Type 0} → ActError → Result Y StepError → Typ
 RefusesAct errors.NotOwner due = Unit {0}
 RefusesAct (errors.Step refusal) due = RefusesStep refusal due
 
--- a store's refusal comes where a call of the store was refused
-abbrev pub IsActCause : ℕ → ℕ → Bool → ActError → Type 0
-IsActCause before now is_honest errors.NotOwner = Unit {0}
-IsActCause before now is_honest (errors.Step refusal) = IsCause before now is_honest refusal
+-- a store's refusal for damage or for a full store comes never while it is honest
+abbrev pub IsActCause : Bool → ActError → Type 0
+IsActCause is_honest errors.NotOwner = Unit {0}
+IsActCause is_honest (errors.Step refusal) = IsCause is_honest refusal
+
+-- what it leaves of the store's counts: raised by the store's own refusal and by nothing else
+abbrev pub act_counted : {T : Type 0} → Result T ActError → Counts → Counts
+act_counted {T = T} (Err (errors.Step refusal)) before = step_counted {T = T} (Err refusal) before
+act_counted result before = before
 
 -- and only of a step for which the store is called
 abbrev pub IsActCalledFor : State → Step → ActError → Type 0
@@ -52,7 +58,8 @@ pub record IsActed (old new : Journal) (p : NodeId) (step : Step) (result : Resu
   pub not_owner : IfErr result (IsOthers p step)
   pub others : owner step ≢ p → result ≡ Err errors.NotOwner
   pub refusal : IsTrue new.world.is_honest → IfErr result (λ e. RefusesAct e (planned old.world.state step))
-  pub cause : IfErr result (IsActCause old.world.faults new.world.faults new.world.is_honest)
+  pub cause : IfErr result (IsActCause new.world.is_honest)
+  pub counts : new.world.counts ≡ act_counted result old.world.counts
   pub called : IsTrue new.world.is_honest → IfErr result (IsActCalledFor old.world.state step)
   -- and then nothing has changed
   pub same_steps : OnErr result (new.steps ≡ old.steps)

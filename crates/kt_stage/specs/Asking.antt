@@ -1,6 +1,7 @@
 -- What asking a world comes to.
-use Rattle.std.specs.Prelude.{◌≡◌, ◌≤◌, Result, IfErr, IfOk, IsTrue}
+use Rattle.std.specs.Prelude.{◌≡◌, Result, IfErr, IfOk, IsTrue}
 use Rattle.kt_store.specs.declared.error.StoreError.{StoreError}
+use Rattle.kt_store.specs.Calls.{counted}
 use Rattle.kt_world.specs.State.{State}
 use Rattle.kt_core.specs.Store.{IsFault}
 use Rattle.kt_core.specs.World.{Standing, beside}
@@ -12,5 +13,5 @@ pub record IsAsked {T : Type 0} (old new : Standing) (Says : State → T → Typ
   pub same : IsTrue new.is_honest → new.state ≡ old.state
   pub beside : beside new.state ≡ beside old.state
   pub honest : IsTrue new.is_honest → IsTrue old.is_honest
-  pub later : old.faults ≤ new.faults
-  pub cause : IfErr result (IsFault old.faults new.faults new.is_honest)
+  pub counts : new.counts ≡ counted result old.counts
+  pub cause : IfErr result (IsFault new.is_honest)

@@ -1,7 +1,8 @@
 //! Closing a stage: whether each seat keeps just the journal's steps of its node, with their places.
 
-ghost use Rattle.std.specs.Prelude.{◌≡◌, ◌≢◌, ◌≤◌, ◌↔◌, ◌++◌, List, IfErr, IfNone, IfOk, IfSome, IsPermutation};
+ghost use Rattle.std.specs.Prelude.{◌≡◌, ◌≢◌, ◌↔◌, ◌++◌, List, IfErr, IfNone, IfOk, IfSome, IsPermutation};
 ghost use Rattle.std.specs.Prelude.{All, IsTrue, MatchOption};
+ghost use Rattle.kt_core.specs.Store.{AreLater};
 ghost use Rattle.kt_stage.specs.declared.seat.Receipt.{Receipt};
 ghost use Rattle.kt_stage.specs.Closing.{IsCloseCause, IsFirstUnmatched, IsMatched, first_missing, has_seat};
 ghost use Rattle.kt_stage.specs.inner.Midway.{IsClosed};
@@ -133,14 +134,14 @@ impl<S: CkptStore, L: Naming> Stage<S, L> {
     /// takes no memory and waits for nobody.
     pub fn close(self, seats: Vec<Seat<L>>) -> Result<Journal<S>, (CloseError, Journal<S>)>
         ensures replays { IfOk result (λ j. Replays L.opening j.world j.steps) }
-        ensures later { IfOk result (λ j. L.opening.faults ≤ j.world.faults) }
+        ensures later { IfOk result (λ j. AreLater L.opening.counts j.world.counts) }
         ensures kept { IfOk result (λ j.
             All (λ seat. seat.receipts ≡ receipts_of seat.node 1 j.steps) seats.items) }
         ensures one_each { IfOk result (λ j. All (IsMatched j.steps seats.items) (nodes_of L.opening.state.cast)) }
         ensures each_step { IfOk result (λ j. IsPermutation (numbered 1 j.steps) (receipts_in seats.items)) }
         ensures cause { IfErr result (λ e. IsCloseCause (nodes_of L.opening.state.cast) e.1.steps seats.items e.0) }
         ensures replays_back { IfErr result (λ e. Replays L.opening e.1.world e.1.steps) }
-        ensures later_back { IfErr result (λ e. L.opening.faults ≤ e.1.world.faults) }
+        ensures later_back { IfErr result (λ e. AreLater L.opening.counts e.1.world.counts) }
     {
         let Stage { floor, nodes, .. } = self;
         let journal = floor.into_inner().desk.journal;

@@ -1,10 +1,11 @@
 //! What lies under a stage's lock.
 
 ghost use Rattle.std.specs.Prelude.{◌≡◌, ◌≢◌, ◌↔◌, ◌++◌, ◌∷◌, [], length, true, vec_len, Err, IfErr, IfOk, IsTrue, Ok};
-ghost use Rattle.std.specs.Prelude.{◌≤◌, IfSome, OnErr, OnOk};
-ghost use Rattle.kt_core.specs.Stepping.{IsCalledFor, IsCause};
+ghost use Rattle.std.specs.Prelude.{IfSome, OnErr, OnOk};
+ghost use Rattle.kt_core.specs.Stepping.{IsCalledFor, IsCause, step_counted};
+ghost use Rattle.kt_core.specs.Store.{AreLater};
 ghost use Rattle.kt_core.specs.World.{beside};
-ghost use Rattle.kt_stage.specs.Acting.{IsActCalledFor, IsActCause, IsOthers, RefusesAct, RefusesStep};
+ghost use Rattle.kt_stage.specs.Acting.{act_counted, IsActCalledFor, IsActCause, IsOthers, RefusesAct, RefusesStep};
 ghost use Rattle.kt_stage.specs.Asking.{IsAsked};
 ghost use Rattle.kt_stage.specs.Journal.{Replays, receipt};
 ghost use Rattle.kt_stage.specs.inner.Midway.{are_owned};
@@ -34,7 +35,7 @@ pub struct Desk<S: CkptStore, L: Naming> {
     pub(crate) journal: Journal<S>,
     pub(crate) book: Book<L>,
     ghost replays: { Replays L.opening journal.world journal.steps },
-    ghost later: { L.opening.faults ≤ journal.world.faults },
+    ghost later: { AreLater L.opening.counts journal.world.counts },
     ghost counted: { book.total ≡ length journal.steps },
     ghost owned: { are_owned L.opening.state.cast journal.steps ≡ true },
 }
@@ -56,10 +57,10 @@ impl<S: CkptStore> Journal<S> {
         ensures same { IsTrue self.new.world.is_honest → OnErr result (self.new.world.state ≡ self.old.world.state) }
         ensures beside { OnErr result (beside self.new.world.state ≡ beside self.old.world.state) }
         ensures honest { IsTrue self.new.world.is_honest → IsTrue self.old.world.is_honest }
-        ensures later { self.old.world.faults ≤ self.new.world.faults }
+        ensures counts { self.new.world.counts ≡ step_counted result self.old.world.counts }
         ensures refusal { IsTrue self.new.world.is_honest
             → IfErr result (λ e. RefusesStep e (planned self.old.world.state step)) }
-        ensures cause { IfErr result (IsCause self.old.world.faults self.new.world.faults self.new.world.is_honest) }
+        ensures cause { IfErr result (IsCause self.new.world.is_honest) }
         ensures called { IsTrue self.new.world.is_honest → IfErr result (IsCalledFor self.old.world.state step) }
     {
         if self.steps.reserve(1).is_err() {
@@ -135,14 +136,13 @@ impl<S: CkptStore, L: Naming> Desk<S, L> {
         ensures effect { IsTrue self.new.journal.world.is_honest
             → OnOk result (step_result self.old.journal.world.state step ≡ Ok self.new.journal.world.state) }
         ensures honest { IsTrue self.new.journal.world.is_honest → IsTrue self.old.journal.world.is_honest }
-        ensures later { self.old.journal.world.faults ≤ self.new.journal.world.faults }
+        ensures counts { self.new.journal.world.counts ≡ act_counted result self.old.journal.world.counts }
         ensures node { seat.new.node ≡ seat.old.node }
         ensures not_owner { IfErr result (IsOthers seat.old.node step) }
         ensures others { owner step ≢ seat.old.node → result ≡ Err ActError.NotOwner }
         ensures refusal { IsTrue self.new.journal.world.is_honest
             → IfErr result (λ e. RefusesAct e (planned self.old.journal.world.state step)) }
-        ensures cause { IfErr result (IsActCause self.old.journal.world.faults self.new.journal.world.faults
-            self.new.journal.world.is_honest) }
+        ensures cause { IfErr result (IsActCause self.new.journal.world.is_honest) }
         ensures called { IsTrue self.new.journal.world.is_honest
             → IfErr result (IsActCalledFor self.old.journal.world.state step) }
         ensures same_seat { OnErr result (seat.new.receipts ≡ seat.old.receipts) }

@@ -2,6 +2,7 @@
 
 ghost use Rattle.std.specs.Prelude.{[], false};
 ghost use Rattle.kt_core.specs.World.{Standing};
+ghost use Rattle.kt_store.specs.Calls.{nothing_counted};
 ghost use Rattle.kt_world.specs.Reached.{opening};
 
 use std::marker::Brand;
@@ -14,5 +15,5 @@ pub trait Naming: Ledger {
 }
 
 impl Naming for Brand {
-    ghost opening = { record { state = opening (record { shards = 0; scripts = [] }); is_honest = false; faults = 0 } };
+    ghost opening = { record { state = opening (record { shards = 0; scripts = [] }); is_honest = false; counts = nothing_counted } };
 }

@@ -53,7 +53,7 @@ enum Turn {
 impl<S: CkptStore, L: Naming> Floor<S, L> {
     /// Ends the run: what was tried last is refused, for this reason.
     fn refuse(&mut self, cause: StepError) -> Halted
-        requires { IsTrue (is_run_cause L.opening.faults self.old.desk.journal.world cause) }
+        requires { IsTrue (is_run_cause L.opening.counts self.old.desk.journal.world cause) }
     {
         let at = self.desk.journal.steps.len() as u64 + 1;
         self.refused = Some(Refused { at, cause });
@@ -212,7 +212,7 @@ impl<S: CkptStore, L: Naming> Floor<S, L> {
 
     /// The first node that has a next step.
     fn left(&mut self, alloc: Global) -> Result<Option<NodeId>, StoreError>
-        ensures { IfErr result (λ e. IsTrue (is_fault_since L.opening.faults self.new.desk.journal.world e)) }
+        ensures { IfErr result (λ e. IsTrue (is_fault_since L.opening.counts self.new.desk.journal.world e)) }
     {
         self.refused = None;
         let Floor { desk, faults, .. } = self;

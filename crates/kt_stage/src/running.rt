@@ -1,11 +1,12 @@
 //! A run: a thread for each node, each by the policy, until no node has a next step.
 
-ghost use Rattle.std.specs.Prelude.{◌≡◌, ◌≤◌, length, true, IfErr, IfOk, IsTrue, None, Ok};
+ghost use Rattle.std.specs.Prelude.{◌≡◌, length, true, IfErr, IfOk, IsTrue, None, Ok};
 ghost use denote.Param.Send.{IsSend, IsSync};
 ghost use Rattle.kt_stage.specs.Journal.{Replays, all_made};
 ghost use Rattle.kt_stage.specs.Order.{nodes_of};
 ghost use Rattle.kt_stage.specs.Policy.{first_unfinished, spent_by};
-ghost use Rattle.kt_stage.specs.Running.{IsLeft, IsStopped, IsStoppedWith, left_faults, left_honest};
+ghost use Rattle.kt_stage.specs.Running.{IsLeft, IsStopped, left_value};
+ghost use Rattle.kt_core.specs.Store.{AreLater, IsLeftSome, store_value};
 ghost use Rattle.kt_stage.specs.inner.Halting.{IsHalted};
 ghost use Rattle.kt_store.specs.Content.{is_fresh};
 ghost use Rattle.kt_world.specs.Reached.{opening};
@@ -61,8 +62,8 @@ pub enum Left<S: CkptStore> {
 impl<S: CkptStore> Left<S> {
     /// The store, as the steps left it.
     pub fn into_store(self) -> S
-        ensures honest { S.is_honest result ≡ left_honest S.is_honest self }
-        ensures faults { S.fault_count result ≡ left_faults S.fault_count self }
+        ensures { store_value S.CkptStore result
+            ≡ left_value (store_value S.CkptStore) self }
     {
         match self {
             Left::Store(store) => store,
@@ -152,9 +153,9 @@ where
     requires one_each { blank.parts ≡ length (nodes_of world.state.cast) }
     requires opening { L.opening ≡ world }
     ensures replays { IfOk result (λ j. Replays L.opening j.world j.steps) }
-    ensures later { IfOk result (λ j. L.opening.faults ≤ j.world.faults) }
+    ensures later { IfOk result (λ j. AreLater L.opening.counts j.world.counts) }
     ensures replays_back { IfErr result (λ e. Replays L.opening e.1.world e.1.steps) }
-    ensures later_back { IfErr result (λ e. L.opening.faults ≤ e.1.world.faults) }
+    ensures later_back { IfErr result (λ e. AreLater L.opening.counts e.1.world.counts) }
     ensures halted { IfErr result (λ e. IsHalted L.opening e.1 e.0) }
 {
     let (stage, seats) = match Stage::<S, L>::open_or_back(alloc, world, blank) {
@@ -204,9 +205,9 @@ where
     ensures finished { IfOk result (λ j.
         IsTrue j.world.is_honest → first_unfinished j.world.state (spent_by faults j.steps) ≡ None) }
     ensures fresh { IfOk result (λ j. IsTrue j.world.is_honest → is_fresh (S.content store) ≡ true) }
-    ensures later { IfOk result (λ j. S.fault_count store ≤ j.world.faults) }
-    ensures stopped { IfErr result
-        (IsStopped S.is_honest S.fault_count (is_fresh (S.content store)) (S.fault_count store) scene faults) }
+    ensures later { IfOk result (λ j. AreLater (S.counts store) j.world.counts) }
+    ensures stopped { IfErr result (λ fault. IsLeftSome (store_value S.CkptStore) (λ left.
+        IsStopped (store_value S.CkptStore store) left scene faults fault)) }
 {
     match run_threads_over(rt, alloc, scene, faults, store, gate) {
         Ok(journal) => Ok(journal),
@@ -237,10 +238,10 @@ where
     ensures finished { IfOk result (λ j.
         IsTrue j.world.is_honest → first_unfinished j.world.state (spent_by faults j.steps) ≡ None) }
     ensures fresh { IfOk result (λ j. IsTrue j.world.is_honest → is_fresh (S.content store) ≡ true) }
-    ensures later { IfOk result (λ j. S.fault_count store ≤ j.world.faults) }
-    ensures stopped { IfErr result (λ e. IsStoppedWith (left_honest S.is_honest e.1) (left_faults S.fault_count e.1)
-        (is_fresh (S.content store)) (S.fault_count store) scene faults e.0) }
-    ensures left { IfErr result (λ e. IsLeft (S.fault_count store) scene faults e.0 e.1) }
+    ensures later { IfOk result (λ j. AreLater (S.counts store) j.world.counts) }
+    ensures stopped { IfErr result (λ e. IsStopped (store_value S.CkptStore store)
+        (left_value (store_value S.CkptStore) e.1) scene faults e.0) }
+    ensures left { IfErr result (λ e. IsLeft (S.counts store) scene faults e.0 e.1) }
 {
     let world = match World::open(alloc, scene, store) {
         Ok(world) => world,

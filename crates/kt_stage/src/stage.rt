@@ -2,6 +2,7 @@
 
 ghost use Rattle.std.specs.Prelude.{◌≡◌, ◌≢◌, ◌≤◌, ◌++◌, ◌∷◌, [], filter, length, map, All, Err, IfErr, IfOk, IsTrue};
 ghost use Rattle.std.specs.Prelude.{OnErr};
+ghost use Rattle.kt_core.specs.Store.{AreLater};
 ghost use Rattle.kt_stage.specs.Acting.{IsActedOn, IsOthers};
 ghost use Rattle.kt_stage.specs.Journal.{Replays, empty_seat};
 ghost use Rattle.std.specs.Option.{ForSome};
@@ -48,7 +49,7 @@ pub(crate) struct Floor<S: CkptStore, L: Naming> {
     pub(crate) is_over: bool,
     /// What was refused in a run, while nothing was tried since: why it ends early.
     pub(crate) refused: Option<Refused>,
-    ghost due: { ForSome refused (λ r. IsRefusedAt L.opening.faults desk.journal r.at r.cause) },
+    ghost due: { ForSome refused (λ r. IsRefusedAt L.opening.counts desk.journal r.at r.cause) },
 }
 
 /// The stage that L names: the journal, which one node at a time changes, and for each node what wakes it.
@@ -210,7 +211,7 @@ impl<S: CkptStore, L: Naming> Stage<S, L> {
     /// The journal of a stage that is given up and not closed, and why: what was refused, or else want of memory.
     pub(crate) fn into_halted(self) -> (RunFault, Journal<S>)
         ensures replays { Replays L.opening result.1.world result.1.steps }
-        ensures later { L.opening.faults ≤ result.1.world.faults }
+        ensures later { AreLater L.opening.counts result.1.world.counts }
         ensures halted { IsHalted L.opening result.1 result.0 }
     {
         let Stage { floor, .. } = self;

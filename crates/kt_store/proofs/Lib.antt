@@ -5,4 +5,5 @@ pub mod Nodes
 pub mod Others
 pub mod OtherNodes
 pub mod OtherInstances
+pub mod Counting
 pub mod Shared

@@ -5,3 +5,5 @@ pub use Rattle.kt_store.proofs.OtherNodes.{others_stay_of, own_row, stored_is_re
 pub use Rattle.kt_store.proofs.OtherInstances.{begun_is_read, decided_is_read, nodes_stay, others_begun, others_decided}
 pub use Rattle.kt_store.proofs.Nodes.{by_node_order, itself, one_way}
 pub use Rattle.kt_store.proofs.Tables.{placed}
+pub use Rattle.kt_store.proofs.Counting.{Rises, counts_raised, counts_stay, faults_rise, wants_rise}
+pub use Rattle.kt_store.proofs.Counting.{device_shows, faults_later, memory_shows, wants_later}

@@ -1,19 +1,41 @@
 -- What every call of a store keeps, and why it may be refused.
-use Rattle.std.specs.Prelude.{◌≡◌, ◌⊎◌, ◌<◌, ◌≤◌, ℕ, ◌+◌, ◌-◌, ◌^◌, Bool, false, Result, IsErrOf}
+use Rattle.std.specs.Prelude.{◌≡◌, ◌==◌, ℕ, ◌+◌, ◌-◌, ◌^◌, Bool, false, if◌then◌else◌, Result, Ok, Err, IsErrOf}
 use Rattle.kt_store.specs.declared.error.StoreError.{StoreError}
-use Rattle.kt_store.specs.declared.error.StoreError.TheVariants.{Device, Damaged, Full}
+use Rattle.kt_store.specs.declared.error.StoreError.TheVariants.{Memory, Device, Damaged, Full}
 
--- the count of faults never falls, and stays at its greatest value
-abbrev pub most_faults : ℕ
-most_faults = 2 ^ 64 - 1
+-- how often the device has failed so far, and how often memory was refused
+pub record Counts : Type 0 where
+  pub faults : ℕ
+  pub wants : ℕ
 
--- the count rises in a refusal for the device alone, by one at most; such a refusal comes only where it rose or can't
--- rise; one for damage never while the store is honest, and for a full store only where this number can't be raised
-pub record HasCause {T : Type 0} (before now : ℕ) (is_honest : Bool) (IsFull : Type 0)
+-- nothing was refused so far
+abbrev pub nothing_counted : Counts
+nothing_counted = record { faults = 0; wants = 0 }
+
+-- the greatest value of a count
+abbrev pub most : ℕ
+most = 2 ^ 64 - 1
+
+-- one more, but a count stays at its greatest value
+abbrev pub raised : ℕ → ℕ
+raised n = if n == most then n else n + 1
+
+-- a refusal raises the count of its cause, where that has one
+abbrev pub raised_by : StoreError → Counts → Counts
+raised_by Memory c = record c { wants = raised c.wants }
+raised_by Device c = record c { faults = raised c.faults }
+raised_by Damaged c = c
+raised_by Full c = c
+
+-- an answer that is no refusal leaves both
+abbrev pub counted : {T : Type 0} → Result T StoreError → Counts → Counts
+counted (Ok x) c = c
+counted (Err e) c = raised_by e c
+
+-- the counts rise by this answer and no other; a refusal for damage comes never while the store is honest, and one for
+-- a full store only where this number can't be raised
+pub record HasCause {T : Type 0} (before now : Counts) (is_honest : Bool) (IsFull : Type 0)
     (result : Result T StoreError) : Type 0 where
-  pub later : before ≤ now
-  pub once : now ≤ before + 1
-  pub counted : (now ≡ before) ⊎ IsErrOf result Device
-  pub device : IsErrOf result Device → (before < now) ⊎ (now ≡ most_faults)
+  pub counts : now ≡ counted result before
   pub damaged : IsErrOf result Damaged → is_honest ≡ false
   pub full : IsErrOf result Full → IsFull

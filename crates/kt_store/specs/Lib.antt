@@ -2,5 +2,6 @@ pub mod Verdict
 pub mod Content
 pub mod Changes
 pub mod Calls
+pub mod Stored
 pub mod Others
 pub mod inner

@@ -2,15 +2,17 @@
 //!
 //! - Contract: while a store is honest, each write is its one change of the whole content, and a refused one changes
 //!   nothing (`CkptStore::promote` and its sisters, clauses `written` and `unchanged`). The store in memory,
-//!   `MemStore`, always is.
+//!   `MemStore`, always is. A store counts exactly how often its device failed and how often memory was refused
+//!   (clause `cause`).
 //! - Stands on: kt_tuple, kt_ckpt; of the kit: thiserror
 //! - Used by: kt_tables, kt_sql, kt_node, kt_world, kt_refinement, kt_core, kt_scene, kt_stage, kt_run, kt_command,
 //!   linda_kt, kt_example, kt_memory_tests
-//! - Begin in: `store.rt` for the promises and `rows.rt` for what is stored. `memory.rt`, `posted.rt` and
-//!   `change.rt` are the store in memory.
+//! - Begin in: `store.rt` for the promises and `rows.rt` for what is stored. `memory.rt` is the store in memory, over
+//!   `contents.rt`, `posted.rt` and `change.rt`.
 #![tactic(auto)]
 
 mod change;
+mod contents;
 mod error;
 mod laws;
 mod memory;

@@ -1,24 +1,12 @@
 //! A store in memory.
 
-ghost use Rattle.std.specs.Prelude.{◌≡◌, ◌+◌, None, OnOk, OnErr, IfOk, true};
-ghost use Rattle.std.specs.Prelude.{All, ◌<◌, ◌≤◌, ◌==◌, ◌&&◌};
-ghost use Rattle.std.specs.Option.{option_copied};
-ghost use Rattle.std.specs.List.{find};
-ghost use Rattle.kt_tuple.specs.declared.node.NodeId.{NodeId};
-ghost use Rattle.kt_tuple.specs.Node.{node_eq};
-ghost use Rattle.kt_store.specs.declared.posted.Opened.{Opened};
-ghost use Rattle.kt_store.specs.declared.rows.NodeRow.{NodeRow};
-ghost use Rattle.kt_store.specs.declared.rows.Posted.{Posted};
-ghost use Rattle.kt_store.specs.Content.{row_of, verdict_of, initiator_of, open_of, next_instance};
-ghost use Rattle.kt_store.specs.inner.Rising.{IsBoard, IsNumbered, opened};
-ghost use Rattle.kt_store.specs.Content.{is_fresh, greatest, permanent_marks, tentative_marks};
-ghost use Rattle.kt_store.specs.Changes.{decided, opening, storing};
-ghost use Rattle.kt_store.specs.inner.Row.{changed, IsWithin};
+ghost use Rattle.std.specs.Prelude.{◌≡◌, Ok, Err, IfOk, IfErr};
+ghost use Rattle.kt_store.specs.Calls.{raised};
 
-use crate::change::{Change, change_row};
+use crate::change::Change;
+use crate::contents::Contents;
 use crate::error::StoreError;
-use crate::posted::{Opened, opened_at, place_of, post, posted_at};
-use crate::rows::{NodeRow, Posted, Purpose, Tentative, TentativeMarks, Verdict};
+use crate::rows::{Purpose, Tentative, TentativeMarks, Verdict};
 use crate::store::CkptStore;
 use kt_ckpt::{Ckpt, Marks};
 use kt_tuple::NodeId;
@@ -29,220 +17,65 @@ use std::marker::Model;
 /// not 2^64 - 1: docs/DECISIONS.md#stores.
 const GREATEST: u64 = 1 << 62;
 
-/// A store in memory, which is always honest.
+/// A store in memory, which is always honest. It has no device that could fail.
 #[derive(Debug, Drop)]
 pub struct MemStore {
-    nodes: Vec<NodeRow>,
-    // The rows are numbered 1, 2, .. in their order, so that a row is found by its number without a search.
-    board: Vec<Posted>,
-    // The rows of the board without a verdict: few, however long the board is.
-    undecided: Vec<Opened>,
+    contents: Contents,
+    /// How often it was refused memory, up to 2^64 - 1.
+    wants: u64,
 }
 
 impl Model for MemStore {
-    ghost use Rattle.std.specs.Prelude.{◌≡◌};
-    ghost use Rattle.kt_store.specs.Content.{Content};
-    ghost use Rattle.kt_store.specs.inner.Rising.{IsBoard, IsNodes, IsNumbered, opened};
+    ghost use Rattle.kt_store.specs.Stored.{Stored};
 
-    ghost Value = { Content };
+    ghost Value = { Stored };
 
-    ghost view = { λ s. record { nodes = s.nodes.items; board = s.board.items } };
-
-    ghost invariant = { λ s. IsNodes s.nodes.items × IsBoard s.board.items × IsNumbered s.board.items
-        × (s.undecided.items ≡ opened s.board.items) };
+    ghost view = { λ s. record { content = s.contents; wants = s.wants } };
 }
 
 impl MemStore {
     ghost use Rattle.kt_store.specs.Content.{empty_content};
 
-    /// A fresh store: no node has a row, and nothing is on the board.
+    /// A fresh store: no node has a row, nothing is on the board, and memory was never refused.
     pub fn new(alloc: Global) -> MemStore
-        ensures { result ≡ empty_content }
+        ensures { result ≡ record { content = empty_content; wants = 0 } }
     {
         MemStore {
-            nodes: Vec::new(alloc),
-            board: Vec::new(alloc),
-            undecided: Vec::new(alloc),
+            contents: Contents::new(alloc),
+            wants: 0,
         }
-    }
-
-    /// The node's incarnation. A node without a row is in the first, so that a store needs no list of the nodes there
-    /// are.
-    fn incarnation_of(&self, node: NodeId) -> u64
-        ensures value { result ≡ (row_of self.now node).incarnation }
-        ensures within { result ≤ greatest }
-    {
-        match row_at(&self.nodes, node) {
-            Some(row) => row.incarnation,
-            None => 1,
-        }
-    }
-
-    /// The node's permanent checkpoint, where one is stored.
-    fn permanent_at(&self, node: NodeId) -> Option<&Ckpt>
-        ensures { option_copied result ≡ (row_of self.now node).permanent }
-    {
-        row_at(&self.nodes, node)?.permanent.as_ref()
-    }
-
-    /// The node's tentative checkpoint, where one is stored.
-    fn tentative_at(&self, node: NodeId) -> Option<&Tentative>
-        ensures { option_copied result ≡ (row_of self.now node).tentative }
-    {
-        row_at(&self.nodes, node)?.tentative.as_ref()
-    }
-
-    fn permanent_of(&self, alloc: Global, node: NodeId) -> Result<Option<Ckpt>, AllocError>
-        ensures { IfOk result (λ c. c ≡ (row_of self.now node).permanent) }
-    {
-        match self.permanent_at(node) {
-            Some(checkpoint) => Ok(Some(checkpoint.copy(alloc)?)),
-            None => Ok(None),
-        }
-    }
-
-    /// The marks of the node's permanent checkpoint, which they share.
-    fn permanent_marks_of(&self, alloc: Global, node: NodeId) -> Result<Option<Marks>, AllocError>
-        ensures { IfOk result (λ m. m ≡ permanent_marks self.now node) }
-    {
-        match self.permanent_at(node) {
-            Some(checkpoint) => Ok(Some(checkpoint.marks(alloc)?)),
-            None => Ok(None),
-        }
-    }
-
-    fn tentative_of(&self, alloc: Global, node: NodeId) -> Result<Option<Tentative>, AllocError>
-        ensures { IfOk result (λ t. t ≡ (row_of self.now node).tentative) }
-    {
-        match self.tentative_at(node) {
-            Some(tentative) => Ok(Some(tentative.copy(alloc)?)),
-            None => Ok(None),
-        }
-    }
-
-    fn tentative_marks_of(
-        &self,
-        alloc: Global,
-        node: NodeId,
-    ) -> Result<Option<TentativeMarks>, AllocError>
-        ensures { IfOk result (λ m. m ≡ tentative_marks self.now node) }
-    {
-        match self.tentative_at(node) {
-            Some(tentative) => Ok(Some(tentative.marks(alloc)?)),
-            None => Ok(None),
-        }
-    }
-
-    fn verdict_of(&self, instance: u64) -> Option<Verdict>
-        ensures { result ≡ verdict_of self.now instance }
-    {
-        Some(posted_at(&self.board, instance)?.verdict)
-    }
-
-    fn initiator_of(&self, instance: u64) -> Option<NodeId>
-        ensures { result ≡ initiator_of self.now instance }
-    {
-        Some(posted_at(&self.board, instance)?.initiator)
-    }
-
-    fn open_instance_of(&self, node: NodeId) -> Option<u64>
-        ensures { result ≡ open_of self.now node }
-    {
-        Some(opened_at(&self.undecided, node)?.instance)
-    }
-
-    /// The number that the next instance gets: from 1 on, and above 2^62 where none is left.
-    fn next_number(&self) -> u64
-        ensures value { result ≡ next_instance self.now }
-        ensures within { result ≤ greatest + 1 }
-    {
-        self.board.len() as u64 + 1
-    }
-
-    /// Gives the instance its verdict, where it was begun.
-    fn settle(&mut self, instance: u64, yes: bool)
-        ensures { self.new ≡ decided instance yes self.old }
-    {
-        if let Some(place) = place_of(&self.board, instance) {
-            self.board[place].verdict = Verdict::of(yes);
-            self.undecided.retain(|opened| opened.instance != instance);
-        }
-    }
-
-    /// Where the store takes its memory from.
-    fn allocator(&self) -> Global {
-        *self.nodes.allocator()
-    }
-
-    /// Makes the change of the node's row.
-    fn change(&mut self, node: NodeId, change: Change) -> Result<(), AllocError>
-        requires { IsWithin change }
-        ensures written { OnOk result (self.new ≡ storing (changed change (row_of self.old node)) self.old) }
-        ensures unchanged { OnErr result (self.new ≡ self.old) }
-    {
-        change_row(&mut self.nodes, node, change)
-    }
-
-    /// Begins the next instance, which is the node's, and makes the change of its row.
-    fn begin(
-        &mut self,
-        node: NodeId,
-        purpose: Purpose,
-        instance: u64,
-        change: Change,
-    ) -> Result<(), AllocError>
-        requires next { instance ≡ next_instance self.old }
-        requires room { instance ≤ greatest }
-        requires within { IsWithin change }
-        ensures written { OnOk result (self.new ≡ opening node purpose
-            (storing (changed change (row_of self.old node)) self.old)) }
-        ensures unchanged { OnErr result (self.new ≡ self.old) }
-    {
-        // All memory is taken before a row changes, so that a refused write changes nothing.
-        self.board.reserve(1)?;
-        self.undecided.reserve(1)?;
-        change_row(&mut self.nodes, node, change)?;
-        let new = Posted {
-            instance,
-            initiator: node,
-            purpose,
-            verdict: Verdict::Open,
-        };
-        post(&mut self.board, &mut self.undecided, new);
-        Ok(())
-    }
-
-    /// Whether nothing was ever stored: no node has a row, and nothing is on the board.
-    fn has_nothing(&self) -> bool
-        ensures { result ≡ is_fresh self.now }
-    {
-        self.nodes.is_empty() && self.board.is_empty()
     }
 }
 
 impl CkptStore for MemStore {
     ghost use Rattle.std.specs.Prelude.{true};
 
-    ghost content = { λ s. s };
+    ghost content = { λ s. s.content };
 
     ghost is_honest = { λ _. true };
 
-    ghost fault_count = { λ _. 0 };
+    ghost counts = { λ s. record { faults = 0; wants = s.wants } };
 
     fn faults(&self) -> u64 {
         0
     }
 
+    fn wants(&self) -> u64 {
+        self.wants
+    }
+
     fn incarnation(&mut self, node: NodeId) -> Result<u64, StoreError> {
-        Ok(self.incarnation_of(node))
+        Ok(self.contents.incarnation_of(node))
     }
 
     fn permanent(&mut self, alloc: Global, node: NodeId) -> Result<Option<Ckpt>, StoreError> {
-        Ok(self.permanent_of(alloc, node)?)
+        let answer = self.contents.permanent_of(alloc, node);
+        count(&mut self.wants, answer)
     }
 
     fn tentative(&mut self, alloc: Global, node: NodeId) -> Result<Option<Tentative>, StoreError> {
-        Ok(self.tentative_of(alloc, node)?)
+        let answer = self.contents.tentative_of(alloc, node);
+        count(&mut self.wants, answer)
     }
 
     fn permanent_marks(
@@ -250,7 +83,8 @@ impl CkptStore for MemStore {
         alloc: Global,
         node: NodeId,
     ) -> Result<Option<Marks>, StoreError> {
-        Ok(self.permanent_marks_of(alloc, node)?)
+        let answer = self.contents.permanent_marks_of(alloc, node);
+        count(&mut self.wants, answer)
     }
 
     fn tentative_marks(
@@ -258,40 +92,43 @@ impl CkptStore for MemStore {
         alloc: Global,
         node: NodeId,
     ) -> Result<Option<TentativeMarks>, StoreError> {
-        Ok(self.tentative_marks_of(alloc, node)?)
+        let answer = self.contents.tentative_marks_of(alloc, node);
+        count(&mut self.wants, answer)
     }
 
     fn verdict(&mut self, instance: u64) -> Result<Option<Verdict>, StoreError> {
-        Ok(self.verdict_of(instance))
+        Ok(self.contents.verdict_of(instance))
     }
 
     fn initiator(&mut self, instance: u64) -> Result<Option<NodeId>, StoreError> {
-        Ok(self.initiator_of(instance))
+        Ok(self.contents.initiator_of(instance))
     }
 
     fn open_of(&mut self, node: NodeId) -> Result<Option<u64>, StoreError> {
-        Ok(self.open_instance_of(node))
+        Ok(self.contents.open_instance_of(node))
     }
 
     fn next_instance(&mut self) -> Result<u64, StoreError> {
-        Ok(self.next_number())
+        Ok(self.contents.next_number())
     }
 
     fn is_fresh(&mut self) -> Result<bool, StoreError> {
-        Ok(self.has_nothing())
+        Ok(self.contents.has_nothing())
     }
 
     fn begin_check(&mut self, node: NodeId, ckpt: &Ckpt) -> Result<(), StoreError> {
-        let instance = self.next_number();
+        let instance = self.contents.next_number();
         if instance > GREATEST {
             return Err(StoreError::Full);
         }
-        let checkpoint = ckpt.copy(self.allocator())?;
+        let copy = ckpt.copy(self.contents.allocator());
+        let checkpoint = count(&mut self.wants, copy)?;
         let change = Change::Take(Tentative {
             instance,
             checkpoint,
         });
-        Ok(self.begin(node, Purpose::Check, instance, change)?)
+        let answer = self.contents.begin(node, Purpose::Check, instance, change);
+        count(&mut self.wants, answer)
     }
 
     fn put_tentative(
@@ -300,49 +137,66 @@ impl CkptStore for MemStore {
         instance: u64,
         ckpt: &Ckpt,
     ) -> Result<(), StoreError> {
-        let checkpoint = ckpt.copy(self.allocator())?;
+        let copy = ckpt.copy(self.contents.allocator());
+        let checkpoint = count(&mut self.wants, copy)?;
         let change = Change::Take(Tentative {
             instance,
             checkpoint,
         });
-        Ok(self.change(node, change)?)
+        let answer = self.contents.change(node, change);
+        count(&mut self.wants, answer)
     }
 
     fn promote(&mut self, node: NodeId) -> Result<(), StoreError> {
-        Ok(self.change(node, Change::Promote)?)
+        let answer = self.contents.change(node, Change::Promote);
+        count(&mut self.wants, answer)
     }
 
     fn discard(&mut self, node: NodeId) -> Result<(), StoreError> {
-        Ok(self.change(node, Change::Discard)?)
+        let answer = self.contents.change(node, Change::Discard);
+        count(&mut self.wants, answer)
     }
 
     fn begin_restart(&mut self, node: NodeId) -> Result<(), StoreError> {
-        let instance = self.next_number();
-        let incarnation = self.incarnation_of(node);
+        let instance = self.contents.next_number();
+        let incarnation = self.contents.incarnation_of(node);
         if instance > GREATEST || incarnation == GREATEST {
             return Err(StoreError::Full);
         }
         let change = Change::Incarnation(incarnation + 1);
-        Ok(self.begin(node, Purpose::Rollback, instance, change)?)
+        let answer = self
+            .contents
+            .begin(node, Purpose::Rollback, instance, change);
+        count(&mut self.wants, answer)
     }
 
     fn bump(&mut self, node: NodeId) -> Result<(), StoreError> {
-        let incarnation = self.incarnation_of(node);
+        let incarnation = self.contents.incarnation_of(node);
         if incarnation == GREATEST {
             return Err(StoreError::Full);
         }
-        Ok(self.change(node, Change::Incarnation(incarnation + 1))?)
+        let answer = self
+            .contents
+            .change(node, Change::Incarnation(incarnation + 1));
+        count(&mut self.wants, answer)
     }
 
     fn decide(&mut self, instance: u64, yes: bool) -> Result<(), StoreError> {
-        self.settle(instance, yes);
+        self.contents.settle(instance, yes);
         Ok(())
     }
 }
 
-/// The node's row; `None` where nothing was stored of it.
-fn row_at(rows: &[NodeRow], node: NodeId) -> Option<&NodeRow>
-    ensures { option_copied result ≡ find (λ (row : NodeRow). node_eq row.node node) rows.now }
+/// The answer as a store gives it. Where memory was refused, that is counted; the count stays at the greatest number.
+fn count<T>(wants: &mut u64, answer: Result<T, AllocError>) -> Result<T, StoreError>
+    ensures ok { IfOk answer (λ t. (result ≡ Ok t) × (wants.new ≡ wants.old)) }
+    ensures err { IfErr answer (λ _. (result ≡ Err StoreError.Memory) × (wants.new ≡ raised wants.old)) }
 {
-    rows.iter().find(|row| row.node == node)
+    match answer {
+        Ok(value) => Ok(value),
+        Err(error) => {
+            *wants = wants.saturating_add(1);
+            Err(StoreError::from(error))
+        }
+    }
 }

@@ -1,12 +1,12 @@
 //! What a store of checkpoints and verdicts promises.
 
-ghost use Rattle.std.specs.Prelude.{◌≡◌, ◌⊎◌, ◌+◌, ℕ, Bool, None, Some, IsTrue, IfOk, OnOk, OnErr};
+ghost use Rattle.std.specs.Prelude.{◌≡◌, ◌⊎◌, ◌+◌, Bool, None, Some, IsTrue, IfOk, OnOk, OnErr};
 ghost use Rattle.kt_store.specs.declared.rows.Verdict.TheVariants as verdicts;
 ghost use Rattle.kt_store.specs.Content.{Content, HasVerdict, greatest, initiator_of, is_fresh, next_instance};
 ghost use Rattle.kt_store.specs.Content.{open_of, permanent_marks, row_of, tentative_marks, verdict_of};
 ghost use Rattle.kt_store.specs.Changes.{bumped, check_begun, decided, discarded};
 ghost use Rattle.kt_store.specs.Changes.{promoted, restart_begun, tentative_put};
-ghost use Rattle.kt_store.specs.Calls.{HasCause};
+ghost use Rattle.kt_store.specs.Calls.{Counts, HasCause};
 
 use crate::error::StoreError;
 use crate::rows::{Tentative, TentativeMarks, Verdict};
@@ -23,13 +23,18 @@ pub trait CkptStore {
     /// Whether it has answered so far as a store must: what it answers is what is stored.
     ghost is_honest: { Self → Bool };
 
-    /// How often its device has failed so far.
-    ghost fault_count: { Self → ℕ };
+    /// How often its device has failed so far, and how often memory was refused. Each count rises by one in just the
+    /// calls that answer so, and stays at 2^64 - 1.
+    ghost counts: { Self → Counts };
 
-    /// How often the device has failed so far, counted up to 2^64 - 1. A refusal is told from damage by it: `Device`
-    /// only where it rose or stands at its greatest value.
+    /// How often the device has failed so far. A refusal is told from damage by it: `Device` only where it rose or
+    /// stands at its greatest value.
     fn faults(&self) -> u64
-        ensures { result ≡ fault_count self.now };
+        ensures { result ≡ (counts self.now).faults };
+
+    /// How often memory was refused so far: `Memory` only where it rose or stands at its greatest value.
+    fn wants(&self) -> u64
+        ensures { result ≡ (counts self.now).wants };
 
     /// The incarnation of the node: 1 at first, one more by each `begin_restart` and `bump`, and 2^62 at most.
     fn incarnation(&mut self, node: NodeId) -> Result<u64, StoreError>
@@ -37,7 +42,7 @@ pub trait CkptStore {
             → IfOk result (λ n. n ≡ (row_of (content self.old) node).incarnation) }
         ensures same { IsTrue (is_honest self.new) → content self.new ≡ content self.old }
         ensures honest { IsTrue (is_honest self.new) → IsTrue (is_honest self.old) }
-        ensures cause { HasCause (fault_count self.old) (fault_count self.new) (is_honest self.new) ⊥ result };
+        ensures cause { HasCause (counts self.old) (counts self.new) (is_honest self.new) ⊥ result };
 
     /// The permanent checkpoint of the node; `None` where it is the initial one. It may share its memory with the
     /// store.
@@ -46,7 +51,7 @@ pub trait CkptStore {
             → IfOk result (λ c. c ≡ (row_of (content self.old) node).permanent) }
         ensures same { IsTrue (is_honest self.new) → content self.new ≡ content self.old }
         ensures honest { IsTrue (is_honest self.new) → IsTrue (is_honest self.old) }
-        ensures cause { HasCause (fault_count self.old) (fault_count self.new) (is_honest self.new) ⊥ result };
+        ensures cause { HasCause (counts self.old) (counts self.new) (is_honest self.new) ⊥ result };
 
     /// The tentative checkpoint of the node with its instance, if one is stored.
     fn tentative(&mut self, alloc: Global, node: NodeId) -> Result<Option<Tentative>, StoreError>
@@ -54,7 +59,7 @@ pub trait CkptStore {
             → IfOk result (λ t. t ≡ (row_of (content self.old) node).tentative) }
         ensures same { IsTrue (is_honest self.new) → content self.new ≡ content self.old }
         ensures honest { IsTrue (is_honest self.new) → IsTrue (is_honest self.old) }
-        ensures cause { HasCause (fault_count self.old) (fault_count self.new) (is_honest self.new) ⊥ result };
+        ensures cause { HasCause (counts self.old) (counts self.new) (is_honest self.new) ⊥ result };
 
     /// The permanent checkpoint of the node without the node's state, if one is stored. It is a call of its own, so
     /// that in memory it costs nothing that grows with the state; a store in SQL reads the row whole
@@ -63,7 +68,7 @@ pub trait CkptStore {
         ensures value { IsTrue (is_honest self.new) → IfOk result (λ m. m ≡ permanent_marks (content self.old) node) }
         ensures same { IsTrue (is_honest self.new) → content self.new ≡ content self.old }
         ensures honest { IsTrue (is_honest self.new) → IsTrue (is_honest self.old) }
-        ensures cause { HasCause (fault_count self.old) (fault_count self.new) (is_honest self.new) ⊥ result };
+        ensures cause { HasCause (counts self.old) (counts self.new) (is_honest self.new) ⊥ result };
 
     /// The tentative checkpoint of the node with its instance and without the node's state, if one is stored.
     fn tentative_marks(
@@ -74,21 +79,21 @@ pub trait CkptStore {
         ensures value { IsTrue (is_honest self.new) → IfOk result (λ m. m ≡ tentative_marks (content self.old) node) }
         ensures same { IsTrue (is_honest self.new) → content self.new ≡ content self.old }
         ensures honest { IsTrue (is_honest self.new) → IsTrue (is_honest self.old) }
-        ensures cause { HasCause (fault_count self.old) (fault_count self.new) (is_honest self.new) ⊥ result };
+        ensures cause { HasCause (counts self.old) (counts self.new) (is_honest self.new) ⊥ result };
 
     /// The verdict on the instance, if it was begun.
     fn verdict(&mut self, instance: u64) -> Result<Option<Verdict>, StoreError>
         ensures value { IsTrue (is_honest self.new) → IfOk result (λ v. v ≡ verdict_of (content self.old) instance) }
         ensures same { IsTrue (is_honest self.new) → content self.new ≡ content self.old }
         ensures honest { IsTrue (is_honest self.new) → IsTrue (is_honest self.old) }
-        ensures cause { HasCause (fault_count self.old) (fault_count self.new) (is_honest self.new) ⊥ result };
+        ensures cause { HasCause (counts self.old) (counts self.new) (is_honest self.new) ⊥ result };
 
     /// Who began the instance, if it was begun.
     fn initiator(&mut self, instance: u64) -> Result<Option<NodeId>, StoreError>
         ensures value { IsTrue (is_honest self.new) → IfOk result (λ p. p ≡ initiator_of (content self.old) instance) }
         ensures same { IsTrue (is_honest self.new) → content self.new ≡ content self.old }
         ensures honest { IsTrue (is_honest self.new) → IsTrue (is_honest self.old) }
-        ensures cause { HasCause (fault_count self.old) (fault_count self.new) (is_honest self.new) ⊥ result };
+        ensures cause { HasCause (counts self.old) (counts self.new) (is_honest self.new) ⊥ result };
 
     /// The first instance that the node began and that has no verdict, if there is one. A node has one at most, but
     /// that is for the callers to keep.
@@ -96,21 +101,21 @@ pub trait CkptStore {
         ensures value { IsTrue (is_honest self.new) → IfOk result (λ i. i ≡ open_of (content self.old) node) }
         ensures same { IsTrue (is_honest self.new) → content self.new ≡ content self.old }
         ensures honest { IsTrue (is_honest self.new) → IsTrue (is_honest self.old) }
-        ensures cause { HasCause (fault_count self.old) (fault_count self.new) (is_honest self.new) ⊥ result };
+        ensures cause { HasCause (counts self.old) (counts self.new) (is_honest self.new) ⊥ result };
 
     /// The number that the next instance gets: one more than the greatest that was begun, 1 at first.
     fn next_instance(&mut self) -> Result<u64, StoreError>
         ensures value { IsTrue (is_honest self.new) → IfOk result (λ i. i ≡ next_instance (content self.old)) }
         ensures same { IsTrue (is_honest self.new) → content self.new ≡ content self.old }
         ensures honest { IsTrue (is_honest self.new) → IsTrue (is_honest self.old) }
-        ensures cause { HasCause (fault_count self.old) (fault_count self.new) (is_honest self.new) ⊥ result };
+        ensures cause { HasCause (counts self.old) (counts self.new) (is_honest self.new) ⊥ result };
 
     /// Whether nothing was ever stored: no node's row and no instance.
     fn is_fresh(&mut self) -> Result<bool, StoreError>
         ensures value { IsTrue (is_honest self.new) → IfOk result (λ fresh. fresh ≡ is_fresh (content self.old)) }
         ensures same { IsTrue (is_honest self.new) → content self.new ≡ content self.old }
         ensures honest { IsTrue (is_honest self.new) → IsTrue (is_honest self.old) }
-        ensures cause { HasCause (fault_count self.old) (fault_count self.new) (is_honest self.new) ⊥ result };
+        ensures cause { HasCause (counts self.old) (counts self.new) (is_honest self.new) ⊥ result };
 
     /// Begins a check: the next instance, of this node, and its tentative checkpoint in it. The node has no tentative
     /// one before. `Full` only where the greatest number, 2^62, was given.
@@ -120,7 +125,7 @@ pub trait CkptStore {
             → OnOk result (content self.new ≡ check_begun node ckpt.now (content self.old)) }
         ensures unchanged { IsTrue (is_honest self.new) → OnErr result (content self.new ≡ content self.old) }
         ensures honest { IsTrue (is_honest self.new) → IsTrue (is_honest self.old) }
-        ensures cause { HasCause (fault_count self.old) (fault_count self.new) (is_honest self.new)
+        ensures cause { HasCause (counts self.old) (counts self.new) (is_honest self.new)
             (IsTrue (is_honest self.new) → next_instance (content self.old) ≡ greatest + 1) result };
 
     /// Stores the node's tentative checkpoint in the instance. The node has no tentative one before.
@@ -130,7 +135,7 @@ pub trait CkptStore {
             → OnOk result (content self.new ≡ tentative_put node instance ckpt.now (content self.old)) }
         ensures unchanged { IsTrue (is_honest self.new) → OnErr result (content self.new ≡ content self.old) }
         ensures honest { IsTrue (is_honest self.new) → IsTrue (is_honest self.old) }
-        ensures cause { HasCause (fault_count self.old) (fault_count self.new) (is_honest self.new) ⊥ result };
+        ensures cause { HasCause (counts self.old) (counts self.new) (is_honest self.new) ⊥ result };
 
     /// Makes the node's tentative checkpoint permanent. Its instance has Yes.
     fn promote(&mut self, node: NodeId) -> Result<(), StoreError>
@@ -139,7 +144,7 @@ pub trait CkptStore {
             → OnOk result (content self.new ≡ promoted node (content self.old)) }
         ensures unchanged { IsTrue (is_honest self.new) → OnErr result (content self.new ≡ content self.old) }
         ensures honest { IsTrue (is_honest self.new) → IsTrue (is_honest self.old) }
-        ensures cause { HasCause (fault_count self.old) (fault_count self.new) (is_honest self.new) ⊥ result };
+        ensures cause { HasCause (counts self.old) (counts self.new) (is_honest self.new) ⊥ result };
 
     /// Gives the node's tentative checkpoint up. Its instance has No.
     fn discard(&mut self, node: NodeId) -> Result<(), StoreError>
@@ -148,7 +153,7 @@ pub trait CkptStore {
             → OnOk result (content self.new ≡ discarded node (content self.old)) }
         ensures unchanged { IsTrue (is_honest self.new) → OnErr result (content self.new ≡ content self.old) }
         ensures honest { IsTrue (is_honest self.new) → IsTrue (is_honest self.old) }
-        ensures cause { HasCause (fault_count self.old) (fault_count self.new) (is_honest self.new) ⊥ result };
+        ensures cause { HasCause (counts self.old) (counts self.new) (is_honest self.new) ⊥ result };
 
     /// Begins a rollback: the next incarnation of the node, and the next instance, of this node. `Full` only where one
     /// of the two has no next number.
@@ -157,7 +162,7 @@ pub trait CkptStore {
             → OnOk result (content self.new ≡ restart_begun node (content self.old)) }
         ensures unchanged { IsTrue (is_honest self.new) → OnErr result (content self.new ≡ content self.old) }
         ensures honest { IsTrue (is_honest self.new) → IsTrue (is_honest self.old) }
-        ensures cause { HasCause (fault_count self.old) (fault_count self.new) (is_honest self.new)
+        ensures cause { HasCause (counts self.old) (counts self.new) (is_honest self.new)
             (IsTrue (is_honest self.new) → (next_instance (content self.old) ≡ greatest + 1)
             ⊎ ((row_of (content self.old) node).incarnation ≡ greatest)) result };
 
@@ -167,7 +172,7 @@ pub trait CkptStore {
             → OnOk result (content self.new ≡ bumped node (content self.old)) }
         ensures unchanged { IsTrue (is_honest self.new) → OnErr result (content self.new ≡ content self.old) }
         ensures honest { IsTrue (is_honest self.new) → IsTrue (is_honest self.old) }
-        ensures cause { HasCause (fault_count self.old) (fault_count self.new) (is_honest self.new)
+        ensures cause { HasCause (counts self.old) (counts self.new) (is_honest self.new)
             (IsTrue (is_honest self.new) → (row_of (content self.old) node).incarnation ≡ greatest) result };
 
     /// Gives the instance its verdict. It has none before.
@@ -177,5 +182,5 @@ pub trait CkptStore {
             → OnOk result (content self.new ≡ decided instance yes (content self.old)) }
         ensures unchanged { IsTrue (is_honest self.new) → OnErr result (content self.new ≡ content self.old) }
         ensures honest { IsTrue (is_honest self.new) → IsTrue (is_honest self.old) }
-        ensures cause { HasCause (fault_count self.old) (fault_count self.new) (is_honest self.new) ⊥ result };
+        ensures cause { HasCause (counts self.old) (counts self.new) (is_honest self.new) ⊥ result };
 }

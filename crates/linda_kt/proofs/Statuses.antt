@@ -5,6 +5,7 @@ use Rattle.clap.specs.Words.{kind_of, HasKind, Kinds, Text}
 use Rattle.clap.specs.declared.error.Error.{Error}
 use Rattle.clap.specs.declared.error.kind.ErrorKind.TheVariants as kind
 use Rattle.kt_scene.specs.Outside.{Reader, Writer}
+use Rattle.kt_store.specs.Calls.{nothing_counted}
 use Rattle.kt_store.specs.declared.store.CkptStore.{Ghosts}
 use Rattle.kt_sql.specs.declared.error.SqlOpenError.{SqlOpenError}
 use Rattle.kt_sql.specs.declared.error.SqlOpenError.TheVariants.{Device}
@@ -36,7 +37,7 @@ refused_is_not_opened store why e = cc
 
 -- the status over the store that an opening answers
 pub file_told : {S : Type 0} (files : Ghosts S) (command : Command) (path : Text) (before after : Reader) (old new : Writer) (n : ℕ)
-    (answer : Result S SqlOpenError) → (path ≡ codes ":memory:" → answer ≡ Err Device) → IfOk answer (λ store. files.fault_count store ≡ 0)
+    (answer : Result S SqlOpenError) → (path ≡ codes ":memory:" → answer ≡ Err Device) → IfOk answer (λ store. files.counts store ≡ nothing_counted)
     → IfOk answer (λ store. EndsLeaving files store command before after old new n)
     → IfErr answer (λ e. n ≡ 5) → IfErr answer (λ e. after ≡ before) → IfErr answer (λ e. new ≡ old)
     → EndsInFile files command path before after old new n

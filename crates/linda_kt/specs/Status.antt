@@ -1,10 +1,11 @@
 -- How a run of the program ends, over the store in memory or the file that it names.
 use Rattle.std.specs.Prelude.{◌≡◌, ◌≢◌, ◌⊎◌, ℕ, List, Option, None, Some, codes}
 use Rattle.clap.specs.Words.{Text}
+use Rattle.kt_store.specs.Calls.{nothing_counted}
 use Rattle.kt_store.specs.declared.store.CkptStore.{Ghosts}
 use Rattle.kt_scene.specs.Outside.{Reader, Writer}
 use Rattle.kt_command.specs.declared.command.Command.{Command}
-use Rattle.kt_command.specs.Status.{EndsCommand, EndsInMemory, left_of}
+use Rattle.kt_command.specs.Status.{EndsAs, EndsInMemory}
 use Rattle.linda_kt.specs.Words.{asked_by}
 
 -- the exit status of words that name no command: 0 where help was shown, 2 where they are wrong, 6 where
@@ -16,14 +17,14 @@ IsWordsStatus n = (n ≡ 0) ⊎ ((n ≡ 2) ⊎ ((n ≡ 6) ⊎ (n ≡ 7)))
 pub record EndsLeaving {S : Type 0} (files : Ghosts S) (store : S) (command : Command) (before after : Reader)
     (old new : Writer) (n : ℕ) : Type 0 where
   pub left : S
-  pub ends : EndsCommand (left_of files store left) command before after old new n
+  pub ends : EndsAs files store left command before after old new n
 
 -- how a command over the store in a file ends: as one over some store of that kind, which stands for the one that was
--- opened there and of whose device no fault was counted yet; or with 5, nothing read and nothing written. `:memory:`
+-- opened there and has refused no call yet; or with 5, nothing read and nothing written. `:memory:`
 -- names no file.
 pub data EndsInFile {S : Type 0} (files : Ghosts S) (command : Command) (path : Text) (before after : Reader)
     (old new : Writer) (n : ℕ) : Type 0 where
-  opened : path ≢ codes ":memory:" → (store : S) → files.fault_count store ≡ 0
+  opened : path ≢ codes ":memory:" → (store : S) → files.counts store ≡ nothing_counted
       → EndsLeaving files store command before after old new n
       → EndsInFile files command path before after old new n
   unopened : n ≡ 5 → after ≡ before → new ≡ old → EndsInFile files command path before after old new n

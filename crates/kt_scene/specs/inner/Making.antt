@@ -1,34 +1,44 @@
 -- What making the steps of a scenario answers.
-use Rattle.std.specs.Prelude.{ℕ, Bool, List, IsTrue}
+use Rattle.std.specs.Prelude.{◌≡◌, ℕ, List, IsTrue, Err}
 use Rattle.kt_world.specs.declared.step.Step.{Step}
+use Rattle.kt_world.specs.declared.step.StepError.{StepError}
 use Rattle.kt_world.specs.Cast.{Cast}
-use Rattle.kt_world.specs.State.{State}
+use Rattle.kt_core.specs.Store.{StoreValue}
+use Rattle.kt_core.specs.Stepping.{step_counted}
+use Rattle.kt_core.specs.World.{IsOpenRefused, Standing}
 use Rattle.kt_world.specs.Reached.{opening}
 use Rattle.kt_scene.specs.Runs.{IsRefusedAt}
 use Rattle.kt_scene.specs.declared.fault.ReplayFault.{ReplayFault}
 use Rattle.kt_scene.specs.declared.fault.ReplayFault.TheVariants as faults
-use Rattle.kt_scene.specs.Run.{Given, IfLeftHonest, IsOpenFault}
 
--- what making steps alone answers: the first step refused, as long as the store is honest, the faults of whose device
--- were counted before and are counted now
-abbrev pub IsStepFault : (before now : ℕ) → Bool → State → List Step → ReplayFault → Type 0
-IsStepFault before now is_honest old steps (faults.Scene line cause) = ⊥
-IsStepFault before now is_honest old steps (faults.Step at cause) =
-    IsTrue is_honest → IsRefusedAt old steps at cause before now
-IsStepFault before now is_honest old steps (faults.Open cause) = ⊥
-IsStepFault before now is_honest old steps (faults.Report cause) = ⊥
-IsStepFault before now is_honest old steps faults.Memory = ⊥
-IsStepFault before now is_honest old steps faults.Read = ⊥
-IsStepFault before now is_honest old steps faults.Write = ⊥
+-- the step that was refused, as long as the store is honest, and what the store counts of it
+pub record IsStepRefused (old new : Standing) (steps : List Step) (at : ℕ) (cause : StepError) : Type 0 where
+  pub refused : IsTrue new.is_honest → IsRefusedAt old.state steps at cause new.state.content
+  pub counts : new.counts ≡ step_counted {T = Unit {0}} (Err cause) old.counts
+
+-- what making steps alone answers: the first step refused
+abbrev pub IsStepFault : (old new : Standing) → List Step → ReplayFault → Type 0
+IsStepFault old new steps (faults.Scene line cause) = ⊥
+IsStepFault old new steps (faults.Step at cause) = IsStepRefused old new steps at cause
+IsStepFault old new steps (faults.Open cause) = ⊥
+IsStepFault old new steps (faults.Report cause) = ⊥
+IsStepFault old new steps faults.Memory = ⊥
+IsStepFault old new steps faults.Read = ⊥
+IsStepFault old new steps faults.Write = ⊥
+
+-- the first step of a scenario that was refused, and the store that was left
+pub record IsRunRefused (was left : StoreValue) (cast : Cast) (steps : List Step) (at : ℕ) (cause : StepError)
+    : Type 0 where
+  pub refused : IsTrue left.is_honest → IsRefusedAt (opening cast) steps at cause left.content
+  pub counts : left.counts ≡ step_counted {T = Unit {0}} (Err cause) was.counts
 
 -- what making the steps of a scenario answers: that the world could not be opened over the store, or the first step
 -- refused
-abbrev pub IsRunFault : {S : Type 0} → Given S → Cast → List Step → ReplayFault → Type 0
-IsRunFault given cast steps (faults.Scene line cause) = ⊥
-IsRunFault given cast steps (faults.Step at cause) =
-    IfLeftHonest given (IsRefusedAt (opening cast) steps at cause given.before)
-IsRunFault given cast steps (faults.Open cause) = IsOpenFault given cause
-IsRunFault given cast steps (faults.Report cause) = ⊥
-IsRunFault given cast steps faults.Memory = ⊥
-IsRunFault given cast steps faults.Read = ⊥
-IsRunFault given cast steps faults.Write = ⊥
+abbrev pub IsRunFault : (was left : StoreValue) → Cast → List Step → ReplayFault → Type 0
+IsRunFault was left cast steps (faults.Scene line cause) = ⊥
+IsRunFault was left cast steps (faults.Step at cause) = IsRunRefused was left cast steps at cause
+IsRunFault was left cast steps (faults.Open cause) = IsOpenRefused was left cause
+IsRunFault was left cast steps (faults.Report cause) = ⊥
+IsRunFault was left cast steps faults.Memory = ⊥
+IsRunFault was left cast steps faults.Read = ⊥
+IsRunFault was left cast steps faults.Write = ⊥

@@ -27,7 +27,7 @@ is_any_steps refusal = false
 -- the fault of a run that was opened and did not come to its end
 abbrev pub IsHalted : Standing → Journal → RunFault → Type 0
 IsHalted opening j (runs.Open cause) = ⊥
-IsHalted opening j (runs.Step at cause) = IsRefusedAt opening.faults j at cause
+IsHalted opening j (runs.Step at cause) = IsRefusedAt opening.counts j at cause
 IsHalted opening j (runs.Close cause) = Unit {0}
 IsHalted opening j runs.Memory = Unit {0}
 IsHalted opening j (runs.Unfinished node) = ⊥

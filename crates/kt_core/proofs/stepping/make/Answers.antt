@@ -1,4 +1,6 @@
 use Rattle.kt_store.specs.Content.{empty_content}
+use Rattle.kt_core.specs.inner.Machine.{state_of}
+use Rattle.kt_core.proofs.Steps.{by-result}
 use Rattle.kt_core.proofs.stepping.make.Goals as goal
 
 pub returns-in-Err-clause-refusal : goal.returns-in-Err-clause-refusal
@@ -6,3 +8,8 @@ returns-in-Err-clause-refusal g c = λ h. c.in-Err.ensures.enabled (g.S.CkptStor
 
 pub returns-in-Err-clause-same : goal.returns-in-Err-clause-same
 returns-in-Err-clause-same g c = c.in-Err.ensures.same empty_content
+
+pub returns-in-Ok-true-clause-by_plan : goal.returns-in-Ok-true-clause-by_plan
+returns-in-Ok-true-clause-by_plan g c =
+    by-result (state_of c.args.machine.now empty_content) (state_of c.at_once.new.self empty_content) c.args.step
+    (c.in-Ok-true.ensures.made c.in-Ok-true.field-0-test empty_content)

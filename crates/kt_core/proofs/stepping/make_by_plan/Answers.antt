@@ -1,4 +1,4 @@
-use Rattle.std.proofs.Common.{subst, sym}
+use Rattle.std.proofs.Common.{ap, subst, sym, ◌∙◌}
 use Rattle.kt_store.specs.Content.{empty_content}
 use Rattle.kt_world.specs.Effect.{applied}
 use Rattle.kt_world.specs.inner.Ready.{CanApply, IsReady}
@@ -8,6 +8,7 @@ use Rattle.kt_world.specs.Writing.{content_after}
 use Rattle.kt_core.specs.inner.Machine.{state_of}
 use Rattle.kt_world.specs.declared.step.StepError.{StepError}
 use Rattle.kt_core.specs.Stepping.{IsCalledFor}
+use Rattle.kt_core.specs.World.{beside}
 use Rattle.kt_core.proofs.Steps.{allowed, called-write, effect, numbers, on-error, on-refusal, ready-beside}
 use Rattle.kt_core.proofs.stepping.make_by_plan.Goals as goal
 
@@ -65,3 +66,12 @@ returns-clause-effect g c =
     c.args.step c.in_ok-plan.plan c.owner.result (c.in_ok-plan.ensures.plan (c.write.ensures.written.honest h)) c.in_ok-plan.ensures.same
     (c.in_ok-plan.ensures.content (c.write.ensures.written.honest h)) c.owner.ensures
     (c.in_ok-write.ensures.written.made h) c.carry_out.ensures
+
+pub returns-clause-by_plan : goal.returns-clause-by_plan
+returns-clause-by_plan g c = record {
+  told = c.in_ok-plan.ensures.told.0;
+  plan = c.in_ok-plan.plan;
+  is = c.in_ok-plan.ensures.told.1;
+  leads = ap beside (c.carry_out.ensures empty_content)
+      ∙ ap (λ (s : State). beside (applied s c.args.step c.in_ok-plan.plan)) (c.in_ok-plan.ensures.same empty_content);
+}

@@ -5,7 +5,7 @@ use Rattle.kt_world.specs.Judge.{planned}
 use Rattle.kt_world.specs.inner.Ready.{CanApply}
 use Rattle.kt_core.specs.inner.Machine.{state_of}
 use Rattle.kt_core.specs.Stepping.{IsCalledFor, IsCause, Refuses}
-use Rattle.kt_core.proofs.Steps.{asked, called-plan, due-planned, refused, caused, only-damaged, is-ok, planned-can, planned-leads, on-refusal}
+use Rattle.kt_core.proofs.Steps.{asked, called-plan, due-planned, refused, caused, only-damaged, plan-counted, is-ok, planned-can, planned-leads, on-refusal}
 use Rattle.kt_core.proofs.stepping.prepare.Goals as goal
 
 pub returns-clause-can : goal.returns-clause-can
@@ -20,6 +20,9 @@ pub make_room-requires-clause-can : goal.make_room-requires-clause-can
 make_room-requires-clause-can g c =
     subst (λ p. CanApply (state_of c.args.machine.now empty_content) p c.in_ok-plan.plan) (sym c.owner-owner.ensures)
     (planned-can (state_of c.args.machine.now empty_content) c.args.step c.in_ok-told.told c.in_ok-plan.plan c.requires.ready c.in_ok-plan.ensures)
+
+pub returns-clause-told : goal.returns-clause-told
+returns-clause-told g c = (c.in_ok-told.told, c.in_ok-plan.ensures)
 
 pub returns-clause-plan : goal.returns-clause-plan
 returns-clause-plan g c =
@@ -41,14 +44,18 @@ pub returns-in_err-plan-clause-cause : goal.returns-in_err-plan-clause-cause
 returns-in_err-plan-clause-cause g c =
     let s = state_of c.args.machine.now (g.S.CkptStore.content c.args.store.now) in
     let honest = g.S.CkptStore.is_honest c.tell.new.store in
-    let before = g.S.CkptStore.fault_count c.args.store.now in
-    let now = g.S.CkptStore.fault_count c.tell.new.store in
-    let Caused : StepError → Type 0 = IsCause before now honest in
+    let Caused : StepError → Type 0 = IsCause honest in
     on-refusal c.from_residual-in_err-plan.result _ Caused c.from_residual-in_err-plan.ensures.1
-    (λ e is. subst Caused (sym is) (caused honest before now s c.args.step c.in_ok-told.told c.in_err-plan.field-0.0 c.in_ok-told.ensures.told.later
+    (λ e is. subst Caused (sym is) (caused honest s c.args.step c.in_ok-told.told c.in_err-plan.field-0.0
     (λ h. asked s c.args.step c.in_ok-told.told c.needs.result c.owner-owner.result (c.in_ok-told.ensures.told.value h)
-    c.needs.ensures c.owner-owner.ensures) (λ h. c.requires.undamaged (c.in_ok-told.ensures.told.honest h)) c.in_err-plan.ensures
-    (only-damaged s c.in_ok-told.told c.args.step c.in_err-plan.field-0.0 c.in_err-plan.ensures)))
+    c.needs.ensures c.owner-owner.ensures) (λ h. c.requires.undamaged (c.in_ok-told.ensures.told.honest h)) c.in_err-plan.ensures))
+
+pub returns-in_err-plan-clause-counts : goal.returns-in_err-plan-clause-counts
+returns-in_err-plan-clause-counts g c =
+    let s = state_of c.args.machine.now (g.S.CkptStore.content c.args.store.now) in
+    plan-counted c.from_residual-in_err-plan.result c.in_err-plan.field-0.0 (g.S.CkptStore.counts c.args.store.now) (g.S.CkptStore.counts c.tell.new.store)
+    c.from_residual-in_err-plan.ensures.1 c.in_ok-told.ensures.told.counts
+    (only-damaged s c.in_ok-told.told c.args.step c.in_err-plan.field-0.0 c.in_err-plan.ensures)
 
 pub returns-in_err-plan-clause-called : goal.returns-in_err-plan-clause-called
 returns-in_err-plan-clause-called g c =

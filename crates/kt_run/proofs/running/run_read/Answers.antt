@@ -1,11 +1,13 @@
+use Rattle.std.proofs.Common.{refl}
+use Rattle.kt_core.specs.Store.{store_value}
 use Rattle.kt_run.specs.Run.{of_reading}
 use Rattle.kt_run.proofs.Outcomes.{told_over}
 use Rattle.kt_run.proofs.running.run_read.Goals as goal
 
 pub returns-in-Ok-clause-fault : goal.returns-in-Ok-clause-fault
 returns-in-Ok-clause-fault g c =
-    told_over g.S.CkptStore.content g.S.CkptStore.is_honest g.S.CkptStore.fault_count c.args.store _ _ c.in-Ok.text.items c.deref.result.now
+    told_over (store_value g.S.CkptStore) (store_value g.S.CkptStore c.args.store) _ _ c.in-Ok.text.items c.deref.result.now
     c.run_told.result c.in-Ok.ensures.read c.deref.ensures.value c.run_told.ensures.fault
 
 pub returns-in-Err-clause-fault : goal.returns-in-Err-clause-fault
-returns-in-Err-clause-fault g c = of_reading c.in-Err.ensures.only
+returns-in-Err-clause-fault g c = of_reading c.in-Err.ensures.only refl

@@ -1,4 +1,4 @@
-use Rattle.std.proofs.Common.{take, ◌≤◌}
+use Rattle.std.proofs.Common.{take, ◌≡◌}
 use Rattle.std.specs.Prelude.{IsTrue}
 use Rattle.kt_scene.specs.Runs.{RunsTo}
 use Rattle.kt_scene.proofs.replaying.make_steps.Given as goal
@@ -6,6 +6,6 @@ use Rattle.kt_scene.proofs.replaying.make_steps.Given as goal
 abbrev pub invariant-loop-i : goal.invariant-loop-i
 invariant-loop-i g l = record {
   honest : IsTrue l.world.is_honest → IsTrue l.initial.world.is_honest;
-  later : l.initial.world.faults ≤ l.world.faults;
+  counts : l.world.counts ≡ l.initial.world.counts;
   made : IsTrue l.world.is_honest → RunsTo l.initial.world.state (take l.i l.steps) l.world.state;
 }

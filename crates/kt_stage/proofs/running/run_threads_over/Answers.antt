@@ -1,4 +1,5 @@
 use Rattle.std.proofs.Common.{sym, ◌∙◌}
+use Rattle.kt_core.specs.Store.{store_value}
 use Rattle.kt_stage.proofs.Ended.{left-over, made-from-opening, still-finished, still-left}
 use Rattle.kt_stage.proofs.running.run_threads_over.Goals as goal
 
@@ -15,7 +16,7 @@ returns-in-None-clause-finished g c = λ h.
 
 pub returns-clause-stopped : goal.returns-clause-stopped
 returns-clause-stopped g c =
-    left-over c.args.scene c.args.faults c.in-Some.node c.unfinished.new.journal
+    left-over (store_value g.S.CkptStore c.args.store) c.args.scene c.args.faults c.in-Some.node c.unfinished.new.journal
     (made-from-opening c.args.scene c.in-Ok.world c.in-Ok-run_on.journal.world c.unfinished.new.journal.world c.in-Ok-run_on.journal.steps
     c.unfinished.new.journal.steps c.in-Ok.ensures.opened
     c.in-Ok-run_on.ensures.replays c.unfinished.ensures.steps c.unfinished.ensures.found.honest c.unfinished.ensures.found.same)

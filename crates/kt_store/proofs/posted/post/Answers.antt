@@ -1,4 +1,4 @@
-use Rattle.std.proofs.Common.{◌≡◌, ◌∙◌, ◌+◌, ◌++◌, ◌∷◌, [], ℕ, List, sym, subst, ap}
+use Rattle.std.proofs.Common.{◌∙◌, ◌+◌, ◌++◌, ◌∷◌, [], ℕ, List, sym, subst, ap}
 use Rattle.kt_store.specs.declared.posted.Opened.{Opened}
 use Rattle.kt_store.specs.inner.Rising.{IsBoard, IsNumbered, opened, opened_of}
 use Rattle.kt_store.proofs.Board.{posted_last, still_board}

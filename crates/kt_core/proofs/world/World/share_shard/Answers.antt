@@ -14,6 +14,6 @@ returns-clause-same g c =
     let with_state : State → Standing = λ s. record {
       state = s;
       is_honest = g.S.CkptStore.is_honest c.self.inside.store;
-      faults = g.S.CkptStore.fault_count c.self.inside.store;
+      counts = g.S.CkptStore.counts c.self.inside.store;
     } in
     ap with_state (c.share_shard_at.ensures.same (g.S.CkptStore.content c.self.inside.store)) ∙ c.self.view_is

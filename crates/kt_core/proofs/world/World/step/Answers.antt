@@ -1,10 +1,12 @@
 use Rattle.std.proofs.Common.{subst}
-use Rattle.std.specs.Prelude.{IfErr, IsTrue, OnOk}
+use Rattle.std.specs.Prelude.{IsTrue, OnOk}
 use Rattle.kt_world.specs.Forced.{IsForced}
 use Rattle.kt_world.specs.Headline.{IsNoted}
 use Rattle.kt_core.specs.inner.Machine.{state_of}
-use Rattle.kt_core.specs.Stepping.{IsCause}
+use Rattle.kt_store.specs.Content.{empty_content}
+use Rattle.kt_core.specs.Stepping.{IsByPlan}
 use Rattle.kt_core.specs.World.{Standing}
+use Rattle.kt_core.proofs.Steps.{planned-beside}
 use Rattle.kt_world.proofs.Shared.{reached-holds, undamaged-reached}
 use Rattle.kt_refinement.proofs.Shared.{headline-reached}
 use Rattle.kt_core.proofs.Worlds.{step-forced, step-noted, step-world}
@@ -22,12 +24,6 @@ invariant_of-self g c =
     (g.S.CkptStore.is_honest c.self.inside.store) (g.S.CkptStore.is_honest c.make.new.store) c.args.step
     c.self.invariant c.make.ensures.ready c.make.ensures.honest c.make.ensures.effect
     c.make.ensures.same c.make.ensures.content
-
-pub returns-clause-cause : goal.returns-clause-cause
-returns-clause-cause g c =
-    let P : Standing → Type 0 = λ old. IfErr c.make.result
-    (IsCause old.faults (g.S.CkptStore.fault_count c.make.new.store) (g.S.CkptStore.is_honest c.make.new.store)) in
-    subst P c.self.view_is c.make.ensures.cause
 
 pub returns-clause-headline : goal.returns-clause-headline
 returns-clause-headline g c =
@@ -50,3 +46,10 @@ returns-clause-noted g c =
     let P : Standing → Type 0 = λ old. IsTrue (g.S.CkptStore.is_honest c.make.new.store) → OnOk c.make.result (IsNoted old.state c.args.step new) in
     subst P c.self.view_is (λ h. step-noted c.make.result (state_of c.self.inside.machine (g.S.CkptStore.content c.self.inside.store)) new c.args.step
     (c.self.invariant.reached (c.make.ensures.honest h)) (c.make.ensures.effect h))
+
+pub returns-clause-by_plan : goal.returns-clause-by_plan
+returns-clause-by_plan g c =
+    let old = g.S.CkptStore.content c.self.inside.store in
+    let now = g.S.CkptStore.content c.make.new.store in
+    let P : Standing → Type 0 = λ w. OnOk c.make.result (IsByPlan w.state c.args.step (state_of c.make.new.machine now)) in
+    subst P c.self.view_is (planned-beside c.make.result c.self.inside.machine c.make.new.machine empty_content old now c.args.step c.make.ensures.by_plan)

@@ -1,4 +1,4 @@
-use Rattle.std.proofs.Common.{arith}
+use Rattle.kt_stage.proofs.Counts.{tried-later}
 use Rattle.kt_stage.proofs.Making.{counted_more, owned_more, replays_more}
 use Rattle.kt_stage.proofs.desk.Desk.act.Goals as goal
 
@@ -7,7 +7,7 @@ invariant_of-self-2 g c =
     let old = c.args.self.now in record {
       replays = replays_more g.L.Naming.opening old.journal.world c.make.new.self.world old.journal.steps c.make.new.self.steps c.args.step old.replays
           c.in_ok-make.ensures.made c.make.ensures.honest c.in_ok-make.ensures.effect;
-      later = omega (arith, old.later, c.make.ensures.later);
+      later = tried-later g.L.Naming.opening.counts old.journal.world.counts c.make.new.self.world.counts c.make.result old.later c.make.ensures.counts;
       counted = counted_more old.book.total c.add.new.self.total old.journal.steps c.make.new.self.steps c.args.step old.counted c.add.ensures.total
           c.in_ok-make.ensures.made;
       owned = owned_more g.L.Naming.opening.state.cast old.journal.steps c.make.new.self.steps c.args.step c.seat.inside.node old.owned

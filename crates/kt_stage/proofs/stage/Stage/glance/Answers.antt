@@ -7,5 +7,5 @@ use Rattle.kt_stage.proofs.stage.Stage.glance.Goals as goal
 pub invariant_of-deref_mut : goal.invariant_of-deref_mut
 invariant_of-deref_mut g c = record {
   due = λ x e.
-      subst (λ (j : Journal). IsRefusedAt g.L.Naming.opening.faults j x.at x.cause) (sym c.glance.ensures.same) (c.deref_mut.result.now.due x e);
+      subst (λ (j : Journal). IsRefusedAt g.L.Naming.opening.counts j x.at x.cause) (sym c.glance.ensures.same) (c.deref_mut.result.now.due x e);
 }

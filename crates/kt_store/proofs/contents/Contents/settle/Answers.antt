@@ -1,4 +1,4 @@
-use Rattle.std.proofs.Common.{rules, ◌≡◌, ◌==◌, ◌<◌, ◌+◌, length, not, filter, List, Some, None, sym, ap, refl, ◌∙◌, arith}
+use Rattle.std.proofs.Common.{rules, ◌≡◌, ◌==◌, ◌<◌, ◌+◌, length, not, filter, List, Some, None, sym, ap, refl, ◌∙◌}
 use Rattle.std.specs.List.{position, slice_get}
 use Rattle.std.proofs.lemmas.Fn.{filter_same}
 use Rattle.std.proofs.lemmas.Option.{slice_get_read}
@@ -10,7 +10,7 @@ use Rattle.kt_store.proofs.Tables.{position_found, position_none}
 use Rattle.kt_store.proofs.Board.{decided_there, not_begun}
 use Rattle.kt_store.proofs.Numbered.{board_set, found_number, opened_settled, set_numbered}
 use Rattle.kt_store.specs.Verdict.{verdict_from}
-use Rattle.kt_store.proofs.memory.MemStore.settle.Goals as goal
+use Rattle.kt_store.proofs.contents.Contents.settle.Goals as goal
 
 pub returns-in-Some : goal.returns-in-Some
 returns-in-Some c =

@@ -4,7 +4,7 @@ use Rattle.kt_tuple.specs.Node.{node_eq}
 use Rattle.kt_store.specs.declared.rows.NodeRow.{NodeRow}
 use Rattle.kt_store.specs.Content.{row_or, greatest}
 use Rattle.kt_store.proofs.Nodes.{row_within}
-use Rattle.kt_store.proofs.memory.MemStore.incarnation_of.Goals as goal
+use Rattle.kt_store.proofs.contents.Contents.incarnation_of.Goals as goal
 
 pub returns-in-Some-clause-within : goal.returns-in-Some-clause-within
 returns-in-Some-clause-within c =

@@ -5,7 +5,7 @@ use Rattle.kt_tuple.specs.Node.{node_eq}
 use Rattle.kt_store.specs.declared.posted.Opened.{Opened}
 use Rattle.kt_store.specs.Content.{Content, open_of}
 use Rattle.kt_store.proofs.Numbered.{open_found}
-use Rattle.kt_store.proofs.memory.MemStore.open_instance_of.Goals as goal
+use Rattle.kt_store.proofs.contents.Contents.open_instance_of.Goals as goal
 
 pub returns-in_err-opened_at : goal.returns-in_err-opened_at
 returns-in_err-opened_at c =

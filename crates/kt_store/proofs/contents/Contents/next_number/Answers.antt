@@ -4,7 +4,7 @@ use Rattle.kt_store.specs.declared.rows.Posted.{Posted}
 use Rattle.kt_store.specs.Content.{greatest, next_instance}
 use Rattle.kt_store.proofs.Board.{greatest_within}
 use Rattle.kt_store.proofs.Numbered.{greatest_numbered}
-use Rattle.kt_store.proofs.memory.MemStore.next_number.Goals as goal
+use Rattle.kt_store.proofs.contents.Contents.next_number.Goals as goal
 
 pub returns-clause-value : goal.returns-clause-value
 returns-clause-value c =
