@@ -105,6 +105,7 @@ pub(crate) fn leaves(
     tuples: &[&str],
 ) -> Result<(), Fail> {
     assert_eq!(rt; world.history().lost_count(), 0);
+    assert_eq!(rt; (world.faults(), world.wants()), (0, 0));
     are_texts(rt, &service_texts(alloc, world)?, survivors);
     are_texts(rt, &space_texts(alloc, world)?, tuples);
     Ok(())
@@ -117,8 +118,10 @@ fn are_texts(rt: &impl Abort, found: &[String], expected: &[&str]) {
     }
 }
 
-/// How many steps each node made, and that those and no others are there.
+/// How many steps each node made, that those and no others are there, and that the world made as many together.
 pub(crate) fn made(rt: &impl Abort, world: &Game, counts: &[(NodeId, u64)]) {
+    let together = counts.iter().fold(0, |sum, (_, count)| sum + *count);
+    assert_eq!(rt; world.made(), together);
     for number in 0..=u8::MAX {
         made_by(rt, world, counts, NodeId::Worker(number));
         made_by(rt, world, counts, NodeId::Shard(number));

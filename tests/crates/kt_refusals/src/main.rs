@@ -4,6 +4,7 @@
 //! Begin in `refusing.rs`, which says what is refused, then `stepping.rs` for worlds.
 #![tactic(auto)]
 
+mod counts;
 mod fresh;
 mod refusing;
 mod runs;

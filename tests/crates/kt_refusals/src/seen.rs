@@ -1,5 +1,6 @@
 //! All that a world and a store show, as text, so that two of them can be compared.
 
+use crate::counts::Counts;
 use kt_core::World;
 use kt_store::CkptStore;
 use kt_tuple::NodeId;
@@ -86,10 +87,11 @@ pub(crate) fn seen<S: CkptStore>(alloc: Global, world: &World<S>) -> Result<Vec<
     Ok(text)
 }
 
-/// What a world shows without any memory: sums over all nodes, links, notes and bags, one for each reader.
-pub(crate) fn read<S: CkptStore>(world: &World<S>) -> [usize; 12] {
+/// What a world shows without any memory: sums over all nodes, links, notes and bags, one for each reader, and what
+/// its store counts.
+pub(crate) fn read<S: CkptStore>(world: &World<S>) -> [usize; 14] {
     let history = world.history();
-    let mut sums = [0usize; 12];
+    let mut sums = [0usize; 14];
     let mut number = 0u64;
     for _ in history.notes() {
         number = number.saturating_add(1);
@@ -113,6 +115,8 @@ pub(crate) fn read<S: CkptStore>(world: &World<S>) -> [usize; 12] {
     for bag in world.bags().into_iter().flatten() {
         sums[11] = sums[11].saturating_add(bag.len());
     }
+    sums[12] = world.faults() as usize;
+    sums[13] = world.wants() as usize;
     sums
 }
 
@@ -174,12 +178,14 @@ pub(crate) fn has_stored<S: CkptStore>(
     Ok(text.as_slice() == expected)
 }
 
-/// Whether this is just what the world's store holds.
+/// Whether this is just what the world's store holds. It counts what the world says that it counts.
 pub(crate) fn leaves<S: CkptStore + Drop>(
     alloc: Global,
     world: World<S>,
     expected: &[u8],
 ) -> Result<bool, Fail> {
+    let counts = Counts::of_world(&world);
     let mut store = world.into_store();
-    has_stored(alloc, &mut store, expected)
+    let is_counted = Counts::of(&store) == counts;
+    Ok(is_counted && has_stored(alloc, &mut store, expected)?)
 }

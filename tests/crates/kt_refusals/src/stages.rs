@@ -3,6 +3,7 @@
 ghost use Rattle.std.specs.Prelude.{◌≡◌, length};
 ghost use Rattle.kt_stage.specs.Order.{nodes_of};
 
+use crate::counts::Counts;
 use crate::fresh::Fresh;
 use crate::refusing::{MOST, Turns, asked_for_none, never, refuse, refuse_all, was_spared};
 use crate::seen::shows;
@@ -31,11 +32,12 @@ pub(crate) enum Way {
     Confirm,
 }
 
-/// A stage and its seats.
+/// A stage and its seats, and what the store has to count at the end.
 #[derive(Drop)]
 struct Table<S: CkptStore, L: Naming> {
     stage: Stage<S, L>,
     seats: Vec<Seat<L>>,
+    counts: Counts,
 }
 
 fn place_of<L: Naming>(seats: &[Seat<L>], node: NodeId) -> usize {
@@ -106,6 +108,7 @@ impl<S: CkptStore, L: Naming> Table<S, L> {
         turns.hold(rt, is_right(step, made), "another answer")?;
         if made.is_err() {
             turns.hold(rt, seat.receipts().len() == count, "the seat")?;
+            self.counts = counts_after(self.counts, made);
             self.stage.act(waits, alloc, seat, step)?;
         } else if !is_spared {
             turns.bear();
@@ -173,6 +176,14 @@ fn is_right(step: Step, made: Result<Receipt, ConfirmError>) -> bool {
     }
 }
 
+/// What the store counts where a seat's step came to this.
+fn counts_after(counts: Counts, made: Result<Receipt, ConfirmError>) -> Counts {
+    match made {
+        Err(ConfirmError::Act(ActError::Step(error))) => counts.after_step(Err(error)),
+        _ => counts,
+    }
+}
+
 /// Whom the step serves; its owner, where it serves nobody.
 fn served(step: Step) -> NodeId {
     match step {
@@ -199,22 +210,32 @@ fn staged<W: Wait, S: CkptStore + Drop, L: Naming>(
     requires one_each { blank.parts ≡ length (nodes_of world.state.cast) }
     requires opening { L.opening ≡ world }
 {
+    let counts = Counts::of_world(&world);
     let (stage, seats) = Stage::<S, L>::open(alloc, world, blank)?;
-    let mut table = Table { stage, seats };
+    let mut table = Table {
+        stage,
+        seats,
+        counts,
+    };
     for step in moment.before {
         table.acts(waits, alloc, *step)?;
     }
     Ok(table)
 }
 
-/// Closes the stage with every growth refused. Its journal has the steps up to the moment's, and its world shows this.
+/// Closes the stage with every growth refused. Its journal has the steps up to the moment's, its world shows this, and
+/// the store has counted its refusals and no more.
 fn closes<S: CkptStore + Drop, L: Naming>(
     alloc: Global,
     table: Table<S, L>,
     moment: Moment<'_>,
     shown: &[u8],
 ) -> Result<bool, Fail> {
-    let Table { stage, seats } = table;
+    let Table {
+        stage,
+        seats,
+        counts,
+    } = table;
     refuse_all(alloc)?;
     let closed = stage.close(seats);
     let is_without = asked_for_none(alloc)?;
@@ -222,7 +243,8 @@ fn closes<S: CkptStore + Drop, L: Naming>(
     let steps = journal.steps();
     let (before, last) = steps.split_at(moment.before.len().min(steps.len()));
     let is_same = before == moment.before && last == [moment.step].as_slice();
-    Ok(is_without && is_same && shows(alloc, journal.world(), shown)?)
+    let is_counted = Counts::of_world(journal.world()) == counts;
+    Ok(is_without && is_same && is_counted && shows(alloc, journal.world(), shown)?)
 }
 
 /// The steps up to the moment's are made on a stage, the last this way, with the growth of this number refused. The

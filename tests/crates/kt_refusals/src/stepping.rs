@@ -1,5 +1,6 @@
 //! Worlds that are opened, and make their steps, with each growth refused in turn.
 
+use crate::counts::Counts;
 use crate::fresh::Fresh;
 use crate::refusing::{MOST, Turns, asked_for_none, never, refuse, refuse_all, was_spared};
 use crate::seen::{has_stored, leaves, read, seen, shows, stored};
@@ -56,20 +57,30 @@ pub(crate) fn scenario(alloc: Global, text: &[u8]) -> Result<Scenario, Fail> {
     Ok(read_scene(alloc, text, WorkKind::Steps)?)
 }
 
-/// What an opening that was refused left is opened with memory; before that it is as it was.
+/// What is given to an opening: the scene, and what a fresh store holds and counts.
+#[derive(Drop)]
+struct Given {
+    scene: String,
+    held: Vec<u8>,
+    counts: Counts,
+}
+
+/// What an opening that was refused left is opened with memory; before that it is as it was, but that the store has
+/// counted its own refusal.
 fn opens_again<S: CkptStore + Drop>(
     alloc: Global,
     refused: OpenRefused<S>,
-    before: &(String, Vec<u8>),
+    given: &Given,
 ) -> Result<bool, Fail> {
     let OpenRefused {
         cause,
         scene,
         mut store,
     } = refused;
-    let is_same = has_stored(alloc, &mut store, &before.1)?;
+    let is_counted = Counts::of(&store) == given.counts.after_opening(cause);
+    let is_same = has_stored(alloc, &mut store, &given.held)? && is_counted;
     let scene_now = format!(in alloc; "{scene:?}")?;
-    let is_same = is_same && scene_now.as_str() == before.0.as_str();
+    let is_same = is_same && scene_now.as_str() == given.scene.as_str();
     Ok(is_of_opening(cause) && is_same && World::open(alloc, scene, store).is_ok())
 }
 
@@ -90,16 +101,18 @@ fn opened_once<S: CkptStore + Fresh + Drop>(
     Ok((opened, is_spared))
 }
 
-/// What the scene of the text is, and what a fresh store holds.
-fn before_opening<S: CkptStore + Fresh + Drop>(
-    alloc: Global,
-    text: &[u8],
-) -> Result<(String, Vec<u8>), Fail> {
+/// The scene of the text, and a fresh store.
+fn before_opening<S: CkptStore + Fresh + Drop>(alloc: Global, text: &[u8]) -> Result<Given, Fail> {
     let mut store = S::fresh(alloc)?;
+    let counts = Counts::of(&store);
     let held = stored(alloc, &mut store)?;
     let scenario = scenario(alloc, text)?;
     let scene = format!(in alloc; "{:?}", scenario.scene)?;
-    Ok((scene, held))
+    Ok(Given {
+        scene,
+        held,
+        counts,
+    })
 }
 
 /// Opens the scene of the text with each growth refused in turn, each time over a fresh store.
@@ -108,15 +121,21 @@ pub(crate) fn opened_in_turn<S: CkptStore + Fresh + Drop>(
     alloc: Global,
     text: &[u8],
 ) -> Result<(), Fail> {
-    let before = before_opening::<S>(alloc, text)?;
+    let given = before_opening::<S>(alloc, text)?;
     let mut turns = Turns::new("open");
     for number in 1..MOST {
         let (opened, is_spared) = opened_once::<S>(alloc, text, number)?;
         match opened {
-            Ok(_) if is_spared => return turns.end(rt, number),
-            Ok(_) => turns.bear(),
+            Ok(world) => {
+                let is_counted = Counts::of_world(&world) == given.counts;
+                turns.hold(rt, is_counted, "what the store counts")?;
+                if is_spared {
+                    return turns.end(rt, number);
+                }
+                turns.bear();
+            }
             Err(refused) => {
-                let is_right = opens_again(alloc, refused, &before)?;
+                let is_right = opens_again(alloc, refused, &given)?;
                 turns.hold(rt, is_right, "what was left")?;
             }
         }
@@ -238,8 +257,8 @@ impl Moment<'_> {
         Ok(is_of_memory(self.step, error) && is_same && is_made)
     }
 
-    /// Makes the step with the growth of this number refused, and then with memory, in a world of its own. Says whether
-    /// there was no such growth.
+    /// Makes the step with the growth of this number refused, and then with memory, in a world of its own. Only a
+    /// refusal of the store is counted. Says whether there was no such growth.
     fn made_once<S: CkptStore + Fresh + Drop>(
         &self,
         rt: &HostRuntime,
@@ -249,7 +268,14 @@ impl Moment<'_> {
         number: usize,
     ) -> Result<bool, Fail> {
         let mut world = self.world::<S>(alloc)?;
+        let before = Counts::of_world(&world);
         let (made, is_spared) = step_refused(alloc, &mut world, self.step, number)?;
+        let counts = before.after_step(made);
+        turns.hold(
+            rt,
+            Counts::of_world(&world) == counts,
+            "what the store counts",
+        )?;
         match made {
             Ok(()) if is_spared => {}
             Ok(()) => turns.bear(),
@@ -258,7 +284,8 @@ impl Moment<'_> {
                 turns.hold(rt, is_right, "refused otherwise, or not as it was")?;
             }
         }
-        let is_same = shows(alloc, &world, &sides.shown_after)?;
+        let is_counted = Counts::of_world(&world) == counts;
+        let is_same = shows(alloc, &world, &sides.shown_after)? && is_counted;
         let is_same = leaves(alloc, world, &sides.held_after)? && is_same;
         turns.hold(rt, is_same, "the world after it")?;
         Ok(is_spared)
@@ -303,7 +330,7 @@ impl Moment<'_> {
     }
 
     /// Asks whether the step is enabled, with the growth of this number refused. Says what is answered where the world
-    /// is as it was then, and whether there was no such growth.
+    /// is as it was then and just a refusal of the store was counted, and whether there was no such growth.
     fn can_once<S: CkptStore + Fresh + Drop>(
         &self,
         alloc: Global,
@@ -311,10 +338,12 @@ impl Moment<'_> {
         number: usize,
     ) -> Result<(Option<Result<bool, StoreError>>, bool), Fail> {
         let mut world = self.world::<S>(alloc)?;
+        let before = Counts::of_world(&world);
         refuse(alloc, number)?;
         let answer = world.can(alloc, self.step);
         let is_spared = was_spared(alloc, number)?;
-        let is_same = shows(alloc, &world, shown)?;
+        let is_counted = Counts::of_world(&world) == before.after_call(&answer);
+        let is_same = shows(alloc, &world, shown)? && is_counted;
         Ok((is_same.then_some(answer), is_spared))
     }
 

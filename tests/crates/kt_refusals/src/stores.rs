@@ -1,5 +1,6 @@
 //! A store in SQL that is opened and asked, with each growth refused in turn.
 
+use crate::counts::Counts;
 use crate::fresh::Fresh;
 use crate::refusing::{MOST, Turns, never, refuse, was_spared};
 use crate::seen::{has_stored, stored};
@@ -113,7 +114,7 @@ fn sides_of<S: CkptStore>(alloc: Global, store: &mut S, call: Call) -> Result<Si
     Ok(Sides { before, after })
 }
 
-/// The store that refused the call counts no fault, holds what it held, and answers with memory.
+/// The store that refused the call for memory holds what it held, and answers with memory.
 fn answers_again<S: CkptStore>(
     alloc: Global,
     store: &mut S,
@@ -121,13 +122,13 @@ fn answers_again<S: CkptStore>(
     error: StoreError,
     before: &[u8],
 ) -> Result<bool, Fail> {
-    let is_right = error == StoreError::Memory && store.faults() == 0;
     let is_same = has_stored(alloc, store, before)?;
     let is_answered = called(alloc, store, call, NODE).is_ok();
-    Ok(is_right && is_same && is_answered)
+    Ok(error == StoreError::Memory && is_same && is_answered)
 }
 
-/// Makes the call with the growth of this number refused, and then with memory. Says whether there was none such.
+/// Makes the call with the growth of this number refused, and then with memory. Only the refusal is counted. Says
+/// whether there was none such.
 fn called_once<S: CkptStore>(
     rt: &HostRuntime,
     alloc: Global,
@@ -137,9 +138,12 @@ fn called_once<S: CkptStore>(
     turns: &mut Turns,
     number: usize,
 ) -> Result<bool, Fail> {
+    let before = Counts::of(store);
     refuse(alloc, number)?;
     let answer = called(alloc, store, call, NODE);
     let is_spared = was_spared(alloc, number)?;
+    let counts = before.after_call(&answer);
+    turns.hold(rt, Counts::of(store) == counts, "what the store counts")?;
     match answer {
         Ok(()) if is_spared => {}
         Ok(()) => turns.bear(),
@@ -148,7 +152,7 @@ fn called_once<S: CkptStore>(
             turns.hold(rt, is_right, "refused otherwise, or not as it was")?;
         }
     }
-    let is_same = has_stored(alloc, store, &sides.after)?;
+    let is_same = has_stored(alloc, store, &sides.after)? && Counts::of(store) == counts;
     turns.hold(rt, is_same, "the store after it")?;
     Ok(is_spared)
 }

@@ -1,5 +1,6 @@
 //! Texts, bytes and reports, with each growth refused in turn.
 
+use crate::counts::Counts;
 use crate::fresh::{Fresh, sink};
 use crate::refusing::{MOST, Turns, never, refuse, was_spared};
 use crate::seen::NAMES;
@@ -152,8 +153,23 @@ enum Told {
     Journal,
 }
 
-/// What the writing came to, whether no growth of it was refused, and what was written.
-type Written = (Result<(), ReplayFault>, bool, Vec<u8>);
+/// What the writing came to, whether no growth of it was refused, whether the store has counted as it should, and what
+/// was written.
+#[derive(Drop)]
+struct Written {
+    answer: Result<(), ReplayFault>,
+    is_spared: bool,
+    is_counted: bool,
+    text: Vec<u8>,
+}
+
+/// Whether what the store counts is what the writing leaves of it.
+fn is_counted(answer: Result<(), ReplayFault>, before: Counts, after: Counts) -> bool {
+    match answer {
+        Err(ReplayFault::Report(cause)) => before.can_become(after, cause),
+        _ => after == before,
+    }
+}
 
 /// Writes of the world after these steps, with the growth of this number refused.
 fn told_once<S: CkptStore + Fresh + Drop>(
@@ -165,13 +181,20 @@ fn told_once<S: CkptStore + Fresh + Drop>(
 ) -> Result<Written, Fail> {
     let mut sink = sink(alloc)?;
     let mut world = played::<S>(alloc, text, steps)?;
+    let before = Counts::of_world(&world);
     refuse(alloc, number)?;
     let answer = match told {
         Told::Report => write_report(alloc, &mut world, &mut sink),
         Told::Journal => write_journal(alloc, &mut world, steps, &mut sink),
     };
     let is_spared = was_spared(alloc, number)?;
-    Ok((answer, is_spared, sink.into_inner()))
+    let is_counted = is_counted(answer, before, Counts::of_world(&world));
+    Ok(Written {
+        answer,
+        is_spared,
+        is_counted,
+        text: sink.into_inner(),
+    })
 }
 
 /// What is written of the world after these steps. Refused, it leaves nothing written.
@@ -182,38 +205,72 @@ fn told_in_turn<S: CkptStore + Fresh + Drop>(
     steps: &[Step],
     told: Told,
 ) -> Result<(), Fail> {
-    let (_, _, expected) = told_once::<S>(alloc, text, steps, told, 0)?;
+    let expected = told_once::<S>(alloc, text, steps, told, 0)?.text;
     let mut turns = match told {
         Told::Report => Turns::new("write_report"),
         Told::Journal => Turns::new("write_journal"),
     };
     for number in 1..MOST {
-        let (answer, is_spared, written) = told_once::<S>(alloc, text, steps, told, number)?;
-        let is_right = match answer {
-            Ok(()) => written == expected,
+        let written = told_once::<S>(alloc, text, steps, told, number)?;
+        let is_right = match written.answer {
+            Ok(()) => written.text == expected,
             Err(ReplayFault::Memory | ReplayFault::Report(StoreError::Memory)) => {
-                written.is_empty()
+                written.text.is_empty()
             }
             Err(_) => false,
         };
-        turns.hold(rt, is_right, "another end")?;
-        if is_spared {
+        turns.hold(rt, is_right && written.is_counted, "another end")?;
+        if written.is_spared {
             return turns.end(rt, number);
         }
-        if answer.is_ok() {
+        if written.answer.is_ok() {
             turns.bear();
         }
     }
     Err(never())
 }
 
-/// Report and journal after these steps.
+/// The tuples of the permanent checkpoints after these steps, each time in a world of its own.
+fn gathered_in_turn<S: CkptStore + Fresh + Drop>(
+    rt: &HostRuntime,
+    alloc: Global,
+    text: &[u8],
+    steps: &[Step],
+) -> Result<(), Fail> {
+    let expected = played::<S>(alloc, text, steps)?.permanent_space(alloc)?;
+    let mut turns = Turns::new("permanent_space");
+    for number in 1..MOST {
+        let mut world = played::<S>(alloc, text, steps)?;
+        let before = Counts::of_world(&world);
+        refuse(alloc, number)?;
+        let answer = world.permanent_space(alloc);
+        let is_spared = was_spared(alloc, number)?;
+        let after = Counts::of_world(&world);
+        match answer {
+            Ok(tuples) => {
+                turns.hold(rt, tuples == expected && after == before, "another answer")?;
+                if is_spared {
+                    return turns.end(rt, number);
+                }
+                turns.bear();
+            }
+            Err(cause) => {
+                let is_memory = cause == StoreError::Memory && before.can_become(after, cause);
+                turns.hold(rt, is_memory, "another refusal")?;
+            }
+        }
+    }
+    Err(never())
+}
+
+/// Permanent tuples, report and journal after these steps.
 pub(crate) fn reports_in_turn<S: CkptStore + Fresh + Drop>(
     rt: &HostRuntime,
     alloc: Global,
     text: &[u8],
     steps: &[Step],
 ) -> Result<(), Fail> {
+    gathered_in_turn::<S>(rt, alloc, text, steps)?;
     told_in_turn::<S>(rt, alloc, text, steps, Told::Report)?;
     told_in_turn::<S>(rt, alloc, text, steps, Told::Journal)
 }

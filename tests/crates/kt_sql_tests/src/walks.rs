@@ -82,7 +82,7 @@ fn agree_on_node(
 /// Whether they hold the same.
 fn agree(alloc: Global, sql: &mut InSql, memory: &mut MemStore) -> Result<bool, StoreError> {
     let next = memory.next_instance()?;
-    if sql.next_instance()? != next || sql.faults() != 0 {
+    if sql.next_instance()? != next || (sql.faults(), sql.wants()) != (0, 0) {
         return Ok(false);
     }
     for number in 1..=3u8 {

@@ -175,7 +175,9 @@ fn agrees<C: CkptStore>(
             return Ok(false);
         }
     }
-    Ok(store.next_instance()? == plain.next_instance() && store.faults() == 0)
+    Ok(store.next_instance()? == plain.next_instance()
+        && store.faults() == 0
+        && store.wants() == 0)
 }
 
 /// Makes the calls of a fresh store and of the map. It answers the number that the next instance gets.
