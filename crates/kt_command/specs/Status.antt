@@ -71,7 +71,8 @@ run_text_status (texts.Run fault) = run_status fault
 pub data EndsOver (was left : StoreValue) (before after : Reader) (old new : Writer) (n : ℕ) : Type 0 where
   done : n ≡ 0 → WritesReplayed was left before after old new → EndsOver was left before after old new n
   refused : (fault : ReplayFault) → IsReplayFault was left before after fault
-      → LeavesWriter was left before after old new fault → n ≡ status_of fault → EndsOver was left before after old new n
+      → LeavesWriter was left before after old new fault → n ≡ status_of fault
+      → EndsOver was left before after old new n
 
 -- what a run leaves of the writer where it ends with this fault: where the writer failed a front of what was to be
 -- there, and else all as it was

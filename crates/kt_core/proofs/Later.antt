@@ -40,8 +40,10 @@ refused-later {T = T} {U = U} content is_honest counts_of old between new Says C
   cause = r.cause;
 }
 
-pub read-later : {S T : Type 0} (content : S → Content) (is_honest : S → Bool) (counts_of : S → Counts) (old between new : S) (Says : Content → T → Type 0) (x : T)
-    → Follows content is_honest counts_of old between → IsGathered content is_honest counts_of between new Says (Ok x) → Follows content is_honest counts_of old new
+pub read-later : {S T : Type 0} (content : S → Content) (is_honest : S → Bool) (counts_of : S → Counts) (old between new : S)
+    (Says : Content → T → Type 0) (x : T)
+    → Follows content is_honest counts_of old between → IsGathered content is_honest counts_of between new Says (Ok x)
+    → Follows content is_honest counts_of old new
 read-later content is_honest counts_of old between new Says x f r = record {
   same = λ h. r.same h ∙ f.same (r.honest h);
   honest = λ h. f.honest (r.honest h);

@@ -110,8 +110,8 @@ impl<S: CkptStore> World<S> {
             IsTrue (S.is_honest refused.store) → IsTrue (S.is_honest store)) }
         ensures not_fresh { IfErr result (λ refused.
             refused.cause ≡ opened.NotFresh → IsTrue (S.is_honest refused.store) → is_fresh (S.content store) ≡ false) }
-        ensures wanted { IfErr result (λ refused.
-            refused.cause ≡ opened.OutOfMemory → IsTrue (S.is_honest refused.store) → is_fresh (S.content store) ≡ true) }
+        ensures wanted { IfErr result (λ refused. refused.cause ≡ opened.OutOfMemory
+            → IsTrue (S.is_honest refused.store) → is_fresh (S.content store) ≡ true) }
         ensures cause { IfErr result (λ refused. IsOpenCause (S.is_honest refused.store) refused.cause) }
         ensures counts { IfOk result (λ w. w.counts ≡ S.counts store) }
         ensures counts_back { IfErr result (λ refused.

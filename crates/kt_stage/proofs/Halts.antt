@@ -140,7 +140,8 @@ pub given-cause : (before : Counts) (old new : Journal) (p : NodeId) (step : Ste
 given-cause before old new p step refusals.StepLimit later given acted = unless-honest new.world.is_honest _ (λ h.
     le-leb most_steps new.world.state.made (subst (λ (s : State). most_steps ≤ s.made) (sym (acted.same h))
     (limit-reached old.world.state.made (judged old.world.state (told old.world.state step) step) (given (acted.honest h)).1 (acted.refusal h))))
-given-cause before old new p step (refusals.Store refusal) later given acted = fault-since before old.world.counts new.world refusal later acted.counts acted.cause
+given-cause before old new p step (refusals.Store refusal) later given acted =
+    fault-since before old.world.counts new.world refusal later acted.counts acted.cause
 given-cause before old new p step refusals.OutOfMemory later given acted = refl
 given-cause before old new p step refusals.NoNode later given acted = never-honest new.world.is_honest (λ h.
     never old.world.state step refusals.NoNode refl (given (acted.honest h)).1 (acted.refusal h))

@@ -15,5 +15,9 @@ pub trait Naming: Ledger {
 }
 
 impl Naming for Brand {
-    ghost opening = { record { state = opening (record { shards = 0; scripts = [] }); is_honest = false; counts = nothing_counted } };
+    ghost opening = { record {
+      state = opening (record { shards = 0; scripts = [] });
+      is_honest = false;
+      counts = nothing_counted;
+    } };
 }
