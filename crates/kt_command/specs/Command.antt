@@ -9,7 +9,7 @@ use Rattle.kt_run.specs.declared.running.Output.TheVariants as outputs
 use Rattle.kt_command.specs.declared.command.Command.{Command}
 use Rattle.kt_command.specs.declared.command.Command.TheVariants.{Replay, Run}
 
--- the bytes of a word
+-- the bytes of a word, or of a path
 abbrev pub Text : Type 0
 Text = List ℕ
 

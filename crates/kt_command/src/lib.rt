@@ -1,19 +1,24 @@
 //! What a command of the program does over a store, and how it ends. Both programs stand on it: `linda_kt`, and the
 //! small one that answers before anything is proved.
 //!
-//! - Contract: `run_over`, clause `told`: a command ends with status 0 where its report or journal is written, and else
-//!   with the status of the fault that stopped it, over the very store that it was given.
+//! - Contract: `run_request`, clause `told`: a command ends with status 0 where its report or journal is written, and
+//!   else with the status of the fault that stopped it. It does so over a fresh store in memory, or over the very store
+//!   that was opened at the path that is named.
 //! - Stands on: kt_store, kt_world, kt_core, kt_scene, kt_stage, kt_run
 //! - Used by: linda_kt, kt_quick
-//! - Begin in: `running.rt`, then `status.rt` for the exit statuses.
+//! - Begin in: `request.rt`, then `running.rt`, and `status.rt` for the exit statuses.
 #![tactic(auto)]
 
 mod command;
+mod opens;
+mod request;
 mod running;
 mod status;
 mod words;
 
 pub use command::Command;
+pub use opens::Opens;
+pub use request::{Request, run_request};
 pub use running::{run_in_memory, run_over};
 pub use status::{
     COMMAND_LINE, DONE, MEMORY, SCENARIO, STEP, STEP_LIMIT, STORE, STREAM, end_replay, end_run,

@@ -1,5 +1,5 @@
 -- One reading after another.
-use Rattle.std.proofs.Common.{◌≡◌, ℕ, zero, suc, ◌+◌, Bool, List, [], ◌∷◌, ◌++◌, refl}
+use Rattle.std.proofs.Common.{◌≡◌, ℕ, zero, suc, ◌+◌, List, [], ◌∷◌, ◌++◌, refl}
 use Rattle.std.proofs.Common.{append-nil, append_assoc, add-one, Ok, Err, sym, ap, ◌∙◌, subst, arith}
 use Rattle.std.specs.Prelude.{Option, map, ◌&&◌}
 use Rattle.std.specs.List.{flat_map, list_all, range_with_len}
@@ -8,7 +8,8 @@ use Rattle.kt_world.specs.Headline.{is_steady_row}
 use Rattle.kt_core.specs.inner.Rows.{is_steady_code, row_view}
 use Rattle.std.specs.Prelude.{IsTrue}
 use Rattle.kt_store.specs.declared.error.StoreError.{StoreError}
-use Rattle.kt_store.specs.Calls.{Counts}
+use Rattle.kt_store.specs.declared.store.CkptStore.{Ghosts}
+use Rattle.kt_store.specs.Calls.{Counts, NeverFails}
 use Rattle.kt_store.specs.Content.{Content}
 use Rattle.kt_store.specs.declared.error.StoreError.TheVariants.{Memory, Device, Damaged, Full}
 use Rattle.kt_core.specs.Store.{IsCountedBeside}
@@ -23,30 +24,31 @@ counted-later T U before between now Damaged is c = subst (λ (x : Counts). IsCo
 counted-later T U before between now Full is c = subst (λ (x : Counts). IsCountedBeside {T = T} (Err Full) x now) is c
 
 -- what has been read so far of a store, which stays as it was
-pub record Follows {S : Type 0} (content : S → Content) (is_honest : S → Bool) (counts_of : S → Counts) (old new : S) : Type 0 where
-  pub same : IsTrue (is_honest new) → content new ≡ content old
-  pub honest : IsTrue (is_honest new) → IsTrue (is_honest old)
-  pub counts : counts_of new ≡ counts_of old
+pub record Follows {S : Type 0} (kind : Ghosts S) (old new : S) : Type 0 where
+  pub same : IsTrue (kind.is_honest new) → kind.content new ≡ kind.content old
+  pub honest : IsTrue (kind.is_honest new) → IsTrue (kind.is_honest old)
+  pub lasts : NeverFails kind.failures → IsTrue (kind.is_honest old) → IsTrue (kind.is_honest new)
+  pub counts : kind.counts new ≡ kind.counts old
 
-pub refused-later : {S T U : Type 0} (content : S → Content) (is_honest : S → Bool) (counts_of : S → Counts) (old between new : S)
+pub refused-later : {S T U : Type 0} (kind : Ghosts S) (old between new : S)
     (Says : Content → T → Type 0) (Claims : Content → U → Type 0) (e : StoreError)
-    → Follows content is_honest counts_of old between → IsGathered content is_honest counts_of between new Says (Err e)
-    → IsGathered content is_honest counts_of old new Claims (Err e)
-refused-later {T = T} {U = U} content is_honest counts_of old between new Says Claims e f r = record {
+    → Follows kind old between → IsGathered kind between new Says (Err e)
+    → IsGathered kind old new Claims (Err e)
+refused-later {T = T} {U = U} kind old between new Says Claims e f r = record {
   value = λ h. tt;
   same = λ h. r.same h ∙ f.same (r.honest h);
   honest = λ h. f.honest (r.honest h);
-  counts = counted-later T U (counts_of old) (counts_of between) (counts_of new) e f.counts r.counts;
+  lasts = λ never h. r.lasts never (f.lasts never h);
+  counts = counted-later T U (kind.counts old) (kind.counts between) (kind.counts new) e f.counts r.counts;
   cause = r.cause;
 }
 
-pub read-later : {S T : Type 0} (content : S → Content) (is_honest : S → Bool) (counts_of : S → Counts) (old between new : S)
-    (Says : Content → T → Type 0) (x : T)
-    → Follows content is_honest counts_of old between → IsGathered content is_honest counts_of between new Says (Ok x)
-    → Follows content is_honest counts_of old new
-read-later content is_honest counts_of old between new Says x f r = record {
+pub read-later : {S T : Type 0} (kind : Ghosts S) (old between new : S) (Says : Content → T → Type 0) (x : T)
+    → Follows kind old between → IsGathered kind between new Says (Ok x) → Follows kind old new
+read-later kind old between new Says x f r = record {
   same = λ h. r.same h ∙ f.same (r.honest h);
   honest = λ h. f.honest (r.honest h);
+  lasts = λ never h. r.lasts never (f.lasts never h);
   counts = r.counts ∙ f.counts;
 }
 
@@ -60,21 +62,22 @@ flat-more f a (suc n) j e = ap (λ l. f a ++ l) (flat-more f (a + 1) n j (omega 
     ∙ sym (append_assoc (f a) (flat_map f (range_with_len (a + 1) n)) (f j))
 
 -- what one more reading adds
-pub added : {S A T : Type 0} (content : S → Content) (is_honest : S → Bool) (counts_of : S → Counts) (old between new : S)
+pub added : {S A T : Type 0} (kind : Ghosts S) (old between new : S)
     (f : Content → ℕ → List A) (so_far all : List A) (k : ℕ) (x : T)
-    → Follows content is_honest counts_of old between → (IsTrue (is_honest between) → so_far ≡ flat_map (f (content old)) (range_with_len 1 k))
-    → IsGathered content is_honest counts_of between new (λ c y. all ≡ so_far ++ f c (k + 1)) (Ok x)
-    → Follows content is_honest counts_of old new × (IsTrue (is_honest new) → all ≡ flat_map (f (content old)) (range_with_len 1 (k + 1)))
-added {A = A} content is_honest counts_of old between new f so_far all k x follows before r = (
-  read-later content is_honest counts_of old between new (λ c y. all ≡ so_far ++ f c (k + 1)) x follows r,
+    → Follows kind old between → (IsTrue (kind.is_honest between) → so_far ≡ flat_map (f (kind.content old)) (range_with_len 1 k))
+    → IsGathered kind between new (λ c y. all ≡ so_far ++ f c (k + 1)) (Ok x)
+    → Follows kind old new × (IsTrue (kind.is_honest new) → all ≡ flat_map (f (kind.content old)) (range_with_len 1 (k + 1)))
+added {A = A} kind old between new f so_far all k x follows before r = (
+  read-later kind old between new (λ c y. all ≡ so_far ++ f c (k + 1)) x follows r,
   λ h.
       let held = r.honest h in
-      let there : content between ≡ content old = follows.same held in
-      let one : all ≡ so_far ++ f (content old) (k + 1) = r.value h ∙ ap (λ (c : Content). so_far ++ f c (k + 1)) there in
-      let more : flat_map (f (content old)) (range_with_len 1 (suc k)) ≡ flat_map (f (content old)) (range_with_len 1 k) ++ f (content old) (k + 1)
-      = flat-more (f (content old)) 1 k (k + 1) (omega arith) in
-      one ∙ ap (λ (l : List A). l ++ f (content old) (k + 1)) (before held) ∙ sym more
-      ∙ ap (λ (n : ℕ). flat_map (f (content old)) (range_with_len 1 n)) (sym (add-one k)),
+      let there : kind.content between ≡ kind.content old = follows.same held in
+      let one : all ≡ so_far ++ f (kind.content old) (k + 1) = r.value h ∙ ap (λ (c : Content). so_far ++ f c (k + 1)) there in
+      let more : flat_map (f (kind.content old)) (range_with_len 1 (suc k))
+      ≡ flat_map (f (kind.content old)) (range_with_len 1 k) ++ f (kind.content old) (k + 1)
+      = flat-more (f (kind.content old)) 1 k (k + 1) (omega arith) in
+      one ∙ ap (λ (l : List A). l ++ f (kind.content old) (k + 1)) (before held) ∙ sym more
+      ∙ ap (λ (n : ℕ). flat_map (f (kind.content old)) (range_with_len 1 n)) (sym (add-one k)),
 )
 
 -- what each row of the code says, the table says

@@ -22,7 +22,7 @@ fn verdict_told<S: CkptStore>(
     node: NodeId,
     question: Question,
 ) -> Result<Option<Verdict>, StoreError>
-    ensures told { IsRead S.content S.is_honest S.counts store.old store.new
+    ensures told { IsRead S.CkptStore store.old store.new
         (λ c v. v ≡ answer_to c node question) result }
     ensures quiet { question ≡ Question.Nothing → IsOk result }
 {
@@ -44,7 +44,7 @@ fn permanent_told<S: CkptStore>(
     node: NodeId,
     is_asked: bool,
 ) -> Result<Option<Marks>, StoreError>
-    ensures told { IsRead S.content S.is_honest S.counts store.old store.new
+    ensures told { IsRead S.CkptStore store.old store.new
         (λ c m. m ≡ (if is_asked then permanent_marks c node else None)) result }
     ensures quiet { is_asked ≡ false → IsOk result }
 {
@@ -62,7 +62,7 @@ fn tentative_told<S: CkptStore>(
     node: NodeId,
     is_asked: bool,
 ) -> Result<Option<Marks>, StoreError>
-    ensures told { IsRead S.content S.is_honest S.counts store.old store.new
+    ensures told { IsRead S.CkptStore store.old store.new
         (λ c m. m ≡ (if is_asked then tentative_in c node else None)) result }
     ensures quiet { is_asked ≡ false → IsOk result }
 {
@@ -84,7 +84,7 @@ fn stored_told<S: CkptStore>(
     is_asked: bool,
 ) -> Result<Stored, StoreError>
     requires { IsTrue (S.is_honest store.old) → (row_of (S.content store.old) node).incarnation + 1 < 2 ^ 64 }
-    ensures told { IsRead S.content S.is_honest S.counts store.old store.new
+    ensures told { IsRead S.CkptStore store.old store.new
         (λ c s. s ≡ (if is_asked then stored_of c node else nothing_stored)) result }
     ensures quiet { is_asked ≡ false → IsOk result }
     ensures small { IfOk result (λ s. s.incarnation + 1 < 2 ^ 64) }
@@ -112,7 +112,7 @@ fn board_told<S: CkptStore>(
     node: NodeId,
     needs: Needs,
 ) -> Result<(Option<u64>, u64), StoreError>
-    ensures told { IsRead S.content S.is_honest S.counts store.old store.new
+    ensures told { IsRead S.CkptStore store.old store.new
         (λ c x. (x.0 ≡ (if needs.undecided then open_of c node else None))
         × (x.1 ≡ (if needs.next then next_instance c else 1))) result }
     ensures quiet { needs.undecided ≡ false → needs.next ≡ false → IsOk result }
@@ -138,7 +138,7 @@ pub(crate) fn tell<S: CkptStore>(
     needs: Needs,
 ) -> Result<Told, StoreError>
     requires { IsTrue (S.is_honest store.old) → (row_of (S.content store.old) node).incarnation + 1 < 2 ^ 64 }
-    ensures told { IsRead S.content S.is_honest S.counts store.old store.new
+    ensures told { IsRead S.CkptStore store.old store.new
         (λ c t. t ≡ told_by needs c node) result }
     ensures quiet { needs ≡ no_needs → IsOk result }
     ensures small { IfOk result (λ t. t.stored.incarnation + 1 < 2 ^ 64) }

@@ -14,7 +14,7 @@ use std::alloc::{AllocError, Global};
 
 /// Whether the node's tentative checkpoint counts as permanent: its instance has Yes.
 fn counts<S: CkptStore>(store: &mut S, alloc: Global, node: NodeId) -> Result<bool, StoreError>
-    ensures { IsRead S.content S.is_honest S.counts store.old store.new
+    ensures { IsRead S.CkptStore store.old store.new
         (λ c counts. counts ≡ counts_in c node) result }
 {
     match store.tentative_marks(alloc, node)? {
@@ -31,7 +31,7 @@ fn tentative_of<S: CkptStore>(
     alloc: Global,
     node: NodeId,
 ) -> Result<Option<Ckpt>, StoreError>
-    ensures { IsRead S.content S.is_honest S.counts store.old store.new (λ c p. p ≡ taken_by c node) result }
+    ensures { IsRead S.CkptStore store.old store.new (λ c p. p ≡ taken_by c node) result }
 {
     match store.tentative(alloc, node)? {
         Some(Tentative { checkpoint, .. }) => Ok(Some(checkpoint)),
@@ -46,7 +46,7 @@ fn permanent_of<S: CkptStore>(
     alloc: Global,
     node: NodeId,
 ) -> Result<Option<Ckpt>, StoreError>
-    ensures { IsRead S.content S.is_honest S.counts store.old store.new (λ c p. p ≡ permanent_of c node) result }
+    ensures { IsRead S.CkptStore store.old store.new (λ c p. p ≡ permanent_of c node) result }
 {
     if counts(store, alloc, node)? {
         tentative_of(store, alloc, node)
@@ -85,7 +85,7 @@ fn add_tuples<S: CkptStore>(
     node: NodeId,
     tuples: &mut Vec<Tuple>,
 ) -> Result<(), StoreError>
-    ensures { IsGathered S.content S.is_honest S.counts store.old store.new
+    ensures { IsGathered S.CkptStore store.old store.new
         (λ c x. tuples.new.items ≡ tuples.old.items ++ tuples_of (permanent_of c node)) result }
 {
     let checkpoint = permanent_of(store, alloc, node)?;
@@ -100,7 +100,7 @@ pub(crate) fn permanent_tuples<S: CkptStore>(
     alloc: Global,
     shards: u8,
 ) -> Result<Vec<Tuple>, StoreError>
-    ensures { IsGathered S.content S.is_honest S.counts store.old store.new
+    ensures { IsGathered S.CkptStore store.old store.new
         (λ c tuples. tuples.items ≡
         flat_map (λ r. tuples_of (permanent_of c (ids.Shard r))) (range_with_len 1 shards)) result }
 {

@@ -1,6 +1,7 @@
 //! A step: all that the store says, then the plan, then all memory, then the store's write, then the change.
 
 ghost use Rattle.std.specs.Prelude.{◌≡◌, IfErr, IfOk, IsTrue, Ok, OnErr, OnOk};
+ghost use Rattle.kt_store.specs.Calls.{NeverFails};
 ghost use Rattle.kt_store.specs.Content.{Content, empty_content};
 ghost use Rattle.kt_world.specs.inner.Backed.{IsBacked};
 ghost use Rattle.kt_world.specs.Effect.{applied, step_result};
@@ -40,6 +41,7 @@ fn prepare<S: CkptStore>(
     ensures same { (c : Content) → state_of machine.new c ≡ state_of machine.old c }
     ensures content { IsTrue (S.is_honest store.new) → S.content store.new ≡ S.content store.old }
     ensures honest { IsTrue (S.is_honest store.new) → IsTrue (S.is_honest store.old) }
+    ensures lasts { NeverFails S.failures → IsTrue (S.is_honest store.old) → IsTrue (S.is_honest store.new) }
     ensures counts { S.counts store.new ≡ step_counted result (S.counts store.old) }
     ensures cause { IfErr result (IsCause (S.is_honest store.new)) }
     ensures called { IsTrue (S.is_honest store.new) →
@@ -77,6 +79,7 @@ fn make_by_plan<S: CkptStore>(
     ensures same { OnErr result (state_of machine.new empty_content ≡ state_of machine.old empty_content) }
     ensures content { IsTrue (S.is_honest store.new) → OnErr result (S.content store.new ≡ S.content store.old) }
     ensures honest { IsTrue (S.is_honest store.new) → IsTrue (S.is_honest store.old) }
+    ensures lasts { NeverFails S.failures → IsTrue (S.is_honest store.old) → IsTrue (S.is_honest store.new) }
     ensures counts { S.counts store.new ≡ step_counted result (S.counts store.old) }
     ensures cause { IfErr result (IsCause (S.is_honest store.new)) }
     ensures called { IsTrue (S.is_honest store.new) →
@@ -109,6 +112,7 @@ pub(crate) fn make<S: CkptStore>(
     ensures same { OnErr result (state_of machine.new empty_content ≡ state_of machine.old empty_content) }
     ensures content { IsTrue (S.is_honest store.new) → OnErr result (S.content store.new ≡ S.content store.old) }
     ensures honest { IsTrue (S.is_honest store.new) → IsTrue (S.is_honest store.old) }
+    ensures lasts { NeverFails S.failures → IsTrue (S.is_honest store.old) → IsTrue (S.is_honest store.new) }
     ensures counts { S.counts store.new ≡ step_counted result (S.counts store.old) }
     ensures cause { IfErr result (IsCause (S.is_honest store.new)) }
     ensures called { IsTrue (S.is_honest store.new) →

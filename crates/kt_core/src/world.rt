@@ -83,7 +83,7 @@ impl<S: CkptStore> World<S> {
     ghost use Rattle.kt_core.specs.Stepping.{IsByPlan, IsCalledFor, IsCause, Refuses, step_counted};
     ghost use Rattle.kt_core.specs.Store.{IsCountedBeside, IsFault};
     ghost use Rattle.kt_core.specs.World.{IsOpenCause, beside, opening_counted};
-    ghost use Rattle.kt_store.specs.Calls.{counted};
+    ghost use Rattle.kt_store.specs.Calls.{NeverFails, counted};
     ghost use Rattle.kt_world.specs.Cast.{is_node};
     ghost use Rattle.kt_world.specs.Effect.{step_result};
     ghost use Rattle.kt_world.specs.Cut.{permanent_tuples};
@@ -102,6 +102,7 @@ impl<S: CkptStore> World<S> {
         ensures beside { IfOk result (λ w. beside w.state ≡ opening scene) }
         ensures fresh { IfOk result (λ w. IsTrue w.is_honest → is_fresh (S.content store) ≡ true) }
         ensures honest { IfOk result (λ w. IsTrue w.is_honest → IsTrue (S.is_honest store)) }
+        ensures lasts { IfOk result (λ w. NeverFails S.failures → IsTrue (S.is_honest store) → IsTrue w.is_honest) }
         ensures headline { IfOk result (λ w. IsTrue w.is_honest → Headline w.state) }
         ensures scene_back { IfErr result (λ refused. refused.scene ≡ scene) }
         ensures content_back { IfErr result (λ refused.
@@ -169,6 +170,7 @@ impl<S: CkptStore> World<S> {
         ensures same { IsTrue self.new.is_honest → OnErr result (self.new.state ≡ self.old.state) }
         ensures beside { OnErr result (beside self.new.state ≡ beside self.old.state) }
         ensures honest { IsTrue self.new.is_honest → IsTrue self.old.is_honest }
+        ensures lasts { NeverFails S.failures → IsTrue self.old.is_honest → IsTrue self.new.is_honest }
         ensures counts { self.new.counts ≡ step_counted result self.old.counts }
         ensures cause { IfErr result (IsCause self.new.is_honest) }
         ensures called { IsTrue self.new.is_honest → IfErr result (IsCalledFor self.old.state step) }
@@ -187,6 +189,7 @@ impl<S: CkptStore> World<S> {
         ensures same { IsTrue self.new.is_honest → self.new.state ≡ self.old.state }
         ensures beside { beside self.new.state ≡ beside self.old.state }
         ensures honest { IsTrue self.new.is_honest → IsTrue self.old.is_honest }
+        ensures lasts { NeverFails S.failures → IsTrue self.old.is_honest → IsTrue self.new.is_honest }
         ensures counts { self.new.counts ≡ counted result self.old.counts }
         ensures cause { IfErr result (IsFault self.new.is_honest) }
         ensures called { OnErr result (needs_of self.old.state step ≢ no_needs) }
@@ -205,6 +208,7 @@ impl<S: CkptStore> World<S> {
         ensures same { IsTrue self.new.is_honest → self.new.state ≡ self.old.state }
         ensures beside { beside self.new.state ≡ beside self.old.state }
         ensures honest { IsTrue self.new.is_honest → IsTrue self.old.is_honest }
+        ensures lasts { NeverFails S.failures → IsTrue self.old.is_honest → IsTrue self.new.is_honest }
         ensures counts { self.new.counts ≡ counted result self.old.counts }
         ensures cause { IfErr result (IsFault self.new.is_honest) }
         ensures called { OnErr result (needs_of self.old.state step ≢ no_needs) }
@@ -374,6 +378,7 @@ impl<S: CkptStore> World<S> {
         ensures same { IsTrue self.new.is_honest → self.new.state ≡ self.old.state }
         ensures beside { beside self.new.state ≡ beside self.old.state }
         ensures honest { IsTrue self.new.is_honest → IsTrue self.old.is_honest }
+        ensures lasts { NeverFails S.failures → IsTrue self.old.is_honest → IsTrue self.new.is_honest }
         ensures counts { IsCountedBeside result self.old.counts self.new.counts }
         ensures cause { IfErr result (IsFault self.new.is_honest) }
     {

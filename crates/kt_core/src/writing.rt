@@ -17,7 +17,7 @@ pub(crate) fn write<S: CkptStore>(
 ) -> Result<(), StoreError>
     requires allowed { IsTrue (S.is_honest store.old) → IfSome write.now (IsAllowed (S.content store.old) node) }
     requires numbers { IsTrue (S.is_honest store.old) → HasNumbers (S.content store.old) node }
-    ensures written { IsWritten S.content S.is_honest S.counts store.old store.new
+    ensures written { IsWritten S.CkptStore store.old store.new
         (content_after node write.now) result }
     ensures quiet { write.now ≡ None → IsOk result }
 {

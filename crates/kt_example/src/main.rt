@@ -1,11 +1,20 @@
 //! The first worker hands the task 7 over, which a checkpoint then holds, and the second takes it, which is lost when
 //! the shard fails. So the second rolls back, takes the task again, and says which one it has done.
+//!
+//! What is proved beside: the store stays honest, whatever the steps do, as nothing can fail one in memory. So the laws
+//! of kt_world hold of this world after each step, here that each worker stands in its script where the answers in its
+//! log say.
 #![tactic(auto)]
 
+ghost use Rattle.std.specs.Prelude.{IfOk, IsTrue};
+ghost use Rattle.kt_world.specs.Workers.{WorkersFollowLines};
+
 use kt_core::{Scene, Step, World};
+use kt_history::History;
 use kt_script::{Actual, Actuals, Command, Name, Operation, Pattern, Script, Slot};
 use kt_store::MemStore;
 use kt_tuple::{Kind, NodeId, Str, Value};
+use kt_world::workers_stand_as_their_answers_say;
 use std::alloc::Global;
 use std::test::Fail;
 
@@ -17,20 +26,22 @@ fn main(rt: HostRuntime) -> Result<(), Fail> {
     let alloc = rt.alloc();
     let mut world = opened(alloc)?;
     let [giver, taker] = WORKERS;
-    settle(alloc, &mut world, Step::Issue { node: giver });
-    settle(alloc, &mut world, Step::Check { node: SHARD });
-    settle(alloc, &mut world, Step::Issue { node: taker });
-    settle(alloc, &mut world, Step::Fail { node: SHARD });
-    settle(alloc, &mut world, Step::Restart { node: SHARD });
+    go_on(alloc, &mut world, Step::Issue { node: giver });
+    go_on(alloc, &mut world, Step::Check { node: SHARD });
+    go_on(alloc, &mut world, Step::Issue { node: taker });
+    go_on(alloc, &mut world, Step::Fail { node: SHARD });
+    go_on(alloc, &mut world, Step::Restart { node: SHARD });
     print_survivors(&rt, &world, "after the rollback")?;
-    settle(alloc, &mut world, Step::Issue { node: taker });
-    settle(alloc, &mut world, Step::Issue { node: taker });
+    go_on(alloc, &mut world, Step::Issue { node: taker });
+    go_on(alloc, &mut world, Step::Issue { node: taker });
     print_survivors(&rt, &world, "in the end")
 }
 
 /// A shard and two workers: the script of the first is `out (7)`, that of the second `in (?int task)` and then
 /// `out ("done", task)`.
-fn opened(alloc: Global) -> Result<World<MemStore>, Fail> {
+fn opened(alloc: Global) -> Result<World<MemStore>, Fail>
+    ensures honest { IfOk result (λ w. IsTrue w.is_honest) }
+{
     let task = Name::new(b"task").ok_or("a name")?;
     let done = Str::new(b"done").ok_or("a string")?;
     let seven = tuple(alloc, &[Actual::Literal(Value::Int(7))])?;
@@ -65,24 +76,32 @@ fn template(alloc: Global, slot: Slot) -> Result<Pattern, Fail> {
     Ok(Pattern::new(places).ok_or("a template")?)
 }
 
-/// Makes the step; then all that is on its way arrives, what waits is served, and what has all votes is decided. A step
-/// that is not enabled is refused, and changes nothing.
-fn settle(alloc: Global, world: &mut World<MemStore>, step: Step) {
+/// Tries the step. One that is not enabled is refused, and changes nothing.
+fn try_step(alloc: Global, world: &mut World<MemStore>, step: Step)
+    ensures honest { IsTrue world.old.is_honest → IsTrue world.new.is_honest }
+{
     world.step(alloc, step).ok();
+}
+
+/// Makes the step; then all that is on its way arrives, what waits is served, and what has all votes is decided.
+fn go_on(alloc: Global, world: &mut World<MemStore>, step: Step)
+    ensures honest { IsTrue world.old.is_honest → IsTrue world.new.is_honest }
+{
+    try_step(alloc, world, step);
     let (shard, place) = (SHARD, 0);
     for _ in 0..8u8 {
         for worker in WORKERS {
             let (there, back) = ((worker, SHARD), (SHARD, worker));
-            world.step(alloc, deliver(there)).ok();
+            try_step(alloc, world, deliver(there));
             let serve = Step::Serve {
                 shard,
                 worker,
                 place,
             };
-            world.step(alloc, serve).ok();
-            world.step(alloc, deliver(back)).ok();
+            try_step(alloc, world, serve);
+            try_step(alloc, world, deliver(back));
         }
-        world.step(alloc, Step::Decide { node: SHARD }).ok();
+        try_step(alloc, world, Step::Decide { node: SHARD });
     }
 }
 
@@ -90,10 +109,24 @@ fn deliver((from, to): (NodeId, NodeId)) -> Step {
     Step::Deliver { from, to }
 }
 
-fn print_survivors(rt: &HostRuntime, world: &World<MemStore>, when: &str) -> Result<(), Fail> {
+/// What happened so far. It says that some steps lead to this world, and the law says of each such world where its
+/// workers stand.
+fn history_of(world: &World<MemStore>) -> &History
+    requires { IsTrue world.now.is_honest }
+    ensures follow { WorkersFollowLines world.now.state }
+{
+    workers_stand_as_their_answers_say();
+    world.history()
+}
+
+/// Prints how many services were lost, and which survive.
+fn print_survivors(rt: &HostRuntime, world: &World<MemStore>, when: &str) -> Result<(), Fail>
+    requires { IsTrue world.now.is_honest }
+{
     let alloc = rt.alloc();
-    println!(rt; "{when}: {} lost", world.history().lost_count())?;
-    for service in &world.history().survivors(alloc)? {
+    let history = history_of(world);
+    println!(rt; "{when}: {} lost", history.lost_count())?;
+    for service in &history.survivors(alloc)? {
         let mut text = Vec::new(alloc);
         service.op.write_to(&mut text)?;
         let text = String::from_utf8(text).map_err(|_| "a text")?;

@@ -1,7 +1,9 @@
 //! The calls of a store. A write reads the cells of a row, changes them and writes the row whole; it decodes no
 //! checkpoint, and a question about an incarnation or about marks decodes no state (docs/DECISIONS.md#stores).
 
-ghost use Rattle.kt_tables.specs.Held.{is_sure, content_of};
+ghost use Rattle.kt_tables.specs.Held.{content_of, is_sound, is_sure};
+ghost use Rattle.kt_tables.specs.inner.Lasting.{failures};
+ghost use Rattle.sqlite.specs.Held.{state};
 
 use crate::store::SqlStore;
 use kt_ckpt::{Ckpt, Marks};
@@ -15,6 +17,10 @@ impl<S: Alter> CkptStore for SqlStore<S> {
     ghost content = { λ s. content_of S.Store s.tables };
 
     ghost is_honest = { λ s. is_sure S.Store s.tables };
+
+    ghost failures = { λ s. failures (state S.Store s.tables.conn) };
+
+    ghost is_intact = { λ s. is_sound S.Store s.tables };
 
     ghost counts = { λ s. s.counts };
 

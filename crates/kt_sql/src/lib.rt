@@ -2,7 +2,8 @@
 //! or in memory.
 //!
 //! - Contract: `SqlStore` keeps each promise of `CkptStore` while its tables keep theirs, and counts exactly how often
-//!   its device failed and how often memory was refused (clause `cause` of each call).
+//!   its device failed and how often memory was refused (clause `cause` of each call). A connection that was shut is no
+//!   damage (clause `intact`).
 //! - Stands on: kt_tuple, kt_ckpt, kt_store, kt_tables; of the kit: sqlite, sqlite_std_file, sqlite_trees,
 //!   thiserror
 //! - Used by: linda_kt

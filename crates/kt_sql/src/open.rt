@@ -28,7 +28,10 @@ const CACHE_PAGES: usize = 256;
 
 /// Why a file was not opened. One that is no database has no tables of a store, so it is damaged.
 fn file_error(error: Error) -> SqlOpenError
-    ensures { error ≡ Error.SqliteFailure ErrorCode.CannotOpen → result ≡ SqlOpenError.Device }
+    ensures memory { result ≡ SqlOpenError.Memory ↔ error ≡ Error.SqliteFailure ErrorCode.OutOfMemory }
+    ensures damaged { result ≡ SqlOpenError.Damaged
+        ↔ (error ≡ Error.SqliteFailure ErrorCode.NotADatabase)
+        ⊎ (error ≡ Error.SqliteFailure ErrorCode.DatabaseCorrupt) }
 {
     match error {
         Error::SqliteFailure(ErrorCode::OutOfMemory) => SqlOpenError::Memory,
@@ -94,7 +97,8 @@ fn closed(conn: Connection<FileStore<File>>, error: SqlOpenError) -> SqlOpenErro
 
 /// Why a connection is no store's: for memory, for damage, or for the device, as which `Full` is told too.
 fn open_error(error: StoreError) -> SqlOpenError
-    ensures { result ≡ SqlOpenError.Damaged ↔ error ≡ StoreError.Damaged }
+    ensures memory { result ≡ SqlOpenError.Memory ↔ error ≡ StoreError.Memory }
+    ensures damaged { result ≡ SqlOpenError.Damaged ↔ error ≡ StoreError.Damaged }
 {
     match error {
         StoreError::Memory => SqlOpenError::Memory,

@@ -7,6 +7,7 @@ use Rattle.std.proofs.lemmas.Bool.{and_parts, not-true, or_left}
 use Rattle.kt_tuple.specs.declared.node.NodeId.{NodeId}
 use Rattle.kt_tuple.specs.declared.node.NodeId.TheVariants as ids
 use Rattle.kt_store.specs.declared.error.StoreError.{StoreError}
+use Rattle.kt_store.specs.declared.store.CkptStore.{Ghosts}
 use Rattle.kt_link.specs.Network.{entry_at}
 use Rattle.kt_node.specs.Node.{Node, Down, mode_of}
 use Rattle.kt_node.specs.Plan.{Planned}
@@ -263,9 +264,10 @@ pub found-by-mode : (s : State) (p : NodeId) (mode : Option Mode) → mode ≡ o
     → is_some (node s p) ≡ is_node s.cast p
 found-by-mode s p mode value there = sym (mapped mode_of (node s p)) ∙ sym (ap is_some value) ∙ there
 
-pub asked-nobody : (w : Standing) (lines : List FaultLine) (p : NodeId) (mode : Option Mode) → mode ≡ option_map mode_of (node w.state p)
+pub asked-nobody : {S : Type 0} {kind : Ghosts S} (w : Standing) (lines : List FaultLine) (p : NodeId) (mode : Option Mode)
+    → mode ≡ option_map mode_of (node w.state p)
     → is_some mode ≡ is_node w.state.cast p → mode ≡ None
-    → IsAsked w w (λ s x. x ≡ next_step s lines p) (Ok None)
+    → IsAsked kind w w (λ s x. x ≡ next_step s lines p) (Ok None)
 asked-nobody w lines p mode value there none = record {
   value = λ h.
       let nothing : is_some (node w.state p) ≡ false = sym (mapped mode_of (node w.state p)) ∙ sym (ap is_some value) ∙ ap is_some none in
@@ -273,6 +275,7 @@ asked-nobody w lines p mode value there none = record {
   same = λ h. refl;
   beside = refl;
   honest = λ h. h;
+  lasts = λ never h. h;
   counts = refl;
   cause = tt;
 }
@@ -308,20 +311,23 @@ before-there s lines p (Ok x) there is =
     is ∙ sym (ap (λ (b : Bool). if b then first_some (by_rule s lines p) before_serving else None) there)
 before-there s lines p (Err e) there is = tt
 
-pub before-nobody : (w : Standing) (lines : List FaultLine) (p : NodeId) (mode : Option Mode) → is_some mode ≡ is_node w.state.cast p → mode ≡ None
-    → IsAsked w w (λ s x. x ≡ next_before_serving s lines p) (Ok None)
+pub before-nobody : {S : Type 0} {kind : Ghosts S} (w : Standing) (lines : List FaultLine) (p : NodeId) (mode : Option Mode)
+    → is_some mode ≡ is_node w.state.cast p → mode ≡ None
+    → IsAsked kind w w (λ s x. x ≡ next_before_serving s lines p) (Ok None)
 before-nobody w lines p mode there none = record {
   value = λ h. sym (ap (λ (b : Bool). if b then first_some (by_rule w.state lines p) before_serving else None) (sym there ∙ ap is_some none));
   same = λ h. refl;
   beside = refl;
   honest = λ h. h;
+  lasts = λ never h. h;
   counts = refl;
   cause = tt;
 }
 
-pub before-asked : (old new : Standing) (lines : List FaultLine) (p : NodeId) (rules : List Rule) (r : Result (Option Step) StoreError) → rules ≡ before_serving
-    → is_node old.state.cast p ≡ true → IsAsked old new (λ s x. x ≡ first_some (by_rule s lines p) rules) r
-    → IsAsked old new (λ s x. x ≡ next_before_serving s lines p) r
+pub before-asked : {S : Type 0} {kind : Ghosts S} (old new : Standing) (lines : List FaultLine) (p : NodeId) (rules : List Rule)
+    (r : Result (Option Step) StoreError) → rules ≡ before_serving → is_node old.state.cast p ≡ true
+    → IsAsked kind old new (λ s x. x ≡ first_some (by_rule s lines p) rules) r
+    → IsAsked kind old new (λ s x. x ≡ next_before_serving s lines p) r
 before-asked old new lines p rules r same there asked = record {
   value = λ h.
       before-there old.state lines p r there
@@ -329,6 +335,7 @@ before-asked old new lines p rules r same there asked = record {
   same = asked.same;
   beside = asked.beside;
   honest = asked.honest;
+  lasts = asked.lasts;
   counts = asked.counts;
   cause = asked.cause;
 }

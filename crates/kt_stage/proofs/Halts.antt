@@ -22,7 +22,8 @@ use Rattle.kt_stage.specs.declared.error.ActError.TheVariants as errors
 use Rattle.kt_stage.specs.Acting.{IsActed}
 use Rattle.kt_stage.specs.Journal.{Journal}
 use Rattle.kt_stage.specs.Running.{IsRefusedAt, has_risen, is_fault_since, is_run_cause}
-use Rattle.kt_stage.specs.inner.Halting.{IsGiven, is_any_steps}
+use Rattle.kt_stage.specs.Settling.{is_any_steps}
+use Rattle.kt_stage.specs.inner.Halting.{IsGiven}
 
 -- ---- a step that is allowed is refused by the limit, by the store, or for want of memory
 
@@ -71,7 +72,7 @@ limit-reached made (Err refusals.StepLimit) is same = absurd cc
 limit-reached made (Err refusals.OutOfMemory) is same = absurd cc
 
 -- no other refusal comes while the store is honest
-never : (s : State) (step : Step) (e : StepError) → is_any_steps e ≡ false → IsTrue (is_allowed s step) → planned s step ≡ Err e → ⊥
+pub never : (s : State) (step : Step) (e : StepError) → is_any_steps e ≡ false → IsTrue (is_allowed s step) → planned s step ≡ Err e → ⊥
 never s step e other allowed due =
     let any : is_any_steps e ≡ true = planned-any s.made (judged s (told s step) step) e allowed due in
     let off : false ≡ true = sym other ∙ any in

@@ -5,6 +5,7 @@ pub mod Making
 pub mod Seats
 pub mod Opening
 pub mod Halts
+pub mod Settled
 pub mod Ended
 pub mod Planned
 pub mod Allowed

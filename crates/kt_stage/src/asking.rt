@@ -44,7 +44,7 @@ pub(crate) fn if_allowed<S: CkptStore>(
     alloc: Global,
     step: Step,
 ) -> Result<Option<Step>, StoreError>
-    ensures { IsAsked world.old world.new (λ s x. x ≡ if_allowed s step) result }
+    ensures { IsAsked S.CkptStore world.old world.new (λ s x. x ≡ if_allowed s step) result }
 {
     if world.is_allowed(alloc, step)? {
         Ok(Some(step))
@@ -59,7 +59,7 @@ pub(crate) fn got_no<S: CkptStore>(
     alloc: Global,
     node: NodeId,
 ) -> Result<bool, StoreError>
-    ensures { IsAsked world.old world.new (λ s x. x ≡ got_no s node) result }
+    ensures { IsAsked S.CkptStore world.old world.new (λ s x. x ≡ got_no s node) result }
 {
     match world.mode(node) {
         Some(Mode::Rolling) => world.is_allowed(alloc, Step::Restart { node }),
@@ -74,7 +74,7 @@ pub(crate) fn lets_restart<S: CkptStore>(
     node: NodeId,
     other: NodeId,
 ) -> Result<bool, StoreError>
-    ensures { IsAsked world.old world.new (λ s x. x ≡ lets_restart s node other) result }
+    ensures { IsAsked S.CkptStore world.old world.new (λ s x. x ≡ lets_restart s node other) result }
 {
     match world.mode(other) {
         None | Some(Mode::Up) => Ok(true),

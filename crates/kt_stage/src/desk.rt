@@ -84,7 +84,7 @@ impl<S: CkptStore, L: Naming> Desk<S, L> {
         faults: &Faults,
         node: NodeId,
     ) -> Result<Option<Step>, StoreError>
-        ensures next { IsAsked self.old.journal.world self.new.journal.world
+        ensures next { IsAsked S.CkptStore self.old.journal.world self.new.journal.world
             (λ s x. x ≡ next_step s faults.now node) result }
         ensures given { IfOk result (λ x. IfSome x (IsGiven self.new.journal.world node)) }
         ensures steps { self.new.journal.steps ≡ self.old.journal.steps }
@@ -100,7 +100,7 @@ impl<S: CkptStore, L: Naming> Desk<S, L> {
         faults: &Faults,
         node: NodeId,
     ) -> Result<Option<Step>, StoreError>
-        ensures next { IsAsked self.old.journal.world self.new.journal.world
+        ensures next { IsAsked S.CkptStore self.old.journal.world self.new.journal.world
             (λ s x. x ≡ next_before_serving s faults.now node) result }
         ensures given { IfOk result (λ x. IfSome x (IsGiven self.new.journal.world node)) }
         ensures steps { self.new.journal.steps ≡ self.old.journal.steps }
@@ -115,7 +115,7 @@ impl<S: CkptStore, L: Naming> Desk<S, L> {
         alloc: Global,
         faults: &Faults,
     ) -> Result<Option<NodeId>, StoreError>
-        ensures { IsAsked self.old.journal.world self.new.journal.world
+        ensures { IsAsked S.CkptStore self.old.journal.world self.new.journal.world
             (λ s x. x ≡ first_unfinished s faults.now) result }
     {
         first_unfinished(&mut self.journal.world, alloc, faults)

@@ -28,7 +28,7 @@ pub fn unfinished<S: CkptStore>(
     faults: &mut Faults,
 ) -> Result<Option<NodeId>, StoreError>
     ensures spent { faults.new ≡ spent_by faults.old journal.old.steps }
-    ensures found { IsAsked journal.old.world journal.new.world
+    ensures found { IsAsked S.CkptStore journal.old.world journal.new.world
         (λ s x. x ≡ first_unfinished s (spent_by faults.old journal.old.steps)) result }
     ensures steps { journal.new.steps ≡ journal.old.steps }
 {

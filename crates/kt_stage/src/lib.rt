@@ -4,6 +4,7 @@
 //! - Contract: while the store is honest, a closed stage gives a world that its listed steps lead to (`Stage::close`,
 //!   clause `replays`). Each seat kept the receipts of just its node's steps (`kept`). Of `run_threads_over` the
 //!   clauses `replays` and `finished` say the same of a run: its steps lead to its world, where no node has a next one.
+//!   `settle` goes on from any world, on one thread, until no node has a next step (`settles`, `over`).
 //! - Stands on: kt_tuple, kt_script, kt_space, kt_link, kt_shard, kt_worker, kt_vote, kt_history, kt_ckpt, kt_store,
 //!   kt_node, kt_world, kt_core; of the kit: thiserror
 //! - Used by: kt_run, kt_command, linda_kt
@@ -26,6 +27,7 @@ mod policy;
 mod running;
 mod seat;
 mod serving;
+mod settling;
 mod stage;
 mod traffic;
 mod waking;
@@ -41,5 +43,6 @@ pub use naming::Naming;
 pub use policy::{Rule, next_for};
 pub use running::{Left, RunFault, run_threads, run_threads_over};
 pub use seat::{Receipt, Seat};
+pub use settling::settle;
 pub use stage::{Stage, node_count};
 pub use traffic::Sought;

@@ -96,7 +96,7 @@ fn comes_back<S: CkptStore>(
     alloc: Global,
     node: NodeId,
 ) -> Result<Option<Step>, StoreError>
-    ensures { IsAsked world.old world.new (λ s x. x ≡ comes_back s node) result }
+    ensures { IsAsked S.CkptStore world.old world.new (λ s x. x ≡ comes_back s node) result }
 {
     if !is_down(world, node) {
         return Ok(None);
@@ -114,7 +114,7 @@ fn all_let_restart<S: CkptStore>(
     alloc: Global,
     node: NodeId,
 ) -> Result<bool, StoreError>
-    ensures { IsAsked world.old world.new (λ s x. x ≡ list_all (lets_restart s node) others.now) result }
+    ensures { IsAsked S.CkptStore world.old world.new (λ s x. x ≡ list_all (lets_restart s node) others.now) result }
 {
     let Some((other, later)) = others.split_first() else {
         return Ok(true);
@@ -133,7 +133,7 @@ fn tries_again<S: CkptStore>(
     alloc: Global,
     node: NodeId,
 ) -> Result<Option<Step>, StoreError>
-    ensures { IsAsked world.old world.new (λ s x. x ≡ tries_again s node) result }
+    ensures { IsAsked S.CkptStore world.old world.new (λ s x. x ≡ tries_again s node) result }
 {
     if !got_no(world, alloc, node)? {
         return Ok(None);
@@ -164,7 +164,7 @@ fn repeats<S: CkptStore>(
     alloc: Global,
     node: NodeId,
 ) -> Result<Option<Step>, StoreError>
-    ensures { IsAsked world.old world.new (λ s x. x ≡ repeats s node) result }
+    ensures { IsAsked S.CkptStore world.old world.new (λ s x. x ≡ repeats s node) result }
 {
     if is_lost_request(world, node) {
         if_allowed(world, alloc, Step::Repeat { node })
@@ -179,7 +179,7 @@ fn learns<S: CkptStore>(
     alloc: Global,
     node: NodeId,
 ) -> Result<Option<Step>, StoreError>
-    ensures { IsAsked world.old world.new (λ s x. x ≡ learns s node) result }
+    ensures { IsAsked S.CkptStore world.old world.new (λ s x. x ≡ learns s node) result }
 {
     if is_up(world, node) {
         return Ok(None);
@@ -193,7 +193,7 @@ fn decides<S: CkptStore>(
     alloc: Global,
     node: NodeId,
 ) -> Result<Option<Step>, StoreError>
-    ensures { IsAsked world.old world.new (λ s x. x ≡ decides s node) result }
+    ensures { IsAsked S.CkptStore world.old world.new (λ s x. x ≡ decides s node) result }
 {
     if world.ballot(node).is_none() {
         return Ok(None);
@@ -207,7 +207,7 @@ fn takes<S: CkptStore>(
     alloc: Global,
     node: NodeId,
 ) -> Result<Option<Step>, StoreError>
-    ensures { IsAsked world.old world.new (λ s x. x ≡ takes s node) result }
+    ensures { IsAsked S.CkptStore world.old world.new (λ s x. x ≡ takes s node) result }
 {
     if world.kept_len(node) == 0 {
         return Ok(None);
@@ -232,7 +232,7 @@ fn asks<S: CkptStore>(
     alloc: Global,
     node: NodeId,
 ) -> Result<Option<Step>, StoreError>
-    ensures { IsAsked world.old world.new (λ s x. x ≡ asks s node) result }
+    ensures { IsAsked S.CkptStore world.old world.new (λ s x. x ≡ asks s node) result }
 {
     if may_issue(world.worker(node)) {
         if_allowed(world, alloc, Step::Issue { node })
@@ -247,7 +247,7 @@ fn gives_up<S: CkptStore>(
     alloc: Global,
     node: NodeId,
 ) -> Result<Option<Step>, StoreError>
-    ensures { IsAsked world.old world.new (λ s x. x ≡ gives_up s node) result }
+    ensures { IsAsked S.CkptStore world.old world.new (λ s x. x ≡ gives_up s node) result }
 {
     if waits_in_vain(world, node) {
         if_allowed(world, alloc, Step::Abandon { node })
@@ -265,7 +265,7 @@ impl Rule {
         faults: &Faults,
         node: NodeId,
     ) -> Result<Option<Step>, StoreError>
-        ensures { IsAsked world.old world.new (λ s x. x ≡ by_rule s faults.now node self) result }
+        ensures { IsAsked S.CkptStore world.old world.new (λ s x. x ≡ by_rule s faults.now node self) result }
     {
         match self {
             Rule::Fails => Ok(fails(world, faults, node)),
@@ -291,7 +291,8 @@ fn first_by<S: CkptStore>(
     faults: &Faults,
     node: NodeId,
 ) -> Result<Option<Step>, StoreError>
-    ensures { IsAsked world.old world.new (λ s x. x ≡ first_some (by_rule s faults.now node) rules.now) result }
+    ensures { IsAsked S.CkptStore world.old world.new
+        (λ s x. x ≡ first_some (by_rule s faults.now node) rules.now) result }
 {
     let Some((rule, later)) = rules.split_first() else {
         return Ok(None);
@@ -312,7 +313,7 @@ pub fn next_for<S: CkptStore>(
     faults: &Faults,
     node: NodeId,
 ) -> Result<Option<Step>, StoreError>
-    ensures next { IsAsked world.old world.new (λ s x. x ≡ next_step s faults.now node) result }
+    ensures next { IsAsked S.CkptStore world.old world.new (λ s x. x ≡ next_step s faults.now node) result }
     ensures own { IsTrue world.new.is_honest → IfOk result (λ x. IfSome x (λ step. owner step ≡ node)) }
     ensures allowed { IsTrue world.new.is_honest
         → IfOk result (λ x. IfSome x (λ step. IsTrue (is_allowed world.old.state step))) }
@@ -330,7 +331,7 @@ pub(crate) fn next_before_serving<S: CkptStore>(
     faults: &Faults,
     node: NodeId,
 ) -> Result<Option<Step>, StoreError>
-    ensures next { IsAsked world.old world.new (λ s x. x ≡ next_before_serving s faults.now node) result }
+    ensures next { IsAsked S.CkptStore world.old world.new (λ s x. x ≡ next_before_serving s faults.now node) result }
     ensures own { IsTrue world.new.is_honest → IfOk result (λ x. IfSome x (λ step. owner step ≡ node)) }
     ensures allowed { IsTrue world.new.is_honest
         → IfOk result (λ x. IfSome x (λ step. IsTrue (is_allowed world.old.state step))) }
@@ -348,7 +349,8 @@ fn first_with_step<S: CkptStore>(
     alloc: Global,
     faults: &Faults,
 ) -> Result<Option<NodeId>, StoreError>
-    ensures { IsAsked world.old world.new (λ s x. x ≡ first_some (if_unfinished s faults.now) nodes.now) result }
+    ensures { IsAsked S.CkptStore world.old world.new
+        (λ s x. x ≡ first_some (if_unfinished s faults.now) nodes.now) result }
 {
     let Some((node, later)) = nodes.split_first() else {
         return Ok(None);
@@ -367,7 +369,7 @@ pub(crate) fn first_unfinished<S: CkptStore>(
     alloc: Global,
     faults: &Faults,
 ) -> Result<Option<NodeId>, StoreError>
-    ensures { IsAsked world.old world.new (λ s x. x ≡ first_unfinished s faults.now) result }
+    ensures { IsAsked S.CkptStore world.old world.new (λ s x. x ≡ first_unfinished s faults.now) result }
 {
     first_with_step(&NAMES, world, alloc, faults)
 }

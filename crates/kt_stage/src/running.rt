@@ -186,8 +186,8 @@ where
 /// Where it is refused, scene, fault lines and store are gone. So its clause speaks of some store of its kind in place
 /// of the one that was left; of a kind that is not always honest `run_threads_over` says more.
 ///
-/// Which steps are made, and in what order, is not promised; nor that the run ends. Of seats that do not fit and of want
-/// of memory nothing is promised but the name.
+/// Which steps are made, and in what order, is not promised; nor that the run ends. Of seats that do not fit and of
+/// want of memory nothing is promised but the name.
 pub fn run_threads<R, S, G>(
     rt: &R,
     alloc: Global,

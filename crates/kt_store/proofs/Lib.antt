@@ -6,4 +6,5 @@ pub mod Others
 pub mod OtherNodes
 pub mod OtherInstances
 pub mod Counting
+pub mod Faulting
 pub mod Shared

@@ -39,3 +39,7 @@ pub record HasCause {T : Type 0} (before now : Counts) (is_honest : Bool) (IsFul
   pub counts : now ≡ counted result before
   pub damaged : IsErrOf result Damaged → is_honest ≡ false
   pub full : IsErrOf result Full → IsFull
+
+-- nothing that lies under a store of this kind can fail it
+abbrev pub NeverFails : {S : Type 0} → (S → ℕ) → Type 0
+NeverFails {S = S} failures = (store : S) → failures store ≡ 0

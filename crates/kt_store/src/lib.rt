@@ -1,19 +1,21 @@
-//! Where checkpoints, incarnations and verdicts are kept: what a store promises, and a store in memory that keeps it.
+//! Where checkpoints, incarnations and verdicts are kept: what a store promises, a store in memory that keeps it, and a
+//! store of which one call fails.
 //!
 //! - Contract: while a store is honest, each write is its one change of the whole content, and a refused one changes
 //!   nothing (`CkptStore::promote` and its sisters, clauses `written` and `unchanged`). The store in memory,
 //!   `MemStore`, always is. A store counts exactly how often its device failed and how often memory was refused
-//!   (clause `cause`).
+//!   (clause `cause`). `FaultStore` keeps all this over any other store, and counts its own fault.
 //! - Stands on: kt_tuple, kt_ckpt; of the kit: thiserror
 //! - Used by: kt_tables, kt_sql, kt_node, kt_world, kt_refinement, kt_core, kt_scene, kt_stage, kt_run, kt_command,
 //!   linda_kt, kt_example, kt_memory_tests
 //! - Begin in: `store.rt` for the promises and `rows.rt` for what is stored. `memory.rt` is the store in memory, over
-//!   `contents.rt`, `posted.rt` and `change.rt`.
+//!   `contents.rt`, `posted.rt` and `change.rt`. `faulty.rt` is the store of which one call fails.
 #![tactic(auto)]
 
 mod change;
 mod contents;
 mod error;
+mod faulty;
 mod laws;
 mod memory;
 mod posted;
@@ -21,6 +23,7 @@ mod rows;
 mod store;
 
 pub use error::StoreError;
+pub use faulty::FaultStore;
 pub use laws::{other_instances_stay, other_nodes_stay, what_is_written_is_read};
 pub use memory::MemStore;
 pub use rows::{NodeRow, Posted, Purpose, Tentative, TentativeMarks, Verdict};

@@ -54,6 +54,10 @@ impl CkptStore for MemStore {
 
     ghost is_honest = { λ _. true };
 
+    ghost failures = { λ _. 0 };
+
+    ghost is_intact = { λ _. true };
+
     ghost counts = { λ s. record { faults = 0; wants = s.wants } };
 
     fn faults(&self) -> u64 {

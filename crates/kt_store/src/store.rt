@@ -1,12 +1,12 @@
 //! What a store of checkpoints and verdicts promises.
 
-ghost use Rattle.std.specs.Prelude.{◌≡◌, ◌⊎◌, ◌+◌, Bool, None, Some, IsTrue, IfOk, OnOk, OnErr};
+ghost use Rattle.std.specs.Prelude.{◌≡◌, ◌⊎◌, ◌+◌, ℕ, Bool, None, Some, false, IsTrue, IsErrOf, IfOk, OnOk, OnErr};
 ghost use Rattle.kt_store.specs.declared.rows.Verdict.TheVariants as verdicts;
 ghost use Rattle.kt_store.specs.Content.{Content, HasVerdict, greatest, initiator_of, is_fresh, next_instance};
 ghost use Rattle.kt_store.specs.Content.{open_of, permanent_marks, row_of, tentative_marks, verdict_of};
 ghost use Rattle.kt_store.specs.Changes.{bumped, check_begun, decided, discarded};
 ghost use Rattle.kt_store.specs.Changes.{promoted, restart_begun, tentative_put};
-ghost use Rattle.kt_store.specs.Calls.{Counts, HasCause};
+ghost use Rattle.kt_store.specs.Calls.{Counts, HasCause, NeverFails};
 
 use crate::error::StoreError;
 use crate::rows::{Tentative, TentativeMarks, Verdict};
@@ -22,6 +22,14 @@ pub trait CkptStore {
 
     /// Whether it has answered so far as a store must: what it answers is what is stored.
     ghost is_honest: { Self → Bool };
+
+    /// How often what lies under it has failed it so far: it did not return what was written, or broke off. Of a kind
+    /// of stores that nothing can fail so, each that is honest stays so.
+    ghost failures: { Self → ℕ };
+
+    /// Whether what is stored is as it was written: only where it is not is a call refused as `Damaged`. A store that
+    /// can't be reached any more is not honest, and may be intact.
+    ghost is_intact: { Self → Bool };
 
     /// How often its device has failed so far, and how often memory was refused. Each count rises by one in just the
     /// calls that answer so, and stays at 2^64 - 1.
@@ -42,6 +50,8 @@ pub trait CkptStore {
             → IfOk result (λ n. n ≡ (row_of (content self.old) node).incarnation) }
         ensures same { IsTrue (is_honest self.new) → content self.new ≡ content self.old }
         ensures honest { IsTrue (is_honest self.new) → IsTrue (is_honest self.old) }
+        ensures lasts { NeverFails failures → IsTrue (is_honest self.old) → IsTrue (is_honest self.new) }
+        ensures intact { IsErrOf result StoreError.Damaged → is_intact self.new ≡ false }
         ensures cause { HasCause (counts self.old) (counts self.new) (is_honest self.new) ⊥ result };
 
     /// The permanent checkpoint of the node; `None` where it is the initial one. It may share its memory with the
@@ -51,6 +61,8 @@ pub trait CkptStore {
             → IfOk result (λ c. c ≡ (row_of (content self.old) node).permanent) }
         ensures same { IsTrue (is_honest self.new) → content self.new ≡ content self.old }
         ensures honest { IsTrue (is_honest self.new) → IsTrue (is_honest self.old) }
+        ensures lasts { NeverFails failures → IsTrue (is_honest self.old) → IsTrue (is_honest self.new) }
+        ensures intact { IsErrOf result StoreError.Damaged → is_intact self.new ≡ false }
         ensures cause { HasCause (counts self.old) (counts self.new) (is_honest self.new) ⊥ result };
 
     /// The tentative checkpoint of the node with its instance, if one is stored.
@@ -59,6 +71,8 @@ pub trait CkptStore {
             → IfOk result (λ t. t ≡ (row_of (content self.old) node).tentative) }
         ensures same { IsTrue (is_honest self.new) → content self.new ≡ content self.old }
         ensures honest { IsTrue (is_honest self.new) → IsTrue (is_honest self.old) }
+        ensures lasts { NeverFails failures → IsTrue (is_honest self.old) → IsTrue (is_honest self.new) }
+        ensures intact { IsErrOf result StoreError.Damaged → is_intact self.new ≡ false }
         ensures cause { HasCause (counts self.old) (counts self.new) (is_honest self.new) ⊥ result };
 
     /// The permanent checkpoint of the node without the node's state, if one is stored. It is a call of its own, so
@@ -68,6 +82,8 @@ pub trait CkptStore {
         ensures value { IsTrue (is_honest self.new) → IfOk result (λ m. m ≡ permanent_marks (content self.old) node) }
         ensures same { IsTrue (is_honest self.new) → content self.new ≡ content self.old }
         ensures honest { IsTrue (is_honest self.new) → IsTrue (is_honest self.old) }
+        ensures lasts { NeverFails failures → IsTrue (is_honest self.old) → IsTrue (is_honest self.new) }
+        ensures intact { IsErrOf result StoreError.Damaged → is_intact self.new ≡ false }
         ensures cause { HasCause (counts self.old) (counts self.new) (is_honest self.new) ⊥ result };
 
     /// The tentative checkpoint of the node with its instance and without the node's state, if one is stored.
@@ -79,6 +95,8 @@ pub trait CkptStore {
         ensures value { IsTrue (is_honest self.new) → IfOk result (λ m. m ≡ tentative_marks (content self.old) node) }
         ensures same { IsTrue (is_honest self.new) → content self.new ≡ content self.old }
         ensures honest { IsTrue (is_honest self.new) → IsTrue (is_honest self.old) }
+        ensures lasts { NeverFails failures → IsTrue (is_honest self.old) → IsTrue (is_honest self.new) }
+        ensures intact { IsErrOf result StoreError.Damaged → is_intact self.new ≡ false }
         ensures cause { HasCause (counts self.old) (counts self.new) (is_honest self.new) ⊥ result };
 
     /// The verdict on the instance, if it was begun.
@@ -86,6 +104,8 @@ pub trait CkptStore {
         ensures value { IsTrue (is_honest self.new) → IfOk result (λ v. v ≡ verdict_of (content self.old) instance) }
         ensures same { IsTrue (is_honest self.new) → content self.new ≡ content self.old }
         ensures honest { IsTrue (is_honest self.new) → IsTrue (is_honest self.old) }
+        ensures lasts { NeverFails failures → IsTrue (is_honest self.old) → IsTrue (is_honest self.new) }
+        ensures intact { IsErrOf result StoreError.Damaged → is_intact self.new ≡ false }
         ensures cause { HasCause (counts self.old) (counts self.new) (is_honest self.new) ⊥ result };
 
     /// Who began the instance, if it was begun.
@@ -93,6 +113,8 @@ pub trait CkptStore {
         ensures value { IsTrue (is_honest self.new) → IfOk result (λ p. p ≡ initiator_of (content self.old) instance) }
         ensures same { IsTrue (is_honest self.new) → content self.new ≡ content self.old }
         ensures honest { IsTrue (is_honest self.new) → IsTrue (is_honest self.old) }
+        ensures lasts { NeverFails failures → IsTrue (is_honest self.old) → IsTrue (is_honest self.new) }
+        ensures intact { IsErrOf result StoreError.Damaged → is_intact self.new ≡ false }
         ensures cause { HasCause (counts self.old) (counts self.new) (is_honest self.new) ⊥ result };
 
     /// The first instance that the node began and that has no verdict, if there is one. A node has one at most, but
@@ -101,6 +123,8 @@ pub trait CkptStore {
         ensures value { IsTrue (is_honest self.new) → IfOk result (λ i. i ≡ open_of (content self.old) node) }
         ensures same { IsTrue (is_honest self.new) → content self.new ≡ content self.old }
         ensures honest { IsTrue (is_honest self.new) → IsTrue (is_honest self.old) }
+        ensures lasts { NeverFails failures → IsTrue (is_honest self.old) → IsTrue (is_honest self.new) }
+        ensures intact { IsErrOf result StoreError.Damaged → is_intact self.new ≡ false }
         ensures cause { HasCause (counts self.old) (counts self.new) (is_honest self.new) ⊥ result };
 
     /// The number that the next instance gets: one more than the greatest that was begun, 1 at first.
@@ -108,6 +132,8 @@ pub trait CkptStore {
         ensures value { IsTrue (is_honest self.new) → IfOk result (λ i. i ≡ next_instance (content self.old)) }
         ensures same { IsTrue (is_honest self.new) → content self.new ≡ content self.old }
         ensures honest { IsTrue (is_honest self.new) → IsTrue (is_honest self.old) }
+        ensures lasts { NeverFails failures → IsTrue (is_honest self.old) → IsTrue (is_honest self.new) }
+        ensures intact { IsErrOf result StoreError.Damaged → is_intact self.new ≡ false }
         ensures cause { HasCause (counts self.old) (counts self.new) (is_honest self.new) ⊥ result };
 
     /// Whether nothing was ever stored: no node's row and no instance.
@@ -115,6 +141,8 @@ pub trait CkptStore {
         ensures value { IsTrue (is_honest self.new) → IfOk result (λ fresh. fresh ≡ is_fresh (content self.old)) }
         ensures same { IsTrue (is_honest self.new) → content self.new ≡ content self.old }
         ensures honest { IsTrue (is_honest self.new) → IsTrue (is_honest self.old) }
+        ensures lasts { NeverFails failures → IsTrue (is_honest self.old) → IsTrue (is_honest self.new) }
+        ensures intact { IsErrOf result StoreError.Damaged → is_intact self.new ≡ false }
         ensures cause { HasCause (counts self.old) (counts self.new) (is_honest self.new) ⊥ result };
 
     /// Begins a check: the next instance, of this node, and its tentative checkpoint in it. The node has no tentative
@@ -125,6 +153,8 @@ pub trait CkptStore {
             → OnOk result (content self.new ≡ check_begun node ckpt.now (content self.old)) }
         ensures unchanged { IsTrue (is_honest self.new) → OnErr result (content self.new ≡ content self.old) }
         ensures honest { IsTrue (is_honest self.new) → IsTrue (is_honest self.old) }
+        ensures lasts { NeverFails failures → IsTrue (is_honest self.old) → IsTrue (is_honest self.new) }
+        ensures intact { IsErrOf result StoreError.Damaged → is_intact self.new ≡ false }
         ensures cause { HasCause (counts self.old) (counts self.new) (is_honest self.new)
             (IsTrue (is_honest self.new) → next_instance (content self.old) ≡ greatest + 1) result };
 
@@ -135,6 +165,8 @@ pub trait CkptStore {
             → OnOk result (content self.new ≡ tentative_put node instance ckpt.now (content self.old)) }
         ensures unchanged { IsTrue (is_honest self.new) → OnErr result (content self.new ≡ content self.old) }
         ensures honest { IsTrue (is_honest self.new) → IsTrue (is_honest self.old) }
+        ensures lasts { NeverFails failures → IsTrue (is_honest self.old) → IsTrue (is_honest self.new) }
+        ensures intact { IsErrOf result StoreError.Damaged → is_intact self.new ≡ false }
         ensures cause { HasCause (counts self.old) (counts self.new) (is_honest self.new) ⊥ result };
 
     /// Makes the node's tentative checkpoint permanent. Its instance has Yes.
@@ -144,6 +176,8 @@ pub trait CkptStore {
             → OnOk result (content self.new ≡ promoted node (content self.old)) }
         ensures unchanged { IsTrue (is_honest self.new) → OnErr result (content self.new ≡ content self.old) }
         ensures honest { IsTrue (is_honest self.new) → IsTrue (is_honest self.old) }
+        ensures lasts { NeverFails failures → IsTrue (is_honest self.old) → IsTrue (is_honest self.new) }
+        ensures intact { IsErrOf result StoreError.Damaged → is_intact self.new ≡ false }
         ensures cause { HasCause (counts self.old) (counts self.new) (is_honest self.new) ⊥ result };
 
     /// Gives the node's tentative checkpoint up. Its instance has No.
@@ -153,6 +187,8 @@ pub trait CkptStore {
             → OnOk result (content self.new ≡ discarded node (content self.old)) }
         ensures unchanged { IsTrue (is_honest self.new) → OnErr result (content self.new ≡ content self.old) }
         ensures honest { IsTrue (is_honest self.new) → IsTrue (is_honest self.old) }
+        ensures lasts { NeverFails failures → IsTrue (is_honest self.old) → IsTrue (is_honest self.new) }
+        ensures intact { IsErrOf result StoreError.Damaged → is_intact self.new ≡ false }
         ensures cause { HasCause (counts self.old) (counts self.new) (is_honest self.new) ⊥ result };
 
     /// Begins a rollback: the next incarnation of the node, and the next instance, of this node. `Full` only where one
@@ -162,6 +198,8 @@ pub trait CkptStore {
             → OnOk result (content self.new ≡ restart_begun node (content self.old)) }
         ensures unchanged { IsTrue (is_honest self.new) → OnErr result (content self.new ≡ content self.old) }
         ensures honest { IsTrue (is_honest self.new) → IsTrue (is_honest self.old) }
+        ensures lasts { NeverFails failures → IsTrue (is_honest self.old) → IsTrue (is_honest self.new) }
+        ensures intact { IsErrOf result StoreError.Damaged → is_intact self.new ≡ false }
         ensures cause { HasCause (counts self.old) (counts self.new) (is_honest self.new)
             (IsTrue (is_honest self.new) → (next_instance (content self.old) ≡ greatest + 1)
             ⊎ ((row_of (content self.old) node).incarnation ≡ greatest)) result };
@@ -172,6 +210,8 @@ pub trait CkptStore {
             → OnOk result (content self.new ≡ bumped node (content self.old)) }
         ensures unchanged { IsTrue (is_honest self.new) → OnErr result (content self.new ≡ content self.old) }
         ensures honest { IsTrue (is_honest self.new) → IsTrue (is_honest self.old) }
+        ensures lasts { NeverFails failures → IsTrue (is_honest self.old) → IsTrue (is_honest self.new) }
+        ensures intact { IsErrOf result StoreError.Damaged → is_intact self.new ≡ false }
         ensures cause { HasCause (counts self.old) (counts self.new) (is_honest self.new)
             (IsTrue (is_honest self.new) → (row_of (content self.old) node).incarnation ≡ greatest) result };
 
@@ -182,5 +222,7 @@ pub trait CkptStore {
             → OnOk result (content self.new ≡ decided instance yes (content self.old)) }
         ensures unchanged { IsTrue (is_honest self.new) → OnErr result (content self.new ≡ content self.old) }
         ensures honest { IsTrue (is_honest self.new) → IsTrue (is_honest self.old) }
+        ensures lasts { NeverFails failures → IsTrue (is_honest self.old) → IsTrue (is_honest self.new) }
+        ensures intact { IsErrOf result StoreError.Damaged → is_intact self.new ≡ false }
         ensures cause { HasCause (counts self.old) (counts self.new) (is_honest self.new) ⊥ result };
 }

@@ -1,5 +1,5 @@
 -- What the calls on tables answer.
-use Rattle.std.proofs.Common.{◌≡◌, inl, inr, ℕ, ◌≤◌, Bool, true, false, List, None, Ok, Err, Result, IfOk, IfErr, IfSome, arith}
+use Rattle.std.proofs.Common.{◌≡◌, inl, inr, ℕ, ◌≤◌, Bool, true, false, List, None, Ok, Err, Result, IfOk, IfErr, IfSome, OnOk, arith}
 use Rattle.std.proofs.Common.{option_map, slice_get, refl, sym, ap, subst, ◌∙◌, ◌==◌, ◌&&◌, map, [], ◌∷◌, cond, length, fold, max, Ordering, ◌<◌}
 use Rattle.std.specs.Prelude.{IsTrue}
 use Rattle.std.specs.List.{find, AllByRecursion}
@@ -55,17 +55,22 @@ pub through_ok : {X E : Type 0} (r : Result X E) (P Q : X → Type 0) → ((x : 
 through_ok (Ok x) P Q go h = go x h
 through_ok (Err e) P Q go h = tt
 
--- a row that could not be read is damaged only where the tables are not sure
-pub read_reason : {X : Type 0} (sure : Bool) (r : Result X StoreError) → IfErr r IsReadError → (sure ≡ true → IfErr r (λ e. e ≡ Memory))
-    → HasReason sure r
-read_reason sure (Ok x) named good = record { damaged = λ is. absurd cc; full = λ is. absurd cc }
-read_reason sure (Err Memory) named good = record { damaged = λ is. absurd cc; full = λ is. absurd cc }
-read_reason sure (Err Device) (inl e) good = absurd cc
-read_reason sure (Err Device) (inr e) good = absurd cc
+-- what holds where there is an answer holds of it
+pub where_ok : {X E : Type 0} (r : Result X E) (A : Type 0) (P : X → Type 0) → OnOk r A → (A → IfOk r P) → IfOk r P
+where_ok (Ok x) A P a go = go a
+where_ok (Err e) A P a go = tt
+
+-- a row that could not be read is damaged only where the tables are not sound
+pub read_reason : {X : Type 0} (sound : Bool) (r : Result X StoreError) → IfErr r IsReadError → (sound ≡ true → IfErr r (λ e. e ≡ Memory))
+    → HasReason sound r
+read_reason sound (Ok x) named good = record { damaged = λ is. absurd cc; full = λ is. absurd cc }
+read_reason sound (Err Memory) named good = record { damaged = λ is. absurd cc; full = λ is. absurd cc }
+read_reason sound (Err Device) (inl e) good = absurd cc
+read_reason sound (Err Device) (inr e) good = absurd cc
 read_reason true (Err Damaged) named good = absurd (let e = good refl in cc)
 read_reason false (Err Damaged) named good = record { damaged = λ is. refl; full = λ is. absurd cc }
-read_reason sure (Err Full) (inl e) good = absurd cc
-read_reason sure (Err Full) (inr e) good = absurd cc
+read_reason sound (Err Full) (inl e) good = absurd cc
+read_reason sound (Err Full) (inr e) good = absurd cc
 
 module _ {S : Type 0} (g : Ghosts S) (s n : Tabled S) (kept : IsKept g n) (same : (state g n.conn).now ≡ (state g s.conn).now) where
   -- the tables were those of a store before the call too

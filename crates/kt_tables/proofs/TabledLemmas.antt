@@ -1,6 +1,6 @@
 -- Tables over a connection, from one call to the next.
-use Rattle.std.proofs.Common.{◌≡◌, ◌≤◌, Bool, true, false, ◌&&◌, refl, sym, ap, subst, ◌∙◌, arith}
-use Rattle.std.specs.Prelude.{◌↔◌, IsTrue}
+use Rattle.std.proofs.Common.{◌≡◌, ◌≤◌, ℕ, Bool, true, false, ◌&&◌, inl, inr, refl, sym, ap, subst, ◌∙◌, arith}
+use Rattle.std.specs.Prelude.{◌↔◌, ◌⊎◌, IsTrue}
 use Rattle.sqlite.specs.Store.{Ghosts}
 use Rattle.sqlite.specs.Held.{Held, state}
 use Rattle.sqlite.specs.State.{HasCleanDisk}
@@ -14,7 +14,9 @@ use Rattle.kt_tables.specs.Opened.{IsReady}
 use Rattle.kt_tables.specs.Rows.{AreAsSaid, Holds, content_in}
 use Rattle.kt_store.specs.Content.{Content, empty_content}
 use Rattle.kt_tables.specs.Made.{IsMade}
-use Rattle.kt_tables.specs.Held.{Tabled, is_sure, content_of, IsKept}
+use Rattle.kt_tables.specs.Held.{Tabled, content_of, is_sound, is_sure, IsKept, Lasts}
+use Rattle.kt_tables.specs.inner.Lasting as Connection
+use Rattle.sqlite_disk.specs.Disk.{MoreFaults}
 use Rattle.kt_tables.proofs.HeldLemmas.{holds_content, empty_content_in, made_ready}
 
 three : (a b c : Bool) → IsTrue (a && (b && c)) → IsTrue a × IsTrue b × IsTrue c
@@ -29,6 +31,15 @@ all_three true true false p q r = absurd cc
 all_three true false c p q r = absurd cc
 all_three false b c p q r = absurd cc
 
+two : (a b : Bool) → IsTrue (a && b) → IsTrue a × IsTrue b
+two true true h = (refl, refl)
+two true false h = absurd cc
+two false b h = absurd cc
+
+-- a count that is 0 has not risen
+no_more : (old new : ℕ) → new ≡ 0 → MoreFaults old new → ⊥
+no_more old new none more = grind (arith, none, more)
+
 module _ {S : Type 0} (g : Ghosts S) where
   pub record IsSure (s : Tabled S) : Type 0 where
     pub trusted : IsTrue s.is_trusted
@@ -42,6 +53,34 @@ module _ {S : Type 0} (g : Ghosts S) where
 
   pub sure_whole : (s : Tabled S) → IsSure s → IsTrue (is_sure g s)
   sure_whole s h = all_three s.is_trusted (state g s.conn).is_open (state g s.conn).is_clean h.trusted h.is_open (clean_of _ h.clean)
+
+  -- a sound one whose connection is open is sure
+  pub sound_sure : (s : Tabled S) → IsTrue (is_sound g s) → (HasCleanDisk (state g s.conn) → IsTrue (state g s.conn).is_open) → IsTrue (is_sure g s)
+  sound_sure s sound opened =
+      let parts = two s.is_trusted (state g s.conn).is_clean sound in
+      let clean = no_doubt _ parts.1 in
+      sure_whole s (record { trusted = parts.0; is_open = opened clean; clean = clean })
+
+  -- one that was sure is so still, unless the disk failed
+  pub lasted : (s : Tabled S) (conn : Held S) → Connection.Lasts (state g s.conn) (state g conn)
+      → Lasts g s (record { conn = conn; is_trusted = s.is_trusted })
+  lasted s conn lasts clean sure = by (lasts.closes clean was.is_open)
+    where
+      was : IsSure s
+      was = sure_parts s sure
+
+      by : IsTrue (state g conn).is_open ⊎ MoreFaults (state g s.conn).faults (state g conn).faults
+          → IsTrue (is_sure g (record { conn = conn; is_trusted = s.is_trusted })) ⊎ MoreFaults (state g s.conn).faults (state g conn).faults
+      by (inl still) = inl (sure_whole (record { conn = conn; is_trusted = s.is_trusted }) (record { trusted = was.trusted; is_open = still; clean = clean }))
+      by (inr more) = inr more
+
+  -- and where it never failed at all, it is
+  pub never_ended : (old new : Tabled S) → Lasts g old new → Connection.failures (state g new.conn) ≡ 0 → IsTrue (is_sure g old) → IsTrue (is_sure g new)
+  never_ended old new lasts none sure = by (lasts (omega (arith, none)) sure)
+    where
+      by : IsTrue (is_sure g new) ⊎ MoreFaults (state g old.conn).faults (state g new.conn).faults → IsTrue (is_sure g new)
+      by (inl still) = still
+      by (inr more) = absurd (no_more (state g old.conn).faults (state g new.conn).faults (omega (arith, none)) more)
 
   -- a store whose tables were made or tested
   pub ready_kept : (s : Tabled S) → IsReady (state g s.conn) s.is_trusted → IsTrue s.is_trusted → IsKept g s

@@ -1,8 +1,10 @@
 -- Tables over a connection: what they hold, and when that is said.
-use Rattle.std.specs.Prelude.{◌≡◌, Bool, ◌&&◌, refl}
+use Rattle.std.specs.Prelude.{◌≡◌, ◌⊎◌, Bool, ◌&&◌, refl, IsTrue}
 use Rattle.std.specs.Coded.{Coded, code_by, coded×, coded_bool}
 use Rattle.sqlite.specs.Store.{Ghosts}
 use Rattle.sqlite.specs.Held.{Held, held_code, state}
+use Rattle.sqlite.specs.State.{HasCleanDisk}
+use Rattle.sqlite_disk.specs.Disk.{MoreFaults}
 use Rattle.kt_store.specs.Content.{Content}
 use Rattle.kt_tables.specs.Schema.{kt_schema}
 use Rattle.kt_tables.specs.Settled.{IsSettled}
@@ -24,6 +26,11 @@ module _ {S : Type 0} (g : Ghosts S) where
   abbrev pub is_sure : Tabled S → Bool
   is_sure s = s.is_trusted && ((state g s.conn).is_open && (state g s.conn).is_clean)
 
+  -- each row was as said when the tables were opened, and the disk has returned what was written: so too over a
+  -- connection that was shut
+  abbrev pub is_sound : Tabled S → Bool
+  is_sound s = s.is_trusted && (state g s.conn).is_clean
+
   -- what its tables hold
   abbrev pub content_of : Tabled S → Content
   content_of s = content_in (state g s.conn).now.trees
@@ -33,3 +40,9 @@ module _ {S : Type 0} (g : Ghosts S) where
     pub settled : IsSettled (state g s.conn)
     pub schema : (state g s.conn).now.schema ≡ kt_schema
     pub holds : Holds (state g s.conn).now.trees (content_of s)
+
+  -- tables that were sure are so still, unless the disk failed since or did not return what was written
+  abbrev pub Lasts : (old new : Tabled S) → Type 0
+  Lasts old new =
+      HasCleanDisk (state g new.conn) → IsTrue (is_sure old)
+      → IsTrue (is_sure new) ⊎ MoreFaults (state g old.conn).faults (state g new.conn).faults

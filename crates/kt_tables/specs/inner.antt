@@ -5,3 +5,4 @@ pub mod Cells
 pub mod Testing
 pub mod Showing
 pub mod Looking
+pub mod Lasting

@@ -14,7 +14,7 @@ ghost use Rattle.kt_tables.specs.inner.Cells.{SpellsPosted};
 ghost use Rattle.sqlite.specs.Given.{IsPlain};
 ghost use Rattle.kt_tables.specs.Reason.{HasReason};
 ghost use Rattle.kt_tables.specs.Schema.{kt_schema};
-ghost use Rattle.kt_tables.specs.Held.{is_sure, content_of, IsKept};
+ghost use Rattle.kt_tables.specs.Held.{content_of, is_sound, is_sure, IsKept, Lasts};
 
 use crate::cells::{NodeCells, PostedCells, posted_cells};
 use crate::opened::statement_error;
@@ -26,7 +26,7 @@ use std::alloc::Global;
 use std::marker::Model;
 
 /// The tables of a store, over a connection. They are sure while the connection is open, the disk has returned what
-/// was written, and each row was as said when they were opened.
+/// was written, and each row was as said when they were opened. They are sound as long as the last two hold.
 pub struct Tables<S: Alter> {
     conn: Connection<S>,
     /// Whether each row was as said when the tables were opened. No write changes it: to write over one bad row must
@@ -93,7 +93,8 @@ impl<S: Alter> Tables<S> {
         self.alloc
     }
 
-    /// All rows of the answer to a query.
+    /// All rows of the answer to a query. Over a connection that is shut none is answered: tables that are sound have
+    /// answered over one that is open, so they are sure.
     pub(crate) fn ask(&mut self, sql: &str, params: &[ValueRef<'_>]) -> Result<Vec<Row>, StoreError>
         requires { IsPlain (understood kt_schema sql.now) }
         ensures shown { IsTrue (is_sure S.Store self.new)
@@ -102,13 +103,15 @@ impl<S: Alter> Tables<S> {
         ensures same { IsTrue (is_sure S.Store self.new)
             → (state S.Store self.new.conn).now ≡ (state S.Store self.old.conn).now }
         ensures honest { IsTrue (is_sure S.Store self.new) → IsTrue (is_sure S.Store self.old) }
+        ensures lasts { Lasts S.Store self.old self.new }
+        ensures sure { IsTrue (is_sound S.Store self.new) → OnOk result (IsTrue (is_sure S.Store self.new)) }
         ensures kept { IsTrue (is_sure S.Store self.new) → IsKept S.Store self.new }
         ensures trusted { self.new.is_trusted ≡ self.old.is_trusted }
-        ensures reason { HasReason (is_sure S.Store self.new) result }
+        ensures reason { HasReason (is_sound S.Store self.new) result }
     {
         match self.conn.query_all(sql, params) {
             Ok(rows) => Ok(rows),
-            Err(error) => Err(statement_error(error)),
+            Err(refusal) => Err(statement_error(refusal)),
         }
     }
 
@@ -127,8 +130,9 @@ impl<S: Alter> Tables<S> {
         ensures unchanged { IsTrue (is_sure S.Store self.new)
             → OnErr result (content_of S.Store self.new ≡ content_of S.Store self.old) }
         ensures honest { IsTrue (is_sure S.Store self.new) → IsTrue (is_sure S.Store self.old) }
+        ensures lasts { Lasts S.Store self.old self.new }
         ensures trusted { self.new.is_trusted ≡ self.old.is_trusted }
-        ensures reason { HasReason (is_sure S.Store self.new) result }
+        ensures reason { HasReason (is_sound S.Store self.new) result }
     {
         self.write_node(&cells)
     }
@@ -140,8 +144,9 @@ impl<S: Alter> Tables<S> {
         ensures unchanged { IsTrue (is_sure S.Store self.new)
             → OnErr result (content_of S.Store self.new ≡ content_of S.Store self.old) }
         ensures honest { IsTrue (is_sure S.Store self.new) → IsTrue (is_sure S.Store self.old) }
+        ensures lasts { Lasts S.Store self.old self.new }
         ensures trusted { self.new.is_trusted ≡ self.old.is_trusted }
-        ensures reason { HasReason (is_sure S.Store self.new) result }
+        ensures reason { HasReason (is_sound S.Store self.new) result }
     {
         match execute_node(&mut self.conn, cells) {
             Ok(_) => Ok(()),
@@ -158,8 +163,9 @@ impl<S: Alter> Tables<S> {
         ensures unchanged { IsTrue (is_sure S.Store self.new)
             → OnErr result (content_of S.Store self.new ≡ content_of S.Store self.old) }
         ensures honest { IsTrue (is_sure S.Store self.new) → IsTrue (is_sure S.Store self.old) }
+        ensures lasts { Lasts S.Store self.old self.new }
         ensures trusted { self.new.is_trusted ≡ self.old.is_trusted }
-        ensures reason { HasReason (is_sure S.Store self.new) result }
+        ensures reason { HasReason (is_sound S.Store self.new) result }
     {
         match posted_cells(row) {
             Some(cells) => self.write_posted(cells),
@@ -174,8 +180,9 @@ impl<S: Alter> Tables<S> {
         ensures unchanged { IsTrue (is_sure S.Store self.new)
             → OnErr result (content_of S.Store self.new ≡ content_of S.Store self.old) }
         ensures honest { IsTrue (is_sure S.Store self.new) → IsTrue (is_sure S.Store self.old) }
+        ensures lasts { Lasts S.Store self.old self.new }
         ensures trusted { self.new.is_trusted ≡ self.old.is_trusted }
-        ensures reason { HasReason (is_sure S.Store self.new) result }
+        ensures reason { HasReason (is_sound S.Store self.new) result }
     {
         match execute_posted(&mut self.conn, cells) {
             Ok(_) => Ok(()),
@@ -194,8 +201,9 @@ impl<S: Alter> Tables<S> {
         ensures unchanged { IsTrue (is_sure S.Store self.new)
             → OnErr result (content_of S.Store self.new ≡ content_of S.Store self.old) }
         ensures honest { IsTrue (is_sure S.Store self.new) → IsTrue (is_sure S.Store self.old) }
+        ensures lasts { Lasts S.Store self.old self.new }
         ensures trusted { self.new.is_trusted ≡ self.old.is_trusted }
-        ensures reason { HasReason (is_sure S.Store self.new) result }
+        ensures reason { HasReason (is_sound S.Store self.new) result }
     {
         match posted_cells(posted) {
             Some(posted) => self.write_both(&cells, posted),
@@ -212,8 +220,9 @@ impl<S: Alter> Tables<S> {
         ensures unchanged { IsTrue (is_sure S.Store self.new)
             → OnErr result (content_of S.Store self.new ≡ content_of S.Store self.old) }
         ensures honest { IsTrue (is_sure S.Store self.new) → IsTrue (is_sure S.Store self.old) }
+        ensures lasts { Lasts S.Store self.old self.new }
         ensures trusted { self.new.is_trusted ≡ self.old.is_trusted }
-        ensures reason { HasReason (is_sure S.Store self.new) result }
+        ensures reason { HasReason (is_sound S.Store self.new) result }
     {
         match execute_both(&mut self.conn, node, posted) {
             Ok(true) => Ok(()),

@@ -33,8 +33,9 @@ const ALL_NODES: &str =
 const ALL_POSTED: &str =
     "SELECT instance, initiator, purpose, verdict FROM kt_board ORDER BY instance";
 
-/// Why a statement was refused: for memory, or for a fault.
+/// Why a statement was refused: for memory exactly where sqlite says so, and else for a fault.
 pub(crate) fn statement_error(error: Error) -> StoreError
+    ensures memory { result ≡ StoreError.Memory ↔ error ≡ Error.SqliteFailure ErrorCode.OutOfMemory }
     ensures named { (result ≡ StoreError.Memory) ⊎ (result ≡ StoreError.Device) }
     ensures whole { result ≢ StoreError.Damaged }
 {

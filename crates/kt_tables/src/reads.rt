@@ -13,7 +13,7 @@ ghost use Rattle.kt_tables.specs.Reason.{HasReason};
 ghost use Rattle.kt_tables.specs.Cells.{cells_node, AreSaid};
 ghost use Rattle.kt_tables.specs.Rows.{IsNodeRow, IsPosted};
 ghost use Rattle.kt_tables.specs.inner.Showing.{AreRowsOf};
-ghost use Rattle.kt_tables.specs.Held.{is_sure, content_of};
+ghost use Rattle.kt_tables.specs.Held.{content_of, is_sound, is_sure, Lasts};
 
 use crate::cells::{NodeCells, with_tentative};
 use crate::firsts::{
@@ -46,14 +46,18 @@ const OPEN_POSTED: &str =
      ORDER BY instance LIMIT 1";
 
 impl<S: Alter> Tables<S> {
-    /// The rows of the node: one, or none where nothing is stored of it.
+    /// The rows of the node: one, or none where nothing is stored of it. While the tables are sound, each row that is
+    /// answered is as said; a node that has no id is answered without a look at the connection.
     fn rows_of(&mut self, node: NodeId) -> Result<Vec<Row>, StoreError>
         ensures rows { IsTrue (is_sure S.Store self.new) → IfOk result (λ rows. AreRowsOf
             (find (λ (r : NodeFields). node_eq r.node node) (content_of S.Store self.old).nodes) rows.items) }
+        ensures said { IsTrue (is_sound S.Store self.new)
+            → IfOk result (λ rows. (row : Option NodeFields) × AreRowsOf row rows.items) }
         ensures same { IsTrue (is_sure S.Store self.new) → content_of S.Store self.new ≡ content_of S.Store self.old }
         ensures honest { IsTrue (is_sure S.Store self.new) → IsTrue (is_sure S.Store self.old) }
+        ensures lasts { Lasts S.Store self.old self.new }
         ensures trusted { self.new.is_trusted ≡ self.old.is_trusted }
-        ensures reason { HasReason (is_sure S.Store self.new) result }
+        ensures reason { HasReason (is_sound S.Store self.new) result }
     {
         let alloc = self.allocator();
         // A node that the tables have no id for has no row.
@@ -71,8 +75,9 @@ impl<S: Alter> Tables<S> {
         ensures found { IfOk result (λ o. IfSome o IsNodeRow) }
         ensures same { IsTrue (is_sure S.Store self.new) → content_of S.Store self.new ≡ content_of S.Store self.old }
         ensures honest { IsTrue (is_sure S.Store self.new) → IsTrue (is_sure S.Store self.old) }
+        ensures lasts { Lasts S.Store self.old self.new }
         ensures trusted { self.new.is_trusted ≡ self.old.is_trusted }
-        ensures reason { HasReason (is_sure S.Store self.new) result }
+        ensures reason { HasReason (is_sound S.Store self.new) result }
     {
         let alloc = self.allocator();
         let rows = self.rows_of(node)?;
@@ -85,8 +90,9 @@ impl<S: Alter> Tables<S> {
             → IfOk result (λ n. n ≡ (row_of (content_of S.Store self.old) node).incarnation) }
         ensures same { IsTrue (is_sure S.Store self.new) → content_of S.Store self.new ≡ content_of S.Store self.old }
         ensures honest { IsTrue (is_sure S.Store self.new) → IsTrue (is_sure S.Store self.old) }
+        ensures lasts { Lasts S.Store self.old self.new }
         ensures trusted { self.new.is_trusted ≡ self.old.is_trusted }
-        ensures reason { HasReason (is_sure S.Store self.new) result }
+        ensures reason { HasReason (is_sound S.Store self.new) result }
     {
         let rows = self.rows_of(node)?;
         first_incarnation(&rows)
@@ -102,8 +108,9 @@ impl<S: Alter> Tables<S> {
             → IfOk result (λ m. m ≡ permanent_marks (content_of S.Store self.old) node) }
         ensures same { IsTrue (is_sure S.Store self.new) → content_of S.Store self.new ≡ content_of S.Store self.old }
         ensures honest { IsTrue (is_sure S.Store self.new) → IsTrue (is_sure S.Store self.old) }
+        ensures lasts { Lasts S.Store self.old self.new }
         ensures trusted { self.new.is_trusted ≡ self.old.is_trusted }
-        ensures reason { HasReason (is_sure S.Store self.new) result }
+        ensures reason { HasReason (is_sound S.Store self.new) result }
     {
         let rows = self.rows_of(node)?;
         first_permanent(alloc, &rows)
@@ -119,8 +126,9 @@ impl<S: Alter> Tables<S> {
             → IfOk result (λ m. m ≡ tentative_marks (content_of S.Store self.old) node) }
         ensures same { IsTrue (is_sure S.Store self.new) → content_of S.Store self.new ≡ content_of S.Store self.old }
         ensures honest { IsTrue (is_sure S.Store self.new) → IsTrue (is_sure S.Store self.old) }
+        ensures lasts { Lasts S.Store self.old self.new }
         ensures trusted { self.new.is_trusted ≡ self.old.is_trusted }
-        ensures reason { HasReason (is_sure S.Store self.new) result }
+        ensures reason { HasReason (is_sound S.Store self.new) result }
     {
         let rows = self.rows_of(node)?;
         first_tentative(alloc, &rows)
@@ -134,8 +142,9 @@ impl<S: Alter> Tables<S> {
         ensures last { IfOk result (λ r. r.incarnation ≤ greatest) }
         ensures same { IsTrue (is_sure S.Store self.new) → content_of S.Store self.new ≡ content_of S.Store self.old }
         ensures honest { IsTrue (is_sure S.Store self.new) → IsTrue (is_sure S.Store self.old) }
+        ensures lasts { Lasts S.Store self.old self.new }
         ensures trusted { self.new.is_trusted ≡ self.old.is_trusted }
-        ensures reason { HasReason (is_sure S.Store self.new) result }
+        ensures reason { HasReason (is_sound S.Store self.new) result }
     {
         match self.find_node(node)? {
             Some(row) => Ok(row),
@@ -156,8 +165,9 @@ impl<S: Alter> Tables<S> {
             → IfOk result (λ c. cells_node c ≡ row_of (content_of S.Store self.old) node) }
         ensures same { IsTrue (is_sure S.Store self.new) → content_of S.Store self.new ≡ content_of S.Store self.old }
         ensures honest { IsTrue (is_sure S.Store self.new) → IsTrue (is_sure S.Store self.old) }
+        ensures lasts { Lasts S.Store self.old self.new }
         ensures trusted { self.new.is_trusted ≡ self.old.is_trusted }
-        ensures reason { HasReason (is_sure S.Store self.new) result }
+        ensures reason { HasReason (is_sound S.Store self.new) result }
     {
         let Some(id) = id_of(node) else {
             return Err(StoreError::Device);
@@ -181,8 +191,9 @@ impl<S: Alter> Tables<S> {
             ≡ record (row_of (content_of S.Store self.old) node) { tentative = taken instance ckpt.now }) }
         ensures same { IsTrue (is_sure S.Store self.new) → content_of S.Store self.new ≡ content_of S.Store self.old }
         ensures honest { IsTrue (is_sure S.Store self.new) → IsTrue (is_sure S.Store self.old) }
+        ensures lasts { Lasts S.Store self.old self.new }
         ensures trusted { self.new.is_trusted ≡ self.old.is_trusted }
-        ensures reason { HasReason (is_sure S.Store self.new) result }
+        ensures reason { HasReason (is_sound S.Store self.new) result }
     {
         let alloc = self.allocator();
         let cells = self.cells_of(node)?;
@@ -200,8 +211,9 @@ impl<S: Alter> Tables<S> {
         ensures found { IfOk result (λ o. IfSome o IsPosted) }
         ensures same { IsTrue (is_sure S.Store self.new) → content_of S.Store self.new ≡ content_of S.Store self.old }
         ensures honest { IsTrue (is_sure S.Store self.new) → IsTrue (is_sure S.Store self.old) }
+        ensures lasts { Lasts S.Store self.old self.new }
         ensures trusted { self.new.is_trusted ≡ self.old.is_trusted }
-        ensures reason { HasReason (is_sure S.Store self.new) result }
+        ensures reason { HasReason (is_sound S.Store self.new) result }
     {
         // For the proof alone: its clause says that the tables are those of a store.
         let _ = self.allocator();
@@ -220,8 +232,9 @@ impl<S: Alter> Tables<S> {
             (content_of S.Store self.old).board) }
         ensures same { IsTrue (is_sure S.Store self.new) → content_of S.Store self.new ≡ content_of S.Store self.old }
         ensures honest { IsTrue (is_sure S.Store self.new) → IsTrue (is_sure S.Store self.old) }
+        ensures lasts { Lasts S.Store self.old self.new }
         ensures trusted { self.new.is_trusted ≡ self.old.is_trusted }
-        ensures reason { HasReason (is_sure S.Store self.new) result }
+        ensures reason { HasReason (is_sound S.Store self.new) result }
     {
         // For the proof alone, as in `find_posted`.
         let _ = self.allocator();
@@ -240,8 +253,9 @@ impl<S: Alter> Tables<S> {
         ensures within { IfOk result (λ n. n ≤ greatest) }
         ensures same { IsTrue (is_sure S.Store self.new) → content_of S.Store self.new ≡ content_of S.Store self.old }
         ensures honest { IsTrue (is_sure S.Store self.new) → IsTrue (is_sure S.Store self.old) }
+        ensures lasts { Lasts S.Store self.old self.new }
         ensures trusted { self.new.is_trusted ≡ self.old.is_trusted }
-        ensures reason { HasReason (is_sure S.Store self.new) result }
+        ensures reason { HasReason (is_sound S.Store self.new) result }
     {
         let rows = self.ask(LAST_POSTED, params![])?;
         first_number(&rows)
@@ -253,8 +267,9 @@ impl<S: Alter> Tables<S> {
             → IfOk result (λ b. b ≡ is_empty (content_of S.Store self.old).nodes) }
         ensures same { IsTrue (is_sure S.Store self.new) → content_of S.Store self.new ≡ content_of S.Store self.old }
         ensures honest { IsTrue (is_sure S.Store self.new) → IsTrue (is_sure S.Store self.old) }
+        ensures lasts { Lasts S.Store self.old self.new }
         ensures trusted { self.new.is_trusted ≡ self.old.is_trusted }
-        ensures reason { HasReason (is_sure S.Store self.new) result }
+        ensures reason { HasReason (is_sound S.Store self.new) result }
     {
         let rows = self.ask(FIRST_NODE, params![])?;
         Ok(has_no_row(&rows))
@@ -266,8 +281,9 @@ impl<S: Alter> Tables<S> {
             → IfOk result (λ b. b ≡ is_empty (content_of S.Store self.old).board) }
         ensures same { IsTrue (is_sure S.Store self.new) → content_of S.Store self.new ≡ content_of S.Store self.old }
         ensures honest { IsTrue (is_sure S.Store self.new) → IsTrue (is_sure S.Store self.old) }
+        ensures lasts { Lasts S.Store self.old self.new }
         ensures trusted { self.new.is_trusted ≡ self.old.is_trusted }
-        ensures reason { HasReason (is_sure S.Store self.new) result }
+        ensures reason { HasReason (is_sound S.Store self.new) result }
     {
         let rows = self.ask(LAST_POSTED, params![])?;
         Ok(has_no_row(&rows))

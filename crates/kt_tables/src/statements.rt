@@ -10,6 +10,7 @@ ghost use Rattle.kt_tables.specs.Rows.{posted_given};
 ghost use Rattle.kt_tables.specs.Cells.{cells_given};
 ghost use Rattle.kt_tables.specs.inner.Cells.{SpellsPosted};
 ghost use Rattle.kt_tables.specs.inner.Both.{RanBoth};
+ghost use Rattle.kt_tables.specs.inner.Lasting.{Lasts};
 
 use crate::cells::{NodeCells, PostedCells};
 use sqlite::{Alter, Connection, Error, Transaction, params};
@@ -27,6 +28,7 @@ pub(crate) fn execute_node<S: Alter>(
     ensures runs { HasCleanDisk (state S.Store conn.new)
         → Executes put_node_text (cells_given cells.now) (state S.Store conn.old) (state S.Store conn.new) result }
     ensures clean { doubt (state S.Store conn.old).is_clean ≤ doubt (state S.Store conn.new).is_clean }
+    ensures lasts { Lasts (state S.Store conn.old) (state S.Store conn.new) }
 {
     conn.execute(
         PUT_NODE,
@@ -48,6 +50,7 @@ pub(crate) fn execute_posted<S: Alter>(
     ensures runs { HasCleanDisk (state S.Store conn.new) → (p : PostedFields) → SpellsPosted cells p
         → Executes put_posted_text (posted_given p) (state S.Store conn.old) (state S.Store conn.new) result }
     ensures clean { doubt (state S.Store conn.old).is_clean ≤ doubt (state S.Store conn.new).is_clean }
+    ensures lasts { Lasts (state S.Store conn.old) (state S.Store conn.new) }
 {
     conn.execute(
         PUT_POSTED,
@@ -128,6 +131,7 @@ pub(crate) fn execute_both<S: Alter>(
     ensures not_begun { IfOk result (λ done. done ≡ false
         → (conn.new ≡ conn.old) × ((state S.Store conn.old).in_transaction ≡ true)) }
     ensures clean { doubt (state S.Store conn.old).is_clean ≤ doubt (state S.Store conn.new).is_clean }
+    ensures lasts { Lasts (state S.Store conn.old) (state S.Store conn.new) }
 {
     if !conn.is_autocommit() {
         return Ok(false);

@@ -12,7 +12,7 @@ use Rattle.kt_run.specs.declared.running.Output.TheVariants as outputs
 use Rattle.kt_command.specs.declared.command.Command.{Command}
 use Rattle.kt_command.specs.declared.command.Command.TheVariants.{Replay, Run}
 use Rattle.kt_command.specs.Command.{command_of, is_word}
-use Rattle.linda_kt.specs.declared.words.Request.{Request}
+use Rattle.kt_command.specs.declared.request.Request.{Request}
 
 -- a command, and the file that is named for its store, or none
 abbrev pub asked : Request → Command × Option Text

@@ -3,11 +3,14 @@
 //!
 //! - Contract: `run_program`, clause `told`: words without a fault do their command over the store that they name, and
 //!   the exit status says how it ended; what `linda_kt` writes is what that command may write.
-//! - Stands on: kt_tuple, kt_store, kt_sql, kt_scene, kt_stage, kt_run, kt_command; of the kit: sqlite, clap
+//! - Stands on: kt_tuple, kt_store, kt_tables, kt_sql, kt_scene, kt_stage, kt_run, kt_command; of the kit: sqlite, clap
 //! - Used by: none
 //! - Begin in: `program.rt`; the grammar of the words is in `words.rt`.
 #![tactic(auto)]
 
+mod files;
+#[cfg(test)]
+mod opener_tests;
 mod program;
 #[cfg(test)]
 mod run_tests;
@@ -15,6 +18,7 @@ mod run_tests;
 mod tests;
 mod words;
 
+use crate::files::Files;
 use kt_scene::{Sink, Source};
 use std::env;
 use std::process::ExitCode;
@@ -25,6 +29,14 @@ fn main(rt: HostRuntime) -> ExitCode {
     let mut writer = Sink::new(rt.stdout());
     let mut errors = rt.stderr();
     // The runtime twice: by the first a file is opened, by the second threads are started.
-    let status = program::run_arguments(&rt, &rt, arguments, &mut reader, &mut writer, &mut errors);
+    let status = program::run_arguments(
+        Files::new(&rt),
+        &rt,
+        rt.alloc(),
+        arguments,
+        &mut reader,
+        &mut writer,
+        &mut errors,
+    );
     ExitCode::from(status)
 }

@@ -1,23 +1,20 @@
 //! What the program does with its words and its three streams.
-ghost use Rattle.std.specs.Prelude.{◌≡◌, ◌≢◌, ◌⊎◌, [], IsErr, IfOk, IfErr, option_map};
+ghost use Rattle.std.specs.Prelude.{◌≡◌, ◌≢◌, ◌⊎◌, [], IsErr, IfOk};
 ghost use Rattle.std.specs.Vec.Iter.{into_iter_items};
 ghost use Rattle.clap.specs.Words.{kind_of};
 ghost use Rattle.clap.specs.declared.error.kind.ErrorKind.TheVariants as kind;
 ghost use Rattle.kt_command.specs.Command.{texts, words_behind};
-ghost use Rattle.linda_kt.specs.Status.{Ends, EndsInFile, EndsLeaving, IsRunStatus, IsWordsStatus};
+ghost use Rattle.linda_kt.specs.Status.{IsRunStatus, IsWordsStatus};
 ghost use Rattle.linda_kt.specs.Words.{AreWrong, words_fault};
 
-use crate::words::{Request, read_words, refuse_bytes};
+use crate::words::{read_words, refuse_bytes};
 use clap::Error;
 use clap::error::ErrorKind;
-use kt_command::{
-    COMMAND_LINE, Command, DONE, MEMORY, STORE, STREAM, run_in_memory, run_over, texts_of,
-    words_behind,
-};
+use kt_command::{COMMAND_LINE, DONE, MEMORY, Opens, STREAM, run_request, texts_of, words_behind};
 use kt_scene::{Outcome, Sink, Source};
 use kt_sql::{SqlOpenError, SqlStore};
 use kt_store::CkptStore;
-use sqlite::{Alter, File, FileStore};
+use sqlite::Alter;
 use std::alloc::{AllocError, Global};
 use std::env::Args;
 use std::io;
@@ -26,10 +23,19 @@ use std::sync::Wait;
 use std::thread::Threads;
 
 /// Runs the program on the arguments of its process, of which the first is its name. Arguments that
-/// are not text are wrong words. A run starts its threads by `threads`.
-pub fn run_arguments<T: Threads + Wait + Sync, R: Read, W: Write, E: Write>(
-    rt: &HostRuntime,
+/// are not text are wrong words. The store in a file is opened by `opener`, and a run starts its
+/// threads by `threads`.
+pub fn run_arguments<
+    D: Alter + Drop + Send,
+    O: Opens<SqlStore<D>, SqlOpenError>,
+    T: Threads + Wait + Sync,
+    R: Read,
+    W: Write,
+    E: Write,
+>(
+    opener: O,
     threads: &T,
+    alloc: Global,
     arguments: io::Result<Args>,
     reader: &mut Source<R>,
     writer: &mut Sink<W>,
@@ -39,13 +45,12 @@ pub fn run_arguments<T: Threads + Wait + Sync, R: Read, W: Write, E: Write>(
     ensures no_text_reads_nothing { IsErr arguments → reader.new ≡ reader.old }
     ensures no_text_prints_nothing { IsErr arguments → writer.new ≡ writer.old }
     ensures told { IfOk arguments (λ a. words_fault (words_behind (into_iter_items a)) ≡ []
-        → IsRunStatus ⟦<SqlStore<FileStore<File>> as CkptStore>⟧ (words_behind (into_iter_items a))
+        → IsRunStatus ⟦<SqlStore<D> as CkptStore>⟧ (O.gives opener) (words_behind (into_iter_items a))
         reader.old reader.new writer.old writer.new result) }
     ensures wrong_words { IfOk arguments (λ a. AreWrong (words_behind (into_iter_items a))
         → (result ≡ COMMAND_LINE) ⊎ (result ≡ MEMORY)) }
     ensures done_without_a_word { result ≡ DONE → errors.new ≡ errors.old }
 {
-    let alloc = rt.alloc();
     let texts = match arguments {
         Ok(arguments) => texts_of(alloc, arguments),
         Err(error) if error.kind() == io::ErrorKind::OutOfMemory => {
@@ -54,44 +59,68 @@ pub fn run_arguments<T: Threads + Wait + Sync, R: Read, W: Write, E: Write>(
         Err(_) => return answer_words(&refuse_bytes(alloc), writer, errors),
     };
     match texts {
-        Ok(texts) => run_texts(rt, threads, &texts, reader, writer, errors),
+        Ok(texts) => run_texts(opener, threads, alloc, &texts, reader, writer, errors),
         Err(AllocError) => end_by("memory", MEMORY, errors),
     }
 }
 
 /// Runs the program on these texts, of which the first is its name.
-fn run_texts<T: Threads + Wait + Sync, R: Read, W: Write, E: Write>(
-    rt: &HostRuntime,
+fn run_texts<
+    D: Alter + Drop + Send,
+    O: Opens<SqlStore<D>, SqlOpenError>,
+    T: Threads + Wait + Sync,
+    R: Read,
+    W: Write,
+    E: Write,
+>(
+    opener: O,
     threads: &T,
+    alloc: Global,
     arguments: &[String],
     reader: &mut Source<R>,
     writer: &mut Sink<W>,
     errors: &mut E,
 ) -> u8
     ensures told { words_fault (words_behind arguments.now) ≡ []
-        → IsRunStatus ⟦<SqlStore<FileStore<File>> as CkptStore>⟧ (words_behind arguments.now)
+        → IsRunStatus ⟦<SqlStore<D> as CkptStore>⟧ (O.gives opener) (words_behind arguments.now)
         reader.old reader.new writer.old writer.new result }
     ensures wrong_words { AreWrong (words_behind arguments.now) → (result ≡ COMMAND_LINE) ⊎ (result ≡ MEMORY) }
     ensures done_without_a_word { result ≡ DONE → errors.new ≡ errors.old }
 {
-    match words_behind(rt.alloc(), arguments) {
-        Ok(words) => run_program(rt, threads, words.as_slice(), reader, writer, errors),
+    match words_behind(alloc, arguments) {
+        Ok(words) => run_program(
+            opener,
+            threads,
+            alloc,
+            words.as_slice(),
+            reader,
+            writer,
+            errors,
+        ),
         Err(AllocError) => end_by("memory", MEMORY, errors),
     }
 }
 
 /// Does what the words ask, which are those after the program's name, and answers the exit status.
 /// A fault is one line on `errors`; of wrong words it is the text of `clap`.
-pub fn run_program<T: Threads + Wait + Sync, R: Read, W: Write, E: Write>(
-    rt: &HostRuntime,
+pub fn run_program<
+    D: Alter + Drop + Send,
+    O: Opens<SqlStore<D>, SqlOpenError>,
+    T: Threads + Wait + Sync,
+    R: Read,
+    W: Write,
+    E: Write,
+>(
+    opener: O,
     threads: &T,
+    alloc: Global,
     words: &[&str],
     reader: &mut Source<R>,
     writer: &mut Sink<W>,
     errors: &mut E,
 ) -> u8
     ensures told { words_fault (texts words.now) ≡ []
-        → IsRunStatus ⟦<SqlStore<FileStore<File>> as CkptStore>⟧ (texts words.now)
+        → IsRunStatus ⟦<SqlStore<D> as CkptStore>⟧ (O.gives opener) (texts words.now)
         reader.old reader.new writer.old writer.new result }
     ensures done_without_a_word { result ≡ DONE → errors.new ≡ errors.old }
     ensures wrong_words { AreWrong (texts words.now)
@@ -101,82 +130,10 @@ pub fn run_program<T: Threads + Wait + Sync, R: Read, W: Write, E: Write>(
     ensures no_command_reads_nothing { words_fault (texts words.now) ≢ []
         → reader.new ≡ reader.old }
 {
-    match read_words(rt.alloc(), words) {
-        Ok(request) => run_request(rt, threads, request, reader, writer, errors),
+    match read_words(alloc, words) {
+        Ok(request) => run_request(opener, threads, alloc, request, reader, writer, errors),
         Err(error) => answer_words(&error, writer, errors),
     }
-}
-
-/// Does what is asked, over a store in memory or in the file that is named.
-fn run_request<T: Threads + Wait + Sync, R: Read, W: Write, E: Write>(
-    rt: &HostRuntime,
-    threads: &T,
-    request: Request<'_>,
-    reader: &mut Source<R>,
-    writer: &mut Sink<W>,
-    errors: &mut E,
-) -> u8
-    ensures told { Ends ⟦<SqlStore<FileStore<File>> as CkptStore>⟧ request.entry.command
-        (option_map (λ s. s.now) request.entry.store) reader.old reader.new writer.old writer.new result }
-    ensures done_without_a_word { result ≡ DONE → errors.new ≡ errors.old }
-{
-    match request.store {
-        None => run_in_memory(threads, rt.alloc(), request.command, reader, writer, errors),
-        Some(path) => run_in(rt, threads, request.command, path, reader, writer, errors),
-    }
-}
-
-/// Does the command over the store in the file, which is opened before anything is read.
-fn run_in<T: Threads + Wait + Sync, R: Read, W: Write, E: Write>(
-    rt: &HostRuntime,
-    threads: &T,
-    command: Command,
-    path: &str,
-    reader: &mut Source<R>,
-    writer: &mut Sink<W>,
-    errors: &mut E,
-) -> u8
-    ensures told { EndsInFile ⟦<SqlStore<FileStore<File>> as CkptStore>⟧ command path.now
-        reader.old reader.new writer.old writer.new result }
-    ensures done_without_a_word { result ≡ DONE → errors.new ≡ errors.old }
-{
-    let opened = SqlStore::open(rt, path);
-    run_opened(threads, rt.alloc(), command, opened, reader, writer, errors)
-}
-
-/// Does the command over the store in SQL that was opened. Where it was not, nothing is read.
-fn run_opened<T: Threads + Wait + Sync, R: Read, W: Write, E: Write, S: Alter + Drop + Send>(
-    threads: &T,
-    alloc: Global,
-    command: Command,
-    opened: Result<SqlStore<S>, SqlOpenError>,
-    reader: &mut Source<R>,
-    writer: &mut Sink<W>,
-    errors: &mut E,
-) -> u8
-    ensures told { IfOk opened (λ store. EndsLeaving ⟦<SqlStore<S> as CkptStore>⟧ store command
-        reader.old reader.new writer.old writer.new result) }
-    ensures unopened { IfErr opened (λ error. result ≡ STORE) }
-    ensures unread { IfErr opened (λ error. reader.new ≡ reader.old) }
-    ensures unwritten { IfErr opened (λ error. writer.new ≡ writer.old) }
-    ensures done_without_a_word { result ≡ DONE → errors.new ≡ errors.old }
-{
-    match opened {
-        Ok(store) => {
-            let (status, left) = run_over(threads, alloc, command, store, reader, writer, errors);
-            drop(left);
-            status
-        }
-        Err(error) => refuse_store(error, errors),
-    }
-}
-
-/// Tells why a store was not opened.
-fn refuse_store<E: Write>(error: SqlOpenError, errors: &mut E) -> u8
-    ensures { result ≡ STORE }
-{
-    let _ = writeln!(errors, "store: {error}");
-    STORE
 }
 
 /// Says why the words name no command: help on the output, anything else on `errors`.

@@ -1,4 +1,5 @@
 //! The program from its words to its output, its line on the errors and its status.
+use crate::files::Files;
 use crate::program::run_program;
 use kt_command::end_replay;
 use kt_scene::{OpenError, ReplayFault, Sink, Source, StepError};
@@ -11,12 +12,12 @@ use std::sync::Wait;
 use std::test::Fail;
 use std::thread::Threads;
 
-const PUT_AND_TAKE: &str =
+pub const PUT_AND_TAKE: &str =
     "linda-kt 1\nshards 1\nworker\nout (\"a\", 1)\nin (\"a\", ?int x)\nsteps\n\
 issue w1\ndeliver w1 s1\nserve s1 w1 0\ndeliver s1 w1\n\
 issue w1\ndeliver w1 s1\nserve s1 w1 0\nend\n";
 
-const PUT_AND_TAKE_REPORT: &str = "survivors 2\nw1.1 out (\"a\", 1) done\n\
+pub const PUT_AND_TAKE_REPORT: &str = "survivors 2\nw1.1 out (\"a\", 1) done\n\
 w1.2 in (\"a\", ?int) got (\"a\", 1)\nlost 0\nspace 0\npermanent 0\n";
 
 const NO_STEPS: &str = "linda-kt 1\nshards 1\nworker\nout (\"a\", 1)\nsteps\nend\n";
@@ -66,6 +67,19 @@ fn text_of(bytes: Vec<u8>) -> Result<String, Fail> {
     String::from_utf8(bytes).map_err(|_| Fail::from("no text"))
 }
 
+/// The status of the program over the files of this runtime.
+fn run_with<T: Threads + Wait + Sync, R: Read, W: Write, E: Write>(
+    rt: &HostRuntime,
+    threads: &T,
+    words: &[&str],
+    reader: &mut Source<R>,
+    writer: &mut Sink<W>,
+    errors: &mut E,
+) -> u8 {
+    let opener = Files::new(rt);
+    run_program(opener, threads, rt.alloc(), words, reader, writer, errors)
+}
+
 pub fn run<T: Threads + Wait + Sync>(
     rt: &HostRuntime,
     threads: &T,
@@ -75,7 +89,7 @@ pub fn run<T: Threads + Wait + Sync>(
     let alloc = rt.alloc();
     let (mut reader, mut writer) = (Source::new(input.as_bytes()), Sink::new(Vec::new(alloc)));
     let mut errors = Vec::new(alloc);
-    let status = run_program(rt, threads, words, &mut reader, &mut writer, &mut errors);
+    let status = run_with(rt, threads, words, &mut reader, &mut writer, &mut errors);
     Ok(Ended {
         output: text_of(writer.into_inner())?,
         errors: text_of(errors)?,
@@ -318,7 +332,7 @@ fn streams_that_fail(rt: HostRuntime) -> Result<(), Fail> {
     let mut errors = Vec::new(alloc);
     let mut reader = Source::new(Broken(&NO_STEPS.as_bytes()[..20]));
     let mut writer = Sink::new(Vec::new(alloc));
-    let status = run_program(&rt, &rt, &["replay"], &mut reader, &mut writer, &mut errors);
+    let status = run_with(&rt, &rt, &["replay"], &mut reader, &mut writer, &mut errors);
     assert!(rt; errors.as_slice() == b"read\n".as_slice() && status == 7);
     assert!(rt; writer.into_inner().is_empty());
     for (word, room, text) in &NARROW {
@@ -328,7 +342,7 @@ fn streams_that_fail(rt: HostRuntime) -> Result<(), Fail> {
             room: *room,
             held: Vec::new(alloc),
         });
-        let status = run_program(&rt, &rt, &[*word], &mut reader, &mut writer, &mut errors);
+        let status = run_with(&rt, &rt, &[*word], &mut reader, &mut writer, &mut errors);
         assert!(rt; errors.as_slice() == b"write\n".as_slice() && status == 7);
         let front = text.as_bytes().get(..*room).ok_or("a front")?;
         assert_eq!(rt; writer.into_inner().held.as_slice(), front);
@@ -363,7 +377,7 @@ fn little_memory(rt: HostRuntime) -> Result<(), Fail> {
         let hoard = all_memory(alloc)?;
         drop(spare);
         let mut reader = Source::new(PUT_AND_TAKE.as_bytes());
-        let status = run_program(&rt, &rt, &["replay"], &mut reader, &mut writer, &mut errors);
+        let status = run_with(&rt, &rt, &["replay"], &mut reader, &mut writer, &mut errors);
         drop(hoard);
         let output = writer.into_inner();
         if status == 0 {

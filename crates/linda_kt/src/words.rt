@@ -9,17 +9,8 @@ ghost use Rattle.linda_kt.specs.Words.{program_app, replay_shape, run_shape, sto
 
 use clap::error::ErrorKind;
 use clap::{Arg, ArgAction, ArgMatches, Error};
-use kt_command::Command;
+use kt_command::{Command, Request};
 use std::alloc::{AllocError, Global};
-
-/// A command, and the file that it is to keep its store in.
-#[derive(Clone, Copy, Debug, PartialEq, Eq)]
-pub struct Request<'a> {
-    /// What is to be done.
-    pub command: Command,
-    /// None for a store in memory.
-    pub store: Option<&'a str>,
-}
 
 /// The command that the words name, and the file of its store; the words are those after the program's
 /// name. Any other words are an error of `clap`, whose text is for the user.

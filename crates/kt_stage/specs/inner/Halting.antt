@@ -1,9 +1,7 @@
 -- Why a run halts, as it stands under the lock.
-use Rattle.std.specs.Prelude.{◌≡◌, Bool, true, false, IsTrue}
+use Rattle.std.specs.Prelude.{◌≡◌, IsTrue}
 use Rattle.kt_tuple.specs.declared.node.NodeId.{NodeId}
 use Rattle.kt_world.specs.declared.step.Step.{Step}
-use Rattle.kt_world.specs.declared.step.StepError.{StepError}
-use Rattle.kt_world.specs.declared.step.StepError.TheVariants as refusals
 use Rattle.kt_world.specs.Step.{owner}
 use Rattle.kt_core.specs.Lent.{is_allowed}
 use Rattle.kt_core.specs.World.{Standing}
@@ -16,13 +14,6 @@ use Rattle.kt_stage.specs.Running.{IsRefusedAt}
 abbrev pub IsGiven : Standing → NodeId → Step → Type 0
 IsGiven world p step =
     IsTrue world.is_honest → (owner step ≡ p) × IsTrue (is_allowed world.state step)
-
--- only the limit of steps, the store and want of memory refuse it
-abbrev pub is_any_steps : StepError → Bool
-is_any_steps refusals.StepLimit = true
-is_any_steps (refusals.Store refusal) = true
-is_any_steps refusals.OutOfMemory = true
-is_any_steps refusal = false
 
 -- the fault of a run that was opened and did not come to its end
 abbrev pub IsHalted : Standing → Journal → RunFault → Type 0

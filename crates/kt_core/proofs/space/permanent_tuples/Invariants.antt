@@ -9,6 +9,6 @@ use Rattle.kt_core.proofs.space.permanent_tuples.Given as goal
 -- the tuples of the shards so far, of a store that stays as it was
 abbrev pub invariant-loop-before : goal.invariant-loop-before
 invariant-loop-before g l =
-    Follows g.S.CkptStore.content g.S.CkptStore.is_honest g.S.CkptStore.counts l.fn.store l.store
+    Follows g.S.CkptStore l.fn.store l.store
     × (IsTrue (g.S.CkptStore.is_honest l.store) → l.tuples.items ≡
     flat_map (λ r. tuples_of (permanent_of (g.S.CkptStore.content l.fn.store) (ids.Shard r))) (range_with_len 1 l.before))

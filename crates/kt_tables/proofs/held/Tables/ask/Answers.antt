@@ -2,9 +2,9 @@ use Rattle.std.proofs.Common.{◌≡◌, ◌∙◌, true, ap, subst}
 use Rattle.sqlite.specs.Held.{state}
 use Rattle.sqlite.specs.State.{Shown}
 use Rattle.sqlite.specs.Values.{bound}
-use Rattle.kt_tables.specs.Held.{Tabled, is_sure}
-use Rattle.kt_tables.proofs.StateLemmas.{query_stays, query_refused_stays}
-use Rattle.kt_tables.proofs.TabledLemmas.{stayed, sure_parts}
+use Rattle.kt_tables.specs.Held.{Lasts, Tabled, is_sure}
+use Rattle.kt_tables.proofs.StateLemmas.{query_open, query_refused_stays, query_stays}
+use Rattle.kt_tables.proofs.TabledLemmas.{lasted, sound_sure, stayed, sure_parts}
 use Rattle.kt_tables.proofs.held.Tables.ask.Goals as goal
 use Rattle.kt_tables.proofs.held.Tables.ask.Goals.{in-Ok, in-Err}
 
@@ -17,7 +17,7 @@ invariant_of-self g c sure =
           (λ clean _. query_stays c.args.sql.now (bound c.args.params.now) _ _ w.in-Ok.rows.items c.requires (w.in-Ok.ensures.ok clean)) sure).2
       | in-Err w ↦
           (stayed g.S.Store s c.query_all.new.self c.self.invariant c.query_all.ensures.survives.clean
-          (λ clean on. query_refused_stays c.args.sql.now (bound c.args.params.now) _ _ w.in-Err.error (w.in-Err.ensures.err clean) on) sure).2
+          (λ clean on. query_refused_stays c.args.sql.now (bound c.args.params.now) _ _ w.in-Err.refusal (w.in-Err.ensures.err clean) on) sure).2
     ]
 
 pub returns-clause-shown : goal.returns-clause-shown
@@ -43,7 +43,7 @@ returns-clause-same g c sure =
           ∙ ap (λ (s : Tabled _). (state g.S.Store s.conn).now) c.self.view_is
       | in-Err w ↦
           (stayed g.S.Store s c.query_all.new.self c.self.invariant c.query_all.ensures.survives.clean
-          (λ clean on. query_refused_stays c.args.sql.now (bound c.args.params.now) _ _ w.in-Err.error (w.in-Err.ensures.err clean) on) sure).1
+          (λ clean on. query_refused_stays c.args.sql.now (bound c.args.params.now) _ _ w.in-Err.refusal (w.in-Err.ensures.err clean) on) sure).1
           ∙ ap (λ (s : Tabled _). (state g.S.Store s.conn).now) c.self.view_is
     ]
 
@@ -57,7 +57,7 @@ returns-clause-honest g c sure =
           (λ clean _. query_stays c.args.sql.now (bound c.args.params.now) _ _ w.in-Ok.rows.items c.requires (w.in-Ok.ensures.ok clean)) sure).0
       | in-Err w ↦
           (stayed g.S.Store s c.query_all.new.self c.self.invariant c.query_all.ensures.survives.clean
-          (λ clean on. query_refused_stays c.args.sql.now (bound c.args.params.now) _ _ w.in-Err.error (w.in-Err.ensures.err clean) on) sure).0
+          (λ clean on. query_refused_stays c.args.sql.now (bound c.args.params.now) _ _ w.in-Err.refusal (w.in-Err.ensures.err clean) on) sure).0
     ])
 
 pub returns-clause-kept : goal.returns-clause-kept
@@ -65,3 +65,22 @@ returns-clause-kept g c = invariant_of-self g c
 
 pub returns-clause-trusted : goal.returns-clause-trusted
 returns-clause-trusted g c = ap (λ (s : Tabled _). s.is_trusted) c.self.view_is
+
+pub returns-clause-lasts : goal.returns-clause-lasts
+returns-clause-lasts g c =
+    let s : Tabled _ = record { conn = c.self.inside.conn; is_trusted = c.self.inside.is_trusted } in
+    let now : Tabled _ = record { conn = c.query_all.new.self; is_trusted = c.self.inside.is_trusted } in
+    subst (λ (t : Tabled _). Lasts g.S.Store t now) c.self.view_is
+    (let survives = c.query_all.ensures.survives in
+    lasted g.S.Store s c.query_all.new.self (record { clean = survives.clean; counts = survives.counts; closes = survives.closes }))
+
+pub returns-clause-sure : goal.returns-clause-sure
+returns-clause-sure g c sound =
+    let now : Tabled _ = record { conn = c.query_all.new.self; is_trusted = c.self.inside.is_trusted } in
+    elim c.match-query_all.branch [
+      | in-Ok w ↦
+          rw w.result-is
+          (sound_sure g.S.Store now sound
+          (λ clean. query_open c.args.sql.now (bound c.args.params.now) _ _ w.in-Ok.rows.items (w.in-Ok.ensures.ok clean)))
+      | in-Err w ↦ rw w.result-is tt
+    ]

@@ -3,7 +3,7 @@ use Rattle.sqlite.specs.Held.{state}
 use Rattle.sqlite.specs.State.{Shown}
 use Rattle.kt_tables.specs.inner.Text.{open_posted_text}
 use Rattle.kt_tables.specs.Rows.{whole, id_of}
-use Rattle.kt_tables.specs.Held.{is_sure}
+use Rattle.kt_tables.specs.Held.{is_sound}
 use Rattle.kt_tables.proofs.Texts.{open_posted_is}
 use Rattle.kt_tables.proofs.AnswerLemmas.{gives_value, gives_memory, read_reason, open_read, no_open_read}
 use Rattle.kt_tables.proofs.held.Tables.find_open.Goals as goal
@@ -25,7 +25,8 @@ returns-clause-value g c sure =
 
 pub returns-clause-reason : goal.returns-clause-reason
 returns-clause-reason g c =
-    read_reason (is_sure g.S.Store c.ask.new.self) c.first_posted.result c.first_posted.ensures.named (λ sure.
+    read_reason (is_sound g.S.Store c.ask.new.self) c.first_posted.result c.first_posted.ensures.named (λ sound.
+    let sure = c.in_ok-rows.ensures.sure sound in
     let shown : Shown open_posted_text (whole (id_of c.args.node) ∷ []) (state g.S.Store c.args.self.now.conn)
     (state g.S.Store c.ask.new.self.conn) c.in_ok-rows.rows.items =
     rw (c.params-to_sql.ensures, c.in-Some.ensures.1) at (c.in_ok-rows.ensures.shown sure) in

@@ -1,5 +1,5 @@
 use Rattle.std.proofs.Common.{◌≡◌, slice_get, IfOk, subst, ap, ◌∙◌}
-use Rattle.kt_tables.specs.Held.{is_sure, content_of}
+use Rattle.kt_tables.specs.Held.{content_of, is_sound}
 use Rattle.kt_tables.proofs.Texts.{last_posted_is}
 use Rattle.kt_tables.proofs.AnswerLemmas.{gives_value, gives_memory, read_reason, last_read, last_number}
 use Rattle.kt_tables.proofs.held.Tables.last_instance.Goals as goal
@@ -16,7 +16,8 @@ returns-clause-value g c sure =
 
 pub returns-clause-reason : goal.returns-clause-reason
 returns-clause-reason g c =
-    read_reason (is_sure g.S.Store c.ask.new.self) c.first_number.result c.first_number.ensures.named (λ sure.
+    read_reason (is_sound g.S.Store c.ask.new.self) c.first_number.result c.first_number.ensures.named (λ sound.
+    let sure = c.in_ok-rows.ensures.sure sound in
     let read = last_read g.S.Store c.args.self.now c.ask.new.self (c.in_ok-rows.ensures.kept sure) (c.in_ok-rows.ensures.same sure) c.in_ok-rows.rows.items
     (c.in_ok-rows.ensures.shown sure) in
     gives_memory _ c.first_number.result (c.first_number.ensures.exact _ read.1 (ap (λ rows. slice_get rows 0) c.deref.ensures.value ∙ read.0)))

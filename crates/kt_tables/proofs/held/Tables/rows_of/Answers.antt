@@ -1,4 +1,4 @@
-use Rattle.std.proofs.Common.{[], ◌∷◌, None, IfOk, refl, sym, subst}
+use Rattle.std.proofs.Common.{[], ◌∷◌, None, Option, IfOk, refl, sym, subst}
 use Rattle.std.specs.List.{find}
 use Rattle.sqlite.specs.Held.{state}
 use Rattle.sqlite.specs.State.{Shown}
@@ -9,7 +9,7 @@ use Rattle.kt_tables.specs.inner.Text.{get_node_text}
 use Rattle.kt_tables.specs.Rows.{whole, id_of}
 use Rattle.kt_tables.specs.Held.{content_of}
 use Rattle.kt_tables.proofs.Texts.{get_node_is}
-use Rattle.kt_tables.proofs.AnswerLemmas.{node_read, no_node_read, through_ok}
+use Rattle.kt_tables.proofs.AnswerLemmas.{node_read, no_node_read, through_ok, where_ok}
 use Rattle.kt_tables.proofs.held.Tables.rows_of.Goals as goal
 
 pub ask-requires : goal.ask-requires
@@ -29,3 +29,12 @@ returns-clause-rows g c sure =
     (λ rows. AreRowsOf (find (λ (r : NodeRow). node_eq r.node c.args.node) (content_of g.S.Store c.args.self.now).nodes) rows.items)
     (λ rows h. node_read g.S.Store c.args.self.now c.ask.new.self (c.ask.ensures.kept sure)
     (c.ask.ensures.same sure) c.args.node rows.items c.in-Some.ensures.0 h) shown
+
+pub returns-in_default-clause-said : goal.returns-in_default-clause-said
+returns-in_default-clause-said g c sound = (None, subst (AreRowsOf None) (sym c.new.ensures.items) (refl, tt))
+
+pub returns-clause-said : goal.returns-clause-said
+returns-clause-said g c sound =
+    where_ok c.ask.result _ (λ rows. (o : Option NodeRow) × AreRowsOf o rows.items) (c.ask.ensures.sure sound) (λ sure.
+    through_ok c.ask.result _ _
+    (λ rows h. (find (λ (r : NodeRow). node_eq r.node c.args.node) (content_of g.S.Store c.args.self.now).nodes, h)) (returns-clause-rows g c sure))

@@ -4,9 +4,10 @@ use Rattle.sqlite.specs.Held.{Held}
 use Rattle.kt_store.specs.Changes.{storing}
 use Rattle.kt_tables.specs.Rows.{placing}
 use Rattle.kt_tables.specs.Cells.{cells_node, AreSaid}
-use Rattle.kt_tables.specs.Held.{Tabled, is_sure, content_of, IsKept}
+use Rattle.kt_tables.specs.Held.{Lasts, Tabled, is_sure, content_of, IsKept}
 use Rattle.kt_tables.proofs.StateLemmas.{undone_stays}
 use Rattle.kt_tables.proofs.AnswerLemmas.{both_wrote, neither_wrote}
+use Rattle.kt_tables.proofs.TabledLemmas.{lasted}
 use Rattle.kt_tables.proofs.held.Tables.write_both.Goals as goal
 use Rattle.kt_tables.proofs.held.Tables.write_both.Goals.{in-Ok-true, in-Ok-false, in-Err}
 
@@ -79,3 +80,10 @@ returns-clause-honest g c sure =
 
 pub returns-clause-trusted : goal.returns-clause-trusted
 returns-clause-trusted g c = ap (λ (s : Tabled _). s.is_trusted) c.self.view_is
+
+pub returns-clause-lasts : goal.returns-clause-lasts
+returns-clause-lasts g c =
+    let s : Tabled _ = record { conn = c.self.inside.conn; is_trusted = c.self.inside.is_trusted } in
+    let now : Tabled _ = record { conn = c.execute_both.new.conn; is_trusted = c.self.inside.is_trusted } in
+    subst (λ (t : Tabled _). Lasts g.S.Store t now) c.self.view_is
+    (lasted g.S.Store s c.execute_both.new.conn c.execute_both.ensures.lasts)

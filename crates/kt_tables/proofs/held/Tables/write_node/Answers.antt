@@ -2,8 +2,9 @@ use Rattle.std.proofs.Common.{◌≡◌, ◌∙◌, true, sym, ap, subst}
 use Rattle.kt_store.specs.Changes.{storing}
 use Rattle.kt_tables.specs.inner.Text.{put_node_text}
 use Rattle.kt_tables.specs.Cells.{cells_given, cells_node, AreSaid}
-use Rattle.kt_tables.specs.Held.{Tabled, is_sure, content_of}
+use Rattle.kt_tables.specs.Held.{Lasts, Tabled, is_sure, content_of}
 use Rattle.kt_tables.proofs.AnswerLemmas.{node_wrote, not_wrote}
+use Rattle.kt_tables.proofs.TabledLemmas.{lasted}
 use Rattle.kt_tables.proofs.held.Tables.write_node.Goals as goal
 use Rattle.kt_tables.proofs.held.Tables.write_node.Goals.{in-Ok, in-Err}
 
@@ -61,3 +62,10 @@ returns-clause-honest g c sure =
 
 pub returns-clause-trusted : goal.returns-clause-trusted
 returns-clause-trusted g c = ap (λ (s : Tabled _). s.is_trusted) c.self.view_is
+
+pub returns-clause-lasts : goal.returns-clause-lasts
+returns-clause-lasts g c =
+    let s : Tabled _ = record { conn = c.self.inside.conn; is_trusted = c.self.inside.is_trusted } in
+    let now : Tabled _ = record { conn = c.execute_node.new.conn; is_trusted = c.self.inside.is_trusted } in
+    subst (λ (t : Tabled _). Lasts g.S.Store t now) c.self.view_is
+    (lasted g.S.Store s c.execute_node.new.conn c.execute_node.ensures.lasts)

@@ -1,8 +1,9 @@
 use Rattle.std.proofs.Common.{◌≡◌, ◌∙◌, true, ap, subst}
 use Rattle.kt_tables.specs.Rows.{posted_given, placing}
 use Rattle.kt_tables.specs.inner.Text.{put_posted_text}
-use Rattle.kt_tables.specs.Held.{Tabled, is_sure, content_of}
+use Rattle.kt_tables.specs.Held.{Lasts, Tabled, is_sure, content_of}
 use Rattle.kt_tables.proofs.AnswerLemmas.{posted_wrote, not_wrote}
+use Rattle.kt_tables.proofs.TabledLemmas.{lasted}
 use Rattle.kt_tables.proofs.held.Tables.write_posted.Goals as goal
 use Rattle.kt_tables.proofs.held.Tables.write_posted.Goals.{in-Ok, in-Err}
 
@@ -60,3 +61,10 @@ returns-clause-honest g c sure =
 
 pub returns-clause-trusted : goal.returns-clause-trusted
 returns-clause-trusted g c = ap (λ (s : Tabled _). s.is_trusted) c.self.view_is
+
+pub returns-clause-lasts : goal.returns-clause-lasts
+returns-clause-lasts g c =
+    let s : Tabled _ = record { conn = c.self.inside.conn; is_trusted = c.self.inside.is_trusted } in
+    let now : Tabled _ = record { conn = c.execute_posted.new.conn; is_trusted = c.self.inside.is_trusted } in
+    subst (λ (t : Tabled _). Lasts g.S.Store t now) c.self.view_is
+    (lasted g.S.Store s c.execute_posted.new.conn c.execute_posted.ensures.lasts)

@@ -1,0 +1,16 @@
+use Rattle.std.proofs.Common.{◌≡◌, subst, sym}
+use Rattle.std.specs.Prelude.{IsTrue, OnOk}
+use Rattle.kt_store.specs.Changes.{restart_begun}
+use Rattle.kt_store.proofs.Faulting.{below}
+use Rattle.kt_store.proofs.faulty.FaultStoreCkptStore.begin_restart.Goals as goal
+
+pub returns-clause-lasts : goal.returns-clause-lasts
+returns-clause-lasts g c = λ never honest.
+    c.begin_restart.ensures.lasts (below never) (subst (λ s. IsTrue (g.S.CkptStore.is_honest s)) (sym c.fails.ensures.inner) honest)
+
+pub returns-clause-written : goal.returns-clause-written
+returns-clause-written g c = λ honest.
+    subst
+    (λ s. OnOk c.begin_restart.result (g.S.CkptStore.content c.begin_restart.new.self ≡ restart_begun c.args.node (g.S.CkptStore.content s)))
+    c.fails.ensures.inner
+    (c.begin_restart.ensures.written honest)
