@@ -1,27 +1,12 @@
 //! The bytes of a shard's and of a worker's checkpoint, against bytes worked out by hand.
 
+use crate::stored::{FIRST_WORKER, SHARD};
 use kt_ckpt::{Ckpt, CkptError, Marks, State};
 use kt_link::Label;
 use kt_tuple::NodeId;
+use std::alloc::Global;
+use std::process::Abort;
 use std::test::*;
-
-/// The first shard: a line of two acts, one neighbour with all labels `(1, 1)`, the tuple `("a", 1)`, nobody
-/// waits, and for the first worker the first request is kept: `out ("a", 1)`, done.
-const SHARD: [u8; 91] = [
-    0x4b, 0x54, 0x43, 0x50, 1, // magic, version
-    2, 1, // the first shard
-    0, 0, 0, 0, 0, 0, 0, 2, // line length
-    1, // one neighbour
-    0, 0, 0, 0, 0, 0, 0, 1, 0, 0, 0, 0, 0, 0, 0, 1, // sent
-    0, 0, 0, 0, 0, 0, 0, 1, 0, 0, 0, 0, 0, 0, 0, 1, // received
-    0, 0, 0, 1, // one tuple
-    2, 2, 1, 0x61, 1, 0, 0, 0, 0, 0, 0, 0, 1, // ("a", 1)
-    0, // nobody waits
-    1, // one answer is kept
-    1, 0, 0, 0, 0, 0, 0, 0, 1, // for the first worker, request 1
-    1, 2, 2, 1, 0x61, 1, 0, 0, 0, 0, 0, 0, 0, 1, // out ("a", 1)
-    0, // done
-];
 
 /// The second worker: a line of five acts, two neighbours, the next command is the fourth, the last request has
 /// the number 2 and no answer yet, `inp ("a", ?int)`, the last answer was none, and the variables are -1 and `hi`.
@@ -44,9 +29,9 @@ const WORKER: [u8; 112] = [
 ];
 
 /// Whether the bytes are read, and what is read is written as these bytes again.
-fn comes_back(rt: &HostRuntime, bytes: &[u8]) -> bool {
-    match Ckpt::decode(rt.alloc(), bytes) {
-        Ok(ckpt) => match ckpt.encode(rt.alloc()) {
+fn comes_back(alloc: Global, bytes: &[u8]) -> bool {
+    match Ckpt::decode(alloc, bytes) {
+        Ok(ckpt) => match ckpt.encode(alloc) {
             Ok(written) => written.as_slice() == bytes,
             Err(_) => false,
         },
@@ -64,43 +49,80 @@ fn is_cut_everywhere(rt: &HostRuntime, bytes: &[u8]) -> bool {
     true
 }
 
-/// Whether with any one byte changed to any other value there is a fault, or the bytes come back.
-fn has_one_spelling(rt: &HostRuntime, bytes: &[u8]) -> Result<bool, Fail> {
-    let mut changed = Vec::from_slice(rt.alloc(), bytes)?;
-    for place in 0..changed.len() {
-        let byte = changed[place];
-        for other in 0..=255u8 {
+/// With any one byte changed to any other value there is a fault, or the bytes come back. It counts the two.
+fn changed(rt: &impl Abort, alloc: Global, bytes: &[u8]) -> Result<(u32, u32), Fail> {
+    let mut changed = Vec::from_slice(alloc, bytes)?;
+    let (mut refused, mut read) = (0, 0);
+    for place in 0..bytes.len() {
+        for other in (0..=255u8).filter(|other| *other != bytes[place]) {
             changed[place] = other;
-            let refused = match Ckpt::decode(rt.alloc(), &changed) {
-                Ok(_) => false,
-                Err(e) => e != CkptError::OutOfMemory,
-            };
-            if !refused && !comes_back(rt, &changed) {
-                return Ok(false);
+            match Ckpt::decode(alloc, &changed) {
+                Ok(_) => {
+                    assert!(rt; comes_back(alloc, &changed), "{place} {other}");
+                    read += 1;
+                }
+                Err(fault) => {
+                    assert!(rt; fault != CkptError::OutOfMemory, "{place} {other}");
+                    refused += 1;
+                }
             }
         }
-        changed[place] = byte;
+        changed[place] = bytes[place];
     }
-    Ok(true)
+    Ok((refused, read))
 }
 
 #[test]
 fn both_ways(rt: HostRuntime) {
-    assert!(rt; comes_back(&rt, &SHARD));
-    assert!(rt; comes_back(&rt, &WORKER));
+    assert!(rt; comes_back(rt.alloc(), &SHARD));
+    assert!(rt; comes_back(rt.alloc(), &WORKER));
+    assert!(rt; comes_back(rt.alloc(), &FIRST_WORKER));
 }
 
 #[test]
 fn fronts(rt: HostRuntime) {
     assert!(rt; is_cut_everywhere(&rt, &SHARD));
     assert!(rt; is_cut_everywhere(&rt, &WORKER));
+    assert!(rt; is_cut_everywhere(&rt, &FIRST_WORKER));
 }
 
+/// Whatever byte it is that stands behind.
 #[test]
 fn one_byte_more(rt: HostRuntime) -> Result<(), Fail> {
-    let mut longer = Vec::from_slice(rt.alloc(), &SHARD)?;
-    longer.push(0)?;
-    assert!(rt; matches!(Ckpt::decode(rt.alloc(), &longer), Err(CkptError::Extra)));
+    for bytes in [SHARD.as_slice(), &WORKER, &FIRST_WORKER] {
+        for more in 0..=255u8 {
+            let mut longer = Vec::from_slice(rt.alloc(), bytes)?;
+            longer.push(more)?;
+            assert!(rt; matches!(Ckpt::decode(rt.alloc(), &longer), Err(CkptError::Extra)));
+        }
+    }
+    Ok(())
+}
+
+/// With any byte left out, or doubled, there is a fault, or the bytes come back: a shard's int that is one byte short
+/// has a byte of what follows, and who has an answer there seems to wait.
+#[test]
+fn a_byte_less_or_twice(rt: HostRuntime) -> Result<(), Fail> {
+    let (mut refused, mut read) = (0, 0);
+    for bytes in [SHARD.as_slice(), &WORKER, &FIRST_WORKER] {
+        for place in 0..bytes.len() {
+            for behind in [place, place + 1] {
+                let mut other = Vec::from_slice(rt.alloc(), &bytes[..place])?;
+                if behind == place {
+                    other.push(bytes[place])?;
+                }
+                other.extend_from_slice(&bytes[behind..])?;
+                if let Err(fault) = Ckpt::decode(rt.alloc(), &other) {
+                    assert!(rt; fault != CkptError::OutOfMemory, "{place} {behind}");
+                    refused += 1;
+                } else {
+                    assert!(rt; comes_back(rt.alloc(), &other), "{place} {behind}");
+                    read += 1;
+                }
+            }
+        }
+    }
+    assert!(rt; read > 0 && refused > 10 * read, "{refused} {read}");
     Ok(())
 }
 
@@ -113,10 +135,13 @@ fn other_version(rt: HostRuntime) {
     assert!(rt; matches!(Ckpt::decode(rt.alloc(), &bytes), Err(CkptError::Magic)));
 }
 
+/// How many of the changed bytes are read was worked out by hand: numbers, characters, and what is one of few.
 #[test]
 fn changed_bytes(rt: HostRuntime) -> Result<(), Fail> {
-    assert!(rt; has_one_spelling(&rt, &SHARD)?);
-    assert!(rt; has_one_spelling(&rt, &WORKER)?);
+    assert_eq!(rt; changed(&rt, rt.alloc(), &FIRST_WORKER)?, (3_107, 12_448));
+    assert_eq!(rt; changed(&rt, rt.alloc(), &SHARD)?, (6_678, 16_527));
+    let (refused, read) = changed(&rt, rt.alloc(), &WORKER)?;
+    assert!(rt; refused > 0 && read > 0 && refused + read == 112 * 255);
     Ok(())
 }
 

@@ -9,3 +9,4 @@ mod drawn;
 mod random;
 #[cfg(test)]
 mod seen;
+pub mod stored;

@@ -16,6 +16,8 @@ const LEAST: Tally = Tally {
     checks: [23, 4],
     rollbacks: [10, 6],
     overlapping: 18,
+    compared: 900,
+    steady: 300,
     steady_with_lost: 87,
     survivors: 50,
     lost: 28,

@@ -10,6 +10,7 @@ mod refusing;
 mod runs;
 mod scripts;
 mod seen;
+mod settling;
 mod stages;
 mod stepping;
 mod stores;
@@ -18,6 +19,7 @@ mod texts;
 use crate::fresh::Fresh;
 use crate::runs::{replayed_in_turn, run_in_turn, threads_in_turn};
 use crate::scripts::scripts_in_turn;
+use crate::settling::settled_in_turn;
 use crate::stages::{Way, leads_to};
 use crate::stepping::{Moment, opened_in_turn, scenario};
 use crate::stores::{sql_in_turn, stores_in_turn};
@@ -70,6 +72,7 @@ fn try_steps<W: Wait, S: CkptStore + Fresh + Drop>(
     checkpoints_in_turn::<S>(rt, alloc, text, steps)?;
     reports_in_turn::<S>(rt, alloc, text, steps)?;
     stores_in_turn::<S>(rt, alloc, text, steps)?;
+    settled_in_turn::<S>(rt, alloc, text, steps)?;
     replayed_in_turn::<S>(rt, alloc, text)
 }
 

@@ -2,6 +2,10 @@
 #![tactic(auto)]
 
 #[cfg(test)]
+mod failing_stores;
+#[cfg(test)]
 mod faults;
 #[cfg(test)]
 mod runs;
+#[cfg(test)]
+mod streams;

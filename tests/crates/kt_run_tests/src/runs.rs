@@ -13,9 +13,9 @@ use std::test::Fail;
 use std::thread::Threads;
 
 /// A scenario, what is reported however the threads run, and how often it is run each way.
-type Row = (&'static [u8], &'static [u8], usize);
+pub(crate) type Row = (&'static [u8], &'static [u8], usize);
 
-const ROWS: [Row; 4] = [
+pub(crate) const ROWS: [Row; 4] = [
     // threads_and_a_fault
     (
         b"linda-kt 1\nshards 2\nworker\nout (\"k\")\nout (\"k\", 7)\nin (\"k\", ?int x)\nout (\"done\", x)\n\
@@ -65,7 +65,7 @@ pub(crate) fn run<T: Threads + Wait + Sync>(
 }
 
 /// How a replay of the bytes ends, and what it leaves written.
-fn replayed(alloc: Global, text: &[u8]) -> (Result<(), ReplayFault>, Vec<u8>) {
+pub(crate) fn replayed(alloc: Global, text: &[u8]) -> (Result<(), ReplayFault>, Vec<u8>) {
     let (mut source, mut sink) = (Source::new(text), Sink::new(Vec::new(alloc)));
     let answer = replay(alloc, &mut source, &mut sink, MemStore::new(alloc));
     (answer, sink.into_inner())
@@ -107,13 +107,28 @@ fn the_store_is_given_back(rt: HostRuntime) -> Result<(), Fail> {
     let text = b"linda-kt 1\nshards 1\nworker\nout (1)\nfaults\ncheck w1 after 0\nend\n".as_slice();
     let (mut source, mut sink) = (Source::new(text), Sink::new(Vec::new(alloc)));
     let store = MemStore::new(alloc);
-    let (answer, left) =
-        run_text_over(&rt, alloc, &mut source, &mut sink, store, Output::Report, &OpenGate);
+    let (answer, left) = run_text_over(
+        &rt,
+        alloc,
+        &mut source,
+        &mut sink,
+        store,
+        Output::Report,
+        &OpenGate,
+    );
     assert!(rt; answer == Ok(()), "{answer:?}");
     let mut left = left;
     assert!(rt; left.initiator(1) == Ok(Some(NodeId::Worker(1))));
     let (mut source, mut sink) = (Source::new(text), Sink::new(Vec::new(alloc)));
-    let (answer, left) = run_text_over(&rt, alloc, &mut source, &mut sink, left, Output::Report, &OpenGate);
+    let (answer, left) = run_text_over(
+        &rt,
+        alloc,
+        &mut source,
+        &mut sink,
+        left,
+        Output::Report,
+        &OpenGate,
+    );
     let not_fresh = RunTextFault::Run(RunFault::Open(OpenError::NotFresh));
     assert!(rt; answer == Err(not_fresh), "{answer:?}");
     let mut left = left;

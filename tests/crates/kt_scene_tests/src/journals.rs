@@ -1,9 +1,10 @@
 //! The text of a journal, and what a replay of it writes.
 
-use crate::streams::{empty, replayed, whole};
+use crate::streams::replayed;
 use kt_core::{Step, World};
 use kt_scene::{ReplayFault, Sink, WorkKind, read_scene, write_journal, write_report};
 use kt_store::MemStore;
+use kt_streams::{empty, whole};
 use kt_tuple::NodeId;
 use std::alloc::Global;
 use std::process::Abort;

@@ -2,6 +2,14 @@
 #![tactic(auto)]
 
 #[cfg(test)]
+mod asked;
+#[cfg(test)]
+mod courses;
+#[cfg(test)]
+mod endless;
+#[cfg(test)]
+mod failing_stores;
+#[cfg(test)]
 mod fault_scenes;
 #[cfg(test)]
 mod journals;
@@ -13,6 +21,8 @@ mod replays;
 mod rollbacks;
 #[cfg(test)]
 mod scenes;
+#[cfg(test)]
+mod settling;
 #[cfg(test)]
 mod streams;
 #[cfg(test)]

@@ -1,12 +1,13 @@
 //! Scenarios with a byte dropped, changed or doubled, two lines swapped or a number enlarged. What is accepted
 //! is written as it stood and read again; what is not has its fault on a line of the text or just behind it.
 
-use crate::streams::{Feed, empty, replayed, whole};
+use crate::streams::replayed;
 use kt_core::{Step, World};
 use kt_scene::{
     ReplayFault, Scenario, SceneFault, Sink, WorkKind, read_scene, write_report, write_scene,
 };
 use kt_store::MemStore;
+use kt_streams::{Feed, empty, whole};
 use std::alloc::Global;
 use std::process::Abort;
 use std::test::Fail;

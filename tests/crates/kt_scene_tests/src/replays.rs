@@ -1,11 +1,12 @@
 //! From bytes to bytes, over readers and writers in memory.
 
-use crate::streams::{Drain, Feed, empty, replayed, whole};
+use crate::streams::replayed;
 use kt_scene::{
     MAX_TEXT, OpenError, Outcome, ReplayFault, SceneError, SceneFault, Source, StepError,
     read_text, replay_world,
 };
 use kt_store::{MemStore, StoreError};
+use kt_streams::{Drain, Feed, empty, whole};
 use std::alloc::Global;
 use std::process::Abort;
 use std::test::Fail;

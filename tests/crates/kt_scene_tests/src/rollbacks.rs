@@ -1,5 +1,6 @@
 //! Scenarios with checkpoints, failures and rollbacks, over a store in memory and one in SQL, and their reports.
 
+use kt_ckpt_tests::stored::{FIRST_WORKER, SHARD};
 use kt_core::{StepError, World};
 use kt_history::Note;
 use kt_node::Mode;
@@ -70,6 +71,24 @@ deliver w1 s1\ndeliver w2 s1\ndeliver s1 w1\ndeliver s1 w2\ndeliver s1 w2\n\
 decide w2\ndeliver w1 s1\ndeliver w2 s1\ndeliver s1 w1\ndecide w1\n\
 learn w1\nlearn w2\nlearn s1\n";
 
+/// The shard fails, is rolled back with the worker, and is asked again.
+pub(crate) const SHARD_FAILS: &[&str] = &[
+    ONE_WORKER,
+    PUT,
+    "fail s1\nrestart s1\ndeliver s1 w1\ndeliver w1 s1\ndeliver s1 w1\n\
+deliver w1 s1\ndecide s1\ndeliver s1 w1\nissue w1\ndeliver w1 s1\n\
+deliver w1 s1\nserve s1 w1 0\n",
+];
+
+/// The shard fails after a check to its end.
+pub(crate) const CHECKPOINT_OF_TWO: &[&str] = &[ONE_WORKER, PUT, CHECKED, "fail s1\n"];
+
+/// The shard fails before it is told of its check's Yes, and learns it.
+pub(crate) const FAILS_AFTER_YES: &[&str] = &[ONE_WORKER, PUT, AGREED, "learn s1\nrestart s1\n"];
+
+/// The rollback that the first worker asks for, to its end.
+pub(crate) const CASCADE: &[&str] = &[THREE_SHARDS, WORK, ASKED, VOTED];
+
 /// The report where the tuple is there, and nothing permanent.
 const ONCE: &str =
     "survivors 1\nw1.1 out (\"a\", 1) done\nlost 0\nspace 1\n(\"a\", 1)\npermanent 0\n";
@@ -98,13 +117,13 @@ const BOTH: &str = "survivors 2\nw1.1 out (\"a\", 1) done\nw2.1 out (\"b\") done
 (\"a\", 1)\n(\"b\")\npermanent 0\n";
 
 /// The parts of a scenario but for its last line, its report, and the fault with which it ends.
-type Row = (
+pub(crate) type Row = (
     &'static [&'static str],
     &'static str,
     Result<(), ReplayFault>,
 );
 
-const ROWS: [Row; 20] = [
+pub(crate) const ROWS: [Row; 20] = [
     // answered_again
     (
         &[
@@ -147,21 +166,11 @@ learn w1\ntake w1\n",
     // shard_fails: before anything is asked
     (&[ONE_WORKER, PUT, "fail s1\n"], LOST, Ok(())),
     // shard_fails: rolled back, and asked again
-    (
-        &[
-            ONE_WORKER,
-            PUT,
-            "fail s1\nrestart s1\ndeliver s1 w1\ndeliver w1 s1\ndeliver s1 w1\n\
-deliver w1 s1\ndecide s1\ndeliver s1 w1\nissue w1\ndeliver w1 s1\n\
-deliver w1 s1\nserve s1 w1 0\n",
-        ],
-        AGAIN,
-        Ok(()),
-    ),
+    (SHARD_FAILS, AGAIN, Ok(())),
     // checkpoint_of_two
     (&[ONE_WORKER, PUT, CHECKED], STORED, Ok(())),
     // checkpoint_of_two: and then the shard fails
-    (&[ONE_WORKER, PUT, CHECKED, "fail s1\n"], STORED, Ok(())),
+    (CHECKPOINT_OF_TWO, STORED, Ok(())),
     // abandoned_check
     (
         &[
@@ -184,15 +193,11 @@ deliver w1 s1\nserve s1 w1 0\n",
         }),
     ),
     // fails_after_yes: a restart after it is learned
-    (
-        &[ONE_WORKER, PUT, AGREED, "learn s1\nrestart s1\n"],
-        STORED,
-        Ok(()),
-    ),
+    (FAILS_AFTER_YES, STORED, Ok(())),
     // cascade: as the first worker fails
     (&[THREE_SHARDS, WORK], CASCADED, Ok(())),
     // cascade: at its end
-    (&[THREE_SHARDS, WORK, ASKED, VOTED], CASCADED, Ok(())),
+    (CASCADE, CASCADED, Ok(())),
     // request_in_checkpoint
     (
         &[
@@ -232,7 +237,7 @@ decide w1\nrepeat w1\ndeliver w1 s1\ndeliver w1 s1\ndeliver s1 w1\n",
 ];
 
 /// The parts of a scenario and its last line.
-fn text_of(alloc: Global, parts: &[&str]) -> Result<Vec<u8>, Fail> {
+pub(crate) fn text_of(alloc: Global, parts: &[&str]) -> Result<Vec<u8>, Fail> {
     let mut text = Vec::new(alloc);
     for part in parts {
         text.extend_from_slice(part.as_bytes())?;
@@ -333,6 +338,21 @@ fn the_store_is_given_back(rt: HostRuntime) -> Result<(), Fail> {
     assert_eq!(rt; answer, Err(ReplayFault::Open(OpenError::NotFresh)));
     let mut left = left;
     assert!(rt; left.next_instance() == Ok(2));
+    Ok(())
+}
+
+/// The bytes of the two checkpoints that a check to its end leaves.
+#[test]
+fn what_a_check_leaves(rt: HostRuntime) -> Result<(), Fail> {
+    let alloc = rt.alloc();
+    let mut store = world_of(alloc, CHECKPOINT_OF_TWO)?.into_store();
+    for (node, bytes) in [
+        (NodeId::Worker(1), FIRST_WORKER.as_slice()),
+        (NodeId::Shard(1), &SHARD),
+    ] {
+        let stored = store.permanent(alloc, node)?.ok_or("a checkpoint")?;
+        assert_eq!(rt; stored.encode(alloc)?.as_slice(), bytes, "{node:?}");
+    }
     Ok(())
 }
 

@@ -7,22 +7,23 @@ use sqlite::{Connection, MemStore};
 use std::alloc::Global;
 use std::test::*;
 
-const NODES: &str =
+pub(crate) const NODES: &str =
     "CREATE TABLE kt_node (id INTEGER PRIMARY KEY, incarnation INTEGER NOT NULL, permanent BLOB, tentative BLOB, \
      instance INTEGER) STRICT";
 
-const BOARD: &str =
+pub(crate) const BOARD: &str =
     "CREATE TABLE kt_board (instance INTEGER PRIMARY KEY, initiator INTEGER NOT NULL, purpose INTEGER NOT NULL, \
      verdict INTEGER NOT NULL) STRICT";
 
-const META: &str = "CREATE TABLE kt_meta (id INTEGER PRIMARY KEY, version INTEGER NOT NULL) STRICT";
+pub(crate) const META: &str =
+    "CREATE TABLE kt_meta (id INTEGER PRIMARY KEY, version INTEGER NOT NULL) STRICT";
 
-const VERSION: &str = "INSERT INTO kt_meta VALUES (1, 1)";
+pub(crate) const VERSION: &str = "INSERT INTO kt_meta VALUES (1, 1)";
 
 const FIRST: NodeId = NodeId::Worker(1);
 
 /// A connection on which these statements were run, outside a transaction.
-fn connection(alloc: Global, statements: &[&str]) -> Result<Connection<MemStore>, Fail> {
+pub(crate) fn connection(alloc: Global, statements: &[&str]) -> Result<Connection<MemStore>, Fail> {
     let mut conn = Connection::open_in_memory(alloc)?;
     for sql in statements {
         conn.execute(sql, &[]).ok().ok_or("it runs")?;
@@ -31,7 +32,7 @@ fn connection(alloc: Global, statements: &[&str]) -> Result<Connection<MemStore>
 }
 
 /// The store in it.
-fn adopted(
+pub(crate) fn adopted(
     alloc: Global,
     conn: Connection<MemStore>,
 ) -> Result<Result<SqlStore<MemStore>, SqlOpenError>, Fail> {

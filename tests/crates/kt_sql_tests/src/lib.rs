@@ -6,4 +6,12 @@ mod adopted;
 #[cfg(test)]
 mod beside;
 #[cfg(test)]
+mod cells;
+#[cfg(test)]
+mod damaged;
+#[cfg(test)]
+mod spoiled;
+#[cfg(test)]
+mod spoiled_walks;
+#[cfg(test)]
 mod walks;

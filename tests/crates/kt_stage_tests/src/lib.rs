@@ -1,6 +1,10 @@
-//! The policy, stages and runs by threads, through the public calls of kt_stage.
+//! The policy, stages, runs by threads and worlds that settle, through the public calls of kt_stage.
 #![tactic(auto)]
 
+#[cfg(test)]
+mod against;
+#[cfg(test)]
+mod failing_stores;
 #[cfg(test)]
 mod gates;
 #[cfg(test)]
@@ -15,3 +19,5 @@ mod random_runs;
 mod runs;
 #[cfg(test)]
 mod seats;
+#[cfg(test)]
+mod struck;

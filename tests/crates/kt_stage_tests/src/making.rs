@@ -3,7 +3,7 @@
 use kt_core::{Fault, FaultKind, Faults, Scene, Step, World};
 use kt_scene::{Sink, Source, replay, write_journal, write_report};
 use kt_script::{Actual, Actuals, Command, Name, Operation, Pattern, Script, Slot};
-use kt_store::MemStore;
+use kt_store::{CkptStore, MemStore};
 use kt_tuple::{Kind, NodeId, Str, Value};
 use kt_walk::lines::step;
 use kt_walk::scenes::Game;
@@ -108,7 +108,7 @@ pub(crate) fn make_lines(alloc: Global, world: &mut Game, lines: &str) -> Result
     Ok(())
 }
 
-pub(crate) fn report(alloc: Global, world: &mut Game) -> Result<Vec<u8>, Fail> {
+pub(crate) fn report<S: CkptStore>(alloc: Global, world: &mut World<S>) -> Result<Vec<u8>, Fail> {
     let mut sink = Sink::new(Vec::new(alloc));
     write_report(alloc, world, &mut sink)
         .ok()
@@ -117,7 +117,11 @@ pub(crate) fn report(alloc: Global, world: &mut Game) -> Result<Vec<u8>, Fail> {
 }
 
 /// The text of a journal of these steps, which led to the world.
-pub(crate) fn journal_of(alloc: Global, world: &mut Game, steps: &[Step]) -> Result<Vec<u8>, Fail> {
+pub(crate) fn journal_of<S: CkptStore>(
+    alloc: Global,
+    world: &mut World<S>,
+    steps: &[Step],
+) -> Result<Vec<u8>, Fail> {
     let mut sink = Sink::new(Vec::new(alloc));
     write_journal(alloc, world, steps, &mut sink)
         .ok()

@@ -13,9 +13,9 @@ use std::test::Fail;
 use std::thread::Threads;
 
 /// Who takes part, fault lines, and what the report begins with however the threads run.
-type Row = (Cast, &'static [Line], &'static [u8]);
+pub(crate) type Row = (Cast, &'static [Line], &'static [u8]);
 
-const THREADS_AND_A_FAULT: Row = (
+pub(crate) const THREADS_AND_A_FAULT: Row = (
     (
         2,
         &[&[

@@ -49,7 +49,7 @@ const NODES: [NodeId; 6] = [
 ];
 
 /// The checkpoint of the first shard with an empty bag and one neighbour.
-const EMPTY: [u8; 54] = [
+pub(crate) const EMPTY: [u8; 54] = [
     0x4b, 0x54, 0x43, 0x50, 1, // magic, version
     2, 1, // the first shard
     0, 0, 0, 0, 0, 0, 0, 0, // line length

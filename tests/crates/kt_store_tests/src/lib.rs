@@ -4,5 +4,9 @@
 pub mod beside;
 mod calls;
 #[cfg(test)]
+mod faults;
+#[cfg(test)]
 mod memory;
 mod plain;
+#[cfg(test)]
+mod scripted;

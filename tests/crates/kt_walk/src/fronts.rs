@@ -1,10 +1,11 @@
 //! What must hold of a world after each step, worked out from its notes, modes and bags.
 
+use crate::asking::follow_scripts;
 use crate::finding::{Finding, holds};
 use crate::numbers::Numbers;
 use crate::runs::{add_all, are_same, space_after};
 use crate::scenes::Game;
-use crate::slowly::{Pasts, note_at, standing, survive, surviving};
+use crate::slowly::{Pasts, acts_survive, are_lines, note_at, standing, survive, surviving};
 use kt_history::{History, Note, space_of};
 use kt_node::Mode;
 use kt_tuple::{NodeId, Tuple};
@@ -15,9 +16,13 @@ use std::alloc::{AllocError, Global};
 pub fn agrees(alloc: Global, world: &Game, pasts: &Pasts) -> Result<usize, Finding> {
     let notes = world.history().notes();
     let stands = standing(alloc, notes)?;
+    are_lines(alloc, world.history())?;
+    let acts = acts_survive(world.history(), pasts, stands);
+    holds(acts, "the acts with nothing lost in their past")?;
     let services = surviving(alloc, notes, pasts, stands)?;
     survive(alloc, world.history(), &services)?;
     holds(are_in_order(notes, &services), "the order of the scripts")?;
+    follow_scripts(alloc, world.scene().scripts(), notes, &services)?;
     let space = space_after(alloc, notes, &services)?;
     leads_to(alloc, world.history(), &space)?;
     if is_steady(world)? {

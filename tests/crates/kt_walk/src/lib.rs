@@ -2,10 +2,13 @@
 //! They have no contract: the tests of kt_core_tests and kt_stage_tests and the program of `bench/walk` stand on them.
 #![tactic(auto)]
 
+pub mod asking;
 pub mod cast;
+pub mod copies;
 pub mod cuts;
 pub mod draws;
 pub mod finding;
+pub mod following;
 pub mod fronts;
 mod kinds;
 pub mod lines;
@@ -18,3 +21,5 @@ pub mod slowly;
 pub mod tally;
 mod variables;
 pub mod walking;
+pub mod watching;
+pub mod worked;

@@ -1,54 +1,42 @@
 //! Sets of numbers of notes.
 
-/// A set of numbers below 256: the numbers of notes in a short history.
+/// A set of numbers below 512: the numbers of notes in a short history.
 #[derive(Clone, Copy)]
-pub struct Numbers {
-    low: u128,
-    high: u128,
-}
+pub struct Numbers([u128; 4]);
 
 /// How many numbers a set may tell apart.
-pub const MAX_NUMBERS: usize = 256;
+pub const MAX_NUMBERS: usize = 512;
 
 impl Numbers {
-    pub const NONE: Numbers = Numbers { low: 0, high: 0 };
+    pub const NONE: Numbers = Numbers([0; 4]);
 
     /// The set with this number too. One that is too large stays out.
     pub fn with(self, number: usize) -> Numbers {
-        let Numbers { low, high } = self;
-        if number < 128 {
-            Numbers {
-                low: low | 1 << number,
-                high,
-            }
-        } else if number < 256 {
-            Numbers {
-                low,
-                high: high | 1 << (number - 128),
-            }
-        } else {
-            self
+        let mut parts = self.0;
+        if let Some(part) = parts.get_mut(number / 128) {
+            *part |= 1 << (number % 128);
         }
+        Numbers(parts)
     }
 
     pub fn has(self, number: usize) -> bool {
-        if number < 128 {
-            (self.low >> number) & 1 == 1
-        } else {
-            number < 256 && (self.high >> (number - 128)) & 1 == 1
+        match self.0.get(number / 128) {
+            Some(part) => (*part >> (number % 128)) & 1 == 1,
+            None => false,
         }
     }
 
     /// What is in one of the two.
     pub fn and(self, other: Numbers) -> Numbers {
-        Numbers {
-            low: self.low | other.low,
-            high: self.high | other.high,
-        }
+        let Numbers([a, b, c, d]) = self;
+        let Numbers([e, f, g, h]) = other;
+        Numbers([a | e, b | f, c | g, d | h])
     }
 
     /// Whether all of these are there too.
     pub fn is_within(self, other: Numbers) -> bool {
-        self.low & !other.low == 0 && self.high & !other.high == 0
+        let Numbers([a, b, c, d]) = self;
+        let Numbers([e, f, g, h]) = other;
+        (a & !e) | (b & !f) | (c & !g) | (d & !h) == 0
     }
 }

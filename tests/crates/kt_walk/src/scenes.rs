@@ -5,7 +5,7 @@ use crate::draws::Draws;
 use crate::finding::Finding;
 use crate::scripts::command;
 use crate::variables::with_variable;
-use kt_core::{Scene, Step, StepError, World};
+use kt_core::{Scene, World};
 use kt_script::{Command, Script};
 use kt_store::MemStore;
 use std::alloc::Global;
@@ -13,7 +13,7 @@ use std::alloc::Global;
 /// A world over a store in memory.
 pub type Game = World<MemStore>;
 
-/// How many commands are drawn for a worker.
+/// How many commands are drawn for a worker of a walk.
 const COMMANDS: u32 = 24;
 
 /// How many workers, and how many shards, a walk has at most.
@@ -68,9 +68,9 @@ fn random_command(alloc: Global, draws: &mut Draws) -> Result<Command, Finding> 
 }
 
 /// A script; commands that may not follow those before them are left out.
-fn random_script(alloc: Global, draws: &mut Draws) -> Result<Script, Finding> {
+fn random_script(alloc: Global, draws: &mut Draws, commands: u32) -> Result<Script, Finding> {
     let mut script = Script::new(alloc);
-    for _ in 0..COMMANDS {
+    for _ in 0..commands {
         let command = random_command(alloc, draws)?;
         if script.refusal_of(&command).is_none() {
             script.push(command).ok().ok_or(Finding::OutOfMemory)?;
@@ -79,12 +79,17 @@ fn random_script(alloc: Global, draws: &mut Draws) -> Result<Script, Finding> {
     Ok(script)
 }
 
-/// A scene of one to so many workers, and of one to so many shards.
-fn random_scene(alloc: Global, draws: &mut Draws, most: u8) -> Result<Scene, Finding> {
+/// A scene of one to so many workers, and of one to so many shards, with so many commands at most for each worker.
+fn random_scene(
+    alloc: Global,
+    draws: &mut Draws,
+    most: u8,
+    commands: u32,
+) -> Result<Scene, Finding> {
     let cast = random_cast(draws, most);
     let mut scripts = Vec::new(alloc);
     for _ in 0..cast.workers {
-        scripts.push(random_script(alloc, draws)?)?;
+        scripts.push(random_script(alloc, draws, commands)?)?;
     }
     Scene::new(cast.shards, scripts).ok_or(Finding::NotMade("a scene"))
 }
@@ -101,7 +106,12 @@ pub fn cast_up_to(most: u8, seed: u64) -> Cast {
 
 /// The scene of this seed that has at most so many workers and so many shards.
 pub fn scene_up_to(alloc: Global, most: u8, seed: u64) -> Result<Scene, Finding> {
-    random_scene(alloc, &mut Draws::of(seed), most)
+    random_scene(alloc, &mut Draws::of(seed), most, COMMANDS)
+}
+
+/// The scene of this seed that has at most as many workers and shards as a walk, of so many commands at most.
+pub fn short_scene_of(alloc: Global, commands: u32, seed: u64) -> Result<Scene, Finding> {
+    random_scene(alloc, &mut Draws::of(seed), MOST, commands)
 }
 
 /// Who takes part in the walk of this seed.
@@ -112,29 +122,4 @@ pub fn cast_of(seed: u64) -> Cast {
 /// The scene of the walk of this seed.
 pub fn scene_of(alloc: Global, seed: u64) -> Result<Scene, Finding> {
     scene_up_to(alloc, MOST, seed)
-}
-
-/// The world of this seed, in which nothing was done.
-pub(crate) fn opened_by(alloc: Global, seed: u64) -> Result<Game, Finding> {
-    let world = World::open(alloc, scene_of(alloc, seed)?, MemStore::new(alloc));
-    world.ok().ok_or(Finding::NotMade("a world"))
-}
-
-/// The world of this seed in which these steps were tried, one after the other.
-pub(crate) fn played(alloc: Global, seed: u64, steps: &[Step]) -> Result<Game, Finding> {
-    let mut world = opened_by(alloc, seed)?;
-    if are_tried(alloc, &mut world, steps) {
-        Ok(world)
-    } else {
-        Err(Finding::OutOfMemory)
-    }
-}
-
-/// Tries the steps, and answers whether memory was there for them.
-fn are_tried(alloc: Global, world: &mut Game, steps: &[Step]) -> bool {
-    let mut was_there = true;
-    for step in steps {
-        was_there = was_there && world.step(alloc, *step) != Err(StepError::OutOfMemory);
-    }
-    was_there
 }

@@ -40,6 +40,23 @@ fn last_act(alloc: Global, notes: &[Note], node: NodeId) -> Result<usize, AllocE
     })
 }
 
+/// The history's lines are these.
+pub fn are_lines(alloc: Global, history: &History) -> Result<(), Finding> {
+    for number in 1..=8u8 {
+        is_line(alloc, history, NodeId::Worker(number))?;
+        is_line(alloc, history, NodeId::Shard(number))?;
+    }
+    Ok(())
+}
+
+fn is_line(alloc: Global, history: &History, node: NodeId) -> Result<(), Finding> {
+    let line = line_after(alloc, history.notes(), node)?;
+    let kept = history.line(node);
+    let mut pairs = line.iter().zip(kept.iter());
+    let is_same = line.len() == kept.len() && pairs.all(|(a, b)| *a as u64 == *b);
+    holds(is_same, "a line")
+}
+
 /// The pasts of the acts by the numbers of their notes, of which 0 names no note. Of a cut there is nothing.
 #[derive(Drop)]
 pub struct Pasts(Vec<Numbers>);
@@ -87,7 +104,7 @@ impl Pasts {
 
     /// Whether all that happened before one of these acts is among them too.
     pub fn are_closed(&self, acts: Numbers) -> bool {
-        (1..MAX_NUMBERS).all(|number| !acts.has(number) || self.of(number).is_within(acts))
+        (1..self.0.len()).all(|number| !acts.has(number) || self.of(number).is_within(acts))
     }
 }
 
@@ -152,6 +169,19 @@ pub fn surviving(
     let mut numbers = services(alloc, notes)?;
     numbers.retain(|number| pasts.of(*number).is_within(stands));
     Ok(numbers)
+}
+
+/// Whether by the history just those acts survive in whose past nothing is lost.
+pub fn acts_survive(history: &History, pasts: &Pasts, stands: Numbers) -> bool {
+    let notes = history.notes();
+    notes.iter().enumerate().all(|(place, note)| {
+        let number = place.saturating_add(1);
+        let survives = match note {
+            Note::Act(_) => pasts.of(number).is_within(stands),
+            Note::Cut { .. } => false,
+        };
+        history.survives(number as u64) == survives
+    })
 }
 
 /// Whether the note made this service.

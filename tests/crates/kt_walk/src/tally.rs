@@ -1,11 +1,8 @@
 //! What was played, counted.
 
-use crate::finding::Finding;
-use crate::slowly::served;
 use kt_core::Step;
-use kt_history::{Act, Note, What};
+use kt_history::{Note, What};
 use kt_store::{CkptStore, MemStore, StoreError, Verdict};
-use kt_tuple::Answer;
 
 /// How much work walks did.
 #[derive(Clone, Copy, Debug)]
@@ -26,7 +23,10 @@ pub struct Tally {
     pub rollbacks: [u64; 2],
     /// The instances that were begun while another was open.
     pub overlapping: u64,
-    /// After how many steps the world was steady with some act lost.
+    /// How many worlds were compared with what the slow functions compute.
+    pub compared: u64,
+    /// How many of these were steady, and how many of those with some act lost.
+    pub steady: u64,
     pub steady_with_lost: u64,
     /// The services that survive in the end, and those that do not.
     pub survivors: u64,
@@ -44,6 +44,8 @@ impl Tally {
         checks: [0; 2],
         rollbacks: [0; 2],
         overlapping: 0,
+        compared: 0,
+        steady: 0,
         steady_with_lost: 0,
         survivors: 0,
         lost: 0,
@@ -64,12 +66,16 @@ impl Tally {
             least.scenes,
             least.tried,
             least.overlapping,
+            least.compared,
+            least.steady,
             least.steady_with_lost,
         ];
         let ours = [
             self.scenes,
             self.tried,
             self.overlapping,
+            self.compared,
+            self.steady,
             self.steady_with_lost,
         ];
         are_at_least(&ours, &others)
@@ -157,34 +163,4 @@ pub(crate) fn count_open(store: &mut MemStore, begun: usize) -> Result<u64, Stor
         }
     }
     Ok(open)
-}
-
-/// Whether the note serves this request with this answer.
-fn serves(note: &Note, act: &Act, answer: &Answer) -> bool {
-    match served(note) {
-        Some((other, given)) => {
-            act.worker == other.worker
-                && act.number == other.number
-                && act.op == other.op
-                && *given == *answer
-        }
-        None => false,
-    }
-}
-
-/// What is answered again or accepted is what was served before.
-pub(crate) fn follows(earlier: &[Note], note: &Note) -> Result<(), Finding> {
-    let Note::Act(act) = note else {
-        return Ok(());
-    };
-    match &act.what {
-        What::Again(answer) | What::Accepted(answer) => {
-            if earlier.iter().any(|note| serves(note, act, answer)) {
-                Ok(())
-            } else {
-                Err(Finding::Wrong("an answer that was served"))
-            }
-        }
-        _ => Ok(()),
-    }
 }
