@@ -13,9 +13,11 @@
 
 mod calls;
 mod error;
+mod laws;
 mod open;
 mod store;
 mod tally;
 
 pub use error::SqlOpenError;
+pub use laws::nothing_fails_a_store_in_memory;
 pub use store::SqlStore;
