@@ -129,7 +129,8 @@ class Source:
         """An `impl` or a trait."""
         names = [word for word in head if re.match(r"\w", word)]
         if "for" in names:
-            owner = names[names.index("for") + 1]
+            # a tuple of types has no name
+            owner = next(iter(names[names.index("for") + 1 :]), "")
         else:
             # behind the parameters, as in `impl<S: CkptStore> World<S>`
             owner = next((word for word in names[1:] if word in self.exported), "")

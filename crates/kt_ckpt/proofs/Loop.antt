@@ -6,7 +6,7 @@ use Rattle.std.specs.List.{flat_map}
 use Rattle.kt_ckpt.specs.declared.error.CkptError.{CkptError}
 use Rattle.kt_ckpt.specs.declared.error.CkptError.TheVariants.{OutOfMemory}
 use Rattle.kt_ckpt.specs.Reading.{◌>>=◌, byte_within, list_at, rising_at}
-use Rattle.kt_ckpt.specs.Limits.{max_workers}
+use Rattle.kt_tuple.specs.declared.node.TheConstants.{MAX_WORKERS}
 
 -- what was read before, and what is still read
 abbrev pub with_front : {X : Type 0} → List X → Result (List X × List ℕ) CkptError → Result (List X × List ℕ) CkptError
@@ -64,7 +64,7 @@ appended {X} spelled xs i x old now new lt is before e =
 
 pub rising_goes_on : {X : Type 0} (read : List ℕ → Result (X × List ℕ) CkptError) (front : List (ℕ × X)) (least count i : ℕ) (bytes : List ℕ) (w : ℕ)
     (behind : List ℕ) (x : X) (after : List ℕ) (total : Result (List (ℕ × X) × List ℕ) CkptError)
-    → i < count → byte_within least max_workers bytes ≡ Ok (w, behind) → read behind ≡ Ok (x, after)
+    → i < count → byte_within least MAX_WORKERS bytes ≡ Ok (w, behind) → read behind ≡ Ok (x, after)
     → with_front front (rising_at read least (count - i) bytes) ≡ total
     → with_front (front ++ (w, x) ∷ []) (rising_at read (w + 1) (count - (i + 1)) after) ≡ total
 unfolding rising_at
@@ -77,18 +77,18 @@ rising_goes_on read front least count i bytes w behind x after total lt g h so_f
 
 pub rising_ends : {X : Type 0} (read : List ℕ → Result (X × List ℕ) CkptError) (e : CkptError) (front : List (ℕ × X)) (least count i : ℕ) (bytes : List ℕ)
     (total : Result (List (ℕ × X) × List ℕ) CkptError)
-    → i < count → (e ≢ OutOfMemory → byte_within least max_workers bytes ≡ Err e)
+    → i < count → (e ≢ OutOfMemory → byte_within least MAX_WORKERS bytes ≡ Err e)
     → with_front front (rising_at read least (count - i) bytes) ≡ total → e ≢ OutOfMemory → total ≡ Err e
 unfolding rising_at
 rising_ends read e front least count i bytes total lt fails so_far ne =
     let k : count - i ≡ suc (count - (i + 1)) = omega arith in
-    let g : byte_within least max_workers bytes ≡ Err e = fails ne in
+    let g : byte_within least MAX_WORKERS bytes ≡ Err e = fails ne in
     let one : with_front front (rising_at read least (count - i) bytes) ≡ Err e = rw (k, g) refl in
     sym so_far ∙ one
 
 pub rising_ends_behind : {X : Type 0} (read : List ℕ → Result (X × List ℕ) CkptError) (e : CkptError) (front : List (ℕ × X)) (least count i : ℕ)
     (bytes : List ℕ) (w : ℕ) (behind : List ℕ) (total : Result (List (ℕ × X) × List ℕ) CkptError)
-    → i < count → byte_within least max_workers bytes ≡ Ok (w, behind) → (e ≢ OutOfMemory → read behind ≡ Err e)
+    → i < count → byte_within least MAX_WORKERS bytes ≡ Ok (w, behind) → (e ≢ OutOfMemory → read behind ≡ Err e)
     → with_front front (rising_at read least (count - i) bytes) ≡ total → e ≢ OutOfMemory → total ≡ Err e
 unfolding rising_at
 rising_ends_behind read e front least count i bytes w behind total lt g fails so_far ne =

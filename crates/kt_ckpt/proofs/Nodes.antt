@@ -5,7 +5,8 @@ use Rattle.kt_tuple.specs.declared.node.NodeId.{NodeId}
 use Rattle.kt_tuple.specs.declared.node.NodeId.TheVariants.{Worker, Shard}
 use Rattle.kt_ckpt.specs.declared.error.CkptError.{CkptError}
 use Rattle.kt_ckpt.specs.declared.error.CkptError.TheVariants.{Field}
-use Rattle.kt_ckpt.specs.Limits.{worker_code, shard_code, max_workers, max_shards}
+use Rattle.kt_ckpt.specs.Limits.{worker_code, shard_code}
+use Rattle.kt_tuple.specs.declared.node.TheConstants.{MAX_WORKERS, MAX_SHARDS}
 use Rattle.kt_ckpt.specs.Reading.{made, byte_within}
 use Rattle.kt_ckpt.specs.Checkpoint.{IsNode, node_bytes, node_behind, node_at}
 use Rattle.kt_ckpt.proofs.Field.{IsField, Lasts}
@@ -24,11 +25,11 @@ index_bytes (Shard i) = i ∷ []
 abbrev IsNodeBehind : ℕ → NodeId → Type 0
 IsNodeBehind code n = IsNode n × (code ≡ node_code n)
 
-worker_from : (n : NodeId) → IsNodeBehind worker_code n → (i : ℕ) × (((1 ≤ i) × (i ≤ max_workers)) × (Worker i ≡ n))
+worker_from : (n : NodeId) → IsNodeBehind worker_code n → (i : ℕ) × (((1 ≤ i) × (i ≤ MAX_WORKERS)) × (Worker i ≡ n))
 worker_from (Worker i) h = (i, (h.0, refl))
 worker_from (Shard i) h = absurd (omega (arith, h.1))
 
-shard_from : (n : NodeId) → IsNodeBehind shard_code n → (i : ℕ) × (((1 ≤ i) × (i ≤ max_shards)) × (Shard i ≡ n))
+shard_from : (n : NodeId) → IsNodeBehind shard_code n → (i : ℕ) × (((1 ≤ i) × (i ≤ MAX_SHARDS)) × (Shard i ≡ n))
 shard_from (Worker i) h = absurd (omega (arith, h.1))
 shard_from (Shard i) h = (i, (h.0, refl))
 
@@ -37,25 +38,25 @@ no_node code (Worker i) a b h = eqb-false code worker_code a h.1
 no_node code (Shard i) a b h = eqb-false code shard_code b h.1
 
 abbrev a_worker : List ℕ → Result (NodeId × List ℕ) CkptError
-a_worker bytes = made Worker (byte_within 1 max_workers bytes)
+a_worker bytes = made Worker (byte_within 1 MAX_WORKERS bytes)
 
 abbrev a_shard : List ℕ → Result (NodeId × List ℕ) CkptError
-a_shard bytes = made Shard (byte_within 1 max_shards bytes)
+a_shard bytes = made Shard (byte_within 1 MAX_SHARDS bytes)
 
 node_behind_field : (code : ℕ) → IsField index_bytes (IsNodeBehind code) (node_behind code)
 node_behind_field code =
     let f = coded IsNodeBehind a_worker (λ bytes. cond (eqb code shard_code) (a_shard bytes) (fault Field bytes)) code worker_code
-    (made_field (byte_within_field 1 max_workers (omega arith)) Worker index_bytes (IsNodeBehind worker_code) (λ i h. refl) (λ i h. (h, refl)) worker_from)
+    (made_field (byte_within_field 1 MAX_WORKERS (omega arith)) Worker index_bytes (IsNodeBehind worker_code) (λ i h. refl) (λ i h. (h, refl)) worker_from)
     (λ a. coded IsNodeBehind a_shard (fault Field) code shard_code
-    (made_field (byte_within_field 1 max_shards (omega arith)) Shard index_bytes (IsNodeBehind shard_code) (λ i h. refl) (λ i h. (h, refl)) shard_from)
+    (made_field (byte_within_field 1 MAX_SHARDS (omega arith)) Shard index_bytes (IsNodeBehind shard_code) (λ i h. refl) (λ i h. (h, refl)) shard_from)
     (λ b. refused index_bytes (IsNodeBehind code) Field (λ n. no_node code n a b))) in
     record { again = f.again; takes = f.takes }
 
 node_behind_lasts : (code : ℕ) → Lasts (node_behind code)
 node_behind_lasts code =
     let l = either_lasts a_worker (λ bytes. cond (eqb code shard_code) (a_shard bytes) (fault Field bytes)) (eqb code worker_code)
-    (made_lasts Worker (byte_within_lasts 1 max_workers))
-    (either_lasts a_shard (fault Field) (eqb code shard_code) (made_lasts Shard (byte_within_lasts 1 max_shards)) (refused_lasts Field)) in
+    (made_lasts Worker (byte_within_lasts 1 MAX_WORKERS))
+    (either_lasts a_shard (fault Field) (eqb code shard_code) (made_lasts Shard (byte_within_lasts 1 MAX_SHARDS)) (refused_lasts Field)) in
     record { goes_on = l.goes_on }
 
 node_code_is_byte : (n : NodeId) → node_code n < 256

@@ -7,7 +7,7 @@ use Rattle.std.proofs.lemmas.List.{length-map}
 use Rattle.std.proofs.lemmas.List.Elements.{All-nil, All-cons, All-head, All-tail}
 use Rattle.kt_link.specs.declared.label.Label.{Label}
 use Rattle.kt_ckpt.specs.declared.error.CkptError.{CkptError}
-use Rattle.kt_ckpt.specs.Limits.{max_peers}
+use Rattle.kt_ckpt.specs.declared.limits.TheConstants.{MAX_PEERS}
 use Rattle.kt_ckpt.specs.Reading.{made, number_at}
 use Rattle.kt_ckpt.specs.Checkpoint.{ArePeers, IsLabel, label_bytes, peer_bytes, peers_bytes, label_at, peer_at, peers_at}
 use Rattle.kt_ckpt.proofs.Field.{IsField, Lasts}
@@ -57,15 +57,15 @@ unfolding peer_at
 peer_lasts = let l = behind_lasts peer_with label_lasts (λ s. made_lasts (peer_of s) label_lasts) in record { goes_on = l.goes_on }
 
 abbrev pub HavePeers : List (Label × Label) → Type 0
-HavePeers ps = ((1 ≤ length ps) × (length ps ≤ max_peers)) × All IsPeer ps
+HavePeers ps = ((1 ≤ length ps) × (length ps ≤ MAX_PEERS)) × All IsPeer ps
 
 pub peers_field : IsField peers_bytes HavePeers peers_at
 unfolding peers_at
-peers_field = let f = counted_field peer_field 1 max_peers (omega arith) in record { again = f.again; takes = f.takes }
+peers_field = let f = counted_field peer_field 1 MAX_PEERS (omega arith) in record { again = f.again; takes = f.takes }
 
 pub peers_lasts : Lasts peers_at
 unfolding peers_at
-peers_lasts = let l = counted_lasts peer_lasts 1 max_peers in record { goes_on = l.goes_on }
+peers_lasts = let l = counted_lasts peer_lasts 1 MAX_PEERS in record { goes_on = l.goes_on }
 
 pub firsts : (a b : List Label) → length a ≡ length b → map (λ p. p.0) (zip a b) ≡ a
 firsts [] b e = refl
@@ -95,7 +95,7 @@ zip_all (x ∷ a) (y ∷ b) h k = All-cons IsPeer (x, y) (zip a b) (All-head IsL
 
 -- ---- what the code does step by step
 
-pub counted_peers : (ps : List (Label × Label)) → (1 ≤ length ps) × (length ps ≤ max_peers) → ArePeers (map (λ p. p.0) ps) (map (λ p. p.1) ps)
+pub counted_peers : (ps : List (Label × Label)) → (1 ≤ length ps) × (length ps ≤ MAX_PEERS) → ArePeers (map (λ p. p.0) ps) (map (λ p. p.1) ps)
 counted_peers ps h =
     let a = length-map ps (λ (p : Label × Label). p.0) in
     let b = length-map ps (λ (p : Label × Label). p.1) in

@@ -10,7 +10,7 @@ use Rattle.std.proofs.lemmas.List.Elements.{All-nil, All-cons, All-head, All-tai
 use Rattle.std.proofs.lemmas.Nat.{be_bytes_2, be_bytes_4, be_bytes_8, from_be_bytes-to_be_bytes_2, from_be_bytes-to_be_bytes_4, from_be_bytes-to_be_bytes_8}
 use Rattle.kt_ckpt.specs.declared.error.CkptError.{CkptError}
 use Rattle.kt_ckpt.specs.declared.error.CkptError.TheVariants.{Cut, Field}
-use Rattle.kt_ckpt.specs.Limits.{max_workers}
+use Rattle.kt_tuple.specs.declared.node.TheConstants.{MAX_WORKERS}
 use Rattle.kt_ckpt.specs.Reading.{◌>>=◌, byte_at, bytes_at, number_at, within, byte_within, list_at, rising_at, IsRising}
 use Rattle.kt_ckpt.proofs.Field.{IsBytes, IsBytes-take, IsBytes-drop, IsBytes-tail, Takes, Takes-then, Continues, IsField, Lasts, the_ok, pair_of_ok, bind_ok}
 use Rattle.kt_ckpt.proofs.Combined.{known_lasts, behind_lasts}
@@ -265,7 +265,7 @@ rising_field {X} {spelled} {IsAllowed} {read} f low n = record {
   again low zero (x ∷ xs) rest len rising all = absurd (omega arith)
   again low (suc n) [] rest len rising all = absurd (omega arith)
   again low (suc n) (x ∷ xs) rest len rising all =
-      let worker = byte_within_field low max_workers (omega arith) in
+      let worker = byte_within_field low MAX_WORKERS (omega arith) in
       let regrouped : flat_map (entry spelled) (x ∷ xs) ++ rest ≡ (x.0 ∷ []) ++ (spelled x.1 ++ (flat_map (entry spelled) xs ++ rest)) =
       ap (λ (t : List ℕ). x.0 ∷ t) (append_assoc (spelled x.1) (flat_map (entry spelled) xs) rest) in
       ap (rising_at read low (suc n)) regrouped
@@ -285,8 +285,8 @@ rising_field {X} {spelled} {IsAllowed} {read} f low n = record {
       (ap (λ (a : List (ℕ × X)). (a, bytes)) s.0 ∙ ap (λ (r : List ℕ). (xs, r)) s.1)
       (record { parts = refl; rest_fits = fits }, (refl, (tt, All-nil (λ x. IsAllowed x.1))))
   takes low (suc n) bytes xs rest fits e =
-      let worker = byte_within_field low max_workers (omega arith) in
-      let w = bind_ok (byte_within low max_workers bytes) (after_worker read n) (xs, rest) e in
+      let worker = byte_within_field low MAX_WORKERS (omega arith) in
+      let w = bind_ok (byte_within low MAX_WORKERS bytes) (after_worker read n) (xs, rest) e in
       let a = bind_ok (read w.0.1) (after_first read n w.0.0) (xs, rest) w.2 in
       let b = bind_ok (rising_at read (w.0.0 + 1) n a.0.1) (λ others. the_ok {X = List (ℕ × X) × List ℕ} ((w.0.0, a.0.0) ∷ others.0, others.1))
       (xs, rest) a.2 in
@@ -303,7 +303,7 @@ pub rising_lasts : {X : Type 0} {read : List ℕ → Result (X × List ℕ) Ckpt
 unfolding rising_at
 rising_lasts {X} {read} l low zero = record { goes_on = λ bytes more. refl }
 rising_lasts {X} {read} l low (suc n) =
-    let m = behind_lasts (λ w bytes. after_worker read n (w, bytes)) (byte_within_lasts low max_workers)
+    let m = behind_lasts (λ w bytes. after_worker read n (w, bytes)) (byte_within_lasts low MAX_WORKERS)
     (λ w. behind_lasts (λ x bytes. after_first read n w (x, bytes)) l
     (λ x. behind_lasts (λ xs bytes. the_ok {X = List (ℕ × X) × List ℕ} ((w, x) ∷ xs, bytes)) (rising_lasts l (w + 1) n) (λ xs. known_lasts ((w, x) ∷ xs)))) in
     record { goes_on = m.goes_on }
@@ -314,20 +314,20 @@ pub rising_of : {X : Type 0} (read : List ℕ → Result (X × List ℕ) CkptErr
 unfolding rising_at byte_within
 rising_of {X} read low zero bytes xs rest e = let s = pair_of_ok ([], bytes) (xs, rest) e in subst (IsRising low) s.0 tt
 rising_of {X} read low (suc n) bytes xs rest e =
-    let w = bind_ok (byte_within low max_workers bytes) (after_worker read n) (xs, rest) e in
+    let w = bind_ok (byte_within low MAX_WORKERS bytes) (after_worker read n) (xs, rest) e in
     let a = bind_ok (read w.0.1) (after_first read n w.0.0) (xs, rest) w.2 in
     let b = bind_ok (rising_at read (w.0.0 + 1) n a.0.1) (λ others. the_ok {X = List (ℕ × X) × List ℕ} ((w.0.0, a.0.0) ∷ others.0, others.1))
     (xs, rest) a.2 in
     let s = pair_of_ok ((w.0.0, a.0.0) ∷ b.0.0, b.0.1) (xs, rest) b.2 in
-    let c = bind_ok (byte_at bytes) (within low max_workers) w.0 w.1 in
-    let v = within_ok low max_workers c.0 w.0 c.2 in
+    let c = bind_ok (byte_at bytes) (within low MAX_WORKERS) w.0 w.1 in
+    let v = within_ok low MAX_WORKERS c.0 w.0 c.2 in
     subst (IsRising low) s.0 (
       subst (λ (m : ℕ). low ≤ m) v.2 v.0,
-      subst (λ (m : ℕ). m ≤ max_workers) v.2 v.1,
+      subst (λ (m : ℕ). m ≤ MAX_WORKERS) v.2 v.1,
       rising_of read (w.0.0 + 1) n a.0.1 b.0.0 b.0.1 b.1,
     )
 
 -- there are no more of them than workers
-pub rising_len : {X : Type 0} (low : ℕ) (xs : List (ℕ × X)) → low ≤ max_workers + 1 → IsRising low xs → length xs + low ≤ max_workers + 1
+pub rising_len : {X : Type 0} (low : ℕ) (xs : List (ℕ × X)) → low ≤ MAX_WORKERS + 1 → IsRising low xs → length xs + low ≤ MAX_WORKERS + 1
 rising_len low [] le h = omega arith
 rising_len low (x ∷ xs) le h = let rest = rising_len (x.0 + 1) xs (omega (arith, h.1)) h.2 in omega (arith, rest, h.0)

@@ -13,7 +13,8 @@ use Rattle.kt_ckpt.specs.declared.error.CkptError.{CkptError}
 use Rattle.kt_shard.specs.declared.request.Request.{Request}
 use Rattle.kt_shard.specs.declared.request.Kept.{Kept}
 use Rattle.kt_ckpt.specs.Fields.{WorkerFields, worker_of, ShardFields}
-use Rattle.kt_ckpt.specs.Limits.{max_pc, max_variables, max_workers}
+use Rattle.kt_script.specs.declared.script.TheConstants.{MAX_COMMANDS, MAX_VARIABLES}
+use Rattle.kt_tuple.specs.declared.node.TheConstants.{MAX_WORKERS}
 use Rattle.kt_ckpt.specs.Reading.{◌>>=◌, made, number_at, list_at, rising_at, IsRising}
 use Rattle.kt_ckpt.specs.Tuple.{IsTuple, tuple_bytes, tuple_at}
 use Rattle.kt_ckpt.specs.Op.{IsOp, op_bytes, op_at, answer_bytes, answer_at}
@@ -31,16 +32,16 @@ use Rattle.kt_ckpt.proofs.Ops.{op_field, op_lasts, answer_field, answer_lasts}
 
 -- ---- a worker's fields
 
-pc_field : IsField (λ n. to_be_bytes w16 n) (λ n. n ≤ max_pc) pc_at
+pc_field : IsField (λ n. to_be_bytes w16 n) (λ n. n ≤ MAX_COMMANDS) pc_at
 unfolding pc_at
 pc_field =
-    let f = same_field (within_field 0 max_pc (λ n le. omega arith) (number_field w16 (2 ^ 16) wide16)) (λ n. to_be_bytes w16 n) (λ n. n ≤ max_pc)
+    let f = same_field (within_field 0 MAX_COMMANDS (λ n le. omega arith) (number_field w16 (2 ^ 16) wide16)) (λ n. to_be_bytes w16 n) (λ n. n ≤ MAX_COMMANDS)
     (λ n h. h.1) (λ n h. (omega arith, h)) (λ n h. refl) in
     record { again = f.again; takes = f.takes }
 
 pc_lasts : Lasts pc_at
 unfolding pc_at
-pc_lasts = let l = within_lasts 0 max_pc (number_lasts w16) in record { goes_on = l.goes_on }
+pc_lasts = let l = within_lasts 0 MAX_COMMANDS (number_lasts w16) in record { goes_on = l.goes_on }
 
 abbrev is_one : ℕ → Bool
 is_one n = eqb n 1
@@ -119,18 +120,18 @@ unfolding asked_at
 asked_lasts = let l = behind_lasts asked_behind flag_lasts asked_behind_lasts in record { goes_on = l.goes_on }
 
 abbrev AreVariables : List Value → Type 0
-AreVariables values = (length values ≤ max_variables) × All IsValue values
+AreVariables values = (length values ≤ MAX_VARIABLES) × All IsValue values
 
 variables_field : IsField variables_bytes AreVariables variables_at
 unfolding variables_at
 variables_field =
-    let f = same_field (counted_field value_field 0 max_variables (omega arith)) variables_bytes AreVariables (λ v h. (h.0.1, h.1))
+    let f = same_field (counted_field value_field 0 MAX_VARIABLES (omega arith)) variables_bytes AreVariables (λ v h. (h.0.1, h.1))
     (λ v h. ((omega arith, h.0), h.1)) (λ v h. refl) in
     record { again = f.again; takes = f.takes }
 
 variables_lasts : Lasts variables_at
 unfolding variables_at
-variables_lasts = let l = counted_lasts value_lasts 0 max_variables in record { goes_on = l.goes_on }
+variables_lasts = let l = counted_lasts value_lasts 0 MAX_VARIABLES in record { goes_on = l.goes_on }
 
 -- ---- a worker
 
@@ -238,14 +239,14 @@ kept_lasts = let l = behind_lasts kept_with request_lasts (λ r. made_lasts (kep
 abbrev AreEntries : {X : Type 0} → (X → Type 0) → List (ℕ × X) → Type 0
 AreEntries IsAllowed xs = IsRising 1 xs × All (λ x. IsAllowed x.1) xs
 
-pub few_entries : {X : Type 0} (xs : List (ℕ × X)) → IsRising 1 xs → length xs ≤ max_workers
+pub few_entries : {X : Type 0} (xs : List (ℕ × X)) → IsRising 1 xs → length xs ≤ MAX_WORKERS
 few_entries xs h = omega (arith, rising_len 1 xs (omega arith) h)
 
 entries_field : {X : Type 0} {spelled : X → List ℕ} {IsAllowed : X → Type 0} {read : List ℕ → Result (X × List ℕ) CkptError} → IsField spelled IsAllowed read
     → IsField (entries_bytes spelled) (AreEntries IsAllowed) (entries_at read)
 unfolding entries_at
 entries_field {X} {spelled} {IsAllowed} {read} f =
-    let g = behind (byte_within_field 0 max_workers (omega arith)) (λ (xs : List (ℕ × X)). length xs) (λ xs. flat_map (entry_bytes spelled) xs)
+    let g = behind (byte_within_field 0 MAX_WORKERS (omega arith)) (λ (xs : List (ℕ × X)). length xs) (λ xs. flat_map (entry_bytes spelled) xs)
     (AreEntries IsAllowed) (rising_at read 1) (λ xs h. (omega arith, few_entries xs h.0))
     (λ n h. same_field (rising_field f 1 n) (λ xs. flat_map (entry_bytes spelled) xs) (λ xs. AreEntries IsAllowed xs × (n ≡ length xs))
     (λ xs g. (g.1, sym g.0)) (λ xs g. (sym g.1, g.0)) (λ xs g. refl)) in
@@ -253,7 +254,7 @@ entries_field {X} {spelled} {IsAllowed} {read} f =
 
 entries_lasts : {X : Type 0} {read : List ℕ → Result (X × List ℕ) CkptError} → Lasts read → Lasts (entries_at read)
 unfolding entries_at
-entries_lasts {X} {read} l = let m = behind_lasts (rising_at read 1) (byte_within_lasts 0 max_workers) (rising_lasts l 1) in record { goes_on = m.goes_on }
+entries_lasts {X} {read} l = let m = behind_lasts (rising_at read 1) (byte_within_lasts 0 MAX_WORKERS) (rising_lasts l 1) in record { goes_on = m.goes_on }
 
 -- ---- a shard
 

@@ -3,7 +3,7 @@ use Rattle.std.proofs.Common.{◌≡◌, ℕ, ◌<◌, ◌≤◌, List, ◌∷�
 use Rattle.std.specs.Prelude.{All}
 use Rattle.std.specs.List.{flat_map}
 use Rattle.kt_ckpt.specs.declared.error.CkptError.{CkptError}
-use Rattle.kt_ckpt.specs.Limits.{max_places}
+use Rattle.kt_tuple.specs.declared.tuple.TheConstants.{MAX_PLACES}
 use Rattle.kt_ckpt.specs.Reading.{◌>>=◌, byte_within, list_at}
 use Rattle.kt_ckpt.specs.Tuple.{IsTuple, IsTemplate, tuple_bytes, template_bytes, tuple_at, template_at}
 use Rattle.kt_ckpt.proofs.Field.{IsField, Lasts}
@@ -29,16 +29,16 @@ counted_lasts {X} {read} l low high = behind_lasts (λ n. list_at read n) (byte_
 
 pub tuple_field : IsField tuple_bytes IsTuple tuple_at
 unfolding tuple_at
-tuple_field = let f = counted_field value_field 1 max_places (omega arith) in record { again = f.again; takes = f.takes }
+tuple_field = let f = counted_field value_field 1 MAX_PLACES (omega arith) in record { again = f.again; takes = f.takes }
 
 pub tuple_lasts : Lasts tuple_at
 unfolding tuple_at
-tuple_lasts = let l = counted_lasts value_lasts 1 max_places in record { goes_on = l.goes_on }
+tuple_lasts = let l = counted_lasts value_lasts 1 MAX_PLACES in record { goes_on = l.goes_on }
 
 pub template_field : IsField template_bytes IsTemplate template_at
 unfolding template_at
-template_field = let f = counted_field place_field 1 max_places (omega arith) in record { again = f.again; takes = f.takes }
+template_field = let f = counted_field place_field 1 MAX_PLACES (omega arith) in record { again = f.again; takes = f.takes }
 
 pub template_lasts : Lasts template_at
 unfolding template_at
-template_lasts = let l = counted_lasts place_lasts 1 max_places in record { goes_on = l.goes_on }
+template_lasts = let l = counted_lasts place_lasts 1 MAX_PLACES in record { goes_on = l.goes_on }

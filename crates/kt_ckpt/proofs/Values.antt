@@ -19,7 +19,8 @@ use Rattle.kt_tuple.specs.Valid.{IsValue, IsPlace}
 use Rattle.kt_tuple.proofs.Shared.{are_printable, all_printable}
 use Rattle.kt_ckpt.specs.declared.error.CkptError.{CkptError}
 use Rattle.kt_ckpt.specs.declared.error.CkptError.TheVariants.{Field}
-use Rattle.kt_ckpt.specs.Limits.{max_characters, int_code, str_code, int_formal_code, str_formal_code}
+use Rattle.kt_ckpt.specs.Limits.{int_code, str_code, int_formal_code, str_formal_code}
+use Rattle.kt_tuple.specs.declared.string.TheConstants.{MAX_CHARACTERS}
 use Rattle.kt_ckpt.specs.Reading.{◌>>=◌, made, bytes_at, byte_within}
 use Rattle.kt_ckpt.specs.Value.{value_code, behind_value_code, value_bytes, place_code, behind_place_code}
 use Rattle.kt_ckpt.specs.Value.{place_bytes, int_at, printed, str_at, value_behind, value_at, place_behind, place_at}
@@ -77,7 +78,7 @@ str_field = record { again = λ v rest h. again v rest h; takes = λ bytes v res
   again : (v : Value) (rest : List ℕ) → IsBehind str_code v → str_at (behind_value_code v ++ rest) ≡ Ok (v, rest)
   again (Int n) rest h = absurd (omega (arith, h.1))
   again (Str cs) rest h =
-      let len = byte_within_field 0 max_characters (omega arith) in
+      let len = byte_within_field 0 MAX_CHARACTERS (omega arith) in
       ap (λ (r : Result (ℕ × List ℕ) CkptError). r >>= after_length) (len.again (length cs) (cs ++ rest) (omega arith, h.0.0))
       ∙ ap (λ (r : Result (List ℕ × List ℕ) CkptError). r >>= λ x. printed x.0 x.1) (front_again (length cs) cs rest refl)
       ∙ ap (λ (b : Bool). cond b (the_ok {X = Value × List ℕ} (Str cs, rest)) (Err Field)) (all_printable cs h.0.1)
@@ -85,8 +86,8 @@ str_field = record { again = λ v rest h. again v rest h; takes = λ bytes v res
   takes : (bytes : List ℕ) (v : Value) (rest : List ℕ) → IsBytes bytes → str_at bytes ≡ Ok (v, rest)
       → Takes bytes (behind_value_code v) rest × IsBehind str_code v
   takes bytes v rest fits e =
-      let len = byte_within_field 0 max_characters (omega arith) in
-      let a = bind_ok (byte_within 0 max_characters bytes) after_length (v, rest) e in
+      let len = byte_within_field 0 MAX_CHARACTERS (omega arith) in
+      let a = bind_ok (byte_within 0 MAX_CHARACTERS bytes) after_length (v, rest) e in
       let b = bind_ok (bytes_at a.0.0 a.0.1) (λ x. printed x.0 x.1) (v, rest) a.2 in
       let p = printed_ok b.0.0 b.0.1 (v, rest) b.2 in
       let t = len.takes bytes a.0.0 a.0.1 fits a.1 in
@@ -98,7 +99,7 @@ str_field = record { again = λ v rest h. again v rest h; takes = λ bytes v res
 str_lasts : Lasts str_at
 unfolding str_at after_length
 str_lasts =
-    let l = behind_lasts (λ n bytes. after_length (n, bytes)) (byte_within_lasts 0 max_characters)
+    let l = behind_lasts (λ n bytes. after_length (n, bytes)) (byte_within_lasts 0 MAX_CHARACTERS)
     (λ n. behind_lasts (λ cs bytes. printed cs bytes) (front_lasts n) printed_lasts) in
     record { goes_on = l.goes_on }
 
@@ -214,7 +215,7 @@ place_lasts = let l = behind_lasts place_behind byte_lasts place_behind_lasts in
 
 -- ---- what the code reads of a str
 
-pub str_read : (bytes : List ℕ) (n : ℕ) (after cs rest : List ℕ) → byte_within 0 max_characters bytes ≡ Ok (n, after) → bytes_at n after ≡ Ok (cs, rest)
+pub str_read : (bytes : List ℕ) (n : ℕ) (after cs rest : List ℕ) → byte_within 0 MAX_CHARACTERS bytes ≡ Ok (n, after) → bytes_at n after ≡ Ok (cs, rest)
     → IsText cs → str_at bytes ≡ Ok (Str cs, rest)
 unfolding str_at
 str_read bytes n after cs rest p q text =
@@ -222,8 +223,8 @@ str_read bytes n after cs rest p q text =
     ∙ ap (λ (r : Result (List ℕ × List ℕ) CkptError). r >>= λ cs. printed cs.0 cs.1) q
     ∙ ap (λ (b : Bool). cond b (the_ok {X = Value × List ℕ} (Str cs, rest)) (Err Field)) (all_printable cs text.1)
 
-pub str_refused : (bytes : List ℕ) (n : ℕ) (after cs rest : List ℕ) → byte_within 0 max_characters bytes ≡ Ok (n, after) → bytes_at n after ≡ Ok (cs, rest)
-    → n ≤ max_characters → (IsText cs → ⊥) → str_at bytes ≡ Err Field
+pub str_refused : (bytes : List ℕ) (n : ℕ) (after cs rest : List ℕ) → byte_within 0 MAX_CHARACTERS bytes ≡ Ok (n, after) → bytes_at n after ≡ Ok (cs, rest)
+    → n ≤ MAX_CHARACTERS → (IsText cs → ⊥) → str_at bytes ≡ Err Field
 unfolding str_at
 str_refused bytes n after cs rest p q le none =
     ap (λ (r : Result (ℕ × List ℕ) CkptError). r >>= λ n. bytes_at n.0 n.1 >>= λ cs. printed cs.0 cs.1) p

@@ -11,7 +11,9 @@ use Rattle.kt_ckpt.specs.declared.error.CkptError.{CkptError}
 use Rattle.kt_ckpt.specs.declared.error.CkptError.TheVariants.{Magic, Version, Field, Extra}
 use Rattle.kt_ckpt.specs.declared.state.State.{State}
 use Rattle.kt_ckpt.specs.declared.state.State.TheVariants as states
-use Rattle.kt_ckpt.specs.Limits.{magic, version, worker_code, shard_code, max_workers, max_shards, max_peers}
+use Rattle.kt_ckpt.specs.Limits.{magic, version, worker_code, shard_code}
+use Rattle.kt_ckpt.specs.declared.limits.TheConstants.{MAX_PEERS}
+use Rattle.kt_tuple.specs.declared.node.TheConstants.{MAX_WORKERS, MAX_SHARDS}
 use Rattle.kt_ckpt.specs.Reading.{◌>>=◌, made, byte_at, bytes_at, byte_within, number_at, list_at}
 use Rattle.kt_ckpt.specs.State.{IsWorker, IsShard, IsCountedWorker, IsCountedShard}
 use Rattle.kt_ckpt.specs.State.{worker_bytes, shard_bytes, worker_at, shard_at}
@@ -36,8 +38,8 @@ made_of node line_len sent received state = record {
 
 -- one of the workers or shards that there may be
 abbrev pub IsNode : NodeId → Type 0
-IsNode (Worker i) = (1 ≤ i) × (i ≤ max_workers)
-IsNode (Shard i) = (1 ≤ i) × (i ≤ max_shards)
+IsNode (Worker i) = (1 ≤ i) × (i ≤ MAX_WORKERS)
+IsNode (Shard i) = (1 ≤ i) × (i ≤ MAX_SHARDS)
 
 -- a worker has a worker's state, a shard a shard's
 abbrev pub Suits : NodeId → State → Type 0
@@ -52,7 +54,7 @@ IsCountedState (states.Shard s) = IsCountedShard s
 
 -- a neighbour at least and no more than there may be, and for each a label sent and one received
 abbrev pub ArePeers : List Label → List Label → Type 0
-ArePeers sent received = (1 ≤ length sent) × (length sent ≤ max_peers) × (length sent ≡ length received)
+ArePeers sent received = (1 ≤ length sent) × (length sent ≤ MAX_PEERS) × (length sent ≡ length received)
 
 -- the counts of the format, which a caller keeps
 pub record HasCounts (c : Checkpoint) : Type 0 where
@@ -117,8 +119,8 @@ version_at bytes = do
 -- the node behind the code of its kind
 abbrev pub node_behind : ℕ → List ℕ → Result (NodeId × List ℕ) CkptError
 node_behind kind bytes =
-    if kind == worker_code then made Worker (byte_within 1 max_workers bytes)
-    else if kind == shard_code then made Shard (byte_within 1 max_shards bytes)
+    if kind == worker_code then made Worker (byte_within 1 MAX_WORKERS bytes)
+    else if kind == shard_code then made Shard (byte_within 1 MAX_SHARDS bytes)
     else Err Field
 
 unfoldable pub node_at : List ℕ → Result (NodeId × List ℕ) CkptError
@@ -140,7 +142,7 @@ peer_at bytes = do
 
 unfoldable pub peers_at : List ℕ → Result (List (Label × Label) × List ℕ) CkptError
 peers_at bytes = do
-  n ← byte_within 1 max_peers bytes
+  n ← byte_within 1 MAX_PEERS bytes
   list_at peer_at n.0 n.1
 
 -- the state of this node

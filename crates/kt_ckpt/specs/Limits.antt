@@ -1,4 +1,4 @@
--- The limits and codes of the format, each once.
+-- The codes of the format, each once. Its limits are those of tuples, scripts and nodes.
 use Rattle.std.specs.Prelude.{ℕ, List, codes}
 
 -- the bytes that each checkpoint begins with
@@ -8,33 +8,6 @@ magic = codes "KTCP"
 -- the version that is written and read
 abbrev pub version : ℕ
 version = 1
-
--- workers, and the entries of what waits and of what is kept
-abbrev pub max_workers : ℕ
-max_workers = 8
-
-abbrev pub max_shards : ℕ
-max_shards = 8
-
--- neighbours of a node, which has one at least
-abbrev pub max_peers : ℕ
-max_peers = 8
-
--- places of a tuple or a template, which has one at least
-abbrev pub max_places : ℕ
-max_places = 8
-
--- characters of a str
-abbrev pub max_characters : ℕ
-max_characters = 64
-
--- variables of a worker
-abbrev pub max_variables : ℕ
-max_variables = 64
-
--- the number of the next command, counted from 0
-abbrev pub max_pc : ℕ
-max_pc = 200
 
 -- what kind of node
 abbrev pub worker_code : ℕ

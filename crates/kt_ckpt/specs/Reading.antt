@@ -4,7 +4,7 @@ use Rattle.std.specs.Prelude.{List, [], ◌∷◌, length, take, drop, Result, O
 use Rattle.std.specs.Int.{Width, byte_len, from_be_bytes}
 use Rattle.kt_ckpt.specs.declared.error.CkptError.{CkptError}
 use Rattle.kt_ckpt.specs.declared.error.CkptError.TheVariants.{Cut, Field, OutOfMemory}
-use Rattle.kt_ckpt.specs.Limits.{max_workers}
+use Rattle.kt_tuple.specs.declared.node.TheConstants.{MAX_WORKERS}
 
 -- what follows is read behind what was read, and a fault is the last that is read
 infixl 10 ◌>>=◌
@@ -60,7 +60,7 @@ list_at read (suc n) bytes = do
 unfoldable pub rising_at : {X : Type 0} → Reader X → ℕ → ℕ → Reader (List (ℕ × X))
 rising_at read least zero bytes = Ok ([], bytes)
 rising_at read least (suc n) bytes = do
-  worker ← byte_within least max_workers bytes
+  worker ← byte_within least MAX_WORKERS bytes
   first ← read worker.1
   others ← rising_at read (worker.0 + 1) n first.1
   Ok ((worker.0, first.0) ∷ others.0, others.1)
@@ -68,4 +68,4 @@ rising_at read least (suc n) bytes = do
 -- each worker is above the one before, the first is the least or above it, and none is above the greatest
 abbrev pub IsRising : {X : Type 0} → ℕ → List (ℕ × X) → Type 0
 IsRising least [] = Unit {0}
-IsRising least (x ∷ xs) = (least ≤ x.0) × (x.0 ≤ max_workers) × IsRising (x.0 + 1) xs
+IsRising least (x ∷ xs) = (least ≤ x.0) × (x.0 ≤ MAX_WORKERS) × IsRising (x.0 + 1) xs

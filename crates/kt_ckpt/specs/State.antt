@@ -11,7 +11,8 @@ use Rattle.kt_ckpt.specs.declared.error.CkptError.{CkptError}
 use Rattle.kt_shard.specs.declared.request.Request.{Request}
 use Rattle.kt_shard.specs.declared.request.Kept.{Kept}
 use Rattle.kt_ckpt.specs.Fields.{WorkerFields, worker_of, ShardFields}
-use Rattle.kt_ckpt.specs.Limits.{max_pc, max_variables, max_workers}
+use Rattle.kt_script.specs.declared.script.TheConstants.{MAX_COMMANDS, MAX_VARIABLES}
+use Rattle.kt_tuple.specs.declared.node.TheConstants.{MAX_WORKERS}
 use Rattle.kt_ckpt.specs.Reading.{◌>>=◌, Reader, made, byte_within, within, number_at, list_at, rising_at, IsRising}
 use Rattle.kt_ckpt.specs.Value.{value_bytes, value_at}
 use Rattle.kt_ckpt.specs.Tuple.{IsTuple, tuple_bytes, tuple_at}
@@ -21,14 +22,14 @@ use Rattle.kt_ckpt.specs.Op.{IsOp, IsAnswer, op_bytes, op_at, answer_bytes, answ
 
 -- the counts and numbers that have a spelling
 abbrev pub IsCountedWorker : WorkerFields → Type 0
-IsCountedWorker w = (w.pc ≤ max_pc) × (length w.variables ≤ max_variables)
+IsCountedWorker w = (w.pc ≤ MAX_COMMANDS) × (length w.variables ≤ MAX_VARIABLES)
 
 -- what has a spelling
 pub record IsWorker (w : WorkerFields) : Type 0 where
-  pub pc : w.pc ≤ max_pc
+  pub pc : w.pc ≤ MAX_COMMANDS
   pub number : w.number < 2 ^ 64
   pub asked : IfSome w.asked IsOp
-  pub few : length w.variables ≤ max_variables
+  pub few : length w.variables ≤ MAX_VARIABLES
   pub variables : All IsValue w.variables
 
 abbrev pub flag_bytes : Bool → List ℕ
@@ -48,7 +49,7 @@ worker_bytes w =
     ++ (asked_bytes w.asked ++ variables_bytes w.variables)))
 
 unfoldable pub pc_at : List ℕ → Result (ℕ × List ℕ) CkptError
-pc_at bytes = number_at w16 bytes >>= within 0 max_pc
+pc_at bytes = number_at w16 bytes >>= within 0 MAX_COMMANDS
 
 unfoldable pub flag_at : List ℕ → Result (Bool × List ℕ) CkptError
 flag_at bytes = made (λ n. n == 1) (byte_within 0 1 bytes)
@@ -65,7 +66,7 @@ asked_at bytes = do
 
 unfoldable pub variables_at : List ℕ → Result (List Value × List ℕ) CkptError
 variables_at bytes = do
-  n ← byte_within 0 max_variables bytes
+  n ← byte_within 0 MAX_VARIABLES bytes
   list_at value_at n.0 n.1
 
 unfoldable pub worker_at : List ℕ → Result (WorkerFields × List ℕ) CkptError
@@ -138,7 +139,7 @@ kept_at bytes = do
 -- how many entries there are, and these
 unfoldable pub entries_at : {X : Type 0} → Reader X → Reader (List (ℕ × X))
 entries_at read bytes = do
-  n ← byte_within 0 max_workers bytes
+  n ← byte_within 0 MAX_WORKERS bytes
   rising_at read 1 n.0 n.1
 
 unfoldable pub shard_at : List ℕ → Result (ShardFields × List ℕ) CkptError

@@ -6,7 +6,7 @@ use Rattle.kt_tuple.specs.declared.template.Place.{Place}
 use Rattle.kt_tuple.specs.Matching.{HasArity}
 use Rattle.kt_tuple.specs.Valid.{IsValue, IsPlace}
 use Rattle.kt_ckpt.specs.declared.error.CkptError.{CkptError}
-use Rattle.kt_ckpt.specs.Limits.{max_places}
+use Rattle.kt_tuple.specs.declared.tuple.TheConstants.{MAX_PLACES}
 use Rattle.kt_ckpt.specs.Reading.{◌>>=◌, byte_within, list_at}
 use Rattle.kt_ckpt.specs.Value.{value_bytes, place_bytes, value_at, place_at}
 
@@ -26,10 +26,10 @@ template_bytes places = length places ∷ flat_map place_bytes places
 
 unfoldable pub tuple_at : List ℕ → Result (List Value × List ℕ) CkptError
 tuple_at bytes = do
-  n ← byte_within 1 max_places bytes
+  n ← byte_within 1 MAX_PLACES bytes
   list_at value_at n.0 n.1
 
 unfoldable pub template_at : List ℕ → Result (List Place × List ℕ) CkptError
 template_at bytes = do
-  n ← byte_within 1 max_places bytes
+  n ← byte_within 1 MAX_PLACES bytes
   list_at place_at n.0 n.1

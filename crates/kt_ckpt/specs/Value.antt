@@ -10,7 +10,8 @@ use Rattle.kt_tuple.specs.declared.template.Place.TheVariants.{Actual, Formal}
 use Rattle.kt_tuple.specs.Reading.{is_printable}
 use Rattle.kt_ckpt.specs.declared.error.CkptError.{CkptError}
 use Rattle.kt_ckpt.specs.declared.error.CkptError.TheVariants.{Field}
-use Rattle.kt_ckpt.specs.Limits.{max_characters, int_code, str_code, int_formal_code, str_formal_code}
+use Rattle.kt_ckpt.specs.Limits.{int_code, str_code, int_formal_code, str_formal_code}
+use Rattle.kt_tuple.specs.declared.string.TheConstants.{MAX_CHARACTERS}
 use Rattle.kt_ckpt.specs.Reading.{◌>>=◌, made, byte_at, bytes_at, byte_within, number_at}
 
 abbrev pub value_code : Value → ℕ
@@ -49,7 +50,7 @@ printed cs rest = if list_all is_printable cs then Ok (Str cs, rest) else Err Fi
 -- a str behind its code
 unfoldable pub str_at : List ℕ → Result (Value × List ℕ) CkptError
 str_at bytes = do
-  n ← byte_within 0 max_characters bytes
+  n ← byte_within 0 MAX_CHARACTERS bytes
   cs ← bytes_at n.0 n.1
   printed cs.0 cs.1
 

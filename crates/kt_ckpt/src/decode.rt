@@ -4,20 +4,21 @@ ghost use Rattle.std.specs.Prelude.{◌≡◌, ◌≢◌, ℕ, ◌<◌, ◌≤�
 ghost use Rattle.kt_ckpt.specs.Checkpoint.{Checkpoint, IsCheckpoint, HasCounts, IsNode, IsCountedState, Suits};
 ghost use Rattle.kt_ckpt.specs.Checkpoint.{spelling, read, magic_at, version_at, node_behind, node_at};
 ghost use Rattle.kt_ckpt.specs.Checkpoint.{label_at, peer_at, peers_at, state_at, checkpoint_of, checkpoint_at};
-ghost use Rattle.kt_ckpt.specs.Limits.{magic, version, max_peers};
+ghost use Rattle.kt_ckpt.specs.Limits.{magic, version};
 ghost use Rattle.kt_ckpt.specs.Marks.{fields_of, marks_at};
-ghost use Rattle.kt_ckpt.specs.Reading.{Gives, list_at};
+ghost use Rattle.kt_ckpt.specs.Reading.{Gives};
 
 use crate::ckpt::Ckpt;
 use crate::error::CkptError;
-use crate::limits::{MAGIC, MAX_PEERS, MAX_SHARDS, MAX_WORKERS, SHARD, VERSION, WORKER};
+use crate::limits::{MAGIC, MAX_PEERS, SHARD, VERSION, WORKER};
+use crate::list::{Listed, list_at};
 use crate::marks::Marks;
 use crate::numbers::{byte_at, byte_within, bytes_at, u64_at};
 use crate::shard::shard_at;
 use crate::state::State;
 use crate::worker::worker_at;
 use kt_link::Label;
-use kt_tuple::NodeId;
+use kt_tuple::{MAX_SHARDS, MAX_WORKERS, NodeId};
 use std::alloc::{AllocError, Global};
 
 impl Ckpt {
@@ -129,7 +130,7 @@ fn ckpt_of(
     state: State,
 ) -> Result<Ckpt, AllocError>
     requires node { IsNode node }
-    requires few { (1 ≤ length peers.now) × (length peers.now ≤ max_peers) }
+    requires few { (1 ≤ length peers.now) × (length peers.now ≤ MAX_PEERS) }
     requires suits { Suits node state }
     requires counted { IsCountedState state }
     ensures { IfOk result (λ c. c ≡ checkpoint_of node line_len peers.now state) }
@@ -222,31 +223,23 @@ fn peer_at(bytes: &[u8]) -> Result<((Label, Label), &[u8]), CkptError>
     Ok(((sent, received), rest))
 }
 
+impl Listed for (Label, Label) {
+    ghost use Rattle.kt_ckpt.specs.Checkpoint.{peer_at};
+
+    ghost reader = { peer_at };
+
+    fn read(_alloc: Global, bytes: &[u8]) -> Result<((Label, Label), &[u8]), CkptError> {
+        peer_at(bytes)
+    }
+}
+
 #[tactic(auto, unfolding(crate::specs::Checkpoint::peers_at))]
 fn peers_at(alloc: Global, bytes: &[u8]) -> Result<(Vec<(Label, Label)>, &[u8]), CkptError>
     ensures value { Gives (λ x. (x.0.items, x.1.now)) result (peers_at bytes.now) }
-    ensures few { IfOk result (λ x. (1 ≤ length x.0.items) × (length x.0.items ≤ max_peers)) }
+    ensures few { IfOk result (λ x. (1 ≤ length x.0.items) × (length x.0.items ≤ MAX_PEERS)) }
 {
     let (count, rest) = byte_within(1, MAX_PEERS, bytes)?;
-    so_many_peers_at(alloc, count, rest)
-}
-
-fn so_many_peers_at(
-    alloc: Global,
-    count: u8,
-    bytes: &[u8],
-) -> Result<(Vec<(Label, Label)>, &[u8]), CkptError>
-    ensures value { Gives (λ x. (x.0.items, x.1.now)) result (list_at peer_at count bytes.now) }
-    ensures len { IfOk result (λ x. length x.0.items ≡ count) }
-{
-    let mut peers = Vec::new(alloc);
-    let mut rest = bytes;
-    for _ in 0..count {
-        let (peer, after) = peer_at(rest)?;
-        peers.push(peer)?;
-        rest = after;
-    }
-    Ok((peers, rest))
+    list_at(alloc, u32::from(count), rest)
 }
 
 /// The state of this node, of its kind, and the bytes behind it.

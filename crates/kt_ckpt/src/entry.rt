@@ -6,10 +6,10 @@ ghost use Rattle.kt_ckpt.specs.Reading.{Gives, IsRising, Reader, rising_at};
 ghost use Rattle.kt_ckpt.specs.State.{entry_bytes, entries_bytes, entries_at};
 
 use crate::error::CkptError;
-use crate::limits::MAX_WORKERS;
 use crate::numbers::{byte_within, push_u64, u64_at};
 use crate::op::{answer_at, op_at, push_answer, push_op};
 use kt_shard::{Kept, Request};
+use kt_tuple::MAX_WORKERS;
 use std::alloc::{AllocError, Global};
 
 /// What a shard keeps for one worker: a request that waits, or the last one that was served. Both lists are written and

@@ -1,4 +1,7 @@
-//! The limits and codes of the format, each once.
+//! The codes of the format, each once, and the limit of neighbours. The other limits are those of tuples, scripts and
+//! nodes.
+
+use kt_tuple::MAX_WORKERS;
 
 /// The bytes that each checkpoint begins with.
 pub(crate) const MAGIC: [u8; 4] = *b"KTCP";
@@ -6,26 +9,9 @@ pub(crate) const MAGIC: [u8; 4] = *b"KTCP";
 /// The version that is written and read.
 pub(crate) const VERSION: u8 = 1;
 
-/// The most workers: the greatest number of one.
-pub const MAX_WORKERS: u8 = 8;
-
-/// The most shards: the greatest number of one.
-pub const MAX_SHARDS: u8 = 8;
-
-/// The most neighbours of a node: the shards of a worker, or the workers of a shard.
-pub const MAX_PEERS: u8 = 8;
-
-/// The most places of a tuple or a template.
-pub(crate) const MAX_PLACES: u8 = 8;
-
-/// The most characters of a str.
-pub(crate) const MAX_CHARACTERS: u8 = 64;
-
-/// The most variables of a worker: those of a script.
-pub const MAX_VARIABLES: u8 = 64;
-
-/// The greatest number of a worker's next command, counted from 0.
-pub const MAX_PC: u16 = 200;
+/// The most neighbours of a node: the shards of a worker, who are no more than the workers can be, or the workers of a
+/// shard.
+pub const MAX_PEERS: u8 = MAX_WORKERS;
 
 /// The code of a worker's checkpoint.
 pub(crate) const WORKER: u8 = 1;

@@ -2,16 +2,17 @@
 
 ghost use Rattle.std.specs.Prelude.{◌≡◌, ◌<◌, ◌^◌, ◌++◌, All, IfOk, OnOk, length};
 ghost use Rattle.std.specs.List.{flat_map};
-ghost use Rattle.kt_ckpt.specs.Reading.{Gives, list_at};
+ghost use Rattle.kt_ckpt.specs.Reading.{Gives};
 ghost use Rattle.kt_ckpt.specs.State.{IsShard, IsCountedShard};
 ghost use Rattle.kt_ckpt.specs.State.{shard_bytes, bag_bytes, bag_at, shard_at};
-ghost use Rattle.kt_ckpt.specs.Tuple.{IsTuple, tuple_bytes, tuple_at};
+ghost use Rattle.kt_ckpt.specs.Tuple.{IsTuple, tuple_bytes};
 
 use crate::entry::{entries_at, push_entries};
 use crate::error::CkptError;
+use crate::list::list_at;
 use crate::numbers::{push_u32, u32_at};
 use crate::state::ShardState;
-use crate::tuple::{push_tuple, tuple_at};
+use crate::tuple::push_tuple;
 use kt_tuple::Tuple;
 use std::alloc::{AllocError, Global};
 
@@ -64,19 +65,5 @@ fn bag_at(alloc: Global, bytes: &[u8]) -> Result<(Vec<Tuple>, &[u8]), CkptError>
     ensures few { IfOk result (λ x. length x.0.items < 2 ^ 32) }
 {
     let (count, rest) = u32_at(bytes)?;
-    tuples_at(alloc, count, rest)
-}
-
-fn tuples_at(alloc: Global, count: u32, bytes: &[u8]) -> Result<(Vec<Tuple>, &[u8]), CkptError>
-    ensures value { Gives (λ x. (x.0.items, x.1.now)) result (list_at tuple_at count bytes.now) }
-    ensures len { IfOk result (λ x. length x.0.items ≡ count) }
-{
-    let mut tuples = Vec::new(alloc);
-    let mut rest = bytes;
-    for _ in 0..count {
-        let (tuple, after) = tuple_at(alloc, rest)?;
-        tuples.push(tuple)?;
-        rest = after;
-    }
-    Ok((tuples, rest))
+    list_at(alloc, count, rest)
 }

@@ -5,7 +5,7 @@ ghost use Rattle.std.specs.Option.{option_copied};
 
 use crate::entry::copy_entries;
 use kt_shard::{Kept, Request};
-use kt_tuple::{Op, Tuple, Value};
+use kt_tuple::{Op, Tuple, Value, copy_tuples, copy_values};
 use std::alloc::{AllocError, Global};
 use std::marker::Model;
 
@@ -211,24 +211,4 @@ impl State {
             State::Shard(shard) => Ok(State::Shard(shard.copy(alloc)?)),
         }
     }
-}
-
-fn copy_values(alloc: Global, values: &[Value]) -> Result<Vec<Value>, AllocError>
-    ensures { IfOk result (λ v. v.items ≡ values.now) }
-{
-    let mut copies = Vec::with_capacity(alloc, values.len())?;
-    for value in values {
-        copies.push(value.copy())?;
-    }
-    Ok(copies)
-}
-
-fn copy_tuples(alloc: Global, tuples: &[Tuple]) -> Result<Vec<Tuple>, AllocError>
-    ensures { IfOk result (λ v. v.items ≡ tuples.now) }
-{
-    let mut copies = Vec::with_capacity(alloc, tuples.len())?;
-    for tuple in tuples {
-        copies.push(tuple.copy(alloc)?)?;
-    }
-    Ok(copies)
 }

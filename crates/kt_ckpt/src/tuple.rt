@@ -1,17 +1,17 @@
 //! Tuples and templates in bytes.
 
-ghost use Rattle.std.specs.Prelude.{◌≡◌, ◌++◌, All, length, OnOk, IfOk};
+ghost use Rattle.std.specs.Prelude.{◌≡◌, ◌≤◌, ◌++◌, All, length, OnOk, IfOk};
 ghost use Rattle.std.specs.List.{flat_map};
 ghost use Rattle.kt_tuple.specs.Valid.{IsValue, IsPlace};
-ghost use Rattle.kt_ckpt.specs.Reading.{Gives, list_at};
+ghost use Rattle.kt_ckpt.specs.Reading.{Gives, byte_within};
 ghost use Rattle.kt_ckpt.specs.Tuple.{IsTuple, IsTemplate, tuple_bytes, template_bytes, tuple_at, template_at};
-ghost use Rattle.kt_ckpt.specs.Value.{value_bytes, place_bytes, value_at, place_at};
+ghost use Rattle.kt_ckpt.specs.Value.{value_bytes, place_bytes};
 
 use crate::error::CkptError;
-use crate::limits::MAX_PLACES;
+use crate::list::{Listed, list_at};
 use crate::numbers::byte_within;
 use crate::value::{place_at, push_place, push_value, value_at};
-use kt_tuple::{Place, Template, Tuple, Value};
+use kt_tuple::{MAX_PLACES, Place, Template, Tuple, Value};
 use std::alloc::{AllocError, Global};
 
 /// Appends how many values there are, in one byte, and the values.
@@ -55,35 +55,54 @@ fn push_places(out: &mut Vec<u8>, places: &[Place]) -> Result<(), AllocError>
     Ok(())
 }
 
+impl Listed for Value {
+    ghost use Rattle.kt_ckpt.specs.Value.{value_at};
+
+    ghost reader = { value_at };
+
+    fn read(_alloc: Global, bytes: &[u8]) -> Result<(Value, &[u8]), CkptError> {
+        value_at(bytes)
+    }
+}
+
+impl Listed for Place {
+    ghost use Rattle.kt_ckpt.specs.Value.{place_at};
+
+    ghost reader = { place_at };
+
+    fn read(_alloc: Global, bytes: &[u8]) -> Result<(Place, &[u8]), CkptError> {
+        place_at(bytes)
+    }
+}
+
+impl Listed for Tuple {
+    ghost use Rattle.kt_ckpt.specs.Tuple.{tuple_at};
+
+    ghost reader = { tuple_at };
+
+    fn read(alloc: Global, bytes: &[u8]) -> Result<(Tuple, &[u8]), CkptError> {
+        tuple_at(alloc, bytes)
+    }
+}
+
+/// How many places there are, from 1 to `MAX_PLACES`, and the bytes behind their count.
+fn place_count_at(bytes: &[u8]) -> Result<(u8, &[u8]), CkptError>
+    ensures value { Gives (λ x. (x.0, x.1.now)) result (byte_within 1 MAX_PLACES bytes.now) }
+    ensures within { IfOk result (λ x. (1 ≤ x.0) × (x.0 ≤ MAX_PLACES)) }
+{
+    byte_within(1, MAX_PLACES as u8, bytes)
+}
+
 /// A tuple, and the bytes behind it.
 #[tactic(auto, unfolding(crate::specs::Tuple::tuple_at))]
 pub(crate) fn tuple_at(alloc: Global, bytes: &[u8]) -> Result<(Tuple, &[u8]), CkptError>
     ensures { Gives (λ x. (x.0, x.1.now)) result (tuple_at bytes.now) }
 {
-    let (count, rest) = byte_within(1, MAX_PLACES, bytes)?;
-    let (values, rest) = values_at(alloc, count, rest)?;
-    // Not refused here: there are 1 to 8 values by their count.
+    let (count, rest) = place_count_at(bytes)?;
+    let (values, rest) = list_at(alloc, u32::from(count), rest)?;
+    // Not refused here: by their count there are as many values as a tuple may have.
     let tuple = Tuple::new(alloc, values)?.ok_or(CkptError::Field)?;
     Ok((tuple, rest))
-}
-
-/// So many values, and the bytes behind them.
-pub(crate) fn values_at(
-    alloc: Global,
-    count: u8,
-    bytes: &[u8],
-) -> Result<(Vec<Value>, &[u8]), CkptError>
-    ensures value { Gives (λ x. (x.0.items, x.1.now)) result (list_at value_at count bytes.now) }
-    ensures len { IfOk result (λ x. length x.0.items ≡ count) }
-{
-    let mut values = Vec::new(alloc);
-    let mut rest = bytes;
-    for _ in 0..count {
-        let (value, after) = value_at(rest)?;
-        values.push(value)?;
-        rest = after;
-    }
-    Ok((values, rest))
 }
 
 /// A template, and the bytes behind it.
@@ -91,23 +110,9 @@ pub(crate) fn values_at(
 pub(crate) fn template_at(alloc: Global, bytes: &[u8]) -> Result<(Template, &[u8]), CkptError>
     ensures { Gives (λ x. (x.0, x.1.now)) result (template_at bytes.now) }
 {
-    let (count, rest) = byte_within(1, MAX_PLACES, bytes)?;
-    let (places, rest) = places_at(alloc, count, rest)?;
-    // Not refused here: there are 1 to 8 places by their count.
+    let (count, rest) = place_count_at(bytes)?;
+    let (places, rest) = list_at(alloc, u32::from(count), rest)?;
+    // Not refused here: by their count there are as many places as a template may have.
     let template = Template::new(alloc, places)?.ok_or(CkptError::Field)?;
     Ok((template, rest))
-}
-
-fn places_at(alloc: Global, count: u8, bytes: &[u8]) -> Result<(Vec<Place>, &[u8]), CkptError>
-    ensures value { Gives (λ x. (x.0.items, x.1.now)) result (list_at place_at count bytes.now) }
-    ensures len { IfOk result (λ x. length x.0.items ≡ count) }
-{
-    let mut places = Vec::new(alloc);
-    let mut rest = bytes;
-    for _ in 0..count {
-        let (place, after) = place_at(rest)?;
-        places.push(place)?;
-        rest = after;
-    }
-    Ok((places, rest))
 }

@@ -7,9 +7,9 @@ ghost use Rattle.kt_ckpt.specs.Value.{value_bytes, place_bytes, int_at, str_at};
 ghost use Rattle.kt_ckpt.specs.Value.{value_behind, value_at, place_behind, place_at};
 
 use crate::error::CkptError;
-use crate::limits::{INT, INT_FORMAL, MAX_CHARACTERS, STR, STR_FORMAL};
+use crate::limits::{INT, INT_FORMAL, STR, STR_FORMAL};
 use crate::numbers::{byte_at, byte_within, bytes_at, u64_at};
-use kt_tuple::{Kind, Place, Str, Value};
+use kt_tuple::{Kind, MAX_CHARACTERS, Place, Str, Value};
 use std::alloc::AllocError;
 
 /// Appends the value's code, and the eight bytes of an int or the length and characters of a str.
@@ -77,7 +77,7 @@ fn int_at(bytes: &[u8]) -> Result<(Value, &[u8]), CkptError>
 fn str_at(bytes: &[u8]) -> Result<(Value, &[u8]), CkptError>
     ensures { Gives (λ x. (x.0, x.1.now)) result (str_at bytes.now) }
 {
-    let (len, rest) = byte_within(0, MAX_CHARACTERS, bytes)?;
+    let (len, rest) = byte_within(0, MAX_CHARACTERS as u8, bytes)?;
     // The characters are one field: that there are too few is told before one that is not printable.
     let (characters, rest) = bytes_at(len as usize, rest)?;
     match Str::new(characters) {

@@ -2,7 +2,6 @@
 
 ghost use Rattle.std.specs.Prelude.{◌≡◌, ◌≤◌, ◌++◌, All, IfOk, OnOk, IfSome, length};
 ghost use Rattle.kt_tuple.specs.Valid.{IsValue};
-ghost use Rattle.kt_ckpt.specs.Limits.{max_pc, max_variables};
 ghost use Rattle.kt_ckpt.specs.Op.{IsOp};
 ghost use Rattle.kt_ckpt.specs.Reading.{Gives};
 ghost use Rattle.kt_ckpt.specs.Fields.{worker_of};
@@ -10,11 +9,12 @@ ghost use Rattle.kt_ckpt.specs.State.{IsWorker, IsCountedWorker, worker_bytes, f
 ghost use Rattle.kt_ckpt.specs.State.{variables_bytes, pc_at, flag_at, asked_at, variables_at, worker_at};
 
 use crate::error::CkptError;
-use crate::limits::{MAX_PC, MAX_VARIABLES};
+use crate::list::list_at;
 use crate::numbers::{byte_within, push_u16, push_u64, u16_at, u64_at};
 use crate::op::{op_at, push_op};
 use crate::state::WorkerState;
-use crate::tuple::{push_values, values_at};
+use crate::tuple::push_values;
+use kt_script::{MAX_COMMANDS, MAX_VARIABLES};
 use kt_tuple::{Op, Value};
 use std::alloc::{AllocError, Global};
 
@@ -42,7 +42,7 @@ fn push_fields(
     asked: &Option<Op>,
     variables: &[Value],
 ) -> Result<(), AllocError>
-    requires few { length variables.now ≤ max_variables }
+    requires few { length variables.now ≤ MAX_VARIABLES }
     ensures ok { OnOk result (out.new.items ≡ out.old.items
         ++ worker_bytes (worker_of pc number was_none asked.now variables.now)) }
     ensures asked { OnOk result (IfSome asked.now IsOp) }
@@ -62,7 +62,7 @@ fn push_flag(out: &mut Vec<u8>, flag: bool) -> Result<(), AllocError>
 }
 
 fn push_variables(out: &mut Vec<u8>, variables: &[Value]) -> Result<(), AllocError>
-    requires { length variables.now ≤ max_variables }
+    requires { length variables.now ≤ MAX_VARIABLES }
     ensures ok { OnOk result (out.new.items ≡ out.old.items ++ variables_bytes variables.now) }
     ensures held { OnOk result (All IsValue variables.now) }
 {
@@ -101,10 +101,10 @@ pub(crate) fn worker_at(alloc: Global, bytes: &[u8]) -> Result<(WorkerState, &[u
 #[tactic(auto, unfolding(crate::specs::State::pc_at))]
 fn pc_at(bytes: &[u8]) -> Result<(u16, &[u8]), CkptError>
     ensures value { Gives (λ x. (x.0, x.1.now)) result (pc_at bytes.now) }
-    ensures few { IfOk result (λ x. x.0 ≤ max_pc) }
+    ensures few { IfOk result (λ x. x.0 ≤ MAX_COMMANDS) }
 {
     let (pc, rest) = u16_at(bytes)?;
-    if pc <= MAX_PC {
+    if usize::from(pc) <= MAX_COMMANDS {
         Ok((pc, rest))
     } else {
         Err(CkptError::Field)
@@ -134,8 +134,8 @@ fn asked_at(alloc: Global, bytes: &[u8]) -> Result<(Option<Op>, &[u8]), CkptErro
 #[tactic(auto, unfolding(crate::specs::State::variables_at))]
 fn variables_at(alloc: Global, bytes: &[u8]) -> Result<(Vec<Value>, &[u8]), CkptError>
     ensures value { Gives (λ x. (x.0.items, x.1.now)) result (variables_at bytes.now) }
-    ensures few { IfOk result (λ x. length x.0.items ≤ max_variables) }
+    ensures few { IfOk result (λ x. length x.0.items ≤ MAX_VARIABLES) }
 {
-    let (count, rest) = byte_within(0, MAX_VARIABLES, bytes)?;
-    values_at(alloc, count, rest)
+    let (count, rest) = byte_within(0, MAX_VARIABLES as u8, bytes)?;
+    list_at(alloc, u32::from(count), rest)
 }

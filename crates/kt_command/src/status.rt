@@ -23,7 +23,7 @@ pub const STORE: u8 = 5;
 pub const MEMORY: u8 = 6;
 /// Standard input or standard output failed.
 pub const STREAM: u8 = 7;
-/// There are more steps than a world makes, 100,000.
+/// There are more steps than a world makes, `MAX_STEPS`.
 pub const STEP_LIMIT: u8 = 8;
 
 /// Says on `errors` in one line why a replay ended early, and answers the status that tells how it ended. Nothing is

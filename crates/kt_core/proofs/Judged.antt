@@ -17,7 +17,7 @@ use Rattle.kt_world.specs.declared.step.Step.TheVariants as steps
 use Rattle.kt_world.specs.declared.step.StepError.{StepError}
 use Rattle.kt_world.specs.declared.step.StepError.TheVariants as refusals
 use Rattle.kt_world.specs.declared.told.Told.{Told}
-use Rattle.kt_world.specs.Limits.{most_steps}
+use Rattle.kt_world.specs.declared.step.TheConstants.{MAX_STEPS}
 use Rattle.kt_world.specs.Step.{owner}
 use Rattle.kt_world.specs.State.{State, link, view}
 use Rattle.kt_world.specs.Cast.{are_neighbours}
@@ -48,23 +48,23 @@ pub due-none : (s : State) (t : Told) (step : Step) (p q : NodeId) → step ≡ 
 due-none s t step p q is none = ap (due s t) is ∙ delivery-none (view s q) t p (link s p q) none
 
 -- what is heard of workers and shards, below the limit
-pub heard-planned : (s : State) (p q : NodeId) (post : Post) (plan : Plan) → are_neighbours s.cast p q ≡ true → s.made < most_steps
+pub heard-planned : (s : State) (p q : NodeId) (post : Post) (plan : Plan) → are_neighbours s.cast p q ≡ true → s.made < MAX_STEPS
     → slice_get (link s p q) 0 ≡ Some (messages.Post post) → hear_app (view s q) p post ≡ Ok plan → planned s (steps.Deliver p q) ≡ Ok plan
 heard-planned s p q post plan there few first heard =
     let step : Step = steps.Deliver p q in
     let t = told s step in
     let is : due s t step ≡ Ok plan = delivery-first (view s q) t p (link s p q) (messages.Post post) first ∙ heard in
     let of : judged s t step ≡ Ok plan = ap (λ b. of_scene b (due s t step)) there ∙ ap (of_scene true) is in
-    let within : within_limit s.made (Ok plan) ≡ Ok plan = rw (lt-ltb s.made most_steps few) refl in
+    let within : within_limit s.made (Ok plan) ≡ Ok plan = rw (lt-ltb s.made MAX_STEPS few) refl in
     ap (within_limit s.made) of ∙ within
 
 -- the limit is asked where the step is allowed
 pub over : (made : ℕ) (r : Result Plan StepError) (due : Result Plan StepError) → Gives r due
-    → is_refused r ≡ false → most_steps ≤ made → within_limit made due ≡ Err refusals.StepLimit
+    → is_refused r ≡ false → MAX_STEPS ≤ made → within_limit made due ≡ Err refusals.StepLimit
 over made r due gives not le = by r due gives not
   where
-    past : nat_lt made most_steps ≡ false
-    past = le-ltb made most_steps le
+    past : nat_lt made MAX_STEPS ≡ false
+    past = le-ltb made MAX_STEPS le
 
     by : (r due : Result Plan StepError) → Gives r due → is_refused r ≡ false → within_limit made due ≡ Err refusals.StepLimit
     by (Ok x) due gives not = ap (within_limit made) gives ∙ rw past refl
@@ -79,11 +79,11 @@ over made r due gives not le = by r due gives not
     by (Err refusals.Unresolved) due gives not = absurd cc
     by (Err refusals.StepLimit) due gives not = absurd cc
 
-pub below : (made : ℕ) (r due : Result Plan StepError) → Gives r due → made < most_steps → Gives r (within_limit made due)
+pub below : (made : ℕ) (r due : Result Plan StepError) → Gives r due → made < MAX_STEPS → Gives r (within_limit made due)
 below made r due gives lt = subst (Gives r) (sym (same due)) gives
   where
-    less : nat_lt made most_steps ≡ true
-    less = lt-ltb made most_steps lt
+    less : nat_lt made MAX_STEPS ≡ true
+    less = lt-ltb made MAX_STEPS lt
 
     same : (due : Result Plan StepError) → within_limit made due ≡ due
     same (Ok x) = rw less refl

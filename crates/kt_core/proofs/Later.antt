@@ -30,19 +30,6 @@ pub record Follows {S : Type 0} (kind : Ghosts S) (old new : S) : Type 0 where
   pub lasts : NeverFails kind.failures → IsTrue (kind.is_honest old) → IsTrue (kind.is_honest new)
   pub counts : kind.counts new ≡ kind.counts old
 
-pub refused-later : {S T U : Type 0} (kind : Ghosts S) (old between new : S)
-    (Says : Content → T → Type 0) (Claims : Content → U → Type 0) (e : StoreError)
-    → Follows kind old between → IsGathered kind between new Says (Err e)
-    → IsGathered kind old new Claims (Err e)
-refused-later {T = T} {U = U} kind old between new Says Claims e f r = record {
-  value = λ h. tt;
-  same = λ h. r.same h ∙ f.same (r.honest h);
-  honest = λ h. f.honest (r.honest h);
-  lasts = λ never h. r.lasts never (f.lasts never h);
-  counts = counted-later T U (kind.counts old) (kind.counts between) (kind.counts new) e f.counts r.counts;
-  cause = r.cause;
-}
-
 pub read-later : {S T : Type 0} (kind : Ghosts S) (old between new : S) (Says : Content → T → Type 0) (x : T)
     → Follows kind old between → IsGathered kind between new Says (Ok x) → Follows kind old new
 read-later kind old between new Says x f r = record {

@@ -13,7 +13,7 @@ use Rattle.kt_world.specs.declared.needs.Needs.{Needs}
 use Rattle.kt_tuple.specs.declared.node.NodeId.{NodeId}
 use Rattle.kt_world.specs.Judge.{IsUndamaged, due, is_planned, judged, of_owner, of_scene, planned, planned_by, within_limit}
 use Rattle.kt_world.specs.Cast.{is_in_scene}
-use Rattle.kt_world.specs.Limits.{most_steps}
+use Rattle.kt_world.specs.declared.step.TheConstants.{MAX_STEPS}
 use Rattle.kt_node.specs.declared.refusal.Refusal.TheVariants as reasons
 use Rattle.kt_node.specs.Plan.{Planned}
 use Rattle.kt_world.specs.Effect.{applied, applied_if, step_result}
@@ -69,7 +69,7 @@ fault-of : (refusal : StoreError) → IsFault false refusal
 fault-of refusal = record { damaged = λ e. refl; full = λ e. refl }
 
 limit-store : (made : ℕ) (r : Result Plan StepError) (x : StoreError) → within_limit made r ≡ Err (refusals.Store x) → r ≡ Err (refusals.Store x)
-limit-store made r x = by (nat_lt made most_steps) refl r
+limit-store made r x = by (nat_lt made MAX_STEPS) refl r
   where
     stored : Result Plan StepError
     stored = Err (refusals.Store x)
@@ -83,7 +83,7 @@ limit-store made r x = by (nat_lt made most_steps) refl r
     no-limit : (r : Result Plan StepError) → Comes r false → ⊥
     no-limit r e = cc
 
-    by : (b : Bool) → nat_lt made most_steps ≡ b → (r : Result Plan StepError) → within_limit made r ≡ Err (refusals.Store x) → r ≡ Err (refusals.Store x)
+    by : (b : Bool) → nat_lt made MAX_STEPS ≡ b → (r : Result Plan StepError) → within_limit made r ≡ Err (refusals.Store x) → r ≡ Err (refusals.Store x)
     by true lt (Ok plan) e = absurd (no-plan plan (subst (Comes (Ok plan)) lt e))
     by false lt (Ok plan) e = absurd (no-limit (Ok plan) (subst (Comes (Ok plan)) lt e))
     by true lt (Err (refusals.Store y)) e = subst (Comes (Err (refusals.Store y))) lt e

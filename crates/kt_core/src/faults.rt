@@ -26,7 +26,7 @@ pub struct Fault {
     pub kind: FaultKind,
     /// The node that shall do it; it alone spends the line.
     pub node: NodeId,
-    /// How many steps of its own it makes first; a scenario says at most 100,000.
+    /// How many steps of its own it makes first; a scenario says at most `MAX_STEPS`.
     pub after: u64,
 }
 

@@ -60,15 +60,6 @@ fn heard(
     }
 }
 
-/// The node's number among its kind.
-pub(crate) fn number_of(node: NodeId) -> u8
-    ensures { result ≡ node_number node }
-{
-    match node {
-        NodeId::Worker(number) | NodeId::Shard(number) => number,
-    }
-}
-
 /// What the owner of a step of checks or rollbacks makes of it.
 fn voting(view: View<'_>, alloc: Global, told: Told, step: Step) -> Result<Plan, Refusal>
     requires acts { CanAct (view_of view) }
@@ -130,12 +121,12 @@ impl Machine {
         let Some(role) = self.scene.role(&self.no_script, id) else {
             return Err(StepError::NoNode);
         };
-        match self.nodes.get(id.index()) {
-            Some(Some(node)) => Ok(View {
+        match self.node_at(id) {
+            Some(node) => Ok(View {
                 role,
                 node,
                 next: self.history.notes().len() as u64 + 1,
-                line_len: self.history.line(id).len() as u64,
+                line: self.history.line(id),
             }),
             _ => Err(StepError::NoNode),
         }
@@ -176,7 +167,7 @@ impl Machine {
                 worker,
                 place,
             } => {
-                let number = number_of(worker);
+                let number = worker.number();
                 let by = cause_of_waiting(&self.history, shard, number);
                 seen.serve(alloc, number, place, by)
             }

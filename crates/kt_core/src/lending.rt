@@ -1,12 +1,11 @@
 //! What a machine lends of its nodes and of what is on its way.
 
-ghost use Rattle.std.specs.Prelude.{◌≡◌, length, slice_get, unwrap_or, IfOk};
+ghost use Rattle.std.specs.Prelude.{◌≡◌, length, slice_get, IfOk};
 ghost use Rattle.std.specs.Option.{option_copied, option_map};
 ghost use Rattle.kt_store.specs.Content.{Content, empty_content};
 ghost use Rattle.kt_core.specs.Lent.{kept, message_at, shard, worker};
 ghost use Rattle.kt_core.specs.inner.Machine.{state_of};
-ghost use Rattle.kt_node.specs.Node.{Down};
-ghost use Rattle.kt_world.specs.State.{link, view};
+ghost use Rattle.kt_world.specs.State.{link, node};
 
 use crate::change::share_in_row;
 use crate::machine::Machine;
@@ -18,9 +17,8 @@ use std::alloc::{AllocError, Global};
 
 impl Machine {
     /// The node, down ones too; `None` where the scene has no such node.
-    fn node_at(&self, id: NodeId) -> Option<&Node>
-        ensures { unwrap_or (option_map (λ n. n.now.node) result) Down ≡
-            (view (state_of self.now empty_content) id).node }
+    pub(crate) fn node_at(&self, id: NodeId) -> Option<&Node>
+        ensures { option_map (λ n. n.now.node) result ≡ node (state_of self.now empty_content) id }
     {
         match self.nodes.get(id.index()) {
             Some(Some(node)) => Some(node),

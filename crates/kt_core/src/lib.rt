@@ -33,5 +33,5 @@ pub use kt_script::{
     Actual, Actuals, Command, MAX_COMMANDS, Name, Operation, Pattern, Script, ScriptError, Slot,
 };
 pub use kt_world::{MAX_STEPS, Step, StepError};
-pub use scene::{MAX_SHARDS, MAX_WORKERS, Scene};
+pub use scene::Scene;
 pub use world::{OpenError, OpenRefused, World};

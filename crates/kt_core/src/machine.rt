@@ -32,7 +32,7 @@ pub(crate) struct Machine {
     pub(crate) history: History,
     /// How many steps each node made, by the nodes' numbers.
     pub(crate) own: Vec<u64>,
-    /// How many steps were made, by all nodes together: at most 100,000.
+    /// How many steps were made, by all nodes together: at most `MAX_STEPS`.
     pub(crate) made: u64,
     ghost workers: { links.workers ≡ length scene.scripts },
     ghost shards: { links.shards ≡ scene.shards },

@@ -162,8 +162,8 @@ impl Machine {
     fn mode_at(&self, id: NodeId) -> Mode
         ensures { result ≡ mode_at (state_of self.now empty_content) id }
     {
-        match self.nodes.get(id.index()) {
-            Some(Some(node)) => node.mode(),
+        match self.node_at(id) {
+            Some(node) => node.mode(),
             _ => Mode::Down,
         }
     }
@@ -172,8 +172,8 @@ impl Machine {
     pub(crate) fn ballot_at(&self, id: NodeId) -> Option<&Ballot>
         ensures { option_copied result ≡ poll_at (state_of self.now empty_content) id }
     {
-        match self.nodes.get(id.index()) {
-            Some(Some(node)) => node.ballot(),
+        match self.node_at(id) {
+            Some(node) => node.ballot(),
             _ => None,
         }
     }

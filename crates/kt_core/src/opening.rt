@@ -10,14 +10,13 @@ ghost use Rattle.kt_world.specs.Short.{IsShort};
 use crate::scene::Scene;
 use kt_node::Node;
 use kt_script::Script;
+use kt_shard::DESKS;
 use kt_tuple::NodeId;
 use std::alloc::{AllocError, Global};
 
-/// The numbers that workers and shards can have, from 1 to 8, and 0, which none has.
-const NUMBERS: u8 = 9;
-
-/// How many rows a table of nodes has: one for each number of a worker and for each of a shard.
-const ROWS: usize = 18;
+/// How many rows a table of nodes has: one for each number of a worker and for each of a shard, and as many desks has a
+/// shard as workers have numbers.
+const ROWS: usize = 2 * DESKS as usize;
 
 /// The row of the node, which is empty where the scene has no such node.
 fn row(
@@ -45,7 +44,7 @@ pub(crate) fn opening_nodes(
     ensures { IfOk result (λ nodes. map row_view nodes.items ≡ opening_rows scene.now desks) }
 {
     let mut nodes = Vec::with_capacity(alloc, ROWS)?;
-    for number in 0..NUMBERS {
+    for number in 0..DESKS {
         let worker = row(alloc, scene, no_script, NodeId::Worker(number))?;
         let shard = row(alloc, scene, no_script, NodeId::Shard(number))?;
         nodes.push(worker)?;

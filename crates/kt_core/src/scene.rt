@@ -5,17 +5,11 @@ ghost use Rattle.std.specs.Option.{option_copied};
 
 use kt_node::Role;
 use kt_script::Script;
-use kt_tuple::NodeId;
+use kt_tuple::{MAX_SHARDS, MAX_WORKERS, NodeId};
 use kt_world::Step;
 use std::marker::Model;
 
-/// The most workers of a scene.
-pub const MAX_WORKERS: usize = 8;
-
-/// The most shards of a scene.
-pub const MAX_SHARDS: u8 = 8;
-
-/// Who takes part: 1 to 8 workers, each with its script, and 1 to 8 shards.
+/// Who takes part: 1 to `MAX_WORKERS` workers, each with its script, and 1 to `MAX_SHARDS` shards.
 #[derive(Debug, Drop)]
 pub struct Scene {
     shards: u8,
@@ -39,25 +33,26 @@ impl Scene {
     ghost use Rattle.kt_world.specs.State.{role_of};
     ghost use Rattle.kt_node.specs.Views.{role_view};
 
-    /// The scene of so many shards and of a worker for each script, or `None` where there are not
-    /// 1 to 8 of each.
+    /// The scene of so many shards and of a worker for each script, or `None` where there are none or too many of
+    /// either.
     pub fn new(shards: u8, scripts: Vec<Script>) -> Option<Scene>
         ensures within { IsSome result ↔ IsCast (record { shards = shards; scripts = scripts.items }) }
         ensures value { IfSome result (λ s. s ≡ record { shards = shards; scripts = scripts.items }) }
     {
         let workers = scripts.len();
-        if 1 <= shards && shards <= MAX_SHARDS && 1 <= workers && workers <= MAX_WORKERS {
+        let has_shards = 1 <= shards && shards <= MAX_SHARDS;
+        if has_shards && 1 <= workers && workers <= usize::from(MAX_WORKERS) {
             Some(Scene { shards, scripts })
         } else {
             None
         }
     }
 
-    /// How many shards there are, from 1 to 8.
+    /// How many shards there are, from 1 to `MAX_SHARDS`.
     pub fn shards(&self) -> u8
         ensures value { result ≡ self.now.shards }
         ensures some { 1 ≤ result }
-        ensures few { result ≤ 8 }
+        ensures few { result ≤ MAX_SHARDS }
     {
         let Scene { shards, .. } = self;
         *shards
@@ -67,7 +62,7 @@ impl Scene {
     pub fn scripts(&self) -> &[Script]
         ensures value { result.now ≡ self.now.scripts }
         ensures some { 1 ≤ length self.now.scripts }
-        ensures few { length self.now.scripts ≤ 8 }
+        ensures few { length self.now.scripts ≤ MAX_WORKERS }
     {
         &self.scripts
     }

@@ -13,7 +13,6 @@ ghost use Rattle.kt_core.specs.inner.Machine.{HasRoomFor, state_of};
 
 use crate::causes::cause_of_waiting;
 use crate::change::{count, make_room_in_row, turn_in_row};
-use crate::judging::number_of;
 use crate::machine::Machine;
 use crate::traffic::{add_note, make_room_on_link, send_if_any, take_off};
 use kt_node::{Message, ShortPlan};
@@ -86,7 +85,7 @@ impl Machine {
         if !self.scene.is_for(step) || self.made >= MAX_STEPS {
             return Ok(None);
         }
-        let number = number_of(worker);
+        let number = worker.number();
         match self.seen(shard) {
             Ok(seen) => {
                 let by = cause_of_waiting(&self.history, shard, number);

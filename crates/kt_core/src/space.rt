@@ -9,7 +9,7 @@ ghost use Rattle.kt_core.specs.inner.Calls.{IsGathered, IsRead};
 
 use kt_ckpt::{Ckpt, State};
 use kt_store::{CkptStore, StoreError, Tentative, TentativeMarks, Verdict};
-use kt_tuple::{NodeId, Tuple};
+use kt_tuple::{NodeId, Tuple, copy_tuples};
 use std::alloc::{AllocError, Global};
 
 /// Whether the node's tentative checkpoint counts as permanent: its instance has Yes.
@@ -66,16 +66,6 @@ fn tuples_of(checkpoint: &Option<Ckpt>) -> &[Tuple]
         State::Worker(_) => &[],
         State::Shard(shard) => shard.bag(),
     }
-}
-
-fn copy_tuples(alloc: Global, tuples: &[Tuple]) -> Result<Vec<Tuple>, AllocError>
-    ensures { IfOk result (λ v. v.items ≡ tuples.now) }
-{
-    let mut copies = Vec::with_capacity(alloc, tuples.len())?;
-    for tuple in tuples {
-        copies.push(tuple.copy(alloc)?)?;
-    }
-    Ok(copies)
 }
 
 /// One shard's tuples behind the others.

@@ -20,7 +20,7 @@ use kt_node::{Message, Mode, Post};
 use kt_shard::Shard;
 use kt_space::Bag;
 use kt_store::{CkptStore, StoreError};
-use kt_tuple::{NodeId, Tuple};
+use kt_tuple::{MAX_SHARDS, NodeId, Tuple};
 use kt_vote::Ballot;
 use kt_worker::Worker;
 use kt_world::{Step, StepError};
@@ -228,7 +228,7 @@ impl<S: CkptStore> World<S> {
         &self.machine.history
     }
 
-    /// How many steps were made so far, 100,000 at most.
+    /// How many steps were made so far, `MAX_STEPS` at most.
     pub fn made(&self) -> u64
         ensures { result ≡ self.now.state.made }
     {
@@ -276,10 +276,7 @@ impl<S: CkptStore> World<S> {
         ensures value { result ≡ option_map mode_of (node self.now.state id) }
         ensures there { is_some result ≡ is_node self.now.state.cast id }
     {
-        match self.machine.nodes.get(id.index()) {
-            Some(Some(node)) => Some(node.mode()),
-            _ => None,
-        }
+        Some(self.machine.node_at(id)?.mode())
     }
 
     /// Of the messages on their way from one to the other the one at this place, counted from 0 in the order of
@@ -352,7 +349,7 @@ impl<S: CkptStore> World<S> {
     }
 
     /// For each shard in order its bag: none while it is down, and none past the last shard. It takes no memory.
-    pub fn bags(&self) -> [Option<&Bag>; 8]
+    pub fn bags(&self) -> [Option<&Bag>; MAX_SHARDS as usize]
         ensures value { map (λ bag. option_map (λ b. b.now.tuples) bag) result ≡ lent_bags self.now.state }
         ensures headline { IsTrue self.now.is_honest → Headline self.now.state }
     {

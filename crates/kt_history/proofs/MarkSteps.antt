@@ -1,5 +1,5 @@
 -- How marks change, one at a time.
-use Rattle.std.proofs.Common.{◌≡◌, ◌≢◌, ℕ, zero, suc, ◌+◌, ◌-◌, ◌<◌, ◌≤◌, ◌==◌, ◌&&◌, ◌||◌, not, Bool, true, false, cond, List, [], ◌∷◌, ◌++◌}
+use Rattle.std.proofs.Common.{◌≡◌, ℕ, zero, suc, ◌+◌, ◌-◌, ◌<◌, ◌≤◌, ◌==◌, ◌&&◌, ◌||◌, not, Bool, true, false, cond, List, [], ◌∷◌, ◌++◌}
 use Rattle.std.proofs.Common.{take, drop, set, length, get_or, Option, None, Some, refl, sym, ap, ◌∙◌, subst, inl, inr, arith, add-zero}
 use Rattle.std.specs.List.{slice_get, list_any}
 use Rattle.std.proofs.lemmas.List.{get_or-set_same, get_or-set_other, get_or-take, length-set, length-take-le, ext_get_or, take_more, take_rest}
@@ -12,9 +12,6 @@ use Rattle.kt_history.specs.declared.note.Note.TheVariants as notes
 use Rattle.kt_history.specs.declared.mark.Mark.{Mark}
 use Rattle.kt_history.specs.inner.Marks.{mark_at, no_mark, lasts_in, unmarked, renewed, LooksBack, AreMarksOf}
 use Rattle.kt_history.specs.inner.Marks.{IsRenewed, IsUnmarked, AreLost, HasLost, lost_among, is_lost}
-
-pub unmarked-none : (k : ℕ) (m : Mark) → unmarked [] k m ≡ m
-unmarked-none k m = ap (λ b. let n : Mark = record { previous = m.previous; survives = b } in n) (and-true m.survives)
 
 -- one more number is lost
 pub unmarked-push : (xs : List ℕ) (n k : ℕ) (m : Mark)
@@ -33,9 +30,6 @@ unmarked-push xs n k m = go (n == suc k) refl where
 pub record UnmarkedUpTo (numbers : List ℕ) (old now : List Mark) : Type 0 where
   pub lengths : length now ≡ length old
   pub each : (k : ℕ) → k < length old → mark_at now k ≡ unmarked numbers k (mark_at old k)
-
-pub UnmarkedUpTo-none : (marks : List Mark) → UnmarkedUpTo [] marks marks
-UnmarkedUpTo-none marks = record { lengths = refl; each = λ k lt. sym (unmarked-none k (mark_at marks k)) }
 
 pub UnmarkedUpTo-push : (numbers : List ℕ) (n : ℕ) (old now : List Mark) → UnmarkedUpTo numbers old now → 1 ≤ n → n ≤ length old
     → UnmarkedUpTo (numbers ++ n ∷ []) old (set now (n - 1) (record { previous = (mark_at now (n - 1)).previous; survives = false }))
@@ -88,63 +82,6 @@ pub record RenewedUpTo (h : List Note) (old now : List Mark) (first place : ℕ)
   pub done : (k : ℕ) → first ≤ k → k < place → mark_at now k ≡ renewed (slice_get h k) (mark_at old k) now
   pub rest : (k : ℕ) → place ≤ k → mark_at now k ≡ mark_at old k
 
-pub RenewedUpTo-none : (h : List Note) (marks : List Mark) (first : ℕ) → AreMarksOf h marks → RenewedUpTo h marks marks first first
-RenewedUpTo-none h marks first m = record {
-  marks_of = m;
-  below = λ k lt. refl;
-  done = λ k low high. absurd (omega (arith, low, high));
-  rest = λ k le. refl;
-}
-
-pub RenewedUpTo-more : (h : List Note) (old now : List Mark) (first i : ℕ) → AreMarksOf h old → first ≤ i → i < length h → RenewedUpTo h old now first i
-    → RenewedUpTo h old (set now i (renewed (slice_get h i) (mark_at now i) now)) first (i + 1)
-RenewedUpTo-more h old now first i was le lt r = record {
-  marks_of = record {
-    lengths = length-set now i _ ∙ r.marks_of.lengths;
-    previous = λ k within. elim (cases_eq k i) [
-      | inl here ↦
-          let P : ℕ → Type 0 = λ j. (mark_at new j).previous ≤ j in
-          subst P (sym here)
-          (omega (arith, ap (λ (m : Mark). m.previous) at_place, renewed-previous (slice_get h i) (mark_at now i) now, r.marks_of.previous i lt))
-      | inr other ↦ omega (arith, ap (λ (m : Mark). m.previous) (elsewhere k other), r.marks_of.previous k within)
-    ];
-    causes = r.marks_of.causes;
-  };
-  below = λ k small. elsewhere k (λ e. omega (arith, e, small, le)) ∙ r.below k small;
-  done = λ k low high. elim (cases_eq k i) [
-    | inl here ↦
-        let P : ℕ → Type 0 = λ j. mark_at new j ≡ renewed (slice_get h j) (mark_at old j) new in
-        subst P (sym here)
-        (at_place
-        ∙ ap (λ m. renewed (slice_get h i) m now) (r.rest i (omega arith))
-        ∙ renewed-agree (slice_get h i) (mark_at old i) now new i (was.causes i lt) (was.previous i lt)
-        (λ j small. sym (elsewhere j (λ e. omega (arith, e, small)))))
-    | inr other ↦
-        let smaller : k < i = omega (arith, high, other) in
-        elsewhere k other
-        ∙ r.done k low smaller
-        ∙ renewed-agree (slice_get h k) (mark_at old k) now new k (was.causes k (omega (arith, smaller, lt))) (was.previous k (omega (arith, smaller, lt)))
-        (λ j small. sym (elsewhere j (λ e. omega (arith, e, small, smaller))))
-  ];
-  rest = λ k large. elsewhere k (λ e. omega (arith, e, large)) ∙ r.rest k (omega (arith, large));
-} where
-  new : List Mark
-  new = set now i (renewed (slice_get h i) (mark_at now i) now)
-
-  at_place : mark_at (set now i (renewed (slice_get h i) (mark_at now i) now)) i ≡ renewed (slice_get h i) (mark_at now i) now
-  at_place = get_or-set_same now i (renewed (slice_get h i) (mark_at now i) now) no_mark (omega (arith, r.marks_of.lengths, lt))
-
-  elsewhere : (k : ℕ) → k ≢ i → mark_at (set now i (renewed (slice_get h i) (mark_at now i) now)) k ≡ mark_at now k
-  elsewhere k other = get_or-set_other now i k (renewed (slice_get h i) (mark_at now i) now) no_mark other
-
-pub IsRenewed-from : (h : List Note) (old now : List Mark) (first place : ℕ) → AreMarksOf h old → length h ≤ place → RenewedUpTo h old now first place
-    → IsRenewed h old now first
-IsRenewed-from h old now first place was all r = record {
-  lengths = r.marks_of.lengths ∙ sym was.lengths;
-  below = r.below;
-  above = λ k low within. r.done k low (omega (arith, within, all));
-}
-
 -- how many are lost among notes with one more
 pub lost_among-push : (xs : List Note) (ms : List Mark) (x : Note) (m : Mark) → length ms ≡ length xs
     → lost_among (xs ++ x ∷ []) (ms ++ m ∷ []) ≡ lost_among xs ms + cond (is_lost x m) 1 0
@@ -187,13 +124,6 @@ pub unmarked-other : (numbers : List ℕ) (k : ℕ) (m : Mark) → list_any (λ 
 unmarked-other numbers k m e =
     ap (λ b. let x : Mark = record { previous = m.previous; survives = m.survives && not b } in x) e
     ∙ ap (λ b. let x : Mark = record { previous = m.previous; survives = b } in x) (and-true m.survives)
-
-pub AreMarksOf-unmarked : (h : List Note) (numbers : List ℕ) (old mid : List Mark) → AreMarksOf h old → IsUnmarked numbers old mid → AreMarksOf h mid
-AreMarksOf-unmarked h numbers old mid a u = record {
-  lengths = u.lengths ∙ a.lengths;
-  previous = λ k lt. omega (arith, ap (λ (m : Mark). m.previous) (u.each k (omega (arith, lt, a.lengths))), a.previous k lt);
-  causes = a.causes;
-}
 
 pub HasLost-from : (h : List Note) (numbers : List ℕ) (old mid new : List Mark) → AreLost h numbers → AreMarksOf h old → IsUnmarked numbers old mid
     → IsRenewed h mid new (get_or numbers 0 0 - 1) → HasLost h numbers old new

@@ -1,10 +1,10 @@
 -- How a table of rows changes, one row at a time.
-use Rattle.std.proofs.Common.{◌≡◌, ℕ, ◌<◌, List, [], ◌∷◌, ◌++◌, length, get_or, set, sym, ap, ◌∙◌, subst, inl, inr, arith}
+use Rattle.std.proofs.Common.{◌≡◌, ℕ, ◌<◌, List, [], length, get_or, set, sym, ap, ◌∙◌, subst, inl, inr, arith}
 use Rattle.std.specs.declared.vec.Vec.{Vec}
 use Rattle.std.specs.declared.alloc.Global.{Global}
-use Rattle.std.proofs.lemmas.List.{map-set, map_push, get_or-map, get_or-set_same, get_or-set_other}
-use Rattle.std.proofs.lemmas.List.{get_or_past, get_or_push, get_or_append_left, length-map, length_push}
-use Rattle.std.proofs.lemmas.Bool.{cases_eq, cases_lt}
+use Rattle.std.proofs.lemmas.List.{map-set, get_or-map, get_or-set_same, get_or-set_other}
+use Rattle.std.proofs.lemmas.List.{length-map}
+use Rattle.std.proofs.lemmas.Bool.{cases_eq}
 use Rattle.kt_history.specs.inner.Marks.{rows_of, row_at}
 
 -- the row at a place is that of the vector there
@@ -29,17 +29,4 @@ row_at-set_same xs i w v lt at same k =
           let P : ℕ → Type 0 = λ j. get_or (set (rows_of xs) i (row_at (rows_of xs) i)) j [] ≡ get_or (rows_of xs) j [] in
           subst P (sym here) (get_or-set_same (rows_of xs) i (row_at (rows_of xs) i) [] (omega (arith, length-map xs (λ (row : Vec ℕ Global). row.items), lt)))
       | inr other ↦ get_or-set_other (rows_of xs) i k (row_at (rows_of xs) i) [] other
-    ])
-
--- an empty vector more changes no row
-pub row_at-push_empty : (xs : List (Vec ℕ Global)) (v : Vec ℕ Global) → v.items ≡ [] → (k : ℕ) → row_at (rows_of (xs ++ v ∷ [])) k ≡ row_at (rows_of xs) k
-row_at-push_empty xs v empty k =
-    ap (λ rows. get_or rows k []) (map_push (λ (row : Vec ℕ Global). row.items) xs v ∙ ap (λ row. rows_of xs ++ row ∷ []) empty)
-    ∙ (elim (cases_lt k (length (rows_of xs))) [
-      | inl within ↦ get_or_append_left (rows_of xs) ([] ∷ []) [] k within
-      | inr past ↦ elim (cases_eq (length (rows_of xs)) k) [
-        | inl here ↦ get_or_push (rows_of xs) [] [] k here ∙ sym (get_or_past (rows_of xs) k [] past)
-        | inr beyond ↦ get_or_past (rows_of xs ++ [] ∷ []) k [] (omega (arith, past, beyond, length_push (rows_of xs) []))
-            ∙ sym (get_or_past (rows_of xs) k [] past)
-      ]
     ])

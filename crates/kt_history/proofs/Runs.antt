@@ -114,13 +114,6 @@ pub RunsFrom-push : (x : List Tuple) (services : List Service) (mid : List Tuple
 RunsFrom-push x [] mid s new r step = (new, SpaceStep-like x mid s.op s.answer new r step, IsPermutation-refl new)
 RunsFrom-push x (first ∷ later) mid s new r step = (r.0, r.1, RunsFrom-push r.0 later mid s new r.2 step)
 
--- what a step can be is a step once its tuple is in or out
-pub SpaceStep-put : (old : List Tuple) (u : Tuple) (answer : Answer) (new : List Tuple) → CanStep old (Out u) answer → IsPermutation (u ∷ old) new
-    → SpaceStep old (Out u) answer new
-SpaceStep-put old u answers.Done new can p = p
-SpaceStep-put old u (answers.Got v) new can p = can.1
-SpaceStep-put old u answers.None new can p = can.1
-
 pub SpaceStep-in : (old : List Tuple) (t : Template) (answer : Answer) (new : List Tuple) → CanStep old (In t) answer → TakesOut old answer new
     → SpaceStep old (In t) answer new
 SpaceStep-in old t answers.Done new can p = can.1
@@ -132,16 +125,6 @@ pub SpaceStep-inp : (old : List Tuple) (t : Template) (answer : Answer) (new : L
 SpaceStep-inp old t answers.Done new can p = can.1
 SpaceStep-inp old t (answers.Got u) new can p = (can.1.0, p)
 SpaceStep-inp old t answers.None new can p = let P : List Tuple → Type 0 = λ x. IsPermutation old x in (can.1.0, subst P (sym p) (IsPermutation-refl old))
-
-pub SpaceStep-rd : (old : List Tuple) (t : Template) (answer : Answer) → CanStep old (Rd t) answer → SpaceStep old (Rd t) answer old
-SpaceStep-rd old t answers.Done can = can.1
-SpaceStep-rd old t (answers.Got u) can = (can.1.0, can.1.1, IsPermutation-refl old)
-SpaceStep-rd old t answers.None can = can.1
-
-pub SpaceStep-rdp : (old : List Tuple) (t : Template) (answer : Answer) → CanStep old (Rdp t) answer → SpaceStep old (Rdp t) answer old
-SpaceStep-rdp old t answers.Done can = can.1
-SpaceStep-rdp old t (answers.Got u) can = (can.1.0, can.1.1, IsPermutation-refl old)
-SpaceStep-rdp old t answers.None can = (can.1.0, IsPermutation-refl old)
 
 -- the first match of a template that fits one tuple alone is that tuple
 pub first_match-only : (t : Template) (u : Tuple) (old : List Tuple) → MatchesOnly t u → Contains old u → IsPermutation old (u ∷ without_match t 0 old)

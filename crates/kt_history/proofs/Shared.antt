@@ -2,7 +2,7 @@
 pub use Rattle.kt_history.proofs.Lists.{Contains-cons_cases, Contains-from_list_any, Contains-from_slice_get, Contains-from_take, Contains-here, Contains-none}
 pub use Rattle.kt_history.proofs.Lists.{Contains-there, list_any-from_Contains, slice_get-append_left, slice_get-from_Contains, slice_get-take}
 pub use Rattle.kt_history.proofs.Lists.{slice_get-take_below}
-pub use Rattle.kt_history.proofs.Lines.{before-new, before-old, line-empty, line-other_act, line-other_cut, line-own, line-own_act, line-own_cut, line-rises}
+pub use Rattle.kt_history.proofs.Lines.{line-empty, line-other_act, line-other_cut, line-own, line-own_act, line-own_cut, line-rises}
 pub use Rattle.kt_history.proofs.Lines.{line-stack, note_at-new, note_at-old, note_at-push_cases, note_at-within, note_before, same_node-refl, same_node-true}
 pub use Rattle.kt_history.proofs.Pasts.{CausesComeFirst-empty, CausesComeFirst-push, InPast-back}
 pub use Rattle.kt_history.proofs.Survivors.{survives-closed, survives-decides}

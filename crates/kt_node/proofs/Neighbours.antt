@@ -1,5 +1,6 @@
 -- Neighbours stand in node order.
 use Rattle.std.proofs.Common.{◌≡◌, ℕ, zero, suc, ◌+◌, ◌<◌, [], ◌∷◌, ◌++◌, map, All, sym, ap, subst, ◌∙◌, arith}
+use Rattle.std.proofs.lemmas.Bool.{lt-ltb}
 use Rattle.std.proofs.lemmas.List.{map-append}
 use Rattle.std.proofs.lemmas.List.Elements.{All-nil, All-push, All-get_or}
 use Rattle.std.proofs.lemmas.List.Quantifiers.{all_pairs_push}
@@ -11,8 +12,8 @@ use Rattle.kt_node.specs.Node.{across}
 use Rattle.kt_node.proofs.Numbers.{one_more, mapped_none}
 
 before : (id : NodeId) (m n : ℕ) → m < n → IsBefore (across id m) (across id n)
-before (ids.Worker k) m n lt = lt
-before (ids.Shard k) m n lt = lt
+before (ids.Worker k) m n lt = lt-ltb m n lt
+before (ids.Shard k) m n lt = lt-ltb m n lt
 
 more : (id : NodeId) (n : ℕ) → map (across id) (numbers 1 (suc n)) ≡ map (across id) (numbers 1 n) ++ across id (1 + n) ∷ []
 more id n = ap (map (across id)) (one_more 1 n) ∙ map-append (across id) (numbers 1 n) ((1 + n) ∷ [])

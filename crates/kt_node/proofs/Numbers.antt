@@ -3,7 +3,7 @@ use Rattle.std.proofs.Common.{◌≡◌, ℕ, zero, suc, ◌+◌, List, [], ◌�
 use Rattle.std.specs.List.{flat_map}
 use Rattle.std.proofs.lemmas.List.{map-append}
 use Rattle.std.proofs.lemmas.Grind.{flat_map-append}
-use Rattle.kt_node.specs.Labels.{numbers}
+use Rattle.kt_node.specs.Labels.{numbers, table_size}
 
 -- one number more stands behind the others
 pub one_more : (from n : ℕ) → numbers from (suc n) ≡ numbers from n ++ (from + n) ∷ []
@@ -49,6 +49,6 @@ flat_from_one f n =
     ap (flat_map f) (from_one n) ∙ flat_map-append f (numbers 1 n) ((n + 1) ∷ []) ∙ ap (λ l. flat_map f (numbers 1 n) ++ l) (append-nil (f (n + 1)))
 
 -- a table has an entry for each number that a neighbour can have, and for 0
-pub whole_table : {A : Type 0} (f : ℕ → A) → length (map f (numbers 0 9)) ≡ 9
+pub whole_table : {A : Type 0} (f : ℕ → A) → length (map f (numbers 0 table_size)) ≡ table_size
 unfolding numbers
 whole_table f = refl

@@ -1,9 +1,9 @@
 -- Tables of labels, one for each neighbour, by the neighbour's number among its kind.
-use Rattle.std.specs.Prelude.{ℕ, zero, suc, ◌==◌, nat_lt, nat_le, Bool, false, ◌&&◌, ◌||◌}
+use Rattle.std.specs.Prelude.{ℕ, zero, suc, ◌+◌, ◌==◌, nat_lt, nat_le, Bool, false, ◌&&◌, ◌||◌}
 use Rattle.std.specs.Prelude.{List, [], ◌∷◌, map, replicate, Option, None, Some}
 use Rattle.kt_link.specs.declared.label.Label.{Label}
 use Rattle.kt_shard.specs.Table.{at}
-use Rattle.kt_shard.specs.Limits.{desks}
+use Rattle.kt_ckpt.specs.declared.limits.TheConstants.{MAX_PEERS}
 
 -- the label of no message: below all others
 abbrev pub no_label : Label
@@ -37,7 +37,7 @@ listed peers table = map (label_at table) (numbers 1 peers)
 
 -- a table has an entry for each number that a neighbour can have, and for 0
 abbrev pub table_size : ℕ
-table_size = desks
+table_size = MAX_PEERS + 1
 
 abbrev pub no_labels : List Label
 no_labels = replicate table_size no_label

@@ -13,7 +13,8 @@ use Rattle.kt_node.specs.declared.live.Phase.{Phase}
 use Rattle.kt_node.specs.declared.live.Phase.TheVariants as phases
 use Rattle.kt_node.specs.declared.node.Mode.{Mode}
 use Rattle.kt_node.specs.declared.node.Mode.TheVariants as modes
-use Rattle.kt_node.specs.Labels.{numbers, no_labels, no_firsts}
+pub use Rattle.kt_tuple.specs.Node.{node_number}
+use Rattle.kt_node.specs.Labels.{no_labels, no_firsts, numbers}
 
 -- who a node is, which the scene says: its name, how many neighbours it has, and its script (a shard's is empty)
 pub record Role : Type 0 where
@@ -43,10 +44,6 @@ pub record Live : Type 0 where
 pub data Node : Type 0 where
   Down : Node
   Alive : Live → Node
-
-abbrev pub node_number : NodeId → ℕ
-node_number (ids.Worker n) = n
-node_number (ids.Shard n) = n
 
 -- the node of the other kind with this number
 abbrev pub across : NodeId → ℕ → NodeId

@@ -10,7 +10,8 @@ use Rattle.kt_worker.specs.Parts.{standing_of, misfit_of}
 use Rattle.kt_shard.specs.declared.request.Request.{Request}
 use Rattle.kt_shard.specs.declared.request.Kept.{Kept}
 use Rattle.kt_shard.specs.declared.desk.Desk.{Desk}
-use Rattle.kt_shard.specs.Limits.{desks as desk_count, most_workers}
+use Rattle.kt_shard.specs.Limits.{desks as desk_count}
+use Rattle.kt_tuple.specs.declared.node.TheConstants.{MAX_WORKERS}
 use Rattle.kt_shard.specs.Shard.{Shard, desk_of}
 use Rattle.kt_ckpt.specs.declared.ckpt.Ckpt.{Ckpt}
 use Rattle.kt_ckpt.specs.declared.state.State.{State}
@@ -18,7 +19,7 @@ use Rattle.kt_ckpt.specs.declared.state.State.TheVariants as states
 use Rattle.kt_ckpt.specs.Fields.{WorkerFields, ShardFields}
 use Rattle.kt_node.specs.declared.refusal.Refusal.{Refusal}
 use Rattle.kt_node.specs.declared.refusal.Refusal.TheVariants as refusals
-use Rattle.kt_node.specs.Labels.{numbers, listed}
+use Rattle.kt_node.specs.Labels.{listed, numbers}
 use Rattle.kt_node.specs.Node.{Role, Body, IsWorker, IsShard, Live, opening_body}
 
 -- ---- into a checkpoint
@@ -39,7 +40,7 @@ entry worker (Some x) = (worker, x) ∷ []
 
 -- the entries of all workers that there may be, by rising number
 abbrev pub entries : {A : Type 0} → (ℕ → Option A) → List (ℕ × A)
-entries of = flat_map (λ worker. entry worker (of worker)) (numbers 1 most_workers)
+entries of = flat_map (λ worker. entry worker (of worker)) (numbers 1 MAX_WORKERS)
 
 abbrev pub shard_fields : Shard → ShardFields
 shard_fields y = record {

@@ -1,5 +1,5 @@
 -- What the owner of a step sees.
-use Rattle.std.specs.Prelude.{ℕ}
+use Rattle.std.specs.Prelude.{ℕ, length}
 use Rattle.kt_node.specs.declared.role.View.{View as ViewCode}
 use Rattle.kt_node.specs.Node.{Role, Node}
 use Rattle.kt_node.specs.Views.{role_view}
@@ -12,4 +12,4 @@ pub record View : Type 0 where
   pub line_len : ℕ
 
 abbrev pub view_of : ViewCode → View
-view_of v = record { role = role_view v.role; node = v.node.now.node; next = v.next; line_len = v.line_len }
+view_of v = record { role = role_view v.role; node = v.node.now.node; next = v.next; line_len = length v.line.now }

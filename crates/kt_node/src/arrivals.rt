@@ -165,7 +165,7 @@ impl View<'_> {
         let Some(live) = &node.live else {
             return Ok(Plan::empty(alloc));
         };
-        let (role, line_len) = (self.role, self.line_len);
+        let (role, line_len) = (self.role, self.line_len());
         if !(fits(role, line_len, permanent) && fits(role, line_len, tentative)) {
             return Err(Refusal::Damaged);
         }
@@ -193,7 +193,7 @@ impl View<'_> {
         match live.rollback_reaction(from, ask, verdict) {
             Reaction::Says(yes) => Ok(sieved_answer_plan(alloc, from, ask, yes)?),
             Reaction::Joins => {
-                if !fits(self.role, self.line_len, permanent) {
+                if !fits(self.role, self.line_len(), permanent) {
                     return Err(Refusal::Damaged);
                 }
                 Ok(self.join_rollback_plan(alloc, live, from, ask, permanent)?)

@@ -10,7 +10,6 @@ ghost use Rattle.kt_node.specs.Steps.{repeat};
 ghost use Rattle.kt_node.specs.Turning.{changed};
 ghost use Rattle.kt_node.specs.View.{view_of};
 
-use crate::labels::number_of;
 use crate::live::Body;
 use crate::message::{Message, Post, Talk};
 use crate::node::Node;
@@ -113,7 +112,7 @@ impl Said {
         let note = Note::Act(Act {
             node,
             by: 0,
-            worker: number_of(node),
+            worker: node.number(),
             number,
             op: noted,
             what: What::Repeat,

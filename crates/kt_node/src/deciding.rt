@@ -165,7 +165,7 @@ impl View<'_> {
         let Phase::Up = &live.phase else {
             return Err(Refusal::WrongMode);
         };
-        if !fits(self.role, self.line_len, permanent) {
+        if !fits(self.role, self.line_len(), permanent) {
             return Err(Refusal::Damaged);
         }
         Ok(self.begin_check_plan(alloc, live, next, permanent)?)

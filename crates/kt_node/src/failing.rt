@@ -134,7 +134,7 @@ impl View<'_> {
         if node.live.is_none() {
             return Err(Refusal::WrongMode);
         }
-        let (role, line_len) = (self.role, self.line_len);
+        let (role, line_len) = (self.role, self.line_len());
         if !(fits(role, line_len, permanent) && fits(role, line_len, tentative)) {
             return Err(Refusal::Damaged);
         }

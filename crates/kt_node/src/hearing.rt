@@ -14,7 +14,6 @@ ghost use Rattle.kt_node.specs.Ready.{CanCount};
 ghost use Rattle.kt_node.specs.Talking.{hearing, note_of, again_plan, request_plan, reply_plan, heard_plan};
 
 use crate::change::{BodyChange, KeptChange, Turn};
-use crate::labels::number_of;
 use crate::live::{Body, Live};
 use crate::message::{Post, Talk};
 use crate::plan::{Outbox, Plan};
@@ -81,7 +80,7 @@ impl View<'_> {
         ensures { IfOk result (λ plan. plan ≡ hearing kept from post.now.label (Wait (node_number from) request.now)
             (note_of self.entry.role.id post.now.by (node_number from) request.now Heard)) }
     {
-        let worker = number_of(from);
+        let worker = from.number();
         let (request, note) = self.waiting(alloc, post.by, worker, request)?;
         let body = BodyChange::Wait { worker, request };
         hearing(alloc, kept, from, post.label, body, note)
@@ -146,7 +145,7 @@ impl View<'_> {
                 self.again_plan(alloc, live, kept, from, post, request, answer)
             }
             Arrival::Ignored => {
-                self.ignoring_plan(alloc, kept, from, post, number_of(from), request, None)
+                self.ignoring_plan(alloc, kept, from, post, from.number(), request, None)
             }
         }
     }
@@ -178,7 +177,7 @@ impl View<'_> {
             (node_number self.entry.role.id) request.now (Accepted answer.now)) }
     {
         let what = What::Accepted(answer.copy(alloc)?);
-        self.note(alloc, by, number_of(self.role.id), request, what)
+        self.note(alloc, by, self.role.id.number(), request, what)
     }
 
     /// The worker becomes this one, which has accepted the answer.
@@ -221,7 +220,7 @@ impl View<'_> {
         ensures { IfOk result (λ plan. plan ≡
             reply_plan (view_of self.entry) worker.now kept from post.now request.now answer.now) }
     {
-        let number = number_of(self.role.id);
+        let number = self.role.id.number();
         match self.heard_by(alloc, worker, request, answer)? {
             Some(hearer) => {
                 self.accepting_plan(alloc, hearer, kept, from, post, request, answer)
@@ -243,13 +242,13 @@ impl View<'_> {
         ensures { IfOk result (λ plan. plan ≡
             heard_plan (view_of self.entry) (live_view live.now) kept from post.now) }
     {
-        let number = number_of(from);
+        let number = from.number();
         match (&live.body, &post.talk) {
             (Body::Worker(worker), Talk::Reply { request, answer }) => {
                 self.reply_plan(alloc, worker, kept, from, post, request, answer)
             }
             (Body::Worker(_), Talk::Request(request)) => {
-                let own = number_of(self.role.id);
+                let own = self.role.id.number();
                 self.ignoring_plan(alloc, kept, from, post, own, request, None)
             }
             (Body::Shard(shard), Talk::Request(request)) => {

@@ -164,7 +164,7 @@ impl View<'_> {
         let asked = cohort(alloc, self.role, permanent, live)?;
         let ballot = Ballot::asking(alloc, instance, live.incarnation, None, asked)?;
         let (ballot, send) = held_ballot(alloc, live, ballot)?;
-        let checkpoint = checkpoint_of(alloc, self.role, live, self.line_len)?;
+        let checkpoint = checkpoint_of(alloc, self.role, live, self.line_len())?;
         held_plan(alloc, ballot, send, Write::BeginCheck(checkpoint))
     }
 
@@ -186,7 +186,7 @@ impl View<'_> {
         let parent = Some(asker_of(from, ask));
         let ballot = Ballot::asking(alloc, instance, incarnation, parent, asked)?;
         let (ballot, send) = held_ballot(alloc, live, ballot)?;
-        let checkpoint = checkpoint_of(alloc, self.role, live, self.line_len)?;
+        let checkpoint = checkpoint_of(alloc, self.role, live, self.line_len())?;
         let write = Write::PutTentative {
             instance,
             checkpoint,

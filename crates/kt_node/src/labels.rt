@@ -4,11 +4,12 @@ ghost use Rattle.std.specs.Prelude.{◌≡◌, ◌<◌, length};
 ghost use Rattle.kt_node.specs.Labels.{up_to, label_at, listed_at, first_at, reaches};
 ghost use Rattle.kt_node.specs.Node.{node_number};
 
+use kt_ckpt::MAX_PEERS;
 use kt_link::Label;
 use kt_tuple::NodeId;
 
 /// Tables have an entry for each number that a neighbour can have, and for 0.
-pub(crate) const TABLE_SIZE: u8 = 9;
+pub(crate) const TABLE_SIZE: u8 = MAX_PEERS + 1;
 
 /// The label of the neighbour of this number in a checkpoint's list, which has the neighbours from 1 on.
 pub(crate) fn listed_at(labels: &[Label], number: u8) -> Label
@@ -31,20 +32,11 @@ pub(crate) fn up_to(label: Label, other: Label) -> bool
         || (label.incarnation == other.incarnation && label.count <= other.count)
 }
 
-/// The number of the node among its kind.
-pub(crate) fn number_of(node: NodeId) -> u8
-    ensures { result ≡ node_number node }
-{
-    match node {
-        NodeId::Worker(number) | NodeId::Shard(number) => number,
-    }
-}
-
 /// The node's entry of a table, `(0, 0)` where it has none.
 pub(crate) fn label_at(table: &[Label], node: NodeId) -> Label
     ensures { result ≡ label_at table.now (node_number node) }
 {
-    match table.get(usize::from(number_of(node))) {
+    match table.get(usize::from(node.number())) {
         Some(label) => *label,
         None => Label::default(),
     }
@@ -54,7 +46,7 @@ pub(crate) fn label_at(table: &[Label], node: NodeId) -> Label
 pub(crate) fn reaches(table: &[Option<Label>], node: NodeId, label: Label) -> bool
     ensures { result ≡ reaches (first_at table.now (node_number node)) label }
 {
-    match table.get(usize::from(number_of(node))) {
+    match table.get(usize::from(node.number())) {
         Some(Some(first)) => up_to(*first, label),
         _ => false,
     }

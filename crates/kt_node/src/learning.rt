@@ -137,7 +137,7 @@ impl View<'_> {
         if yes {
             return Ok(Plan::writing(Change::Stay, Outbox::empty(alloc), Write::Promote));
         }
-        if !stored.fits(self.role, self.line_len) {
+        if !stored.fits(self.role, self.line_len()) {
             return Err(Refusal::Damaged);
         }
         Ok(Plan {

@@ -2,7 +2,7 @@
 
 ghost use Rattle.std.specs.Prelude.{◌≡◌, ◌+◌, ◌<◌, ◌^◌, IfOk, map, Some, None};
 ghost use Rattle.kt_shard.specs.Limits.{desks};
-ghost use Rattle.kt_node.specs.Labels.{numbers, tabled, no_labels, no_firsts};
+ghost use Rattle.kt_node.specs.Labels.{tabled, no_labels, no_firsts, numbers};
 ghost use Rattle.kt_node.specs.Loading.{load, loaded_by, loaded_from};
 ghost use Rattle.kt_node.specs.Node.{IsShard, fresh_live, opening_body, opening_node};
 ghost use Rattle.kt_node.specs.Plan.{Gives};
@@ -23,7 +23,7 @@ use crate::role::{Role, View};
 use crate::stored::Stored;
 use kt_ckpt::{Ckpt, ShardState, State, WorkerState};
 use kt_link::Label;
-use kt_shard::{Desk, Kept, Request, Shard};
+use kt_shard::{DESKS, Desk, Kept, Request, Shard};
 use kt_space::Bag;
 use kt_tuple::{NodeId, Tuple};
 use kt_worker::Worker;
@@ -137,8 +137,8 @@ fn desks_of(
 ) -> Result<Vec<Desk>, AllocError>
     ensures { IfOk result (λ d. d.items ≡ map (desk_with waiting.now kept.now) (numbers 0 desks)) }
 {
-    let mut made = Vec::with_capacity(alloc, usize::from(TABLE_SIZE))?;
-    for worker in 0..TABLE_SIZE {
+    let mut made = Vec::with_capacity(alloc, usize::from(DESKS))?;
+    for worker in 0..DESKS {
         made.push(desk_of(alloc, worker, waiting, kept)?)?;
     }
     Ok(made)
@@ -307,7 +307,7 @@ impl View<'_> {
         requires { stored.incarnation + 1 < 2 ^ 64 }
         ensures { Gives result (load (view_of self.entry) stored) }
     {
-        if !stored.fits(self.role, self.line_len) {
+        if !stored.fits(self.role, self.line_len()) {
             return Err(Refusal::Damaged);
         }
         let incarnation = stored.incarnation + 1;

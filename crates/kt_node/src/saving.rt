@@ -2,7 +2,7 @@
 
 ghost use Rattle.std.specs.Prelude.{◌≡◌, ◌≤◌, ◌++◌, IfOk, OnOk};
 ghost use Rattle.kt_ckpt.specs.Checkpoint.{HasCounts, IsCountedState};
-ghost use Rattle.kt_ckpt.specs.Limits.{max_pc};
+ghost use Rattle.kt_script.specs.declared.script.TheConstants.{MAX_COMMANDS};
 ghost use Rattle.kt_shard.specs.Shard.{desk_of};
 ghost use Rattle.kt_node.specs.Labels.{listed};
 ghost use Rattle.kt_node.specs.State.{body_fields, checkpoint_of, entries, entry, shard_fields, worker_fields};
@@ -13,8 +13,8 @@ use crate::live::{Body, Live};
 use crate::role::Role;
 use kt_ckpt::{Ckpt, ShardState, State, WorkerState};
 use kt_link::Label;
-use kt_shard::{Kept, MAX_WORKERS, Request, Shard};
-use kt_tuple::{Op, Value};
+use kt_shard::{Kept, Request, Shard};
+use kt_tuple::{MAX_WORKERS, Op, Value, copy_values};
 use kt_worker::Worker;
 use std::alloc::{AllocError, Global};
 
@@ -61,7 +61,7 @@ fn body_state(alloc: Global, body: &Body) -> Result<State, AllocError>
 }
 
 fn worker_state(alloc: Global, worker: &Worker) -> Result<WorkerState, AllocError>
-    requires { worker.now.position.pc ≤ max_pc }
+    requires { worker.now.position.pc ≤ MAX_COMMANDS }
     ensures { IfOk result (λ w. w ≡ worker_fields worker.now) }
 {
     let values = copy_values(alloc, worker.values())?;
@@ -82,16 +82,6 @@ fn asked_of(alloc: Global, worker: &Worker) -> Result<Option<Op>, AllocError>
         Some(op) => Ok(Some(op.copy(alloc)?)),
         None => Ok(None),
     }
-}
-
-fn copy_values(alloc: Global, values: &[Value]) -> Result<Vec<Value>, AllocError>
-    ensures { IfOk result (λ v. v.items ≡ values.now) }
-{
-    let mut copies = Vec::with_capacity(alloc, values.len())?;
-    for value in values {
-        copies.push(value.copy())?;
-    }
-    Ok(copies)
 }
 
 fn shard_state(alloc: Global, shard: &Shard) -> Result<ShardState, AllocError>

@@ -17,7 +17,6 @@ ghost use Rattle.kt_node.specs.Talking.{again_plan, heard_plan, hearing, issue_p
 ghost use Rattle.kt_node.specs.Talking.{reply_plan, request_plan, service_plan};
 ghost use Rattle.kt_node.specs.View.{view_of};
 
-use crate::labels::number_of;
 use crate::live::{Body, Live};
 use crate::message::{Message, Post, Talk};
 use crate::role::View;
@@ -55,7 +54,7 @@ impl View<'_> {
             issue_plan (view_of self.entry) (live_view live.now) (request.number, request.op) asker) }
     {
         let to = self.home(&request.op);
-        let note = self.note(alloc, 0, number_of(self.role.id), &request, What::Issue)?;
+        let note = self.note(alloc, 0, self.role.id.number(), &request, What::Issue)?;
         let message = self.post(live, Talk::Request(request));
         Ok(ShortPlan {
             turn: ShortTurn::Asks { to, asker },
@@ -169,7 +168,7 @@ impl View<'_> {
         ensures { IfOk result (λ e. plan_of e ≡ hearing Keeps from post.now.label (Wait (node_number from) request.now)
             (note_of self.entry.role.id post.now.by (node_number from) request.now HeardIt)) }
     {
-        let (request, note) = self.waiting(alloc, post.by, number_of(from), request)?;
+        let (request, note) = self.waiting(alloc, post.by, from.number(), request)?;
         Ok(ShortPlan {
             turn: ShortTurn::Waits {
                 from,
@@ -196,7 +195,7 @@ impl View<'_> {
             again_plan (view_of self.entry) (live_view live.now) Keeps from post.now request.now answer.now) }
     {
         let what = What::Again(answer.copy(alloc)?);
-        let note = self.note(alloc, post.by, number_of(from), request, what)?;
+        let note = self.note(alloc, post.by, from.number(), request, what)?;
         let talk = Talk::Reply {
             request: request.copy(alloc)?,
             answer: answer.copy(alloc)?,
@@ -288,7 +287,7 @@ impl View<'_> {
                     from,
                     post,
                     request,
-                    shard.arrival(number_of(from), request),
+                    shard.arrival(from.number(), request),
                 )
             }
             (Body::Worker(_), Talk::Request(_)) | (Body::Shard(_), Talk::Reply { .. }) => Ok(None),

@@ -7,7 +7,6 @@ ghost use Rattle.kt_node.specs.inner.Codes.{body_has_room, body_view, live_has_r
 ghost use Rattle.kt_node.specs.Ready.{CanChange, CanChangeBody, CanTurn};
 ghost use Rattle.kt_node.specs.Turning.{changed, changed_body, turned};
 
-use crate::labels::number_of;
 use crate::live::{Body, Live};
 use crate::node::Node;
 use crate::turning::write;
@@ -88,7 +87,7 @@ impl Live {
                 label,
                 request,
             } => {
-                self.body.wait(number_of(from), request);
+                self.body.wait(from.number(), request);
                 write(&mut self.received, from, label);
             }
             ShortTurn::Answers { from, label } => {

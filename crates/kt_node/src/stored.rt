@@ -7,7 +7,7 @@ ghost use Rattle.kt_node.specs.Stored.{acts_in, fits, is_undecided, marks_fit, r
 ghost use Rattle.kt_node.specs.Loading.{marks_in};
 ghost use Rattle.kt_node.specs.Views.{role_view};
 
-use crate::labels::{listed_at, number_of};
+use crate::labels::listed_at;
 use crate::role::Role;
 use kt_ckpt::{Ckpt, Marks};
 use kt_link::Label;
@@ -78,7 +78,7 @@ pub(crate) fn sent_in(stored: Option<&Marks>, node: NodeId) -> Label
 {
     match stored {
         None => Label::default(),
-        Some(marks) => listed_at(marks.sent(), number_of(node)),
+        Some(marks) => listed_at(marks.sent(), node.number()),
     }
 }
 
@@ -88,7 +88,7 @@ pub(crate) fn received_in(stored: Option<&Marks>, node: NodeId) -> Label
 {
     match stored {
         None => Label::default(),
-        Some(marks) => listed_at(marks.received(), number_of(node)),
+        Some(marks) => listed_at(marks.received(), node.number()),
     }
 }
 

@@ -10,7 +10,6 @@ ghost use Rattle.kt_node.specs.Ready.{CanCount};
 ghost use Rattle.kt_node.specs.Talking.{home, note_of, post_of, issue_plan, repeat_plan, service_plan};
 
 use crate::change::{BodyChange, Turn};
-use crate::labels::number_of;
 use crate::live::Live;
 use crate::message::{Message, Post, Talk};
 use crate::plan::{Outbox, Plan};
@@ -117,7 +116,7 @@ impl View<'_> {
         )) }
     {
         let send = self.asks(alloc, live, self.home(&request.op), request)?;
-        let note = self.note(alloc, 0, number_of(self.role.id), request, what)?;
+        let note = self.note(alloc, 0, self.role.id.number(), request, what)?;
         Ok((send, note))
     }
 
@@ -194,7 +193,7 @@ impl View<'_> {
         )) }
     {
         let send = self.replies(alloc, live, to, request, answer)?;
-        let note = self.note(alloc, by, number_of(to), request, what)?;
+        let note = self.note(alloc, by, to.number(), request, what)?;
         Ok((send, note))
     }
 

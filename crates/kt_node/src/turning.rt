@@ -13,7 +13,7 @@ ghost use Rattle.kt_node.specs.inner.Between.{turned_over};
 ghost use Rattle.kt_node.specs.Ready.{CanChange, CanChangeBody, CanSay, CanTurn};
 
 use crate::change::{BodyChange, Change, KeptChange, Loaded, Turn};
-use crate::labels::{number_of, up_to};
+use crate::labels::up_to;
 use crate::live::{Body, Live};
 use crate::message::Post;
 use crate::node::Node;
@@ -186,7 +186,7 @@ pub(crate) fn write(table: &mut Vec<Label>, node: NodeId, label: Label)
     ensures written { table.new.items ≡ put no_label table.old.items (node_number node) label }
     ensures long { length table.new.items ≡ length table.old.items }
 {
-    table[usize::from(number_of(node))] = label;
+    table[usize::from(node.number())] = label;
 }
 
 /// Writes the first label of the node, where it has none.
@@ -196,7 +196,7 @@ fn begin(table: &mut Vec<Option<Label>>, node: NodeId, label: Label)
         put None table.old.items (node_number node) (first_or label (first_at table.old.items (node_number node))) }
     ensures long { length table.new.items ≡ length table.old.items }
 {
-    let place = usize::from(number_of(node));
+    let place = usize::from(node.number());
     table[place] = table[place].or(Some(label));
 }
 

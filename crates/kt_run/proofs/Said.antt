@@ -25,7 +25,7 @@ use Rattle.kt_shard.specs.Service.{Service, got_or_none, answer_at, service_if, 
 use Rattle.kt_node.specs.declared.live.Phase.{Phase}
 use Rattle.kt_node.specs.declared.live.Phase.TheVariants as phases
 use Rattle.kt_node.specs.declared.plan.Plan.{Plan}
-use Rattle.kt_node.specs.Node.{Body, IsWorker, IsShard, Live, Node, Down, Alive, node_number, shard_in}
+use Rattle.kt_node.specs.Node.{Body, IsWorker, IsShard, Live, Node, Down, Alive, shard_in, node_number}
 use Rattle.kt_node.specs.Plan.{Planned}
 use Rattle.kt_node.specs.Steps.{up_in, up_of, by_up, serve_by, serve_found}
 use Rattle.kt_world.specs.declared.step.Step.{Step}
@@ -36,7 +36,7 @@ use Rattle.kt_world.specs.declared.step.StepError.TheVariants as refusals
 use Rattle.kt_world.specs.Cast.{Cast, IsCast, is_worker, is_shard, is_in_scene}
 use Rattle.kt_world.specs.Effect.{applied_if, step_result}
 use Rattle.kt_world.specs.Judge.{of_scene, due, judged, within_limit, planned}
-use Rattle.kt_world.specs.Limits.{most_steps}
+use Rattle.kt_world.specs.declared.step.TheConstants.{MAX_STEPS}
 use Rattle.kt_lines.specs.Cause.{cause_of_waiting}
 use Rattle.kt_world.specs.Reached.{opening}
 use Rattle.kt_world.specs.inner.Ready.{IsReady, IsBodyReady, IsLiveReady, IsNodeReady}
@@ -55,7 +55,7 @@ record IsDue (s : State) (step : Step) : Type 0 where
   there : is_in_scene s.cast step ≡ true
   plan : Plan
   is_due : due s (told s step) step ≡ Ok plan
-  few : s.made < most_steps
+  few : s.made < MAX_STEPS
 
 scene_plans : (there : Bool) (r : Planned) (plan : Plan) → of_scene there r ≡ Ok plan → (there ≡ true) × (r ≡ Ok plan)
 scene_plans true r plan e = (refl, owner-passed r plan e)
@@ -67,7 +67,7 @@ limit_by_test false r plan e = absurd cc
 
 never_planned : (refusal : StepError) (made : ℕ) (plan : Plan) → within_limit made (Err refusal) ≡ Ok plan → ⊥
 never_planned (refusals.Store cause) made plan e =
-    let h = limit_by_test (ltb made most_steps) (Err (refusals.Store cause)) plan e in
+    let h = limit_by_test (ltb made MAX_STEPS) (Err (refusals.Store cause)) plan e in
     let never = h.1 in
     absurd cc
 never_planned refusals.NoNode made plan e = absurd cc
@@ -79,10 +79,10 @@ never_planned refusals.Unresolved made plan e = absurd cc
 never_planned refusals.StepLimit made plan e = absurd cc
 never_planned refusals.OutOfMemory made plan e = absurd cc
 
-limit_plans : (r : Result Plan StepError) (made : ℕ) (plan : Plan) → within_limit made r ≡ Ok plan → (r ≡ Ok plan) × (made < most_steps)
+limit_plans : (r : Result Plan StepError) (made : ℕ) (plan : Plan) → within_limit made r ≡ Ok plan → (r ≡ Ok plan) × (made < MAX_STEPS)
 limit_plans (Ok found) made plan e =
-    let h = limit_by_test (ltb made most_steps) (Ok found) plan e in
-    (h.1, ltb-true made most_steps h.0)
+    let h = limit_by_test (ltb made MAX_STEPS) (Ok found) plan e in
+    (h.1, ltb-true made MAX_STEPS h.0)
 limit_plans (Err refusal) made plan e = absurd (never_planned refusal made plan e)
 
 due_by_plan : (r : Result Plan StepError) (s : State) (step : Step) (new : State) → planned s step ≡ r → applied_if s step r ≡ Ok new → IsDue s step
@@ -195,7 +195,7 @@ bag_by_name : (p : NodeId) (script : List Command) (made : ℕ) (y : Shard) (cas
 bag_by_name (ids.Worker n) script made y cast there h = absurd h
 bag_by_name (ids.Shard n) script made y cast there h = h
 
-place_small : (s : State) (p : NodeId) (worker place : ℕ) → IsReady s → s.made < most_steps → is_shard s.cast p ≡ true → IsServing s p worker place
+place_small : (s : State) (p : NodeId) (worker place : ℕ) → IsReady s → s.made < MAX_STEPS → is_shard s.cast p ≡ true → IsServing s p worker place
     → place ≤ 99999
 place_small s p worker place ready few there h =
     let Held : Option Node → Type 0 = λ row. IfSome row (IsNodeReady s.cast s.history s.made p) in

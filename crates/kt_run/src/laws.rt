@@ -6,6 +6,7 @@ ghost use Rattle.kt_world.specs.declared.step.Step.{Step};
 ghost use Rattle.kt_world.specs.Cast.{Cast, IsCast};
 ghost use Rattle.kt_world.specs.Reached.{opening};
 ghost use Rattle.kt_world.specs.State.{State};
+ghost use Rattle.kt_scene.specs.declared.reading.TheConstants.{MAX_TEXT};
 ghost use Rattle.kt_scene.specs.Journal.{journal_text, play_of_steps};
 ghost use Rattle.kt_scene.specs.Report.{IsReportOf};
 ghost use Rattle.kt_scene.specs.Run.{LeadsTo};
@@ -15,7 +16,7 @@ ghost use Rattle.kt_stage.specs.Journal.{all_made};
 ghost use Rattle.kt_run.specs.Run.{IsRunOf};
 
 /// Steps that lead from the opening of a scene to some state can be said by lines. Each names nodes by numbers from 1
-/// to 99, and a match by a place below 100,000.
+/// to `MAX_NODE_NUMBER`, and a match by a place up to `MAX_MATCH`.
 pub fn what_was_made_can_be_said()
     ensures { (cast : Cast) (steps : List Step) (s : State) → IsCast cast → All IsScript cast.scripts
         → RunsTo (opening cast) steps s → All IsStep steps }
@@ -26,7 +27,7 @@ pub fn what_was_made_can_be_said()
 /// and to no other. So both have one report.
 pub fn what_was_made_is_replayed()
     ensures scenario { (cast : Cast) (steps : List Step) (s : State) (report : List ℕ) → IsPlay (play_of_steps cast [])
-        → all_made (opening cast) steps ≡ Ok s → length (journal_text report cast steps) ≤ 1048576
+        → all_made (opening cast) steps ≡ Ok s → length (journal_text report cast steps) ≤ MAX_TEXT
         → IsScenario (journal_text report cast steps) (play_of_steps cast steps) }
     ensures same { (cast : Cast) (steps : List Step) (s : State) (report : List ℕ) → IsPlay (play_of_steps cast [])
         → all_made (opening cast) steps ≡ Ok s → (fresh : Bool) (t : State)
@@ -42,7 +43,7 @@ pub fn what_was_made_is_replayed()
 /// report.
 pub fn what_a_run_tells_is_replayed()
     ensures scenario { (text : List ℕ) (fresh : Bool) (steps : List Step) (s : State) (report : List ℕ)
-        → IsRunOf text true fresh steps s → length (journal_text report s.cast steps) ≤ 1048576
+        → IsRunOf text true fresh steps s → length (journal_text report s.cast steps) ≤ MAX_TEXT
         → IsScenario (journal_text report s.cast steps) (play_of_steps s.cast steps) }
     ensures made { (text : List ℕ) (fresh : Bool) (steps : List Step) (s : State) → IsRunOf text true fresh steps s
         → RunsTo (opening s.cast) steps s }

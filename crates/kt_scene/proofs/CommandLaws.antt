@@ -7,6 +7,7 @@ use Rattle.std.specs.Int.{w64}
 use Rattle.std.specs.Int.RustNames.{FitsSigned}
 use Rattle.std.specs.Fmt.{signed_decimal}
 use Rattle.std.specs.Option.{option_map}
+use Rattle.kt_script.specs.declared.script.TheConstants.{MAX_COMMANDS}
 use Rattle.kt_tuple.specs.Spelling.{in_parentheses}
 use Rattle.kt_tuple.specs.Matching.{HasArity}
 use Rattle.kt_tuple.specs.Reading.{int_at, int_of}
@@ -195,7 +196,7 @@ unless_by_number None words rest spelled fits counts e end is =
 unless_by_number (Some n) words rest spelled fits counts e end is =
     let same = unless_fits (leb n 255) n spelled is fits in
     let count : has_count (Unless n) ≡ true = ap (λ (s : Spelled). has_count s.command) same ∙ counts in
-    let few : n ≤ 200 = leb-true n 200 (and_parts (ltb 0 n) (leb n 200) count).1 in
+    let few : n ≤ MAX_COMMANDS = leb-true n MAX_COMMANDS (and_parts (ltb 0 n) (leb n MAX_COMMANDS) count).1 in
     let text : words ≡ decimal n = number_taken words rest n e ∙ ap (λ (t : List ℕ). decimal n ++ t) end ∙ append-nil (decimal n) in
     let P : Spelled → Type 0 = λ s. IsCommandLine (codes "unless " ++ words) s.command in
     subst P same (ap (λ (t : List ℕ). codes "unless " ++ t) text, few)

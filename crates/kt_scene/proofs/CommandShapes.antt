@@ -7,6 +7,7 @@ use Rattle.std.specs.Int.{w64}
 use Rattle.std.specs.Int.RustNames.{FitsSigned}
 use Rattle.std.specs.Option.{option_map}
 use Rattle.std.specs.Str.Parse.{digits_value, signed_digits_value}
+use Rattle.kt_script.specs.declared.script.TheConstants.{MAX_COMMANDS}
 use Rattle.kt_tuple.specs.declared.value.Kind.{Kind}
 use Rattle.kt_tuple.specs.Grammar.{IsInt}
 use Rattle.kt_tuple.specs.Reading.{int_at, int_of}
@@ -65,8 +66,8 @@ set_reads (Some z) x y plus p is value e = record {
   outside = λ unfit. absurd cc;
 }
 
--- a number above 200 is outside
-unless_outside : (count : ℕ) → 200 < count → ReadsAs (Unless count) (record { command = Unless 0; fits = false })
+-- a number above `MAX_COMMANDS` is outside
+unless_outside : (count : ℕ) → MAX_COMMANDS < count → ReadsAs (Unless count) (record { command = Unless 0; fits = false })
 unless_outside count much = record {
   rules = λ variables. refl;
   bound = refl;
@@ -79,10 +80,11 @@ unless_inside count = record {
   rules = λ variables. refl;
   bound = refl;
   inside = λ fits counts out.
-      let tests = and_parts (ltb 0 count) (leb count 200) counts in
-      out (ltb-true 0 count tests.0, leb-true count 200 tests.1);
+      let tests = and_parts (ltb 0 count) (leb count MAX_COMMANDS) counts in
+      out (ltb-true 0 count tests.0, leb-true count MAX_COMMANDS tests.1);
   outside = λ unfit within.
-      let counts : (ltb 0 count && leb count 200) ≡ true = and_from (ltb 0 count) (leb count 200) (lt-ltb 0 count within.0) (le-leb count 200 within.1) in
+      let counts : (ltb 0 count && leb count MAX_COMMANDS) ≡ true =
+      and_from (ltb 0 count) (leb count MAX_COMMANDS) (lt-ltb 0 count within.0) (le-leb count MAX_COMMANDS within.1) in
       let never : true ≡ false = sym counts ∙ unfit in
       absurd cc;
 }

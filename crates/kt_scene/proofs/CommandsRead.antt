@@ -7,6 +7,8 @@ use Rattle.std.specs.Prelude.{ℤ, codes, decimal, All}
 use Rattle.std.specs.Int.{w64}
 use Rattle.std.specs.Int.RustNames.{FitsSigned}
 use Rattle.std.specs.Fmt.{signed_decimal}
+use Rattle.kt_script.specs.declared.script.TheConstants.{MAX_COMMANDS}
+use Rattle.kt_tuple.specs.declared.tuple.TheConstants.{MAX_PLACES}
 use Rattle.kt_tuple.specs.Spelling.{separated, in_parentheses}
 use Rattle.kt_tuple.specs.Matching.{HasArity}
 use Rattle.kt_tuple.specs.Reading.{int_at}
@@ -61,7 +63,7 @@ slots_read_from (place ∷ (next ∷ others)) (suc n) some few h =
 
 -- the text of a pattern is read as its places
 slots_read : (places : List Slot) → IsPattern places → slots_in (pattern_text places) ≡ Some places
-slots_read places h = slots_read_from places 8 h.0.0 h.0.1 h.1
+slots_read places h = slots_read_from places MAX_PLACES h.0.0 h.0.1 h.1
 
 actuals_back : (actuals : List Actual) → actuals_of (map (λ a. slots.Actual a) actuals) ≡ Some actuals
 actuals_back [] = refl
@@ -73,7 +75,7 @@ actuals_read actuals arity h =
     let places = map (λ a. slots.Actual a) actuals in
     let count : length (map (λ a. slots.Actual a) actuals) ≡ length actuals = length-actuals actuals in
     let some : 1 ≤ length (map (λ a. slots.Actual a) actuals) = omega (arith, arity.0, count) in
-    let few : length (map (λ a. slots.Actual a) actuals) ≤ 8 = omega (arith, arity.1, count) in
+    let few : length (map (λ a. slots.Actual a) actuals) ≤ MAX_PLACES = omega (arith, arity.1, count) in
     ap (λ (l : List (List ℕ)). slots_in (in_parentheses l)) (sym (actuals_text actuals))
     ∙ slots_read places ((some, few), All-map IsSlot (λ a. slots.Actual a) actuals h)
 
@@ -99,7 +101,7 @@ set_read x y k x_is y_is h =
       int_read_alone k h,
     ) refl
 
-unless_read : (n : ℕ) → n ≤ 200 → unless_of (decimal n) ≡ Some (fitting (Unless n))
+unless_read : (n : ℕ) → n ≤ MAX_COMMANDS → unless_of (decimal n) ≡ Some (fitting (Unless n))
 unless_read n h =
     let whole : number_at (decimal n) ≡ Some (Some n, []) = ap number_at (sym (append-nil (decimal n))) ∙ number_read n [] (omega (arith, h)) refl in
     let small : leb n 255 ≡ true = le-leb n 255 (omega (arith, h)) in

@@ -5,6 +5,7 @@ use Rattle.std.proofs.Common.{Ok, Err, refl, sym, ap, subst, ◌∙◌, arith}
 use Rattle.std.proofs.lemmas.Bool.{leb-true, leb-false}
 use Rattle.std.specs.Prelude.{◌≢◌, codes}
 use Rattle.std.specs.Str.Parse.{digits_value}
+use Rattle.kt_world.specs.declared.step.TheConstants.{MAX_STEPS}
 use Rattle.kt_world.specs.declared.step.Step.{Step}
 use Rattle.kt_world.specs.Cast.{is_node}
 use Rattle.kt_core.specs.declared.faults.Fault.{Fault}
@@ -86,16 +87,16 @@ module _ (kind : WorkKind) (before : List (List ℕ)) (line : List ℕ) (s : Ske
       is_entry : IsEntry kind line
       is_entry = subst (λ (k : WorkKind). IsEntry k line) wanted (spelled, spells)
 
-      late_there : 100000 < spelled.after → HasLowest kind before line faults.Limit
+      late_there : MAX_STEPS < spelled.after → HasLowest kind before line faults.Limit
       late_there late = record {
         has = too_late spelled (sym wanted) in_it spells late;
         lowest = from_limit kind before line (work_no_header kind before line s leads is) (work_no_word kind before line s leads is is_entry)
             (work_no_tuple kind before line s leads is) (work_no_variable kind before line s leads is);
       }
 
-      nobody_there : (n : ℕ) → asked.after ≡ Some n → n ≤ 100000 → is_node (cast_of s) asked.node ≡ false → HasLowest kind before line faults.Node
+      nobody_there : (n : ℕ) → asked.after ≡ Some n → n ≤ MAX_STEPS → is_node (cast_of s) asked.node ≡ false → HasLowest kind before line faults.Node
       nobody_there n some soon none =
-          let each : (fault : Fault) → SpellsFault line fault → fault.after ≤ 100000 =
+          let each : (fault : Fault) → SpellsFault line fault → fault.after ≤ MAX_STEPS =
           λ fault other. (let is_n = spelled_number line asked n read some fault other in omega (arith, is_n, soon)) in
           record {
             has = names_nobody spelled (sym wanted) in_it spells none;
@@ -103,22 +104,22 @@ module _ (kind : WorkKind) (before : List (List ℕ)) (line : List ℕ) (s : Ske
                 (work_no_tuple kind before line s leads is) (work_no_variable kind before line s leads is) (work_no_limit kind before line s leads is each);
           }
 
-      node_by_test : (there : Bool) (n : ℕ) (made : Fault) (wrong : SceneError) → asked.after ≡ Some n → n ≤ 100000 → is_node (cast_of s) asked.node ≡ there
+      node_by_test : (there : Bool) (n : ℕ) (made : Fault) (wrong : SceneError) → asked.after ≡ Some n → n ≤ MAX_STEPS → is_node (cast_of s) asked.node ≡ there
           → cond {A = Result Fault SceneError} there (Ok made) (Err faults.Node) ≡ Err wrong → HasLowest kind before line wrong
       node_by_test true n made wrong some soon test e = absurd cc
       node_by_test false n made wrong some soon test e =
           let same : faults.Node ≡ wrong = cc in
           subst (HasLowest kind before line) same (nobody_there n some soon test)
 
-      soon_by_test : (soon : Bool) (n : ℕ) (made : Fault) (wrong : SceneError) → asked.after ≡ Some n → leb n 100000 ≡ soon
+      soon_by_test : (soon : Bool) (n : ℕ) (made : Fault) (wrong : SceneError) → asked.after ≡ Some n → leb n MAX_STEPS ≡ soon
           → cond {A = Result Fault SceneError} soon (cond (is_node (cast_of s) asked.node) (Ok made) (Err faults.Node)) (Err faults.Limit) ≡ Err wrong
           → HasLowest kind before line wrong
       soon_by_test true n made wrong some test e =
-          node_by_test (is_node (cast_of s) asked.node) n made wrong some (leb-true n 100000 test) refl e
+          node_by_test (is_node (cast_of s) asked.node) n made wrong some (leb-true n MAX_STEPS test) refl e
       soon_by_test false n made wrong some test e =
           let same : faults.Limit ≡ wrong = cc in
           let is_n : digits_value 10 shape.number ≡ n = number_known shape.number n shape.is (shape.known ∙ some) in
-          let late = leb-false n 100000 test in
+          let late = leb-false n MAX_STEPS test in
           subst (HasLowest kind before line) same (late_there (omega (arith, is_n, late)))
 
       by_after : (after : Option ℕ) (wrong : SceneError) → asked.after ≡ after → fault_with (cast_of s) asked.kind asked.node after ≡ Err wrong
@@ -128,7 +129,7 @@ module _ (kind : WorkKind) (before : List (List ℕ)) (line : List ℕ) (s : Ske
           let huge = number_huge shape.number shape.is (shape.known ∙ some) in
           subst (HasLowest kind before line) same (late_there (omega (arith, huge)))
       by_after (Some n) wrong some e =
-          soon_by_test (leb n 100000) n (record { kind = asked.kind; node = asked.node; after = n }) wrong some refl e
+          soon_by_test (leb n MAX_STEPS) n (record { kind = asked.kind; node = asked.node; after = n }) wrong some refl e
 
     fault_by_asked : (r : Option Asked) (wrong : SceneError) → works.Faults ≡ kind → is_word line (codes "end") ≡ false → asked_by line ≡ r
         → fault_from (cast_of s) r ≡ Err wrong → HasLowest kind before line wrong

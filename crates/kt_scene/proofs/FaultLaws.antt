@@ -4,6 +4,7 @@ use Rattle.std.proofs.Common.{append_assoc, append-nil}
 use Rattle.std.proofs.lemmas.Bool.{leb-true}
 use Rattle.std.specs.Prelude.{codes, decimal, nat_abs}
 use Rattle.std.specs.Option.{option_map}
+use Rattle.kt_world.specs.declared.step.TheConstants.{MAX_STEPS}
 use Rattle.kt_tuple.specs.declared.node.NodeId.{NodeId}
 use Rattle.kt_tuple.specs.Reading.{int_of}
 use Rattle.kt_world.specs.Cast.{Cast, is_node}
@@ -89,7 +90,7 @@ soon_by_test false there made fault e = absurd cc
 record IsMade (cast : Cast) (kind : FaultKind) (p : NodeId) (after : Option ℕ) (fault : Fault) : Type 0 where
   number : ℕ
   some : after ≡ Some number
-  soon : number ≤ 100000
+  soon : number ≤ MAX_STEPS
   there : is_node cast p ≡ true
   same : record { kind = kind; node = p; after = number } ≡ fault
 
@@ -97,8 +98,8 @@ made_by : (after : Option ℕ) (cast : Cast) (kind : FaultKind) (p : NodeId) (fa
     → IsMade cast kind p after fault
 made_by None cast kind p fault e = absurd cc
 made_by (Some n) cast kind p fault e =
-    let h = soon_by_test (leb n 100000) (is_node cast p) (record { kind = kind; node = p; after = n }) fault e in
-    record { number = n; some = refl; soon = leb-true n 100000 h.0; there = h.1; same = h.2 }
+    let h = soon_by_test (leb n MAX_STEPS) (is_node cast p) (record { kind = kind; node = p; after = n }) fault e in
+    record { number = n; some = refl; soon = leb-true n MAX_STEPS h.0; there = h.1; same = h.2 }
 
 by_asked : (read : Option Asked) (cast : Cast) (line : List ℕ) (fault : Fault) → asked_by line ≡ read → fault_from cast read ≡ Ok fault
     → (line ≡ fault_text fault) × IsFaultLine cast (unspent fault)

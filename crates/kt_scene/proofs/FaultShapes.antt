@@ -4,6 +4,7 @@ use Rattle.std.proofs.Common.{◌∙◌, append-nil, arith}
 use Rattle.std.proofs.lemmas.Bool.{le-leb}
 use Rattle.std.specs.Prelude.{codes, decimal, nat_abs}
 use Rattle.std.specs.Option.{option_map}
+use Rattle.kt_world.specs.declared.step.TheConstants.{MAX_STEPS}
 use Rattle.kt_tuple.specs.declared.node.NodeId.{NodeId}
 use Rattle.kt_tuple.specs.Reading.{int_of}
 use Rattle.kt_world.specs.Cast.{Cast, IsCast, is_node}
@@ -53,10 +54,10 @@ text_asked fault node_is small =
     ∙ word_first fault.kind (node_text fault.node ++ (codes " after " ++ decimal fault.after))
     ∙ words_read fault.kind fault.node (decimal fault.after) (Some fault.after) node_is (number_alone fault.after small)
 
-pub fault_again : (cast : Cast) (fault : Fault) → IsStepNode fault.node → fault.after ≤ 100000 → is_node cast fault.node ≡ true
+pub fault_again : (cast : Cast) (fault : Fault) → IsStepNode fault.node → fault.after ≤ MAX_STEPS → is_node cast fault.node ≡ true
     → fault_read cast (fault_text fault) ≡ Ok fault
 fault_again cast fault node_is soon there =
-    let few : leb fault.after 100000 ≡ true = le-leb fault.after 100000 soon in
+    let few : leb fault.after MAX_STEPS ≡ true = le-leb fault.after MAX_STEPS soon in
     rw (text_asked fault node_is (omega (arith, soon)), few, there) refl
 
 -- a line that spells two faults gives both the number that is read

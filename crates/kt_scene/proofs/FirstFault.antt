@@ -6,6 +6,7 @@ use Rattle.std.proofs.lemmas.Grind.{flat_map-append}
 use Rattle.std.proofs.lemmas.List.Elements.{All-nil, All-cons, All-head, All-tail, All-push}
 use Rattle.std.specs.Prelude.{◌≢◌, All, codes, filter, IfErr}
 use Rattle.std.specs.List.{flat_map}
+use Rattle.kt_scene.specs.declared.reading.TheConstants.{MAX_TEXT}
 use Rattle.kt_scene.specs.declared.fault.SceneFault.{SceneFault}
 use Rattle.kt_scene.specs.declared.fault.SceneError.{SceneError}
 use Rattle.kt_scene.specs.declared.fault.SceneError.TheVariants as faults
@@ -79,7 +80,7 @@ found_on_line text before line later all =
       all_in_front IsLine (before ++ line ∷ []) later (subst Each lines parts.1),
     )
 
-by_failed : (kind : WorkKind) (text : List ℕ) (n : ℕ) (fault : SceneError) → play_of kind text ≡ Err (n, fault) → length text ≤ 1048576
+by_failed : (kind : WorkKind) (text : List ℕ) (n : ℕ) (fault : SceneError) → play_of kind text ≡ Err (n, fault) → length text ≤ MAX_TEXT
     → Failed kind (lines_of text).0 (lines_of text).1 n fault → HasFirstFault kind text n fault
 by_failed kind text n fault answer short (on_line before line later u all h read count) =
     let parts = found_on_line text before line later all in
@@ -112,14 +113,14 @@ by_failed kind text n fault answer short (at_end u h test count is) =
     }))
 
 by_length : (b : Bool) (kind : WorkKind) (text : List ℕ) (n : ℕ) (fault : SceneError) (long : Fault) → long ≡ (1, faults.Limit)
-    → play_of kind text ≡ Err (n, fault) → ltb 1048576 (length text) ≡ b
+    → play_of kind text ≡ Err (n, fault) → ltb MAX_TEXT (length text) ≡ b
     → cond b (Err long) (read_from (nothing_read kind) 1 (lines_of text).0 (lines_of text).1) ≡ Err (n, fault) → HasFirstFault kind text n fault
 by_length true kind text n fault long there answer test e =
     let same : (1, faults.Limit) ≡ (n, fault) = cc in
     let P : Fault → Type 0 = λ x. HasFirstFault kind text x.0 x.1 in
-    subst P same (too_long (ltb-true 1048576 (length text) test))
+    subst P same (too_long (ltb-true MAX_TEXT (length text) test))
 by_length false kind text n fault long there answer test e =
-    by_failed kind text n fault answer (ltb-false 1048576 (length text) test)
+    by_failed kind text n fault answer (ltb-false MAX_TEXT (length text) test)
     (read_fails kind (lines_of text).0 [] (nothing_read kind) (lines_of text).1 1 n fault refl (reached_nothing kind) e)
 
 by_sketch : (r : Result Sketch Fault) (kind : WorkKind) (text : List ℕ) (n : ℕ) (fault : SceneError) → play_of kind text ≡ Err (n, fault)
@@ -127,7 +128,7 @@ by_sketch : (r : Result Sketch Fault) (kind : WorkKind) (text : List ℕ) (n : �
 by_sketch (Ok t) kind text n fault answer is e = absurd cc
 by_sketch (Err first) kind text n fault answer is e =
     let same : first ≡ (n, fault) = cc in
-    by_length (ltb 1048576 (length text)) kind text n fault (1, faults.Limit) refl answer refl (is ∙ ap (λ (x : Fault). Err x) same)
+    by_length (ltb MAX_TEXT (length text)) kind text n fault (1, faults.Limit) refl answer refl (is ∙ ap (λ (x : Fault). Err x) same)
 
 -- the fault that is answered is the text's first
 pub answered_is_first : (kind : WorkKind) (text : List ℕ) (n : ℕ) (fault : SceneError) → play_of kind text ≡ Err (n, fault) → HasFirstFault kind text n fault
@@ -323,13 +324,13 @@ explains kind text n faults.OutOfMemory h place = (
   λ m fault first. subst (IsBeforeFault n) (first_is_answered kind text m fault first) (before_fault n (sketch_of kind text) h),
 )
 
-read_is_sketch : (kind : WorkKind) (text : List ℕ) → length text ≤ 1048576
+read_is_sketch : (kind : WorkKind) (text : List ℕ) → length text ≤ MAX_TEXT
     → read_from (nothing_read kind) 1 (lines_of text).0 (lines_of text).1 ≡ sketch_of kind text
 read_is_sketch kind text short =
-    let fits : ltb 1048576 (length text) ≡ false = le-ltb 1048576 (length text) short in
+    let fits : ltb MAX_TEXT (length text) ≡ false = le-ltb MAX_TEXT (length text) short in
     rw fits refl
 
-pub answer_explains : {A : Type 0} (kind : WorkKind) (text : List ℕ) (r : Result A SceneFault) → length text ≤ 1048576
+pub answer_explains : {A : Type 0} (kind : WorkKind) (text : List ℕ) (r : Result A SceneFault) → length text ≤ MAX_TEXT
     → IfErr r (λ f. IsFirstFault f.line f.cause (read_from (nothing_read kind) 1 (lines_of text).0 (lines_of text).1))
     → IfErr r (λ f. IsPlaceOf text f.line f.cause) → IfErr r (λ f. Explains kind text f.line f.cause)
 answer_explains kind text (Ok x) short h place = tt

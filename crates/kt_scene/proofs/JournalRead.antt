@@ -4,6 +4,7 @@ use Rattle.std.proofs.lemmas.Grind.{flat_map-append}
 use Rattle.std.proofs.lemmas.List.Elements.{All-nil, All-cons, All-head, All-tail, All-append, filter-append}
 use Rattle.std.specs.Prelude.{◌≢◌, All, codes, filter}
 use Rattle.std.specs.List.{flat_map}
+use Rattle.kt_scene.specs.declared.reading.TheConstants.{MAX_TEXT}
 use Rattle.kt_world.specs.declared.step.Step.{Step}
 use Rattle.kt_world.specs.Cast.{Cast}
 use Rattle.kt_scene.specs.declared.scenario.WorkKind.TheVariants as kinds
@@ -37,7 +38,7 @@ remarks_lines (line ∷ later) h =
 
 -- the text of a journal is that of a scenario, whose ignored lines are the report's
 pub journal_is_scenario : (report : List ℕ) (cast : Cast) (steps : List Step) → IsPlay (play_of_steps cast steps)
-    → length (journal_text report cast steps) ≤ 1048576
+    → length (journal_text report cast steps) ≤ MAX_TEXT
     → IsScenario (journal_text report cast steps) (play_of_steps cast steps)
 journal_is_scenario report cast steps rules short =
     let play = play_of_steps cast steps in
@@ -57,7 +58,7 @@ journal_is_scenario report cast steps rules short =
     }
 
 pub journal_is_read : (report : List ℕ) (cast : Cast) (steps : List Step) → IsPlay (play_of_steps cast steps)
-    → length (journal_text report cast steps) ≤ 1048576
+    → length (journal_text report cast steps) ≤ MAX_TEXT
     → play_of kinds.Steps (journal_text report cast steps) ≡ Ok (play_of_steps cast steps)
 journal_is_read report cast steps rules short =
     wanted_is_read kinds.Steps (journal_text report cast steps) (play_of_steps cast steps) (journal_is_scenario report cast steps rules short) refl

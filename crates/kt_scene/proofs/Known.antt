@@ -1,9 +1,10 @@
 -- What is known of bytes after one write and another.
-use Rattle.std.proofs.Common.{◌≡◌, ℕ, ◌+◌, ◌<◌, length, arith, length-append, List, [], ◌++◌, take, drop, Option, Some, None, refl, sym, ap, ◌∙◌, subst}
+use Rattle.std.proofs.Common.{◌≡◌, ℕ, ◌+◌, ◌<◌, length, arith, length-append, List, ◌++◌, take, drop, Option, Some, None, sym, ap, ◌∙◌, subst}
 use Rattle.std.proofs.Common.{append_assoc}
 use Rattle.std.proofs.Math.Seq.{take-add}
 use Rattle.std.specs.Io.KnownBytes.{Keeps, Appends, Consumes}
-use Rattle.std.proofs.lemmas.List.{drop-drop, append-nil}
+use Rattle.std.proofs.lemmas.List.{drop-drop}
+use Rattle.kt_scene.specs.declared.reading.TheConstants.{MAX_TEXT}
 use Rattle.kt_scene.specs.Stream.{IsTooLong}
 
 pub appends_then : (a b c : Option (List ℕ)) (x y : List ℕ) → Appends a b x → Appends b c y → Appends a c (x ++ y)
@@ -17,10 +18,6 @@ appends_keeps None b c x p q = tt
 appends_keeps (Some xs) None c x p q = absurd p
 appends_keeps (Some xs) (Some ys) None x p q = absurd q
 appends_keeps (Some xs) (Some ys) (Some zs) x p q = q ∙ p
-
-pub appends_nothing : (a : Option (List ℕ)) → Appends a a []
-appends_nothing None = tt
-appends_nothing (Some xs) = sym (append-nil xs)
 
 -- n bytes were written, and these are left
 abbrev pub IsWritten : Option (List ℕ) → Option (List ℕ) → List ℕ → List ℕ → Type 0
@@ -36,14 +33,6 @@ written_more a b c bytes rest left m (n, so_far, is) more later = (
   later ∙ ap (drop m) is ∙ drop-drop m n bytes,
 )
 
--- the writer took nothing
-pub written_same : (a b c : Option (List ℕ)) (bytes rest left : List ℕ) → IsWritten a b bytes rest → Keeps b c → left ≡ rest → IsWritten a c bytes left
-written_same a b c bytes rest left (n, so_far, is) kept same = (n, appends_keeps a b c (take n bytes) so_far kept, same ∙ is)
-
-pub keeps_same : (a : Option (List ℕ)) → Keeps a a
-keeps_same None = tt
-keeps_same (Some xs) = refl
-
 pub consumes_then : (a b c : Option (List ℕ)) (x y : List ℕ) → Consumes a b x → Consumes b c y → Consumes a c (x ++ y)
 consumes_then None b c x y p q = tt
 consumes_then (Some xs) None c x y p q = absurd p
@@ -51,7 +40,7 @@ consumes_then (Some xs) (Some ys) None x y p q = absurd q
 consumes_then (Some xs) (Some ys) (Some zs) x y p q = p ∙ ap (λ (t : List ℕ). x ++ t) q ∙ sym (append_assoc x y zs)
 
 -- what was read and a read more are too much
-pub too_long : (a b c : Option (List ℕ)) (x y : List ℕ) → Consumes a b x → Consumes b c y → 1048576 < length x + length y → IsTooLong a
+pub too_long : (a b c : Option (List ℕ)) (x y : List ℕ) → Consumes a b x → Consumes b c y → MAX_TEXT < length x + length y → IsTooLong a
 too_long None b c x y p q much = tt
 too_long (Some xs) None c x y p q much = absurd p
 too_long (Some xs) (Some ys) None x y p q much = absurd q

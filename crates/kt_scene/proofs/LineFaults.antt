@@ -5,6 +5,8 @@ use Rattle.std.proofs.Common.{Ok, Err, refl, sym, ap, subst, ◌∙◌, arith}
 use Rattle.std.proofs.lemmas.Bool.{ltb-false, leb-false}
 use Rattle.std.proofs.lemmas.List.Elements.{filter-append}
 use Rattle.std.specs.Prelude.{◌≢◌, codes, filter}
+use Rattle.kt_script.specs.declared.script.TheConstants.{MAX_COMMANDS, MAX_VARIABLES}
+use Rattle.kt_tuple.specs.declared.node.TheConstants.{MAX_WORKERS}
 use Rattle.kt_script.specs.declared.command.Command.{Command}
 use Rattle.kt_script.specs.declared.script_error.ScriptError.TheVariants as refusals
 use Rattle.kt_script.specs.Command.{bindings}
@@ -143,16 +145,17 @@ module _ (kind : WorkKind) (before : List (List ℕ)) (line : List ℕ) (s : Ske
             (λ other again. let same : spelled ≡ other = cc in subst (λ (x : Spelled). keeps_rules (variables_of s.commands) x.command ≡ true) same kept));
       }
 
-      too_many : (counts few small : Bool) → has_count spelled.command ≡ counts → ltb (length s.commands) 200 ≡ few
-          → leb (length (with_bindings (variables_of s.commands) (bindings spelled.command))) 64 ≡ small
+      too_many : (counts few small : Bool) → has_count spelled.command ≡ counts → ltb (length s.commands) MAX_COMMANDS ≡ few
+          → leb (length (with_bindings (variables_of s.commands) (bindings spelled.command))) MAX_VARIABLES ≡ small
           → (counts && few && small) ≡ false → PassesLimit kind before line
       too_many true true true count room variables e = absurd cc
       too_many true true false count room variables e =
           let all : variables_of (s.commands ++ command ∷ []) ≡ with_bindings (variables_of s.commands) (bindings spelled.command) =
           variables_of-push s.commands command ∙ ap (with_bindings (variables_of s.commands)) (sym reads.bound) in
-          let many = leb-false (length (with_bindings (variables_of s.commands) (bindings spelled.command))) 64 variables in
+          let many = leb-false (length (with_bindings (variables_of s.commands) (bindings spelled.command))) MAX_VARIABLES variables in
           many_variables s.scripts s.commands command (there is) is_line (omega (arith, many, ap length all))
-      too_many true false small count room variables e = many_commands s.scripts s.commands command (there is) is_line (ltb-false (length s.commands) 200 room)
+      too_many true false small count room variables e =
+          many_commands s.scripts s.commands command (there is) is_line (ltb-false (length s.commands) MAX_COMMANDS room)
       too_many false few small count room variables e = outside s.scripts s.commands command (there is) is_line (reads.outside (rw count (by spelled.fits)))
         where
           by : (b : Bool) → (b && false) ≡ false
@@ -172,14 +175,14 @@ module _ (kind : WorkKind) (before : List (List ℕ)) (line : List ℕ) (s : Ske
           let same : faults.Limit ≡ fault = cc in
           subst (HasLowest kind before line) same
           (passed_limit rules
-          (too_many (has_count spelled.command) (ltb (length s.commands) 200)
-          (leb (length (with_bindings (variables_of s.commands) (bindings spelled.command))) 64) refl refl refl limits))
+          (too_many (has_count spelled.command) (ltb (length s.commands) MAX_COMMANDS)
+          (leb (length (with_bindings (variables_of s.commands) (bindings spelled.command))) MAX_VARIABLES) refl refl refl limits))
       by_limits true false false fault rules limits number e =
           let same : faults.Limit ≡ fault = cc in
           subst (HasLowest kind before line) same
           (passed_limit rules
-          (too_many (has_count spelled.command) (ltb (length s.commands) 200)
-          (leb (length (with_bindings (variables_of s.commands) (bindings spelled.command))) 64) refl refl refl limits))
+          (too_many (has_count spelled.command) (ltb (length s.commands) MAX_COMMANDS)
+          (leb (length (with_bindings (variables_of s.commands) (bindings spelled.command))) MAX_VARIABLES) refl refl refl limits))
       by_limits false within true fault rules limits number e =
           let same : faults.Variable ≡ fault = cc in
           subst (HasLowest kind before line) same (broken_rules rules)
@@ -226,10 +229,11 @@ module _ (kind : WorkKind) (before : List (List ℕ)) (line : List ℕ) (s : Ske
         let shape = read_shape line spelled read in
         by_fault is spelled read shape.0 shape.1 shape.2 (fault_behind s.commands spelled) fault refl e
 
-    ninth_worker : s.expected ≡ awaited.Commands → line ≡ codes "worker" → ltb (length s.scripts + 1) 8 ≡ false → HasLowest kind before line faults.Limit
-    ninth_worker is word test =
+    worker_too_many : s.expected ≡ awaited.Commands → line ≡ codes "worker" → ltb (length s.scripts + 1) MAX_WORKERS ≡ false
+        → HasLowest kind before line faults.Limit
+    worker_too_many is word test =
         let few = (place_at awaited.Commands s is h).2 in
-        let many = ltb-false (length s.scripts + 1) 8 test in
+        let many = ltb-false (length s.scripts + 1) MAX_WORKERS test in
         let none : (command : Command) → ¬ Spells line command =
         subst (λ (l : List ℕ). (command : Command) → ¬ Spells l command) (sym word) worker_spells_nothing in
         let verb : ¬ HasVerb line = subst (λ (l : List ℕ). ¬ HasVerb l) (sym word) worker_has_no_verb in
@@ -246,20 +250,21 @@ module _ (kind : WorkKind) (before : List (List ℕ)) (line : List ℕ) (s : Ske
             let never : spelled_of line ≡ Err faults.Word = ap spelled_of is_word in
             absurd cc
 
-    worker_by_count : (b : Bool) (fault : SceneError) → s.expected ≡ awaited.Commands → line ≡ codes "worker" → ltb (length s.scripts + 1) 8 ≡ b
+    worker_by_count : (b : Bool) (fault : SceneError) → s.expected ≡ awaited.Commands → line ≡ codes "worker" → ltb (length s.scripts + 1) MAX_WORKERS ≡ b
         → cond b (Ok (closed awaited.Commands s)) (Err faults.Limit) ≡ Err fault
         → HasLowest kind before line fault
     worker_by_count true fault is word test e = absurd cc
     worker_by_count false fault is word test e =
         let same : faults.Limit ≡ fault = cc in
-        subst (HasLowest kind before line) same (ninth_worker is word test)
+        subst (HasLowest kind before line) same (worker_too_many is word test)
 
     script_by_tests : (is_worker is_work : Bool) (fault : SceneError) → s.expected ≡ awaited.Commands → is_word line (codes "worker") ≡ is_worker
         → is_word line (work_word (kind_of s.work)) ≡ is_work
-        → cond is_worker (cond (ltb (length s.scripts + 1) 8) (Ok (closed awaited.Commands s)) (Err faults.Limit))
+        → cond is_worker (cond (ltb (length s.scripts + 1) MAX_WORKERS) (Ok (closed awaited.Commands s)) (Err faults.Limit))
         (cond is_work (Ok (closed awaited.Work s)) (with_command s (spelled_of line))) ≡ Err fault
         → HasLowest kind before line fault
-    script_by_tests true is_work fault is worker work e = worker_by_count (ltb (length s.scripts + 1) 8) fault is (word_is line (codes "worker") worker) refl e
+    script_by_tests true is_work fault is worker work e =
+        worker_by_count (ltb (length s.scripts + 1) MAX_WORKERS) fault is (word_is line (codes "worker") worker) refl e
     script_by_tests false true fault is worker work e = absurd cc
     script_by_tests false false fault is worker work e = command_by_read (spelled_of line) fault is worker work refl e
 

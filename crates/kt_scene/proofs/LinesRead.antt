@@ -5,6 +5,7 @@ use Rattle.std.proofs.lemmas.Bool.{lt-ltb, le-leb, and_from}
 use Rattle.std.proofs.lemmas.List.Elements.{All-head, All-tail}
 use Rattle.std.specs.Prelude.{codes, decimal, All}
 use Rattle.std.specs.List.{flat_map}
+use Rattle.kt_tuple.specs.declared.node.TheConstants.{MAX_WORKERS, MAX_SHARDS}
 use Rattle.kt_script.specs.declared.command.Command.{Command}
 use Rattle.kt_script.specs.declared.command.Command.TheVariants.{Ask, Set, Unless}
 use Rattle.kt_script.specs.declared.command.Operation.TheVariants.{Out, In, Rd, Inp, Rdp}
@@ -87,10 +88,10 @@ module _ (work : Work) (shards : ℕ) where
         subst To (append_assoc before (command ∷ []) later) behind,
       )
 
-  worker_line : (done : List (List Command)) (current : List Command) → length done + 1 < 8
+  worker_line : (done : List (List Command)) (current : List Command) → length done + 1 < MAX_WORKERS
       → line_read (in_worker work shards done current) (codes "worker") ≡ Ok (in_worker work shards (done ++ current ∷ []) [])
   worker_line done current few =
-      let fewer : ltb (length done + 1) 8 ≡ true = lt-ltb (length done + 1) 8 few in
+      let fewer : ltb (length done + 1) MAX_WORKERS ≡ true = lt-ltb (length done + 1) MAX_WORKERS few in
       rw fewer refl
 
   -- the line before the work
@@ -104,7 +105,7 @@ module _ (work : Work) (shards : ℕ) where
       by_kind (Faults lines) done current = refl
 
   -- the workers behind this one, and the line before the work
-  scripts_lead : (later done : List (List Command)) (current : List Command) → length done + length later < 8 → All IsScript later
+  scripts_lead : (later done : List (List Command)) (current : List Command) → length done + length later < MAX_WORKERS → All IsScript later
       → All (All IsCommand) later
       → LeadOn (in_worker work shards done current) (flat_map script_lines later ++ work_word (kind_of work) ∷ [])
       (at_work work shards (done ++ current ∷ later))
@@ -112,7 +113,7 @@ module _ (work : Work) (shards : ℕ) where
   scripts_lead (script ∷ more) done current few follow h =
       let next = done ++ current ∷ [] in
       let one = commands_lead next script [] (All-head (All IsCommand) script more h) (All-head IsScript script more follow) in
-      let count : length (done ++ current ∷ []) + length more < 8 = omega (arith, few, length-append done (current ∷ [])) in
+      let count : length (done ++ current ∷ []) + length more < MAX_WORKERS = omega (arith, few, length-append done (current ∷ [])) in
       let others = scripts_lead more next script count (All-tail IsScript script more follow) (All-tail (All IsCommand) script more h) in
       let To : List (List Command) → Type 0 =
       λ l. LeadOn (in_worker work shards next []) (map command_text script ++ (flat_map script_lines more ++ work_word (kind_of work) ∷ []))
@@ -200,19 +201,20 @@ at_shards work = record (nothing_with work) { expected = awaited.Shards }
 abbrev pub at_workers : Work → ℕ → Sketch
 at_workers work shards = record (nothing_with work) { expected = awaited.Workers; shards = shards }
 
-count_read : (shards : ℕ) → shards ≤ 8 → count_of (codes "shards " ++ decimal shards) ≡ Some (Some shards)
+count_read : (shards : ℕ) → shards ≤ MAX_SHARDS → count_of (codes "shards " ++ decimal shards) ≡ Some (Some shards)
 count_read shards few =
     let alone = ap (λ (t : List ℕ). count_of (codes "shards " ++ t)) (sym (append-nil (decimal shards))) in
     alone ∙ rw (number_read shards [] (omega (arith, few)) refl) refl
 
-pub shards_line : (work : Work) (shards : ℕ) → 1 ≤ shards → shards ≤ 8
+pub shards_line : (work : Work) (shards : ℕ) → 1 ≤ shards → shards ≤ MAX_SHARDS
     → line_read (at_shards work) (codes "shards " ++ decimal shards) ≡ Ok (at_workers work shards)
 shards_line work shards some few =
-    let fits : (leb 1 shards && leb shards 8) ≡ true = and_from (leb 1 shards) (leb shards 8) (le-leb 1 shards some) (le-leb shards 8 few) in
+    let fits : (leb 1 shards && leb shards MAX_SHARDS) ≡ true =
+    and_from (leb 1 shards) (leb shards MAX_SHARDS) (le-leb 1 shards some) (le-leb shards MAX_SHARDS few) in
     rw (count_read shards few, fits) refl
 
 -- the title, the number of shards and the first worker
-head_leads : (work : Work) (shards : ℕ) → 1 ≤ shards → shards ≤ 8
+head_leads : (work : Work) (shards : ℕ) → 1 ≤ shards → shards ≤ MAX_SHARDS
     → LeadOn (nothing_with work) (codes "linda-kt 1" ∷ (codes "shards " ++ decimal shards) ∷ codes "worker" ∷ []) (in_worker work shards [] [])
 head_leads work shards some few = (at_shards work, refl, (at_workers work shards, shards_line work shards some few, (in_worker work shards [] [], refl, refl)))
 

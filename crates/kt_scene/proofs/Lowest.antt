@@ -1,6 +1,7 @@
 -- A fault is the line's lowest where it has none of the lower numbers.
 use Rattle.std.proofs.Common.{◌≡◌, ℕ, ◌≤◌, ◌⊎◌, inl, inr, true, List, Ok, sym, subst, ◌∙◌, arith}
 use Rattle.std.specs.Prelude.{◌≢◌, codes}
+use Rattle.kt_world.specs.declared.step.TheConstants.{MAX_STEPS}
 use Rattle.kt_script.specs.declared.command.Command.{Command}
 use Rattle.kt_script.specs.Variables.{variables_of}
 use Rattle.kt_script.specs.Rules.{keeps_rules}
@@ -190,7 +191,7 @@ module _ (kind : WorkKind) (told : List (List ℕ)) (line : List ℕ) (s : Sketc
         let expected = variable_stage h in
         absurd cc
 
-    pub work_no_limit : ((fault : Fault) → SpellsFault line fault → fault.after ≤ 100000) → ¬ PassesLimit kind told line
+    pub work_no_limit : ((fault : Fault) → SpellsFault line fault → fault.after ≤ MAX_STEPS) → ¬ PassesLimit kind told line
     work_no_limit soon (too_late fault same at spelled late) =
         let few = soon fault spelled in
         omega (arith, few, late)

@@ -8,6 +8,7 @@ use Rattle.std.specs.Int.{w64}
 use Rattle.std.specs.Int.RustNames.{FitsSigned}
 use Rattle.std.specs.Option.{option_map}
 use Rattle.std.specs.Str.Parse.{digits_value, signed_digits_value}
+use Rattle.kt_tuple.specs.declared.node.TheConstants.{MAX_SHARDS}
 use Rattle.kt_tuple.specs.Grammar.{IsInt, just_zero, positive, negative}
 use Rattle.kt_tuple.specs.Reading.{begins_with_digit, int_at, int_of}
 use Rattle.kt_tuple.proofs.Shared.{int_of_some, no_sign, int_read, int_takes, int_range, range_of_int}
@@ -140,15 +141,15 @@ abbrev IsShardsFault : List ℕ → SceneError → Type 0
 IsShardsFault line fault =
     ((fault ≡ faults.Header) × ((n : ℕ) → ¬ SpellsShards line n)) ⊎ ((fault ≡ faults.Limit) × (n : ℕ) × SpellsShards line n × (¬ AreShards n))
 
-not_few : (n : ℕ) → (leb 1 n && leb n 8) ≡ false → ¬ AreShards n
+not_few : (n : ℕ) → (leb 1 n && leb n MAX_SHARDS) ≡ false → ¬ AreShards n
 not_few n test are =
-    let fits : (leb 1 n && leb n 8) ≡ true = and_from (leb 1 n) (leb n 8) (le-leb 1 n are.0) (le-leb n 8 are.1) in
+    let fits : (leb 1 n && leb n MAX_SHARDS) ≡ true = and_from (leb 1 n) (leb n MAX_SHARDS) (le-leb 1 n are.0) (le-leb n MAX_SHARDS are.1) in
     absurd cc
 
 not_so_many : (n : ℕ) → 2 ^ 63 ≤ n → ¬ AreShards n
 not_so_many n much are = omega (arith, much, are.1)
 
-few_by_test : (b : Bool) (line : List ℕ) (fault : SceneError) (n : ℕ) → HasCount line (Some n) → (leb 1 n && leb n 8) ≡ b
+few_by_test : (b : Bool) (line : List ℕ) (fault : SceneError) (n : ℕ) → HasCount line (Some n) → (leb 1 n && leb n MAX_SHARDS) ≡ b
     → cond {A = Result ℕ SceneError} b (Ok n) (Err faults.Limit) ≡ Err fault → IsShardsFault line fault
 few_by_test true line fault n h test e = absurd cc
 few_by_test false line fault n h test e = inr (cc, n, (h.number, h.is, number_known h.number n h.is h.known, h.parts), not_few n test)
@@ -166,9 +167,9 @@ fault_by_count (Some None) line fault is e =
     let h = count_shape line None is in
     let much = number_huge h.number h.is h.known in
     inr (cc, digits_value 10 h.number, (h.number, h.is, refl, h.parts), not_so_many (digits_value 10 h.number) much)
-fault_by_count (Some (Some n)) line fault is e = few_by_test (leb 1 n && leb n 8) line fault n (count_shape line (Some n) is) refl e
+fault_by_count (Some (Some n)) line fault is e = few_by_test (leb 1 n && leb n MAX_SHARDS) line fault n (count_shape line (Some n) is) refl e
 
--- the line of the shards is refused where it spells no number, and where the number is not from 1 to 8
+-- the line of the shards is refused where it spells no number, and where the number is not from 1 to `MAX_SHARDS`
 pub shards_fault : (line : List ℕ) (fault : SceneError) → shards_of line ≡ Err fault
     → ((fault ≡ faults.Header) × ((n : ℕ) → ¬ SpellsShards line n)) ⊎ ((fault ≡ faults.Limit) × (n : ℕ) × SpellsShards line n × (¬ AreShards n))
 shards_fault line fault e = fault_by_count (count_of line) line fault refl e

@@ -4,6 +4,7 @@ use Rattle.std.proofs.Common.{append_assoc, arith}
 use Rattle.std.proofs.lemmas.Bool.{le-ltb}
 use Rattle.std.proofs.lemmas.List.Elements.{All-push}
 use Rattle.std.specs.Prelude.{◌≢◌, All, codes, filter}
+use Rattle.kt_scene.specs.declared.reading.TheConstants.{MAX_TEXT}
 use Rattle.kt_script.specs.Rules.{IsScript}
 use Rattle.kt_world.specs.Cast.{Cast, IsCast}
 use Rattle.kt_scene.specs.declared.scenario.WorkKind.{WorkKind}
@@ -119,7 +120,7 @@ other_is_refused kind text play h differ =
     ap (λ (l : List (List ℕ)). read_from nothing 1 l (lines_of text).1) lines
     ∙ leads_fail parts.before nothing scene.sketch 1 word (parts.later ++ codes "end" ∷ []) (lines_of text).1 faults.Word leads refused in
     let found = found_on_line text parts.before word (parts.later ++ codes "end" ∷ []) lines in
-    let fits : ltb 1048576 (length text) ≡ false = le-ltb 1048576 (length text) h.short in
+    let fits : ltb MAX_TEXT (length text) ≡ false = le-ltb MAX_TEXT (length text) h.short in
     let place : IsWordOfWork text (1 + length parts.before) (kind_of play.work) = record {
       place = record { before = parts.before; line = word; rest = _; each = found.1; parts = found.0; number = omega arith };
       is = refl;

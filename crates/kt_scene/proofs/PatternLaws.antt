@@ -3,6 +3,7 @@ use Rattle.std.proofs.Common.{◌≡◌, ℕ, zero, suc, ◌≤◌, List, [], �
 use Rattle.std.proofs.Common.{append_assoc, append-nil, arith}
 use Rattle.std.proofs.lemmas.List.Elements.{All-nil, All-cons, All-head, All-tail}
 use Rattle.std.specs.Prelude.{All}
+use Rattle.kt_tuple.specs.declared.tuple.TheConstants.{MAX_PLACES}
 use Rattle.kt_tuple.specs.Spelling.{separated}
 use Rattle.kt_tuple.specs.Matching.{HasArity}
 use Rattle.kt_tuple.specs.Reading.{after_place}
@@ -70,8 +71,8 @@ slots_from_taken (suc n) text places e =
 -- places in parentheses that are read are spelled so
 pub slots_taken : (text : List ℕ) (places : List Slot) → slots_in text ≡ Some places → (text ≡ pattern_text places) × IsPattern places
 slots_taken text places e =
-    let p = both_read (behind text (40 ∷ [])) (slots_from 8) places e in
-    let h = slots_from_taken 8 p.0 places p.2 in
+    let p = both_read (behind text (40 ∷ [])) (slots_from MAX_PLACES) places e in
+    let h = slots_from_taken MAX_PLACES p.0 places p.2 in
     let arity : HasArity places = (h.some, h.few) in
     (behind_taken text (40 ∷ []) p.0 p.1 ∙ ap (λ (t : List ℕ). 40 ∷ t) h.text_is, (arity, h.all))
 

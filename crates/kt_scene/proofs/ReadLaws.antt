@@ -5,6 +5,7 @@ use Rattle.std.proofs.lemmas.Bool.{ltb-false}
 use Rattle.std.proofs.lemmas.List.Elements.{All-nil, All-cons, All-head, All-tail, filter-append}
 use Rattle.std.specs.Prelude.{codes, All, filter}
 use Rattle.std.specs.List.{flat_map}
+use Rattle.kt_scene.specs.declared.reading.TheConstants.{MAX_TEXT}
 use Rattle.kt_script.specs.Rules.{IsScript}
 use Rattle.kt_scene.specs.declared.fault.SceneError.TheVariants as faults
 use Rattle.kt_scene.specs.declared.draft.Expected.{Expected}
@@ -150,7 +151,7 @@ all_in_front P (x ∷ xs) ys h = All-cons P x xs (All-head P x (xs ++ ys) h) (al
 abbrev pub IsWanted : WorkKind → List ℕ → Play → Type 0
 IsWanted kind text play = IsScenario text play × (kind_of play.work ≡ kind)
 
-spelled_whole : (kind : WorkKind) (text : List ℕ) (t : Sketch) → length text ≤ 1048576
+spelled_whole : (kind : WorkKind) (text : List ℕ) (t : Sketch) → length text ≤ MAX_TEXT
     → read_from (nothing_read kind) 1 (lines_of text).0 (lines_of text).1 ≡ Ok t → IsWanted kind text (play_with t)
 spelled_whole kind text t short e =
     let leads = read_leads (nothing_read kind) 1 (lines_of text).0 (lines_of text).1 t e in
@@ -169,10 +170,10 @@ spelled_whole kind text t short e =
     } in
     (scenario, leads_keep (lines_of text).0 (nothing_read kind) t leads.0 ∙ none_kind kind)
 
-by_length : (b : Bool) (kind : WorkKind) (text : List ℕ) (t : Sketch) → ltb 1048576 (length text) ≡ b
+by_length : (b : Bool) (kind : WorkKind) (text : List ℕ) (t : Sketch) → ltb MAX_TEXT (length text) ≡ b
     → cond b (Err (1, faults.Limit)) (read_from (nothing_read kind) 1 (lines_of text).0 (lines_of text).1) ≡ Ok t → IsWanted kind text (play_with t)
 by_length true kind text t long e = absurd cc
-by_length false kind text t short e = spelled_whole kind text t (ltb-false 1048576 (length text) short) e
+by_length false kind text t short e = spelled_whole kind text t (ltb-false MAX_TEXT (length text) short) e
 
 by_sketch : (r : Result Sketch Fault) (kind : WorkKind) (text : List ℕ) (play : Play) → sketch_of kind text ≡ r → played r ≡ Ok play
     → IsWanted kind text play
@@ -180,7 +181,7 @@ by_sketch (Err fault) kind text play is e = absurd cc
 by_sketch (Ok t) kind text play is e =
     let same : play_with t ≡ play = cc in
     let P : Play → Type 0 = λ p. IsWanted kind text p in
-    subst P same (by_length (ltb 1048576 (length text)) kind text t refl is)
+    subst P same (by_length (ltb MAX_TEXT (length text)) kind text t refl is)
 
 -- what a text is read as is the scenario that it spells, of the kind that is wanted
 pub read_is_wanted : (kind : WorkKind) (text : List ℕ) (play : Play) → play_of kind text ≡ Ok play → IsWanted kind text play

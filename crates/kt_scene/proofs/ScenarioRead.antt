@@ -3,6 +3,7 @@ use Rattle.std.proofs.Common.{◌≡◌, ℕ, Bool, true, false, not, cond, ltb,
 use Rattle.std.proofs.lemmas.Bool.{le-ltb}
 use Rattle.std.proofs.lemmas.List.Elements.{All-nil, All-cons, All-push}
 use Rattle.std.specs.Prelude.{◌≢◌, codes, filter}
+use Rattle.kt_scene.specs.declared.reading.TheConstants.{MAX_TEXT}
 use Rattle.kt_scene.specs.declared.draft.Expected.TheVariants as awaited
 use Rattle.kt_scene.specs.declared.scenario.WorkKind.{WorkKind}
 use Rattle.kt_scene.specs.Lines.{Sketch, nothing_read, is_ignored, is_ended, line_read}
@@ -70,7 +71,7 @@ lines_read text play h =
 -- the text of a scenario is read as it, where its kind is wanted
 pub spelled_is_read : (text : List ℕ) (play : Play) → IsScenario text play → play_of (kind_of play.work) text ≡ Ok play
 spelled_is_read text play h =
-    let fits : ltb 1048576 (length text) ≡ false = le-ltb 1048576 (length text) h.short in
+    let fits : ltb MAX_TEXT (length text) ≡ false = le-ltb MAX_TEXT (length text) h.short in
     rw (fits, lines_read text play h) refl
 
 pub wanted_is_read : (kind : WorkKind) (text : List ℕ) (play : Play) → IsScenario text play → kind_of play.work ≡ kind → play_of kind text ≡ Ok play

@@ -10,6 +10,7 @@ use Rattle.std.specs.Char.{is_ascii_digit}
 use Rattle.std.specs.Fmt.{signed_decimal}
 use Rattle.std.specs.List.{flat_map, list_all}
 use Rattle.std.specs.Str.{all_ascii_digits}
+use Rattle.kt_world.specs.declared.step.TheConstants.{MAX_STEPS}
 use Rattle.kt_tuple.specs.declared.node.NodeId.{NodeId}
 use Rattle.kt_tuple.specs.declared.node.NodeId.TheVariants as nodes
 use Rattle.kt_tuple.specs.declared.value.Value.{Value}
@@ -177,7 +178,7 @@ kind_shown : (kind : FaultKind) → AreShown (kind_word kind)
 kind_shown kinds_of_faults.Fail = refl
 kind_shown kinds_of_faults.Check = refl
 
-pub fault_shown : (fault : Fault) → IsStepNode fault.node → fault.after ≤ 100000 → AreShown (fault_text fault)
+pub fault_shown : (fault : Fault) → IsStepNode fault.node → fault.after ≤ MAX_STEPS → AreShown (fault_text fault)
 fault_shown fault said soon =
     let word = kind_word fault.kind in
     let node = node_text fault.node in

@@ -8,6 +8,7 @@ use Rattle.std.specs.Char.{is_ascii_digit}
 use Rattle.std.specs.List.{list_all}
 use Rattle.std.specs.Option.{option_map}
 use Rattle.std.specs.Str.{all_ascii_digits}
+use Rattle.kt_script.specs.declared.name.TheConstants.{MAX_NAME}
 use Rattle.kt_tuple.specs.declared.value.Value.{Value}
 use Rattle.kt_tuple.specs.declared.value.Value.TheVariants.{Int, Str}
 use Rattle.kt_tuple.specs.declared.value.Kind.{Kind}
@@ -38,9 +39,9 @@ pub record IsNamed (name : List ℕ) : Type 0 where
 
 pub name_is : (name : List ℕ) → IsName name → IsNamed name
 name_is name h =
-    let a = and_parts (begins_with_letter name && nat_le (length name) 16 && list_all is_name_character name) (not (is_reserved name)) h in
-    let b = and_parts (begins_with_letter name && nat_le (length name) 16) (list_all is_name_character name) a.0 in
-    record { first = (and_parts (begins_with_letter name) (nat_le (length name) 16) b.0).0; all = b.1 }
+    let a = and_parts (begins_with_letter name && nat_le (length name) MAX_NAME && list_all is_name_character name) (not (is_reserved name)) h in
+    let b = and_parts (begins_with_letter name && nat_le (length name) MAX_NAME) (list_all is_name_character name) a.0 in
+    record { first = (and_parts (begins_with_letter name) (nat_le (length name) MAX_NAME) b.0).0; all = b.1 }
 
 length_of_name : (name rest : List ℕ) → list_all is_name_character name ≡ true → goes_on_as_name rest ≡ false → name_length (name ++ rest) ≡ length name
 length_of_name [] [] all end = refl

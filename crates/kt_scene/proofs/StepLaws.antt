@@ -3,6 +3,7 @@ use Rattle.std.proofs.Common.{◌≡◌, ℕ, ◌≤◌, Bool, true, false, cond
 use Rattle.std.proofs.lemmas.Bool.{eqb-true}
 use Rattle.std.specs.Prelude.{codes, decimal}
 use Rattle.std.specs.Option.{option_map}
+use Rattle.kt_scene.specs.declared.line.TheConstants.{MAX_NODE_NUMBER, MAX_MATCH}
 use Rattle.kt_tuple.specs.declared.node.NodeId.{NodeId}
 use Rattle.kt_tuple.specs.declared.node.NodeId.TheVariants as nodes
 use Rattle.kt_world.specs.declared.step.Step.{Step}
@@ -20,27 +21,27 @@ abbrev IsNodeRead : List ℕ → NodeId × List ℕ → Type 0
 IsNodeRead text read = (text ≡ node_text read.0 ++ read.1) × IsStepNode read.0
 
 worker_taken : (c : ℕ) (cs : List ℕ) (read : NodeId × List ℕ) → c ≡ 119
-    → option_map (λ (n : ℕ × List ℕ). (nodes.Worker n.0, n.1)) (number_within 1 99 cs) ≡ Some read → IsNodeRead (c ∷ cs) read
+    → option_map (λ (n : ℕ × List ℕ). (nodes.Worker n.0, n.1)) (number_within 1 MAX_NODE_NUMBER cs) ≡ Some read → IsNodeRead (c ∷ cs) read
 worker_taken c cs read is e =
-    let n = mapped (λ (n : ℕ × List ℕ). (nodes.Worker n.0, n.1)) (number_within 1 99 cs) read e in
-    let h = number_within_taken 1 99 cs n.0.1 n.0.0 n.1 in
+    let n = mapped (λ (n : ℕ × List ℕ). (nodes.Worker n.0, n.1)) (number_within 1 MAX_NODE_NUMBER cs) read e in
+    let h = number_within_taken 1 MAX_NODE_NUMBER cs n.0.1 n.0.0 n.1 in
     subst (IsNodeRead (c ∷ cs)) n.2 (ap (λ (k : ℕ). k ∷ cs) is ∙ ap (λ (t : List ℕ). 119 ∷ t) h.0, (h.1, h.2))
 
 shard_taken : (c : ℕ) (cs : List ℕ) (read : NodeId × List ℕ) → c ≡ 115
-    → option_map (λ (n : ℕ × List ℕ). (nodes.Shard n.0, n.1)) (number_within 1 99 cs) ≡ Some read → IsNodeRead (c ∷ cs) read
+    → option_map (λ (n : ℕ × List ℕ). (nodes.Shard n.0, n.1)) (number_within 1 MAX_NODE_NUMBER cs) ≡ Some read → IsNodeRead (c ∷ cs) read
 shard_taken c cs read is e =
-    let n = mapped (λ (n : ℕ × List ℕ). (nodes.Shard n.0, n.1)) (number_within 1 99 cs) read e in
-    let h = number_within_taken 1 99 cs n.0.1 n.0.0 n.1 in
+    let n = mapped (λ (n : ℕ × List ℕ). (nodes.Shard n.0, n.1)) (number_within 1 MAX_NODE_NUMBER cs) read e in
+    let h = number_within_taken 1 MAX_NODE_NUMBER cs n.0.1 n.0.0 n.1 in
     subst (IsNodeRead (c ∷ cs)) n.2 (ap (λ (k : ℕ). k ∷ cs) is ∙ ap (λ (t : List ℕ). 115 ∷ t) h.0, (h.1, h.2))
 
 by_shard : (b : Bool) (c : ℕ) (cs : List ℕ) (read : NodeId × List ℕ) → eqb c 115 ≡ b
-    → cond b (option_map (λ (n : ℕ × List ℕ). (nodes.Shard n.0, n.1)) (number_within 1 99 cs)) None ≡ Some read → IsNodeRead (c ∷ cs) read
+    → cond b (option_map (λ (n : ℕ × List ℕ). (nodes.Shard n.0, n.1)) (number_within 1 MAX_NODE_NUMBER cs)) None ≡ Some read → IsNodeRead (c ∷ cs) read
 by_shard true c cs read is e = shard_taken c cs read (eqb-true c 115 is) e
 by_shard false c cs read is e = absurd cc
 
 by_worker : (b : Bool) (c : ℕ) (cs : List ℕ) (read : NodeId × List ℕ) → eqb c 119 ≡ b
-    → cond b (option_map (λ (n : ℕ × List ℕ). (nodes.Worker n.0, n.1)) (number_within 1 99 cs))
-    (cond (eqb c 115) (option_map (λ (n : ℕ × List ℕ). (nodes.Shard n.0, n.1)) (number_within 1 99 cs)) None) ≡ Some read
+    → cond b (option_map (λ (n : ℕ × List ℕ). (nodes.Worker n.0, n.1)) (number_within 1 MAX_NODE_NUMBER cs))
+    (cond (eqb c 115) (option_map (λ (n : ℕ × List ℕ). (nodes.Shard n.0, n.1)) (number_within 1 MAX_NODE_NUMBER cs)) None) ≡ Some read
     → IsNodeRead (c ∷ cs) read
 by_worker true c cs read is e = worker_taken c cs read (eqb-true c 119 is) e
 by_worker false c cs read is e = by_shard (eqb c 115) c cs read refl e
@@ -113,7 +114,7 @@ serve_line shard worker place words second third first more last =
 
 serve_held : (shard worker : NodeId) (place : ℕ) (words second third : List ℕ) (step : Step) → (words ≡ node_text shard ++ 32 ∷ second) × IsStepNode shard
     → (second ≡ node_text worker ++ 32 ∷ third) × IsStepNode worker
-    → third ≡ decimal place → place ≤ 99999 → Serve shard worker place ≡ step → IsStepLine (codes "serve " ++ words) step
+    → third ≡ decimal place → place ≤ MAX_MATCH → Serve shard worker place ≡ step → IsStepLine (codes "serve " ++ words) step
 serve_held shard worker place words second third step first more last most is =
     subst (IsStepLine (codes "serve " ++ words)) is (serve_line shard worker place words second third first.0 more.0 last, (first.1, more.1, most))
 
@@ -122,13 +123,13 @@ number_alone text rest n parts nothing = parts ∙ ap (λ (t : List ℕ). decima
 
 serve_taken : (words : List ℕ) (step : Step) → serve_of words ≡ Some step → IsStepLine (codes "serve " ++ words) step
 serve_taken words step e =
-    let s = both_read (node_before_space words) (λ (s : NodeId × List ℕ). node_before_space s.1 >>= λ w. number_within 0 99999 w.1
+    let s = both_read (node_before_space words) (λ (s : NodeId × List ℕ). node_before_space s.1 >>= λ w. number_within 0 MAX_MATCH w.1
     >>= λ k. ended (Serve s.0 w.0 k.0, k.1)) step e in
-    let w = both_read (node_before_space s.0.1) (λ (w : NodeId × List ℕ). number_within 0 99999 w.1 >>= λ k. ended (Serve s.0.0 w.0 k.0, k.1)) step s.2 in
-    let k = both_read (number_within 0 99999 w.0.1) (λ (k : ℕ × List ℕ). ended (Serve s.0.0 w.0.0 k.0, k.1)) step w.2 in
+    let w = both_read (node_before_space s.0.1) (λ (w : NodeId × List ℕ). number_within 0 MAX_MATCH w.1 >>= λ k. ended (Serve s.0.0 w.0 k.0, k.1)) step s.2 in
+    let k = both_read (number_within 0 MAX_MATCH w.0.1) (λ (k : ℕ × List ℕ). ended (Serve s.0.0 w.0.0 k.0, k.1)) step w.2 in
     let shard = before_space_taken words s.0.1 s.0.0 s.1 in
     let worker = before_space_taken s.0.1 w.0.1 w.0.0 w.1 in
-    let place = number_within_taken 0 99999 w.0.1 k.0.1 k.0.0 k.1 in
+    let place = number_within_taken 0 MAX_MATCH w.0.1 k.0.1 k.0.0 k.1 in
     let end = ended_read (Serve s.0.0 w.0.0 k.0.0) k.0.1 step k.2 in
     let third : w.0.1 ≡ decimal k.0.0 = number_alone w.0.1 k.0.1 k.0.0 place.0 end.0 in
     serve_held s.0.0 w.0.0 k.0.0 words s.0.1 w.0.1 step shard worker third place.2 end.1

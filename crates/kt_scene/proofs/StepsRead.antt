@@ -1,6 +1,7 @@
 -- The text of a step is read as that step.
 use Rattle.std.proofs.Common.{◌≡◌, ℕ, ◌≤◌, false, List, [], ◌∷◌, ◌++◌, Some, refl, sym, ap, ◌∙◌, append-nil, arith}
 use Rattle.std.specs.Prelude.{decimal}
+use Rattle.kt_scene.specs.declared.line.TheConstants.{MAX_NODE_NUMBER, MAX_MATCH}
 use Rattle.kt_tuple.specs.declared.node.NodeId.{NodeId}
 use Rattle.kt_tuple.specs.declared.node.NodeId.TheVariants as nodes
 use Rattle.kt_tuple.specs.Reading.{begins_with_digit}
@@ -18,8 +19,8 @@ use Rattle.kt_scene.proofs.StepLaws.{serve_text}
 -- a node is read up to its last digit
 pub node_read : (node : NodeId) (rest : List ℕ) → IsStepNode node → begins_with_digit rest ≡ false → node_at (node_text node ++ rest) ≡ Some (node, rest)
 unfolding node_at
-node_read (nodes.Worker n) rest h end = rw (number_within_read 1 99 n rest h.0 h.1 (omega arith) end) refl
-node_read (nodes.Shard n) rest h end = rw (number_within_read 1 99 n rest h.0 h.1 (omega arith) end) refl
+node_read (nodes.Worker n) rest h end = rw (number_within_read 1 MAX_NODE_NUMBER n rest h.0 h.1 (omega arith) end) refl
+node_read (nodes.Shard n) rest h end = rw (number_within_read 1 MAX_NODE_NUMBER n rest h.0 h.1 (omega arith) end) refl
 
 node_read_alone : (node : NodeId) → IsStepNode node → node_at (node_text node) ≡ Some (node, [])
 node_read_alone node h = ap node_at (sym (append-nil (node_text node))) ∙ node_read node [] h refl
@@ -33,11 +34,11 @@ step_by_read make node h = rw (node_read_alone node h) refl
 deliver_read : (from to : NodeId) → IsStepNode from → IsStepNode to → deliver_of (node_text from ++ 32 ∷ node_text to) ≡ Some (Deliver from to)
 deliver_read from to h k = rw (before_space_read from (node_text to) h, node_read_alone to k) refl
 
-place_read_alone : (place : ℕ) → place ≤ 99999 → number_within 0 99999 (decimal place) ≡ Some (place, [])
+place_read_alone : (place : ℕ) → place ≤ MAX_MATCH → number_within 0 MAX_MATCH (decimal place) ≡ Some (place, [])
 place_read_alone place h =
-    ap (number_within 0 99999) (sym (append-nil (decimal place))) ∙ number_within_read 0 99999 place [] (omega arith) h (omega arith) refl
+    ap (number_within 0 MAX_MATCH) (sym (append-nil (decimal place))) ∙ number_within_read 0 MAX_MATCH place [] (omega arith) h (omega arith) refl
 
-serve_read : (shard worker : NodeId) (place : ℕ) → IsStepNode shard → IsStepNode worker → place ≤ 99999
+serve_read : (shard worker : NodeId) (place : ℕ) → IsStepNode shard → IsStepNode worker → place ≤ MAX_MATCH
     → serve_of (node_text shard ++ 32 ∷ (node_text worker ++ 32 ∷ decimal place)) ≡ Some (Serve shard worker place)
 serve_read shard worker place h k most =
     rw (before_space_read shard (node_text worker ++ 32 ∷ decimal place) h, before_space_read worker (decimal place) k, place_read_alone place most) refl

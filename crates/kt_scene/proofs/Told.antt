@@ -5,6 +5,7 @@ use Rattle.std.proofs.lemmas.List.{map-append}
 use Rattle.std.proofs.lemmas.List.Elements.{All-nil}
 use Rattle.std.specs.Prelude.{codes, decimal, All}
 use Rattle.std.specs.List.{flat_map}
+use Rattle.kt_tuple.specs.declared.node.TheConstants.{MAX_WORKERS}
 use Rattle.kt_script.specs.declared.command.Command.{Command}
 use Rattle.kt_script.specs.Rules.{IsScript}
 use Rattle.kt_world.specs.declared.step.Step.{Step}
@@ -50,9 +51,9 @@ abbrev pub IsAt : Expected → Sketch → Type 0
 IsAt awaited.Title s = IsBare s
 IsAt awaited.Shards s = IsBare s
 IsAt awaited.Workers s = AreShards s.shards × IsBare s
-IsAt awaited.Commands s = IsNoWork s.work × AreShards s.shards × (length s.scripts < 8)
-IsAt awaited.Work s = AreShards s.shards × (1 ≤ length s.scripts) × (length s.scripts ≤ 8)
-IsAt awaited.Ended s = AreShards s.shards × (1 ≤ length s.scripts) × (length s.scripts ≤ 8)
+IsAt awaited.Commands s = IsNoWork s.work × AreShards s.shards × (length s.scripts < MAX_WORKERS)
+IsAt awaited.Work s = AreShards s.shards × (1 ≤ length s.scripts) × (length s.scripts ≤ MAX_WORKERS)
+IsAt awaited.Ended s = AreShards s.shards × (1 ≤ length s.scripts) × (length s.scripts ≤ MAX_WORKERS)
 
 -- what was read keeps the rules
 pub record IsGood (s : Sketch) : Type 0 where

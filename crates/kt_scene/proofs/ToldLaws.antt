@@ -5,6 +5,8 @@ use Rattle.std.proofs.lemmas.Bool.{ltb-true, leb-true, and_parts}
 use Rattle.std.proofs.lemmas.List.Elements.{All-nil, All-push}
 use Rattle.std.specs.Prelude.{codes, decimal, All, nat_lt, nat_le}
 use Rattle.std.specs.List.{flat_map}
+use Rattle.kt_script.specs.declared.script.TheConstants.{MAX_COMMANDS, MAX_VARIABLES}
+use Rattle.kt_tuple.specs.declared.node.TheConstants.{MAX_SHARDS, MAX_WORKERS}
 use Rattle.kt_script.specs.declared.command.Command.{Command}
 use Rattle.kt_script.specs.declared.script_error.ScriptError.TheVariants as refusals
 use Rattle.kt_script.specs.Command.{bindings}
@@ -62,17 +64,17 @@ module _ (s : Sketch) (line : List ℕ) (u : Sketch) (h : IsGood s) where
   pub title_told : s.expected ≡ awaited.Title → titled s line ≡ Ok u → Adds s line u
   title_told is e = title_by_test (is_word line (codes "linda-kt 1")) is refl e
 
-  few_by_test : (b : Bool) (n m : ℕ) → (leb 1 n && leb n 8) ≡ b → cond b (Ok n) (Err faults.Limit) ≡ Ok m → AreShards n × (n ≡ m)
+  few_by_test : (b : Bool) (n m : ℕ) → (leb 1 n && leb n MAX_SHARDS) ≡ b → cond b (Ok n) (Err faults.Limit) ≡ Ok m → AreShards n × (n ≡ m)
   few_by_test true n m are e =
-      let parts = and_parts (leb 1 n) (leb n 8) are in
-      ((leb-true 1 n parts.0, leb-true n 8 parts.1), cc)
+      let parts = and_parts (leb 1 n) (leb n MAX_SHARDS) are in
+      ((leb-true 1 n parts.0, leb-true n MAX_SHARDS parts.1), cc)
   few_by_test false n m are e = absurd cc
 
   few_shards : (c : Option (Option ℕ)) (m : ℕ) → shards_from c ≡ Ok m → AreShards m × (c ≡ Some (Some m))
   few_shards None m e = absurd cc
   few_shards (Some None) m e = absurd cc
   few_shards (Some (Some n)) m e =
-      let few = few_by_test (leb 1 n && leb n 8) n m refl e in
+      let few = few_by_test (leb 1 n && leb n MAX_SHARDS) n m refl e in
       (subst AreShards few.1 few.0, ap (λ (k : ℕ). Some (Some k)) few.1)
 
   count_taken : (n : ℕ) → count_of line ≡ Some (Some n) → line ≡ codes "shards " ++ decimal n
@@ -116,7 +118,7 @@ module _ (s : Sketch) (line : List ℕ) (u : Sketch) (h : IsGood s) where
       let at = place_at awaited.Workers s is h in
       let P : Sketch → Type 0 = λ x. Adds s line x in
       let word : codes "worker" ≡ line = sym (word_is line (codes "worker") test) in
-      let few : length s.scripts < 8 = omega (arith, ap length at.1.scripts) in
+      let few : length s.scripts < MAX_WORKERS = omega (arith, ap length at.1.scripts) in
       let lines : flat_map script_lines s.scripts ++ script_lines s.commands ≡ line ∷ [] =
       ap (λ (l : List (List Command)). flat_map script_lines l ++ script_lines s.commands) at.1.scripts
       ∙ ap script_lines at.1.commands ∙ ap (λ (l : List ℕ). l ∷ []) word in
@@ -136,11 +138,11 @@ module _ (s : Sketch) (line : List ℕ) (u : Sketch) (h : IsGood s) where
       ap (λ (l : List (List ℕ)). head_lines s.shards ++ l) e
       ∙ sym (append_assoc (head_lines s.shards) (flat_map script_lines s.scripts ++ script_lines s.commands) (line ∷ []))
 
-  another_worker : s.expected ≡ awaited.Commands → line ≡ codes "worker" → length s.scripts + 1 < 8 → closed awaited.Commands s ≡ u → Adds s line u
+  another_worker : s.expected ≡ awaited.Commands → line ≡ codes "worker" → length s.scripts + 1 < MAX_WORKERS → closed awaited.Commands s ≡ u → Adds s line u
   another_worker is word few made =
       let at = place_at awaited.Commands s is h in
       let P : Sketch → Type 0 = λ x. Adds s line x in
-      let fewer : length (s.scripts ++ s.commands ∷ []) < 8 = omega (arith, few, length-append s.scripts (s.commands ∷ [])) in
+      let fewer : length (s.scripts ++ s.commands ∷ []) < MAX_WORKERS = omega (arith, few, length-append s.scripts (s.commands ∷ [])) in
       let lines : flat_map script_lines (s.scripts ++ s.commands ∷ []) ++ script_lines []
       ≡ (flat_map script_lines s.scripts ++ script_lines s.commands) ++ line ∷ [] =
       ap (λ (l : List (List ℕ)). l ++ script_lines []) (scripts_push s.scripts s.commands)
@@ -197,9 +199,9 @@ module _ (s : Sketch) (line : List ℕ) (u : Sketch) (h : IsGood s) where
       let at = place_at awaited.Commands s is h in
       let P : Sketch → Type 0 = λ x. Adds s line x in
       let tests = unrefused (keeps_rules (variables_of s.commands) spelled.command) (is_within s.commands spelled.command) spelled.fits may in
-      let count = and_parts (has_count spelled.command && nat_lt (length s.commands) 200)
-      (nat_le (length (with_bindings (variables_of s.commands) (bindings spelled.command))) 64) tests.1 in
-      let counts = and_parts (has_count spelled.command) (nat_lt (length s.commands) 200) count.0 in
+      let count = and_parts (has_count spelled.command && nat_lt (length s.commands) MAX_COMMANDS)
+      (nat_le (length (with_bindings (variables_of s.commands) (bindings spelled.command))) MAX_VARIABLES) tests.1 in
+      let counts = and_parts (has_count spelled.command) (nat_lt (length s.commands) MAX_COMMANDS) count.0 in
       let free : refusal_of s.commands spelled.command ≡ None = rw (tests.0, tests.1) refl in
       let is_line = command_taken line spelled tests.2 counts.0 read in
       let lines : flat_map script_lines s.scripts ++ script_lines (s.commands ++ spelled.command ∷ [])
@@ -236,18 +238,18 @@ module _ (s : Sketch) (line : List ℕ) (u : Sketch) (h : IsGood s) where
   command_by_read (Err fault) is read e = absurd cc
   command_by_read (Ok spelled) is read e = command_by_fault spelled (fault_behind s.commands spelled) is read refl e
 
-  worker_by_count : (b : Bool) → s.expected ≡ awaited.Commands → line ≡ codes "worker" → ltb (length s.scripts + 1) 8 ≡ b
+  worker_by_count : (b : Bool) → s.expected ≡ awaited.Commands → line ≡ codes "worker" → ltb (length s.scripts + 1) MAX_WORKERS ≡ b
       → cond b (Ok (closed awaited.Commands s)) (Err faults.Limit) ≡ Ok u → Adds s line u
   worker_by_count false is word test e = absurd cc
   worker_by_count true is word test e =
       let made : closed awaited.Commands s ≡ u = cc in
-      another_worker is word (ltb-true (length s.scripts + 1) 8 test) made
+      another_worker is word (ltb-true (length s.scripts + 1) MAX_WORKERS test) made
 
   script_by_tests : (is_worker is_work : Bool) → s.expected ≡ awaited.Commands → is_word line (codes "worker") ≡ is_worker
       → is_word line (work_word (kind_of s.work)) ≡ is_work
-      → cond is_worker (cond (ltb (length s.scripts + 1) 8) (Ok (closed awaited.Commands s)) (Err faults.Limit))
+      → cond is_worker (cond (ltb (length s.scripts + 1) MAX_WORKERS) (Ok (closed awaited.Commands s)) (Err faults.Limit))
       (cond is_work (Ok (closed awaited.Work s)) (with_command s (spelled_of line))) ≡ Ok u → Adds s line u
-  script_by_tests true is_work is worker work e = worker_by_count (ltb (length s.scripts + 1) 8) is (word_is line (codes "worker") worker) refl e
+  script_by_tests true is_work is worker work e = worker_by_count (ltb (length s.scripts + 1) MAX_WORKERS) is (word_is line (codes "worker") worker) refl e
   script_by_tests false true is worker work e =
       let made : closed awaited.Work s ≡ u = cc in
       work_begins is (word_is line (work_word (kind_of s.work)) work) made

@@ -4,6 +4,8 @@ use Rattle.std.proofs.lemmas.Bool.{and_parts, leb-true}
 use Rattle.std.proofs.lemmas.List.Elements.{All-nil, All-cons, All-head, All-tail, All-append}
 use Rattle.std.specs.Prelude.{◌≢◌, codes, decimal, All, filter}
 use Rattle.std.specs.List.{flat_map, list_all}
+use Rattle.kt_scene.specs.declared.reading.TheConstants.{MAX_TEXT}
+use Rattle.kt_tuple.specs.declared.node.TheConstants.{MAX_SHARDS}
 use Rattle.kt_script.specs.declared.command.Command.{Command}
 use Rattle.kt_script.specs.declared.command.Command.TheVariants.{Ask, Set, Unless}
 use Rattle.kt_script.specs.declared.command.Operation.TheVariants.{Out, In, Rd, Inp, Rdp}
@@ -88,7 +90,7 @@ scripts_told (script ∷ later) h =
 title_told : IsTold (codes "linda-kt 1")
 title_told = record { whole = shown_is_line (codes "linda-kt 1") refl; told = refl }
 
-shards_told : (shards : ℕ) → shards ≤ 8 → IsTold (codes "shards " ++ decimal shards)
+shards_told : (shards : ℕ) → shards ≤ MAX_SHARDS → IsTold (codes "shards " ++ decimal shards)
 shards_told shards few = record { whole = shown_is_line (codes "shards " ++ decimal shards) (decimal_shown shards (omega (arith, few))); told = refl }
 
 fault_ignored : (kind : FaultKind) (node number : List ℕ) → is_ignored (kind_word kind ++ node ++ codes " after " ++ number) ≡ false
@@ -140,7 +142,7 @@ none_ignored (line ∷ later) h =
     rw told (ap (λ (l : List (List ℕ)). line ∷ l) (none_ignored later (All-tail IsTold line later h)))
 
 -- the text that is written of a scenario is read as it
-pub written_is_read : (play : Play) → IsPlay play → length (scenario_text play) ≤ 1048576 → play_of (kind_of play.work) (scenario_text play) ≡ Ok play
+pub written_is_read : (play : Play) → IsPlay play → length (scenario_text play) ≤ MAX_TEXT → play_of (kind_of play.work) (scenario_text play) ≡ Ok play
 written_is_read play rules short =
     let h = lines_told play rules in
     let is : IsScenario (scenario_text play) play = record {

@@ -3,6 +3,7 @@ use Rattle.std.specs.Prelude.{ℕ, zero, suc, ℤ, pos, nat_le, ◌==◌, Bool, 
 use Rattle.std.specs.Prelude.{take, drop, codes, Option, Some, None, Result, Ok, Err}
 use Rattle.std.specs.List.{position_or_len}
 use Rattle.std.specs.Option.{option_map}
+use Rattle.kt_tuple.specs.declared.tuple.TheConstants.{MAX_PLACES}
 use Rattle.kt_tuple.specs.declared.value.Kind.{Kind}
 use Rattle.kt_tuple.specs.declared.value.Kind.TheVariants as kinds
 use Rattle.kt_tuple.specs.Reading.{value_at, value_of, int_at, int_of, after_place}
@@ -74,9 +75,9 @@ unfoldable pub slots_from : ℕ → List ℕ → Option (List Slot)
 slots_from zero text = None
 slots_from (suc n) text = slot_at text >>= λ place. and_behind place.0 (after_place place.1) (slots_from n)
 
--- the 1 to 8 places of a text in parentheses
+-- the places of a text in parentheses, 1 to `MAX_PLACES`
 abbrev pub slots_in : List ℕ → Option (List Slot)
-slots_in text = behind text (40 ∷ []) >>= slots_from 8
+slots_in text = behind text (40 ∷ []) >>= slots_from MAX_PLACES
 
 -- the places as those of a tuple: none of them is a formal
 abbrev pub actuals_of : List Slot → Option (List Actual)

@@ -1,5 +1,6 @@
 -- The line of a fault: which node shall fail, or begin a check, and once it has made how many steps of its own.
 use Rattle.std.specs.Prelude.{ℕ, nat_le, if◌then◌else◌, List, codes, Option, Some, None, Result, Ok, Err}
+use Rattle.kt_world.specs.declared.step.TheConstants.{MAX_STEPS}
 use Rattle.kt_tuple.specs.declared.node.NodeId.{NodeId}
 use Rattle.kt_world.specs.Cast.{Cast, is_node}
 use Rattle.kt_core.specs.declared.faults.FaultKind.{FaultKind}
@@ -23,11 +24,11 @@ asked_by line =
     behind_or (behind line (codes "fail ")) (asked_of kinds.Fail)
     (behind_or (behind line (codes "check ")) (asked_of kinds.Check) None)
 
--- the number is at most 100,000, and the scene has the node
+-- the number is at most `MAX_STEPS`, and the scene has the node
 abbrev pub fault_with : Cast → FaultKind → NodeId → Option ℕ → Result Fault SceneError
 fault_with cast kind p None = Err faults.Limit
 fault_with cast kind p (Some n) =
-    if nat_le n 100000
+    if nat_le n MAX_STEPS
     then (if is_node cast p then Ok (record { kind = kind; node = p; after = n }) else Err faults.Node)
     else Err faults.Limit
 

@@ -6,6 +6,10 @@ use Rattle.std.specs.Int.{w64}
 use Rattle.std.specs.Int.RustNames.{FitsSigned}
 use Rattle.std.specs.List.{flat_map}
 use Rattle.std.specs.Str.Parse.{digits_value, signed_digits_value}
+use Rattle.kt_scene.specs.declared.reading.TheConstants.{MAX_TEXT}
+use Rattle.kt_world.specs.declared.step.TheConstants.{MAX_STEPS}
+use Rattle.kt_script.specs.declared.script.TheConstants.{MAX_COMMANDS, MAX_VARIABLES}
+use Rattle.kt_tuple.specs.declared.node.TheConstants.{MAX_SHARDS}
 use Rattle.kt_tuple.specs.Grammar.{IsDigit, IsFirstDigit, IsInt}
 use Rattle.kt_script.specs.declared.command.Command.{Command}
 use Rattle.kt_script.specs.declared.command.Command.TheVariants.{Ask, Set, Unless}
@@ -63,7 +67,7 @@ Spells line (Unless count) = (p : List ℕ) × IsNumber p × (digits_value 10 p 
 abbrev pub IsOutside : Command → Type 0
 IsOutside (Ask operation) = ⊥
 IsOutside (Set variable source plus) = ¬ FitsSigned w64 plus
-IsOutside (Unless count) = ¬ ((1 ≤ count) × (count ≤ 200))
+IsOutside (Unless count) = ¬ ((1 ≤ count) × (count ≤ MAX_COMMANDS))
 
 -- the line is this fault's, of whatever node, and whatever the size of its number
 abbrev pub SpellsFault : List ℕ → Fault → Type 0
@@ -117,9 +121,9 @@ pub record IsWhole (kind : WorkKind) (told : List (List ℕ)) : Type 0 where
 abbrev pub title_line : List ℕ
 title_line = codes "linda-kt 1"
 
--- a scenario has 1 to 8 shards
+-- a scenario has one shard at least, and no more than a scene may have
 abbrev pub AreShards : ℕ → Type 0
-AreShards n = (1 ≤ n) × (n ≤ 8)
+AreShards n = (1 ≤ n) × (n ≤ MAX_SHARDS)
 
 -- the told lines are the two of the head
 abbrev pub IsHead : List (List ℕ) → Type 0
@@ -151,21 +155,22 @@ pub data BreaksVariableRules (kind : WorkKind) (told : List (List ℕ)) (line : 
       → IsInScript kind told scripts commands → Spells line command
       → keeps_rules (variables_of commands) command ≡ false → BreaksVariableRules kind told line
 
--- a limit is passed: no shard, or more than 8; a ninth worker; a 201st command; a 65th variable; the number of a
--- command; more than 100,000 steps before a fault
+-- a limit is passed: no shard, or one too many; a worker, a command or a variable too many; the number of a command;
+-- more steps before a fault than a world makes
 pub data PassesLimit (kind : WorkKind) (told : List (List ℕ)) (line : List ℕ) : Type 0 where
   shards_outside : (n : ℕ) → told ≡ title_line ∷ [] → SpellsShards line n → ¬ AreShards n → PassesLimit kind told line
   many_workers : (scripts : List (List Command)) (commands : List Command) → IsInScript kind told scripts commands
       → line ≡ codes "worker" → length scripts ≡ 7 → PassesLimit kind told line
   many_commands : (scripts : List (List Command)) (commands : List Command) (command : Command)
-      → IsInScript kind told scripts commands → Spells line command → 200 ≤ length commands → PassesLimit kind told line
+      → IsInScript kind told scripts commands → Spells line command → MAX_COMMANDS ≤ length commands
+      → PassesLimit kind told line
   many_variables : (scripts : List (List Command)) (commands : List Command) (command : Command)
       → IsInScript kind told scripts commands → Spells line command
-      → 64 < length (variables_of (commands ++ command ∷ [])) → PassesLimit kind told line
+      → MAX_VARIABLES < length (variables_of (commands ++ command ∷ [])) → PassesLimit kind told line
   outside : (scripts : List (List Command)) (commands : List Command) (command : Command)
       → IsInScript kind told scripts commands → Spells line command → IsOutside command → PassesLimit kind told line
-  too_late : (fault : Fault) → kind ≡ kinds.Faults → IsInWork kind told → SpellsFault line fault → 100000 < fault.after
-      → PassesLimit kind told line
+  too_late : (fault : Fault) → kind ≡ kinds.Faults → IsInWork kind told → SpellsFault line fault
+      → MAX_STEPS < fault.after → PassesLimit kind told line
 
 -- a fault of a node that the scene does not have
 pub data NamesNobody (kind : WorkKind) (told : List (List ℕ)) (line : List ℕ) : Type 0 where
@@ -223,10 +228,10 @@ pub record IsCutShort (kind : WorkKind) (text : List ℕ) (n : ℕ) : Type 0 whe
 
 -- the first line of the text that has a fault, and the lowest of its faults, where work of this kind is wanted
 pub data HasFirstFault (kind : WorkKind) (text : List ℕ) : ℕ → SceneError → Type 0 where
-  too_long : 1048576 < length text → HasFirstFault kind text 1 faults.Limit
-  at_line : {n : ℕ} {fault : SceneError} → length text ≤ 1048576 → IsFaultAt kind text n fault
+  too_long : MAX_TEXT < length text → HasFirstFault kind text 1 faults.Limit
+  at_line : {n : ℕ} {fault : SceneError} → length text ≤ MAX_TEXT → IsFaultAt kind text n fault
       → HasFirstFault kind text n fault
-  cut_short : {n : ℕ} → length text ≤ 1048576 → IsCutShort kind text n → HasFirstFault kind text n faults.End
+  cut_short : {n : ℕ} → length text ≤ MAX_TEXT → IsCutShort kind text n → HasFirstFault kind text n faults.End
 
 -- what a fault that is answered says of the text; want of memory says that the text has this line, and that the first
 -- line with a fault, if there is one, is a later one

@@ -2,6 +2,7 @@
 use Rattle.std.specs.Prelude.{ℕ, ◌+◌, nat_lt, nat_le, nat_eq, ◌==◌, ◌&&◌, Bool, true, false}
 use Rattle.std.specs.Prelude.{if◌then◌else◌, List, [], ◌∷◌, ◌++◌, length, codes, Option, Some, None, Result, Ok, Err}
 use Rattle.std.specs.Cmp.Lexicographic.{pointwise}
+use Rattle.kt_tuple.specs.declared.node.TheConstants.{MAX_SHARDS, MAX_WORKERS}
 use Rattle.kt_script.specs.declared.command.Command.{Command}
 use Rattle.kt_world.specs.declared.step.Step.{Step}
 use Rattle.kt_world.specs.Cast.{Cast}
@@ -44,11 +45,11 @@ abbrev pub is_ignored : List ℕ → Bool
 is_ignored [] = false
 is_ignored (c ∷ rest) = c == 35
 
--- 1 to 8 shards
+-- 1 to `MAX_SHARDS` shards
 abbrev pub shards_from : Option (Option ℕ) → Result ℕ SceneError
 shards_from None = Err faults.Header
 shards_from (Some None) = Err faults.Limit
-shards_from (Some (Some n)) = if nat_le 1 n && nat_le n 8 then Ok n else Err faults.Limit
+shards_from (Some (Some n)) = if nat_le 1 n && nat_le n MAX_SHARDS then Ok n else Err faults.Limit
 
 -- the N of the line `shards N`
 abbrev pub count_of : List ℕ → Option (Option ℕ)
@@ -85,7 +86,7 @@ with_command s (Ok spelled) = added s spelled (fault_behind s.commands spelled)
 abbrev pub in_script : Sketch → List ℕ → Result Sketch SceneError
 in_script s line =
     if is_word line (codes "worker")
-    then (if nat_lt (length s.scripts + 1) 8 then Ok (closed awaited.Commands s) else Err faults.Limit)
+    then (if nat_lt (length s.scripts + 1) MAX_WORKERS then Ok (closed awaited.Commands s) else Err faults.Limit)
     else if is_word line (work_word (kind_of s.work)) then Ok (closed awaited.Work s)
     else with_command s (spelled_of line)
 

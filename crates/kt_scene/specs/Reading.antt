@@ -1,6 +1,7 @@
 -- What a text is read as: the scenario that it spells, or its first line that has a fault.
 use Rattle.std.specs.Prelude.{◌≡◌, ℕ, ◌+◌, ◌<◌, nat_lt, ◌==◌, ◌&&◌, Bool, true, false, if◌then◌else◌, List, []}
 use Rattle.std.specs.Prelude.{◌∷◌, length, Result, Ok, Err}
+use Rattle.kt_scene.specs.declared.reading.TheConstants.{MAX_TEXT}
 use Rattle.kt_world.specs.Cast.{Cast}
 use Rattle.kt_scene.specs.declared.fault.SceneError.{SceneError}
 use Rattle.kt_scene.specs.declared.fault.SceneError.TheVariants as faults
@@ -38,7 +39,7 @@ read_from s n (line ∷ lines) rest = went_on n (line_read s line) (λ t. read_f
 -- what is read of the text where work of this kind is wanted, or its first line that has a fault, with the lowest one
 abbrev pub sketch_of : WorkKind → List ℕ → Result Sketch Fault
 sketch_of kind text =
-    if nat_lt 1048576 (length text) then Err (1, faults.Limit)
+    if nat_lt MAX_TEXT (length text) then Err (1, faults.Limit)
     else read_from (nothing_read kind) 1 (lines_of text).0 (lines_of text).1
 
 -- what a scenario's text stands for: who takes part, and what is done

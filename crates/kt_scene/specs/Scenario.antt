@@ -4,6 +4,10 @@ use Rattle.std.specs.Prelude.{Some, None}
 use Rattle.std.specs.Int.{w64}
 use Rattle.std.specs.Int.RustNames.{FitsSigned}
 use Rattle.std.specs.List.{flat_map}
+use Rattle.kt_scene.specs.declared.reading.TheConstants.{MAX_TEXT}
+use Rattle.kt_world.specs.declared.step.TheConstants.{MAX_STEPS}
+use Rattle.kt_scene.specs.declared.line.TheConstants.{MAX_NODE_NUMBER, MAX_MATCH}
+use Rattle.kt_script.specs.declared.script.TheConstants.{MAX_COMMANDS}
 use Rattle.kt_tuple.specs.declared.node.NodeId.{NodeId}
 use Rattle.kt_tuple.specs.declared.node.NodeId.TheVariants as nodes
 use Rattle.kt_tuple.specs.Valid.{IsValue}
@@ -29,7 +33,7 @@ use Rattle.kt_scene.specs.Work.{Work, Steps, Faults}
 use Rattle.kt_scene.specs.Text.{told_lines}
 use Rattle.kt_scene.specs.Report.{text_line}
 
--- an int of 64 bits, a string of at most 64 printable characters; a name
+-- an int of 64 bits, a string of printable characters, at most `MAX_CHARACTERS`; a name
 abbrev pub IsActual : Actual → Type 0
 IsActual (Literal value) = IsValue value
 IsActual (Variable name) = IsName name
@@ -39,7 +43,7 @@ IsSlot (slots.Actual actual) = IsActual actual
 IsSlot (slots.Formal kind None) = Unit {0}
 IsSlot (slots.Formal kind (Some name)) = IsName name
 
--- 1 to 8 places
+-- 1 to `MAX_PLACES` places
 abbrev pub IsPattern : List Slot → Type 0
 IsPattern pattern = HasArity pattern × All IsSlot pattern
 
@@ -53,23 +57,23 @@ IsOperation (Rdp pattern) = IsPattern pattern
 abbrev pub IsCommand : Command → Type 0
 IsCommand (Ask operation) = IsOperation operation
 IsCommand (Set variable source plus) = IsName variable × IsName source × FitsSigned w64 plus
-IsCommand (Unless count) = count ≤ 200
+IsCommand (Unless count) = count ≤ MAX_COMMANDS
 
--- a node's number is from 1 to 99
+-- a node's number is from 1 to `MAX_NODE_NUMBER`
 abbrev pub IsNodeNumber : ℕ → Type 0
-IsNodeNumber n = (1 ≤ n) × (n ≤ 99)
+IsNodeNumber n = (1 ≤ n) × (n ≤ MAX_NODE_NUMBER)
 
 abbrev pub IsStepNode : NodeId → Type 0
 IsStepNode (nodes.Worker n) = IsNodeNumber n
 IsStepNode (nodes.Shard n) = IsNodeNumber n
 
--- a step that a line can say: a match's place is from 0 to 99999
+-- a step that a line can say: a match's place is from 0 to `MAX_MATCH`
 abbrev pub IsStep : Step → Type 0
 IsStep (Issue node) = IsStepNode node
 IsStep (Repeat node) = IsStepNode node
 IsStep (Deliver from to) = IsStepNode from × IsStepNode to
 IsStep (Take node) = IsStepNode node
-IsStep (Serve shard worker place) = IsStepNode shard × IsStepNode worker × (place ≤ 99999)
+IsStep (Serve shard worker place) = IsStepNode shard × IsStepNode worker × (place ≤ MAX_MATCH)
 IsStep (Check node) = IsStepNode node
 IsStep (Decide node) = IsStepNode node
 IsStep (Abandon node) = IsStepNode node
@@ -80,7 +84,7 @@ IsStep (Restart node) = IsStepNode node
 -- a fault that a line can say, of a node of the scene; no step has spent it
 pub record IsFaultLine (cast : Cast) (line : FaultLine) : Type 0 where
   pub there : is_node cast line.fault.node ≡ true
-  pub soon : line.fault.after ≤ 100000
+  pub soon : line.fault.after ≤ MAX_STEPS
   pub unspent : line.is_marked ≡ false
 
 -- each step or fault is one that a line can say
@@ -88,7 +92,8 @@ abbrev pub IsWork : Cast → Work → Type 0
 IsWork cast (Steps steps) = All IsStep steps
 IsWork cast (Faults lines) = All (IsFaultLine cast) lines
 
--- 1 to 8 shards, 1 to 8 workers, and scripts that keep the rules of variables and the limits
+-- shards and workers, of each one at least and no more than a scene may have, and scripts that keep the rules of
+-- variables and the limits
 pub record IsPlay (play : Play) : Type 0 where
   pub cast : IsCast play.cast
   pub scripts : All IsScript play.cast.scripts
@@ -111,7 +116,7 @@ pub record IsScenario (text : List ℕ) (play : Play) : Type 0 where
   pub each : All IsLine lines
   pub told : filter is_told lines ≡ told_lines play
   pub is : text ≡ flat_map text_line (lines ++ codes "end" ∷ [])
-  pub short : length text ≤ 1048576
+  pub short : length text ≤ MAX_TEXT
 
 -- the other text has the lines of the text but those that are ignored
 pub record IsTextOf (text other : List ℕ) : Type 0 where

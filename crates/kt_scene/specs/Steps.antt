@@ -1,6 +1,7 @@
 -- The line of a step.
 use Rattle.std.specs.Prelude.{ℕ, ◌==◌, if◌then◌else◌, List, [], ◌∷◌, codes, Option, None}
 use Rattle.std.specs.Option.{option_map}
+use Rattle.kt_scene.specs.declared.line.TheConstants.{MAX_NODE_NUMBER, MAX_MATCH}
 use Rattle.kt_tuple.specs.declared.node.NodeId.{NodeId}
 use Rattle.kt_tuple.specs.declared.node.NodeId.TheVariants as nodes
 use Rattle.kt_world.specs.declared.step.Step.{Step}
@@ -8,12 +9,12 @@ use Rattle.kt_world.specs.declared.step.Step.TheVariants.{Issue, Repeat, Deliver
 use Rattle.kt_world.specs.declared.step.Step.TheVariants.{Learn, Fail, Restart}
 use Rattle.kt_scene.specs.Number.{◌>>=◌, behind, behind_or, ended, number_within}
 
--- `w` or `s`, and a number from 1 to 99
+-- `w` or `s`, and a number from 1 to `MAX_NODE_NUMBER`
 unfoldable pub node_at : List ℕ → Option (NodeId × List ℕ)
 node_at [] = None
 node_at (c ∷ rest) =
-    if c == 119 then option_map (λ n. (nodes.Worker n.0, n.1)) (number_within 1 99 rest)
-    else if c == 115 then option_map (λ n. (nodes.Shard n.0, n.1)) (number_within 1 99 rest)
+    if c == 119 then option_map (λ n. (nodes.Worker n.0, n.1)) (number_within 1 MAX_NODE_NUMBER rest)
+    else if c == 115 then option_map (λ n. (nodes.Shard n.0, n.1)) (number_within 1 MAX_NODE_NUMBER rest)
     else None
 
 -- a node, and a space behind it
@@ -33,7 +34,7 @@ deliver_of words = node_before_space words >>= λ p. node_at p.1 >>= λ q. ended
 
 abbrev pub serve_of : List ℕ → Option Step
 serve_of words =
-    node_before_space words >>= λ s. node_before_space s.1 >>= λ w. number_within 0 99999 w.1 >>= λ k.
+    node_before_space words >>= λ s. node_before_space s.1 >>= λ w. number_within 0 MAX_MATCH w.1 >>= λ k.
     ended (Serve s.0 w.0 k.0, k.1)
 
 -- the step that the line says

@@ -1,6 +1,7 @@
 -- What is read of a reader and written to a writer.
 use Rattle.std.specs.Prelude.{◌≡◌, ℕ, ◌<◌, Bool, List, length, take, Option, Some, None, Err}
 use Rattle.std.specs.Io.KnownBytes.{Appends, Consumes, IsAtEnd}
+use Rattle.kt_scene.specs.declared.reading.TheConstants.{MAX_TEXT}
 use Rattle.kt_core.specs.Store.{IsCountedBeside, IsFault}
 use Rattle.kt_store.specs.Calls.{Counts}
 use Rattle.kt_store.specs.declared.error.StoreError.{StoreError}
@@ -33,7 +34,7 @@ pub record IsAllRead (before after : Reader) (text : List ℕ) : Type 0 where
 -- known bytes are more than a scenario has
 abbrev pub IsTooLong : Option (List ℕ) → Type 0
 IsTooLong None = Unit {0}
-IsTooLong (Some bytes) = 1048576 < length bytes
+IsTooLong (Some bytes) = MAX_TEXT < length bytes
 
 -- what reading alone answers: that the bytes are more than a scenario has, or want of memory, both before the end was
 -- seen; or that the reader failed

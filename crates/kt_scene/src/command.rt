@@ -1,13 +1,16 @@
 //! The lines of commands, read without memory.
 
-ghost use Rattle.std.specs.Prelude.{◌≡◌, ◌≤◌, ℕ, List, [], ◌∷◌, length, IfSome, IfOk, Some, None, not, position};
+ghost use Rattle.std.specs.Prelude.{◌≡◌, ◌≤◌, ℕ, List, [], ◌∷◌, length, IfSome, IfOk, false, not, position};
+ghost use Rattle.std.specs.Prelude.{Option, Some, None};
 ghost use Rattle.std.specs.Option.{option_map};
 ghost use Rattle.kt_tuple.specs.Matching.{HasArity};
 ghost use Rattle.kt_script.specs.Name.{begins_with_letter, is_name_character};
 ghost use Rattle.kt_scene.specs.Commands.{name_length, name_at, actual_at, kind_at, named, slot_at, slots_in};
 ghost use Rattle.kt_scene.specs.Commands.{actuals_of, operation_of, verb_at, set_with, set_of, unless_with, unless_of};
 ghost use Rattle.kt_scene.specs.Commands.{asked, spelled_of, fault_behind};
+ghost use Rattle.kt_scene.specs.inner.Placing.{all_taken, of_read};
 ghost use Rattle.kt_scene.specs.inner.Room.{HasRoom, IsReady};
+ghost use Rattle.kt_script.specs.declared.command.Slot.{Slot as Place};
 
 use crate::fault::SceneError;
 use crate::line::{behind, ended, number_at};
@@ -129,21 +132,54 @@ fn slot_at(text: &[u8]) -> Option<(Slot, &[u8])>
     }
 }
 
-/// The 1 to 8 places of a text in parentheses, in this room.
-fn slots_in(text: &[u8], room: Vec<Slot>) -> Option<Vec<Slot>>
+/// What a place of a command is taken for: a place of a template, or a value or variable of a tuple.
+trait Placed: Sized + Drop {
+    ghost taken: { Place → Option Self };
+
+    /// The place, where it can be one.
+    fn of(slot: Slot) -> Option<Self>
+        ensures { result ≡ taken slot };
+}
+
+impl Placed for Slot {
+    ghost taken = { Some };
+
+    fn of(slot: Slot) -> Option<Slot> {
+        Some(slot)
+    }
+}
+
+impl Placed for Actual {
+    ghost use Rattle.kt_scene.specs.inner.Placing.{actual_of};
+
+    ghost taken = { actual_of };
+
+    fn of(slot: Slot) -> Option<Actual> {
+        match slot {
+            Slot::Actual(actual) => Some(actual),
+            Slot::Formal(..) => None,
+        }
+    }
+}
+
+/// The places of a text in parentheses, 1 to `MAX_PLACES`, each taken so, in this room.
+fn places_in<T: Placed>(text: &[u8], room: Vec<T>) -> Option<Vec<T>>
     requires { HasRoom room }
-    ensures value { option_map (λ s. s.items) result ≡ slots_in text.now }
+    ensures value { option_map (λ s. s.items) result ≡ of_read (all_taken T.taken) (slots_in text.now) }
     ensures arity { IfSome result (λ s. HasArity s.items) }
 {
-    let mut slots = room;
+    let mut places = room;
     let mut rest = behind(text, b"(")?;
     for _ in 0..MAX_PLACES {
         let Some((slot, after)) = slot_at(rest) else {
             return None;
         };
-        slots.push_reserved(slot);
+        let Some(place) = T::of(slot) else {
+            return None;
+        };
+        places.push_reserved(place);
         match after_place(after) {
-            Ok(None) => return Some(slots),
+            Ok(None) => return Some(places),
             Ok(Some(next)) => rest = next,
             Err(_) => return None,
         }
@@ -151,37 +187,37 @@ fn slots_in(text: &[u8], room: Vec<Slot>) -> Option<Vec<Slot>>
     None
 }
 
-/// The places as those of a tuple, in this room: none of them is a formal.
-fn actuals_of(slots: &[Slot], room: Vec<Actual>) -> Option<Vec<Actual>>
-    requires { (length slots.now ≤ 8) × HasRoom room }
-    ensures value { option_map (λ a. a.items) result ≡ actuals_of slots.now }
-    ensures count { IfSome result (λ a. length a.items ≡ length slots.now) }
+/// The places of a template, in these rooms.
+#[tactic(auto, using(crate::proofs::Slots::all_as_they_stand))]
+fn pattern_in(text: &[u8], rooms: &mut Rooms) -> Option<Pattern>
+    requires { IsReady rooms.old }
+    ensures { result ≡ slots_in text.now }
 {
-    let mut actuals = room;
-    for slot in slots {
-        match slot {
-            Slot::Actual(actual) => actuals.push_reserved(actual.copy()),
-            Slot::Formal(..) => return None,
-        }
-    }
-    Some(actuals)
+    Pattern::new(places_in(text, rooms.for_slots())?)
+}
+
+/// The values and variables of a tuple, in these rooms: none of its places is a formal.
+#[tactic(auto, using(crate::proofs::Slots::all_as_actuals))]
+fn actuals_in(text: &[u8], rooms: &mut Rooms) -> Option<Actuals>
+    requires { IsReady rooms.old }
+    ensures { result ≡ of_read actuals_of (slots_in text.now) }
+{
+    Actuals::new(places_in(text, rooms.for_actuals())?)
 }
 
 impl Verb {
-    /// The operation with these places; `None` where the verb cannot have them, as `out` no formal.
-    fn operation(self, slots: Vec<Slot>, rooms: &mut Rooms) -> Option<Operation>
-        requires { HasArity slots.items × HasRoom rooms.old.actuals }
-        ensures { result ≡ operation_of self slots.items }
+    /// The operation with the places of this text; `None` where the text has other places than the verb wants, as
+    /// `out` a formal.
+    fn operation(self, text: &[u8], rooms: &mut Rooms) -> Option<Operation>
+        requires { IsReady rooms.old }
+        ensures { result ≡ of_read (operation_of self) (slots_in text.now) }
     {
         match self {
-            Verb::Out => {
-                let actuals = actuals_of(&slots, rooms.for_actuals())?;
-                Some(Operation::Out(Actuals::new(actuals)?))
-            }
-            Verb::In => Some(Operation::In(Pattern::new(slots)?)),
-            Verb::Rd => Some(Operation::Rd(Pattern::new(slots)?)),
-            Verb::Inp => Some(Operation::Inp(Pattern::new(slots)?)),
-            Verb::Rdp => Some(Operation::Rdp(Pattern::new(slots)?)),
+            Verb::Out => Some(Operation::Out(actuals_in(text, rooms)?)),
+            Verb::In => Some(Operation::In(pattern_in(text, rooms)?)),
+            Verb::Rd => Some(Operation::Rd(pattern_in(text, rooms)?)),
+            Verb::Inp => Some(Operation::Inp(pattern_in(text, rooms)?)),
+            Verb::Rdp => Some(Operation::Rdp(pattern_in(text, rooms)?)),
         }
     }
 }
@@ -209,8 +245,7 @@ fn asked(verb: Verb, text: &[u8], rooms: &mut Rooms) -> Option<Spelled>
     requires { IsReady rooms.old }
     ensures { result ≡ asked verb text.now }
 {
-    let slots = slots_in(text, rooms.for_slots())?;
-    let operation = verb.operation(slots, rooms)?;
+    let operation = verb.operation(text, rooms)?;
     Some(Spelled {
         command: Command::Ask(operation),
         fits: true,
@@ -287,16 +322,14 @@ pub(crate) fn spelled_of(line: &[u8], rooms: &mut Rooms) -> Result<Spelled, Scen
     }
 }
 
-/// Why the command may not follow the script, want of memory aside. A number that is too large counts only where the
-/// variables have no fault, which has the lower number (docs/DECISIONS.md#the-scenarios-text).
-pub(crate) fn fault_behind(script: &Script, spelled: &Spelled) -> Option<SceneError>
-    ensures { result ≡ fault_behind script.now spelled.now }
+/// What is wrong with a command whose number is too large for it. The number counts only where the variables have no
+/// fault, which has the lower number (docs/DECISIONS.md#the-scenarios-text).
+pub(crate) fn fault_of_misfit(script: &Script, command: &Command) -> SceneError
+    ensures { Some result ≡ fault_behind script.now (record { command = command.now; fits = false }) }
 {
-    match script.refusal_of(&spelled.command) {
-        Some(ScriptError::Variable) => Some(SceneError::Variable),
-        Some(ScriptError::Limit) => Some(SceneError::Limit),
-        Some(ScriptError::OutOfMemory) | None if spelled.fits => None,
-        Some(ScriptError::OutOfMemory) | None => Some(SceneError::Limit),
+    match script.refusal_of(command) {
+        Some(ScriptError::Variable) => SceneError::Variable,
+        Some(ScriptError::Limit | ScriptError::OutOfMemory) | None => SceneError::Limit,
     }
 }
 

@@ -15,14 +15,15 @@ ghost use Rattle.kt_scene.specs.FaultLines.{fault_read};
 ghost use Rattle.kt_scene.specs.Steps.{step_of};
 ghost use Rattle.kt_scene.specs.Work.{work_in};
 
-use crate::command::{Spelled, fault_behind, spelled_of};
+use crate::command::{Spelled, fault_of_misfit, spelled_of};
 use crate::fault::SceneError;
 use crate::fault_line::fault_read;
 use crate::line::{behind, ended, is_word, number_at, step_of};
 use crate::rooms::Rooms;
 use crate::scenario::{Scenario, Work, WorkKind};
-use kt_core::{Faults, MAX_SHARDS, MAX_WORKERS, Scene, Step};
-use kt_script::Script;
+use kt_core::{Faults, Scene, Step};
+use kt_script::{Script, ScriptError};
+use kt_tuple::{MAX_SHARDS, MAX_WORKERS};
 use std::alloc::Global;
 use std::marker::Model;
 use std::mem;
@@ -227,7 +228,7 @@ impl Draft {
     {
         let workers = self.scripts.len() + 1;
         if is_word(line, b"worker") {
-            if workers >= MAX_WORKERS {
+            if workers >= usize::from(MAX_WORKERS) {
                 return Err(SceneError::Limit);
             }
             self.close_script(Expected::Commands)
@@ -258,13 +259,16 @@ impl Draft {
         ensures read { OnOk result (with_command self.old (Ok spelled) ≡ Ok self.new) }
         ensures fault { IfErr result (λ fault. IsFaultOf fault (with_command self.old (Ok spelled))) }
     {
-        if let Some(fault) = fault_behind(&self.script, &spelled) {
-            return Err(fault);
+        let Spelled { command, fits } = spelled;
+        if !fits {
+            return Err(fault_of_misfit(&self.script, &command));
         }
-        let Spelled { command, .. } = spelled;
-        self.script
-            .push(command)
-            .map_err(|_| SceneError::OutOfMemory)
+        match self.script.push(command) {
+            Ok(()) => Ok(()),
+            Err(ScriptError::Variable) => Err(SceneError::Variable),
+            Err(ScriptError::Limit) => Err(SceneError::Limit),
+            Err(ScriptError::OutOfMemory) => Err(SceneError::OutOfMemory),
+        }
     }
 
     /// Reads a step or a fault, or the end.

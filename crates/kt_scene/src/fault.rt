@@ -95,7 +95,7 @@ pub enum ReplayFault {
     Report(StoreError),
     /// Memory ran out for the text or for the report.
     Memory,
-    /// The reader failed, or 2,000,000 calls did not bring the end of the text.
+    /// The reader failed, or `MAX_READS` calls did not bring the end of the text.
     Read,
     /// The writer failed. A front of the report is written.
     Write,

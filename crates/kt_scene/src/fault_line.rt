@@ -6,12 +6,9 @@ ghost use Rattle.kt_scene.specs.FaultLines.{asked_by, asked_of, fault_from, faul
 
 use crate::fault::SceneError;
 use crate::line::{behind, ended, node_at, number_at};
-use kt_core::{Fault, FaultKind};
+use kt_core::{Fault, FaultKind, MAX_STEPS};
 use kt_script::Script;
 use kt_tuple::NodeId;
-
-/// The most steps that a fault line waits for.
-const MAX_AFTER: u64 = 100_000;
 
 /// What a fault line asks for, as it is spelled.
 #[derive(Clone, Copy, Debug, PartialEq, Eq)]
@@ -71,7 +68,7 @@ fn fault_from(shards: u8, scripts: &[Script], asked: Asked) -> Result<Fault, Sce
 {
     let Asked { kind, node, after } = asked;
     match after {
-        Some(after) if after <= MAX_AFTER => {
+        Some(after) if after <= MAX_STEPS => {
             if has_node(shards, scripts, node) {
                 Ok(Fault { kind, node, after })
             } else {

@@ -8,6 +8,7 @@ ghost use Rattle.kt_scene.specs.declared.fault.SceneError.{SceneError};
 ghost use Rattle.kt_scene.specs.declared.fault.SceneError.TheVariants.{Word};
 ghost use Rattle.kt_scene.specs.declared.scenario.WorkKind.{WorkKind};
 ghost use Rattle.kt_scene.specs.declared.scenario.WorkKind.TheVariants as kinds;
+ghost use Rattle.kt_scene.specs.declared.reading.TheConstants.{MAX_TEXT};
 ghost use Rattle.kt_scene.specs.Faults.{HasFirstFault, IsWordOfWork};
 ghost use Rattle.kt_scene.specs.Journal.{journal_text, play_of_steps};
 ghost use Rattle.kt_scene.specs.Reading.{Play, play_of};
@@ -44,18 +45,18 @@ pub fn what_was_read_is_written()
 /// The text that is written of a scenario is read as it, where it is not too long. So what `read_scene` gives of
 /// the text that `write_scene` wrote is the scenario that was written.
 ///
-/// This holds of each scenario that has a text: of at most 1,048,576 bytes, with node numbers from 1 to 99 and places
-/// of matches up to 99,999. Its fault lines are of nodes of the scene, none is spent by a step, and each is due after
-/// at most 100,000 steps.
+/// This holds of each scenario that has a text: of at most `MAX_TEXT` bytes, with node numbers up to `MAX_NODE_NUMBER`
+/// and places of matches up to `MAX_MATCH`. Its fault lines are of nodes of the scene, none is spent by a step, and
+/// each is due after at most `MAX_STEPS` steps.
 pub fn what_is_written_is_read()
-    ensures { (play : Play) → IsPlay play → length (scenario_text play) ≤ 1048576
+    ensures { (play : Play) → IsPlay play → length (scenario_text play) ≤ MAX_TEXT
         → play_of (kind_of play.work) (scenario_text play) ≡ Ok play }
 {}
 
 /// A journal's text, where it is not too long, is read as the scenario of its steps, whatever report it begins with.
 pub fn what_a_journal_tells_is_read()
     ensures { (report : List ℕ) (cast : Cast) (steps : List Step) → IsPlay (play_of_steps cast steps)
-        → length (journal_text report cast steps) ≤ 1048576
+        → length (journal_text report cast steps) ≤ MAX_TEXT
         → play_of kinds.Steps (journal_text report cast steps) ≡ Ok (play_of_steps cast steps) }
 {}
 

@@ -14,6 +14,13 @@ use kt_core::Step;
 use kt_tuple::NodeId;
 use kt_tuple::reading::{int_at, int_of};
 
+/// The greatest number of a node in the line of a step. A scene has fewer nodes: which are there, the judgement of the
+/// step says.
+pub const MAX_NODE_NUMBER: u64 = 99;
+
+/// The greatest place of a match in the line of a step: the steps of a world put at most so many tuples before it.
+pub const MAX_MATCH: u64 = 99_999;
+
 /// The bytes behind the word, where it stands in front. It is compared byte by byte, and stands at the caller: with a
 /// word that is known there, that is a few instructions, where a comparison of slices is a call.
 #[inline(always)]
@@ -150,7 +157,7 @@ fn short_node(text: &[u8]) -> Option<(NodeId, &[u8])>
     }
 }
 
-/// `w` or `s`, and a number from 1 to 99.
+/// `w` or `s`, and a number from 1 to `MAX_NODE_NUMBER`.
 #[inline(always)]
 pub(crate) fn node_at(text: &[u8]) -> Option<(NodeId, &[u8])>
     ensures { option_map (λ x. (x.0, x.1.now)) result ≡ node_at text.now }
@@ -170,11 +177,11 @@ fn long_node(text: &[u8]) -> Option<(NodeId, &[u8])>
 {
     match text.split_first() {
         Some((b'w', digits)) => {
-            let (number, rest) = number_within(1, 99, digits)?;
+            let (number, rest) = number_within(1, MAX_NODE_NUMBER, digits)?;
             Some((NodeId::Worker(number as u8), rest))
         }
         Some((b's', digits)) => {
-            let (number, rest) = number_within(1, 99, digits)?;
+            let (number, rest) = number_within(1, MAX_NODE_NUMBER, digits)?;
             Some((NodeId::Shard(number as u8), rest))
         }
         _ => None,
@@ -214,7 +221,7 @@ fn serve_of(words: &[u8]) -> Option<Step>
 {
     let (shard, words) = node_before_space(words)?;
     let (worker, words) = node_before_space(words)?;
-    let (place, rest) = number_within(0, 99_999, words)?;
+    let (place, rest) = number_within(0, MAX_MATCH, words)?;
     ended(
         Step::Serve {
             shard,

@@ -27,7 +27,7 @@ impl Rooms {
         }
     }
 
-    /// Makes room for 8 places, as those of a template and as those of a tuple.
+    /// Makes room for `MAX_PLACES` places, as those of a template and as those of a tuple.
     pub(crate) fn make(&mut self) -> Result<(), AllocError>
         ensures { OnOk result (IsReady self.new) }
     {
@@ -40,15 +40,14 @@ impl Rooms {
     /// The room for a template's places.
     pub(crate) fn for_slots(&mut self) -> Vec<Slot>
         requires { IsReady self.old }
-        ensures room { HasRoom result }
-        ensures left { HasRoom self.new.actuals }
+        ensures { HasRoom result }
     {
         mem::replace(&mut self.slots, Vec::new(self.alloc))
     }
 
     /// The room for a tuple's places.
     pub(crate) fn for_actuals(&mut self) -> Vec<Actual>
-        requires { HasRoom self.old.actuals }
+        requires { IsReady self.old }
         ensures { HasRoom result }
     {
         mem::replace(&mut self.actuals, Vec::new(self.alloc))

@@ -13,11 +13,11 @@ pub enum Outcome {
     Open,
     /// The reader came to its end; the writer has passed on all that was written.
     Done,
-    /// A call failed; or a reader had its 2,000,000 calls and came to no end.
+    /// A call failed; or a reader had its `MAX_READS` calls and came to no end.
     Failed,
 }
 
-/// A reader, how often it was called, and what that came to. It is called at most 2,000,000 times. A plain reader's
+/// A reader, how often it was called, and what that came to. It is called at most `MAX_READS` times. A plain reader's
 /// contract says which bytes it gave and not whether it failed: a body that blames the reader would meet it
 /// (docs/DECISIONS.md#the-program).
 #[derive(Drop)]
@@ -29,13 +29,14 @@ pub struct Source<R: Read> {
 
 impl<R: Read> Model for Source<R> {
     ghost use Rattle.std.specs.Prelude.{◌≤◌};
+    ghost use Rattle.kt_scene.specs.declared.source.TheConstants.{MAX_READS};
     ghost use Rattle.kt_scene.specs.Outside.{Reader};
 
     ghost Value = { Reader };
 
     ghost view = { λ s. record { bytes = R.remaining s.reader; calls = s.calls; outcome = s.outcome } };
 
-    ghost invariant = { λ s. s.calls ≤ 2000000 };
+    ghost invariant = { λ s. s.calls ≤ MAX_READS };
 }
 
 impl<R: Read> Source<R> {
@@ -43,7 +44,7 @@ impl<R: Read> Source<R> {
     ghost use Rattle.std.specs.Io.KnownBytes.{Consumes, IsAtEnd};
     ghost use Rattle.kt_scene.specs.Outside.{Reader};
 
-    /// The reader before any call: none of the 2,000,000 is used up.
+    /// The reader before any call: none of the `MAX_READS` is used up.
     pub fn new(reader: R) -> Source<R>
         ensures bytes { result.bytes ≡ R.remaining reader }
         ensures calls { result.calls ≡ 0 }
@@ -66,7 +67,7 @@ impl<R: Read> Source<R> {
     /// How often the reader was called.
     pub fn calls(&self) -> u32
         ensures value { result ≡ self.now.calls }
-        ensures few { result ≤ 2000000 }
+        ensures few { result ≤ MAX_READS }
     {
         self.calls
     }
@@ -84,15 +85,15 @@ impl<R: Read> Source<R> {
     }
 
     /// Calls the reader once: how many bytes it gave, none at its end, where it failed, and where it was
-    /// interrupted and may be called again. After 2,000,000 calls it is called no more.
+    /// interrupted and may be called again. After `MAX_READS` calls it is called no more.
     pub(crate) fn read(&mut self, buf: &mut [u8]) -> usize
         requires { 0 < length buf.old }
         ensures within { result ≤ length buf.new }
         ensures bytes { Consumes self.old.bytes self.new.bytes (take result buf.new) }
-        ensures counted { self.old.calls < 2000000 → self.new.calls ≡ self.old.calls + 1 }
-        ensures given_up { self.old.calls ≡ 2000000 → self.new.outcome ≡ Outcome.Failed }
+        ensures counted { self.old.calls < MAX_READS → self.new.calls ≡ self.old.calls + 1 }
+        ensures given_up { self.old.calls ≡ MAX_READS → self.new.outcome ≡ Outcome.Failed }
         ensures called { self.new.outcome ≢ Outcome.Failed → self.new.calls ≡ self.old.calls + 1 }
-        ensures few { self.new.calls ≤ 2000000 }
+        ensures few { self.new.calls ≤ MAX_READS }
         ensures end { self.new.outcome ≡ Outcome.Done → IsAtEnd self.new.bytes × (result ≡ 0) }
     {
         if self.calls == MAX_READS {

@@ -13,8 +13,8 @@ use std::io::{Read, Write};
 /// How many bytes a call of the reader is asked for at most.
 const CHUNK: usize = 8192;
 
-/// All bytes of the reader. Refused by a fault of line 1 where there are more than 1,048,576, by want
-/// of memory, or by the reader, which has 2,000,000 calls to come to its end. A call that was
+/// All bytes of the reader. Refused by a fault of line 1 where there are more than `MAX_TEXT`, by want
+/// of memory, or by the reader, which has `MAX_READS` calls to come to its end. A call that was
 /// interrupted is made again. What was taken from the reader before that is gone.
 pub fn read_text<R: Read>(alloc: Global, reader: &mut Source<R>) -> Result<Vec<u8>, ReplayFault>
     ensures read { IfOk result (λ text. IsAllRead reader.old reader.new text.items) }

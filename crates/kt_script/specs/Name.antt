@@ -5,6 +5,7 @@ use Rattle.std.specs.Int.{is_in_range}
 use Rattle.std.specs.List.{list_all}
 use Rattle.std.specs.Prelude.{ℕ, ◌==◌, nat_eq, nat_le, Bool, false, not, ◌&&◌}
 use Rattle.std.specs.Prelude.{◌||◌, List, [], ◌∷◌, length, codes, IsTrue}
+use Rattle.kt_script.specs.declared.name.TheConstants.{MAX_NAME}
 
 -- two names are one
 abbrev pub same_name : List ℕ → List ℕ → Bool
@@ -30,7 +31,8 @@ is_reserved word = same_name word (codes "int") || same_name word (codes "str") 
 -- a letter and up to 15 letters, digits and `_`, and no reserved word
 abbrev pub is_name : List ℕ → Bool
 is_name word =
-    begins_with_letter word && nat_le (length word) 16 && list_all is_name_character word && not (is_reserved word)
+    begins_with_letter word && nat_le (length word) MAX_NAME && list_all is_name_character word
+    && not (is_reserved word)
 
 abbrev pub IsName : List ℕ → Type 0
 IsName word = IsTrue (is_name word)

@@ -3,6 +3,7 @@ use Rattle.std.specs.Prelude.{◌≡◌, nat_lt, nat_le, Bool, true, not, ◌&&�
 use Rattle.std.specs.Prelude.{List, [], ◌∷◌, ◌++◌, length, Option, None, Some, is_some}
 use Rattle.std.specs.List.{list_all}
 use Rattle.std.specs.Option.{option_map_or}
+use Rattle.kt_script.specs.declared.script.TheConstants.{MAX_COMMANDS, MAX_VARIABLES}
 use Rattle.kt_tuple.specs.declared.value.Kind.{Kind}
 use Rattle.kt_tuple.specs.declared.value.Kind.TheVariants as kinds
 use Rattle.kt_tuple.specs.Equality.{kind_eq}
@@ -60,17 +61,17 @@ are_kinds_kept variables (b ∷ more) =
 abbrev pub keeps_rules : List (Name × Kind) → Command → Bool
 keeps_rules variables command = are_uses_bound variables command && are_kinds_kept variables (bindings command)
 
--- `unless` skips 1 to 200 commands
+-- `unless` skips one command at least, and no more than a script has
 abbrev pub has_count : Command → Bool
 has_count (Ask operation) = true
 has_count (Set variable source plus) = true
-has_count (Unless count) = nat_lt 0 count && nat_le count 200
+has_count (Unless count) = nat_lt 0 count && nat_le count MAX_COMMANDS
 
--- with the command the script has at most 200 commands and 64 variables
+-- with the command the script passes neither of its limits
 abbrev pub is_within : List Command → Command → Bool
 is_within commands command =
-    has_count command && nat_lt (length commands) 200
-    && nat_le (length (with_bindings (variables_of commands) (bindings command))) 64
+    has_count command && nat_lt (length commands) MAX_COMMANDS
+    && nat_le (length (with_bindings (variables_of commands) (bindings command))) MAX_VARIABLES
 
 -- why the command may not follow the script, want of memory aside
 abbrev pub refusal_of : List Command → Command → Option ScriptError

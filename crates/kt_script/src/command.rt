@@ -26,10 +26,10 @@ pub enum Slot {
     Formal(Kind, Option<Name>),
 }
 
-/// The values of a command's tuple: 1 to 8.
+/// The values of a command's tuple: 1 to `MAX_PLACES`.
 pub type Actuals = Places<Actual>;
 
-/// The places of a command's template: 1 to 8.
+/// The places of a command's template: 1 to `MAX_PLACES`.
 pub type Pattern = Places<Slot>;
 
 /// An operation on the space as a script has it.
@@ -58,7 +58,7 @@ pub enum Command {
         source: Name,
         plus: i64,
     },
-    /// Skips so many commands, 1 to 200, where the last answer was none.
+    /// Skips so many commands, 1 to `MAX_COMMANDS`, where the last answer was none.
     Unless(u8),
 }
 

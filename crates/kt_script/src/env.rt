@@ -10,7 +10,7 @@ use crate::command::Slot;
 use crate::meaning::{Scope, bind_tuple};
 use crate::script::Script;
 use crate::variables::{Variables, are_values_of, zeros_of};
-use kt_tuple::{Answer, Value};
+use kt_tuple::{Answer, Value, copy_values};
 use std::alloc::{AllocError, Global};
 use std::marker::Model;
 
@@ -132,16 +132,6 @@ fn values_after(
         if scope.has_kinds(slots, tuple.values()) {
             bind_tuple(variables, &mut copies, slots, tuple.values());
         }
-    }
-    Ok(copies)
-}
-
-pub(crate) fn copy_values(alloc: Global, values: &[Value]) -> Result<Vec<Value>, AllocError>
-    ensures { IfOk result (λ v. v.items ≡ values.now) }
-{
-    let mut copies = Vec::with_capacity(alloc, values.len())?;
-    for value in values {
-        copies.push(value.copy())?;
     }
     Ok(copies)
 }

@@ -9,6 +9,7 @@ ghost use Rattle.kt_tuple.specs.declared.value.Value.{Value};
 ghost use Rattle.kt_script.specs.declared.command.Command.{Command};
 ghost use Rattle.kt_script.specs.declared.name.Name.{Name};
 ghost use Rattle.kt_script.specs.declared.next.Next.{Next};
+ghost use Rattle.kt_script.specs.declared.script.TheConstants.{MAX_COMMANDS, MAX_VARIABLES};
 ghost use Rattle.kt_script.specs.Asks.{asks};
 ghost use Rattle.kt_script.specs.Command.{bindings};
 ghost use Rattle.kt_script.specs.Meaning.{has_kinds};
@@ -78,9 +79,9 @@ pub fn answers_lead_to_places_of_the_script()
         → IsInScript script (record { pc = next.pc; memory = next.env }) }
 {}
 
-/// A script has at most 200 commands, and at most 64 values are those of its variables.
+/// A script has at most `MAX_COMMANDS` commands, and at most `MAX_VARIABLES` values are those of its variables.
 pub fn a_script_keeps_its_limits()
-    ensures commands { (script : List Command) → IsScript script → length script ≤ 200 }
+    ensures commands { (script : List Command) → IsScript script → length script ≤ MAX_COMMANDS }
     ensures values { (script : List Command) → IsScript script → (values : List Value)
-        → are_values_of (variables_of script) values ≡ true → length values ≤ 64 }
+        → are_values_of (variables_of script) values ≡ true → length values ≤ MAX_VARIABLES }
 {}

@@ -99,7 +99,7 @@ impl Scope<'_> {
         ensures { IfOk result (λ t. t ≡ template_of (meaning_in self.entry) pattern.now) }
     {
         let places = self.places_of(alloc, pattern.as_slice())?;
-        // A command's template has 1 to 8 places, so it makes a template.
+        // A command's template has no place too many, so it makes a template.
         Ok(Template::new(alloc, places)?.unwrap())
     }
 
@@ -107,7 +107,7 @@ impl Scope<'_> {
         ensures { IfOk result (λ t. t ≡ map (value_of_actual (meaning_in self.entry)) actuals.now) }
     {
         let values = self.values_of(alloc, actuals.as_slice())?;
-        // A command's tuple has 1 to 8 values, so it makes a tuple.
+        // A command's tuple has no value too many, so it makes a tuple.
         Ok(Tuple::new(alloc, values)?.unwrap())
     }
 

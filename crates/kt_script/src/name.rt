@@ -46,7 +46,7 @@ impl Name {
         }
     }
 
-    /// The characters, one byte each: 1 to 16 of them.
+    /// The characters, one byte each: 1 to `MAX_NAME` of them.
     pub fn as_bytes(&self) -> &[u8]
         ensures value { result.now ≡ self.now }
         ensures name { IsName self.now }
@@ -59,7 +59,7 @@ impl Name {
         ensures { result ≡ self.now }
     {
         let mut characters = ArrayVec::new();
-        // Both have room for 16 characters, so all of them fit.
+        // Both have room for `MAX_NAME` characters, so all of them fit.
         let _ = characters.try_extend_from_slice(&self.characters);
         Name { characters }
     }

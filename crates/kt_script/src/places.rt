@@ -6,8 +6,8 @@ ghost use Rattle.kt_tuple.specs.Matching.{HasArity};
 use kt_tuple::MAX_PLACES;
 use std::marker::Model;
 
-/// 1 to 8 places of one sort, from left to right. They stand apart from the command, which so is small where it is
-/// moved.
+/// 1 to `MAX_PLACES` places of one sort, from left to right. They stand apart from the command, which so is small where
+/// it is moved.
 #[derive(Debug, Drop)]
 pub struct Places<T> {
     places: Vec<T>,
@@ -25,7 +25,7 @@ impl<T> Model for Places<T> {
 }
 
 impl<T: Drop> Places<T> {
-    /// These places, or `None` where there are none or more than 8. It takes no memory.
+    /// These places, or `None` where there are none or more than `MAX_PLACES`. It takes no memory.
     pub fn new(places: Vec<T>) -> Option<Places<T>>
         ensures within { IsSome result ↔ HasArity places.items }
         ensures value { IfSome result (λ p. p ≡ places.items) }
@@ -37,7 +37,7 @@ impl<T: Drop> Places<T> {
         }
     }
 
-    /// The places, from left to right: 1 to 8 of them.
+    /// The places, from left to right: 1 to `MAX_PLACES` of them.
     pub fn as_slice(&self) -> &[T]
         ensures value { result.now ≡ self.now }
         ensures arity { HasArity self.now }

@@ -10,6 +10,7 @@ ghost use Rattle.kt_script.specs.inner.Counting.{count_new};
 
 use crate::command::{Actual, Command, Operation, Slot};
 use crate::name::Name;
+use crate::script::MAX_COMMANDS;
 use crate::variables::{Variables, kind_in};
 use kt_tuple::Kind;
 
@@ -21,13 +22,13 @@ pub(crate) fn keeps_rules(variables: &Variables, command: &Command) -> bool
     are_uses_bound(variables, command) && are_kinds_kept(variables, command)
 }
 
-/// Whether `unless` has a number from 1 to 200.
+/// Whether `unless` has a number from 1 to `MAX_COMMANDS`.
 pub(crate) fn has_count(command: &Command) -> bool
     ensures { result ≡ has_count command.now }
 {
     match command {
         Command::Ask(_) | Command::Set { .. } => true,
-        Command::Unless(count) => 0 < *count && *count <= 200,
+        Command::Unless(count) => 0 < *count && usize::from(*count) <= MAX_COMMANDS,
     }
 }
 

@@ -9,7 +9,8 @@ pub enum ScriptError {
     /// to values of two kinds.
     #[error("a name breaks the rules of variables")]
     Variable,
-    /// More than 200 commands or 64 variables, or `unless` with a number that is not 1 to 200.
+    /// More than `MAX_COMMANDS` commands or `MAX_VARIABLES` variables, or `unless` with a number that is not 1 to
+    /// `MAX_COMMANDS`.
     #[error("too many")]
     Limit,
     /// No memory was left for a command that may follow.

@@ -1,10 +1,7 @@
--- How many workers a shard knows.
-use Rattle.std.specs.Prelude.{ℕ}
+-- How many desks a shard has.
+use Rattle.std.specs.Prelude.{ℕ, ◌+◌}
+use Rattle.kt_tuple.specs.declared.node.TheConstants.{MAX_WORKERS}
 
--- the most workers
-abbrev pub most_workers : ℕ
-most_workers = 8
-
--- the numbers that they can have, 0 counted: so many desks has a shard
+-- the numbers that workers can have, 0 counted: so many desks has a shard
 abbrev pub desks : ℕ
-desks = 9
+desks = MAX_WORKERS + 1

@@ -25,7 +25,7 @@ pub use laws::{
     a_served_request_is_answered_again, a_shard_is_its_parts, a_table_reads_what_was_put,
     other_desks_stay, services_are_steps_of_the_space,
 };
-pub use parts::MAX_WORKERS;
+pub use parts::DESKS;
 pub use request::{Kept, Request};
 pub use service::{Choice, Prepared, Reply};
 pub use shard::Shard;

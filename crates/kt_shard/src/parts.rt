@@ -13,14 +13,12 @@ use crate::desk::Desk;
 use crate::request::{Kept, Request};
 use crate::service::Prepared;
 use kt_space::Bag;
-use kt_tuple::{Op, Tuple};
+use kt_tuple::{MAX_WORKERS, Op, Tuple};
 use std::alloc::{AllocError, Global};
 
-/// The most workers that a shard knows. They are numbered from 1.
-pub const MAX_WORKERS: u8 = 8;
-
-/// The numbers from 0 to that of the last worker: a worker's number is the place of its desk. Workers count from 1.
-const DESKS: u8 = MAX_WORKERS + 1;
+/// How many desks a shard has: the numbers from 0 to that of the last worker. A worker's number is the place of its
+/// desk, and workers count from 1.
+pub const DESKS: u8 = MAX_WORKERS + 1;
 
 /// The tuples of a shard, and what it remembers of each worker. Shards that are equal can share them.
 #[derive(Debug, Drop)]

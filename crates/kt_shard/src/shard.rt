@@ -155,8 +155,8 @@ impl Shard {
         }
     }
 
-    /// Hears the request of the worker of this number, at most 8, and says what became of it. Where memory is wanting
-    /// nothing changes.
+    /// Hears the request of the worker of this number, at most `MAX_WORKERS`, and says what became of it. Where memory
+    /// is wanting nothing changes.
     pub fn hear(&mut self, alloc: Global, worker: u8, request: Request) -> Result<Heard, AllocError>
         requires { worker < desks }
         ensures state { OnOk result (self.new.state ≡ heard self.old.state worker request) }

@@ -7,8 +7,10 @@ ghost use Rattle.sqlite.specs.Held.{state};
 
 use crate::store::SqlStore;
 use kt_ckpt::{Ckpt, Marks};
-use kt_store::{CkptStore, Posted, Purpose, StoreError, Tentative, TentativeMarks, Verdict};
-use kt_tables::{GREATEST, bumped, discarded, permanent_in, promoted, tentative_in};
+use kt_store::{
+    CkptStore, GREATEST, Posted, Purpose, StoreError, Tentative, TentativeMarks, Verdict,
+};
+use kt_tables::{bumped, discarded, permanent_in, promoted, tentative_in};
 use kt_tuple::NodeId;
 use sqlite::Alter;
 use std::alloc::Global;

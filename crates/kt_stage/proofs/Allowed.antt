@@ -30,7 +30,7 @@ use Rattle.kt_core.specs.World.{Standing}
 use Rattle.kt_stage.specs.Asking.{IsAsked}
 use Rattle.kt_stage.specs.declared.policy.Rule.{Rule}
 use Rattle.kt_stage.specs.declared.policy.Rule.TheVariants as rules
-use Rattle.kt_stage.specs.Order.{names, workers}
+use Rattle.kt_tuple.specs.Node.{all_nodes, all_workers}
 use Rattle.kt_stage.specs.Policy.{by_rule, first_some, got_no, has_sent, if_allowed, is_down, is_mode, is_up, next_step}
 use Rattle.kt_stage.specs.Policy.{before_serving, node_got_no, or_else, policy, serves_with_first, step_if}
 use Rattle.kt_stage.specs.inner.Serving.{next_before_serving}
@@ -88,7 +88,7 @@ own-rule s lines p rules.Decides x e = own-if p _ (Decide p) x refl e
 own-rule s lines p rules.Hears x e = own-heard p x _ e
 own-rule s lines p rules.Takes x e = own-if p _ (Take p) x refl e
 own-rule s lines p rules.Asks x e = some-of (if_allowed s (Issue p)) _ x (owner x ≡ p) (own-if p _ (Issue p) x refl) (own-if p _ (Repeat p) x refl) e
-own-rule s lines p rules.Serves x e = first-of (serves_with_first s p) workers x (owner x ≡ p) (λ w. own-if p _ (Serve p w 0) x refl) e
+own-rule s lines p rules.Serves x e = first-of (serves_with_first s p) all_workers x (owner x ≡ p) (λ w. own-if p _ (Serve p w 0) x refl) e
 own-rule s lines p rules.GivesUp x e = own-if p _ (Abandon p) x refl e
 
 pub next-own : (s : State) (lines : List FaultLine) (p : NodeId) (x : Step) → next_step s lines p ≡ Some x → owner x ≡ p
@@ -149,11 +149,11 @@ allowed-back s p x true e =
     some-of (if_allowed s (Abandon p)) (if_allowed s (Restart p)) x (is_allowed s x ≡ true) (allowed-alone s (Abandon p) x) (allowed-alone s (Restart p) x) e
 allowed-back s p x false e = absurd cc
 
-allowed-heard : (s : State) (p : NodeId) (x : Step) (from : Option NodeId) → find (has_sent s p) names ≡ from → option_map (λ q. Deliver q p) from ≡ Some x
+allowed-heard : (s : State) (p : NodeId) (x : Step) (from : Option NodeId) → find (has_sent s p) all_nodes ≡ from → option_map (λ q. Deliver q p) from ≡ Some x
     → is_allowed s x ≡ true
 allowed-heard s p x None is e = absurd cc
 allowed-heard s p x (Some q) is e =
-    let sent = find-holds (has_sent s p) names q is in
+    let sent = find-holds (has_sent s p) all_nodes q is in
     ap (is_allowed s) (let here : x ≡ Deliver q p = cc in here)
     ∙ in-scene (are_neighbours s.cast q p) _ (ends-sent s p q sent) (delivery-or (view s p) (told s (Deliver q p)) q (link s q p) sent)
 
@@ -185,11 +185,11 @@ allowed-rule s lines p found rules.TriesAgain x e =
     let both = and_parts (got_no s p) _ (step-holds _ (Restart p) x e) in
     ap (is_allowed s) (sym (step-is _ (Restart p) x e)) ∙ allowed-restart s p found both.0
 allowed-rule s lines p found rules.Decides x e = allowed-alone s (Decide p) x e
-allowed-rule s lines p found rules.Hears x e = allowed-heard s p x (find (has_sent s p) names) refl e
+allowed-rule s lines p found rules.Hears x e = allowed-heard s p x (find (has_sent s p) all_nodes) refl e
 allowed-rule s lines p found rules.Takes x e = allowed-alone s (Take p) x e
 allowed-rule s lines p found rules.Asks x e =
     some-of (if_allowed s (Issue p)) _ x (is_allowed s x ≡ true) (allowed-alone s (Issue p) x) (allowed-if s _ (Repeat p) x) e
-allowed-rule s lines p found rules.Serves x e = first-of (serves_with_first s p) workers x (is_allowed s x ≡ true) (λ w. allowed-alone s (Serve p w 0) x) e
+allowed-rule s lines p found rules.Serves x e = first-of (serves_with_first s p) all_workers x (is_allowed s x ≡ true) (λ w. allowed-alone s (Serve p w 0) x) e
 allowed-rule s lines p found rules.GivesUp x e = allowed-if s _ (Abandon p) x e
 
 pub next-allowed : (s : State) (lines : List FaultLine) (p : NodeId) (x : Step) → is_some (node s p) ≡ is_node s.cast p → next_step s lines p ≡ Some x

@@ -42,10 +42,6 @@ later-still first between last one two =
     let a = one.faults in let b = two.faults in let c = one.wants in let d = two.wants in
     record { faults = omega (arith, a, b); wants = omega (arith, c, d) }
 
--- the store was asked since
-pub asked-later : {T : Type 0} (first old new : Counts) (r : Result T StoreError) → AreLater first old → new ≡ counted r old → AreLater first new
-asked-later first old new r le is = subst (AreLater first) (sym is) (later-still first old (counted r old) le (counted-later r old))
-
 -- a step was tried since
 pub tried-later : {T : Type 0} (first old new : Counts) (r : Result T StepError) → AreLater first old → new ≡ step_counted r old → AreLater first new
 tried-later first old new r le is = subst (AreLater first) (sym is) (later-still first old (step_counted r old) le (step-later r old))

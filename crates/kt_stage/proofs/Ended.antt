@@ -61,12 +61,6 @@ halted-left opened before cast lines j (runs.Close cause) le made h = record { m
 halted-left opened before cast lines j runs.Memory le made h = record { made = made; shown = tt }
 halted-left opened before cast lines j (runs.Unfinished node) le made h = absurd h
 
--- the steps lead from the opening of the scene
-pub made-back : (scene : Cast) (first : Standing) (j : Journal) → (IsTrue first.is_honest → first.state ≡ opening scene) → Replays first j.world j.steps
-    → IsTrue j.world.is_honest → all_made (opening scene) j.steps ≡ Ok j.world.state
-made-back scene first j opened replays h =
-    let r = replays h in ap (λ (s : State). all_made s j.steps) (sym (opened r.0)) ∙ r.1
-
 -- this node has a next step in the world that the journal has
 pub left-over : (was : StoreValue) (cast : Cast) (lines : List FaultLine) (p : NodeId) (j : Journal)
     → (IsTrue j.world.is_honest → all_made (opening cast) j.steps ≡ Ok j.world.state)

@@ -11,7 +11,7 @@ use Rattle.kt_world.specs.declared.step.Step.{Step}
 use Rattle.kt_world.specs.declared.step.StepError.{StepError}
 use Rattle.kt_world.specs.declared.step.StepError.TheVariants as refusals
 use Rattle.kt_world.specs.Judge.{is_planned, judged, planned, within_limit}
-use Rattle.kt_world.specs.Limits.{most_steps}
+use Rattle.kt_world.specs.declared.step.TheConstants.{MAX_STEPS}
 use Rattle.kt_world.specs.State.{State}
 use Rattle.kt_world.specs.Step.{owner}
 use Rattle.kt_world.specs.Told.{told}
@@ -31,12 +31,12 @@ abbrev refused : StepError → Result Plan StepError
 refused e = Err e
 
 planned-any : (made : ℕ) (r : Result Plan StepError) (e : StepError) → is_planned r ≡ true → within_limit made r ≡ Err e → is_any_steps e ≡ true
-planned-any made (Ok plan) e is same = by (nat_lt made most_steps) same
+planned-any made (Ok plan) e is same = by (nat_lt made MAX_STEPS) same
   where
     by : (b : Bool) → (if b then Ok plan else refused refusals.StepLimit) ≡ refused e → is_any_steps e ≡ true
     by true same = absurd cc
     by false same = ap is_any_steps (let here : e ≡ refusals.StepLimit = cc in here)
-planned-any made (Err (refusals.Store x)) e is same = by (nat_lt made most_steps) same
+planned-any made (Err (refusals.Store x)) e is same = by (nat_lt made MAX_STEPS) same
   where
     by : (b : Bool) → (if b then refused (refusals.Store x) else refused refusals.StepLimit) ≡ refused e → is_any_steps e ≡ true
     by true same = ap is_any_steps (let here : e ≡ refusals.Store x = cc in here)
@@ -50,18 +50,18 @@ planned-any made (Err refusals.Unresolved) e is same = absurd cc
 planned-any made (Err refusals.StepLimit) e is same = absurd cc
 planned-any made (Err refusals.OutOfMemory) e is same = absurd cc
 
-limit-reached : (made : ℕ) (r : Result Plan StepError) → is_planned r ≡ true → within_limit made r ≡ Err refusals.StepLimit → most_steps ≤ made
-limit-reached made (Ok plan) is same = by (nat_lt made most_steps) refl same
+limit-reached : (made : ℕ) (r : Result Plan StepError) → is_planned r ≡ true → within_limit made r ≡ Err refusals.StepLimit → MAX_STEPS ≤ made
+limit-reached made (Ok plan) is same = by (nat_lt made MAX_STEPS) refl same
   where
-    by : (b : Bool) → nat_lt made most_steps ≡ b → (if b then Ok plan else refused refusals.StepLimit) ≡ refused refusals.StepLimit → most_steps ≤ made
+    by : (b : Bool) → nat_lt made MAX_STEPS ≡ b → (if b then Ok plan else refused refusals.StepLimit) ≡ refused refusals.StepLimit → MAX_STEPS ≤ made
     by true at same = absurd cc
-    by false at same = ltb-false made most_steps at
-limit-reached made (Err (refusals.Store x)) is same = by (nat_lt made most_steps) refl same
+    by false at same = ltb-false made MAX_STEPS at
+limit-reached made (Err (refusals.Store x)) is same = by (nat_lt made MAX_STEPS) refl same
   where
-    by : (b : Bool) → nat_lt made most_steps ≡ b → (if b then refused (refusals.Store x) else refused refusals.StepLimit) ≡ refused refusals.StepLimit
-        → most_steps ≤ made
+    by : (b : Bool) → nat_lt made MAX_STEPS ≡ b → (if b then refused (refusals.Store x) else refused refusals.StepLimit) ≡ refused refusals.StepLimit
+        → MAX_STEPS ≤ made
     by true at same = absurd cc
-    by false at same = ltb-false made most_steps at
+    by false at same = ltb-false made MAX_STEPS at
 limit-reached made (Err refusals.NoNode) is same = absurd cc
 limit-reached made (Err refusals.WrongMode) is same = absurd cc
 limit-reached made (Err refusals.NothingThere) is same = absurd cc
@@ -139,7 +139,7 @@ never-honest false f = refl
 pub given-cause : (before : Counts) (old new : Journal) (p : NodeId) (step : Step) (e : StepError) → AreLater before old.world.counts → IsGiven old.world p step
     → IsActed old new p step (Err (errors.Step e)) → is_run_cause before new.world e ≡ true
 given-cause before old new p step refusals.StepLimit later given acted = unless-honest new.world.is_honest _ (λ h.
-    le-leb most_steps new.world.state.made (subst (λ (s : State). most_steps ≤ s.made) (sym (acted.same h))
+    le-leb MAX_STEPS new.world.state.made (subst (λ (s : State). MAX_STEPS ≤ s.made) (sym (acted.same h))
     (limit-reached old.world.state.made (judged old.world.state (told old.world.state step) step) (given (acted.honest h)).1 (acted.refusal h))))
 given-cause before old new p step (refusals.Store refusal) later given acted =
     fault-since before old.world.counts new.world refusal later acted.counts acted.cause
@@ -156,11 +156,6 @@ given-cause before old new p step refusals.NotDecided later given acted = never-
     never old.world.state step refusals.NotDecided refl (given (acted.honest h)).1 (acted.refusal h))
 given-cause before old new p step refusals.Unresolved later given acted = never-honest new.world.is_honest (λ h.
     never old.world.state step refusals.Unresolved refl (given (acted.honest h)).1 (acted.refusal h))
-
--- the policy gives a node steps of its own alone
-pub given-own-cause : (before : Counts) (old new : Journal) (p : NodeId) (step : Step) → IsGiven old.world p step
-    → IsActed old new p step (Err errors.NotOwner) → is_run_cause before new.world refusals.NoNode ≡ true
-given-own-cause before old new p step given acted = never-honest new.world.is_honest (λ h. acted.not_owner (given (acted.honest h)).0)
 
 -- the store said what had to be known, or its refusal ends the run
 pub given-from : (old new : Standing) (p : NodeId) (r : Result (Option Step) StoreError)

@@ -110,9 +110,6 @@ matched-later p steps seats seat later r split other is = (λ e. passed ∙ is.0
         ap (seats_of p) split
         ∙ ap (λ (b : Bool). cond b (seat ∷ seats_of p later) (seats_of p later)) (apart (node_eq p seat.node) refl)
 
-pub matched-none : (p : NodeId) (steps : List Step) (seats : List Held) → seats ≡ [] → IsTrue false ↔ IsMatched steps seats p
-matched-none p steps seats none = (λ e. absurd cc, λ one. absurd (let e : [] ≡ full_seat steps p ∷ [] = sym (ap (seats_of p) none) ∙ one in cc))
-
 -- ---- what a closed stage's seats keep
 
 -- what holds of all nodes of a list holds of each that is found in it
@@ -227,10 +224,6 @@ pub same-side : {A : Type 0} (b : Bool) (x y z : A) → x ≡ y → IsTrue b ↔
 same-side b x y z is f = (λ e. sym is ∙ f.0 e, λ e. f.1 (is ∙ e))
 
 -- ---- the receipts of one node, step by step
-
-pub no-receipts : (p : NodeId) (number : ℕ) → receipts_of p number [] ≡ []
-unfolding receipts_of
-no-receipts p number = refl
 
 pub nothing-passed : (p : NodeId) (receipts : List Receipt) → receipts ≡ receipts_of p 1 [] ++ receipts
 unfolding receipts_of

@@ -1,7 +1,7 @@
 -- What one step more makes of a world that settles.
-use Rattle.std.proofs.Common.{◌≡◌, ℕ, ◌+◌, ◌-◌, ◌≤◌, ◌<◌, length, length-append, take, take_all, arith, Bool, true, false, List, [], ◌∷◌, ◌++◌, Result, Ok, Err}
+use Rattle.std.proofs.Common.{◌≡◌, ℕ, ◌+◌, ◌-◌, ◌<◌, length, length-append, take, take_all, arith, Bool, true, false, List, [], ◌∷◌, ◌++◌, Result, Ok, Err}
 use Rattle.std.proofs.Common.{if◌then◌else◌, refl, sym, ap, subst, ◌∙◌, ltb-true, ltb-false}
-use Rattle.std.specs.Prelude.{Option, None, Some, slice_get, nat_lt, IfErr, IsErrAnd, IsTrue, OnOk}
+use Rattle.std.specs.Prelude.{Option, Some, slice_get, nat_lt, IfErr, IsErrAnd, IsTrue, OnOk}
 use Rattle.std.proofs.lemmas.List.{take-append-le}
 use Rattle.std.proofs.lemmas.List.Sums.{fold-append}
 use Rattle.kt_history.proofs.Shared.{slice_get-append_left}
@@ -13,7 +13,7 @@ use Rattle.kt_world.specs.declared.step.StepError.{StepError}
 use Rattle.kt_world.specs.declared.step.StepError.TheVariants as refusals
 use Rattle.kt_world.specs.Effect.{step_result}
 use Rattle.kt_world.specs.Judge.{judged, planned, within_limit}
-use Rattle.kt_world.specs.Limits.{most_steps}
+use Rattle.kt_world.specs.declared.step.TheConstants.{MAX_STEPS}
 use Rattle.kt_world.specs.State.{State}
 use Rattle.kt_core.specs.declared.faults.FaultLine.{FaultLine}
 use Rattle.kt_core.specs.Faults.{spent}
@@ -146,15 +146,15 @@ refused_counted {T = T} (Err y) e old mid new is rose same =
 
 -- ---- that it ends
 
-planned-room : (made : ℕ) (r : Result Plan StepError) (plan : Plan) → within_limit made r ≡ Ok plan → made < most_steps
-planned-room made (Ok x) plan is = by (nat_lt made most_steps) refl is
+planned-room : (made : ℕ) (r : Result Plan StepError) (plan : Plan) → within_limit made r ≡ Ok plan → made < MAX_STEPS
+planned-room made (Ok x) plan is = by (nat_lt made MAX_STEPS) refl is
   where
-    by : (b : Bool) → nat_lt made most_steps ≡ b → (if b then Ok x else Err refusals.StepLimit) ≡ Ok plan → made < most_steps
-    by true at same = ltb-true made most_steps at
+    by : (b : Bool) → nat_lt made MAX_STEPS ≡ b → (if b then Ok x else Err refusals.StepLimit) ≡ Ok plan → made < MAX_STEPS
+    by true at same = ltb-true made MAX_STEPS at
     by false at same = absurd cc
-planned-room made (Err (refusals.Store x)) plan is = by (nat_lt made most_steps) is
+planned-room made (Err (refusals.Store x)) plan is = by (nat_lt made MAX_STEPS) is
   where
-    by : (b : Bool) → (if b then Err (refusals.Store x) else Err refusals.StepLimit) ≡ Ok plan → made < most_steps
+    by : (b : Bool) → (if b then Err (refusals.Store x) else Err refusals.StepLimit) ≡ Ok plan → made < MAX_STEPS
     by true same = absurd cc
     by false same = absurd cc
 planned-room made (Err refusals.NoNode) plan is = absurd cc
@@ -168,7 +168,7 @@ planned-room made (Err refusals.OutOfMemory) plan is = absurd cc
 
 -- each step leaves room for fewer
 pub fewer_left : (old new : State) (asked : State) (step : Step) → IsByPlan asked step new → new.made ≡ asked.made + 1 → beside asked ≡ beside old
-    → most_steps - new.made < most_steps - old.made
+    → MAX_STEPS - new.made < MAX_STEPS - old.made
 fewer_left old new asked step by_plan one same =
     let room = planned-room asked.made (judged asked by_plan.told step) by_plan.plan by_plan.is in
     let was : asked.made ≡ old.made = ap (λ (t : State). t.made) same in

@@ -3,13 +3,12 @@ use Rattle.std.specs.Prelude.{◌≡◌, ◌≢◌, ℕ, ◌+◌, Bool, not, IsT
 use Rattle.std.specs.Prelude.{Option, None, Some}
 use Rattle.std.specs.List.{list_any}
 use Rattle.kt_tuple.specs.declared.node.NodeId.{NodeId}
-use Rattle.kt_tuple.specs.Node.{node_eq}
+use Rattle.kt_tuple.specs.Node.{node_eq, is_before}
 use Rattle.kt_world.specs.declared.step.Step.{Step}
 use Rattle.kt_stage.specs.declared.closing.CloseError.{CloseError}
 use Rattle.kt_stage.specs.declared.closing.CloseError.TheVariants as refusals
 use Rattle.kt_stage.specs.declared.seat.Receipt.{Receipt}
 use Rattle.kt_stage.specs.Journal.{Held, receipt, receipts_of}
-use Rattle.kt_stage.specs.Order.{is_before}
 
 -- the seats of one node
 abbrev pub seats_of : NodeId → List Held → List Held

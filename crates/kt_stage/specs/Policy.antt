@@ -6,7 +6,7 @@ use Rattle.std.specs.List.{find, list_all, list_any}
 use Rattle.std.specs.Option.{option_map}
 use Rattle.kt_tuple.specs.declared.node.NodeId.{NodeId}
 use Rattle.kt_tuple.specs.declared.op.Op.{Op}
-use Rattle.kt_tuple.specs.Node.{node_eq, node_index}
+use Rattle.kt_tuple.specs.Node.{node_eq, node_index, is_before, all_nodes, all_workers}
 use Rattle.kt_tuple.specs.Op.{op_eq}
 use Rattle.kt_worker.specs.declared.worker.Worker.{Worker}
 use Rattle.kt_worker.specs.Standing.{again_request}
@@ -37,7 +37,6 @@ use Rattle.kt_core.specs.Lent.{is_allowed, message_at, shard, worker}
 use Rattle.kt_stage.specs.declared.traffic.Sought.TheVariants as soughts
 use Rattle.kt_stage.specs.declared.policy.Rule.{Rule}
 use Rattle.kt_stage.specs.declared.policy.Rule.TheVariants as rules
-use Rattle.kt_stage.specs.Order.{is_before, names, workers}
 use Rattle.kt_stage.specs.Traffic.{is_kept, is_on_link}
 
 -- ---- the words of the rules
@@ -130,7 +129,7 @@ abbrev pub lets_restart : State → NodeId → NodeId → Bool
 lets_restart s p x = is_absent s x || (node_eq x p || (is_up s x || (got_no s x && is_before p x)))
 
 abbrev pub tries_again : State → NodeId → Option Step
-tries_again s p = step_if (got_no s p && list_all (lets_restart s p) names) (Restart p)
+tries_again s p = step_if (got_no s p && list_all (lets_restart s p) all_nodes) (Restart p)
 
 -- ---- 6. it decides
 
@@ -143,7 +142,7 @@ abbrev pub has_sent : State → NodeId → NodeId → Bool
 has_sent s p q = is_some (message_at s q p 0)
 
 abbrev pub hears : State → NodeId → Option Step
-hears s p = option_map (λ q. Deliver q p) (find (has_sent s p) names)
+hears s p = option_map (λ q. Deliver q p) (find (has_sent s p) all_nodes)
 
 -- ---- 8. it takes what it keeps back
 
@@ -196,7 +195,7 @@ abbrev pub serves_with_first : State → NodeId → NodeId → Option Step
 serves_with_first s p w = if_allowed s (Serve p w 0)
 
 abbrev pub serves : State → NodeId → Option Step
-serves s p = first_some (serves_with_first s p) workers
+serves s p = first_some (serves_with_first s p) all_workers
 
 -- ---- 11. held or rolling: it gives up, where a node that it awaits owes it no vote. A node owes one where the ask is
 -- on its way to it, or its vote on its way back, or it votes in the instance, asked by this node, and has not voted.
@@ -263,7 +262,7 @@ if_unfinished s lines p = if is_some (next_step s lines p) then Some p else None
 
 -- the first node, in node order, that has a next step
 abbrev pub first_unfinished : State → List FaultLine → Option NodeId
-first_unfinished s lines = first_some (if_unfinished s lines) names
+first_unfinished s lines = first_some (if_unfinished s lines) all_nodes
 
 -- the fault lines that are left after these steps
 abbrev pub spent_by : List FaultLine → List Step → List FaultLine

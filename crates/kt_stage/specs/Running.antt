@@ -5,7 +5,7 @@ use Rattle.kt_tuple.specs.declared.node.NodeId.{NodeId}
 use Rattle.kt_world.specs.declared.step.Step.{Step}
 use Rattle.kt_world.specs.declared.step.StepError.{StepError}
 use Rattle.kt_world.specs.declared.step.StepError.TheVariants as refusals
-use Rattle.kt_world.specs.Limits.{most_steps}
+use Rattle.kt_world.specs.declared.step.TheConstants.{MAX_STEPS}
 use Rattle.kt_store.specs.declared.error.StoreError.{StoreError}
 use Rattle.kt_store.specs.declared.error.StoreError.TheVariants as stores
 use Rattle.kt_store.specs.Calls.{Counts, most}
@@ -48,7 +48,7 @@ is_fault_since before world stores.Full = not world.is_honest
 -- the refusal is due in this world, whose store had these counts at the opening: the limit of steps where it is
 -- reached, a refusal of the store, want of memory; no other while the store is honest
 abbrev pub is_run_cause : Counts → Standing → StepError → Bool
-is_run_cause before world refusals.StepLimit = not world.is_honest || nat_le most_steps world.state.made
+is_run_cause before world refusals.StepLimit = not world.is_honest || nat_le MAX_STEPS world.state.made
 is_run_cause before world (refusals.Store refusal) = is_fault_since before world refusal
 is_run_cause before world refusals.OutOfMemory = true
 is_run_cause before world refusal = not world.is_honest

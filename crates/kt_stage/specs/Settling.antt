@@ -1,5 +1,6 @@
 -- How a world settles: step after step, each the next one of the first node that has one, until no node has any.
-use Rattle.std.specs.Prelude.{◌≡◌, ◌<◌, ℕ, ◌+◌, Bool, true, false, List, length, slice_get, take, Option, Some, Ok, IsTrue}
+use Rattle.std.specs.Prelude.{◌≡◌, ◌<◌, ℕ, ◌+◌, Bool, true, false, List, length, slice_get, take, Option, Some, Ok}
+use Rattle.std.specs.Prelude.{IsTrue}
 use Rattle.kt_world.specs.declared.step.Step.{Step}
 use Rattle.kt_world.specs.declared.step.StepError.{StepError}
 use Rattle.kt_world.specs.declared.step.StepError.TheVariants as refusals
@@ -9,12 +10,12 @@ use Rattle.kt_core.specs.declared.faults.FaultLine.{FaultLine}
 use Rattle.kt_core.specs.Stepping.{Refuses}
 use Rattle.kt_core.specs.World.{Standing}
 use Rattle.kt_stage.specs.Journal.{Replays, all_made}
-use Rattle.kt_stage.specs.Order.{names}
+use Rattle.kt_tuple.specs.Node.{all_nodes}
 use Rattle.kt_stage.specs.Policy.{first_some, next_step, spent_by}
 
 -- the next step of the first node, in node order, that has one
 abbrev pub next_of_first : State → List FaultLine → Option Step
-next_of_first s lines = first_some (next_step s lines) names
+next_of_first s lines = first_some (next_step s lines) all_nodes
 
 -- each of these steps is the one that was next, where the steps before it had led and with the fault lines that they
 -- had left

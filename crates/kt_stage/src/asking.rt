@@ -13,7 +13,6 @@ ghost use Rattle.kt_core.specs.Lent.{shard, worker};
 ghost use Rattle.kt_world.specs.Cast.{is_node};
 ghost use Rattle.kt_world.specs.Needs.{poll_at};
 
-use crate::order::is_before;
 use crate::traffic::{Sought, is_kept, is_on_link};
 use kt_core::{Step, World};
 use kt_node::Mode;
@@ -78,7 +77,7 @@ pub(crate) fn lets_restart<S: CkptStore>(
 {
     match world.mode(other) {
         None | Some(Mode::Up) => Ok(true),
-        _ => Ok(other == node || got_no(world, alloc, other)? && is_before(node, other)),
+        _ => Ok(other == node || got_no(world, alloc, other)? && node.is_before(other)),
     }
 }
 
@@ -105,15 +104,6 @@ fn is_in_traffic<S: CkptStore>(world: &World<S>, p: NodeId, q: NodeId, number: u
         || is_kept(world, q, p, number)
 }
 
-/// The node's number among its kind.
-pub(crate) fn number_of(node: NodeId) -> u8
-    ensures { result ≡ node_number node }
-{
-    match node {
-        NodeId::Worker(number) | NodeId::Shard(number) => number,
-    }
-}
-
 /// Whether the request has come to nothing with this shard: it is up, does not hold it as waiting, and nothing with its
 /// number goes between the two. Another worker's request with the same number does not count: counted, it could keep a
 /// lost one from ever being asked again (docs/DECISIONS.md#threads).
@@ -127,7 +117,7 @@ fn is_forgotten<S: CkptStore>(
     ensures { result ≡ is_forgotten world.now.state node home (number, op.now) }
 {
     is_up(world, home)
-        && !waits_in(world, home, number_of(node), number, op)
+        && !waits_in(world, home, node.number(), number, op)
         && !is_in_traffic(world, node, home, number)
 }
 

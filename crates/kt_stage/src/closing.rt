@@ -12,7 +12,6 @@ ghost use Rattle.kt_stage.specs.Order.{nodes_of};
 
 use crate::journal::Journal;
 use crate::naming::Naming;
-use crate::order::is_before;
 use crate::seat::{Receipt, Seat};
 use crate::stage::Stage;
 use kt_core::Step;
@@ -100,7 +99,7 @@ fn first_unmatched<L: Naming>(some: &[Seat<L>], seats: &[Seat<L>], steps: &[Step
         return first;
     }
     match first {
-        Some(node) if is_before(node, seat.node) => Some(node),
+        Some(node) if node.is_before(seat.node) => Some(node),
         _ => Some(seat.node),
     }
 }

@@ -21,7 +21,6 @@ mod gate;
 mod glance;
 mod journal;
 mod naming;
-mod order;
 mod playing;
 mod policy;
 mod running;

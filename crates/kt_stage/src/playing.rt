@@ -9,12 +9,11 @@ use crate::error::ActError;
 use crate::gate::Gate;
 use crate::glance::{Glance, Proposal, propose};
 use crate::naming::Naming;
-use crate::order::{MAX_NODES, WORKERS};
 use crate::seat::Seat;
 use crate::stage::{Flags, Floor, Refused, Stage};
 use kt_core::{Step, StepError};
 use kt_store::{CkptStore, StoreError};
-use kt_tuple::NodeId;
+use kt_tuple::{ALL_WORKERS, MAX_NODES, NodeId};
 use std::alloc::Global;
 use std::sync::Wait;
 
@@ -227,7 +226,7 @@ impl<S: CkptStore, L: Naming> Floor<S, L> {
 
 /// Whom the shard that was seen can serve first, in node order.
 fn first_proposal(glance: &Glance) -> Option<(NodeId, Proposal)> {
-    WORKERS
+    ALL_WORKERS
         .iter()
         .find_map(|worker| Some((*worker, propose(glance, *worker)?)))
 }

@@ -15,11 +15,10 @@ ghost use Rattle.kt_stage.specs.inner.Unanswered.{may_issue};
 use crate::asking::{
     got_no, if_allowed, is_down, is_lost_request, is_up, lets_restart, waits_in_vain,
 };
-use crate::order::NAMES;
 use crate::serving::serves;
 use kt_core::{FaultKind, Faults, Step, World};
 use kt_store::{CkptStore, StoreError};
-use kt_tuple::NodeId;
+use kt_tuple::{ALL_NODES, NodeId};
 use kt_worker::Worker;
 use std::alloc::Global;
 
@@ -127,7 +126,7 @@ fn all_let_restart<S: CkptStore>(
 }
 
 /// A node whose rollback got No restarts where each other node is up, or began a rollback that got No and comes later
-/// in node order. All sixteen names are asked: one that is not in the scene stands in nobody's way.
+/// in node order. All names are asked that a scene can have: one that is not in the scene stands in nobody's way.
 fn tries_again<S: CkptStore>(
     world: &mut World<S>,
     alloc: Global,
@@ -138,7 +137,7 @@ fn tries_again<S: CkptStore>(
     if !got_no(world, alloc, node)? {
         return Ok(None);
     }
-    if all_let_restart(&NAMES, world, alloc, node)? {
+    if all_let_restart(&ALL_NODES, world, alloc, node)? {
         Ok(Some(Step::Restart { node }))
     } else {
         Ok(None)
@@ -149,7 +148,7 @@ fn tries_again<S: CkptStore>(
 fn hears<S: CkptStore>(world: &World<S>, node: NodeId) -> Option<Step>
     ensures { result ≡ hears world.now.state node }
 {
-    let from = NAMES
+    let from = ALL_NODES
         .iter()
         .find(|from| world.link_at(**from, node, 0).is_some())?;
     Some(Step::Deliver {
@@ -362,7 +361,7 @@ fn first_with_step<S: CkptStore>(
 }
 
 /// The first node, in node order, that has a next step, where the fault lines are spent so. The world stays. All
-/// sixteen names are asked, since of a node that is not in the scene the policy gives nothing
+/// names are asked that a scene can have, since of a node that is not in the scene the policy gives nothing
 /// (docs/DECISIONS.md#threads).
 pub(crate) fn first_unfinished<S: CkptStore>(
     world: &mut World<S>,
@@ -371,5 +370,5 @@ pub(crate) fn first_unfinished<S: CkptStore>(
 ) -> Result<Option<NodeId>, StoreError>
     ensures { IsAsked S.CkptStore world.old world.new (λ s x. x ≡ first_unfinished s faults.now) result }
 {
-    first_with_step(&NAMES, world, alloc, faults)
+    first_with_step(&ALL_NODES, world, alloc, faults)
 }

@@ -6,12 +6,10 @@ ghost use Rattle.kt_core.specs.Lent.{shard};
 ghost use Rattle.kt_world.specs.Cast.{is_shard, is_worker};
 ghost use Rattle.kt_stage.specs.Policy.{first_some, serves, serves_with_first};
 
-use crate::asking::number_of;
-use crate::order::WORKERS;
 use kt_core::{Step, World};
 use kt_shard::Shard;
 use kt_store::CkptStore;
-use kt_tuple::NodeId;
+use kt_tuple::{ALL_WORKERS, NodeId};
 
 /// Whether the node is a shard of the scene.
 fn is_shard<S: CkptStore>(world: &World<S>, node: NodeId) -> bool
@@ -38,7 +36,7 @@ fn serves_with_first<S: CkptStore>(
     requires is { shard world.now.state node ≡ Some server.now.state }
     ensures { result ≡ serves_with_first world.now.state node worker }
 {
-    if is_worker(world, worker) && server.can_serve(number_of(worker), 0) {
+    if is_worker(world, worker) && server.can_serve(worker.number(), 0) {
         Some(Step::Serve {
             shard: node,
             worker,
@@ -75,5 +73,5 @@ pub(crate) fn serves<S: CkptStore>(world: &World<S>, node: NodeId) -> Option<Ste
         return None;
     }
     let server = world.shard(node)?;
-    first_served(&WORKERS, world, node, server)
+    first_served(&ALL_WORKERS, world, node, server)
 }

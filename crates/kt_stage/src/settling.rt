@@ -9,11 +9,10 @@ ghost use Rattle.kt_stage.specs.Policy.{first_some, next_step};
 ghost use Rattle.kt_stage.specs.Settling.{IsHeldUp, Settles, next_of_first};
 ghost use Rattle.kt_world.specs.declared.step.Step.{Step as Made};
 
-use crate::order::NAMES;
 use crate::policy::next_for;
 use kt_core::{Faults, Step, StepError, World};
 use kt_store::{CkptStore, StoreError};
-use kt_tuple::NodeId;
+use kt_tuple::{ALL_NODES, NodeId};
 use std::alloc::Global;
 
 /// The next step of the first of these nodes that has one. The world stays.
@@ -54,7 +53,7 @@ pub fn settle<S: CkptStore>(
     ensures lasts { NeverFails S.failures → IsTrue world.old.is_honest → IsTrue world.new.is_honest }
     ensures counts { world.new.counts ≡ step_counted result world.old.counts }
 {
-    while let Some(step) = next_among(&NAMES, world, alloc, faults)? {
+    while let Some(step) = next_among(&ALL_NODES, world, alloc, faults)? {
         world.step(alloc, step)?;
         faults.spend(&step);
     }

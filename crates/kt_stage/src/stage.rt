@@ -16,12 +16,11 @@ use crate::desk::Desk;
 use crate::error::ActError;
 use crate::journal::Journal;
 use crate::naming::Naming;
-use crate::order::{MAX_NODES, NAMES};
 use crate::running::RunFault;
 use crate::seat::{Receipt, Seat};
 use kt_core::{Faults, Step, StepError, World};
 use kt_store::CkptStore;
-use kt_tuple::NodeId;
+use kt_tuple::{ALL_NODES, MAX_NODES, NodeId};
 use std::alloc::{AllocError, Global};
 use std::sync::ledger::{Blank, Share};
 use std::sync::{Condvar, Mutex, Wait};
@@ -73,7 +72,7 @@ fn bells_of(alloc: Global, count: usize) -> Result<Vec<Condvar>, AllocError> {
 
 /// How many of these nodes are in the world's scene.
 fn count_among<S: CkptStore>(names: &[NodeId], world: &World<S>) -> u64
-    requires { length names.now ≤ 16 }
+    requires { length names.now ≤ MAX_NODES }
     ensures { result ≡ length (filter (is_node world.now.state.cast) names.now) }
 {
     match names.split_first() {
@@ -87,7 +86,7 @@ fn count_among<S: CkptStore>(names: &[NodeId], world: &World<S>) -> u64
 pub fn node_count<S: CkptStore>(world: &World<S>) -> u64
     ensures { result ≡ length (nodes_of world.now.state.cast) }
 {
-    count_among(&NAMES, world)
+    count_among(&ALL_NODES, world)
 }
 
 /// Those of these nodes that are in the world's scene.
@@ -180,7 +179,7 @@ impl<S: CkptStore, L: Naming> Stage<S, L> {
         ensures seats { IfOk result (λ r. r.1.items ≡ map empty_seat (nodes_of world.state.cast)) }
         ensures back { IfErr result (λ back. back ≡ world) }
     {
-        let Ok(nodes) = nodes_among(alloc, &NAMES, &world) else {
+        let Ok(nodes) = nodes_among(alloc, &ALL_NODES, &world) else {
             return Err(world);
         };
         let Ok(bells) = bells_of(alloc, nodes.len()) else {

@@ -2,9 +2,9 @@
 use Rattle.std.proofs.Common.{◌≡◌, Bool, true, false, cond, List, [], ◌∷◌, Some, refl, sym, ap, ◌∙◌}
 use Rattle.std.specs.List.{find}
 use Rattle.kt_tuple.specs.declared.node.NodeId.{NodeId}
-use Rattle.kt_tuple.specs.Node.{node_eq, node_eq_decides}
+use Rattle.kt_tuple.specs.Node.{node_eq, node_eq_decides, is_before}
 use Rattle.kt_store.specs.declared.rows.NodeRow.{NodeRow}
-use Rattle.kt_store.specs.Content.{Content, node_lt, row_of, row_or}
+use Rattle.kt_store.specs.Content.{Content, row_of, row_or}
 use Rattle.kt_store.specs.Changes.{storing, with_row}
 use Rattle.kt_store.specs.Others.{OtherNodesStay}
 use Rattle.kt_store.proofs.Nodes.{apart, itself, one_way}
@@ -15,24 +15,24 @@ is_of q row is = (node_eq_decides row.node q).0 is
 
 other_found : (new : NodeRow) (rows : List NodeRow) (q : NodeId) → node_eq new.node q ≡ false
     → find (λ (row : NodeRow). node_eq row.node q) (with_row new rows) ≡ find (λ (row : NodeRow). node_eq row.node q) rows
-other_found new rows q other = by (node_lt q new.node) refl
+other_found new rows q other = by (is_before q new.node) refl
   where
     p : NodeRow → Bool
     p row = node_eq row.node q
 
     low : NodeRow → Bool
-    low row = node_lt row.node new.node
+    low row = is_before row.node new.node
 
     high : NodeRow → Bool
-    high row = node_lt new.node row.node
+    high row = is_before new.node row.node
 
-    by : (b : Bool) → node_lt q new.node ≡ b → find p (with_row new rows) ≡ find p rows
+    by : (b : Bool) → is_before q new.node ≡ b → find p (with_row new rows) ≡ find p rows
     by true is = placed_below p low high new rows other
-        (λ row at. ap (λ n. node_lt n new.node) (is_of q row at) ∙ is)
-        (λ row at. ap (node_lt new.node) (is_of q row at) ∙ one_way q new.node is)
+        (λ row at. ap (λ n. is_before n new.node) (is_of q row at) ∙ is)
+        (λ row at. ap (is_before new.node) (is_of q row at) ∙ one_way q new.node is)
     by false is = placed_above p low high new rows other
-        (λ row at. ap (λ n. node_lt n new.node) (is_of q row at) ∙ is)
-        (λ row at. ap (node_lt new.node) (is_of q row at) ∙ apart new.node q other is)
+        (λ row at. ap (λ n. is_before n new.node) (is_of q row at) ∙ is)
+        (λ row at. ap (is_before new.node) (is_of q row at) ∙ apart new.node q other is)
 
 differ : (a b : NodeId) → ¬ (b ≡ a) → node_eq a b ≡ false
 differ a b h = by (node_eq a b) refl
@@ -49,9 +49,9 @@ others_stay row c q h = ap (row_or q) (other_found row c.nodes q (differ row.nod
 pub stored_is_read : (row : NodeRow) (c : Content) → row_of (storing row c) row.node ≡ row
 stored_is_read row c =
     ap (row_or row.node)
-    (placed_own (λ (r : NodeRow). node_eq r.node row.node) (λ (r : NodeRow). node_lt r.node row.node) (λ (r : NodeRow). node_lt row.node r.node)
+    (placed_own (λ (r : NodeRow). node_eq r.node row.node) (λ (r : NodeRow). is_before r.node row.node) (λ (r : NodeRow). is_before row.node r.node)
     row c.nodes ((node_eq_decides row.node row.node).1 refl)
-    (λ r at. ap (λ n. node_lt n row.node) (is_of row.node r at) ∙ itself row.node))
+    (λ r at. ap (λ n. is_before n row.node) (is_of row.node r at) ∙ itself row.node))
 
 -- what is stored of a node is its own row
 pub own_row : (p : NodeId) (rows : List NodeRow) → (row_or p (find (λ (row : NodeRow). node_eq row.node p) rows)).node ≡ p

@@ -9,12 +9,13 @@ use Rattle.kt_store.specs.declared.rows.Purpose.{Purpose}
 use Rattle.kt_store.specs.declared.rows.Purpose.TheVariants as purposes
 use Rattle.kt_store.specs.declared.rows.Verdict.TheVariants as verdicts
 use Rattle.kt_store.specs.Verdict.{verdict_from}
-use Rattle.kt_store.specs.Content.{Content, next_instance, node_lt, posted, row_of}
+use Rattle.kt_store.specs.Content.{Content, next_instance, posted, row_of}
+use Rattle.kt_tuple.specs.Node.{is_before}
 
 -- the rows with this one in its place, and with no other of its node
 abbrev pub with_row : NodeRow → List NodeRow → List NodeRow
-with_row new rows = filter (λ (row : NodeRow). node_lt row.node new.node) rows
-    ++ new ∷ filter (λ (row : NodeRow). node_lt new.node row.node) rows
+with_row new rows = filter (λ (row : NodeRow). is_before row.node new.node) rows
+    ++ new ∷ filter (λ (row : NodeRow). is_before new.node row.node) rows
 
 -- the same of the board
 abbrev pub with_posted : Posted → List Posted → List Posted

@@ -1,10 +1,9 @@
 -- What a store holds, and what its reads give.
-use Rattle.std.specs.Prelude.{◌≡◌, ℕ, ◌+◌, ◌==◌, ◌^◌, max, Bool, true, false, nat_lt, ◌&&◌}
+use Rattle.std.specs.Prelude.{◌≡◌, ℕ, ◌+◌, ◌==◌, ◌^◌, max, Bool, true, false, ◌&&◌}
 use Rattle.std.specs.Prelude.{List, [], ◌∷◌, map, fold, Option, None, Some}
 use Rattle.std.specs.List.{find}
 use Rattle.std.specs.Option.{option_map}
 use Rattle.kt_tuple.specs.declared.node.NodeId.{NodeId}
-use Rattle.kt_tuple.specs.declared.node.NodeId.TheVariants.{Worker, Shard}
 use Rattle.kt_tuple.specs.Node.{node_eq}
 use Rattle.kt_ckpt.specs.Marks.{MarkFields, marks_of}
 use Rattle.kt_store.specs.declared.rows.NodeRow.{NodeRow}
@@ -26,13 +25,6 @@ empty_content = record { nodes = []; board = [] }
 -- the greatest incarnation, and the greatest number of an instance
 abbrev pub greatest : ℕ
 greatest = 2 ^ 62
-
--- a comes before b: first the workers, then the shards, each by their numbers
-abbrev pub node_lt : NodeId → NodeId → Bool
-node_lt (Worker m) (Worker n) = nat_lt m n
-node_lt (Worker m) (Shard n) = true
-node_lt (Shard m) (Worker n) = false
-node_lt (Shard m) (Shard n) = nat_lt m n
 
 -- what is stored of a node: one that has no row is in its first incarnation, and nothing is stored of it
 abbrev pub opening_row : NodeId → NodeRow

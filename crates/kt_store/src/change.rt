@@ -2,9 +2,9 @@
 
 ghost use Rattle.std.specs.Prelude.{◌≡◌, ◌<◌, length, AllPairs, None, IfSome, OnErr, OnOk, true};
 ghost use Rattle.std.specs.List.{find, position};
-ghost use Rattle.kt_tuple.specs.Node.{node_eq};
+ghost use Rattle.kt_tuple.specs.Node.{node_eq, is_before};
 ghost use Rattle.kt_store.specs.declared.rows.NodeRow.{NodeRow};
-ghost use Rattle.kt_store.specs.Content.{node_lt, row_or};
+ghost use Rattle.kt_store.specs.Content.{row_or};
 ghost use Rattle.kt_store.specs.inner.Rising.{IsNodes};
 ghost use Rattle.kt_store.specs.Changes.{with_row};
 ghost use Rattle.kt_store.specs.inner.Row.{changed, IsWithin};
@@ -74,7 +74,7 @@ pub(crate) fn change_row(
 
 /// Puts the row of a node that has none in its place.
 fn insert_row(rows: &mut Vec<NodeRow>, new: NodeRow) -> Result<(), AllocError>
-    requires rising { AllPairs (λ (a b : NodeRow). node_lt a.node b.node ≡ true) rows.old.items }
+    requires rising { AllPairs (λ (a b : NodeRow). is_before a.node b.node ≡ true) rows.old.items }
     requires none { find (λ (row : NodeRow). node_eq row.node new.node) rows.old.items ≡ None }
     ensures written { OnOk result (rows.new.items ≡ with_row new rows.old.items) }
     ensures unchanged { OnErr result (rows.new.items ≡ rows.old.items) }
@@ -96,20 +96,8 @@ fn place_of(rows: &[NodeRow], node: NodeId) -> Option<usize>
 
 /// Where the first row stands whose node comes after this one.
 fn place_after(rows: &[NodeRow], node: NodeId) -> Option<usize>
-    ensures value { result ≡ position (λ (row : NodeRow). node_lt node row.node) rows.now }
+    ensures value { result ≡ position (λ (row : NodeRow). is_before node row.node) rows.now }
     ensures within { IfSome result (λ place. place < length rows.now) }
 {
-    rows.iter().position(|row| comes_before(node, row.node))
-}
-
-/// Whether the one node stands before the other: first the workers, then the shards, each by their numbers.
-fn comes_before(node: NodeId, other: NodeId) -> bool
-    ensures { result ≡ node_lt node other }
-{
-    match (node, other) {
-        (NodeId::Worker(node), NodeId::Worker(other)) => node < other,
-        (NodeId::Worker(_), NodeId::Shard(_)) => true,
-        (NodeId::Shard(_), NodeId::Worker(_)) => false,
-        (NodeId::Shard(node), NodeId::Shard(other)) => node < other,
-    }
+    rows.iter().position(|row| node.is_before(row.node))
 }

@@ -25,6 +25,6 @@ mod store;
 pub use error::StoreError;
 pub use faulty::FaultStore;
 pub use laws::{other_instances_stay, other_nodes_stay, what_is_written_is_read};
-pub use memory::MemStore;
+pub use memory::{GREATEST, MemStore};
 pub use rows::{NodeRow, Posted, Purpose, Tentative, TentativeMarks, Verdict};
 pub use store::CkptStore;

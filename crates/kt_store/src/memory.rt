@@ -15,7 +15,7 @@ use std::marker::Model;
 
 /// The greatest incarnation, and the greatest number of an instance: a call that would go past it is `Full`. Why it is
 /// not 2^64 - 1: docs/DECISIONS.md#stores.
-const GREATEST: u64 = 1 << 62;
+pub const GREATEST: u64 = 1 << 62;
 
 /// A store in memory, which is always honest. It has no device that could fail.
 #[derive(Debug, Drop)]

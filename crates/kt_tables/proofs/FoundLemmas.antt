@@ -20,13 +20,13 @@ use Rattle.sqlite_typed.proofs.TestLemmas.{at_ints, then_term, last_term}
 use Rattle.sqlite_typed.proofs.AnswerLemmas.{first_shown, first_of}
 use Rattle.kt_tuple.specs.declared.node.NodeId.{NodeId}
 use Rattle.kt_tuple.specs.declared.node.NodeId.TheVariants.{Worker, Shard}
-use Rattle.kt_tuple.specs.Node.{node_eq}
+use Rattle.kt_tuple.specs.Node.{node_eq, is_before}
 use Rattle.kt_store.specs.declared.rows.NodeRow.{NodeRow}
 use Rattle.kt_store.specs.declared.rows.Posted.{Posted}
 use Rattle.kt_store.specs.declared.rows.Verdict.{Verdict}
 use Rattle.kt_store.specs.declared.rows.Verdict.TheVariants.{Open, Yes, No}
 use Rattle.kt_store.specs.Verdict.{is_open}
-use Rattle.kt_store.specs.Content.{Content, node_lt}
+use Rattle.kt_store.specs.Content.{Content}
 use Rattle.kt_tables.specs.Schema.{kt_schema}
 use Rattle.kt_tables.specs.inner.Text.{get_node_text, first_node_text, get_posted_text, last_posted_text, open_posted_text}
 use Rattle.kt_tables.specs.Rows.{whole, id_of, HasId, verdict_code, node_given, posted_given, IsNodeRow, IsPosted, Holds}
@@ -61,9 +61,9 @@ keyed_by P lt number rises (x ∷ xs) h r =
 
 -- ---- the two tables
 
-pub nodes_keyed : (c : List NodeRow) → AllByRecursion IsNodeRow c → IsAscending (λ (a b : NodeRow). node_lt a.node b.node ≡ true) c
+pub nodes_keyed : (c : List NodeRow) → AllByRecursion IsNodeRow c → IsAscending (λ (a b : NodeRow). is_before a.node b.node ≡ true) c
     → IsKeyedBy (λ (r : NodeRow). pos (id_of r.node)) c
-nodes_keyed = keyed_by IsNodeRow (λ (a b : NodeRow). node_lt a.node b.node) (λ (r : NodeRow). id_of r.node)
+nodes_keyed = keyed_by IsNodeRow (λ (a b : NodeRow). is_before a.node b.node) (λ (r : NodeRow). id_of r.node)
     (λ a b g h less. let n = sym (by_id a.node b.node g.node h.node) ∙ less in grind (arith, n))
 
 pub board_keyed : (c : List Posted) → AllByRecursion IsPosted c → IsAscending (λ (a b : Posted). nat_lt a.instance b.instance ≡ true) c

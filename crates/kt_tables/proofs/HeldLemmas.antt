@@ -14,7 +14,8 @@ use Rattle.kt_tables.proofs.OrderLemmas.{sorted_again}
 use Rattle.kt_tables.proofs.WriteLemmas.{by_id}
 use Rattle.kt_store.specs.declared.rows.NodeRow.{NodeRow}
 use Rattle.kt_store.specs.declared.rows.Posted.{Posted}
-use Rattle.kt_store.specs.Content.{Content, empty_content, node_lt}
+use Rattle.kt_store.specs.Content.{Content, empty_content}
+use Rattle.kt_tuple.specs.Node.{is_before}
 use Rattle.std.specs.List.{AllByRecursion}
 use Rattle.sqlite.specs.Order.{Row}
 use Rattle.sqlite_trees.specs.Tree.{IsAscending}
@@ -36,7 +37,7 @@ module _ {X : Type 0} (P : X → Type 0) (number : X → ℕ) (lt : X → X → 
       sorted_again (on number nat_cmp) (on_total number nat_cmp_total) (map back rows) xs (rises_by xs good up)
       (subst (λ l. IsPermutation l (map back rows)) (map_back P out back same xs good) (IsPermutation-map back _ _ bag))
 
-node_less : (a b : NodeRow) → IsNodeRow a → IsNodeRow b → node_lt a.node b.node ≡ true → nat_cmp (id_of a.node) (id_of b.node) ≡ Less
+node_less : (a b : NodeRow) → IsNodeRow a → IsNodeRow b → is_before a.node b.node ≡ true → nat_cmp (id_of a.node) (id_of b.node) ≡ Less
 node_less a b h g less = let n = sym (by_id a.node b.node h.node g.node) ∙ less in grind (arith, n)
 
 posted_less : (a b : Posted) → IsPosted a → IsPosted b → nat_lt a.instance b.instance ≡ true → nat_cmp a.instance b.instance ≡ Less
@@ -45,7 +46,7 @@ posted_less a b h g less = grind (arith, less)
 pub holds_content : {db : Trees} (c : Content) → Holds db c → content_in db ≡ c
 holds_content c h =
     let nodes = read_back IsNodeRow (λ (r : NodeRow). id_of r.node)
-    (λ (a b : NodeRow). node_lt a.node b.node) node_less node_given node_in row_back c.nodes _ h.nodes.said h.nodes.rise h.nodes.shown in
+    (λ (a b : NodeRow). is_before a.node b.node) node_less node_given node_in row_back c.nodes _ h.nodes.said h.nodes.rise h.nodes.shown in
     let board = read_back IsPosted (λ (p : Posted). p.instance)
     (λ (a b : Posted). nat_lt a.instance b.instance) posted_less posted_given posted_in posted_back c.board _ h.board.said h.board.rise h.board.shown in
     ap₂ (λ (ns : List NodeRow) (ps : List Posted). let whole : Content = record { nodes = ns; board = ps } in whole) nodes board

@@ -1,5 +1,5 @@
 -- What is found where a store is opened.
-use Rattle.std.proofs.Common.{◌≡◌, ℕ, ◌+◌, ◌<◌, ◌≤◌, negsuc, Bool, true, false, ◌&&◌, List, [], ◌∷◌, map, length, flat_map, Result}
+use Rattle.std.proofs.Common.{◌*◌, ◌≡◌, ℕ, ◌+◌, ◌<◌, ◌≤◌, negsuc, Bool, true, false, ◌&&◌, List, [], ◌∷◌, map, length, flat_map, Result}
 use Rattle.std.proofs.Common.{Ok, Err, IfOk, refl, sym, ap, ap₂, subst, subst₂, ◌∙◌, arith, IsPermutation}
 use Rattle.std.specs.Prelude.{◌↔◌, IsTrue, nat_lt}
 use Rattle.std.specs.List.{AllByRecursion}
@@ -13,11 +13,12 @@ use Rattle.sqlite.specs.State.{State, Shown}
 use Rattle.sqlite.specs.Effect.{Database}
 use Rattle.sqlite.proofs.Callers.{one_permutation}
 use Rattle.sqlite_keyed.proofs.ListLemmas.{all_both, all_of, all_weaker, filter_all, map-map}
+use Rattle.kt_tables.specs.declared.ids.TheConstants.{SHARD_IDS}
 use Rattle.kt_tuple.specs.declared.node.NodeId.{NodeId}
 use Rattle.kt_tuple.specs.declared.node.NodeId.TheVariants.{Worker, Shard}
 use Rattle.kt_store.specs.declared.rows.NodeRow.{NodeRow}
 use Rattle.kt_store.specs.declared.rows.Posted.{Posted}
-use Rattle.kt_store.specs.Content.{node_lt}
+use Rattle.kt_tuple.specs.Node.{is_before}
 use Rattle.kt_tables.specs.Schema.{kt_schema}
 use Rattle.kt_tables.specs.inner.Text.{all_nodes_text, all_posted_text, meta_text}
 use Rattle.kt_tables.specs.Rows.{whole, id_of, HasId, node_given, node_shown, posted_given, posted_shown, IsNodeRow, IsPosted}
@@ -53,12 +54,12 @@ same_instance a b h g = let first : whole a.instance ≡ whole b.instance = ap (
 
 -- ---- rows of nodes, one after the other
 
-node_rises : (a b : NodeRow) → IsNodeRow a → IsNodeRow b → node_lt a.node b.node ≡ true → id_of a.node < id_of b.node
+node_rises : (a b : NodeRow) → IsNodeRow a → IsNodeRow b → is_before a.node b.node ≡ true → id_of a.node < id_of b.node
 node_rises a b h g less = let n = sym (by_id a.node b.node h.node g.node) ∙ less in grind (arith, n)
 
 module _ (low id : ℕ) (row : Row) (rest : List Row) (w : IsNodeWith row id) where
   later_node : (nodes : List NodeRow) → row ∷ rest ≡ map node_given nodes → AllByRecursion IsNodeRow nodes
-      → IsAscending (λ (a b : NodeRow). node_lt a.node b.node ≡ true) nodes → AreNodesFrom (id + 1) rest
+      → IsAscending (λ (a b : NodeRow). is_before a.node b.node ≡ true) nodes → AreNodesFrom (id + 1) rest
   later_node [] shown said rise = absurd cc
   later_node (r ∷ rs) shown said rise =
       let here : row ≡ node_given r = cc in
@@ -103,11 +104,11 @@ pub node_not : (low : ℕ) (row : Row) (rest : List Row) → IsNoNode row → Ar
 node_not low row rest none a = no_first_node row rest none a.nodes a.shown a.said
 
 -- the number of a node is low
-low_id : (n : NodeId) → HasId n → id_of n < 200
+low_id : (n : NodeId) → HasId n → id_of n < 2 * SHARD_IDS
 low_id (Worker n) h = omega arith
 low_id (Shard n) h = omega arith
 
-pub node_number : (row : Row) (id : ℕ) → IsNodeWith row id → id < 200
+pub node_number : (row : Row) (id : ℕ) → IsNodeWith row id → id < 2 * SHARD_IDS
 node_number row id w = let low = low_id w.node.node w.said.node in let is = w.number in omega arith
 
 -- ---- rows of instances

@@ -3,6 +3,7 @@ use Rattle.std.proofs.Common.{◌≡◌, ◌+◌, ◌-◌, ltb, lt-ltb, false, c
 use Rattle.std.proofs.Common.{ap, ap₂, ◌∙◌, arith}
 use Rattle.std.specs.List.{AllByRecursion}
 use Rattle.sqlite.specs.Order.{Row}
+use Rattle.kt_tables.specs.declared.ids.TheConstants.{SHARD_IDS}
 use Rattle.kt_tuple.specs.declared.node.NodeId.{NodeId}
 use Rattle.kt_tuple.specs.declared.node.NodeId.TheVariants.{Worker, Shard}
 use Rattle.kt_ckpt.specs.declared.ckpt.Ckpt.{Ckpt}
@@ -20,11 +21,11 @@ use Rattle.kt_tables.specs.Rows.{checkpoint_in, number_in, tentative_of, node_in
 use Rattle.kt_tables.specs.Rows.{when_ok, bytes_of}
 
 pub node_back : (n : NodeId) → HasId n → node_of (id_of n) ≡ n
-node_back (Worker n) low = ap (λ b. cond b (Worker n) (Shard (n - 100))) (lt-ltb n 100 low)
+node_back (Worker n) low = ap (λ b. cond b (Worker n) (Shard (n - SHARD_IDS))) (lt-ltb n SHARD_IDS low)
 node_back (Shard n) low =
-    let high : ltb (100 + n) 100 ≡ false = grind arith in
-    let back : 100 + n - 100 ≡ n = omega arith in
-    ap (λ b. cond b (Worker (100 + n)) (Shard (100 + n - 100))) high ∙ ap Shard back
+    let high : ltb (SHARD_IDS + n) SHARD_IDS ≡ false = grind arith in
+    let back : SHARD_IDS + n - SHARD_IDS ≡ n = omega arith in
+    ap (λ b. cond b (Worker (SHARD_IDS + n)) (Shard (SHARD_IDS + n - SHARD_IDS))) high ∙ ap Shard back
 
 purpose_back : (p : Purpose) → purpose_of (purpose_code p) ≡ p
 purpose_back Check = refl

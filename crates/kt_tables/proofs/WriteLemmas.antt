@@ -36,7 +36,8 @@ use Rattle.kt_store.proofs.Shared.{by_node_order, by_number_order}
 use Rattle.kt_store.specs.declared.rows.NodeRow.{NodeRow}
 use Rattle.kt_store.specs.declared.rows.Posted.{Posted}
 use Rattle.kt_store.specs.declared.rows.Tentative.{Tentative}
-use Rattle.kt_store.specs.Content.{Content, node_lt}
+use Rattle.kt_store.specs.Content.{Content}
+use Rattle.kt_tuple.specs.Node.{is_before}
 use Rattle.kt_store.specs.Changes.{with_row, with_posted, storing}
 use Rattle.kt_store.proofs.Shared.{placed, IsOrder}
 use Rattle.kt_tables.specs.Schema.{kt_schema, node_table, board_table, meta_table}
@@ -121,7 +122,7 @@ module _ {X : Type 0} (lt : X → X → Bool) (order : IsOrder lt) where
 -- ---- the two orders
 
 abbrev node_before : NodeRow → NodeRow → Bool
-node_before a b = node_lt a.node b.node
+node_before a b = is_before a.node b.node
 
 abbrev posted_before : Posted → Posted → Bool
 posted_before a b = nat_lt a.instance b.instance
@@ -133,7 +134,7 @@ posted_order : IsOrder posted_before
 posted_order = by_number_order
 
 -- the order of the nodes is that of their numbers
-pub by_id : (a b : NodeId) → HasId a → HasId b → node_lt a b ≡ ltb (id_of a) (id_of b)
+pub by_id : (a b : NodeId) → HasId a → HasId b → is_before a b ≡ ltb (id_of a) (id_of b)
 by_id (Worker m) (Worker n) h g = refl
 by_id (Worker m) (Shard n) h g = grind (arith, h)
 by_id (Shard m) (Worker n) h g = grind (arith, g)

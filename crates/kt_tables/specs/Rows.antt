@@ -12,6 +12,7 @@ use Rattle.sqlite.specs.Order.{Row, column}
 use Rattle.sqlite.specs.Tree.{Trees}
 use Rattle.sqlite_trees.specs.Tree.{IsAscending}
 use Rattle.sqlite_keyed.specs.Lists.{sort_by}
+use Rattle.kt_tables.specs.declared.ids.TheConstants.{SHARD_IDS}
 use Rattle.kt_tuple.specs.declared.node.NodeId.{NodeId}
 use Rattle.kt_tuple.specs.declared.node.NodeId.TheVariants.{Worker, Shard}
 use Rattle.kt_ckpt.specs.declared.error.CkptError.{CkptError}
@@ -24,7 +25,8 @@ use Rattle.kt_store.specs.declared.rows.Purpose.{Purpose}
 use Rattle.kt_store.specs.declared.rows.Purpose.TheVariants.{Check, Rollback}
 use Rattle.kt_store.specs.declared.rows.Verdict.{Verdict}
 use Rattle.kt_store.specs.declared.rows.Verdict.TheVariants.{Open, Yes, No}
-use Rattle.kt_store.specs.Content.{Content, greatest, node_lt}
+use Rattle.kt_store.specs.Content.{Content, greatest}
+use Rattle.kt_tuple.specs.Node.{is_before}
 use Rattle.kt_store.specs.Changes.{with_posted}
 
 -- ---- numbers
@@ -35,15 +37,15 @@ whole n = Int (pos n)
 -- a worker has its own number, a shard a hundred more
 abbrev pub id_of : NodeId → ℕ
 id_of (Worker n) = n
-id_of (Shard n) = 100 + n
+id_of (Shard n) = SHARD_IDS + n
 
 abbrev pub node_of : ℕ → NodeId
-node_of id = if nat_lt id 100 then Worker id else Shard (id - 100)
+node_of id = if nat_lt id SHARD_IDS then Worker id else Shard (id - SHARD_IDS)
 
 -- the nodes that have a number there
 abbrev pub HasId : NodeId → Type 0
-HasId (Worker n) = n < 100
-HasId (Shard n) = n < 100
+HasId (Worker n) = n < SHARD_IDS
+HasId (Shard n) = n < SHARD_IDS
 
 abbrev pub purpose_code : Purpose → ℕ
 purpose_code Check = 1
@@ -184,7 +186,7 @@ pub record IsPosted (p : Posted) : Type 0 where
 pub record HoldsNodes (rows : List Row) (nodes : List NodeRow) : Type 0 where
   pub shown : IsPermutation (map node_given nodes) (map node_shown rows)
   pub said : AllByRecursion IsNodeRow nodes
-  pub rise : IsAscending (λ (a b : NodeRow). node_lt a.node b.node ≡ true) nodes
+  pub rise : IsAscending (λ (a b : NodeRow). is_before a.node b.node ≡ true) nodes
 
 -- these are the instances of the board
 pub record HoldsBoard (rows : List Row) (board : List Posted) : Type 0 where

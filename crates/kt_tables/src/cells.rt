@@ -20,7 +20,7 @@ use std::alloc::{AllocError, Global};
 /// The cells of a row of the nodes. What stays at a write is carried as the bytes that stand in the table.
 #[derive(Debug, Drop)]
 pub struct NodeCells {
-    /// The id of the node: a worker's own number, or 100 more than a shard's.
+    /// The id of the node: a worker's own number, or `SHARD_IDS` more than a shard's.
     pub(crate) id: u32,
     /// Its incarnation, from 1 to 2^62.
     pub(crate) incarnation: Number,

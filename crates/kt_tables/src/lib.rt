@@ -28,5 +28,4 @@ mod tables;
 pub use cells::NodeCells;
 pub use changes::{bumped, discarded, permanent_in, promoted, tentative_in};
 pub use held::Tables;
-pub use number::GREATEST;
 pub use ready::readied;

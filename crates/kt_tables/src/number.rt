@@ -4,10 +4,8 @@ ghost use Rattle.std.specs.Prelude.{◌≡◌, ◌+◌, ◌<◌, ◌≤◌, pos,
 ghost use Rattle.sqlite.specs.declared.types.Value.TheVariants.{Int};
 ghost use Rattle.kt_store.specs.Content.{greatest};
 
+use kt_store::GREATEST;
 use sqlite::types::{ToSql, ValueRef};
-
-/// The greatest number in a table, of incarnations and of instances.
-pub const GREATEST: u64 = 1 << 62;
 
 /// A number that a table holds: at most 2^62. So it fits an integer of SQL, which has 64 bits with a sign.
 #[derive(Clone, Copy, Debug)]

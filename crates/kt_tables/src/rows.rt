@@ -21,9 +21,11 @@ ghost use Rattle.kt_tables.specs.inner.Cells.{GivesInstance};
 ghost use Rattle.kt_tables.specs.inner.Showing.{ShowsNode, ShowsPosted, Gives, IsReadError};
 
 use crate::ids::{id_of, node_of};
-use crate::number::{GREATEST, Number};
+use crate::number::Number;
 use kt_ckpt::{Ckpt, CkptError, Marks};
-use kt_store::{NodeRow, Posted, Purpose, StoreError, Tentative, TentativeMarks, Verdict};
+use kt_store::{
+    GREATEST, NodeRow, Posted, Purpose, StoreError, Tentative, TentativeMarks, Verdict,
+};
 use kt_tuple::NodeId;
 use sqlite::types::ValueRef;
 use sqlite::{Error, ErrorCode, Row};

@@ -3,6 +3,7 @@ use Rattle.std.proofs.Common.{◌≡◌, ℕ, ◌+◌, ◌≤◌, inl, inr, Bool
 use Rattle.std.proofs.Common.{map, Option, Some, None, Result, Ok, Err, refl, sym, ap, subst, ◌∙◌, arith}
 use Rattle.std.proofs.lemmas.Bool.{and_parts}
 use Rattle.std.specs.List.{flat_map, list_all}
+use Rattle.kt_tuple.specs.declared.tuple.TheConstants.{MAX_PLACES}
 use Rattle.kt_tuple.specs.declared.parse_error.ParseError.{ParseError}
 use Rattle.kt_tuple.specs.declared.parse_error.ParseError.TheVariants as faults
 use Rattle.kt_tuple.specs.Grammar.{Consists, followed}
@@ -15,13 +16,13 @@ use Rattle.kt_tuple.proofs.Layouts.{spelling, laid_consists}
 use Rattle.kt_tuple.proofs.TextShapes.{shape_read, read_shape, shape_no_syntax, one_row}
 use Rattle.kt_tuple.proofs.TextFaults.{range_outside, too_long_inside}
 
--- 1 to 8 places in range and short
+-- `MAX_PLACES` places at most, in range and short
 record Fine (i : ℕ) (ps : List (List ℕ)) : Type 0 where
   inside : list_all has_range ps ≡ true
-  few : i + length ps ≤ 8
+  few : i + length ps ≤ MAX_PLACES
   short : list_all is_short ps ≡ true
 
-fine_all : (found : List (List ℕ × List ℕ)) (i : ℕ) → i ≤ 8 → AreFine i found → Fine i (map spelling found)
+fine_all : (found : List (List ℕ × List ℕ)) (i : ℕ) → i ≤ MAX_PLACES → AreFine i found → Fine i (map spelling found)
 fine_all [] i le h = record { inside = refl; few = omega (arith, le); short = refl }
 fine_all (place ∷ found) i le h =
     let behind = fine_all found (i + 1) (omega (arith, h.0)) h.3 in

@@ -1,17 +1,18 @@
--- No fault is found where each place is in range and short, and there are at most 8.
+-- No fault is found where each place is in range and short, and there are at most `MAX_PLACES`.
 use Rattle.std.proofs.Common.{◌≡◌, ℕ, ◌+◌, ◌<◌, ◌≤◌, Bool, true, false, not, cond, ltb, List, [], ◌∷◌, length}
 use Rattle.std.proofs.Common.{Option, Some, None, Result, Ok, Err, refl, arith}
 use Rattle.std.proofs.lemmas.Bool.{or_parts, or_from, not-false, not_from_true, ltb-false, le-ltb}
 use Rattle.std.specs.List.{list_any}
+use Rattle.kt_tuple.specs.declared.tuple.TheConstants.{MAX_PLACES}
 use Rattle.kt_tuple.specs.Reading.{has_range, is_short}
 use Rattle.kt_tuple.specs.Parsing.{first_outside, are_too_long, lower_fault, fault_of_places}
 
 -- from the i-th place on, counted from 0
 abbrev pub AreFine : ℕ → List (List ℕ × List ℕ) → Type 0
 AreFine i [] = Unit
-AreFine i (place ∷ places) = (i < 8) × (has_range place.0 ≡ true) × (is_short place.0 ≡ true) × AreFine (i + 1) places
+AreFine i (place ∷ places) = (i < MAX_PLACES) × (has_range place.0 ≡ true) × (is_short place.0 ≡ true) × AreFine (i + 1) places
 
--- a str of more than 64 characters is among them
+-- a str of more than `MAX_CHARACTERS` characters is among them
 abbrev pub is_one_long : List (List ℕ × List ℕ) → Bool
 is_one_long places = list_any (λ place. not (is_short place.0)) places
 
@@ -25,7 +26,7 @@ none_outside true n later e = (refl, e)
 none_outside false n later e = absurd cc
 
 -- where there is no fault, the places are fine
-fine_places : (text : List ℕ) (places : List (List ℕ × List ℕ)) (i : ℕ) → first_outside text places ≡ None → i + length places ≤ 8
+fine_places : (text : List ℕ) (places : List (List ℕ × List ℕ)) (i : ℕ) → first_outside text places ≡ None → i + length places ≤ MAX_PLACES
     → is_one_long places ≡ false → AreFine i places
 fine_places text [] i inside few short = tt
 fine_places text (place ∷ places) i inside few short =
@@ -42,9 +43,9 @@ all_inside : (text : List ℕ) (places : List (List ℕ × List ℕ)) (i : ℕ) 
 all_inside text [] i fine = refl
 all_inside text (place ∷ places) i fine = rw fine.1 (all_inside text places (i + 1) fine.3)
 
-pub at_most_8 : (places : List (List ℕ × List ℕ)) (i : ℕ) → i ≤ 8 → AreFine i places → i + length places ≤ 8
-at_most_8 [] i le fine = omega (arith, le)
-at_most_8 (place ∷ places) i le fine = omega (arith, at_most_8 places (i + 1) (omega (arith, fine.0)) fine.3)
+pub at_most_places : (places : List (List ℕ × List ℕ)) (i : ℕ) → i ≤ MAX_PLACES → AreFine i places → i + length places ≤ MAX_PLACES
+at_most_places [] i le fine = omega (arith, le)
+at_most_places (place ∷ places) i le fine = omega (arith, at_most_places places (i + 1) (omega (arith, fine.0)) fine.3)
 
 all_short : (places : List (List ℕ × List ℕ)) (i : ℕ) → AreFine i places → is_one_long places ≡ false
 all_short [] i fine = refl
@@ -55,11 +56,11 @@ pub found_fine : (text : List ℕ) (r : Result (List (List ℕ × List ℕ)) (Li
     → (places : List (List ℕ × List ℕ)) × (r ≡ Ok places) × AreFine 0 places
 found_fine text (Ok places) e =
     let none = no_fault (first_outside text places) (are_too_long places) e in
-    let long = or_parts (ltb 8 (length places)) (is_one_long places) none.1 in
-    (places, refl, fine_places text places 0 none.0 (omega (arith, ltb-false 8 (length places) long.0)) long.1)
+    let long = or_parts (ltb MAX_PLACES (length places)) (is_one_long places) none.1 in
+    (places, refl, fine_places text places 0 none.0 (omega (arith, ltb-false MAX_PLACES (length places) long.0)) long.1)
 found_fine text (Err rest) e = absurd cc
 
 pub fine_found : (text : List ℕ) (places : List (List ℕ × List ℕ)) → AreFine 0 places → fault_of_places text (Ok places) ≡ None
 fine_found text places fine =
-    let few : ltb 8 (length places) ≡ false = le-ltb 8 (length places) (omega (arith, at_most_8 places 0 (omega arith) fine)) in
+    let few : ltb MAX_PLACES (length places) ≡ false = le-ltb MAX_PLACES (length places) (omega (arith, at_most_places places 0 (omega arith) fine)) in
     rw (all_inside text places 0 fine, few, all_short places 0 fine) refl

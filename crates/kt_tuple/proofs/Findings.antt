@@ -2,6 +2,7 @@
 use Rattle.std.proofs.Common.{◌≡◌, ℕ, ◌+◌, ◌-◌, ◌≤◌, Bool, true, false, not, cond, ◌||◌, ltb, leb, List, [], ◌∷◌, length}
 use Rattle.std.proofs.Common.{Option, Some, None, Result, Ok, Err, refl, sym, ap, subst, ◌∙◌, arith, zero-add}
 use Rattle.std.proofs.lemmas.Bool.{or_left, or_right, leb-true, leb-false, lt-ltb, le-ltb}
+use Rattle.kt_tuple.specs.declared.tuple.TheConstants.{MAX_PLACES}
 use Rattle.kt_tuple.specs.declared.parse_error.ParseError.TheVariants as faults
 use Rattle.kt_tuple.specs.declared.parsing.Findings.{Findings}
 use Rattle.kt_tuple.specs.Reading.{has_range, is_short}
@@ -32,7 +33,7 @@ long_stays : (text : List ℕ) (found : Findings) (i : ℕ) (places : List (List
 long_stays text found i [] e = e
 long_stays text found i (place ∷ places) e =
     long_stays text (with_place text found i place) (i + 1) places
-    (or_left (found.too_long || not (is_short place.0)) (leb 8 i) (or_left found.too_long (not (is_short place.0)) e))
+    (or_left (found.too_long || not (is_short place.0)) (leb MAX_PLACES i) (or_left found.too_long (not (is_short place.0)) e))
 
 long_kept : (b c : Bool) → c ≡ false → b ≡ (b || (c || false))
 long_kept true c e = refl
@@ -44,28 +45,29 @@ long_later false true true e = refl
 long_later false true false e = refl
 long_later false false d e = refl
 
-long_by_test : (t : Bool) (text : List ℕ) (found : Findings) (i : ℕ) (place : List ℕ × List ℕ) (places : List (List ℕ × List ℕ)) → leb 8 i ≡ t
-    → ((s : Findings) → i + 1 ≤ 8
-    → (with_places text s (i + 1) places).too_long ≡ (s.too_long || (ltb 8 ((i + 1) + length places) || is_one_long places)))
-    → (with_places text found i (place ∷ places)).too_long ≡ (found.too_long || (ltb 8 (i + length (place ∷ places)) || is_one_long (place ∷ places)))
+long_by_test : (t : Bool) (text : List ℕ) (found : Findings) (i : ℕ) (place : List ℕ × List ℕ) (places : List (List ℕ × List ℕ)) → leb MAX_PLACES i ≡ t
+    → ((s : Findings) → i + 1 ≤ MAX_PLACES
+    → (with_places text s (i + 1) places).too_long ≡ (s.too_long || (ltb MAX_PLACES ((i + 1) + length places) || is_one_long places)))
+    → (with_places text found i (place ∷ places)).too_long ≡ (found.too_long || (ltb MAX_PLACES (i + length (place ∷ places)) || is_one_long (place ∷ places)))
 long_by_test true text found i place places test more =
-    let many : ltb 8 (i + length (place ∷ places)) ≡ true = lt-ltb 8 (i + length (place ∷ places)) (omega (arith, leb-true 8 i test)) in
-    long_stays text (with_place text found i place) (i + 1) places (or_right (found.too_long || not (is_short place.0)) (leb 8 i) test)
-    ∙ sym (or_right found.too_long (ltb 8 (i + length (place ∷ places)) || is_one_long (place ∷ places))
-    (or_left (ltb 8 (i + length (place ∷ places))) (is_one_long (place ∷ places)) many))
+    let many : ltb MAX_PLACES (i + length (place ∷ places)) ≡ true =
+    lt-ltb MAX_PLACES (i + length (place ∷ places)) (omega (arith, leb-true MAX_PLACES i test)) in
+    long_stays text (with_place text found i place) (i + 1) places (or_right (found.too_long || not (is_short place.0)) (leb MAX_PLACES i) test)
+    ∙ sym (or_right found.too_long (ltb MAX_PLACES (i + length (place ∷ places)) || is_one_long (place ∷ places))
+    (or_left (ltb MAX_PLACES (i + length (place ∷ places))) (is_one_long (place ∷ places)) many))
 long_by_test false text found i place places test more =
     let count : (i + 1) + length places ≡ i + length (place ∷ places) = omega arith in
-    more (with_place text found i place) (omega (arith, leb-false 8 i test))
-    ∙ ap (λ t. ((found.too_long || not (is_short place.0)) || t) || (ltb 8 ((i + 1) + length places) || is_one_long places)) test
-    ∙ ap (λ n. ((found.too_long || not (is_short place.0)) || false) || (ltb 8 n || is_one_long places)) count
-    ∙ long_later found.too_long (not (is_short place.0)) (ltb 8 (i + length (place ∷ places))) (is_one_long places)
+    more (with_place text found i place) (omega (arith, leb-false MAX_PLACES i test))
+    ∙ ap (λ t. ((found.too_long || not (is_short place.0)) || t) || (ltb MAX_PLACES ((i + 1) + length places) || is_one_long places)) test
+    ∙ ap (λ n. ((found.too_long || not (is_short place.0)) || false) || (ltb MAX_PLACES n || is_one_long places)) count
+    ∙ long_later found.too_long (not (is_short place.0)) (ltb MAX_PLACES (i + length (place ∷ places))) (is_one_long places)
 
 -- a str too long, or a ninth place
-long_found : (text : List ℕ) (found : Findings) (i : ℕ) (places : List (List ℕ × List ℕ)) → i ≤ 8
-    → (with_places text found i places).too_long ≡ (found.too_long || (ltb 8 (i + length places) || is_one_long places))
-long_found text found i [] le = long_kept found.too_long (ltb 8 (i + 0)) (le-ltb 8 (i + 0) (omega (arith, le)))
+long_found : (text : List ℕ) (found : Findings) (i : ℕ) (places : List (List ℕ × List ℕ)) → i ≤ MAX_PLACES
+    → (with_places text found i places).too_long ≡ (found.too_long || (ltb MAX_PLACES (i + length places) || is_one_long places))
+long_found text found i [] le = long_kept found.too_long (ltb MAX_PLACES (i + 0)) (le-ltb MAX_PLACES (i + 0) (omega (arith, le)))
 long_found text found i (place ∷ places) le =
-    long_by_test (leb 8 i) text found i place places refl (λ s less. long_found text s (i + 1) places less)
+    long_by_test (leb MAX_PLACES i) text found i place places refl (λ s less. long_found text s (i + 1) places less)
 
 ok_by : (text : List ℕ) (r : Result (List (List ℕ × List ℕ)) (List ℕ)) (found : Findings) → found_with text nothing_found 0 r ≡ Ok found
     → lower_fault found.out_of_range found.too_long ≡ fault_of_places text r
@@ -75,7 +77,7 @@ ok_by text (Ok places) found e =
     subst (λ (s : Findings). lower_fault s.out_of_range s.too_long ≡ lower_fault (first_outside text places) (are_too_long places)) same
     (ap (λ o. lower_fault o (with_places text nothing_found 0 places).too_long) (outside_found text nothing_found 0 places)
     ∙ ap (λ b. lower_fault (first_outside text places) b) (long_found text nothing_found 0 places (omega arith))
-    ∙ ap (λ n. lower_fault (first_outside text places) (ltb 8 n || is_one_long places)) (zero-add (length places)))
+    ∙ ap (λ n. lower_fault (first_outside text places) (ltb MAX_PLACES n || is_one_long places)) (zero-add (length places)))
 
 err_by : (text : List ℕ) (r : Result (List (List ℕ × List ℕ)) (List ℕ)) (rest : List ℕ) → found_with text nothing_found 0 r ≡ Err rest
     → Some (faults.Syntax (length text - length rest)) ≡ fault_of_places text r

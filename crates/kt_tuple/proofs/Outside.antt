@@ -7,6 +7,7 @@ use Rattle.std.specs.Int.{w64}
 use Rattle.std.specs.Int.RustNames.{FitsSigned}
 use Rattle.std.specs.Str.{all_ascii_digits}
 use Rattle.std.specs.Str.Parse.{IsNumeral, without_leading_sign, signed_digits_value}
+use Rattle.kt_tuple.specs.declared.string.TheConstants.{MAX_CHARACTERS}
 use Rattle.kt_tuple.specs.Grammar.{IsDigit, IsFirstDigit, IsInt, just_zero, positive, negative, IsCharacters, none, plain, quote}
 use Rattle.kt_tuple.specs.Grammar.{backslash, character_count, IsStr, quoted, int, str, IsPlaceText, actual, any_int, any_str}
 use Rattle.kt_tuple.specs.Reading.{is_numeral, int_of, has_range, is_short, unescaped, characters_of}
@@ -76,12 +77,12 @@ counted cs (backslash {cs = others} h) = ap suc (counted others h)
 pub str_count : (cs : List ℕ) (h : IsCharacters cs) → length (characters_of (34 ∷ (cs ++ 34 ∷ []))) ≡ character_count h
 str_count cs h = ap (λ (t : List ℕ). length (unescaped false t)) (between cs) ∙ counted cs h
 
-pub str_short : (cs : List ℕ) (h : IsCharacters cs) → (is_short (34 ∷ (cs ++ 34 ∷ [])) ≡ true) ↔ (character_count h ≤ 64)
+pub str_short : (cs : List ℕ) (h : IsCharacters cs) → (is_short (34 ∷ (cs ++ 34 ∷ [])) ≡ true) ↔ (character_count h ≤ MAX_CHARACTERS)
 unfolding is_short
 str_short cs h = (
-  λ e. subst (λ n. n ≤ 64) (str_count cs h) (leb-true (length (characters_of (34 ∷ (cs ++ 34 ∷ [])))) 64 e),
+  λ e. subst (λ n. n ≤ MAX_CHARACTERS) (str_count cs h) (leb-true (length (characters_of (34 ∷ (cs ++ 34 ∷ [])))) MAX_CHARACTERS e),
   λ le. le-leb (length
-      (characters_of (34 ∷ (cs ++ 34 ∷ [])))) 64 (omega (arith, str_count cs h, le)),
+      (characters_of (34 ∷ (cs ++ 34 ∷ [])))) MAX_CHARACTERS (omega (arith, str_count cs h, le)),
 )
 
 -- no other place is too long

@@ -1,6 +1,7 @@
 -- The places of a text, by the tests of the readers.
 use Rattle.std.proofs.Common.{◌≡◌, ℕ, ◌<◌, ◌≤◌, ◌⊎◌, true, false, List, ◌∷◌, ◌++◌, length}
 use Rattle.std.specs.List.{flat_map, list_all}
+use Rattle.kt_tuple.specs.declared.tuple.TheConstants.{MAX_PLACES}
 use Rattle.kt_tuple.specs.Grammar.{Consists, followed}
 use Rattle.kt_tuple.specs.Reading.{has_range, is_short}
 
@@ -16,17 +17,17 @@ pub record HasOutside (IsOne : List ℕ → Type 0) (text : List ℕ) (at : ℕ)
   pub inside : list_all has_range before ≡ true
   pub outside : has_range number ≡ false
 
--- the text is places of the shape in parentheses, all in range, and more than 8 or not all short
+-- the text is places of the shape in parentheses, all in range, and more than `MAX_PLACES` or not all short
 pub record HasTooLong (IsOne : List ℕ → Type 0) (text : List ℕ) : Type 0 where
   pub places : List (List ℕ)
   pub are : Consists IsOne places text
   pub inside : list_all has_range places ≡ true
-  pub long : (8 < length places) ⊎ (list_all is_short places ≡ false)
+  pub long : (MAX_PLACES < length places) ⊎ (list_all is_short places ≡ false)
 
--- the text is 1 to 8 places of the shape in parentheses, all in range and short
+-- the text is 1 to `MAX_PLACES` places of the shape in parentheses, all in range and short
 pub record HasFine (IsOne : List ℕ → Type 0) (text : List ℕ) : Type 0 where
   pub places : List (List ℕ)
   pub are : Consists IsOne places text
   pub inside : list_all has_range places ≡ true
-  pub few : length places ≤ 8
+  pub few : length places ≤ MAX_PLACES
   pub short : list_all is_short places ≡ true

@@ -4,6 +4,7 @@ use Rattle.std.proofs.Common.{Option, Some, None, Result, Ok, Err, refl, sym, ap
 use Rattle.std.proofs.lemmas.Bool.{ltb-true, or_cases, cases_Bool}
 use Rattle.std.proofs.lemmas.List.{append-nil, length-map}
 use Rattle.std.specs.List.{flat_map, list_all}
+use Rattle.kt_tuple.specs.declared.tuple.TheConstants.{MAX_PLACES}
 use Rattle.kt_tuple.specs.declared.parse_error.ParseError.TheVariants as faults
 use Rattle.kt_tuple.specs.Grammar.{Consists, followed}
 use Rattle.kt_tuple.specs.Reading.{has_range, is_short}
@@ -101,9 +102,9 @@ one_long (place ∷ found) e = elim (cases_Bool (is_short place.0)) [
   | inr long ↦ rw long refl
 ]
 
-too_long_by : (found : List (List ℕ × List ℕ)) → are_too_long found ≡ true → (8 < length found) ⊎ (list_all is_short (map spelling found) ≡ false)
-too_long_by found e = elim (or_cases (ltb 8 (length found)) (is_one_long found) e) [
-  | inl many ↦ inl (ltb-true 8 (length found) many)
+too_long_by : (found : List (List ℕ × List ℕ)) → are_too_long found ≡ true → (MAX_PLACES < length found) ⊎ (list_all is_short (map spelling found) ≡ false)
+too_long_by found e = elim (or_cases (ltb MAX_PLACES (length found)) (is_one_long found) e) [
+  | inl many ↦ inl (ltb-true MAX_PLACES (length found) many)
   | inr long ↦ inr (one_long found long)
 ]
 

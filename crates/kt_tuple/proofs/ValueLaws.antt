@@ -8,6 +8,7 @@ use Rattle.std.specs.List.{flat_map, list_all}
 use Rattle.std.specs.Option.{option_map}
 use Rattle.std.specs.Int.{w64}
 use Rattle.std.specs.Int.RustNames.{FitsSigned}
+use Rattle.kt_tuple.specs.declared.string.TheConstants.{MAX_CHARACTERS}
 use Rattle.kt_tuple.specs.declared.value.Value.{Value}
 use Rattle.kt_tuple.specs.declared.value.Value.TheVariants.{Int, Str}
 use Rattle.kt_tuple.specs.Valid.{IsValue}
@@ -106,10 +107,11 @@ int_in_range p v e =
     let number = int_of_some p made.0 made.1 in
     subst IsValue made.2 (subst (FitsSigned w64) number.0 (record { sfits = number.1 }))
 
-str_in_range : (b : Bool) (cs : List ℕ) (v : Value) → (nat_le (length cs) 64 && list_all is_printable cs) ≡ b → cond b (Some (Str cs)) None ≡ Some v → IsValue v
+str_in_range : (b : Bool) (cs : List ℕ) (v : Value) → (nat_le (length cs) MAX_CHARACTERS && list_all is_printable cs) ≡ b
+    → cond b (Some (Str cs)) None ≡ Some v → IsValue v
 str_in_range true cs v test e =
-    let parts = and_parts (leb (length cs) 64) (list_all is_printable cs) test in
-    subst IsValue (str_chosen true cs v e) (leb-true (length cs) 64 parts.0, are_printable cs parts.1)
+    let parts = and_parts (leb (length cs) MAX_CHARACTERS) (list_all is_printable cs) test in
+    subst IsValue (str_chosen true cs v e) (leb-true (length cs) MAX_CHARACTERS parts.0, are_printable cs parts.1)
 str_in_range false cs v test e = absurd cc
 
 value_in_range_by_test : (b : Bool) (p : List ℕ) (v : Value) → cond b (str_of (characters_of p)) (int_value_of p) ≡ Some v → IsValue v
@@ -130,7 +132,7 @@ some_there : {A : Type 0} (o : Option A) → is_some o ≡ true → (x : A) × (
 some_there (Some x) e = (x, refl)
 some_there None e = absurd cc
 
-is_short_str : (p : List ℕ) → IsStr p → is_short p ≡ true → nat_le (length (characters_of p)) 64 ≡ true
+is_short_str : (p : List ℕ) → IsStr p → is_short p ≡ true → nat_le (length (characters_of p)) MAX_CHARACTERS ≡ true
 unfolding is_short
 is_short_str p (quoted h) e = e
 
@@ -146,7 +148,7 @@ value_made p (int h) range short =
 value_made p (str h) range short = (
   Str (characters_of p),
   value_of_str p h ∙ cond-true _ (Some (Str (characters_of p))) None
-      (and_from (leb (length (characters_of p)) 64) (list_all is_printable (characters_of p)) (is_short_str p h short) (str_printable p h)),
+      (and_from (leb (length (characters_of p)) MAX_CHARACTERS) (list_all is_printable (characters_of p)) (is_short_str p h short) (str_printable p h)),
 )
 
 -- what was read stands in front of the rest

@@ -4,6 +4,7 @@ use Rattle.std.proofs.lemmas.Bool.{le-leb}
 use Rattle.std.specs.Prelude.{nat_le, is_some}
 use Rattle.std.specs.List.{flat_map}
 use Rattle.std.specs.Option.{option_map}
+use Rattle.kt_tuple.specs.declared.string.TheConstants.{MAX_CHARACTERS}
 use Rattle.kt_tuple.specs.declared.value.Value.{Value}
 use Rattle.kt_tuple.specs.declared.value.Value.TheVariants.{Int, Str}
 use Rattle.kt_tuple.specs.Text.{IsText}
@@ -68,7 +69,7 @@ is_short_plain p cs c is no_quote = rw (is, no_quote) refl
 
 is_short_string : (s : List ℕ) → IsText s → is_short (string_text s) ≡ true
 unfolding is_short
-is_short_string s h = ap (λ (t : List ℕ). nat_le (length t) 64) (characters_of_text s) ∙ le-leb (length s) 64 h.0
+is_short_string s h = ap (λ (t : List ℕ). nat_le (length t) MAX_CHARACTERS) (characters_of_text s) ∙ le-leb (length s) MAX_CHARACTERS h.0
 
 -- and short
 pub is_short_text : (v : Value) → IsValue v → is_short (value_text v) ≡ true

@@ -5,6 +5,7 @@ use Rattle.std.proofs.lemmas.Bool.{eqb-true}
 use Rattle.std.proofs.lemmas.List.{append-nil}
 use Rattle.std.proofs.lemmas.List.Elements.{All-nil, All-cons}
 use Rattle.std.specs.Prelude.{All, codes}
+use Rattle.kt_tuple.specs.declared.tuple.TheConstants.{MAX_PLACES}
 use Rattle.kt_tuple.specs.Spelling.{separated, in_parentheses}
 use Rattle.kt_tuple.specs.Matching.{HasArity}
 use Rattle.kt_tuple.specs.Reading.{◌>>=◌, word_at, after_place, has_range, is_short, begins_with_digit}
@@ -66,12 +67,12 @@ length-map_same f (x ∷ xs) = ap suc (length-map_same f xs)
 -- the things from the i-th on, counted from 0, and their text up to the end
 pub record IsWhole {A : Type 0} (spell : A → List ℕ) (IsHeld : A → Type 0) (i : ℕ) (text : List ℕ) (xs : List A) : Type 0 where
   pub some : 1 ≤ length xs
-  pub few : i + length xs ≤ 8
+  pub few : i + length xs ≤ MAX_PLACES
   pub all : All IsHeld xs
   pub text_is : text ≡ separated (map spell xs) ++ 41 ∷ []
 
 module _ {A : Type 0} (read : Reader) (make : List ℕ → Option A) (spell : A → List ℕ) (IsHeld : A → Type 0) (r : IsReader read make spell IsHeld) where
-  whole_last : (i : ℕ) (text p : List ℕ) (x : A) → i < 8 → IsHeld x → spell x ≡ p → text ≡ p ++ 41 ∷ [] → IsWhole spell IsHeld i text (x ∷ [])
+  whole_last : (i : ℕ) (text p : List ℕ) (x : A) → i < MAX_PLACES → IsHeld x → spell x ≡ p → text ≡ p ++ 41 ∷ [] → IsWhole spell IsHeld i text (x ∷ [])
   whole_last i text p x lt held is parts = record {
     some = omega arith;
     few = omega (arith, lt);
@@ -79,7 +80,7 @@ module _ {A : Type 0} (read : Reader) (make : List ℕ → Option A) (spell : A 
     text_is = parts ∙ ap (λ (t : List ℕ). t ++ 41 ∷ []) (sym is ∙ sym (append-nil (spell x)));
   }
 
-  whole_more : (i : ℕ) (text p next : List ℕ) (x : A) (xs : List A) → i < 8 → IsHeld x → spell x ≡ p → text ≡ p ++ 44 ∷ 32 ∷ next
+  whole_more : (i : ℕ) (text p next : List ℕ) (x : A) (xs : List A) → i < MAX_PLACES → IsHeld x → spell x ≡ p → text ≡ p ++ 44 ∷ 32 ∷ next
       → IsWhole spell IsHeld (i + 1) next xs → IsWhole spell IsHeld i text (x ∷ xs)
   whole_more i text p next x xs lt held is parts h = record {
     some = omega arith;
@@ -91,33 +92,34 @@ module _ {A : Type 0} (read : Reader) (make : List ℕ → Option A) (spell : A 
         ∙ ap (λ (t : List ℕ). t ++ 41 ∷ []) (sym (separated-cons (spell x) (map spell xs) (omega (arith, h.some, length-map_same spell xs))));
   }
 
-  made_last : (i : ℕ) (text p rest : List ℕ) (x : A) → i < 8 → read text ≡ Ok (p, rest) → after_place rest ≡ Ok None → make p ≡ Some x
-      → made_from read make (8 - i) text ≡ x ∷ []
+  made_last : (i : ℕ) (text p rest : List ℕ) (x : A) → i < MAX_PLACES → read text ≡ Ok (p, rest) → after_place rest ≡ Ok None → make p ≡ Some x
+      → made_from read make (MAX_PLACES - i) text ≡ x ∷ []
   made_last i text p rest x lt place follows is = rw (made_step read make i text lt, place, is, follows) refl
 
-  made_more : (i : ℕ) (text p rest next : List ℕ) (x : A) → i < 8 → read text ≡ Ok (p, rest) → after_place rest ≡ Ok (Some next) → make p ≡ Some x
-      → made_from read make (8 - i) text ≡ x ∷ made_from read make (8 - (i + 1)) next
+  made_more : (i : ℕ) (text p rest next : List ℕ) (x : A) → i < MAX_PLACES → read text ≡ Ok (p, rest) → after_place rest ≡ Ok (Some next) → make p ≡ Some x
+      → made_from read make (MAX_PLACES - i) text ≡ x ∷ made_from read make (MAX_PLACES - (i + 1)) next
   made_more i text p rest next x lt place follows is = rw (made_step read make i text lt, place, is, follows) refl
 
-  whole_end : (i : ℕ) (text p rest : List ℕ) (x : A) → i < 8 → read text ≡ Ok (p, rest) → after_place rest ≡ Ok None → make p ≡ Some x
-      → IsWhole spell IsHeld i text (made_from read make (8 - i) text)
+  whole_end : (i : ℕ) (text p rest : List ℕ) (x : A) → i < MAX_PLACES → read text ≡ Ok (p, rest) → after_place rest ≡ Ok None → make p ≡ Some x
+      → IsWhole spell IsHeld i text (made_from read make (MAX_PLACES - i) text)
   whole_end i text p rest x lt place follows is =
       rw (made_last i text p rest x lt place follows is)
       (whole_last i text p x lt (r.held p x is) (r.spelled text p rest x place is)
       (r.front text p rest place ∙ ap (λ (t : List ℕ). p ++ t) (none_follows rest follows)))
 
-  whole_behind : (i : ℕ) (text p rest next : List ℕ) (x : A) → i < 8 → read text ≡ Ok (p, rest) → after_place rest ≡ Ok (Some next) → make p ≡ Some x
-      → IsWhole spell IsHeld (i + 1) next (made_from read make (8 - (i + 1)) next) → IsWhole spell IsHeld i text (made_from read make (8 - i) text)
+  whole_behind : (i : ℕ) (text p rest next : List ℕ) (x : A) → i < MAX_PLACES → read text ≡ Ok (p, rest) → after_place rest ≡ Ok (Some next) → make p ≡ Some x
+      → IsWhole spell IsHeld (i + 1) next (made_from read make (MAX_PLACES - (i + 1)) next)
+      → IsWhole spell IsHeld i text (made_from read make (MAX_PLACES - i) text)
   whole_behind i text p rest next x lt place follows is more =
       rw (made_more i text p rest next x lt place follows is)
-      (whole_more i text p next x (made_from read make (8 - (i + 1)) next) lt (r.held p x is) (r.spelled text p rest x place is)
+      (whole_more i text p next x (made_from read make (MAX_PLACES - (i + 1)) next) lt (r.held p x is) (r.spelled text p rest x place is)
       (r.front text p rest place ∙ ap (λ (t : List ℕ). p ++ t) (some_follows rest next follows)) more)
 
   made_by : (next : Option (List ℕ)) (n i : ℕ) (text p rest : List ℕ) (places : List (List ℕ × List ℕ)) → read text ≡ Ok (p, rest) → after_place rest ≡ Ok next
       → and_behind (p, text) next (places_from read n) ≡ Ok places → AreFine i places
       → ((following : List ℕ) (behind : List (List ℕ × List ℕ)) → places_from read n following ≡ Ok behind → AreFine (i + 1) behind
-      → IsWhole spell IsHeld (i + 1) following (made_from read make (8 - (i + 1)) following))
-      → IsWhole spell IsHeld i text (made_from read make (8 - i) text)
+      → IsWhole spell IsHeld (i + 1) following (made_from read make (MAX_PLACES - (i + 1)) following))
+      → IsWhole spell IsHeld i text (made_from read make (MAX_PLACES - i) text)
   made_by None n i text p rest places place follows e fine more =
       let one : (p, text) ∷ [] ≡ places = cc in
       let is = subst (AreFine i) (sym one) fine in
@@ -132,7 +134,7 @@ module _ {A : Type 0} (read : Reader) (make : List ℕ → Option A) (spell : A 
 
   -- what is made of fine places that were read
   places_made : (n i : ℕ) (text : List ℕ) (places : List (List ℕ × List ℕ)) → places_from read n text ≡ Ok places → AreFine i places
-      → IsWhole spell IsHeld i text (made_from read make (8 - i) text)
+      → IsWhole spell IsHeld i text (made_from read make (MAX_PLACES - i) text)
   unfolding places_from
   places_made zero i text places e fine = absurd cc
   places_made (suc n) i text places e fine =
@@ -149,7 +151,7 @@ module _ {A : Type 0} (read : Reader) (make : List ℕ → Option A) (spell : A 
       let places = found_fine text (places_in read text) e in
       let start = bound (word_at text (40 ∷ [])) (λ start. places_from read (length text) start) places.0 places.1 in
       let whole = places_made (length text) 0 start.0 places.0 start.2 places.2 in
-      let arity : HasArity (made_from read make 8 start.0) = (whole.some, omega (arith, whole.few)) in
-      let text_is : in_parentheses (map spell (made_from read make 8 start.0)) ≡ text =
+      let arity : HasArity (made_from read make MAX_PLACES start.0) = (whole.some, omega (arith, whole.few)) in
+      let text_is : in_parentheses (map spell (made_from read make MAX_PLACES start.0)) ≡ text =
       ap (λ (t : List ℕ). 40 ∷ t) (sym whole.text_is) ∙ sym (word_taken text (40 ∷ []) start.0 start.1) in
       rw start.1 (arity, whole.all, text_is)

@@ -5,6 +5,7 @@ use Rattle.std.proofs.lemmas.List.{append-nil}
 use Rattle.std.proofs.lemmas.List.Elements.{All-head, All-tail}
 use Rattle.std.specs.List.{flat_map}
 use Rattle.std.specs.Prelude.{All}
+use Rattle.kt_tuple.specs.declared.tuple.TheConstants.{MAX_PLACES}
 use Rattle.kt_tuple.specs.Spelling.{further, separated, in_parentheses}
 use Rattle.kt_tuple.specs.Matching.{HasArity}
 use Rattle.kt_tuple.specs.Reading.{after_place}
@@ -28,7 +29,7 @@ record IsRead {A : Type 0} (read : Reader) (make : List ℕ → Option A) (n i :
   places : List (List ℕ × List ℕ)
   found : places_from read n text ≡ Ok places
   fine : AreFine i places
-  made : made_from read make (8 - i) text ≡ xs
+  made : made_from read make (MAX_PLACES - i) text ≡ xs
 
 pub after_last : after_place (41 ∷ []) ≡ Ok None
 unfolding after_place
@@ -39,7 +40,7 @@ unfolding after_place
 after_other next = refl
 
 module _ {A : Type 0} (read : Reader) (make : List ℕ → Option A) (spell : A → List ℕ) (IsHeld : A → Type 0) (r : IsReader read make spell IsHeld) where
-  read_last : (n i : ℕ) (x : A) → i < 8 → IsHeld x → IsRead read make (suc n) i (separated (map spell (x ∷ [])) ++ 41 ∷ []) (x ∷ [])
+  read_last : (n i : ℕ) (x : A) → i < MAX_PLACES → IsHeld x → IsRead read make (suc n) i (separated (map spell (x ∷ [])) ++ 41 ∷ []) (x ∷ [])
   unfolding places_from
   read_last n i x lt held =
       let text = separated (map spell (x ∷ [])) ++ 41 ∷ [] in
@@ -51,7 +52,7 @@ module _ {A : Type 0} (read : Reader) (make : List ℕ → Option A) (spell : A 
         made = rw (made_step read make i text lt, place, r.makes x held, after_last) refl;
       }
 
-  read_more : (n i : ℕ) (x : A) (xs : List A) → 1 ≤ length xs → i < 8 → IsHeld x → IsRead read make n (i + 1) (separated (map spell xs) ++ 41 ∷ []) xs
+  read_more : (n i : ℕ) (x : A) (xs : List A) → 1 ≤ length xs → i < MAX_PLACES → IsHeld x → IsRead read make n (i + 1) (separated (map spell xs) ++ 41 ∷ []) xs
       → IsRead read make (suc n) i (separated (map spell (x ∷ xs)) ++ 41 ∷ []) (x ∷ xs)
   unfolding places_from
   read_more n i x xs some lt held h =
@@ -68,7 +69,7 @@ module _ {A : Type 0} (read : Reader) (make : List ℕ → Option A) (spell : A 
         made = rw (made_step read make i text lt, place, r.makes x held, after_other next) (ap (λ (ys : List A). x ∷ ys) h.made);
       }
 
-  read_all : (xs : List A) (n i : ℕ) → 1 ≤ length xs → length xs ≤ n → i + length xs ≤ 8 → All IsHeld xs
+  read_all : (xs : List A) (n i : ℕ) → 1 ≤ length xs → length xs ≤ n → i + length xs ≤ MAX_PLACES → All IsHeld xs
       → IsRead read make n i (separated (map spell xs) ++ 41 ∷ []) xs
   read_all [] n i some enough few held = absurd (omega (arith, some))
   read_all (x ∷ xs) zero i some enough few held = absurd (omega (arith, enough))

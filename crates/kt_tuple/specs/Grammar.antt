@@ -4,6 +4,8 @@ use Rattle.std.specs.List.{flat_map}
 use Rattle.std.specs.Int.{w64}
 use Rattle.std.specs.Int.RustNames.{FitsSigned}
 use Rattle.std.specs.Str.Parse.{signed_digits_value}
+use Rattle.kt_tuple.specs.declared.string.TheConstants.{MAX_CHARACTERS}
+use Rattle.kt_tuple.specs.declared.tuple.TheConstants.{MAX_PLACES}
 use Rattle.kt_tuple.specs.declared.parse_error.ParseError.{ParseError}
 use Rattle.kt_tuple.specs.declared.parse_error.ParseError.TheVariants as faults
 use Rattle.kt_tuple.specs.Text.{IsPrintable}
@@ -89,9 +91,9 @@ followed p = p ++ codes ", "
 abbrev pub IsInside : List ℕ → Type 0
 IsInside p = IsInt p → FitsSigned w64 (signed_digits_value 10 p)
 
--- no str of more than 64 characters
+-- no str of more than `MAX_CHARACTERS` characters
 abbrev pub IsShort : List ℕ → Type 0
-IsShort p = (cs : List ℕ) (h : IsCharacters cs) → p ≡ 34 ∷ (cs ++ 34 ∷ []) → character_count h ≤ 64
+IsShort p = (cs : List ℕ) (h : IsCharacters cs) → p ≡ 34 ∷ (cs ++ 34 ∷ []) → character_count h ≤ MAX_CHARACTERS
 
 -- the text is places of the shape in parentheses, and the first int of them outside 64 bits begins at this byte
 pub record IsFirstOutside (IsOne : List ℕ → Type 0) (text : List ℕ) (at : ℕ) : Type 0 where
@@ -106,19 +108,19 @@ pub record IsFirstOutside (IsOne : List ℕ → Type 0) (text : List ℕ) (at : 
   pub is_int : IsInt number
   pub outside : ¬ FitsSigned w64 (signed_digits_value 10 number)
 
--- the text is places of the shape in parentheses, all in range, and more than 8 or not all short
+-- the text is places of the shape in parentheses, all in range, and more than `MAX_PLACES` or not all short
 pub record IsTooLong (IsOne : List ℕ → Type 0) (text : List ℕ) : Type 0 where
   pub places : List (List ℕ)
   pub are : Consists IsOne places text
   pub inside : All IsInside places
-  pub long : (8 < length places) ⊎ (¬ All IsShort places)
+  pub long : (MAX_PLACES < length places) ⊎ (¬ All IsShort places)
 
--- the text is at most 8 places of the shape in parentheses, all in range and short
+-- the text is at most `MAX_PLACES` places of the shape in parentheses, all in range and short
 pub record IsAccepted (IsOne : List ℕ → Type 0) (text : List ℕ) : Type 0 where
   pub places : List (List ℕ)
   pub are : Consists IsOne places text
   pub inside : All IsInside places
-  pub few : length places ≤ 8
+  pub few : length places ≤ MAX_PLACES
   pub short : All IsShort places
 
 -- the first bytes, so many, begin some text of the shape, and no more of them do

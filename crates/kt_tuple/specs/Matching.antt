@@ -5,14 +5,15 @@ use Rattle.std.proofs.Common.{sym, ap}
 use Rattle.std.specs.List.{AllZip}
 use Rattle.std.specs.Cmp.Lexicographic.{pointwise}
 use Rattle.kt_tuple.specs.declared.value.Value.{Value}
+use Rattle.kt_tuple.specs.declared.tuple.TheConstants.{MAX_PLACES}
 use Rattle.kt_tuple.specs.declared.template.Place.{Place}
 use Rattle.kt_tuple.specs.declared.template.Place.TheVariants.{Actual, Formal}
 use Rattle.kt_tuple.specs.Value.{kind_of}
 use Rattle.kt_tuple.specs.Equality.{kind_eq, value_eq, kind_eq_decides, value_eq_decides}
 
--- 1 to 8 places
+-- one place at least, and no more than `MAX_PLACES`
 abbrev pub HasArity : {A : Type 0} → List A → Type 0
-HasArity places = (1 ≤ length places) × (length places ≤ 8)
+HasArity places = (1 ≤ length places) × (length places ≤ MAX_PLACES)
 
 -- an actual admits its own value, a formal each value of its kind
 abbrev pub Admits : Place → Value → Type 0

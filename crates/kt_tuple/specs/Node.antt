@@ -1,10 +1,34 @@
--- The nodes as numbers, for tables that have a row for each.
-use Rattle.std.specs.Prelude.{◌≡◌, ℕ, ◌+◌, ◌*◌, Bool, false, nat_eq}
+-- The names of nodes: their numbers, their order, and the lists of those that a scene can have.
+use Rattle.std.specs.Prelude.{◌≡◌, ℕ, ◌+◌, ◌*◌, Bool, true, false, nat_eq, nat_lt, List, ◌++◌, map}
 use Rattle.std.specs.Bool.{Decides}
+use Rattle.std.specs.List.{range_with_len}
 use Rattle.std.specs.Cmp.{unsigned_Decides}
 use Rattle.std.proofs.Common.{ap}
 use Rattle.kt_tuple.specs.declared.node.NodeId.{NodeId}
 use Rattle.kt_tuple.specs.declared.node.NodeId.TheVariants.{Worker, Shard}
+use Rattle.kt_tuple.specs.declared.node.TheConstants.{MAX_WORKERS, MAX_SHARDS}
+
+-- the number of a node among its kind
+abbrev pub node_number : NodeId → ℕ
+node_number (Worker n) = n
+node_number (Shard n) = n
+
+-- a comes before b in node order: first the workers, then the shards, each by their numbers
+abbrev pub is_before : NodeId → NodeId → Bool
+is_before (Worker m) (Worker n) = nat_lt m n
+is_before (Worker m) (Shard n) = true
+is_before (Shard m) (Worker n) = false
+is_before (Shard m) (Shard n) = nat_lt m n
+
+-- the names that a scene can have, in node order
+abbrev pub all_workers : List NodeId
+all_workers = map Worker (range_with_len 1 MAX_WORKERS)
+
+abbrev pub all_shards : List NodeId
+all_shards = map Shard (range_with_len 1 MAX_SHARDS)
+
+abbrev pub all_nodes : List NodeId
+all_nodes = all_workers ++ all_shards
 
 -- how many names there are: 256 of workers and 256 of shards
 abbrev pub names : ℕ

@@ -2,6 +2,7 @@
 use Rattle.std.specs.Prelude.{ℕ, zero, suc, ◌-◌, ◌||◌, not, nat_lt, Bool, true, false, if◌then◌else◌}
 use Rattle.std.specs.Prelude.{List, [], ◌∷◌, length, Option, Some, None, Result, Ok, Err}
 use Rattle.std.specs.List.{list_any, filter_map}
+use Rattle.kt_tuple.specs.declared.tuple.TheConstants.{MAX_PLACES}
 use Rattle.kt_tuple.specs.declared.value.Value.{Value}
 use Rattle.kt_tuple.specs.declared.template.Place.{Place}
 use Rattle.kt_tuple.specs.declared.parse_error.ParseError.{ParseError}
@@ -35,9 +36,9 @@ first_outside text [] = None
 first_outside text (place ∷ places) =
     if has_range place.0 then first_outside text places else Some (length text - length place.1)
 
--- more than 8 places, or a str of more than 64 characters among them
+-- more than `MAX_PLACES` places, or a str of more than `MAX_CHARACTERS` characters among them
 abbrev pub are_too_long : List (List ℕ × List ℕ) → Bool
-are_too_long places = nat_lt 8 (length places) || list_any (λ place. not (is_short place.0)) places
+are_too_long places = nat_lt MAX_PLACES (length places) || list_any (λ place. not (is_short place.0)) places
 
 -- the lowest of both faults
 abbrev pub lower_fault : Option ℕ → Bool → Option ParseError

@@ -6,6 +6,7 @@ use Rattle.std.specs.Cmp.Lexicographic.{pointwise}
 use Rattle.std.specs.List.{list_all}
 use Rattle.std.specs.Option.{option_map}
 use Rattle.std.specs.Str.{all_ascii_digits}
+use Rattle.kt_tuple.specs.declared.string.TheConstants.{MAX_CHARACTERS}
 use Rattle.kt_tuple.specs.declared.value.Value.{Value}
 use Rattle.kt_tuple.specs.declared.value.Value.TheVariants.{Int, Str}
 use Rattle.kt_tuple.specs.declared.value.Kind.TheVariants as kinds
@@ -147,9 +148,9 @@ unescaped behind (c ∷ cs) = (if is_escape behind c then [] else c ∷ []) ++ u
 abbrev pub characters_of : List ℕ → List ℕ
 characters_of spelling = unescaped false (between_quotes spelling)
 
--- the str of these characters, where they are at most 64 and printable
+-- the str of these characters, where they are at most `MAX_CHARACTERS` and printable
 abbrev pub str_of : List ℕ → Option Value
-str_of cs = if nat_le (length cs) 64 && list_all is_printable cs then Some (Str cs) else None
+str_of cs = if nat_le (length cs) MAX_CHARACTERS && list_all is_printable cs then Some (Str cs) else None
 
 abbrev pub int_value_of : List ℕ → Option Value
 int_value_of spelling = option_map (λ n. Int n) (int_of spelling)
@@ -171,7 +172,7 @@ unfoldable pub has_range : List ℕ → Bool
 has_range [] = is_some (int_of [])
 has_range (c ∷ rest) = if (c == 34) || (c == 63) then true else is_some (int_of (c ∷ rest))
 
--- the place is no str of more than 64 characters
+-- the place is no str of more than `MAX_CHARACTERS` characters
 unfoldable pub is_short : List ℕ → Bool
 is_short [] = true
-is_short (c ∷ rest) = if c == 34 then nat_le (length (characters_of (c ∷ rest))) 64 else true
+is_short (c ∷ rest) = if c == 34 then nat_le (length (characters_of (c ∷ rest))) MAX_CHARACTERS else true

@@ -1,5 +1,6 @@
 -- What a string may hold.
 use Rattle.std.specs.Prelude.{ℕ, ◌≤◌, List, length, All}
+use Rattle.kt_tuple.specs.declared.string.TheConstants.{MAX_CHARACTERS}
 
 -- the printable characters of ASCII, from the space to the tilde
 abbrev pub IsPrintable : ℕ → Type 0
@@ -8,6 +9,6 @@ IsPrintable c = (32 ≤ c) × (c ≤ 126)
 abbrev pub ArePrintable : List ℕ → Type 0
 ArePrintable cs = All IsPrintable cs
 
--- at most 64 printable characters
+-- at most `MAX_CHARACTERS` printable characters
 abbrev pub IsText : List ℕ → Type 0
-IsText cs = (length cs ≤ 64) × ArePrintable cs
+IsText cs = (length cs ≤ MAX_CHARACTERS) × ArePrintable cs

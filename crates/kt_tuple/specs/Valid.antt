@@ -7,7 +7,7 @@ use Rattle.kt_tuple.specs.declared.template.Place.{Place}
 use Rattle.kt_tuple.specs.declared.template.Place.TheVariants.{Actual, Formal}
 use Rattle.kt_tuple.specs.Text.{IsText}
 
--- an int of 64 bits, or a str of at most 64 printable characters
+-- an int of 64 bits, or a str of at most `MAX_CHARACTERS` printable characters
 abbrev pub IsValue : Value → Type 0
 IsValue (Int n) = FitsSigned w64 n
 IsValue (Str s) = IsText s

@@ -23,6 +23,9 @@ ghost use Rattle.kt_tuple.specs.Reading.{place_at, place_of, has_range, is_short
 ghost use Rattle.kt_tuple.specs.Signature.{kinds_of, kinds_of_places, signature_of, shard_of};
 ghost use Rattle.kt_tuple.specs.Spelling.{value_text, place_text, tuple_text, template_text};
 ghost use Rattle.kt_tuple.specs.Valid.{IsValue, IsPlace};
+ghost use Rattle.kt_tuple.specs.declared.node.TheConstants.{ALL_NODES, ALL_WORKERS};
+ghost use Rattle.kt_tuple.specs.declared.string.TheConstants.{MAX_CHARACTERS};
+ghost use Rattle.kt_tuple.specs.Node.{all_nodes, all_workers};
 
 /// A template and a tuple that match have one signature, hence one shard is the home of both.
 pub fn matching_has_one_home()
@@ -69,7 +72,8 @@ pub fn a_front_spelled_is_read()
     ensures place_short { (q : Place) → IsPlace q → IsTrue (is_short (place_text q)) }
 {}
 
-/// A text without a fault is the one text of what is read of it: 1 to 8 values, or places, that a program can hold.
+/// A text without a fault is the one text of what is read of it: 1 to `MAX_PLACES` values, or places, that a program
+/// can hold.
 pub fn a_text_read_is_spelled_so()
     ensures tuple_spelling { (text : List ℕ) → tuple_fault text ≡ None → tuple_text (tuple_values text) ≡ text }
     ensures tuple_arity { (text : List ℕ) → tuple_fault text ≡ None → HasArity (tuple_values text) }
@@ -80,7 +84,7 @@ pub fn a_text_read_is_spelled_so()
     ensures template_held { (text : List ℕ) → template_fault text ≡ None → All IsPlace (template_places text) }
 {}
 
-/// The text of 1 to 8 values, or places, has no fault, and is read as these.
+/// The text of 1 to `MAX_PLACES` values, or places, has no fault, and is read as these.
 pub fn a_text_spelled_is_read()
     ensures tuple_faultless { (us : List Value) → HasArity us → All IsValue us → tuple_fault (tuple_text us) ≡ None }
     ensures tuple_values { (us : List Value) → HasArity us → All IsValue us → tuple_values (tuple_text us) ≡ us }
@@ -122,7 +126,7 @@ pub fn a_syntax_fault_is_at_the_longest_front()
 {}
 
 /// A text of the shape has a range fault exactly at its first int outside 64 bits. It is too long exactly where
-/// its ints are in range and it has more than 8 places or a str too long, and else it is accepted.
+/// its ints are in range and it has more than `MAX_PLACES` places or a str too long, and else it is accepted.
 pub fn a_text_of_the_shape_has_these_faults()
     ensures tuple_range { (text : List ℕ) (at : ℕ)
         → (tuple_fault text ≡ Some (faults.Range at)) ↔ IsFirstOutside IsValueText text at }
@@ -141,6 +145,12 @@ pub fn a_place_is_outside_or_too_long_by_its_shape()
     ensures int { (p : List ℕ) → IsInt p → IsTrue (has_range p) ↔ FitsSigned w64 (signed_digits_value 10 p) }
     ensures in_range { (p : List ℕ) → IsPlaceText p → has_range p ≡ false → IsInt p }
     ensures characters { (cs : List ℕ) (h : IsCharacters cs)
-        → IsTrue (is_short (34 ∷ (cs ++ 34 ∷ []))) ↔ (character_count h ≤ 64) }
+        → IsTrue (is_short (34 ∷ (cs ++ 34 ∷ []))) ↔ (character_count h ≤ MAX_CHARACTERS) }
     ensures short { (p : List ℕ) → IsPlaceText p → is_short p ≡ false → IsStr p }
+{}
+
+/// The lists of names are in node order, and whole: each worker and each shard that a scene can have.
+pub fn names_are_listed_in_node_order()
+    ensures workers { ALL_WORKERS ≡ all_workers }
+    ensures nodes { ALL_NODES ≡ all_nodes }
 {}

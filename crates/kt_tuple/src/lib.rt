@@ -10,6 +10,7 @@
 //!   `writing.rt` have the texts.
 #![tactic(auto)]
 
+mod copying;
 mod equality;
 mod item;
 pub mod laws;
@@ -26,8 +27,9 @@ mod tuple;
 mod value;
 pub mod writing;
 
+pub use copying::{copy_tuples, copy_values};
 pub use equality::Equality;
-pub use node::NodeId;
+pub use node::{ALL_NODES, ALL_WORKERS, MAX_NODES, MAX_SHARDS, MAX_WORKERS, NodeId};
 pub use op::{Answer, Op};
 pub use parse_error::ParseError;
 pub use service::Service;

@@ -11,7 +11,8 @@ pub enum ParseError {
     /// It has the shape, and an int is out of range: the first one begins at byte `at`, counted from 0.
     #[error("int out of range at byte {at}")]
     Range { at: usize },
-    /// It has the shape and its ints are in range, but more than 8 places or more than 64 characters in a str.
+    /// It has the shape and its ints are in range, but more than `MAX_PLACES` places or more than `MAX_CHARACTERS`
+    /// characters in a str.
     #[error("too long")]
     TooLong,
     /// The text is one, and no memory was left for it.

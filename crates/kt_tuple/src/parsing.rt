@@ -22,7 +22,7 @@ use std::alloc::{AllocError, Global};
 struct Findings {
     /// Where the first int begins that is out of range.
     out_of_range: Option<usize>,
-    /// A str of more than 64 characters, or a ninth place.
+    /// A str of more than `MAX_CHARACTERS` characters, or a place too many.
     too_long: bool,
 }
 
@@ -42,7 +42,8 @@ impl Tuple {
         // A text without a fault is refused for want of memory alone.
         ensures memory { tuple_fault text.now ≡ None → IfErr result (λ e. e ≡ ParseError.OutOfMemory) }
     {
-        // Not refused here: a text without a fault has 1 to 8 values (`a_text_read_is_spelled_so`, `tuple_arity`).
+        // Not refused here: a text without a fault has 1 to `MAX_PLACES` values (`a_text_read_is_spelled_so`,
+        // `tuple_arity`).
         let items = parsed::<Value>(alloc, text)?;
         match Tuple::new(alloc, items) {
             Ok(made) => made.ok_or(ParseError::TooLong),
@@ -67,7 +68,8 @@ impl Template {
         // A text without a fault is refused for want of memory alone.
         ensures memory { template_fault text.now ≡ None → IfErr result (λ e. e ≡ ParseError.OutOfMemory) }
     {
-        // Not refused here: a text without a fault has 1 to 8 places (`a_text_read_is_spelled_so`, `template_arity`).
+        // Not refused here: a text without a fault has 1 to `MAX_PLACES` places (`a_text_read_is_spelled_so`,
+        // `template_arity`).
         let items = parsed::<Place>(alloc, text)?;
         match Template::new(alloc, items) {
             Ok(made) => made.ok_or(ParseError::TooLong),

@@ -175,7 +175,7 @@ pub(crate) fn is_in_range(spelling: &[u8]) -> bool
     }
 }
 
-/// Whether the place is no str of more than 64 characters.
+/// Whether the place is no str of more than `MAX_CHARACTERS` characters.
 #[tactic(auto, unfolding(crate::specs::Reading::is_short))]
 pub(crate) fn is_short(spelling: &[u8]) -> bool
     ensures { result ≡ is_short spelling.now }
@@ -234,7 +234,7 @@ fn between_quotes(spelling: &[u8]) -> &[u8]
     }
 }
 
-/// The str with this spelling, where it has at most 64 characters, all printable.
+/// The str with this spelling, where it has at most `MAX_CHARACTERS` characters, all printable.
 fn str_of(spelling: &[u8]) -> Option<Value>
     ensures { result ≡ str_of (characters_of spelling.now) }
 {
@@ -249,7 +249,7 @@ fn str_of(spelling: &[u8]) -> Option<Value>
     str_with(&characters)
 }
 
-/// The str of these characters, where they are at most 64 and printable.
+/// The str of these characters, where they are at most `MAX_CHARACTERS` and printable.
 fn str_with(characters: &[u8]) -> Option<Value>
     ensures { result ≡ str_of characters.now }
 {

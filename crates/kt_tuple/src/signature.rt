@@ -6,7 +6,7 @@ ghost use Rattle.kt_tuple.specs.Signature.{code_of};
 use crate::value::Kind;
 use std::marker::Model;
 
-/// The kinds of a list of at most 8 places, as one number: two such lists have one number only where
+/// The kinds of a list of at most `MAX_PLACES` places, as one number: two such lists have one number only where
 /// they are one list (`numbers_tell_apart`).
 #[derive(Clone, Copy, Debug, PartialEq, Eq, Hash)]
 pub struct Signature {

@@ -9,8 +9,8 @@ use std::marker::Model;
 /// The most characters that a string has, each of one byte.
 pub const MAX_CHARACTERS: usize = 64;
 
-/// A string: 0 to 64 printable ASCII characters, each a byte from 32 to 126. Its room is fixed and takes no memory, so
-/// that a line can be judged whole before anything of it is kept (docs/DECISIONS.md#values).
+/// A string: 0 to `MAX_CHARACTERS` printable ASCII characters, each a byte from 32 to 126. Its room is fixed and takes
+/// no memory, so that a line can be judged whole before anything of it is kept (docs/DECISIONS.md#values).
 #[derive(Debug, Drop)]
 pub struct Str {
     characters: ArrayVec<u8, MAX_CHARACTERS>,
@@ -25,7 +25,7 @@ impl Model for Str {
 }
 
 impl Str {
-    /// The string of these characters, or `None` where they are more than 64 or one is not printable.
+    /// The string of these characters, or `None` where they are more than `MAX_CHARACTERS` or one is not printable.
     pub fn new(characters: &[u8]) -> Option<Str>
         ensures within { IsSome result ↔ IsText characters.now }
         ensures value { IfSome result (λ s. s ≡ characters.now) }
@@ -40,7 +40,7 @@ impl Str {
         }
     }
 
-    /// The characters, one byte each: 0 to 64 of them.
+    /// The characters, one byte each: 0 to `MAX_CHARACTERS` of them.
     pub fn as_bytes(&self) -> &[u8]
         ensures value { result.now ≡ self.now }
         ensures text { IsText self.now }
@@ -53,7 +53,7 @@ impl Str {
         ensures { result ≡ self.now }
     {
         let mut characters = ArrayVec::new();
-        // Both have room for 64 characters, so all of them fit.
+        // Both have room for `MAX_CHARACTERS` characters, so all of them fit.
         let _ = characters.try_extend_from_slice(&self.characters);
         Str { characters }
     }

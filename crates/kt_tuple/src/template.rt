@@ -58,7 +58,7 @@ impl Place {
     }
 }
 
-/// An ordered list of 1 to 8 places (Gelernter, "Generative Communication in Linda").
+/// An ordered list of 1 to `MAX_PLACES` places (Gelernter, "Generative Communication in Linda").
 #[derive(Debug, Drop)]
 pub struct Template {
     places: Arc<Vec<Place>, Global>,
@@ -80,8 +80,8 @@ impl Model for Template {
 impl Template {
     ghost use Rattle.kt_tuple.specs.Signature.{kinds_of_places, signature_of};
 
-    /// The template of these places, or `None` where there are none or more than 8. `AllocError` where memory is
-    /// wanting for the block that its copies share.
+    /// The template of these places, or `None` where there are none or more than `MAX_PLACES`. `AllocError` where
+    /// memory is wanting for the block that its copies share.
     pub fn new(alloc: Global, places: Vec<Place>) -> Result<Option<Template>, AllocError>
         ensures within { IfOk result (λ o. IsSome o ↔ HasArity places.items) }
         ensures value { IfOk result (λ o. IfSome o (λ t. t ≡ places.items)) }
@@ -104,7 +104,7 @@ impl Template {
         })
     }
 
-    /// The places, from left to right: 1 to 8 of them.
+    /// The places, from left to right: 1 to `MAX_PLACES` of them.
     pub fn places(&self) -> &[Place]
         ensures value { result.now ≡ self.now }
         ensures arity { HasArity self.now }

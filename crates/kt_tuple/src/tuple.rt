@@ -13,7 +13,7 @@ use std::sync::Arc;
 /// The most places that a tuple or a template has.
 pub const MAX_PLACES: usize = 8;
 
-/// An ordered list of 1 to 8 values (Gelernter, "Generative Communication in Linda").
+/// An ordered list of 1 to `MAX_PLACES` values (Gelernter, "Generative Communication in Linda").
 #[derive(Debug, Drop)]
 pub struct Tuple {
     values: Arc<Vec<Value>, Global>,
@@ -35,8 +35,8 @@ impl Model for Tuple {
 impl Tuple {
     ghost use Rattle.kt_tuple.specs.Signature.{kinds_of, signature_of};
 
-    /// The tuple of these values, or `None` where there are none or more than 8. `AllocError` where memory is wanting
-    /// for the block that its copies share.
+    /// The tuple of these values, or `None` where there are none or more than `MAX_PLACES`. `AllocError` where memory
+    /// is wanting for the block that its copies share.
     pub fn new(alloc: Global, values: Vec<Value>) -> Result<Option<Tuple>, AllocError>
         ensures within { IfOk result (λ o. IsSome o ↔ HasArity values.items) }
         ensures value { IfOk result (λ o. IfSome o (λ t. t ≡ values.items)) }
@@ -49,7 +49,7 @@ impl Tuple {
         }
     }
 
-    /// The values, from left to right: 1 to 8 of them.
+    /// The values, from left to right: 1 to `MAX_PLACES` of them.
     pub fn values(&self) -> &[Value]
         ensures value { result.now ≡ self.now }
         ensures arity { HasArity self.now }

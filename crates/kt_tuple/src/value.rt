@@ -11,7 +11,7 @@ use crate::string::Str;
 pub enum Value {
     /// A whole number of 64 bits with a sign.
     Int(i64),
-    /// A string of at most 64 printable characters.
+    /// A string of at most `MAX_CHARACTERS` printable characters.
     Str(Str),
 }
 

@@ -3,4 +3,3 @@ pub mod Lists
 pub mod Told
 pub mod After
 pub mod Asked
-pub mod Shared

@@ -35,7 +35,7 @@ use Rattle.kt_node.specs.Learning.{verdict_to}
 use Rattle.kt_node.specs.Deciding.{settled}
 use Rattle.kt_world.specs.declared.step.Step.{Step}
 use Rattle.kt_world.specs.Step.{owner}
-use Rattle.kt_world.specs.Limits.{most_steps}
+use Rattle.kt_world.specs.declared.step.TheConstants.{MAX_STEPS}
 use Rattle.kt_world.specs.State.{State, node, link_place}
 use Rattle.kt_world.specs.Writing.{content_after}
 use Rattle.kt_world.specs.Effect.{taken_off, applied}
@@ -65,7 +65,7 @@ pub record Backs (s : State) (p : NodeId) (plan : Plan) : Type 0 where
 
 -- ---- the state after it
 
-pub numbers-left : (s : State) → IsBacked s → s.made < most_steps → (p : NodeId) → HasNumbers s.content p
+pub numbers-left : (s : State) → IsBacked s → s.made < MAX_STEPS → (p : NodeId) → HasNumbers s.content p
 numbers-left s is few p = record {
   instance = let instances = is.few_instances in omega (arith, few, instances);
   incarnation = let incarnations = is.few_incarnations p in omega (arith, few, incarnations);
@@ -123,7 +123,7 @@ incarnations-after s is step plan q = elim (cases_eq (node_index q) (node_index 
         let one = incarnation-after s.content (row_of s.content p) plan.write in
         subst (λ (row : NodeRow). row.incarnation ≤ s.made + 1 + 1) (sym (own-row p plan.write s.content)) (omega (arith, few, one))
 
-pub backs-backed : (s : State) (step : Step) (plan : Plan) → IsBacked s → s.made < most_steps → Backs s (owner step) plan → IsBacked (applied s step plan)
+pub backs-backed : (s : State) (step : Step) (plan : Plan) → IsBacked s → s.made < MAX_STEPS → Backs s (owner step) plan → IsBacked (applied s step plan)
 backs-backed s step plan is few b =
     let instances = is.few_instances in
     let one = next-after (owner step) plan.write s.content in

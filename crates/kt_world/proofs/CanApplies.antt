@@ -15,7 +15,7 @@ use Rattle.kt_node.specs.Node.{Live}
 use Rattle.kt_world.specs.declared.step.Step.{Step}
 use Rattle.kt_world.specs.declared.told.Told.{Told}
 use Rattle.kt_world.specs.Step.{owner}
-use Rattle.kt_world.specs.Limits.{most_steps}
+use Rattle.kt_world.specs.declared.step.TheConstants.{MAX_STEPS}
 use Rattle.kt_world.specs.Cast.{is_node}
 use Rattle.kt_world.specs.State.{State}
 use Rattle.kt_world.specs.Effect.{applied}
@@ -98,5 +98,5 @@ plan-good s ready t step plan (plans.restarts_anew {p = p} {live = live} is at r
 pub can_apply : (s : State) → IsReady s → (t : Told) (step : Step) (plan : Plan) → PlanOf s t step plan → CanApply s (owner step) plan
 can_apply s ready t step plan of = good-applies s (owner step) plan ready (plan-good s ready t step plan of)
 
-pub stays_ready : (s : State) → IsReady s → s.made < most_steps → (t : Told) (step : Step) (plan : Plan) → PlanOf s t step plan → IsReady (applied s step plan)
+pub stays_ready : (s : State) → IsReady s → s.made < MAX_STEPS → (t : Told) (step : Step) (plan : Plan) → PlanOf s t step plan → IsReady (applied s step plan)
 stays_ready s ready few t step plan of = good-ready s step plan ready (plan-good s ready t step plan of) few

@@ -30,7 +30,7 @@ use Rattle.kt_node.specs.Node.{Body, IsWorker, IsShard}
 use Rattle.kt_node.specs.declared.refusal.Refusal.{Refusal}
 use Rattle.kt_node.specs.declared.refusal.Refusal.TheVariants as refusals
 use Rattle.kt_shard.specs.declared.desk.Desk.{Desk}
-use Rattle.kt_shard.specs.Limits.{most_workers}
+use Rattle.kt_tuple.specs.declared.node.TheConstants.{MAX_WORKERS}
 use Rattle.kt_ckpt.specs.declared.ckpt.Ckpt.{Ckpt}
 use Rattle.kt_ckpt.specs.declared.state.State.{State as Held}
 use Rattle.kt_ckpt.specs.declared.state.State.TheVariants as states
@@ -112,8 +112,8 @@ shard-fits : (scripts : List (List Command)) (made : MadeShard) (y : Shard) (lon
     → (are_of_scene (length scripts) (shard_fields y).waiting && are_of_scene (length scripts) (shard_fields y).kept && nat_le (length y.bag) long) ≡ true
 shard-fits scripts made y long like few =
     both _ _ _
-    (entries-of_scene (length scripts) 1 most_workers (λ w. (desk_of y w).waiting) (omega arith) (λ w past. ap (λ (d : Desk). d.waiting) (nobody w past)))
-    (entries-of_scene (length scripts) 1 most_workers (λ w. (desk_of y w).kept) (omega arith) (λ w past. ap (λ (d : Desk). d.kept) (nobody w past)))
+    (entries-of_scene (length scripts) 1 MAX_WORKERS (λ w. (desk_of y w).waiting) (omega arith) (λ w past. ap (λ (d : Desk). d.waiting) (nobody w past)))
+    (entries-of_scene (length scripts) 1 MAX_WORKERS (λ w. (desk_of y w).kept) (omega arith) (λ w past. ap (λ (d : Desk). d.kept) (nobody w past)))
     (le-leb (length y.bag) long (let same = length_permutation made.bag y.bag like.bag in omega (arith, same, few)))
   where
     nobody : (w : ℕ) → length scripts < w → desk_of y w ≡ empty_desk

@@ -26,7 +26,7 @@ use Rattle.kt_node.specs.Ready.{CanTurn, CanChange}
 use Rattle.kt_node.specs.Turning.{changed, changed_body, changed_kept, is_above, phase_in, said_count, turned}
 use Rattle.kt_world.specs.declared.step.Step.{Step}
 use Rattle.kt_world.specs.Step.{owner}
-use Rattle.kt_world.specs.Limits.{most_steps}
+use Rattle.kt_world.specs.declared.step.TheConstants.{MAX_STEPS}
 use Rattle.kt_world.specs.Cast.{Cast, is_node}
 use Rattle.kt_world.specs.State.{State, node, link_place, role_of, view}
 use Rattle.kt_world.specs.Effect.{noted, taken_off, applied}
@@ -72,7 +72,7 @@ messages-after s ready step plan g k m c =
       | inr new ↦ all-at (λ (x : NodeId × Message). IsMessageReady (noted s.history plan.note) x.1) plan.send (new.to, m) g.says new.among
     ]
 
-pub good-ready : (s : State) (step : Step) (plan : Plan) → IsReady s → IsGood s (owner step) plan → s.made < most_steps → IsReady (applied s step plan)
+pub good-ready : (s : State) (step : Step) (plan : Plan) → IsReady s → IsGood s (owner step) plan → s.made < MAX_STEPS → IsReady (applied s step plan)
 good-ready s step plan ready g few =
     let p = owner step in
     let row = node-row s.cast ready.cast p g.there in

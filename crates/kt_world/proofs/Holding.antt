@@ -17,7 +17,7 @@ use Rattle.kt_node.specs.declared.plan.Plan.{Plan}
 use Rattle.kt_world.specs.declared.step.Step.{Step}
 use Rattle.kt_world.specs.declared.step.StepError.{StepError}
 use Rattle.kt_world.specs.Step.{owner}
-use Rattle.kt_world.specs.Limits.{most_steps}
+use Rattle.kt_world.specs.declared.step.TheConstants.{MAX_STEPS}
 use Rattle.kt_world.specs.Cast.{Cast, IsCast}
 use Rattle.kt_world.specs.State.{State}
 use Rattle.kt_world.specs.Asks.{setting_of}
@@ -56,7 +56,7 @@ pub record Holds (s : State) : Type 0 where
 pub record IsMade (s : State) (step : Step) (new : State) : Type 0 where
   pub plan : Plan
   pub is_plan : PlanOf s (told s step) step plan
-  pub few : s.made < most_steps
+  pub few : s.made < MAX_STEPS
   pub leads : applied s step plan ≡ new
 
 pub step-made : (s : State) (step : Step) (new : State) → step_result s step ≡ Ok new → IsMade s step new

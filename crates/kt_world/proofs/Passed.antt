@@ -12,7 +12,7 @@ use Rattle.kt_node.specs.Plan.{Planned}
 use Rattle.kt_node.specs.Steps.{up_in, up_of, by_up}
 use Rattle.kt_world.specs.declared.step.StepError.{StepError}
 use Rattle.kt_world.specs.declared.step.StepError.TheVariants as refusals
-use Rattle.kt_world.specs.Limits.{most_steps}
+use Rattle.kt_world.specs.declared.step.TheConstants.{MAX_STEPS}
 use Rattle.kt_world.specs.Judge.{of_owner, of_scene, unless_over, within_limit}
 use Rattle.kt_world.specs.State.{State, node, view}
 use Rattle.kt_world.proofs.Plans.{IsAlive}
@@ -24,15 +24,15 @@ pub if-passed : (b : Bool) (r : Planned) (refusal : Refusal) (plan : Plan) → (
 if-passed true r refusal plan e = (refl, e)
 if-passed false r refusal plan e = absurd cc
 
-unless_over-passed : {X : Type 0} (made : ℕ) (r : Result X StepError) (x : X) → unless_over made r ≡ Ok x → (r ≡ Ok x) × (made < most_steps)
-unless_over-passed {X} made r x e = by (nat_lt made most_steps) refl e
+unless_over-passed : {X : Type 0} (made : ℕ) (r : Result X StepError) (x : X) → unless_over made r ≡ Ok x → (r ≡ Ok x) × (made < MAX_STEPS)
+unless_over-passed {X} made r x e = by (nat_lt made MAX_STEPS) refl e
   where
-    by : (b : Bool) → nat_lt made most_steps ≡ b → (if b then r else Err refusals.StepLimit) ≡ Ok x → (r ≡ Ok x) × (made < most_steps)
-    by true below e = (e, ltb-true made most_steps below)
+    by : (b : Bool) → nat_lt made MAX_STEPS ≡ b → (if b then r else Err refusals.StepLimit) ≡ Ok x → (r ≡ Ok x) × (made < MAX_STEPS)
+    by true below e = (e, ltb-true made MAX_STEPS below)
     by false below e = absurd cc
 
 -- the limit is not reached
-pub limit-passed : {X : Type 0} (made : ℕ) (r : Result X StepError) (x : X) → within_limit made r ≡ Ok x → (r ≡ Ok x) × (made < most_steps)
+pub limit-passed : {X : Type 0} (made : ℕ) (r : Result X StepError) (x : X) → within_limit made r ≡ Ok x → (r ≡ Ok x) × (made < MAX_STEPS)
 limit-passed made (Ok y) x e = unless_over-passed made (Ok y) x e
 limit-passed made (Err (refusals.Store refusal)) x e = unless_over-passed made (Err (refusals.Store refusal)) x e
 limit-passed made (Err refusals.NoNode) x e = absurd cc

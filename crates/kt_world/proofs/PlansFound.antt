@@ -5,7 +5,7 @@ use Rattle.std.specs.Prelude.{IsTrue}
 use Rattle.kt_world.specs.declared.step.Step.{Step}
 use Rattle.kt_world.specs.declared.step.Step.TheVariants.{Issue, Repeat, Deliver, Take, Serve, Check, Decide, Abandon, Learn, Fail, Restart}
 use Rattle.kt_world.specs.declared.told.Told.{Told}
-use Rattle.kt_world.specs.Limits.{most_steps}
+use Rattle.kt_world.specs.declared.step.TheConstants.{MAX_STEPS}
 use Rattle.kt_world.specs.State.{State}
 use Rattle.kt_world.specs.Cast.{is_in_scene}
 use Rattle.kt_world.specs.Judge.{due, judged, planned_by}
@@ -34,5 +34,5 @@ plan-found s t step plan e =
     let scene = scene-passed (is_in_scene s.cast step) (due s t step) plan judge.0 in
     due-found s t step plan scene.0 scene.1
 
-pub plan-few : (s : State) (t : Told) (step : Step) (plan : Plan) → planned_by s t step ≡ Ok plan → s.made < most_steps
+pub plan-few : (s : State) (t : Told) (step : Step) (plan : Plan) → planned_by s t step ≡ Ok plan → s.made < MAX_STEPS
 plan-few s t step plan e = (limit-passed s.made (judged s t step) plan e).1

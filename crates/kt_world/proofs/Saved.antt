@@ -5,6 +5,7 @@ use Rattle.std.specs.Prelude.{slice_get}
 use Rattle.std.specs.List.{find, flat_map}
 use Rattle.std.specs.Option.{option_map}
 use Rattle.std.proofs.lemmas.Bool.{cases_eq, cases_lt}
+use Rattle.kt_tuple.specs.declared.node.TheConstants.{MAX_WORKERS}
 use Rattle.kt_tuple.specs.declared.node.NodeId.{NodeId}
 use Rattle.kt_tuple.specs.declared.node.NodeId.TheVariants as ids
 use Rattle.kt_history.specs.declared.note.Act.{Act}
@@ -13,6 +14,7 @@ use Rattle.kt_shard.specs.declared.request.Request.{Request}
 use Rattle.kt_shard.specs.declared.request.Kept.{Kept}
 use Rattle.kt_shard.specs.declared.desk.Desk.{Desk}
 use Rattle.kt_shard.specs.Shard.{Shard, desk_of}
+use Rattle.kt_shard.specs.Limits.{desks as desk_count}
 use Rattle.kt_shard.specs.Table.{at}
 use Rattle.kt_shard.specs.Desk.{empty_desk}
 use Rattle.kt_node.specs.Labels.{numbers}
@@ -83,11 +85,11 @@ one-entry of w from (suc n) low high = elim (cases_eq from w) [
 ]
 
 -- the entry of a worker among those of all, and of what is none
-pub entry-found : {A : Type 0} (of : ℕ → Option A) (w : ℕ) → 1 ≤ w → w ≤ 8 → entry_of w (entries of) ≡ of w
-entry-found of w low high = one-entry of w 1 8 low (omega (arith, high))
+pub entry-found : {A : Type 0} (of : ℕ → Option A) (w : ℕ) → 1 ≤ w → w ≤ MAX_WORKERS → entry_of w (entries of) ≡ of w
+entry-found of w low high = one-entry of w 1 MAX_WORKERS low (omega (arith, high))
 
-pub entry-none : {A : Type 0} (of : ℕ → Option A) (w : ℕ) → (w < 1) ⊎ (9 ≤ w) → entry_of w (entries of) ≡ None
-entry-none of w out = ap (option_map (λ x. x.1)) (no-entry of w 1 8 out)
+pub entry-none : {A : Type 0} (of : ℕ → Option A) (w : ℕ) → (w < 1) ⊎ (desk_count ≤ w) → entry_of w (entries of) ≡ None
+entry-none of w out = ap (option_map (λ x. x.1)) (no-entry of w 1 MAX_WORKERS out)
 
 -- ---- desks
 
@@ -96,18 +98,18 @@ same_desk : (waiting : Option Request) (kept : Option Kept) (d : Desk) → waiti
 same_desk waiting kept d w k = λ i. record { waiting = w i; kept = k i }
 
 -- the desk of a shard that was saved and loaded: the same, and empty where no worker has such a number
-loaded_desk : (y : Shard) (w : ℕ) → 1 ≤ w → w ≤ 8 → at empty_desk (shard_from (shard_fields y)).desks w ≡ desk_of y w
+loaded_desk : (y : Shard) (w : ℕ) → 1 ≤ w → w ≤ MAX_WORKERS → at empty_desk (shard_from (shard_fields y)).desks w ≡ desk_of y w
 loaded_desk y w low high =
-    at-row empty_desk (desk_with (shard_fields y).waiting (shard_fields y).kept) 9 w (omega (arith, high))
+    at-row empty_desk (desk_with (shard_fields y).waiting (shard_fields y).kept) desk_count w (omega (arith, high))
     ∙ same_desk (entry_of w (shard_fields y).waiting) (entry_of w (shard_fields y).kept) (desk_of y w)
     (entry-found (λ worker. (desk_of y worker).waiting) w low high) (entry-found (λ worker. (desk_of y worker).kept) w low high)
 
-no_desk : (y : Shard) (w : ℕ) → (w < 1) ⊎ (9 ≤ w) → at empty_desk (shard_from (shard_fields y)).desks w ≡ empty_desk
+no_desk : (y : Shard) (w : ℕ) → (w < 1) ⊎ (desk_count ≤ w) → at empty_desk (shard_from (shard_fields y)).desks w ≡ empty_desk
 no_desk y w (inl low) =
-    at-row empty_desk (desk_with (shard_fields y).waiting (shard_fields y).kept) 9 w (omega (arith, low))
+    at-row empty_desk (desk_with (shard_fields y).waiting (shard_fields y).kept) desk_count w (omega (arith, low))
     ∙ same_desk (entry_of w (shard_fields y).waiting) (entry_of w (shard_fields y).kept) empty_desk
     (entry-none (λ worker. (desk_of y worker).waiting) w (inl low)) (entry-none (λ worker. (desk_of y worker).kept) w (inl low))
-no_desk y w (inr high) = past-numbers empty_desk (desk_with (shard_fields y).waiting (shard_fields y).kept) 0 9 w high
+no_desk y w (inr high) = past-numbers empty_desk (desk_with (shard_fields y).waiting (shard_fields y).kept) 0 desk_count w high
 
 -- a script stands at 1 to the number of scripts alone
 pub no_script-past : (scripts : List (List Command)) (k : ℕ) → length scripts ≤ k → slice_get scripts k ≡ None
@@ -115,32 +117,32 @@ no_script-past [] k past = refl
 no_script-past (x ∷ scripts) zero past = absurd (omega (arith, past))
 no_script-past (x ∷ scripts) (suc k) past = no_script-past scripts k (omega (arith, past))
 
-no_script : (scripts : List (List Command)) (w : ℕ) → length scripts ≤ 8 → (w < 1) ⊎ (9 ≤ w) → script_at scripts w ≡ None
+no_script : (scripts : List (List Command)) (w : ℕ) → length scripts ≤ MAX_WORKERS → (w < 1) ⊎ (desk_count ≤ w) → script_at scripts w ≡ None
 no_script scripts zero few out = refl
 no_script scripts (suc k) few (inl low) = absurd (omega (arith, low))
 no_script scripts (suc k) few (inr high) = no_script-past scripts k (omega (arith, few, high))
 
-shard_loaded : (scripts : List (List Command)) (made : MadeShard) (y : Shard) → length scripts ≤ 8 → IsShardLike scripts made y
+shard_loaded : (scripts : List (List Command)) (made : MadeShard) (y : Shard) → length scripts ≤ MAX_WORKERS → IsShardLike scripts made y
     → IsShardLike scripts made (shard_from (shard_fields y))
 shard_loaded scripts made y few like = record {
   bag = like.bag;
   desks = λ w. elim (cases_lt w 1) [
     | inl low ↦ outside w (inl low)
-    | inr from ↦ elim (cases_lt w 9) [
+    | inr from ↦ elim (cases_lt w desk_count) [
       | inl below ↦ loaded_desk y w from (omega (arith, below)) ∙ like.desks w
       | inr past ↦ outside w (inr past)
     ]
   ];
   others = λ w none. elim (cases_lt w 1) [
     | inl low ↦ no_desk y w (inl low)
-    | inr from ↦ elim (cases_lt w 9) [
+    | inr from ↦ elim (cases_lt w desk_count) [
       | inl below ↦ loaded_desk y w from (omega (arith, below)) ∙ like.others w none
       | inr past ↦ no_desk y w (inr past)
     ]
   ];
 }
   where
-    outside : (w : ℕ) → (w < 1) ⊎ (9 ≤ w) → at empty_desk (shard_from (shard_fields y)).desks w ≡ made.desk w
+    outside : (w : ℕ) → (w < 1) ⊎ (desk_count ≤ w) → at empty_desk (shard_from (shard_fields y)).desks w ≡ made.desk w
     outside w out = no_desk y w out ∙ sym (like.others w (no_script scripts w few out)) ∙ like.desks w
 
 -- ---- all

@@ -7,13 +7,12 @@ use Rattle.std.proofs.lemmas.List.Elements.{Contains-get_or}
 use Rattle.kt_tuple.specs.declared.node.NodeId.{NodeId}
 use Rattle.kt_tuple.specs.declared.node.NodeId.TheVariants as ids
 use Rattle.kt_link.specs.declared.label.Label.{Label}
-use Rattle.kt_shard.specs.Limits.{most_workers}
-use Rattle.kt_ckpt.specs.Limits.{max_workers}
+use Rattle.kt_tuple.specs.declared.node.TheConstants.{MAX_WORKERS}
 use Rattle.kt_ckpt.specs.Reading.{IsRising}
 use Rattle.kt_ckpt.specs.Checkpoint.{IsNode as IsNamed, Suits, IsCountedState, ArePeers}
 use Rattle.kt_node.specs.declared.live.Phase.{Phase}
 use Rattle.kt_node.specs.declared.live.Phase.TheVariants as phases
-use Rattle.kt_node.specs.Labels.{numbers, label_at, listed}
+use Rattle.kt_node.specs.Labels.{label_at, listed, numbers}
 use Rattle.kt_node.specs.Node.{Body, IsWorker, IsShard, Live, Node, Down, Alive}
 use Rattle.kt_node.specs.State.{entry, entries, body_fields}
 use Rattle.kt_node.specs.Steps.{up_in}
@@ -70,7 +69,7 @@ can_act s ready p = record {
 
 -- ---- saving
 
-rising : {A : Type 0} (of : ℕ → Option A) (least from n : ℕ) → least ≤ from → from + n ≤ max_workers + 1
+rising : {A : Type 0} (of : ℕ → Option A) (least from n : ℕ) → least ≤ from → from + n ≤ MAX_WORKERS + 1
     → IsRising least (flat_map (λ worker. entry worker (of worker)) (numbers from n))
 unfolding numbers
 rising of least from zero low high = tt
@@ -84,7 +83,7 @@ rising {A} of least from (suc n) low high = by (of from) (λ next le. rising of 
     by (Some x) more = (low, omega (arith, high), more (from + 1) (omega arith))
 
 rising-entries : {A : Type 0} (of : ℕ → Option A) → IsRising 1 (entries of)
-rising-entries of = rising of 1 1 most_workers (omega arith) (omega arith)
+rising-entries of = rising of 1 1 MAX_WORKERS (omega arith) (omega arith)
 
 pub length-listed : (peers : ℕ) (table : List Label) → length (listed peers table) ≡ peers
 length-listed peers table = length-map (numbers 1 peers) (label_at table) ∙ length-numbers 1 peers

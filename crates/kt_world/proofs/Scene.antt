@@ -13,7 +13,8 @@ use Rattle.kt_shard.specs.Limits.{desks}
 use Rattle.kt_node.specs.Node.{node_number, across}
 use Rattle.kt_node.specs.Talking.{home}
 use Rattle.kt_node.specs.Ready.{HasPlace}
-use Rattle.kt_world.specs.Limits.{rows, most_of_a_kind}
+use Rattle.kt_ckpt.specs.declared.limits.TheConstants.{MAX_PEERS}
+use Rattle.kt_world.specs.Limits.{rows}
 use Rattle.kt_world.specs.Cast.{Cast, IsCast, script_at, is_worker, is_shard, is_node, is_among}
 use Rattle.kt_world.specs.State.{role_of}
 use Rattle.kt_world.specs.inner.Ready.{AreNeighbours}
@@ -179,8 +180,8 @@ pub some_peers : (cast : Cast) → IsCast cast → (p : NodeId) → 1 ≤ (role_
 some_peers cast is (ids.Worker n) = is.some_shards
 some_peers cast is (ids.Shard n) = is.some_workers
 
-pub few_peers : (cast : Cast) → IsCast cast → (p : NodeId) → (role_of cast p).peers ≤ most_of_a_kind
-few_peers cast is (ids.Worker n) = is.few_shards
+pub few_peers : (cast : Cast) → IsCast cast → (p : NodeId) → (role_of cast p).peers ≤ MAX_PEERS
+few_peers cast is (ids.Worker n) = omega (arith, is.few_shards)
 few_peers cast is (ids.Shard n) = is.few_workers
 
 -- the node across with a number of the other kind

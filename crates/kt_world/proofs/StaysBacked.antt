@@ -31,7 +31,7 @@ use Rattle.kt_node.specs.Deciding.{decide_plan}
 use Rattle.kt_world.specs.declared.step.Step.{Step}
 use Rattle.kt_world.specs.declared.step.Step.TheVariants.{Restart}
 use Rattle.kt_world.specs.Step.{owner}
-use Rattle.kt_world.specs.Limits.{most_steps}
+use Rattle.kt_world.specs.declared.step.TheConstants.{MAX_STEPS}
 use Rattle.kt_world.specs.State.{State, role_of, view}
 use Rattle.kt_world.specs.Told.{told, of_poll, to_learn}
 use Rattle.kt_world.specs.Effect.{applied}
@@ -205,6 +205,6 @@ pub write-allowed : (s : State) → IsBacked s → (step : Step) (plan : Plan) �
     → IfSome plan.write (IsAllowed s.content (owner step))
 write-allowed s is step plan of = (plan-backs s is step plan of).allowed
 
-pub stays_backed : (s : State) → IsBacked s → s.made < most_steps → (step : Step) (plan : Plan) → PlanOf s (told s step) step plan
+pub stays_backed : (s : State) → IsBacked s → s.made < MAX_STEPS → (step : Step) (plan : Plan) → PlanOf s (told s step) step plan
     → IsBacked (applied s step plan)
 stays_backed s is few step plan of = backs-backed s step plan is few (plan-backs s is step plan of)

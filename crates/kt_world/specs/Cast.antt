@@ -1,25 +1,25 @@
 -- Who takes part.
 use Rattle.std.specs.Prelude.{ℕ, zero, suc, ◌≤◌, nat_le, Bool, false, ◌&&◌, ◌||◌, List, length, Option, None, slice_get}
 use Rattle.std.specs.Prelude.{is_some}
+use Rattle.kt_tuple.specs.declared.node.TheConstants.{MAX_WORKERS, MAX_SHARDS}
 use Rattle.kt_tuple.specs.declared.node.NodeId.{NodeId}
 use Rattle.kt_tuple.specs.declared.node.NodeId.TheVariants as ids
 use Rattle.kt_script.specs.declared.command.Command.{Command}
 use Rattle.kt_world.specs.declared.step.Step.{Step}
 use Rattle.kt_world.specs.declared.step.Step.TheVariants.{Issue, Repeat, Deliver, Take, Serve, Check, Decide, Abandon}
 use Rattle.kt_world.specs.declared.step.Step.TheVariants.{Learn, Fail, Restart}
-use Rattle.kt_world.specs.Limits.{most_of_a_kind}
 
 -- how many shards there are, and each worker's script
 pub record Cast : Type 0 where
   pub shards : ℕ
   pub scripts : List (List Command)
 
--- 1 to 8 shards and 1 to 8 workers
+-- one shard and one worker at least, and no more than a scene may have
 pub record IsCast (cast : Cast) : Type 0 where
   pub some_shards : 1 ≤ cast.shards
-  pub few_shards : cast.shards ≤ most_of_a_kind
+  pub few_shards : cast.shards ≤ MAX_SHARDS
   pub some_workers : 1 ≤ length cast.scripts
-  pub few_workers : length cast.scripts ≤ most_of_a_kind
+  pub few_workers : length cast.scripts ≤ MAX_WORKERS
 
 -- the number names one of so many, counted from 1
 abbrev pub is_among : ℕ → ℕ → Bool

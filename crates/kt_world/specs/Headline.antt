@@ -23,7 +23,7 @@ use Rattle.kt_node.specs.declared.message.Message.TheVariants as messages
 use Rattle.kt_node.specs.declared.node.Mode.{Mode}
 use Rattle.kt_node.specs.declared.node.Mode.TheVariants as modes
 use Rattle.kt_node.specs.Node.{Body, IsWorker, IsShard, Node, Down, Alive, mode_of}
-use Rattle.kt_world.specs.Limits.{most_of_a_kind}
+use Rattle.kt_tuple.specs.declared.node.TheConstants.{MAX_SHARDS}
 use Rattle.kt_world.specs.declared.step.Step.{Step}
 use Rattle.kt_world.specs.declared.step.Step.TheVariants.{Deliver, Learn, Fail}
 use Rattle.kt_world.specs.Step.{owner}
@@ -83,7 +83,7 @@ lent_by (Some (Alive n)) = lent_in n.body
 
 -- of each number that a shard can have: none past the last shard
 abbrev pub lent_bags : State → List (Option (List Tuple))
-lent_bags s = map (λ r. lent_by (node s (ids.Shard r))) (range_with_len 1 most_of_a_kind)
+lent_bags s = map (λ r. lent_by (node s (ids.Shard r))) (range_with_len 1 MAX_SHARDS)
 
 -- ---- steady states
 

@@ -20,7 +20,7 @@ use Rattle.kt_world.specs.declared.step.Step.TheVariants.{Learn, Fail, Restart}
 use Rattle.kt_world.specs.declared.step.StepError.{StepError}
 use Rattle.kt_world.specs.declared.step.StepError.TheVariants as refusals
 use Rattle.kt_world.specs.declared.told.Told.{Told}
-use Rattle.kt_world.specs.Limits.{most_steps}
+use Rattle.kt_world.specs.declared.step.TheConstants.{MAX_STEPS}
 use Rattle.kt_world.specs.Cast.{is_in_scene}
 use Rattle.kt_world.specs.State.{State, link, view}
 use Rattle.kt_lines.specs.Cause.{cause_of_waiting}
@@ -70,9 +70,9 @@ due s t (Restart p) = restart (view s p) t.stored t.next (is_some t.tentative) t
 abbrev pub judged : State → Told → Step → Result Plan StepError
 judged s t step = of_scene (is_in_scene s.cast step) (due s t step)
 
--- after 100,000 steps no more is made; of a step that is not enabled the limit is not asked
+-- after `MAX_STEPS` steps no more is made; of a step that is not enabled the limit is not asked
 abbrev pub unless_over : {X : Type 0} → ℕ → Result X StepError → Result X StepError
-unless_over made due = if nat_lt made most_steps then due else Err refusals.StepLimit
+unless_over made due = if nat_lt made MAX_STEPS then due else Err refusals.StepLimit
 
 abbrev pub within_limit : {X : Type 0} → ℕ → Result X StepError → Result X StepError
 within_limit made (Ok plan) = unless_over made (Ok plan)

@@ -1,15 +1,7 @@
--- How large the tables of a world are, and how long it runs.
-use Rattle.std.specs.Prelude.{ℕ}
-use Rattle.kt_shard.specs.Limits.{most_workers}
+-- How large the tables of a world are.
+use Rattle.std.specs.Prelude.{ℕ, ◌*◌}
+use Rattle.kt_shard.specs.Limits.{desks}
 
--- the most workers, and the most shards, of a scene
-abbrev pub most_of_a_kind : ℕ
-most_of_a_kind = most_workers
-
--- the rows of a table with one for each node: workers and shards have the numbers 0 to 8
+-- the rows of a table with one for each node: workers and shards have the numbers that have a desk
 abbrev pub rows : ℕ
-rows = 18
-
--- the steps of a world
-abbrev pub most_steps : ℕ
-most_steps = 100000
+rows = 2 * desks

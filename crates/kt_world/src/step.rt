@@ -109,7 +109,7 @@ pub enum StepError {
     /// A tentative checkpoint or an open instance stands in the way.
     #[error("Unresolved")]
     Unresolved,
-    /// 100,000 steps were made. It comes only of a step that no reason above this one refuses.
+    /// `MAX_STEPS` steps were made. It comes only of a step that no reason above this one refuses.
     #[error("StepLimit")]
     StepLimit,
     /// A call of the store was refused, or gave a checkpoint that does not fit the node, which no honest store does.

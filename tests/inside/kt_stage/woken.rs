@@ -3,12 +3,11 @@
 
 use crate::desk::Desk;
 use crate::stage::{Flags, Floor};
-use crate::order::MAX_NODES;
 use crate::{Naming, Seat, Stage, node_count};
 use kt_core::{Fault, FaultKind, Faults, Scene, Script, World};
 use kt_script::{Actual, Actuals, Command, Operation, Pattern, Slot};
 use kt_store::{CkptStore, MemStore};
-use kt_tuple::{Kind, NodeId, Value};
+use kt_tuple::{Kind, MAX_NODES, NodeId, Value};
 use std::alloc::Global;
 use std::marker::Brand;
 use std::process::Abort;

@@ -1,5 +1,6 @@
 -- A scenario that is half read.
 use Rattle.std.specs.Prelude.{◌≡◌, ℕ, ◌<◌, ◌≤◌, length, Result, Err, IsOk}
+use Rattle.kt_tuple.specs.declared.node.TheConstants.{MAX_WORKERS, MAX_SHARDS}
 use Rattle.kt_scene.specs.declared.fault.SceneError.{SceneError}
 use Rattle.kt_scene.specs.declared.fault.SceneError.TheVariants as faults
 use Rattle.kt_scene.specs.declared.draft.Expected.{Expected}
@@ -16,11 +17,11 @@ abbrev pub HasScripts : Expected → ℕ → Type 0
 HasScripts awaited.Title n = n ≡ 0
 HasScripts awaited.Shards n = n ≡ 0
 HasScripts awaited.Workers n = n ≡ 0
-HasScripts awaited.Commands n = n < 8
-HasScripts awaited.Work n = (1 ≤ n) × (n ≤ 8)
-HasScripts awaited.Ended n = (1 ≤ n) × (n ≤ 8)
+HasScripts awaited.Commands n = n < MAX_WORKERS
+HasScripts awaited.Work n = (1 ≤ n) × (n ≤ MAX_WORKERS)
+HasScripts awaited.Ended n = (1 ≤ n) × (n ≤ MAX_WORKERS)
 
 pub record IsSketch (s : Sketch) : Type 0 where
   pub some_shards : 1 ≤ s.shards
-  pub few_shards : s.shards ≤ 8
+  pub few_shards : s.shards ≤ MAX_SHARDS
   pub workers : HasScripts s.expected (length s.scripts)

@@ -4,7 +4,8 @@ use Rattle.std.specs.List.{slice_get}
 use Rattle.kt_store.specs.declared.rows.NodeRow.{NodeRow}
 use Rattle.kt_store.specs.declared.rows.Posted.{Posted}
 use Rattle.kt_store.specs.declared.posted.Opened.{Opened}
-use Rattle.kt_store.specs.Content.{greatest, node_lt}
+use Rattle.kt_store.specs.Content.{greatest}
+use Rattle.kt_tuple.specs.Node.{is_before}
 use Rattle.kt_store.specs.Verdict.{is_open}
 
 -- the numbers of instances rise, and none is above the greatest
@@ -30,5 +31,5 @@ opened board = map opened_of (filter (λ (row : Posted). is_open row.verdict) bo
 
 -- the rows of nodes rise in node order, and no incarnation is above the greatest
 pub record IsNodes (nodes : List NodeRow) : Type 0 where
-  pub rising : AllPairs (λ a b. node_lt a.node b.node ≡ true) nodes
+  pub rising : AllPairs (λ a b. is_before a.node b.node ≡ true) nodes
   pub within : All (λ row. row.incarnation ≤ greatest) nodes

@@ -5,7 +5,7 @@ use Rattle.sqlite.specs.Order.{Row}
 use Rattle.sqlite_trees.specs.Tree.{IsAscending}
 use Rattle.kt_store.specs.declared.rows.NodeRow.{NodeRow}
 use Rattle.kt_store.specs.declared.rows.Posted.{Posted}
-use Rattle.kt_store.specs.Content.{node_lt}
+use Rattle.kt_tuple.specs.Node.{is_before}
 use Rattle.kt_tables.specs.Rows.{id_of, node_given, posted_given, IsNodeRow, IsPosted}
 
 -- the row shows a node that is as said, which has this number, or none
@@ -34,7 +34,7 @@ pub record AreNodesFrom (low : ℕ) (rows : List Row) : Type 0 where
   pub shown : rows ≡ map node_given nodes
   pub said : AllByRecursion IsNodeRow nodes
   pub above : AllByRecursion (λ (r : NodeRow). low ≤ id_of r.node) nodes
-  pub rise : IsAscending (λ (a b : NodeRow). node_lt a.node b.node ≡ true) nodes
+  pub rise : IsAscending (λ (a b : NodeRow). is_before a.node b.node ≡ true) nodes
 
 -- the same of instances
 pub record AreInstancesFrom (low : ℕ) (rows : List Row) : Type 0 where

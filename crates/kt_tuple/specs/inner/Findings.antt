@@ -1,6 +1,7 @@
 -- What the parser keeps of the places that it has read so far.
 use Rattle.std.specs.Prelude.{ℕ, ◌+◌, ◌-◌, ◌||◌, not, nat_le, false, if◌then◌else◌}
 use Rattle.std.specs.Prelude.{List, [], ◌∷◌, length, Option, Some, None, Result, Ok, Err}
+use Rattle.kt_tuple.specs.declared.tuple.TheConstants.{MAX_PLACES}
 use Rattle.kt_tuple.specs.declared.parsing.Findings.{Findings}
 use Rattle.kt_tuple.specs.Reading.{has_range, is_short}
 use Rattle.kt_tuple.specs.Parsing.{Reader, places_in}
@@ -16,7 +17,7 @@ nothing_found = record { out_of_range = None; too_long = false }
 abbrev pub with_place : List ℕ → Findings → ℕ → List ℕ × List ℕ → Findings
 with_place text found i place = record {
   out_of_range = first_of found.out_of_range (if has_range place.0 then None else Some (length text - length place.1));
-  too_long = (found.too_long || not (is_short place.0)) || nat_le 8 i;
+  too_long = (found.too_long || not (is_short place.0)) || nat_le MAX_PLACES i;
 }
 
 abbrev pub with_places : List ℕ → Findings → ℕ → List (List ℕ × List ℕ) → Findings

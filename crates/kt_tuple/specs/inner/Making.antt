@@ -1,5 +1,6 @@
 -- What the parser makes of a text, place by place.
 use Rattle.std.specs.Prelude.{ℕ, zero, suc, List, [], ◌∷◌, ◌++◌, Option, Some, None, option_to_list, Result, Ok, Err}
+use Rattle.kt_tuple.specs.declared.tuple.TheConstants.{MAX_PLACES}
 use Rattle.kt_tuple.specs.Reading.{word_at, after_place}
 use Rattle.kt_tuple.specs.Parsing.{Reader}
 
@@ -22,7 +23,7 @@ made_from read make (suc n) text = made_with (read text) make (made_from read ma
 
 abbrev pub made_after : {A : Type 0} → Reader → (List ℕ → Option A) → Result (List ℕ) (List ℕ) → List A
 made_after read make (Err rest) = []
-made_after read make (Ok start) = made_from read make 8 start
+made_after read make (Ok start) = made_from read make MAX_PLACES start
 
 -- the things that are made of the places of a text
 abbrev pub made_in : {A : Type 0} → Reader → (List ℕ → Option A) → List ℕ → List A

@@ -12,7 +12,7 @@ use Rattle.kt_history.specs.Chronicle.{node_of}
 use Rattle.kt_script.specs.declared.command.Command.{Command}
 use Rattle.kt_worker.specs.declared.worker.Worker.{Worker}
 use Rattle.kt_shard.specs.Table.{at}
-use Rattle.kt_ckpt.specs.Limits.{max_variables}
+use Rattle.kt_script.specs.declared.script.TheConstants.{MAX_VARIABLES}
 use Rattle.kt_vote.specs.Poll.{Poll}
 use Rattle.kt_node.specs.declared.message.Post.{Post}
 use Rattle.kt_node.specs.declared.message.Message.{Message}
@@ -21,7 +21,8 @@ use Rattle.kt_node.specs.declared.live.Phase.{Phase}
 use Rattle.kt_node.specs.declared.plan.Plan.{Plan}
 use Rattle.kt_node.specs.Node.{Body, IsWorker, IsShard, Live, Node, Down, Alive, poll_in}
 use Rattle.kt_node.specs.Ready.{CanChange}
-use Rattle.kt_world.specs.Limits.{rows as row_count, most_steps}
+use Rattle.kt_world.specs.Limits.{rows as row_count}
+use Rattle.kt_world.specs.declared.step.TheConstants.{MAX_STEPS}
 use Rattle.kt_world.specs.Cast.{Cast, IsCast, is_node, are_neighbours}
 use Rattle.kt_world.specs.Short.{AreShort}
 use Rattle.kt_world.specs.State.{State, node, role_of, view}
@@ -34,7 +35,7 @@ AreNeighbours cast p q = IsTrue (are_neighbours cast p q)
 pub record IsWithin (script : List Command) (x : Worker) : Type 0 where
   pub pc : x.position.pc ≤ length script
   pub numbered : x.number ≤ x.position.pc
-  pub values : length x.position.memory.values ≤ max_variables
+  pub values : length x.position.memory.values ≤ MAX_VARIABLES
 
 -- what a node of this name works with is of its kind, with no more tuples than steps were made
 abbrev pub IsBodyReady : List Command → ℕ → NodeId → Body → Type 0
@@ -81,7 +82,7 @@ pub record IsReady (s : State) : Type 0 where
   pub counts : length s.own ≡ row_count
   pub there : (p : NodeId) → is_some (node s p) ≡ is_node s.cast p
   pub nodes : (p : NodeId) → IfSome (node s p) (IsNodeReady s.cast s.history s.made p)
-  pub few_steps : s.made ≤ most_steps
+  pub few_steps : s.made ≤ MAX_STEPS
   pub few_own : (k : ℕ) → at 0 s.own k ≤ s.made
   pub few_notes : length s.history ≤ s.made
   pub causes : CausesComeFirst s.history

@@ -1,6 +1,7 @@
 //! The bytes of checkpoints that look random, written by the tables of the format and by nothing of kt_ckpt.
 
 use kt_draws::Draws;
+use kt_tuple::{MAX_PLACES, MAX_SHARDS, MAX_WORKERS};
 use std::alloc::{AllocError, Global};
 
 /// The bytes of a checkpoint of a worker or a shard, with so many neighbours.
@@ -14,7 +15,7 @@ pub(crate) fn checkpoint(
     out.extend_from_slice(b"KTCP")?;
     out.push(1)?;
     out.push(if worker { 1 } else { 2 })?;
-    out.push(draws.byte(1, 8))?;
+    out.push(draws.byte(1, MAX_SHARDS))?;
     push_drawn(&mut out, draws, 8)?;
     out.push(peers)?;
     for _ in 0..peers {
@@ -66,12 +67,12 @@ fn push_shard(out: &mut Vec<u8>, draws: &mut Draws) -> Result<(), AllocError> {
 
 /// Requests of some of the workers, in rising order, with their answers or without.
 fn push_entries(out: &mut Vec<u8>, draws: &mut Draws, answered: bool) -> Result<(), AllocError> {
-    let workers = draws.byte(0, 8);
+    let workers = draws.byte(0, MAX_WORKERS);
     out.push(workers)?;
     let mut left = workers;
-    for worker in 1..=8u8 {
+    for worker in 1..=MAX_WORKERS {
         // Of the workers from this one on so many are still to be chosen.
-        if draws.byte(worker, 8) > 8u8.saturating_sub(left) {
+        if draws.byte(worker, MAX_WORKERS) > MAX_WORKERS.saturating_sub(left) {
             left = left.saturating_sub(1);
             out.push(worker)?;
             push_drawn(out, draws, 8)?;
@@ -90,7 +91,7 @@ fn push_op(out: &mut Vec<u8>, draws: &mut Draws) -> Result<(), AllocError> {
     if code == 1 {
         return push_tuple(out, draws);
     }
-    let places = draws.byte(1, 8);
+    let places = draws.byte(1, MAX_PLACES as u8);
     out.push(places)?;
     for _ in 0..places {
         push_place(out, draws)?;
@@ -108,7 +109,7 @@ fn push_answer(out: &mut Vec<u8>, draws: &mut Draws) -> Result<(), AllocError> {
 }
 
 fn push_tuple(out: &mut Vec<u8>, draws: &mut Draws) -> Result<(), AllocError> {
-    let values = draws.byte(1, 8);
+    let values = draws.byte(1, MAX_PLACES as u8);
     out.push(values)?;
     for _ in 0..values {
         push_value(out, draws)?;

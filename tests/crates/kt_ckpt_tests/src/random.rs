@@ -2,7 +2,7 @@
 
 use crate::drawn::checkpoint;
 use crate::seen::Seen;
-use kt_ckpt::{Ckpt, CkptError, ShardState, State, WorkerState};
+use kt_ckpt::{Ckpt, CkptError, MAX_PEERS, ShardState, State, WorkerState};
 use kt_draws::Draws;
 use kt_shard::{Kept, Request};
 use kt_tuple::Op;
@@ -126,7 +126,7 @@ fn come_back_equal(rt: HostRuntime) -> Result<(), Fail> {
     let mut draws = Draws(13);
     let mut seen = Seen::nothing();
     for n in 0..500u32 {
-        let peers = (n / 2 % 8) as u8 + 1;
+        let peers = (n / 2 % u32::from(MAX_PEERS)) as u8 + 1;
         let bytes = checkpoint(alloc, &mut draws, n % 2 == 0, peers)?;
         assert!(rt; matches!(comes_back(alloc, &bytes, &mut seen), Ok(true)));
     }

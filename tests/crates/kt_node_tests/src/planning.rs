@@ -46,7 +46,7 @@ impl Solo {
             },
             node: &self.node,
             next: self.next,
-            line_len: self.line_len,
+            line: &self.line,
         }
     }
 

@@ -30,8 +30,8 @@ pub(crate) struct Solo {
     pub(crate) made: u64,
     /// The number of the next note.
     pub(crate) next: u64,
-    /// How many acts it remembers.
-    pub(crate) line_len: u64,
+    /// The numbers of the acts that it remembers, oldest first.
+    pub(crate) line: Vec<u64>,
     pub(crate) incarnation: u64,
     pub(crate) permanent: Option<Ckpt>,
     pub(crate) tentative: Option<Tentative>,
@@ -69,7 +69,7 @@ impl Setting {
             node,
             made: 0,
             next: 1,
-            line_len: 0,
+            line: Vec::new(alloc),
             incarnation: 1,
             permanent: None,
             tentative: None,

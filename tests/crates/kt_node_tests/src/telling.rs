@@ -5,8 +5,10 @@ use crate::making::{Call, call_of};
 use crate::named::named;
 use crate::solo::Solo;
 use crate::words::{first_word, number};
+use kt_ckpt::MAX_PEERS;
 use kt_history::Note;
 use kt_node::{BodyChange, Change, Plan, Write};
+use kt_shard::DESKS;
 use kt_store::{Tentative, Verdict};
 use kt_tuple::NodeId;
 use std::alloc::{AllocError, Global};
@@ -15,14 +17,13 @@ use std::test::Fail;
 
 /// Whether the node has a place in a neighbour's tables.
 fn is_placed(node: NodeId) -> bool {
-    let (NodeId::Worker(number) | NodeId::Shard(number)) = node;
-    number < 9
+    node.number() <= MAX_PEERS
 }
 
 fn has_desk(change: &BodyChange) -> bool {
     match change {
-        BodyChange::Wait { worker, .. } => *worker < 9,
-        BodyChange::Serve { worker, .. } => *worker < 9,
+        BodyChange::Wait { worker, .. } => *worker < DESKS,
+        BodyChange::Serve { worker, .. } => *worker < DESKS,
         BodyChange::Stay | BodyChange::Work(_) => true,
     }
 }
@@ -87,14 +88,14 @@ impl Solo {
         Ok(())
     }
 
-    /// A line has no more acts than the node went through changes.
-    fn note(&mut self, note: &Note) {
+    /// The line gets the act, or is cut back.
+    fn note(&mut self, note: &Note) -> Result<(), AllocError> {
+        match note {
+            Note::Act(_) => self.line.push(self.next)?,
+            Note::Cut { keep, .. } => self.line.truncate(*keep as usize),
+        }
         self.next = self.next.saturating_add(1);
-        let acts = match note {
-            Note::Act(_) => self.line_len.saturating_add(1),
-            Note::Cut { keep, .. } => *keep,
-        };
-        self.line_len = acts.min(self.made);
+        Ok(())
     }
 
     #[tactic(auto, using(crate::proofs::Bounds::can_change, crate::proofs::Bounds::sends, crate::proofs::Bounds::puts))]
@@ -118,7 +119,7 @@ impl Solo {
         } = plan;
         self.change(change)?;
         if let Some(note) = &note {
-            self.note(note);
+            self.note(note)?;
         }
         match write {
             Some(write) => Ok(self.write(write)?),

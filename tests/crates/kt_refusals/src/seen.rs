@@ -3,29 +3,9 @@
 use crate::counts::Counts;
 use kt_core::World;
 use kt_store::CkptStore;
-use kt_tuple::NodeId;
+use kt_tuple::{ALL_NODES, NodeId};
 use std::alloc::Global;
 use std::test::Fail;
-
-/// The names that a node can have, in node order.
-pub(crate) const NAMES: [NodeId; 16] = [
-    NodeId::Worker(1),
-    NodeId::Worker(2),
-    NodeId::Worker(3),
-    NodeId::Worker(4),
-    NodeId::Worker(5),
-    NodeId::Worker(6),
-    NodeId::Worker(7),
-    NodeId::Worker(8),
-    NodeId::Shard(1),
-    NodeId::Shard(2),
-    NodeId::Shard(3),
-    NodeId::Shard(4),
-    NodeId::Shard(5),
-    NodeId::Shard(6),
-    NodeId::Shard(7),
-    NodeId::Shard(8),
-];
 
 fn add(text: &mut Vec<u8>, more: &str) -> Result<(), Fail> {
     text.extend_from_slice(more.as_bytes())?;
@@ -76,11 +56,11 @@ pub(crate) fn seen<S: CkptStore>(alloc: Global, world: &World<S>) -> Result<Vec<
     let mut text = Vec::new(alloc);
     let notes = world.history().notes();
     add(&mut text, &format!(in alloc; "{notes:?}\n")?)?;
-    for node in NAMES {
+    for node in ALL_NODES {
         if world.mode(node).is_some() {
             add_node(alloc, &mut text, world, node)?;
         }
-        for to in NAMES {
+        for to in ALL_NODES {
             add_link(alloc, &mut text, world, node, to)?;
         }
     }
@@ -99,14 +79,14 @@ pub(crate) fn read<S: CkptStore>(world: &World<S>) -> [usize; 14] {
         sums[1] = sums[1].saturating_add(usize::from(history.is_act(number)));
         sums[2] = sums[2].saturating_add(usize::from(history.act(number).is_some()));
     }
-    for node in NAMES {
+    for node in ALL_NODES {
         sums[3] = sums[3].saturating_add(usize::from(world.mode(node).is_some()));
         sums[4] = sums[4].saturating_add(world.steps_of(node) as usize);
         sums[5] = sums[5].saturating_add(usize::from(world.ballot(node).is_some()));
         sums[6] = sums[6].saturating_add(world.kept_len(node));
         sums[7] = sums[7].saturating_add(usize::from(world.kept_at(node, 0).is_some()));
         sums[8] = sums[8].saturating_add(history.line(node).len());
-        for to in NAMES {
+        for to in ALL_NODES {
             let is_there = world.link_at(node, to, 0).is_some();
             sums[9] = sums[9].saturating_add(world.link_len(node, to));
             sums[10] = sums[10].saturating_add(usize::from(is_there));
@@ -145,7 +125,7 @@ fn add_row<S: CkptStore>(
 /// All that a store holds: each node's row with the bytes of its checkpoints, and the board.
 pub(crate) fn stored<S: CkptStore>(alloc: Global, store: &mut S) -> Result<Vec<u8>, Fail> {
     let mut text = Vec::new(alloc);
-    for node in NAMES {
+    for node in ALL_NODES {
         add_row(alloc, &mut text, store, node)?;
     }
     for instance in 1..store.next_instance()? {

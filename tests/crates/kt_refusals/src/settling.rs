@@ -3,11 +3,12 @@
 use crate::counts::Counts;
 use crate::fresh::Fresh;
 use crate::refusing::{MOST, Turns, never, refuse, was_spared};
-use crate::seen::{NAMES, seen, shows};
+use crate::seen::{seen, shows};
 use crate::stepping::played;
 use kt_core::{Faults, Step, StepError, World};
 use kt_stage::settle;
 use kt_store::{CkptStore, StoreError};
+use kt_tuple::ALL_NODES;
 use std::alloc::Global;
 use std::test::Fail;
 
@@ -18,7 +19,7 @@ fn struck<S: CkptStore + Fresh + Drop>(
     steps: &[Step],
 ) -> Result<World<S>, Fail> {
     let mut world = played::<S>(alloc, text, steps)?;
-    for node in NAMES {
+    for node in ALL_NODES {
         // One that is down already, or that the scene does not have, cannot fail.
         world.step(alloc, Step::Fail { node }).ok();
     }

@@ -3,7 +3,6 @@
 use crate::counts::Counts;
 use crate::fresh::{Fresh, sink};
 use crate::refusing::{MOST, Turns, never, refuse, was_spared};
-use crate::seen::NAMES;
 use crate::stepping::{Moment, played};
 use kt_ckpt::{Ckpt, CkptError};
 use kt_core::Step;
@@ -13,7 +12,7 @@ use kt_scene::{
 };
 use kt_space::Bag;
 use kt_store::{CkptStore, StoreError};
-use kt_tuple::{NodeId, Service};
+use kt_tuple::{ALL_NODES, NodeId, Service};
 use std::alloc::Global;
 use std::test::Fail;
 
@@ -140,7 +139,7 @@ pub(crate) fn checkpoints_in_turn<S: CkptStore + Fresh + Drop>(
     steps: &[Step],
 ) -> Result<(), Fail> {
     let mut store = played::<S>(alloc, text, steps)?.into_store();
-    for node in NAMES {
+    for node in ALL_NODES {
         row_in_turn(rt, alloc, &mut store, node)?;
     }
     Ok(())

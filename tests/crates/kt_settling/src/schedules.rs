@@ -43,7 +43,7 @@ struct Sent {
 
 /// A scene in which steps are chosen.
 #[derive(Drop)]
-struct Against {
+struct Chooser {
     schedule: Schedule,
     watched: Watched,
     draws: Draws,
@@ -149,12 +149,12 @@ impl Sent {
     }
 }
 
-impl Against {
-    fn open(alloc: Global, schedule: Schedule, seed: u64) -> Result<Against, Finding> {
+impl Chooser {
+    fn open(alloc: Global, schedule: Schedule, seed: u64) -> Result<Chooser, Finding> {
         let watched = Watched::open(alloc, short_scene_of(alloc, COMMANDS, seed)?)?;
         let mut draws = Draws::of(seed ^ 0x5bd1_e995);
         let cast = watched.cast();
-        Ok(Against {
+        Ok(Chooser {
             schedule,
             steps: shuffled(alloc, cast, &mut draws)?,
             links: all_links(alloc, cast)?,
@@ -178,7 +178,7 @@ impl Against {
     /// The place of the first step that is enabled.
     fn first_enabled(&mut self, alloc: Global) -> Result<Option<usize>, Finding> {
         for (place, step) in self.steps.iter().enumerate() {
-            if Against::is_wanted(self.schedule, *step)
+            if Chooser::is_wanted(self.schedule, *step)
                 && self.watched.world_mut().can(alloc, *step)?
             {
                 return Ok(Some(place));
@@ -279,14 +279,14 @@ pub fn against(
     most: u64,
     tally: &mut Tally,
 ) -> Result<(), Finding> {
-    let mut against = Against::open(alloc, schedule, seed_of(seed, scene))?;
+    let mut chooser = Chooser::open(alloc, schedule, seed_of(seed, scene))?;
     let half = most / 2;
-    let turns = half.saturating_add(against.draws.below(half.saturating_add(1)));
+    let turns = half.saturating_add(chooser.draws.below(half.saturating_add(1)));
     for _ in 0..turns {
-        let is_made = against.turn(alloc, tally)?;
+        let is_made = chooser.turn(alloc, tally)?;
         holds(is_made, "a step that can be made")?;
     }
-    let Against { mut watched, .. } = against;
+    let Chooser { mut watched, .. } = chooser;
     settles(alloc, &mut watched, tally)?;
     watched.end(alloc, tally)
 }

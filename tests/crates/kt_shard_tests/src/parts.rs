@@ -1,7 +1,7 @@
 //! A shard made of what is read of one.
 
-use kt_shard::{Desk, Kept, MAX_WORKERS, Request, Shard};
-use kt_tuple::{Op, Tuple};
+use kt_shard::{Desk, Kept, Request, Shard};
+use kt_tuple::{MAX_WORKERS, Op, Tuple};
 use std::alloc::{AllocError, Global};
 use std::process::Abort;
 use std::test::Fail;

@@ -4,18 +4,19 @@ use crate::cast::Cast;
 use crate::scenes::Game;
 use kt_core::Step;
 use kt_node::Mode;
+use kt_tuple::MAX_NODES;
 
-/// Counts and modes of a world of at most sixteen nodes, by their places.
+/// Counts and modes of a world, by their places.
 #[derive(Clone, Copy, PartialEq, Eq)]
 pub(crate) struct Shape {
     notes: usize,
     lost: u64,
-    nodes: [(Option<Mode>, u64); 16],
+    nodes: [(Option<Mode>, u64); MAX_NODES],
 }
 
 /// What is seen of the world.
 pub(crate) fn shape_of(world: &Game, cast: Cast) -> Shape {
-    let mut nodes = [(None, 0); 16];
+    let mut nodes = [(None, 0); MAX_NODES];
     let mut place = 0u8;
     for row in &mut nodes {
         if place < cast.count() {

@@ -6,4 +6,4 @@ use Rattle.kt_node.proofs.turning.write.Goals as goal
 
 pub returns-clause-written : goal.returns-clause-written
 returns-clause-written c =
-    written no_label c.args.table.now.items c.from.result (node_number c.args.node) c.args.label (c.from.ensures ∙ c.number_of.ensures) c.requires
+    written no_label c.args.table.now.items c.from.result (node_number c.args.node) c.args.label (c.from.ensures ∙ c.number.ensures) c.requires

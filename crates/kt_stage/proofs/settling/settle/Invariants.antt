@@ -1,7 +1,7 @@
 use Rattle.std.proofs.Common.{◌≡◌, List, ◌-◌}
 use Rattle.std.specs.Prelude.{IsTrue}
 use Rattle.kt_store.specs.Calls.{NeverFails}
-use Rattle.kt_world.specs.Limits.{most_steps}
+use Rattle.kt_world.specs.declared.step.TheConstants.{MAX_STEPS}
 use Rattle.kt_world.specs.declared.step.Step.{Step}
 use Rattle.kt_stage.specs.Settling.{Settles}
 use Rattle.kt_stage.proofs.settling.settle.Given as goal
@@ -15,4 +15,4 @@ invariant-loop-step g l =
     }
 
 abbrev pub decreases-loop-step : goal.decreases-loop-step
-decreases-loop-step g l = most_steps - l.world.state.made
+decreases-loop-step g l = MAX_STEPS - l.world.state.made
