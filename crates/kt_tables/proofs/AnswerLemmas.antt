@@ -32,12 +32,13 @@ use Rattle.kt_store.specs.Changes.{storing}
 use Rattle.kt_tables.specs.inner.Looking.{Stays}
 use Rattle.kt_tables.proofs.StateLemmas.{executed_open, refused_stays, written_settled}
 use Rattle.kt_tables.specs.inner.Both.{RanBoth}
+use Rattle.kt_tables.specs.inner.Changing.{Changes}
 use Rattle.kt_tables.specs.declared.cells.NodeCells.{NodeCells}
 use Rattle.kt_tables.specs.Cells.{cells_given, cells_node, AreSaid}
 use Rattle.kt_tables.proofs.CellLemmas.{spelled_given}
 use Rattle.kt_tables.proofs.TabledLemmas.{stayed, wrote}
 use Rattle.kt_tables.proofs.OrderLemmas.{all_inserted}
-use Rattle.kt_tables.proofs.WriteLemmas.{put_node_does, put_posted_does}
+use Rattle.kt_tables.proofs.WriteLemmas.{node_changes, posted_changes}
 use Rattle.kt_tables.proofs.FoundLemmas.{node_found, some_node_found, posted_found, open_found, last_found, found_is}
 use Rattle.kt_tables.proofs.ReadLemmas.{downwards, first_or_0, first_is_greatest}
 use Rattle.sqlite_keyed.specs.Lists.{sort_by, insert_sorted}
@@ -135,11 +136,13 @@ first_number (p ∷ ps) = refl
 pub last_number : (ps : List Posted) → number_of (slice_get (sorted_board ps) 0) ≡ fold max 0 (map (λ (p : Posted). p.instance) ps)
 last_number ps = first_number (sorted_board ps) ∙ first_is_greatest (λ (p : Posted). p.instance) ps
 
-empty_where : (cs : List NodeRow) (rows : List Row) → slice_get rows 0 ≡ option_map node_given (slice_get cs 0) → (length rows == 0) ≡ is_empty cs
-empty_where [] [] h = refl
-empty_where [] (r ∷ rows) h = absurd cc
-empty_where (c ∷ cs) [] h = absurd cc
-empty_where (c ∷ cs) (r ∷ rows) h = grind arith
+-- no row is shown just where there is nothing to show
+empty_where : {X : Type 0} (given : X → Row) (xs : List X) (rows : List Row) → slice_get rows 0 ≡ option_map given (slice_get xs 0)
+    → (length rows == 0) ≡ is_empty xs
+empty_where given [] [] h = refl
+empty_where given [] (r ∷ rows) h = absurd cc
+empty_where given (x ∷ xs) [] h = absurd cc
+empty_where given (x ∷ xs) (r ∷ rows) h = grind arith
 
 never_empty : (x : Posted) (xs : List Posted) → is_empty (insert_sorted (downwards (λ (q : Posted). q.instance)) x xs) ≡ false
 never_empty x [] = refl
@@ -152,12 +155,6 @@ never_empty x (y ∷ ys) = there (is_gt (downwards (λ (q : Posted). q.instance)
 sorted_empty : (ps : List Posted) → is_empty (sorted_board ps) ≡ is_empty ps
 sorted_empty [] = refl
 sorted_empty (p ∷ ps) = never_empty p (sorted_board ps)
-
-none_posted : (ps : List Posted) (rows : List Row) → slice_get rows 0 ≡ option_map posted_given (slice_get ps 0) → (length rows == 0) ≡ is_empty ps
-none_posted [] [] h = refl
-none_posted [] (r ∷ rows) h = absurd cc
-none_posted (c ∷ cs) [] h = absurd cc
-none_posted (c ∷ cs) (r ∷ rows) h = grind arith
 
 module _ {S : Type 0} (g : Ghosts S) (s n : Tabled S) (kept : IsKept g n) (same : (state g n.conn).now ≡ (state g s.conn).now) where
   abbrev was : Content
@@ -188,34 +185,41 @@ module _ {S : Type 0} (g : Ghosts S) (s n : Tabled S) (kept : IsKept g n) (same 
 
   pub nodes_read : (rows : List Row) → Shown first_node_text [] (state g s.conn) (state g n.conn) rows → (length rows == 0) ≡ is_empty was.nodes
   nodes_read rows h =
-      empty_where was.nodes rows (some_node_found (state g s.conn) (state g n.conn) was (was_schema g s n kept same) (was_held g s n kept same) rows h)
+      empty_where node_given was.nodes rows
+      (some_node_found (state g s.conn) (state g n.conn) was (was_schema g s n kept same) (was_held g s n kept same) rows h)
 
   pub board_read : (rows : List Row) → Shown last_posted_text [] (state g s.conn) (state g n.conn) rows → (length rows == 0) ≡ is_empty was.board
-  board_read rows h = none_posted (sorted_board was.board) rows (last_read rows h).0 ∙ sorted_empty was.board
+  board_read rows h = empty_where posted_given (sorted_board was.board) rows (last_read rows h).0 ∙ sorted_empty was.board
 
 -- ---- writes
+
+module _ {S : Type 0} (g : Ghosts S) (row : Row) where
+  -- the change that a row makes which is given by the cells of a node, where they are as said
+  pub cells_change : (c : NodeCells) → row ≡ cells_given c → AreSaid c → Changes g put_node_text row (storing (cells_node c))
+  cells_change c is are old new was count has held h =
+      let spelt = is ∙ spelled_given c (cells_node c) are.spells in
+      node_changes (cells_node c) are.said (state g old) (state g new) was count has held
+      (subst (λ (r : Row). Executes put_node_text r (state g old) (state g new) (Ok count)) spelt h)
+
+  -- and by those of an instance
+  pub posted_change : (p : Posted) → row ≡ posted_given p → IsPosted p → Changes g put_posted_text row (placing p)
+  posted_change p is good old new was count has held h =
+      posted_changes p good (state g old) (state g new) was count has held
+      (subst (λ (r : Row). Executes put_posted_text r (state g old) (state g new) (Ok count)) is h)
 
 module _ {S : Type 0} (g : Ghosts S) (s : Tabled S) (h : Held S) (kept : IsTrue (is_sure g s) → IsKept g s)
     (clean : doubt (state g s.conn).is_clean ≤ doubt (state g h).is_clean) where
   abbrev after : Tabled S
   after = record { conn = h; is_trusted = s.is_trusted }
 
-  pub node_wrote : (c : NodeCells) (count : ℕ) → (IsTrue (is_sure g s) → AreSaid c)
-      → (HasCleanDisk (state g h) → Executes put_node_text (cells_given c) (state g s.conn) (state g h) (Ok count))
-      → IsTrue (is_sure g after) → IsTrue (is_sure g s) × (content_of g after ≡ storing (cells_node c) (content_of g s)) × IsKept g after
-  node_wrote c count are ran =
-      wrote g s h (storing (cells_node c) (content_of g s)) kept clean (λ cl on. executed_open put_node_text (cells_given c) _ _ count (ran cl) on)
+  pub statement_wrote : (sql : List ℕ) (params : Row) (change : Content → Content) (count : ℕ) → (IsTrue (is_sure g s) → Changes g sql params change)
+      → (HasCleanDisk (state g h) → Executes sql params (state g s.conn) (state g h) (Ok count))
+      → IsTrue (is_sure g after) → IsTrue (is_sure g s) × (content_of g after ≡ change (content_of g s)) × IsKept g after
+  statement_wrote sql params change count changes ran =
+      wrote g s h (change (content_of g s)) kept clean (λ cl on. executed_open sql params _ _ count (ran cl) on)
       (λ cl was k.
-      let good = are was in
-      let run = subst (λ row. Executes put_node_text row (state g s.conn) (state g h) (Ok count)) (spelled_given c (cells_node c) good.spells) (ran cl) in
-      let it = put_node_does _ _ (cells_node c) (content_of g s) count good.said k.schema k.holds run in (written_settled _ _ k.settled it.0, it.1, it.2))
-
-  pub posted_wrote : (p : Posted) (count : ℕ) → IsPosted p
-      → (HasCleanDisk (state g h) → Executes put_posted_text (posted_given p) (state g s.conn) (state g h) (Ok count))
-      → IsTrue (is_sure g after) → IsTrue (is_sure g s) × (content_of g after ≡ placing p (content_of g s)) × IsKept g after
-  posted_wrote p count good ran =
-      wrote g s h (placing p (content_of g s)) kept clean (λ cl on. executed_open put_posted_text (posted_given p) _ _ count (ran cl) on)
-      (λ cl _ k. let it = put_posted_does _ _ p (content_of g s) count good k.schema k.holds (ran cl) in (written_settled _ _ k.settled it.0, it.1, it.2))
+      let it = changes was s.conn h (content_of g s) count k.schema k.holds (ran cl) in
+      (written_settled _ _ k.settled it.shown, it.schema, it.holds))
 
   pub not_wrote : (sql : List ℕ) (params : Row) (e : Error) → (HasCleanDisk (state g h) → Executes sql params (state g s.conn) (state g h) (Err e))
       → IsTrue (is_sure g after) → IsTrue (is_sure g s) × (content_of g after ≡ content_of g s) × IsKept g after
@@ -232,14 +236,12 @@ module _ {S : Type 0} (g : Ghosts S) (s : Tabled S) (h : Held S) (kept : IsTrue 
       wrote g s h (placing p (storing r (content_of g s))) kept clean (λ cl _. (ran cl).was_open)
       (λ cl was k.
       let it = ran cl in
-      let good = are was in
-      let begun = state g (record s.conn { in_transaction = true }) in
-      let run = subst (λ row. Executes put_node_text row begun (state g it.mid) (Ok it.counts.0)) (spelled_given c r good.spells) it.one in
-      let one = put_node_does begun (state g it.mid) r (content_of g s) it.counts.0 good.said k.schema k.holds run in
-      let two = put_posted_does (state g it.mid) (state g it.last) p (storing r (content_of g s)) it.counts.1 fine one.1 one.2 it.two in (
+      let one = cells_change g (cells_given c) c refl (are was) (record s.conn { in_transaction = true }) it.mid (content_of g s) it.counts.0
+      k.schema k.holds it.one in
+      let two = posted_changes p fine (state g it.mid) (state g it.last) (storing r (content_of g s)) it.counts.1 one.schema one.holds it.two in (
         it.settled,
-        ap (λ (d : Database). d.schema) it.now ∙ two.1,
-        subst (λ (d : Database). Holds d.trees (placing p (storing r (content_of g s)))) (sym it.now) two.2,
+        ap (λ (d : Database). d.schema) it.now ∙ two.schema,
+        subst (λ (d : Database). Holds d.trees (placing p (storing r (content_of g s)))) (sym it.now) two.holds,
       ))
 
   pub neither_wrote : (HasCleanDisk (state g h) → IsTrue (state g h).is_open → Stays (state g s.conn) (state g h))

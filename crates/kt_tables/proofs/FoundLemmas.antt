@@ -1,7 +1,6 @@
 -- What each query of the store finds.
-use Rattle.std.proofs.Common.{◌≡◌, ℕ, ◌<◌, ℤ, pos, negsuc, Bool, true, false, ◌&&◌, ◌==◌, cond, List, [], ◌∷◌}
+use Rattle.std.proofs.Common.{◌≡◌, ℕ, ℤ, pos, negsuc, Bool, true, false, ◌&&◌, ◌==◌, cond, List, [], ◌∷◌}
 use Rattle.std.proofs.Common.{slice_get, option_map, Some, IfSome, refl, sym, ap, ap₂, ◌∙◌, arith, ◌<ℤ◌}
-use Rattle.std.specs.Prelude.{nat_lt}
 use Rattle.std.specs.List.{AllByRecursion, find}
 use Rattle.std.specs.Ordering.{int_eq}
 use Rattle.std.proofs.lemmas.Int.{ints}
@@ -11,7 +10,6 @@ use Rattle.sqlite_trees.specs.Tree.{IsAscending}
 use Rattle.sqlite_sql.specs.declared.ops.CompareOp.TheVariants.{Eq}
 use Rattle.sqlite_sql.specs.Term.{lit, col}
 use Rattle.std.proofs.lemmas.Option.{slice_get-map}
-use Rattle.sqlite_sql.specs.Program.{overlay}
 use Rattle.sqlite.specs.State.{State, Shown}
 use Rattle.sqlite_keyed.specs.Keyed.{IsKeyedBy}
 use Rattle.sqlite_keyed.specs.Lists.{sort_by}
@@ -20,7 +18,7 @@ use Rattle.sqlite_typed.proofs.TestLemmas.{at_ints, then_term, last_term}
 use Rattle.sqlite_typed.proofs.AnswerLemmas.{first_shown, first_of}
 use Rattle.kt_tuple.specs.declared.node.NodeId.{NodeId}
 use Rattle.kt_tuple.specs.declared.node.NodeId.TheVariants.{Worker, Shard}
-use Rattle.kt_tuple.specs.Node.{node_eq, is_before}
+use Rattle.kt_tuple.specs.Node.{node_eq}
 use Rattle.kt_store.specs.declared.rows.NodeRow.{NodeRow}
 use Rattle.kt_store.specs.declared.rows.Posted.{Posted}
 use Rattle.kt_store.specs.declared.rows.Verdict.{Verdict}
@@ -29,11 +27,10 @@ use Rattle.kt_store.specs.Verdict.{is_open}
 use Rattle.kt_store.specs.Content.{Content}
 use Rattle.kt_tables.specs.Schema.{kt_schema}
 use Rattle.kt_tables.specs.inner.Text.{get_node_text, first_node_text, get_posted_text, last_posted_text, open_posted_text}
-use Rattle.kt_tables.specs.Rows.{whole, id_of, HasId, verdict_code, node_given, posted_given, IsNodeRow, IsPosted, Holds}
+use Rattle.kt_tables.specs.Rows.{whole, id_of, HasId, verdict_code, node_given, posted_given, Holds}
 use Rattle.kt_tables.proofs.Texts.{equals, get_node, get_node_is, first_node, first_node_is, get_posted, get_posted_is, last_posted, last_posted_is}
 use Rattle.kt_tables.proofs.Texts.{open_posted, open_posted_is, node_names, posted_names}
-use Rattle.kt_tables.proofs.WriteLemmas.{by_id}
-use Rattle.kt_tables.proofs.TableRows.{nodes_table, posted_table}
+use Rattle.kt_tables.proofs.TableRows.{Table, nodes_table, posted_table}
 use Rattle.kt_tables.proofs.ReadLemmas.{answered, in_order, from_last, first_given, downwards}
 
 -- ---- lists
@@ -51,24 +48,16 @@ found_is {X} P p (x ∷ xs) h = there (p x) (found_is P p xs h.1)
     there true later = h.0
     there false later = later
 
-keyed_by : {X : Type 0} (P : X → Type 0) (lt : X → X → Bool) (number : X → ℕ) → ((a b : X) → P a → P b → lt a b ≡ true → number a < number b)
-    → (xs : List X) → AllByRecursion P xs → IsAscending (λ a b. lt a b ≡ true) xs → IsKeyedBy (λ x. pos (number x)) xs
-keyed_by P lt number rises [] h r = tt
-keyed_by P lt number rises (x ∷ xs) h r =
-    let above : AllByRecursion (λ y. pos (number x) <ℤ pos (number y)) xs =
-    all_both _ _ _ (λ y good less. let n = rises x y h.0 good less in omega (arith, ints)) xs h.1 r.0 in
-    (above, keyed_by P lt number rises xs h.1 r.1)
+-- what a table holds is in the order of its keys
+pub keyed : {X : Type 0} {IsSaid : X → Type 0} (t : Table IsSaid) (xs : List X) → AllByRecursion IsSaid xs → IsAscending (λ (a b : X). t.before a b ≡ true) xs
+    → IsKeyedBy (λ x. pos (t.number x)) xs
+keyed t [] h r = tt
+keyed t (x ∷ xs) h r =
+    let above : AllByRecursion (λ y. pos (t.number x) <ℤ pos (t.number y)) xs =
+    all_both _ _ _ (λ y good less. let n = sym (t.by_number x y h.0 good) ∙ less in grind (arith, ints, n)) xs h.1 r.0 in
+    (above, keyed t xs h.1 r.1)
 
 -- ---- the two tables
-
-pub nodes_keyed : (c : List NodeRow) → AllByRecursion IsNodeRow c → IsAscending (λ (a b : NodeRow). is_before a.node b.node ≡ true) c
-    → IsKeyedBy (λ (r : NodeRow). pos (id_of r.node)) c
-nodes_keyed = keyed_by IsNodeRow (λ (a b : NodeRow). is_before a.node b.node) (λ (r : NodeRow). id_of r.node)
-    (λ a b g h less. let n = sym (by_id a.node b.node g.node h.node) ∙ less in grind (arith, n))
-
-pub board_keyed : (c : List Posted) → AllByRecursion IsPosted c → IsAscending (λ (a b : Posted). nat_lt a.instance b.instance ≡ true) c
-    → IsKeyedBy (λ (p : Posted). pos p.instance) c
-board_keyed = keyed_by IsPosted (λ (a b : Posted). nat_lt a.instance b.instance) (λ (p : Posted). p.instance) (λ a b g h less. grind (arith, less))
 
 same_id : (a b : NodeId) → HasId a → HasId b → int_eq (pos (id_of a)) (pos (id_of b)) ≡ node_eq a b
 same_id (Worker m) (Worker n) h g = grind (arith, ints)
@@ -91,10 +80,10 @@ open_code No = refl
 
 module _ (old new : State) (c : Content) (has : old.now.schema ≡ kt_schema) (held : Holds old.now.trees c) where
   abbrev nodes_rise : IsKeyedBy (λ (r : NodeRow). pos (id_of r.node)) c.nodes
-  nodes_rise = nodes_keyed c.nodes held.nodes.said held.nodes.rise
+  nodes_rise = keyed nodes_table c.nodes held.nodes.said held.nodes.rise
 
   abbrev board_rises : IsKeyedBy (λ (p : Posted). pos p.instance) c.board
-  board_rises = board_keyed c.board held.board.said held.board.rise
+  board_rises = keyed posted_table c.board held.board.said held.board.rise
 
   pub node_found : (node : NodeId) → HasId node → (rows : List Row) → Shown get_node_text (whole (id_of node) ∷ []) old new rows
       → slice_get rows 0 ≡ option_map node_given (find (λ (r : NodeRow). node_eq r.node node) c.nodes)
@@ -103,7 +92,7 @@ module _ (old new : State) (c : Content) (has : old.now.schema ≡ kt_schema) (h
       let p = λ (r : NodeRow). int_eq (pos (id_of r.node)) (pos (id_of node)) in
       let answer = answered get_node_text params old new get_node node_names get_node_is has rows h in
       let is =
-      in_order nodes_table (overlay old.now.trees []) c.nodes held.nodes.shown nodes_rise (equals (col 1 0) (col 0 0) ∷ []) (negsuc 0) params p (λ r. refl)
+      in_order nodes_table old.now.trees c.nodes held.nodes.shown nodes_rise (equals (col 1 0) (col 0 0) ∷ []) (negsuc 0) params p (λ r. refl)
       (λ r. last_term (at_ints false Eq (pos (id_of r.node)) (pos (id_of node)))) rows answer in
       first_given node_given p c.nodes is
       ∙ ap (option_map node_given) (find_same p (λ (r : NodeRow). node_eq r.node node) c.nodes
@@ -113,7 +102,7 @@ module _ (old new : State) (c : Content) (has : old.now.schema ≡ kt_schema) (h
   some_node_found rows h =
       let answer = answered first_node_text [] old new first_node node_names first_node_is has rows h in
       let is =
-      in_order nodes_table (overlay old.now.trees []) c.nodes held.nodes.shown nodes_rise [] (pos 1) [] (λ _. true) (λ r. refl) (λ r. refl) rows answer in
+      in_order nodes_table old.now.trees c.nodes held.nodes.shown nodes_rise [] (pos 1) [] (λ _. true) (λ r. refl) (λ r. refl) rows answer in
       first_of _ is ∙ slice_get-map node_given _ 0
       ∙ ap (λ (l : List NodeRow). option_map node_given (slice_get l 0)) (filter_all (λ _. true) c.nodes (all_of _ (λ _. refl) c.nodes))
 
@@ -124,7 +113,7 @@ module _ (old new : State) (c : Content) (has : old.now.schema ≡ kt_schema) (h
       let p = λ (r : Posted). int_eq (pos r.instance) (pos i) in
       let answer = answered get_posted_text params old new get_posted posted_names get_posted_is has rows h in
       let is =
-      in_order posted_table (overlay old.now.trees []) c.board held.board.shown board_rises (equals (col 1 0) (col 0 0) ∷ []) (negsuc 0) params p (λ r. refl)
+      in_order posted_table old.now.trees c.board held.board.shown board_rises (equals (col 1 0) (col 0 0) ∷ []) (negsuc 0) params p (λ r. refl)
       (λ r. last_term (at_ints false Eq (pos r.instance) (pos i))) rows answer in
       first_given posted_given p c.board is
       ∙ ap (option_map posted_given) (find_same p (λ (r : Posted). r.instance == i) c.board (all_of _ (λ r. same_number r.instance i) c.board))
@@ -135,7 +124,7 @@ module _ (old new : State) (c : Content) (has : old.now.schema ≡ kt_schema) (h
       let params = whole (id_of node) ∷ [] in
       let p = λ (r : Posted). int_eq (pos (id_of r.initiator)) (pos (id_of node)) && int_eq (whole_of r.verdict) (pos 0) in
       let answer = answered open_posted_text params old new open_posted posted_names open_posted_is has rows h in
-      let is = in_order posted_table (overlay old.now.trees []) c.board held.board.shown board_rises
+      let is = in_order posted_table old.now.trees c.board held.board.shown board_rises
       (equals (col 1 2) (col 0 0) ∷ equals (col 1 4) (lit (Int (pos 0))) ∷ []) (pos 1) params p (λ r. refl)
       (λ r. then_term (at_ints false Eq (pos (id_of r.initiator)) (pos (id_of node))) (last_term (at_ints false Eq (whole_of r.verdict) (pos 0)))) rows
       answer in
@@ -147,5 +136,5 @@ module _ (old new : State) (c : Content) (has : old.now.schema ≡ kt_schema) (h
       → slice_get rows 0 ≡ option_map posted_given (slice_get (sort_by (downwards (λ (p : Posted). p.instance)) c.board) 0)
   last_found rows h =
       let answer = answered last_posted_text [] old new last_posted posted_names last_posted_is has rows h in
-      let is = from_last posted_table (overlay old.now.trees []) c.board held.board.shown board_rises (pos 1) [] rows answer in
+      let is = from_last posted_table old.now.trees c.board held.board.shown board_rises (pos 1) [] rows answer in
       first_of _ is ∙ slice_get-map posted_given _ 0

@@ -1,55 +1,48 @@
 -- What tables hold, read back.
-use Rattle.std.proofs.Common.{◌≡◌, ℕ, Bool, true, List, [], ◌∷◌, map, refl, sym, ap, ap₂, subst, ◌∙◌, arith, Less, IsPermutation}
+use Rattle.std.proofs.Common.{◌≡◌, true, List, [], ◌∷◌, map, refl, sym, ap, ap₂, subst, ◌∙◌, arith, Less, IsPermutation}
 use Rattle.std.specs.Ordering.{on, nat_cmp}
+use Rattle.std.specs.declared.cmp.Ordering.{Ordering}
 use Rattle.std.proofs.lemmas.Cmp.{nat_cmp_total, on_total}
 use Rattle.std.proofs.lemmas.List.Sorted.{IsPermutation-map}
 use Rattle.sqlite_keyed.specs.Lists.{sort_by}
 use Rattle.sqlite_keyed.proofs.ListLemmas.{all_both, IsPermutation-same}
-use Rattle.std.specs.Prelude.{nat_lt}
 use Rattle.sqlite.specs.State.{State}
 use Rattle.kt_tables.specs.Opened.{IsReady}
-use Rattle.kt_tables.specs.Rows.{Holds, content_in, id_of, by_node, by_instance, node_in, node_given, node_shown, posted_in, posted_given, posted_shown}
-use Rattle.kt_tables.specs.Rows.{IsNodeRow, IsPosted}
+use Rattle.kt_tables.specs.Rows.{Holds, content_in, by_node, by_instance, node_in, node_shown, posted_in, posted_shown}
 use Rattle.kt_tables.proofs.OrderLemmas.{sorted_again}
-use Rattle.kt_tables.proofs.WriteLemmas.{by_id}
 use Rattle.kt_store.specs.declared.rows.NodeRow.{NodeRow}
 use Rattle.kt_store.specs.declared.rows.Posted.{Posted}
 use Rattle.kt_store.specs.Content.{Content, empty_content}
-use Rattle.kt_tuple.specs.Node.{is_before}
 use Rattle.std.specs.List.{AllByRecursion}
 use Rattle.sqlite.specs.Order.{Row}
 use Rattle.sqlite_trees.specs.Tree.{IsAscending}
 use Rattle.kt_tables.specs.Made.{IsMade}
 use Rattle.sqlite.specs.Tree.{Trees}
 use Rattle.kt_tables.proofs.RowLemmas.{map_back, row_back, posted_back}
+use Rattle.kt_tables.proofs.TableRows.{Table, HoldsAll, nodes_table, posted_table}
 
--- what the tables hold is read back
-module _ {X : Type 0} (P : X → Type 0) (number : X → ℕ) (lt : X → X → Bool)
-    (less : (a b : X) → P a → P b → lt a b ≡ true → nat_cmp (number a) (number b) ≡ Less)
-    (out : X → Row) (back : Row → X) (same : (x : X) → P x → back (out x) ≡ x) where
-  rises_by : (xs : List X) → AllByRecursion P xs → IsAscending (λ a b. lt a b ≡ true) xs → IsAscending (λ a b. on number nat_cmp a b ≡ Less) xs
+-- what a table holds is read back
+module _ {X : Type 0} {IsSaid : X → Type 0} (t : Table IsSaid) where
+  abbrev by_key : X → X → Ordering
+  by_key = on t.number nat_cmp
+
+  rises_by : (xs : List X) → AllByRecursion IsSaid xs → IsAscending (λ a b. t.before a b ≡ true) xs → IsAscending (λ a b. by_key a b ≡ Less) xs
   rises_by [] good up = tt
-  rises_by (x ∷ xs) good up = (all_both _ _ _ (λ y is first. less x y good.0 is first) xs good.1 up.0, rises_by xs good.1 up.1)
+  rises_by (x ∷ xs) good up = (
+    all_both _ _ _ (λ y is first. let n = sym (t.by_number x y good.0 is) ∙ first in grind (arith, n)) xs good.1 up.0,
+    rises_by xs good.1 up.1,
+  )
 
-  read_back : (xs : List X) (rows : List Row) → AllByRecursion P xs → IsAscending (λ a b. lt a b ≡ true) xs → IsPermutation (map out xs) rows
-      → sort_by (on number nat_cmp) (map back rows) ≡ xs
-  read_back xs rows good up bag =
-      sorted_again (on number nat_cmp) (on_total number nat_cmp_total) (map back rows) xs (rises_by xs good up)
-      (subst (λ l. IsPermutation l (map back rows)) (map_back P out back same xs good) (IsPermutation-map back _ _ bag))
-
-node_less : (a b : NodeRow) → IsNodeRow a → IsNodeRow b → is_before a.node b.node ≡ true → nat_cmp (id_of a.node) (id_of b.node) ≡ Less
-node_less a b h g less = let n = sym (by_id a.node b.node h.node g.node) ∙ less in grind (arith, n)
-
-posted_less : (a b : Posted) → IsPosted a → IsPosted b → nat_lt a.instance b.instance ≡ true → nat_cmp a.instance b.instance ≡ Less
-posted_less a b h g less = grind (arith, less)
+  read_back : (back : Row → X) → ((x : X) → IsSaid x → back (t.given x) ≡ x) → {rows : List Row} (xs : List X) → HoldsAll t rows xs
+      → sort_by by_key (map back (map t.shown rows)) ≡ xs
+  read_back back same {rows} xs held =
+      sorted_again by_key (on_total t.number nat_cmp_total) (map back (map t.shown rows)) xs (rises_by xs held.said held.rise)
+      (subst (λ l. IsPermutation l (map back (map t.shown rows))) (map_back IsSaid t.given back same xs held.said) (IsPermutation-map back _ _ held.shown))
 
 pub holds_content : {db : Trees} (c : Content) → Holds db c → content_in db ≡ c
 holds_content c h =
-    let nodes = read_back IsNodeRow (λ (r : NodeRow). id_of r.node)
-    (λ (a b : NodeRow). is_before a.node b.node) node_less node_given node_in row_back c.nodes _ h.nodes.said h.nodes.rise h.nodes.shown in
-    let board = read_back IsPosted (λ (p : Posted). p.instance)
-    (λ (a b : Posted). nat_lt a.instance b.instance) posted_less posted_given posted_in posted_back c.board _ h.board.said h.board.rise h.board.shown in
-    ap₂ (λ (ns : List NodeRow) (ps : List Posted). let whole : Content = record { nodes = ns; board = ps } in whole) nodes board
+    ap₂ (λ (ns : List NodeRow) (ps : List Posted). let whole : Content = record { nodes = ns; board = ps } in whole)
+    (read_back nodes_table node_in row_back c.nodes h.nodes) (read_back posted_table posted_in posted_back c.board h.board)
 
 pub empty_content_in : (db : Trees) → db 0 ≡ [] → db 1 ≡ [] → content_in db ≡ empty_content
 empty_content_in db none bare =

@@ -9,20 +9,17 @@ use Rattle.sqlite.specs.Table.{Table}
 use Rattle.sqlite.specs.Schema.{Schema}
 use Rattle.sqlite.specs.Compile.{table_defined_by}
 use Rattle.sqlite.specs.Change.{created, next_tree, KeepsRows}
-use Rattle.sqlite.specs.Command.{Command}
-use Rattle.sqlite.specs.Command.TheVariants.{InsertOr, CreateTable}
-use Rattle.sqlite.specs.Source.TheVariants.{Values}
-use Rattle.sqlite_schema.specs.declared.command.Conflict.TheVariants.{Replace}
-use Rattle.sqlite.specs.Does.{Tally, Does, lacks_sequence}
+use Rattle.sqlite.specs.Command.TheVariants.{CreateTable}
+use Rattle.sqlite.specs.Does.{Tally, lacks_sequence}
 use Rattle.sqlite.specs.Effect.{Database}
 use Rattle.sqlite.specs.Listing.{understood}
-use Rattle.sqlite.specs.State.{State, mode_of, Writes, Executes}
+use Rattle.sqlite.specs.State.{State, Writes, Executes}
 use Rattle.sqlite.proofs.Callers.{IsPlain, command_of, statement_of, runs_as}
 use Rattle.sqlite_tied.specs.Compute.{everything}
 use Rattle.kt_tables.specs.Schema.{kt_schema, no_schema, node_table, board_table, meta_table}
 use Rattle.kt_tables.specs.Opened.{meta_shown, IsVersion1}
 use Rattle.kt_tables.specs.inner.Text.{create_node_text, create_board_text, create_meta_text, first_meta_text}
-use Rattle.kt_tables.proofs.PutLemmas.{went, same_value, replaces, AreNumbered}
+use Rattle.kt_tables.proofs.PutLemmas.{went, same_value, AreNumbered, PutsInto, put_ran}
 use Rattle.kt_tables.proofs.WriteLemmas.{cast_meta}
 
 abbrev pub with_node : Schema
@@ -87,37 +84,34 @@ meta_made old new count has none bare h =
 abbrev meta_terms : List Term
 meta_terms = lit (Int (pos 1)) ∷ lit Null ∷ lit (Int (pos 1)) ∷ []
 
-abbrev put_meta : Command
-put_meta = InsertOr 2 Replace (Values meta_terms 3) []
-
-put_meta_is : command_of (understood kt_schema first_meta_text) ≡ put_meta
-unfolding understood everything
-put_meta_is = refl
-
-put_meta_plain : IsPlain (understood kt_schema first_meta_text)
-unfolding understood everything
-put_meta_plain = (refl, refl)
-
 abbrev meta_row : Row
 meta_row = Int (pos 1) ∷ Null ∷ Int (pos 1) ∷ []
+
+puts_meta : PutsInto 2 first_meta_text [] meta_row (pos 1)
+unfolding understood everything
+puts_meta = record {
+  name = meta_table.name;
+  columns = meta_table.columns;
+  terms = meta_terms;
+  width = 3;
+  at = refl;
+  is = refl;
+  plain = (refl, refl);
+  given = refl;
+  numbered = refl;
+  mends = cast_meta;
+  fixed = cast_meta;
+}
 
 pub meta_put : (old new : State) (count : ℕ) → old.now.schema ≡ kt_schema → old.now.trees 0 ≡ [] → old.now.trees 1 ≡ [] → old.now.trees 2 ≡ []
     → Executes first_meta_text [] old new (Ok count)
     → IsVersion1 new.now × (new.now.trees 0 ≡ []) × (new.now.trees 1 ≡ [])
 meta_put old new count has none bare empty h =
-    let db = old.now.trees in
-    let w = runs_as first_meta_text [] old new kt_schema has put_meta put_meta_is put_meta_plain count h in
-    let text = statement_of first_meta_text (understood kt_schema first_meta_text) in
-    let done =
-    went (subst (λ s. Does old.step_limit (mode_of old) [] (record old.now { schema = s }) text None put_meta (Ok (w.tally, new.now))) has w.changed) in
-    let now = ap (λ (p : Tally × Database). p.1) (same_value (went (went done.2).2).2) in
-    let numbers = subst AreNumbered (sym empty) (λ r has. absurd has) in
-    let next = replaces meta_table.name 2 meta_table.columns old.step_limit [] meta_row
-    (pos 1) refl meta_terms 3 meta_row refl cast_meta cast_meta db numbers done.0 done.1 in (
+    let put = put_ran puts_meta old new count has (subst AreNumbered (sym empty) (λ r has. absurd has)) h in (
       record {
-        schema = ap (λ (d : Database). d.schema) now;
-        meta = ap (map meta_shown) (ap (λ (d : Database). d.trees 2) now ∙ next.0 ∙ ap (λ rows. put_row meta_row (without_rowid (pos 1) rows)) empty);
+        schema = put.schema;
+        meta = ap (map meta_shown) (put.rows ∙ ap (λ rows. put_row meta_row (without_rowid (pos 1) rows)) empty);
       },
-      ap (λ (d : Database). d.trees 0) now ∙ next.1 0 (λ same. absurd cc) ∙ none,
-      ap (λ (d : Database). d.trees 1) now ∙ next.1 1 (λ same. absurd cc) ∙ bare,
+      put.others 0 (λ same. absurd cc) ∙ none,
+      put.others 1 (λ same. absurd cc) ∙ bare,
     )

@@ -1,160 +1,47 @@
 -- What is found where a store is opened.
-use Rattle.std.proofs.Common.{◌*◌, ◌≡◌, ℕ, ◌+◌, ◌<◌, ◌≤◌, negsuc, Bool, true, false, ◌&&◌, List, [], ◌∷◌, map, length, flat_map, Result}
-use Rattle.std.proofs.Common.{Ok, Err, IfOk, refl, sym, ap, ap₂, subst, subst₂, ◌∙◌, arith, IsPermutation}
-use Rattle.std.specs.Prelude.{◌↔◌, IsTrue, nat_lt}
+use Rattle.std.proofs.Common.{◌≡◌, ℕ, ◌+◌, ◌<◌, ◌≤◌, negsuc, Bool, true, false, ◌&&◌, List, [], ◌∷◌, map, flat_map}
+use Rattle.std.proofs.Common.{refl, sym, ap, ap₂, subst, subst₂, ◌∙◌, arith, IsPermutation}
+use Rattle.std.specs.Prelude.{◌↔◌, IsTrue}
 use Rattle.std.specs.List.{AllByRecursion}
 use Rattle.std.proofs.lemmas.List.Sorted.{IsPermutation-map, IsPermutation-sym}
-use Rattle.sqlite_value.specs.Order.{Row, column}
+use Rattle.sqlite_value.specs.Order.{Row}
 use Rattle.sqlite_trees.specs.Tree.{Trees, IsAscending}
 use Rattle.sqlite_sql.specs.Term.{Term, col, eval_all}
 use Rattle.sqlite_sql.specs.Query.{IsAnswer, Output, output, matches, inner, end}
-use Rattle.sqlite_sql.specs.Program.{overlay}
-use Rattle.sqlite.specs.State.{State, Shown}
+use Rattle.sqlite.specs.State.{State, HasCleanDisk, Shown}
 use Rattle.sqlite.specs.Effect.{Database}
 use Rattle.sqlite.proofs.Callers.{one_permutation}
-use Rattle.sqlite_keyed.proofs.ListLemmas.{all_both, all_of, all_weaker, filter_all, map-map}
-use Rattle.kt_tables.specs.declared.ids.TheConstants.{SHARD_IDS}
-use Rattle.kt_tuple.specs.declared.node.NodeId.{NodeId}
-use Rattle.kt_tuple.specs.declared.node.NodeId.TheVariants.{Worker, Shard}
+use Rattle.sqlite_keyed.proofs.ListLemmas.{all_both, all_map, all_of, all_unmap, all_weaker, filter_all, map-map, map_same}
 use Rattle.kt_store.specs.declared.rows.NodeRow.{NodeRow}
 use Rattle.kt_store.specs.declared.rows.Posted.{Posted}
-use Rattle.kt_tuple.specs.Node.{is_before}
 use Rattle.kt_tables.specs.Schema.{kt_schema}
 use Rattle.kt_tables.specs.inner.Text.{all_nodes_text, all_posted_text, meta_text}
-use Rattle.kt_tables.specs.Rows.{whole, id_of, HasId, node_given, node_shown, posted_given, posted_shown, IsNodeRow, IsPosted}
-use Rattle.kt_tables.specs.Rows.{HoldsNodes, HoldsBoard, AreAsSaid}
-use Rattle.kt_tables.specs.inner.Showing.{ShowsNode}
+use Rattle.kt_tables.specs.Rows.{number_in, node_given, posted_given, IsNodeRow, IsPosted, HoldsNodes, HoldsBoard, AreAsSaid}
 use Rattle.kt_tables.specs.Settled.{IsSettled}
+use Rattle.kt_tables.specs.inner.Looking.{Looks}
+use Rattle.kt_tables.proofs.StateLemmas.{look_clean, look_open}
 use Rattle.kt_tables.specs.Opened.{meta_shown, meta_given, IsVersion1, IsReady}
-use Rattle.kt_tables.specs.inner.Testing.{IsNodeWith, IsNoNode, IsInstanceWith, IsNoInstance}
-use Rattle.kt_tables.specs.inner.Testing.{AreNodesFrom, AreInstancesFrom}
-use Rattle.kt_tables.proofs.WriteLemmas.{by_id}
-use Rattle.kt_tables.proofs.Texts.{from_table, rising, all_nodes, all_nodes_is, all_posted, all_posted_is, meta, meta_is, node_names, posted_names}
-use Rattle.kt_tables.proofs.TableRows.{nodes_table, posted_table}
+use Rattle.kt_tables.specs.inner.Testing.{key_of, IsRowOf, AreRowsFrom}
+use Rattle.kt_tables.proofs.Texts.{Asks, from_table, rising, all_nodes_is, all_posted_is, meta, meta_is, node_names, posted_names}
+use Rattle.kt_tables.proofs.TableRows.{Table, HoldsAll, nodes_table, posted_table}
 use Rattle.kt_tables.proofs.ReadLemmas.{answered, in_order}
-use Rattle.kt_tables.proofs.FoundLemmas.{nodes_keyed, board_keyed}
+use Rattle.kt_tables.proofs.FoundLemmas.{keyed}
 
--- ---- a row that shows a node, or an instance
+-- ---- rows that are as said, one after the other
 
-pub node_whole : (row : Row) (r : NodeRow) → length row ≡ 5 → ShowsNode row r → row ≡ node_given r
-node_whole [] r five h = absurd cc
-node_whole (a ∷ []) r five h = absurd (omega arith)
-node_whole (a ∷ b ∷ []) r five h = absurd (omega arith)
-node_whole (a ∷ b ∷ c ∷ []) r five h = absurd (omega arith)
-node_whole (a ∷ b ∷ c ∷ d ∷ []) r five h = absurd (omega arith)
-node_whole (a ∷ b ∷ c ∷ d ∷ e ∷ []) r five h =
-    ap₂ ◌∷◌ h.id (ap₂ ◌∷◌ h.incarnation (ap₂ ◌∷◌ h.permanent (ap₂ ◌∷◌ h.tentative (ap (λ v. v ∷ []) h.instance))))
-node_whole (a ∷ b ∷ c ∷ d ∷ e ∷ f ∷ more) r five h = absurd (omega arith)
+module _ {X : Type 0} (given : X → Row) (IsSaid : X → Type 0) (low n : ℕ) (row : Row) (rest : List Row) (is : n ≡ key_of row) where
+  pub rows_more : IsRowOf given IsSaid row → low ≤ n → AreRowsFrom given IsSaid low (row ∷ rest) ↔ AreRowsFrom given IsSaid (n + 1) rest
+  rows_more said at = (
+    λ a. record { said = a.said.1; above = all_weaker _ _ (λ y high. omega (arith, is, high)) rest a.rise.0; rise = a.rise.1 },
+    λ a. record {
+      said = (said, a.said);
+      above = (omega (arith, is, at), all_weaker _ _ (λ y high. omega (arith, high, at)) rest a.above);
+      rise = (all_weaker _ _ (λ y high. omega (arith, is, high)) rest a.above, a.rise);
+    },
+  )
 
-same_id : {row : Row} (a b : NodeRow) → row ≡ node_given a → row ≡ node_given b → id_of a.node ≡ id_of b.node
-same_id a b h g = let first : whole (id_of a.node) ≡ whole (id_of b.node) = ap (λ (r : Row). column r 0) (sym h ∙ g) in cc
-
-same_instance : {row : Row} (a b : Posted) → row ≡ posted_given a → row ≡ posted_given b → a.instance ≡ b.instance
-same_instance a b h g = let first : whole a.instance ≡ whole b.instance = ap (λ (r : Row). column r 0) (sym h ∙ g) in cc
-
--- ---- rows of nodes, one after the other
-
-node_rises : (a b : NodeRow) → IsNodeRow a → IsNodeRow b → is_before a.node b.node ≡ true → id_of a.node < id_of b.node
-node_rises a b h g less = let n = sym (by_id a.node b.node h.node g.node) ∙ less in grind (arith, n)
-
-module _ (low id : ℕ) (row : Row) (rest : List Row) (w : IsNodeWith row id) where
-  later_node : (nodes : List NodeRow) → row ∷ rest ≡ map node_given nodes → AllByRecursion IsNodeRow nodes
-      → IsAscending (λ (a b : NodeRow). is_before a.node b.node ≡ true) nodes → AreNodesFrom (id + 1) rest
-  later_node [] shown said rise = absurd cc
-  later_node (r ∷ rs) shown said rise =
-      let here : row ≡ node_given r = cc in
-      let after : rest ≡ map node_given rs = cc in
-      let is : id ≡ id_of r.node = w.number ∙ same_id w.node r w.shown here in
-      let up : AllByRecursion (λ (y : NodeRow). id + 1 ≤ id_of y.node) rs =
-      all_both _ _ _ (λ y good less. let next = node_rises r y said.0 good less in omega arith) rs said.1 rise.0 in
-      record { nodes = rs; shown = after; said = said.1; above = up; rise = rise.1 }
-
-  earlier_node : low ≤ id → AreNodesFrom (id + 1) rest → AreNodesFrom low (row ∷ rest)
-  earlier_node at a =
-      let is = w.number in
-      record {
-        nodes = w.node ∷ a.nodes;
-        shown = ap₂ ◌∷◌ w.shown a.shown;
-        said = (w.said, a.said);
-        above = (omega arith, all_weaker _ _ (λ y high. omega arith) a.nodes a.above);
-        rise = (
-          all_both _ _ _ (λ y good high. by_id w.node.node y.node w.said.node good.node ∙ grind (arith, high, is)) a.nodes a.said a.above,
-          a.rise,
-        );
-      }
-
-  pub node_more : low ≤ id → AreNodesFrom low (row ∷ rest) ↔ AreNodesFrom (id + 1) rest
-  node_more at = (λ a. later_node a.nodes a.shown a.said a.rise, earlier_node at)
-
-  low_node : id < low → (nodes : List NodeRow) → row ∷ rest ≡ map node_given nodes → AllByRecursion (λ (r : NodeRow). low ≤ id_of r.node) nodes → ⊥
-  low_node under [] shown above = absurd cc
-  low_node under (r ∷ rs) shown above =
-      let here : row ≡ node_given r = cc in
-      let is : id ≡ id_of r.node = w.number ∙ same_id w.node r w.shown here in
-      let first = above.0 in omega arith
-
-  pub node_too_low : id < low → AreNodesFrom low (row ∷ rest) → ⊥
-  node_too_low under a = low_node under a.nodes a.shown a.above
-
-no_first_node : (row : Row) (rest : List Row) → IsNoNode row → (nodes : List NodeRow) → row ∷ rest ≡ map node_given nodes → AllByRecursion IsNodeRow nodes → ⊥
-no_first_node row rest none [] shown said = absurd cc
-no_first_node row rest none (r ∷ rs) shown said = none r said.0 (let here : row ≡ node_given r = cc in here)
-
-pub node_not : (low : ℕ) (row : Row) (rest : List Row) → IsNoNode row → AreNodesFrom low (row ∷ rest) → ⊥
-node_not low row rest none a = no_first_node row rest none a.nodes a.shown a.said
-
--- the number of a node is low
-low_id : (n : NodeId) → HasId n → id_of n < 2 * SHARD_IDS
-low_id (Worker n) h = omega arith
-low_id (Shard n) h = omega arith
-
-pub node_number : (row : Row) (id : ℕ) → IsNodeWith row id → id < 2 * SHARD_IDS
-node_number row id w = let low = low_id w.node.node w.said.node in let is = w.number in omega arith
-
--- ---- rows of instances
-
-module _ (low instance : ℕ) (row : Row) (rest : List Row) (w : IsInstanceWith row instance) where
-  later_instance : (board : List Posted) → row ∷ rest ≡ map posted_given board → AllByRecursion IsPosted board
-      → IsAscending (λ (a b : Posted). nat_lt a.instance b.instance ≡ true) board → AreInstancesFrom (instance + 1) rest
-  later_instance [] shown said rise = absurd cc
-  later_instance (p ∷ ps) shown said rise =
-      let here : row ≡ posted_given p = cc in
-      let after : rest ≡ map posted_given ps = cc in
-      let is : instance ≡ p.instance = w.number ∙ same_instance w.posted p w.shown here in
-      let up : AllByRecursion (λ (y : Posted). instance + 1 ≤ y.instance) ps = all_weaker _ _ (λ y less. grind (arith, less, is)) ps rise.0 in
-      record { board = ps; shown = after; said = said.1; above = up; rise = rise.1 }
-
-  earlier_instance : low ≤ instance → AreInstancesFrom (instance + 1) rest → AreInstancesFrom low (row ∷ rest)
-  earlier_instance at a =
-      let is = w.number in
-      record {
-        board = w.posted ∷ a.board;
-        shown = ap₂ ◌∷◌ w.shown a.shown;
-        said = (w.said, a.said);
-        above = (omega arith, all_weaker _ _ (λ y high. omega arith) a.board a.above);
-        rise = (all_weaker _ _ (λ y high. grind (arith, high, is)) a.board a.above, a.rise);
-      }
-
-  pub instance_more : low ≤ instance → AreInstancesFrom low (row ∷ rest) ↔ AreInstancesFrom (instance + 1) rest
-  instance_more at = (λ a. later_instance a.board a.shown a.said a.rise, earlier_instance at)
-
-  low_instance : instance < low → (board : List Posted) → row ∷ rest ≡ map posted_given board → AllByRecursion (λ (p : Posted). low ≤ p.instance) board → ⊥
-  low_instance under [] shown above = absurd cc
-  low_instance under (p ∷ ps) shown above =
-      let here : row ≡ posted_given p = cc in
-      let is : instance ≡ p.instance = w.number ∙ same_instance w.posted p w.shown here in
-      let first = above.0 in omega arith
-
-  pub instance_too_low : instance < low → AreInstancesFrom low (row ∷ rest) → ⊥
-  instance_too_low under a = low_instance under a.board a.shown a.above
-
-no_first_instance : (row : Row) (rest : List Row) → IsNoInstance row → (board : List Posted) → row ∷ rest ≡ map posted_given board
-    → AllByRecursion IsPosted board → ⊥
-no_first_instance row rest none [] shown said = absurd cc
-no_first_instance row rest none (p ∷ ps) shown said = none p said.0 (let here : row ≡ posted_given p = cc in here)
-
-pub instance_not : (low : ℕ) (row : Row) (rest : List Row) → IsNoInstance row → AreInstancesFrom low (row ∷ rest) → ⊥
-instance_not low row rest none a = no_first_instance row rest none a.board a.shown a.said
+  pub rows_too_low : n < low → AreRowsFrom given IsSaid low (row ∷ rest) → ⊥
+  rows_too_low under a = let first = a.above.0 in omega (arith, is, under, first)
 
 -- ---- all rows that a query shows are those of the table, in its order
 
@@ -162,7 +49,7 @@ flat_ones : {A B C : Type 0} (e : A → B) (f : B → C) (xs : List A) → map f
 flat_ones e f [] = refl
 flat_ones e f (x ∷ xs) = ap (λ l. f (e x) ∷ l) (flat_ones e f xs)
 
-pub shown_bag : (tree : ℕ) (columns : List Term) (db : Trees) (rows : List Row) → IsAnswer (from_table tree [] columns rising (negsuc 0)) db [] rows
+shown_bag : (tree : ℕ) (columns : List Term) (db : Trees) (rows : List Row) → IsAnswer (from_table tree [] columns rising (negsuc 0)) db [] rows
     → IsPermutation (map (λ (r : Row). eval_all columns ([] ∷ r ∷ [])) (db tree)) rows
 shown_bag tree columns db rows answer =
     let q = from_table tree [] columns rising (negsuc 0) in
@@ -176,71 +63,87 @@ shown_bag tree columns db rows answer =
     map-map _ _ (db tree) in
     subst₂ IsPermutation seconds (sym answer.shown) all
 
+-- so the rows show what is as said just where the table holds such
+module _ {X : Type 0} {IsSaid : X → Type 0} (t : Table IsSaid) where
+  key_given : (x : X) → key_of (t.given x) ≡ t.number x
+  key_given x = ap number_in (t.given_number x)
+
+  before_is : (a b : X) → IsSaid a → IsSaid b → (t.before a b ≡ true) ↔ (key_of (t.given a) < key_of (t.given b))
+  before_is a b h g =
+      let n = t.by_number a b h g in
+      let ka = key_given a in
+      let kb = key_given b in
+      (λ is. let less = sym n ∙ is in grind (arith, less, ka, kb), λ less. n ∙ grind (arith, less, ka, kb))
+
+  -- what they show
+  told_by : (rows : List Row) → AllByRecursion (IsRowOf t.given IsSaid) rows → (xs : List X) × AllByRecursion IsSaid xs × (rows ≡ map t.given xs)
+  told_by [] h = ([], tt, refl)
+  told_by (r ∷ rows) h =
+      let it = h.0 in
+      let later = told_by rows h.1 in
+      (it.0 ∷ later.0, (it.1, later.1), ap₂ ◌∷◌ it.2 later.2)
+
+  rising_keys : (xs : List X) → AllByRecursion IsSaid xs → IsAscending (λ (a b : X). t.before a b ≡ true) xs
+      ↔ IsAscending (λ (a b : Row). key_of a < key_of b) (map t.given xs)
+  rising_keys [] said = (λ up. tt, λ up. tt)
+  rising_keys (x ∷ xs) said =
+      let later = rising_keys xs said.1 in (
+        λ up. (
+          all_map _ t.given xs (all_both _ _ _ (λ y good first. (before_is x y said.0 good).0 first) xs said.1 up.0),
+          later.0 up.1,
+        ),
+        λ up. (
+          all_both _ _ _ (λ y good less. (before_is x y said.0 good).1 less) xs said.1 (all_unmap _ t.given xs up.0),
+          later.1 up.1,
+        ),
+      )
+
+  module _ (sql : List ℕ) (names : List (List ℕ)) (asks : Asks sql (from_table t.tree [] t.columns rising (negsuc 0)) names) (old new : State)
+      (has : old.now.schema ≡ kt_schema) (rows : List Row) (h : Shown sql [] old new rows) where
+    all_found : (xs : List X) → HoldsAll t (old.now.trees t.tree) xs → rows ≡ map t.given xs
+    all_found xs held =
+        in_order t old.now.trees xs held.shown (keyed t xs held.said held.rise) [] (negsuc 0) [] (λ _. true) (λ r. refl) (λ r. refl) rows
+        (answered sql [] old new _ names asks has rows h)
+        ∙ ap (map t.given) (filter_all (λ _. true) xs (all_of _ (λ _. refl) xs))
+
+    all_held : AreRowsFrom t.given IsSaid 0 rows ↔ ((xs : List X) × HoldsAll t (old.now.trees t.tree) xs)
+    all_held = (
+      λ a.
+          let it = told_by rows a.said in
+          let bag = shown_bag t.tree t.columns old.now.trees rows (answered sql [] old new _ names asks has rows h) in
+          let seen : IsPermutation (map t.shown (old.now.trees t.tree)) (map t.given it.0) =
+          subst₂ IsPermutation (map_same _ t.shown (t.shows []) (old.now.trees t.tree)) it.2 bag in (
+            it.0,
+            record {
+              shown = IsPermutation-sym _ _ seen;
+              said = it.1;
+              rise = (rising_keys it.0 it.1).1 (subst (IsAscending (λ (a b : Row). key_of a < key_of b)) it.2 a.rise);
+            },
+          ),
+      λ it.
+          let xs = it.0 in
+          let is = sym (all_found xs it.1) in
+          subst (AreRowsFrom t.given IsSaid 0) is record {
+            said = all_map _ t.given xs (all_weaker _ _ (λ x good. (x, good, refl)) xs it.1.said);
+            above = all_of _ (λ r. omega arith) (map t.given xs);
+            rise = (rising_keys xs it.1.said).0 it.1.rise;
+          },
+    )
+
 module _ (old new : State) (has : old.now.schema ≡ kt_schema) (rows : List Row) where
-  nodes_bag : Shown all_nodes_text [] old new rows → IsPermutation (map node_shown (old.now.trees 0)) rows
-  nodes_bag h =
-      shown_bag 0 nodes_table.columns (overlay old.now.trees []) rows (answered all_nodes_text [] old new all_nodes node_names all_nodes_is has rows h)
-
-  board_bag : Shown all_posted_text [] old new rows → IsPermutation (map posted_shown (old.now.trees 1)) rows
-  board_bag h =
-      shown_bag 1 posted_table.columns (overlay old.now.trees []) rows (answered all_posted_text [] old new all_posted posted_names all_posted_is has rows h)
-
-  nodes_found : Shown all_nodes_text [] old new rows → (nodes : List NodeRow) → HoldsNodes (old.now.trees 0) nodes → rows ≡ map node_given nodes
-  nodes_found h nodes held =
-      let answer = answered all_nodes_text [] old new all_nodes node_names all_nodes_is has rows h in
-      in_order nodes_table (overlay old.now.trees []) nodes held.shown (nodes_keyed nodes held.said held.rise) [] (negsuc 0) [] (λ _. true) (λ r. refl)
-      (λ r. refl) rows answer
-      ∙ ap (map node_given) (filter_all (λ _. true) nodes (all_of _ (λ _. refl) nodes))
-
-  board_found : Shown all_posted_text [] old new rows → (board : List Posted) → HoldsBoard (old.now.trees 1) board → rows ≡ map posted_given board
-  board_found h board held =
-      let answer = answered all_posted_text [] old new all_posted posted_names all_posted_is has rows h in
-      in_order posted_table (overlay old.now.trees []) board held.shown (board_keyed board held.said held.rise) [] (negsuc 0) [] (λ _. true) (λ p. refl)
-      (λ p. refl) rows answer
-      ∙ ap (map posted_given) (filter_all (λ _. true) board (all_of _ (λ _. refl) board))
-
-  -- so the rows show nodes that are as said just where the table holds such nodes
-  pub nodes_held : Shown all_nodes_text [] old new rows → AreNodesFrom 0 rows ↔ ((nodes : List NodeRow) × HoldsNodes (old.now.trees 0) nodes)
-  nodes_held h = (
-    λ a. (
-      a.nodes,
-      record {
-        shown = IsPermutation-sym _ _ (subst (IsPermutation (map node_shown (old.now.trees 0))) a.shown (nodes_bag h));
-        said = a.said;
-        rise = a.rise;
-      },
-    ),
-    λ it. record { nodes = it.0; shown = nodes_found h it.0 it.1; said = it.1.said; above = all_of _ (λ r. omega arith) it.0; rise = it.1.rise },
-  )
-
-  pub board_held : Shown all_posted_text [] old new rows → AreInstancesFrom 0 rows ↔ ((board : List Posted) × HoldsBoard (old.now.trees 1) board)
-  board_held h = (
-    λ a. (
-      a.board,
-      record {
-        shown = IsPermutation-sym _ _ (subst (IsPermutation (map posted_shown (old.now.trees 1))) a.shown (board_bag h));
-        said = a.said;
-        rise = a.rise;
-      },
-    ),
-    λ it. record { board = it.0; shown = board_found h it.0 it.1; said = it.1.said; above = all_of _ (λ p. omega arith) it.0; rise = it.1.rise },
-  )
-
   pub meta_held : Shown meta_text [] old new rows → (rows ≡ meta_given ∷ []) ↔ (map meta_shown (old.now.trees 2) ≡ meta_given ∷ [])
   meta_held h =
       let bag : IsPermutation (map meta_shown (old.now.trees 2)) rows =
-      shown_bag 2 (col 1 0 ∷ col 1 2 ∷ []) (overlay old.now.trees []) rows (answered meta_text [] old new meta _ meta_is has rows h) in (
+      shown_bag 2 (col 1 0 ∷ col 1 2 ∷ []) old.now.trees rows (answered meta_text [] old new meta _ meta_is has rows h) in (
         λ is. one_permutation meta_given _ (IsPermutation-sym _ _ (subst (IsPermutation (map meta_shown (old.now.trees 2))) is bag)),
         λ is. one_permutation meta_given _ (subst (λ l. IsPermutation l rows) is bag),
       )
 
--- what a test says, said in other words
-pub in_other_words : {E : Type 0} (P Q : Type 0) (r : Result Bool E) → P ↔ Q → IfOk r (λ told. IsTrue told ↔ P) → IfOk r (λ told. IsTrue told ↔ Q)
-in_other_words P Q (Ok told) h g = (λ is. h.0 (g.0 is), λ q. g.1 (h.1 q))
-in_other_words P Q (Err e) h g = tt
+in_turn : {P Q R : Type 0} → P ↔ Q → Q ↔ R → P ↔ R
+in_turn h g = (λ p. g.0 (h.0 p), λ r. h.1 (g.1 r))
 
 -- both tables are as said
-pub both_said : (db : Trees) (a b : Bool) → (IsTrue a ↔ ((nodes : List NodeRow) × HoldsNodes (db 0) nodes))
+both_said : (db : Trees) (a b : Bool) → (IsTrue a ↔ ((nodes : List NodeRow) × HoldsNodes (db 0) nodes))
     → (IsTrue b ↔ ((board : List Posted) × HoldsBoard (db 1) board))
     → IsTrue (a && b) ↔ AreAsSaid db
 both_said db true b h g = (
@@ -250,14 +153,33 @@ both_said db true b h g = (
 both_said db false b h g = (λ is. absurd cc, λ it. absurd (let bad : IsTrue false = h.1 (it.0.nodes, it.1.nodes) in cc))
 
 -- the tables were tested, by three looks one after the other
-pub tested_ready : (v n last : State) (a b : Bool) → IsTrue last.is_open → IsSettled last → IsVersion1 last.now → v.now ≡ last.now → n.now ≡ last.now
-    → (IsTrue a ↔ ((nodes : List NodeRow) × HoldsNodes (v.now.trees 0) nodes)) → (IsTrue b ↔ ((board : List Posted) × HoldsBoard (n.now.trees 1) board))
-    → IsReady last (a && b)
-tested_ready v n last a b on settled version first second nodes board = record {
-  is_open = on;
-  settled = settled;
-  version = version;
-  trusted = both_said last.now.trees a b
-      (subst (λ (d : Database). IsTrue a ↔ ((nodes : List NodeRow) × HoldsNodes (d.trees 0) nodes)) first nodes)
-      (subst (λ (d : Database). IsTrue b ↔ ((board : List Posted) × HoldsBoard (d.trees 1) board)) second board);
-}
+module _ (old one two last : State) (a b : Bool) (clean : HasCleanDisk last) (on : IsTrue last.is_open) (settled : IsTrue old.is_open → IsSettled old)
+    (first : Looks old one) (second : Looks one two) (third : Looks two last) where
+  pub tested_ready : (HasCleanDisk one → IsVersion1 old.now)
+      → (HasCleanDisk one → IsTrue one.is_open → IsSettled old → (one.now ≡ old.now) × IsSettled one)
+      → (HasCleanDisk two → (rows : List Row) × Shown all_nodes_text [] one two rows × (IsTrue a ↔ AreRowsFrom node_given IsNodeRow 0 rows))
+      → (HasCleanDisk last → (rows : List Row) × Shown all_posted_text [] two last rows × (IsTrue b ↔ AreRowsFrom posted_given IsPosted 0 rows))
+      → IsReady last (a && b)
+  tested_ready was same nodes board =
+      let clean-2 = look_clean two last third clean in
+      let clean-1 = look_clean one two second clean-2 in
+      let on-2 = look_open two last third clean on in
+      let on-1 = look_open one two second clean-2 on-2 in
+      let version = was clean-1 in
+      let now-1 = same clean-1 on-1 (settled (look_open old one first clean-1 on-1)) in
+      let has-1 = ap (λ (d : Database). d.schema) now-1.0 ∙ version.schema in
+      let now-2 = (second.stays clean-2 on-2).rest now-1.1 has-1 in
+      let has-2 = ap (λ (d : Database). d.schema) now-2.0 ∙ has-1 in
+      let now-3 = (third.stays clean on).rest now-2.1 has-2 in
+      let ns = nodes clean-2 in
+      let ps = board clean in
+      let in_nodes = in_turn ns.2 (all_held nodes_table all_nodes_text node_names all_nodes_is one two has-1 ns.0 ns.1) in
+      let in_board = in_turn ps.2 (all_held posted_table all_posted_text posted_names all_posted_is two last has-2 ps.0 ps.1) in
+      record {
+        is_open = on;
+        settled = now-3.1;
+        version = subst IsVersion1 (sym (now-3.0 ∙ now-2.0 ∙ now-1.0)) version;
+        trusted = both_said last.now.trees a b
+            (subst (λ (d : Database). IsTrue a ↔ ((nodes : List NodeRow) × HoldsNodes (d.trees 0) nodes)) (sym (now-3.0 ∙ now-2.0)) in_nodes)
+            (subst (λ (d : Database). IsTrue b ↔ ((board : List Posted) × HoldsBoard (d.trees 1) board)) (sym now-3.0) in_board);
+      }

@@ -1,6 +1,6 @@
 -- What INSERT OR REPLACE makes of a table whose only key is its rowid.
 use Rattle.std.proofs.Common.{◌≡◌, ◌⊎◌, inl, inr, ◌≢◌, ℕ, ◌/◌, ℤ, Bool, true, false, not, ◌&&◌, ◌||◌, cond, List, [], ◌∷◌, ◌++◌, length}
-use Rattle.std.proofs.Common.{drop, Option, None, Some, Ok, Err, Result, refl, sym, ap, subst, ◌∙◌}
+use Rattle.std.proofs.Common.{drop, slice_get, Option, None, Some, Ok, Err, Result, refl, sym, ap, subst, ◌∙◌}
 use Rattle.std.specs.Ordering.{int_eq}
 use Rattle.std.proofs.lemmas.Bool.{cases_Bool}
 use Rattle.std.specs.List.{AllByRecursion}
@@ -25,9 +25,13 @@ use Rattle.sqlite_rules.specs.Cast.{cast_row}
 use Rattle.sqlite_rules.specs.Edit.{edit_of, id_in, without_all, with_rowid, next_rowid}
 use Rattle.sqlite.specs.Table.{Table}
 use Rattle.sqlite.specs.Source.TheVariants.{Values}
-use Rattle.sqlite.specs.Effect.{value_rows}
+use Rattle.sqlite.specs.Command.TheVariants.{InsertOr}
+use Rattle.sqlite.specs.Does.{Tally, AtPlace, Does, OnRows}
+use Rattle.sqlite.specs.Effect.{Database, value_rows}
+use Rattle.sqlite.specs.Listing.{understood}
 use Rattle.sqlite.specs.Rows.{Task, Written, Puts, Clears, Judged, Tries, TriesEach, InsertsOr, mended, nothing, count_of}
-use Rattle.sqlite.proofs.Callers.{one_step}
+use Rattle.sqlite.specs.State.{State, mode_of, Shows, Executes}
+use Rattle.sqlite.proofs.Callers.{IsPlain, command_of, one_step, runs_as, statement_of}
 use Rattle.sqlite_typed.proofs.TestLemmas.{at_ints}
 use Rattle.sqlite_keyed.proofs.KeyedLemmas.{same_int}
 use Rattle.sqlite_keyed.proofs.ListLemmas.{filter-filter, filter_all}
@@ -140,7 +144,7 @@ module _ (name : List ℕ) (tree : ℕ) (columns : List Column) (limit : Option 
         clears fixed db put.0 numbered put.1 w put.2
 
     -- the whole statement, for the one row that it is given
-    pub replaces : (terms : List Term) (width : ℕ) (source : Row) → value_rows (params ++ []) width (length terms / width) terms ≡ source ∷ []
+    replaces : (terms : List Term) (width : ℕ) (source : Row) → value_rows (params ++ []) width (length terms / width) terms ≡ source ∷ []
         → cast_row table (mended Replace table source) ≡ row → cast_row table row ≡ row → (db : Trees) → AreNumbered (db tree) → (w : Written)
         → InsertsOr task Replace [] (Values terms width) db (Ok w)
         → (w.trees tree ≡ put_row row (without_rowid key (db tree))) × ((m : ℕ) → m ≢ tree → w.trees m ≡ db m)
@@ -157,3 +161,44 @@ module _ (name : List ℕ) (tree : ℕ) (columns : List Column) (limit : Option 
         let trees : w.trees ≡ one.0.trees =
         ap (λ (it : Written). it.trees) (same_value last.2) ∙ same_value last.1 ∙ ap (λ (p : Written × ℤ). p.0.trees) (same_value one.2) in
         (ap (λ (t : Trees). t tree) trees ∙ put.0, λ m apart. ap (λ (t : Trees). t m) trees ∙ put.1 m apart)
+
+-- the statement, with these parameters, puts this row into the table of this place
+pub record PutsInto (tree : ℕ) (sql : List ℕ) (params row : Row) (key : ℤ) : Type 0 where
+  pub name : List ℕ
+  pub columns : List Column
+  pub terms : List Term
+  pub width : ℕ
+  pub at : slice_get kt_schema.tables tree ≡ Some (keyed_table name tree columns)
+  pub is : command_of (understood kt_schema sql) ≡ InsertOr tree Replace (Values terms width) []
+  pub plain : IsPlain (understood kt_schema sql)
+  pub given : value_rows (params ++ []) width (length terms / width) terms ≡ row ∷ []
+  pub numbered : rowid row ≡ Int key
+  pub mends : cast_row (keyed_table name tree columns) (mended Replace (keyed_table name tree columns) row) ≡ row
+  pub fixed : cast_row (keyed_table name tree columns) row ≡ row
+
+-- the row stands there then, and the other tables are as they were
+pub record HasPut (tree : ℕ) (row : Row) (key : ℤ) (old new : State) : Type 0 where
+  pub shown : Shows old new new.now (cond old.in_transaction old.committed new.now) old.in_transaction
+  pub schema : new.now.schema ≡ kt_schema
+  pub rows : new.now.trees tree ≡ put_row row (without_rowid key (old.now.trees tree))
+  pub others : (m : ℕ) → m ≢ tree → new.now.trees m ≡ old.now.trees m
+
+pub put_ran : {tree : ℕ} {sql : List ℕ} {params row : Row} {key : ℤ} → PutsInto tree sql params row key → (old new : State) (count : ℕ)
+    → old.now.schema ≡ kt_schema → AreNumbered (old.now.trees tree) → Executes sql params old new (Ok count) → HasPut tree row key old new
+put_ran {tree} {sql} {params} {row} {key} p old new count has numbered h =
+    let command = InsertOr tree Replace (Values p.terms p.width) [] in
+    let w = runs_as sql params old new kt_schema has command p.is p.plain count h in
+    let text = statement_of sql (understood kt_schema sql) in
+    let does = subst (λ s. Does old.step_limit (mode_of old) params (record old.now { schema = s }) text None command (Ok (w.tally, new.now))) has w.changed in
+    let on = λ (table : Table). OnRows (record { limit = old.step_limit; keys = Enforced; schema = kt_schema; table = table; params = params })
+    (mode_of old) None command old.now.trees in
+    let done = went (subst (λ table. AtPlace on table (Ok (w.tally, new.now))) p.at does) in
+    let now = ap (λ (p : Tally × Database). p.1) (same_value (went (went done.2).2).2) in
+    let next = replaces p.name tree p.columns old.step_limit params row key p.numbered p.terms p.width row p.given p.mends p.fixed old.now.trees numbered
+    done.0 done.1 in
+    record {
+      shown = w.shown;
+      schema = ap (λ (d : Database). d.schema) now;
+      rows = ap (λ (d : Database). d.trees tree) now ∙ next.0;
+      others = λ m apart. ap (λ (d : Database). d.trees m) now ∙ next.1 m apart;
+    }

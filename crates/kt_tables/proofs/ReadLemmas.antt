@@ -1,7 +1,9 @@
 -- What the queries give of what the tables hold.
 use Rattle.std.proofs.Common.{◌≡◌, ℕ, ℤ, pos, max, Bool, true, false, cond, List, [], ◌∷◌, map, map-id, filter}
 use Rattle.std.proofs.Common.{fold, find, slice_get, option_map, flat_map, refl, sym, ap, ap₂, subst, ◌∙◌, arith, Less}
-use Rattle.std.proofs.Common.{int_cmp, Ordering, IsPermutation}
+use Rattle.std.proofs.Common.{int_cmp, Ordering, IsPermutation, None, ◌^◌}
+use Rattle.std.specs.Prelude.{nat_le, unwrap_or}
+use Rattle.std.proofs.Math.Path.{fun_ext}
 use Rattle.std.specs.List.{list_all}
 use Rattle.std.specs.Ordering.{is_eq, is_gt}
 use Rattle.std.proofs.lemmas.Int.{ints}
@@ -12,7 +14,7 @@ use Rattle.sqlite_value.specs.Order.{value_cmp}
 use Rattle.sqlite_value.proofs.OrderLemmas.{value_cmp-Int}
 use Rattle.std.proofs.lemmas.List.Sorted.{IsPermutation-trans, IsPermutation-map}
 use Rattle.sqlite_trees.specs.Tree.{Trees}
-use Rattle.sqlite_sql.specs.Term.{Term, Env, holds}
+use Rattle.sqlite_sql.specs.Term.{Term, Env, eval_all, holds}
 use Rattle.sqlite_sql.specs.Query.{Query, IsAnswer, Output, matches, output, page, inner, end}
 use Rattle.std.proofs.lemmas.Option.{slice_get-map}
 use Rattle.sqlite_sql.specs.Program.{overlay}
@@ -28,12 +30,16 @@ use Rattle.kt_tables.specs.Schema.{kt_schema}
 use Rattle.kt_tables.proofs.Texts.{Asks, from_table, rising, falling}
 use Rattle.kt_tables.proofs.TableRows.{Table, widened}
 
+-- a query without tables of its own reads those of the database
+no_others : (db : Trees) → overlay db [] ≡ db
+no_others db = fun_ext (λ t. elim (nat_le (2 ^ 31) t) as (λ b. unwrap_or (cond b None None) (db t) ≡ db t) [ true ↦ refl | false ↦ refl ])
+
 -- the rows of a query are an answer to it
 pub answered : (sql : List ℕ) (params : Row) (old new : State) (q : Query) (names : List (List ℕ)) → Asks sql q names → old.now.schema ≡ kt_schema
-    → (rows : List Row) → Shown sql params old new rows → IsAnswer q (overlay old.now.trees []) params rows
+    → (rows : List Row) → Shown sql params old new rows → IsAnswer q old.now.trees params rows
 answered sql params old new q names asks has rows h =
     let read = reads_as sql params old new kt_schema has _ asks.is asks.plain asks.own rows h in
-    read.answer Null
+    subst (λ db. IsAnswer q db params rows) (no_others old.now.trees) (read.answer Null)
 
 turned : (a b : ℤ) → int_cmp a b ≡ Less → is_eq (int_cmp b a) ≡ false
 turned a b h = grind (arith, ints, h)
@@ -44,7 +50,7 @@ if_passed : {A B : Type 0} (f : A → B) (b : Bool) (a : A) → map f (cond b (a
 if_passed f true a = refl
 if_passed f false a = refl
 
-module _ {X : Type 0} (t : Table X) (db : Trees) (xs : List X) (bag : IsPermutation (map t.given xs) (map t.shown (db t.tree))) where
+module _ {X : Type 0} {IsSaid : X → Type 0} (t : Table IsSaid) (db : Trees) (xs : List X) (bag : IsPermutation (map t.given xs) (map t.shown (db t.tree))) where
   abbrev seen : Row → Row
   seen r = widened (t.shown r)
 
@@ -66,7 +72,8 @@ module _ {X : Type 0} (t : Table X) (db : Trees) (xs : List X) (bag : IsPermutat
 
     same_outs : (r : Row) → outs r ≡ outs (seen r)
     same_outs r =
-        ap₂ (λ b (o : Output). cond b (o ∷ []) []) (alike r) (ap₂ (λ v (row : Row). let out : Output = (v ∷ [], row) in out) (t.first r) (t.seen params r))
+        let same = t.shows params r ∙ sym (t.again r) ∙ sym (t.shows params (seen r)) in
+        ap₂ (λ b (o : Output). cond b (o ∷ []) []) (alike r) (ap₂ (λ v (row : Row). let out : Output = (v ∷ [], row) in out) (t.first r) same)
 
     all_outs : (d : Trees) → map (output asked) (matches d tests (inner t.tree end) (params ∷ [])) ≡ flat_map outs (d t.tree)
     all_outs d =
@@ -93,7 +100,7 @@ module _ {X : Type 0} (t : Table X) (db : Trees) (xs : List X) (bag : IsPermutat
           shown = answer.shown;
         }
 
-module _ {X : Type 0} (t : Table X) (db : Trees) (xs : List X) (bag : IsPermutation (map t.given xs) (map t.shown (db t.tree)))
+module _ {X : Type 0} {IsSaid : X → Type 0} (t : Table IsSaid) (db : Trees) (xs : List X) (bag : IsPermutation (map t.given xs) (map t.shown (db t.tree)))
     (rise : IsKeyedBy (λ x. pos (t.number x)) xs) where
   abbrev key_of : X → ℤ
   key_of x = pos (t.number x)
@@ -103,6 +110,10 @@ module _ {X : Type 0} (t : Table X) (db : Trees) (xs : List X) (bag : IsPermutat
 
   by_keys : (a b : X) → value_cmp (column (t.stored a) 0) (column (t.stored b) 0) ≡ int_cmp (key_of a) (key_of b)
   by_keys a b = ap₂ value_cmp (t.numbered a) (t.numbered b) ∙ value_cmp-Int (key_of a) (key_of b)
+
+  -- what a query shows of a row that the table keeps
+  showing : (params : Row) (x : X) → eval_all t.columns (params ∷ t.stored x ∷ []) ≡ t.given x
+  showing params x = t.shows params (t.stored x) ∙ t.back x
 
   -- those that pass, in the order of their keys
   pub in_order : (tests : List Term) (limit : ℤ) (params : Row) (p : X → Bool)
@@ -114,7 +125,7 @@ module _ {X : Type 0} (t : Table X) (db : Trees) (xs : List X) (bag : IsPermutat
       let q = from_table t.tree tests t.columns rising limit in
       let source = last_table in_place t.tree t.stored key_of xs refl rise (at_end in_place) in
       let sorted = answer_of t db xs bag tests rising limit params alike rows answer in
-      sym (map-id rows) ∙ answer_by_keys q in_place params source p passes (λ r. r) t.given (t.shows params) refl refl
+      sym (map-id rows) ∙ answer_by_keys q in_place params source p passes (λ r. r) t.given (showing params) refl refl
       (λ a b. last_key (by_keys a b)) rows sorted
 
   -- all of them, the last key first
@@ -126,7 +137,7 @@ module _ {X : Type 0} (t : Table X) (db : Trees) (xs : List X) (bag : IsPermutat
       let order : X → X → Ordering = λ a b. int_cmp (key_of b) (key_of a) in
       let untied : (a b : X) → int_cmp (key_of a) (key_of b) ≡ Less → IsNoTie (order a b) = λ a b h. record { apart = turned (key_of a) (key_of b) h } in
       let sorted = answer_of t db xs bag [] falling limit params (λ r. refl) rows answer in
-      sym (map-id rows) ∙ answer_sorted q in_place params source (λ _. true) (λ _. refl) (λ r. r) t.given (t.shows params) refl refl order untied
+      sym (map-id rows) ∙ answer_sorted q in_place params source (λ _. true) (λ _. refl) (λ r. r) t.given (showing params) refl refl order untied
       (λ a b. last_key (by_keys b a)) rows sorted
       ∙ ap (λ l. page q params (map t.given (sort_by order l))) (filter_all (λ _. true) xs (all_of _ (λ _. refl) xs))
 

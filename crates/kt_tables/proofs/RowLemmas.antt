@@ -9,6 +9,7 @@ use Rattle.kt_tuple.specs.declared.node.NodeId.TheVariants.{Worker, Shard}
 use Rattle.kt_ckpt.specs.declared.ckpt.Ckpt.{Ckpt}
 use Rattle.kt_ckpt.specs.Checkpoint.{IsCheckpoint, read}
 use Rattle.kt_ckpt.proofs.Shared.{read_again}
+use Rattle.kt_tuple.specs.Node.{is_before}
 use Rattle.kt_store.specs.declared.rows.NodeRow.{NodeRow}
 use Rattle.kt_store.specs.declared.rows.Tentative.{Tentative}
 use Rattle.kt_store.specs.declared.rows.Posted.{Posted}
@@ -26,6 +27,13 @@ node_back (Shard n) low =
     let high : ltb (SHARD_IDS + n) SHARD_IDS ≡ false = grind arith in
     let back : SHARD_IDS + n - SHARD_IDS ≡ n = omega arith in
     ap (λ b. cond b (Worker (SHARD_IDS + n)) (Shard (SHARD_IDS + n - SHARD_IDS))) high ∙ ap Shard back
+
+-- the order of the nodes is that of their numbers
+pub by_id : (a b : NodeId) → HasId a → HasId b → is_before a b ≡ ltb (id_of a) (id_of b)
+by_id (Worker m) (Worker n) h g = refl
+by_id (Worker m) (Shard n) h g = grind (arith, h)
+by_id (Shard m) (Worker n) h g = grind (arith, g)
+by_id (Shard m) (Shard n) h g = grind arith
 
 purpose_back : (p : Purpose) → purpose_of (purpose_code p) ≡ p
 purpose_back Check = refl

@@ -1,13 +1,17 @@
 -- How the rows of one kind stand in a table, and what a query reads of a row there.
-use Rattle.std.proofs.Common.{◌≡◌, ℕ, pos, List, [], ◌∷◌, refl}
+use Rattle.std.proofs.Common.{◌≡◌, ℕ, pos, ltb, Bool, List, [], ◌∷◌, refl}
+use Rattle.std.specs.Prelude.{nat_lt}
 use Rattle.sqlite_value.specs.declared.value.Value.TheVariants.{Null, Int}
 use Rattle.sqlite_value.specs.Order.{Row, column}
 use Rattle.sqlite_trees.specs.Tree.{rowid}
 use Rattle.sqlite_sql.specs.Term.{Term, eval_all}
 use Rattle.kt_store.specs.declared.rows.NodeRow.{NodeRow}
 use Rattle.kt_store.specs.declared.rows.Posted.{Posted}
-use Rattle.kt_tables.specs.Rows.{id_of, node_given, node_shown, posted_given, posted_shown}
+use Rattle.kt_tuple.specs.Node.{is_before}
+use Rattle.kt_store.proofs.Shared.{IsOrder, by_node_order, by_number_order}
+use Rattle.kt_tables.specs.Rows.{id_of, node_given, node_shown, posted_given, posted_shown, IsNodeRow, IsPosted, HoldsRows}
 use Rattle.kt_tables.specs.inner.Showing.{node_stored, posted_stored}
+use Rattle.kt_tables.proofs.RowLemmas.{by_id}
 use Rattle.kt_tables.proofs.Texts.{node_columns, posted_columns}
 
 -- the row with the place of the key's column, which is empty
@@ -15,10 +19,14 @@ abbrev pub widened : Row → Row
 widened [] = []
 widened (v ∷ vs) = v ∷ Null ∷ vs
 
-pub record Table (X : Type 0) : Type 0 where
+pub record Table {X : Type 0} (IsSaid : X → Type 0) : Type 0 where
   pub tree : ℕ
   pub columns : List Term
+  -- the key, and the order of the rows, which is that of their keys
   pub number : X → ℕ
+  pub before : X → X → Bool
+  pub order : IsOrder before
+  pub by_number : (a b : X) → IsSaid a → IsSaid b → before a b ≡ ltb (number a) (number b)
   -- as a query shows it, as the table keeps it, and what a query shows of any row that is kept
   pub given : X → Row
   pub stored : X → Row
@@ -28,15 +36,21 @@ pub record Table (X : Type 0) : Type 0 where
   pub same_number : (r : Row) → rowid (shown r) ≡ rowid r
   pub opens : (x : X) → widened (given x) ≡ stored x
   pub back : (x : X) → shown (stored x) ≡ given x
-  pub shows : (params : Row) (x : X) → eval_all columns (params ∷ stored x ∷ []) ≡ given x
-  pub seen : (params r : Row) → eval_all columns (params ∷ r ∷ []) ≡ eval_all columns (params ∷ widened (shown r) ∷ [])
+  pub shows : (params r : Row) → eval_all columns (params ∷ r ∷ []) ≡ shown r
+  pub again : (r : Row) → shown (widened (shown r)) ≡ shown r
   pub first : (r : Row) → column r 0 ≡ column (widened (shown r)) 0
 
-abbrev pub nodes_table : Table NodeRow
+abbrev pub HoldsAll : {X : Type 0} {IsSaid : X → Type 0} → Table IsSaid → List Row → List X → Type 0
+HoldsAll {X} {IsSaid} t = HoldsRows t.given t.shown IsSaid t.before
+
+abbrev pub nodes_table : Table IsNodeRow
 nodes_table = record {
   tree = 0;
   columns = node_columns;
   number = λ (r : NodeRow). id_of r.node;
+  before = λ (a b : NodeRow). is_before a.node b.node;
+  order = by_node_order;
+  by_number = λ a b h g. by_id a.node b.node h.node g.node;
   given = node_given;
   stored = node_stored;
   shown = node_shown;
@@ -46,15 +60,18 @@ nodes_table = record {
   opens = λ r. refl;
   back = λ r. refl;
   shows = λ params r. refl;
-  seen = λ params r. refl;
+  again = λ r. refl;
   first = λ r. refl;
 }
 
-abbrev pub posted_table : Table Posted
+abbrev pub posted_table : Table IsPosted
 posted_table = record {
   tree = 1;
   columns = posted_columns;
   number = λ (p : Posted). p.instance;
+  before = λ (a b : Posted). nat_lt a.instance b.instance;
+  order = by_number_order;
+  by_number = λ a b h g. refl;
   given = posted_given;
   stored = posted_stored;
   shown = posted_shown;
@@ -63,7 +80,7 @@ posted_table = record {
   same_number = λ r. refl;
   opens = λ p. refl;
   back = λ p. refl;
-  shows = λ params p. refl;
-  seen = λ params r. refl;
+  shows = λ params r. refl;
+  again = λ r. refl;
   first = λ r. refl;
 }

@@ -2,7 +2,6 @@
 use Rattle.std.proofs.Common.{◌≡◌, inl, inr, ℕ, ℤ, pos, ltb, Bool, true, false, not, cond, List, [], ◌∷◌, map, filter, Option}
 use Rattle.std.proofs.Common.{None, Some, Ok, refl, sym, ap, ap₂, subst, subst₂, ◌∙◌, arith, Ordering, Less, Equal, Greater, int_cmp}
 use Rattle.std.proofs.Common.{IsPermutation}
-use Rattle.std.specs.Prelude.{nat_lt}
 use Rattle.std.specs.List.{AllByRecursion}
 use Rattle.std.specs.Ordering.{match_ordering, int_eq, is_eq}
 use Rattle.std.proofs.lemmas.Bool.{not-true}
@@ -19,36 +18,29 @@ use Rattle.sqlite_trees.specs.Tree.{IsAscending, rowid, has_rowid, put_row, with
 use Rattle.sqlite.specs.Cast.{cast}
 use Rattle.sqlite_rules.specs.Cast.{cast_row}
 use Rattle.sqlite_rules.specs.Lists.{Has}
-use Rattle.sqlite.specs.Does.{Tally, Does}
-use Rattle.sqlite.specs.Effect.{Database}
-use Rattle.sqlite.specs.State.{State, mode_of, Shows, Executes}
-use Rattle.sqlite.specs.Listing.{understood}
-use Rattle.sqlite.proofs.Callers.{statement_of, runs_as}
+use Rattle.sqlite.specs.State.{State, Executes}
 use Rattle.sqlite_keyed.specs.Keyed.{insert_by}
 use Rattle.sqlite_keyed.specs.Lists.{without_key}
 use Rattle.sqlite_keyed.proofs.ListLemmas.{filter_all, filter_none, filter_same, filter-map, all_map, all_unmap, all_of, all_both, all_weaker, all-append}
 use Rattle.sqlite_keyed.proofs.ListLemmas.{all-filter, ascending-append, ascending-filter, IsPermutation-filter}
 use Rattle.sqlite_trees.proofs.ListLemmas.{all-permutation}
 use Rattle.sqlite_typed.proofs.RowLemmas.{puts-map, deletes-map}
-use Rattle.kt_tuple.specs.declared.node.NodeId.{NodeId}
-use Rattle.kt_tuple.specs.declared.node.NodeId.TheVariants.{Worker, Shard}
-use Rattle.kt_store.proofs.Shared.{by_node_order, by_number_order}
 use Rattle.kt_store.specs.declared.rows.NodeRow.{NodeRow}
 use Rattle.kt_store.specs.declared.rows.Posted.{Posted}
 use Rattle.kt_store.specs.declared.rows.Tentative.{Tentative}
+use Rattle.kt_store.specs.Changes.{storing}
 use Rattle.kt_store.specs.Content.{Content}
-use Rattle.kt_tuple.specs.Node.{is_before}
-use Rattle.kt_store.specs.Changes.{with_row, with_posted, storing}
 use Rattle.kt_store.proofs.Shared.{placed, IsOrder}
 use Rattle.kt_tables.specs.Schema.{kt_schema, node_table, board_table, meta_table}
 use Rattle.kt_tables.specs.inner.Text.{put_node_text, put_posted_text}
-use Rattle.kt_tables.specs.Rows.{placing, whole, id_of, HasId, instance_value, node_given, node_shown, posted_given}
+use Rattle.kt_tables.specs.Rows.{placing, whole, id_of, instance_value, node_given, posted_given, IsNodeRow, IsPosted, HoldsNodes, HoldsBoard, Holds}
 use Rattle.kt_tables.specs.inner.Showing.{node_stored}
-use Rattle.kt_tables.specs.Rows.{posted_shown, IsNodeRow, IsPosted, HoldsNodes, HoldsBoard, Holds, purpose_code, verdict_code}
+use Rattle.kt_tables.specs.Rows.{purpose_code, verdict_code}
+use Rattle.kt_tables.specs.inner.Changing.{ChangesTo}
 use Rattle.kt_tables.specs.inner.Showing.{posted_stored}
-use Rattle.kt_tables.proofs.PutLemmas.{went, same_value, AreNumbered, replaces}
-use Rattle.kt_tables.proofs.TableRows.{Table, nodes_table, posted_table}
-use Rattle.kt_tables.proofs.Texts.{node_terms, posted_terms, put_node, put_posted, put_node_is, put_node_plain, put_posted_is, put_posted_plain}
+use Rattle.kt_tables.proofs.PutLemmas.{AreNumbered, HasPut, PutsInto, put_ran}
+use Rattle.kt_tables.proofs.TableRows.{Table, HoldsAll, nodes_table, posted_table}
+use Rattle.kt_tables.proofs.Texts.{node_terms, posted_terms, put_node_is, put_node_plain, put_posted_is, put_posted_plain}
 
 -- ---- a row in its place
 
@@ -87,7 +79,7 @@ module _ {X : Type 0} (lt : X → X → Bool) (order : IsOrder lt) where
     not_this new xs by above =
         filter_all _ xs (all_both _ _ _ (λ x goes high. ap not (more_is (number x) (number new) (sym goes.1 ∙ high)).0) xs by above)
 
-    pub placed_by : (new : X) (xs : List X) → AllByRecursion (λ x. GoesBy lt number x new) xs → Rise xs
+    placed_by : (new : X) (xs : List X) → AllByRecursion (λ x. GoesBy lt number x new) xs → Rise xs
         → insert_by key (without_key key xs (key new)) new ≡ placed lt new xs
     placed_by new [] by rise = refl
     placed_by new (x ∷ xs) by rise = there (ltb (number x) (number new)) (ltb (number new) (number x)) refl refl (placed_by new xs by.1 rise.1)
@@ -107,41 +99,17 @@ module _ {X : Type 0} (lt : X → X → Bool) (order : IsOrder lt) where
             (sym (rw (filter_none _ xs (all_weaker _ _ (λ y high. order.one_way new y high) xs above), filter_all _ xs above) refl))
         there false false is at later = rw (same_is (number x) (number new) is at, by.0.0 ∙ is, by.0.1 ∙ at) later
 
-  pub placed_all : (P : X → Type 0) (new : X) (xs : List X) → P new → AllByRecursion P xs → AllByRecursion P (placed lt new xs)
+  placed_all : (P : X → Type 0) (new : X) (xs : List X) → P new → AllByRecursion P xs → AllByRecursion P (placed lt new xs)
   placed_all P new xs h all =
       all-append P (filter (λ x. lt x new) xs) (new ∷ filter (λ x. lt new x) xs) (all-filter P (λ x. lt x new) xs all) (h, all-filter P (λ x. lt new x) xs all)
 
-  pub placed_rises : (new : X) (xs : List X) → Rise xs → Rise (placed lt new xs)
+  placed_rises : (new : X) (xs : List X) → Rise xs → Rise (placed lt new xs)
   placed_rises new xs rise =
       let R : X → X → Type 0 = λ a b. lt a b ≡ true in
       let high = passing (λ x. lt new x) xs in
       ascending-append R (filter (λ x. lt x new) xs) (new ∷ filter (λ x. lt new x) xs) (ascending-filter R (λ x. lt x new) xs rise)
       (high, ascending-filter R (λ x. lt new x) xs rise)
       (all_weaker _ _ (λ x low. (low, all_weaker _ _ (λ y up. order.through x new y low up) _ high)) _ (passing (λ x. lt x new) xs))
-
--- ---- the two orders
-
-abbrev node_before : NodeRow → NodeRow → Bool
-node_before a b = is_before a.node b.node
-
-abbrev posted_before : Posted → Posted → Bool
-posted_before a b = nat_lt a.instance b.instance
-
-node_order : IsOrder node_before
-node_order = by_node_order
-
-posted_order : IsOrder posted_before
-posted_order = by_number_order
-
--- the order of the nodes is that of their numbers
-pub by_id : (a b : NodeId) → HasId a → HasId b → is_before a b ≡ ltb (id_of a) (id_of b)
-by_id (Worker m) (Worker n) h g = refl
-by_id (Worker m) (Shard n) h g = grind (arith, h)
-by_id (Shard m) (Worker n) h g = grind (arith, g)
-by_id (Shard m) (Shard n) h g = grind arith
-
-goes_by_id : (new : NodeRow) → IsNodeRow new → (x : NodeRow) → IsNodeRow x → GoesBy node_before (λ (r : NodeRow). id_of r.node) x new
-goes_by_id new h x g = (by_id x.node new.node g.node h.node, by_id new.node x.node h.node g.node)
 
 -- ---- a row is put into a table, whose rows stand in some order
 
@@ -162,7 +130,7 @@ put_front new key at (r ∷ rows) none =
     there Equal apart later = absurd cc
     there Greater apart later = IsPermutation-refl _
 
-module _ {X : Type 0} (t : Table X) where
+module _ {X : Type 0} {IsSaid : X → Type 0} (t : Table IsSaid) where
   abbrev key_in : X → ℤ
   key_in x = pos (t.number x)
 
@@ -202,6 +170,20 @@ module _ {X : Type 0} (t : Table X) where
       (IsPermutation-trans _ _ _ first (IsPermutation-trans _ _ _ next
       (subst (λ l. IsPermutation l (map t.shown (put_row (t.stored new) (without_rowid key rows)))) same last)))
 
+  goes_by : (new : X) → IsSaid new → (x : X) → IsSaid x → GoesBy t.before t.number x new
+  goes_by new h x g = (t.by_number x new g h, t.by_number new x h g)
+
+  -- what it holds then
+  pub put_held : (new : X) (xs : List X) (old after : State) → IsSaid new → HoldsAll t (old.now.trees t.tree) xs
+      → HasPut t.tree (t.stored new) (key_in new) old after → HoldsAll t (after.now.trees t.tree) (placed t.before new xs)
+  put_held new xs old after good held put = record {
+    shown = subst₂ (λ (l : List X) (rows : List Row). IsPermutation (map t.given l) (map t.shown rows))
+        (placed_by t.before t.order t.number new xs (all_weaker _ _ (goes_by new good) xs held.said) held.rise) (sym put.rows)
+        (put_shown new xs (old.now.trees t.tree) held.shown);
+    said = placed_all t.before t.order IsSaid new xs good held.said;
+    rise = placed_rises t.before t.order new xs held.rise;
+  }
+
 -- ---- what the columns keep
 
 either : (b : Bool) (x : Value) → cond b x x ≡ x
@@ -230,64 +212,48 @@ cast_posted : (p : Posted) → cast_row board_table (posted_stored p) ≡ posted
 cast_posted p =
     rw (cast_whole p.instance, cast_null, cast_whole (id_of p.initiator), cast_whole (purpose_code p.purpose), cast_whole (verdict_code p.verdict)) refl
 
-pub put_node_does : (old new : State) (r : NodeRow) (c : Content) (count : ℕ) → IsNodeRow r → old.now.schema ≡ kt_schema → Holds old.now.trees c
-    → Executes put_node_text (node_given r) old new (Ok count)
-    → Shows old new new.now (cond old.in_transaction old.committed new.now) old.in_transaction × (new.now.schema ≡ kt_schema)
-    × Holds new.now.trees (storing r c)
-put_node_does old new r c count good has held h =
-    let params = node_given r in
-    let db = old.now.trees in
-    let w = runs_as put_node_text params old new kt_schema has put_node put_node_is put_node_plain count h in
-    let text = statement_of put_node_text (understood kt_schema put_node_text) in
-    let done =
-    went (subst (λ s. Does old.step_limit (mode_of old) params (record old.now { schema = s }) text None put_node (Ok (w.tally, new.now))) has w.changed) in
-    let now = ap (λ (p : Tally × Database). p.1) (same_value (went (went done.2).2).2) in
-    let next = replaces node_table.name 0 node_table.columns old.step_limit params (node_stored r) (pos (id_of r.node)) refl node_terms 6 (node_stored r) refl
-    (cast_node r) (cast_node r) db
-    (numbered_rows nodes_table c.nodes (db 0) held.nodes.shown) done.0 done.1 in
-    let placed_is : insert_by (λ (x : NodeRow). pos (id_of x.node))
-    (without_key (λ (x : NodeRow). pos (id_of x.node)) c.nodes (pos (id_of r.node))) r ≡ with_row r c.nodes =
-    placed_by node_before node_order (λ (x : NodeRow). id_of x.node) r c.nodes (all_weaker _ _ (goes_by_id r good) c.nodes held.nodes.said) held.nodes.rise in
-    let nodes : IsPermutation (map node_given (with_row r c.nodes)) (map node_shown (done.0.trees 0)) =
-    subst₂ (λ (l : List NodeRow) (rows : List Row). IsPermutation (map node_given l) (map node_shown rows)) placed_is (sym next.0)
-    (put_shown nodes_table r c.nodes (db 0) held.nodes.shown) in
-    let holds : Holds done.0.trees (storing r c) = record {
-      nodes = record {
-        shown = nodes;
-        said = placed_all node_before node_order IsNodeRow r c.nodes good held.nodes.said;
-        rise = placed_rises node_before node_order r c.nodes held.nodes.rise;
-      };
-      board = subst (λ (rows : List Row). HoldsBoard rows c.board) (sym (next.1 1 (λ same. absurd cc))) held.board;
-    } in
-    (w.shown, ap (λ (d : Database). d.schema) now, subst (λ (d : Database). Holds d.trees (storing r c)) (sym now) holds)
+-- ---- the two statements
 
-pub put_posted_does : (old new : State) (p : Posted) (c : Content) (count : ℕ) → IsPosted p → old.now.schema ≡ kt_schema → Holds old.now.trees c
-    → Executes put_posted_text (posted_given p) old new (Ok count)
-    → Shows old new new.now (cond old.in_transaction old.committed new.now) old.in_transaction × (new.now.schema ≡ kt_schema)
-    × Holds new.now.trees (placing p c)
-put_posted_does old new p c count good has held h =
-    let params = posted_given p in
-    let db = old.now.trees in
-    let w = runs_as put_posted_text params old new kt_schema has put_posted put_posted_is put_posted_plain count h in
-    let text = statement_of put_posted_text (understood kt_schema put_posted_text) in
-    let done =
-    went (subst (λ s. Does old.step_limit (mode_of old) params (record old.now { schema = s }) text None put_posted (Ok (w.tally, new.now))) has w.changed) in
-    let now = ap (λ (p : Tally × Database). p.1) (same_value (went (went done.2).2).2) in
-    let next = replaces board_table.name 1 board_table.columns old.step_limit params (posted_stored p) (pos p.instance) refl posted_terms 5
-    (posted_stored p) refl (cast_posted p) (cast_posted p) db
-    (numbered_rows posted_table c.board (db 1) held.board.shown) done.0 done.1 in
-    let placed_is : insert_by (λ (x : Posted). pos x.instance)
-    (without_key (λ (x : Posted). pos x.instance) c.board (pos p.instance)) p ≡ with_posted p c.board =
-    placed_by posted_before posted_order (λ (x : Posted). x.instance) p c.board (all_of _ (λ x. (refl, refl)) c.board) held.board.rise in
-    let board : IsPermutation (map posted_given (with_posted p c.board)) (map posted_shown (done.0.trees 1)) =
-    subst₂ (λ (l : List Posted) (rows : List Row). IsPermutation (map posted_given l) (map posted_shown rows)) placed_is (sym next.0)
-    (put_shown posted_table p c.board (db 1) held.board.shown) in
-    let holds : Holds done.0.trees (placing p c) = record {
-      nodes = subst (λ (rows : List Row). HoldsNodes rows c.nodes) (sym (next.1 0 (λ same. absurd cc))) held.nodes;
-      board = record {
-        shown = board;
-        said = placed_all posted_before posted_order IsPosted p c.board good held.board.said;
-        rise = placed_rises posted_before posted_order p c.board held.board.rise;
-      };
-    } in
-    (w.shown, ap (λ (d : Database). d.schema) now, subst (λ (d : Database). Holds d.trees (placing p c)) (sym now) holds)
+puts_node : (r : NodeRow) → PutsInto 0 put_node_text (node_given r) (node_stored r) (pos (id_of r.node))
+puts_node r = record {
+  name = node_table.name;
+  columns = node_table.columns;
+  terms = node_terms;
+  width = 6;
+  at = refl;
+  is = put_node_is;
+  plain = put_node_plain;
+  given = refl;
+  numbered = refl;
+  mends = cast_node r;
+  fixed = cast_node r;
+}
+
+puts_posted : (p : Posted) → PutsInto 1 put_posted_text (posted_given p) (posted_stored p) (pos p.instance)
+puts_posted p = record {
+  name = board_table.name;
+  columns = board_table.columns;
+  terms = posted_terms;
+  width = 5;
+  at = refl;
+  is = put_posted_is;
+  plain = put_posted_plain;
+  given = refl;
+  numbered = refl;
+  mends = cast_posted p;
+  fixed = cast_posted p;
+}
+
+pub node_changes : (r : NodeRow) → IsNodeRow r → (old new : State) (c : Content) (count : ℕ) → old.now.schema ≡ kt_schema → Holds old.now.trees c
+    → Executes put_node_text (node_given r) old new (Ok count) → ChangesTo old new (storing r c)
+node_changes r good old new c count has held h =
+    let put = put_ran (puts_node r) old new count has (numbered_rows nodes_table c.nodes (old.now.trees 0) held.nodes.shown) h in
+    let board = subst (λ (rows : List Row). HoldsBoard rows c.board) (sym (put.others 1 (λ same. absurd cc))) held.board in
+    record { shown = put.shown; schema = put.schema; holds = record { nodes = put_held nodes_table r c.nodes old new good held.nodes put; board = board } }
+
+pub posted_changes : (p : Posted) → IsPosted p → (old new : State) (c : Content) (count : ℕ) → old.now.schema ≡ kt_schema → Holds old.now.trees c
+    → Executes put_posted_text (posted_given p) old new (Ok count) → ChangesTo old new (placing p c)
+posted_changes p good old new c count has held h =
+    let put = put_ran (puts_posted p) old new count has (numbered_rows posted_table c.board (old.now.trees 1) held.board.shown) h in
+    let nodes = subst (λ (rows : List Row). HoldsNodes rows c.nodes) (sym (put.others 0 (λ same. absurd cc))) held.nodes in
+    record { shown = put.shown; schema = put.schema; holds = record { nodes = nodes; board = put_held posted_table p c.board old new good held.board put } }

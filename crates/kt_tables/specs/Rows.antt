@@ -1,5 +1,5 @@
 -- How the rows of a store stand in the tables.
-use Rattle.std.specs.Prelude.{◌≡◌, ℕ, ◌+◌, ◌-◌, ◌<◌, ◌≤◌, pos, nat_lt, true, if◌then◌else◌, List, [], ◌∷◌}
+use Rattle.std.specs.Prelude.{◌≡◌, ℕ, ◌+◌, ◌-◌, ◌<◌, ◌≤◌, pos, nat_lt, Bool, true, if◌then◌else◌, List, [], ◌∷◌}
 use Rattle.std.specs.Prelude.{map, Option, None, Some, Result, Ok, Err, ⊤, IsPermutation}
 use Rattle.std.specs.Option.{option_map}
 use Rattle.std.specs.List.{AllByRecursion}
@@ -182,17 +182,18 @@ pub record IsPosted (p : Posted) : Type 0 where
   pub last : p.instance ≤ greatest
   pub initiator : HasId p.initiator
 
--- these are the nodes of the table, whose rows stand in some order: each is as said, and they rise by their keys
-pub record HoldsNodes (rows : List Row) (nodes : List NodeRow) : Type 0 where
-  pub shown : IsPermutation (map node_given nodes) (map node_shown rows)
-  pub said : AllByRecursion IsNodeRow nodes
-  pub rise : IsAscending (λ (a b : NodeRow). is_before a.node b.node ≡ true) nodes
+-- these are what a table holds, whose rows stand in some order: each is as said, and they rise by their keys
+pub record HoldsRows {X : Type 0} (given : X → Row) (seen : Row → Row) (IsSaid : X → Type 0) (before : X → X → Bool)
+    (rows : List Row) (xs : List X) : Type 0 where
+  pub shown : IsPermutation (map given xs) (map seen rows)
+  pub said : AllByRecursion IsSaid xs
+  pub rise : IsAscending (λ (a b : X). before a b ≡ true) xs
 
--- these are the instances of the board
-pub record HoldsBoard (rows : List Row) (board : List Posted) : Type 0 where
-  pub shown : IsPermutation (map posted_given board) (map posted_shown rows)
-  pub said : AllByRecursion IsPosted board
-  pub rise : IsAscending (λ (a b : Posted). nat_lt a.instance b.instance ≡ true) board
+abbrev pub HoldsNodes : List Row → List NodeRow → Type 0
+HoldsNodes = HoldsRows node_given node_shown IsNodeRow (λ (a b : NodeRow). is_before a.node b.node)
+
+abbrev pub HoldsBoard : List Row → List Posted → Type 0
+HoldsBoard = HoldsRows posted_given posted_shown IsPosted (λ (a b : Posted). nat_lt a.instance b.instance)
 
 -- the tables hold this content
 pub record Holds (db : Trees) (c : Content) : Type 0 where

@@ -1,5 +1,6 @@
 -- What the code alone keeps, and no public clause cites.
 pub mod Both
+pub mod Changing
 pub mod Text
 pub mod Cells
 pub mod Testing

@@ -1,11 +1,14 @@
 //! Rows, as they are written.
 
 ghost use Rattle.std.specs.Prelude.{◌≡◌, ◌≤◌, None, IfOk, IfErr, IfSome};
+ghost use Rattle.sqlite.specs.Values.{bound};
 ghost use Rattle.kt_ckpt.specs.Checkpoint.{IsCheckpoint};
 ghost use Rattle.kt_store.specs.Changes.{taken};
 ghost use Rattle.kt_store.specs.declared.rows.NodeRow.{NodeRow as NodeFields};
-ghost use Rattle.kt_tables.specs.Rows.{bytes_of, id_of, node_given, IsNodeRow, IsPosted, purpose_code, verdict_code};
-ghost use Rattle.kt_tables.specs.Cells.{cells_node, AreSaid, SpellsNode};
+ghost use Rattle.kt_store.specs.declared.rows.Posted.{Posted as PostedFields};
+ghost use Rattle.kt_tables.specs.Rows.{bytes_of, id_of, node_given, posted_given, IsNodeRow, IsPosted};
+ghost use Rattle.kt_tables.specs.Rows.{purpose_code, verdict_code};
+ghost use Rattle.kt_tables.specs.Cells.{cells_given, cells_node, AreSaid, SpellsNode};
 ghost use Rattle.kt_tables.specs.inner.Cells.{GivesCells, SpellsPosted};
 ghost use Rattle.kt_tables.specs.inner.Showing.{IsReadError};
 
@@ -15,6 +18,7 @@ use crate::rows::{bytes_at, id_at, instance_at, positive_at};
 use kt_ckpt::Ckpt;
 use kt_store::{Posted, Purpose, StoreError, Verdict};
 use sqlite::Row;
+use sqlite::types::{ToSql, ValueRef};
 use std::alloc::{AllocError, Global};
 
 /// The cells of a row of the nodes. What stays at a write is carried as the bytes that stand in the table.
@@ -43,6 +47,35 @@ pub(crate) struct PostedCells {
     pub purpose: u32,
     /// How it ended: 0 open, 1 yes, 2 no.
     pub verdict: u32,
+}
+
+impl NodeCells {
+    /// The values of the statement that puts them, in the order of its parameters.
+    pub(crate) fn params(&self) -> [ValueRef<'_>; 5]
+        ensures { bound result ≡ cells_given self.now }
+    {
+        [
+            self.id.to_sql(),
+            self.incarnation.to_sql(),
+            (&self.permanent).to_sql(),
+            (&self.tentative).to_sql(),
+            self.instance.to_sql(),
+        ]
+    }
+}
+
+impl PostedCells {
+    /// The values of the statement that puts them, in the order of its parameters.
+    pub(crate) fn params(&self) -> [ValueRef<'_>; 4]
+        ensures { (p : PostedFields) → SpellsPosted self.now p → bound result ≡ posted_given p }
+    {
+        [
+            self.instance.to_sql(),
+            self.initiator.to_sql(),
+            self.purpose.to_sql(),
+            self.verdict.to_sql(),
+        ]
+    }
 }
 
 /// The cells of a row of the nodes as it stands in the table. The numbers are tested, and no checkpoint is decoded.

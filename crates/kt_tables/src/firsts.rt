@@ -10,21 +10,21 @@ ghost use Rattle.kt_tables.specs.inner.Showing.{Gives, IsReadError, number_of};
 ghost use Rattle.kt_tables.specs.inner.Showing.{incarnation_of, permanent_of, tentative_of};
 
 use crate::cells::{NodeCells, cells_at, first_cells};
-use crate::rows::{marks_at, node_row, positive_at, posted_row, tentative_marks_at};
+use crate::records::Record;
+use crate::rows::{marks_at, positive_at, tentative_marks_at};
 use kt_ckpt::Marks;
 use kt_store::{NodeRow, Posted, StoreError, TentativeMarks};
 use sqlite::Row;
 use std::alloc::Global;
 
-/// The node of the first row; `None` where there is no row. `Damaged` where the row is not as said.
-pub(crate) fn first_node(alloc: Global, rows: &[Row]) -> Result<Option<NodeRow>, StoreError>
-    ensures found { IfOk result (λ o. IfSome o IsNodeRow) }
-    ensures exact { (o : Option NodeFields) → IfSome o IsNodeRow → slice_get rows.now 0 ≡ option_map node_given o
-        → Gives o result }
+/// What the first row stands for; `None` where there is no row. `Damaged` where the row is not as said.
+pub(crate) fn first_of<R: Record>(alloc: Global, rows: &[Row]) -> Result<Option<R>, StoreError>
+    ensures found { IfOk result (λ o. IfSome o R.is_said) }
+    ensures exact { (o : Option R) → IfSome o R.is_said → slice_get rows.now 0 ≡ option_map R.given o → Gives o result }
     ensures named { IfErr result IsReadError }
 {
     match rows.first() {
-        Some(row) => Ok(Some(node_row(alloc, row)?)),
+        Some(row) => Ok(Some(R::read(alloc, row)?)),
         None => Ok(None),
     }
 }
@@ -45,7 +45,7 @@ pub(crate) fn first_cells_of(
         return Ok(first_cells(id));
     };
     if !is_trusted {
-        let _ = node_row(alloc, row)?;
+        let _ = NodeRow::read(alloc, row)?;
     }
     cells_at(row)
 }
@@ -89,19 +89,6 @@ pub(crate) fn first_tentative(
     }
 }
 
-/// The instance of the first row; `None` where there is no row. `Damaged` where the row is not as said.
-pub(crate) fn first_posted(rows: &[Row]) -> Result<Option<Posted>, StoreError>
-    ensures found { IfOk result (λ o. IfSome o IsPosted) }
-    ensures exact { (o : Option PostedFields) → IfSome o IsPosted → slice_get rows.now 0 ≡ option_map posted_given o
-        → Gives o result }
-    ensures named { IfErr result IsReadError }
-{
-    match rows.first() {
-        Some(row) => Ok(Some(posted_row(row)?)),
-        None => Ok(None),
-    }
-}
-
 /// Whether there is no row. What stands in a row is not looked at.
 pub(crate) fn has_no_row(rows: &[Row]) -> bool
     ensures { result ≡ (length rows.now == 0) }
@@ -110,13 +97,13 @@ pub(crate) fn has_no_row(rows: &[Row]) -> bool
 }
 
 /// The number of the instance of the first row, 0 where there is none.
-pub(crate) fn first_number(rows: &[Row]) -> Result<u64, StoreError>
+pub(crate) fn first_number(alloc: Global, rows: &[Row]) -> Result<u64, StoreError>
     ensures found { IfOk result (λ n. n ≤ greatest) }
     ensures exact { (o : Option PostedFields) → IfSome o IsPosted → slice_get rows.now 0 ≡ option_map posted_given o
         → Gives (number_of o) result }
     ensures named { IfErr result IsReadError }
 {
-    match first_posted(rows)? {
+    match first_of::<Posted>(alloc, rows)? {
         Some(posted) => Ok(posted.instance),
         None => Ok(0),
     }

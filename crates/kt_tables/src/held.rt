@@ -7,10 +7,12 @@ ghost use Rattle.sqlite.specs.Listing.{understood};
 ghost use Rattle.sqlite.specs.State.{HasCleanDisk, Shown};
 ghost use Rattle.kt_store.specs.declared.rows.Posted.{Posted as PostedFields};
 ghost use Rattle.kt_store.specs.Changes.{storing};
+ghost use Rattle.kt_store.specs.Content.{Content};
 ghost use Rattle.kt_tables.specs.Rows.{IsPosted, placing};
 ghost use Rattle.kt_tables.specs.Cells.{cells_node, AreSaid};
 ghost use Rattle.kt_tables.specs.Opened.{IsReady};
 ghost use Rattle.kt_tables.specs.inner.Cells.{SpellsPosted};
+ghost use Rattle.kt_tables.specs.inner.Changing.{Changes};
 ghost use Rattle.sqlite.specs.Given.{IsPlain};
 ghost use Rattle.kt_tables.specs.Reason.{HasReason};
 ghost use Rattle.kt_tables.specs.Schema.{kt_schema};
@@ -18,7 +20,7 @@ ghost use Rattle.kt_tables.specs.Held.{content_of, is_sound, is_sure, IsKept, La
 
 use crate::cells::{NodeCells, PostedCells, posted_cells};
 use crate::opened::statement_error;
-use crate::statements::{execute_both, execute_node, execute_posted};
+use crate::statements::{PUT_NODE, PUT_POSTED, execute_both};
 use kt_store::{Posted, StoreError};
 use sqlite::types::ValueRef;
 use sqlite::{Alter, Connection, Row};
@@ -134,24 +136,7 @@ impl<S: Alter> Tables<S> {
         ensures trusted { self.new.is_trusted ≡ self.old.is_trusted }
         ensures reason { HasReason (is_sound S.Store self.new) result }
     {
-        self.write_node(&cells)
-    }
-
-    fn write_node(&mut self, cells: &NodeCells) -> Result<(), StoreError>
-        requires { IsTrue (is_sure S.Store self.old) → AreSaid cells.now }
-        ensures written { IsTrue (is_sure S.Store self.new)
-            → OnOk result (content_of S.Store self.new ≡ storing (cells_node cells.now) (content_of S.Store self.old)) }
-        ensures unchanged { IsTrue (is_sure S.Store self.new)
-            → OnErr result (content_of S.Store self.new ≡ content_of S.Store self.old) }
-        ensures honest { IsTrue (is_sure S.Store self.new) → IsTrue (is_sure S.Store self.old) }
-        ensures lasts { Lasts S.Store self.old self.new }
-        ensures trusted { self.new.is_trusted ≡ self.old.is_trusted }
-        ensures reason { HasReason (is_sound S.Store self.new) result }
-    {
-        match execute_node(&mut self.conn, cells) {
-            Ok(_) => Ok(()),
-            Err(error) => Err(statement_error(error)),
-        }
+        self.write(PUT_NODE, &cells.params())
     }
 
     /// Stores the row, in place of the one that the instance has. `Device` where the tables have no id for the
@@ -168,15 +153,19 @@ impl<S: Alter> Tables<S> {
         ensures reason { HasReason (is_sound S.Store self.new) result }
     {
         match posted_cells(row) {
-            Some(cells) => self.write_posted(cells),
+            Some(cells) => self.write(PUT_POSTED, &cells.params()),
             None => Err(StoreError::Device),
         }
     }
 
-    fn write_posted(&mut self, cells: PostedCells) -> Result<(), StoreError>
-        requires { (p : PostedFields) × IsPosted p × SpellsPosted cells p }
-        ensures written { (p : PostedFields) → IsPosted p → SpellsPosted cells p → IsTrue (is_sure S.Store self.new)
-            → OnOk result (content_of S.Store self.new ≡ placing p (content_of S.Store self.old)) }
+    /// Runs a statement that makes a change of what the tables hold.
+    fn write(&mut self, sql: &str, params: &[ValueRef<'_>]) -> Result<(), StoreError>
+        requires { (change : Content → Content)
+            × (IsTrue (is_sure S.Store self.old) → Changes S.Store sql.now (bound params.now) change) }
+        ensures written { (change : Content → Content)
+            → (IsTrue (is_sure S.Store self.old) → Changes S.Store sql.now (bound params.now) change)
+            → IsTrue (is_sure S.Store self.new)
+            → OnOk result (content_of S.Store self.new ≡ change (content_of S.Store self.old)) }
         ensures unchanged { IsTrue (is_sure S.Store self.new)
             → OnErr result (content_of S.Store self.new ≡ content_of S.Store self.old) }
         ensures honest { IsTrue (is_sure S.Store self.new) → IsTrue (is_sure S.Store self.old) }
@@ -184,7 +173,7 @@ impl<S: Alter> Tables<S> {
         ensures trusted { self.new.is_trusted ≡ self.old.is_trusted }
         ensures reason { HasReason (is_sound S.Store self.new) result }
     {
-        match execute_posted(&mut self.conn, cells) {
+        match self.conn.execute(sql, params) {
             Ok(_) => Ok(()),
             Err(error) => Err(statement_error(error)),
         }

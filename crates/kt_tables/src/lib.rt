@@ -20,6 +20,7 @@ mod number;
 mod opened;
 mod reads;
 mod ready;
+mod records;
 mod rows;
 mod schema;
 mod statements;

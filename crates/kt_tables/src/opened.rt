@@ -1,26 +1,23 @@
 //! What is read of tables that are there where a store is opened.
 
-ghost use Rattle.std.specs.Prelude.{◌≡◌, ◌≢◌, ◌↔◌, ◌⊎◌, ◌<◌, false, [], ◌∷◌, Err, List, length, IsTrue};
+ghost use Rattle.std.specs.Prelude.{◌≡◌, ◌≢◌, ◌↔◌, ◌⊎◌, ◌<◌, ◌≤◌, false, [], ◌∷◌, Err, List, length, IsTrue};
 ghost use Rattle.std.specs.Prelude.{IfOk, IfErr, OnOk, MatchOption};
-ghost use Rattle.sqlite.specs.Order.{column};
+ghost use Rattle.sqlite.specs.Order.{column, Row as Values};
 ghost use Rattle.sqlite.specs.Given.{IsPlain};
 ghost use Rattle.sqlite.specs.Held.{state};
 ghost use Rattle.sqlite.specs.Listing.{understood};
 ghost use Rattle.sqlite.specs.State.{HasCleanDisk, Shown};
-ghost use Rattle.kt_store.specs.declared.rows.NodeRow.{NodeRow as NodeFields};
-ghost use Rattle.kt_store.specs.declared.rows.Posted.{Posted as PostedFields};
+ghost use Rattle.kt_store.specs.Content.{greatest};
 ghost use Rattle.kt_tables.specs.Schema.{kt_schema};
 ghost use Rattle.kt_tables.specs.Settled.{IsSettled};
 ghost use Rattle.kt_tables.specs.inner.Looking.{Looks};
-ghost use Rattle.kt_tables.specs.Rows.{whole, HoldsNodes, HoldsBoard};
+ghost use Rattle.kt_tables.specs.Rows.{whole};
 ghost use Rattle.kt_tables.specs.Opened.{meta_given, IsVersion1, IsReady};
-ghost use Rattle.kt_tables.specs.inner.Testing.{IsNoNode, IsNodeWith, IsNoInstance};
-ghost use Rattle.kt_tables.specs.inner.Testing.{IsInstanceWith, AreNodesFrom, AreInstancesFrom};
+ghost use Rattle.kt_tables.specs.inner.Testing.{key_of, IsRowOf, AreRowsFrom};
 
-use crate::ids::id_of;
-use crate::rows::{node_row, posted_row};
+use crate::records::Record;
 use crate::schema::is_kt_schema;
-use kt_store::StoreError;
+use kt_store::{NodeRow, Posted, StoreError};
 use sqlite::types::ValueRef;
 use sqlite::{Alter, Connection, Error, ErrorCode, Row};
 use std::alloc::Global;
@@ -52,7 +49,7 @@ fn ask<S: Alter>(conn: &mut Connection<S>, sql: &str) -> Result<Vec<Row>, StoreE
         → IfOk result (λ rows. Shown sql.now [] (state S.Store conn.old) (state S.Store conn.new) rows.items) }
     ensures looks { Looks (state S.Store conn.old) (state S.Store conn.new) }
     ensures is_open { HasCleanDisk (state S.Store conn.new) → OnOk result (IsTrue (state S.Store conn.new).is_open) }
-    ensures whole { IfErr result (λ e. e ≢ StoreError.Damaged) }
+    ensures named { IfErr result (λ e. (e ≡ StoreError.Memory) ⊎ (e ≡ StoreError.Device)) }
 {
     match conn.query_all(sql, &[]) {
         Ok(rows) => Ok(rows),
@@ -86,7 +83,7 @@ fn is_version_1<S: Alter>(conn: &mut Connection<S>) -> Result<bool, StoreError>
         → IsSettled (state S.Store conn.old)
         → ((state S.Store conn.new).now ≡ (state S.Store conn.old).now) × IsSettled (state S.Store conn.new) }
     ensures foreign { (state S.Store conn.old).now.schema ≢ kt_schema → result ≡ Ok false }
-    ensures whole { IfErr result (λ e. e ≢ StoreError.Damaged) }
+    ensures named { IfErr result (λ e. (e ≡ StoreError.Memory) ⊎ (e ≡ StoreError.Device)) }
 {
     if !is_kt_schema(conn.schema()) {
         return Ok(false);
@@ -95,101 +92,59 @@ fn is_version_1<S: Alter>(conn: &mut Connection<S>) -> Result<bool, StoreError>
     Ok(is_first_meta(&rows))
 }
 
-/// The id of the node whose row this is; `None` where the row is not as said.
-fn node_id(alloc: Global, row: &Row) -> Result<Option<u32>, StoreError>
-    ensures value { IfOk result (λ o. MatchOption o (IsNoNode row.now) (IsNodeWith row.now)) }
-    ensures whole { IfErr result (λ e. e ≢ StoreError.Damaged) }
+/// The number of the row; `None` where the row is not as said.
+fn number_in<R: Record>(alloc: Global, row: &Row) -> Result<Option<u64>, StoreError>
+    ensures value { IfOk result (λ o. MatchOption o (¬ IsRowOf R.given R.is_said row.now)
+        (λ n. IsRowOf R.given R.is_said row.now × (n ≡ key_of row.now) × (n ≤ greatest))) }
+    ensures wanted { IfErr result (λ e. e ≡ StoreError.Memory) }
 {
-    if row.column_count() != 5 {
+    if row.column_count() != R::COLUMNS {
         return Ok(None);
     }
-    match node_row(alloc, row) {
-        Ok(node) => Ok(id_of(node.node)),
+    match R::read(alloc, row) {
+        Ok(record) => Ok(record.number()),
         Err(StoreError::Memory) => Err(StoreError::Memory),
         // A row that is not as said is no refusal: the store opens, and is not honest.
         Err(_) => Ok(None),
     }
 }
 
-/// The number of the instance whose row this is; `None` where the row is not as said.
-fn instance_in(row: &Row) -> Result<Option<u64>, StoreError>
-    ensures value { IfOk result (λ o. MatchOption o (IsNoInstance row.now) (IsInstanceWith row.now)) }
-    ensures whole { IfErr result (λ e. e ≢ StoreError.Damaged) }
-{
-    if row.column_count() != 4 {
-        return Ok(None);
-    }
-    match posted_row(row) {
-        Ok(posted) => Ok(Some(posted.instance)),
-        Err(StoreError::Memory) => Err(StoreError::Memory),
-        Err(_) => Ok(None),
-    }
-}
-
-/// Whether each row is that of a node, and their numbers rise.
-fn are_nodes(alloc: Global, rows: &[Row]) -> Result<bool, StoreError>
-    ensures value { IfOk result (λ told. IsTrue told ↔ AreNodesFrom 0 rows.now) }
-    ensures whole { IfErr result (λ e. e ≢ StoreError.Damaged) }
+/// Whether each row is as said, and their numbers rise.
+fn are_said<R: Record>(alloc: Global, rows: &[Row]) -> Result<bool, StoreError>
+    ensures value { IfOk result (λ told. IsTrue told ↔ AreRowsFrom R.given R.is_said 0 rows.now) }
+    ensures wanted { IfErr result (λ e. e ≡ StoreError.Memory) }
 {
     let mut low = 0;
     let mut rest = rows;
     while let Some((row, more)) = rest.split_first() {
-        let Some(id) = node_id(alloc, row)? else {
+        let Some(number) = number_in::<R>(alloc, row)? else {
             return Ok(false);
         };
-        if id < low {
+        if number < low {
             return Ok(false);
         }
-        low = id + 1;
+        low = number + 1;
         rest = more;
     }
     Ok(true)
 }
 
-/// Whether each row is that of an instance, and their numbers rise.
-fn are_posted(rows: &[Row]) -> Result<bool, StoreError>
-    ensures value { IfOk result (λ told. IsTrue told ↔ AreInstancesFrom 0 rows.now) }
-    ensures whole { IfErr result (λ e. e ≢ StoreError.Damaged) }
-{
-    let mut low = 0;
-    let mut rest = rows;
-    while let Some((row, more)) = rest.split_first() {
-        let Some(instance) = instance_in(row)? else {
-            return Ok(false);
-        };
-        if instance < low {
-            return Ok(false);
-        }
-        low = instance + 1;
-        rest = more;
-    }
-    Ok(true)
-}
-
-/// Whether all that the table of nodes holds is as said.
-fn holds_nodes<S: Alter>(alloc: Global, conn: &mut Connection<S>) -> Result<bool, StoreError>
-    ensures value { HasCleanDisk (state S.Store conn.new) → (state S.Store conn.old).now.schema ≡ kt_schema
-        → IfOk result (λ told. IsTrue told
-        ↔ ((nodes : List NodeFields) × HoldsNodes ((state S.Store conn.old).now.trees 0) nodes)) }
+/// Whether all that the query answers is as said.
+fn answers_said<S: Alter, R: Record>(
+    alloc: Global,
+    conn: &mut Connection<S>,
+    sql: &str,
+) -> Result<bool, StoreError>
+    requires { IsPlain (understood kt_schema sql.now) }
+    ensures value { HasCleanDisk (state S.Store conn.new) → IfOk result (λ told. (rows : List Values)
+        × Shown sql.now [] (state S.Store conn.old) (state S.Store conn.new) rows
+        × (IsTrue told ↔ AreRowsFrom R.given R.is_said 0 rows)) }
     ensures looks { Looks (state S.Store conn.old) (state S.Store conn.new) }
     ensures is_open { HasCleanDisk (state S.Store conn.new) → OnOk result (IsTrue (state S.Store conn.new).is_open) }
-    ensures whole { IfErr result (λ e. e ≢ StoreError.Damaged) }
+    ensures named { IfErr result (λ e. (e ≡ StoreError.Memory) ⊎ (e ≡ StoreError.Device)) }
 {
-    let rows = ask(conn, ALL_NODES)?;
-    are_nodes(alloc, &rows)
-}
-
-/// Whether all that the board holds is as said.
-fn holds_board<S: Alter>(conn: &mut Connection<S>) -> Result<bool, StoreError>
-    ensures value { HasCleanDisk (state S.Store conn.new) → (state S.Store conn.old).now.schema ≡ kt_schema
-        → IfOk result (λ told. IsTrue told
-        ↔ ((board : List PostedFields) × HoldsBoard ((state S.Store conn.old).now.trees 1) board)) }
-    ensures looks { Looks (state S.Store conn.old) (state S.Store conn.new) }
-    ensures is_open { HasCleanDisk (state S.Store conn.new) → OnOk result (IsTrue (state S.Store conn.new).is_open) }
-    ensures whole { IfErr result (λ e. e ≢ StoreError.Damaged) }
-{
-    let rows = ask(conn, ALL_POSTED)?;
-    are_posted(&rows)
+    let rows = ask(conn, sql)?;
+    are_said::<R>(alloc, &rows)
 }
 
 /// Tests tables that are there, and answers whether each row is as said. `Damaged` where they are not the tables of a
@@ -204,12 +159,13 @@ pub(crate) fn tested<S: Alter>(alloc: Global, conn: &mut Connection<S>) -> Resul
     ensures damaged { HasCleanDisk (state S.Store conn.new) → result ≡ Err StoreError.Damaged
         → IsVersion1 (state S.Store conn.old).now → ⊥ }
     ensures foreign { (state S.Store conn.old).now.schema ≢ kt_schema → result ≡ Err StoreError.Damaged }
+    ensures never_full { IfErr result (λ e. e ≢ StoreError.Full) }
     ensures mode { (state S.Store conn.old).in_transaction ≡ false → (state S.Store conn.new).in_transaction ≡ false }
 {
     if !is_version_1(conn)? {
         return Err(StoreError::Damaged);
     }
-    let are_nodes = holds_nodes(alloc, conn)?;
-    let are_posted = holds_board(conn)?;
+    let are_nodes = answers_said::<S, NodeRow>(alloc, conn, ALL_NODES)?;
+    let are_posted = answers_said::<S, Posted>(alloc, conn, ALL_POSTED)?;
     Ok(are_nodes && are_posted)
 }

@@ -17,8 +17,8 @@ ghost use Rattle.kt_tables.specs.Held.{content_of, is_sound, is_sure, Lasts};
 
 use crate::cells::{NodeCells, with_tentative};
 use crate::firsts::{
-    first_cells_of, first_incarnation, first_node, first_number, first_permanent, first_posted,
-    first_tentative, has_no_row,
+    first_cells_of, first_incarnation, first_number, first_of, first_permanent, first_tentative,
+    has_no_row,
 };
 use crate::held::Tables;
 use crate::ids::id_of;
@@ -81,7 +81,7 @@ impl<S: Alter> Tables<S> {
     {
         let alloc = self.allocator();
         let rows = self.rows_of(node)?;
-        first_node(alloc, &rows)
+        first_of(alloc, &rows)
     }
 
     /// The incarnation of the node, 1 where it has no row. Nothing else of the row is read.
@@ -215,14 +215,13 @@ impl<S: Alter> Tables<S> {
         ensures trusted { self.new.is_trusted ≡ self.old.is_trusted }
         ensures reason { HasReason (is_sound S.Store self.new) result }
     {
-        // For the proof alone: its clause says that the tables are those of a store.
-        let _ = self.allocator();
+        let alloc = self.allocator();
         // No instance above 2^62 is on the board.
         let Some(number) = Number::new(instance) else {
             return Ok(None);
         };
         let rows = self.ask(GET_POSTED, params![number])?;
-        first_posted(&rows)
+        first_of(alloc, &rows)
     }
 
     /// The first instance that the node began and that is open, by rising number.
@@ -236,13 +235,12 @@ impl<S: Alter> Tables<S> {
         ensures trusted { self.new.is_trusted ≡ self.old.is_trusted }
         ensures reason { HasReason (is_sound S.Store self.new) result }
     {
-        // For the proof alone, as in `find_posted`.
-        let _ = self.allocator();
+        let alloc = self.allocator();
         let Some(id) = id_of(node) else {
             return Ok(None);
         };
         let rows = self.ask(OPEN_POSTED, params![id])?;
-        first_posted(&rows)
+        first_of(alloc, &rows)
     }
 
     /// The greatest number of an instance, 0 where there is none.
@@ -257,8 +255,9 @@ impl<S: Alter> Tables<S> {
         ensures trusted { self.new.is_trusted ≡ self.old.is_trusted }
         ensures reason { HasReason (is_sound S.Store self.new) result }
     {
+        let alloc = self.allocator();
         let rows = self.ask(LAST_POSTED, params![])?;
-        first_number(&rows)
+        first_number(alloc, &rows)
     }
 
     /// Whether the table of nodes has no row. Only whether there is one is asked, so a damaged row is not told here.

@@ -1,6 +1,6 @@
 //! How tables are made ready for a store.
 
-ghost use Rattle.std.specs.Prelude.{◌≡◌, ◌≢◌, false, Err, IfOk, OnOk, OnErr, IsTrue};
+ghost use Rattle.std.specs.Prelude.{◌≡◌, ◌≢◌, false, Err, IfErr, IfOk, OnOk, OnErr, IsTrue};
 ghost use Rattle.sqlite.specs.Held.{state};
 ghost use Rattle.sqlite.specs.State.{HasCleanDisk};
 ghost use Rattle.kt_tables.specs.Schema.{kt_schema, no_schema};
@@ -28,6 +28,7 @@ pub fn readied<S: Alter>(alloc: Global, conn: &mut Connection<S>) -> Result<bool
         → result ≡ Err StoreError.Damaged }
     ensures unchanged { HasCleanDisk (state S.Store conn.new) → IsTrue (state S.Store conn.new).is_open
         → OnErr result ((state S.Store conn.new).now ≡ (state S.Store conn.old).now) }
+    ensures never_full { IfErr result (λ e. e ≢ StoreError.Full) }
     ensures ended { conn.new.in_transaction ≡ false }
 {
     // Outside a transaction what is seen is what was committed.

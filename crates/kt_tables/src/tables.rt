@@ -1,13 +1,14 @@
 //! How the three tables are made.
 
-ghost use Rattle.std.specs.Prelude.{◌≡◌, ◌≤◌, false, [], OnOk, OnErr, IsTrue};
+ghost use Rattle.std.specs.Prelude.{◌≡◌, ◌≤◌, false, OnOk, OnErr, IsTrue};
 ghost use Rattle.sqlite_trees.specs.View.{doubt};
 ghost use Rattle.sqlite.specs.Held.{state};
-ghost use Rattle.sqlite.specs.State.{HasCleanDisk, ExecutesInside, KeepsCommit, Survives};
+ghost use Rattle.sqlite.specs.State.{HasCleanDisk};
 ghost use Rattle.kt_tables.specs.Schema.{no_schema};
 ghost use Rattle.kt_tables.specs.Made.{IsMade};
 
-use sqlite::{Alter, Connection, Error, Transaction};
+use crate::statements::run;
+use sqlite::{Alter, Connection, Error};
 
 const CREATE_NODE: &str =
     "CREATE TABLE kt_node (id INTEGER PRIMARY KEY, incarnation INTEGER NOT NULL, permanent BLOB, tentative BLOB, \
@@ -23,21 +24,6 @@ const CREATE_META: &str =
 /// The one row of the third table says that the tables are of version 1.
 const FIRST_META: &str = "INSERT OR REPLACE INTO kt_meta VALUES (1, 1)";
 
-/// Runs a statement without parameters.
-fn run<S: Alter>(tx: &mut Transaction<'_, S>, sql: &str) -> Result<usize, Error>
-    ensures same_reference { tx.new.conn.ghost_name ≡ tx.old.conn.ghost_name }
-    ensures runs { HasCleanDisk (state S.Store tx.new.conn.now) → IsTrue (state S.Store tx.old.conn.now).in_transaction
-        → ExecutesInside 0 sql.now [] (state S.Store tx.old.conn.now) (state S.Store tx.new.conn.now) result }
-    ensures inside { HasCleanDisk (state S.Store tx.new.conn.now)
-        → IsTrue (state S.Store tx.old.conn.now).in_transaction
-        → OnOk result (IsTrue (state S.Store tx.new.conn.now).in_transaction) }
-    ensures kept { HasCleanDisk (state S.Store tx.new.conn.now) → IsTrue (state S.Store tx.old.conn.now).in_transaction
-        → KeepsCommit (state S.Store tx.old.conn.now) (state S.Store tx.new.conn.now) }
-    ensures survives { Survives (state S.Store tx.old.conn.now) (state S.Store tx.new.conn.now) (λ _. ⊥) }
-{
-    tx.execute(sql, &[])
-}
-
 /// Makes the three tables, or none of them.
 pub(crate) fn create_tables<S: Alter>(conn: &mut Connection<S>) -> Result<(), Error>
     requires { conn.old.in_transaction ≡ false }
@@ -50,10 +36,10 @@ pub(crate) fn create_tables<S: Alter>(conn: &mut Connection<S>) -> Result<(), Er
     ensures clean { doubt (state S.Store conn.old).is_clean ≤ doubt (state S.Store conn.new).is_clean }
 {
     let mut tx = conn.transaction();
-    run(&mut tx, CREATE_NODE)?;
-    run(&mut tx, CREATE_BOARD)?;
-    run(&mut tx, CREATE_META)?;
-    run(&mut tx, FIRST_META)?;
+    run(&mut tx, CREATE_NODE, &[])?;
+    run(&mut tx, CREATE_BOARD, &[])?;
+    run(&mut tx, CREATE_META, &[])?;
+    run(&mut tx, FIRST_META, &[])?;
     tx.commit()?;
     Ok(())
 }

@@ -1,7 +1,6 @@
 -- What the crates above may cite of these proofs.
 pub use Rattle.kt_tuple.proofs.Homes.{Matches-signature}
 pub use Rattle.kt_tuple.proofs.Nodes.{node_eq-refl, node_index-injective}
-pub use Rattle.kt_tuple.proofs.Separated.{separator_after, separator_after_more, written_more}
 pub use Rattle.kt_tuple.proofs.Readers.{none_chosen}
 pub use Rattle.kt_tuple.proofs.Strings.{all_printable, are_printable}
 pub use Rattle.kt_tuple.proofs.IntLaws.{IsInt, IsPositive, int_of_some, int_spelled, int_taken, just_zero, negative, no_sign, own, positive}

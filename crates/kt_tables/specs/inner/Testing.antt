@@ -1,45 +1,21 @@
 -- What is found of the rows while they are tested, one after the other.
-use Rattle.std.specs.Prelude.{◌≡◌, ◌≢◌, ℕ, ◌≤◌, true, nat_lt, List, map}
+use Rattle.std.specs.Prelude.{◌≡◌, ℕ, ◌<◌, ◌≤◌, List}
 use Rattle.std.specs.List.{AllByRecursion}
-use Rattle.sqlite.specs.Order.{Row}
+use Rattle.sqlite.specs.Order.{Row, column}
 use Rattle.sqlite_trees.specs.Tree.{IsAscending}
-use Rattle.kt_store.specs.declared.rows.NodeRow.{NodeRow}
-use Rattle.kt_store.specs.declared.rows.Posted.{Posted}
-use Rattle.kt_tuple.specs.Node.{is_before}
-use Rattle.kt_tables.specs.Rows.{id_of, node_given, posted_given, IsNodeRow, IsPosted}
+use Rattle.kt_tables.specs.Rows.{number_in}
 
--- the row shows a node that is as said, which has this number, or none
-pub record IsNodeWith (row : Row) (id : ℕ) : Type 0 where
-  pub node : NodeRow
-  pub said : IsNodeRow node
-  pub shown : row ≡ node_given node
-  pub number : id ≡ id_of node.node
+-- the number in the column of the key
+abbrev pub key_of : Row → ℕ
+key_of row = number_in (column row 0)
 
-abbrev pub IsNoNode : Row → Type 0
-IsNoNode row = (r : NodeRow) → IsNodeRow r → row ≢ node_given r
+module _ {X : Type 0} (given : X → Row) (IsSaid : X → Type 0) where
+  -- the row shows a node, or an instance, that is as said
+  abbrev pub IsRowOf : Row → Type 0
+  IsRowOf row = (x : X) × IsSaid x × (row ≡ given x)
 
--- the same of an instance
-pub record IsInstanceWith (row : Row) (instance : ℕ) : Type 0 where
-  pub posted : Posted
-  pub said : IsPosted posted
-  pub shown : row ≡ posted_given posted
-  pub number : instance ≡ posted.instance
-
-abbrev pub IsNoInstance : Row → Type 0
-IsNoInstance row = (p : Posted) → IsPosted p → row ≢ posted_given p
-
--- the rows show nodes that are as said, whose numbers rise from this one on
-pub record AreNodesFrom (low : ℕ) (rows : List Row) : Type 0 where
-  pub nodes : List NodeRow
-  pub shown : rows ≡ map node_given nodes
-  pub said : AllByRecursion IsNodeRow nodes
-  pub above : AllByRecursion (λ (r : NodeRow). low ≤ id_of r.node) nodes
-  pub rise : IsAscending (λ (a b : NodeRow). is_before a.node b.node ≡ true) nodes
-
--- the same of instances
-pub record AreInstancesFrom (low : ℕ) (rows : List Row) : Type 0 where
-  pub board : List Posted
-  pub shown : rows ≡ map posted_given board
-  pub said : AllByRecursion IsPosted board
-  pub above : AllByRecursion (λ (p : Posted). low ≤ p.instance) board
-  pub rise : IsAscending (λ (a b : Posted). nat_lt a.instance b.instance ≡ true) board
+  -- each of the rows does, and their numbers rise from this one on
+  pub record AreRowsFrom (low : ℕ) (rows : List Row) : Type 0 where
+    pub said : AllByRecursion IsRowOf rows
+    pub above : AllByRecursion (λ (r : Row). low ≤ key_of r) rows
+    pub rise : IsAscending (λ (a b : Row). key_of a < key_of b) rows

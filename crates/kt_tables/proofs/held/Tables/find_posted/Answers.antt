@@ -12,7 +12,8 @@ pub ask-requires : goal.ask-requires
 ask-requires g c = get_posted_is.plain
 
 pub returns-in_default-clause-value : goal.returns-in_default-clause-value
-returns-in_default-clause-value g c sure = sym (no_posted_read g.S.Store c.args.self.now (c.allocator.ensures.kept sure) c.args.instance c.in_default.ensures)
+returns-in_default-clause-value g c sure =
+    sym (no_posted_read g.S.Store c.args.self.now (c.allocator-alloc.ensures.kept sure) c.args.instance c.in_default.ensures)
 
 pub returns-clause-value : goal.returns-clause-value
 returns-clause-value g c sure =
@@ -21,15 +22,15 @@ returns-clause-value g c sure =
     rw (c.params-to_sql.ensures, c.in-Some.ensures) at (c.in_ok-rows.ensures.shown sure) in
     let read = posted_read g.S.Store c.args.self.now c.ask.new.self (c.in_ok-rows.ensures.kept sure)
     (c.in_ok-rows.ensures.same sure) c.args.instance c.in_ok-rows.rows.items shown in
-    gives_value _ c.first_posted.result (c.first_posted.ensures.exact _ read.1 (ap (λ rows. slice_get rows 0) c.deref.ensures.value ∙ read.0))
+    gives_value _ c.first_of.result (c.first_of.ensures.exact _ read.1 (ap (λ rows. slice_get rows 0) c.deref.ensures.value ∙ read.0))
 
 pub returns-clause-reason : goal.returns-clause-reason
 returns-clause-reason g c =
-    read_reason (is_sound g.S.Store c.ask.new.self) c.first_posted.result c.first_posted.ensures.named (λ sound.
+    read_reason (is_sound g.S.Store c.ask.new.self) c.first_of.result c.first_of.ensures.named (λ sound.
     let sure = c.in_ok-rows.ensures.sure sound in
     let shown : Shown get_posted_text (whole c.args.instance ∷ []) (state g.S.Store c.args.self.now.conn)
     (state g.S.Store c.ask.new.self.conn) c.in_ok-rows.rows.items =
     rw (c.params-to_sql.ensures, c.in-Some.ensures) at (c.in_ok-rows.ensures.shown sure) in
     let read = posted_read g.S.Store c.args.self.now c.ask.new.self (c.in_ok-rows.ensures.kept sure)
     (c.in_ok-rows.ensures.same sure) c.args.instance c.in_ok-rows.rows.items shown in
-    gives_memory _ c.first_posted.result (c.first_posted.ensures.exact _ read.1 (ap (λ rows. slice_get rows 0) c.deref.ensures.value ∙ read.0)))
+    gives_memory _ c.first_of.result (c.first_of.ensures.exact _ read.1 (ap (λ rows. slice_get rows 0) c.deref.ensures.value ∙ read.0)))

@@ -2,7 +2,7 @@ use Rattle.std.proofs.Common.{false}
 use Rattle.sqlite.specs.Held.{state}
 use Rattle.sqlite.proofs.InsideLemmas.{inside_keeps}
 use Rattle.kt_tables.proofs.StateLemmas.{stays_inside}
-use Rattle.kt_tables.proofs.statements.put_posted.Goals as goal
+use Rattle.kt_tables.proofs.statements.run.Goals as goal
 
 pub returns-clause-kept : goal.returns-clause-kept
 returns-clause-kept g c clean inside =
