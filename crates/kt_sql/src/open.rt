@@ -44,6 +44,9 @@ fn file_error(error: Error) -> SqlOpenError
 /// Why the files at a path were not opened.
 fn path_error(error: PathError) -> SqlOpenError
     ensures named { (result ≡ SqlOpenError.Memory) ⊎ (result ≡ SqlOpenError.Device) }
+    ensures memory { error ≡ PathError.OutOfMemory → result ≡ SqlOpenError.Memory }
+    ensures busy { error ≡ PathError.Busy → result ≡ SqlOpenError.Device }
+    ensures hot { error ≡ PathError.HotJournal → result ≡ SqlOpenError.Device }
 {
     match error {
         PathError::OutOfMemory => SqlOpenError::Memory,
@@ -151,6 +154,7 @@ impl SqlStore<MemStore> {
         ensures honest { IfOk result (λ s. IsTrue (is_sure over_memory s.tables)) }
         ensures fresh { IfOk result (λ s. content_of over_memory s.tables ≡ empty_content) }
         ensures counts { IfOk result (λ s. s.counts ≡ nothing_counted) }
+        ensures undamaged { IfErr result (λ e. e ≢ SqlOpenError.Damaged) }
     {
         match SqlStore::adopt(alloc, Connection::open_in_memory(alloc)?) {
             Ok(store) => Ok(store),

@@ -7,3 +7,6 @@ returns-in-Ok-clause-honest c = (c.in-Ok.ensures.fresh (no_doubt true refl) c.in
 
 pub returns-in-Ok-clause-fresh : goal.returns-in-Ok-clause-fresh
 returns-in-Ok-clause-fresh c = (c.in-Ok.ensures.fresh (no_doubt true refl) c.in_ok-open_in_memory.ensures.empty.2).1
+
+pub returns-clause-undamaged : goal.returns-clause-undamaged
+returns-clause-undamaged c = λ is. (c.in-Err.ensures.damaged is (no_doubt true refl)).0 c.in_ok-open_in_memory.ensures.empty.2
