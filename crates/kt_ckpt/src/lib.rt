@@ -3,18 +3,20 @@
 //! - Contract: each checkpoint has one spelling, which is read as this checkpoint (`Ckpt::encode`, clauses `value` and
 //!   `read_back`). Other bytes are refused with their first fault from the left, want of memory aside (`Ckpt::decode`,
 //!   clause `exact`).
-//! - Stands on: kt_tuple, kt_script, kt_link, kt_shard; of the kit: thiserror
+//! - Stands on: kt_tuple, kt_script, kt_space, kt_link, kt_shard, kt_history; of the kit: thiserror
 //! - Used by: kt_store, kt_tables, kt_sql, kt_node, kt_world, kt_refinement, kt_core, kt_stage
 //! - Begin in: `ckpt.rt` and `state.rt` for the fields, then `decode.rt` and `encode.rt`, field by field. `limits.rt`
 //!   has the codes of the format.
 #![tactic(auto)]
 
+mod acts;
 mod ckpt;
 mod decode;
 mod encode;
 mod entry;
 mod error;
 mod limits;
+mod lines;
 mod list;
 mod marks;
 mod numbers;
@@ -25,8 +27,10 @@ mod tuple;
 mod value;
 mod worker;
 
+pub use acts::LineAct;
 pub use ckpt::Ckpt;
 pub use error::CkptError;
 pub use limits::MAX_PEERS;
+pub use lines::line_acts;
 pub use marks::Marks;
 pub use state::{ShardState, State, WorkerState};

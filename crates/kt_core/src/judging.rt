@@ -125,8 +125,7 @@ impl Machine {
             Some(node) => Ok(View {
                 role,
                 node,
-                next: self.history.notes().len() as u64 + 1,
-                line: self.history.line(id),
+                history: &self.history,
             }),
             _ => Err(StepError::NoNode),
         }

@@ -1,6 +1,6 @@
 //! How a node begins to vote in an instance.
 
-ghost use Rattle.std.specs.Prelude.{◌≡◌, ◌++◌, IfOk, None, Some, filter};
+ghost use Rattle.std.specs.Prelude.{◌≡◌, ◌++◌, IfOk, IsTrue, None, Some, filter};
 ghost use Rattle.std.specs.Option.{option_copied};
 ghost use Rattle.kt_vote.specs.Order.{IsInOrder};
 ghost use Rattle.kt_vote.specs.Poll.{asking_poll};
@@ -9,6 +9,7 @@ ghost use Rattle.kt_node.specs.View.{view_of};
 ghost use Rattle.kt_node.specs.Views.{role_view};
 ghost use Rattle.kt_node.specs.inner.Codes.{live_view};
 ghost use Rattle.kt_node.specs.Saving.{CanSave};
+ghost use Rattle.kt_node.specs.Stored.{acts_fit};
 ghost use Rattle.kt_node.specs.Joining.{asker_of, begin_check_plan, cohort, is_in_cohort};
 ghost use Rattle.kt_node.specs.inner.Between.{held_ballot};
 ghost use Rattle.kt_node.specs.Joining.{join_check_plan, join_rollback_plan, rolling_plan};
@@ -26,7 +27,7 @@ use crate::role::{Role, View};
 use crate::saving::checkpoint_of;
 use crate::stored::received_in;
 use crate::voting::{add_vote, cast};
-use kt_ckpt::Marks;
+use kt_ckpt::{LineAct, Marks};
 use kt_tuple::NodeId;
 use kt_vote::{Asker, Ballot};
 use std::alloc::{AllocError, Global};
@@ -147,15 +148,18 @@ impl View<'_> {
         live: &Live,
         instance: u64,
         permanent: Option<&Marks>,
+        acts: Vec<LineAct>,
     ) -> Result<Plan, AllocError>
-        requires { CanSave (view_of self) (live_view live.now) }
+        requires can { CanSave (view_of self) (live_view live.now) }
+        requires acts { acts.items ≡ (view_of self).acts }
+        requires shape { IsTrue (acts_fit (role_view self.role) acts.items) }
         ensures { IfOk result (λ p. p ≡
             begin_check_plan (view_of self.entry) (live_view live.now) instance (option_copied permanent.entry)) }
     {
         let asked = cohort(alloc, self.role, permanent, live)?;
         let ballot = Ballot::asking(alloc, instance, live.incarnation, None, asked)?;
         let (ballot, send) = held_ballot(alloc, live, ballot)?;
-        let checkpoint = checkpoint_of(alloc, self.role, live, self.line_len())?;
+        let checkpoint = checkpoint_of(alloc, self.role, live, self.line_len(), acts)?;
         held_plan(alloc, ballot, send, Write::BeginCheck(checkpoint))
     }
 
@@ -167,8 +171,11 @@ impl View<'_> {
         from: NodeId,
         ask: Ask,
         permanent: Option<&Marks>,
+        acts: Vec<LineAct>,
     ) -> Result<Plan, AllocError>
-        requires { CanSave (view_of self) (live_view live.now) }
+        requires can { CanSave (view_of self) (live_view live.now) }
+        requires acts { acts.items ≡ (view_of self).acts }
+        requires shape { IsTrue (acts_fit (role_view self.role) acts.items) }
         ensures { IfOk result (λ p. p ≡
             join_check_plan (view_of self.entry) (live_view live.now) from ask (option_copied permanent.entry)) }
     {
@@ -177,7 +184,7 @@ impl View<'_> {
         let parent = Some(asker_of(from, ask));
         let ballot = Ballot::asking(alloc, instance, incarnation, parent, asked)?;
         let (ballot, send) = held_ballot(alloc, live, ballot)?;
-        let checkpoint = checkpoint_of(alloc, self.role, live, self.line_len())?;
+        let checkpoint = checkpoint_of(alloc, self.role, live, self.line_len(), acts)?;
         let write = Write::PutTentative {
             instance,
             checkpoint,

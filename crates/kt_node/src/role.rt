@@ -1,10 +1,13 @@
 //! Who makes a step, and what it sees.
 
-ghost use Rattle.std.specs.Prelude.{◌≡◌};
+ghost use Rattle.std.specs.Prelude.{◌≡◌, IfOk};
 
 use crate::node::Node;
+use kt_ckpt::{LineAct, line_acts};
+use kt_history::History;
 use kt_script::Script;
 use kt_tuple::NodeId;
+use std::alloc::{AllocError, Global};
 
 /// Who a node is, which the scene says.
 #[derive(Clone, Copy, Debug)]
@@ -24,19 +27,31 @@ pub struct View<'a> {
     pub role: Role<'a>,
     /// The owner as it is before the step, down or not.
     pub node: &'a Node,
-    /// The number that the next note will have, counted from 1.
-    pub next: u64,
-    /// The owner's line: the numbers of the acts that it remembers, oldest first.
-    pub line: &'a [u64],
+    /// What all nodes did so far, the owner among them.
+    pub history: &'a History,
 }
 
 impl View<'_> {
     ghost use Rattle.kt_node.specs.View.{view_of};
 
+    /// The number that the next note will have, counted from 1.
+    pub(crate) fn next(self) -> u64
+        ensures { result ≡ (view_of self.entry).next }
+    {
+        self.history.notes().len() as u64 + 1
+    }
+
     /// How many acts the owner remembers.
     pub(crate) fn line_len(self) -> u64
         ensures { result ≡ (view_of self.entry).line_len }
     {
-        self.line.len() as u64
+        self.history.line(self.role.id).len() as u64
+    }
+
+    /// The acts that the owner remembers, as a checkpoint holds them.
+    pub(crate) fn acts(self, alloc: Global) -> Result<Vec<LineAct>, AllocError>
+        ensures { IfOk result (λ v. v.items ≡ (view_of self.entry).acts) }
+    {
+        line_acts(alloc, self.history, self.role.id)
     }
 }

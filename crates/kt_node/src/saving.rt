@@ -1,37 +1,40 @@
 //! The checkpoint of a moment.
 
-ghost use Rattle.std.specs.Prelude.{◌≡◌, ◌≤◌, ◌++◌, IfOk, OnOk};
+ghost use Rattle.std.specs.Prelude.{◌≡◌, ◌≤◌, ◌++◌, IfOk, OnOk, IsTrue};
 ghost use Rattle.kt_ckpt.specs.Checkpoint.{HasCounts, IsCountedState};
 ghost use Rattle.kt_script.specs.declared.script.TheConstants.{MAX_COMMANDS};
 ghost use Rattle.kt_shard.specs.Shard.{desk_of};
 ghost use Rattle.kt_node.specs.Labels.{listed};
 ghost use Rattle.kt_node.specs.State.{body_fields, checkpoint_of, entries, entry, shard_fields, worker_fields};
+ghost use Rattle.kt_node.specs.Stored.{acts_fit};
 ghost use Rattle.kt_node.specs.Views.{role_view};
 ghost use Rattle.kt_node.specs.inner.Codes.{body_view, live_view};
 
 use crate::live::{Body, Live};
 use crate::role::Role;
-use kt_ckpt::{Ckpt, ShardState, State, WorkerState};
+use kt_ckpt::{Ckpt, LineAct, ShardState, State, WorkerState};
 use kt_link::Label;
 use kt_shard::{Kept, Request, Shard};
 use kt_tuple::{MAX_WORKERS, Op, Value, copy_values};
 use kt_worker::Worker;
 use std::alloc::{AllocError, Global};
 
-/// The checkpoint of the node, which remembers so many acts.
+/// The checkpoint of the node, which remembers so many acts, these.
 pub(crate) fn checkpoint_of(
     alloc: Global,
     role: Role<'_>,
     live: &Live,
     line_len: u64,
+    acts: Vec<LineAct>,
 ) -> Result<Ckpt, AllocError>
-    requires { HasCounts (checkpoint_of (role_view role) (live_view live.now) line_len) }
-    ensures { IfOk result (λ c. c ≡ checkpoint_of (role_view role.entry) (live_view live.now) line_len) }
+    requires counts { HasCounts (checkpoint_of (role_view role) (live_view live.now) line_len acts.items) }
+    requires shape { IsTrue (acts_fit (role_view role) acts.items) }
+    ensures { IfOk result (λ c. c ≡ checkpoint_of (role_view role.entry) (live_view live.now) line_len acts.items) }
 {
     let sent = listed(alloc, role.peers, &live.sent)?;
     let received = listed(alloc, role.peers, &live.received)?;
     let state = body_state(alloc, &live.body)?;
-    Ckpt::new(alloc, role.id, line_len, sent, received, state)
+    Ckpt::new(alloc, role.id, line_len, sent, received, state, acts)
 }
 
 /// The labels of so many neighbours.
