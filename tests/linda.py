@@ -1,12 +1,26 @@
 """Linda's values, templates and scripts, as plain as can be, and their texts: what tests/protocol.py stands on.
 
-A tuple of the space is a tuple of ints and strings. A place of a template is such a value or a `Formal`; in a script it
-may be a `Name`, of a variable.
+A tuple of the space is a tuple of ints, strings and truths. A place of a template is such a value or a `Formal`; in a
+script it may be a `Name`, of a variable.
 """
 
 from collections import namedtuple
+from enum import Enum
 
 LEAST, MOST = -(2**63), 2**63 - 1
+
+
+class Truth(Enum):
+    """The bools of Linda. Those of Python are ints, and equal to 0 and 1."""
+
+    TRUE = "true"
+    FALSE = "false"
+
+
+KINDS = {int: "int", str: "str", Truth: "bool"}
+# of a kind: its code in a signature, and what a variable of it begins as
+CODES = {"int": 1, "str": 2, "bool": 3}
+ZEROS = {"int": 0, "str": "", "bool": Truth.FALSE}
 
 Formal = namedtuple("Formal", "kind name", defaults=[None])
 Name = namedtuple("Name", "name")
@@ -18,10 +32,12 @@ DONE, NONE = "done", "none"
 # ---- texts
 
 
-def value_text(value):
-    if isinstance(value, int):
-        return str(value)
+def string_text(value):
     return '"' + value.replace("\\", "\\\\").replace('"', '\\"') + '"'
+
+
+def value_text(value):
+    return {"int": str, "str": string_text, "bool": lambda truth: truth.value}[kind_of(value)](value)
 
 
 def place_text(place):
@@ -50,7 +66,7 @@ def command_text(command):
 def kind_of(place):
     if isinstance(place, Formal):
         return place.kind
-    return "int" if isinstance(place, int) else "str"
+    return KINDS[type(place)]
 
 
 def matches(template, values):
@@ -63,7 +79,7 @@ def matches(template, values):
 def shard_of(places, shards):
     number = 0
     for place in places:
-        number = 5 * number + {"int": 1, "str": 2}[kind_of(place)]
+        number = 5 * number + CODES[kind_of(place)]
     return f"s{number % shards + 1}"
 
 
@@ -80,7 +96,7 @@ def bound(values, places, answer):
 
 def asked_next(script, kinds, answers):
     """The operation that is asked for after these answers, from the script's beginning on; None at its end."""
-    values = {name: 0 if kind == "int" else "" for name, kind in kinds.items()}
+    values = {name: ZEROS[kind] for name, kind in kinds.items()}
     place, was_none, left = 0, False, list(answers)
     while place < len(script):
         command = script[place]

@@ -63,16 +63,20 @@ def ring():
     return written(2, scripts, faults, 41, ['("token", 0, 20)'])
 
 
-# Of eight shards each keeps one of these.
+# Of eight shards each keeps one of these, in either list.
 KINDS = ['("a")', '("a", "b")', '("a", 1)', "(1)", '(1, "a")', '(1, "a", "b")', "(1, 2)", '(1, 2, "a")']
+OTHER_KINDS = [
+    '("a", "b")', '("a", true)', "(1, 2)", '(1, 2, 3, 4, 5, 6, 7, 8, 9, 10, 11, 12, 13, 14, "a", true)',
+    "(true)", '(true, "a")', "(true, 1)", "(true, false)",
+]
 
 
-def eight(faults, lost=None):
-    """Eight workers over eight shards put tuples and take them, 1,000 operations in all."""
+def over_eight(kinds, workers, faults, lost=None):
+    """Workers over eight shards put tuples of these kinds and take them, 125 operations each."""
     scripts = [
-        [f"{'in' if n % 2 else 'out'} {KINDS[(worker + n // 2) % 8]}" for n in range(125)] for worker in range(8)
+        [f"{'in' if n % 2 else 'out'} {kinds[(worker + n // 2) % 8]}" for n in range(125)] for worker in range(workers)
     ]
-    return written(8, scripts, faults, 1000, KINDS, lost)
+    return written(8, scripts, faults, 125 * workers, sorted(kinds * (workers // 8)), lost)
 
 
 SCENES = {
@@ -85,8 +89,12 @@ SCENES = {
 }
 
 LARGE_SCENES = {
-    "8 workers, 8 shards, 1,000 operations": eight([], 0),
-    "the same with checks and failures": eight(
-        ["check w1 after 120", "check s5 after 160", "fail s3 after 150", "fail w7 after 200"]
+    "8 workers, 8 shards, 1,000 operations": over_eight(KINDS, 8, [], 0),
+    "the same with checks and failures": over_eight(
+        KINDS, 8, ["check w1 after 120", "check s5 after 160", "fail s3 after 150", "fail w7 after 200"]
+    ),
+    "16 workers, 8 shards, 2,000 operations": over_eight(OTHER_KINDS, 16, [], 0),
+    "the same with failures": over_eight(
+        OTHER_KINDS, 16, ["check w16 after 120", "check s5 after 160", "fail s3 after 150", "fail w9 after 200"]
     ),
 }

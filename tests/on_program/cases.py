@@ -3,8 +3,9 @@
 from on_program.starting import CLOSED, FOLDER, FULL, NOBODY, ROOT, Starts, scenario, start, tell
 from on_program.texts import (
     AGAIN, ANSWERED_AGAIN, A_SHARD_FAILS, BAG_OF_TASKS, CHECKPOINT_OF_TWO, HEAD, HELP, HELP_OF_REPLAY, HELP_OF_RUN,
-    LOST, NOBODY_FAILS, NO_STEPS, ONE_PUT, PUT_AND_TAKE, REFUSED_NINTH, SHARD_FAILS, SHARD_OF_SIGNATURE, THREE_PUT,
-    THREE_SHARDS, TO_FAILURE, TO_SHARD, TWO_TAKERS, UNLESS_SKIPS, UNRESOLVED, VERSION,
+    LOST, NINE, NOBODY_FAILS, NO_STEPS, ONE_OF_NINE, ONE_OF_SIXTEEN, ONE_PUT, PUT_AND_TAKE, REFUSED_NINTH, SHARD_FAILS,
+    SHARD_OF_SIGNATURE, SIXTEEN, THREE_PUT, THREE_SHARDS, THREE_TRUTHS, TO_FAILURE, TO_SHARD, TRUTHS, TWO_TAKERS,
+    UNLESS_SKIPS, UNRESOLVED, VERSION, crowd, putting,
 )
 
 # ---- the table: name, words, input, output, standard error, status. An input or output that is a str is
@@ -32,6 +33,11 @@ CASES = [
      b"step 100001: 3 NothingThere\n", 4),
     ("two_takers, a refused ninth step", ["replay"], REFUSED_NINTH, b"", b"step 9: 4 NoSuchMatch\n", 4),
     ("one put", ["replay"], HEAD + TO_SHARD + b"end\n", ONE_PUT, b"", 0),
+    ("bools", ["replay"], TRUTHS, THREE_TRUTHS, b"", 0),
+    ("a tuple of nine places", ["replay"], putting(NINE) + TO_SHARD + b"end\n", ONE_OF_NINE, b"", 0),
+    ("a tuple of sixteen places", ["replay"], putting(SIXTEEN) + TO_SHARD + b"end\n", ONE_OF_SIXTEEN, b"", 0),
+    ("sixteen workers", ["replay"], crowd(16), NO_STEPS, b"", 0),
+    ("a ninth worker", ["replay"], crowd(9), NO_STEPS, b"", 0),
     ("the input from a file", ["replay"], f"{ROOT}/scenarios/put_and_take.scn", PUT_AND_TAKE, b"", 0),
     # runs by threads
     ("a_shard_fails", ["run"], scenario("a_shard_fails"), A_SHARD_FAILS, b"", 0),
@@ -65,6 +71,13 @@ CASES = [
     ("another first line", ["replay"], b"linda-kt 2\nshards 1\n", b"", b"line 1: 1 Header\n", 3),
     ("an unknown step", ["replay"], HEAD + b"jump w1\nend\n", b"", b"line 7: 2 Word\n", 3),
     ("a tuple without a value", ["replay"], HEAD.replace(b'("a", 1)', b"()") + b"end\n", b"", b"line 4: 3 Tuple\n", 3),
+    ("a tuple of seventeen places", ["replay"], putting(SIXTEEN.replace(")", ", 17)")) + b"end\n", b"",
+     b"line 4: 3 Tuple\n", 3),
+    ("half of a value, which is a name", ["replay"], putting("(tru)") + b"end\n", b"", b"line 4: 4 Variable\n", 3),
+    ("a name that begins as a value", ["replay"], putting("(trueish)") + b"end\n", b"", b"line 4: 4 Variable\n", 3),
+    ("half of a formal", ["replay"], HEAD.replace(b'out ("a", 1)', b"in (?boo)") + b"end\n", b"",
+     b"line 4: 3 Tuple\n", 3),
+    ("a seventeenth worker", ["replay"], crowd(17), b"", b"line 19: 5 Limit\n", 3),
     ("a ninth shard", ["replay"], b"linda-kt 1\nshards 9\nworker\nsteps\nend\n", b"", b"line 2: 5 Limit\n", 3),
     ("eight shards", ["replay"], b"linda-kt 1\nshards 8\nworker\nsteps\nend\n", NO_STEPS, b"", 0),
     ("no shard", ["replay"], b"linda-kt 1\nshards 0\nworker\nsteps\nend\n", b"", b"line 2: 5 Limit\n", 3),

@@ -35,19 +35,21 @@ EXAMPLES = [
     (WORKER, "out (?int)", "3 Tuple"),
     (WORKER, "in (?int X)", "3 Tuple"),
     (WORKER, "in (?int int)", "3 Tuple"),
+    (WORKER, "in (?boo)", "3 Tuple"),
     (WORKER, "out (x)", "4 Variable"),
     (WORKER, "in (?int x, x)", "4 Variable"),
     (WORKER, "in (?int x, ?str x)", "4 Variable"),
     ("linda-kt 1\n", "shards 0", "5 Limit"),
     ("linda-kt 1\n", "shards 9", "5 Limit"),
-    (TITLE + "worker\n" * 8, "worker", "5 Limit"),
+    (TITLE + "worker\n" * 16, "worker", "5 Limit"),
     (FULL_SCRIPT, 'out ("a", 1)', "5 Limit"),
     (WORKER, "unless 0", "5 Limit"),
     (WORKER, "unless 201", "5 Limit"),
     (STEPS + "end\n", "issue w1", "7 End"),
 ]
-# As the tuple or template of a command: these stand there with the place of their fault.
-TUPLES = ["(-0)", "(01)", "()", "(1,2)", "(1", "(1, 9223372036854775808)", "(1, 1, 1, 1, 1, 1, 1, 1, 1)"]
+# As the tuple or template of a command: these stand there with the place of their fault. In a command `tru` is a name.
+NAMED = ["(tru)"]
+TUPLES = ["(-0)", "(01)", "()", "(1,2)", "(1", *NAMED, "(1, 9223372036854775808)", f"({'1, ' * 16}1)"]
 COUNTER_STEPS = "steps\n" + "issue w1\ndeliver w1 s1\nserve s1 w1 0\ndeliver s1 w1\n" * 2 + "end\n"
 COUNTER = report(
     "survivors 2",
@@ -89,7 +91,7 @@ MISTAKES = [
     ("`OUT", instead("out ", "OUT ", "put ")),
     ('`out ("a",1)`', instead(PUT, 'out ("a",1)\n')),
     ("`out ('a', 1)`", instead(PUT, "out ('a', 1)\n")),
-    ('`out ("a", 1.5)`', instead(PUT, 'out ("a", 1.5)\n', 'out ("a", true)\n')),
+    ('`out ("a", 1.5)`', instead(PUT, 'out ("a", 1.5)\n', 'out ("a", True)\n')),
     ('`out ("a", ?int)`', instead(PUT, 'out ("a", ?int)\n')),
     ('`out ("a", y)`', instead(PUT, 'out ("a", y)\n')),
     ("`set x = x - 1`", instead("steps\n", "set x = x - 1\nsteps\n")),
@@ -130,7 +132,7 @@ def formats_page():
     counting = f"{WORKER}{script}{COUNTER_STEPS}".encode()
     yield tell("the page's script", (COUNTER, b"", 0), start(["replay"], counting, b""))
     yield from mistakes(page, text)
-    lines = EXAMPLES + [(WORKER, f"out {bad}", "3 Tuple") for bad in TUPLES]
+    lines = EXAMPLES + [(WORKER, f"out {bad}", "4 Variable" if bad in NAMED else "3 Tuple") for bad in TUPLES]
     for name, given, line in [("end without its line feed", STEPS + "end", 5), ("empty text", "", 1)]:
         wanted = (b"", f"line {line}: 7 End\n".encode(), 3)
         yield tell(f"the page's {name}", wanted, start(["replay"], given.encode(), b""))

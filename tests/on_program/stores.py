@@ -20,7 +20,7 @@ NOBODY_ID = 65534
 ONE_PAGE = 32 + 24 + 512
 # what the page says of the shard's checkpoint
 SHARD_BYTES = (
-    "4b54435001020100000000000000020100000000000000010000000000000001000000000000000100000000000000010000000102020161"
+    "4b54435002020100000000000000020100000000000000010000000000000001000000000000000100000000000000010000000102020161"
     "0100000000000000010001010000000000000001010202016101000000000000000100"
 )
 NODES = "SELECT id, incarnation, length(permanent), length(tentative), instance FROM kt_node ORDER BY id"
@@ -162,8 +162,11 @@ def shown(folder, file):
     yield from refused("a database with other tables", other, DAMAGED)
     made = f"{folder}/made.db"
     tables = [line for line in page.splitlines() if line.startswith("CREATE TABLE kt_")]
-    subprocess.run(["sqlite3", made, *tables, "INSERT INTO kt_meta VALUES (1, 1)"], check=True)
+    subprocess.run(["sqlite3", made, *tables, "INSERT INTO kt_meta VALUES (1, 2)"], check=True)
     yield tell("the page's tables, made by sqlite3", (CHECKPOINT_OF_TWO, b"", 0), replayed(made))
+    earlier = f"{folder}/earlier.db"
+    subprocess.run(["sqlite3", earlier, *tables, "INSERT INTO kt_meta VALUES (1, 1)"], check=True)
+    yield from refused("a store of version 1", earlier, DAMAGED)
     changed = f"{folder}/changed.db"
     copied_to(file, changed)
     subprocess.run(["sqlite3", changed, ONE_BYTE], check=True)

@@ -91,6 +91,25 @@ THREE_PUT = report(
     "(1, 2)",
     "permanent 0",
 )
+ANSWERED = b"issue w1\ndeliver w1 s1\nserve s1 w1 0\ndeliver s1 w1\n"
+TRUTHS = (
+    b"linda-kt 1\nshards 2\nworker\nout (true, 1)\nin (?bool b, 1)\nout (b)\nsteps\n" + 2 * ANSWERED
+    + b"issue w1\ndeliver w1 s2\nserve s2 w1 0\nend\n"
+)
+THREE_TRUTHS = report(
+    "survivors 3",
+    "w1.1 out (true, 1) done",
+    "w1.2 in (?bool, 1) got (true, 1)",
+    "w1.3 out (true) done",
+    "lost 0",
+    "space 1",
+    "(true)",
+    "permanent 0",
+)
+SIXTEEN = "(" + ", ".join(map(str, range(1, 17))) + ")"
+ONE_OF_SIXTEEN = report("survivors 1", f"w1.1 out {SIXTEEN} done", "lost 0", "space 1", SIXTEEN, "permanent 0")
+NINE = "(1, 1, 1, 1, 1, 1, 1, 1, 1)"
+ONE_OF_NINE = report("survivors 1", f"w1.1 out {NINE} done", "lost 0", "space 1", NINE, "permanent 0")
 SHARD_FAILS = report(
     "survivors 1",
     'w1.1 out ("a", 1) done',
@@ -173,4 +192,17 @@ HELP_OF_RUN = report(
 )
 VERSION = report("linda_kt 0.1.0")
 AGAIN = b"repeat w1\n"
+
+
+def putting(values):
+    """The scenario up to the first request, which puts the tuple of this text."""
+    return HEAD.replace(b'("a", 1)', values.encode())
+
+
+def crowd(workers):
+    """A scenario of so many workers, of which the last puts a tuple that nobody hears of."""
+    others = b"worker\n" * (workers - 1)
+    return b"linda-kt 1\nshards 8\n" + others + b"worker\nout (1)\nsteps\nissue w%d\nend\n" % workers
+
+
 ONE_PUT = report("survivors 1", 'w1.1 out ("a", 1) done', "lost 0", "space 1", '("a", 1)', "permanent 0")

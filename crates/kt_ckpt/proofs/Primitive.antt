@@ -1,6 +1,6 @@
--- Bytes, numbers and lists are fields.
-use Rattle.std.proofs.Common.{◌≡◌, ℕ, zero, suc, ◌+◌, ◌^◌, ◌<◌, ◌≤◌, Bool, true, false, cond, ltb, leb, ◌&&◌, List, [], ◌∷◌, ◌++◌, length, take, drop, Result}
-use Rattle.std.proofs.Common.{Ok, Err, refl, sym, ap, subst, ◌∙◌, append_assoc, arith}
+-- Bytes, truths, numbers and lists are fields.
+use Rattle.std.proofs.Common.{◌≡◌, ℕ, zero, suc, ◌+◌, ◌^◌, ◌<◌, ◌≤◌, Bool, true, false, cond, eqb, ltb, leb, ◌&&◌, List, [], ◌∷◌, ◌++◌, length, take, drop}
+use Rattle.std.proofs.Common.{Result, Ok, Err, refl, sym, ap, subst, ◌∙◌, append_assoc, arith}
 use Rattle.std.specs.Prelude.{All}
 use Rattle.std.specs.List.{flat_map}
 use Rattle.std.specs.Int.{Width, w16, w32, w64, byte_len, from_be_bytes, to_be_bytes}
@@ -12,8 +12,9 @@ use Rattle.kt_ckpt.specs.declared.error.CkptError.{CkptError}
 use Rattle.kt_ckpt.specs.declared.error.CkptError.TheVariants.{Cut, Field}
 use Rattle.kt_tuple.specs.declared.node.TheConstants.{MAX_WORKERS}
 use Rattle.kt_ckpt.specs.Reading.{◌>>=◌, byte_at, bytes_at, number_at, within, byte_within, list_at, rising_at, IsRising}
+use Rattle.kt_ckpt.specs.Flag.{flag_bytes, flag_at}
 use Rattle.kt_ckpt.proofs.Field.{IsBytes, IsBytes-take, IsBytes-drop, IsBytes-tail, Takes, Takes-then, Continues, IsField, Lasts, the_ok, pair_of_ok, bind_ok}
-use Rattle.kt_ckpt.proofs.Combined.{known_lasts, behind_lasts}
+use Rattle.kt_ckpt.proofs.Combined.{known_lasts, behind_lasts, made_field, made_lasts}
 
 -- ---- bytes
 
@@ -82,6 +83,30 @@ byte_within_field low high lt =
 pub byte_within_lasts : (low high : ℕ) → Lasts (byte_within low high)
 unfolding byte_within
 byte_within_lasts low high = let l = within_lasts low high byte_lasts in record { goes_on = l.goes_on }
+
+-- ---- truths
+
+abbrev is_one : ℕ → Bool
+is_one n = eqb n 1
+
+flag_same : (n : ℕ) → n ≤ 1 → n ∷ [] ≡ flag_bytes (is_one n)
+flag_same zero le = refl
+flag_same (suc zero) le = refl
+flag_same (suc (suc n)) le = absurd (omega arith)
+
+flag_from : (b : Bool) → Unit {0} → (n : ℕ) × (((0 ≤ n) × (n ≤ 1)) × (is_one n ≡ b))
+flag_from true h = (1, ((omega arith, omega arith), refl))
+flag_from false h = (0, ((omega arith, omega arith), refl))
+
+pub flag_field : IsField flag_bytes (λ b. Unit {0}) flag_at
+unfolding flag_at
+flag_field =
+    let f = made_field (byte_within_field 0 1 (omega arith)) is_one flag_bytes (λ b. Unit {0}) (λ n h. flag_same n h.1) (λ n h. tt) flag_from in
+    record { again = f.again; takes = f.takes }
+
+pub flag_lasts : Lasts flag_at
+unfolding flag_at
+flag_lasts = let l = made_lasts is_one (byte_within_lasts 0 1) in record { goes_on = l.goes_on }
 
 -- ---- numbers
 

@@ -1,5 +1,5 @@
 -- What a checkpoint holds of its node is a field.
-use Rattle.std.proofs.Common.{◌≡◌, ℕ, zero, suc, ◌^◌, ◌<◌, ◌≤◌, Bool, true, false, eqb, List, [], ◌∷◌, ◌++◌, length, Option, Some, None, Result, refl, sym}
+use Rattle.std.proofs.Common.{◌≡◌, ℕ, ◌^◌, ◌<◌, ◌≤◌, Bool, true, false, List, [], ◌++◌, length, Option, Some, None, Result, refl, sym}
 use Rattle.std.proofs.Common.{ap, subst, ◌∙◌, arith}
 use Rattle.std.specs.Prelude.{All, IfSome}
 use Rattle.std.specs.List.{flat_map}
@@ -18,14 +18,14 @@ use Rattle.kt_tuple.specs.declared.node.TheConstants.{MAX_WORKERS}
 use Rattle.kt_ckpt.specs.Reading.{◌>>=◌, made, number_at, list_at, rising_at, IsRising}
 use Rattle.kt_ckpt.specs.Tuple.{IsTuple, tuple_bytes, tuple_at}
 use Rattle.kt_ckpt.specs.Op.{IsOp, op_bytes, op_at, answer_bytes, answer_at}
-use Rattle.kt_ckpt.specs.State.{IsWorker, flag_bytes, asked_bytes, variables_bytes, worker_bytes, pc_at, flag_at, asked_behind, asked_at, variables_at}
-use Rattle.kt_ckpt.specs.State.{worker_at}
+use Rattle.kt_ckpt.specs.Flag.{flag_bytes, flag_at}
+use Rattle.kt_ckpt.specs.State.{IsWorker, asked_bytes, variables_bytes, worker_bytes, pc_at, asked_behind, asked_at, variables_at, worker_at}
 use Rattle.kt_ckpt.specs.State.{IsRequest, IsKept, IsShard, bag_bytes, request_bytes, kept_bytes, entry_bytes, entries_bytes, shard_bytes, bag_at, request_at}
 use Rattle.kt_ckpt.specs.State.{kept_at, entries_at, shard_at}
 use Rattle.kt_ckpt.proofs.Field.{IsField, Lasts}
 use Rattle.kt_ckpt.proofs.Combined.{known, known_lasts, same_field, behind, behind_lasts, made_field, made_lasts}
 use Rattle.kt_ckpt.proofs.Primitive.{byte_within_field, byte_within_lasts, within_field, within_lasts, wide16, wide32, wide64, number_field, number_lasts}
-use Rattle.kt_ckpt.proofs.Primitive.{list_field, list_lasts, rising_field, rising_lasts, rising_len}
+use Rattle.kt_ckpt.proofs.Primitive.{flag_field, flag_lasts, list_field, list_lasts, rising_field, rising_lasts, rising_len}
 use Rattle.kt_ckpt.proofs.Values.{value_field, value_lasts}
 use Rattle.kt_ckpt.proofs.Tuples.{counted_field, counted_lasts, tuple_field, tuple_lasts}
 use Rattle.kt_ckpt.proofs.Ops.{op_field, op_lasts, answer_field, answer_lasts}
@@ -42,28 +42,6 @@ pc_field =
 pc_lasts : Lasts pc_at
 unfolding pc_at
 pc_lasts = let l = within_lasts 0 MAX_COMMANDS (number_lasts w16) in record { goes_on = l.goes_on }
-
-abbrev is_one : ℕ → Bool
-is_one n = eqb n 1
-
-flag_same : (n : ℕ) → n ≤ 1 → n ∷ [] ≡ flag_bytes (is_one n)
-flag_same zero le = refl
-flag_same (suc zero) le = refl
-flag_same (suc (suc n)) le = absurd (omega arith)
-
-flag_from : (b : Bool) → Unit {0} → (n : ℕ) × (((0 ≤ n) × (n ≤ 1)) × (is_one n ≡ b))
-flag_from true h = (1, ((omega arith, omega arith), refl))
-flag_from false h = (0, ((omega arith, omega arith), refl))
-
-pub flag_field : IsField flag_bytes (λ b. Unit {0}) flag_at
-unfolding flag_at
-flag_field =
-    let f = made_field (byte_within_field 0 1 (omega arith)) is_one flag_bytes (λ b. Unit {0}) (λ n h. flag_same n h.1) (λ n h. tt) flag_from in
-    record { again = f.again; takes = f.takes }
-
-pub flag_lasts : Lasts flag_at
-unfolding flag_at
-flag_lasts = let l = made_lasts is_one (byte_within_lasts 0 1) in record { goes_on = l.goes_on }
 
 abbrev IsAsked : Option Op → Type 0
 IsAsked a = IfSome a IsOp

@@ -8,7 +8,7 @@ use Rattle.std.proofs.lemmas.Bool.{eqb-true, eqb-false}
 use Rattle.std.proofs.lemmas.Int.{to_z-of_z, of_z-to_z}
 use Rattle.std.proofs.Math.Facts.{sfits_to_z, Fits-of_lt, Fits-lt-pow, Fits-of_z}
 use Rattle.kt_tuple.specs.declared.value.Value.{Value}
-use Rattle.kt_tuple.specs.declared.value.Value.TheVariants.{Int, Str}
+use Rattle.kt_tuple.specs.declared.value.Value.TheVariants.{Int, Str, Bool as Truth}
 use Rattle.kt_tuple.specs.declared.value.Kind.{Kind}
 use Rattle.kt_tuple.specs.declared.value.Kind.TheVariants as kinds
 use Rattle.kt_tuple.specs.declared.template.Place.{Place}
@@ -19,15 +19,15 @@ use Rattle.kt_tuple.specs.Valid.{IsValue, IsPlace}
 use Rattle.kt_tuple.proofs.Shared.{are_printable, all_printable}
 use Rattle.kt_ckpt.specs.declared.error.CkptError.{CkptError}
 use Rattle.kt_ckpt.specs.declared.error.CkptError.TheVariants.{Field}
-use Rattle.kt_ckpt.specs.Limits.{int_code, str_code, int_formal_code, str_formal_code}
+use Rattle.kt_ckpt.specs.Limits.{int_code, str_code, bool_code, int_formal_code, str_formal_code, bool_formal_code}
 use Rattle.kt_tuple.specs.declared.string.TheConstants.{MAX_CHARACTERS}
 use Rattle.kt_ckpt.specs.Reading.{◌>>=◌, made, bytes_at, byte_within}
 use Rattle.kt_ckpt.specs.Value.{value_code, behind_value_code, value_bytes, place_code, behind_place_code}
-use Rattle.kt_ckpt.specs.Value.{place_bytes, int_at, printed, str_at, value_behind, value_at, place_behind, place_at}
+use Rattle.kt_ckpt.specs.Value.{place_bytes, int_at, printed, str_at, bool_at, value_behind, value_at, place_behind, place_at}
 use Rattle.kt_ckpt.proofs.Field.{IsBytes, Takes, Takes-then, Continues, IsField, Lasts, the_ok, pair_of_ok, bind_ok}
 use Rattle.kt_ckpt.proofs.Combined.{known, known_lasts, fault, refused, refused_lasts, same_field}
 use Rattle.kt_ckpt.proofs.Combined.{either, either_lasts, behind, behind_lasts, made_field, made_lasts}
-use Rattle.kt_ckpt.proofs.Primitive.{byte_field, byte_lasts, byte_within_field, byte_within_lasts, wide64}
+use Rattle.kt_ckpt.proofs.Primitive.{byte_field, byte_lasts, byte_within_field, byte_within_lasts, flag_field, flag_lasts, wide64}
 use Rattle.kt_ckpt.proofs.Primitive.{number_field, number_lasts, front_takes, front_again, front_lasts, front_len}
 
 -- ---- ints
@@ -41,6 +41,7 @@ unsigned_fits n h = Fits-lt-pow (Fits-of_z h)
 int_from : (v : Value) → IsBehind int_code v → (n : ℕ) × ((n < 2 ^ 64) × (Int (cast_signed w64 n) ≡ v))
 int_from (Int n) h = (cast_unsigned w64 n, (unsigned_fits n h.0, ap Int (to_z-of_z w64 n h.0)))
 int_from (Str cs) h = absurd (omega (arith, h.1))
+int_from (Truth b) h = absurd (omega (arith, h.1))
 
 int_field : IsField behind_value_code (IsBehind int_code) int_at
 unfolding int_at
@@ -77,6 +78,7 @@ unfolding str_at after_length
 str_field = record { again = λ v rest h. again v rest h; takes = λ bytes v rest fits e. takes bytes v rest fits e } where
   again : (v : Value) (rest : List ℕ) → IsBehind str_code v → str_at (behind_value_code v ++ rest) ≡ Ok (v, rest)
   again (Int n) rest h = absurd (omega (arith, h.1))
+  again (Truth b) rest h = absurd (omega (arith, h.1))
   again (Str cs) rest h =
       let len = byte_within_field 0 MAX_CHARACTERS (omega arith) in
       ap (λ (r : Result (ℕ × List ℕ) CkptError). r >>= after_length) (len.again (length cs) (cs ++ rest) (omega arith, h.0.0))
@@ -103,32 +105,60 @@ str_lasts =
     (λ n. behind_lasts (λ cs bytes. printed cs bytes) (front_lasts n) printed_lasts) in
     record { goes_on = l.goes_on }
 
+-- ---- bools
+
+bool_from : (v : Value) → IsBehind bool_code v → (b : Bool) × (Unit {0} × (Truth b ≡ v))
+bool_from (Int n) h = absurd (omega (arith, h.1))
+bool_from (Str cs) h = absurd (omega (arith, h.1))
+bool_from (Truth b) h = (b, (tt, refl))
+
+bool_field : IsField behind_value_code (IsBehind bool_code) bool_at
+unfolding bool_at
+bool_field =
+    let f = made_field flag_field Truth behind_value_code (IsBehind bool_code) (λ b h. refl) (λ b h. (tt, refl)) bool_from in
+    record { again = f.again; takes = f.takes }
+
+bool_lasts : Lasts bool_at
+unfolding bool_at
+bool_lasts = let l = made_lasts Truth flag_lasts in record { goes_on = l.goes_on }
+
 -- ---- values
 
-no_code : (code : ℕ) (v : Value) → eqb code int_code ≡ false → eqb code str_code ≡ false → IsBehind code v → ⊥
-no_code code (Int n) p q h = eqb-false code int_code p h.1
-no_code code (Str cs) p q h = eqb-false code str_code q h.1
+no_code : (code : ℕ) (v : Value) → eqb code int_code ≡ false → eqb code str_code ≡ false → eqb code bool_code ≡ false → IsBehind code v → ⊥
+no_code code (Int n) p q r h = eqb-false code int_code p h.1
+no_code code (Str cs) p q r h = eqb-false code str_code q h.1
+no_code code (Truth b) p q r h = eqb-false code bool_code r h.1
+
+abbrev bool_or_fault : ℕ → List ℕ → Result (Value × List ℕ) CkptError
+bool_or_fault code bytes = cond (eqb code bool_code) (bool_at bytes) (fault Field bytes)
+
+abbrev str_or_bool : ℕ → List ℕ → Result (Value × List ℕ) CkptError
+str_or_bool code bytes = cond (eqb code str_code) (str_at bytes) (bool_or_fault code bytes)
 
 pub value_behind_field : (code : ℕ) → IsField behind_value_code (IsBehind code) (value_behind code)
 unfolding value_behind
 value_behind_field code =
-    let f = either int_at (λ bytes. cond (eqb code str_code) (str_at bytes) (fault Field bytes)) (eqb code int_code)
+    let f = either int_at (str_or_bool code) (eqb code int_code)
     (λ p. subst (λ (k : ℕ). IsField behind_value_code (IsBehind k) int_at) (sym (eqb-true code int_code p)) int_field)
-    (λ p. either str_at (fault Field) (eqb code str_code)
+    (λ p. either str_at (bool_or_fault code) (eqb code str_code)
     (λ q. subst (λ (k : ℕ). IsField behind_value_code (IsBehind k) str_at) (sym (eqb-true code str_code q)) str_field)
-    (λ q. refused behind_value_code (IsBehind code) Field (λ v. no_code code v p q))) in
+    (λ q. either bool_at (fault Field) (eqb code bool_code)
+    (λ r. subst (λ (k : ℕ). IsField behind_value_code (IsBehind k) bool_at) (sym (eqb-true code bool_code r)) bool_field)
+    (λ r. refused behind_value_code (IsBehind code) Field (λ v. no_code code v p q r)))) in
     record { again = f.again; takes = f.takes }
 
 pub value_behind_lasts : (code : ℕ) → Lasts (value_behind code)
 unfolding value_behind
 value_behind_lasts code =
-    let l = either_lasts int_at (λ bytes. cond (eqb code str_code) (str_at bytes) (fault Field bytes)) (eqb code int_code) int_lasts
-    (either_lasts str_at (fault Field) (eqb code str_code) str_lasts (refused_lasts Field)) in
+    let l = either_lasts int_at (str_or_bool code) (eqb code int_code) int_lasts
+    (either_lasts str_at (bool_or_fault code) (eqb code str_code) str_lasts
+    (either_lasts bool_at (fault Field) (eqb code bool_code) bool_lasts (refused_lasts Field))) in
     record { goes_on = l.goes_on }
 
 value_code_is_byte : (v : Value) → value_code v < 256
 value_code_is_byte (Int n) = omega arith
 value_code_is_byte (Str cs) = omega arith
+value_code_is_byte (Truth b) = omega arith
 
 pub value_field : IsField value_bytes IsValue value_at
 unfolding value_at
@@ -145,28 +175,41 @@ value_lasts = let l = behind_lasts value_behind byte_lasts value_behind_lasts in
 abbrev IsPlaceBehind : ℕ → Place → Type 0
 IsPlaceBehind code p = IsPlace p × (code ≡ place_code p)
 
+-- the code of an actual is that of no formal
+value_code_is_low : (v : Value) → value_code v < int_formal_code
+value_code_is_low (Int n) = omega arith
+value_code_is_low (Str cs) = omega arith
+value_code_is_low (Truth b) = omega arith
+
 int_formal : (p : Place) → IsPlaceBehind int_formal_code p → Formal kinds.Int ≡ p
-int_formal (Actual (Int n)) h = absurd (omega (arith, h.1))
-int_formal (Actual (Str cs)) h = absurd (omega (arith, h.1))
+int_formal (Actual v) h = absurd (omega (arith, h.1, value_code_is_low v))
 int_formal (Formal kinds.Int) h = refl
 int_formal (Formal kinds.Str) h = absurd (omega (arith, h.1))
+int_formal (Formal kinds.Bool) h = absurd (omega (arith, h.1))
 
 str_formal : (p : Place) → IsPlaceBehind str_formal_code p → Formal kinds.Str ≡ p
-str_formal (Actual (Int n)) h = absurd (omega (arith, h.1))
-str_formal (Actual (Str cs)) h = absurd (omega (arith, h.1))
+str_formal (Actual v) h = absurd (omega (arith, h.1, value_code_is_low v))
 str_formal (Formal kinds.Int) h = absurd (omega (arith, h.1))
 str_formal (Formal kinds.Str) h = refl
+str_formal (Formal kinds.Bool) h = absurd (omega (arith, h.1))
+
+bool_formal : (p : Place) → IsPlaceBehind bool_formal_code p → Formal kinds.Bool ≡ p
+bool_formal (Actual v) h = absurd (omega (arith, h.1, value_code_is_low v))
+bool_formal (Formal kinds.Int) h = absurd (omega (arith, h.1))
+bool_formal (Formal kinds.Str) h = absurd (omega (arith, h.1))
+bool_formal (Formal kinds.Bool) h = refl
 
 formal_field : (k : Kind) → ((p : Place) → IsPlaceBehind (place_code (Formal k)) p → Formal k ≡ p)
     → IsField behind_place_code (IsPlaceBehind (place_code (Formal k))) (λ bytes. the_ok (Formal k, bytes))
 formal_field k is = same_field (known (Formal k)) behind_place_code (IsPlaceBehind (place_code (Formal k)))
     (λ p e. subst (IsPlaceBehind (place_code (Formal k))) e (tt, refl)) is (λ p e. subst (λ (p : Place). [] ≡ behind_place_code p) e refl)
 
-actual_from : (code : ℕ) (p : Place) → eqb code int_formal_code ≡ false → eqb code str_formal_code ≡ false → IsPlaceBehind code p
-    → (v : Value) × (IsBehind code v × (Actual v ≡ p))
-actual_from code (Actual v) p q h = (v, (h, refl))
-actual_from code (Formal kinds.Int) p q h = absurd (eqb-false code int_formal_code p h.1)
-actual_from code (Formal kinds.Str) p q h = absurd (eqb-false code str_formal_code q h.1)
+actual_from : (code : ℕ) (p : Place) → eqb code int_formal_code ≡ false → eqb code str_formal_code ≡ false → eqb code bool_formal_code ≡ false
+    → IsPlaceBehind code p → (v : Value) × (IsBehind code v × (Actual v ≡ p))
+actual_from code (Actual v) p q r h = (v, (h, refl))
+actual_from code (Formal kinds.Int) p q r h = absurd (eqb-false code int_formal_code p h.1)
+actual_from code (Formal kinds.Str) p q r h = absurd (eqb-false code str_formal_code q h.1)
+actual_from code (Formal kinds.Bool) p q r h = absurd (eqb-false code bool_formal_code r h.1)
 
 abbrev actual_behind : ℕ → List ℕ → Result (Place × List ℕ) CkptError
 actual_behind code bytes = made Actual (value_behind code bytes)
@@ -177,31 +220,44 @@ int_formal_at bytes = Ok (Formal kinds.Int, bytes)
 abbrev str_formal_at : List ℕ → Result (Place × List ℕ) CkptError
 str_formal_at bytes = Ok (Formal kinds.Str, bytes)
 
+abbrev bool_formal_at : List ℕ → Result (Place × List ℕ) CkptError
+bool_formal_at bytes = Ok (Formal kinds.Bool, bytes)
+
+abbrev bool_or_actual : ℕ → List ℕ → Result (Place × List ℕ) CkptError
+bool_or_actual code bytes = cond (eqb code bool_formal_code) (bool_formal_at bytes) (actual_behind code bytes)
+
+abbrev str_or_actual : ℕ → List ℕ → Result (Place × List ℕ) CkptError
+str_or_actual code bytes = cond (eqb code str_formal_code) (str_formal_at bytes) (bool_or_actual code bytes)
+
 place_behind_field : (code : ℕ) → IsField behind_place_code (IsPlaceBehind code) (place_behind code)
 unfolding place_behind
 place_behind_field code =
-    let f = either int_formal_at (λ bytes. cond (eqb code str_formal_code) (str_formal_at bytes) (actual_behind code bytes)) (eqb code int_formal_code)
+    let f = either int_formal_at (str_or_actual code) (eqb code int_formal_code)
     (λ p. subst (λ (k : ℕ). IsField behind_place_code (IsPlaceBehind k) int_formal_at) (sym (eqb-true code int_formal_code p))
     (formal_field kinds.Int int_formal))
-    (λ p. either str_formal_at (actual_behind code) (eqb code str_formal_code)
+    (λ p. either str_formal_at (bool_or_actual code) (eqb code str_formal_code)
     (λ q. subst (λ (k : ℕ). IsField behind_place_code (IsPlaceBehind k) str_formal_at) (sym (eqb-true code str_formal_code q))
     (formal_field kinds.Str str_formal))
-    (λ q. made_field (value_behind_field code) Actual behind_place_code (IsPlaceBehind code) (λ v h. refl) (λ v h. h) (λ x. actual_from code x p q))) in
+    (λ q. either bool_formal_at (actual_behind code) (eqb code bool_formal_code)
+    (λ r. subst (λ (k : ℕ). IsField behind_place_code (IsPlaceBehind k) bool_formal_at) (sym (eqb-true code bool_formal_code r))
+    (formal_field kinds.Bool bool_formal))
+    (λ r. made_field (value_behind_field code) Actual behind_place_code (IsPlaceBehind code) (λ v h. refl) (λ v h. h) (λ x. actual_from code x p q r)))) in
     record { again = f.again; takes = f.takes }
 
 place_behind_lasts : (code : ℕ) → Lasts (place_behind code)
 unfolding place_behind
 place_behind_lasts code =
-    let l = either_lasts int_formal_at (λ bytes. cond (eqb code str_formal_code) (str_formal_at bytes) (actual_behind code bytes)) (eqb code int_formal_code)
-    (known_lasts (Formal kinds.Int))
-    (either_lasts str_formal_at (actual_behind code) (eqb code str_formal_code) (known_lasts (Formal kinds.Str))
-    (made_lasts Actual (value_behind_lasts code))) in
+    let l = either_lasts int_formal_at (str_or_actual code) (eqb code int_formal_code) (known_lasts (Formal kinds.Int))
+    (either_lasts str_formal_at (bool_or_actual code) (eqb code str_formal_code) (known_lasts (Formal kinds.Str))
+    (either_lasts bool_formal_at (actual_behind code) (eqb code bool_formal_code) (known_lasts (Formal kinds.Bool))
+    (made_lasts Actual (value_behind_lasts code)))) in
     record { goes_on = l.goes_on }
 
 place_code_is_byte : (p : Place) → place_code p < 256
 place_code_is_byte (Actual v) = value_code_is_byte v
 place_code_is_byte (Formal kinds.Int) = omega arith
 place_code_is_byte (Formal kinds.Str) = omega arith
+place_code_is_byte (Formal kinds.Bool) = omega arith
 
 pub place_field : IsField place_bytes IsPlace place_at
 unfolding place_at

@@ -1,5 +1,6 @@
 pub mod Limits
 pub mod Reading
+pub mod Flag
 pub mod Value
 pub mod Tuple
 pub mod Op

@@ -7,7 +7,7 @@ magic = codes "KTCP"
 
 -- the version that is written and read
 abbrev pub version : ℕ
-version = 1
+version = 2
 
 -- what kind of node
 abbrev pub worker_code : ℕ
@@ -23,12 +23,18 @@ int_code = 1
 abbrev pub str_code : ℕ
 str_code = 2
 
+abbrev pub bool_code : ℕ
+bool_code = 3
+
 -- what kind of value a formal admits
 abbrev pub int_formal_code : ℕ
 int_formal_code = 129
 
 abbrev pub str_formal_code : ℕ
 str_formal_code = 130
+
+abbrev pub bool_formal_code : ℕ
+bool_formal_code = 131
 
 -- which operation
 abbrev pub out_code : ℕ

@@ -1,5 +1,5 @@
 -- What a checkpoint holds of its node, in bytes.
-use Rattle.std.specs.Prelude.{ℕ, ◌≤◌, ◌<◌, ◌^◌, ◌==◌, Bool, true, false, if◌then◌else◌}
+use Rattle.std.specs.Prelude.{ℕ, ◌≤◌, ◌<◌, ◌^◌, Bool, true, false}
 use Rattle.std.specs.Prelude.{List, [], ◌∷◌, ◌++◌, length, Option, None, Some, IfSome, Result, Ok, All}
 use Rattle.std.specs.List.{flat_map}
 use Rattle.std.specs.Int.{w16, w32, w64, to_be_bytes}
@@ -14,6 +14,7 @@ use Rattle.kt_ckpt.specs.Fields.{WorkerFields, worker_of, ShardFields}
 use Rattle.kt_script.specs.declared.script.TheConstants.{MAX_COMMANDS, MAX_VARIABLES}
 use Rattle.kt_tuple.specs.declared.node.TheConstants.{MAX_WORKERS}
 use Rattle.kt_ckpt.specs.Reading.{◌>>=◌, Reader, made, byte_within, within, number_at, list_at, rising_at, IsRising}
+use Rattle.kt_ckpt.specs.Flag.{flag_bytes, flag_at}
 use Rattle.kt_ckpt.specs.Value.{value_bytes, value_at}
 use Rattle.kt_ckpt.specs.Tuple.{IsTuple, tuple_bytes, tuple_at}
 use Rattle.kt_ckpt.specs.Op.{IsOp, IsAnswer, op_bytes, op_at, answer_bytes, answer_at}
@@ -32,9 +33,6 @@ pub record IsWorker (w : WorkerFields) : Type 0 where
   pub few : length w.variables ≤ MAX_VARIABLES
   pub variables : All IsValue w.variables
 
-abbrev pub flag_bytes : Bool → List ℕ
-flag_bytes b = (if b then 1 else 0) ∷ []
-
 -- a flag, and the operation where there is one
 abbrev pub asked_bytes : Option Op → List ℕ
 asked_bytes None = 0 ∷ []
@@ -50,9 +48,6 @@ worker_bytes w =
 
 unfoldable pub pc_at : List ℕ → Result (ℕ × List ℕ) CkptError
 pc_at bytes = number_at w16 bytes >>= within 0 MAX_COMMANDS
-
-unfoldable pub flag_at : List ℕ → Result (Bool × List ℕ) CkptError
-flag_at bytes = made (λ n. n == 1) (byte_within 0 1 bytes)
 
 -- the operation behind the flag that says whether there is one
 abbrev pub asked_behind : Bool → List ℕ → Result (Option Op × List ℕ) CkptError

@@ -7,7 +7,7 @@ use kt_tuple::MAX_WORKERS;
 pub(crate) const MAGIC: [u8; 4] = *b"KTCP";
 
 /// The version that is written and read.
-pub(crate) const VERSION: u8 = 1;
+pub(crate) const VERSION: u8 = 2;
 
 /// The most neighbours of a node: the shards of a worker, who are no more than the workers can be, or the workers of a
 /// shard.
@@ -22,10 +22,14 @@ pub(crate) const SHARD: u8 = 2;
 pub(crate) const INT: u8 = 1;
 /// The code of a str: its length in one byte and its characters follow.
 pub(crate) const STR: u8 = 2;
+/// The code of a bool: one byte follows, 0 for `false` and 1 for `true`.
+pub(crate) const BOOL: u8 = 3;
 /// The code of `?int` in a template: nothing follows.
 pub(crate) const INT_FORMAL: u8 = 0x81;
 /// The code of `?str` in a template: nothing follows.
 pub(crate) const STR_FORMAL: u8 = 0x82;
+/// The code of `?bool` in a template: nothing follows.
+pub(crate) const BOOL_FORMAL: u8 = 0x83;
 
 /// The code of `out`: a tuple follows.
 pub(crate) const OUT: u8 = 1;

@@ -1,8 +1,9 @@
-//! Numbers in bytes, the highest byte first.
+//! Numbers in bytes, the highest byte first, and truths in one byte.
 
 ghost use Rattle.std.specs.Prelude.{◌≡◌, ◌≤◌, ◌++◌, IfOk, OnOk};
 ghost use Rattle.std.specs.Int.{w16, w32, w64, to_be_bytes};
 ghost use Rattle.kt_ckpt.specs.Reading.{Gives, byte_at, bytes_at, byte_within, number_at};
+ghost use Rattle.kt_ckpt.specs.Flag.{flag_bytes, flag_at};
 
 use crate::error::CkptError;
 use std::alloc::AllocError;
@@ -28,6 +29,13 @@ pub(crate) fn push_u64(out: &mut Vec<u8>, number: u64) -> Result<(), AllocError>
     out.extend_from_slice(&number.to_be_bytes())
 }
 
+/// Appends 1 for `true` and 0 for `false`.
+pub(crate) fn push_flag(out: &mut Vec<u8>, flag: bool) -> Result<(), AllocError>
+    ensures { OnOk result (out.new.items ≡ out.old.items ++ flag_bytes flag) }
+{
+    Ok(out.push(if flag { 1 } else { 0 })?)
+}
+
 /// A byte, and the bytes behind it; `Cut` where there is none.
 pub(crate) fn byte_at(bytes: &[u8]) -> Result<(u8, &[u8]), CkptError>
     ensures { Gives (λ x. (x.0, x.1.now)) result (byte_at bytes.now) }
@@ -50,6 +58,15 @@ pub(crate) fn byte_within(low: u8, high: u8, bytes: &[u8]) -> Result<(u8, &[u8])
     } else {
         Err(CkptError::Field)
     }
+}
+
+/// The truth in the first byte, and the bytes behind it; a byte above 1 is a bad `Field`.
+#[tactic(auto, unfolding(crate::specs::Flag::flag_at))]
+pub(crate) fn flag_at(bytes: &[u8]) -> Result<(bool, &[u8]), CkptError>
+    ensures { Gives (λ x. (x.0, x.1.now)) result (flag_at bytes.now) }
+{
+    let (flag, rest) = byte_within(0, 1, bytes)?;
+    Ok((flag == 1, rest))
 }
 
 /// The number in the first two bytes, and the bytes behind them; `Cut` where there are fewer.

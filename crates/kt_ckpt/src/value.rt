@@ -3,16 +3,16 @@
 ghost use Rattle.std.specs.Prelude.{◌≡◌, ◌++◌, OnOk};
 ghost use Rattle.kt_tuple.specs.Valid.{IsValue, IsPlace};
 ghost use Rattle.kt_ckpt.specs.Reading.{Gives};
-ghost use Rattle.kt_ckpt.specs.Value.{value_bytes, place_bytes, int_at, str_at};
+ghost use Rattle.kt_ckpt.specs.Value.{value_bytes, place_bytes, int_at, str_at, bool_at};
 ghost use Rattle.kt_ckpt.specs.Value.{value_behind, value_at, place_behind, place_at};
 
 use crate::error::CkptError;
-use crate::limits::{INT, INT_FORMAL, STR, STR_FORMAL};
-use crate::numbers::{byte_at, byte_within, bytes_at, u64_at};
+use crate::limits::{BOOL, BOOL_FORMAL, INT, INT_FORMAL, STR, STR_FORMAL};
+use crate::numbers::{byte_at, byte_within, bytes_at, flag_at, push_flag, u64_at};
 use kt_tuple::{Kind, MAX_CHARACTERS, Place, Str, Value};
 use std::alloc::AllocError;
 
-/// Appends the value's code, and the eight bytes of an int or the length and characters of a str.
+/// Appends the value's code, and the eight bytes of an int, the length and characters of a str or the byte of a bool.
 pub(crate) fn push_value(out: &mut Vec<u8>, value: &Value) -> Result<(), AllocError>
     ensures ok { OnOk result (out.new.items ≡ out.old.items ++ value_bytes value.now) }
     ensures held { IsValue value.now }
@@ -29,6 +29,10 @@ pub(crate) fn push_value(out: &mut Vec<u8>, value: &Value) -> Result<(), AllocEr
             out.push(characters.len() as u8)?;
             out.extend_from_slice(characters)
         }
+        Value::Bool(truth) => {
+            out.push(BOOL)?;
+            push_flag(out, *truth)
+        }
     }
 }
 
@@ -41,6 +45,7 @@ pub(crate) fn push_place(out: &mut Vec<u8>, place: &Place) -> Result<(), AllocEr
         Place::Actual(value) => push_value(out, value),
         Place::Formal(Kind::Int) => Ok(out.push(INT_FORMAL)?),
         Place::Formal(Kind::Str) => Ok(out.push(STR_FORMAL)?),
+        Place::Formal(Kind::Bool) => Ok(out.push(BOOL_FORMAL)?),
     }
 }
 
@@ -61,6 +66,7 @@ fn value_behind(code: u8, bytes: &[u8]) -> Result<(Value, &[u8]), CkptError>
     match code {
         INT => int_at(bytes),
         STR => str_at(bytes),
+        BOOL => bool_at(bytes),
         _ => Err(CkptError::Field),
     }
 }
@@ -86,6 +92,14 @@ fn str_at(bytes: &[u8]) -> Result<(Value, &[u8]), CkptError>
     }
 }
 
+#[tactic(auto, unfolding(crate::specs::Value::bool_at))]
+fn bool_at(bytes: &[u8]) -> Result<(Value, &[u8]), CkptError>
+    ensures { Gives (λ x. (x.0, x.1.now)) result (bool_at bytes.now) }
+{
+    let (truth, rest) = flag_at(bytes)?;
+    Ok((Value::Bool(truth), rest))
+}
+
 /// A place, and the bytes behind it.
 #[tactic(auto, unfolding(crate::specs::Value::place_at))]
 pub(crate) fn place_at(bytes: &[u8]) -> Result<(Place, &[u8]), CkptError>
@@ -103,6 +117,7 @@ fn place_behind(code: u8, bytes: &[u8]) -> Result<(Place, &[u8]), CkptError>
     match code {
         INT_FORMAL => Ok((Place::Formal(Kind::Int), bytes)),
         STR_FORMAL => Ok((Place::Formal(Kind::Str), bytes)),
+        BOOL_FORMAL => Ok((Place::Formal(Kind::Bool), bytes)),
         _ => {
             let (value, rest) = value_behind(code, bytes)?;
             Ok((Place::Actual(value), rest))

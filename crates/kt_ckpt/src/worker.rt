@@ -5,12 +5,12 @@ ghost use Rattle.kt_tuple.specs.Valid.{IsValue};
 ghost use Rattle.kt_ckpt.specs.Op.{IsOp};
 ghost use Rattle.kt_ckpt.specs.Reading.{Gives};
 ghost use Rattle.kt_ckpt.specs.Fields.{worker_of};
-ghost use Rattle.kt_ckpt.specs.State.{IsWorker, IsCountedWorker, worker_bytes, flag_bytes, asked_bytes};
-ghost use Rattle.kt_ckpt.specs.State.{variables_bytes, pc_at, flag_at, asked_at, variables_at, worker_at};
+ghost use Rattle.kt_ckpt.specs.State.{IsWorker, IsCountedWorker, worker_bytes, asked_bytes};
+ghost use Rattle.kt_ckpt.specs.State.{variables_bytes, pc_at, asked_at, variables_at, worker_at};
 
 use crate::error::CkptError;
 use crate::list::list_at;
-use crate::numbers::{byte_within, push_u16, push_u64, u16_at, u64_at};
+use crate::numbers::{byte_within, flag_at, push_flag, push_u16, push_u64, u16_at, u64_at};
 use crate::op::{op_at, push_op};
 use crate::state::WorkerState;
 use crate::tuple::push_values;
@@ -53,12 +53,6 @@ fn push_fields(
     push_flag(out, was_none)?;
     push_asked(out, asked)?;
     push_variables(out, variables)
-}
-
-fn push_flag(out: &mut Vec<u8>, flag: bool) -> Result<(), AllocError>
-    ensures { OnOk result (out.new.items ≡ out.old.items ++ flag_bytes flag) }
-{
-    Ok(out.push(if flag { 1 } else { 0 })?)
 }
 
 fn push_variables(out: &mut Vec<u8>, variables: &[Value]) -> Result<(), AllocError>
@@ -109,14 +103,6 @@ fn pc_at(bytes: &[u8]) -> Result<(u16, &[u8]), CkptError>
     } else {
         Err(CkptError::Field)
     }
-}
-
-#[tactic(auto, unfolding(crate::specs::State::flag_at))]
-fn flag_at(bytes: &[u8]) -> Result<(bool, &[u8]), CkptError>
-    ensures { Gives (λ x. (x.0, x.1.now)) result (flag_at bytes.now) }
-{
-    let (flag, rest) = byte_within(0, 1, bytes)?;
-    Ok((flag == 1, rest))
 }
 
 #[tactic(auto, unfolding(crate::specs::State::asked_at))]

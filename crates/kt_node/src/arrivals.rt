@@ -11,7 +11,7 @@ ghost use Rattle.kt_node.specs.Arrivals.{counted_if, hear_vote, vote_in, vote_pl
 ghost use Rattle.kt_node.specs.Arrivals.{hear_verdict, verdict_by_parent, verdict_in, verdict_when_held};
 ghost use Rattle.kt_node.specs.inner.Between.{in_phase};
 
-use crate::change::{BodyChange, KeptChange, Turn};
+use crate::change::Turn;
 use crate::joining::asker_of;
 use crate::learning::{held_learns, verdict_to};
 use crate::live::{Live, Phase};
@@ -44,18 +44,7 @@ fn sieved_answer_plan(alloc: Global, from: NodeId, ask: Ask, yes: bool) -> Resul
 {
     let vote = vote_for(ask.instance, asker_of(from, ask), yes);
     let send = vote_alone(alloc, Some(vote))?;
-    let turn = Turn {
-        body: BodyChange::Stay,
-        kept: KeptChange::Sieve {
-            from,
-            label: ask.label,
-        },
-        heard: None,
-        said: None,
-        promoted: false,
-        phase: None,
-    };
-    Plan::of(alloc, turn, send, None)
+    Plan::of(alloc, Turn::sieving(from, ask.label), send, None)
 }
 
 /// A ballot with one vote more, and the vote that its node has to cast now.

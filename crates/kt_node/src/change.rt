@@ -105,6 +105,7 @@ impl Change {
 
 impl Turn {
     ghost use Rattle.std.specs.Prelude.{◌≡◌, Some};
+    ghost use Rattle.kt_node.specs.declared.change.KeptChange.TheVariants as keeps;
     ghost use Rattle.kt_node.specs.Plan.{no_turn};
 
     /// Nothing of the node is changed: a turn to begin with.
@@ -146,6 +147,34 @@ impl Turn {
             said: None,
             promoted: false,
             phase: Some(phase),
+        }
+    }
+
+    /// An underlying message of this label is heard, and this becomes of the body and of what is kept.
+    pub(crate) fn hearing(body: BodyChange, kept: KeptChange, from: NodeId, label: Label) -> Turn
+        ensures { result ≡ record no_turn { body = body; kept = kept; heard = Some (from, label) } }
+    {
+        Turn {
+            body,
+            kept,
+            heard: Some((from, label)),
+            said: None,
+            promoted: false,
+            phase: None,
+        }
+    }
+
+    /// What is kept from the node above the label is dropped.
+    pub(crate) fn sieving(from: NodeId, label: Label) -> Turn
+        ensures { result ≡ record no_turn { kept = keeps.Sieve from label } }
+    {
+        Turn {
+            body: BodyChange::Stay,
+            kept: KeptChange::Sieve { from, label },
+            heard: None,
+            said: None,
+            promoted: false,
+            phase: None,
         }
     }
 }

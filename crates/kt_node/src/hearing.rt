@@ -42,14 +42,8 @@ impl View<'_> {
             again_plan (view_of self.entry) (live_view live.now) kept from post.now request.now answer.now) }
     {
         let (send, note) = self.answering_again(alloc, live, from, post.by, request, answer)?;
-        let turn = Turn {
-            body: BodyChange::Stay,
-            kept,
-            heard: Some((from, post.label)),
-            said: Some(from),
-            promoted: false,
-            phase: None,
-        };
+        let mut turn = Turn::hearing(BodyChange::Stay, kept, from, post.label);
+        turn.said = Some(from);
         Plan::of(alloc, turn, send, note)
     }
 
@@ -273,13 +267,6 @@ fn hearing(
 ) -> Result<Plan, AllocError>
     ensures { IfOk result (λ p. p ≡ hearing kept from label body note) }
 {
-    let turn = Turn {
-        body,
-        kept,
-        heard: Some((from, label)),
-        said: None,
-        promoted: false,
-        phase: None,
-    };
+    let turn = Turn::hearing(body, kept, from, label);
     Plan::of(alloc, turn, Outbox::empty(alloc), note)
 }

@@ -17,7 +17,7 @@ ghost use Rattle.kt_node.specs.Voting.{casting, poll_after, votes};
 ghost use Rattle.kt_node.specs.declared.live.Phase.TheVariants.{Held};
 
 use crate::asking::{Sent, check_asks, roll_asks};
-use crate::change::{BodyChange, Change, KeptChange, Turn};
+use crate::change::{Change, Turn};
 use crate::labels::{label_at, up_to};
 use crate::live::{Live, Phase};
 use crate::message::Ask;
@@ -134,17 +134,8 @@ fn rolling_plan(
     let sent = Sent::Marks(permanent);
     let send = roll_asks(alloc, instance, incarnation, sent, ballot.asked())?;
     let send = then_vote(send, &mut ballot)?;
-    let turn = Turn {
-        body: BodyChange::Stay,
-        kept: KeptChange::Sieve {
-            from,
-            label: ask.label,
-        },
-        heard: None,
-        said: None,
-        promoted: false,
-        phase: Some(Phase::Rolling(ballot)),
-    };
+    let mut turn = Turn::sieving(from, ask.label);
+    turn.phase = Some(Phase::Rolling(ballot));
     Plan::of(alloc, turn, send, None)
 }
 

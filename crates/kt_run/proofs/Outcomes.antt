@@ -1,6 +1,6 @@
 -- What a run came to, and what is written of it.
 use Rattle.std.proofs.Common.{◌≡◌, ℕ, Bool, true, List, Some, None, Result, Ok, Err, sym, ap, subst, ◌∙◌}
-use Rattle.std.specs.Prelude.{IfErr, OnOk, IsTrue}
+use Rattle.std.specs.Prelude.{IfErr, IfOk, OnOk, IsTrue}
 use Rattle.kt_core.specs.Store.{AreLater, StoreValue}
 use Rattle.kt_core.specs.World.{Standing}
 use Rattle.kt_core.specs.declared.faults.FaultLine.{FaultLine}
@@ -65,6 +65,18 @@ told_over value was before after text held (Ok x) read same f = tt
 told_over value was before after text held (Err e) read same f =
     let P : List ℕ → Type 0 = λ t. IsTextFault was (value e.1) t e.0 in
     of_text text read (subst P same f)
+
+-- a run of the text that was read is one of what was read
+pub run_over : {X S : Type 0} (before after : Reader) (text held : List ℕ) (is_honest : X → Bool) (fresh : Bool) (steps : X → List Step)
+    (state : X → State) (r : Result X S) → IsAllRead before after text → held ≡ text
+    → IfOk r (λ j. IsRunOf held (is_honest j) fresh (steps j) (state j))
+    → IfOk r (λ j. IsRun before after (is_honest j) fresh (steps j) (state j))
+run_over before after text held is_honest fresh steps state (Ok j) read same h = record {
+  text = text;
+  read = read;
+  run = subst (λ (t : List ℕ). IsRunOf t (is_honest j) fresh (steps j) (state j)) same h;
+}
+run_over before after text held is_honest fresh steps state (Err e) read same h = tt
 
 -- a store that is honest when it is left was so when the run ended
 run_left : (before after : Reader) (ended left fresh : Bool) (steps : List Step) (s : State) → (IsTrue left → IsTrue ended)

@@ -14,7 +14,7 @@ use Rattle.kt_world.specs.declared.step.TheConstants.{MAX_STEPS}
 use Rattle.kt_tuple.specs.declared.node.NodeId.{NodeId}
 use Rattle.kt_tuple.specs.declared.node.NodeId.TheVariants as nodes
 use Rattle.kt_tuple.specs.declared.value.Value.{Value}
-use Rattle.kt_tuple.specs.declared.value.Value.TheVariants.{Int, Str}
+use Rattle.kt_tuple.specs.declared.value.Value.TheVariants.{Int, Str, Bool as Truth}
 use Rattle.kt_tuple.specs.declared.value.Kind.TheVariants as kinds
 use Rattle.kt_tuple.specs.Spelling.{character_text, value_text, further, separated, in_parentheses, node_text}
 use Rattle.kt_tuple.specs.Reading.{is_printable}
@@ -106,6 +106,8 @@ characters_shown (c ∷ cs) h =
 value_shown : (v : Value) → IsValue v → AreShown (value_text v)
 value_shown (Int n) h = int_shown (signed_decimal n) (signed_decimal_is_int n h)
 value_shown (Str s) h = shown_append (flat_map character_text s) (34 ∷ []) (characters_shown s (all_printable s h.1)) refl
+value_shown (Truth true) h = refl
+value_shown (Truth false) h = refl
 
 actual_shown : (actual : Actual) → IsActual actual → AreShown (actual_text actual)
 actual_shown (Literal v) h = value_shown v h
@@ -115,8 +117,10 @@ slot_shown : (slot : Slot) → IsSlot slot → AreShown (slot_text slot)
 slot_shown (slots.Actual actual) h = actual_shown actual h
 slot_shown (slots.Formal kinds.Int None) h = refl
 slot_shown (slots.Formal kinds.Str None) h = refl
+slot_shown (slots.Formal kinds.Bool None) h = refl
 slot_shown (slots.Formal kinds.Int (Some name)) h = name_shown name h
 slot_shown (slots.Formal kinds.Str (Some name)) h = name_shown name h
+slot_shown (slots.Formal kinds.Bool (Some name)) h = name_shown name h
 
 texts_shown : {X : Type 0} (text : X → List ℕ) (Is : X → Type 0) → ((x : X) → Is x → AreShown (text x)) → (xs : List X) → All Is xs → All AreShown (map text xs)
 texts_shown text Is each [] h = All-nil AreShown

@@ -1,9 +1,11 @@
 -- A name, an actual and a place that are read are spelled so.
 use Rattle.std.proofs.Common.{◌≡◌, ℕ, Bool, true, false, cond, eqb, List, [], ◌∷◌, ◌++◌, take, drop, Some, None, Result, Ok, Err, refl, sym, ap, subst, ◌∙◌}
 use Rattle.std.proofs.Common.{append_assoc, take-append-drop}
-use Rattle.std.specs.Prelude.{codes}
+use Rattle.std.specs.Cmp.Lexicographic.{pointwise}
+use Rattle.std.specs.Prelude.{nat_eq, codes}
 use Rattle.std.specs.Option.{option_map}
 use Rattle.kt_tuple.specs.declared.value.Value.{Value}
+use Rattle.kt_tuple.specs.declared.value.Value.TheVariants.{Bool as Truth}
 use Rattle.kt_tuple.specs.declared.value.Kind.{Kind}
 use Rattle.kt_tuple.specs.declared.value.Kind.TheVariants as kinds
 use Rattle.kt_tuple.specs.Spelling.{value_text, kind_text}
@@ -16,10 +18,11 @@ use Rattle.kt_script.specs.declared.command.Slot.{Slot}
 use Rattle.kt_script.specs.declared.command.Slot.TheVariants as slots
 use Rattle.kt_script.specs.Name.{is_name, IsName, begins_with_letter}
 use Rattle.kt_scene.specs.Number.{◌>>=◌}
-use Rattle.kt_scene.specs.Commands.{name_length, name_at, literal_of, actual_at, kind_at, named, slot_at}
+use Rattle.kt_scene.specs.Commands.{name_length, name_at, word_of, literal_of, actual_at, kind_at, named, slot_at}
 use Rattle.kt_script.specs.Spelling.{actual_text, slot_text}
 use Rattle.kt_scene.specs.Scenario.{IsActual, IsSlot}
 use Rattle.kt_scene.proofs.NumberLaws.{both_read, mapped, chosen, by_word}
+use Rattle.kt_scene.proofs.Words.{word_is}
 
 -- a name that is read is spelled so
 pub name_taken : (text rest : List ℕ) (name : Name) → name_at text ≡ Some (name, rest) → (text ≡ name ++ rest) × IsName name
@@ -43,15 +46,42 @@ literal_taken (Ok (p, after)) text read is e =
     let spelled : value_text v.0 ≡ p = value_read_spelled text p after v.0 is v.1 in
     subst (IsActualRead text) v.2 (value_read_front text p after is ∙ ap (λ (t : List ℕ). t ++ after) (sym spelled), value_in_range p v.0 v.1)
 
-variable_taken : (text : List ℕ) (read : Actual × List ℕ) → option_map (λ (n : Name × List ℕ). (Variable n.0, n.1)) (name_at text) ≡ Some read
-    → IsActualRead text read
-variable_taken text read e =
-    let n = mapped (λ (n : Name × List ℕ). (Variable n.0, n.1)) (name_at text) read e in
-    subst (IsActualRead text) n.2 (name_taken text n.0.1 n.0.0 n.1)
+-- the word is the actual's
+abbrev IsWordOf : List ℕ → Actual → Type 0
+IsWordOf word actual = (word ≡ actual_text actual) × IsActual actual
+
+word_by_tests : (is_true is_false : Bool) (word : List ℕ) (actual : Actual)
+    → pointwise nat_eq word (codes "true") ≡ is_true → pointwise nat_eq word (codes "false") ≡ is_false
+    → cond is_true (Some (Literal (Truth true))) (cond is_false (Some (Literal (Truth false))) (cond (is_name word) (Some (Variable word)) None)) ≡ Some actual
+    → IsWordOf word actual
+word_by_tests true b word actual here there e =
+    let same : Literal (Truth true) ≡ actual = cc in
+    subst (IsWordOf word) same (word_is word (codes "true") here, tt)
+word_by_tests false true word actual here there e =
+    let same : Literal (Truth false) ≡ actual = cc in
+    subst (IsWordOf word) same (word_is word (codes "false") there, tt)
+word_by_tests false false word actual here there e =
+    let h = chosen {A = Actual} (is_name word) (Variable word) actual e in
+    subst (IsWordOf word) h.1 (refl, h.0)
+
+word_actual : (word : List ℕ) (actual : Actual) → word_of word ≡ Some actual → IsWordOf word actual
+unfolding word_of
+word_actual word actual e =
+    word_by_tests (pointwise nat_eq word (codes "true")) (pointwise nat_eq word (codes "false")) word actual refl refl e
+
+worded_taken : (text : List ℕ) (read : Actual × List ℕ)
+    → option_map (λ (a : Actual). (a, drop (name_length text) text)) (word_of (take (name_length text) text)) ≡ Some read → IsActualRead text read
+worded_taken text read e =
+    let front = take (name_length text) text in
+    let behind = drop (name_length text) text in
+    let a = mapped (λ (a : Actual). (a, behind)) (word_of front) read e in
+    let h = word_actual front a.0 a.1 in
+    subst (IsActualRead text) a.2 (sym (take-append-drop (name_length text) text) ∙ ap (λ (t : List ℕ). t ++ behind) h.0, h.1)
 
 actual_by_test : (b : Bool) (text : List ℕ) (read : Actual × List ℕ)
-    → cond b (option_map (λ (n : Name × List ℕ). (Variable n.0, n.1)) (name_at text)) (literal_of (value_at text)) ≡ Some read → IsActualRead text read
-actual_by_test true text read e = variable_taken text read e
+    → cond b (option_map (λ (a : Actual). (a, drop (name_length text) text)) (word_of (take (name_length text) text))) (literal_of (value_at text)) ≡ Some read
+    → IsActualRead text read
+actual_by_test true text read e = worded_taken text read e
 actual_by_test false text read e = literal_taken (value_at text) text read refl e
 
 -- an actual that is read is spelled so
@@ -65,8 +95,10 @@ kind_taken text read e =
     let P : Kind × List ℕ → Type 0 = λ x. text ≡ 63 ∷ kind_text x.0 ++ x.1 in
     by_word (P read) text (codes "?int") (λ rest. Some (kinds.Int, rest)) _ (Some read) e
     (λ words parts is. let same : (kinds.Int, words) ≡ read = cc in subst P same parts) (λ e2.
-    by_word (P read) text (codes "?str") (λ rest. Some (kinds.Str, rest)) None (Some read) e2
-    (λ words parts is. let same : (kinds.Str, words) ≡ read = cc in subst P same parts) (λ e3. absurd cc))
+    by_word (P read) text (codes "?str") (λ rest. Some (kinds.Str, rest)) _ (Some read) e2
+    (λ words parts is. let same : (kinds.Str, words) ≡ read = cc in subst P same parts) (λ e3.
+    by_word (P read) text (codes "?bool") (λ rest. Some (kinds.Bool, rest)) None (Some read) e3
+    (λ words parts is. let same : (kinds.Bool, words) ≡ read = cc in subst P same parts) (λ e4. absurd cc)))
 
 -- the text is the place's, and the rest behind it
 abbrev IsSlotRead : List ℕ → Slot × List ℕ → Type 0

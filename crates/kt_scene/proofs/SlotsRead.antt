@@ -3,14 +3,15 @@ use Rattle.std.proofs.Common.{◌≡◌, ℕ, suc, ◌+◌, Bool, true, false, n
 use Rattle.std.proofs.Common.{append_assoc, arith}
 use Rattle.std.proofs.lemmas.Bool.{and_parts, and_left, or_parts, leb-true, lt-leb, ne_eqb}
 use Rattle.std.proofs.lemmas.List.{take_at, drop_at}
-use Rattle.std.specs.Prelude.{nat_le}
+use Rattle.std.specs.Prelude.{nat_eq, nat_le, codes}
+use Rattle.std.specs.Cmp.Lexicographic.{pointwise}
 use Rattle.std.specs.Char.{is_ascii_digit}
 use Rattle.std.specs.List.{list_all}
 use Rattle.std.specs.Option.{option_map}
 use Rattle.std.specs.Str.{all_ascii_digits}
 use Rattle.kt_script.specs.declared.name.TheConstants.{MAX_NAME}
 use Rattle.kt_tuple.specs.declared.value.Value.{Value}
-use Rattle.kt_tuple.specs.declared.value.Value.TheVariants.{Int, Str}
+use Rattle.kt_tuple.specs.declared.value.Value.TheVariants.{Int, Str, Bool as Truth}
 use Rattle.kt_tuple.specs.declared.value.Kind.{Kind}
 use Rattle.kt_tuple.specs.declared.value.Kind.TheVariants as kinds
 use Rattle.kt_tuple.specs.Spelling.{value_text, kind_text}
@@ -23,7 +24,7 @@ use Rattle.kt_script.specs.declared.command.Actual.TheVariants.{Literal, Variabl
 use Rattle.kt_script.specs.declared.command.Slot.{Slot}
 use Rattle.kt_script.specs.declared.command.Slot.TheVariants as slots
 use Rattle.kt_script.specs.Name.{is_letter, is_name_character, is_reserved, is_name, IsName, begins_with_letter}
-use Rattle.kt_scene.specs.Commands.{name_length, name_at, actual_at, kind_at, named, slot_at}
+use Rattle.kt_scene.specs.Commands.{name_length, name_at, word_of, actual_at, kind_at, named, slot_at}
 use Rattle.kt_script.specs.Spelling.{actual_text, slot_text}
 use Rattle.kt_scene.specs.Scenario.{IsActual, IsSlot}
 
@@ -83,16 +84,62 @@ int_begins p rest (positive h) = digits_begin p rest h
         and_left (leb 97 c) (leb c 122) (lt-leb 97 c (omega (arith, high)))
 int_begins p rest (negative h) = refl
 
-value_begins : (v : Value) (rest : List ℕ) → IsValue v → begins_with_letter (value_text v ++ rest) ≡ false
-value_begins (Int n) rest h = int_begins (value_text (Int n)) rest (signed_decimal_is_int n h)
-value_begins (Str s) rest h = refl
+-- a word is read whole
+word_read : (word rest : List ℕ) (actual : Actual) → begins_with_letter (word ++ rest) ≡ true → list_all is_name_character word ≡ true
+    → goes_on_as_name rest ≡ false → word_of word ≡ Some actual → actual_at (word ++ rest) ≡ Some (actual, rest)
+unfolding actual_at
+word_read word rest actual first all end is =
+    rw (first, length_of_name word rest all end, take_at word rest (length word) refl, drop_at word rest (length word) refl, is) refl
+
+no_truth : (name : List ℕ) → is_reserved name ≡ false
+    → (pointwise nat_eq name (codes "true") ≡ false) × (pointwise nat_eq name (codes "false") ≡ false)
+unfolding is_reserved
+no_truth name free =
+    let same = λ (word : List ℕ). pointwise nat_eq name word in
+    let kinds = same (codes "int") || same (codes "str") || same (codes "bool") in
+    let parts = or_parts (kinds || same (codes "true")) (same (codes "false")) free in
+    ((or_parts kinds (same (codes "true")) parts.0).1, parts.1)
+
+not_true : (b : Bool) → not b ≡ true → b ≡ false
+not_true true e = absurd cc
+not_true false e = refl
+
+-- a name is none of the words that are values
+name_word : (name : List ℕ) → IsName name → word_of name ≡ Some (Variable name)
+unfolding word_of
+name_word name h =
+    let parts = and_parts (begins_with_letter name && nat_le (length name) MAX_NAME && list_all is_name_character name) (not (is_reserved name)) h in
+    let none = no_truth name (not_true (is_reserved name) parts.1) in
+    let is_one : is_name name ≡ true = h in
+    rw (none.0, none.1, is_one) refl
+
+truth_word : (b : Bool) → word_of (value_text (Truth b)) ≡ Some (Literal (Truth b))
+unfolding word_of
+truth_word true = refl
+truth_word false = refl
+
+truth_read : (b : Bool) (rest : List ℕ) → goes_on_as_name rest ≡ false
+    → actual_at (value_text (Truth b) ++ rest) ≡ Some (Literal (Truth b), rest)
+truth_read true rest end = word_read (codes "true") rest (Literal (Truth true)) refl refl end (truth_word true)
+truth_read false rest end = word_read (codes "false") rest (Literal (Truth false)) refl refl end (truth_word false)
+
+-- what is no word begins with no letter
+literal_read : (v : Value) (rest : List ℕ) → IsValue v → begins_with_letter (value_text v ++ rest) ≡ false → goes_on_as_name rest ≡ false
+    → actual_at (value_text v ++ rest) ≡ Some (Literal v, rest)
+unfolding actual_at
+literal_read v rest h begins end = rw (begins, value_at_text v rest h (no_digit rest end), value_of_text v h) refl
+
+value_read : (v : Value) (rest : List ℕ) → IsValue v → goes_on_as_name rest ≡ false → actual_at (value_text v ++ rest) ≡ Some (Literal v, rest)
+value_read (Int n) rest h end = literal_read (Int n) rest h (int_begins (value_text (Int n)) rest (signed_decimal_is_int n h)) end
+value_read (Str s) rest h end = literal_read (Str s) rest h refl end
+value_read (Truth b) rest h end = truth_read b rest end
 
 -- an actual is read up to its end
 pub actual_read : (actual : Actual) (rest : List ℕ) → IsActual actual → goes_on_as_name rest ≡ false
     → actual_at (actual_text actual ++ rest) ≡ Some (actual, rest)
-unfolding actual_at
-actual_read (Literal v) rest h end = rw (value_begins v rest h, value_at_text v rest h (no_digit rest end), value_of_text v h) refl
-actual_read (Variable name) rest h end = rw (name_begins name rest h, name_read name rest h end) refl
+actual_read (Literal v) rest h end = value_read v rest h end
+actual_read (Variable name) rest h end =
+    word_read name rest (Variable name) (name_begins name rest h) (name_is name h).all end (name_word name h)
 
 named_first : (name : List ℕ) → IsName name → (c : ℕ) × (cs : List ℕ) × (name ≡ c ∷ cs) × (eqb c 63 ≡ false)
 named_first [] h = absurd cc
@@ -114,6 +161,7 @@ slot_at_plain p cs rest c is no_mark = rw (is, no_mark) refl
 kind_read : (kind : Kind) (rest : List ℕ) → kind_at (63 ∷ kind_text kind ++ rest) ≡ Some (kind, rest)
 kind_read kinds.Int rest = refl
 kind_read kinds.Str rest = refl
+kind_read kinds.Bool rest = refl
 
 slot_at_formal : (kind : Kind) (rest : List ℕ) → slot_at (63 ∷ kind_text kind ++ rest) ≡ named kind rest
 unfolding slot_at

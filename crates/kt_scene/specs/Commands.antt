@@ -1,9 +1,11 @@
 -- The line of a command.
-use Rattle.std.specs.Prelude.{ℕ, zero, suc, ℤ, pos, nat_le, ◌==◌, Bool, true, false, not, if◌then◌else◌, List, [], ◌∷◌}
+use Rattle.std.specs.Prelude.{ℕ, zero, suc, ℤ, pos, nat_le, nat_eq, ◌==◌, Bool, true, false, not, if◌then◌else◌, List, [], ◌∷◌}
 use Rattle.std.specs.Prelude.{take, drop, codes, Option, Some, None, Result, Ok, Err}
+use Rattle.std.specs.Cmp.Lexicographic.{pointwise}
 use Rattle.std.specs.List.{position_or_len}
 use Rattle.std.specs.Option.{option_map}
 use Rattle.kt_tuple.specs.declared.tuple.TheConstants.{MAX_PLACES}
+use Rattle.kt_tuple.specs.declared.value.Value.TheVariants.{Bool as Truth}
 use Rattle.kt_tuple.specs.declared.value.Kind.{Kind}
 use Rattle.kt_tuple.specs.declared.value.Kind.TheVariants as kinds
 use Rattle.kt_tuple.specs.Reading.{value_at, value_of, int_at, int_of, after_place}
@@ -41,16 +43,27 @@ abbrev pub literal_of : Result (List ℕ × List ℕ) (List ℕ) → Option (Act
 literal_of (Err rest) = None
 literal_of (Ok read) = option_map (λ v. (Literal v, read.1)) (value_of read.0)
 
--- a variable's name or a value
+-- the value or the variable that a whole word is: `true` and `false` are values, and any other word is a name or nothing
+unfoldable pub word_of : List ℕ → Option Actual
+word_of word =
+    if pointwise nat_eq word (codes "true") then Some (Literal (Truth true))
+    else if pointwise nat_eq word (codes "false") then Some (Literal (Truth false))
+    else if is_name word then Some (Variable word)
+    else None
+
+-- a variable's name or a value; what begins with a letter is read up to the end of the word
 unfoldable pub actual_at : List ℕ → Option (Actual × List ℕ)
 actual_at text =
-    if begins_with_letter text then option_map (λ n. (Variable n.0, n.1)) (name_at text) else literal_of (value_at text)
+    if begins_with_letter text
+    then option_map (λ a. (a, drop (name_length text) text)) (word_of (take (name_length text) text))
+    else literal_of (value_at text)
 
--- `?int` or `?str`
+-- `?int`, `?str` or `?bool`
 abbrev pub kind_at : List ℕ → Option (Kind × List ℕ)
 kind_at text =
     behind_or (behind text (codes "?int")) (λ rest. Some (kinds.Int, rest))
-    (behind_or (behind text (codes "?str")) (λ rest. Some (kinds.Str, rest)) None)
+    (behind_or (behind text (codes "?str")) (λ rest. Some (kinds.Str, rest))
+    (behind_or (behind text (codes "?bool")) (λ rest. Some (kinds.Bool, rest)) None))
 
 -- a space and a name behind a kind, or neither
 abbrev pub named : Kind → List ℕ → Option (Slot × List ℕ)

@@ -9,7 +9,7 @@ use Rattle.std.specs.Str.Parse.{digits_value, signed_digits_value}
 use Rattle.kt_scene.specs.declared.reading.TheConstants.{MAX_TEXT}
 use Rattle.kt_world.specs.declared.step.TheConstants.{MAX_STEPS}
 use Rattle.kt_script.specs.declared.script.TheConstants.{MAX_COMMANDS, MAX_VARIABLES}
-use Rattle.kt_tuple.specs.declared.node.TheConstants.{MAX_SHARDS}
+use Rattle.kt_tuple.specs.declared.node.TheConstants.{MAX_SHARDS, MAX_WORKERS}
 use Rattle.kt_tuple.specs.Grammar.{IsDigit, IsFirstDigit, IsInt}
 use Rattle.kt_script.specs.declared.command.Command.{Command}
 use Rattle.kt_script.specs.declared.command.Command.TheVariants.{Ask, Set, Unless}
@@ -160,7 +160,7 @@ pub data BreaksVariableRules (kind : WorkKind) (told : List (List ℕ)) (line : 
 pub data PassesLimit (kind : WorkKind) (told : List (List ℕ)) (line : List ℕ) : Type 0 where
   shards_outside : (n : ℕ) → told ≡ title_line ∷ [] → SpellsShards line n → ¬ AreShards n → PassesLimit kind told line
   many_workers : (scripts : List (List Command)) (commands : List Command) → IsInScript kind told scripts commands
-      → line ≡ codes "worker" → length scripts ≡ 7 → PassesLimit kind told line
+      → line ≡ codes "worker" → length scripts + 1 ≡ MAX_WORKERS → PassesLimit kind told line
   many_commands : (scripts : List (List Command)) (commands : List Command) (command : Command)
       → IsInScript kind told scripts commands → Spells line command → MAX_COMMANDS ≤ length commands
       → PassesLimit kind told line

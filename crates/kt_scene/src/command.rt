@@ -5,7 +5,8 @@ ghost use Rattle.std.specs.Prelude.{Option, Some, None};
 ghost use Rattle.std.specs.Option.{option_map};
 ghost use Rattle.kt_tuple.specs.Matching.{HasArity};
 ghost use Rattle.kt_script.specs.Name.{begins_with_letter, is_name_character};
-ghost use Rattle.kt_scene.specs.Commands.{name_length, name_at, actual_at, kind_at, named, slot_at, slots_in};
+ghost use Rattle.kt_scene.specs.Commands.{name_length, name_at, word_of, actual_at, kind_at, named, slot_at};
+ghost use Rattle.kt_scene.specs.Commands.{slots_in};
 ghost use Rattle.kt_scene.specs.Commands.{actuals_of, operation_of, verb_at, set_with, set_of, unless_with, unless_of};
 ghost use Rattle.kt_scene.specs.Commands.{asked, spelled_of, fault_behind};
 ghost use Rattle.kt_scene.specs.inner.Placing.{all_taken, of_read};
@@ -20,7 +21,7 @@ use kt_script::{
     is_name_character,
 };
 use kt_tuple::reading::{after_place, int_at, int_of, value_at, value_of};
-use kt_tuple::{Kind, MAX_PLACES};
+use kt_tuple::{Kind, MAX_PLACES, Value};
 
 /// The verb of an operation: the word that begins its line.
 #[derive(Clone, Copy, Debug, PartialEq, Eq)]
@@ -71,14 +72,28 @@ fn name_at(text: &[u8]) -> Option<(Name, &[u8])>
     }
 }
 
-/// A variable's name or a value.
+/// What a whole word is: `true` and `false` are values, and any other word is a name or nothing.
+#[tactic(auto, unfolding(crate::specs::Commands::word_of))]
+fn word_of(word: &[u8]) -> Option<Actual>
+    ensures { result ≡ word_of word.now }
+{
+    if word == b"true".as_slice() {
+        Some(Actual::Literal(Value::Bool(true)))
+    } else if word == b"false".as_slice() {
+        Some(Actual::Literal(Value::Bool(false)))
+    } else {
+        Name::new(word).map(Actual::Variable)
+    }
+}
+
+/// A variable's name or a value. A word is read whole before it is judged: `trueish` is a name.
 #[tactic(auto, unfolding(crate::specs::Commands::actual_at))]
 fn actual_at(text: &[u8]) -> Option<(Actual, &[u8])>
     ensures { option_map (λ x. (x.0, x.1.now)) result ≡ actual_at text.now }
 {
     if begins_with_letter(text) {
-        let (name, rest) = name_at(text)?;
-        return Some((Actual::Variable(name), rest));
+        let (word, rest) = text.split_at(name_length(text));
+        return Some((word_of(word)?, rest));
     }
     match value_at(text) {
         Ok((spelling, rest)) => {
@@ -89,7 +104,7 @@ fn actual_at(text: &[u8]) -> Option<(Actual, &[u8])>
     }
 }
 
-/// The kind of `?int` or `?str` in front, and the bytes behind it.
+/// The kind of `?int`, `?str` or `?bool` in front, and the bytes behind it.
 fn kind_at(text: &[u8]) -> Option<(Kind, &[u8])>
     ensures { option_map (λ x. (x.0, x.1.now)) result ≡ kind_at text.now }
 {
@@ -97,6 +112,8 @@ fn kind_at(text: &[u8]) -> Option<(Kind, &[u8])>
         Some((Kind::Int, rest))
     } else if let Some(rest) = behind(text, b"?str") {
         Some((Kind::Str, rest))
+    } else if let Some(rest) = behind(text, b"?bool") {
+        Some((Kind::Bool, rest))
     } else {
         None
     }
@@ -187,13 +204,22 @@ fn places_in<T: Placed>(text: &[u8], room: Vec<T>) -> Option<Vec<T>>
     None
 }
 
+/// These places, without the room that they leave, where the smaller block is to be had.
+fn fitted<T>(places: Vec<T>) -> Vec<T>
+    ensures { result.items ≡ places.items }
+{
+    let mut fitted = places;
+    fitted.shrink_to_fit();
+    fitted
+}
+
 /// The places of a template, in these rooms.
 #[tactic(auto, using(crate::proofs::Slots::all_as_they_stand))]
 fn pattern_in(text: &[u8], rooms: &mut Rooms) -> Option<Pattern>
     requires { IsReady rooms.old }
     ensures { result ≡ slots_in text.now }
 {
-    Pattern::new(places_in(text, rooms.for_slots())?)
+    Pattern::new(fitted(places_in(text, rooms.for_slots())?))
 }
 
 /// The values and variables of a tuple, in these rooms: none of its places is a formal.
@@ -202,7 +228,7 @@ fn actuals_in(text: &[u8], rooms: &mut Rooms) -> Option<Actuals>
     requires { IsReady rooms.old }
     ensures { result ≡ of_read actuals_of (slots_in text.now) }
 {
-    Actuals::new(places_in(text, rooms.for_actuals())?)
+    Actuals::new(fitted(places_in(text, rooms.for_actuals())?))
 }
 
 impl Verb {

@@ -5,7 +5,7 @@ use Rattle.std.specs.Prelude.{if◌then◌else◌}
 use Rattle.std.proofs.lemmas.Bool.{and_parts, and_from}
 use Rattle.std.proofs.lemmas.List.{length-drop}
 use Rattle.kt_tuple.specs.declared.value.Value.{Value}
-use Rattle.kt_tuple.specs.declared.value.Value.TheVariants.{Int, Str}
+use Rattle.kt_tuple.specs.declared.value.Value.TheVariants.{Int, Str, Bool as Truth}
 use Rattle.kt_tuple.specs.declared.value.Kind.{Kind}
 use Rattle.kt_tuple.specs.declared.value.Kind.TheVariants as kinds
 use Rattle.kt_tuple.specs.declared.op.Answer.{Answer}
@@ -65,6 +65,7 @@ AreOfKind-before script (suc pc) is = AreOfKind-at (variables_of script) script 
 zero-kind : (k : Kind) → kind_eq k (kind_of (zero_of (Some k))) ≡ true
 zero-kind kinds.Int = refl
 zero-kind kinds.Str = refl
+zero-kind kinds.Bool = refl
 
 values-zeros : (vs : List (Name × Kind)) → are_values_of vs (zeros_of vs) ≡ true
 values-zeros [] = refl
@@ -73,6 +74,7 @@ values-zeros (v ∷ vs) = and_from (kind_eq v.1 (kind_of (zero_of (Some v.1)))) 
 plus-kind : (v : Value) (k : ℤ) → kind_of (plus v k) ≡ kinds.Int
 plus-kind (Int n) k = refl
 plus-kind (Str s) k = refl
+plus-kind (Truth b) k = refl
 
 values-with_held : (vs : List (Name × Kind)) (us : List Value) (x : Name) (w : Value) → are_values_of vs us ≡ true
     → ((k : Kind) → kind_in vs x ≡ Some k → kind_of w ≡ k) → are_values_of vs (with_held vs us x w) ≡ true

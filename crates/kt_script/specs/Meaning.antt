@@ -1,10 +1,10 @@
 -- What a command means where the variables have values: what it asks for, and what it binds.
-use Rattle.std.specs.Prelude.{ℤ, pos, Bool, if◌then◌else◌, List, [], ◌∷◌, map, Option, None, Some}
+use Rattle.std.specs.Prelude.{ℤ, pos, Bool, false, if◌then◌else◌, List, [], ◌∷◌, map, Option, None, Some}
 use Rattle.std.specs.Int.{saturate_signed, w64}
 use Rattle.std.specs.Prelude.{◌+ℤ◌}
 use Rattle.std.specs.Cmp.Lexicographic.{pointwise}
 use Rattle.kt_tuple.specs.declared.value.Value.{Value}
-use Rattle.kt_tuple.specs.declared.value.Value.TheVariants.{Int, Str}
+use Rattle.kt_tuple.specs.declared.value.Value.TheVariants.{Int, Str, Bool as Truth}
 use Rattle.kt_tuple.specs.declared.value.Kind.{Kind}
 use Rattle.kt_tuple.specs.declared.value.Kind.TheVariants as kinds
 use Rattle.kt_tuple.specs.declared.template.Place.{Place}
@@ -28,11 +28,12 @@ use Rattle.kt_script.specs.Name.{same_name}
 abbrev pub Meaning : Type 0
 Meaning = Name → Value
 
--- a variable is 0 or the empty string until it is bound
+-- a variable is 0, the empty string or `false` until it is bound
 abbrev pub zero_of : Option Kind → Value
 zero_of None = Int (pos 0)
 zero_of (Some kinds.Int) = Int (pos 0)
 zero_of (Some kinds.Str) = Str []
+zero_of (Some kinds.Bool) = Truth false
 
 abbrev pub value_of_actual : Meaning → Actual → Value
 value_of_actual meaning (Literal value) = value
@@ -57,6 +58,7 @@ op_of meaning (Rdp pattern) = ops.Rdp (template_of meaning pattern)
 abbrev pub plus : Value → ℤ → Value
 plus (Int n) k = Int (saturate_signed w64 (n +ℤ k))
 plus (Str s) k = Int k
+plus (Truth b) k = Int k
 
 -- the name stands for the value from now on
 abbrev pub with_value : Meaning → Name → Value → Meaning

@@ -23,7 +23,7 @@ pub record Memory : Type 0 where
   pub values : List Value
   pub was_none : Bool
 
--- each variable is 0 or the empty string
+-- each variable is 0, the empty string or `false`
 abbrev pub zeros_of : List (Name × Kind) → List Value
 zeros_of variables = map (λ v. zero_of (Some v.1)) variables
 

@@ -36,7 +36,7 @@ impl Env {
     ghost use Rattle.kt_tuple.specs.declared.op.Answer.{Answer};
     ghost use Rattle.kt_script.specs.declared.next.Next.{Next};
 
-    /// The variables of the script before any answer: each is 0 or the empty string.
+    /// The variables of the script before any answer: each is 0, the empty string or `false`.
     pub fn new(alloc: Global, script: &Script) -> Result<Env, AllocError>
         ensures value { IfOk result (λ e. e ≡ opening_memory script.now) }
         ensures first { IfOk result (λ e. position_after script.now [] ≡ record { pc = 0; memory = e }) }

@@ -45,14 +45,14 @@ impl Scope<'_> {
         }
     }
 
-    /// The name's value plus a number, held at the ends of 64 bits. A str counts as 0: the rules of a script let a
-    /// command add to ints alone.
+    /// The name's value plus a number, held at the ends of 64 bits. A str or a bool counts as 0: the rules of a script
+    /// let a command add to ints alone.
     pub(crate) fn sum_of(self, name: &Name, number: i64) -> Value
         ensures { result ≡ plus (meaning_in self.entry name.now) number }
     {
         match held(self.variables, self.values, name) {
             Some(Value::Int(n)) => Value::Int(n.saturating_add(number)),
-            Some(Value::Str(_)) => Value::Int(number),
+            Some(Value::Str(_) | Value::Bool(_)) => Value::Int(number),
             None => Value::Int(0i64.saturating_add(number)),
         }
     }

@@ -78,13 +78,14 @@ fn have_kinds(kinds: &[Kind], values: &[Value]) -> bool
     }
 }
 
-/// What a variable of this kind holds before it is bound: 0 or the empty string.
+/// What a variable of this kind holds before it is bound: 0, the empty string or `false`.
 fn zero_of(kind: Kind) -> Value
     ensures { result ≡ zero_of (Some kind) }
 {
     match kind {
         Kind::Int => Value::Int(0),
         Kind::Str => Value::Str(Str::new(&[]).unwrap()),
+        Kind::Bool => Value::Bool(false),
     }
 }
 

@@ -92,6 +92,7 @@ impl Hash for Key {
             None => {}
             Some(Value::Int(n)) => n.hash(state),
             Some(Value::Str(s)) => s.as_bytes().hash(state),
+            Some(Value::Bool(b)) => b.hash(state),
         }
     }
 }

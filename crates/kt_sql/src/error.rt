@@ -12,7 +12,7 @@ pub enum SqlOpenError {
     /// The device failed, or the file can't be opened; so too for `:memory:`, which names no file.
     #[error("Device")]
     Device,
-    /// The tables are not those of a store of version 1, or the file is no database.
+    /// The tables are not those of a store of this version, or the file is no database.
     #[error("Damaged")]
     Damaged,
 }

@@ -1,6 +1,7 @@
 //! How a store is opened.
 
 ghost use Rattle.std.specs.Prelude.{◌≡◌, ◌≢◌, ◌↔◌, ◌⊎◌, false, codes, Err, IfOk, IfErr, OnOk, IsTrue};
+ghost use Rattle.std.specs.IoError.{error_kind};
 ghost use Rattle.sqlite.specs.Files.{over_files, file_state};
 ghost use Rattle.sqlite.specs.Held.{state};
 ghost use Rattle.sqlite.specs.State.{HasCleanDisk};
@@ -9,7 +10,7 @@ ghost use Rattle.kt_store.specs.Calls.{nothing_counted};
 ghost use Rattle.kt_store.specs.Content.{empty_content};
 ghost use Rattle.kt_tables.specs.Schema.{kt_schema, no_schema};
 ghost use Rattle.kt_tables.specs.Rows.{AreAsSaid};
-ghost use Rattle.kt_tables.specs.Opened.{IsVersion1};
+ghost use Rattle.kt_tables.specs.Opened.{IsThisVersion};
 ghost use Rattle.kt_tables.specs.Held.{is_sure, content_of};
 
 use crate::error::SqlOpenError;
@@ -43,10 +44,10 @@ fn file_error(error: Error) -> SqlOpenError
 
 /// Why the files at a path were not opened.
 fn path_error(error: PathError) -> SqlOpenError
+    ensures memory { result ≡ SqlOpenError.Memory
+        ↔ (error ≡ PathError.OutOfMemory)
+        ⊎ ((e : _) × (error ≡ PathError.Io e) × (error_kind e ≡ ErrorKind.OutOfMemory)) }
     ensures named { (result ≡ SqlOpenError.Memory) ⊎ (result ≡ SqlOpenError.Device) }
-    ensures memory { error ≡ PathError.OutOfMemory → result ≡ SqlOpenError.Memory }
-    ensures busy { error ≡ PathError.Busy → result ≡ SqlOpenError.Device }
-    ensures hot { error ≡ PathError.HotJournal → result ≡ SqlOpenError.Device }
 {
     match error {
         PathError::OutOfMemory => SqlOpenError::Memory,
@@ -126,7 +127,7 @@ impl<S: Alter> SqlStore<S> {
             → (state S.Store conn).now.schema ≢ no_schema
             → (state S.Store s.tables.conn).now ≡ (state S.Store conn).now) }
         ensures version { IfOk result (λ s. HasCleanDisk (state S.Store s.tables.conn)
-            → IsVersion1 (state S.Store s.tables.conn).now) }
+            → IsThisVersion (state S.Store s.tables.conn).now) }
         ensures honest { IfOk result (λ s. HasCleanDisk (state S.Store s.tables.conn)
             → (IsTrue (is_sure S.Store s.tables) ↔ AreAsSaid (state S.Store s.tables.conn).now.trees)) }
         ensures counts { IfOk result (λ s. s.counts ≡ nothing_counted) }
@@ -136,7 +137,7 @@ impl<S: Alter> SqlStore<S> {
         ensures foreign_name { (state S.Store conn).now.schema ≢ no_schema
             → (state S.Store conn).now.schema ≢ kt_schema → IfErr result (λ e. e.0 ≡ SqlOpenError.Damaged) }
         ensures damaged { IfErr result (λ e. e.0 ≡ SqlOpenError.Damaged → HasCleanDisk (state S.Store e.1)
-            → ((state S.Store conn).now.schema ≢ no_schema) × (IsVersion1 (state S.Store conn).now → ⊥)) }
+            → ((state S.Store conn).now.schema ≢ no_schema) × (IsThisVersion (state S.Store conn).now → ⊥)) }
         ensures unchanged { IfErr result (λ e. HasCleanDisk (state S.Store e.1)
             → IsTrue (state S.Store e.1).is_open → (state S.Store e.1).now ≡ (state S.Store conn).now) }
         ensures ended { IfErr result (λ e. e.1.in_transaction ≡ false) }
@@ -169,7 +170,7 @@ impl SqlStore<FileStore<File>> {
     /// and no clause says it.
     pub fn open(rt: &HostRuntime, path: &str) -> Result<SqlStore<FileStore<File>>, SqlOpenError>
         ensures version { IfOk result (λ s. HasCleanDisk (file_state s.tables.conn)
-            → IsVersion1 (file_state s.tables.conn).now) }
+            → IsThisVersion (file_state s.tables.conn).now) }
         ensures honest { IfOk result (λ s. HasCleanDisk (file_state s.tables.conn)
             → (IsTrue (is_sure over_files s.tables) ↔ AreAsSaid (file_state s.tables.conn).now.trees)) }
         ensures counts { IfOk result (λ s. s.counts ≡ nothing_counted) }

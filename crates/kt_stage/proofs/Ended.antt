@@ -47,8 +47,8 @@ pub halted-stopped : (opened : Standing) (was : StoreValue) (cast : Cast) (lines
 halted-stopped opened was cast lines j (runs.Open cause) le made h = absurd h
 halted-stopped opened was cast lines j (runs.Step at cause) le made h =
     record { journal = j; store = refl; made = made; refused = refused-since was.counts opened.counts j at cause le h }
-halted-stopped opened was cast lines j (runs.Close cause) le made h = tt
-halted-stopped opened was cast lines j runs.Memory le made h = tt
+halted-stopped opened was cast lines j (runs.Close cause) le made h = record { journal = j; store = refl; made = made }
+halted-stopped opened was cast lines j runs.Memory le made h = record { journal = j; store = refl; made = made }
 halted-stopped opened was cast lines j (runs.Unfinished node) le made h = absurd h
 
 pub halted-left : (opened : Standing) (before : Counts) (cast : Cast) (lines : List FaultLine) (j : Journal) (fault : RunFault)

@@ -9,4 +9,6 @@ pub mod Settled
 pub mod Ended
 pub mod Planned
 pub mod Allowed
+pub mod Nobody
+pub mod Unmatched
 pub mod Shared

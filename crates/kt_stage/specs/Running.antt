@@ -64,12 +64,19 @@ pub record IsRefusedStep (was left : StoreValue) (cast : Cast) (at : ℕ) (cause
   pub made : IsTrue journal.world.is_honest → all_made (opening cast) journal.steps ≡ Ok journal.world.state
   pub refused : IsRefusedAt was.counts journal at cause
 
--- what is known of a run that did not come to its end; of seats that do not fit and of memory nothing is
+-- some journal has this store, and its steps led to its world
+pub record IsGivenUp (left : StoreValue) (cast : Cast) : Type 0 where
+  pub journal : Journal
+  pub store : left ≡ store_of journal.world
+  pub made : IsTrue journal.world.is_honest → all_made (opening cast) journal.steps ≡ Ok journal.world.state
+
+-- what is known of a run that did not come to its end; of seats that do not fit and of memory no more than what the
+-- steps have left
 abbrev pub IsStopped : (was left : StoreValue) → Cast → List FaultLine → RunFault → Type 0
 IsStopped was left cast lines (runs.Open cause) = IsOpenRefused was left cause
 IsStopped was left cast lines (runs.Step at cause) = IsRefusedStep was left cast at cause
-IsStopped was left cast lines (runs.Close cause) = Unit {0}
-IsStopped was left cast lines runs.Memory = Unit {0}
+IsStopped was left cast lines (runs.Close cause) = IsGivenUp left cast
+IsStopped was left cast lines runs.Memory = IsGivenUp left cast
 IsStopped was left cast lines (runs.Unfinished node) = IsLeftOver left cast lines node
 
 -- ---- what is left

@@ -187,7 +187,7 @@ where
 /// of the one that was left; of a kind that is not always honest `run_threads_over` says more.
 ///
 /// Which steps are made, and in what order, is not promised; nor that the run ends. Of seats that do not fit and of
-/// want of memory nothing is promised but the name.
+/// want of memory no more is promised than that the steps that were made have left the store.
 pub fn run_threads<R, S, G>(
     rt: &R,
     alloc: Global,

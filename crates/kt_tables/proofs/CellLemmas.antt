@@ -1,9 +1,7 @@
 -- What the cells of a row say, and what a change of them makes of it.
-use Rattle.std.proofs.Common.{◌≡◌, ℕ, ◌+◌, ◌≤◌, pos, List, [], ◌∷◌, Option, None, Some, Result, Ok, Err, IfOk, IfErr, IfSome, refl, sym, ap, subst, ◌∙◌, arith}
-use Rattle.sqlite.specs.declared.types.Value.{Value}
+use Rattle.std.proofs.Common.{◌≡◌, ℕ, ◌+◌, ◌≤◌, pos, List, Option, None, Some, Result, Ok, Err, IfOk, IfErr, IfSome, refl, sym, ap, subst, ◌∙◌, arith}
 use Rattle.sqlite.specs.declared.types.Value.TheVariants.{Int, Blob}
 use Rattle.sqlite.specs.Values.{bound_value, or_null}
-use Rattle.sqlite.specs.Order.{Row}
 use Rattle.std.specs.declared.vec.Vec.{Vec}
 use Rattle.std.specs.declared.alloc.Global.{Global}
 use Rattle.kt_ckpt.specs.declared.ckpt.Ckpt.{Ckpt}
@@ -34,10 +32,6 @@ bound_bytes (Some b) = refl
 pub bound_number : (o : Option Number) → bound_value (or_null (λ (n : Number). Int (pos n.value)) o) ≡ or_null (λ (n : Number). Int (pos n.value)) o
 bound_number None = refl
 bound_number (Some n) = refl
-
-pub same_five : {a b d e f k l m n o : Value} → a ≡ k → b ≡ l → d ≡ m → e ≡ n → f ≡ o
-    → ◌≡◌ {A = Row} (a ∷ b ∷ d ∷ e ∷ f ∷ []) (k ∷ l ∷ m ∷ n ∷ o ∷ [])
-same_five p q r s t = rw (p, q, r, s, t) refl
 
 -- they say this node, where it is as said
 pub spelled_node : (c : NodeCells) (r : NodeRow) → IsNodeRow r → SpellsNode c r → cells_node c ≡ r

@@ -17,7 +17,7 @@ use Rattle.sqlite.specs.State.{State, Writes, Executes}
 use Rattle.sqlite.proofs.Callers.{IsPlain, command_of, statement_of, runs_as}
 use Rattle.sqlite_tied.specs.Compute.{everything}
 use Rattle.kt_tables.specs.Schema.{kt_schema, no_schema, node_table, board_table, meta_table}
-use Rattle.kt_tables.specs.Opened.{meta_shown, IsVersion1}
+use Rattle.kt_tables.specs.Opened.{meta_shown, this_version, IsThisVersion}
 use Rattle.kt_tables.specs.inner.Text.{create_node_text, create_board_text, create_meta_text, first_meta_text}
 use Rattle.kt_tables.proofs.PutLemmas.{went, same_value, AreNumbered, PutsInto, put_ran}
 use Rattle.kt_tables.proofs.WriteLemmas.{cast_meta}
@@ -82,10 +82,10 @@ meta_made old new count has none bare h =
     let it = made old new count with_board create_meta_text record meta_table { tree = 0 } make_meta refl has h in (it.0, it.2.0 ∙ none, it.2.1.0 ∙ bare, it.1)
 
 abbrev meta_terms : List Term
-meta_terms = lit (Int (pos 1)) ∷ lit Null ∷ lit (Int (pos 1)) ∷ []
+meta_terms = lit (Int (pos 1)) ∷ lit Null ∷ lit (Int (pos this_version)) ∷ []
 
 abbrev meta_row : Row
-meta_row = Int (pos 1) ∷ Null ∷ Int (pos 1) ∷ []
+meta_row = Int (pos 1) ∷ Null ∷ Int (pos this_version) ∷ []
 
 puts_meta : PutsInto 2 first_meta_text [] meta_row (pos 1)
 unfolding understood everything
@@ -105,7 +105,7 @@ puts_meta = record {
 
 pub meta_put : (old new : State) (count : ℕ) → old.now.schema ≡ kt_schema → old.now.trees 0 ≡ [] → old.now.trees 1 ≡ [] → old.now.trees 2 ≡ []
     → Executes first_meta_text [] old new (Ok count)
-    → IsVersion1 new.now × (new.now.trees 0 ≡ []) × (new.now.trees 1 ≡ [])
+    → IsThisVersion new.now × (new.now.trees 0 ≡ []) × (new.now.trees 1 ≡ [])
 meta_put old new count has none bare empty h =
     let put = put_ran puts_meta old new count has (subst AreNumbered (sym empty) (λ r has. absurd has)) h in (
       record {

@@ -20,7 +20,7 @@ use Rattle.kt_tables.specs.Rows.{number_in, node_given, posted_given, IsNodeRow,
 use Rattle.kt_tables.specs.Settled.{IsSettled}
 use Rattle.kt_tables.specs.inner.Looking.{Looks}
 use Rattle.kt_tables.proofs.StateLemmas.{look_clean, look_open}
-use Rattle.kt_tables.specs.Opened.{meta_shown, meta_given, IsVersion1, IsReady}
+use Rattle.kt_tables.specs.Opened.{meta_shown, meta_given, IsThisVersion, IsReady}
 use Rattle.kt_tables.specs.inner.Testing.{key_of, IsRowOf, AreRowsFrom}
 use Rattle.kt_tables.proofs.Texts.{Asks, from_table, rising, all_nodes_is, all_posted_is, meta, meta_is, node_names, posted_names}
 use Rattle.kt_tables.proofs.TableRows.{Table, HoldsAll, nodes_table, posted_table}
@@ -155,7 +155,7 @@ both_said db false b h g = (λ is. absurd cc, λ it. absurd (let bad : IsTrue fa
 -- the tables were tested, by three looks one after the other
 module _ (old one two last : State) (a b : Bool) (clean : HasCleanDisk last) (on : IsTrue last.is_open) (settled : IsTrue old.is_open → IsSettled old)
     (first : Looks old one) (second : Looks one two) (third : Looks two last) where
-  pub tested_ready : (HasCleanDisk one → IsVersion1 old.now)
+  pub tested_ready : (HasCleanDisk one → IsThisVersion old.now)
       → (HasCleanDisk one → IsTrue one.is_open → IsSettled old → (one.now ≡ old.now) × IsSettled one)
       → (HasCleanDisk two → (rows : List Row) × Shown all_nodes_text [] one two rows × (IsTrue a ↔ AreRowsFrom node_given IsNodeRow 0 rows))
       → (HasCleanDisk last → (rows : List Row) × Shown all_posted_text [] two last rows × (IsTrue b ↔ AreRowsFrom posted_given IsPosted 0 rows))
@@ -178,7 +178,7 @@ module _ (old one two last : State) (a b : Bool) (clean : HasCleanDisk last) (on
       record {
         is_open = on;
         settled = now-3.1;
-        version = subst IsVersion1 (sym (now-3.0 ∙ now-2.0 ∙ now-1.0)) version;
+        version = subst IsThisVersion (sym (now-3.0 ∙ now-2.0 ∙ now-1.0)) version;
         trusted = both_said last.now.trees a b
             (subst (λ (d : Database). IsTrue a ↔ ((nodes : List NodeRow) × HoldsNodes (d.trees 0) nodes)) (sym (now-3.0 ∙ now-2.0)) in_nodes)
             (subst (λ (d : Database). IsTrue b ↔ ((board : List Posted) × HoldsBoard (d.trees 1) board)) (sym now-3.0) in_board);

@@ -32,6 +32,7 @@ use Rattle.kt_store.specs.Changes.{storing}
 use Rattle.kt_store.specs.Content.{Content}
 use Rattle.kt_store.proofs.Shared.{placed, IsOrder}
 use Rattle.kt_tables.specs.Schema.{kt_schema, node_table, board_table, meta_table}
+use Rattle.kt_tables.specs.Opened.{this_version}
 use Rattle.kt_tables.specs.inner.Text.{put_node_text, put_posted_text}
 use Rattle.kt_tables.specs.Rows.{placing, whole, id_of, instance_value, node_given, posted_given, IsNodeRow, IsPosted, HoldsNodes, HoldsBoard, Holds}
 use Rattle.kt_tables.specs.inner.Showing.{node_stored}
@@ -205,8 +206,8 @@ cast_instance (Some t) = cast_whole t.instance
 cast_node : (r : NodeRow) → cast_row node_table (node_stored r) ≡ node_stored r
 cast_node r = rw (cast_whole (id_of r.node), cast_null, cast_whole r.incarnation, cast_instance r.tentative) refl
 
-pub cast_meta : cast_row meta_table (whole 1 ∷ Null ∷ whole 1 ∷ []) ≡ whole 1 ∷ Null ∷ whole 1 ∷ []
-cast_meta = rw (cast_whole 1, cast_null) refl
+pub cast_meta : cast_row meta_table (whole 1 ∷ Null ∷ whole this_version ∷ []) ≡ whole 1 ∷ Null ∷ whole this_version ∷ []
+cast_meta = rw (cast_whole 1, cast_whole this_version, cast_null) refl
 
 cast_posted : (p : Posted) → cast_row board_table (posted_stored p) ≡ posted_stored p
 cast_posted p =

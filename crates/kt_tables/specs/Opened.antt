@@ -1,5 +1,5 @@
 -- What is found where a store is opened.
-use Rattle.std.specs.Prelude.{◌≡◌, ◌↔◌, Bool, [], ◌∷◌, map, IsTrue}
+use Rattle.std.specs.Prelude.{◌≡◌, ◌↔◌, ℕ, Bool, [], ◌∷◌, map, IsTrue}
 use Rattle.sqlite.specs.Order.{Row, column}
 use Rattle.sqlite.specs.Effect.{Database}
 use Rattle.sqlite.specs.State.{State}
@@ -11,11 +11,15 @@ use Rattle.kt_tables.specs.Rows.{whole, AreAsSaid}
 abbrev pub meta_shown : Row → Row
 meta_shown r = column r 0 ∷ column r 2 ∷ []
 
-abbrev pub meta_given : Row
-meta_given = whole 1 ∷ whole 1 ∷ []
+-- the version of the tables, which the third says
+abbrev pub this_version : ℕ
+this_version = 2
 
--- the three tables are there and nothing else, and the third says version 1
-pub record IsVersion1 (db : Database) : Type 0 where
+abbrev pub meta_given : Row
+meta_given = whole 1 ∷ whole this_version ∷ []
+
+-- the three tables are there and nothing else, and the third says this version
+pub record IsThisVersion (db : Database) : Type 0 where
   pub schema : db.schema ≡ kt_schema
   pub meta : map meta_shown (db.trees 2) ≡ meta_given ∷ []
 
@@ -23,5 +27,5 @@ pub record IsVersion1 (db : Database) : Type 0 where
 pub record IsReady (s : State) (is_trusted : Bool) : Type 0 where
   pub is_open : IsTrue s.is_open
   pub settled : IsSettled s
-  pub version : IsVersion1 s.now
+  pub version : IsThisVersion s.now
   pub trusted : IsTrue is_trusted ↔ AreAsSaid s.now.trees

@@ -3,6 +3,7 @@
 ghost use Rattle.std.specs.Prelude.{◌≡◌, ◌≢◌, ◌↔◌, ◌⊎◌, ◌<◌, ◌≤◌, false, [], ◌∷◌, Err, List, length, IsTrue};
 ghost use Rattle.std.specs.Prelude.{IfOk, IfErr, OnOk, MatchOption};
 ghost use Rattle.sqlite.specs.Order.{column, Row as Values};
+ghost use Rattle.sqlite.specs.declared.types.Value.TheVariants.{Int};
 ghost use Rattle.sqlite.specs.Given.{IsPlain};
 ghost use Rattle.sqlite.specs.Held.{state};
 ghost use Rattle.sqlite.specs.Listing.{understood};
@@ -11,8 +12,7 @@ ghost use Rattle.kt_store.specs.Content.{greatest};
 ghost use Rattle.kt_tables.specs.Schema.{kt_schema};
 ghost use Rattle.kt_tables.specs.Settled.{IsSettled};
 ghost use Rattle.kt_tables.specs.inner.Looking.{Looks};
-ghost use Rattle.kt_tables.specs.Rows.{whole};
-ghost use Rattle.kt_tables.specs.Opened.{meta_given, IsVersion1, IsReady};
+ghost use Rattle.kt_tables.specs.Opened.{meta_given, IsThisVersion, IsReady};
 ghost use Rattle.kt_tables.specs.inner.Testing.{key_of, IsRowOf, AreRowsFrom};
 
 use crate::records::Record;
@@ -21,6 +21,9 @@ use kt_store::{NodeRow, Posted, StoreError};
 use sqlite::types::ValueRef;
 use sqlite::{Alter, Connection, Error, ErrorCode, Row};
 use std::alloc::Global;
+
+/// The version of the tables, which the one row of the third says.
+const VERSION: i64 = 2;
 
 const META: &str = "SELECT id, version FROM kt_meta ORDER BY id";
 
@@ -57,27 +60,27 @@ fn ask<S: Alter>(conn: &mut Connection<S>, sql: &str) -> Result<Vec<Row>, StoreE
     }
 }
 
-/// Whether the value in the column is 1.
-fn is_one(row: &Row, at: usize) -> bool
-    ensures { IsTrue result ↔ (at < length row.now) × (column row.now at ≡ whole 1) }
+/// Whether the value in the column is the number.
+fn says(row: &Row, at: usize, number: i64) -> bool
+    ensures { IsTrue result ↔ (at < length row.now) × (column row.now at ≡ Int number) }
 {
-    matches!(row.get_ref(at), Ok(ValueRef::Int(1)))
+    matches!(row.get_ref(at), Ok(ValueRef::Int(told)) if told == number)
 }
 
-/// Whether there is one row, which says version 1.
+/// Whether there is one row, which says this version.
 fn is_first_meta(rows: &[Row]) -> bool
     ensures { IsTrue result ↔ (rows.now ≡ meta_given ∷ []) }
 {
     let [row] = rows else {
         return false;
     };
-    row.column_count() == 2 && is_one(row, 0) && is_one(row, 1)
+    row.column_count() == 2 && says(row, 0, 1) && says(row, 1, VERSION)
 }
 
-/// Whether the tables are those of a store of version 1.
-fn is_version_1<S: Alter>(conn: &mut Connection<S>) -> Result<bool, StoreError>
+/// Whether the tables are those of a store of this version.
+fn is_this_version<S: Alter>(conn: &mut Connection<S>) -> Result<bool, StoreError>
     ensures value { HasCleanDisk (state S.Store conn.new)
-        → IfOk result (λ told. IsTrue told ↔ IsVersion1 (state S.Store conn.old).now) }
+        → IfOk result (λ told. IsTrue told ↔ IsThisVersion (state S.Store conn.old).now) }
     ensures looks { Looks (state S.Store conn.old) (state S.Store conn.new) }
     ensures same { HasCleanDisk (state S.Store conn.new) → IsTrue (state S.Store conn.new).is_open
         → IsSettled (state S.Store conn.old)
@@ -148,7 +151,7 @@ fn answers_said<S: Alter, R: Record>(
 }
 
 /// Tests tables that are there, and answers whether each row is as said. `Damaged` where they are not the tables of a
-/// store of version 1.
+/// store of this version.
 pub(crate) fn tested<S: Alter>(alloc: Global, conn: &mut Connection<S>) -> Result<bool, StoreError>
     ensures ready { HasCleanDisk (state S.Store conn.new)
         → (IsTrue (state S.Store conn.old).is_open → IsSettled (state S.Store conn.old))
@@ -157,12 +160,12 @@ pub(crate) fn tested<S: Alter>(alloc: Global, conn: &mut Connection<S>) -> Resul
         → (IsTrue (state S.Store conn.old).is_open → IsSettled (state S.Store conn.old))
         → (state S.Store conn.new).now ≡ (state S.Store conn.old).now }
     ensures damaged { HasCleanDisk (state S.Store conn.new) → result ≡ Err StoreError.Damaged
-        → IsVersion1 (state S.Store conn.old).now → ⊥ }
+        → IsThisVersion (state S.Store conn.old).now → ⊥ }
     ensures foreign { (state S.Store conn.old).now.schema ≢ kt_schema → result ≡ Err StoreError.Damaged }
     ensures never_full { IfErr result (λ e. e ≢ StoreError.Full) }
     ensures mode { (state S.Store conn.old).in_transaction ≡ false → (state S.Store conn.new).in_transaction ≡ false }
 {
-    if !is_version_1(conn)? {
+    if !is_this_version(conn)? {
         return Err(StoreError::Damaged);
     }
     let are_nodes = answers_said::<S, NodeRow>(alloc, conn, ALL_NODES)?;

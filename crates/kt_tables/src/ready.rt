@@ -4,7 +4,7 @@ ghost use Rattle.std.specs.Prelude.{◌≡◌, ◌≢◌, false, Err, IfErr, IfO
 ghost use Rattle.sqlite.specs.Held.{state};
 ghost use Rattle.sqlite.specs.State.{HasCleanDisk};
 ghost use Rattle.kt_tables.specs.Schema.{kt_schema, no_schema};
-ghost use Rattle.kt_tables.specs.Opened.{IsVersion1, IsReady};
+ghost use Rattle.kt_tables.specs.Opened.{IsThisVersion, IsReady};
 ghost use Rattle.kt_tables.specs.Made.{IsMade};
 
 use crate::opened::{statement_error, tested};
@@ -23,7 +23,7 @@ pub fn readied<S: Alter>(alloc: Global, conn: &mut Connection<S>) -> Result<bool
     ensures found { HasCleanDisk (state S.Store conn.new) → (state S.Store conn.old).now.schema ≢ no_schema
         → OnOk result ((state S.Store conn.new).now ≡ (state S.Store conn.old).now) }
     ensures damaged { HasCleanDisk (state S.Store conn.new) → result ≡ Err StoreError.Damaged
-        → ((state S.Store conn.old).now.schema ≢ no_schema) × (IsVersion1 (state S.Store conn.old).now → ⊥) }
+        → ((state S.Store conn.old).now.schema ≢ no_schema) × (IsThisVersion (state S.Store conn.old).now → ⊥) }
     ensures foreign { (state S.Store conn.old).now.schema ≢ no_schema → (state S.Store conn.old).now.schema ≢ kt_schema
         → result ≡ Err StoreError.Damaged }
     ensures unchanged { HasCleanDisk (state S.Store conn.new) → IsTrue (state S.Store conn.new).is_open

@@ -21,8 +21,8 @@ const CREATE_BOARD: &str =
 const CREATE_META: &str =
     "CREATE TABLE kt_meta (id INTEGER PRIMARY KEY, version INTEGER NOT NULL) STRICT";
 
-/// The one row of the third table says that the tables are of version 1.
-const FIRST_META: &str = "INSERT OR REPLACE INTO kt_meta VALUES (1, 1)";
+/// The one row of the third table says the version of the tables.
+const FIRST_META: &str = "INSERT OR REPLACE INTO kt_meta VALUES (1, 2)";
 
 /// Makes the three tables, or none of them.
 pub(crate) fn create_tables<S: Alter>(conn: &mut Connection<S>) -> Result<(), Error>

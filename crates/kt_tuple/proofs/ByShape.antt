@@ -4,7 +4,7 @@ use Rattle.std.proofs.lemmas.Bool.{and_parts, and_from, false_from_ne_true, true
 use Rattle.std.proofs.lemmas.List.Elements.{All-nil, All-cons, All-head, All-tail}
 use Rattle.std.specs.Prelude.{All}
 use Rattle.std.specs.List.{list_all}
-use Rattle.kt_tuple.specs.Grammar.{quoted, int, str, IsPlaceText, actual, any_int, any_str, Separated, one, more}
+use Rattle.kt_tuple.specs.Grammar.{quoted, int, str, is_true, is_false, IsPlaceText, actual, any_int, any_str, any_bool, Separated, one, more}
 use Rattle.kt_tuple.specs.Grammar.{Consists, in_parentheses, IsInside, IsShort, IsFirstOutside, IsTooLong, IsAccepted}
 use Rattle.kt_tuple.specs.Reading.{has_range, is_short}
 use Rattle.kt_tuple.proofs.Outside.{int_range, formal_range, str_short, int_short}
@@ -23,8 +23,11 @@ short_is : (p : List ℕ) → IsPlaceText p → IsShort p → is_short p ≡ tru
 unfolding is_short
 short_is p (actual (int is)) h = int_short p is
 short_is p (actual (str (quoted {cs} is))) h = (str_short cs is).1 (h cs is refl)
+short_is p (actual is_true) h = refl
+short_is p (actual is_false) h = refl
 short_is p any_int h = refl
 short_is p any_str h = refl
+short_is p any_bool h = refl
 
 is_short_by : (p : List ℕ) → is_short p ≡ true → IsShort p
 is_short_by p e cs h is = (str_short cs h).0 (ap is_short (sym is) ∙ e)

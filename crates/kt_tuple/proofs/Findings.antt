@@ -62,7 +62,7 @@ long_by_test false text found i place places test more =
     ∙ ap (λ n. ((found.too_long || not (is_short place.0)) || false) || (ltb MAX_PLACES n || is_one_long places)) count
     ∙ long_later found.too_long (not (is_short place.0)) (ltb MAX_PLACES (i + length (place ∷ places))) (is_one_long places)
 
--- a str too long, or a ninth place
+-- a str too long, or a place too many
 long_found : (text : List ℕ) (found : Findings) (i : ℕ) (places : List (List ℕ × List ℕ)) → i ≤ MAX_PLACES
     → (with_places text found i places).too_long ≡ (found.too_long || (ltb MAX_PLACES (i + length places) || is_one_long places))
 long_found text found i [] le = long_kept found.too_long (ltb MAX_PLACES (i + 0)) (le-ltb MAX_PLACES (i + 0) (omega (arith, le)))

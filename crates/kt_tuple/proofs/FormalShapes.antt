@@ -1,33 +1,13 @@
--- The reader of formals reads `?int` and `?str`.
+-- The reader of formals reads `?int`, `?str` and `?bool`.
 use Rattle.std.proofs.Common.{◌≡◌, ℕ, Bool, true, false, cond, inl, inr, eqb, List, [], ◌∷◌, ◌++◌, Ok, Err, refl, sym, ap, subst, ◌∙◌}
 use Rattle.std.proofs.lemmas.Bool.{eqb-true}
 use Rattle.std.specs.Prelude.{codes}
-use Rattle.kt_tuple.specs.Grammar.{IsPlaceText, any_int, any_str}
+use Rattle.kt_tuple.specs.Grammar.{IsPlaceText, any_int, any_str, any_bool}
 use Rattle.kt_tuple.specs.Reading.{◌>>=◌, word_at, after_kind, split_before, formal_at}
 use Rattle.kt_tuple.proofs.IntLaws.{split_front}
 use Rattle.kt_tuple.proofs.ValueLaws.{bound, word_taken}
+use Rattle.kt_tuple.proofs.WordShapes.{word_stops}
 use Rattle.kt_tuple.proofs.Shapes.{Again, Halts, Took, Stops, took_split, halts_as, stops_nil, stops_here, bound_err}
-
-word_halts : (w : ℕ) (word : List ℕ) (c : ℕ) → eqb w c ≡ true → (front rest : List ℕ) → Halts (λ t. word_at t word) front rest
-    → Halts (λ t. word_at t (w ∷ word)) (c ∷ front) rest
-word_halts w word c e front [] h = tt
-word_halts w word c e front (d ∷ ds) h = λ more. rw e (h more)
-
-word_by_test : (b : Bool) (w : ℕ) (word : List ℕ) (c : ℕ) (cs rest : List ℕ) → eqb w c ≡ b
-    → (word_at cs word ≡ Err rest → Stops (λ t. word_at t word) (λ t. t ≡ word) cs rest)
-    → cond b (word_at cs word) (Err (c ∷ cs)) ≡ Err rest → Stops (λ t. word_at t (w ∷ word)) (λ t. t ≡ w ∷ word) (c ∷ cs) rest
-word_by_test true w word c cs rest e behind read =
-    let h = behind read in
-    let whole : c ∷ (h.0 ++ h.2.0) ≡ w ∷ word = ap (λ k. k ∷ (h.0 ++ h.2.0)) (sym (eqb-true w c e)) ∙ ap (λ (t : List ℕ). w ∷ t) h.2.1 in
-    (c ∷ h.0, ap (λ (t : List ℕ). c ∷ t) h.1, (h.2.0, whole), word_halts w word c e h.0 rest h.3)
-word_by_test false w word c cs rest e behind read =
-    stops_here (λ t. word_at t (w ∷ word)) (λ t. t ≡ w ∷ word) c cs rest (w ∷ word, refl) (cc) (λ more. rw e refl)
-
--- what stands before the rest begins the word
-pub word_stops : (word text rest : List ℕ) → word_at text word ≡ Err rest → Stops (λ t. word_at t word) (λ t. t ≡ word) text rest
-word_stops [] text rest e = absurd cc
-word_stops (w ∷ word) [] rest e = stops_nil (λ t. word_at t (w ∷ word)) (λ t. t ≡ w ∷ word) rest (w ∷ word, refl) cc
-word_stops (w ∷ word) (c ∷ cs) rest e = word_by_test (eqb w c) w word c cs rest refl (word_stops word cs rest) e
 
 -- a kind behind a question mark
 abbrev IsKind : List ℕ → Type 0
@@ -39,14 +19,16 @@ kind_by_word word c cs rest is same e =
     let h = word_stops word (c ∷ cs) rest e in
     (h.0, h.1, (h.2.0, subst IsKind (sym h.2.1) is), halts_as after_kind (λ t. word_at t word) c same cs h.0 rest h.1 h.3)
 
-kind_by_fault : (b : Bool) (c : ℕ) (cs rest : List ℕ) → eqb c 105 ≡ b → cond b (word_at (c ∷ cs) (codes "int")) (word_at (c ∷ cs) (codes "str")) ≡ Err rest
+kind_by_fault : (i b : Bool) (c : ℕ) (cs rest : List ℕ) → eqb c 105 ≡ i → eqb c 98 ≡ b
+    → cond i (word_at (c ∷ cs) (codes "int")) (cond b (word_at (c ∷ cs) (codes "bool")) (word_at (c ∷ cs) (codes "str"))) ≡ Err rest
     → Stops after_kind IsKind (c ∷ cs) rest
-kind_by_fault true c cs rest e read = kind_by_word (codes "int") c cs rest any_int (λ w. rw e refl) read
-kind_by_fault false c cs rest e read = kind_by_word (codes "str") c cs rest any_str (λ w. rw e refl) read
+kind_by_fault true b c cs rest is_i is_b read = kind_by_word (codes "int") c cs rest any_int (λ w. rw is_i refl) read
+kind_by_fault false true c cs rest is_i is_b read = kind_by_word (codes "bool") c cs rest any_bool (λ w. rw (is_i, is_b) refl) read
+kind_by_fault false false c cs rest is_i is_b read = kind_by_word (codes "str") c cs rest any_str (λ w. rw (is_i, is_b) refl) read
 
 kind_stops : (text rest : List ℕ) → after_kind text ≡ Err rest → Stops after_kind IsKind text rest
 kind_stops [] rest e = stops_nil after_kind IsKind rest (codes "int", any_int) cc
-kind_stops (c ∷ cs) rest e = kind_by_fault (eqb c 105) c cs rest refl e
+kind_stops (c ∷ cs) rest e = kind_by_fault (eqb c 105) (eqb c 98) c cs rest refl refl e
 
 pub formal_read : (k rest : List ℕ) → after_kind (k ++ rest) ≡ Ok rest → formal_at (63 ∷ (k ++ rest)) ≡ Ok (63 ∷ k, rest)
 unfolding formal_at
@@ -59,18 +41,22 @@ int_formal rest = formal_read (codes "int") rest refl
 pub str_formal : (rest : List ℕ) → formal_at (codes "?str" ++ rest) ≡ Ok (codes "?str", rest)
 str_formal rest = formal_read (codes "str") rest refl
 
+pub bool_formal : (rest : List ℕ) → formal_at (codes "?bool" ++ rest) ≡ Ok (codes "?bool", rest)
+bool_formal rest = formal_read (codes "bool") rest refl
+
 again_by : (p rest : List ℕ) → ((w : List ℕ) → formal_at (p ++ w) ≡ Ok (p, w)) → Again formal_at p rest
 again_by p [] read = tt
 again_by p (d ∷ ds) read = λ w. read (d ∷ w)
 
 kind_again : (text rest : List ℕ) → after_kind text ≡ Ok rest → (k : List ℕ) × (text ≡ k ++ rest) × IsKind k × Again formal_at (63 ∷ k) rest
 kind_again [] rest e = absurd cc
-kind_again (c ∷ cs) rest e = by (eqb c 105) e
+kind_again (c ∷ cs) rest e = by (eqb c 105) (eqb c 98) e
   where
-    by : (b : Bool) → cond b (word_at (c ∷ cs) (codes "int")) (word_at (c ∷ cs) (codes "str")) ≡ Ok rest → (k : List ℕ) × (c ∷ cs ≡ k ++ rest) × IsKind k
-        × Again formal_at (63 ∷ k) rest
-    by true read = (codes "int", word_taken (c ∷ cs) (codes "int") rest read, any_int, again_by (codes "?int") rest int_formal)
-    by false read = (codes "str", word_taken (c ∷ cs) (codes "str") rest read, any_str, again_by (codes "?str") rest str_formal)
+    by : (i b : Bool) → cond i (word_at (c ∷ cs) (codes "int")) (cond b (word_at (c ∷ cs) (codes "bool")) (word_at (c ∷ cs) (codes "str"))) ≡ Ok rest
+        → (k : List ℕ) × (c ∷ cs ≡ k ++ rest) × IsKind k × Again formal_at (63 ∷ k) rest
+    by true b read = (codes "int", word_taken (c ∷ cs) (codes "int") rest read, any_int, again_by (codes "?int") rest int_formal)
+    by false true read = (codes "bool", word_taken (c ∷ cs) (codes "bool") rest read, any_bool, again_by (codes "?bool") rest bool_formal)
+    by false false read = (codes "str", word_taken (c ∷ cs) (codes "str") rest read, any_str, again_by (codes "?str") rest str_formal)
 
 pub formal_takes : (text : List ℕ) (x : List ℕ × List ℕ) → formal_at text ≡ Ok x → Took formal_at IsPlaceText text x
 unfolding formal_at

@@ -72,7 +72,7 @@ pub positive_read : (text rest : List ℕ) → after_positive text ≡ Ok rest �
 positive_read [] rest e = absurd cc
 positive_read (c ∷ cs) rest e = positive_by_test (is_in_range 49 57 c) c cs rest refl (digits_front cs) e
 
-up_to_ok : (text : List ℕ) (r : Result (List ℕ) (List ℕ)) (p rest : List ℕ) → up_to text r ≡ Ok (p, rest) → (after : List ℕ) × (r ≡ Ok after)
+pub up_to_ok : (text : List ℕ) (r : Result (List ℕ) (List ℕ)) (p rest : List ℕ) → up_to text r ≡ Ok (p, rest) → (after : List ℕ) × (r ≡ Ok after)
     × (split_before text after ≡ (p, rest))
 up_to_ok text (Ok after) p rest e = (after, refl, cc)
 up_to_ok text (Err e') p rest e = absurd cc
@@ -114,18 +114,29 @@ unfolding int_at
 int_taken [] p rest e = absurd cc
 int_taken (c ∷ cs) p rest e = int_by_zero (eqb c 48) c cs p rest refl e
 
+-- the first byte is none that begins a place of another kind: no quote, no question mark, no `t` and no `f`
+abbrev pub BeginsAsInt : List ℕ → Type 0
+BeginsAsInt p = (c : ℕ) × (cs : List ℕ) × (p ≡ c ∷ cs) × (eqb c 34 ≡ false) × (eqb c 63 ≡ false) × (eqb c 116 ≡ false) × (eqb c 102 ≡ false)
+
 -- the first byte of an int is a digit or a minus sign
-positive_first : (ds : List ℕ) → IsPositive ds → (c : ℕ) × (cs : List ℕ) × (ds ≡ c ∷ cs) × (eqb c 34 ≡ false) × (eqb c 63 ≡ false)
+positive_first : (ds : List ℕ) → IsPositive ds → BeginsAsInt ds
 positive_first [] h = absurd (omega (arith, h.some))
 positive_first (c ∷ cs) h =
     let parts = and_parts (is_ascii_digit c) (all_ascii_digits cs) h.digits in
-    let high = leb-true c 57 (and_parts (leb 48 c) (leb c 57) parts.0).1 in
-    (c, cs, refl, ne_eqb c 34 (λ e. omega (arith, h.first, e)), ne_eqb c 63 (λ e. omega (arith, high, e)))
+    let high = leb-true c 57 (and_parts (leb 48 c) (leb c 57) parts.0).1 in (
+      c,
+      cs,
+      refl,
+      ne_eqb c 34 (λ e. omega (arith, h.first, e)),
+      ne_eqb c 63 (λ e. omega (arith, high, e)),
+      ne_eqb c 116 (λ e. omega (arith, high, e)),
+      ne_eqb c 102 (λ e. omega (arith, high, e)),
+    )
 
-pub int_first : (p : List ℕ) → IsInt p → (c : ℕ) × (cs : List ℕ) × (p ≡ c ∷ cs) × (eqb c 34 ≡ false) × (eqb c 63 ≡ false)
-int_first p just_zero = (48, [], refl, refl, refl)
+pub int_first : (p : List ℕ) → IsInt p → BeginsAsInt p
+int_first p just_zero = (48, [], refl, refl, refl, refl, refl)
 int_first p (positive h) = positive_first p h
-int_first p (negative {ds} h) = (45, ds, refl, refl, refl)
+int_first p (negative {ds} h) = (45, ds, refl, refl, refl, refl, refl)
 
 pub own : IsNumeralModel (λ ds. all_ascii_digits ds ≡ true) (digits_value 10)
 own = numerals_by_value _ tells_all_ascii_digits

@@ -109,12 +109,12 @@ unfolding int_at
 zero_again [] = tt
 zero_again (d ∷ ds) = λ w. refl
 
-up_to_ok : (text : List ℕ) (r : Result (List ℕ) (List ℕ)) (x : List ℕ × List ℕ) → up_to text r ≡ Ok x → (after : List ℕ) × (r ≡ Ok after)
+pub up_to_ok : (text : List ℕ) (r : Result (List ℕ) (List ℕ)) (x : List ℕ × List ℕ) → up_to text r ≡ Ok x → (after : List ℕ) × (r ≡ Ok after)
     × (split_before text after ≡ x)
 up_to_ok text (Ok after) x e = (after, refl, cc)
 up_to_ok text (Err e') x e = absurd cc
 
-up_to_err : (text : List ℕ) (r : Result (List ℕ) (List ℕ)) (rest : List ℕ) → up_to text r ≡ Err rest → r ≡ Err rest
+pub up_to_err : (text : List ℕ) (r : Result (List ℕ) (List ℕ)) (rest : List ℕ) → up_to text r ≡ Err rest → r ≡ Err rest
 up_to_err text (Ok after) rest e = absurd cc
 up_to_err text (Err e') rest e = cc
 

@@ -6,7 +6,7 @@ use Rattle.std.specs.Prelude.{codes}
 use Rattle.kt_tuple.specs.Grammar.{Separated, one, more, Consists, in_parentheses}
 use Rattle.kt_tuple.specs.Reading.{◌>>=◌, word_at, after_place}
 use Rattle.kt_tuple.proofs.Shapes.{Halts, Stops, halts_as, stops_nil}
-use Rattle.kt_tuple.proofs.FormalShapes.{word_stops}
+use Rattle.kt_tuple.proofs.WordShapes.{word_stops}
 
 -- the places of a text, each with the text from it on
 pub data Laid (IsOne : List ℕ → Type 0) : List (List ℕ × List ℕ) → List ℕ → Type 0 where

@@ -24,6 +24,7 @@ pub mod Texts
 pub mod Shapes
 pub mod IntShapes
 pub mod StrShapes
+pub mod WordShapes
 pub mod FormalShapes
 pub mod PlaceShapes
 pub mod Layouts

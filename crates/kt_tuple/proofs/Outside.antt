@@ -9,7 +9,8 @@ use Rattle.std.specs.Str.{all_ascii_digits}
 use Rattle.std.specs.Str.Parse.{IsNumeral, without_leading_sign, signed_digits_value}
 use Rattle.kt_tuple.specs.declared.string.TheConstants.{MAX_CHARACTERS}
 use Rattle.kt_tuple.specs.Grammar.{IsDigit, IsFirstDigit, IsInt, just_zero, positive, negative, IsCharacters, none, plain, quote}
-use Rattle.kt_tuple.specs.Grammar.{backslash, character_count, IsStr, quoted, int, str, IsPlaceText, actual, any_int, any_str}
+use Rattle.kt_tuple.specs.Grammar.{backslash, character_count, IsStr, quoted, int, str, is_true, is_false, IsPlaceText}
+use Rattle.kt_tuple.specs.Grammar.{actual, any_int, any_str, any_bool}
 use Rattle.kt_tuple.specs.Reading.{is_numeral, int_of, has_range, is_short, unescaped, characters_of}
 use Rattle.kt_tuple.proofs.Ints.{is_numeral-fact, int_parsed}
 use Rattle.kt_tuple.proofs.IntShapes.{is_digit}
@@ -46,7 +47,9 @@ range_of_int p just_zero = refl
 range_of_int p (positive {c} {ds} first digits) =
     let no_quote : eqb c 34 ≡ false = ne_eqb c 34 (λ e. omega (arith, first.0, e)) in
     let no_mark : eqb c 63 ≡ false = ne_eqb c 63 (λ e. omega (arith, first.1, e)) in
-    rw (no_quote, no_mark) refl
+    let no_t : eqb c 116 ≡ false = ne_eqb c 116 (λ e. omega (arith, first.1, e)) in
+    let no_f : eqb c 102 ≡ false = ne_eqb c 102 (λ e. omega (arith, first.1, e)) in
+    rw (no_quote, no_mark, no_t, no_f) refl
 range_of_int p (negative first digits) = refl
 
 some_number : (p : List ℕ) → is_some (int_of p) ≡ true → FitsSigned w64 (signed_digits_value 10 p)
@@ -63,8 +66,11 @@ pub formal_range : (p : List ℕ) → IsPlaceText p → has_range p ≡ false �
 unfolding has_range
 formal_range p (actual (int is)) e = is
 formal_range p (actual (str (quoted h))) e = absurd cc
+formal_range p (actual is_true) e = absurd cc
+formal_range p (actual is_false) e = absurd cc
 formal_range p any_int e = absurd cc
 formal_range p any_str e = absurd cc
+formal_range p any_bool e = absurd cc
 
 counted : (cs : List ℕ) (h : IsCharacters cs) → length (unescaped false cs) ≡ character_count h
 counted cs none = refl
@@ -98,5 +104,8 @@ pub place_short : (p : List ℕ) → IsPlaceText p → is_short p ≡ false → 
 unfolding is_short
 place_short p (actual (int is)) e = let never : true ≡ false = sym (int_short p is) ∙ e in absurd cc
 place_short p (actual (str is)) e = is
+place_short p (actual is_true) e = absurd cc
+place_short p (actual is_false) e = absurd cc
 place_short p any_int e = absurd cc
 place_short p any_str e = absurd cc
+place_short p any_bool e = absurd cc

@@ -12,21 +12,23 @@ use Rattle.kt_tuple.specs.Valid.{IsPlace}
 use Rattle.kt_tuple.specs.Spelling.{kind_text, place_text}
 use Rattle.kt_tuple.specs.Reading.{◌>>=◌, word_at, after_kind, split_before, formal_at, place_at, value_at, value_of, place_of, has_range, is_short}
 use Rattle.kt_tuple.proofs.IntLaws.{parts_of, int_first}
-use Rattle.kt_tuple.proofs.ValueLaws.{quoted, IsValueText, int, str, word_taken, bound, value_taken, value_spelled, value_in_range, value_made}
+use Rattle.kt_tuple.proofs.ValueLaws.{quoted, IsValueText, int, str, truth, word_taken, bound, value_taken, value_spelled, value_in_range, value_made}
 
--- a value, `?int` or `?str`
+-- a value, `?int`, `?str` or `?bool`
 pub data IsPlaceText : List ℕ → Type 0 where
   actual : {p : List ℕ} → IsValueText p → IsPlaceText p
   formal : (k : Kind) → IsPlaceText (63 ∷ kind_text k)
 
-kind_by_test : (b : Bool) (c : ℕ) (cs rest : List ℕ) → cond b (word_at (c ∷ cs) (codes "int")) (word_at (c ∷ cs) (codes "str")) ≡ Ok rest → (k : Kind)
-    × (c ∷ cs ≡ kind_text k ++ rest)
-kind_by_test true c cs rest e = (kinds.Int, word_taken (c ∷ cs) (codes "int") rest e)
-kind_by_test false c cs rest e = (kinds.Str, word_taken (c ∷ cs) (codes "str") rest e)
+kind_by_test : (i b : Bool) (text rest : List ℕ)
+    → cond i (word_at text (codes "int")) (cond b (word_at text (codes "bool")) (word_at text (codes "str"))) ≡ Ok rest
+    → (k : Kind) × (text ≡ kind_text k ++ rest)
+kind_by_test true b text rest e = (kinds.Int, word_taken text (codes "int") rest e)
+kind_by_test false true text rest e = (kinds.Bool, word_taken text (codes "bool") rest e)
+kind_by_test false false text rest e = (kinds.Str, word_taken text (codes "str") rest e)
 
 kind_taken : (text rest : List ℕ) → after_kind text ≡ Ok rest → (k : Kind) × (text ≡ kind_text k ++ rest)
 kind_taken [] rest e = absurd cc
-kind_taken (c ∷ cs) rest e = kind_by_test (eqb c 105) c cs rest e
+kind_taken (c ∷ cs) rest e = kind_by_test (eqb c 105) (eqb c 98) (c ∷ cs) rest e
 
 formal_taken : (text p rest : List ℕ) → formal_at text ≡ Ok (p, rest) → (text ≡ p ++ rest) × IsPlaceText p
 unfolding formal_at
@@ -55,6 +57,8 @@ place_taken (c ∷ cs) p rest e = place_by_test (eqb c 63) c cs p rest e
 pub value_first : (p : List ℕ) → IsValueText p → (c : ℕ) × (cs : List ℕ) × (p ≡ c ∷ cs) × (eqb c 63 ≡ false)
 value_first p (int h) = let f = int_first p h in (f.0, f.1, f.2, f.4)
 value_first p (str (quoted {body} h)) = (34, body ++ 34 ∷ [], refl, refl)
+value_first p (truth true) = (116, codes "rue", refl, refl)
+value_first p (truth false) = (102, codes "alse", refl, refl)
 
 pub place_of_plain : (p cs : List ℕ) (c : ℕ) → p ≡ c ∷ cs → eqb c 63 ≡ false → place_of p ≡ option_map (λ v. Actual v) (value_of p)
 unfolding place_of
@@ -68,6 +72,7 @@ pub place_of_formal : (k : Kind) → place_of (63 ∷ kind_text k) ≡ Some (For
 unfolding place_of
 place_of_formal kinds.Int = refl
 place_of_formal kinds.Str = refl
+place_of_formal kinds.Bool = refl
 
 actual_made : (o : Option Value) (q : Place) → option_map (λ v. Actual v) o ≡ Some q → (v : Value) × (o ≡ Some v) × (Actual v ≡ q)
 actual_made (Some v) q e = (v, refl, cc)
@@ -83,16 +88,20 @@ place_spelled p q (actual h) e =
     ap place_text (sym made.2) ∙ value_spelled p made.0 h made.1
 place_spelled p q (formal k) e = ap place_text (sym (same_place (Formal k) q (sym (place_of_formal k) ∙ e)))
 
-place_in_range_by_test : (b d : Bool) (o : Option Value) (q : Place) → ((v : Value) → o ≡ Some v → IsPlace (Actual v))
-    → cond b (Some (Formal kinds.Int)) (cond d (Some (Formal kinds.Str)) (option_map (λ v. Actual v) o)) ≡ Some q → IsPlace q
-place_in_range_by_test true d o q h e = subst IsPlace (same_place (Formal kinds.Int) q e) tt
-place_in_range_by_test false true o q h e = subst IsPlace (same_place (Formal kinds.Str) q e) tt
-place_in_range_by_test false false o q h e = let made = actual_made o q e in subst IsPlace made.2 (h made.0 made.1)
+place_in_range_by_test : (i s b : Bool) (o : Option Value) (q : Place) → ((v : Value) → o ≡ Some v → IsPlace (Actual v))
+    → cond i (Some (Formal kinds.Int)) (cond s (Some (Formal kinds.Str)) (cond b (Some (Formal kinds.Bool)) (option_map (λ v. Actual v) o))) ≡ Some q
+    → IsPlace q
+place_in_range_by_test true s b o q h e = subst IsPlace (same_place (Formal kinds.Int) q e) tt
+place_in_range_by_test false true b o q h e = subst IsPlace (same_place (Formal kinds.Str) q e) tt
+place_in_range_by_test false false true o q h e = subst IsPlace (same_place (Formal kinds.Bool) q e) tt
+place_in_range_by_test false false false o q h e = let made = actual_made o q e in subst IsPlace made.2 (h made.0 made.1)
 
 -- the place of a text is one that a program can hold
 pub place_in_range : (p : List ℕ) (q : Place) → place_of p ≡ Some q → IsPlace q
 unfolding place_of
-place_in_range p q e = place_in_range_by_test (pointwise nat_eq p (codes "?int")) (pointwise nat_eq p (codes "?str")) (value_of p) q (value_in_range p) e
+place_in_range p q e =
+    place_in_range_by_test (pointwise nat_eq p (codes "?int")) (pointwise nat_eq p (codes "?str")) (pointwise nat_eq p (codes "?bool"))
+    (value_of p) q (value_in_range p) e
 
 -- a text that was read is a place, where it is in range and short
 pub place_made : (p : List ℕ) → IsPlaceText p → has_range p ≡ true → is_short p ≡ true → (q : Place) × (place_of p ≡ Some q)

@@ -2,7 +2,7 @@
 use Rattle.std.proofs.Common.{◌≡◌, ℕ, true, false, eqb, List, ◌∷◌, ◌++◌, Some, Ok, refl, ap, ◌∙◌}
 use Rattle.std.specs.Option.{option_map}
 use Rattle.kt_tuple.specs.declared.value.Value.{Value}
-use Rattle.kt_tuple.specs.declared.value.Value.TheVariants.{Int, Str}
+use Rattle.kt_tuple.specs.declared.value.Value.TheVariants.{Int, Str, Bool as Truth}
 use Rattle.kt_tuple.specs.declared.value.Kind.{Kind}
 use Rattle.kt_tuple.specs.declared.value.Kind.TheVariants as kinds
 use Rattle.kt_tuple.specs.declared.template.Place.{Place}
@@ -19,6 +19,8 @@ use Rattle.kt_tuple.proofs.PlaceLaws.{place_of_plain, place_of_formal}
 text_first : (v : Value) → IsValue v → (c : ℕ) × (cs : List ℕ) × (value_text v ≡ c ∷ cs) × (eqb c 63 ≡ false)
 text_first (Int n) h = let f = int_first (value_text (Int n)) (signed_decimal_is_int n h) in (f.0, f.1, f.2, f.4)
 text_first (Str s) h = (34, _, refl, refl)
+text_first (Truth true) h = (116, _, refl, refl)
+text_first (Truth false) h = (102, _, refl, refl)
 
 place_at_plain : (p cs rest : List ℕ) (c : ℕ) → p ≡ c ∷ cs → eqb c 63 ≡ false → place_at (p ++ rest) ≡ value_at (p ++ rest)
 unfolding place_at
@@ -28,6 +30,7 @@ place_at_formal : (k : Kind) (rest : List ℕ) → place_at ((63 ∷ kind_text k
 unfolding place_at formal_at
 place_at_formal kinds.Int rest = ap (λ (x : List ℕ × List ℕ). Ok x) (split_front (63 ∷ kind_text kinds.Int) rest)
 place_at_formal kinds.Str rest = ap (λ (x : List ℕ × List ℕ). Ok x) (split_front (63 ∷ kind_text kinds.Str) rest)
+place_at_formal kinds.Bool rest = ap (λ (x : List ℕ × List ℕ). Ok x) (split_front (63 ∷ kind_text kinds.Bool) rest)
 
 -- the text of a place is read up to its end
 pub place_at_text : (q : Place) (rest : List ℕ) → IsPlace q → begins_with_digit rest ≡ false → place_at (place_text q ++ rest) ≡ Ok (place_text q, rest)

@@ -25,16 +25,25 @@ pub signature_back-injective : (a b : List Kind) → signature_back a ≡ signat
 signature_back-injective [] [] e = refl
 signature_back-injective [] (kinds.Int ∷ b) e = absurd (omega arith)
 signature_back-injective [] (kinds.Str ∷ b) e = absurd (omega arith)
+signature_back-injective [] (kinds.Bool ∷ b) e = absurd (omega arith)
 signature_back-injective (kinds.Int ∷ a) [] e = absurd (omega arith)
 signature_back-injective (kinds.Str ∷ a) [] e = absurd (omega arith)
-signature_back-injective (kinds.Int ∷ a) (kinds.Str ∷ b) e = absurd (omega arith)
-signature_back-injective (kinds.Str ∷ a) (kinds.Int ∷ b) e = absurd (omega arith)
+signature_back-injective (kinds.Bool ∷ a) [] e = absurd (omega arith)
 signature_back-injective (kinds.Int ∷ a) (kinds.Int ∷ b) e =
     let same : signature_back a ≡ signature_back b = omega arith in
     ap (λ (ks : List Kind). kinds.Int ∷ ks) (signature_back-injective a b same)
+signature_back-injective (kinds.Int ∷ a) (kinds.Str ∷ b) e = absurd (omega arith)
+signature_back-injective (kinds.Int ∷ a) (kinds.Bool ∷ b) e = absurd (omega arith)
+signature_back-injective (kinds.Str ∷ a) (kinds.Int ∷ b) e = absurd (omega arith)
 signature_back-injective (kinds.Str ∷ a) (kinds.Str ∷ b) e =
     let same : signature_back a ≡ signature_back b = omega arith in
     ap (λ (ks : List Kind). kinds.Str ∷ ks) (signature_back-injective a b same)
+signature_back-injective (kinds.Str ∷ a) (kinds.Bool ∷ b) e = absurd (omega arith)
+signature_back-injective (kinds.Bool ∷ a) (kinds.Int ∷ b) e = absurd (omega arith)
+signature_back-injective (kinds.Bool ∷ a) (kinds.Str ∷ b) e = absurd (omega arith)
+signature_back-injective (kinds.Bool ∷ a) (kinds.Bool ∷ b) e =
+    let same : signature_back a ≡ signature_back b = omega arith in
+    ap (λ (ks : List Kind). kinds.Bool ∷ ks) (signature_back-injective a b same)
 
 pub signature_of-back : (ks : List Kind) → signature_of ks ≡ signature_back (reverse ks)
 signature_of-back ks = ap signature_of (sym (reverse-reverse ks)) ∙ signature_of-reverse (reverse ks)

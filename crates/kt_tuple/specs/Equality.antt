@@ -6,21 +6,26 @@ use Rattle.std.specs.Cmp.Lexicographic.{pointwise, pointwise_decides}
 use Rattle.std.specs.Ordering.{int_eq}
 use Rattle.std.proofs.Common.{sym, ap, ◌∙◌}
 use Rattle.kt_tuple.specs.declared.value.Value.{Value}
-use Rattle.kt_tuple.specs.declared.value.Value.TheVariants.{Int, Str}
+use Rattle.kt_tuple.specs.declared.value.Value.TheVariants.{Int, Str, Bool as Truth}
 use Rattle.kt_tuple.specs.declared.value.Kind.{Kind}
 use Rattle.kt_tuple.specs.declared.value.Kind.TheVariants as kinds
 
 abbrev pub kind_eq : Kind → Kind → Bool
 kind_eq kinds.Int kinds.Int = true
-kind_eq kinds.Int kinds.Str = false
-kind_eq kinds.Str kinds.Int = false
 kind_eq kinds.Str kinds.Str = true
+kind_eq kinds.Bool kinds.Bool = true
+kind_eq _ _ = false
+
+abbrev pub same_truth : Bool → Bool → Bool
+same_truth true true = true
+same_truth false false = true
+same_truth _ _ = false
 
 abbrev pub value_eq : Value → Value → Bool
 value_eq (Int m) (Int n) = int_eq m n
-value_eq (Int m) (Str t) = false
-value_eq (Str s) (Int n) = false
 value_eq (Str s) (Str t) = pointwise nat_eq s t
+value_eq (Truth a) (Truth b) = same_truth a b
+value_eq _ _ = false
 
 -- two texts are equal exactly where they are one
 pub text_eq_decides : (a b : List ℕ) → Decides (pointwise nat_eq a b) (a ≡ b)
@@ -28,19 +33,25 @@ text_eq_decides a b = pointwise_decides unsigned_Decides a b
 
 pub kind_eq_decides : (a b : Kind) → Decides (kind_eq a b) (a ≡ b)
 kind_eq_decides kinds.Int kinds.Int = (λ _. refl, λ _. refl)
-kind_eq_decides kinds.Int kinds.Str = (λ e. absurd cc, λ e. absurd cc)
-kind_eq_decides kinds.Str kinds.Int = (λ e. absurd cc, λ e. absurd cc)
 kind_eq_decides kinds.Str kinds.Str = (λ _. refl, λ _. refl)
+kind_eq_decides kinds.Bool kinds.Bool = (λ _. refl, λ _. refl)
+kind_eq_decides _ _ = (λ e. absurd cc, λ e. absurd cc)
+
+same_truth_decides : (a b : Bool) → Decides (same_truth a b) (a ≡ b)
+same_truth_decides true true = (λ _. refl, λ _. refl)
+same_truth_decides false false = (λ _. refl, λ _. refl)
+same_truth_decides _ _ = (λ e. absurd cc, λ e. absurd cc)
 
 pub value_eq_decides : (a b : Value) → Decides (value_eq a b) (a ≡ b)
 value_eq_decides (Int m) (Int n) =
     (λ e. ap Int ((signed_Decides m n).0 e), λ (e : Int m ≡ Int n). (signed_Decides m n).1 cc)
-value_eq_decides (Int m) (Str t) = (λ e. absurd cc, λ e. absurd cc)
-value_eq_decides (Str s) (Int n) = (λ e. absurd cc, λ e. absurd cc)
 value_eq_decides (Str s) (Str t) = (
   λ e. ap Str ((pointwise_decides unsigned_Decides s t).0 e),
   λ (e : Str s ≡ Str t). (pointwise_decides unsigned_Decides s t).1 cc,
 )
+value_eq_decides (Truth a) (Truth b) =
+    (λ e. ap Truth ((same_truth_decides a b).0 e), λ (e : Truth a ≡ Truth b). (same_truth_decides a b).1 cc)
+value_eq_decides _ _ = (λ e. absurd cc, λ e. absurd cc)
 
 -- a test that decides equality is an equivalence
 pub equivalence_from_decides : {K : Type 0} (E : K → K → Bool) → ((a b : K) → Decides (E a b) (a ≡ b)) → IsEquivalence E

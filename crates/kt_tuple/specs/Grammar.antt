@@ -46,16 +46,19 @@ character_count (backslash others) = suc (character_count others)
 pub data IsStr : List ℕ → Type 0 where
   quoted : {cs : List ℕ} → IsCharacters cs → IsStr (34 ∷ (cs ++ 34 ∷ []))
 
--- a value: an int or a str
+-- a value: an int, a str, `true` or `false`
 pub data IsValueText : List ℕ → Type 0 where
   int : {p : List ℕ} → IsInt p → IsValueText p
   str : {p : List ℕ} → IsStr p → IsValueText p
+  is_true : IsValueText (codes "true")
+  is_false : IsValueText (codes "false")
 
--- a place: a value, `?int` or `?str`
+-- a place: a value, `?int`, `?str` or `?bool`
 pub data IsPlaceText : List ℕ → Type 0 where
   actual : {p : List ℕ} → IsValueText p → IsPlaceText p
   any_int : IsPlaceText (codes "?int")
   any_str : IsPlaceText (codes "?str")
+  any_bool : IsPlaceText (codes "?bool")
 
 -- one or more texts of a shape, each but the first behind a comma and a space: the texts, and the whole
 pub data Separated (IsOne : List ℕ → Type 0) : List (List ℕ) → List ℕ → Type 0 where

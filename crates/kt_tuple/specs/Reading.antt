@@ -8,7 +8,7 @@ use Rattle.std.specs.Option.{option_map}
 use Rattle.std.specs.Str.{all_ascii_digits}
 use Rattle.kt_tuple.specs.declared.string.TheConstants.{MAX_CHARACTERS}
 use Rattle.kt_tuple.specs.declared.value.Value.{Value}
-use Rattle.kt_tuple.specs.declared.value.Value.TheVariants.{Int, Str}
+use Rattle.kt_tuple.specs.declared.value.Value.TheVariants.{Int, Str, Bool as Truth}
 use Rattle.kt_tuple.specs.declared.value.Kind.TheVariants as kinds
 use Rattle.kt_tuple.specs.declared.template.Place.{Place}
 use Rattle.kt_tuple.specs.declared.template.Place.TheVariants.{Actual, Formal}
@@ -86,17 +86,28 @@ str_at text = do
   after ← after_characters false characters
   Ok (split_before text after)
 
+-- just this word
+abbrev pub spelled_at : List ℕ → List ℕ → Result (List ℕ × List ℕ) (List ℕ)
+spelled_at text word = up_to text (word_at text word)
+
 -- a value
 unfoldable pub value_at : List ℕ → Result (List ℕ × List ℕ) (List ℕ)
 value_at [] = int_at []
-value_at (c ∷ rest) = if c == 34 then str_at (c ∷ rest) else int_at (c ∷ rest)
+value_at (c ∷ rest) =
+    if c == 34 then str_at (c ∷ rest)
+    else if c == 116 then spelled_at (c ∷ rest) (codes "true")
+    else if c == 102 then spelled_at (c ∷ rest) (codes "false")
+    else int_at (c ∷ rest)
 
--- the bytes after `int` or `str`
+-- the bytes after `int`, `bool` or `str`
 abbrev pub after_kind : List ℕ → Result (List ℕ) (List ℕ)
 after_kind [] = word_at [] (codes "str")
-after_kind (c ∷ rest) = if c == 105 then word_at (c ∷ rest) (codes "int") else word_at (c ∷ rest) (codes "str")
+after_kind (c ∷ rest) =
+    if c == 105 then word_at (c ∷ rest) (codes "int")
+    else if c == 98 then word_at (c ∷ rest) (codes "bool")
+    else word_at (c ∷ rest) (codes "str")
 
--- `?int` or `?str`
+-- `?int`, `?bool` or `?str`
 unfoldable pub formal_at : List ℕ → Result (List ℕ × List ℕ) (List ℕ)
 formal_at text = do
   kind ← word_at text (63 ∷ [])
@@ -158,19 +169,25 @@ int_value_of spelling = option_map (λ n. Int n) (int_of spelling)
 -- the value with this spelling
 unfoldable pub value_of : List ℕ → Option Value
 value_of [] = int_value_of []
-value_of (c ∷ rest) = if c == 34 then str_of (characters_of (c ∷ rest)) else int_value_of (c ∷ rest)
+value_of (c ∷ rest) =
+    if c == 34 then str_of (characters_of (c ∷ rest))
+    else if c == 116 then Some (Truth true)
+    else if c == 102 then Some (Truth false)
+    else int_value_of (c ∷ rest)
 
 -- the place with this spelling
 unfoldable pub place_of : List ℕ → Option Place
 place_of spelling =
     if pointwise nat_eq spelling (codes "?int") then Some (Formal kinds.Int)
     else if pointwise nat_eq spelling (codes "?str") then Some (Formal kinds.Str)
+    else if pointwise nat_eq spelling (codes "?bool") then Some (Formal kinds.Bool)
     else option_map (λ v. Actual v) (value_of spelling)
 
 -- the place is no int outside 64 bits
 unfoldable pub has_range : List ℕ → Bool
 has_range [] = is_some (int_of [])
-has_range (c ∷ rest) = if (c == 34) || (c == 63) then true else is_some (int_of (c ∷ rest))
+has_range (c ∷ rest) =
+    if (c == 34) || (c == 63) || (c == 116) || (c == 102) then true else is_some (int_of (c ∷ rest))
 
 -- the place is no str of more than `MAX_CHARACTERS` characters
 unfoldable pub is_short : List ℕ → Bool

@@ -12,6 +12,7 @@ use Rattle.kt_tuple.specs.Value.{kind_of}
 abbrev pub code_of : Kind → ℕ
 code_of kinds.Int = 1
 code_of kinds.Str = 2
+code_of kinds.Bool = 3
 
 abbrev pub kind_of_place : Place → Kind
 kind_of_place (Actual v) = kind_of v

@@ -1,9 +1,9 @@
 -- The one text of each value, tuple, template, operation, answer, node and service.
-use Rattle.std.specs.Prelude.{ℕ, ◌==◌, ◌||◌, if◌then◌else◌, List, [], ◌∷◌, ◌++◌, codes, decimal, map}
+use Rattle.std.specs.Prelude.{ℕ, true, false, ◌==◌, ◌||◌, if◌then◌else◌, List, [], ◌∷◌, ◌++◌, codes, decimal, map}
 use Rattle.std.specs.Fmt.{signed_decimal}
 use Rattle.std.specs.List.{flat_map}
 use Rattle.kt_tuple.specs.declared.value.Value.{Value}
-use Rattle.kt_tuple.specs.declared.value.Value.TheVariants.{Int, Str}
+use Rattle.kt_tuple.specs.declared.value.Value.TheVariants.{Int, Str, Bool as Truth}
 use Rattle.kt_tuple.specs.declared.value.Kind.{Kind}
 use Rattle.kt_tuple.specs.declared.value.Kind.TheVariants as kinds
 use Rattle.kt_tuple.specs.declared.template.Place.{Place}
@@ -28,10 +28,13 @@ string_text cs = 34 ∷ flat_map character_text cs ++ 34 ∷ []
 abbrev pub value_text : Value → List ℕ
 value_text (Int n) = signed_decimal n
 value_text (Str s) = string_text s
+value_text (Truth true) = codes "true"
+value_text (Truth false) = codes "false"
 
 abbrev pub kind_text : Kind → List ℕ
 kind_text kinds.Int = codes "int"
 kind_text kinds.Str = codes "str"
+kind_text kinds.Bool = codes "bool"
 
 -- an actual is its value, a formal its kind behind a question mark
 abbrev pub place_text : Place → List ℕ

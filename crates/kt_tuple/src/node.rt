@@ -3,7 +3,7 @@
 ghost use Rattle.std.specs.Prelude.{◌≡◌, ◌<◌};
 
 /// The most workers of a scene, and so the greatest number of one.
-pub const MAX_WORKERS: u8 = 8;
+pub const MAX_WORKERS: u8 = 16;
 
 /// The most shards of a scene, and so the greatest number of one.
 pub const MAX_SHARDS: u8 = 8;
@@ -62,6 +62,14 @@ pub const ALL_WORKERS: [NodeId; MAX_WORKERS as usize] = [
     NodeId::Worker(6),
     NodeId::Worker(7),
     NodeId::Worker(8),
+    NodeId::Worker(9),
+    NodeId::Worker(10),
+    NodeId::Worker(11),
+    NodeId::Worker(12),
+    NodeId::Worker(13),
+    NodeId::Worker(14),
+    NodeId::Worker(15),
+    NodeId::Worker(16),
 ];
 
 /// The names that a scene can have, in node order.
@@ -74,6 +82,14 @@ pub const ALL_NODES: [NodeId; MAX_NODES] = [
     NodeId::Worker(6),
     NodeId::Worker(7),
     NodeId::Worker(8),
+    NodeId::Worker(9),
+    NodeId::Worker(10),
+    NodeId::Worker(11),
+    NodeId::Worker(12),
+    NodeId::Worker(13),
+    NodeId::Worker(14),
+    NodeId::Worker(15),
+    NodeId::Worker(16),
     NodeId::Shard(1),
     NodeId::Shard(2),
     NodeId::Shard(3),

@@ -5,8 +5,8 @@
 
 ghost use Rattle.std.specs.Prelude.{◌≡◌, ◌≤◌, ℕ, List, length, take, drop, false, position, IfSome};
 ghost use Rattle.std.specs.Option.{option_map};
-ghost use Rattle.kt_tuple.specs.Reading.{Gives, word_at, after_digits, after_positive, split_before, int_at};
-ghost use Rattle.kt_tuple.specs.Reading.{after_characters, str_at, value_at, formal_at, place_at, after_place};
+ghost use Rattle.kt_tuple.specs.Reading.{Gives, word_at, spelled_at, after_digits, after_positive, split_before};
+ghost use Rattle.kt_tuple.specs.Reading.{after_characters, int_at, str_at, value_at, formal_at, place_at, after_place};
 ghost use Rattle.kt_tuple.specs.Reading.{is_printable, int_of, has_range, is_short, value_of};
 ghost use Rattle.kt_tuple.specs.inner.Digits.{is_no_digit};
 ghost use Rattle.kt_tuple.specs.Reading.{place_of, between_quotes, characters_of, str_of, is_escape};
@@ -16,18 +16,21 @@ use crate::template::Place;
 use crate::value::{Kind, Value};
 use arrayvec::ArrayVec;
 
-/// Reads a value. A text that begins with a quote is read as a str, any other as an int.
+/// Reads a value. A text that begins with a quote is read as a str, one with a `t` as `true`, one with an `f` as
+/// `false`, and any other as an int.
 #[tactic(auto, unfolding(crate::specs::Reading::value_at))]
 pub fn value_at(text: &[u8]) -> Result<(&[u8], &[u8]), &[u8]>
     ensures { Gives (λ x. (x.0.now, x.1.now)) (λ e. e.now) result (value_at text.now) }
 {
     match text.first() {
         Some(b'"') => str_at(text),
+        Some(b't') => spelled_at(text, b"true"),
+        Some(b'f') => spelled_at(text, b"false"),
         _ => int_at(text),
     }
 }
 
-/// Reads a value, `?int` or `?str`.
+/// Reads a value, `?int`, `?str` or `?bool`.
 #[tactic(auto, unfolding(crate::specs::Reading::place_at))]
 pub(crate) fn place_at(text: &[u8]) -> Result<(&[u8], &[u8]), &[u8]>
     ensures { Gives (λ x. (x.0.now, x.1.now)) (λ e. e.now) result (place_at text.now) }
@@ -62,7 +65,8 @@ pub fn word_at<'a>(text: &'a [u8], word: &[u8]) -> Result<&'a [u8], &'a [u8]>
     }
 }
 
-/// Reads `?int` or `?str`. What does not go on with an `i` is read as `?str`, so its fault is where that breaks off.
+/// Reads `?int`, `?bool` or `?str`. What goes on with neither an `i` nor a `b` is read as `?str`, so its fault is where
+/// that breaks off.
 #[tactic(auto, unfolding(crate::specs::Reading::formal_at))]
 pub(crate) fn formal_at(text: &[u8]) -> Result<(&[u8], &[u8]), &[u8]>
     ensures { Gives (λ x. (x.0.now, x.1.now)) (λ e. e.now) result (formal_at text.now) }
@@ -70,9 +74,17 @@ pub(crate) fn formal_at(text: &[u8]) -> Result<(&[u8], &[u8]), &[u8]>
     let kind = word_at(text, b"?")?;
     let rest = match kind.first() {
         Some(b'i') => word_at(kind, b"int")?,
+        Some(b'b') => word_at(kind, b"bool")?,
         _ => word_at(kind, b"str")?,
     };
     Ok(split_before(text, rest))
+}
+
+/// Reads just this word, and answers it and the bytes after it.
+fn spelled_at<'a>(text: &'a [u8], word: &[u8]) -> Result<(&'a [u8], &'a [u8]), &'a [u8]>
+    ensures { Gives (λ x. (x.0.now, x.1.now)) (λ e. e.now) result (spelled_at text.now word.now) }
+{
+    Ok(split_before(text, word_at(text, word)?))
 }
 
 /// The bytes in front of the rest, and the rest.
@@ -170,7 +182,7 @@ pub(crate) fn is_in_range(spelling: &[u8]) -> bool
     ensures { result ≡ has_range spelling.now }
 {
     match spelling.first() {
-        Some(b'"' | b'?') => true,
+        Some(b'"' | b'?' | b't' | b'f') => true,
         _ => int_of(spelling).is_some(),
     }
 }
@@ -193,6 +205,8 @@ pub fn value_of(spelling: &[u8]) -> Option<Value>
 {
     match spelling.first() {
         Some(b'"') => str_of(spelling),
+        Some(b't') => Some(Value::Bool(true)),
+        Some(b'f') => Some(Value::Bool(false)),
         _ => int_of(spelling).map(Value::Int),
     }
 }
@@ -206,6 +220,8 @@ pub(crate) fn place_of(spelling: &[u8]) -> Option<Place>
         Some(Place::Formal(Kind::Int))
     } else if spelling == b"?str".as_slice() {
         Some(Place::Formal(Kind::Str))
+    } else if spelling == b"?bool".as_slice() {
+        Some(Place::Formal(Kind::Bool))
     } else {
         value_of(spelling).map(Place::Actual)
     }

@@ -39,6 +39,7 @@ impl Signature {
         let code = match kind {
             Kind::Int => 1,
             Kind::Str => 2,
+            Kind::Bool => 3,
         };
         Signature {
             number: 5 * self.number + code,

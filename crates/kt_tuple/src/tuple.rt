@@ -11,7 +11,7 @@ use std::marker::Model;
 use std::sync::Arc;
 
 /// The most places that a tuple or a template has.
-pub const MAX_PLACES: usize = 8;
+pub const MAX_PLACES: usize = 16;
 
 /// An ordered list of 1 to `MAX_PLACES` values (Gelernter, "Generative Communication in Linda").
 #[derive(Debug, Drop)]

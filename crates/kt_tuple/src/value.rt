@@ -13,6 +13,8 @@ pub enum Value {
     Int(i64),
     /// A string of at most `MAX_CHARACTERS` printable characters.
     Str(Str),
+    /// A truth: true or false.
+    Bool(bool),
 }
 
 /// What kind of value a place holds.
@@ -22,16 +24,19 @@ pub enum Kind {
     Int,
     /// A string.
     Str,
+    /// True or false.
+    Bool,
 }
 
 impl Value {
-    /// `Int` or `Str`, as the value is.
+    /// `Int`, `Str` or `Bool`, as the value is.
     pub fn kind(&self) -> Kind
         ensures { result ≡ kind_of self.now }
     {
         match self {
             Value::Int(_) => Kind::Int,
             Value::Str(_) => Kind::Str,
+            Value::Bool(_) => Kind::Bool,
         }
     }
 
@@ -42,6 +47,7 @@ impl Value {
         match self {
             Value::Int(n) => Value::Int(*n),
             Value::Str(s) => Value::Str(s.copy()),
+            Value::Bool(b) => Value::Bool(*b),
         }
     }
 }

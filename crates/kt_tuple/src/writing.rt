@@ -54,6 +54,7 @@ impl Spelled for Kind {
         match self {
             Kind::Int => out.extend_from_slice(b"int"),
             Kind::Str => out.extend_from_slice(b"str"),
+            Kind::Bool => out.extend_from_slice(b"bool"),
         }
     }
 }
@@ -294,6 +295,8 @@ fn push_value(out: &mut Vec<u8>, value: &Value) -> Result<(), AllocError>
     match value {
         Value::Int(number) => push_int(out, *number),
         Value::Str(string) => push_string(out, string.as_bytes()),
+        Value::Bool(true) => out.extend_from_slice(b"true"),
+        Value::Bool(false) => out.extend_from_slice(b"false"),
     }
 }
 

@@ -1,5 +1,7 @@
 //! What the program does with its words and its three streams.
-ghost use Rattle.std.specs.Prelude.{◌≡◌, ◌≢◌, ◌⊎◌, [], IsErr, IfOk};
+ghost use Rattle.std.specs.Prelude.{◌≡◌, ◌≢◌, ◌⊎◌, [], IsErr, IfErr, IfOk};
+ghost use Rattle.std.specs.IoError.{error_kind};
+ghost use Rattle.std.specs.declared.io.ErrorKind.TheVariants as io_kind;
 ghost use Rattle.std.specs.Vec.Iter.{into_iter_items};
 ghost use Rattle.clap.specs.Words.{kind_of};
 ghost use Rattle.clap.specs.declared.error.kind.ErrorKind.TheVariants as kind;
@@ -42,6 +44,7 @@ pub fn run_arguments<
     errors: &mut E,
 ) -> u8
     ensures no_text { IsErr arguments → (result ≡ COMMAND_LINE) ⊎ (result ≡ MEMORY) }
+    ensures no_memory { IfErr arguments (λ e. error_kind e ≡ io_kind.OutOfMemory → result ≡ MEMORY) }
     ensures no_text_reads_nothing { IsErr arguments → reader.new ≡ reader.old }
     ensures no_text_prints_nothing { IsErr arguments → writer.new ≡ writer.old }
     ensures told { IfOk arguments (λ a. words_fault (words_behind (into_iter_items a)) ≡ []
@@ -49,6 +52,12 @@ pub fn run_arguments<
         reader.old reader.new writer.old writer.new result) }
     ensures wrong_words { IfOk arguments (λ a. AreWrong (words_behind (into_iter_items a))
         → (result ≡ COMMAND_LINE) ⊎ (result ≡ MEMORY)) }
+    ensures wrong_words_print_nothing { IfOk arguments (λ a. AreWrong (words_behind (into_iter_items a))
+        → writer.new ≡ writer.old) }
+    ensures no_command { IfOk arguments (λ a. words_fault (words_behind (into_iter_items a)) ≢ []
+        → IsWordsStatus result) }
+    ensures no_command_reads_nothing { IfOk arguments (λ a. words_fault (words_behind (into_iter_items a)) ≢ []
+        → reader.new ≡ reader.old) }
     ensures done_without_a_word { result ≡ DONE → errors.new ≡ errors.old }
 {
     let texts = match arguments {
@@ -85,6 +94,9 @@ fn run_texts<
         → IsRunStatus ⟦<SqlStore<D> as CkptStore>⟧ (O.gives opener) (words_behind arguments.now)
         reader.old reader.new writer.old writer.new result }
     ensures wrong_words { AreWrong (words_behind arguments.now) → (result ≡ COMMAND_LINE) ⊎ (result ≡ MEMORY) }
+    ensures wrong_words_print_nothing { AreWrong (words_behind arguments.now) → writer.new ≡ writer.old }
+    ensures no_command { words_fault (words_behind arguments.now) ≢ [] → IsWordsStatus result }
+    ensures no_command_reads_nothing { words_fault (words_behind arguments.now) ≢ [] → reader.new ≡ reader.old }
     ensures done_without_a_word { result ≡ DONE → errors.new ≡ errors.old }
 {
     match words_behind(alloc, arguments) {

@@ -15,7 +15,7 @@ abbrev pub create_meta_text : List ℕ
 create_meta_text = codes "CREATE TABLE kt_meta (id INTEGER PRIMARY KEY, version INTEGER NOT NULL) STRICT"
 
 abbrev pub first_meta_text : List ℕ
-first_meta_text = codes "INSERT OR REPLACE INTO kt_meta VALUES (1, 1)"
+first_meta_text = codes "INSERT OR REPLACE INTO kt_meta VALUES (1, 2)"
 
 abbrev pub put_node_text : List ℕ
 put_node_text = codes "INSERT OR REPLACE INTO kt_node VALUES (?1, ?2, ?3, ?4, ?5)"

@@ -3,15 +3,16 @@
 use crate::stored::{FIRST_WORKER, SHARD};
 use kt_ckpt::{Ckpt, CkptError, Marks, State};
 use kt_link::Label;
-use kt_tuple::NodeId;
+use kt_tuple::{NodeId, Value};
 use std::alloc::Global;
 use std::process::Abort;
 use std::test::*;
 
 /// The second worker: a line of five acts, two neighbours, the next command is the fourth, the last request has
-/// the number 2 and no answer yet, `inp ("a", ?int)`, the last answer was none, and the variables are -1 and `hi`.
-const WORKER: [u8; 112] = [
-    0x4b, 0x54, 0x43, 0x50, 1, // magic, version
+/// the number 2 and no answer yet, `inp ("a", ?int, ?bool)`, the last answer was none, and the variables are -1, `hi`
+/// and `true`.
+const WORKER: [u8; 115] = [
+    0x4b, 0x54, 0x43, 0x50, 2, // magic, version
     1, 2, // the second worker
     0, 0, 0, 0, 0, 0, 0, 5, // line length
     2, // two neighbours
@@ -22,10 +23,11 @@ const WORKER: [u8; 112] = [
     0, 3, // the next command
     0, 0, 0, 0, 0, 0, 0, 2, // last number
     1, // the last answer was none
-    1, 4, 2, 2, 1, 0x61, 0x81, // inp ("a", ?int)
-    2, // two variables
+    1, 4, 3, 2, 1, 0x61, 0x81, 0x83, // inp ("a", ?int, ?bool)
+    3, // three variables
     1, 0xff, 0xff, 0xff, 0xff, 0xff, 0xff, 0xff, 0xff, // -1
     2, 2, 0x68, 0x69, // "hi"
+    3, 1, // true
 ];
 
 /// Whether the bytes are read, and what is read is written as these bytes again.
@@ -129,8 +131,10 @@ fn a_byte_less_or_twice(rt: HostRuntime) -> Result<(), Fail> {
 #[test]
 fn other_version(rt: HostRuntime) {
     let mut bytes = SHARD;
-    bytes[4] = 7;
-    assert!(rt; matches!(Ckpt::decode(rt.alloc(), &bytes), Err(CkptError::Version)));
+    for version in [0, 1, 3, 7] {
+        bytes[4] = version;
+        assert!(rt; matches!(Ckpt::decode(rt.alloc(), &bytes), Err(CkptError::Version)));
+    }
     bytes[3] = 0x51;
     assert!(rt; matches!(Ckpt::decode(rt.alloc(), &bytes), Err(CkptError::Magic)));
 }
@@ -138,10 +142,10 @@ fn other_version(rt: HostRuntime) {
 /// How many of the changed bytes are read was worked out by hand: numbers, characters, and what is one of few.
 #[test]
 fn changed_bytes(rt: HostRuntime) -> Result<(), Fail> {
-    assert_eq!(rt; changed(&rt, rt.alloc(), &FIRST_WORKER)?, (3_107, 12_448));
-    assert_eq!(rt; changed(&rt, rt.alloc(), &SHARD)?, (6_678, 16_527));
+    assert_eq!(rt; changed(&rt, rt.alloc(), &FIRST_WORKER)?, (3_099, 12_456));
+    assert_eq!(rt; changed(&rt, rt.alloc(), &SHARD)?, (6_670, 16_535));
     let (refused, read) = changed(&rt, rt.alloc(), &WORKER)?;
-    assert!(rt; refused > 0 && read > 0 && refused + read == 112 * 255);
+    assert!(rt; refused > 0 && read > 0 && refused + read == 115 * 255);
     Ok(())
 }
 
@@ -174,7 +178,12 @@ fn fields(rt: HostRuntime) -> Result<(), Fail> {
     assert_eq!(rt; worker.number(), 2);
     assert!(rt; worker.was_none());
     assert!(rt; worker.asked().is_some());
-    assert_eq!(rt; worker.variables().len(), 2);
+    let [number, string, truth] = worker.variables() else {
+        return Err(Fail::from("there are three variables"));
+    };
+    assert_eq!(rt; *number, Value::Int(-1));
+    assert!(rt; matches!(string, Value::Str(string) if string.as_bytes() == b"hi".as_slice()));
+    assert_eq!(rt; *truth, Value::Bool(true));
     Ok(())
 }
 

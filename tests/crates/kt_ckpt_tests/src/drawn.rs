@@ -13,9 +13,9 @@ pub(crate) fn checkpoint(
 ) -> Result<Vec<u8>, AllocError> {
     let mut out = Vec::new(alloc);
     out.extend_from_slice(b"KTCP")?;
-    out.push(1)?;
+    out.push(2)?;
     out.push(if worker { 1 } else { 2 })?;
-    out.push(draws.byte(1, MAX_SHARDS))?;
+    out.push(draws.byte(1, if worker { MAX_WORKERS } else { MAX_SHARDS }))?;
     push_drawn(&mut out, draws, 8)?;
     out.push(peers)?;
     for _ in 0..peers {
@@ -118,18 +118,22 @@ fn push_tuple(out: &mut Vec<u8>, draws: &mut Draws) -> Result<(), AllocError> {
 }
 
 fn push_place(out: &mut Vec<u8>, draws: &mut Draws) -> Result<(), AllocError> {
-    match draws.byte(0, 3) {
+    match draws.byte(0, 5) {
         0 => Ok(out.push(0x81)?),
         1 => Ok(out.push(0x82)?),
+        2 => Ok(out.push(0x83)?),
         _ => push_value(out, draws),
     }
 }
 
 fn push_value(out: &mut Vec<u8>, draws: &mut Draws) -> Result<(), AllocError> {
-    let code = draws.byte(1, 2);
+    let code = draws.byte(1, 3);
     out.push(code)?;
     if code == 1 {
         return push_drawn(out, draws, 8);
+    }
+    if code == 3 {
+        return Ok(out.push(draws.byte(0, 1))?);
     }
     let characters = draws.byte(0, 64);
     out.push(characters)?;

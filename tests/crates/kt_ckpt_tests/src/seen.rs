@@ -8,7 +8,7 @@ use kt_tuple::{Answer, Op, Value};
 pub(crate) struct Seen {
     ops: [bool; 5],
     answers: [bool; 3],
-    values: [bool; 2],
+    values: [bool; 3],
 }
 
 impl Seen {
@@ -16,13 +16,13 @@ impl Seen {
         Seen {
             ops: [false; 5],
             answers: [false; 3],
-            values: [false; 2],
+            values: [false; 3],
         }
     }
 
     /// Whether all that there can be was seen.
     pub(crate) fn is_all(&self) -> bool {
-        self.ops == [true; 5] && self.answers == [true; 3] && self.values == [true; 2]
+        self.ops == [true; 5] && self.answers == [true; 3] && self.values == [true; 3]
     }
 
     /// What the state holds is seen.
@@ -72,6 +72,7 @@ impl Seen {
         let place = match value {
             Value::Int(_) => 0,
             Value::Str(_) => 1,
+            Value::Bool(_) => 2,
         };
         self.values[place] = true;
     }

@@ -3,7 +3,7 @@
 /// The first worker: a line of two acts, one neighbour with all labels `(1, 1)`, the next command is the second, the
 /// last request has the number 1 and is answered, the last answer was not none, and there are no variables.
 pub const FIRST_WORKER: [u8; 61] = [
-    0x4b, 0x54, 0x43, 0x50, 1, // magic, version
+    0x4b, 0x54, 0x43, 0x50, 2, // magic, version
     1, 1, // the first worker
     0, 0, 0, 0, 0, 0, 0, 2, // line length
     1, // one neighbour
@@ -19,7 +19,7 @@ pub const FIRST_WORKER: [u8; 61] = [
 /// The first shard: a line of two acts, one neighbour with all labels `(1, 1)`, the tuple `("a", 1)`, nobody
 /// waits, and for the first worker the first request is kept: `out ("a", 1)`, done.
 pub const SHARD: [u8; 91] = [
-    0x4b, 0x54, 0x43, 0x50, 1, // magic, version
+    0x4b, 0x54, 0x43, 0x50, 2, // magic, version
     2, 1, // the first shard
     0, 0, 0, 0, 0, 0, 0, 2, // line length
     1, // one neighbour

@@ -6,7 +6,7 @@ use kt_history::{Act, Note, What};
 use kt_script::Script;
 use kt_shard::{Kept, Request};
 use kt_store::{CkptStore, MemStore, Verdict};
-use kt_tuple::{Answer, NodeId};
+use kt_tuple::{Answer, MAX_WORKERS, NodeId};
 use kt_walk::cast::Cast;
 use kt_walk::finding::{Finding, holds};
 use kt_walk::runs::{are_same, space_after};
@@ -108,7 +108,7 @@ fn is_kept(found: Option<(&Act, &Answer)>, stored: Option<&(u8, Kept)>) -> bool 
 
 /// Whether the state has of each worker what these acts leave of it.
 fn are_desks(state: &ShardState, notes: &[Note], acts: &[usize]) -> bool {
-    (1..=8u8).all(|worker| {
+    (1..=MAX_WORKERS).all(|worker| {
         let (waiting, kept) = desk_after(notes, acts, worker);
         is_waiting(waiting, state.waiting().iter().find(|it| it.0 == worker))
             && is_kept(kept, state.kept().iter().find(|it| it.0 == worker))

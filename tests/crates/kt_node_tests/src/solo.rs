@@ -1,7 +1,7 @@
 //! A node by itself, with all that a world would hold of it: its row of the store, the board, how long its line is.
 
 use crate::making::script;
-use kt_ckpt::Ckpt;
+use kt_ckpt::{Ckpt, MAX_PEERS};
 use kt_node::{Node, Role};
 use kt_script::Script;
 use kt_store::{Tentative, Verdict};
@@ -45,7 +45,7 @@ pub(crate) struct Solo {
 
 /// Whether there can be a node with this number, or so many neighbours.
 fn is_number(number: u8) -> bool {
-    1 <= number && number <= 8
+    1 <= number && number <= MAX_PEERS
 }
 
 impl Setting {

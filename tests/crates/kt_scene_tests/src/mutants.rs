@@ -19,7 +19,7 @@ const MUTANTS: usize = 20_000;
 const REPLAYED: usize = 10;
 
 /// Scenarios with all kinds of lines.
-const SEEDS: [&[u8]; 8] = [
+const SEEDS: [&[u8]; 9] = [
     b"linda-kt 1\nshards 1\nworker\nout (\"a\", 1)\nin (\"a\", ?int x)\nsteps\nissue w1\ndeliver w1 s1\n\
 serve s1 w1 0\ndeliver s1 w1\nissue w1\ndeliver w1 s1\nserve s1 w1 0\nend\n",
     b"# a counter\nlinda-kt 1\nshards 1\n# begins at 0\nworker\ninp (\"counter\", ?int n)\nunless 1\n\
@@ -45,6 +45,11 @@ check w2\nend\n",
     b"linda-kt 1\nshards 3\nworker\nout (\"a\", 1)\n# its answer is lost sight of\nworker\nout (7)\nsteps\n\
 issue w1\nrepeat w1\ndeliver w1 s3\nserve s3 w1 0\ndeliver w1 s3\nissue w2\ndeliver w2 s2\nrepeat w2\n\
 serve s2 w2 0\ndeliver s3 w1\ndeliver s3 w1\ndeliver w2 s2\nend\n",
+    b"linda-kt 1\nshards 2\nworker\nout (true, 1)\nin (?bool truex, 1)\nout (truex, false)\n\
+rd (?bool, false, ?int, \"p\", 5, 6, 7, true, 9, 10, 11, 12, 13, 14, 15, ?bool y)\nworker\nworker\nworker\n\
+worker\nworker\nworker\nworker\nworker\nworker\nworker\nworker\nworker\nworker\nworker\nworker\nin (?bool)\n\
+steps\nissue w1\n\
+deliver w1 s1\nissue w16\ndeliver w16 s2\nend\n",
 ];
 
 /// Bytes that a mutant gets.
@@ -283,8 +288,9 @@ const FAULT_SEEDS: [&[u8]; 3] = [
 check w2 after 0\nfail w1 after 100000\nend\n",
     b"# nobody fails\nlinda-kt 1\nshards 1\nworker\n# but a check is made\nfaults\n#\ncheck w1 after 12\n\
 check s1 after 7\nend\n",
-    b"linda-kt 1\nshards 8\nworker\nworker\nworker\nworker\nworker\nworker\nworker\nworker\nfaults\n\
-fail s8 after 9\nfail w8 after 99\nfail w8 after 99\ncheck s3 after 10000\nfail s5 after 0\nend\n",
+    b"linda-kt 1\nshards 8\nworker\nworker\nworker\nworker\nworker\nworker\nworker\nworker\n\
+worker\nworker\nworker\nworker\nworker\nworker\nworker\nworker\nfaults\n\
+fail s8 after 9\nfail w8 after 99\nfail w16 after 99\ncheck s3 after 10000\nfail s5 after 0\nend\n",
 ];
 
 /// How many mutants of these there are.

@@ -14,7 +14,7 @@ use std::test::Fail;
 type Row = (&'static [u8], &'static [u8], Result<(), ReplayFault>);
 
 /// A scenario, its report, and the fault with which it ends.
-const ROWS: [Row; 16] = [
+const ROWS: [Row; 17] = [
     // put_and_take
     (
         b"linda-kt 1\nshards 1\nworker\nout (\"a\", 1)\nin (\"a\", ?int x)\nsteps\nissue w1\ndeliver w1 s1\n\
@@ -68,6 +68,15 @@ serve s1 w2 0\ndeliver s1 w2\nissue w2\ndeliver w2 s1\nserve s1 w2 2\nend\n",
         b"survivors 6\nw1.1 inp (\"a\") none\nw1.2 out (\"d\") done\nw2.1 out (\"a\") done\n\
 w2.2 out (\"a\") done\nw2.3 out (\"a\") done\nw2.4 rdp (\"a\") got (\"a\")\nlost 0\nspace 4\n(\"a\")\n\
 (\"a\")\n(\"a\")\n(\"d\")\npermanent 0\n",
+        Ok(()),
+    ),
+    // bools: the two tuples are of other shards
+    (
+        b"linda-kt 1\nshards 2\nworker\nout (true, 1)\nin (?bool b, 1)\nout (b)\nsteps\nissue w1\n\
+deliver w1 s1\nserve s1 w1 0\ndeliver s1 w1\nissue w1\ndeliver w1 s1\nserve s1 w1 0\ndeliver s1 w1\n\
+issue w1\ndeliver w1 s2\nserve s2 w1 0\nend\n",
+        b"survivors 3\nw1.1 out (true, 1) done\nw1.2 in (?bool, 1) got (true, 1)\nw1.3 out (true) done\nlost 0\n\
+space 1\n(true)\npermanent 0\n",
         Ok(()),
     ),
     // saturating_set

@@ -7,7 +7,7 @@ use kt_node::Mode;
 use kt_scene::{OpenError, ReplayFault, Sink, Source, replay, replay_over, replay_world};
 use kt_sql::SqlStore;
 use kt_store::{CkptStore, MemStore};
-use kt_tuple::NodeId;
+use kt_tuple::{ALL_NODES, NodeId};
 use std::alloc::Global;
 use std::process::Abort;
 use std::test::Fail;
@@ -369,11 +369,9 @@ fn who_is_up_at_the_end(rt: HostRuntime) -> Result<(), Fail> {
     for (parts, bags, tuples) in &ALL_UP {
         let world = world_of(alloc, parts)?;
         assert!(rt; world.is_steady());
-        for number in 1..=8u8 {
-            for node in [NodeId::Worker(number), NodeId::Shard(number)] {
-                if let Some(mode) = world.mode(node) {
-                    assert_eq!(rt; mode, Mode::Up, "{node:?}");
-                }
+        for node in ALL_NODES {
+            if let Some(mode) = world.mode(node) {
+                assert_eq!(rt; mode, Mode::Up, "{node:?}");
             }
         }
         let (mut there, mut held) = (0usize, 0usize);

@@ -109,7 +109,7 @@ fn other_commands(rt: HostRuntime) -> Result<(), Fail> {
 
 #[test]
 fn scripts(rt: HostRuntime) -> Result<(), Fail> {
-    let front = b"linda-kt 1\nshards 1\nworker\nin (?int x, ?str s)\n";
+    let front = b"linda-kt 1\nshards 1\nworker\nin (?int x, ?str s, ?bool truex)\n";
     assert_faults(&rt, rt.alloc(), front, 5, &SCRIPTS, b"\nsteps\nend\n")
 }
 
@@ -189,12 +189,14 @@ fn long_texts(rt: HostRuntime) -> Result<(), Fail> {
 fn written_again(rt: HostRuntime) -> Result<(), Fail> {
     let text =
         b"# a\nlinda-kt 1\n#\nshards 8\nworker\nout (-1, \"\\\"\\\\\")\nin (?int x, ?str)\nrd (x, ?str s)\n\
-        inp (s)\nrdp (\"\", ?int x)\nset y = x + -9223372036854775808\nunless 200\nout (y, s)\nworker\n# b\n\
+        inp (s)\nrdp (\"\", ?int x)\nset y = x + -9223372036854775808\nunless 200\nout (y, s)\nworker\n\
+        rd (?bool b, true, ?bool)\nout (b, false)\n# b\n\
         steps\nissue w1\nrepeat w10\ndeliver w99 s1\n#\nrepeat s99\nserve s10 w1 99999\ntake w1\ncheck s2\n\
 decide w3\nabandon s4\nlearn w5\nfail s6\nrestart w77\nend\n";
     let told =
         b"linda-kt 1\nshards 8\nworker\nout (-1, \"\\\"\\\\\")\nin (?int x, ?str)\nrd (x, ?str s)\n\
         inp (s)\nrdp (\"\", ?int x)\nset y = x + -9223372036854775808\nunless 200\nout (y, s)\nworker\n\
+        rd (?bool b, true, ?bool)\nout (b, false)\n\
         steps\nissue w1\nrepeat w10\ndeliver w99 s1\nrepeat s99\nserve s10 w1 99999\ntake w1\ncheck s2\n\
 decide w3\nabandon s4\nlearn w5\nfail s6\nrestart w77\nend\n";
     for given in [text.as_slice(), told.as_slice()] {

@@ -262,8 +262,9 @@ pub(crate) const HEADERS: [Text; 54] = [
 /// Texts that end too early or too late.
 pub(crate) const ENDS: [Text; 38] = [
     (
-        b"linda-kt 1\nshards 1\nworker\nworker\nworker\nworker\nworker\nworker\nworker\nworker\nworker",
-        11,
+        b"linda-kt 1\nshards 1\nworker\nworker\nworker\nworker\nworker\nworker\nworker\nworker\nworker\nworker\n\
+worker\nworker\nworker\nworker\nworker\nworker\nworker",
+        19,
         7,
     ),
     (b"", 1, 7),
@@ -318,7 +319,7 @@ pub(crate) const ENDS: [Text; 38] = [
 ];
 
 /// Other texts.
-pub(crate) const SCENARIOS: [Text; 21] = [
+pub(crate) const SCENARIOS: [Text; 22] = [
     (
         b"linda-kt 1\nshards 1\nworker\ninp (\"counter\", ?int n)\nunless 1\nset n = n + 1\n\
 out (\"counter\", n)\nsteps\nend\n",
@@ -327,7 +328,13 @@ out (\"counter\", n)\nsteps\nend\n",
     ),
     (b"linda-kt 1\nshards 1\nworker\nsteps\nend\n", 0, 0),
     (
-        b"linda-kt 1\nshards 1\nworker\nworker\nworker\nworker\nworker\nworker\nworker\nworker\nsteps\nend\n",
+        b"linda-kt 1\nshards 1\nworker\nworker\nworker\nworker\nworker\nworker\nworker\nworker\nworker\nsteps\nend\n",
+        0,
+        0,
+    ),
+    (
+        b"linda-kt 1\nshards 8\nworker\nworker\nworker\nworker\nworker\nworker\nworker\nworker\nworker\nworker\n\
+worker\nworker\nworker\nworker\nworker\nworker\nsteps\nissue w16\nend\n",
         0,
         0,
     ),
@@ -337,8 +344,9 @@ out (\"counter\", n)\nsteps\nend\n",
         0,
     ),
     (
-        b"linda-kt 1\nshards 1\nworker\nworker\nworker\nworker\nworker\nworker\nworker\nworker\nworker\nsteps\nend\n",
-        11,
+        b"linda-kt 1\nshards 1\nworker\nworker\nworker\nworker\nworker\nworker\nworker\nworker\nworker\nworker\n\
+worker\nworker\nworker\nworker\nworker\nworker\nworker\nsteps\nend\n",
+        19,
         5,
     ),
     (

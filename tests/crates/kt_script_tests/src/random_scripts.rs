@@ -38,10 +38,10 @@ impl Dice {
     }
 
     fn kind(&mut self) -> Kind {
-        if self.below(4) == 0 {
-            Kind::Str
-        } else {
-            Kind::Int
+        match self.below(6) {
+            0 => Kind::Str,
+            1 => Kind::Bool,
+            _ => Kind::Int,
         }
     }
 
@@ -57,9 +57,14 @@ impl Dice {
     }
 
     fn value(&mut self, kind: Kind) -> Result<Value, Fail> {
-        if kind == Kind::Int {
-            return Ok(Value::Int(self.int()));
+        match kind {
+            Kind::Int => Ok(Value::Int(self.int())),
+            Kind::Str => self.string(),
+            Kind::Bool => Ok(Value::Bool(self.below(2) == 0)),
         }
+    }
+
+    fn string(&mut self) -> Result<Value, Fail> {
         let texts = [b"".as_slice(), b"x", b"y z"];
         let text = texts.get(self.below(3) as usize).ok_or("a text")?;
         Ok(Value::Str(Str::new(text).ok_or("a string")?))
@@ -174,7 +179,8 @@ impl Bindings<'_> {
         }
         match self.script.kind_of(name) {
             Some(Kind::Str) => Ok(Value::Str(Str::new(b"").ok_or("a string")?)),
-            _ => Ok(Value::Int(0)),
+            Some(Kind::Bool) => Ok(Value::Bool(false)),
+            Some(Kind::Int) | None => Ok(Value::Int(0)),
         }
     }
 
@@ -232,7 +238,7 @@ impl Bindings<'_> {
 
     fn set(&mut self, variable: &Name, source: &Name, plus: i64) -> Result<(), Fail> {
         let Value::Int(number) = self.value(source)? else {
-            return Err(Fail::from("a string in `set`"));
+            return Err(Fail::from("no int in `set`"));
         };
         let sum = Value::Int(number.saturating_add(plus));
         Ok(self.bound.push((variable.copy(), sum))?)

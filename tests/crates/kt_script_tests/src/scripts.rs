@@ -134,6 +134,41 @@ fn binds_from_left_to_right(rt: HostRuntime) -> Result<(), Fail> {
     Ok(())
 }
 
+/// `inp (?bool b)`, `out (b)`.
+fn truth_script(alloc: Global) -> Result<Script, Fail> {
+    let mut script = Script::new(alloc);
+    let b = pattern(alloc, Slot::Formal(Kind::Bool, Some(name("b")?)), None)?;
+    script.push(Command::Ask(Operation::Inp(b)))?;
+    script.push(out_variable(alloc, "b")?)?;
+    Ok(script)
+}
+
+/// A variable of kind bool is false until it is bound, and no tuple of another kind binds it.
+#[test]
+fn a_truth_begins_as_false(rt: HostRuntime) -> Result<(), Fail> {
+    let alloc = rt.alloc();
+    let script = truth_script(alloc)?;
+    assert!(rt; script.kind_of(&name("b")?) == Some(Kind::Bool));
+    assert!(rt; puts(alloc, &script, Answer::None, "(false)")?);
+    assert!(rt; puts(alloc, &script, got(alloc, "(true)")?, "(true)")?);
+    assert!(rt; puts(alloc, &script, got(alloc, "(false)")?, "(false)")?);
+    assert!(rt; puts(alloc, &script, got(alloc, "(1)")?, "(false)")?);
+    assert!(rt; puts(alloc, &script, got(alloc, "(\"true\")")?, "(false)")?);
+    Ok(())
+}
+
+/// `set` adds to ints and binds ints: a truth is neither of its sides.
+#[test]
+fn no_sum_of_truths(rt: HostRuntime) -> Result<(), Fail> {
+    let mut script = truth_script(rt.alloc())?;
+    assert_eq!(rt; script.push(add_one("n", "b")?), Err(ScriptError::Variable));
+    let n = pattern(rt.alloc(), formal("n")?, None)?;
+    script.push(Command::Ask(Operation::In(n)))?;
+    assert_eq!(rt; script.push(add_one("b", "n")?), Err(ScriptError::Variable));
+    assert_eq!(rt; script.push(add_one("n", "n")?), Ok(()));
+    Ok(())
+}
+
 #[test]
 fn refuses_use_before_binding(rt: HostRuntime) -> Result<(), Fail> {
     let mut script = Script::new(rt.alloc());

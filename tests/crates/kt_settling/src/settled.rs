@@ -3,7 +3,7 @@
 use kt_core::{Faults, Scene, Step, World};
 use kt_stage::{next_for, settle};
 use kt_store::MemStore;
-use kt_tuple::NodeId;
+use kt_tuple::ALL_NODES;
 use kt_walk::cast::Cast;
 use kt_walk::copies::copy_of;
 use kt_walk::finding::{Finding, holds};
@@ -50,11 +50,9 @@ fn go_on(
 /// No node has a next step, and the world is steady.
 fn is_over(alloc: Global, world: &mut Game) -> Result<(), Finding> {
     let faults = Faults::new(alloc);
-    for number in 1..=8u8 {
-        for node in [NodeId::Worker(number), NodeId::Shard(number)] {
-            let next = next_for(alloc, world, &faults, node)?;
-            holds(next.is_none(), "no next step at the end")?;
-        }
+    for node in ALL_NODES {
+        let next = next_for(alloc, world, &faults, node)?;
+        holds(next.is_none(), "no next step at the end")?;
     }
     holds(world.is_steady(), "steady at the end")
 }

@@ -41,7 +41,7 @@ fn ask(
 fn busy(alloc: Global) -> Result<Shard, Fail> {
     let mut shard = Shard::new(alloc)?;
     ask(alloc, &mut shard, 1, 1, "(7)", true)?;
-    ask(alloc, &mut shard, 8, 5, "(8, \"a\")", true)?;
+    ask(alloc, &mut shard, 16, 5, "(8, \"a\")", true)?;
     ask(alloc, &mut shard, 1, 2, "(9)", false)?;
     ask(alloc, &mut shard, 3, 1, "(9)", false)?;
     Ok(shard)
@@ -92,7 +92,7 @@ fn is_made_again_of_its_parts(rt: HostRuntime) -> Result<(), Fail> {
         made.bag().to_vec(rt.alloc())?,
         shard.bag().to_vec(rt.alloc())?
     );
-    for (worker, waits, is_kept) in [(1, true, true), (3, true, false), (8, false, true)] {
+    for (worker, waits, is_kept) in [(1, true, true), (3, true, false), (16, false, true)] {
         assert_eq!(rt; made.waiting(worker).is_some(), waits, "{worker}");
         assert_eq!(rt; made.kept(worker).is_some(), is_kept, "{worker}");
     }

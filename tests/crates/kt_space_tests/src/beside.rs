@@ -7,11 +7,13 @@ use kt_tuple::{Kind, Place, Str, Template, Tuple, Value};
 use std::alloc::Global;
 use std::test::*;
 
-/// A value out of a few: an int below four, or one of two strings.
+/// A value out of a few: an int below four, one of two strings, or a truth.
 fn value(draws: &mut Draws) -> Option<Value> {
-    match draws.below(6) {
+    match draws.below(8) {
         4 => Some(Value::Str(Str::new(b"a".as_slice())?)),
         5 => Some(Value::Str(Str::new(b"b".as_slice())?)),
+        6 => Some(Value::Bool(false)),
+        7 => Some(Value::Bool(true)),
         number => Some(Value::Int(number as i64)),
     }
 }
@@ -27,9 +29,10 @@ fn tuple(alloc: Global, draws: &mut Draws) -> Result<Tuple, Fail> {
 
 /// A place out of a few: half of them formals.
 fn place(draws: &mut Draws) -> Option<Place> {
-    match draws.below(4) {
+    match draws.below(6) {
         0 => Some(Place::Formal(Kind::Int)),
         1 => Some(Place::Formal(Kind::Str)),
+        2 => Some(Place::Formal(Kind::Bool)),
         _ => Some(Place::Actual(value(draws)?)),
     }
 }

@@ -18,7 +18,7 @@ pub(crate) const BOARD: &str =
 pub(crate) const META: &str =
     "CREATE TABLE kt_meta (id INTEGER PRIMARY KEY, version INTEGER NOT NULL) STRICT";
 
-pub(crate) const VERSION: &str = "INSERT INTO kt_meta VALUES (1, 1)";
+pub(crate) const VERSION: &str = "INSERT INTO kt_meta VALUES (1, 2)";
 
 const FIRST: NodeId = NodeId::Worker(1);
 
@@ -46,17 +46,21 @@ pub(crate) fn adopted(
 }
 
 /// Tables, and how their opening ends.
-const OPENINGS: [(&[&str], Result<(), SqlOpenError>); 16] = [
+const OPENINGS: [(&[&str], Result<(), SqlOpenError>); 17] = [
     (&[], Ok(())),
     (&[NODES, BOARD, META, VERSION], Ok(())),
     // kt_meta
     (&[NODES, BOARD, META], Err(SqlOpenError::Damaged)),
     (
-        &[NODES, BOARD, META, "INSERT INTO kt_meta VALUES (1, 2)"],
+        &[NODES, BOARD, META, "INSERT INTO kt_meta VALUES (1, 1)"],
         Err(SqlOpenError::Damaged),
     ),
     (
-        &[NODES, BOARD, META, "INSERT INTO kt_meta VALUES (2, 1)"],
+        &[NODES, BOARD, META, "INSERT INTO kt_meta VALUES (1, 3)"],
+        Err(SqlOpenError::Damaged),
+    ),
+    (
+        &[NODES, BOARD, META, "INSERT INTO kt_meta VALUES (2, 2)"],
         Err(SqlOpenError::Damaged),
     ),
     (
@@ -65,7 +69,7 @@ const OPENINGS: [(&[&str], Result<(), SqlOpenError>); 16] = [
             BOARD,
             META,
             VERSION,
-            "INSERT INTO kt_meta VALUES (2, 1)",
+            "INSERT INTO kt_meta VALUES (2, 2)",
         ],
         Err(SqlOpenError::Damaged),
     ),
@@ -182,13 +186,13 @@ const NODE_ROWS: [(&str, Read, Read); 8] = [
         Ok(None),
     ),
     (
-        "INSERT INTO kt_node VALUES (1, 1, x'4b544350010201000000000000000001\
+        "INSERT INTO kt_node VALUES (1, 1, x'4b544350020201000000000000000001\
 0000000000000000000000000000000000000000000000000000000000000000000000000000', NULL, NULL)",
         Ok(Some(0)),
         Ok(None),
     ),
     (
-        "INSERT INTO kt_node VALUES (1, 1, NULL, x'4b544350010201000000000000000001\
+        "INSERT INTO kt_node VALUES (1, 1, NULL, x'4b544350020201000000000000000001\
 0000000000000000000000000000000000000000000000000000000000000000000000000000', 7)",
         Ok(None),
         Ok(Some(0)),
@@ -210,7 +214,7 @@ const NODE_ROWS: [(&str, Read, Read); 8] = [
     ),
     ("INSERT INTO kt_node VALUES (1, 1, NULL, NULL, 7)", BAD, BAD),
     (
-        "INSERT INTO kt_node VALUES (1, 1, NULL, x'4b544350010201000000000000000001\
+        "INSERT INTO kt_node VALUES (1, 1, NULL, x'4b544350020201000000000000000001\
 0000000000000000000000000000000000000000000000000000000000000000000000000000', NULL)",
         BAD,
         BAD,

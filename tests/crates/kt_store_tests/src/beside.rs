@@ -44,13 +44,13 @@ const NODES: [NodeId; 6] = [
     NodeId::Shard(1),
     NodeId::Worker(1),
     NodeId::Shard(8),
-    NodeId::Worker(8),
+    NodeId::Worker(16),
     NodeId::Shard(2),
 ];
 
 /// The checkpoint of the first shard with an empty bag and one neighbour.
 pub(crate) const EMPTY: [u8; 54] = [
-    0x4b, 0x54, 0x43, 0x50, 1, // magic, version
+    0x4b, 0x54, 0x43, 0x50, 2, // magic, version
     2, 1, // the first shard
     0, 0, 0, 0, 0, 0, 0, 0, // line length
     1, // one neighbour

@@ -1,7 +1,7 @@
 //! The text of tuples and templates, against texts worked out by hand from the grammar.
 
 use kt_tuple::reading::{after_place, int_at, int_of, value_at, value_of, word_at};
-use kt_tuple::{Answer, NodeId, Op, ParseError, Service, Str, Template, Tuple, Value};
+use kt_tuple::{Answer, Kind, NodeId, Op, ParseError, Place, Service, Str, Template, Tuple, Value};
 use std::alloc::Global;
 use std::process::Abort;
 use std::test::Fail;
@@ -57,15 +57,39 @@ const STRINGS: [Row; 18] = [
     (b"(\"\x1f\")", Err(ParseError::Syntax { at: 2 })),
 ];
 
+/// Truths of tuples: each word is read from its first byte on, and breaks off where it is another one.
+const TRUTHS: [Row; 18] = [
+    (b"(true)", Ok(())),
+    (b"(false)", Ok(())),
+    (b"(true, false, 1, \"true\")", Ok(())),
+    (b"(t)", Err(ParseError::Syntax { at: 2 })),
+    (b"(f", Err(ParseError::Syntax { at: 2 })),
+    (b"(tru)", Err(ParseError::Syntax { at: 4 })),
+    (b"(fals)", Err(ParseError::Syntax { at: 5 })),
+    (b"(true", Err(ParseError::Syntax { at: 5 })),
+    (b"(truex)", Err(ParseError::Syntax { at: 5 })),
+    (b"(trueish)", Err(ParseError::Syntax { at: 5 })),
+    (b"(falsey)", Err(ParseError::Syntax { at: 6 })),
+    (b"(true1)", Err(ParseError::Syntax { at: 5 })),
+    (b"(true true)", Err(ParseError::Syntax { at: 5 })),
+    (b"(tfalse)", Err(ParseError::Syntax { at: 2 })),
+    (b"(True)", Err(ParseError::Syntax { at: 1 })),
+    (b"(-true)", Err(ParseError::Syntax { at: 2 })),
+    (b"(1, ?bool)", Err(ParseError::Syntax { at: 4 })),
+    (
+        b"(false, 9223372036854775808)",
+        Err(ParseError::Range { at: 8 }),
+    ),
+];
+
 /// What is no value.
-const NO_VALUES: [Row; 7] = [
+const NO_VALUES: [Row; 6] = [
     (b"('a')", Err(ParseError::Syntax { at: 1 })),
     (b"(\"a\"\"b\")", Err(ParseError::Syntax { at: 4 })),
     (b"(\"a\" )", Err(ParseError::Syntax { at: 4 })),
     (b"(?int)", Err(ParseError::Syntax { at: 1 })),
     (b"(1, ?int)", Err(ParseError::Syntax { at: 4 })),
     (b"(x)", Err(ParseError::Syntax { at: 1 })),
-    (b"(true)", Err(ParseError::Syntax { at: 1 })),
 ];
 
 /// Parentheses, commas and spaces.
@@ -93,21 +117,33 @@ const SHAPES: [Row; 20] = [
 ];
 
 /// Too many places, too many characters, and the faults that come before.
-const LIMITS: [Row; 10] = [
+const LIMITS: [Row; 12] = [
     (b"(9223372036854775808", Err(ParseError::Syntax { at: 20 })),
     (
         b"(9223372036854775808, x)",
         Err(ParseError::Syntax { at: 22 }),
     ),
-    (b"(1, 1, 1, 1, 1, 1, 1, 1)", Ok(())),
-    (b"(1, 1, 1, 1, 1, 1, 1, 1, 1)", Err(ParseError::TooLong)),
+    // 16 and 17 places
+    (b"(1, 1, 1, 1, 1, 1, 1, 1, 1, 1, 1, 1, 1, 1, 1, 1)", Ok(())),
     (
-        b"(1, 1, 1, 1, 1, 1, 1, 1, 1",
-        Err(ParseError::Syntax { at: 26 }),
+        b"(1, 1, 1, 1, 1, 1, 1, 1, 1, 1, 1, 1, 1, 1, 1, 1, 1)",
+        Err(ParseError::TooLong),
     ),
     (
-        b"(1, 1, 1, 1, 1, 1, 1, 1, 9223372036854775808)",
-        Err(ParseError::Range { at: 25 }),
+        b"(false, 1, 1, 1, 1, 1, 1, 1, 1, 1, 1, 1, 1, 1, 1, true)",
+        Ok(()),
+    ),
+    (
+        b"(true, 1, 1, 1, 1, 1, 1, 1, 1, 1, 1, 1, 1, 1, 1, 1, false)",
+        Err(ParseError::TooLong),
+    ),
+    (
+        b"(1, 1, 1, 1, 1, 1, 1, 1, 1, 1, 1, 1, 1, 1, 1, 1, 1",
+        Err(ParseError::Syntax { at: 50 }),
+    ),
+    (
+        b"(1, 1, 1, 1, 1, 1, 1, 1, 1, 1, 1, 1, 1, 1, 1, 1, 9223372036854775808)",
+        Err(ParseError::Range { at: 49 }),
     ),
     // 64 and 65 characters
     (
@@ -130,7 +166,7 @@ const LIMITS: [Row; 10] = [
 ];
 
 /// Texts of templates and what `Template::parse` answers.
-const TEMPLATES: [Row; 21] = [
+const TEMPLATES: [Row; 29] = [
     (b"(?int)", Ok(())),
     (b"(?str)", Ok(())),
     (b"(\"a\", ?int)", Ok(())),
@@ -143,15 +179,26 @@ const TEMPLATES: [Row; 21] = [
     (b"(?in", Err(ParseError::Syntax { at: 4 })),
     (b"(?ins)", Err(ParseError::Syntax { at: 4 })),
     (b"(?st)", Err(ParseError::Syntax { at: 4 })),
-    (b"(?bool)", Err(ParseError::Syntax { at: 2 })),
+    (b"(?bool)", Ok(())),
+    (b"(true, ?bool, false, ?int)", Ok(())),
+    (b"(?b", Err(ParseError::Syntax { at: 3 })),
+    (b"(?b)", Err(ParseError::Syntax { at: 3 })),
+    (b"(?boo)", Err(ParseError::Syntax { at: 5 })),
+    (b"(?boolx)", Err(ParseError::Syntax { at: 6 })),
+    (b"(?bool x)", Err(ParseError::Syntax { at: 6 })),
+    (b"(?true)", Err(ParseError::Syntax { at: 2 })),
+    (b"(?bstr)", Err(ParseError::Syntax { at: 3 })),
     (b"(? int)", Err(ParseError::Syntax { at: 2 })),
     (b"(?int x)", Err(ParseError::Syntax { at: 5 })),
     (b"(?intx)", Err(ParseError::Syntax { at: 5 })),
     (b"(?int,?int)", Err(ParseError::Syntax { at: 6 })),
     (b"(??int)", Err(ParseError::Syntax { at: 2 })),
-    (b"(?int, ?int, ?int, ?int, ?int, ?int, ?int, ?int)", Ok(())),
     (
-        b"(?int, ?int, ?int, ?int, ?int, ?int, ?int, ?int, ?int)",
+        b"(?int, ?int, ?int, ?int, ?int, ?int, ?int, ?int, ?int, ?int, ?int, ?int, ?int, ?int, ?int, ?int)",
+        Ok(()),
+    ),
+    (
+        b"(?int, ?int, ?int, ?int, ?int, ?int, ?int, ?int, ?int, ?int, ?int, ?int, ?int, ?int, ?int, ?int, ?int)",
         Err(ParseError::TooLong),
     ),
     (
@@ -184,6 +231,11 @@ fn ints(rt: HostRuntime) -> Result<(), Fail> {
 #[test]
 fn strings(rt: HostRuntime) -> Result<(), Fail> {
     assert_answers(&rt, rt.alloc(), &STRINGS)
+}
+
+#[test]
+fn truths(rt: HostRuntime) -> Result<(), Fail> {
+    assert_answers(&rt, rt.alloc(), &TRUTHS)
 }
 
 #[test]
@@ -238,6 +290,17 @@ fn values_are_read(rt: HostRuntime) -> Result<(), Fail> {
     Ok(())
 }
 
+/// The truth that is read, and not only its text; and the kind of a formal.
+#[test]
+fn truths_are_read(rt: HostRuntime) -> Result<(), Fail> {
+    let tuple = Tuple::parse(rt.alloc(), b"(true, false)")?;
+    assert!(rt; tuple.values() == [Value::Bool(true), Value::Bool(false)].as_slice());
+    let template = Template::parse(rt.alloc(), b"(?bool, false)")?;
+    let places = [Place::Formal(Kind::Bool), Place::Actual(Value::Bool(false))];
+    assert!(rt; template.places() == places.as_slice());
+    Ok(())
+}
+
 /// Operations as a report shows them.
 #[test]
 fn operations(rt: HostRuntime) -> Result<(), Fail> {
@@ -288,6 +351,8 @@ type Front = Result<(&'static [u8], &'static [u8]), &'static [u8]>;
 fn fronts(rt: HostRuntime) {
     assert_front(&rt, int_at(b"-12, 3)"), Ok((b"-12", b", 3)")));
     assert_front(&rt, value_at(b"\"a\\\"b\")"), Ok((b"\"a\\\"b\"", b")")));
+    assert_front(&rt, value_at(b"truex)"), Ok((b"true", b"x)")));
+    assert_front(&rt, value_at(b"fault"), Err(b"ult"));
     assert_front(&rt, int_at(b"--1"), Err(b"-1"));
 }
 
@@ -333,6 +398,8 @@ fn spellings(rt: HostRuntime) {
     assert_eq!(rt; int_of(b"-9223372036854775808"), Some(i64::MIN));
     assert_eq!(rt; int_of(b"9223372036854775808"), None);
     assert!(rt; value_of(b"7") == Some(Value::Int(7)));
+    assert!(rt; value_of(b"true") == Some(Value::Bool(true)));
+    assert!(rt; value_of(b"false") == Some(Value::Bool(false)));
     assert!(rt; value_of(b"\"a\"") == Str::new(b"a").map(Value::Str));
 }
 
@@ -349,6 +416,9 @@ fn services(rt: HostRuntime) -> Result<(), Fail> {
         answer: Answer::Got(tuple(rt.alloc())?),
     };
     service.write_to(&mut written)?;
-    assert_eq!(rt; written.as_slice(), b"s12 w1.20 in (\"a\", ?int) got (\"a\", 1)".as_slice());
+    assert_eq!(rt;
+        written.as_slice(),
+        b"s12 w1.20 in (\"a\", ?int) got (\"a\", 1)".as_slice()
+    );
     Ok(())
 }

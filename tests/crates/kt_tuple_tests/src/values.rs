@@ -36,10 +36,10 @@ fn assert_strings(rt: &impl Abort, alloc: Global, rows: &[(u8, usize, bool)]) ->
     Ok(())
 }
 
-/// A tuple and a template are made of 1 to 8 places.
+/// A tuple and a template are made of 1 to 16 places.
 #[test]
 fn places(rt: HostRuntime) -> Result<(), Fail> {
-    for (count, is_made) in [(0, false), (1, true), (8, true), (9, false)] {
+    for (count, is_made) in [(0, false), (1, true), (9, true), (16, true), (17, false)] {
         let mut values = Vec::new(rt.alloc());
         let mut places = Vec::new(rt.alloc());
         for _ in 0..count {
@@ -62,13 +62,16 @@ fn places(rt: HostRuntime) -> Result<(), Fail> {
 /// Which values a place admits.
 #[test]
 fn admitted_values(rt: HostRuntime) -> Result<(), Fail> {
-    let template = Template::parse(rt.alloc(), b"(?int, ?str, 1, \"1\")")?;
-    let tuple = Tuple::parse(rt.alloc(), b"(1, -1, \"1\", \"2\")")?;
+    let template = Template::parse(rt.alloc(), b"(?int, ?str, ?bool, 1, \"1\", true, false)")?;
+    let tuple = Tuple::parse(rt.alloc(), b"(1, -1, \"1\", \"true\", true, false)")?;
     let expected = [
-        (Kind::Int, [true, true, false, false]),
-        (Kind::Str, [false, false, true, true]),
-        (Kind::Int, [true, false, false, false]),
-        (Kind::Str, [false, false, true, false]),
+        (Kind::Int, [true, true, false, false, false, false]),
+        (Kind::Str, [false, false, true, true, false, false]),
+        (Kind::Bool, [false, false, false, false, true, true]),
+        (Kind::Int, [true, false, false, false, false, false]),
+        (Kind::Str, [false, false, true, false, false, false]),
+        (Kind::Bool, [false, false, false, false, true, false]),
+        (Kind::Bool, [false, false, false, false, false, true]),
     ];
     for (place, (kind, admitted)) in template.places().iter().zip(expected) {
         assert_eq!(rt; place.kind(), kind);
@@ -83,7 +86,7 @@ fn admitted_values(rt: HostRuntime) -> Result<(), Fail> {
 /// A template, a tuple, and whether they match.
 type Pair = (&'static [u8], &'static [u8], bool);
 
-const PAIRS: [Pair; 10] = [
+const PAIRS: [Pair; 15] = [
     (b"(\"a\", ?int)", b"(\"a\", 1)", true),
     (b"(\"a\", ?int)", b"(\"b\", 1)", false),
     (b"(\"a\", ?int)", b"(\"a\", \"1\")", false),
@@ -94,6 +97,11 @@ const PAIRS: [Pair; 10] = [
     (b"(1)", b"(1)", true),
     (b"(1)", b"(2)", false),
     (b"(1)", b"(\"1\")", false),
+    (b"(true, ?bool)", b"(true, false)", true),
+    (b"(true, ?bool)", b"(false, false)", false),
+    (b"(true, ?bool)", b"(true, 1)", false),
+    (b"(?int)", b"(true)", false),
+    (b"(\"true\")", b"(true)", false),
 ];
 
 #[test]
@@ -125,7 +133,7 @@ fn templates_of_tuples(rt: HostRuntime) -> Result<(), Fail> {
     for text in [
         b"(1)".as_slice(),
         b"(\"\")",
-        b"(1, 1, 1, 1, 1, 1, 1, \"1\")",
+        b"(true, 1, 1, 1, 1, 1, 1, 1, 1, 1, 1, 1, 1, 1, 1, \"1\")",
     ] {
         assert!(rt; is_told_so(rt.alloc(), text)?);
     }
@@ -144,6 +152,9 @@ fn shard_of_signature(rt: HostRuntime) -> Result<(), Fail> {
         (b"(\"a\", 1)".as_slice(), 11, 2),
         (b"(\"a\")", 2, 1),
         (b"(1, 2)", 6, 1),
+        (b"(true)", 3, 2),
+        (b"(true, 1)", 16, 1),
+        (b"(1, false)", 8, 1),
     ] {
         let op = Op::Out(Tuple::parse(rt.alloc(), text)?);
         assert_eq!(rt; op.signature().number(), number, "of {op:?}");
@@ -153,16 +164,19 @@ fn shard_of_signature(rt: HostRuntime) -> Result<(), Fail> {
 }
 
 /// Operations, no two of them equal.
-fn ops(alloc: Global) -> Result<[Op; 7], ParseError> {
+fn ops(alloc: Global) -> Result<[Op; 10], ParseError> {
     let template = || Template::parse(alloc, b"(1)");
     Ok([
         Op::Out(Tuple::parse(alloc, b"(1)")?),
         Op::Out(Tuple::parse(alloc, b"(1, 1)")?),
+        Op::Out(Tuple::parse(alloc, b"(true)")?),
+        Op::Out(Tuple::parse(alloc, b"(false)")?),
         Op::In(template()?),
         Op::Rd(template()?),
         Op::Inp(template()?),
         Op::Rdp(template()?),
         Op::Rdp(Template::parse(alloc, b"(?int)")?),
+        Op::Rdp(Template::parse(alloc, b"(?bool)")?),
     ])
 }
 

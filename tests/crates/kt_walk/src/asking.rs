@@ -12,14 +12,15 @@ const NOT_MADE: Finding = Finding::NotMade("what a script asks");
 /// What was bound, the last behind all others.
 type Bound = Vec<(Name, Value)>;
 
-/// What the name stands for: 0 or the empty text, until it is bound.
+/// What the name stands for: 0, the empty text or false, until it is bound.
 fn meaning(script: &Script, bound: &Bound, name: &Name) -> Result<Value, Finding> {
     if let Some((_, value)) = bound.iter().rev().find(|it| it.0 == *name) {
         return Ok(value.copy());
     }
     match script.kind_of(name) {
+        Some(Kind::Int) | None => Ok(Value::Int(0)),
         Some(Kind::Str) => Ok(Value::Str(Str::new(b"").ok_or(NOT_MADE)?)),
-        _ => Ok(Value::Int(0)),
+        Some(Kind::Bool) => Ok(Value::Bool(false)),
     }
 }
 
@@ -98,7 +99,7 @@ fn assign(
 ) -> Result<(), Finding> {
     let sum = match meaning(script, bound, source)? {
         Value::Int(number) => number.saturating_add(plus),
-        Value::Str(_) => plus,
+        Value::Str(_) | Value::Bool(_) => plus,
     };
     let value = Value::Int(sum);
     bound.push((variable.copy(), value)).ok().ok_or(NOT_MADE)

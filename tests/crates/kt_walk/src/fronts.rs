@@ -8,7 +8,7 @@ use crate::scenes::Game;
 use crate::slowly::{Pasts, acts_survive, are_lines, note_at, standing, survive, surviving};
 use kt_history::{History, Note, space_of};
 use kt_node::Mode;
-use kt_tuple::{NodeId, Tuple};
+use kt_tuple::{ALL_NODES, MAX_WORKERS, NodeId, Tuple};
 use std::alloc::{AllocError, Global};
 
 /// The world's survivors are those of the definitions, one run of a space, in the order of their scripts; and a
@@ -34,13 +34,13 @@ pub fn agrees(alloc: Global, world: &Game, pasts: &Pasts) -> Result<usize, Findi
 
 /// Of each worker the surviving requests are its first ones, in their order.
 fn are_in_order(notes: &[Note], services: &[usize]) -> bool {
-    let mut counts = [0u64; 9];
+    let mut counts = [0u64; MAX_WORKERS as usize + 1];
     services
         .iter()
         .all(|number| is_next(&mut counts, note_at(notes, *number)))
 }
 
-fn is_next(counts: &mut [u64; 9], note: Option<&Note>) -> bool {
+fn is_next(counts: &mut [u64], note: Option<&Note>) -> bool {
     let Some(Note::Act(act)) = note else {
         return false;
     };
@@ -65,9 +65,8 @@ fn leads_to(alloc: Global, history: &History, space: &[Tuple]) -> Result<(), Fin
 /// Whether no node is down or rolls back.
 fn is_steady(world: &Game) -> Result<bool, Finding> {
     let mut is_steady = true;
-    for number in 1..=8u8 {
-        is_steady = is_steady && works(world.mode(NodeId::Worker(number)));
-        is_steady = is_steady && works(world.mode(NodeId::Shard(number)));
+    for node in ALL_NODES {
+        is_steady = is_steady && works(world.mode(node));
     }
     holds(world.is_steady() == is_steady, "whether it is steady")?;
     Ok(is_steady)

@@ -4,10 +4,11 @@ use crate::cast::Cast;
 use crate::draws::Draws;
 use crate::finding::Finding;
 use crate::scripts::command;
-use crate::variables::with_variable;
+use crate::variables::{WITH_VARIABLE, with_variable};
 use kt_core::{Scene, World};
 use kt_script::{Command, Script};
 use kt_store::MemStore;
+use kt_tuple::MAX_WORKERS;
 use std::alloc::Global;
 
 /// A world over a store in memory.
@@ -16,21 +17,29 @@ pub type Game = World<MemStore>;
 /// How many commands are drawn for a worker of a walk.
 const COMMANDS: u32 = 24;
 
-/// How many workers, and how many shards, a walk has at most.
+/// How many workers, and how many shards, a walk has at most, where it has not many workers.
 const MOST: u8 = 3;
 
-/// Tuples of five signatures are put.
-const PUTS: [&str; 6] = [
+/// Where there are many workers, there are more than so many.
+const FEW: u8 = 8;
+
+/// Tuples of nine signatures are put, one of them of as many places as there may be.
+const PUTS: [&str; 11] = [
     "out (\"a\")",
     "out (\"b\")",
     "out (5)",
     "out (\"a\", 1)",
     "out (1, 2)",
     "out (\"a\", \"b\", 1)",
+    "out (true)",
+    "out (false)",
+    "out (true, 1)",
+    "out (1, 2, 3, 4, 5, 6, 7, 8, 9)",
+    "out (1, true, \"c\", 4, false, \"f\", 7, true, \"i\", 10, false, \"l\", 13, true, \"o\", 16)",
 ];
 
 /// Each template matches one of these tuples or two.
-const OTHERS: [&str; 16] = [
+const OTHERS: [&str; 23] = [
     "in (?str)",
     "in (?int)",
     "rd (?str)",
@@ -45,6 +54,13 @@ const OTHERS: [&str; 16] = [
     "rdp (?int)",
     "rdp (\"a\", ?int)",
     "rdp (?int, 2)",
+    "in (?bool)",
+    "rd (?bool)",
+    "inp (false)",
+    "inp (?bool, 1)",
+    "rdp (true, ?int)",
+    "inp (?int, 2, 3, 4, 5, 6, 7, 8, ?int)",
+    "rd (?int, ?bool, \"c\", 4, false, ?str, 7, true, \"i\", 10, ?bool, \"l\", 13, true, \"o\", ?int)",
     "unless 1",
     "unless 2",
 ];
@@ -61,7 +77,7 @@ fn one_of(draws: &mut Draws, texts: &[&'static str]) -> &'static str {
 /// A command; half of them put a tuple, and every sixth has a variable.
 fn random_command(alloc: Global, draws: &mut Draws) -> Result<Command, Finding> {
     match draws.below(6) {
-        0 => with_variable(alloc, draws.below(4)),
+        0 => with_variable(alloc, draws.below(WITH_VARIABLE)),
         1..=3 => command(alloc, one_of(draws, &PUTS)),
         _ => command(alloc, one_of(draws, &OTHERS)),
     }
@@ -79,14 +95,13 @@ fn random_script(alloc: Global, draws: &mut Draws, commands: u32) -> Result<Scri
     Ok(script)
 }
 
-/// A scene of one to so many workers, and of one to so many shards, with so many commands at most for each worker.
+/// A scene of this cast, with so many commands at most for each worker.
 fn random_scene(
     alloc: Global,
     draws: &mut Draws,
-    most: u8,
+    cast: Cast,
     commands: u32,
 ) -> Result<Scene, Finding> {
-    let cast = random_cast(draws, most);
     let mut scripts = Vec::new(alloc);
     for _ in 0..cast.workers {
         scripts.push(random_script(alloc, draws, commands)?)?;
@@ -94,24 +109,38 @@ fn random_scene(
     Scene::new(cast.shards, scripts).ok_or(Finding::NotMade("a scene"))
 }
 
-fn random_cast(draws: &mut Draws, most: u8) -> Cast {
+/// One to so many workers, and one to so many shards.
+fn few(draws: &mut Draws, most: u8) -> Cast {
     let (workers, shards) = (draws.number_to(most), draws.number_to(most));
     Cast { workers, shards }
 }
 
-/// Who takes part in the scene of this seed that has at most so many workers and so many shards.
+/// The same; but a third of them has more than `FEW` workers, up to as many as there may be.
+fn few_or_many(draws: &mut Draws, most: u8) -> Cast {
+    let mut cast = few(draws, most);
+    if draws.below(3) == 0 {
+        cast.workers = FEW.saturating_add(draws.number_to(MAX_WORKERS.saturating_sub(FEW)));
+    }
+    cast
+}
+
+/// Who takes part in the scene of this seed that has at most so many workers and so many shards, or many workers.
 pub fn cast_up_to(most: u8, seed: u64) -> Cast {
-    random_cast(&mut Draws::of(seed), most)
+    few_or_many(&mut Draws::of(seed), most)
 }
 
-/// The scene of this seed that has at most so many workers and so many shards.
+/// The scene of this seed that has at most so many workers and so many shards, or many workers.
 pub fn scene_up_to(alloc: Global, most: u8, seed: u64) -> Result<Scene, Finding> {
-    random_scene(alloc, &mut Draws::of(seed), most, COMMANDS)
+    let mut draws = Draws::of(seed);
+    let cast = few_or_many(&mut draws, most);
+    random_scene(alloc, &mut draws, cast, COMMANDS)
 }
 
-/// The scene of this seed that has at most as many workers and shards as a walk, of so many commands at most.
+/// The scene of this seed that has at most as many workers and shards as a walk with few, of so many commands at most.
 pub fn short_scene_of(alloc: Global, commands: u32, seed: u64) -> Result<Scene, Finding> {
-    random_scene(alloc, &mut Draws::of(seed), MOST, commands)
+    let mut draws = Draws::of(seed);
+    let cast = few(&mut draws, MOST);
+    random_scene(alloc, &mut draws, cast, commands)
 }
 
 /// Who takes part in the walk of this seed.

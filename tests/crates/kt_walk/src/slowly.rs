@@ -3,7 +3,7 @@
 use crate::finding::{Finding, holds};
 use crate::numbers::{MAX_NUMBERS, Numbers};
 use kt_history::{Act, History, Note, What};
-use kt_tuple::{Answer, NodeId, Service};
+use kt_tuple::{ALL_NODES, Answer, NodeId, Service};
 use std::alloc::{AllocError, Global};
 
 /// The node's line after these notes: the numbers of its acts that were not cut off.
@@ -42,9 +42,8 @@ fn last_act(alloc: Global, notes: &[Note], node: NodeId) -> Result<usize, AllocE
 
 /// The history's lines are these.
 pub fn are_lines(alloc: Global, history: &History) -> Result<(), Finding> {
-    for number in 1..=8u8 {
-        is_line(alloc, history, NodeId::Worker(number))?;
-        is_line(alloc, history, NodeId::Shard(number))?;
+    for node in ALL_NODES {
+        is_line(alloc, history, node)?;
     }
     Ok(())
 }
@@ -111,9 +110,8 @@ impl Pasts {
 /// Which acts stand in their nodes' lines in the end.
 pub fn standing(alloc: Global, notes: &[Note]) -> Result<Numbers, AllocError> {
     let mut stands = Numbers::NONE;
-    for number in 1..=8u8 {
-        stands = stands.and(standing_of(alloc, notes, NodeId::Worker(number))?);
-        stands = stands.and(standing_of(alloc, notes, NodeId::Shard(number))?);
+    for node in ALL_NODES {
+        stands = stands.and(standing_of(alloc, notes, node)?);
     }
     Ok(stands)
 }

@@ -1,7 +1,8 @@
 use Rattle.std.specs.Int.{w16, w64, to_be_bytes}
 use Rattle.std.proofs.Common.{◌++◌}
 use Rattle.std.proofs.lemmas.Result.{on_ok_weaker}
-use Rattle.kt_ckpt.specs.State.{flag_bytes, asked_bytes, variables_bytes}
+use Rattle.kt_ckpt.specs.Flag.{flag_bytes}
+use Rattle.kt_ckpt.specs.State.{asked_bytes, variables_bytes}
 use Rattle.kt_ckpt.proofs.Loop.{both_appended}
 use Rattle.kt_ckpt.proofs.worker.push_fields.Goals as goal
 

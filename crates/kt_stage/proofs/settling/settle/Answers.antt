@@ -25,6 +25,9 @@ returns-in_err-step-clause-settles g c =
 pub returns-in_err-step-clause-lasts : goal.returns-in_err-step-clause-lasts
 returns-in_err-step-clause-lasts g c = λ never h. c.next_among.ensures.next.lasts never (c.loop-step.invariant.lasts never h)
 
+pub returns-in_err-step-clause-over : goal.returns-in_err-step-clause-over
+returns-in_err-step-clause-over g c = λ h. not_over c.from_residual.result _ _ c.from_residual.ensures.1
+
 pub returns-in_err-step-clause-counts : goal.returns-in_err-step-clause-counts
 returns-in_err-step-clause-counts g c =
     asked_counted c.from_residual.result c.in_err-step.field-0.0 c.args.world.now.counts c.loop-step.world.counts c.next_among.new.world.counts

@@ -3,7 +3,7 @@ use Rattle.sqlite.specs.Effect.{Database}
 use Rattle.sqlite.specs.State.{HasCleanDisk}
 use Rattle.sqlite.specs.Held.{state}
 use Rattle.kt_tables.specs.Made.{IsMade}
-use Rattle.kt_tables.specs.Opened.{IsVersion1}
+use Rattle.kt_tables.specs.Opened.{IsThisVersion}
 use Rattle.kt_tables.proofs.MadeLemmas.{node_made, board_made, meta_made, meta_put}
 use Rattle.kt_tables.proofs.tables.create_tables.Goals as goal
 
@@ -29,7 +29,7 @@ returns-clause-made g c clean has =
     let made : IsMade (state g.S.Store end) = record {
       is_open = done.is_open;
       settled = record { autocommit = done.mode; same = done.now_is ∙ sym done.committed_is };
-      version = subst IsVersion1 (sym done.now_is) whole.0;
+      version = subst IsThisVersion (sym done.now_is) whole.0;
       nodes = ap (λ (d : Database). d.trees 0) done.now_is ∙ whole.1;
       board = ap (λ (d : Database). d.trees 1) done.now_is ∙ whole.2;
     } in

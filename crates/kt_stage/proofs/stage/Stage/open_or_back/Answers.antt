@@ -20,3 +20,8 @@ invariant_of-desk g c = record {
   counted = c.open-book.ensures.total ∙ sym (ap length c.new-steps.ensures.items);
   owned = ap (are_owned g.L.Naming.opening.state.cast) c.new-steps.ensures.items;
 }
+
+pub invariant_of-stage : goal.invariant_of-stage
+invariant_of-stage g c =
+    let nodes : c.in-Ok.nodes.items ≡ nodes_of c.args.world.state.cast = c.in-Ok.ensures in
+    record { all = nodes ∙ sym (ap (λ (w : Standing). nodes_of w.state.cast) c.requires.opening) }

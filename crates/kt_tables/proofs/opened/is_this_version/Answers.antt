@@ -3,7 +3,7 @@ use Rattle.sqlite.specs.Held.{state}
 use Rattle.kt_tables.specs.Schema.{kt_schema}
 use Rattle.kt_tables.proofs.Texts.{meta_is}
 use Rattle.kt_tables.proofs.OpenedLemmas.{meta_held}
-use Rattle.kt_tables.proofs.opened.is_version_1.Goals as goal
+use Rattle.kt_tables.proofs.opened.is_this_version.Goals as goal
 
 pub ask-requires : goal.ask-requires
 ask-requires g c = meta_is.plain
