@@ -11,3 +11,4 @@ pub mod Acts
 pub mod LineActs
 pub mod Checkpoint
 pub mod Marks
+pub mod inner

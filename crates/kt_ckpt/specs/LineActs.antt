@@ -1,7 +1,7 @@
 -- The acts of a node's line, as its checkpoint holds them: what each act heard is named by node and place, so that the name
 -- holds after the program has stopped.
-use Rattle.std.specs.Prelude.{ℕ, List, map, Option, None, Some}
-use Rattle.std.specs.Option.{option_map}
+use Rattle.std.specs.Prelude.{ℕ, if◌then◌else◌, List, map, Option, None, Some}
+use Rattle.std.specs.List.{list_all}
 use Rattle.kt_tuple.specs.declared.node.NodeId.{NodeId}
 use Rattle.kt_history.specs.declared.note.Act.{Act}
 use Rattle.kt_history.specs.declared.note.Note.{Note}
@@ -9,6 +9,7 @@ use Rattle.kt_history.specs.Line.{note_at}
 use Rattle.kt_history.specs.Place.{place}
 use Rattle.kt_history.specs.Closed.{act_of, acts_in_line}
 use Rattle.kt_ckpt.specs.declared.acts.LineAct.{LineAct}
+use Rattle.kt_ckpt.specs.Acts.{is_act_of}
 
 -- the node of an act that was found, with the act's place
 abbrev pub node_placed : Option Act → Option ℕ → Option (NodeId × ℕ)
@@ -24,3 +25,7 @@ line_act h a = record { by = placed h a.by; worker = a.worker; number = a.number
 
 abbrev pub line_acts : List Note → NodeId → List LineAct
 line_acts h p = map (line_act h) (acts_in_line h p)
+
+-- these acts, where each may stand in the line of p
+abbrev pub fitting : NodeId → List LineAct → Option (List LineAct)
+fitting p acts = if list_all (is_act_of p) acts then Some acts else None

@@ -2,7 +2,7 @@
 
 ghost use Rattle.std.specs.Prelude.{◌≡◌, IfOk};
 
-use crate::acts::LineAct;
+use crate::chain::Acts;
 use crate::marks::Marks;
 use crate::state::State;
 use kt_link::Label;
@@ -14,13 +14,13 @@ use std::sync::Arc;
 /// The checkpoint of a node (Koo and Toueg, "Checkpointing and Rollback-Recovery for Distributed Systems"): what the
 /// node needs to go on from a moment of its past. It has plain fields and no worker or shard, since bytes allow more
 /// than a node can hold. Whether it fits a node is asked where the node is made of it (docs/DECISIONS.md#checkpoints).
-/// It is three shared blocks, its marks, its state and its acts, so that node and store hold one checkpoint in one
-/// place.
+/// Its marks, its state and its acts are shared, so that node and store hold one checkpoint in one place, and the acts
+/// of an older checkpoint stand in one place with those of a newer one.
 #[derive(Debug, Drop)]
 pub struct Ckpt {
     pub(crate) marks: Marks,
     pub(crate) state: Arc<State, Global>,
-    pub(crate) acts: Arc<Vec<LineAct>, Global>,
+    pub(crate) acts: Acts,
 }
 
 impl Model for Ckpt {
@@ -29,14 +29,11 @@ impl Model for Ckpt {
 
     ghost Value = { Checkpoint };
 
-    ghost view = { λ c. made_of c.marks.node c.marks.line_len c.marks.sent c.marks.received (arc_value c.state)
-        (arc_value c.acts).items };
+    ghost view = { λ c. made_of c.marks.node c.marks.line_len c.marks.sent c.marks.received (arc_value c.state) c.acts };
 
     ghost invariant = { λ c.
-        HasCounts (made_of c.marks.node c.marks.line_len c.marks.sent c.marks.received (arc_value c.state)
-        (arc_value c.acts).items)
-        × HasShape (made_of c.marks.node c.marks.line_len c.marks.sent c.marks.received (arc_value c.state)
-        (arc_value c.acts).items) };
+        HasCounts (made_of c.marks.node c.marks.line_len c.marks.sent c.marks.received (arc_value c.state) c.acts)
+        × HasShape (made_of c.marks.node c.marks.line_len c.marks.sent c.marks.received (arc_value c.state) c.acts) };
 }
 
 impl Ckpt {
@@ -56,15 +53,14 @@ impl Ckpt {
         sent: Vec<Label>,
         received: Vec<Label>,
         state: State,
-        acts: Vec<LineAct>,
+        acts: Acts,
     ) -> Result<Ckpt, AllocError>
-        requires counts { HasCounts (made_of node line_len sent.items received.items state acts.items) }
-        requires shape { HasShape (made_of node line_len sent.items received.items state acts.items) }
-        ensures { IfOk result (λ c. c ≡ made_of node line_len sent.items received.items state acts.items) }
+        requires counts { HasCounts (made_of node line_len sent.items received.items state acts) }
+        requires shape { HasShape (made_of node line_len sent.items received.items state acts) }
+        ensures { IfOk result (λ c. c ≡ made_of node line_len sent.items received.items state acts) }
     {
         let marks = Marks::new(alloc, node, line_len, sent, received)?;
         let state = Arc::new(alloc, state)?;
-        let acts = Arc::new(alloc, acts)?;
         Ok(Ckpt { marks, state, acts })
     }
 
@@ -105,7 +101,7 @@ impl Ckpt {
     }
 
     /// The acts of the node's line when it was taken, oldest first.
-    pub fn acts(&self) -> &[LineAct]
+    pub fn acts(&self) -> &Acts
         ensures { result.now ≡ self.now.acts }
     {
         &self.acts
@@ -125,7 +121,7 @@ impl Ckpt {
         Ok(Ckpt {
             marks: self.marks.copy(alloc)?,
             state: Arc::try_clone(&self.state)?,
-            acts: Arc::try_clone(&self.acts)?,
+            acts: self.acts.copy()?,
         })
     }
 }

@@ -10,7 +10,9 @@ ghost use Rattle.kt_ckpt.specs.Marks.{fields_of, marks_at};
 ghost use Rattle.kt_ckpt.specs.Node.{IsNode, node_behind, node_at};
 ghost use Rattle.kt_ckpt.specs.Reading.{Gives};
 
-use crate::acts::{LineAct, acts_at};
+use crate::act_bytes::acts_at;
+use crate::acts::LineAct;
+use crate::chain::Acts;
 use crate::ckpt::Ckpt;
 use crate::error::CkptError;
 use crate::limits::{MAGIC, MAX_PEERS, SHARD, VERSION, WORKER};
@@ -144,6 +146,7 @@ fn ckpt_of(
 {
     let sent = sent_of(alloc, peers)?;
     let received = received_of(alloc, peers)?;
+    let acts = Acts::none().with(alloc, acts)?;
     Ckpt::new(alloc, node, line_len, sent, received, state, acts)
 }
 

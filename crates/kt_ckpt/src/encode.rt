@@ -8,7 +8,8 @@ ghost use Rattle.kt_ckpt.specs.Checkpoint.{state_bytes, made_of};
 ghost use Rattle.kt_ckpt.specs.Limits.{magic, version};
 ghost use Rattle.kt_ckpt.specs.Node.{node_bytes};
 
-use crate::acts::{LineAct, push_acts};
+use crate::act_bytes::push_acts;
+use crate::chain::Acts;
 use crate::ckpt::Ckpt;
 use crate::limits::{MAGIC, SHARD, VERSION, WORKER};
 use crate::numbers::push_u64;
@@ -46,7 +47,7 @@ fn encode_parts(
     sent: &[Label],
     received: &[Label],
     state: &State,
-    acts: &[LineAct],
+    acts: &Acts,
 ) -> Result<Vec<u8>, AllocError>
     requires counts { HasCounts (made_of node line_len sent.now received.now state.now acts.now) }
     requires shape { HasShape (made_of node line_len sent.now received.now state.now acts.now) }
@@ -59,7 +60,7 @@ fn encode_parts(
     push_u64(&mut out, line_len)?;
     push_peers(&mut out, sent, received)?;
     push_state(&mut out, state)?;
-    push_acts(&mut out, acts)?;
+    push_acts(&mut out, &acts.listed(alloc)?)?;
     Ok(out)
 }
 

@@ -9,28 +9,31 @@
 //!   has the codes of the format.
 #![tactic(auto)]
 
+mod act_bytes;
 mod acts;
+mod chain;
 mod ckpt;
 mod decode;
 mod encode;
 mod entry;
 mod error;
 mod limits;
-mod lines;
 mod list;
 mod marks;
 mod numbers;
 mod op;
+mod past;
 mod shard;
 mod state;
 mod tuple;
 mod value;
 mod worker;
 
-pub use acts::LineAct;
+pub use acts::{LineAct, are_acts_of};
+pub use chain::Acts;
 pub use ckpt::Ckpt;
 pub use error::CkptError;
 pub use limits::MAX_PEERS;
-pub use lines::line_acts;
 pub use marks::Marks;
+pub use past::Past;
 pub use state::{ShardState, State, WorkerState};

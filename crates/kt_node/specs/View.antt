@@ -19,7 +19,7 @@ abbrev pub view_of : ViewCode → View
 view_of v = record {
   role = role_view v.role;
   node = v.node.now.node;
-  next = length v.history.now.notes + 1;
-  line_len = length (line v.history.now.notes v.role.id);
-  acts = line_acts v.history.now.notes v.role.id;
+  next = length v.past.now.notes + 1;
+  line_len = length (line v.past.now.notes v.role.id);
+  acts = line_acts v.past.now.notes v.role.id;
 }

@@ -20,7 +20,7 @@ use crate::plan::Plan;
 use crate::reaction::{Reaction, is_in};
 use crate::refusal::Refusal;
 use crate::role::View;
-use crate::stored::{Stored, acts_fit, fits};
+use crate::stored::{Stored, fits};
 use crate::voting::{cast, vote_alone, vote_for};
 use kt_ckpt::Marks;
 use kt_store::Verdict;
@@ -132,10 +132,9 @@ impl View<'_> {
         match reaction {
             Reaction::Says(yes) => Ok(answer_plan(alloc, from, ask, yes)?),
             Reaction::Joins => {
-                let acts = self.acts(alloc)?;
-                if !acts_fit(self.role, &acts) {
+                let Some(acts) = self.acts(alloc)? else {
                     return Err(Refusal::Damaged);
-                }
+                };
                 Ok(self.join_check_plan(alloc, live, from, ask, permanent, acts)?)
             }
         }

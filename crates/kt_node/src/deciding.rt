@@ -18,7 +18,7 @@ use crate::live::Phase;
 use crate::plan::{Outbox, Plan, Write};
 use crate::refusal::Refusal;
 use crate::role::View;
-use crate::stored::{Stored, acts_fit, fits, is_undecided};
+use crate::stored::{Stored, fits, is_undecided};
 use crate::voting::{vote_alone, vote_for};
 use kt_ckpt::Marks;
 use kt_store::Verdict;
@@ -168,10 +168,9 @@ impl View<'_> {
         if !fits(self.role, self.line_len(), permanent) {
             return Err(Refusal::Damaged);
         }
-        let acts = self.acts(alloc)?;
-        if !acts_fit(self.role, &acts) {
+        let Some(acts) = self.acts(alloc)? else {
             return Err(Refusal::Damaged);
-        }
+        };
         Ok(self.begin_check_plan(alloc, live, next, permanent, acts)?)
     }
 

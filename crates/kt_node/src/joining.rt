@@ -27,7 +27,7 @@ use crate::role::{Role, View};
 use crate::saving::checkpoint_of;
 use crate::stored::received_in;
 use crate::voting::{add_vote, cast};
-use kt_ckpt::{LineAct, Marks};
+use kt_ckpt::{Acts, Marks};
 use kt_tuple::NodeId;
 use kt_vote::{Asker, Ballot};
 use std::alloc::{AllocError, Global};
@@ -148,11 +148,11 @@ impl View<'_> {
         live: &Live,
         instance: u64,
         permanent: Option<&Marks>,
-        acts: Vec<LineAct>,
+        acts: Acts,
     ) -> Result<Plan, AllocError>
         requires can { CanSave (view_of self) (live_view live.now) }
-        requires acts { acts.items ≡ (view_of self).acts }
-        requires shape { IsTrue (acts_fit (role_view self.role) acts.items) }
+        requires acts { acts ≡ (view_of self).acts }
+        requires shape { IsTrue (acts_fit (role_view self.role) acts) }
         ensures { IfOk result (λ p. p ≡
             begin_check_plan (view_of self.entry) (live_view live.now) instance (option_copied permanent.entry)) }
     {
@@ -171,11 +171,11 @@ impl View<'_> {
         from: NodeId,
         ask: Ask,
         permanent: Option<&Marks>,
-        acts: Vec<LineAct>,
+        acts: Acts,
     ) -> Result<Plan, AllocError>
         requires can { CanSave (view_of self) (live_view live.now) }
-        requires acts { acts.items ≡ (view_of self).acts }
-        requires shape { IsTrue (acts_fit (role_view self.role) acts.items) }
+        requires acts { acts ≡ (view_of self).acts }
+        requires shape { IsTrue (acts_fit (role_view self.role) acts) }
         ensures { IfOk result (λ p. p ≡
             join_check_plan (view_of self.entry) (live_view live.now) from ask (option_copied permanent.entry)) }
     {

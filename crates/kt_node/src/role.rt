@@ -3,8 +3,7 @@
 ghost use Rattle.std.specs.Prelude.{◌≡◌, IfOk};
 
 use crate::node::Node;
-use kt_ckpt::{LineAct, line_acts};
-use kt_history::History;
+use kt_ckpt::{Acts, Past};
 use kt_script::Script;
 use kt_tuple::NodeId;
 use std::alloc::{AllocError, Global};
@@ -27,31 +26,33 @@ pub struct View<'a> {
     pub role: Role<'a>,
     /// The owner as it is before the step, down or not.
     pub node: &'a Node,
-    /// What all nodes did so far, the owner among them.
-    pub history: &'a History,
+    /// What happened so far, to all nodes.
+    pub past: &'a Past,
 }
 
 impl View<'_> {
+    ghost use Rattle.kt_ckpt.specs.LineActs.{fitting};
     ghost use Rattle.kt_node.specs.View.{view_of};
 
     /// The number that the next note will have, counted from 1.
     pub(crate) fn next(self) -> u64
         ensures { result ≡ (view_of self.entry).next }
     {
-        self.history.notes().len() as u64 + 1
+        self.past.history().notes().len() as u64 + 1
     }
 
     /// How many acts the owner remembers.
     pub(crate) fn line_len(self) -> u64
         ensures { result ≡ (view_of self.entry).line_len }
     {
-        self.history.line(self.role.id).len() as u64
+        self.past.history().line(self.role.id).len() as u64
     }
 
-    /// The acts that the owner remembers, as a checkpoint holds them.
-    pub(crate) fn acts(self, alloc: Global) -> Result<Vec<LineAct>, AllocError>
-        ensures { IfOk result (λ v. v.items ≡ (view_of self.entry).acts) }
+    /// The acts that the owner remembers, as a checkpoint holds them; `None` where one of them may not stand in its
+    /// line. While the store is honest each may.
+    pub(crate) fn acts(self, alloc: Global) -> Result<Option<Acts>, AllocError>
+        ensures { IfOk result (λ found. found ≡ fitting self.entry.role.id (view_of self.entry).acts) }
     {
-        line_acts(alloc, self.history, self.role.id)
+        self.past.acts(alloc, self.role.id)
     }
 }

@@ -12,7 +12,7 @@ ghost use Rattle.kt_node.specs.inner.Codes.{body_view, live_view};
 
 use crate::live::{Body, Live};
 use crate::role::Role;
-use kt_ckpt::{Ckpt, LineAct, ShardState, State, WorkerState};
+use kt_ckpt::{Acts, Ckpt, ShardState, State, WorkerState};
 use kt_link::Label;
 use kt_shard::{Kept, Request, Shard};
 use kt_tuple::{MAX_WORKERS, Op, Value, copy_values};
@@ -25,11 +25,11 @@ pub(crate) fn checkpoint_of(
     role: Role<'_>,
     live: &Live,
     line_len: u64,
-    acts: Vec<LineAct>,
+    acts: Acts,
 ) -> Result<Ckpt, AllocError>
-    requires counts { HasCounts (checkpoint_of (role_view role) (live_view live.now) line_len acts.items) }
-    requires shape { IsTrue (acts_fit (role_view role) acts.items) }
-    ensures { IfOk result (λ c. c ≡ checkpoint_of (role_view role.entry) (live_view live.now) line_len acts.items) }
+    requires counts { HasCounts (checkpoint_of (role_view role) (live_view live.now) line_len acts) }
+    requires shape { IsTrue (acts_fit (role_view role) acts) }
+    ensures { IfOk result (λ c. c ≡ checkpoint_of (role_view role.entry) (live_view live.now) line_len acts) }
 {
     let sent = listed(alloc, role.peers, &live.sent)?;
     let received = listed(alloc, role.peers, &live.received)?;

@@ -3,13 +3,13 @@
 ghost use Rattle.std.specs.Prelude.{◌≡◌};
 ghost use Rattle.std.specs.Option.{option_copied};
 ghost use Rattle.kt_node.specs.Node.{node_number};
-ghost use Rattle.kt_node.specs.Stored.{acts_fit, acts_in, fits, is_undecided, marks_fit, received_in, sent_in};
+ghost use Rattle.kt_node.specs.Stored.{acts_in, fits, is_undecided, marks_fit, received_in, sent_in};
 ghost use Rattle.kt_node.specs.Loading.{marks_in};
 ghost use Rattle.kt_node.specs.Views.{role_view};
 
 use crate::labels::listed_at;
 use crate::role::Role;
-use kt_ckpt::{Ckpt, LineAct, Marks};
+use kt_ckpt::{Ckpt, Marks};
 use kt_link::Label;
 use kt_store::Verdict;
 use kt_tuple::NodeId;
@@ -70,13 +70,6 @@ pub(crate) fn acts_in(stored: Option<&Marks>) -> u64
         None => 0,
         Some(marks) => marks.line_len(),
     }
-}
-
-/// Whether each act may stand in the line of the node. While the store is honest they always do.
-pub(crate) fn acts_fit(role: Role<'_>, acts: &[LineAct]) -> bool
-    ensures { result ≡ acts_fit (role_view role.entry) acts.now }
-{
-    acts.iter().all(|act| act.may_be_of(role.id))
 }
 
 /// The last label that the checkpoint has sent to the node, `(0, 0)` where there is none.

@@ -2,7 +2,7 @@ use Rattle.std.proofs.Common.{◌≡◌, ◌++◌, take}
 use Rattle.std.specs.Prelude.{All}
 use Rattle.std.specs.List.{flat_map}
 use Rattle.kt_ckpt.specs.Acts.{IsSpelledAct, act_bytes}
-use Rattle.kt_ckpt.proofs.acts.push_acts.Given as goal
+use Rattle.kt_ckpt.proofs.act_bytes.push_acts.Given as goal
 
 abbrev pub invariant-loop-act : goal.invariant-loop-act
 invariant-loop-act l = record {

@@ -5,7 +5,7 @@ use Rattle.kt_ckpt.specs.Reading.{list_at}
 use Rattle.kt_ckpt.specs.Acts.{act_at}
 use Rattle.kt_ckpt.proofs.Loop.{goes_on, ends, is_done}
 use Rattle.kt_ckpt.proofs.ActFields.{shaped}
-use Rattle.kt_ckpt.proofs.acts.acts_at.Goals as goal
+use Rattle.kt_ckpt.proofs.act_bytes.acts_at.Goals as goal
 
 pub returns-in_err-act-clause-value : goal.returns-in_err-act-clause-value
 returns-in_err-act-clause-value c =

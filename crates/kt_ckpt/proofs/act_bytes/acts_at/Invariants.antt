@@ -2,7 +2,7 @@ use Rattle.std.proofs.Common.{◌≡◌, ◌-◌, length}
 use Rattle.kt_ckpt.specs.Reading.{list_at}
 use Rattle.kt_ckpt.specs.Acts.{act_at}
 use Rattle.kt_ckpt.proofs.Loop.{with_front}
-use Rattle.kt_ckpt.proofs.acts.acts_at.Given as goal
+use Rattle.kt_ckpt.proofs.act_bytes.acts_at.Given as goal
 
 abbrev pub invariant-loop : goal.invariant-loop
 invariant-loop l = record {

@@ -2,7 +2,7 @@ use Rattle.std.proofs.Common.{subst}
 use Rattle.std.proofs.lemmas.List.Elements.{All-more}
 use Rattle.kt_ckpt.specs.Acts.{IsSpelledAct, act_bytes}
 use Rattle.kt_ckpt.proofs.Loop.{appended}
-use Rattle.kt_ckpt.proofs.acts.push_acts.Goals as goal
+use Rattle.kt_ckpt.proofs.act_bytes.push_acts.Goals as goal
 
 pub loop-act-preserved : goal.loop-act-preserved
 loop-act-preserved c = record {

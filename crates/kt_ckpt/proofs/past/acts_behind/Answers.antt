@@ -1,8 +1,8 @@
 use Rattle.std.proofs.Common.{sym, ap, refl, ◌∙◌}
 use Rattle.std.specs.Option.{option_copied}
 use Rattle.kt_ckpt.proofs.TakenLines.{act_more, none_more}
-use Rattle.kt_ckpt.proofs.lines.line_acts.Goals as goal
-use Rattle.kt_ckpt.proofs.lines.line_acts.Goals.{in-Some+in_ok-line_act+in_ok-push, in_default}
+use Rattle.kt_ckpt.proofs.past.acts_behind.Goals as goal
+use Rattle.kt_ckpt.proofs.past.acts_behind.Goals.{in-Some+in_ok-line_act+in_ok-push, in_default}
 
 pub loop-number-preserved : goal.loop-number-preserved
 loop-number-preserved c = elim c.match-act.branch [
