@@ -1,7 +1,7 @@
 //! The acts of a line, shared.
 
-ghost use Rattle.std.specs.Prelude.{◌≡◌, ◌+◌, ◌<◌, ◌^◌, ◌++◌, [], ℕ, IfOk, OnOk, IsTrue, ◌↔◌, length, map, take};
-ghost use Rattle.std.specs.Prelude.{reverse};
+ghost use Rattle.std.specs.Prelude.{◌≡◌, ◌+◌, ◌-◌, ◌<◌, ◌≤◌, ◌^◌, ◌++◌, [], ℕ, IfOk, OnOk, IsTrue};
+ghost use Rattle.std.specs.Prelude.{◌↔◌, length, map, reverse, take};
 ghost use Rattle.kt_ckpt.specs.inner.Chain.{IsChain, in_blocks};
 
 use crate::acts::LineAct;
@@ -54,12 +54,24 @@ impl Model for Acts {
     ghost size_decreases = { λ a h. Prim.grind (arith, length-append, length-take-le) };
 }
 
-/// It says how many there are and shows none of them: to show a block one would have to show those before it first,
-/// and there may be one for each checkpoint.
+/// The newest act comes first, since a block leads to the one before it. That there are blocks is not to be seen.
 impl fmt::Debug for Acts {
     fn fmt<W: fmt::Write>(&self, f: &mut fmt::Formatter<W>) -> fmt::Result {
-        write!(f, "Acts({})", self.len)
+        write!(f, "{} acts", self.len)?;
+        let mut acts = self;
+        while let Link::Last(block) = &acts.last {
+            show_newest_first(f, own(acts.len, block))?;
+            acts = &block.older;
+        }
+        Ok(())
     }
+}
+
+fn show_newest_first<W: fmt::Write>(f: &mut fmt::Formatter<W>, acts: &[LineAct]) -> fmt::Result {
+    for act in acts.iter().rev() {
+        write!(f, ", {act:?}")?;
+    }
+    Ok(())
 }
 
 /// A loop and no recursion: there may be a block for each checkpoint, and a call for each of them would run out of the
@@ -92,6 +104,15 @@ impl Link {
             Link::Last(block) => Ok(Link::Last(Arc::try_clone(block)?)),
         }
     }
+}
+
+/// The block's own acts, where it ends so many.
+fn own(len: u64, block: &Block) -> &[LineAct]
+    requires older { length block.now.older ≤ len }
+    requires held { len ≤ length block.now.older + length block.now.acts.items }
+    ensures { result.now ≡ take (len - length block.now.older) block.now.acts.items }
+{
+    &block.acts[..(len - block.older.len) as usize]
 }
 
 /// So many of the acts of the block and of those before it.
@@ -176,8 +197,7 @@ impl Acts {
         let mut listed = Vec::with_capacity(alloc, self.len as usize)?;
         let mut acts = self;
         while let Link::Last(block) = &acts.last {
-            let own = (acts.len - block.older.len) as usize;
-            push_newest_first(&mut listed, &block.acts[..own])?;
+            push_newest_first(&mut listed, own(acts.len, block))?;
             acts = &block.older;
         }
         listed.reverse();

@@ -2,9 +2,9 @@
 
 ghost use Rattle.std.specs.Prelude.{◌≡◌, ◌++◌, ◌∷◌, [], All, IfOk, OnOk, Ok, length};
 ghost use Rattle.std.specs.List.{flat_map, zip};
-ghost use Rattle.kt_ckpt.specs.Checkpoint.{IsCheckpoint, HasCounts, HasShape, IsCountedState, IsLabel, IsState, ArePeers};
+ghost use Rattle.kt_ckpt.specs.Checkpoint.{ArePeers, HasCounts, HasShape, IsCheckpoint, IsCountedState, IsLabel};
 ghost use Rattle.kt_ckpt.specs.Checkpoint.{spelling, read, label_bytes, peer_bytes, peers_bytes};
-ghost use Rattle.kt_ckpt.specs.Checkpoint.{state_bytes, made_of};
+ghost use Rattle.kt_ckpt.specs.Checkpoint.{IsState, made_of, state_bytes};
 ghost use Rattle.kt_ckpt.specs.Limits.{magic, version};
 ghost use Rattle.kt_ckpt.specs.Node.{node_bytes};
 
@@ -51,7 +51,8 @@ fn encode_parts(
 ) -> Result<Vec<u8>, AllocError>
     requires counts { HasCounts (made_of node line_len sent.now received.now state.now acts.now) }
     requires shape { HasShape (made_of node line_len sent.now received.now state.now acts.now) }
-    ensures value { IfOk result (λ v. v.items ≡ spelling (made_of node line_len sent.now received.now state.now acts.now)) }
+    ensures value { IfOk result (λ v.
+        v.items ≡ spelling (made_of node line_len sent.now received.now state.now acts.now)) }
     ensures held { OnOk result (IsCheckpoint (made_of node line_len sent.now received.now state.now acts.now)) }
 {
     let mut out = Vec::new(alloc);

@@ -144,8 +144,8 @@ impl Past {
         self.history.add(note);
     }
 
-    /// Gathers the acts of the node's line, so that `acts` has them at hand. It costs what came since they were gathered
-    /// last, and shows nowhere else. Where memory is wanting nothing is gathered.
+    /// Gathers the acts of the node's line, so that `acts` has them at hand. It costs what came since the last time, and
+    /// shows nowhere else. Where memory is wanting nothing is gathered.
     pub fn gather(&mut self, alloc: Global, node: NodeId) -> Result<(), AllocError>
         ensures { self.new ≡ self.old }
     {

@@ -158,8 +158,8 @@ fn other_version(rt: HostRuntime) {
 }
 
 /// How many of the changed bytes are read was worked out by hand: numbers that count nothing, characters, and what is
-/// one of few. In an act these are what was done, where another act has the same parts, the place of what was heard, and
-/// of a worker's acts the shard that sent it.
+/// one of few. Of an act that is what was done, where another has the same parts, the place of what was heard, and of a
+/// worker's act the shard that sent it.
 #[test]
 fn changed_bytes(rt: HostRuntime) -> Result<(), Fail> {
     assert_eq!(rt; changed(&rt, rt.alloc(), &FIRST_WORKER)?, (10_304, 20_806));
