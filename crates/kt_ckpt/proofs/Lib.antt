@@ -11,5 +11,6 @@ pub mod Front
 pub mod Nodes
 pub mod Peers
 pub mod Checkpoints
+pub mod Chains
 pub mod TakenLines
 pub mod Shared
