@@ -1,7 +1,8 @@
 //! How a node begins to vote in an instance.
 
-ghost use Rattle.std.specs.Prelude.{◌≡◌, ◌++◌, IfOk, IsTrue, None, Some, filter};
+ghost use Rattle.std.specs.Prelude.{◌≡◌, ◌++◌, All, IfOk, None, Some, filter};
 ghost use Rattle.std.specs.Option.{option_copied};
+ghost use Rattle.kt_ckpt.specs.Acts.{IsActOf};
 ghost use Rattle.kt_vote.specs.Order.{IsInOrder};
 ghost use Rattle.kt_vote.specs.Poll.{asking_poll};
 ghost use Rattle.kt_node.specs.Node.{across, neighbours};
@@ -9,7 +10,6 @@ ghost use Rattle.kt_node.specs.View.{view_of};
 ghost use Rattle.kt_node.specs.Views.{role_view};
 ghost use Rattle.kt_node.specs.inner.Codes.{live_view};
 ghost use Rattle.kt_node.specs.Saving.{CanSave};
-ghost use Rattle.kt_node.specs.Stored.{acts_fit};
 ghost use Rattle.kt_node.specs.Joining.{asker_of, begin_check_plan, cohort, is_in_cohort};
 ghost use Rattle.kt_node.specs.inner.Between.{held_ballot};
 ghost use Rattle.kt_node.specs.Joining.{join_check_plan, join_rollback_plan, rolling_plan};
@@ -152,7 +152,7 @@ impl View<'_> {
     ) -> Result<Plan, AllocError>
         requires can { CanSave (view_of self) (live_view live.now) }
         requires acts { acts ≡ (view_of self).acts }
-        requires shape { IsTrue (acts_fit (role_view self.role) acts) }
+        requires shape { All (IsActOf self.role.id) acts }
         ensures { IfOk result (λ p. p ≡
             begin_check_plan (view_of self.entry) (live_view live.now) instance (option_copied permanent.entry)) }
     {
@@ -175,7 +175,7 @@ impl View<'_> {
     ) -> Result<Plan, AllocError>
         requires can { CanSave (view_of self) (live_view live.now) }
         requires acts { acts ≡ (view_of self).acts }
-        requires shape { IsTrue (acts_fit (role_view self.role) acts) }
+        requires shape { All (IsActOf self.role.id) acts }
         ensures { IfOk result (λ p. p ≡
             join_check_plan (view_of self.entry) (live_view live.now) from ask (option_copied permanent.entry)) }
     {

@@ -1,6 +1,6 @@
 //! Who makes a step, and what it sees.
 
-ghost use Rattle.std.specs.Prelude.{◌≡◌, IfOk};
+ghost use Rattle.std.specs.Prelude.{◌≡◌, All, IfOk, IfSome};
 
 use crate::node::Node;
 use kt_ckpt::{Acts, Past};
@@ -31,6 +31,7 @@ pub struct View<'a> {
 }
 
 impl View<'_> {
+    ghost use Rattle.kt_ckpt.specs.Acts.{IsActOf};
     ghost use Rattle.kt_ckpt.specs.LineActs.{fitting};
     ghost use Rattle.kt_node.specs.View.{view_of};
 
@@ -51,7 +52,8 @@ impl View<'_> {
     /// The acts that the owner remembers, as a checkpoint holds them; `None` where one of them may not stand in its
     /// line. While the store is honest each may.
     pub(crate) fn acts(self, alloc: Global) -> Result<Option<Acts>, AllocError>
-        ensures { IfOk result (λ found. found ≡ fitting self.entry.role.id (view_of self.entry).acts) }
+        ensures acts { IfOk result (λ found. found ≡ fitting self.entry.role.id (view_of self.entry).acts) }
+        ensures shape { IfOk result (λ found. IfSome found (All (IsActOf self.entry.role.id))) }
     {
         self.past.acts(alloc, self.role.id)
     }

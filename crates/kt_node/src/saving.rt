@@ -1,12 +1,12 @@
 //! The checkpoint of a moment.
 
-ghost use Rattle.std.specs.Prelude.{◌≡◌, ◌≤◌, ◌++◌, IfOk, OnOk, IsTrue};
+ghost use Rattle.std.specs.Prelude.{◌≡◌, ◌≤◌, ◌++◌, All, IfOk, OnOk};
+ghost use Rattle.kt_ckpt.specs.Acts.{IsActOf};
 ghost use Rattle.kt_ckpt.specs.Checkpoint.{HasCounts, IsCountedState};
 ghost use Rattle.kt_script.specs.declared.script.TheConstants.{MAX_COMMANDS};
 ghost use Rattle.kt_shard.specs.Shard.{desk_of};
 ghost use Rattle.kt_node.specs.Labels.{listed};
 ghost use Rattle.kt_node.specs.State.{body_fields, checkpoint_of, entries, entry, shard_fields, worker_fields};
-ghost use Rattle.kt_node.specs.Stored.{acts_fit};
 ghost use Rattle.kt_node.specs.Views.{role_view};
 ghost use Rattle.kt_node.specs.inner.Codes.{body_view, live_view};
 
@@ -28,7 +28,7 @@ pub(crate) fn checkpoint_of(
     acts: Acts,
 ) -> Result<Ckpt, AllocError>
     requires counts { HasCounts (checkpoint_of (role_view role) (live_view live.now) line_len acts) }
-    requires shape { IsTrue (acts_fit (role_view role) acts) }
+    requires shape { All (IsActOf role.id) acts }
     ensures { IfOk result (λ c. c ≡ checkpoint_of (role_view role.entry) (live_view live.now) line_len acts) }
 {
     let sent = listed(alloc, role.peers, &live.sent)?;
