@@ -13,4 +13,6 @@ pub mod Peers
 pub mod Checkpoints
 pub mod Chains
 pub mod TakenLines
+pub mod NotedLines
+pub mod Gatherings
 pub mod Shared

@@ -1,13 +1,15 @@
 //! The history, with the acts of each node at hand for its next checkpoint.
 
-ghost use Rattle.std.specs.Prelude.{◌≡◌, ◌≤◌, ◌∷◌, ◌++◌, [], All, IfOk, IfSome, OnOk, drop, length};
+ghost use Rattle.std.specs.Prelude.{◌≡◌, ◌≤◌, ◌∷◌, ◌++◌, [], All, IfOk, IfSome, OnOk, drop, length, map};
 ghost use Rattle.kt_tuple.specs.declared.node.NodeId.{NodeId as Name};
+ghost use Rattle.kt_history.specs.declared.note.Note.TheVariants as notes;
 ghost use Rattle.kt_history.specs.Chronicle.{node_of, room_of};
+ghost use Rattle.kt_history.specs.Closed.{acts_at};
 ghost use Rattle.kt_history.specs.Line.{line};
 ghost use Rattle.kt_history.specs.WellFormed.{MayFollow};
 ghost use Rattle.kt_ckpt.specs.Acts.{IsActOf};
 ghost use Rattle.kt_ckpt.specs.LineActs.{fitting, line_act, line_acts, placed};
-ghost use Rattle.kt_ckpt.specs.inner.Gathered.{IsGathered, IsKept, IsPut, row};
+ghost use Rattle.kt_ckpt.specs.inner.Gathered.{IsGathered, IsLeft, IsPut, row};
 
 use crate::acts::{LineAct, are_acts_of};
 use crate::chain::Acts;
@@ -31,11 +33,11 @@ impl Model for Past {
 
     ghost Value = { Chronicle };
 
-    ghost use Rattle.kt_ckpt.specs.inner.Gathered.{AreGathered};
+    ghost use Rattle.kt_ckpt.specs.inner.Gathered.{IsPast};
 
     ghost view = { λ p. p.history };
 
-    ghost invariant = { λ p. AreGathered p.history.notes p.gathered.items };
+    ghost invariant = { λ p. IsPast p.history.notes p.gathered.items };
 }
 
 /// The act of this number by its node and its place in that node's line; none where the number names no act.
@@ -61,7 +63,25 @@ fn line_act(alloc: Global, history: &History, act: &Act) -> Result<LineAct, Allo
     })
 }
 
+/// The acts of these numbers.
+fn acts_of(
+    alloc: Global,
+    history: &History,
+    numbers: &[u64],
+) -> Result<Vec<LineAct>, AllocError>
+    ensures { IfOk result (λ v. v.items ≡ map (line_act history.now.notes) (acts_at history.now.notes numbers.now)) }
+{
+    let mut acts = Vec::with_capacity(alloc, numbers.len())?;
+    for number in numbers {
+        if let Some(act) = history.act(*number) {
+            acts.push(line_act(alloc, history, act)?)?;
+        }
+    }
+    Ok(acts)
+}
+
 /// The acts of the node's line behind the first so many, oldest first.
+#[tactic(auto, using(crate::proofs::NotedLines::acts_behind))]
 fn acts_behind(
     alloc: Global,
     history: &History,
@@ -71,14 +91,7 @@ fn acts_behind(
     requires { first ≤ length (line history.now.notes node) }
     ensures { IfOk result (λ v. v.items ≡ drop first (line_acts history.now.notes node)) }
 {
-    let line = &history.line(node)[first as usize..];
-    let mut acts = Vec::with_capacity(alloc, line.len())?;
-    for number in line {
-        if let Some(act) = history.act(*number) {
-            acts.push(line_act(alloc, history, act)?)?;
-        }
-    }
-    Ok(acts)
+    acts_of(alloc, history, &history.line(node)[first as usize..])
 }
 
 /// Puts these acts into the row of the node, and makes empty rows up to it where there are too few.
@@ -95,7 +108,7 @@ fn put(gathered: &mut Vec<Acts>, node: NodeId, acts: Acts) -> Result<(), AllocEr
 
 /// At most the first so many of the acts in the row of the node stay.
 fn keep_first(gathered: &mut Vec<Acts>, node: NodeId, keep: u64)
-    ensures { (p : Name) → IsKept node keep (row gathered.old.items p) p (row gathered.new.items p) }
+    ensures { (p : Name) → IsLeft (notes.Cut node keep) (row gathered.old.items p) p (row gathered.new.items p) }
 {
     if let Some(acts) = gathered.get_mut(node.index()) {
         // To share a block takes no memory. Should it be refused all the same, they are made again when asked for.
@@ -103,6 +116,16 @@ fn keep_first(gathered: &mut Vec<Acts>, node: NodeId, keep: u64)
             Ok(kept) => kept,
             Err(_) => Acts::none(),
         };
+    }
+}
+
+/// What the note gives up goes from the row of its node too.
+fn give_up(gathered: &mut Vec<Acts>, note: &Note)
+    ensures { (p : Name) → IsLeft note.now (row gathered.old.items p) p (row gathered.new.items p) }
+{
+    match note {
+        Note::Act(_) => {}
+        Note::Cut { node, keep } => keep_first(gathered, *node, *keep),
     }
 }
 
@@ -138,9 +161,7 @@ impl Past {
         requires room { 1 ≤ room_of self.old (node_of note) }
         ensures { self.new.notes ≡ self.old.notes ++ note ∷ [] }
     {
-        if let Note::Cut { node, keep } = &note {
-            keep_first(&mut self.gathered, *node, *keep);
-        }
+        give_up(&mut self.gathered, &note);
         self.history.add(note);
     }
 

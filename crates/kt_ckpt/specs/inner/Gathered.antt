@@ -2,7 +2,10 @@
 use Rattle.std.specs.Prelude.{◌≡◌, ◌⊎◌, ℕ, ◌≤◌, List, [], length, take, All, slice_index_or}
 use Rattle.kt_tuple.specs.declared.node.NodeId.{NodeId}
 use Rattle.kt_tuple.specs.Node.{node_index}
+use Rattle.kt_history.specs.declared.note.Act.{Act}
 use Rattle.kt_history.specs.declared.note.Note.{Note}
+use Rattle.kt_history.specs.declared.note.Note.TheVariants as notes
+use Rattle.kt_history.specs.WellFormed.{CausesComeFirst}
 use Rattle.kt_ckpt.specs.declared.acts.LineAct.{LineAct}
 use Rattle.kt_ckpt.specs.Acts.{IsActOf}
 use Rattle.kt_ckpt.specs.LineActs.{line_acts}
@@ -16,15 +19,22 @@ pub record IsGathered (h : List Note) (p : NodeId) (acts : List LineAct) : Type 
 abbrev pub row : List (List LineAct) → NodeId → List LineAct
 row rows p = slice_index_or rows (node_index p) []
 
-abbrev pub AreGathered : List Note → List (List LineAct) → Type 0
-AreGathered h rows = (p : NodeId) → IsGathered h p (row rows p)
+-- what stands beside a history is of it
+pub record IsPast (h : List Note) (rows : List (List LineAct)) : Type 0 where
+  pub causes : CausesComeFirst h
+  pub gathered : (p : NodeId) → IsGathered h p (row rows p)
 
 -- the row of the node has these acts, and each other is as it was, or each is
 abbrev pub IsPut : NodeId → List LineAct → List LineAct → NodeId → List LineAct → Type 0
 IsPut node acts old p new = (new ≡ old) ⊎ ((p ≡ node) × (new ≡ acts))
 
--- the row of the node has at most so many of its first acts left, and each other is as it was
-pub record IsKept (node : NodeId) (keep : ℕ) (old : List LineAct) (p : NodeId) (new : List LineAct) : Type 0 where
+-- the note leaves so many acts in the line of p, where it cuts that
+abbrev pub Leaves : Note → NodeId → ℕ → Type 0
+Leaves (notes.Act a) p left = Unit {0}
+Leaves (notes.Cut node keep) p left = p ≡ node → left ≤ keep
+
+-- of the row of a node first acts are left, no more than the note leaves of its line
+pub record IsLeft (note : Note) (old : List LineAct) (p : NodeId) (new : List LineAct) : Type 0 where
   pub left : ℕ
   pub first : new ≡ take left old
-  pub few : p ≡ node → left ≤ keep
+  pub few : Leaves note p (length new)
