@@ -1,14 +1,16 @@
 -- What is gathered of a line stays of it, and is what a checkpoint holds.
-use Rattle.std.proofs.Common.{◌≡◌, ℕ, zero, suc, ◌≤◌, Bool, true, false, ◌&&◌, if◌then◌else◌, List, [], ◌∷◌, ◌++◌, take, drop, length}
+use Rattle.std.proofs.Common.{◌≡◌, ℕ, zero, suc, ◌≤◌, Bool, true, false, ◌&&◌, if◌then◌else◌, List, [], ◌∷◌, ◌++◌, take, drop, length, get_or, set, ◌<◌}
 use Rattle.std.proofs.Common.{Option, Some, None, inl, inr, refl, sym, ap, ◌∙◌, subst, arith, length-append}
 use Rattle.std.specs.Prelude.{All}
 use Rattle.std.specs.List.{list_all}
-use Rattle.std.proofs.lemmas.Bool.{cases_Bool}
-use Rattle.std.proofs.lemmas.List.{length-take, take-append-drop}
+use Rattle.std.proofs.lemmas.Bool.{cases_Bool, cases_eq}
+use Rattle.std.proofs.lemmas.List.{length-take, take-append-drop, get_or-set_same, get_or-set_other, get_or_default, get_or_past}
 use Rattle.std.proofs.lemmas.List.Folds.{list_all-append}
 use Rattle.std.proofs.lemmas.List.Sums.{list_all-from_AllPass}
 use Rattle.std.proofs.lemmas.List.Elements.{All-append, All-same, All-take}
 use Rattle.kt_tuple.specs.declared.node.NodeId.{NodeId}
+use Rattle.kt_tuple.specs.Node.{node_index}
+use Rattle.kt_tuple.proofs.Shared.{node_index-injective}
 use Rattle.kt_history.specs.declared.note.Act.{Act}
 use Rattle.kt_history.specs.declared.note.Note.{Note}
 use Rattle.kt_history.specs.declared.note.Note.TheVariants as notes
@@ -19,7 +21,7 @@ use Rattle.kt_history.proofs.Shared.{acts_in_line-own_act, acts_in_line-own_cut,
 use Rattle.kt_ckpt.specs.declared.acts.LineAct.{LineAct}
 use Rattle.kt_ckpt.specs.Acts.{IsActOf, is_act_of}
 use Rattle.kt_ckpt.specs.LineActs.{fitting, line_acts}
-use Rattle.kt_ckpt.specs.inner.Gathered.{IsGathered, IsLeft, Leaves}
+use Rattle.kt_ckpt.specs.inner.Gathered.{IsGathered, IsLeft, IsPut, Leaves, row}
 use Rattle.kt_ckpt.proofs.NotedLines.{acts-long, front-noted, line-long, take-whole}
 
 -- no more is gathered than the line has
@@ -118,3 +120,60 @@ fitting-none p acts e = none-if (list_all (is_act_of p) acts) acts e
 
 pub fitting-some : (p : NodeId) (acts given : List LineAct) → Some given ≡ fitting p acts → (list_all (is_act_of p) acts ≡ true) × (given ≡ acts)
 fitting-some p acts given e = some-if (list_all (is_act_of p) acts) acts given e
+
+-- ---- rows
+
+-- the row of the node gets these acts, and no other changes
+pub put-row : (rows : List (List LineAct)) (node : NodeId) (i : ℕ) (acts : List LineAct) → i ≡ node_index node → i < length rows → (p : NodeId)
+    → IsPut node acts (row rows p) p (row (set rows i acts) p)
+put-row rows node i acts at lt p = elim (cases_eq (node_index p) i) [
+  | inl here ↦
+      inr (node_index-injective p node (here ∙ at), ap (λ (j : ℕ). get_or (set rows i acts) j []) here ∙ get_or-set_same rows i acts [] lt)
+  | inr other ↦ inl (get_or-set_other rows i (node_index p) acts [] other)
+]
+
+-- the first acts of the row of the node stay, or none, and no other row changes
+pub left-row : (rows : List (List LineAct)) (node : NodeId) (keep i : ℕ) (old new : List LineAct) → i ≡ node_index node → i < length rows
+    → old ≡ get_or rows i old → (new ≡ take keep old) ⊎ (new ≡ []) → (p : NodeId) → IsLeft (notes.Cut node keep) (row rows p) p (row (set rows i new) p)
+left-row rows node keep i old new at lt is made p = elim (cases_eq (node_index p) i) [
+  | inl here ↦
+      let now : row (set rows i new) p ≡ new = ap (λ (j : ℕ). get_or (set rows i new) j []) here ∙ get_or-set_same rows i new [] lt in
+      let was : row rows p ≡ old = ap (λ (j : ℕ). get_or rows j []) here ∙ get_or_default rows i [] old lt ∙ sym is in
+      by made now was
+  | inr other ↦
+      let same : row (set rows i new) p ≡ row rows p = get_or-set_other rows i (node_index p) new [] other in
+      record {
+        left = length (row rows p);
+        first = same ∙ sym (take-whole (row rows p));
+        few = λ e. absurd (other (ap node_index e ∙ sym at));
+      }
+]
+  where
+    by : (new ≡ take keep old) ⊎ (new ≡ []) → row (set rows i new) p ≡ new → row rows p ≡ old
+        → IsLeft (notes.Cut node keep) (row rows p) p (row (set rows i new) p)
+    by (inl front) now was = record {
+      left = keep;
+      first = now ∙ front ∙ ap (take keep) (sym was);
+      few = λ e. let long = ap (λ (l : List LineAct). length l) (now ∙ front) in omega (arith, long, length-take keep old);
+    }
+    by (inr none) now was = record {
+      left = 0;
+      first = now ∙ none;
+      few = λ e. let long = ap (λ (l : List LineAct). length l) (now ∙ none) in omega (arith, long);
+    }
+
+-- where the node has no row, none is left out
+pub left-none : (rows : List (List LineAct)) (node : NodeId) (keep : ℕ) → length rows ≤ node_index node → (p : NodeId)
+    → IsLeft (notes.Cut node keep) (row rows p) p (row rows p)
+left-none rows node keep past p = record {
+  left = length (row rows p);
+  first = sym (take-whole (row rows p));
+  few = λ e.
+      let none : row rows p ≡ [] = ap (λ (q : NodeId). row rows q) e ∙ get_or_past rows (node_index node) [] past in
+      let long = ap (λ (l : List LineAct). length l) none in
+      omega (arith, long);
+}
+
+-- an act leaves all
+pub left-all : (rows : List (List LineAct)) (a : Act) (p : NodeId) → IsLeft (notes.Act a) (row rows p) p (row rows p)
+left-all rows a p = record { left = length (row rows p); first = sym (take-whole (row rows p)); few = tt }

@@ -11,6 +11,7 @@ ghost use Rattle.kt_ckpt.specs.Op.{IsAnswer};
 ghost use Rattle.kt_ckpt.specs.Reading.{Gives, list_at};
 
 use crate::acts::LineAct;
+use crate::chain::Acts;
 use crate::encode::push_node;
 use crate::error::CkptError;
 use crate::limits::{ACCEPTED, AGAIN, HEARD, IGNORED, ISSUE, REPEAT, SERVED, SHARD, WORKER};
@@ -82,8 +83,17 @@ fn push_act(out: &mut Vec<u8>, act: &LineAct) -> Result<(), AllocError>
     push_told(out, &act.what)
 }
 
+/// Appends the acts of a line, oldest first.
+pub(crate) fn push_line(alloc: Global, out: &mut Vec<u8>, acts: &Acts) -> Result<(), AllocError>
+    ensures ok { OnOk result (out.new.items ≡ out.old.items ++ flat_map act_bytes acts.now) }
+    ensures held { OnOk result (All IsSpelledAct acts.now) }
+{
+    let listed = acts.listed(alloc)?;
+    push_acts(out, &listed)
+}
+
 /// Appends the acts, one behind the other.
-pub(crate) fn push_acts(out: &mut Vec<u8>, acts: &[&LineAct]) -> Result<(), AllocError>
+fn push_acts(out: &mut Vec<u8>, acts: &[&LineAct]) -> Result<(), AllocError>
     ensures ok { OnOk result (out.new.items ≡ out.old.items ++ flat_map act_bytes (map (λ a. a.now) acts.now)) }
     ensures held { OnOk result (All IsSpelledAct (map (λ a. a.now) acts.now)) }
 {

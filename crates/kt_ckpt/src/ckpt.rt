@@ -34,7 +34,8 @@ impl Model for Ckpt {
 
     ghost invariant = { λ c.
         HasCounts (made_of c.marks.node c.marks.line_len c.marks.sent c.marks.received (arc_value c.state) c.acts)
-        × HasShape (made_of c.marks.node c.marks.line_len c.marks.sent c.marks.received (arc_value c.state) c.acts) };
+        × HasShape
+        (made_of c.marks.node c.marks.line_len c.marks.sent c.marks.received (arc_value c.state) c.acts) };
 }
 
 impl Ckpt {

@@ -8,7 +8,7 @@ ghost use Rattle.kt_ckpt.specs.Checkpoint.{IsState, made_of, state_bytes};
 ghost use Rattle.kt_ckpt.specs.Limits.{magic, version};
 ghost use Rattle.kt_ckpt.specs.Node.{node_bytes};
 
-use crate::act_bytes::push_acts;
+use crate::act_bytes::push_line;
 use crate::chain::Acts;
 use crate::ckpt::Ckpt;
 use crate::limits::{MAGIC, SHARD, VERSION, WORKER};
@@ -61,7 +61,7 @@ fn encode_parts(
     push_u64(&mut out, line_len)?;
     push_peers(&mut out, sent, received)?;
     push_state(&mut out, state)?;
-    push_acts(&mut out, &acts.listed(alloc)?)?;
+    push_line(alloc, &mut out, acts)?;
     Ok(out)
 }
 

@@ -1,6 +1,7 @@
 //! The history, with the acts of each node at hand for its next checkpoint.
 
-ghost use Rattle.std.specs.Prelude.{◌≡◌, ◌≤◌, ◌∷◌, ◌++◌, [], All, IfOk, IfSome, OnOk, drop, length, map};
+ghost use Rattle.std.specs.Prelude.{◌≡◌, ◌⊎◌, ◌+◌, ◌<◌, ◌≤◌, ◌^◌, ◌∷◌, ◌++◌, [], All, IfOk, IfSome, OnOk};
+ghost use Rattle.std.specs.Prelude.{drop, length, map, take};
 ghost use Rattle.kt_tuple.specs.declared.node.NodeId.{NodeId as Name};
 ghost use Rattle.kt_history.specs.declared.note.Note.TheVariants as notes;
 ghost use Rattle.kt_history.specs.Chronicle.{node_of, room_of};
@@ -81,7 +82,6 @@ fn acts_of(
 }
 
 /// The acts of the node's line behind the first so many, oldest first.
-#[tactic(auto, using(crate::proofs::NotedLines::acts_behind))]
 fn acts_behind(
     alloc: Global,
     history: &History,
@@ -89,9 +89,12 @@ fn acts_behind(
     first: u64,
 ) -> Result<Vec<LineAct>, AllocError>
     requires { first ≤ length (line history.now.notes node) }
-    ensures { IfOk result (λ v. v.items ≡ drop first (line_acts history.now.notes node)) }
+    ensures acts { IfOk result (λ v. v.items ≡ drop first (line_acts history.now.notes node)) }
+    ensures few { IfOk result (λ v. first + length v.items < 2 ^ 64) }
 {
-    acts_of(alloc, history, &history.line(node)[first as usize..])
+    let line = history.line(node);
+    let acts = acts_of(alloc, history, &line[first as usize..])?;
+    Ok(acts)
 }
 
 /// Puts these acts into the row of the node, and makes empty rows up to it where there are too few.
@@ -106,16 +109,23 @@ fn put(gathered: &mut Vec<Acts>, node: NodeId, acts: Acts) -> Result<(), AllocEr
     Ok(())
 }
 
+/// The first so many of the acts. To share a block takes no memory. Should it be refused all the same there are none,
+/// and they are made again when they are asked for.
+fn first_or_none(acts: &Acts, keep: u64) -> Acts
+    ensures { (result ≡ take keep acts.now) ⊎ (result ≡ []) }
+{
+    match acts.first(keep) {
+        Ok(kept) => kept,
+        Err(_) => Acts::none(),
+    }
+}
+
 /// At most the first so many of the acts in the row of the node stay.
 fn keep_first(gathered: &mut Vec<Acts>, node: NodeId, keep: u64)
     ensures { (p : Name) → IsLeft (notes.Cut node keep) (row gathered.old.items p) p (row gathered.new.items p) }
 {
     if let Some(acts) = gathered.get_mut(node.index()) {
-        // To share a block takes no memory. Should it be refused all the same, they are made again when asked for.
-        *acts = match acts.first(keep) {
-            Ok(kept) => kept,
-            Err(_) => Acts::none(),
-        };
+        *acts = first_or_none(acts, keep);
     }
 }
 
@@ -176,8 +186,7 @@ impl Past {
         }
     }
 
-    /// The acts of the node's line, oldest first, as a checkpoint holds them; `None` where one of them may not stand in
-    /// it. Those that are gathered are shared, so it costs what came since. Refused only for want of memory.
+    /// The acts of the node's line, oldest first, as a checkpoint holds them; `None` where one may not stand in it. Those that are gathered are shared, so it costs what came since. Refused only for want of memory.
     pub fn acts(&self, alloc: Global, node: NodeId) -> Result<Option<Acts>, AllocError>
         ensures acts { IfOk result (λ found. found ≡ fitting node (line_acts self.now.notes node)) }
         ensures shape { IfOk result (λ found. IfSome found (All (IsActOf node))) }
