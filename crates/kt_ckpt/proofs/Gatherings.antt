@@ -79,10 +79,10 @@ pub gathered-noted : (h : List Note) (note : Note) (p : NodeId) (old new : List 
 gathered-noted h note p old new causes g left =
     let e : new ≡ take left.left (take (length old) (line_acts h p)) = left.first ∙ ap (take left.left) g.first in
     let front : new ≡ take (length new) (line_acts h p) =
-        e ∙ take-twice left.left (length old) (line_acts h p) ∙ ap (λ (l : List LineAct). take (length l) (line_acts h p)) (sym e) in
+    e ∙ take-twice left.left (length old) (line_acts h p) ∙ ap (λ (l : List LineAct). take (length l) (line_acts h p)) (sym e) in
     let long = ap (λ (l : List LineAct). length l) front in
     let low : length new ≤ length (acts_in_line h p) =
-        omega (arith, long, length-take (length new) (line_acts h p), acts-long h p) in
+    omega (arith, long, length-take (length new) (line_acts h p), acts-long h p) in
     record {
       first = front ∙ sym (front-noted h note causes p (length new) low (left-short h note p new left.few low));
       fit = All-same (IsActOf p) new (take left.left old) left.first (All-take (IsActOf p) left.left old g.fit);
@@ -96,10 +96,10 @@ pub fitting-whole : (h : List Note) (p : NodeId) (older newer : List LineAct) �
     → fitting p (line_acts h p) ≡ (if list_all (is_act_of p) newer then Some (older ++ newer) else None)
 fitting-whole h p older newer g is =
     let whole : line_acts h p ≡ older ++ newer =
-        sym (gathered-whole h p older g) ∙ ap (λ (l : List LineAct). older ++ l) (sym is) in
+    sym (gathered-whole h p older g) ∙ ap (λ (l : List LineAct). older ++ l) (sym is) in
     let test : list_all (is_act_of p) (older ++ newer) ≡ list_all (is_act_of p) newer =
-        list_all-append (is_act_of p) older newer
-        ∙ ap (λ (b : Bool). b && list_all (is_act_of p) newer) (list_all-from_AllPass (is_act_of p) older g.fit) in
+    list_all-append (is_act_of p) older newer
+    ∙ ap (λ (b : Bool). b && list_all (is_act_of p) newer) (list_all-from_AllPass (is_act_of p) older g.fit) in
     ap (fitting p) whole ∙ ap (λ (b : Bool). if b then Some (older ++ newer) else None) test
 
 pub whole-fits : (h : List Note) (p : NodeId) (older newer : List LineAct) → IsGathered h p older → All (IsActOf p) newer → All (IsActOf p) (older ++ newer)

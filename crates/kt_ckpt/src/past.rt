@@ -65,11 +65,7 @@ fn line_act(alloc: Global, history: &History, act: &Act) -> Result<LineAct, Allo
 }
 
 /// The acts of these numbers.
-fn acts_of(
-    alloc: Global,
-    history: &History,
-    numbers: &[u64],
-) -> Result<Vec<LineAct>, AllocError>
+fn acts_of(alloc: Global, history: &History, numbers: &[u64]) -> Result<Vec<LineAct>, AllocError>
     ensures { IfOk result (λ v. v.items ≡ map (line_act history.now.notes) (acts_at history.now.notes numbers.now)) }
 {
     let mut acts = Vec::with_capacity(alloc, numbers.len())?;

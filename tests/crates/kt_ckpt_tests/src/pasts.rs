@@ -48,7 +48,12 @@ fn fits(past: &Past, numbers: &[u64]) -> bool {
 }
 
 /// Whether these are the acts of the node's line, where each may stand in it, and none are given where one may not.
-fn are_said(alloc: Global, past: &Past, node: NodeId, acts: Option<Acts>) -> Result<bool, AllocError> {
+fn are_said(
+    alloc: Global,
+    past: &Past,
+    node: NodeId,
+    acts: Option<Acts>,
+) -> Result<bool, AllocError> {
     let line = past.history().line(node);
     let Some(acts) = acts else {
         return Ok(!fits(past, line));
@@ -111,7 +116,11 @@ fn note(alloc: Global, past: &Past, draws: &mut Draws) -> Result<Note, Fail> {
         return Ok(Note::Act(act(alloc, past, draws, node)?));
     }
     // Mostly what is new goes.
-    let most = if draws.below(4) == 0 { line } else { line.min(6) };
+    let most = if draws.below(4) == 0 {
+        line
+    } else {
+        line.min(6)
+    };
     let keep = line.saturating_sub(draws.below(most + 1));
     Ok(Note::Cut { node, keep })
 }

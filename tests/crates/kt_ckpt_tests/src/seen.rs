@@ -25,7 +25,10 @@ impl Seen {
 
     /// Whether all that there can be was seen.
     pub(crate) fn is_all(&self) -> bool {
-        self.ops == [true; 5] && self.answers == [true; 3] && self.values == [true; 3] && self.whats == [true; 8]
+        self.ops == [true; 5]
+            && self.answers == [true; 3]
+            && self.values == [true; 3]
+            && self.whats == [true; 8]
     }
 
     /// What the state holds is seen.

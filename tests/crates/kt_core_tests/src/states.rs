@@ -146,12 +146,7 @@ fn placed(alloc: Global, notes: &[Note], number: usize) -> Result<Option<(NodeId
 }
 
 /// The checkpoint says of the act of this number what happened.
-fn holds_act(
-    alloc: Global,
-    found: &LineAct,
-    notes: &[Note],
-    number: usize,
-) -> Result<(), Finding> {
+fn holds_act(alloc: Global, found: &LineAct, notes: &[Note], number: usize) -> Result<(), Finding> {
     let act = act_at(notes, number).ok_or(Finding::NotMade("an act"))?;
     let is_same = found.worker == act.worker && found.number == act.number;
     holds(

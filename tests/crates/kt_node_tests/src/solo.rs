@@ -126,7 +126,12 @@ impl Solo {
     }
 
     /// The act by which another sent this.
-    pub(crate) fn sending(&self, alloc: Global, from: NodeId, post: &Post) -> Result<Act, AllocError> {
+    pub(crate) fn sending(
+        &self,
+        alloc: Global,
+        from: NodeId,
+        post: &Post,
+    ) -> Result<Act, AllocError> {
         let (request, what) = match &post.talk {
             Talk::Request(request) => (request, What::Issue),
             Talk::Reply { request, answer } => (request, What::Served(answer.copy(alloc)?)),

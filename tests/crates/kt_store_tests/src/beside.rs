@@ -78,9 +78,7 @@ fn checkpoint(alloc: Global, draws: &mut Draws) -> Result<Ckpt, Apart> {
     bytes[30] = draws.below(256) as u8;
     bytes[31] = draws.below(256) as u8;
     for _ in 0..acts {
-        bytes
-            .extend_from_slice(&HEARD)
-            .map_err(|_| Apart::Bytes)?;
+        bytes.extend_from_slice(&HEARD).map_err(|_| Apart::Bytes)?;
     }
     Ckpt::decode(alloc, &bytes).map_err(|_| Apart::Bytes)
 }
@@ -203,9 +201,7 @@ fn agrees<C: CkptStore>(
             return Ok(false);
         }
     }
-    Ok(store.next_instance()? == plain.next_instance()
-        && store.faults() == 0
-        && store.wants() == 0)
+    Ok(store.next_instance()? == plain.next_instance() && store.faults() == 0 && store.wants() == 0)
 }
 
 /// Makes the calls of a fresh store and of the map. It answers the number that the next instance gets.

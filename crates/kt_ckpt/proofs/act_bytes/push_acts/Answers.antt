@@ -13,7 +13,7 @@ loop-act-preserved c =
     let act : LineAct = c.act-item.result.now in
     let lt : at < length acts = omega (arith, length-map c.args.acts.now (λ a. a.now), c.loop-act-test.true) in
     let is : act ≡ get_or acts at act =
-        ap (λ a. a.now) c.act-item.is ∙ sym (get_or-map (λ a. a.now) c.args.acts.now at c.act-item.result act c.loop-act-test.true) in
+    ap (λ a. a.now) c.act-item.is ∙ sym (get_or-map (λ a. a.now) c.args.acts.now at c.act-item.result act c.loop-act-test.true) in
     record {
       written = appended act_bytes acts at act _ _ _ lt is c.loop-act.invariant.written c.in_ok-push_act.ensures.ok;
       held = All-more IsSpelledAct acts at act lt c.loop-act.invariant.held (subst IsSpelledAct is c.in_ok-push_act.ensures.held);

@@ -13,11 +13,11 @@ loop-acts-preserved c =
     let new = map (λ a. a.now) c.push_newest_first.new.listed.items in
     ap (λ (b : Block). b.older ++ reverse new) c.deref-in-Last.ensures
     ∙ block_found block.older c.own.result.now found new c.args.self.now c.in_ok-push_newest_first.ensures
-        (ap (λ l. l ++ reverse found) (sym acts_are) ∙ c.loop-acts.invariant)
+    (ap (λ l. l ++ reverse found) (sym acts_are) ∙ c.loop-acts.invariant)
 
 pub returns : goal.returns
 returns c =
     ap (map (λ a. a.now)) c.reverse.ensures.items ∙ map_reverse (λ a. a.now) c.loop-acts.listed.items
     ∙ sym (ap (λ l. l ++ reverse (map (λ a. a.now) c.loop-acts.listed.items))
-        (sym c.acts.view_is ∙ none_shown c.acts.inside.last c.acts.inside.len c.in_default.not-Last))
+    (sym c.acts.view_is ∙ none_shown c.acts.inside.last c.acts.inside.len c.in_default.not-Last))
     ∙ c.loop-acts.invariant

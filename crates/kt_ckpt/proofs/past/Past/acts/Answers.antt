@@ -25,7 +25,7 @@ with-requires c =
 pub returns-then-not-are_acts_of-clause-acts : goal.returns-then-not-are_acts_of-clause-acts
 returns-then-not-are_acts_of-clause-acts c =
     let newer_is = c.in_ok-newer.ensures.acts ∙ ap (λ (k : ℕ). drop k (line_acts c.self.inside.history.notes c.args.node)) c.len.ensures
-        ∙ ap (λ (x : Chronicle). drop (length c.in_ok-older.older) (line_acts x.notes c.args.node)) c.self.view_is in
+    ∙ ap (λ (x : Chronicle). drop (length c.in_ok-older.older) (line_acts x.notes c.args.node)) c.self.view_is in
     let whole = fitting-whole c.args.self.now.notes c.args.node c.in_ok-older.older c.in_ok-newer.newer.items c.in_ok-older.ensures newer_is in
     let test = c.are_acts_of.ensures.value ∙ ap (list_all (is_act_of c.args.node)) c.deref.ensures.value in
     let t = c.if-not-are_acts_of.true in
@@ -35,7 +35,7 @@ returns-then-not-are_acts_of-clause-acts c =
 pub returns-clause-acts : goal.returns-clause-acts
 returns-clause-acts c =
     let newer_is = c.in_ok-newer.ensures.acts ∙ ap (λ (k : ℕ). drop k (line_acts c.self.inside.history.notes c.args.node)) c.len.ensures
-        ∙ ap (λ (x : Chronicle). drop (length c.in_ok-older.older) (line_acts x.notes c.args.node)) c.self.view_is in
+    ∙ ap (λ (x : Chronicle). drop (length c.in_ok-older.older) (line_acts x.notes c.args.node)) c.self.view_is in
     let whole = fitting-whole c.args.self.now.notes c.args.node c.in_ok-older.older c.in_ok-newer.newer.items c.in_ok-older.ensures newer_is in
     let test = c.are_acts_of.ensures.value ∙ ap (list_all (is_act_of c.args.node)) c.deref.ensures.value in
     let t = c.if-not-are_acts_of.false in
@@ -49,5 +49,5 @@ returns-clause-shape c =
     let t = c.if-not-are_acts_of.false in
     let yes : c.are_acts_of.result ≡ true = cc in
     All-same (IsActOf c.args.node) c.in_ok-with.field-0 (c.in_ok-older.older ++ c.in_ok-newer.newer.items) c.in_ok-with.ensures
-        (whole-fits c.args.self.now.notes c.args.node c.in_ok-older.older c.in_ok-newer.newer.items c.in_ok-older.ensures
-            (AllPass-from_list_all (is_act_of c.args.node) c.in_ok-newer.newer.items (sym test ∙ yes)))
+    (whole-fits c.args.self.now.notes c.args.node c.in_ok-older.older c.in_ok-newer.newer.items c.in_ok-older.ensures
+    (AllPass-from_list_all (is_act_of c.args.node) c.in_ok-newer.newer.items (sym test ∙ yes)))
