@@ -1,9 +1,9 @@
 -- What is gathered of a line stays of it, and is what a checkpoint holds.
 use Rattle.std.proofs.Common.{◌≡◌, ℕ, zero, suc, ◌≤◌, Bool, true, false, ◌&&◌, if◌then◌else◌, List, [], ◌∷◌, ◌++◌, take, drop, length, get_or, set, ◌<◌}
 use Rattle.std.proofs.Common.{Option, Some, None, inl, inr, refl, sym, ap, ◌∙◌, subst, arith, length-append}
-use Rattle.std.specs.Prelude.{All}
+use Rattle.std.specs.Prelude.{◌⊎◌, All}
 use Rattle.std.specs.List.{list_all}
-use Rattle.std.proofs.lemmas.Bool.{cases_Bool, cases_eq}
+use Rattle.std.proofs.lemmas.Bool.{cases_Bool, cases_eq, cases_lt}
 use Rattle.std.proofs.lemmas.List.{length-take, take-append-drop, get_or-set_same, get_or-set_other, get_or_default, get_or_past}
 use Rattle.std.proofs.lemmas.List.Folds.{list_all-append}
 use Rattle.std.proofs.lemmas.List.Sums.{list_all-from_AllPass}
@@ -163,12 +163,16 @@ left-row rows node keep i old new at lt is made p = elim (cases_eq (node_index p
     }
 
 -- where the node has no row, none is left out
-pub left-none : (rows : List (List LineAct)) (node : NodeId) (keep : ℕ) → length rows ≤ node_index node → (p : NodeId)
+pub left-none : (rows : List (List LineAct)) (node : NodeId) (keep : ℕ) → (node_index node < length rows → ⊥) → (p : NodeId)
     → IsLeft (notes.Cut node keep) (row rows p) p (row rows p)
-left-none rows node keep past p = record {
+left-none rows node keep out p = record {
   left = length (row rows p);
   first = sym (take-whole (row rows p));
   few = λ e.
+      let past : length rows ≤ node_index node = elim (cases_lt (node_index node) (length rows)) [
+        | inl lt ↦ absurd (out lt)
+        | inr le ↦ le
+      ] in
       let none : row rows p ≡ [] = ap (λ (q : NodeId). row rows q) e ∙ get_or_past rows (node_index node) [] past in
       let long = ap (λ (l : List LineAct). length l) none in
       omega (arith, long);
