@@ -1,4 +1,4 @@
-use Rattle.std.proofs.Common.{sym, ap, map, refl, ◌∙◌, ◌++◌, ◌-◌, length, take, reverse}
+use Rattle.std.proofs.Common.{sym, ap, map, ◌∙◌, ◌++◌, ◌-◌, length, take, reverse}
 use Rattle.kt_ckpt.specs.declared.chain.Block.{Block}
 use Rattle.kt_ckpt.proofs.Chains.{block_found, block_shown, map_reverse, none_shown}
 use Rattle.kt_ckpt.proofs.chain.Acts.listed.Goals as goal
