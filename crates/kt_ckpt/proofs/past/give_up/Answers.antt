@@ -7,4 +7,4 @@ use Rattle.kt_ckpt.proofs.past.give_up.Goals as goal
 pub returns-in-Act : goal.returns-in-Act
 returns-in-Act c = λ p.
     subst (λ (n : Note). IsLeft n (row c.args.gathered.now.items p) p (row c.args.gathered.now.items p)) (sym c.in-Act.is)
-        (left-all c.args.gathered.now.items c.in-Act.field-0 p)
+    (left-all c.args.gathered.now.items c.in-Act.field-0 p)

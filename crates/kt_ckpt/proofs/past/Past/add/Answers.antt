@@ -11,7 +11,7 @@ pub invariant_of-self : goal.invariant_of-self
 invariant_of-self c =
     let h : List Note = c.self.inside.history.notes in
     let follows : MayFollow h c.args.note =
-        subst (λ (x : Chronicle). MayFollow x.notes c.args.note) (sym c.self.view_is) c.requires.follows in
+    subst (λ (x : Chronicle). MayFollow x.notes c.args.note) (sym c.self.view_is) c.requires.follows in
     let whole : IsPast (h ++ c.args.note ∷ []) c.give_up.new.gathered.items = record {
       causes = CausesComeFirst-push h c.args.note c.self.invariant.causes follows;
       gathered = λ p. gathered-noted h c.args.note p _ _ c.self.invariant.causes (c.self.invariant.gathered p) (c.give_up.ensures p);
