@@ -11,3 +11,7 @@ pub mod Acts
 pub mod LineActs
 pub mod Checkpoint
 pub mod Marks
+pub mod OldLimits
+pub mod OldParts
+pub mod OldState
+pub mod Old
