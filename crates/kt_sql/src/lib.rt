@@ -14,10 +14,12 @@
 mod calls;
 mod error;
 mod laws;
+mod migrating;
 mod open;
 mod store;
 mod tally;
 
 pub use error::SqlOpenError;
 pub use laws::nothing_fails_a_store_in_memory;
+pub use migrating::connect;
 pub use store::SqlStore;

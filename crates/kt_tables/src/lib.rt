@@ -11,12 +11,14 @@
 //!   have the rows, out and in.
 #![tactic(auto)]
 
+mod carrying;
 mod cells;
 mod changes;
 mod firsts;
 mod held;
 mod ids;
 mod number;
+mod old;
 mod opened;
 mod reads;
 mod ready;
@@ -26,7 +28,8 @@ mod schema;
 mod statements;
 mod tables;
 
+pub use carrying::carried;
 pub use cells::NodeCells;
 pub use changes::{bumped, discarded, permanent_in, promoted, tentative_in};
 pub use held::Tables;
-pub use ready::readied;
+pub use ready::{ReadyError, readied};
