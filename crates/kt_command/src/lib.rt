@@ -9,6 +9,8 @@
 //! - Begin in: `request.rt`, then `running.rt`, and `status.rt` for the exit statuses.
 #![tactic(auto)]
 
+mod carries;
+mod carrying;
 mod command;
 mod opens;
 mod request;
@@ -16,6 +18,8 @@ mod running;
 mod status;
 mod words;
 
+pub use carries::Carries;
+pub use carrying::carry_over;
 pub use command::Command;
 pub use opens::Opens;
 pub use request::{Request, run_request};

@@ -8,13 +8,13 @@ use std::alloc::Global;
 use std::process::Abort;
 use std::test::*;
 
-/// The second worker: a line of five acts, two neighbours, the next command is the fourth, the last request has
+/// The second worker: an empty line, two neighbours, the next command is the fourth, the last request has
 /// the number 2 and no answer yet, `inp ("a", ?int, ?bool)`, the last answer was none, and the variables are -1, `hi`
 /// and `true`.
 const WORKER: [u8; 115] = [
     0x4b, 0x54, 0x43, 0x50, 2, // magic, version
     1, 2, // the second worker
-    0, 0, 0, 0, 0, 0, 0, 5, // line length
+    0, 0, 0, 0, 0, 0, 0, 0, // line length
     2, // two neighbours
     0, 0, 0, 0, 0, 0, 0, 1, 0, 0, 0, 0, 0, 0, 0, 3, // sent to the first
     0, 0, 0, 0, 0, 0, 0, 2, 0, 0, 0, 0, 0, 0, 1, 0, // received from the first
@@ -142,8 +142,8 @@ fn other_version(rt: HostRuntime) {
 /// How many of the changed bytes are read was worked out by hand: numbers, characters, and what is one of few.
 #[test]
 fn changed_bytes(rt: HostRuntime) -> Result<(), Fail> {
-    assert_eq!(rt; changed(&rt, rt.alloc(), &FIRST_WORKER)?, (3_099, 12_456));
-    assert_eq!(rt; changed(&rt, rt.alloc(), &SHARD)?, (6_670, 16_535));
+    assert_eq!(rt; changed(&rt, rt.alloc(), &FIRST_WORKER)?, (10_304, 20_806));
+    assert_eq!(rt; changed(&rt, rt.alloc(), &SHARD)?, (14_378, 26_932));
     let (refused, read) = changed(&rt, rt.alloc(), &WORKER)?;
     assert!(rt; refused > 0 && read > 0 && refused + read == 115 * 255);
     Ok(())
@@ -155,7 +155,7 @@ fn fields(rt: HostRuntime) -> Result<(), Fail> {
         .ok()
         .ok_or("the bytes are a checkpoint")?;
     assert_eq!(rt; ckpt.node(), NodeId::Worker(2));
-    assert_eq!(rt; ckpt.line_len(), 5);
+    assert_eq!(rt; ckpt.line_len(), 0);
     assert_eq!(rt; ckpt.sent().len(), 2);
     assert_eq!(rt;
         ckpt.sent()[0],

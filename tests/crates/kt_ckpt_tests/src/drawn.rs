@@ -15,8 +15,10 @@ pub(crate) fn checkpoint(
     out.extend_from_slice(b"KTCP")?;
     out.push(2)?;
     out.push(if worker { 1 } else { 2 })?;
-    out.push(draws.byte(1, if worker { MAX_WORKERS } else { MAX_SHARDS }))?;
-    push_drawn(&mut out, draws, 8)?;
+    let index = draws.byte(1, if worker { MAX_WORKERS } else { MAX_SHARDS });
+    out.push(index)?;
+    let acts = draws.byte(0, 5);
+    out.extend_from_slice(&[0, 0, 0, 0, 0, 0, 0, acts])?;
     out.push(peers)?;
     for _ in 0..peers {
         push_drawn(&mut out, draws, 32)?;
@@ -26,7 +28,52 @@ pub(crate) fn checkpoint(
     } else {
         push_shard(&mut out, draws)?;
     }
+    for _ in 0..acts {
+        if worker {
+            push_workers_act(&mut out, draws, index)?;
+        } else {
+            push_shards_act(&mut out, draws)?;
+        }
+    }
     Ok(out)
+}
+
+/// An act in the line of the worker.
+fn push_workers_act(out: &mut Vec<u8>, draws: &mut Draws, index: u8) -> Result<(), AllocError> {
+    let what = [1, 2, 6, 7][usize::from(draws.byte(0, 3))];
+    out.extend_from_slice(&[what, index])?;
+    if what <= 2 {
+        out.push(0)?;
+    } else {
+        out.extend_from_slice(&[1, 2, draws.byte(1, MAX_SHARDS)])?;
+        push_place(out, draws)?;
+    }
+    push_drawn(out, draws, 8)?;
+    push_op(out, draws)?;
+    if what <= 2 {
+        return Ok(());
+    }
+    push_answer(out, draws)
+}
+
+/// An act in the line of a shard.
+fn push_shards_act(out: &mut Vec<u8>, draws: &mut Draws) -> Result<(), AllocError> {
+    let what = [3, 4, 5, 7][usize::from(draws.byte(0, 3))];
+    let worker = draws.byte(1, MAX_WORKERS);
+    out.extend_from_slice(&[what, worker, 1, 1, worker])?;
+    push_place(out, draws)?;
+    push_drawn(out, draws, 8)?;
+    push_op(out, draws)?;
+    if what == 3 || what == 7 {
+        return Ok(());
+    }
+    push_answer(out, draws)
+}
+
+/// A place in a line, counted from 1.
+fn push_place(out: &mut Vec<u8>, draws: &mut Draws) -> Result<(), AllocError> {
+    push_drawn(out, draws, 7)?;
+    Ok(out.push(draws.byte(1, 255))?)
 }
 
 /// So many bytes of any value.
@@ -94,7 +141,7 @@ fn push_op(out: &mut Vec<u8>, draws: &mut Draws) -> Result<(), AllocError> {
     let places = draws.byte(1, MAX_PLACES as u8);
     out.push(places)?;
     for _ in 0..places {
-        push_place(out, draws)?;
+        push_template_place(out, draws)?;
     }
     Ok(())
 }
@@ -117,7 +164,7 @@ fn push_tuple(out: &mut Vec<u8>, draws: &mut Draws) -> Result<(), AllocError> {
     Ok(())
 }
 
-fn push_place(out: &mut Vec<u8>, draws: &mut Draws) -> Result<(), AllocError> {
+fn push_template_place(out: &mut Vec<u8>, draws: &mut Draws) -> Result<(), AllocError> {
     match draws.byte(0, 5) {
         0 => Ok(out.push(0x81)?),
         1 => Ok(out.push(0x82)?),

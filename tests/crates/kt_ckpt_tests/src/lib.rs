@@ -6,6 +6,8 @@ mod bytes;
 #[cfg(test)]
 mod drawn;
 #[cfg(test)]
+mod old;
+#[cfg(test)]
 mod random;
 #[cfg(test)]
 mod seen;

@@ -2,19 +2,34 @@
 
 use crate::drawn::checkpoint;
 use crate::seen::Seen;
-use kt_ckpt::{Ckpt, CkptError, MAX_PEERS, ShardState, State, WorkerState};
+use kt_ckpt::{Ckpt, CkptError, LineAct, MAX_PEERS, ShardState, State, WorkerState};
 use kt_draws::Draws;
 use kt_shard::{Kept, Request};
 use kt_tuple::Op;
 use std::alloc::{AllocError, Global};
 use std::test::*;
 
-fn is_same(a: &Ckpt, b: &Ckpt) -> bool {
+pub(crate) fn is_same(a: &Ckpt, b: &Ckpt) -> bool {
     a.node() == b.node()
         && a.line_len() == b.line_len()
         && a.sent() == b.sent()
         && a.received() == b.received()
         && is_same_state(a.state(), b.state())
+        && are_same_acts(a.acts(), b.acts())
+}
+
+pub(crate) fn are_same_acts(a: &[LineAct], b: &[LineAct]) -> bool {
+    for (a, b) in a.iter().zip(b) {
+        if a.by != b.by
+            || a.worker != b.worker
+            || a.number != b.number
+            || a.op != b.op
+            || a.what != b.what
+        {
+            return false;
+        }
+    }
+    a.len() == b.len()
 }
 
 fn is_same_state(a: &State, b: &State) -> bool {
@@ -69,12 +84,29 @@ fn is_same_request(a: &Request, b: &Request) -> bool {
     a.number == b.number && a.op == b.op
 }
 
+pub(crate) fn copied(alloc: Global, acts: &[LineAct]) -> Result<Vec<LineAct>, AllocError> {
+    let mut copies = Vec::with_capacity(alloc, acts.len())?;
+    for act in acts {
+        copies.push(act.copy(alloc)?)?;
+    }
+    Ok(copies)
+}
+
 /// The checkpoint made again of its parts.
 fn made_again(alloc: Global, ckpt: &Ckpt) -> Result<Ckpt, AllocError> {
     let state = state_made_again(ckpt.state().copy(alloc)?);
     let sent = Vec::from_slice(alloc, ckpt.sent())?;
     let received = Vec::from_slice(alloc, ckpt.received())?;
-    Ckpt::new(alloc, ckpt.node(), ckpt.line_len(), sent, received, state)
+    let acts = copied(alloc, ckpt.acts())?;
+    Ckpt::new(
+        alloc,
+        ckpt.node(),
+        ckpt.line_len(),
+        sent,
+        received,
+        state,
+        acts,
+    )
 }
 
 fn state_made_again(state: State) -> State {
