@@ -12,4 +12,9 @@ pub mod Nodes
 pub mod Peers
 pub mod Checkpoints
 pub mod TakenLines
+pub mod OldFields
+pub mod OldOps
+pub mod OldRising
+pub mod OldStates
+pub mod OldCheckpoints
 pub mod Shared

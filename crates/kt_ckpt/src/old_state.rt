@@ -62,7 +62,7 @@ fn old_variables_at(alloc: Global, bytes: &[u8]) -> Result<(Vec<Value>, &[u8]), 
 }
 
 fn is_old_asked(asked: Option<&Op>) -> bool
-    ensures { result ≡ is_old_asked (option_copied asked) }
+    ensures { result ≡ is_old_asked (option_copied asked.entry) }
 {
     match asked {
         Some(op) => is_old_op(op),

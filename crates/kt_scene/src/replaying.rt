@@ -94,7 +94,7 @@ pub fn report_over<R: Read, S: CkptStore + Drop>(
     match world_over(alloc, reader, store) {
         Ok(mut world) => match report_text(alloc, &mut world) {
             Ok(report) => Ok((report, world.into_store())),
-            Err(fault) => Err((fault, world.into_store())),
+            Err(refused) => Err((refused, world.into_store())),
         },
         Err(refused) => Err(refused),
     }

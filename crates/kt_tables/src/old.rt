@@ -50,8 +50,8 @@ fn is_old_spelling(
     at: usize,
     checkpoint: Option<&Ckpt>,
 ) -> Result<bool, AllocError>
-    ensures { IfOk result (λ is. IsTrue is ↔ (at < length row.now) × FitsOld (option_copied checkpoint)
-        × (column row.now at ≡ spelled_old (option_copied checkpoint))) }
+    ensures { IfOk result (λ is. IsTrue is ↔ (at < length row.now) × FitsOld (option_copied checkpoint.entry)
+        × (column row.now at ≡ spelled_old (option_copied checkpoint.entry))) }
 {
     let Some(checkpoint) = checkpoint else {
         return Ok(is_null(row, at));
