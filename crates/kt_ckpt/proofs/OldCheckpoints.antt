@@ -281,7 +281,7 @@ module _ (acts : List LineAct) where
       → ps ≡ zip c.sent c.received → s ≡ c.state → length c.sent ≡ length c.received → c.acts ≡ acts → checkpoint_of n l ps s acts ≡ c
   checkpoint_is n l ps s c a b d g e k =
       let of : List Label → List Label → List LineAct → Checkpoint =
-      λ s r as. record { node = c.node; line_len = c.line_len; sent = s; received = r; state = c.state; acts = as } in
+      λ s r us. record { node = c.node; line_len = c.line_len; sent = s; received = r; state = c.state; acts = us } in
       ap (λ (n : NodeId). checkpoint_of n l ps s acts) a ∙ ap (λ (l : ℕ). checkpoint_of c.node l ps s acts) b
       ∙ ap (λ (ps : List (Label × Label)). checkpoint_of c.node c.line_len ps s acts) d
       ∙ ap (λ (s : State). checkpoint_of c.node c.line_len (zip c.sent c.received) s acts) g
@@ -332,7 +332,7 @@ module _ (acts : List LineAct) where
   line_is n c h e = (
     h.0.line_len,
     of_line acts n c.line_len (ap length (sym h.1) ∙ h.0.long)
-        (subst (λ (as : List LineAct). All (IsActOf n) as) h.1 (subst (λ (k : NodeId). All (IsActOf k) c.acts) (sym e) h.0.acts)),
+        (subst (λ (us : List LineAct). All (IsActOf n) us) h.1 (subst (λ (k : NodeId). All (IsActOf k) c.acts) (sym e) h.0.acts)),
   )
 
   old_checkpoint_field : IsField spelling_old IsOldWith (old_checkpoint_at acts)

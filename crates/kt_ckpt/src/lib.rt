@@ -6,7 +6,7 @@
 //! - Stands on: kt_tuple, kt_script, kt_space, kt_link, kt_shard, kt_history; of the kit: thiserror
 //! - Used by: kt_store, kt_tables, kt_sql, kt_node, kt_world, kt_refinement, kt_core, kt_stage
 //! - Begin in: `ckpt.rt` and `state.rt` for the fields, then `decode.rt` and `encode.rt`, field by field. `limits.rt`
-//!   has the codes of the format.
+//!   has the codes of the format. `old.rt` reads and writes format 1.
 #![tactic(auto)]
 
 mod acts;

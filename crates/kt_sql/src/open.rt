@@ -166,7 +166,7 @@ impl SqlStore<MemStore> {
         ensures honest { IfOk result (λ s. IsTrue (is_sure over_memory s.tables)) }
         ensures fresh { IfOk result (λ s. content_of over_memory s.tables ≡ empty_content) }
         ensures counts { IfOk result (λ s. s.counts ≡ nothing_counted) }
-        ensures undamaged { IfErr result (λ e. (e ≡ SqlOpenError.Memory) ⊎ (e ≡ SqlOpenError.Device)) }
+        ensures undamaged { IfErr result (λ e. e ≢ SqlOpenError.Damaged) }
     {
         match SqlStore::adopt(alloc, Connection::open_in_memory(alloc)?) {
             Ok(store) => Ok(store),

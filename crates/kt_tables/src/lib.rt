@@ -8,7 +8,7 @@
 //!   sqlite_trees, sqlite_resolve, sqlite_rules, sqlite_schema, sqlite_keyed, sqlite_typed
 //! - Used by: kt_sql, linda_kt
 //! - Begin in: `tables.rt` for how they are made, then `held.rt` for `Tables` and `reads.rt`. `cells.rt` and `rows.rt`
-//!   have the rows, out and in.
+//!   have the rows, out and in. `old.rt` and `carrying.rt` are of tables of version 1.
 #![tactic(auto)]
 
 mod carrying;

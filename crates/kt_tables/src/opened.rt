@@ -17,7 +17,6 @@ ghost use Rattle.kt_tables.specs.Made.{IsMade};
 ghost use Rattle.kt_tables.specs.Opened.{meta_of, HasNoRow, IsOldVersion, IsThisVersion, IsReady};
 ghost use Rattle.kt_tables.specs.inner.Testing.{key_of, IsRowOf, AreRowsFrom};
 
-use crate::reads::{FIRST_NODE, LAST_POSTED};
 use crate::records::Record;
 use crate::schema::is_kt_schema;
 use crate::statements::PUT_VERSION;
@@ -209,8 +208,8 @@ pub(crate) fn has_no_row<S: Alter>(conn: &mut Connection<S>) -> Result<bool, Sto
     ensures named { IfErr result (λ e. (e ≡ StoreError.Memory) ⊎ (e ≡ StoreError.Device)) }
     ensures mode { (state S.Store conn.old).in_transaction ≡ false → (state S.Store conn.new).in_transaction ≡ false }
 {
-    let nodes = ask(conn, FIRST_NODE)?;
-    let posted = ask(conn, LAST_POSTED)?;
+    let nodes = ask(conn, ALL_NODES)?;
+    let posted = ask(conn, ALL_POSTED)?;
     Ok(nodes.is_empty() && posted.is_empty())
 }
 

@@ -32,13 +32,13 @@ use std::alloc::Global;
 const GET_NODE: &str =
     "SELECT id, incarnation, permanent, tentative, instance FROM kt_node WHERE id = ?1 ORDER BY id";
 
-pub(crate) const FIRST_NODE: &str =
+const FIRST_NODE: &str =
     "SELECT id, incarnation, permanent, tentative, instance FROM kt_node ORDER BY id LIMIT 1";
 
 const GET_POSTED: &str =
     "SELECT instance, initiator, purpose, verdict FROM kt_board WHERE instance = ?1 ORDER BY instance";
 
-pub(crate) const LAST_POSTED: &str =
+const LAST_POSTED: &str =
     "SELECT instance, initiator, purpose, verdict FROM kt_board ORDER BY instance DESC LIMIT 1";
 
 const OPEN_POSTED: &str =
