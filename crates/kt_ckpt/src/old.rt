@@ -2,9 +2,10 @@
 //! is written.
 
 ghost use Rattle.std.specs.Prelude.{◌≡◌, ◌≢◌, ◌≤◌, ◌<◌, ◌++◌, ◌∷◌, [], ℕ, List, All, IfOk, IfSome, IsTrue};
-ghost use Rattle.std.specs.Prelude.{MatchOption, OnOk, Ok, Err, false, length, take};
-ghost use Rattle.kt_ckpt.specs.Acts.{IsActOf};
-ghost use Rattle.kt_ckpt.specs.Checkpoint.{Checkpoint, HasCounts, IsLabel, IsState, made_of};
+ghost use Rattle.std.specs.Prelude.{◌==◌, ◌&&◌, MatchOption, OnOk, Ok, Err, false, length};
+ghost use Rattle.std.specs.List.{list_all};
+ghost use Rattle.kt_ckpt.specs.Acts.{IsActOf, is_act_of};
+ghost use Rattle.kt_ckpt.specs.Checkpoint.{Checkpoint, HasCounts, HasShape, made_of};
 ghost use Rattle.kt_ckpt.specs.Limits.{magic};
 ghost use Rattle.kt_ckpt.specs.Node.{IsNode};
 ghost use Rattle.kt_ckpt.specs.Old.{IsOldCheckpoint, line_at, old_checkpoint_at, old_node_at, old_node_behind};
@@ -61,7 +62,7 @@ impl Ckpt {
         // What is written is read as this checkpoint, with its acts.
         ensures read_back { IfOk result (λ o. IfSome o (λ v. read_old self.now.acts v.items ≡ Ok self.now)) }
     {
-        if !is_old(self.node(), self.sent(), &self.state) {
+        if !is_old(self) {
             return Ok(None);
         }
         let bytes = encode_old(
@@ -88,12 +89,13 @@ fn is_old_node(node: NodeId) -> bool
     }
 }
 
-/// Whether format 1 can hold a checkpoint of the node with so many neighbours and this state.
-fn is_old(node: NodeId, sent: &[Label], state: &State) -> bool
-    ensures { (line_len : ℕ) (received : List Label) (acts : List LineAct)
-        → result ≡ is_old (made_of node line_len sent.now received state.now acts) }
+/// Whether format 1 can hold the checkpoint, its acts aside.
+fn is_old(ckpt: &Ckpt) -> bool
+    ensures { result ≡ is_old ckpt.now }
 {
-    is_old_node(node) && sent.len() <= usize::from(OLD_PEERS) && is_old_state(state)
+    is_old_node(ckpt.node())
+        && ckpt.sent().len() <= usize::from(OLD_PEERS)
+        && is_old_state(ckpt.state())
 }
 
 // ---- written
@@ -108,10 +110,11 @@ fn encode_old(
     acts: &[LineAct],
 ) -> Result<Vec<u8>, AllocError>
     requires counts { HasCounts (made_of node line_len sent.now received.now state.now acts.now) }
+    requires shape { HasShape (made_of node line_len sent.now received.now state.now acts.now) }
+    requires limits { IsTrue (is_old (made_of node line_len sent.now received.now state.now acts.now)) }
     ensures value { IfOk result (λ v. v.items
         ≡ spelling_old (made_of node line_len sent.now received.now state.now acts.now)) }
-    ensures labels { OnOk result (All IsLabel sent.now × All IsLabel received.now) }
-    ensures held { OnOk result (IsState state.now) }
+    ensures held { OnOk result (IsOldCheckpoint (made_of node line_len sent.now received.now state.now acts.now)) }
 {
     let mut out = Vec::new(alloc);
     push_old_front(&mut out)?;
@@ -200,7 +203,16 @@ fn old_node_behind(kind: u8, bytes: &[u8]) -> Result<(NodeId, &[u8]), CkptError>
     }
 }
 
-/// The length of the node's line, which is the number of these acts, each of which may stand there.
+/// Whether the acts are as many as the line is long, and each may stand in the node's line.
+fn are_of_line(acts: &[LineAct], node: NodeId, line_len: u64) -> bool
+    ensures value { result ≡ (length acts.now == line_len && list_all (is_act_of node) acts.now) }
+    ensures long { IsTrue result → length acts.now ≡ line_len }
+    ensures shape { IsTrue result → All (IsActOf node) acts.now }
+{
+    acts.len() as u64 == line_len && acts.iter().all(|act| act.may_be_of(node))
+}
+
+/// The length of the node's line, by which the acts are judged.
 #[tactic(auto, unfolding(crate::specs::Old::line_at))]
 fn line_at<'a>(
     acts: &[LineAct],
@@ -212,7 +224,7 @@ fn line_at<'a>(
     ensures shape { IfOk result (λ x. All (IsActOf node) acts.now) }
 {
     let (line_len, rest) = u64_at(bytes)?;
-    if acts.len() as u64 == line_len && acts.iter().all(|act| act.may_be_of(node)) {
+    if are_of_line(acts, node, line_len) {
         Ok((line_len, rest))
     } else {
         Err(CkptError::Field)
