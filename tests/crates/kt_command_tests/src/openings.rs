@@ -112,7 +112,7 @@ impl Carries<Connection<MemStore>, SqlOpenError> for InMemory<'_> {
     }
 }
 
-fn carried<D: Alter>(
+fn carried<D: Alter + Drop>(
     alloc: Global,
     connection: Connection<D>,
     store: &kt_store::MemStore,
