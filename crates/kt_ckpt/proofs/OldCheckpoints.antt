@@ -159,10 +159,10 @@ line_of acts n l p =
         All-cons (IsActOf n) a acts parts.0 (each acts parts.1)
 
 of_line : (acts : List LineAct) (n : NodeId) (l : ℕ) → length acts ≡ l → All (IsActOf n) acts → fits_line acts n l ≡ true
-of_line acts n l len all = and_from (eq-eqb (length acts) l len) (each acts all) where
+of_line acts n l len all = and_from _ _ (eq-eqb (length acts) l len) (each acts all) where
   each : (acts : List LineAct) → All (IsActOf n) acts → list_all (is_act_of n) acts ≡ true
   each [] h = refl
-  each (a ∷ acts) h = and_from (All-head (IsActOf n) a acts h) (each acts (All-tail (IsActOf n) a acts h))
+  each (a ∷ acts) h = and_from _ _ (All-head (IsActOf n) a acts h) (each acts (All-tail (IsActOf n) a acts h))
 
 -- ---- the labels of the neighbours
 
@@ -301,7 +301,7 @@ module _ (acts : List LineAct) where
         received = All-map IsLabel (λ (p : Label × Label). p.1) ps (All-weaker IsPeer (λ p. IsLabel p.1) (λ p h. h.1) ps hp.1);
         suits = hs.0;
         state = hs.1.0;
-        limits = and_from hn.1 (and_from (le-leb (length (map (λ (p : Label × Label). p.0) ps)) OLD_PEERS (omega (arith, len, hp.0.1))) hs.1.1);
+        limits = and_from _ _ hn.1 (and_from _ _ (le-leb (length (map (λ (p : Label × Label). p.0) ps)) OLD_PEERS (omega (arith, len, hp.0.1))) hs.1.1);
         long = line.0;
         acts = line.1;
       }

@@ -130,7 +130,7 @@ all_pass Is test [] h = (All-nil Is, refl)
 all_pass Is test (x ∷ xs) h =
     let first = All-head (λ x. Is x × (test x ≡ true)) x xs h in
     let later = all_pass Is test xs (All-tail (λ x. Is x × (test x ≡ true)) x xs h) in
-    (All-cons Is x xs first.0 later.0, and_from first.1 later.1)
+    (All-cons Is x xs first.0 later.0, and_from _ _ first.1 later.1)
 
 pub passes_all : {X : Type 0} (Is : X → Type 0) (test : X → Bool) (xs : List X) → All Is xs → list_all test xs ≡ true → All (λ x. Is x × (test x ≡ true)) xs
 passes_all Is test [] h p = All-nil (λ x. Is x × (test x ≡ true))
@@ -153,7 +153,7 @@ module _ {X : Type 0} (Is : X → Type 0) (test : X → Bool) (xs : List X) wher
   counted_old : Counted Is test xs → (((1 ≤ length xs) × (length xs ≤ 16)) × All Is xs) × ((leb (length xs) OLD_PLACES && list_all test xs) ≡ true)
   counted_old h =
       let all = all_pass Is test xs h.1 in
-      (((h.0.0, omega (arith, h.0.1)), all.0), and_from (le-leb (length xs) OLD_PLACES h.0.1) all.1)
+      (((h.0.0, omega (arith, h.0.1)), all.0), and_from _ _ (le-leb (length xs) OLD_PLACES h.0.1) all.1)
 
   old_counted : (1 ≤ length xs) → All Is xs → (leb (length xs) OLD_PLACES && list_all test xs) ≡ true → Counted Is test xs
   old_counted low all p =

@@ -42,7 +42,7 @@ module _ {X : Type 0} (Is : X → Type 0) (test : X → Bool) where
       let first = All-head IsOldOne x xs all in
       let later = old_to_now (x.0 + 1) xs rise.2 (All-tail IsOldOne x xs all) in (
         (rise.0, omega (arith, rise.1), later.0),
-        (All-cons IsOne x xs first.0 later.1.0, and_from (and_from (le-leb x.0 OLD_WORKERS rise.1) first.1) later.1.1),
+        (All-cons IsOne x xs first.0 later.1.0, and_from _ _ (and_from _ _ (le-leb x.0 OLD_WORKERS rise.1) first.1) later.1.1),
       )
 
   pub now_to_old : (low : ℕ) (xs : List (ℕ × X)) → IsRising low xs → All IsOne xs → list_all (is_old_entry test) xs ≡ true

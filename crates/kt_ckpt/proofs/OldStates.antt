@@ -326,7 +326,7 @@ worker_to : (w : WorkerFields) → IsOldWorker w → Passes IsWorker is_old_work
 worker_to w h =
     let a = asked_to w.asked h.asked in
     let v = all_pass IsValue is_old_value w.variables h.variables in
-    (record { pc = h.pc; number = h.number; asked = a.0; few = h.few; variables = v.0 }, and_from a.1 v.1)
+    (record { pc = h.pc; number = h.number; asked = a.0; few = h.few; variables = v.0 }, and_from _ _ a.1 v.1)
 
 worker_from : (w : WorkerFields) → Passes IsWorker is_old_worker w → IsOldWorker w
 worker_from w h =
@@ -348,7 +348,7 @@ request_from r h = record { number = h.0.number; op = (h.0.op, h.1) }
 kept_to : (k : Kept) → IsOldKept k → Passes IsKept is_old_kept k
 kept_to k h =
     let r = request_to k.request h.request in
-    (record { request = r.0; answer = h.answer.0 }, and_from r.1 h.answer.1)
+    (record { request = r.0; answer = h.answer.0 }, and_from _ _ r.1 h.answer.1)
 
 kept_from : (k : Kept) → Passes IsKept is_old_kept k → IsOldKept k
 kept_from k h =
@@ -363,7 +363,7 @@ shard_to s h =
     let kept = old_to_now IsKept is_old_kept 1 s.kept h.kept_rises
     (All-weaker (λ (x : ℕ × Kept). IsOldKept x.1) (IsOldOne IsKept is_old_kept) (λ x g. kept_to x.1 g) s.kept h.kept) in (
       record { few = h.few; bag = bag.0; waiting_rises = waiting.0; waiting = waiting.1.0; kept_rises = kept.0; kept = kept.1.0 },
-      and_from bag.1 (and_from waiting.1.1 kept.1.1),
+      and_from _ _ bag.1 (and_from _ _ waiting.1.1 kept.1.1),
     )
 
 shard_from : (s : ShardFields) → Passes IsShard is_old_shard s → IsOldShard s

@@ -209,7 +209,14 @@ fn are_of_line(acts: &[LineAct], node: NodeId, line_len: u64) -> bool
     ensures long { IsTrue result → length acts.now ≡ line_len }
     ensures shape { IsTrue result → All (IsActOf node) acts.now }
 {
-    acts.len() as u64 == line_len && acts.iter().all(|act| act.may_be_of(node))
+    acts.len() as u64 == line_len && are_of(acts, node)
+}
+
+/// Whether each act may stand in the node's line.
+fn are_of(acts: &[LineAct], node: NodeId) -> bool
+    ensures { result ≡ list_all (is_act_of node) acts.now }
+{
+    acts.iter().all(|act| act.may_be_of(node))
 }
 
 /// The length of the node's line, by which the acts are judged.
