@@ -54,36 +54,23 @@ const WITH_ROOM_FOR_ONE: [Text; 13] = [
     (b"linda-kt 1\nshards 1\nworker\nsteps\nend\n#", 4, 8),
 ];
 
-fn has_fault(rt: &impl Abort, alloc: Global, expected: &Text) {
-    let (text, line, number) = expected;
-    assert_eq!(rt; fault_of(alloc, text), (*line, *number), "{text:?}");
+fn have_faults(rt: &impl Abort, alloc: Global, texts: &[Text]) {
+    for (text, line, number) in texts {
+        assert_eq!(rt; fault_of(alloc, text), (*line, *number), "{text:?}");
+    }
 }
 
 /// A line's other fault comes before want of memory.
 #[test]
 fn no_memory(rt: HostRuntime) -> Result<(), Fail> {
     let alloc = rt.alloc();
+    let slots = Vec::<Slot>::with_capacity(alloc, MAX_PLACES)?;
+    let actuals = Vec::<Actual>::with_capacity(alloc, MAX_PLACES)?;
     let mut hoard = Vec::with_capacity(alloc, BLOCKS)?;
     hoard_all(alloc, &mut hoard)?;
-    for text in &WITHOUT_MEMORY {
-        has_fault(&rt, alloc, text);
-    }
-    Ok(())
-}
-
-/// The same with room for one command. All is given back and hoarded anew for each text, since a command that was read
-/// leaves its room in pieces.
-#[test]
-fn room_for_one_command(rt: HostRuntime) -> Result<(), Fail> {
-    let alloc = rt.alloc();
-    for text in &WITH_ROOM_FOR_ONE {
-        let slots = Vec::<Slot>::with_capacity(alloc, MAX_PLACES)?;
-        let actuals = Vec::<Actual>::with_capacity(alloc, MAX_PLACES)?;
-        let mut hoard = Vec::with_capacity(alloc, BLOCKS)?;
-        hoard_all(alloc, &mut hoard)?;
-        drop((slots, actuals));
-        has_fault(&rt, alloc, text);
-    }
+    have_faults(&rt, alloc, &WITHOUT_MEMORY);
+    drop((slots, actuals));
+    have_faults(&rt, alloc, &WITH_ROOM_FOR_ONE);
     Ok(())
 }
 

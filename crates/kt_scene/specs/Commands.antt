@@ -43,7 +43,7 @@ abbrev pub literal_of : Result (List ℕ × List ℕ) (List ℕ) → Option (Act
 literal_of (Err rest) = None
 literal_of (Ok read) = option_map (λ v. (Literal v, read.1)) (value_of read.0)
 
--- the value or the variable that a whole word is: `true` and `false` are values, and any other word is a name or nothing
+-- what a whole word is: `true` and `false` are values, and any other word is a variable's name or nothing
 unfoldable pub word_of : List ℕ → Option Actual
 word_of word =
     if pointwise nat_eq word (codes "true") then Some (Literal (Truth true))

@@ -1,4 +1,4 @@
-//! The lines of commands, read without memory.
+//! The lines of commands, judged without memory.
 
 ghost use Rattle.std.specs.Prelude.{◌≡◌, ◌≤◌, ℕ, List, [], ◌∷◌, length, IfSome, IfOk, false, not, position};
 ghost use Rattle.std.specs.Prelude.{Option, Some, None};
@@ -15,7 +15,7 @@ ghost use Rattle.kt_script.specs.declared.command.Slot.{Slot as Place};
 
 use crate::fault::SceneError;
 use crate::line::{behind, ended, number_at};
-use crate::rooms::Rooms;
+use crate::rooms::{Rooms, taken_out};
 use kt_script::{
     Actual, Actuals, Command, Name, Operation, Pattern, Script, ScriptError, Slot,
     is_name_character,
@@ -179,13 +179,12 @@ impl Placed for Actual {
     }
 }
 
-/// The places of a text in parentheses, 1 to `MAX_PLACES`, each taken so, in this room.
-fn places_in<T: Placed>(text: &[u8], room: Vec<T>) -> Option<Vec<T>>
-    requires { HasRoom room }
+/// The places of a text in parentheses, 1 to `MAX_PLACES`, each taken so. They are read into this room.
+fn places_in<T: Placed>(text: &[u8], room: &mut Vec<T>) -> Option<Vec<T>>
+    requires { HasRoom room.old }
     ensures value { option_map (λ s. s.items) result ≡ of_read (all_taken T.taken) (slots_in text.now) }
     ensures arity { IfSome result (λ s. HasArity s.items) }
 {
-    let mut places = room;
     let mut rest = behind(text, b"(")?;
     for _ in 0..MAX_PLACES {
         let Some((slot, after)) = slot_at(rest) else {
@@ -194,9 +193,9 @@ fn places_in<T: Placed>(text: &[u8], room: Vec<T>) -> Option<Vec<T>>
         let Some(place) = T::of(slot) else {
             return None;
         };
-        places.push_reserved(place);
+        room.push_reserved(place);
         match after_place(after) {
-            Ok(None) => return Some(places),
+            Ok(None) => return Some(taken_out(room)),
             Ok(Some(next)) => rest = next,
             Err(_) => return None,
         }
@@ -204,31 +203,22 @@ fn places_in<T: Placed>(text: &[u8], room: Vec<T>) -> Option<Vec<T>>
     None
 }
 
-/// These places, without the room that they leave, where the smaller block is to be had.
-fn fitted<T>(places: Vec<T>) -> Vec<T>
-    ensures { result.items ≡ places.items }
-{
-    let mut fitted = places;
-    fitted.shrink_to_fit();
-    fitted
-}
-
-/// The places of a template, in these rooms.
+/// The places of a template, read into these rooms.
 #[tactic(auto, using(crate::proofs::Slots::all_as_they_stand))]
 fn pattern_in(text: &[u8], rooms: &mut Rooms) -> Option<Pattern>
     requires { IsReady rooms.old }
     ensures { result ≡ slots_in text.now }
 {
-    Pattern::new(fitted(places_in(text, rooms.for_slots())?))
+    Pattern::new(places_in(text, &mut rooms.slots)?)
 }
 
-/// The values and variables of a tuple, in these rooms: none of its places is a formal.
+/// The values and variables of a tuple, read into these rooms: none of its places is a formal.
 #[tactic(auto, using(crate::proofs::Slots::all_as_actuals))]
 fn actuals_in(text: &[u8], rooms: &mut Rooms) -> Option<Actuals>
     requires { IsReady rooms.old }
     ensures { result ≡ of_read actuals_of (slots_in text.now) }
 {
-    Actuals::new(fitted(places_in(text, rooms.for_actuals())?))
+    Actuals::new(places_in(text, &mut rooms.actuals)?)
 }
 
 impl Verb {
@@ -332,7 +322,7 @@ fn unless_of(words: &[u8]) -> Option<Spelled>
     ended(unless_with(count), rest)
 }
 
-/// The command that the line spells, its places in these rooms; or what is wrong with the line by itself.
+/// The command that the line spells, its places read into these rooms; or what is wrong with the line by itself.
 pub(crate) fn spelled_of(line: &[u8], rooms: &mut Rooms) -> Result<Spelled, SceneError>
     requires { IsReady rooms.old }
     ensures { result ≡ spelled_of line.now }

@@ -7,7 +7,7 @@ use Rattle.kt_scene.proofs.command.places_in.Given as goal
 
 abbrev pub invariant-loop : goal.invariant-loop
 invariant-loop g l = record {
-  count : vec_len l.places ≡ l.counter;
-  room : MAX_PLACES ≤ vec_capacity l.places;
-  so_far : with_front l.places.items (taken_from g.T.Placed.taken (MAX_PLACES - l.counter) l.rest) ≡ of_read (all_taken g.T.Placed.taken) (slots_in l.text);
+  count : vec_len l.room ≡ l.counter;
+  room : MAX_PLACES ≤ vec_capacity l.room;
+  so_far : with_front l.room.items (taken_from g.T.Placed.taken (MAX_PLACES - l.counter) l.rest) ≡ of_read (all_taken g.T.Placed.taken) (slots_in l.text);
 }
