@@ -22,6 +22,8 @@ ONE_PAGE = 32 + 24 + 512
 SHARD_BYTES = (
     "4b54435002020100000000000000020100000000000000010000000000000001000000000000000100000000000000010000000102020161"
     "0100000000000000010001010000000000000001010202016101000000000000000100"
+    "0301010101000000000000000100000000000000010102020161010000000000000001"
+    "040101010100000000000000010000000000000001010202016101000000000000000100"
 )
 NODES = "SELECT id, incarnation, length(permanent), length(tentative), instance FROM kt_node ORDER BY id"
 BOARD = "SELECT instance, initiator, purpose, verdict FROM kt_board ORDER BY instance"
@@ -149,7 +151,7 @@ def shown(folder, file):
     if not shutil.which("sqlite3"):
         print("skipped what sqlite3 shows and makes: it is not there")
         return
-    yield told("who holds what checkpoint", "1|1|61||\n101|1|91||\n", asked(file, NODES))
+    yield told("who holds what checkpoint", "1|1|122||\n101|1|162||\n", asked(file, NODES))
     yield told("the board", "1|1|1|1\n", asked(file, BOARD))
     yield told("the open instances", "", asked(file, OPEN))
     bytes_of = "SELECT lower(hex(permanent)) FROM kt_node WHERE id = 101"

@@ -4,10 +4,15 @@ pub mod Primitive
 pub mod Values
 pub mod Tuples
 pub mod Ops
+pub mod ActFields
 pub mod Loop
 pub mod States
 pub mod Front
 pub mod Nodes
 pub mod Peers
 pub mod Checkpoints
+pub mod Chains
+pub mod TakenLines
+pub mod NotedLines
+pub mod Gatherings
 pub mod Shared

@@ -125,8 +125,7 @@ impl Machine {
             Some(node) => Ok(View {
                 role,
                 node,
-                next: self.history.notes().len() as u64 + 1,
-                line: self.history.line(id),
+                past: &self.past,
             }),
             _ => Err(StepError::NoNode),
         }
@@ -168,7 +167,7 @@ impl Machine {
                 place,
             } => {
                 let number = worker.number();
-                let by = cause_of_waiting(&self.history, shard, number);
+                let by = cause_of_waiting(self.past.history(), shard, number);
                 seen.serve(alloc, number, place, by)
             }
             _ => voting(seen, alloc, told, step),

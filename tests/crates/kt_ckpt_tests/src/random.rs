@@ -2,7 +2,7 @@
 
 use crate::drawn::checkpoint;
 use crate::seen::Seen;
-use kt_ckpt::{Ckpt, CkptError, MAX_PEERS, ShardState, State, WorkerState};
+use kt_ckpt::{Acts, Ckpt, CkptError, MAX_PEERS, ShardState, State, WorkerState};
 use kt_draws::Draws;
 use kt_shard::{Kept, Request};
 use kt_tuple::Op;
@@ -15,6 +15,33 @@ fn is_same(a: &Ckpt, b: &Ckpt) -> bool {
         && a.sent() == b.sent()
         && a.received() == b.received()
         && is_same_state(a.state(), b.state())
+}
+
+/// Whether the two have the same acts.
+fn are_same_acts(alloc: Global, a: &Acts, b: &Acts) -> Result<bool, AllocError> {
+    let (a, b) = (a.listed(alloc)?, b.listed(alloc)?);
+    for (a, b) in a.iter().zip(&b) {
+        let is_same = a.what == b.what && a.by == b.by && a.op == b.op;
+        if !is_same || a.worker != b.worker || a.number != b.number {
+            return Ok(false);
+        }
+    }
+    Ok(a.len() == b.len())
+}
+
+/// The acts made again, some at a time: so many, then one more each time.
+fn acts_made_again(alloc: Global, acts: &Acts) -> Result<Acts, AllocError> {
+    let (mut again, mut some) = (Acts::none(), Vec::new(alloc));
+    let mut wanted = 0;
+    for act in acts.listed(alloc)? {
+        some.push(act.copy(alloc)?)?;
+        if some.len() > wanted {
+            again = again.with(alloc, some)?;
+            some = Vec::new(alloc);
+            wanted += 1;
+        }
+    }
+    again.with(alloc, some)
 }
 
 fn is_same_state(a: &State, b: &State) -> bool {
@@ -74,7 +101,16 @@ fn made_again(alloc: Global, ckpt: &Ckpt) -> Result<Ckpt, AllocError> {
     let state = state_made_again(ckpt.state().copy(alloc)?);
     let sent = Vec::from_slice(alloc, ckpt.sent())?;
     let received = Vec::from_slice(alloc, ckpt.received())?;
-    Ckpt::new(alloc, ckpt.node(), ckpt.line_len(), sent, received, state)
+    let acts = acts_made_again(alloc, ckpt.acts())?;
+    Ckpt::new(
+        alloc,
+        ckpt.node(),
+        ckpt.line_len(),
+        sent,
+        received,
+        state,
+        acts,
+    )
 }
 
 fn state_made_again(state: State) -> State {
@@ -97,22 +133,24 @@ fn is_written_as(alloc: Global, ckpt: &Ckpt, bytes: &[u8]) -> Result<bool, Alloc
 
 fn is_read_of(alloc: Global, ckpt: &Ckpt, bytes: &[u8]) -> Result<bool, CkptError> {
     let again = Ckpt::decode(alloc, bytes)?;
-    Ok(is_same(ckpt, &again))
+    Ok(is_same(ckpt, &again) && are_same_acts(alloc, ckpt.acts(), again.acts())?)
 }
 
 /// Whether its copy is the same, and what is made of the copy's parts.
 fn is_copied(alloc: Global, ckpt: &Ckpt) -> Result<bool, AllocError> {
     let copy = ckpt.copy(alloc)?;
-    if !is_same(ckpt, &copy) {
+    if !(is_same(ckpt, &copy) && are_same_acts(alloc, ckpt.acts(), copy.acts())?) {
         return Ok(false);
     }
-    Ok(is_same(ckpt, &made_again(alloc, &copy)?))
+    let again = made_again(alloc, &copy)?;
+    Ok(is_same(ckpt, &again) && are_same_acts(alloc, ckpt.acts(), again.acts())?)
 }
 
 /// Whether the bytes are a checkpoint that is written as these bytes again, and read the same once more.
 fn comes_back(alloc: Global, bytes: &[u8], seen: &mut Seen) -> Result<bool, CkptError> {
     let ckpt = Ckpt::decode(alloc, bytes)?;
     seen.see(ckpt.state());
+    seen.see_acts(&ckpt.acts().listed(alloc)?);
     Ok(
         is_written_as(alloc, &ckpt, bytes)?
             && is_read_of(alloc, &ckpt, bytes)?
