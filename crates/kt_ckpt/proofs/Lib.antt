@@ -15,4 +15,9 @@ pub mod Chains
 pub mod TakenLines
 pub mod NotedLines
 pub mod Gatherings
+pub mod OldFields
+pub mod OldOps
+pub mod OldRising
+pub mod OldStates
+pub mod OldCheckpoints
 pub mod Shared

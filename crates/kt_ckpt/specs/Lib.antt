@@ -11,4 +11,8 @@ pub mod Acts
 pub mod LineActs
 pub mod Checkpoint
 pub mod Marks
+pub mod OldLimits
+pub mod OldParts
+pub mod OldState
+pub mod Old
 pub mod inner

@@ -128,7 +128,7 @@ fn checkpoint_at(alloc: Global, bytes: &[u8]) -> Result<(Ckpt, &[u8]), CkptError
 
 /// The checkpoint with these labels sent to its neighbours, and received from them.
 #[tactic(auto, using(crate::proofs::Peers::counted_peers))]
-fn ckpt_of(
+pub(crate) fn ckpt_of(
     alloc: Global,
     node: NodeId,
     line_len: u64,
@@ -164,7 +164,7 @@ fn received_of(alloc: Global, peers: &[(Label, Label)]) -> Result<Vec<Label>, Al
 
 /// The bytes behind the magic ones; else `Cut` or `Magic`.
 #[tactic(auto, unfolding(crate::specs::Checkpoint::magic_at))]
-fn magic_at(bytes: &[u8]) -> Result<&[u8], CkptError>
+pub(crate) fn magic_at(bytes: &[u8]) -> Result<&[u8], CkptError>
     ensures { Gives (λ rest. (magic, rest.now)) result (magic_at bytes.now) }
 {
     // The four magic bytes are one field: how many there are is judged before what they are.

@@ -91,7 +91,11 @@ fn push_label(out: &mut Vec<u8>, label: Label) -> Result<(), AllocError>
     push_u64(out, label.count)
 }
 
-fn push_peers(out: &mut Vec<u8>, sent: &[Label], received: &[Label]) -> Result<(), AllocError>
+pub(crate) fn push_peers(
+    out: &mut Vec<u8>,
+    sent: &[Label],
+    received: &[Label],
+) -> Result<(), AllocError>
     requires { ArePeers sent.now received.now }
     ensures ok { OnOk result (out.new.items ≡ out.old.items ++ peers_bytes (zip sent.now received.now)) }
     ensures held { OnOk result (All IsLabel sent.now × All IsLabel received.now) }
@@ -116,7 +120,7 @@ fn push_labels(out: &mut Vec<u8>, sent: &[Label], received: &[Label]) -> Result<
     }
 }
 
-fn push_state(out: &mut Vec<u8>, state: &State) -> Result<(), AllocError>
+pub(crate) fn push_state(out: &mut Vec<u8>, state: &State) -> Result<(), AllocError>
     requires { IsCountedState state.now }
     ensures ok { OnOk result (out.new.items ≡ out.old.items ++ state_bytes state.now) }
     ensures held { OnOk result (IsState state.now) }

@@ -1,9 +1,10 @@
 -- What is found where a store is opened.
-use Rattle.std.proofs.Common.{◌≡◌, ℕ, ◌+◌, ◌<◌, ◌≤◌, negsuc, Bool, true, false, ◌&&◌, List, [], ◌∷◌, map, flat_map}
+use Rattle.std.proofs.Common.{◌≡◌, ℕ, ◌+◌, ◌<◌, ◌≤◌, negsuc, Bool, true, false, ◌&&◌, List, [], ◌∷◌, length, map, flat_map}
 use Rattle.std.proofs.Common.{refl, sym, ap, ap₂, subst, subst₂, ◌∙◌, arith, IsPermutation}
 use Rattle.std.specs.Prelude.{◌↔◌, IsTrue}
 use Rattle.std.specs.List.{AllByRecursion}
-use Rattle.std.proofs.lemmas.List.Sorted.{IsPermutation-map, IsPermutation-sym}
+use Rattle.std.proofs.lemmas.List.{length-map}
+use Rattle.std.proofs.lemmas.List.Sorted.{IsPermutation-map, IsPermutation-sym, length_permutation}
 use Rattle.sqlite_value.specs.Order.{Row}
 use Rattle.sqlite_trees.specs.Tree.{Trees, IsAscending}
 use Rattle.sqlite_sql.specs.Term.{Term, col, eval_all}
@@ -20,7 +21,7 @@ use Rattle.kt_tables.specs.Rows.{number_in, node_given, posted_given, IsNodeRow,
 use Rattle.kt_tables.specs.Settled.{IsSettled}
 use Rattle.kt_tables.specs.inner.Looking.{Looks}
 use Rattle.kt_tables.proofs.StateLemmas.{look_clean, look_open}
-use Rattle.kt_tables.specs.Opened.{meta_shown, meta_given, IsThisVersion, IsReady}
+use Rattle.kt_tables.specs.Opened.{meta_shown, meta_of, IsThisVersion, IsReady}
 use Rattle.kt_tables.specs.inner.Testing.{key_of, IsRowOf, AreRowsFrom}
 use Rattle.kt_tables.proofs.Texts.{Asks, from_table, rising, all_nodes_is, all_posted_is, meta, meta_is, node_names, posted_names}
 use Rattle.kt_tables.proofs.TableRows.{Table, HoldsAll, nodes_table, posted_table}
@@ -130,13 +131,30 @@ module _ {X : Type 0} {IsSaid : X → Type 0} (t : Table IsSaid) where
           },
     )
 
+-- nothing is shown just where the table has no row
+nothing_by : {X : Type 0} (f : X → Row) (xs : List X) (rows : List Row) → IsPermutation (map f xs) rows → (length rows ≡ 0) ↔ (xs ≡ [])
+nothing_by {X} f xs rows bag =
+    let len = length_permutation _ _ bag in
+    (λ none. empty xs (grind (arith, len, none, length-map xs f)), λ is. grind (arith, len, ap (λ l. length (map f l)) is))
+  where
+    empty : (xs : List X) → length xs ≡ 0 → xs ≡ []
+    empty [] same = refl
+    empty (x ∷ xs) same = absurd (omega (arith, same))
+
+pub none_shown : {X : Type 0} {IsSaid : X → Type 0} (t : Table IsSaid) (sql : List ℕ) (names : List (List ℕ))
+    → Asks sql (from_table t.tree [] t.columns rising (negsuc 0)) names → (old new : State) → old.now.schema ≡ kt_schema
+    → (rows : List Row) → Shown sql [] old new rows → (length rows ≡ 0) ↔ (old.now.trees t.tree ≡ [])
+none_shown t sql names asks old new has rows h =
+    nothing_by _ (old.now.trees t.tree) rows (shown_bag t.tree t.columns old.now.trees rows (answered sql [] old new _ names asks has rows h))
+
 module _ (old new : State) (has : old.now.schema ≡ kt_schema) (rows : List Row) where
-  pub meta_held : Shown meta_text [] old new rows → (rows ≡ meta_given ∷ []) ↔ (map meta_shown (old.now.trees 2) ≡ meta_given ∷ [])
-  meta_held h =
+  pub meta_held : (version : ℕ) → Shown meta_text [] old new rows
+      → (rows ≡ meta_of version ∷ []) ↔ (map meta_shown (old.now.trees 2) ≡ meta_of version ∷ [])
+  meta_held version h =
       let bag : IsPermutation (map meta_shown (old.now.trees 2)) rows =
       shown_bag 2 (col 1 0 ∷ col 1 2 ∷ []) old.now.trees rows (answered meta_text [] old new meta _ meta_is has rows h) in (
-        λ is. one_permutation meta_given _ (IsPermutation-sym _ _ (subst (IsPermutation (map meta_shown (old.now.trees 2))) is bag)),
-        λ is. one_permutation meta_given _ (subst (λ l. IsPermutation l rows) is bag),
+        λ is. one_permutation (meta_of version) _ (IsPermutation-sym _ _ (subst (IsPermutation (map meta_shown (old.now.trees 2))) is bag)),
+        λ is. one_permutation (meta_of version) _ (subst (λ l. IsPermutation l rows) is bag),
       )
 
 in_turn : {P Q R : Type 0} → P ↔ Q → Q ↔ R → P ↔ R

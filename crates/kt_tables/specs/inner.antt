@@ -7,3 +7,4 @@ pub mod Testing
 pub mod Showing
 pub mod Looking
 pub mod Lasting
+pub mod Carrying

@@ -1,12 +1,14 @@
 //! The stores in files.
 ghost use Rattle.sqlite.specs.Files.{over_files};
-ghost use Rattle.linda_kt.specs.Files.{OpensFile};
+ghost use Rattle.linda_kt.specs.Files.{CarriesFile, ConnectsFile, OpensFile};
 
-use kt_command::Opens;
-use kt_sql::{SqlOpenError, SqlStore};
-use sqlite::{File, FileStore};
+use kt_command::{Carries, Opens};
+use kt_sql::{SqlOpenError, SqlStore, connect};
+use kt_store::MemStore;
+use sqlite::{Connection, File, FileStore};
+use std::alloc::Global;
 
-/// Opens the store in a file, by the runtime of the process.
+/// Opens the store in a file, or carries it over, by the runtime of the process.
 #[derive(Drop)]
 pub struct Files<'a> {
     rt: &'a HostRuntime,
@@ -26,5 +28,31 @@ impl Opens<SqlStore<FileStore<File>>, SqlOpenError> for Files<'_> {
 
     fn open(self, path: &str) -> Result<SqlStore<FileStore<File>>, SqlOpenError> {
         SqlStore::open(self.rt, path)
+    }
+}
+
+/// What is known of a file that was carried over is what `SqlStore::migrate` says of the connection to it.
+impl Carries<Connection<FileStore<File>>, SqlOpenError> for Files<'_> {
+    ghost connects = { λ _ path answer. ConnectsFile path answer };
+
+    ghost carries = { λ c content answer. CarriesFile over_files c content answer };
+
+    fn connect(self, path: &str) -> Result<Connection<FileStore<File>>, SqlOpenError> {
+        connect(self.rt, path)
+    }
+
+    fn carry(
+        alloc: Global,
+        connection: Connection<FileStore<File>>,
+        store: &MemStore,
+    ) -> Result<(), SqlOpenError> {
+        // Not met by one that `connect` made.
+        if !connection.is_autocommit() {
+            return Err(SqlOpenError::Device);
+        }
+        match SqlStore::migrate(alloc, connection, store) {
+            Ok(_) => Ok(()),
+            Err((error, _)) => Err(error),
+        }
     }
 }

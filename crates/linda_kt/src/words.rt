@@ -3,17 +3,18 @@ ghost use Rattle.std.specs.Prelude.{◌≡◌, ◌⊎◌, false, IfOk, Some};
 ghost use Rattle.clap.specs.Words.{app_of, FailsBy, found_of, kind_of, rows_of, rule_of};
 ghost use Rattle.clap.specs.declared.builder.command.Command.TheViews.{out-Command as fields_of};
 ghost use Rattle.clap.specs.Simple.{shape_of};
+ghost use Rattle.kt_command.specs.Asking.{asked};
 ghost use Rattle.kt_command.specs.Command.{texts};
-ghost use Rattle.linda_kt.specs.Words.{asked, asked_by, command_line_app, has_flag, journal_rule};
-ghost use Rattle.linda_kt.specs.Words.{program_app, replay_shape, run_shape, store_rule, words_fault};
+ghost use Rattle.linda_kt.specs.Words.{asked_by, command_line_app, has_flag, journal_rule, migrate_shape};
+ghost use Rattle.linda_kt.specs.Words.{old_store_rule, program_app, replay_shape, run_shape, store_rule, words_fault};
 
 use clap::error::ErrorKind;
 use clap::{Arg, ArgAction, ArgMatches, Error};
 use kt_command::{Command, Request};
 use std::alloc::{AllocError, Global};
 
-/// The command that the words name, and the file of its store; the words are those after the program's
-/// name. Any other words are an error of `clap`, whose text is for the user.
+/// What the words ask: a command and the file of its store, or the file that is to be carried over. The words are those
+/// after the program's name. Any other words are an error of `clap`, whose text is for the user.
 pub fn read_words<'a>(alloc: Global, words: &'a [&'a str]) -> Result<Request<'a>, Error>
     ensures command { IfOk result (λ r. asked_by (texts words.entry.now) ≡ Some (asked r)) }
     ensures refused { FailsBy (words_fault (texts words.entry.now)) result }
@@ -21,9 +22,14 @@ pub fn read_words<'a>(alloc: Global, words: &'a [&'a str]) -> Result<Request<'a>
     let matches = command_line(alloc)?.try_get_matches_from(words)?;
     // Words that pass have one of the names.
     let (name, options) = matches.subcommand().unwrap();
-    let command = Command::of_name(name, has_journal(options)).unwrap();
     let store = options.get_str("store");
-    Ok(Request { command, store })
+    if name == "migrate" {
+        // Words that pass name the file.
+        let store = store.unwrap();
+        return Ok(Request::Migrate { store });
+    }
+    let command = Command::of_name(name, has_journal(options)).unwrap();
+    Ok(Request::Make { command, store })
 }
 
 /// Whether `--journal` stands among a command's words.
@@ -43,13 +49,15 @@ fn command_line<'a>(alloc: Global) -> Result<clap::Command<'a>, AllocError>
 {
     let replay = replay_command(alloc)?;
     let run = run_command(alloc)?;
+    let migrate = migrate_command(alloc)?;
     described(alloc)
         .bin_name("linda_kt")?
         .no_binary_name(true)
         .subcommand_required(true)
         .disable_help_subcommand(true)
         .subcommand(replay)?
-        .subcommand(run)
+        .subcommand(run)?
+        .subcommand(migrate)
 }
 
 /// `replay` with its option.
@@ -74,6 +82,18 @@ fn run_command<'a>(alloc: Global) -> Result<clap::Command<'a>, AllocError>
     run.arg(store_option(alloc))?.arg(journal_flag(alloc))
 }
 
+/// `migrate` with its option, which must stand.
+fn migrate_command<'a>(alloc: Global) -> Result<clap::Command<'a>, AllocError>
+    ensures shape { IfOk result (λ c. shape_of c ≡ migrate_shape) }
+    ensures local { IfOk result (λ c. (fields_of c).has_globals ≡ false) }
+{
+    let migrate = clap::Command::new(alloc, "migrate").about(
+        "Carries a store of version 1 over, by the journal on standard input that made it, and writes the report to \
+         standard output",
+    );
+    migrate.arg(old_store_option(alloc))
+}
+
 /// `--journal`.
 fn journal_flag<'a>(alloc: Global) -> Arg<'a>
     ensures rule { rule_of result ≡ journal_rule }
@@ -96,6 +116,18 @@ fn store_option<'a>(alloc: Global) -> Arg<'a>
         .long("store")
         .value_name("FILE")
         .help("Keeps the checkpoints in FILE, which is absent, empty or a fresh store")
+}
+
+/// `--store FILE` of `migrate`.
+fn old_store_option<'a>(alloc: Global) -> Arg<'a>
+    ensures rule { rule_of result ≡ old_store_rule }
+    ensures local { result.global ≡ false }
+{
+    Arg::new(alloc, "store")
+        .long("store")
+        .value_name("FILE")
+        .required(true)
+        .help("The store of version 1, which holds what the journal makes and nothing else")
 }
 
 /// The program's name, what it is, and its version.

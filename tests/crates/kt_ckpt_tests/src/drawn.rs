@@ -103,7 +103,7 @@ fn push_op(out: &mut Vec<u8>, draws: &mut Draws) -> Result<(), AllocError> {
     let places = draws.byte(1, MAX_PLACES as u8);
     out.push(places)?;
     for _ in 0..places {
-        push_place(out, draws)?;
+        push_template_place(out, draws)?;
     }
     Ok(())
 }
@@ -126,7 +126,7 @@ fn push_tuple(out: &mut Vec<u8>, draws: &mut Draws) -> Result<(), AllocError> {
     Ok(())
 }
 
-fn push_place(out: &mut Vec<u8>, draws: &mut Draws) -> Result<(), AllocError> {
+fn push_template_place(out: &mut Vec<u8>, draws: &mut Draws) -> Result<(), AllocError> {
     match draws.byte(0, 5) {
         0 => Ok(out.push(0x81)?),
         1 => Ok(out.push(0x82)?),

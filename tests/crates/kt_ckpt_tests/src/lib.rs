@@ -7,6 +7,8 @@ mod bytes;
 #[cfg(test)]
 mod drawn;
 #[cfg(test)]
+mod old;
+#[cfg(test)]
 mod pasts;
 #[cfg(test)]
 mod random;

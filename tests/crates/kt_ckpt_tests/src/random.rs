@@ -9,7 +9,12 @@ use kt_tuple::Op;
 use std::alloc::{AllocError, Global};
 use std::test::*;
 
-fn is_same(a: &Ckpt, b: &Ckpt) -> bool {
+/// Whether the two are equal in all fields.
+pub(crate) fn is_same(alloc: Global, a: &Ckpt, b: &Ckpt) -> Result<bool, AllocError> {
+    Ok(has_same_fields(a, b) && are_same_acts(alloc, a.acts(), b.acts())?)
+}
+
+fn has_same_fields(a: &Ckpt, b: &Ckpt) -> bool {
     a.node() == b.node()
         && a.line_len() == b.line_len()
         && a.sent() == b.sent()
@@ -133,17 +138,17 @@ fn is_written_as(alloc: Global, ckpt: &Ckpt, bytes: &[u8]) -> Result<bool, Alloc
 
 fn is_read_of(alloc: Global, ckpt: &Ckpt, bytes: &[u8]) -> Result<bool, CkptError> {
     let again = Ckpt::decode(alloc, bytes)?;
-    Ok(is_same(ckpt, &again) && are_same_acts(alloc, ckpt.acts(), again.acts())?)
+    Ok(is_same(alloc, ckpt, &again)?)
 }
 
 /// Whether its copy is the same, and what is made of the copy's parts.
 fn is_copied(alloc: Global, ckpt: &Ckpt) -> Result<bool, AllocError> {
     let copy = ckpt.copy(alloc)?;
-    if !(is_same(ckpt, &copy) && are_same_acts(alloc, ckpt.acts(), copy.acts())?) {
+    if !is_same(alloc, ckpt, &copy)? {
         return Ok(false);
     }
     let again = made_again(alloc, &copy)?;
-    Ok(is_same(ckpt, &again) && are_same_acts(alloc, ckpt.acts(), again.acts())?)
+    is_same(alloc, ckpt, &again)
 }
 
 /// Whether the bytes are a checkpoint that is written as these bytes again, and read the same once more.

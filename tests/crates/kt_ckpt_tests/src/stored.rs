@@ -52,3 +52,9 @@ pub const SHARD: [u8; 162] = [
     1, 2, 2, 1, 0x61, 1, 0, 0, 0, 0, 0, 0, 0, 1, // out ("a", 1)
     0, // done
 ];
+
+/// How many bytes of `FIRST_WORKER` and of `SHARD` stand before the acts: with the version 1 they are the checkpoint
+/// in format 1.
+pub const OLD_WORKER_LEN: usize = 61;
+/// See `OLD_WORKER_LEN`.
+pub const OLD_SHARD_LEN: usize = 91;

@@ -1,6 +1,6 @@
 use Rattle.std.proofs.Common.{sym, ◌∙◌}
 use Rattle.kt_scene.proofs.Known.{written_more}
-use Rattle.kt_scene.proofs.stream.put.Goals as goal
+use Rattle.kt_scene.proofs.stream.write_text.Goals as goal
 
 pub returns-in-Failed-clause-front : goal.returns-in-Failed-clause-front
 returns-in-Failed-clause-front g c =
