@@ -8,14 +8,14 @@ use std::alloc::Global;
 use std::process::Abort;
 use std::test::*;
 
-/// The second worker: an empty line, two neighbours, the next command is the fourth, the last request has
+/// The second worker: a line of five acts, two neighbours, the next command is the fourth, the last request has
 /// the number 2 and no answer yet, `inp ("a", ?int, ?bool)`, the last answer was none, and the variables are -1, `hi`
 /// and `true`. It issued `out ("hi", true)` and accepted its answer, issued the second request, sent it once more, and
 /// ignored a late answer to the first.
 const WORKER: [u8; 237] = [
     0x4b, 0x54, 0x43, 0x50, 2, // magic, version
     1, 2, // the second worker
-    0, 0, 0, 0, 0, 0, 0, 0, // line length
+    0, 0, 0, 0, 0, 0, 0, 5, // line length
     2, // two neighbours
     0, 0, 0, 0, 0, 0, 0, 1, 0, 0, 0, 0, 0, 0, 0, 3, // sent to the first
     0, 0, 0, 0, 0, 0, 0, 2, 0, 0, 0, 0, 0, 0, 1, 0, // received from the first
@@ -175,7 +175,7 @@ fn fields(rt: HostRuntime) -> Result<(), Fail> {
         .ok()
         .ok_or("the bytes are a checkpoint")?;
     assert_eq!(rt; ckpt.node(), NodeId::Worker(2));
-    assert_eq!(rt; ckpt.line_len(), 0);
+    assert_eq!(rt; ckpt.line_len(), 5);
     assert_eq!(rt; ckpt.sent().len(), 2);
     assert_eq!(rt;
         ckpt.sent()[0],
