@@ -45,7 +45,9 @@ impl Carries<Connection<FileStore<File>>, SqlOpenError> for Files<'_> {
         alloc: Global,
         connection: Connection<FileStore<File>>,
         store: &MemStore,
-    ) -> Result<(), SqlOpenError> {
+    ) -> Result<(), SqlOpenError>
+        ensures { CarriesFile over_files connection store.now.content result }
+    {
         // Not met by one that `connect` made.
         if !connection.is_autocommit() {
             return Err(SqlOpenError::Device);
