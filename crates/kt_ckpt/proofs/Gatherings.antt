@@ -1,5 +1,5 @@
 -- What is gathered of a line stays of it, and is what a checkpoint holds.
-use Rattle.std.proofs.Common.{◌≡◌, ℕ, zero, suc, ◌≤◌, Bool, true, false, ◌&&◌, if◌then◌else◌, List, [], ◌∷◌, ◌++◌, take, drop, length, get_or, set, ◌<◌}
+use Rattle.std.proofs.Common.{◌≡◌, ℕ, zero, suc, ◌≤◌, Bool, true, false, ◌&&◌, if◌then◌else◌, List, [], ◌∷◌, ◌++◌, take, drop, length, map, get_or, set, ◌<◌}
 use Rattle.std.proofs.Common.{Option, Some, None, inl, inr, refl, sym, ap, ◌∙◌, subst, arith, length-append}
 use Rattle.std.specs.Prelude.{◌⊎◌, All}
 use Rattle.std.specs.List.{list_all}
@@ -14,14 +14,14 @@ use Rattle.kt_tuple.proofs.Shared.{node_index-injective}
 use Rattle.kt_history.specs.declared.note.Act.{Act}
 use Rattle.kt_history.specs.declared.note.Note.{Note}
 use Rattle.kt_history.specs.declared.note.Note.TheVariants as notes
-use Rattle.kt_history.specs.Line.{line, same_node}
-use Rattle.kt_history.specs.Closed.{acts_in_line}
+use Rattle.kt_history.specs.Line.{line, note_at, same_node}
+use Rattle.kt_history.specs.Closed.{act_of, acts_at, acts_in_line}
 use Rattle.kt_history.specs.WellFormed.{CausesComeFirst}
 use Rattle.kt_history.proofs.Shared.{acts_in_line-own_act, acts_in_line-own_cut, acts_in_line-other_act, acts_in_line-other_cut, same_node-true}
 use Rattle.kt_ckpt.specs.declared.acts.LineAct.{LineAct}
 use Rattle.kt_ckpt.specs.Acts.{IsActOf, is_act_of}
-use Rattle.kt_ckpt.specs.LineActs.{fitting, line_acts}
-use Rattle.kt_ckpt.specs.inner.Gathered.{IsGathered, IsLeft, IsPut, Leaves, row}
+use Rattle.kt_ckpt.specs.LineActs.{fitting, line_act, line_acts}
+use Rattle.kt_ckpt.specs.inner.Gathered.{IsGathered, IsLeft, IsPut, Leaves, fits_at, row}
 use Rattle.kt_ckpt.proofs.NotedLines.{acts-long, front-noted, line-long, take-whole}
 
 -- no more is gathered than the line has
@@ -90,20 +90,32 @@ gathered-noted h note p old new causes g left =
 
 -- ---- what a checkpoint holds
 
--- the line's acts are given where those that were not gathered may stand in it
-pub fitting-whole : (h : List Note) (p : NodeId) (older newer : List LineAct) → IsGathered h p older
-    → newer ≡ drop (length older) (line_acts h p)
-    → fitting p (line_acts h p) ≡ (if list_all (is_act_of p) newer then Some (older ++ newer) else None)
-fitting-whole h p older newer g is =
-    let whole : line_acts h p ≡ older ++ newer =
-    sym (gathered-whole h p older g) ∙ ap (λ (l : List LineAct). older ++ l) (sym is) in
+-- the line's acts are those that were gathered and those behind them
+pub whole-line : (h : List Note) (p : NodeId) (older newer : List LineAct) → IsGathered h p older
+    → newer ≡ drop (length older) (line_acts h p) → older ++ newer ≡ line_acts h p
+whole-line h p older newer g is = ap (λ (l : List LineAct). older ++ l) is ∙ gathered-whole h p older g
+
+fits-first : (h : List Note) (p : NodeId) (n : ℕ) (numbers : List ℕ) (found : Option Act) → act_of (note_at h n) ≡ found
+    → list_all (fits_at h p) numbers ≡ list_all (is_act_of p) (map (line_act h) (acts_at h numbers))
+    → list_all (fits_at h p) (n ∷ numbers) ≡ list_all (is_act_of p) (map (line_act h) (acts_at h (n ∷ numbers)))
+fits-first h p n numbers (Some a) is rest = rw is (ap (λ (b : Bool). is_act_of p (line_act h a) && b) rest)
+fits-first h p n numbers None is rest = rw is rest
+
+-- the acts of these numbers may stand in the line where each number's may
+pub fits-each : (h : List Note) (p : NodeId) (numbers : List ℕ)
+    → list_all (fits_at h p) numbers ≡ list_all (is_act_of p) (map (line_act h) (acts_at h numbers))
+fits-each h p [] = refl
+fits-each h p (n ∷ numbers) = fits-first h p n numbers (act_of (note_at h n)) refl (fits-each h p numbers)
+
+-- those of the line may where those that were not gathered may
+pub gathered-fits : (h : List Note) (p : NodeId) (older : List LineAct) → IsGathered h p older
+    → list_all (is_act_of p) (drop (length older) (line_acts h p)) ≡ list_all (is_act_of p) (line_acts h p)
+gathered-fits h p older g =
+    let newer = drop (length older) (line_acts h p) in
     let test : list_all (is_act_of p) (older ++ newer) ≡ list_all (is_act_of p) newer =
     list_all-append (is_act_of p) older newer
     ∙ ap (λ (b : Bool). b && list_all (is_act_of p) newer) (list_all-from_AllPass (is_act_of p) older g.fit) in
-    ap (fitting p) whole ∙ ap (λ (b : Bool). if b then Some (older ++ newer) else None) test
-
-pub whole-fits : (h : List Note) (p : NodeId) (older newer : List LineAct) → IsGathered h p older → All (IsActOf p) newer → All (IsActOf p) (older ++ newer)
-whole-fits h p older newer g fit = All-append (IsActOf p) older newer g.fit fit
+    sym test ∙ ap (list_all (is_act_of p)) (gathered-whole h p older g)
 
 -- ---- what is told by the acts that are given, or by their want
 
@@ -114,6 +126,13 @@ none-if false x e = refl
 some-if : {A : Type 0} → (b : Bool) (x y : A) → Some y ≡ (if b then Some x else None) → (b ≡ true) × (y ≡ x)
 some-if true x y e = let same : y ≡ x = cc in (refl, same)
 some-if false x y e = absurd cc
+
+-- acts are given just where each may stand in the line
+pub given-none : (p : NodeId) (acts : List LineAct) → list_all (is_act_of p) acts ≡ false → None ≡ fitting p acts
+given-none p acts e = rw e refl
+
+pub given-some : (p : NodeId) (acts given : List LineAct) → list_all (is_act_of p) acts ≡ true → given ≡ acts → Some given ≡ fitting p acts
+given-some p acts given e same = rw e (ap (λ (l : List LineAct). Some l) same)
 
 pub fitting-none : (p : NodeId) (acts : List LineAct) → None ≡ fitting p acts → list_all (is_act_of p) acts ≡ false
 fitting-none p acts e = none-if (list_all (is_act_of p) acts) acts e

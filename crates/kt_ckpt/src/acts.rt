@@ -1,6 +1,6 @@
 //! What a node did, as its checkpoint holds it, and which acts may stand in whose line.
 
-ghost use Rattle.std.specs.Prelude.{◌≡◌, ◌↔◌, All, IfOk, IsTrue};
+ghost use Rattle.std.specs.Prelude.{◌≡◌, ◌↔◌, ◌&&◌, All, IfOk, IsTrue};
 ghost use Rattle.std.specs.List.{list_all};
 ghost use Rattle.kt_ckpt.specs.Acts.{IsActOf, is_about, is_act_of, is_caused, is_done_by, is_own_will, may_send};
 
@@ -30,9 +30,7 @@ impl LineAct {
     pub fn may_be_of(&self, node: NodeId) -> bool
         ensures { result ≡ is_act_of node self.now }
     {
-        is_done_by(node, &self.what)
-            && is_about(node, self.worker)
-            && is_caused(node, self.worker, &self.what, self.by)
+        may_stand(node, self.worker, &self.what, self.by)
     }
 
     /// An equal one.
@@ -55,6 +53,13 @@ pub fn are_acts_of(node: NodeId, acts: &[LineAct]) -> bool
     ensures all { IsTrue result ↔ All (IsActOf node) acts.now }
 {
     acts.iter().all(|act| act.may_be_of(node))
+}
+
+/// Whether an act may stand in the line of the node that is about this worker, and heard what this act sent.
+pub(crate) fn may_stand(node: NodeId, worker: u8, what: &What, by: Option<(NodeId, u64)>) -> bool
+    ensures { result ≡ (is_done_by node what.now && (is_about node worker && is_caused node worker what.now by)) }
+{
+    is_done_by(node, what) && is_about(node, worker) && is_caused(node, worker, what, by)
 }
 
 fn is_done_by(node: NodeId, what: &What) -> bool

@@ -1,6 +1,6 @@
 //! The history, with the acts of each node at hand for its next checkpoint.
 
-ghost use Rattle.std.specs.Prelude.{◌≡◌, ◌⊎◌, ◌+◌, ◌<◌, ◌≤◌, ◌^◌, ◌∷◌, ◌++◌, [], All, IfOk, IfSome, OnOk};
+ghost use Rattle.std.specs.Prelude.{◌≡◌, ◌⊎◌, ◌+◌, ◌<◌, ◌≤◌, ◌^◌, ◌∷◌, ◌++◌, [], All, IfErr, IfOk, IfSome, OnOk, true};
 ghost use Rattle.std.specs.Prelude.{drop, length, map, take};
 ghost use Rattle.kt_tuple.specs.declared.node.NodeId.{NodeId as Name};
 ghost use Rattle.kt_history.specs.declared.note.Note.TheVariants as notes;
@@ -8,11 +8,12 @@ ghost use Rattle.kt_history.specs.Chronicle.{node_of, room_of};
 ghost use Rattle.kt_history.specs.Closed.{acts_at};
 ghost use Rattle.kt_history.specs.Line.{line};
 ghost use Rattle.kt_history.specs.WellFormed.{MayFollow};
-ghost use Rattle.kt_ckpt.specs.Acts.{IsActOf};
+ghost use Rattle.std.specs.List.{list_all};
+ghost use Rattle.kt_ckpt.specs.Acts.{IsActOf, is_act_of};
 ghost use Rattle.kt_ckpt.specs.LineActs.{fitting, line_act, line_acts, placed};
-ghost use Rattle.kt_ckpt.specs.inner.Gathered.{IsGathered, IsLeft, IsPut, row};
+ghost use Rattle.kt_ckpt.specs.inner.Gathered.{IsGathered, IsLeft, IsPut, fits_at, row};
 
-use crate::acts::{LineAct, are_acts_of};
+use crate::acts::{LineAct, may_stand};
 use crate::chain::Acts;
 use kt_history::{Act, History, Note};
 use kt_tuple::NodeId;
@@ -75,6 +76,31 @@ fn acts_of(alloc: Global, history: &History, numbers: &[u64]) -> Result<Vec<Line
         }
     }
     Ok(acts)
+}
+
+/// Whether the act of this number, if it names one, may stand in the line of the node.
+fn is_fit(history: &History, node: NodeId, number: u64) -> bool
+    ensures { result ≡ fits_at history.now.notes node number }
+{
+    match history.act(number) {
+        Some(act) => may_stand(node, act.worker, &act.what, placed(history, act.by)),
+        None => true,
+    }
+}
+
+/// The same of each of these numbers.
+fn are_fit(history: &History, node: NodeId, numbers: &[u64]) -> bool
+    ensures { result ≡ list_all (fits_at history.now.notes node) numbers.now }
+{
+    numbers.iter().all(|number| is_fit(history, node, *number))
+}
+
+/// Whether each act of the node's line behind the first so many may stand in it.
+fn are_fit_behind(history: &History, node: NodeId, first: u64) -> bool
+    requires { first ≤ length (line history.now.notes node) }
+    ensures { result ≡ list_all (is_act_of node) (drop first (line_acts history.now.notes node)) }
+{
+    are_fit(history, node, &history.line(node)[first as usize..])
 }
 
 /// The acts of the node's line behind the first so many, oldest first.
@@ -182,26 +208,46 @@ impl Past {
         }
     }
 
-    /// The acts of the node's line, oldest first, as a checkpoint holds them; `None` where one may not stand in it. Those that are gathered are shared, so it costs what came since. Refused only for want of memory.
+    /// The acts of the node's line, oldest first, as a checkpoint holds them; `None` where one may not stand in it. That
+    /// is found out first and takes no memory, so want of memory does not hide it. The acts that are gathered are
+    /// shared, so it costs what came since.
     pub fn acts(&self, alloc: Global, node: NodeId) -> Result<Option<Acts>, AllocError>
         ensures acts { IfOk result (λ found. found ≡ fitting node (line_acts self.now.notes node)) }
         ensures shape { IfOk result (λ found. IfSome found (All (IsActOf node))) }
+        ensures refused { IfErr result (λ _. list_all (is_act_of node) (line_acts self.now.notes node) ≡ true) }
     {
-        let older = self.gathered(node)?;
-        let newer = acts_behind(alloc, &self.history, node, older.len())?;
-        if !are_acts_of(node, &newer) {
+        if !self.are_fit(node) {
             return Ok(None);
         }
+        let older = self.gathered(node)?;
+        let newer = acts_behind(alloc, &self.history, node, older.len())?;
         Ok(Some(older.with(alloc, newer)?))
+    }
+
+    /// Whether each act of the node's line may stand in it. Those that are gathered may, and are not looked at.
+    fn are_fit(&self, node: NodeId) -> bool
+        ensures { result ≡ list_all (is_act_of node) (line_acts self.now.notes node) }
+    {
+        match self.gathered_of(node) {
+            Some(acts) => are_fit_behind(&self.history, node, acts.len()),
+            None => are_fit_behind(&self.history, node, 0),
+        }
     }
 
     /// What is gathered of the node, shared.
     fn gathered(&self, node: NodeId) -> Result<Acts, AllocError>
         ensures { IfOk result (IsGathered self.now.notes node) }
     {
-        match self.gathered.get(node.index()) {
+        match self.gathered_of(node) {
             Some(acts) => acts.copy(),
             None => Ok(Acts::none()),
         }
+    }
+
+    /// What is gathered of the node, where it has a row.
+    fn gathered_of(&self, node: NodeId) -> Option<&Acts>
+        ensures { IfSome result (λ a. IsGathered self.now.notes node a.now) }
+    {
+        self.gathered.get(node.index())
     }
 }

@@ -1,6 +1,6 @@
 //! Who makes a step, and what it sees.
 
-ghost use Rattle.std.specs.Prelude.{◌≡◌, All, IfOk, IfSome};
+ghost use Rattle.std.specs.Prelude.{◌≡◌, All, IfErr, IfOk, IfSome, true};
 
 use crate::node::Node;
 use kt_ckpt::{Acts, Past};
@@ -33,7 +33,9 @@ pub struct View<'a> {
 impl View<'_> {
     ghost use Rattle.kt_ckpt.specs.Acts.{IsActOf};
     ghost use Rattle.kt_ckpt.specs.LineActs.{fitting};
+    ghost use Rattle.kt_node.specs.Stored.{acts_fit};
     ghost use Rattle.kt_node.specs.View.{view_of};
+    ghost use Rattle.kt_node.specs.Views.{role_view};
 
     /// The number that the next note will have, counted from 1.
     pub(crate) fn next(self) -> u64
@@ -50,10 +52,11 @@ impl View<'_> {
     }
 
     /// The acts that the owner remembers, as a checkpoint holds them; `None` where one of them may not stand in its
-    /// line. While the store is honest each may.
+    /// line. While the store is honest each may. Want of memory hides no such act.
     pub(crate) fn acts(self, alloc: Global) -> Result<Option<Acts>, AllocError>
         ensures acts { IfOk result (λ found. found ≡ fitting self.entry.role.id (view_of self.entry).acts) }
         ensures shape { IfOk result (λ found. IfSome found (All (IsActOf self.entry.role.id))) }
+        ensures refused { IfErr result (λ _. acts_fit (role_view self.entry.role) (view_of self.entry).acts ≡ true) }
     {
         self.past.acts(alloc, self.role.id)
     }

@@ -18,7 +18,7 @@ use Rattle.kt_history.specs.Place.{place_of, place}
 use Rattle.kt_history.specs.Closed.{act_of, acts_at, acts_in_line}
 use Rattle.kt_history.specs.WellFormed.{ActFits, HeardReply, HeardRequest, IsAsking, IsShard as IsShardNamed, IsWellFormed}
 use Rattle.kt_history.proofs.Shared.{line-own, note_at-push_cases, note_before, Contains-here, Contains-there}
-use Rattle.kt_shard.specs.Limits.{most_workers}
+use Rattle.kt_tuple.specs.declared.node.TheConstants.{MAX_WORKERS}
 use Rattle.kt_ckpt.specs.declared.acts.LineAct.{LineAct}
 use Rattle.kt_ckpt.specs.Acts.{is_about, is_act_of, is_caused, is_done_by}
 use Rattle.kt_ckpt.specs.LineActs.{line_act, line_acts, node_placed, placed}

@@ -1,14 +1,16 @@
 -- What is gathered of the acts of each node.
-use Rattle.std.specs.Prelude.{◌≡◌, ◌⊎◌, ℕ, ◌≤◌, List, [], length, take, All, slice_index_or}
+use Rattle.std.specs.Prelude.{◌≡◌, ◌⊎◌, ℕ, ◌≤◌, Bool, true, List, [], length, take, All, Option, None, Some, slice_index_or}
 use Rattle.kt_tuple.specs.declared.node.NodeId.{NodeId}
 use Rattle.kt_tuple.specs.Node.{node_index}
 use Rattle.kt_history.specs.declared.note.Act.{Act}
 use Rattle.kt_history.specs.declared.note.Note.{Note}
 use Rattle.kt_history.specs.declared.note.Note.TheVariants as notes
+use Rattle.kt_history.specs.Line.{note_at}
+use Rattle.kt_history.specs.Closed.{act_of}
 use Rattle.kt_history.specs.WellFormed.{CausesComeFirst}
 use Rattle.kt_ckpt.specs.declared.acts.LineAct.{LineAct}
-use Rattle.kt_ckpt.specs.Acts.{IsActOf}
-use Rattle.kt_ckpt.specs.LineActs.{line_acts}
+use Rattle.kt_ckpt.specs.Acts.{IsActOf, is_act_of}
+use Rattle.kt_ckpt.specs.LineActs.{line_act, line_acts}
 
 -- these are first acts of the line of p, and each may stand in it
 pub record IsGathered (h : List Note) (p : NodeId) (acts : List LineAct) : Type 0 where
@@ -38,3 +40,12 @@ pub record IsLeft (note : Note) (old : List LineAct) (p : NodeId) (new : List Li
   pub left : ℕ
   pub first : new ≡ take left old
   pub few : Leaves note p (length new)
+
+-- the act, where there is one, may stand in the line of p
+abbrev pub is_fit : List Note → NodeId → Option Act → Bool
+is_fit h p (Some a) = is_act_of p (line_act h a)
+is_fit h p None = true
+
+-- the act of this number, where it names one, may stand in the line of p
+abbrev pub fits_at : List Note → NodeId → ℕ → Bool
+fits_at h p n = is_fit h p (act_of (note_at h n))

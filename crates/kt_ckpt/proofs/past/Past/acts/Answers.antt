@@ -1,13 +1,11 @@
-use Rattle.std.proofs.Common.{◌≡◌, ◌∙◌, ◌≤◌, ◌++◌, Bool, true, false, if◌then◌else◌, Some, None, ap, sym, subst, drop, length, List, ℕ, arith}
-use Rattle.std.specs.List.{list_all}
+use Rattle.std.proofs.Common.{◌≡◌, ◌∙◌, ◌≤◌, ◌++◌, Bool, true, ap, sym, subst, drop, length, ℕ, arith}
 use Rattle.std.proofs.lemmas.List.Elements.{All-same}
 use Rattle.std.proofs.lemmas.List.Sums.{AllPass-from_list_all}
 use Rattle.kt_history.specs.Chronicle.{Chronicle}
 use Rattle.kt_history.specs.Line.{line}
-use Rattle.kt_ckpt.specs.declared.acts.LineAct.{LineAct}
 use Rattle.kt_ckpt.specs.Acts.{IsActOf, is_act_of}
-use Rattle.kt_ckpt.specs.LineActs.{fitting, line_acts}
-use Rattle.kt_ckpt.proofs.Gatherings.{fitting-whole, gathered-short, whole-fits}
+use Rattle.kt_ckpt.specs.LineActs.{line_acts}
+use Rattle.kt_ckpt.proofs.Gatherings.{gathered-short, given-some, whole-line}
 use Rattle.kt_ckpt.proofs.past.Past.acts.Goals as goal
 
 pub acts_behind-requires : goal.acts_behind-requires
@@ -22,32 +20,25 @@ with-requires c =
     let e = c.len.ensures in
     omega (arith, few, e)
 
-pub returns-then-not-are_acts_of-clause-acts : goal.returns-then-not-are_acts_of-clause-acts
-returns-then-not-are_acts_of-clause-acts c =
-    let newer_is = c.in_ok-newer.ensures.acts ∙ ap (λ (k : ℕ). drop k (line_acts c.self.inside.history.notes c.args.node)) c.len.ensures
-    ∙ ap (λ (x : Chronicle). drop (length c.in_ok-older.older) (line_acts x.notes c.args.node)) c.self.view_is in
-    let whole = fitting-whole c.args.self.now.notes c.args.node c.in_ok-older.older c.in_ok-newer.newer.items c.in_ok-older.ensures newer_is in
-    let test = c.are_acts_of.ensures.value ∙ ap (list_all (is_act_of c.args.node)) c.deref.ensures.value in
-    let t = c.if-not-are_acts_of.true in
-    let no : c.are_acts_of.result ≡ false = cc in
-    sym (whole ∙ ap (λ (b : Bool). if b then Some (c.in_ok-older.older ++ c.in_ok-newer.newer.items) else None) (sym test ∙ no))
-
 pub returns-clause-acts : goal.returns-clause-acts
 returns-clause-acts c =
-    let newer_is = c.in_ok-newer.ensures.acts ∙ ap (λ (k : ℕ). drop k (line_acts c.self.inside.history.notes c.args.node)) c.len.ensures
-    ∙ ap (λ (x : Chronicle). drop (length c.in_ok-older.older) (line_acts x.notes c.args.node)) c.self.view_is in
-    let whole = fitting-whole c.args.self.now.notes c.args.node c.in_ok-older.older c.in_ok-newer.newer.items c.in_ok-older.ensures newer_is in
-    let test = c.are_acts_of.ensures.value ∙ ap (list_all (is_act_of c.args.node)) c.deref.ensures.value in
-    let t = c.if-not-are_acts_of.false in
-    let yes : c.are_acts_of.result ≡ true = cc in
-    ap (λ (l : List LineAct). Some l) c.in_ok-with.ensures
-    ∙ sym (whole ∙ ap (λ (b : Bool). if b then Some (c.in_ok-older.older ++ c.in_ok-newer.newer.items) else None) (sym test ∙ yes))
+    let h = c.args.self.now.notes in
+    let p = c.args.node in
+    let newer_is = c.in_ok-newer.ensures.acts ∙ ap (λ (k : ℕ). drop k (line_acts c.self.inside.history.notes p)) c.len.ensures
+    ∙ ap (λ (x : Chronicle). drop (length c.in_ok-older.older) (line_acts x.notes p)) c.self.view_is in
+    let whole = whole-line h p c.in_ok-older.older c.in_ok-newer.newer.items c.in_ok-older.ensures newer_is in
+    let t = c.if-not-are_fit.false in
+    let yes : c.are_fit.result ≡ true = cc in
+    given-some p (line_acts h p) c.in_ok-with.field-0 (sym c.are_fit.ensures ∙ yes) (c.in_ok-with.ensures ∙ whole)
 
 pub returns-clause-shape : goal.returns-clause-shape
 returns-clause-shape c =
-    let test = c.are_acts_of.ensures.value ∙ ap (list_all (is_act_of c.args.node)) c.deref.ensures.value in
-    let t = c.if-not-are_acts_of.false in
-    let yes : c.are_acts_of.result ≡ true = cc in
-    All-same (IsActOf c.args.node) c.in_ok-with.field-0 (c.in_ok-older.older ++ c.in_ok-newer.newer.items) c.in_ok-with.ensures
-    (whole-fits c.args.self.now.notes c.args.node c.in_ok-older.older c.in_ok-newer.newer.items c.in_ok-older.ensures
-    (AllPass-from_list_all (is_act_of c.args.node) c.in_ok-newer.newer.items (sym test ∙ yes)))
+    let h = c.args.self.now.notes in
+    let p = c.args.node in
+    let newer_is = c.in_ok-newer.ensures.acts ∙ ap (λ (k : ℕ). drop k (line_acts c.self.inside.history.notes p)) c.len.ensures
+    ∙ ap (λ (x : Chronicle). drop (length c.in_ok-older.older) (line_acts x.notes p)) c.self.view_is in
+    let whole = whole-line h p c.in_ok-older.older c.in_ok-newer.newer.items c.in_ok-older.ensures newer_is in
+    let t = c.if-not-are_fit.false in
+    let yes : c.are_fit.result ≡ true = cc in
+    All-same (IsActOf p) c.in_ok-with.field-0 (line_acts h p) (c.in_ok-with.ensures ∙ whole)
+    (AllPass-from_list_all (is_act_of p) (line_acts h p) (sym c.are_fit.ensures ∙ yes))
