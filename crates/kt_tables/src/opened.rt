@@ -193,6 +193,19 @@ pub(crate) fn tested<S: Alter>(alloc: Global, conn: &mut Connection<S>) -> Resul
     Ok(are_nodes && are_posted)
 }
 
+/// Whether the query answers no row.
+fn answers_nothing<S: Alter>(conn: &mut Connection<S>, sql: &str) -> Result<bool, StoreError>
+    requires { IsPlain (understood kt_schema sql.now) }
+    ensures value { HasCleanDisk (state S.Store conn.new) → IfOk result (λ told. (rows : List Values)
+        × Shown sql.now [] (state S.Store conn.old) (state S.Store conn.new) rows × (IsTrue told ↔ (length rows ≡ 0))) }
+    ensures looks { Looks (state S.Store conn.old) (state S.Store conn.new) }
+    ensures is_open { HasCleanDisk (state S.Store conn.new) → OnOk result (IsTrue (state S.Store conn.new).is_open) }
+    ensures named { IfErr result (λ e. (e ≡ StoreError.Memory) ⊎ (e ≡ StoreError.Device)) }
+{
+    let rows = ask(conn, sql)?;
+    Ok(rows.is_empty())
+}
+
 /// Whether neither nodes nor instances have a row. What stands in a row is not looked at.
 pub(crate) fn has_no_row<S: Alter>(conn: &mut Connection<S>) -> Result<bool, StoreError>
     ensures value { HasCleanDisk (state S.Store conn.new) → IsSettled (state S.Store conn.old)
@@ -208,9 +221,9 @@ pub(crate) fn has_no_row<S: Alter>(conn: &mut Connection<S>) -> Result<bool, Sto
     ensures named { IfErr result (λ e. (e ≡ StoreError.Memory) ⊎ (e ≡ StoreError.Device)) }
     ensures mode { (state S.Store conn.old).in_transaction ≡ false → (state S.Store conn.new).in_transaction ≡ false }
 {
-    let nodes = ask(conn, ALL_NODES)?;
-    let posted = ask(conn, ALL_POSTED)?;
-    Ok(nodes.is_empty() && posted.is_empty())
+    let no_nodes = answers_nothing(conn, ALL_NODES)?;
+    let no_posted = answers_nothing(conn, ALL_POSTED)?;
+    Ok(no_nodes && no_posted)
 }
 
 /// Has the third table say this version, in one statement.

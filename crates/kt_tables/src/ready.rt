@@ -4,6 +4,7 @@ ghost use Rattle.std.specs.Prelude.{◌≡◌, ◌≢◌, false, Err, IfOk, OnOk
 ghost use Rattle.sqlite.specs.Held.{state};
 ghost use Rattle.sqlite.specs.State.{HasCleanDisk};
 ghost use Rattle.kt_tables.specs.Schema.{kt_schema, no_schema};
+ghost use Rattle.kt_tables.specs.Settled.{IsSettled};
 ghost use Rattle.kt_tables.specs.Opened.{HasNoRow, IsOldVersion, IsThisVersion, IsReady};
 ghost use Rattle.kt_tables.specs.Made.{IsMade};
 
