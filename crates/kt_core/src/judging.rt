@@ -1,7 +1,7 @@
 //! What a step's owner makes of it: the table of steps, over what each node plans.
 
 ghost use Rattle.std.specs.Prelude.{◌≡◌, ◌+◌, ◌<◌, ◌^◌, IfOk, IfErr, IsTrue, is_ok};
-ghost use Rattle.kt_store.specs.Content.{empty_content};
+ghost use Rattle.kt_store.specs.Content.{Content, empty_content};
 ghost use Rattle.kt_node.specs.Plan.{Gives as Plans, Planned};
 ghost use Rattle.kt_node.specs.Ready.{CanAct};
 ghost use Rattle.kt_node.specs.Saving.{CanSaveNode};
@@ -200,5 +200,20 @@ impl Machine {
             return judged;
         }
         Err(StepError::StepLimit)
+    }
+    /// As `plan`, once the acts are gathered that the step may save. Nothing changes that is to be seen.
+    pub(crate) fn gathered_plan(
+        &mut self,
+        alloc: Global,
+        told: Told,
+        step: Step,
+    ) -> Result<Plan, StepError>
+        requires ready { IsReady (state_of self.old empty_content) }
+        requires small { told.stored.incarnation + 1 < 2 ^ 64 }
+        ensures plan { Gives result (planned_by (state_of self.old empty_content) told step) }
+        ensures same { (c : Content) → state_of self.new c ≡ state_of self.old c }
+    {
+        self.gather(alloc, step);
+        self.plan(alloc, told, step)
     }
 }
