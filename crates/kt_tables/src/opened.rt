@@ -105,8 +105,8 @@ pub(crate) fn kind_of<S: Alter>(conn: &mut Connection<S>) -> Result<Kind, StoreE
     ensures same { HasCleanDisk (state S.Store conn.new) → IsTrue (state S.Store conn.new).is_open
         → IsSettled (state S.Store conn.old)
         → ((state S.Store conn.new).now ≡ (state S.Store conn.old).now) × IsSettled (state S.Store conn.new) }
-    ensures is_open { HasCleanDisk (state S.Store conn.new)
-        → IfOk result (λ kind. kind ≡ Kind.Old → IsTrue (state S.Store conn.new).is_open) }
+    ensures is_open { HasCleanDisk (state S.Store conn.new) → (state S.Store conn.old).now.schema ≡ kt_schema
+        → OnOk result (IsTrue (state S.Store conn.new).is_open) }
     ensures leaves { HasCleanDisk (state S.Store conn.new) → (db : Trees) → (state S.Store conn.new).may_leave db
         → (state S.Store conn.old).may_leave db }
     ensures foreign { (state S.Store conn.old).now.schema ≢ kt_schema → result ≡ Ok Kind.Other }

@@ -1,4 +1,5 @@
 use Rattle.std.proofs.Common.{◌≡◌, ◌∙◌, refl, sym}
+use Rattle.std.proofs.lemmas.Bool.{false≢true}
 use Rattle.sqlite.specs.Held.{state}
 use Rattle.kt_tables.specs.Schema.{kt_schema}
 use Rattle.kt_tables.specs.Opened.{IsOldVersion, IsThisVersion}
@@ -80,3 +81,7 @@ returns-in_err-rows-clause-leaves g c clean =
     let old = state g.S.Store c.args.conn.now in
     let has : old.now.schema ≡ kt_schema = sym c.schema.ensures.value ∙ c.is_kt_schema.ensures.0 c.if-not-is_kt_schema.false in
     c.ask.ensures.looks.leaves clean has
+
+pub returns-then-not-is_kt_schema-clause-is_open : goal.returns-then-not-is_kt_schema-clause-is_open
+returns-then-not-is_kt_schema-clause-is_open g c clean has =
+    absurd (false≢true (sym c.if-not-is_kt_schema.true ∙ c.is_kt_schema.ensures.1 (c.schema.ensures.value ∙ has)))
