@@ -17,7 +17,7 @@ use Rattle.sqlite.specs.Effect.{Database}
 use Rattle.sqlite.specs.State.{State, Executes}
 use Rattle.sqlite_keyed.proofs.ListLemmas.{all-filter, all_weaker, all_both, all_unmap, IsPermutation-filter}
 use Rattle.kt_tables.specs.Schema.{kt_schema}
-use Rattle.kt_tables.specs.Opened.{meta_shown, meta_of, old_version, this_version}
+use Rattle.kt_tables.specs.Opened.{meta_shown, meta_of, old_version, this_version, HasNoRow, IsOldVersion, IsThisVersion}
 use Rattle.kt_tables.specs.Rows.{whole, node_shown}
 use Rattle.kt_tables.proofs.PutLemmas.{AreNumbered, put_ran}
 use Rattle.kt_tables.specs.declared.cells.NodeCells.{NodeCells}
@@ -152,6 +152,16 @@ put_version_does old new count has meta h =
     let only = only_meta (old.now.trees 2) meta in
     let put = put_ran puts_meta old new count has only.0 h in
     (put.schema, ap (map meta_shown) (put.rows ∙ ap (put_row meta_row) only.1), λ m apart. put.others m apart)
+
+-- where no table but the third has a row, they are as those that were just made
+pub raised_made : (old new : State) (count : ℕ) → IsOldVersion old.now → HasNoRow old.now → Executes first_meta_text [] old new (Ok count)
+    → IsThisVersion new.now × (new.now.trees 0 ≡ []) × (new.now.trees 1 ≡ [])
+raised_made old new count version none h =
+    let did = put_version_does old new count version.schema version.meta h in (
+      record { schema = did.0; meta = did.1 },
+      did.2 0 (λ same. absurd cc) ∙ none.nodes,
+      did.2 1 (λ same. absurd cc) ∙ none.board,
+    )
 
 -- ---- all of it
 

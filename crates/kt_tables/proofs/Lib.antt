@@ -18,4 +18,6 @@ pub mod CarriedRows
 pub mod CarriedLoop
 pub mod CarriedTables
 pub mod CarryLemmas
+pub mod OldLemmas
+pub mod ReadyLemmas
 pub mod Shared

@@ -50,7 +50,7 @@ flat_ones : {A B C : Type 0} (e : A → B) (f : B → C) (xs : List A) → map f
 flat_ones e f [] = refl
 flat_ones e f (x ∷ xs) = ap (λ l. f (e x) ∷ l) (flat_ones e f xs)
 
-shown_bag : (tree : ℕ) (columns : List Term) (db : Trees) (rows : List Row) → IsAnswer (from_table tree [] columns rising (negsuc 0)) db [] rows
+pub shown_bag : (tree : ℕ) (columns : List Term) (db : Trees) (rows : List Row) → IsAnswer (from_table tree [] columns rising (negsuc 0)) db [] rows
     → IsPermutation (map (λ (r : Row). eval_all columns ([] ∷ r ∷ [])) (db tree)) rows
 shown_bag tree columns db rows answer =
     let q = from_table tree [] columns rising (negsuc 0) in
@@ -101,7 +101,7 @@ module _ {X : Type 0} {IsSaid : X → Type 0} (t : Table IsSaid) where
 
   module _ (sql : List ℕ) (names : List (List ℕ)) (asks : Asks sql (from_table t.tree [] t.columns rising (negsuc 0)) names) (old new : State)
       (has : old.now.schema ≡ kt_schema) (rows : List Row) (h : Shown sql [] old new rows) where
-    all_found : (xs : List X) → HoldsAll t (old.now.trees t.tree) xs → rows ≡ map t.given xs
+    pub all_found : (xs : List X) → HoldsAll t (old.now.trees t.tree) xs → rows ≡ map t.given xs
     all_found xs held =
         in_order t old.now.trees xs held.shown (keyed t xs held.said held.rise) [] (negsuc 0) [] (λ _. true) (λ r. refl) (λ r. refl) rows
         (answered sql [] old new _ names asks has rows h)

@@ -3,12 +3,16 @@
 
 ghost use Rattle.std.specs.Prelude.{◌≡◌, ◌⊎◌, ◌≤◌, true, false, [], map, IfOk, IfErr, OnOk, OnErr, IsTrue};
 ghost use Rattle.std.specs.List.{AllByRecursion};
+ghost use Rattle.std.specs.Option.{option_copied};
+ghost use Rattle.sqlite.specs.declared.types.Value.TheVariants.{Blob};
 ghost use Rattle.sqlite.specs.Held.{state};
 ghost use Rattle.sqlite.specs.State.{HasCleanDisk, ExecutesInside, KeepsCommit, Survives};
 ghost use Rattle.sqlite.specs.Tree.{Trees};
+ghost use Rattle.sqlite.specs.Values.{or_null};
+ghost use Rattle.sqlite_trees.specs.View.{doubt};
 ghost use Rattle.kt_tables.specs.Cells.{cells_given};
 ghost use Rattle.kt_tables.specs.Old.{AreNewOf, IsCarried, IsOldOf, IsOldRow};
-ghost use Rattle.kt_tables.specs.Rows.{IsNodeRow, node_given};
+ghost use Rattle.kt_tables.specs.Rows.{IsNodeRow, IsSpelled, node_given, spelled};
 ghost use Rattle.kt_tables.specs.inner.Carrying.{AllPut, AreNewTrees, ArePut, HasTable, IsOld, RiseById};
 
 use crate::cells::{NodeCells, encoded};
@@ -23,7 +27,10 @@ use sqlite::{Alter, Connection, Error, Transaction};
 use std::alloc::{AllocError, Global};
 
 /// The bytes of the checkpoint, none where there is none.
-fn bytes_of(alloc: Global, checkpoint: Option<&Ckpt>) -> Result<Option<Vec<u8>>, AllocError> {
+fn bytes_of(alloc: Global, checkpoint: Option<&Ckpt>) -> Result<Option<Vec<u8>>, AllocError>
+    ensures { IfOk result (λ bytes. IsSpelled (option_copied checkpoint.entry)
+        × (or_null (λ b. Blob b.items) bytes ≡ spelled (option_copied checkpoint.entry))) }
+{
     match checkpoint {
         Some(checkpoint) => Ok(Some(encoded(alloc, checkpoint)?)),
         None => Ok(None),
@@ -97,6 +104,7 @@ fn put_in_one<S: Alter>(conn: &mut Connection<S>, rows: &[NodeCells]) -> Result<
         × ((state S.Store conn.new).committed ≡ (state S.Store conn.old).committed)
         × IsTrue (state S.Store conn.old).is_open) }
     ensures ended { conn.new.in_transaction ≡ false }
+    ensures clean { doubt (state S.Store conn.old).is_clean ≤ doubt (state S.Store conn.new).is_clean }
     ensures survives { IsOld (state S.Store conn.old).now rows.now
         → Survives (state S.Store conn.old) (state S.Store conn.new)
         (AreNewTrees rows.now (state S.Store conn.old).now.trees) }

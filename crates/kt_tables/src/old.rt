@@ -1,17 +1,26 @@
 //! Whether tables of version 1 hold what a store in memory holds. No checkpoint is decoded: each has one spelling, and
 //! its bytes are compared with that.
 
-ghost use Rattle.std.specs.Prelude.{◌≡◌, ◌↔◌, ◌⊎◌, ◌<◌, ◌≤◌, false, [], map, length, option_map, IfOk, IfErr, OnOk, IsTrue};
+ghost use Rattle.std.specs.Prelude.{◌≡◌, ◌↔◌, ◌⊎◌, ◌<◌, ◌≤◌, true, false, nat_lt, map, length, IfOk, IfErr, OnOk};
+ghost use Rattle.std.specs.Prelude.{IsTrue};
 ghost use Rattle.std.specs.List.{AllByRecursion};
 ghost use Rattle.std.specs.Option.{option_copied};
 ghost use Rattle.sqlite.specs.declared.types.Value.TheVariants.{Blob, Null};
 ghost use Rattle.sqlite.specs.Held.{state};
 ghost use Rattle.sqlite.specs.Order.{column};
 ghost use Rattle.sqlite.specs.State.{HasCleanDisk};
+ghost use Rattle.sqlite.specs.Tree.{Trees};
+ghost use Rattle.sqlite_trees.specs.Tree.{IsAscending};
+ghost use Rattle.kt_tuple.specs.Node.{is_before};
+ghost use Rattle.kt_store.specs.declared.rows.NodeRow.{NodeRow as NodeFields};
+ghost use Rattle.kt_store.specs.declared.rows.Posted.{Posted as PostedFields};
 ghost use Rattle.kt_store.specs.Content.{greatest};
-ghost use Rattle.kt_tables.specs.Old.{FitsOld, IsOldOf, IsOldRow, old_given, spelled_old};
-ghost use Rattle.kt_tables.specs.Rows.{IsLow, IsPosted, instance_value, posted_given, taken_instance, whole};
+ghost use Rattle.kt_tables.specs.Old.{AreOldRows, FitsOld, HoldsOldNodes, IsOldOf, IsOldRow, old_given, spelled_old};
+ghost use Rattle.kt_tables.specs.Rows.{HoldsBoard, IsLow, IsPosted, instance_value, posted_given, taken_instance};
+ghost use Rattle.kt_tables.specs.Rows.{whole};
+ghost use Rattle.kt_tables.specs.Schema.{kt_schema};
 ghost use Rattle.kt_tables.specs.Settled.{IsSettled};
+ghost use Rattle.kt_tables.specs.inner.Looking.{Looks};
 
 use crate::cells::posted_codes;
 use crate::ids::id_of;
@@ -150,14 +159,96 @@ fn are_posted(rows: &[Row], board: &[Posted]) -> bool
     left.is_empty()
 }
 
+/// Whether the rows stand in node order. A store in memory keeps them so, and no clause of it says that.
+fn are_in_order(nodes: &[NodeRow]) -> bool
+    ensures { IsTrue result
+        ↔ IsAscending (λ (a b : NodeFields). is_before a.node b.node ≡ true) nodes.now }
+{
+    let Some((first, others)) = nodes.split_first() else {
+        return true;
+    };
+    let mut last = first;
+    let mut rest = others;
+    while let Some((next, more)) = rest.split_first() {
+        if !last.node.is_before(next.node) {
+            return false;
+        }
+        last = next;
+        rest = more;
+    }
+    true
+}
+
+/// Whether the numbers of the instances rise. So too here.
+fn are_rising(board: &[Posted]) -> bool
+    ensures { IsTrue result
+        ↔ IsAscending (λ (a b : PostedFields). nat_lt a.instance b.instance ≡ true) board.now }
+{
+    let Some((first, others)) = board.split_first() else {
+        return true;
+    };
+    let mut last = first;
+    let mut rest = others;
+    while let Some((next, more)) = rest.split_first() {
+        if last.instance >= next.instance {
+            return false;
+        }
+        last = next;
+        rest = more;
+    }
+    true
+}
+
+/// Whether the table of nodes holds just these in version 1.
+fn holds_nodes<S: Alter>(
+    alloc: Global,
+    conn: &mut Connection<S>,
+    nodes: &[NodeRow],
+) -> Result<bool, StoreError>
+    ensures value { HasCleanDisk (state S.Store conn.new) → (state S.Store conn.old).now.schema ≡ kt_schema
+        → IfOk result (λ told. IsTrue told ↔ HoldsOldNodes ((state S.Store conn.old).now.trees 0) nodes.now) }
+    ensures these { IfOk result (λ told. IsTrue told → AreOldRows nodes.now) }
+    ensures looks { Looks (state S.Store conn.old) (state S.Store conn.new) }
+    ensures is_open { HasCleanDisk (state S.Store conn.new) → OnOk result (IsTrue (state S.Store conn.new).is_open) }
+    ensures named { IfErr result (λ e. (e ≡ StoreError.Memory) ⊎ (e ≡ StoreError.Device)) }
+{
+    let rows = ask(conn, ALL_NODES)?;
+    if !are_old_rows(alloc, &rows, nodes)? {
+        return Ok(false);
+    }
+    Ok(are_in_order(nodes))
+}
+
+/// Whether the board holds just these.
+fn holds_board<S: Alter>(conn: &mut Connection<S>, board: &[Posted]) -> Result<bool, StoreError>
+    ensures value { HasCleanDisk (state S.Store conn.new) → (state S.Store conn.old).now.schema ≡ kt_schema
+        → IfOk result (λ told. IsTrue told ↔ HoldsBoard ((state S.Store conn.old).now.trees 1) board.now) }
+    ensures looks { Looks (state S.Store conn.old) (state S.Store conn.new) }
+    ensures is_open { HasCleanDisk (state S.Store conn.new) → OnOk result (IsTrue (state S.Store conn.new).is_open) }
+    ensures named { IfErr result (λ e. (e ≡ StoreError.Memory) ⊎ (e ≡ StoreError.Device)) }
+{
+    let rows = ask(conn, ALL_POSTED)?;
+    if !are_posted(&rows, board) {
+        return Ok(false);
+    }
+    Ok(are_rising(board))
+}
+
 /// Whether the tables are of version 1 and hold just what the store holds.
 pub(crate) fn are_old<S: Alter>(
     alloc: Global,
     conn: &mut Connection<S>,
     store: &MemStore,
 ) -> Result<bool, StoreError>
-    ensures value { HasCleanDisk (state S.Store conn.new) → IsSettled (state S.Store conn.old)
+    ensures value { HasCleanDisk (state S.Store conn.new)
+        → (IsTrue (state S.Store conn.old).is_open → IsSettled (state S.Store conn.old))
         → IfOk result (λ are. IsTrue are ↔ IsOldOf (state S.Store conn.old).now store.now.content) }
+    ensures these { IfOk result (λ are. IsTrue are → AreOldRows store.now.content.nodes) }
+    ensures is_open { HasCleanDisk (state S.Store conn.new)
+        → IfOk result (λ are. IsTrue are → IsTrue (state S.Store conn.new).is_open) }
+    ensures leaves { HasCleanDisk (state S.Store conn.new)
+        → (IsTrue (state S.Store conn.old).is_open → IsSettled (state S.Store conn.old))
+        → (db : Trees) → (state S.Store conn.new).may_leave db → (state S.Store conn.old).may_leave db }
     ensures same { HasCleanDisk (state S.Store conn.new) → IsTrue (state S.Store conn.new).is_open
         → IsSettled (state S.Store conn.old)
         → ((state S.Store conn.new).now ≡ (state S.Store conn.old).now) × IsSettled (state S.Store conn.new) }
@@ -169,10 +260,8 @@ pub(crate) fn are_old<S: Alter>(
     if kind_of(conn)? != Kind::Old {
         return Ok(false);
     }
-    let nodes = ask(conn, ALL_NODES)?;
-    if !are_old_rows(alloc, &nodes, store.nodes())? {
+    if !holds_nodes(alloc, conn, store.nodes())? {
         return Ok(false);
     }
-    let board = ask(conn, ALL_POSTED)?;
-    Ok(are_posted(&board, store.board()))
+    holds_board(conn, store.board())
 }

@@ -9,6 +9,7 @@ ghost use Rattle.sqlite.specs.Given.{IsPlain};
 ghost use Rattle.sqlite.specs.Held.{state};
 ghost use Rattle.sqlite.specs.Listing.{understood};
 ghost use Rattle.sqlite.specs.State.{HasCleanDisk, Shown};
+ghost use Rattle.sqlite.specs.Tree.{Trees};
 ghost use Rattle.kt_store.specs.Content.{greatest};
 ghost use Rattle.kt_tables.specs.Schema.{kt_schema};
 ghost use Rattle.kt_tables.specs.Settled.{IsSettled};
@@ -19,7 +20,7 @@ ghost use Rattle.kt_tables.specs.inner.Testing.{key_of, IsRowOf, AreRowsFrom};
 
 use crate::records::Record;
 use crate::schema::is_kt_schema;
-use crate::statements::PUT_VERSION;
+use crate::statements::{PUT_VERSION, run};
 use kt_store::{NodeRow, Posted, StoreError};
 use sqlite::types::ValueRef;
 use sqlite::{Alter, Connection, Error, ErrorCode, Row};
@@ -104,6 +105,10 @@ pub(crate) fn kind_of<S: Alter>(conn: &mut Connection<S>) -> Result<Kind, StoreE
     ensures same { HasCleanDisk (state S.Store conn.new) → IsTrue (state S.Store conn.new).is_open
         → IsSettled (state S.Store conn.old)
         → ((state S.Store conn.new).now ≡ (state S.Store conn.old).now) × IsSettled (state S.Store conn.new) }
+    ensures is_open { HasCleanDisk (state S.Store conn.new) → (state S.Store conn.old).now.schema ≡ kt_schema
+        → OnOk result (IsTrue (state S.Store conn.new).is_open) }
+    ensures leaves { HasCleanDisk (state S.Store conn.new) → (db : Trees) → (state S.Store conn.new).may_leave db
+        → (state S.Store conn.old).may_leave db }
     ensures foreign { (state S.Store conn.old).now.schema ≢ kt_schema → result ≡ Ok Kind.Other }
     ensures named { IfErr result (λ e. (e ≡ StoreError.Memory) ⊎ (e ≡ StoreError.Device)) }
 {
@@ -226,7 +231,7 @@ pub(crate) fn has_no_row<S: Alter>(conn: &mut Connection<S>) -> Result<bool, Sto
     Ok(no_nodes && no_posted)
 }
 
-/// Has the third table say this version, in one statement.
+/// Has the third table say this version. It does nothing where a transaction is open.
 pub(crate) fn raise<S: Alter>(conn: &mut Connection<S>) -> Result<(), StoreError>
     ensures made { HasCleanDisk (state S.Store conn.new) → IsSettled (state S.Store conn.old)
         → IsOldVersion (state S.Store conn.old).now → HasNoRow (state S.Store conn.old).now
@@ -240,8 +245,29 @@ pub(crate) fn raise<S: Alter>(conn: &mut Connection<S>) -> Result<(), StoreError
     ensures named { IfErr result (λ e. (e ≡ StoreError.Memory) ⊎ (e ≡ StoreError.Device)) }
     ensures mode { (state S.Store conn.old).in_transaction ≡ false → (state S.Store conn.new).in_transaction ≡ false }
 {
-    match conn.execute(PUT_VERSION, &[]) {
-        Ok(_) => Ok(()),
+    if !conn.is_autocommit() {
+        return Err(StoreError::Device);
+    }
+    match put_version(conn) {
+        Ok(()) => Ok(()),
         Err(error) => Err(statement_error(error)),
     }
+}
+
+/// The same in one transaction: a single statement would not say that none is open after a fault.
+fn put_version<S: Alter>(conn: &mut Connection<S>) -> Result<(), Error>
+    requires { conn.old.in_transaction ≡ false }
+    ensures made { HasCleanDisk (state S.Store conn.new) → IsOldVersion (state S.Store conn.old).now
+        → HasNoRow (state S.Store conn.old).now → OnOk result (IsMade (state S.Store conn.new)) }
+    ensures none { HasCleanDisk (state S.Store conn.new) → IsTrue (state S.Store conn.new).is_open
+        → OnErr result ((state S.Store conn.new).now ≡ (state S.Store conn.old).committed) }
+    ensures was_open { HasCleanDisk (state S.Store conn.new)
+        → IsTrue (state S.Store conn.new).is_open → IsTrue (state S.Store conn.old).is_open }
+    ensures ended { conn.new.in_transaction ≡ false }
+    ensures clean { doubt (state S.Store conn.old).is_clean ≤ doubt (state S.Store conn.new).is_clean }
+{
+    let mut tx = conn.transaction();
+    run(&mut tx, PUT_VERSION, &[])?;
+    tx.commit()?;
+    Ok(())
 }

@@ -1,6 +1,7 @@
 //! How tables are made ready for a store.
 
-ghost use Rattle.std.specs.Prelude.{◌≡◌, ◌≢◌, false, Err, IfOk, OnOk, OnErr, IsTrue};
+ghost use Rattle.std.specs.Prelude.{◌≡◌, ◌≢◌, ◌≤◌, false, Err, IfOk, OnOk, OnErr, IsTrue};
+ghost use Rattle.sqlite_trees.specs.View.{doubt};
 ghost use Rattle.sqlite.specs.Held.{state};
 ghost use Rattle.sqlite.specs.State.{HasCleanDisk};
 ghost use Rattle.kt_tables.specs.Schema.{kt_schema, no_schema};
@@ -95,6 +96,7 @@ fn raised<S: Alter>(conn: &mut Connection<S>) -> Result<bool, ReadyError>
         → IsOldVersion (state S.Store conn.old).now
         → OnErr result ((state S.Store conn.new).now ≡ (state S.Store conn.old).now) }
     ensures undamaged { result ≢ Err ReadyError.Damaged }
+    ensures clean { doubt (state S.Store conn.old).is_clean ≤ doubt (state S.Store conn.new).is_clean }
     ensures mode { (state S.Store conn.old).in_transaction ≡ false → (state S.Store conn.new).in_transaction ≡ false }
 {
     if !has_no_row(conn)? {
