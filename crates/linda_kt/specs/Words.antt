@@ -1,6 +1,6 @@
 -- The words of the command line.
 use Rattle.std.specs.Prelude.{◌≡◌, ◌≢◌, ◌⊎◌, Bool, true, false, List, [], ◌∷◌, Option, None, Some, refl, codes}
-use Rattle.std.specs.Prelude.{option_map, option_and_then, if◌then◌else◌}
+use Rattle.std.specs.Prelude.{option_map, option_and_then, unwrap_or, if◌then◌else◌}
 use Rattle.clap.specs.Words.{App, IsAmong, Kinds, Row, Rule, Shape, Text, fault_of, first_of, new_app, new_rule}
 use Rattle.clap.specs.Words.{subcommand_of, with_subcommand}
 use Rattle.clap.specs.declared.builder.action.ArgAction.TheVariants.{SetTrue}
@@ -55,10 +55,14 @@ is_true (Some text) = is_word text (codes "true")
 abbrev pub has_flag : List Row → Bool
 has_flag rows = is_true (first_of (codes "journal") rows)
 
+-- the text of an option that has to stand: words without it have a fault
+abbrev pub required_text : Option Text → Text
+required_text o = unwrap_or o []
+
 -- what a subcommand and its words ask: a command, and the file of its store; or the file that is to be carried over
 abbrev pub request_of : Text × List Row → Option Asked
 request_of p =
-    if is_word p.0 (codes "migrate") then option_map Carries (first_of (codes "store") p.1)
+    if is_word p.0 (codes "migrate") then Some (Carries (required_text (first_of (codes "store") p.1)))
     else option_map (λ c. Makes c (first_of (codes "store") p.1)) (command_of p.0 (has_flag p.1))
 
 -- what the words ask, by the rules of `clap`

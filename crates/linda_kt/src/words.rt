@@ -24,8 +24,8 @@ pub fn read_words<'a>(alloc: Global, words: &'a [&'a str]) -> Result<Request<'a>
     let (name, options) = matches.subcommand().unwrap();
     let store = options.get_str("store");
     if name == "migrate" {
-        // Words that pass name the file.
-        let store = store.unwrap();
+        // Words that pass name the file, so no request has the empty text.
+        let store = store.unwrap_or("");
         return Ok(Request::Migrate { store });
     }
     let command = Command::of_name(name, has_journal(options)).unwrap();
