@@ -4,7 +4,6 @@ use Rattle.std.proofs.Common.{refl, sym, ap, ap₂, subst, ◌∙◌, arith}
 use Rattle.std.specs.Prelude.{◌↔◌, IsPermutation, IsTrue}
 use Rattle.std.proofs.lemmas.List.{map-append}
 use Rattle.std.specs.List.{AllByRecursion}
-use Rattle.sqlite.specs.declared.types.Value.{Value}
 use Rattle.sqlite.specs.declared.types.Value.TheVariants.{Int, Blob}
 use Rattle.sqlite.specs.Values.{or_null}
 use Rattle.kt_ckpt.specs.declared.ckpt.Ckpt.{Ckpt}
@@ -22,7 +21,7 @@ use Rattle.kt_tuple.specs.Node.{is_before}
 use Rattle.kt_tables.specs.declared.cells.NodeCells.{NodeCells}
 use Rattle.kt_tables.specs.Cells.{cells_given}
 use Rattle.kt_tables.specs.Old.{AreNewOf, IsCarried, IsOldOf, IsOldRow, old_given}
-use Rattle.kt_tables.specs.Rows.{id_of, instance_value, node_given, node_shown, spelled, taken_checkpoint, whole, Holds, HoldsBoard, IsNodeRow, IsSpelled}
+use Rattle.kt_tables.specs.Rows.{id_of, instance_value, node_given, node_shown, spelled, taken_checkpoint, whole, HoldsBoard, IsNodeRow, IsSpelled}
 use Rattle.kt_tables.specs.inner.Carrying.{AreNewTrees, ArePut, IsOld, RiseById}
 use Rattle.kt_tables.specs.Settled.{IsSettled}
 use Rattle.kt_tables.proofs.CarriedLoop.{one_longer}

@@ -1,5 +1,5 @@
 -- Whether tables of version 1 hold what a store in memory holds.
-use Rattle.std.proofs.Common.{◌≡◌, ℕ, negsuc, Bool, true, false, List, [], ◌∷◌, map, refl, sym, ap, subst, subst₂, ◌∙◌, IsPermutation}
+use Rattle.std.proofs.Common.{◌≡◌, ℕ, negsuc, Bool, true, false, List, [], ◌∷◌, map, refl, sym, subst, subst₂, ◌∙◌, IsPermutation}
 use Rattle.std.specs.Prelude.{◌↔◌, IsTrue}
 use Rattle.std.specs.List.{AllByRecursion}
 use Rattle.std.proofs.lemmas.Bool.{false≢true}

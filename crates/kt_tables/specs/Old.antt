@@ -1,5 +1,5 @@
 -- Tables of version 1 that hold a content, and what it is to carry them over.
-use Rattle.std.specs.Prelude.{◌≡◌, ◌≤◌, Bool, true, List, [], ◌∷◌, map, Option, None, Some, ⊤, IsTrue}
+use Rattle.std.specs.Prelude.{◌≡◌, ◌≤◌, true, List, [], ◌∷◌, map, Option, None, Some, ⊤, IsTrue}
 use Rattle.std.specs.List.{AllByRecursion}
 use Rattle.sqlite.specs.declared.types.Value.{Value}
 use Rattle.sqlite.specs.declared.types.Value.TheVariants.{Blob}
@@ -13,7 +13,6 @@ use Rattle.kt_ckpt.specs.declared.ckpt.Ckpt.{Ckpt}
 use Rattle.kt_ckpt.specs.Old.{spelling_old}
 use Rattle.kt_ckpt.specs.OldLimits.{is_old}
 use Rattle.kt_store.specs.declared.rows.NodeRow.{NodeRow}
-use Rattle.kt_store.specs.declared.rows.Tentative.{Tentative}
 use Rattle.kt_store.specs.Content.{Content, greatest}
 use Rattle.kt_tuple.specs.Node.{is_before}
 use Rattle.kt_tables.specs.Opened.{IsOldVersion, IsThisVersion, meta_of, meta_shown, this_version}

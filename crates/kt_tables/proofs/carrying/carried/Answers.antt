@@ -1,10 +1,9 @@
-use Rattle.std.proofs.Common.{◌≡◌, ◌∙◌, inl, true, sym, ap, subst, arith}
+use Rattle.std.proofs.Common.{◌∙◌, inl, sym, arith}
 use Rattle.std.proofs.lemmas.Bool.{false≢true}
 use Rattle.std.specs.Prelude.{IsTrue}
 use Rattle.sqlite.specs.Held.{state}
 use Rattle.sqlite.specs.State.{HasCleanDisk}
 use Rattle.kt_tables.specs.Settled.{IsSettled}
-use Rattle.kt_tables.specs.inner.Carrying.{RiseById}
 use Rattle.kt_tables.proofs.AnswerLemmas.{each_err}
 use Rattle.kt_tables.proofs.CarryLemmas.{cells_for, is_carried, is_old, rise_by_id, stop_lasts, stop_leaves, to_carry, was_settled}
 use Rattle.kt_tables.proofs.carrying.carried.Goals as goal

@@ -2,7 +2,6 @@ use Rattle.std.proofs.Common.{◌≡◌, ◌∙◌, refl, sym}
 use Rattle.std.proofs.lemmas.Bool.{false≢true}
 use Rattle.sqlite.specs.Held.{state}
 use Rattle.kt_tables.specs.Schema.{kt_schema}
-use Rattle.kt_tables.specs.Opened.{IsOldVersion, IsThisVersion}
 use Rattle.kt_tables.proofs.Texts.{meta_is}
 use Rattle.kt_tables.proofs.OpenedLemmas.{one_version, version_told}
 use Rattle.kt_tables.proofs.opened.kind_of.Goals as goal
