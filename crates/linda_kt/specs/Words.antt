@@ -96,7 +96,8 @@ unfolding clap_on_literals
 store_passes = (refl, refl, refl, refl)
 
 -- `run` has no fault either, with its flag or without it, and with a file
-pub run_passes : (words_fault (codes "run" ∷ []) ≡ []) × (asked_by (codes "run" ∷ []) ≡ Some (Makes (Run outputs.Report) None))
+pub run_passes : (words_fault (codes "run" ∷ []) ≡ [])
+    × (asked_by (codes "run" ∷ []) ≡ Some (Makes (Run outputs.Report) None))
     × (words_fault (codes "run" ∷ codes "--journal" ∷ []) ≡ [])
     × (asked_by (codes "run" ∷ codes "--journal" ∷ []) ≡ Some (Makes (Run outputs.Journal) None))
     × (words_fault (codes "run" ∷ codes "--store" ∷ codes "a.db" ∷ codes "--journal" ∷ []) ≡ [])
