@@ -38,14 +38,18 @@ old_store_rule = record store_rule { required = true }
 abbrev pub migrate_shape : Shape
 migrate_shape = record (new_shape (codes "migrate")) { rules = old_store_rule ∷ [] }
 
--- the command line: no program's name, no command `help`, and one command, which must stand
-abbrev pub command_line_app : App
-command_line_app =
-    with_subcommand (with_subcommand (with_subcommand (on_top (λ s. record s {
+-- the command line of the commands over a store: no program's name, no command `help`, and one command, which must stand
+abbrev pub running_app : App
+running_app =
+    with_subcommand (with_subcommand (on_top (λ s. record s {
       no_binary_name = true;
       subcommand_required = true;
       disable_help_subcommand = true;
-    }) program_app) replay_shape) run_shape) migrate_shape
+    }) program_app) replay_shape) run_shape
+
+-- the command line
+abbrev pub command_line_app : App
+command_line_app = with_subcommand running_app migrate_shape
 
 -- the flag stands among a command's words: its text is that of `true` then
 abbrev pub is_true : Option Text → Bool

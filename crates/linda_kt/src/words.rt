@@ -6,7 +6,8 @@ ghost use Rattle.clap.specs.Simple.{shape_of};
 ghost use Rattle.kt_command.specs.Asking.{asked};
 ghost use Rattle.kt_command.specs.Command.{texts};
 ghost use Rattle.linda_kt.specs.Words.{asked_by, command_line_app, has_flag, journal_rule, migrate_shape};
-ghost use Rattle.linda_kt.specs.Words.{old_store_rule, program_app, replay_shape, run_shape, store_rule, words_fault};
+ghost use Rattle.linda_kt.specs.Words.{old_store_rule, program_app, replay_shape, run_shape, running_app, store_rule};
+ghost use Rattle.linda_kt.specs.Words.{words_fault};
 
 use clap::error::ErrorKind;
 use clap::{Arg, ArgAction, ArgMatches, Error};
@@ -47,17 +48,24 @@ fn has_journal(options: &ArgMatches<'_>) -> bool
 fn command_line<'a>(alloc: Global) -> Result<clap::Command<'a>, AllocError>
     ensures { IfOk result (λ c. app_of c ≡ command_line_app) }
 {
+    let migrate = migrate_command(alloc)?;
+    running_commands(alloc)?.subcommand(migrate)
+}
+
+/// The grammar with the commands over a store alone.
+fn running_commands<'a>(alloc: Global) -> Result<clap::Command<'a>, AllocError>
+    ensures app { IfOk result (λ c. app_of c ≡ running_app) }
+    ensures local { IfOk result (λ c. (fields_of c).has_globals ≡ false) }
+{
     let replay = replay_command(alloc)?;
     let run = run_command(alloc)?;
-    let migrate = migrate_command(alloc)?;
     described(alloc)
         .bin_name("linda_kt")?
         .no_binary_name(true)
         .subcommand_required(true)
         .disable_help_subcommand(true)
         .subcommand(replay)?
-        .subcommand(run)?
-        .subcommand(migrate)
+        .subcommand(run)
 }
 
 /// `replay` with its option.
@@ -132,7 +140,8 @@ fn old_store_option<'a>(alloc: Global) -> Arg<'a>
 
 /// The program's name, what it is, and its version.
 fn described<'a>(alloc: Global) -> clap::Command<'a>
-    ensures { app_of result ≡ program_app }
+    ensures app { app_of result ≡ program_app }
+    ensures local { (fields_of result).has_globals ≡ false }
 {
     clap::Command::new(alloc, "linda_kt")
         .about("A Linda tuple space that survives failures")

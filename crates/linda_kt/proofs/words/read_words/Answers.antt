@@ -19,3 +19,12 @@ returns-clause-command c =
 
 pub returns-clause-refused : goal.returns-clause-refused
 returns-clause-refused c = has_no_fault _ _ c.in_ok-command_line.ensures (c.in_ok-matches.ensures.kinds (search rules))
+
+pub returns-then-eq-clause-command : goal.returns-then-eq-clause-command
+returns-then-eq-clause-command c =
+    carried_is _ _ _ c.subcommand.result c.unwrap.result c.get_str-store.result _ c.unwrap_or-store.result c.in_ok-command_line.ensures
+    c.in_ok-matches.ensures.matches c.subcommand.ensures.name c.subcommand.ensures.rows (search rules) (sym c.eq.ensures ∙ c.if-eq.true)
+    c.get_str-store.ensures c.unwrap_or-store.ensures refl
+
+pub returns-then-eq-clause-refused : goal.returns-then-eq-clause-refused
+returns-then-eq-clause-refused c = has_no_fault _ _ c.in_ok-command_line.ensures (c.in_ok-matches.ensures.kinds (search rules))
