@@ -59,17 +59,13 @@ pub fn run_request<
     ensures done_without_a_word { result ≡ DONE → errors.new ≡ errors.old }
 {
     match request {
-        Request::Make {
-            command,
-            store: None,
-        } => run_in_memory(threads, alloc, command, reader, writer, errors),
-        Request::Make {
-            command,
-            store: Some(path),
-        } => {
-            let opened = opener.open(path);
-            run_opened(threads, alloc, command, opened, reader, writer, errors)
-        }
+        Request::Make { command, store } => match store {
+            None => run_in_memory(threads, alloc, command, reader, writer, errors),
+            Some(path) => {
+                let opened = opener.open(path);
+                run_opened(threads, alloc, command, opened, reader, writer, errors)
+            }
+        },
         Request::Migrate { store } => {
             carry_over::<C, F, O, R, W, E>(opener, alloc, store, reader, writer, errors)
         }

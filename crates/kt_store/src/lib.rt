@@ -14,6 +14,7 @@
 
 mod change;
 mod contents;
+mod crossing;
 mod error;
 mod faulty;
 mod laws;
@@ -22,6 +23,7 @@ mod posted;
 mod rows;
 mod store;
 
+pub use crossing::memory_may_go;
 pub use error::StoreError;
 pub use faulty::FaultStore;
 pub use laws::{other_instances_stay, other_nodes_stay, what_is_written_is_read};
