@@ -48,7 +48,10 @@ impl Carries<Connection<FileStore<File>>, SqlOpenError> for Files<'_> {
         alloc: Global,
         connection: Connection<FileStore<File>>,
         store: &MemStore,
-    ) -> Result<(), SqlOpenError> {
+    ) -> Result<(), SqlOpenError>
+        requires { connection.in_transaction ≡ false }
+        ensures { CarriesFile over_files connection store.now.content result }
+    {
         match SqlStore::migrate(alloc, connection, store) {
             Ok(_) => Ok(()),
             Err((error, _)) => Err(error),

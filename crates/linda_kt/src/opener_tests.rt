@@ -53,7 +53,10 @@ impl Carries<Connection<MemStore>, SqlOpenError> for Noting<'_> {
         alloc: Global,
         connection: Connection<MemStore>,
         store: &kt_store::MemStore,
-    ) -> Result<(), SqlOpenError> {
+    ) -> Result<(), SqlOpenError>
+        requires { connection.in_transaction ≡ false }
+        ensures { ⊤ }
+    {
         match SqlStore::migrate(alloc, connection, store) {
             Ok(_) => Ok(()),
             Err((error, _)) => Err(error),

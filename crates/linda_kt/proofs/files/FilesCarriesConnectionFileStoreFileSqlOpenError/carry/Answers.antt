@@ -15,4 +15,15 @@ returns-in-Ok c =
     }
 
 pub returns : goal.returns
-returns c = ?
+returns c =
+    let is = c.in-Err.ensures in
+    record {
+      left = c.in-Err.field-0-1;
+      same = tt;
+      version = tt;
+      holds = tt;
+      lasts = tt;
+      mismatch = is.mismatch;
+      unchanged = is.unchanged;
+      stop = is.stop;
+    }
