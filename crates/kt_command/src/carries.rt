@@ -1,5 +1,5 @@
 //! What carries the store in a file over.
-ghost use Rattle.std.specs.Prelude.{Result};
+ghost use Rattle.std.specs.Prelude.{IfOk, Result};
 ghost use Rattle.kt_store.specs.Content.{Content};
 ghost use Rattle.kt_command.specs.Command.{Text};
 
@@ -17,12 +17,17 @@ pub trait Carries<C, F>: Drop {
     /// Holds of a connection, of what a store in memory holds, and of each answer that may be given to these.
     ghost carries: { C → Content → Result (Unit {0}) F → Type 0 };
 
+    /// Holds of a connection that a file can be carried over by.
+    ghost ready: { C → Type 0 };
+
     /// The connection to the file at the path, or why there is none: the text of that stands behind `store: ` in the
     /// line on the errors. Nothing is carried over yet.
     fn connect(self, path: &str) -> Result<C, F>
-        ensures { connects self path.now result };
+        ensures answer { connects self path.now result }
+        ensures ready { IfOk result ready };
 
     /// Carries over what is there where it is just what the store holds, in the version before.
     fn carry(alloc: Global, connection: C, store: &MemStore) -> Result<(), F>
+        requires { ready connection }
         ensures { carries connection store.now.content result };
 }

@@ -42,6 +42,7 @@ fn carry_connected<C: Drop, F: Display + Drop, O: Carries<C, F>, R: Read, W: Wri
     writer: &mut Sink<W>,
     errors: &mut E,
 ) -> u8
+    requires { O.ready connection }
     ensures told { EndsCarrying O.carries connection reader.old reader.new writer.old writer.new result }
     ensures done_without_a_word { result ≡ DONE → errors.new ≡ errors.old }
 {

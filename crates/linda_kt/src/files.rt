@@ -1,4 +1,5 @@
 //! The stores in files.
+ghost use Rattle.std.specs.Prelude.{◌≡◌, false};
 ghost use Rattle.sqlite.specs.Files.{over_files};
 ghost use Rattle.linda_kt.specs.Files.{CarriesFile, ConnectsFile, OpensFile};
 
@@ -37,6 +38,8 @@ impl Carries<Connection<FileStore<File>>, SqlOpenError> for Files<'_> {
 
     ghost carries = { λ c content answer. CarriesFile over_files c content answer };
 
+    ghost ready = { λ c. c.in_transaction ≡ false };
+
     fn connect(self, path: &str) -> Result<Connection<FileStore<File>>, SqlOpenError> {
         connect(self.rt, path)
     }
@@ -46,12 +49,7 @@ impl Carries<Connection<FileStore<File>>, SqlOpenError> for Files<'_> {
         connection: Connection<FileStore<File>>,
         store: &MemStore,
     ) -> Result<(), SqlOpenError>
-        ensures { CarriesFile over_files connection store.now.content result }
     {
-        // Not met by one that `connect` made.
-        if !connection.is_autocommit() {
-            return Err(SqlOpenError::Device);
-        }
         match SqlStore::migrate(alloc, connection, store) {
             Ok(_) => Ok(()),
             Err((error, _)) => Err(error),

@@ -33,11 +33,13 @@ impl Opens<SqlStore<MemStore>, SqlOpenError> for Noting<'_> {
 
 /// It connects to a fresh database for the same path.
 impl Carries<Connection<MemStore>, SqlOpenError> for Noting<'_> {
-    ghost use Rattle.std.specs.Prelude.{⊤};
+    ghost use Rattle.std.specs.Prelude.{◌≡◌, false, ⊤};
 
     ghost connects = { λ _ _ _. ⊤ };
 
     ghost carries = { λ _ _ _. ⊤ };
+
+    ghost ready = { λ c. c.in_transaction ≡ false };
 
     fn connect(self, path: &str) -> Result<Connection<MemStore>, SqlOpenError> {
         self.asked.set(self.asked.get().saturating_add(1));
@@ -52,9 +54,6 @@ impl Carries<Connection<MemStore>, SqlOpenError> for Noting<'_> {
         connection: Connection<MemStore>,
         store: &kt_store::MemStore,
     ) -> Result<(), SqlOpenError> {
-        if !connection.is_autocommit() {
-            return Err(SqlOpenError::Device);
-        }
         match SqlStore::migrate(alloc, connection, store) {
             Ok(_) => Ok(()),
             Err((error, _)) => Err(error),

@@ -92,11 +92,13 @@ impl Opens<SqlStore<MemStore>, SqlOpenError> for InMemory<'_> {
 
 /// It connects to the same.
 impl Carries<Connection<MemStore>, SqlOpenError> for InMemory<'_> {
-    ghost use Rattle.std.specs.Prelude.{⊤};
+    ghost use Rattle.std.specs.Prelude.{◌≡◌, false, ⊤};
 
     ghost connects = { λ _ _ _. ⊤ };
 
     ghost carries = { λ _ _ _. ⊤ };
+
+    ghost ready = { λ c. c.in_transaction ≡ false };
 
     fn connect(self, path: &str) -> Result<Connection<MemStore>, SqlOpenError> {
         self.asked.note(path);
@@ -116,10 +118,9 @@ fn carried<D: Alter + Drop>(
     alloc: Global,
     connection: Connection<D>,
     store: &kt_store::MemStore,
-) -> Result<(), SqlOpenError> {
-    if !connection.is_autocommit() {
-        return Err(SqlOpenError::Device);
-    }
+) -> Result<(), SqlOpenError>
+    requires { connection.in_transaction ≡ false }
+{
     match SqlStore::migrate(alloc, connection, store) {
         Ok(_) => Ok(()),
         Err((error, _)) => Err(error),
@@ -153,11 +154,13 @@ impl Opens<SqlStore<FileStore<Fuse<Memory>>>, SqlOpenError> for OnFuses<'_> {
 }
 
 impl Carries<Connection<FileStore<Fuse<Memory>>>, SqlOpenError> for OnFuses<'_> {
-    ghost use Rattle.std.specs.Prelude.{⊤};
+    ghost use Rattle.std.specs.Prelude.{◌≡◌, false, ⊤};
 
     ghost connects = { λ _ _ _. ⊤ };
 
     ghost carries = { λ _ _ _. ⊤ };
+
+    ghost ready = { λ c. c.in_transaction ≡ false };
 
     fn connect(self, path: &str) -> Result<Connection<FileStore<Fuse<Memory>>>, SqlOpenError> {
         self.asked.note(path);
