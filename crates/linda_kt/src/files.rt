@@ -48,8 +48,7 @@ impl Carries<Connection<FileStore<File>>, SqlOpenError> for Files<'_> {
         alloc: Global,
         connection: Connection<FileStore<File>>,
         store: &MemStore,
-    ) -> Result<(), SqlOpenError>
-    {
+    ) -> Result<(), SqlOpenError> {
         match SqlStore::migrate(alloc, connection, store) {
             Ok(_) => Ok(()),
             Err((error, _)) => Err(error),
