@@ -91,7 +91,8 @@ by_bytes (Some by) = 1 ∷ (node_bytes by.0 ++ to_be_bytes w64 by.1)
 
 abbrev pub act_bytes : LineAct → List ℕ
 act_bytes a =
-    what_code a.what ∷ (a.worker ∷ (by_bytes a.by ++ (to_be_bytes w64 a.number ++ (op_bytes a.op ++ told_bytes (answer_of a.what)))))
+    what_code a.what ∷ (a.worker ∷ (by_bytes a.by ++ (to_be_bytes w64 a.number
+    ++ (op_bytes a.op ++ told_bytes (answer_of a.what)))))
 
 -- what of an act has a spelling, besides that it may stand in a line
 pub record IsSpelledAct (a : LineAct) : Type 0 where

@@ -1,5 +1,5 @@
--- The acts of a node's line, as its checkpoint holds them: what each act heard is named by node and place, so that the name
--- holds after the program has stopped.
+-- The acts of a node's line, as its checkpoint holds them: what each act heard is named by node and place, so that the
+-- name holds after the program has stopped.
 use Rattle.std.specs.Prelude.{ℕ, Bool, true, if◌then◌else◌, List, map, Option, None, Some}
 use Rattle.std.specs.List.{list_all}
 use Rattle.kt_tuple.specs.declared.node.NodeId.{NodeId}

@@ -1,7 +1,6 @@
 //! How a store of version 1 is carried over.
 
-ghost use Rattle.std.specs.Prelude.{◌≡◌, ◌≢◌, ◌⊎◌, false, codes, Err, IfOk, IfErr, IsTrue};
-ghost use Rattle.sqlite.specs.Files.{file_state, over_files};
+ghost use Rattle.std.specs.Prelude.{◌≡◌, ◌⊎◌, false, codes, Err, IfOk, IfErr, IsTrue};
 ghost use Rattle.sqlite.specs.Held.{state};
 ghost use Rattle.sqlite.specs.State.{HasCleanDisk};
 ghost use Rattle.sqlite.specs.Tree.{Trees};
@@ -11,7 +10,7 @@ ghost use Rattle.kt_tables.specs.Old.{AreNewOf, IsOldOf};
 ghost use Rattle.kt_tables.specs.Opened.{IsThisVersion};
 
 use crate::error::SqlOpenError;
-use crate::open::{closed, file_connection};
+use crate::open::file_connection;
 use crate::store::SqlStore;
 use kt_store::{MemStore, StoreError};
 use kt_tables::carried;
@@ -71,8 +70,8 @@ impl<S: Alter> SqlStore<S> {
     }
 }
 
-/// The connection to the database at the path, for `SqlStore::migrate`, which tells what its tables are. Where no file is
-/// there, an empty database is made.
+/// The connection to the database at the path, for `SqlStore::migrate`, which tells what its tables are. Where no file
+/// is there, an empty database is made.
 pub fn connect(rt: &HostRuntime, path: &str) -> Result<Connection<FileStore<File>>, SqlOpenError>
     ensures ended { IfOk result (λ c. c.in_transaction ≡ false) }
     ensures memory { path.now ≡ codes ":memory:" → result ≡ Err SqlOpenError.Device }

@@ -115,9 +115,9 @@ fn open_error(error: ReadyError) -> SqlOpenError
 
 impl<S: Alter> SqlStore<S> {
     /// The store in the tables of the connection, which has no transaction open. Where there are no tables they are
-    /// made. Where they are those of a store, each row is read, and the store is honest where all are as said. Tables of
-    /// version 1 are raised where they have no row, and are refused where they have one, whatever it holds: `migrate`
-    /// carries them over. A refusal hands the connection back.
+    /// made. Where they are those of a store, each row is read, and the store is honest where all are as said. Tables
+    /// of version 1 are raised where they have no row, and are refused where they have one, whatever it holds:
+    /// `migrate` carries them over. A refusal hands the connection back.
     pub fn adopt(
         alloc: Global,
         mut conn: Connection<S>,

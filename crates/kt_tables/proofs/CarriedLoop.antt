@@ -1,5 +1,6 @@
 -- How the loop that puts rows goes on, and what a stop leaves.
-use Rattle.std.proofs.Common.{◌≡◌, ◌≢◌, ◌⊎◌, inl, inr, ℕ, false, List, [], ◌∷◌, ◌++◌, Ok, Err, Result, OnOk, refl, sym, ap, subst, ◌∙◌, arith, ◌+◌, ◌<◌, length, take, get_or, add-one}
+use Rattle.std.proofs.Common.{◌≡◌, ◌≢◌, ◌⊎◌, inl, inr, ℕ, List, [], ◌∷◌, ◌++◌, Ok, Err, Result, OnOk, refl, sym, ap, subst, ◌∙◌, arith, ◌+◌, ◌<◌, length}
+use Rattle.std.proofs.Common.{false, take, get_or, add-one}
 use Rattle.std.proofs.Math.Seq.{take-suc}
 use Rattle.std.specs.Prelude.{IsTrue}
 use Rattle.std.specs.List.{AllByRecursion}

@@ -4,7 +4,7 @@ use Rattle.sqlite.specs.Schema.{Schema}
 use Rattle.kt_store.specs.declared.error.StoreError.{StoreError}
 use Rattle.kt_store.specs.declared.error.StoreError.TheVariants as stores
 use Rattle.kt_tables.specs.declared.ready.ReadyError.TheVariants.{Damaged, Version}
-use Rattle.kt_tables.specs.Ready.{ready_error}
+use Rattle.kt_tables.specs.inner.Ready.{ready_error}
 use Rattle.kt_tables.specs.Schema.{board_table, kt_schema, meta_table, no_schema, node_table}
 
 nothing_apart : {X : Type 0} (x : X) (xs : List X) → [] ≡ x ∷ xs → ⊥

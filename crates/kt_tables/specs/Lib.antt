@@ -3,7 +3,6 @@ pub mod Held
 pub mod Made
 pub mod Old
 pub mod Opened
-pub mod Ready
 pub mod Reason
 pub mod Rows
 pub mod Schema

@@ -1,12 +1,10 @@
 -- Tables of version 1 that hold a content, and what it is to carry them over.
-use Rattle.std.specs.Prelude.{◌≡◌, ◌≤◌, true, List, [], ◌∷◌, map, Option, None, Some, ⊤, IsTrue}
-use Rattle.std.specs.List.{AllByRecursion}
+use Rattle.std.specs.Prelude.{◌≡◌, ◌≤◌, List, [], ◌∷◌, map, Option, None, Some, ⊤, IsTrue}
 use Rattle.sqlite.specs.declared.types.Value.{Value}
 use Rattle.sqlite.specs.declared.types.Value.TheVariants.{Blob}
 use Rattle.sqlite.specs.Values.{or_null}
 use Rattle.sqlite.specs.Order.{Row}
 use Rattle.sqlite.specs.Tree.{Trees}
-use Rattle.sqlite_trees.specs.Tree.{IsAscending}
 use Rattle.sqlite.specs.Effect.{Database}
 use Rattle.sqlite.specs.State.{State}
 use Rattle.kt_ckpt.specs.declared.ckpt.Ckpt.{Ckpt}
@@ -42,11 +40,6 @@ pub record IsOldRow (r : NodeRow) : Type 0 where
   pub permanent : FitsOld r.permanent
   pub tentative : FitsOld (taken_checkpoint r.tentative)
   pub instance : IsLow (taken_instance r.tentative)
-
--- they are of version 1, in node order
-pub record AreOldRows (nodes : List NodeRow) : Type 0 where
-  pub said : AllByRecursion IsOldRow nodes
-  pub rise : IsAscending (λ (a b : NodeRow). is_before a.node b.node ≡ true) nodes
 
 abbrev pub HoldsOldNodes : List Row → List NodeRow → Type 0
 HoldsOldNodes = HoldsRows old_given node_shown IsOldRow (λ (a b : NodeRow). is_before a.node b.node)

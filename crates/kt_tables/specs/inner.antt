@@ -8,3 +8,5 @@ pub mod Showing
 pub mod Looking
 pub mod Lasting
 pub mod Carrying
+pub mod OldRows
+pub mod Ready

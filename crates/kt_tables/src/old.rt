@@ -15,12 +15,13 @@ ghost use Rattle.kt_tuple.specs.Node.{is_before};
 ghost use Rattle.kt_store.specs.declared.rows.NodeRow.{NodeRow as NodeFields};
 ghost use Rattle.kt_store.specs.declared.rows.Posted.{Posted as PostedFields};
 ghost use Rattle.kt_store.specs.Content.{greatest};
-ghost use Rattle.kt_tables.specs.Old.{AreOldRows, FitsOld, HoldsOldNodes, IsOldOf, IsOldRow, old_given, spelled_old};
+ghost use Rattle.kt_tables.specs.Old.{FitsOld, HoldsOldNodes, IsOldOf, IsOldRow, old_given, spelled_old};
 ghost use Rattle.kt_tables.specs.Rows.{HoldsBoard, IsLow, IsPosted, instance_value, posted_given, taken_instance};
 ghost use Rattle.kt_tables.specs.Rows.{whole};
 ghost use Rattle.kt_tables.specs.Schema.{kt_schema};
 ghost use Rattle.kt_tables.specs.Settled.{IsSettled};
 ghost use Rattle.kt_tables.specs.inner.Looking.{Looks};
+ghost use Rattle.kt_tables.specs.inner.OldRows.{AreOldRows};
 
 use crate::cells::posted_codes;
 use crate::ids::id_of;

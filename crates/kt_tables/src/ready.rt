@@ -30,7 +30,7 @@ pub enum ReadyError {
 }
 
 impl From<StoreError> for ReadyError {
-    ghost use Rattle.kt_tables.specs.Ready.{ready_error};
+    ghost use Rattle.kt_tables.specs.inner.Ready.{ready_error};
 
     ghost from_gives = { λ error e. e ≡ ready_error error };
 

@@ -38,7 +38,8 @@ old_store_rule = record store_rule { required = true }
 abbrev pub migrate_shape : Shape
 migrate_shape = record (new_shape (codes "migrate")) { rules = old_store_rule ∷ [] }
 
--- the command line of the commands over a store: no program's name, no command `help`, and one command, which must stand
+-- the command line of the commands over a store: no program's name, no command `help`, and one command, which must
+-- stand
 abbrev pub running_app : App
 running_app =
     with_subcommand (with_subcommand (on_top (λ s. record s {

@@ -1,5 +1,6 @@
 -- What is gathered of the acts of each node.
-use Rattle.std.specs.Prelude.{◌≡◌, ◌⊎◌, ℕ, ◌≤◌, Bool, true, List, [], length, take, All, Option, None, Some, slice_index_or}
+use Rattle.std.specs.Prelude.{◌≡◌, ◌⊎◌, ℕ, ◌≤◌, Bool, true, List, [], length, take, All, Option, None, Some}
+use Rattle.std.specs.Prelude.{slice_index_or}
 use Rattle.kt_tuple.specs.declared.node.NodeId.{NodeId}
 use Rattle.kt_tuple.specs.Node.{node_index}
 use Rattle.kt_history.specs.declared.note.Act.{Act}

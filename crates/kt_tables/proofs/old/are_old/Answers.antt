@@ -7,7 +7,8 @@ use Rattle.sqlite.specs.State.{HasCleanDisk}
 use Rattle.kt_store.specs.declared.rows.NodeRow.{NodeRow}
 use Rattle.kt_store.specs.declared.rows.Posted.{Posted}
 use Rattle.kt_tables.specs.declared.opened.Kind.TheVariants.{Old}
-use Rattle.kt_tables.specs.Old.{AreOldRows, HoldsOldNodes}
+use Rattle.kt_tables.specs.Old.{HoldsOldNodes}
+use Rattle.kt_tables.specs.inner.OldRows.{AreOldRows}
 use Rattle.kt_tables.specs.Opened.{old_version}
 use Rattle.kt_tables.specs.Rows.{HoldsBoard}
 use Rattle.kt_tables.proofs.AnswerLemmas.{each_ok, through_ok, where_ok}

@@ -19,7 +19,8 @@ returns-then-not-are_posted-clause-value g c clean has =
     let xs = c.args.board.now in
     let told = c.are_posted.result in
     let old = state g.S.Store c.args.conn.now in
-    let these = subst (λ (rows : List Row). IsTrue told ↔ (AllByRecursion IsPosted xs × (rows ≡ map posted_given xs))) c.deref.ensures.value c.are_posted.ensures in (
+    let these = subst (λ (rows : List Row). IsTrue told ↔ (AllByRecursion IsPosted xs × (rows ≡ map posted_given xs))) c.deref.ensures.value
+    c.are_posted.ensures in (
       λ bad. absurd (false≢true bad),
       λ held. absurd (these_untold posted_table all_posted_text posted_names all_posted_is old (state g.S.Store c.ask.new.conn) has
           c.in_ok-rows.rows.items (c.in_ok-rows.ensures.shown clean) xs told c.if-not-are_posted.true these held),
@@ -30,6 +31,7 @@ returns-clause-value g c clean has =
     let xs = c.args.board.now in
     let told = c.are_posted.result in
     let old = state g.S.Store c.args.conn.now in
-    let these = subst (λ (rows : List Row). IsTrue told ↔ (AllByRecursion IsPosted xs × (rows ≡ map posted_given xs))) c.deref.ensures.value c.are_posted.ensures in
+    let these = subst (λ (rows : List Row). IsTrue told ↔ (AllByRecursion IsPosted xs × (rows ≡ map posted_given xs))) c.deref.ensures.value
+    c.are_posted.ensures in
     these_held posted_table all_posted_text posted_names all_posted_is old (state g.S.Store c.ask.new.conn) has c.in_ok-rows.rows.items
     (c.in_ok-rows.ensures.shown clean) xs told c.are_rising.result c.if-not-are_posted.false these c.are_rising.ensures

@@ -18,7 +18,8 @@ returns-then-not-branch-clause-value g c clean has =
     let xs = c.args.nodes.now in
     let told = c.in_ok-are_old_rows.field-0 in
     let old = state g.S.Store c.args.conn.now in
-    let these = subst (λ (rows : List Row). IsTrue told ↔ (AllByRecursion IsOldRow xs × (rows ≡ map old_given xs))) c.deref.ensures.value c.in_ok-are_old_rows.ensures in (
+    let these = subst (λ (rows : List Row). IsTrue told ↔ (AllByRecursion IsOldRow xs × (rows ≡ map old_given xs))) c.deref.ensures.value
+    c.in_ok-are_old_rows.ensures in (
       λ bad. absurd (false≢true bad),
       λ held. absurd (these_untold old_table all_nodes_text node_names all_nodes_is old (state g.S.Store c.ask.new.conn) has
           c.in_ok-rows.rows.items (c.in_ok-rows.ensures.shown clean) xs told c.if-not-branch.true these held),
@@ -29,7 +30,8 @@ returns-clause-value g c clean has =
     let xs = c.args.nodes.now in
     let told = c.in_ok-are_old_rows.field-0 in
     let old = state g.S.Store c.args.conn.now in
-    let these = subst (λ (rows : List Row). IsTrue told ↔ (AllByRecursion IsOldRow xs × (rows ≡ map old_given xs))) c.deref.ensures.value c.in_ok-are_old_rows.ensures in
+    let these = subst (λ (rows : List Row). IsTrue told ↔ (AllByRecursion IsOldRow xs × (rows ≡ map old_given xs))) c.deref.ensures.value
+    c.in_ok-are_old_rows.ensures in
     these_held old_table all_nodes_text node_names all_nodes_is old (state g.S.Store c.ask.new.conn) has c.in_ok-rows.rows.items
     (c.in_ok-rows.ensures.shown clean) xs told c.are_in_order.result c.if-not-branch.false these c.are_in_order.ensures
 

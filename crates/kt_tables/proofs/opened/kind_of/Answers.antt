@@ -14,7 +14,8 @@ returns-then-is_meta-clause-this g c clean =
     let old = state g.S.Store c.args.conn.now in
     let new = state g.S.Store c.ask.new.conn in
     let has : old.now.schema ≡ kt_schema = sym c.schema.ensures.value ∙ c.is_kt_schema.ensures.0 c.if-not-is_kt_schema.false in
-    let this = version_told old new has c.deref.result.now c.in_ok-rows.rows.items c.deref.ensures.value (c.in_ok-rows.ensures.shown clean) 2 c.is_meta.result (c.is_meta.ensures 2 refl) in
+    let this = version_told old new has c.deref.result.now c.in_ok-rows.rows.items c.deref.ensures.value (c.in_ok-rows.ensures.shown clean) 2
+    c.is_meta.result (c.is_meta.ensures 2 refl) in
     (λ is. this.0 c.if-is_meta.true, λ is. refl)
 
 pub returns-then-is_meta-clause-old : goal.returns-then-is_meta-clause-old
@@ -22,7 +23,8 @@ returns-then-is_meta-clause-old g c clean =
     let old = state g.S.Store c.args.conn.now in
     let new = state g.S.Store c.ask.new.conn in
     let has : old.now.schema ≡ kt_schema = sym c.schema.ensures.value ∙ c.is_kt_schema.ensures.0 c.if-not-is_kt_schema.false in
-    let this = version_told old new has c.deref.result.now c.in_ok-rows.rows.items c.deref.ensures.value (c.in_ok-rows.ensures.shown clean) 2 c.is_meta.result (c.is_meta.ensures 2 refl) in
+    let this = version_told old new has c.deref.result.now c.in_ok-rows.rows.items c.deref.ensures.value (c.in_ok-rows.ensures.shown clean) 2
+    c.is_meta.result (c.is_meta.ensures 2 refl) in
     (λ is. absurd cc, λ is. absurd (one_version old.now (this.0 c.if-is_meta.true) is))
 
 pub returns-then-is_meta-2-clause-this : goal.returns-then-is_meta-2-clause-this
@@ -30,7 +32,8 @@ returns-then-is_meta-2-clause-this g c clean =
     let old = state g.S.Store c.args.conn.now in
     let new = state g.S.Store c.ask.new.conn in
     let has : old.now.schema ≡ kt_schema = sym c.schema.ensures.value ∙ c.is_kt_schema.ensures.0 c.if-not-is_kt_schema.false in
-    let this = version_told old new has c.deref.result.now c.in_ok-rows.rows.items c.deref.ensures.value (c.in_ok-rows.ensures.shown clean) 2 c.is_meta.result (c.is_meta.ensures 2 refl) in
+    let this = version_told old new has c.deref.result.now c.in_ok-rows.rows.items c.deref.ensures.value (c.in_ok-rows.ensures.shown clean) 2
+    c.is_meta.result (c.is_meta.ensures 2 refl) in
     (λ is. absurd cc, λ is. let t = this.1 is in let f = c.if-is_meta.false in absurd cc)
 
 pub returns-then-is_meta-2-clause-old : goal.returns-then-is_meta-2-clause-old
@@ -38,7 +41,8 @@ returns-then-is_meta-2-clause-old g c clean =
     let old = state g.S.Store c.args.conn.now in
     let new = state g.S.Store c.ask.new.conn in
     let has : old.now.schema ≡ kt_schema = sym c.schema.ensures.value ∙ c.is_kt_schema.ensures.0 c.if-not-is_kt_schema.false in
-    let before = version_told old new has c.deref-else-is_meta.result.now c.in_ok-rows.rows.items c.deref-else-is_meta.ensures.value (c.in_ok-rows.ensures.shown clean) 1 c.is_meta-else-is_meta.result (c.is_meta-else-is_meta.ensures 1 refl) in
+    let before = version_told old new has c.deref-else-is_meta.result.now c.in_ok-rows.rows.items c.deref-else-is_meta.ensures.value
+    (c.in_ok-rows.ensures.shown clean) 1 c.is_meta-else-is_meta.result (c.is_meta-else-is_meta.ensures 1 refl) in
     (λ is. before.0 c.if-is_meta-2.true, λ is. refl)
 
 pub returns-clause-this : goal.returns-clause-this
@@ -46,7 +50,8 @@ returns-clause-this g c clean =
     let old = state g.S.Store c.args.conn.now in
     let new = state g.S.Store c.ask.new.conn in
     let has : old.now.schema ≡ kt_schema = sym c.schema.ensures.value ∙ c.is_kt_schema.ensures.0 c.if-not-is_kt_schema.false in
-    let this = version_told old new has c.deref.result.now c.in_ok-rows.rows.items c.deref.ensures.value (c.in_ok-rows.ensures.shown clean) 2 c.is_meta.result (c.is_meta.ensures 2 refl) in
+    let this = version_told old new has c.deref.result.now c.in_ok-rows.rows.items c.deref.ensures.value (c.in_ok-rows.ensures.shown clean) 2
+    c.is_meta.result (c.is_meta.ensures 2 refl) in
     (λ is. absurd cc, λ is. let t = this.1 is in let f = c.if-is_meta.false in absurd cc)
 
 pub returns-clause-old : goal.returns-clause-old
@@ -54,7 +59,8 @@ returns-clause-old g c clean =
     let old = state g.S.Store c.args.conn.now in
     let new = state g.S.Store c.ask.new.conn in
     let has : old.now.schema ≡ kt_schema = sym c.schema.ensures.value ∙ c.is_kt_schema.ensures.0 c.if-not-is_kt_schema.false in
-    let before = version_told old new has c.deref-else-is_meta.result.now c.in_ok-rows.rows.items c.deref-else-is_meta.ensures.value (c.in_ok-rows.ensures.shown clean) 1 c.is_meta-else-is_meta.result (c.is_meta-else-is_meta.ensures 1 refl) in
+    let before = version_told old new has c.deref-else-is_meta.result.now c.in_ok-rows.rows.items c.deref-else-is_meta.ensures.value
+    (c.in_ok-rows.ensures.shown clean) 1 c.is_meta-else-is_meta.result (c.is_meta-else-is_meta.ensures 1 refl) in
     (λ is. absurd cc, λ is. let t = before.1 is in let f = c.if-is_meta-2.false in absurd cc)
 
 pub returns-then-is_meta-clause-leaves : goal.returns-then-is_meta-clause-leaves
