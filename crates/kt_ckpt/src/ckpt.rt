@@ -45,9 +45,9 @@ impl Ckpt {
     /// The checkpoint of this node, whose log (`line`) has this length. For each neighbour, in node order, it has the
     /// label of the last message sent to it and of the last heard from it, and it has the node's state. The node is one
     /// of the workers or shards that there may be, it has a neighbour and no more than `MAX_PEERS`, and the state is
-    /// one of such a node, with counts within the format. The acts are those of the line, as many as its length, and each
-    /// may stand in it, as `are_acts_of` tells. It asks for counts and shape and refuses nothing but for want of memory:
-    /// a node keeps them.
+    /// one of such a node, with counts within the format. The acts are those of the line, as many as its length, and
+    /// each may stand in it, as `are_acts_of` tells. It asks for counts and shape and refuses nothing but for want of
+    /// memory: a node keeps them.
     pub fn new(
         alloc: Global,
         node: NodeId,

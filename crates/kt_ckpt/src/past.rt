@@ -197,8 +197,8 @@ impl Past {
         self.history.add(note);
     }
 
-    /// Gathers the acts of the node's line, so that `acts` has them at hand. It costs what came since the last time, and
-    /// shows nowhere else. Where memory is wanting nothing is gathered.
+    /// Gathers the acts of the node's line, so that `acts` has them at hand. It costs what came since the last time,
+    /// and shows nowhere else. Where memory is wanting nothing is gathered.
     pub fn gather(&mut self, alloc: Global, node: NodeId) -> Result<(), AllocError>
         ensures { self.new ≡ self.old }
     {
@@ -208,8 +208,8 @@ impl Past {
         }
     }
 
-    /// The acts of the node's line, oldest first, as a checkpoint holds them; `None` where one may not stand in it. That
-    /// is found out first and takes no memory, so want of memory does not hide it. The acts that are gathered are
+    /// The acts of the node's line, oldest first, as a checkpoint holds them; `None` where one may not stand in it.
+    /// That is found out first and takes no memory, so want of memory does not hide it. The acts that are gathered are
     /// shared, so it costs what came since.
     pub fn acts(&self, alloc: Global, node: NodeId) -> Result<Option<Acts>, AllocError>
         ensures acts { IfOk result (λ found. found ≡ fitting node (line_acts self.now.notes node)) }

@@ -78,8 +78,8 @@ pub fn replay_over<R: Read, W: Write, S: CkptStore + Drop>(
     }
 }
 
-/// As `replay_over` up to the writing: it gives the report and the store. A command that has to do something between the
-/// two then writes the report by `write_text`.
+/// As `replay_over` up to the writing: it gives the report and the store. A command that has to do something between
+/// the two then writes the report by `write_text`.
 pub fn report_over<R: Read, S: CkptStore + Drop>(
     alloc: Global,
     reader: &mut Source<R>,

@@ -5,7 +5,7 @@ ghost use denote.Param.Send.{IsSend};
 ghost use Rattle.std.specs.contracts.alloc.Global.{the_row as memory_of};
 ghost use Rattle.std.specs.contracts.impls.GlobalAllocator.TheImpl.{ghosts};
 ghost use Rattle.std.specs.contracts.vec.Vec.{the_row as list_row};
-ghost use Rattle.kt_store.specs.contracts.rows.NodeRow.{the_row as row_row};
+ghost use Rattle.kt_store.specs.contracts.rows.NodeRow.{the_row as node_row};
 ghost use Rattle.kt_store.specs.contracts.contents.Contents.{the_row as contents_row};
 ghost use Rattle.kt_store.specs.contracts.memory.MemStore.{the_row as memory_row};
 
@@ -19,7 +19,7 @@ fn may_go<T: Send>()
 {}
 
 fn rows_may_go()
-    ensures { IsSend (list_row row_row memory_of ghosts) }
+    ensures { IsSend (list_row node_row memory_of ghosts) }
 {
     may_go::<Vec<NodeRow>>();
 }
