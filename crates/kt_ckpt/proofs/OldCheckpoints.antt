@@ -22,7 +22,8 @@ use Rattle.kt_ckpt.specs.Checkpoint.{Checkpoint, Suits, IsLabel, peers_bytes, st
 use Rattle.kt_ckpt.specs.Checkpoint.{peer_bytes}
 use Rattle.kt_ckpt.specs.Limits.{magic, worker_code, shard_code}
 use Rattle.kt_ckpt.specs.Node.{IsNode, node_bytes}
-use Rattle.kt_ckpt.specs.Old.{IsOldCheckpoint, spelling_old, line_if, line_at, old_checkpoint_at, old_node_at, old_node_behind, old_peers_at, old_version_at, read_old}
+use Rattle.kt_ckpt.specs.Old.{IsOldCheckpoint, spelling_old, line_if, line_at, old_checkpoint_at, old_node_at, old_node_behind, old_peers_at, old_version_at}
+use Rattle.kt_ckpt.specs.Old.{read_old}
 use Rattle.kt_ckpt.specs.OldLimits.{is_old, is_old_node, is_old_state, old_version}
 use Rattle.kt_ckpt.specs.OldState.{old_state_at}
 use Rattle.kt_ckpt.specs.Reading.{◌>>=◌, Gives, made, byte_at, byte_within, number_at, list_at}

@@ -175,11 +175,13 @@ abbrev from_got : ℕ → List ℕ → Result (Answer × List ℕ) CkptError
 from_got code bytes = cond (eqb code got_code) (got_at bytes) (from_none code bytes)
 
 done_field : IsField behind_answer_code (IsAnswerBehind done_code) (bare_at answers.Done)
-done_field = same_field (known answers.Done) behind_answer_code (IsAnswerBehind done_code) (λ x e. subst (IsAnswerBehind done_code) e ((tt, refl), refl)) done_is
+done_field = same_field (known answers.Done) behind_answer_code (IsAnswerBehind done_code)
+    (λ x e. subst (IsAnswerBehind done_code) e ((tt, refl), refl)) done_is
     (λ x e. subst (λ (x : Answer). [] ≡ behind_answer_code x) e refl)
 
 none_field : IsField behind_answer_code (IsAnswerBehind none_code) (bare_at answers.None)
-none_field = same_field (known answers.None) behind_answer_code (IsAnswerBehind none_code) (λ x e. subst (IsAnswerBehind none_code) e ((tt, refl), refl)) none_is
+none_field = same_field (known answers.None) behind_answer_code (IsAnswerBehind none_code)
+    (λ x e. subst (IsAnswerBehind none_code) e ((tt, refl), refl)) none_is
     (λ x e. subst (λ (x : Answer). [] ≡ behind_answer_code x) e refl)
 
 old_answer_behind_field : (code : ℕ) → IsField behind_answer_code (IsAnswerBehind code) (old_answer_behind code)
@@ -208,7 +210,8 @@ answer_code_is_byte answers.None = omega arith
 pub old_answer_field : IsField answer_bytes IsOldAnswer old_answer_at
 unfolding old_answer_at
 old_answer_field =
-    let f = behind byte_field answer_code behind_answer_code IsOldAnswer old_answer_behind (λ x h. answer_code_is_byte x) (λ code lt. old_answer_behind_field code) in
+    let f = behind byte_field answer_code behind_answer_code IsOldAnswer old_answer_behind
+    (λ x h. answer_code_is_byte x) (λ code lt. old_answer_behind_field code) in
     record { again = f.again; takes = f.takes }
 
 pub old_answer_lasts : Lasts old_answer_at

@@ -120,7 +120,8 @@ old_rising_lasts {X} {read} l low zero = record { goes_on = λ bytes more. refl 
 old_rising_lasts {X} {read} l low (suc n) =
     let m = behind_lasts (λ w bytes. after_worker read n (w, bytes)) (byte_within_lasts low OLD_WORKERS)
     (λ w. behind_lasts (λ x bytes. after_first read n w (x, bytes)) l
-    (λ x. behind_lasts (λ xs bytes. the_ok {X = List (ℕ × X) × List ℕ} ((w, x) ∷ xs, bytes)) (old_rising_lasts l (w + 1) n) (λ xs. known_lasts ((w, x) ∷ xs)))) in
+    (λ x. behind_lasts (λ xs bytes. the_ok {X = List (ℕ × X) × List ℕ} ((w, x) ∷ xs, bytes)) (old_rising_lasts l (w + 1) n)
+    (λ xs. known_lasts ((w, x) ∷ xs)))) in
     record { goes_on = m.goes_on }
 
 -- a byte that was read is within its bounds

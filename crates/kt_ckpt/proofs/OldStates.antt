@@ -101,8 +101,8 @@ asked_same (Some op) = refl
 old_asked_field : IsField asked_bytes IsOldAsked old_asked_at
 unfolding old_asked_at
 old_asked_field =
-    let f = same_field (behind flag_field has_op behind_flag IsOldAsked old_asked_behind (λ a h. tt) (λ b h. old_asked_behind_field b)) asked_bytes IsOldAsked (λ a h. h)
-    (λ a h. h) (λ a h. asked_same a) in
+    let f = same_field (behind flag_field has_op behind_flag IsOldAsked old_asked_behind (λ a h. tt) (λ b h. old_asked_behind_field b))
+    asked_bytes IsOldAsked (λ a h. h) (λ a h. h) (λ a h. asked_same a) in
     record { again = f.again; takes = f.takes }
 
 old_asked_lasts : Lasts old_asked_at
@@ -187,7 +187,8 @@ IsOldBag tuples = (length tuples < 2 ^ 32) × All IsOldTuple tuples
 old_bag_field : IsField bag_bytes IsOldBag old_bag_at
 unfolding old_bag_at
 old_bag_field =
-    let f = behind (number_field w32 (2 ^ 32) wide32) (λ (ts : List Tuple). length ts) (λ ts. flat_map tuple_bytes ts) IsOldBag (list_at old_tuple_at) (λ ts h. h.0)
+    let f = behind (number_field w32 (2 ^ 32) wide32) (λ (ts : List Tuple). length ts) (λ ts. flat_map tuple_bytes ts) IsOldBag
+    (list_at old_tuple_at) (λ ts h. h.0)
     (λ n h. same_field (list_field old_tuple_field n) (λ ts. flat_map tuple_bytes ts) (λ ts. IsOldBag ts × (n ≡ length ts))
     (λ ts g. ((subst (λ (k : ℕ). k < 2 ^ 32) (sym g.0) h, g.1), sym g.0)) (λ ts g. (sym g.1, g.0.1)) (λ ts g. refl)) in
     record { again = f.again; takes = f.takes }
@@ -248,7 +249,8 @@ AreEntries IsAllowed xs = IsOldRising 1 xs × All (λ x. IsAllowed x.1) xs
 few_old_entries : {X : Type 0} (xs : List (ℕ × X)) → IsOldRising 1 xs → length xs ≤ OLD_WORKERS
 few_old_entries xs h = omega (arith, old_rising_len 1 xs (omega arith) h)
 
-old_entries_field : {X : Type 0} {spelled : X → List ℕ} {IsAllowed : X → Type 0} {read : List ℕ → Result (X × List ℕ) CkptError} → IsField spelled IsAllowed read
+old_entries_field : {X : Type 0} {spelled : X → List ℕ} {IsAllowed : X → Type 0} {read : List ℕ → Result (X × List ℕ) CkptError}
+    → IsField spelled IsAllowed read
     → IsField (entries_bytes spelled) (AreEntries IsAllowed) (old_entries_at read)
 unfolding old_entries_at
 old_entries_field {X} {spelled} {IsAllowed} {read} f =
@@ -260,7 +262,9 @@ old_entries_field {X} {spelled} {IsAllowed} {read} f =
 
 old_entries_lasts : {X : Type 0} {read : List ℕ → Result (X × List ℕ) CkptError} → Lasts read → Lasts (old_entries_at read)
 unfolding old_entries_at
-old_entries_lasts {X} {read} l = let m = behind_lasts (old_rising_at read 1) (byte_within_lasts 0 OLD_WORKERS) (old_rising_lasts l 1) in record { goes_on = m.goes_on }
+old_entries_lasts {X} {read} l =
+    let m = behind_lasts (old_rising_at read 1) (byte_within_lasts 0 OLD_WORKERS) (old_rising_lasts l 1) in
+    record { goes_on = m.goes_on }
 
 -- what of a shard format 1 spells
 record IsOldShard (s : ShardFields) : Type 0 where
@@ -285,10 +289,10 @@ with_bag bag bytes = old_entries_at old_request_at bytes >>= λ waiting. with_wa
 old_shard_field : IsField shard_bytes IsOldShard old_shard_at
 unfolding old_shard_at
 old_shard_field =
-    let f = behind old_bag_field (λ (s : ShardFields). s.bag) (λ s. entries_bytes request_bytes s.waiting ++ entries_bytes kept_bytes s.kept) IsOldShard with_bag
-    (λ s h. (h.few, h.bag))
-    (λ bag hb. behind (old_entries_field old_request_field) (λ (s : ShardFields). s.waiting) (λ s. entries_bytes kept_bytes s.kept) (λ s. IsOldShard s × (bag ≡ s.bag))
-    (with_waiting bag) (λ s h. (h.0.waiting_rises, h.0.waiting))
+    let f = behind old_bag_field (λ (s : ShardFields). s.bag) (λ s. entries_bytes request_bytes s.waiting ++ entries_bytes kept_bytes s.kept)
+    IsOldShard with_bag (λ s h. (h.few, h.bag))
+    (λ bag hb. behind (old_entries_field old_request_field) (λ (s : ShardFields). s.waiting) (λ s. entries_bytes kept_bytes s.kept)
+    (λ s. IsOldShard s × (bag ≡ s.bag)) (with_waiting bag) (λ s h. (h.0.waiting_rises, h.0.waiting))
     (λ waiting hw. made_field (old_entries_field old_kept_field) (shard_of bag waiting) (λ s. entries_bytes kept_bytes s.kept)
     (λ s. (IsOldShard s × (bag ≡ s.bag)) × (waiting ≡ s.waiting)) (λ kept h. refl)
     (λ kept h. ((record { few = hb.0; bag = hb.1; waiting_rises = hw.0; waiting = hw.1; kept_rises = h.0; kept = h.1 }, refl), refl))
@@ -306,7 +310,8 @@ old_shard_lasts : Lasts old_shard_at
 unfolding old_shard_at
 old_shard_lasts =
     let l = behind_lasts with_bag old_bag_lasts
-    (λ bag. behind_lasts (with_waiting bag) (old_entries_lasts old_request_lasts) (λ waiting. made_lasts (shard_of bag waiting) (old_entries_lasts old_kept_lasts))) in
+    (λ bag. behind_lasts (with_waiting bag) (old_entries_lasts old_request_lasts)
+    (λ waiting. made_lasts (shard_of bag waiting) (old_entries_lasts old_kept_lasts))) in
     record { goes_on = l.goes_on }
 
 -- ---- what has a spelling now, and that format 1 can hold

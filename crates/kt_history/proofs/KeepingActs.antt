@@ -80,10 +80,13 @@ Agrees-act h rows marks lost act a may lt = record {
   w' : CausesComeFirst (h ++ notes.Act act ∷ [])
   w' = CausesComeFirst-push h (notes.Act act) a.causes may
 
-  old_mark : (k : ℕ) → k < length h → mark_at (marks ++ act_mark marks (last_of (line h act.node)) act.by (length (line h act.node) + 1) ∷ []) k ≡ mark_at marks k
-  old_mark k old = get_or_append_left marks (act_mark marks (last_of (line h act.node)) act.by (length (line h act.node) + 1) ∷ []) no_mark k (omega (arith, old, a.lengths))
+  old_mark : (k : ℕ) → k < length h → mark_at (marks ++ act_mark marks (last_of (line h act.node)) act.by (length (line h act.node) + 1) ∷ []) k
+      ≡ mark_at marks k
+  old_mark k old = get_or_append_left marks (act_mark marks (last_of (line h act.node)) act.by (length (line h act.node) + 1) ∷ [])
+      no_mark k (omega (arith, old, a.lengths))
 
-  new_mark : mark_at (marks ++ act_mark marks (last_of (line h act.node)) act.by (length (line h act.node) + 1) ∷ []) (length h) ≡ act_mark marks (last_of (line h act.node)) act.by (length (line h act.node) + 1)
+  new_mark : mark_at (marks ++ act_mark marks (last_of (line h act.node)) act.by (length (line h act.node) + 1) ∷ []) (length h)
+      ≡ act_mark marks (last_of (line h act.node)) act.by (length (line h act.node) + 1)
   new_mark = get_or_push marks (act_mark marks (last_of (line h act.node)) act.by (length (line h act.node) + 1)) no_mark (length h) a.lengths
 
   new_survives : (lasts_in marks (last_of (line h act.node)) && lasts_in marks act.by) ≡ (lasts h (last_of (line h act.node)) && lasts h act.by)
@@ -118,7 +121,8 @@ pub Agrees-pushed_act : (h : List Note) (table more : List (Vec ℕ Global)) (ma
 Agrees-pushed_act h table more marks lost act a may same i number previous spot mark table' place lt is_number is_previous is_spot is_mark is_table =
     let b = Agrees-same_rows h (rows_of table) (rows_of more) marks lost a same in
     let len = length-map more (λ (row : Vec ℕ Global). row.items) in
-    let marked : mark ≡ act_mark marks (last_of (line h act.node)) act.by (length (line h act.node) + 1) = is_mark ∙ ap (λ n. act_mark marks n act.by spot) is_previous
+    let marked : mark ≡ act_mark marks (last_of (line h act.node)) act.by (length (line h act.node) + 1) =
+    is_mark ∙ ap (λ n. act_mark marks n act.by spot) is_previous
     ∙ ap (act_mark marks (last_of (line h act.node)) act.by) is_spot in
     Agrees-at _ _ _ _ _ _ _ _ refl
     (is_table ∙ ap (λ n. set (rows_of more) i (row_at (rows_of more) i ++ n ∷ [])) is_number

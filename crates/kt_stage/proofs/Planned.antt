@@ -28,7 +28,8 @@ use Rattle.kt_node.specs.declared.reaction.Reaction.TheVariants as reactions
 use Rattle.kt_node.specs.Loading.{load, loaded_by, marks_in}
 use Rattle.kt_node.specs.Stored.{fits}
 use Rattle.kt_node.specs.Learning.{restored, rolling_learns, verdict_to}
-use Rattle.kt_node.specs.Arrivals.{check_fitting, check_plan, check_reaction, is_in, rollback_plan, rollback_reaction, unless_down, verdict_by_parent, verdict_in, vote_in}
+use Rattle.kt_node.specs.Arrivals.{check_fitting, check_plan, check_reaction, is_in, rollback_plan, rollback_reaction, unless_down}
+use Rattle.kt_node.specs.Arrivals.{verdict_by_parent, verdict_in, vote_in}
 use Rattle.kt_node.specs.Deciding.{check_in, check_of}
 use Rattle.kt_node.specs.Failing.{fail_of, restart_after, restart_by, restart_in, restart_of, restarted}
 use Rattle.kt_node.specs.State.{body_at, body_from, if_fits}

@@ -278,7 +278,8 @@ allowed-promoted : (c : Content) (p : NodeId) (write : Option Write) → IfSome 
     → verdict_on c (row_of c p).tentative ≡ Some verdicts.Yes
 allowed-promoted c p write allowed e = subst (λ (w : Option Write). IfSome w (IsAllowed c p)) e allowed
 
-pub applied-held : (s : State) (step : Step) (plan : Plan) → IsSound s → IsSound (applied s step plan) → NoesStay s.content (content_after (owner step) plan.write s.content)
+pub applied-held : (s : State) (step : Step) (plan : Plan) → IsSound s → IsSound (applied s step plan)
+    → NoesStay s.content (content_after (owner step) plan.write s.content)
     → IfSome plan.write (IsAllowed s.content (owner step)) → Now s (owner step) plan → ((p : NodeId) → AreHeld s p)
     → (q : NodeId) → AreHeld (applied s step plan) q
 applied-held s step plan sound after noes allowed now held q = elim (cases_eq (node_index p) (node_index q)) [

@@ -45,7 +45,8 @@ check-found s t p plan there e = by (view s p).node refl e
 
     phase : (n : Live) → IsAlive s p n → (x : Phase) → n.phase ≡ x → check_in (view s p) t.next t.permanent n x ≡ Ok plan → Goal plan
     phase n at phases.Up is e =
-        let passed = if-passed (fits (role_of s.cast p) (view s p).line_len t.permanent && acts_fit (role_of s.cast p) (view s p).acts) _ refusals.Damaged plan e in
+        let passed = if-passed (fits (role_of s.cast p) (view s p).line_len t.permanent && acts_fit (role_of s.cast p) (view s p).acts)
+        _ refusals.Damaged plan e in
         let both = and_parts (fits (role_of s.cast p) (view s p).line_len t.permanent) (acts_fit (role_of s.cast p) (view s p).acts) passed.0 in
         this Goal _ plan (plans.begins_check there at is both.0 both.1) passed.1
     phase n at (phases.Held b) is e = absurd cc

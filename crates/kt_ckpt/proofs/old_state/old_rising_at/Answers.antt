@@ -13,8 +13,9 @@ returns-in_err-worker-clause-value g c =
 pub returns-in_err-entry-clause-value : goal.returns-in_err-entry-clause-value
 returns-in_err-entry-clause-value g c =
     let p = err_from_is_err_and c.from_residual-in_err-entry.result c.from_residual-in_err-entry.ensures.1 in
-    rw (p.1, p.2) (old_rising_ends_behind g.E.Old.old_reader c.in_err-entry.field-0.0 c.loop.entries.items c.loop.least c.args.count c.loop.counter c.loop.rest.now
-    c.in_ok-worker.worker c.in_ok-worker.behind.now (old_rising_at g.E.Old.old_reader 1 c.args.count c.args.bytes.now) c.loop-test.true c.in_ok-worker.ensures.value
+    rw (p.1, p.2) (old_rising_ends_behind g.E.Old.old_reader c.in_err-entry.field-0.0 c.loop.entries.items c.loop.least c.args.count
+    c.loop.counter c.loop.rest.now c.in_ok-worker.worker c.in_ok-worker.behind.now
+    (old_rising_at g.E.Old.old_reader 1 c.args.count c.args.bytes.now) c.loop-test.true c.in_ok-worker.ensures.value
     c.in_err-entry.ensures c.loop.invariant)
 
 pub loop-preserved : goal.loop-preserved

@@ -53,7 +53,8 @@ invariant_of-self c =
     c.push_reserved.ensures.items
     c.lost_with-self-inside.ensures
     (Agrees-pushed_act h c.self.inside.lines.items c.self.inside.lines.items c.self.inside.marks.items c.self.inside.lost c.args.act c.self.invariant may
-    (λ i. refl) c.index-place.result (c.len.result + 1) c.last_number-previous.result c.next_place-spot.result c.act_mark-mark.result c.append.new.rows.items c.index-place.ensures.value
+    (λ i. refl) c.index-place.result (c.len.result + 1) c.last_number-previous.result c.next_place-spot.result
+    c.act_mark-mark.result c.append.new.rows.items c.index-place.ensures.value
     within is_number previous_is spot_is (c.act_mark-mark.ensures
     ∙ ap (λ ms. act_mark ms c.last_number-previous.result c.args.act.by c.next_place-spot.result) c.deref-3.ensures.value)
     c.append.ensures)
