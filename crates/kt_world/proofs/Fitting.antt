@@ -2,7 +2,7 @@
 use Rattle.std.proofs.Common.{◌≡◌, ◌≢◌, ◌⊎◌, ℕ, zero, suc, ◌+◌, ◌≤◌, ◌<◌, Bool, true, false, List, [], ◌∷◌, ◌++◌, length, slice_get, Contains, cond, Option, None, Some, inl, inr, refl, sym, ap, ◌∙◌, subst, arith}
 use Rattle.std.proofs.Common.{length-append}
 use Rattle.std.specs.Prelude.{IfSome, IsTrue, is_some}
-use Rattle.std.specs.List.{find}
+use Rattle.std.specs.List.{find, list_all}
 use Rattle.std.specs.Option.{option_map}
 use Rattle.std.proofs.lemmas.Bool.{cases_eq, ne_eqb}
 use Rattle.kt_tuple.specs.declared.node.NodeId.{NodeId}
@@ -18,6 +18,8 @@ use Rattle.kt_history.proofs.Shared.{Contains-none, line-empty, line-own_act, li
 use Rattle.kt_store.specs.declared.rows.NodeRow.{NodeRow}
 use Rattle.kt_store.specs.Content.{Content, opening_row, row_of, row_or}
 use Rattle.kt_lines.specs.Legal.{IsLine}
+use Rattle.kt_ckpt.specs.declared.acts.LineAct.{LineAct}
+use Rattle.kt_ckpt.specs.Acts.{is_act_of}
 use Rattle.kt_ckpt.specs.Marks.{marks_of}
 use Rattle.kt_node.specs.Labels.{no_label, up_to}
 use Rattle.kt_node.specs.Node.{node_number}
@@ -26,13 +28,13 @@ use Rattle.kt_world.specs.Asks.{setting_of}
 use Rattle.kt_world.specs.Cast.{Cast, is_node, are_neighbours}
 use Rattle.kt_world.specs.Cut.{permanent_by, permanent_of, permanent_length}
 use Rattle.kt_world.specs.Effect.{noted}
-use Rattle.kt_world.specs.Like.{HoldsFront}
-use Rattle.kt_world.specs.declared.step.TheConstants.{MAX_NOTES}
-use Rattle.kt_world.specs.Placing.{LineAct, Acts, number_of, act_by, note_of, next_of, or_else, next_note, placed}
-use Rattle.kt_world.specs.Resumed.{nodes_of, all_held, history_of, IsOf, FitsIn, IsHeld, IsFit, AreFit, AllFit, MakesSense}
+use Rattle.kt_world.specs.Like.{HoldsFront, acts_stored}
+use Rattle.kt_world.specs.Placing.{Acts, number_of, act_by, note_of, next_of, or_else, next_note, placed}
+use Rattle.kt_world.specs.Resumed.{nodes_of, all_held, acts_of, history_of, IsOf, FitsIn, IsHeld, IsFit, AreFit, AllFit, MakesSense}
 use Rattle.kt_world.specs.State.{role_of}
 use Rattle.kt_world.proofs.OpenedSound.{nothing_stored}
 use Rattle.kt_world.proofs.Fit.{line-others}
+use Rattle.kt_world.proofs.Sums.{few-together}
 
 -- ---- of no node are more acts placed than it has
 
@@ -89,8 +91,8 @@ placed-few acts nodes zero h few = few
 placed-few acts nodes (suc n) h few =
     placed-few acts nodes n (noted h (next_note acts h nodes)) (noted-few acts h (next_note acts h nodes) (next-next acts h nodes) few)
 
-history-few : (cast : Cast) (c : Content) (acts : Acts) → FewPlaced acts (history_of cast c acts)
-history-few cast c acts = placed-few acts (nodes_of cast) (all_held c (nodes_of cast)) []
+history-few : (cast : Cast) (c : Content) → FewPlaced (acts_of c) (history_of cast c)
+history-few cast c = placed-few (acts_of c) (nodes_of cast) (all_held c (nodes_of cast)) []
     (λ p. let e = ap (λ (l : List ℕ). length l) (line-empty p) in omega (arith, e))
 
 -- ---- nodes of which nothing is held
@@ -121,17 +123,18 @@ no-line : (xs : List ℕ) → length xs ≤ 0 → xs ≡ []
 no-line [] le = refl
 no-line (x ∷ xs) le = absurd (omega (arith, le))
 
-others-fit : (cast : Cast) (c : Content) (acts : Acts) (p : NodeId) → length (acts p) ≡ permanent_length c p → row_of c p ≡ opening_row p
-    → FitsIn cast c (history_of cast c acts) p
-others-fit cast c acts p many e = record {
+others-fit : (cast : Cast) (c : Content) (p : NodeId) → row_of c p ≡ opening_row p → FitsIn cast c (history_of cast c) p
+others-fit cast c p e = record {
   of = subst (λ o. IfSome o (IsOf cast p)) (sym none) tt;
+  whole = ap (λ o. length (acts_stored o)) none ∙ sym held;
+  shaped = ap (λ o. list_all (is_act_of p) (acts_stored o)) none;
   placed = ap (λ (l : List ℕ). length l) bare ∙ sym held;
   sense = λ n a on is. absurd (Contains-none n (subst (λ (l : List ℕ). Contains l n) bare on));
   allowed = subst (IsLine (setting_of cast) p) (sym acts-none) (empty p);
   leads = subst (λ o. HoldsFront cast p (acts_in_line h p) o) (sym none) (subst (λ l. HoldsFront cast p l None) (sym acts-none) (nothing_stored cast p));
 } where
   h : List Note
-  h = history_of cast c acts
+  h = history_of cast c
 
   none : permanent_of c p ≡ None
   none = nothing-of c p e
@@ -140,7 +143,7 @@ others-fit cast c acts p many e = record {
   held = ap Rattle.kt_world.specs.Cut.acts_held none
 
   bare : line h p ≡ []
-  bare = no-line (line h p) (let few = history-few cast c acts p in omega (arith, few, many, held))
+  bare = no-line (line h p) (let few = history-few cast c p in let many = ap (λ o. length (acts_stored o)) none in omega (arith, few, many))
 
   acts-none : acts_in_line h p ≡ []
   acts-none = ap (Rattle.kt_history.specs.Closed.acts_at h) bare
@@ -149,12 +152,13 @@ others-fit cast c acts p many e = record {
   empty (ids.Worker n) = tt
   empty (ids.Shard n) = tt
 
--- all fit, if the lines are short enough together
-pub are-all : (cast : Cast) (c : Content) (acts : Acts) → AreFit cast c acts → ((p : NodeId) → length (acts p) ≡ permanent_length c p)
-    → all_held c (nodes_of cast) ≤ MAX_NOTES → AllFit cast c acts
-are-all cast c acts fit many short = record {
-  short = short;
-  fits = λ p. elim (held-or c p) [ inl x ↦ (fit p x).fits | inr e ↦ others-fit cast c acts p (many p) e ];
+pub are-all : (cast : Cast) (c : Content) → AreFit cast c → AllFit cast c
+are-all cast c fit = record {
+  short = few-together cast c (λ p. elim (held-or c p) [
+    | inl x ↦ inr (fit p x).short
+    | inr e ↦ inl (ap Rattle.kt_world.specs.Cut.acts_held (nothing-of c p e))
+  ]);
+  fits = λ p. elim (held-or c p) [ inl x ↦ (fit p x).fits | inr e ↦ others-fit cast c p e ];
   agree = λ p q near. elim (held-or c p) [
     | inl x ↦ (fit p x).agree q near
     | inr e ↦ subst (λ o. IsTrue (up_to (received_in (option_map marks_of o) (node_number q)) (Rattle.kt_world.specs.Resumed.sent_to c q p))) (sym (nothing-of c p e))

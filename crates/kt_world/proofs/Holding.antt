@@ -35,7 +35,7 @@ use Rattle.kt_world.proofs.PlansFound.{plan-found, plan-few, plan-room}
 use Rattle.kt_world.proofs.CanApplies.{stays_ready}
 use Rattle.kt_world.proofs.StaysBacked.{stays_backed, write-allowed}
 use Rattle.kt_world.proofs.Shaped.{AreMade, made-none, made-noted as made-stays}
-use Rattle.kt_world.proofs.HeldActs.{AreHeld, applied-held, opening-held, plan-now, plan-owner}
+use Rattle.kt_world.proofs.HeldActs.{AreHeld, allowed-promoted, applied-held, opening-held, plan-now, plan-owner}
 use Rattle.kt_world.proofs.Opened.{opening-ready, opening-backed}
 use Rattle.kt_world.proofs.Sound.{IsSound}
 use Rattle.kt_world.proofs.StepSound.{step_keeps, step_sound}
@@ -82,7 +82,8 @@ made-holds s step new h m = let P : State → Type 0 = Holds in subst P m.leads 
   made = made-stays s.cast s.history (owner step) m.plan.note (plan-owner s (told s step) step m.plan m.is_plan)
       (step_keeps s h.ready h.backed h.sound step m.plan m.is_plan).may h.made;
   held = applied-held s step m.plan h.sound (step_sound s h.ready h.backed h.sound step m.plan m.is_plan)
-      (step_keeps s h.ready h.backed h.sound step m.plan m.is_plan).noes (write-allowed s h.backed step m.plan m.is_plan)
+      (step_keeps s h.ready h.backed h.sound step m.plan m.is_plan).noes
+      (allowed-promoted s.content (owner step) m.plan.write (write-allowed s h.backed step m.plan m.is_plan))
       (plan-now s (told s step) step m.plan m.is_plan) h.held;
 })
 

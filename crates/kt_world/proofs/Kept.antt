@@ -36,7 +36,6 @@ use Rattle.kt_world.specs.Told.{told, stored_of}
 use Rattle.kt_world.specs.Judge.{planned}
 use Rattle.kt_world.specs.Effect.{noted, applied, applied_if, step_result}
 use Rattle.kt_world.specs.Writing.{content_after}
-use Rattle.kt_world.specs.Placing.{Acts}
 use Rattle.kt_world.specs.Found.{was_found}
 use Rattle.kt_world.specs.Resumed.{resumed, AllFit, IsProper}
 use Rattle.kt_world.specs.inner.Ready.{IsReady}
@@ -46,11 +45,13 @@ use Rattle.kt_world.proofs.CanApplies.{stays_ready}
 use Rattle.kt_world.proofs.FailLeaves.{has_fallen, learns_no_down}
 use Rattle.kt_world.proofs.FirstCut.{IsCalm}
 use Rattle.kt_world.proofs.Fit.{EndsIn, IsFitting, Fits, fits-fitting}
+use Rattle.kt_world.proofs.HeldActs.{AreHeld, Now, applied-held}
 use Rattle.kt_world.proofs.Holding.{Holds, IsMade, made-holds, opening-holds}
 use Rattle.kt_world.proofs.Opened.{no_messages, opening-node}
-use Rattle.kt_world.proofs.Resuming.{down-rows-hold, resumed-ready, resumed-backed, resumed-sound, resumed-fitting}
+use Rattle.kt_world.proofs.Resuming.{down-rows-hold, resumed-ready, resumed-backed, resumed-sound, resumed-fitting, resumed-made, resumed-held}
 use Rattle.kt_world.proofs.Newer.{IsNewNode, IsPosted, IsNewer, plan-news, newer-after}
 use Rattle.kt_world.proofs.PlansFound.{plan-found, plan-few, plan-room}
+use Rattle.kt_world.proofs.Shaped.{AreMade, made-noted}
 use Rattle.kt_world.proofs.Settle.{settled, settled_content, settled_row, row-settled}
 use Rattle.kt_world.proofs.Settling.{FoundDown, row_found, unfound-same, Found, found-bare, Follows, Learns, follows, downs-after}
 use Rattle.kt_world.proofs.Sound.{IsNodeSound, NodeSoundIn, IsSound}
@@ -66,6 +67,8 @@ pub record Kept (s : State) : Type 0 where
   pub sound : IsSound (settled s)
   pub calm : s.found ≡ None → HasNoCut s.history → IsCalm s
   pub fitting : IsFitting (settled s)
+  pub made : AreMade s.cast s.history
+  pub held : (p : NodeId) → AreHeld (settled s) p
 
 -- ---- so all that an opened world keeps holds with what was found settled
 
@@ -123,6 +126,8 @@ kept-holds s k = record {
   sound = k.sound;
   calm = λ new none. calm-settled s (k.calm new none);
   fitting = k.fitting;
+  made = k.made;
+  held = k.held;
 }
 
 -- ---- what is learnt of what was found
@@ -149,6 +154,8 @@ quiet-fits s p note down = record {
 pub record Quiet (s : State) (p : NodeId) (plan : Plan) : Type 0 where
   pub keeps : Keeps s p plan
   pub fits : Fits s p plan
+  pub now : Now s p plan
+  pub gives : plan.write ≡ Some writes.Discard
 
 pub is-quiet : (s : State) (k : Kept s) (step : Step) (plan : Plan) → (x : Learns s step plan) → Quiet (settled s) x.node x.quiet
 is-quiet s k step plan x =
@@ -157,10 +164,17 @@ is-quiet s k step plan x =
     let fallen = has_fallen (settled s) h.ready x.node x.there x.down in
     let Q : Plan → Type 0 = Quiet (settled s) x.node in
     elim x.kind [
-      | inl e ↦ subst Q (sym e) (record { keeps = bare-keeps (settled s) k.sound x.node bare; fits = quiet-fits (settled s) x.node None fallen })
+      | inl e ↦ subst Q (sym e) (record { 
+        keeps = bare-keeps (settled s) k.sound x.node bare;
+        fits = quiet-fits (settled s) x.node None fallen;
+        now = tt;
+        gives = refl;
+      })
       | inr e ↦ subst Q (sym e) (record {
         keeps = learns_no_down (settled s) k.sound x.node fallen;
         fits = quiet-fits (settled s) x.node (discard_down_plan (view s x.node) (stored_of (settled s).content x.node)).note fallen;
+        now = tt;
+        gives = refl;
       })
     ]
 
@@ -170,13 +184,21 @@ record Left (s : State) (new : State) : Type 0 where
   sound : IsSound (settled new)
   fitting : IsFitting (settled new)
   calm : new.found ≡ None → HasNoCut new.history → IsCalm new
+  made : AreMade new.cast new.history
+  held : (p : NodeId) → AreHeld (settled new) p
 
 follows-left : (s : State) (k : Kept s) (step : Step) (plan : Plan) → planned s step ≡ Ok plan → Follows s step plan → Left s (applied s step plan)
 follows-left s k step plan e f =
     let made : IsMade (settled s) step (settled (applied s step plan)) =
     record { plan = plan; is_plan = f.is_plan; few = plan-few s (told s step) step plan e; room = plan-room s (told s step) step plan e; leads = sym f.leads } in
     let h = made-holds (settled s) step (settled (applied s step plan)) (kept-holds s k) made in
-    record { sound = h.sound; fitting = h.fitting; calm = λ new none. calm-back (applied s step plan) (h.calm new none) }
+    record {
+      sound = h.sound;
+      fitting = h.fitting;
+      calm = λ new none. calm-back (applied s step plan) (h.calm new none);
+      made = h.made;
+      held = h.held;
+    }
 
 learns-left : (s : State) (k : Kept s) (step : Step) (plan : Plan) → Learns s step plan → Left s (applied s step plan)
 learns-left s k step plan x =
@@ -184,11 +206,22 @@ learns-left s k step plan x =
     let at : owner step ≡ x.node = ap owner x.is_learn in
     let keeps : Keeps (settled s) (owner step) x.quiet = subst (λ p. Keeps (settled s) p x.quiet) (sym at) q.keeps in
     let fits : Fits (settled s) (owner step) x.quiet = subst (λ p. Fits (settled s) p x.quiet) (sym at) q.fits in
+    let now : Now (settled s) (owner step) x.quiet = subst (λ p. Now (settled s) p x.quiet) (sym at) q.now in
+    let there : IsTrue (is_node s.cast (owner step)) = subst (λ p. IsTrue (is_node s.cast p)) (sym at) x.there in
+    let sound : IsSound (applied (settled s) step x.quiet) = applied-sound (settled s) step x.quiet k.sound keeps in
+    let Made : State → Type 0 = λ y. AreMade y.cast y.history in
+    let Held : State → Type 0 = λ y. (p : NodeId) → AreHeld y p in
     record {
-      sound = subst IsSound (sym x.leads) (applied-sound (settled s) step x.quiet k.sound keeps);
+      made = subst Made (sym x.leads) (made-noted s.cast s.history (owner step) x.quiet.note there keeps.may k.made);
+      held = subst Held (sym x.leads)
+          (applied-held (settled s) step x.quiet k.sound sound keeps.noes (λ e. discards (sym q.gives ∙ e)) now k.held);
+      sound = subst IsSound (sym x.leads) sound;
       fitting = subst IsFitting (sym x.leads) (fits-fitting (settled s) step x.quiet k.fitting keeps.may fits);
       calm = λ new none. absurd (unfound new);
     } where
+      discards : {X : Type 0} → Some writes.Discard ≡ Some writes.Promote → X
+      discards e = absurd (cc (e))
+
       unfound : s.found ≡ None → ⊥
       unfound e =
           let early : was_found None x.found.tentative.instance ≡ true = ap (λ f. was_found f x.found.tentative.instance) (sym e) ∙ x.found.early in
@@ -209,6 +242,8 @@ planned-kept s k step plan e =
       sound = left.sound;
       calm = left.calm;
       fitting = left.fitting;
+      made = left.made;
+      held = left.held;
     }
 
 -- ---- the induction
@@ -238,6 +273,8 @@ opening-kept cast is short =
       sound = h.sound;
       calm = h.calm;
       fitting = h.fitting;
+      made = h.made;
+      held = h.held;
     } where
       new : (p : NodeId) → IfSome (opening_row cast p) (IsNewNode None)
       new p = by (is_node cast p) where
@@ -280,25 +317,27 @@ found-posted c = by (next_instance c - 1) refl where
         | inr there ↦ subst (λ k. IsTrue (is_some (find (λ (row : Posted). row.instance == k) c.board))) same there
       ]
 
-pub resumed-kept : (cast : Cast) → IsCast cast → AreShort cast → (c : Content) (acts : Acts) → IsProper c → AllFit cast c acts → Kept (resumed cast c acts)
-resumed-kept cast is short c acts proper fit = record {
-  ready = resumed-ready cast is short c acts fit;
-  backed = resumed-backed cast is c acts proper c refl;
+pub resumed-kept : (cast : Cast) → IsCast cast → AreShort cast → (c : Content) → IsProper c → AllFit cast c → Kept (resumed cast c)
+resumed-kept cast is short c proper fit = record {
+  ready = resumed-ready cast is short c fit;
+  backed = resumed-backed cast is c proper c refl;
   newer = record {
-    nodes = down-rows-hold cast is c acts (λ p row. IfSome row (IsNewNode (Some (next_instance c - 1)))) (λ p. tt) (λ p. tt);
+    nodes = down-rows-hold cast is c (λ p row. IfSome row (IsNewNode (Some (next_instance c - 1)))) (λ p. tt) (λ p. tt);
     messages = λ k m on. absurd (no_messages _ k m on);
     posted = found-posted c;
   };
-  downs = down-rows-hold cast is c acts
+  downs = down-rows-hold cast is c
       (λ p row. row_found (Some (next_instance c - 1)) (row_of c p) ≡ true → unwrap_or row Down ≡ Down) (λ p e. refl) (λ p e. refl);
-  sound = resumed-sound cast is c acts fit;
+  sound = resumed-sound cast is c fit;
   calm = λ e. absurd (cc (e));
-  fitting = resumed-fitting cast is c acts fit;
+  fitting = resumed-fitting cast is c fit;
+  made = resumed-made cast c fit;
+  held = resumed-held cast c fit;
 }
 
 pub start-kept : (s : State) → IsStart s → Kept s
 start-kept s (opened cast is short) = opening-kept cast is short
-start-kept s (resumes cast c acts is short proper fit) = resumed-kept cast is short c acts proper fit
+start-kept s (resumes cast c is short proper fit) = resumed-kept cast is short c proper fit
 
 pub reached-kept : (s : State) → IsReached s → Kept s
 reached-kept s is = subst Kept is.leads (steps-kept is.start is.steps (start-kept is.start is.is_start))

@@ -35,12 +35,13 @@ use Rattle.kt_world.specs.Reached.{IsReached}
 use Rattle.kt_world.specs.Cut.{IsCausallyClosed, permanent_of, permanent_length, acts_held}
 use Rattle.kt_world.specs.Found.{has_found}
 use Rattle.kt_world.specs.Headline.{may_forget, HasOneRun, IsWhole, NotesOneAtMost, LineAfter, HasCut, IsFailure, IsNoted}
-use Rattle.kt_world.specs.Like.{HoldsFront, IsNotNo, IsSettled, StoresFollowLines}
+use Rattle.kt_world.specs.Like.{HoldsActs, HoldsFront, IsNotNo, IsSettled, StoresFollowLines}
 use Rattle.kt_world.specs.PermanentRun.{IsPermanentRun}
 use Rattle.kt_world.specs.Workers.{WorkersFollowLines}
 use Rattle.kt_world.proofs.FirstCut.{shard-alive, failure_cuts_first}
 use Rattle.kt_world.proofs.Following.{workers_follow, service_heard}
 use Rattle.kt_world.proofs.Headlines.{one_run, nothing_lost, survives_all, bags_held}
+use Rattle.kt_world.proofs.HeldActs.{RowHeld, permanent_acts}
 use Rattle.kt_world.proofs.Holding.{Holds}
 use Rattle.kt_world.proofs.Kept.{Kept, kept-holds, reached-kept, is-quiet}
 use Rattle.kt_world.proofs.LinesAfter.{noted_one, line_noted, cut_forgets, shorter_forgets}
@@ -88,12 +89,12 @@ undamaged-reached s is step refusal = by (has_found s.found (row_of s.content (o
       ∙ ap (λ (v : Option Verdict). Rattle.kt_world.specs.Cut.permanent_by v (Some y.tentative) (row_of s.content p).permanent) board in
       let F : Option Rattle.kt_ckpt.specs.declared.ckpt.Ckpt.Ckpt → Type 0 =
       λ c. fits (role_of s.cast p) (view s p).line_len (option_map Rattle.kt_ckpt.specs.Marks.marks_of c) ≡ true in
-      subst F same (gives-fitting (settled s) h.ready h.sound h.fitting p).permanent
+      subst F same (gives-fitting (settled s) h.ready h.sound h.fitting h.made p).permanent
 
   by : (b : Bool) → has_found s.found (row_of s.content (owner step)).tentative ≡ b → ¬ (judged s (told s step) step ≡ Err (refusals.Store refusal))
   by false unfound = λ e.
       let row = row-settled s.found s.content (owner step) ∙ unfound-same s.found s.content (row_of s.content (owner step)) unfound in
-      never-damaged (settled s) h.ready h.sound h.fitting step refusal
+      never-damaged (settled s) h.ready h.sound h.fitting h.made step refusal
       (ap (λ (t : Told). judged (settled s) t step) (told-settled s step row) ∙ judged-settled s (told s step) step ∙ e)
   by true early =
       let x = what-found s (owner step) early in
@@ -178,10 +179,17 @@ stores-reached s is p =
     let Row : NodeRow → Type 0 = λ r. Rattle.kt_world.proofs.Sound.IsStored s.cast p (acts_in_line s.history p) r.permanent r.tentative (verdict_on s.content r.tentative) in
     let stored : IsSettled s p → Row (row_of s.content p) =
     λ e. subst Row (row-settled s.found s.content p ∙ unfound-same s.found s.content (row_of s.content p) e) (k.sound.nodes p).stored in
+    let Acts : NodeRow → Type 0 = λ r. RowHeld s.history p r (verdict_on s.content r.tentative) in
+    let as_row : Acts (row_of (settled s).content p) = record { permanent = (k.held p).permanent; tentative = (k.held p).tentative } in
+    let held : IsSettled s p → Acts (row_of s.content p) =
+    λ e. subst Acts (row-settled s.found s.content p ∙ unfound-same s.found s.content (row_of s.content p) e) as_row in
     record {
       counts = subst (HoldsFront s.cast p (acts_in_line s.history p)) (permanent-settled s.found s.content p) (permanent_front (settled s) k.sound p);
+      counted_acts = subst (HoldsActs s.history p) (permanent-settled s.found s.content p) (permanent_acts (settled s) p (k.held p));
       permanent = λ e. (stored e).permanent;
+      permanent_acts = λ e. (held e).permanent;
       tentative = λ e fine. fronts_in s.cast p (acts_in_line s.history p) (row_of s.content p).permanent (row_of s.content p).tentative ((stored e).tentative fine);
+      tentative_acts = λ e fine. (held e).tentative fine;
     }
 
 pub within-reached : (s : State) → IsReached s → (p : NodeId) → permanent_length s.content p ≤ length (line s.history p)

@@ -61,6 +61,8 @@ pub mod Gives
 pub mod Undamaged
 pub mod Settle
 pub mod Placed
+pub mod PlacedActs
+pub mod Sums
 pub mod Fitting
 pub mod Resuming
 pub mod Newer

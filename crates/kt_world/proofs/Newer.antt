@@ -293,7 +293,7 @@ plan-news s is step plan (plans.hears {p = p} {q = q} {n = n} {post = post} come
 plan-news s is step plan (plans.puts_by {q = q} {n = n} comes at rolls) = turn-new s q n plan _ refl at (live-new s is q n at) tt tt
 plan-news s is step plan (plans.drops {q = q} comes may) = stay-new s is q plan refl refl tt
 plan-news s is step plan (plans.answers_check {q = q} {n = n} comes at says) = turn-new s q n plan _ refl at (live-new s is q n at) (tt, tt) tt
-plan-news s is step plan (plans.joins_check {p = p} {q = q} {n = n} {ask = ask} comes at up undecided joins fit other) =
+plan-news s is step plan (plans.joins_check {p = p} {q = q} {n = n} {ask = ask} comes at up undecided joins fit other shaped) =
     let new = asked-new s is p q (messages.CheckAsk ask) comes in
     check-new s q n (asking_poll ask.instance n.incarnation (Some (asker_of p ask)) (cohort (role_of s.cast q) (told s step).permanent n)) _ at new new
 plan-news s is step plan (plans.answers_rollback {q = q} {n = n} comes at says) = turn-new s q n plan _ refl at (live-new s is q n at) (tt, tt) tt
@@ -313,7 +313,7 @@ plan-news s is step plan (plans.told_to_roll {q = q} {n = n} {live = live} {b = 
     load-new s q plan live refl (loaded-new s.found (view s q) (told s step).stored live loads) (verdicts-new s.found instance true b.asked) tt
 plan-news s is step plan (plans.told_to_go_on {q = q} {n = n} {b = b} {instance = instance} comes at rolls asked same) =
     turn-new s q n plan _ refl at tt (verdicts-new s.found instance false b.asked) tt
-plan-news s is step plan (plans.begins_check {p = p} {n = n} there at up fit) =
+plan-news s is step plan (plans.begins_check {p = p} {n = n} there at up fit shaped) =
     check-new s p n (asking_poll (next_instance s.content) n.incarnation None (cohort (role_of s.cast p) (told s step).permanent n)) _ at
     (next-new s.content s.found is.posted) tt
 plan-news s is step plan (plans.decides {p = p} {n = n} {b = b} {phase = phase} {agreed = agreed} there at voting own undecided outcome) =

@@ -10,7 +10,8 @@ use Rattle.kt_history.specs.Line.{note_at, line, IsAct}
 use Rattle.kt_history.specs.WellFormed.{HasNoCut, IsWellFormed}
 use Rattle.kt_history.proofs.Shared.{note_at-push_cases, note_at-within, line-own, Stands-no_cut}
 use Rattle.kt_world.specs.Effect.{noted}
-use Rattle.kt_world.specs.Placing.{LineAct, Place, Acts, number_of, act_by, note_of, next_of, or_else, next_note, placed}
+use Rattle.kt_ckpt.specs.declared.acts.LineAct.{LineAct}
+use Rattle.kt_world.specs.Placing.{Acts, number_of, act_by, note_of, next_of, or_else, next_note, placed}
 use Rattle.kt_world.specs.Resumed.{MakesSense}
 use Rattle.kt_world.proofs.Growing.{length-noted}
 

@@ -27,7 +27,7 @@ use Rattle.kt_world.specs.declared.step.Step.TheVariants.{Issue, Repeat, Deliver
 use Rattle.kt_world.specs.declared.step.StepError.TheVariants as refusals
 use Rattle.kt_world.specs.Cast.{Cast}
 use Rattle.kt_world.specs.Effect.{sent}
-use Rattle.kt_world.specs.Placing.{LineAct, Place, Acts, next_note, placed}
+use Rattle.kt_world.specs.Placing.{next_note, placed}
 use Rattle.kt_world.specs.Reached.{opening, opening_rows}
 use Rattle.kt_world.specs.Resumed.{down_rows, sum_of, resumed, history_of}
 use Rattle.kt_world.specs.State.{State}
@@ -45,34 +45,17 @@ left_by (Refused k refusal) = empty_content
 abbrev stopped_after : List Step → Content
 stopped_after steps = left_by (run 0 (opening one_put) steps)
 
-abbrev put_op : Op
-put_op = ops.Out (values.Int (pos 1) ∷ [])
-
-abbrev act : What → Rattle.std.specs.Prelude.Option Place → LineAct
-act what by = record { what = what; by = by; worker = 1; number = 1; op = put_op }
-
-abbrev at_place : NodeId → ℕ → Rattle.std.specs.Prelude.Option Place
-at_place p k = Some record { node = p; place = k }
-
--- what the checkpoints of w1 and s1 hold after it was put and answered
-abbrev put_acts : Acts
-put_acts (ids.Worker n) = act whats.Issue None ∷ act (whats.Accepted answers.Done) (at_place s 2) ∷ []
-put_acts (ids.Shard n) = act whats.Heard (at_place w 1) ∷ act (whats.Served answers.Done) (at_place w 1) ∷ []
-
-abbrev no_acts : Acts
-no_acts p = []
-
-abbrev again : Content → Acts → List Step → Report
-again c acts steps = report both (run 0 (resumed one_put c acts) steps)
+abbrev again : Content → List Step → Report
+again c steps = report both (run 0 (resumed one_put c) steps)
 
 -- stopped once the check has its Yes: both tentative checkpoints count
-pub resumed_after_yes : again (stopped_after votes_of_two) put_acts []
+pub resumed_after_yes : again (stopped_after votes_of_two) []
     ≡ Says (is modes.Down (1 ∷ 4 ∷ []) 1 0 0 ∷ is modes.Down (2 ∷ 3 ∷ []) 1 0 0 ∷ [])
 unfolding run sent opening_rows numbers put line line_from next_note placed down_rows sum_of
 resumed_after_yes = refl
 
 -- both learn it, restart, ask each other, and are up
-pub resumed_and_goes_on : again (stopped_after votes_of_two) put_acts (Learn w ∷ Learn s ∷ Restart w ∷ Restart s ∷ Deliver w s ∷ Deliver s w
+pub resumed_and_goes_on : again (stopped_after votes_of_two) (Learn w ∷ Learn s ∷ Restart w ∷ Restart s ∷ Deliver w s ∷ Deliver s w
     ∷ Deliver s w ∷ Decide w ∷ Deliver w s ∷ Decide s ∷ [])
     ≡ Says (is modes.Up (1 ∷ 4 ∷ []) 2 2 0 ∷ is modes.Up (2 ∷ 3 ∷ []) 2 2 1 ∷ [])
 unfolding run sent opening_rows numbers put line line_from next_note placed down_rows sum_of
@@ -82,19 +65,19 @@ abbrev asked_yet : List Step
 asked_yet = a ++ Check w ∷ Deliver w s ∷ []
 
 -- stopped before the verdict: nothing counts
-pub resumed_before : again (stopped_after asked_yet) no_acts [] ≡ Says (is modes.Down [] 1 0 0 ∷ is modes.Down [] 1 0 0 ∷ [])
+pub resumed_before : again (stopped_after asked_yet) [] ≡ Says (is modes.Down [] 1 0 0 ∷ is modes.Down [] 1 0 0 ∷ [])
 unfolding run sent opening_rows numbers put line line_from next_note placed down_rows sum_of
 resumed_before = refl
 
-pub resumed_cannot_learn : again (stopped_after asked_yet) no_acts (Learn s ∷ []) ≡ Stops 1 refusals.NotDecided
+pub resumed_cannot_learn : again (stopped_after asked_yet) (Learn s ∷ []) ≡ Stops 1 refusals.NotDecided
 unfolding run sent opening_rows numbers put line line_from next_note placed down_rows sum_of
 resumed_cannot_learn = refl
 
-pub resumed_cannot_restart : again (stopped_after asked_yet) no_acts (Restart w ∷ []) ≡ Stops 1 refusals.Unresolved
+pub resumed_cannot_restart : again (stopped_after asked_yet) (Restart w ∷ []) ≡ Stops 1 refusals.Unresolved
 unfolding run sent opening_rows numbers put line line_from next_note placed down_rows sum_of
 resumed_cannot_restart = refl
 
-pub resumed_gives_up : again (stopped_after asked_yet) no_acts (Abandon w ∷ Learn w ∷ Learn s ∷ [])
+pub resumed_gives_up : again (stopped_after asked_yet) (Abandon w ∷ Learn w ∷ Learn s ∷ [])
     ≡ Says (is modes.Down [] 1 0 0 ∷ is modes.Down [] 1 0 0 ∷ [])
 unfolding run sent opening_rows numbers put line line_from next_note placed down_rows sum_of
 resumed_gives_up = refl

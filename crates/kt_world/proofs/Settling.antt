@@ -231,14 +231,14 @@ found-follows s backed step plan down x (plans.puts_by {q = q} {n = n} comes at 
 found-follows s backed step plan down x (plans.drops {p = p} {q = q} {message = m} comes may) =
     inl (record { is_plan = plans.drops (comes-settled s p q m comes) (dropped-settled s q m may); leads = refl })
 found-follows s backed step plan down x (plans.answers_check {q = q} {n = n} comes at says) = down-alive s q n down at
-found-follows s backed step plan down x (plans.joins_check {q = q} {n = n} comes at up undecided joins fit other) = down-alive s q n down at
+found-follows s backed step plan down x (plans.joins_check {q = q} {n = n} comes at up undecided joins fit other shaped) = down-alive s q n down at
 found-follows s backed step plan down x (plans.answers_rollback {q = q} {n = n} comes at says) = down-alive s q n down at
 found-follows s backed step plan down x (plans.joins_rollback {q = q} {n = n} comes at up undecided above fit) = down-alive s q n down at
 found-follows s backed step plan down x (plans.counts_vote {q = q} {n = n} comes at voting on) = down-alive s q n down at
 found-follows s backed step plan down x (plans.told_when_held {q = q} {n = n} comes at held same) = down-alive s q n down at
 found-follows s backed step plan down x (plans.told_to_roll {q = q} {n = n} comes at rolls asked same loads) = down-alive s q n down at
 found-follows s backed step plan down x (plans.told_to_go_on {q = q} {n = n} comes at rolls asked same) = down-alive s q n down at
-found-follows s backed step plan down x (plans.begins_check {p = p} {n = n} there at up fit) = down-alive s p n down at
+found-follows s backed step plan down x (plans.begins_check {p = p} {n = n} there at up fit shaped) = down-alive s p n down at
 found-follows s backed step plan down x (plans.decides {p = p} {n = n} there at voting own undecided outcome) = down-alive s p n down at
 found-follows s backed step plan down x (plans.gives_up {p = p} {n = n} there at voting own undecided) = down-alive s p n down at
 found-follows s backed step plan down x (plans.gives_up_down {p = p} {instance = i} there is has) =
@@ -307,14 +307,14 @@ found-stays s step plan down x (plans.hears {q = q} {n = n} comes at up kept) = 
 found-stays s step plan down x (plans.puts_by {q = q} {n = n} comes at rolls) = down-alive s q n down at
 found-stays s step plan down x (plans.drops {p = p} {q = q} {message = m} comes may) = refl
 found-stays s step plan down x (plans.answers_check {q = q} {n = n} comes at says) = down-alive s q n down at
-found-stays s step plan down x (plans.joins_check {q = q} {n = n} comes at up undecided joins fit other) = down-alive s q n down at
+found-stays s step plan down x (plans.joins_check {q = q} {n = n} comes at up undecided joins fit other shaped) = down-alive s q n down at
 found-stays s step plan down x (plans.answers_rollback {q = q} {n = n} comes at says) = down-alive s q n down at
 found-stays s step plan down x (plans.joins_rollback {q = q} {n = n} comes at up undecided above fit) = down-alive s q n down at
 found-stays s step plan down x (plans.counts_vote {q = q} {n = n} comes at voting on) = down-alive s q n down at
 found-stays s step plan down x (plans.told_when_held {q = q} {n = n} comes at held same) = down-alive s q n down at
 found-stays s step plan down x (plans.told_to_roll {q = q} {n = n} comes at rolls asked same loads) = down-alive s q n down at
 found-stays s step plan down x (plans.told_to_go_on {q = q} {n = n} comes at rolls asked same) = down-alive s q n down at
-found-stays s step plan down x (plans.begins_check {p = p} {n = n} there at up fit) = down-alive s p n down at
+found-stays s step plan down x (plans.begins_check {p = p} {n = n} there at up fit shaped) = down-alive s p n down at
 found-stays s step plan down x (plans.decides {p = p} {n = n} there at voting own undecided outcome) = down-alive s p n down at
 found-stays s step plan down x (plans.gives_up {p = p} {n = n} there at voting own undecided) = down-alive s p n down at
 found-stays s step plan down x (plans.gives_up_down {p = p} {instance = i} there is has) = refl

@@ -36,7 +36,7 @@ use Rattle.kt_world.proofs.Scene.{IsNode, a_shard, a_worker, of_node}
 use Rattle.kt_world.proofs.Sound.{MayNote}
 
 -- a worker's acts are about its own requests
-abbrev IsAboutOwn : NodeId → ℕ → Type 0
+abbrev pub IsAboutOwn : NodeId → ℕ → Type 0
 IsAboutOwn (ids.Worker i) worker = worker ≡ i
 IsAboutOwn (ids.Shard i) worker = Unit {0}
 

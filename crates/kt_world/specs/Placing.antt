@@ -2,25 +2,11 @@
 use Rattle.std.specs.Prelude.{ℕ, zero, suc, List, [], ◌∷◌, length, Option, None, Some, slice_get}
 use Rattle.std.specs.Option.{option_map}
 use Rattle.kt_tuple.specs.declared.node.NodeId.{NodeId}
-use Rattle.kt_tuple.specs.declared.op.Op.{Op}
 use Rattle.kt_history.specs.declared.note.Note.{Note}
 use Rattle.kt_history.specs.declared.note.Note.TheVariants as notes
-use Rattle.kt_history.specs.declared.note.What.{What}
 use Rattle.kt_history.specs.Line.{line}
+use Rattle.kt_ckpt.specs.declared.acts.LineAct.{LineAct}
 use Rattle.kt_world.specs.Effect.{noted}
-
--- where an act stands: its node, and its place in that node's line, counted from 1
-pub record Place : Type 0 where
-  pub node : NodeId
-  pub place : ℕ
-
--- an act of a line, as a checkpoint holds it: its cause, where it has one, is told by its place
-pub record LineAct : Type 0 where
-  pub what : What
-  pub by : Option Place
-  pub worker : ℕ
-  pub number : ℕ
-  pub op : Op
 
 -- the acts of each node, in the order of its line
 abbrev pub Acts : Type 0
@@ -31,10 +17,10 @@ abbrev pub number_in : List ℕ → ℕ → Option ℕ
 number_in numbers zero = None
 number_in numbers (suc n) = slice_get numbers n
 
--- the number of the cause, 0 where there is none, if it is placed already
-abbrev pub number_of : List Note → Option Place → Option ℕ
+-- the number of the act at this place of this node's line, 0 where none is meant, if it is placed already
+abbrev pub number_of : List Note → Option (NodeId × ℕ) → Option ℕ
 number_of h None = Some 0
-number_of h (Some at) = number_in (line h at.node) at.place
+number_of h (Some by) = number_in (line h by.0) by.1
 
 abbrev pub act_by : NodeId → LineAct → ℕ → Note
 act_by p a by = notes.Act record { node = p; by = by; worker = a.worker; number = a.number; op = a.op; what = a.what }

@@ -13,7 +13,6 @@ use Rattle.kt_world.specs.Cast.{Cast, IsCast, is_node}
 use Rattle.kt_world.specs.Short.{AreShort}
 use Rattle.kt_world.specs.State.{State, role_of}
 use Rattle.kt_world.specs.Effect.{step_result}
-use Rattle.kt_world.specs.Placing.{Acts}
 use Rattle.kt_world.specs.Resumed.{IsProper, AllFit, resumed}
 
 -- the row of a node, which is empty where the scene has no such node
@@ -54,8 +53,7 @@ after s (step ∷ later) = after (next_state s step) later
 -- the first state of a world: it was opened, or goes on from what a store holds that fits the scene
 pub data IsStart : State → Type 0 where
   opened : (cast : Cast) → IsCast cast → AreShort cast → IsStart (opening cast)
-  resumes : (cast : Cast) (c : Content) (acts : Acts) → IsCast cast → AreShort cast → IsProper c → AllFit cast c acts
-      → IsStart (resumed cast c acts)
+  resumes : (cast : Cast) (c : Content) → IsCast cast → AreShort cast → IsProper c → AllFit cast c → IsStart (resumed cast c)
 
 -- some list of steps leads to this state from the first state of some world whose scripts a checkpoint can count
 pub record IsReached (s : State) : Type 0 where

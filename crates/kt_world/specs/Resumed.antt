@@ -1,7 +1,7 @@
 -- A world that goes on from what a store holds, and when what it holds fits a scene.
 use Rattle.std.specs.Prelude.{◌≡◌, ℕ, zero, suc, ◌+◌, ◌-◌, ◌*◌, ◌<◌, ◌≤◌, ◌^◌, nat_lt, Bool, true, false, if◌then◌else◌}
 use Rattle.std.specs.Prelude.{List, [], ◌∷◌, ◌++◌, length, map, filter, replicate, Contains, AllPairs, Option, None, Some, IfSome, IsTrue, is_some}
-use Rattle.std.specs.List.{range_with_len}
+use Rattle.std.specs.List.{list_all, range_with_len}
 use Rattle.std.specs.Option.{option_map}
 use Rattle.kt_tuple.specs.declared.node.NodeId.{NodeId}
 use Rattle.kt_tuple.specs.declared.node.NodeId.TheVariants as ids
@@ -14,6 +14,8 @@ use Rattle.kt_history.specs.Closed.{acts_in_line}
 use Rattle.kt_history.specs.WellFormed.{Fits}
 use Rattle.kt_link.specs.declared.label.Label.{Label}
 use Rattle.kt_shard.specs.Limits.{desks}
+use Rattle.kt_ckpt.specs.declared.acts.LineAct.{LineAct}
+use Rattle.kt_ckpt.specs.Acts.{is_act_of}
 use Rattle.kt_ckpt.specs.declared.ckpt.Ckpt.{Ckpt}
 use Rattle.kt_ckpt.specs.declared.state.State.{State as Saved}
 use Rattle.kt_ckpt.specs.declared.state.State.TheVariants as saved
@@ -30,8 +32,8 @@ use Rattle.kt_world.specs.Cast.{Cast, is_node, are_neighbours}
 use Rattle.kt_world.specs.State.{State, role_of}
 use Rattle.kt_world.specs.Asks.{setting_of}
 use Rattle.kt_world.specs.Cut.{permanent_of, permanent_length}
-use Rattle.kt_world.specs.Like.{HoldsFront}
-use Rattle.kt_world.specs.Placing.{Acts, placed}
+use Rattle.kt_world.specs.Like.{HoldsFront, acts_stored}
+use Rattle.kt_world.specs.Placing.{placed}
 
 -- ---- the world
 
@@ -47,9 +49,13 @@ sum_of (n ∷ later) = n + sum_of later
 abbrev pub all_held : Content → List NodeId → ℕ
 all_held c nodes = sum_of (map (permanent_length c) nodes)
 
+-- the acts that the node's permanent checkpoint holds
+abbrev pub acts_of : Content → NodeId → List LineAct
+acts_of c p = acts_stored (permanent_of c p)
+
 -- the acts of all permanent checkpoints, in the order in which each can be placed first
-abbrev pub history_of : Cast → Content → Acts → List Note
-history_of cast c acts = placed acts (nodes_of cast) (all_held c (nodes_of cast)) []
+abbrev pub history_of : Cast → Content → List Note
+history_of cast c = placed (acts_of c) (nodes_of cast) (all_held c (nodes_of cast)) []
 
 -- a node of the scene is down
 abbrev pub down_row : Cast → NodeId → Option Node
@@ -60,13 +66,13 @@ down_rows cast zero = []
 down_rows cast (suc n) = down_rows cast n ++ down_row cast (ids.Worker n) ∷ down_row cast (ids.Shard n) ∷ []
 
 -- all nodes are down, nothing is on its way, and no step was made; these are the acts of the permanent checkpoints
-abbrev pub resumed : Cast → Content → Acts → State
-resumed cast c acts = record {
+abbrev pub resumed : Cast → Content → State
+resumed cast c = record {
   cast = cast;
   nodes = down_rows cast desks;
   links = replicate (2 * (length cast.scripts * cast.shards)) [];
   content = c;
-  history = history_of cast c acts;
+  history = history_of cast c;
   own = replicate rows 0;
   made = 0;
   found = Some (next_instance c - 1);
@@ -100,6 +106,9 @@ MakesSense h p = (n : ℕ) (a : Act) → Contains (line h p) n → note_at h n �
 -- what the permanent checkpoint of p holds, with its acts placed in this history
 pub record FitsIn (cast : Cast) (c : Content) (h : List Note) (p : NodeId) : Type 0 where
   pub of : IfSome (permanent_of c p) (IsOf cast p)
+  -- it holds as many acts as it counts, each of which may stand in the node's line
+  pub whole : length (acts_of c p) ≡ permanent_length c p
+  pub shaped : list_all (is_act_of p) (acts_of c p) ≡ true
   -- each act is placed, and makes sense there
   pub placed : length (line h p) ≡ permanent_length c p
   pub sense : MakesSense h p
@@ -108,11 +117,11 @@ pub record FitsIn (cast : Cast) (c : Content) (h : List Note) (p : NodeId) : Typ
   pub leads : HoldsFront cast p (acts_in_line h p) (permanent_of c p)
 
 -- what the store holds of p is what a world of this scene leaves
-pub record IsFit (cast : Cast) (c : Content) (acts : Acts) (p : NodeId) : Type 0 where
+pub record IsFit (cast : Cast) (c : Content) (p : NodeId) : Type 0 where
   pub there : IsTrue (is_node cast p)
   -- the lines up to it are short enough together
   pub short : all_held c (filter (λ q. is_before q p) (nodes_of cast)) + permanent_length c p < 2 ^ 32
-  pub fits : FitsIn cast c (history_of cast c acts) p
+  pub fits : FitsIn cast c (history_of cast c) p
   pub agree : (q : NodeId) → IsTrue (are_neighbours cast p q) → IsTrue (up_to (heard_from c p q) (sent_to c q p))
   pub lives : (q : NodeId) → IsTrue (are_neighbours cast p q) → (sent_to c p q).incarnation ≤ (row_of c p).incarnation
   pub posted : IfSome (row_of c p).tentative (λ t. IsTrue (is_some (posted c t.instance)))
@@ -128,13 +137,13 @@ IsHeld c p = (row : NodeRow) × Contains c.nodes row × (row.node ≡ p)
 
 -- each node of which the store holds something fits: `World::resume` refuses by Unfit of the first in node order that does
 -- not
-abbrev pub AreFit : Cast → Content → Acts → Type 0
-AreFit cast c acts = (p : NodeId) → IsHeld c p → IsFit cast c acts p
+abbrev pub AreFit : Cast → Content → Type 0
+AreFit cast c = (p : NodeId) → IsHeld c p → IsFit cast c p
 
 -- what follows of all nodes, those among them of which nothing is held
-pub record AllFit (cast : Cast) (c : Content) (acts : Acts) : Type 0 where
+pub record AllFit (cast : Cast) (c : Content) : Type 0 where
   pub short : all_held c (nodes_of cast) ≤ MAX_NOTES
-  pub fits : (p : NodeId) → FitsIn cast c (history_of cast c acts) p
+  pub fits : (p : NodeId) → FitsIn cast c (history_of cast c) p
   pub agree : (p q : NodeId) → IsTrue (are_neighbours cast p q) → IsTrue (up_to (heard_from c p q) (sent_to c q p))
   pub lives : (p q : NodeId) → IsTrue (are_neighbours cast p q) → (sent_to c p q).incarnation ≤ (row_of c p).incarnation
   pub posted : (p : NodeId) → IfSome (row_of c p).tentative (λ t. IsTrue (is_some (posted c t.instance)))
