@@ -213,7 +213,7 @@ resumed-made cast c fit n a is = by stands.0 stands.1
       pick false e =
           let none = nothing p (fit.others p e) in
           let placed = (fit.fits p).placed in
-          let at = on.1.0 in
+          let at = on.1 in
           absurd (omega (arith, none, placed, at))
 
     about : (p : NodeId) (worker : ℕ) → is_about p worker ≡ true → IsAboutOwn p worker

@@ -46,7 +46,7 @@ pub record IsMadeBy (cast : Cast) (a : Act) : Type 0 where
   pub about : IsAboutOwn a.node a.worker
 
 -- each act of the history, those that were cut off among them
-pub AreMade : Cast → List Note → Type 0
+unfoldable pub AreMade : Cast → List Note → Type 0
 AreMade cast h = (n : ℕ) (a : Act) → note_at h n ≡ Some (notes.Act a) → IsMadeBy cast a
 
 -- ---- one act more
