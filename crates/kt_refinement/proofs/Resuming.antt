@@ -46,7 +46,7 @@ steps-keep s (step ∷ later) k = steps-keep (next_state s step) later (result-k
 
 start-stands : (s : World) → IsStart s → StandsFor (settled s)
 start-stands s (opened cast is short) = opening-stands cast is
-start-stands s (resumes cast c acts is short proper fit) = resumed-stands cast is c acts fit
+start-stands s (resumes cast c is short proper fit) = resumed-stands cast is c fit
 
 pub reached-stands : (s : World) → IsReached s → StandsFor (settled s)
 reached-stands s is =
