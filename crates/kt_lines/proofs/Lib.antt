@@ -16,4 +16,5 @@ pub mod Traces
 pub mod Shares
 pub mod Hearings
 pub mod NamedCauses
+pub mod Renamed
 pub mod Shared
