@@ -39,7 +39,7 @@ use Rattle.kt_world.specs.declared.step.TheConstants.{MAX_STEPS}
 use Rattle.kt_world.specs.State.{State, node, link_place}
 use Rattle.kt_world.specs.Writing.{content_after}
 use Rattle.kt_world.specs.Effect.{taken_off, applied}
-use Rattle.kt_world.specs.inner.Backed.{IsTakenIn, IsPhaseBacked, IsNodeBacked, IsBoards, IsBacked, IsAllowed, HasNumbers}
+use Rattle.kt_world.specs.inner.Backed.{IsTakenIn, IsPhaseBacked, IsNodeBacked, IsBoards, IsBacked, IsAllowed}
 use Rattle.kt_world.proofs.Plans.{IsAlive, IsDown, Comes}
 use Rattle.kt_world.proofs.OnLinks.{taken_off-was, sent-cases, first-holds}
 use Rattle.kt_world.proofs.Frames.{applied-rows}
@@ -64,12 +64,6 @@ pub record Backs (s : State) (p : NodeId) (plan : Plan) : Type 0 where
   pub says : AllByRecursion (SaysBoards (content_after p plan.write s.content)) plan.send
 
 -- ---- the state after it
-
-pub numbers-left : (s : State) → IsBacked s → s.made < MAX_STEPS → (p : NodeId) → HasNumbers s.content p
-numbers-left s is few p = record {
-  instance = let instances = is.few_instances in omega (arith, few, instances);
-  incarnation = let incarnations = is.few_incarnations p in omega (arith, few, incarnations);
-}
 
 nodes-after : (s : State) → IsBacked s → (step : Step) (plan : Plan) → Backs s (owner step) plan → (q : NodeId)
     → IsRowBacked (row_of (applied s step plan).content q).tentative (node (applied s step plan) q)
@@ -102,38 +96,12 @@ messages-after s is step plan b k m c = elim (sent-cases (link_place s.cast) (ta
   | inr new ↦ all-at (SaysBoards (content_after (owner step) plan.write s.content)) plan.send (new.to, m) b.says new.among
 ]
 
-incarnations-after : (s : State) → IsBacked s → (step : Step) (plan : Plan) (q : NodeId) → (row_of (applied s step plan).content q).incarnation ≤ s.made + 1 + 1
-incarnations-after s is step plan q = elim (cases_eq (node_index q) (node_index p)) [
-  | inl e ↦ subst (λ (r : NodeId). (row_of new r).incarnation ≤ s.made + 1 + 1) (sym (node_index-injective q p e)) own
-  | inr d ↦
-      let apart : ¬ (q ≡ p) = λ e. d (ap node_index e) in
-      let few = is.few_incarnations q in
-      subst (λ (row : NodeRow). row.incarnation ≤ s.made + 1 + 1) (sym (other-rows p plan.write s.content q apart)) (omega (arith, few))
-]
-  where
-    p : NodeId
-    p = owner step
-
-    new : Content
-    new = content_after p plan.write s.content
-
-    own : (row_of new p).incarnation ≤ s.made + 1 + 1
-    own =
-        let few = is.few_incarnations p in
-        let one = incarnation-after s.content (row_of s.content p) plan.write in
-        subst (λ (row : NodeRow). row.incarnation ≤ s.made + 1 + 1) (sym (own-row p plan.write s.content)) (omega (arith, few, one))
-
-pub backs-backed : (s : State) (step : Step) (plan : Plan) → IsBacked s → s.made < MAX_STEPS → Backs s (owner step) plan → IsBacked (applied s step plan)
-backs-backed s step plan is few b =
-    let instances = is.few_instances in
-    let one = next-after (owner step) plan.write s.content in
-    record {
-      nodes = nodes-after s is step plan b;
-      messages = messages-after s is step plan b;
-      board = board-after (owner step) plan.write s.content (omega (arith, few, instances)) is.board;
-      few_instances = omega (arith, instances, one);
-      few_incarnations = incarnations-after s is step plan;
-    }
+pub backs-backed : (s : State) (step : Step) (plan : Plan) → IsBacked s → Backs s (owner step) plan → IsBacked (applied s step plan)
+backs-backed s step plan is b = record {
+  nodes = nodes-after s is step plan b;
+  messages = messages-after s is step plan b;
+  board = board-after (owner step) plan.write s.content is.board;
+}
 
 -- ---- a node as it was
 

@@ -1,5 +1,6 @@
 pub mod Small
 pub mod Rows
+pub mod ResumedRows
 pub mod Plans
 pub mod Enough
 pub mod Passed
@@ -58,6 +59,15 @@ pub mod FitBodies
 pub mod Fit
 pub mod Gives
 pub mod Undamaged
+pub mod Settle
+pub mod Placed
+pub mod PlacedActs
+pub mod Sums
+pub mod Fitting
+pub mod Resuming
+pub mod Newer
+pub mod Settling
 pub mod Holding
-pub mod PermanentReached
+pub mod Kept
+pub mod Lasting
 pub mod Shared

@@ -36,7 +36,7 @@ use Rattle.kt_world.proofs.Scene.{IsNode, a_shard, a_worker, of_node}
 use Rattle.kt_world.proofs.Sound.{MayNote}
 
 -- a worker's acts are about its own requests
-abbrev IsAboutOwn : NodeId → ℕ → Type 0
+abbrev pub IsAboutOwn : NodeId → ℕ → Type 0
 IsAboutOwn (ids.Worker i) worker = worker ≡ i
 IsAboutOwn (ids.Shard i) worker = Unit {0}
 
@@ -46,7 +46,7 @@ pub record IsMadeBy (cast : Cast) (a : Act) : Type 0 where
   pub about : IsAboutOwn a.node a.worker
 
 -- each act of the history, those that were cut off among them
-pub AreMade : Cast → List Note → Type 0
+unfoldable pub AreMade : Cast → List Note → Type 0
 AreMade cast h = (n : ℕ) (a : Act) → note_at h n ≡ Some (notes.Act a) → IsMadeBy cast a
 
 -- ---- one act more

@@ -2,7 +2,7 @@
 //! steps, refused ones among them, leads to from the opening of a scene whose scripts a checkpoint can count, over a
 //! store that tells what it holds.
 
-ghost use Rattle.std.specs.Prelude.{◌≡◌, ◌<◌, ℕ, List, ◌∷◌, ◌++◌, Ok, IsTrue, length};
+ghost use Rattle.std.specs.Prelude.{◌≡◌, ◌<◌, ℕ, List, ◌∷◌, ◌++◌, None, Ok, IsTrue, length};
 ghost use Rattle.kt_tuple.specs.declared.node.NodeId.{NodeId};
 ghost use Rattle.kt_tuple.specs.declared.node.NodeId.TheVariants.{Shard};
 ghost use Rattle.kt_tuple.specs.declared.op.Answer.{Answer};
@@ -30,9 +30,9 @@ pub fn survivors_are_one_run()
     ensures one_run { (s : State) → IsReached s → HasOneRun s }
 {}
 
-/// Without a cut no act is lost, each survives, and the shards hold just the tuples of the surviving run.
+/// In a world that was opened: without a cut no act is lost, each survives, and the shards hold just the tuples of the surviving run.
 pub fn without_a_cut_nothing_is_lost()
-    ensures whole { (s : State) → IsReached s → HasNoCut s.history → IsWhole s }
+    ensures whole { (s : State) → IsReached s → s.found ≡ None → HasNoCut s.history → IsWhole s }
 {}
 
 /// Each worker that is not down has unanswered what its line says, and stands in its script as after the answers in its
@@ -64,10 +64,10 @@ pub fn lines_are_cut_by_their_own_node_alone()
         → (owner step ≡ q) × IsTrue (may_forget s step) }
 {}
 
-/// The step that makes the first cut of a history is a failure.
+/// The step that makes the first cut of the history of a world that was opened is a failure.
 pub fn only_a_failure_makes_the_first_cut()
     ensures first { (s : State) → IsReached s → (step : Step) (new : State) → step_result s step ≡ Ok new
-        → HasNoCut s.history → HasCut new.history → IsFailure step }
+        → s.found ≡ None → HasNoCut s.history → HasCut new.history → IsFailure step }
 {}
 
 /// What is stored fits its node: no step is refused because a checkpoint does not.

@@ -23,5 +23,5 @@ pub use laws::{
     without_a_cut_nothing_is_lost, workers_stand_as_their_answers_say,
 };
 pub use needs::{Needs, Question};
-pub use step::{MAX_STEPS, Step, StepError};
+pub use step::{MAX_NOTES, MAX_STEPS, Step, StepError};
 pub use told::Told;
