@@ -164,7 +164,7 @@ is-quiet s k step plan x =
     let fallen = has_fallen (settled s) h.ready x.node x.there x.down in
     let Q : Plan → Type 0 = Quiet (settled s) x.node in
     elim x.kind [
-      | inl e ↦ subst Q (sym e) (record { 
+      | inl e ↦ subst Q (sym e) (record {
         keeps = bare-keeps (settled s) k.sound x.node bare;
         fits = quiet-fits (settled s) x.node None fallen;
         now = tt;

@@ -62,6 +62,7 @@ pub mod Undamaged
 pub mod Settle
 pub mod Placed
 pub mod PlacedActs
+pub mod AllPlaced
 pub mod Sums
 pub mod Fitting
 pub mod Resuming

@@ -53,7 +53,6 @@ use Rattle.kt_world.proofs.Leaves.{casting-all}
 use Rattle.kt_world.proofs.Heards as ways
 use Rattle.kt_world.proofs.Heards.{HeardOf, heard-is}
 use Rattle.kt_lines.proofs.Shared.{all-at}
-
 use Rattle.std.proofs.Common.{zero, ◌+◌, ◌<◌, ◌≤◌, ◌==◌, map, Result, Ok, Err, arith}
 use Rattle.std.specs.Prelude.{fold, max}
 use Rattle.std.proofs.lemmas.Bool.{cases_eq, lt-leb}

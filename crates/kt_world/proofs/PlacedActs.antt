@@ -59,14 +59,14 @@ is-named h (Some by) n e = at by.1 refl e where
 -- ---- the next act
 
 -- the note is the next act of its node
-record IsNextAct (acts : Acts) (h : List Note) (a : Act) : Type 0 where
-  fact : LineAct
-  at : slice_get (acts a.node) (length (line h a.node)) ≡ Some fact
-  same : line_act h a ≡ fact
-  within : a.by ≤ length h
-  may : a.by ≢ 0 → IsAct h a.by
+pub record IsNextAct (acts : Acts) (h : List Note) (a : Act) : Type 0 where
+  pub fact : LineAct
+  pub at : slice_get (acts a.node) (length (line h a.node)) ≡ Some fact
+  pub same : line_act h a ≡ fact
+  pub within : a.by ≤ length h
+  pub may : a.by ≢ 0 → IsAct h a.by
 
-abbrev IsNextNote : Acts → List Note → Option Note → Type 0
+abbrev pub IsNextNote : Acts → List Note → Option Note → Type 0
 IsNextNote acts h None = Unit {0}
 IsNextNote acts h (Some (notes.Act a)) = IsNextAct acts h a
 IsNextNote acts h (Some (notes.Cut p keep)) = ⊥
@@ -91,7 +91,7 @@ either-next : (acts : Acts) (h : List Note) (x y : Option Note) → IsNextNote a
 either-next acts h None y is other = other
 either-next acts h (Some x) y is other = is
 
-next-next : (acts : Acts) (h : List Note) (nodes : List NodeId) → IsNextNote acts h (next_note acts h nodes)
+pub next-next : (acts : Acts) (h : List Note) (nodes : List NodeId) → IsNextNote acts h (next_note acts h nodes)
 unfolding next_note
 next-next acts h [] = tt
 next-next acts h (p ∷ later) = either-next acts h (next_of acts h p) (next_note acts h later) (note-next acts h p) (next-next acts h later)
