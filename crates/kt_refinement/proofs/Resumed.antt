@@ -1,8 +1,6 @@
 -- A world that goes on from what a store holds that fits stands, what is stored settled, for a beginning of the machine in
 -- which its nodes are resumed.
-use Rattle.std.proofs.Common.{◌≡◌, ◌≢◌, ℕ, zero, suc, ◌+◌, ◌-◌, ◌≤◌, ◌<◌, Bool, true, false, if◌then◌else◌, List, [], ◌∷◌, length, take, take_all, replicate, Contains, Option, Some, None, IsTrue, inl, inr, refl, sym, ap, subst, ◌∙◌, arith}
-use Rattle.std.proofs.Common.{map}
-use Rattle.std.specs.Prelude.{IfSome}
+use Rattle.std.proofs.Common.{◌≡◌, ℕ, zero, suc, ◌+◌, ◌-◌, ◌≤◌, Bool, true, false, if◌then◌else◌, List, [], ◌∷◌, length, take, take_all, replicate, Contains, Option, Some, None, IsTrue, inl, inr, refl, sym, ap, subst, ◌∙◌, arith}
 use Rattle.std.specs.Option.{option_map}
 use Rattle.std.proofs.lemmas.Bool.{cases_eq}
 use Rattle.kt_tuple.specs.declared.node.NodeId.{NodeId}
@@ -10,14 +8,13 @@ use Rattle.kt_tuple.specs.Node.{node_index}
 use Rattle.kt_history.specs.declared.note.Act.{Act as Done}
 use Rattle.kt_history.specs.declared.note.Note.{Note}
 use Rattle.kt_history.specs.declared.note.Note.TheVariants as notes
-use Rattle.kt_history.specs.Line.{note_at, before, line, IsAct}
+use Rattle.kt_history.specs.Line.{note_at, line}
 use Rattle.kt_history.specs.WellFormed.{CausesComeFirst}
 use Rattle.kt_history.proofs.Shared.{CausesComeFirst-from_well_formed, Contains-none, Stands-no_cut, line-own, note_at-within, note_before}
 use Rattle.kt_link.specs.Network.{entry_at}
 use Rattle.kt_link.specs.declared.label.Label.{Label as RealLabel}
-use Rattle.kt_shard.specs.Table.{at}
 use Rattle.kt_ckpt.specs.declared.ckpt.Ckpt.{Ckpt}
-use Rattle.kt_ckpt.specs.Marks.{MarkFields, marks_of}
+use Rattle.kt_ckpt.specs.Marks.{marks_of}
 use Rattle.kt_store.specs.declared.rows.NodeRow.{NodeRow}
 use Rattle.kt_store.specs.declared.rows.Tentative.{Tentative}
 use Rattle.kt_store.specs.declared.rows.Posted.{Posted}
@@ -25,15 +22,15 @@ use Rattle.kt_store.specs.declared.rows.Purpose.{Purpose}
 use Rattle.kt_store.specs.declared.rows.Purpose.TheVariants as purposes
 use Rattle.kt_store.specs.declared.rows.Verdict.{Verdict as RealVerdict}
 use Rattle.kt_store.specs.declared.rows.Verdict.TheVariants as verdicts
-use Rattle.kt_store.specs.Content.{Content, next_instance, opening_row, posted, row_of, verdict_of, verdict_on}
+use Rattle.kt_store.specs.Content.{Content, next_instance, posted, row_of, verdict_on}
 use Rattle.kt_node.specs.declared.message.Message.{Message as RealMessage}
 use Rattle.kt_node.specs.declared.message.Message.TheVariants as messages
 use Rattle.kt_node.specs.Labels.{no_label as no_real_label, label_at}
 use Rattle.kt_node.specs.Node.{Node as RealNode, Down as IsDown, node_number}
 use Rattle.kt_node.specs.Stored.{sent_in, received_in}
 use Rattle.kt_world.specs.Cast.{Cast, IsCast, is_node, are_neighbours}
-use Rattle.kt_world.specs.Cut.{acts_held, permanent_by, permanent_of, permanent_length}
-use Rattle.kt_world.specs.State.{State as World, node, link_place}
+use Rattle.kt_world.specs.Cut.{acts_held, permanent_by, permanent_of}
+use Rattle.kt_world.specs.State.{node, link_place}
 use Rattle.kt_world.specs.Resumed.{AllFit, heard_from, sent_to, history_of, down_row, resumed}
 use Rattle.kt_world.specs.inner.Ready.{AreNeighbours}
 use Rattle.kt_world.proofs.Shared.{at-replicate, length-replicate, neighbours-turned, neighbour-node, down-node, history-no_cut, history-well_formed}
@@ -41,13 +38,12 @@ use Rattle.kt_world.proofs.Shared.{all-settled, IsAllSettled, row-settled, settl
 use Rattle.kt_protocol.specs.Labels.{Label, Under, UpTo, no_label}
 use Rattle.kt_protocol.specs.Lines.{IsIn, here, there, Act, Sends, Hears, Resumes, top_sent, top_heard}
 use Rattle.kt_protocol.specs.Machine.{Instance, Check, Rollback, Verdict, Open, Up, Down, Node, Board, State}
-use Rattle.kt_protocol.specs.Runs.{IsNew, IsResumed, IsFirst, new, resumed as is_resumed, IsBeginning, nothing_done}
-use Rattle.kt_protocol.specs.Laws.{IsReached as IsMachineReached}
+use Rattle.kt_protocol.specs.Runs.{IsFirst, new, resumed as is_resumed, IsBeginning, nothing_done}
 use Rattle.kt_protocol.proofs.Shared.{UpTo-eq, up_to-true, IsGrounded, HasGround}
 use Rattle.kt_refinement.proofs.Numbers.{named, named-index, index-named, peers, label_of}
 use Rattle.kt_refinement.proofs.Reading.{Reads, nothing, found, AreAll}
 use Rattle.kt_refinement.proofs.Represents.{carried, LabelsAre, LinkIs, StateIs, FallenIs, Stands, NodeIs, verdict_as, begun_as, is_for, verdict_is, InstanceIs, Represents}
-use Rattle.kt_refinement.proofs.Letters.{a_letter, Lettered}
+use Rattle.kt_refinement.proofs.Letters.{a_letter}
 use Rattle.kt_refinement.proofs.Refined.{peers-are, StandsFor}
 
 -- ---- the machine's nodes
