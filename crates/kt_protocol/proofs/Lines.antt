@@ -3,7 +3,7 @@ use Rattle.std.proofs.Common.{◌≡◌, ◌≢◌, ◌⊎◌, ℕ, inl, inr, re
 use Rattle.std.proofs.lemmas.Bool.{cases_eq, eq-eqb, ne_eqb}
 use Rattle.kt_protocol.specs.Labels.{Label, Under, UpTo}
 use Rattle.kt_protocol.specs.Lines.{IsIn, here, there, Act, Sends, Hears, Resumes, top_sent, top_heard, IsTail, all, more}
-use Rattle.kt_protocol.proofs.Labels.{UpTo-Under, UpTo-trans, UpTo-refl, Under-weak, Under-not, UpTo-least}
+use Rattle.kt_protocol.proofs.Labels.{UpTo-Under, UpTo-trans, UpTo-refl, Under-weak, Under-not}
 
 -- the labels to each node, and those heard from each node, rise along the line
 abbrev pub Falls : List Act → Type 0

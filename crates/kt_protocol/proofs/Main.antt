@@ -1,5 +1,5 @@
 -- The invariant holds in every state that is reached, and what follows from it.
-use Rattle.std.proofs.Common.{◌≡◌, ◌⊎◌, ℕ, Bool, true, IsTrue, List, [], ◌∷◌, ◌++◌, Option, Some, None, inl, inr, sym, ap, subst, ◌∙◌, arith}
+use Rattle.std.proofs.Common.{◌≡◌, ◌⊎◌, ℕ, Bool, true, List, [], ◌∷◌, ◌++◌, Option, Some, None, inl, inr, sym, ap, subst, ◌∙◌, arith}
 use Rattle.kt_protocol.specs.Labels.{Label, Under, UpTo}
 use Rattle.kt_protocol.specs.Lines.{IsIn, here, there, Hears, Resumes, IsTail, all, top_sent, top_heard}
 use Rattle.kt_protocol.specs.Machine.{Instance, Check, Rollback, Ballot, Mode, Up, Within, Down, Post, Message, Ask, Member, Node, Board, State, next_label}

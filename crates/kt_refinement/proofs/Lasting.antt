@@ -1,5 +1,5 @@
 -- Of every step from a state that steps lead to: whom it makes roll back, or take a checkpoint, has to.
-use Rattle.std.proofs.Common.{◌≡◌, ◌⊎◌, ℕ, Ok, Err, Result, Option, inl, inr, refl, sym, ap, subst}
+use Rattle.std.proofs.Common.{◌≡◌, Ok, Err, Result, inl, inr, refl, ap, subst}
 use Rattle.kt_tuple.specs.declared.node.NodeId.{NodeId}
 use Rattle.kt_node.specs.declared.plan.Plan.{Plan}
 use Rattle.kt_node.specs.declared.node.Mode.{Mode}
@@ -12,9 +12,9 @@ use Rattle.kt_world.specs.State.{State as World}
 use Rattle.kt_world.specs.Told.{told}
 use Rattle.kt_world.specs.Judge.{planned}
 use Rattle.kt_world.specs.Effect.{applied, applied_if, step_result}
-use Rattle.kt_world.specs.Forced.{HasHeardBeyond, HasHeardAhead, IsIn, MustRoll, MustHold, WhyHeld, began, forced, IsForced}
+use Rattle.kt_world.specs.Forced.{HasHeardBeyond, HasHeardAhead, WhyHeld, began, forced, IsForced}
 use Rattle.kt_world.specs.Reached.{IsReached}
-use Rattle.kt_world.proofs.Shared.{Kept, Learns, PlanOf, follows, kept-holds, permanent-settled, plan-found, reached-kept, settled}
+use Rattle.kt_world.proofs.Shared.{Kept, follows, kept-holds, permanent-settled, plan-found, reached-kept, settled}
 use Rattle.kt_refinement.proofs.Refined.{StandsFor, stands-invariant}
 use Rattle.kt_refinement.proofs.Resuming.{reached-stands}
 use Rattle.kt_refinement.proofs.Turned.{Starts, begins, joins_check, joins_rollback, why_votes}

@@ -1,10 +1,9 @@
 -- A node that is down learns what became of a tentative checkpoint that was found of it: of that the settled world has
 -- nothing any more, so the machine does nothing, or fails once more, which leaves it as it is.
-use Rattle.std.proofs.Common.{◌≡◌, ◌⊎◌, ℕ, true, false, IsTrue, [], Option, Some, None, refl, sym, ap, subst, ◌∙◌, inl, inr}
+use Rattle.std.proofs.Common.{◌≡◌, ℕ, [], Option, Some, None, refl, sym, ap, subst, ◌∙◌, inl, inr}
 use Rattle.std.specs.Option.{option_map}
 use Rattle.kt_tuple.specs.declared.node.NodeId.{NodeId}
 use Rattle.kt_tuple.specs.Node.{node_index}
-use Rattle.kt_history.specs.declared.note.Note.{Note}
 use Rattle.kt_history.specs.Line.{line}
 use Rattle.kt_ckpt.specs.declared.ckpt.Ckpt.{Ckpt}
 use Rattle.kt_ckpt.specs.Marks.{marks_of}
@@ -26,7 +25,7 @@ use Rattle.kt_world.specs.State.{State as World, node, view}
 use Rattle.kt_world.specs.Told.{stored_of}
 use Rattle.kt_world.specs.Effect.{applied}
 use Rattle.kt_world.specs.Writing.{content_after}
-use Rattle.kt_world.proofs.Shared.{held_marks, has_fallen, MayNote, Holds, Kept, Learns, kept-holds, is-quiet, found-bare, settled}
+use Rattle.kt_world.proofs.Shared.{held_marks, has_fallen, MayNote, Kept, Learns, kept-holds, is-quiet, found-bare, settled}
 use Rattle.kt_protocol.specs.Machine.{Node, State}
 use Rattle.kt_protocol.specs.Steps.{falling, cutting, fails, change}
 use Rattle.kt_protocol.specs.Runs.{nothing_done, one_more}

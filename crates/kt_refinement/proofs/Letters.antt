@@ -129,10 +129,12 @@ says-next : (peer : ℕ → ℕ → Bool) (h : List Note) (next : Option Note) (
     → (letter : ℕ → Letter) × AllFit (Fits (noted h next) first letter) t
 says-next peer h next first letter s t told fit (sends o y by u up) says =
     let x = a_letter o y (next_label (s.node o)) in
-    let new : ℕ → Letter = at by x letter in
-    (new, sends-fits (Fits (noted h next) first new) s o y by
-    (fit-more (Fits h first letter) (Fits (noted h next) first new) s (fits-besides h next first letter by x says.0) fit)
-    (record { is = at-here by x letter; said = says.1; since = let above = says.0 in omega (arith, above, told) }))
+    let new : ℕ → Letter = at by x letter in (
+      new,
+      sends-fits (Fits (noted h next) first new) s o y by
+          (fit-more (Fits h first letter) (Fits (noted h next) first new) s (fits-besides h next first letter by x says.0) fit)
+          (record { is = at-here by x letter; said = says.1; since = let above = says.0 in omega (arith, above, told) }),
+    )
 says-next peer h next first letter s t told fit _ says = absurd says
 
 letters-by : {peer : ℕ → ℕ → Bool} → AreNeighbours peer → {s t : State} → Invariant peer s → (h : List Note) (next : Option Note) (first : ℕ)

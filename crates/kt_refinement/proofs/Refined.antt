@@ -1,15 +1,13 @@
 -- Each state of a world that steps lead to stands for a state of the machine that is reached, so the machine's theorem
 -- holds of what it stands for.
-use Rattle.std.proofs.Common.{◌≡◌, List, [], ◌∷◌, Ok, Err, Result, refl, ap, subst, arith}
+use Rattle.std.proofs.Common.{[], ap, subst, arith}
 use Rattle.kt_history.specs.declared.note.Note.TheVariants as notes
 use Rattle.kt_history.proofs.Shared.{note_at-within}
 use Rattle.kt_world.specs.declared.step.Step.{Step}
-use Rattle.kt_world.specs.declared.step.StepError.{StepError}
 use Rattle.kt_world.specs.Cast.{Cast, IsCast}
 use Rattle.kt_world.specs.State.{State as World}
-use Rattle.kt_world.specs.Effect.{step_result}
-use Rattle.kt_world.specs.Reached.{IsReached, IsStart, opened, opening, or_as_it_was, next_state, after}
-use Rattle.kt_world.proofs.Shared.{neighbours-turned, Holds, IsMade, step-made, made-holds, opening-holds}
+use Rattle.kt_world.specs.Reached.{opening}
+use Rattle.kt_world.proofs.Shared.{neighbours-turned, Holds, IsMade}
 use Rattle.kt_protocol.specs.Labels.{no_label}
 use Rattle.kt_protocol.specs.Machine.{State}
 use Rattle.kt_protocol.specs.Runs.{AreNeighbours, nothing_done}

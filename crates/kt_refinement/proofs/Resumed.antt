@@ -1,8 +1,6 @@
 -- A world that goes on from what a store holds that fits stands, what is stored settled, for a beginning of the machine in
 -- which its nodes are resumed.
-use Rattle.std.proofs.Common.{◌≡◌, ◌≢◌, ℕ, zero, suc, ◌+◌, ◌-◌, ◌≤◌, ◌<◌, Bool, true, false, if◌then◌else◌, List, [], ◌∷◌, length, take, take_all, replicate, Contains, Option, Some, None, IsTrue, inl, inr, refl, sym, ap, subst, ◌∙◌, arith}
-use Rattle.std.proofs.Common.{map}
-use Rattle.std.specs.Prelude.{IfSome}
+use Rattle.std.proofs.Common.{◌≡◌, ℕ, zero, suc, ◌+◌, ◌-◌, ◌≤◌, Bool, true, false, if◌then◌else◌, List, [], ◌∷◌, length, take, take_all, replicate, Contains, Option, Some, None, IsTrue, inl, inr, refl, sym, ap, subst, ◌∙◌, arith}
 use Rattle.std.specs.Option.{option_map}
 use Rattle.std.proofs.lemmas.Bool.{cases_eq}
 use Rattle.kt_tuple.specs.declared.node.NodeId.{NodeId}
@@ -10,14 +8,13 @@ use Rattle.kt_tuple.specs.Node.{node_index}
 use Rattle.kt_history.specs.declared.note.Act.{Act as Done}
 use Rattle.kt_history.specs.declared.note.Note.{Note}
 use Rattle.kt_history.specs.declared.note.Note.TheVariants as notes
-use Rattle.kt_history.specs.Line.{note_at, before, line, IsAct}
+use Rattle.kt_history.specs.Line.{note_at, line}
 use Rattle.kt_history.specs.WellFormed.{CausesComeFirst}
 use Rattle.kt_history.proofs.Shared.{CausesComeFirst-from_well_formed, Contains-none, Stands-no_cut, line-own, note_at-within, note_before}
 use Rattle.kt_link.specs.Network.{entry_at}
 use Rattle.kt_link.specs.declared.label.Label.{Label as RealLabel}
-use Rattle.kt_shard.specs.Table.{at}
 use Rattle.kt_ckpt.specs.declared.ckpt.Ckpt.{Ckpt}
-use Rattle.kt_ckpt.specs.Marks.{MarkFields, marks_of}
+use Rattle.kt_ckpt.specs.Marks.{marks_of}
 use Rattle.kt_store.specs.declared.rows.NodeRow.{NodeRow}
 use Rattle.kt_store.specs.declared.rows.Tentative.{Tentative}
 use Rattle.kt_store.specs.declared.rows.Posted.{Posted}
@@ -25,16 +22,15 @@ use Rattle.kt_store.specs.declared.rows.Purpose.{Purpose}
 use Rattle.kt_store.specs.declared.rows.Purpose.TheVariants as purposes
 use Rattle.kt_store.specs.declared.rows.Verdict.{Verdict as RealVerdict}
 use Rattle.kt_store.specs.declared.rows.Verdict.TheVariants as verdicts
-use Rattle.kt_store.specs.Content.{Content, next_instance, opening_row, posted, row_of, verdict_of, verdict_on}
+use Rattle.kt_store.specs.Content.{Content, next_instance, posted, row_of, verdict_on}
 use Rattle.kt_node.specs.declared.message.Message.{Message as RealMessage}
 use Rattle.kt_node.specs.declared.message.Message.TheVariants as messages
 use Rattle.kt_node.specs.Labels.{no_label as no_real_label, label_at}
 use Rattle.kt_node.specs.Node.{Node as RealNode, Down as IsDown, node_number}
 use Rattle.kt_node.specs.Stored.{sent_in, received_in}
 use Rattle.kt_world.specs.Cast.{Cast, IsCast, is_node, are_neighbours}
-use Rattle.kt_world.specs.Cut.{acts_held, permanent_by, permanent_of, permanent_length}
-use Rattle.kt_world.specs.State.{State as World, node, link_place}
-use Rattle.kt_world.specs.Placing.{Acts}
+use Rattle.kt_world.specs.Cut.{acts_held, permanent_by, permanent_of}
+use Rattle.kt_world.specs.State.{node, link_place}
 use Rattle.kt_world.specs.Resumed.{AllFit, heard_from, sent_to, history_of, down_row, resumed}
 use Rattle.kt_world.specs.inner.Ready.{AreNeighbours}
 use Rattle.kt_world.proofs.Shared.{at-replicate, length-replicate, neighbours-turned, neighbour-node, down-node, history-no_cut, history-well_formed}
@@ -42,13 +38,12 @@ use Rattle.kt_world.proofs.Shared.{all-settled, IsAllSettled, row-settled, settl
 use Rattle.kt_protocol.specs.Labels.{Label, Under, UpTo, no_label}
 use Rattle.kt_protocol.specs.Lines.{IsIn, here, there, Act, Sends, Hears, Resumes, top_sent, top_heard}
 use Rattle.kt_protocol.specs.Machine.{Instance, Check, Rollback, Verdict, Open, Up, Down, Node, Board, State}
-use Rattle.kt_protocol.specs.Runs.{IsNew, IsResumed, IsFirst, new, resumed as is_resumed, IsBeginning, nothing_done}
-use Rattle.kt_protocol.specs.Laws.{IsReached as IsMachineReached}
+use Rattle.kt_protocol.specs.Runs.{IsFirst, new, resumed as is_resumed, IsBeginning, nothing_done}
 use Rattle.kt_protocol.proofs.Shared.{UpTo-eq, up_to-true, IsGrounded, HasGround}
 use Rattle.kt_refinement.proofs.Numbers.{named, named-index, index-named, peers, label_of}
 use Rattle.kt_refinement.proofs.Reading.{Reads, nothing, found, AreAll}
 use Rattle.kt_refinement.proofs.Represents.{carried, LabelsAre, LinkIs, StateIs, FallenIs, Stands, NodeIs, verdict_as, begun_as, is_for, verdict_is, InstanceIs, Represents}
-use Rattle.kt_refinement.proofs.Letters.{a_letter, Lettered}
+use Rattle.kt_refinement.proofs.Letters.{a_letter}
 use Rattle.kt_refinement.proofs.Refined.{peers-are, StandsFor}
 
 -- ---- the machine's nodes
@@ -129,8 +124,8 @@ fresh-as : (purpose : Purpose) (o : Option Posted) → begun_as purpose o ≡ fa
 fresh-as purpose None e = refl
 fresh-as purpose (Some row) e = rw e refl
 
-is-first : (cast : Cast) (c : Content) (acts : Acts) → AllFit cast c acts → (first : ℕ) (p : NodeId) → IsFirst first (node_index p) (node_as cast c first p)
-is-first cast c acts fit first p = by (is_node cast p) where
+is-first : (cast : Cast) (c : Content) → AllFit cast c → (first : ℕ) (p : NodeId) → IsFirst first (node_index p) (node_as cast c first p)
+is-first cast c fit first p = by (is_node cast p) where
   room : (q : ℕ) → Under (sent_by cast c p q) record { life = (row_of c p).incarnation; count = suc (counts-of (permanent_of c p)) }
   room q = pick (are_neighbours cast p (named q)) refl where
     pick : (b : Bool) → are_neighbours cast p (named q) ≡ b
@@ -167,11 +162,11 @@ top-heard-as : (cast : Cast) (c : Content) (first : ℕ) (p : NodeId) (j : ℕ) 
 unfolding top_heard
 top-heard-as cast c first p j own near = rw own (rw near refl)
 
-pub machine-begins : (cast : Cast) (c : Content) (acts : Acts) → AllFit cast c acts → (first : ℕ) → IsBeginning (peers cast) (machine_of cast c first)
+pub machine-begins : (cast : Cast) (c : Content) → AllFit cast c → (first : ℕ) → IsBeginning (peers cast) (machine_of cast c first)
 unfolding top_sent top_heard
-machine-begins cast c acts fit first = record {
+machine-begins cast c fit first = record {
   first = first;
-  nodes = λ k. subst (λ j. IsFirst first j (node_as cast c first (named k))) (index-named k) (is-first cast c acts fit first (named k));
+  nodes = λ k. subst (λ j. IsFirst first j (node_as cast c first (named k))) (index-named k) (is-first cast c fit first (named k));
   empty = λ p q. refl;
   fresh = λ i e. fresh i e;
   agree = agree;
@@ -252,18 +247,18 @@ module-board : (c : Content) (first : ℕ) (cast : Cast) (i : ℕ) → InstanceI
 module-board c first cast i = record { check = refl; rollback = refl; check_begun = refl; rollback_begun = refl }
 
 -- a node of the scene that is down, or one that is not in it
-stands-node : (cast : Cast) → IsCast cast → (c : Content) (acts : Acts) → AllFit cast c acts → (p : NodeId)
-    → NodeIs cast (history_of cast c acts) p (line (history_of cast c acts) p) (down_row cast p)
+stands-node : (cast : Cast) → IsCast cast → (c : Content) → AllFit cast c → (p : NodeId)
+    → NodeIs cast (history_of cast c) p (line (history_of cast c) p) (down_row cast p)
     (settled_row (Some (next_instance c - 1)) c (row_of c p))
     (verdict_on c (settled_row (Some (next_instance c - 1)) c (row_of c p)).tentative)
-    (node_as cast c (length (history_of cast c acts)) p)
+    (node_as cast c (length (history_of cast c)) p)
 unfolding top_sent top_heard
-stands-node cast is c acts fit p = by (is_node cast p) refl where
+stands-node cast is c fit p = by (is_node cast p) refl where
   h : List Note
-  h = history_of cast c acts
+  h = history_of cast c
 
   f : ℕ
-  f = length (history_of cast c acts)
+  f = length (history_of cast c)
 
   row : NodeRow
   row = settled_row (Some (next_instance c - 1)) c (row_of c p)
@@ -272,7 +267,7 @@ stands-node cast is c acts fit p = by (is_node cast p) refl where
   all = all-settled c (row_of c p) (fit.posted p)
 
   causes : CausesComeFirst h
-  causes = CausesComeFirst-from_well_formed h (history-well_formed cast c acts fit)
+  causes = CausesComeFirst-from_well_formed h (history-well_formed cast c fit)
 
   -- nothing tentative counts
   counts : permanent_by (verdict_on c row.tentative) row.tentative row.permanent ≡ permanent_of c p
@@ -322,12 +317,12 @@ stands-node cast is c acts fit p = by (is_node cast p) refl where
   by : (b : Bool) → is_node cast p ≡ b → NodeIs cast h p (line h p) (if b then Some IsDown else None) row (verdict_on c row.tentative)
       (if b then resumed_as cast c f p else other_as (row_of c p).incarnation)
   by true own = record {
-    line = found (line h p) p f (sent_by cast c p) (heard_by cast c p) (line-all h causes (history-no_cut cast c acts) p);
+    line = found (line h p) p f (sent_by cast c p) (heard_by cast c p) (line-all h causes (history-no_cut cast c) p);
     life = all.2;
     state = record { mode = refl; kept = λ q. refl };
     perm = subst (Perm (resumed_as cast c f p)) (sym counts) (record {
       reads = subst (λ (l : List ℕ). Reads h l (ground cast c f p ∷ [])) (sym whole)
-          (found (line h p) p f (sent_by cast c p) (heard_by cast c p) (line-all h causes (history-no_cut cast c acts) p));
+          (found (line h p) p f (sent_by cast c p) (heard_by cast c p) (line-all h causes (history-no_cut cast c) p));
       sent = near-sent;
       received = near-heard;
     });
@@ -352,27 +347,27 @@ stands-node cast is c acts fit p = by (is_node cast p) refl where
         lower = λ q near. UpTo-eq (ap (λ (o : Option Ckpt). label_of (sent_in (option_map marks_of o) (node_number q))) (all.1 ∙ held));
       }
 
-pub resumed-represents : (cast : Cast) → IsCast cast → (c : Content) (acts : Acts) → AllFit cast c acts
-    → Represents (settled (resumed cast c acts)) (machine_of cast c (length (history_of cast c acts)))
-resumed-represents cast is c acts fit = record {
+pub resumed-represents : (cast : Cast) → IsCast cast → (c : Content) → AllFit cast c
+    → Represents (settled (resumed cast c)) (machine_of cast c (length (history_of cast c)))
+resumed-represents cast is c fit = record {
   nodes = λ p.
-      let h = history_of cast c acts in
-      let f : ℕ = length (history_of cast c acts) in
+      let h = history_of cast c in
+      let f : ℕ = length (history_of cast c) in
       let R : NodeRow → Type 0 =
       λ r. NodeIs cast h p (line h p) (down_row cast p) r (verdict_on c r.tentative) (node_as cast c f p) in
       let N : Option RealNode → Type 0 =
       λ n. NodeIs cast h p (line h p) n (row_of (settled_content (Some (next_instance c - 1)) c) p)
       (verdict_on c (row_of (settled_content (Some (next_instance c - 1)) c) p).tentative) (node_as cast c f p) in
       let X : NodeId → Type 0 =
-      λ q. NodeIs cast h p (line h p) (node (resumed cast c acts) p) (row_of (settled_content (Some (next_instance c - 1)) c) p)
+      λ q. NodeIs cast h p (line h p) (node (resumed cast c) p) (row_of (settled_content (Some (next_instance c - 1)) c) p)
       (verdict_on c (row_of (settled_content (Some (next_instance c - 1)) c) p).tentative) (node_as cast c f q) in
-      subst X (sym (named-index p)) (subst N (sym (down-node cast is c acts p))
-      (subst R (sym (row-settled (Some (next_instance c - 1)) c p)) (stands-node cast is c acts fit p)));
+      subst X (sym (named-index p)) (subst N (sym (down-node cast is c p))
+      (subst R (sym (row-settled (Some (next_instance c - 1)) c p)) (stands-node cast is c fit p)));
   links = λ p q near.
-      let f : ℕ = length (history_of cast c acts) in
+      let f : ℕ = length (history_of cast c) in
       subst (λ (l : List RealMessage). LinkIs l q (node_as cast c f (named (node_index p))).votes []) (sym (no-link _ (link_place cast p q)))
       (subst (λ v. LinkIs [] q v []) (no-votes f (named (node_index p))) (quiet-link q));
-  board = λ i. module-board c (length (history_of cast c acts)) cast i;
+  board = λ i. module-board c (length (history_of cast c)) cast i;
   wide = length-replicate {A = List RealMessage} _ [];
 } where
   no-votes : (f : ℕ) (p : NodeId) → [] ≡ (node_as cast c f p).votes
@@ -381,18 +376,18 @@ resumed-represents cast is c acts fit = record {
     by true = refl
     by false = refl
 
-pub resumed-stands : (cast : Cast) → IsCast cast → (c : Content) (acts : Acts) → AllFit cast c acts → StandsFor (settled (resumed cast c acts))
-resumed-stands cast is c acts fit = record {
-  state = machine_of cast c (length (history_of cast c acts));
+pub resumed-stands : (cast : Cast) → IsCast cast → (c : Content) → AllFit cast c → StandsFor (settled (resumed cast c))
+resumed-stands cast is c fit = record {
+  state = machine_of cast c (length (history_of cast c));
   reached = record {
     near = peers-are cast;
-    start = machine_of cast c (length (history_of cast c acts));
-    begins = machine-begins cast c acts fit (length (history_of cast c acts));
+    start = machine_of cast c (length (history_of cast c));
+    begins = machine-begins cast c fit (length (history_of cast c));
     run = nothing_done;
   };
-  stands = resumed-represents cast is c acts fit;
+  stands = resumed-represents cast is c fit;
   letters = record {
-    first = length (history_of cast c acts);
+    first = length (history_of cast c);
     told = omega arith;
     grounds = λ x. subst (λ j. IsGrounded f j (node_as cast c f (named x))) (index-named x) (grounded (named x));
     has = has;
@@ -404,10 +399,10 @@ resumed-stands cast is c acts fit = record {
   };
 } where
   h : List Note
-  h = history_of cast c acts
+  h = history_of cast c
 
   f : ℕ
-  f = length (history_of cast c acts)
+  f = length (history_of cast c)
 
   one : (p : NodeId) → Rattle.kt_refinement.proofs.Resumed.OnlyGround f p (ground cast c f p ∷ [])
   one p x g sent heard i = on-one (node_index p) f (sent_by cast c p) (heard_by cast c p) x g sent heard i
@@ -428,7 +423,7 @@ resumed-stands cast is c acts fit = record {
       by false out =
           let held : permanent_of c a.node ≡ None = ap (λ (r : NodeRow). permanent_by (verdict_on c r.tentative) r.tentative r.permanent) (fit.others a.node out) in
           let bare : line h a.node ≡ [] = empty-line (line h a.node) ((fit.fits a.node).placed ∙ ap acts_held held) in
-          let stands = Stands-no_cut h n (history-no_cut cast c acts) (a, e) in
+          let stands = Stands-no_cut h n (history-no_cut cast c) (a, e) in
           let act = line-own h stands.0 n stands.1 in
           let both : Some (notes.Act a) ≡ Some (notes.Act act.act) = sym e ∙ act.is_act in
           let same : a ≡ act.act = cc (both) in

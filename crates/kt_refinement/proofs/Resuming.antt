@@ -1,24 +1,15 @@
 -- Each state that steps lead to, from an opening or from what a store holds that fits, stands for one of the machine, once
 -- all is settled that was found.
-use Rattle.std.proofs.Common.{◌≡◌, ◌⊎◌, ◌∷◌, [], List, Ok, Err, Result, Option, Some, None, IsTrue, inl, inr, refl, sym, ap, subst, ◌∙◌}
-use Rattle.std.specs.Option.{option_map}
-use Rattle.kt_tuple.specs.declared.node.NodeId.{NodeId}
-use Rattle.kt_tuple.specs.Node.{node_index}
-use Rattle.kt_store.specs.declared.rows.NodeRow.{NodeRow}
-use Rattle.kt_store.specs.declared.rows.Tentative.{Tentative}
-use Rattle.kt_store.specs.Content.{row_of, verdict_on}
+use Rattle.std.proofs.Common.{◌≡◌, ◌∷◌, [], List, Ok, Err, Result, inl, inr, refl, sym, subst}
 use Rattle.kt_node.specs.declared.plan.Plan.{Plan}
-use Rattle.kt_node.specs.Node.{Node as RealNode, Down as IsDownNode}
 use Rattle.kt_world.specs.declared.step.Step.{Step}
-use Rattle.kt_world.specs.declared.step.Step.TheVariants.{Learn}
 use Rattle.kt_world.specs.declared.step.StepError.{StepError}
-use Rattle.kt_world.specs.Step.{owner}
-use Rattle.kt_world.specs.State.{State as World, node}
+use Rattle.kt_world.specs.State.{State as World}
 use Rattle.kt_world.specs.Told.{told}
 use Rattle.kt_world.specs.Judge.{planned}
 use Rattle.kt_world.specs.Effect.{applied, applied_if}
-use Rattle.kt_world.specs.Reached.{IsReached, IsStart, opened, resumes, opening, or_as_it_was, next_state, after}
-use Rattle.kt_world.proofs.Shared.{Kept, Follows, Learns, follows, kept-holds, planned-kept, start-kept, settled, IsMade, plan-few, plan-room}
+use Rattle.kt_world.specs.Reached.{IsReached, IsStart, opened, resumes, or_as_it_was, next_state, after}
+use Rattle.kt_world.proofs.Shared.{Kept, follows, kept-holds, planned-kept, start-kept, settled, plan-few, plan-room}
 use Rattle.kt_refinement.proofs.Refined.{StandsFor, made-stands, opening-stands}
 use Rattle.kt_refinement.proofs.Resumed.{resumed-stands}
 use Rattle.kt_refinement.proofs.LearnsFound.{quiet-stands}
@@ -46,7 +37,7 @@ steps-keep s (step ∷ later) k = steps-keep (next_state s step) later (result-k
 
 start-stands : (s : World) → IsStart s → StandsFor (settled s)
 start-stands s (opened cast is short) = opening-stands cast is
-start-stands s (resumes cast c acts is short proper fit) = resumed-stands cast is c acts fit
+start-stands s (resumes cast c is short proper fit) = resumed-stands cast is c fit
 
 pub reached-stands : (s : World) → IsReached s → StandsFor (settled s)
 reached-stands s is =

@@ -1,12 +1,9 @@
 -- What a plan has whose write the store allows and that leaves the state backed, told of its parts.
-use Rattle.std.proofs.Common.{◌≡◌, ◌≢◌, ℕ, ◌+◌, ◌<◌, ◌≤◌, Bool, true, false, List, [], Contains, Option, None, Some, inl, inr, refl, sym, ap, ◌∙◌, subst, arith}
+use Rattle.std.proofs.Common.{◌≡◌, ◌≢◌, ℕ, Bool, true, false, List, [], Contains, Option, None, Some, inl, inr, refl, sym, ap, ◌∙◌, subst}
 use Rattle.std.specs.Prelude.{IfSome, unwrap_or, is_some}
 use Rattle.std.specs.List.{AllByRecursion}
 use Rattle.std.specs.Option.{option_map}
-use Rattle.std.proofs.lemmas.Bool.{cases_eq}
 use Rattle.kt_tuple.specs.declared.node.NodeId.{NodeId}
-use Rattle.kt_tuple.specs.Node.{node_index}
-use Rattle.kt_tuple.proofs.Shared.{node_index-injective}
 use Rattle.kt_store.specs.declared.rows.NodeRow.{NodeRow}
 use Rattle.kt_store.specs.declared.rows.Tentative.{Tentative}
 use Rattle.kt_store.specs.declared.rows.Verdict.{Verdict}
@@ -35,7 +32,6 @@ use Rattle.kt_node.specs.Learning.{verdict_to}
 use Rattle.kt_node.specs.Deciding.{settled}
 use Rattle.kt_world.specs.declared.step.Step.{Step}
 use Rattle.kt_world.specs.Step.{owner}
-use Rattle.kt_world.specs.declared.step.TheConstants.{MAX_STEPS}
 use Rattle.kt_world.specs.State.{State, node, link_place}
 use Rattle.kt_world.specs.Writing.{content_after}
 use Rattle.kt_world.specs.Effect.{taken_off, applied}
@@ -46,7 +42,7 @@ use Rattle.kt_world.proofs.Frames.{applied-rows}
 use Rattle.kt_world.proofs.Lists.{all-from, all-map}
 use Rattle.kt_world.proofs.Leaves.{casting-all}
 use Rattle.kt_world.proofs.Boards.{Says}
-use Rattle.kt_world.proofs.Writes.{row_after, own-row, other-rows, incarnation-after, says-after, board-after, next-after}
+use Rattle.kt_world.proofs.Writes.{row_after, own-row, other-rows, says-after, board-after}
 use Rattle.kt_lines.proofs.Shared.{all-at}
 use Rattle.kt_world.specs.Told.{tentative_in, marks_in}
 

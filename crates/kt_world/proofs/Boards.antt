@@ -12,10 +12,10 @@ use Rattle.kt_store.specs.declared.rows.Purpose.{Purpose}
 use Rattle.kt_store.specs.declared.rows.Verdict.{Verdict}
 use Rattle.kt_store.specs.declared.rows.Verdict.TheVariants as verdicts
 use Rattle.kt_store.specs.Verdict.{is_open, verdict_from}
-use Rattle.kt_store.specs.Content.{Content, greatest, next_instance, open_of, posted, verdict_of}
+use Rattle.kt_store.specs.Content.{Content, next_instance, open_of, posted, verdict_of}
 use Rattle.kt_world.specs.inner.Backed.{AreRising}
 use Rattle.kt_store.specs.Changes.{opening, decided, deciding, with_posted}
-use Rattle.kt_store.proofs.Shared.{above_all, others_begun, others_decided, decided_is_read, greatest_within, posted_last, still_board}
+use Rattle.kt_store.proofs.Shared.{above_all, others_begun, others_decided, decided_is_read, greatest_within}
 use Rattle.kt_store.proofs.Shared.{by_number_order, placed_rising, placed_all}
 
 -- ---- what is found

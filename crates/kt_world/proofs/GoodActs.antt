@@ -1,5 +1,5 @@
 -- The acts of workers and shards can be carried out, and leave the state ready.
-use Rattle.std.proofs.Common.{◌≡◌, ℕ, ◌+◌, [], None, Some, refl, length, ◌++◌, ◌∷◌}
+use Rattle.std.proofs.Common.{◌≡◌, ℕ, [], None, Some, refl, length, ◌++◌, ◌∷◌}
 use Rattle.std.specs.Prelude.{IsTrue}
 use Rattle.kt_tuple.specs.declared.node.NodeId.{NodeId}
 use Rattle.kt_tuple.specs.declared.node.NodeId.TheVariants as ids

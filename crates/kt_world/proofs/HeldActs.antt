@@ -1,5 +1,5 @@
 -- Each stored checkpoint that counts, or may yet, holds the first acts of its node's line.
-use Rattle.std.proofs.Common.{◌≡◌, ◌≢◌, ℕ, ◌≤◌, Bool, true, false, List, [], ◌∷◌, take, length, Option, Some, None, inl, inr, refl, sym, ap, ◌∙◌, subst, arith}
+use Rattle.std.proofs.Common.{◌≡◌, ◌≢◌, ◌≤◌, Bool, true, false, List, [], take, length, Option, Some, None, inl, inr, refl, sym, ap, ◌∙◌, subst, arith}
 use Rattle.std.specs.Prelude.{IfSome, IsTrue}
 use Rattle.std.proofs.lemmas.Bool.{cases_eq}
 use Rattle.kt_tuple.specs.declared.node.NodeId.{NodeId}
@@ -11,7 +11,6 @@ use Rattle.kt_history.specs.Line.{line}
 use Rattle.kt_history.specs.Closed.{acts_in_line}
 use Rattle.kt_history.specs.WellFormed.{CausesComeFirst}
 use Rattle.kt_history.proofs.Shared.{CausesComeFirst-from_well_formed}
-use Rattle.kt_ckpt.specs.declared.acts.LineAct.{LineAct}
 use Rattle.kt_ckpt.specs.declared.ckpt.Ckpt.{Ckpt}
 use Rattle.kt_ckpt.specs.LineActs.{line_acts}
 use Rattle.kt_store.specs.declared.rows.NodeRow.{NodeRow}
@@ -19,7 +18,7 @@ use Rattle.kt_store.specs.declared.rows.Tentative.{Tentative}
 use Rattle.kt_store.specs.declared.rows.Verdict.{Verdict}
 use Rattle.kt_store.specs.declared.rows.Verdict.TheVariants as verdicts
 use Rattle.kt_store.specs.Changes.{promoted_from, taken}
-use Rattle.kt_store.specs.Content.{Content, next_instance, row_of, verdict_of, verdict_on, empty_content}
+use Rattle.kt_store.specs.Content.{Content, row_of, verdict_on}
 use Rattle.kt_node.specs.declared.change.KeptChange.{KeptChange}
 use Rattle.kt_node.specs.declared.change.KeptChange.TheVariants as keeps
 use Rattle.kt_node.specs.declared.message.Message.{Message}
@@ -35,7 +34,7 @@ use Rattle.kt_world.specs.Step.{owner}
 use Rattle.kt_world.specs.Cast.{Cast, is_node}
 use Rattle.kt_world.specs.Cut.{acts_held, permanent_by, permanent_of}
 use Rattle.kt_world.specs.Effect.{noted, applied}
-use Rattle.kt_world.specs.Like.{IsNotNo, acts_stored, HoldsActs}
+use Rattle.kt_world.specs.Like.{IsNotNo, HoldsActs}
 use Rattle.kt_world.specs.Reached.{opening}
 use Rattle.kt_world.specs.State.{State, view}
 use Rattle.kt_world.specs.Writing.{content_after}
@@ -45,7 +44,7 @@ use Rattle.kt_world.proofs.Heards.{HeardOf, heard-is}
 use Rattle.kt_world.proofs.Plans as plans
 use Rattle.kt_world.proofs.Plans.{PlanOf}
 use Rattle.kt_world.proofs.Scene.{neighbour-node, shard-node, worker-node}
-use Rattle.kt_world.proofs.Sound.{IsStored, IsTentative, IsSound, NoesStay}
+use Rattle.kt_world.proofs.Sound.{IsTentative, IsSound, NoesStay}
 use Rattle.kt_world.proofs.Writes.{row_after, own-row, other-rows}
 use Rattle.kt_world.proofs.LineActs.{acts-long, front-noted, take-whole}
 use Rattle.kt_world.proofs.NoteSound.{line-long}

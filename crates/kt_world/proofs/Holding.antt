@@ -1,18 +1,8 @@
 -- What every state keeps that steps lead to from an opening: it is ready, backed by what is stored, and sound, and calm
 -- while it has no cut. So the survivors of each are one run, and each step notes one thing at most.
-use Rattle.std.proofs.Common.{◌≡◌, ℕ, length, ◌++◌, ◌<◌, List, [], ◌∷◌, Result, Ok, Err, refl, sym, subst, None}
-use Rattle.std.specs.Prelude.{IsTrue}
+use Rattle.std.proofs.Common.{◌≡◌, length, ◌<◌, List, [], ◌∷◌, Result, Ok, Err, refl, subst, None}
 use Rattle.kt_tuple.specs.declared.node.NodeId.{NodeId}
-use Rattle.kt_tuple.specs.declared.node.NodeId.TheVariants as ids
-use Rattle.kt_tuple.specs.declared.op.Answer.{Answer}
-use Rattle.kt_history.specs.declared.note.Act.{Act}
-use Rattle.kt_history.specs.declared.note.What.TheVariants.{Served}
-use Rattle.kt_history.specs.Line.{line}
-use Rattle.kt_history.specs.Closed.{acts_in_line}
-use Rattle.kt_lines.specs.Hearing.{WasHeardFor}
 use Rattle.kt_history.specs.WellFormed.{HasNoCut}
-use Rattle.kt_lines.proofs.Shared.{surviving_tuples, survivors_run}
-use Rattle.kt_history.proofs.Shared.{CausesComeFirst-from_well_formed}
 use Rattle.kt_node.specs.declared.plan.Plan.{Plan}
 use Rattle.kt_world.specs.declared.step.Step.{Step}
 use Rattle.kt_world.specs.declared.step.StepError.{StepError}
@@ -20,16 +10,13 @@ use Rattle.kt_world.specs.Step.{owner}
 use Rattle.kt_world.specs.declared.step.TheConstants.{MAX_STEPS, MAX_NOTES}
 use Rattle.kt_world.specs.Cast.{Cast, IsCast}
 use Rattle.kt_world.specs.State.{State}
-use Rattle.kt_world.specs.Asks.{setting_of}
 use Rattle.kt_world.specs.Told.{told}
-use Rattle.kt_world.specs.Judge.{IsUndamaged, planned}
+use Rattle.kt_world.specs.Judge.{planned}
 use Rattle.kt_world.specs.Effect.{applied, applied_if, step_result}
-use Rattle.kt_world.specs.Reached.{IsReached, IsStart, opened, opening, or_as_it_was, next_state, after}
+use Rattle.kt_world.specs.Reached.{opening, or_as_it_was, next_state, after}
 use Rattle.kt_world.specs.Short.{AreShort}
 use Rattle.kt_world.specs.inner.Ready.{IsReady}
 use Rattle.kt_world.specs.inner.Backed.{IsBacked}
-use Rattle.kt_world.specs.Headline.{may_forget, HasOneRun, IsWhole, NotesOneAtMost, LineAfter, HasCut, IsFailure, IsNoted}
-use Rattle.kt_world.specs.Workers.{WorkersFollowLines}
 use Rattle.kt_world.proofs.Plans.{PlanOf}
 use Rattle.kt_world.proofs.PlansFound.{plan-found, plan-few, plan-room}
 use Rattle.kt_world.proofs.CanApplies.{stays_ready}
@@ -40,12 +27,8 @@ use Rattle.kt_world.proofs.Opened.{opening-ready, opening-backed}
 use Rattle.kt_world.proofs.Sound.{IsSound}
 use Rattle.kt_world.proofs.StepSound.{step_keeps, step_sound}
 use Rattle.kt_world.proofs.OpenedSound.{opening_sound}
-use Rattle.kt_world.proofs.Headlines.{one_run, nothing_lost, survives_all, bags_held}
-use Rattle.kt_world.proofs.FirstCut.{IsCalm, shard-alive, stays_calm, failure_cuts_first, opening_calm}
-use Rattle.kt_world.proofs.LinesAfter.{notes_one, line_after, shorter_forgets}
-use Rattle.kt_world.proofs.Following.{workers_follow, service_heard}
+use Rattle.kt_world.proofs.FirstCut.{IsCalm, stays_calm, opening_calm}
 use Rattle.kt_world.proofs.Fit.{IsFitting, fits-fitting, plan-fits, opening-fitting}
-use Rattle.kt_world.proofs.Undamaged.{never-damaged}
 
 pub record Holds (s : State) : Type 0 where
   pub ready : IsReady s

@@ -1,6 +1,6 @@
 -- What every state keeps that steps lead to, from an opening or from what a store holds that fits: it is ready and backed,
 -- and with all settled that was found it is sound.
-use Rattle.std.proofs.Common.{◌≡◌, ℕ, zero, suc, ◌-◌, ◌==◌, cond, map, if◌then◌else◌, ◌<◌, ◌⊎◌, Bool, true, false, List, [], ◌∷◌, length, Contains, Option, None, Some, Result, Ok, Err, inl, inr, refl, sym, ap, ◌∙◌, subst, arith}
+use Rattle.std.proofs.Common.{◌≡◌, ℕ, zero, suc, ◌-◌, ◌==◌, cond, map, if◌then◌else◌, ◌⊎◌, Bool, true, false, List, [], ◌∷◌, length, Option, None, Some, Result, Ok, Err, inl, inr, refl, sym, ap, ◌∙◌, subst, arith}
 use Rattle.std.specs.Prelude.{IfSome, IsTrue, is_some, unwrap_or, fold, max}
 use Rattle.std.specs.List.{find}
 use Rattle.std.proofs.lemmas.Bool.{cases_eq, eq-eqb}
@@ -10,23 +10,20 @@ use Rattle.kt_history.specs.declared.note.Note.{Note}
 use Rattle.kt_history.specs.Line.{line}
 use Rattle.kt_history.specs.Closed.{acts_in_line}
 use Rattle.kt_history.specs.WellFormed.{HasNoCut}
-use Rattle.kt_shard.specs.Table.{at}
 use Rattle.kt_store.specs.declared.rows.NodeRow.{NodeRow}
 use Rattle.kt_store.specs.declared.rows.Posted.{Posted}
 use Rattle.kt_store.specs.declared.rows.Tentative.{Tentative}
-use Rattle.kt_store.specs.Content.{Content, empty_content, next_instance, row_of, verdict_on}
+use Rattle.kt_store.specs.Content.{Content, next_instance, row_of, verdict_on}
 use Rattle.kt_node.specs.declared.message.Message.{Message}
 use Rattle.kt_node.specs.declared.message.Message.TheVariants as messages
 use Rattle.kt_node.specs.declared.change.Change.TheVariants as changes
 use Rattle.kt_node.specs.declared.plan.Plan.{Plan}
 use Rattle.kt_node.specs.declared.plan.Write.TheVariants as writes
 use Rattle.kt_node.specs.Learning.{discard_down_plan}
-use Rattle.kt_node.specs.Node.{Node, Live, Down, Alive, opening_node}
+use Rattle.kt_node.specs.Node.{Node, Down, Alive, opening_node}
 use Rattle.kt_node.specs.Turning.{changed}
 use Rattle.kt_world.specs.declared.step.Step.{Step}
-use Rattle.kt_world.specs.declared.step.Step.TheVariants.{Learn}
 use Rattle.kt_world.specs.declared.step.StepError.{StepError}
-use Rattle.kt_world.specs.declared.step.TheConstants.{MAX_STEPS, MAX_NOTES}
 use Rattle.kt_world.specs.Step.{owner}
 use Rattle.kt_world.specs.Cast.{Cast, IsCast, is_node}
 use Rattle.kt_world.specs.Short.{AreShort}
@@ -34,7 +31,7 @@ use Rattle.kt_world.specs.State.{State, node, role_of, view}
 use Rattle.kt_world.specs.Reached.{IsReached, IsStart, opened, resumes, opening, opening_row, or_as_it_was, next_state, after}
 use Rattle.kt_world.specs.Told.{told, stored_of}
 use Rattle.kt_world.specs.Judge.{planned}
-use Rattle.kt_world.specs.Effect.{noted, applied, applied_if, step_result}
+use Rattle.kt_world.specs.Effect.{noted, applied, applied_if}
 use Rattle.kt_world.specs.Writing.{content_after}
 use Rattle.kt_world.specs.Found.{was_found}
 use Rattle.kt_world.specs.Resumed.{resumed, AllFit, IsProper}
@@ -52,9 +49,9 @@ use Rattle.kt_world.proofs.Resuming.{down-rows-hold, resumed-ready, resumed-back
 use Rattle.kt_world.proofs.Newer.{IsNewNode, IsPosted, IsNewer, plan-news, newer-after}
 use Rattle.kt_world.proofs.PlansFound.{plan-found, plan-few, plan-room}
 use Rattle.kt_world.proofs.Shaped.{AreMade, made-noted}
-use Rattle.kt_world.proofs.Settle.{settled, settled_content, settled_row, row-settled}
-use Rattle.kt_world.proofs.Settling.{FoundDown, row_found, unfound-same, Found, found-bare, Follows, Learns, follows, downs-after}
-use Rattle.kt_world.proofs.Sound.{IsNodeSound, NodeSoundIn, IsSound}
+use Rattle.kt_world.proofs.Settle.{settled, settled_content, row-settled}
+use Rattle.kt_world.proofs.Settling.{FoundDown, row_found, unfound-same, found-bare, Follows, Learns, follows, downs-after}
+use Rattle.kt_world.proofs.Sound.{IsNodeSound, IsSound}
 use Rattle.kt_world.proofs.StaysBacked.{stays_backed}
 use Rattle.kt_world.proofs.Turns.{idle_keeps}
 use Rattle.kt_world.proofs.Writes.{own-row}

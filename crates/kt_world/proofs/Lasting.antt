@@ -1,5 +1,5 @@
 -- What holds of every state that steps lead to, and of every step from it.
-use Rattle.std.proofs.Common.{◌≡◌, ℕ, length, ◌++◌, ◌<◌, ◌≤◌, ◌⊎◌, Bool, true, false, List, [], ◌∷◌, Option, None, Some, Result, Ok, Err, inl, inr, refl, sym, ap, ◌∙◌, subst}
+use Rattle.std.proofs.Common.{◌≡◌, ℕ, length, ◌++◌, ◌<◌, ◌≤◌, Bool, true, false, List, ◌∷◌, Option, None, Some, Result, Ok, Err, inl, inr, refl, sym, ap, ◌∙◌, subst}
 use Rattle.std.specs.Prelude.{IfSome, IsTrue, is_some}
 use Rattle.std.specs.Option.{option_map}
 use Rattle.kt_tuple.specs.declared.node.NodeId.{NodeId}
@@ -11,9 +11,7 @@ use Rattle.kt_history.specs.Line.{line}
 use Rattle.kt_history.specs.Closed.{acts_in_line}
 use Rattle.kt_history.specs.WellFormed.{HasNoCut}
 use Rattle.kt_lines.specs.Hearing.{WasHeardFor}
-use Rattle.kt_store.specs.declared.error.StoreError.{StoreError}
 use Rattle.kt_store.specs.declared.rows.NodeRow.{NodeRow}
-use Rattle.kt_store.specs.declared.rows.Tentative.{Tentative}
 use Rattle.kt_store.specs.declared.rows.Verdict.{Verdict}
 use Rattle.kt_store.specs.declared.rows.Verdict.TheVariants as verdicts
 use Rattle.kt_store.specs.Content.{row_of, verdict_of, verdict_on}
@@ -35,7 +33,7 @@ use Rattle.kt_world.specs.Reached.{IsReached}
 use Rattle.kt_world.specs.Cut.{IsCausallyClosed, permanent_of, permanent_length, acts_held}
 use Rattle.kt_world.specs.Found.{has_found}
 use Rattle.kt_world.specs.Headline.{may_forget, HasOneRun, IsWhole, NotesOneAtMost, LineAfter, HasCut, IsFailure, IsNoted}
-use Rattle.kt_world.specs.Like.{HoldsActs, HoldsFront, IsNotNo, IsSettled, StoresFollowLines}
+use Rattle.kt_world.specs.Like.{HoldsActs, HoldsFront, IsSettled, StoresFollowLines}
 use Rattle.kt_world.specs.PermanentRun.{IsPermanentRun}
 use Rattle.kt_world.specs.Workers.{WorkersFollowLines}
 use Rattle.kt_world.proofs.FirstCut.{shard-alive, failure_cuts_first}
@@ -48,7 +46,7 @@ use Rattle.kt_world.proofs.LinesAfter.{noted_one, line_noted, cut_forgets, short
 use Rattle.kt_world.proofs.PermanentPart.{fronts_in, permanent_front, permanent_run, permanent_within}
 use Rattle.kt_world.proofs.PlansFound.{plan-found}
 use Rattle.kt_world.proofs.Settle.{settled, row-settled, permanent-settled}
-use Rattle.kt_world.proofs.Settling.{unfound-same, judged-settled, told-settled, Found, what-found, found-row, Follows, Learns, follows}
+use Rattle.kt_world.proofs.Settling.{unfound-same, judged-settled, told-settled, Found, what-found, found-row, follows}
 use Rattle.kt_world.proofs.Sound.{MayNote}
 use Rattle.kt_world.proofs.StepSound.{step_keeps}
 use Rattle.kt_world.proofs.Gives.{gives-fitting}

@@ -1,6 +1,6 @@
 -- What the leaves of the tables are made of: whom they send to, and what becomes of a node's work.
 use Rattle.kt_world.specs.Effect.{noted}
-use Rattle.std.proofs.Common.{◌≡◌, ℕ, ◌+◌, Bool, true, false, List, Contains, Option, None, Some, sym, subst, arith, refl, ap, ◌∙◌, length, ◌++◌, ◌∷◌, [], length-append}
+use Rattle.std.proofs.Common.{◌≡◌, ℕ, Bool, true, false, List, Contains, Option, None, Some, sym, subst, arith, refl, ap, ◌∙◌, length, ◌∷◌, [], length-append}
 use Rattle.std.specs.Prelude.{IfSome, IsTrue, unwrap_or}
 use Rattle.std.specs.List.{AllByRecursion}
 use Rattle.kt_tuple.specs.declared.node.NodeId.{NodeId}

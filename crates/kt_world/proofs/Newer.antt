@@ -1,16 +1,10 @@
 -- Whoever votes, and whoever is asked to, does so in an instance that was begun since the world was resumed: so no instance
 -- that was found gets a Yes any more.
-use Rattle.std.proofs.Common.{◌≡◌, ℕ, suc, length, ◌⊎◌, Bool, true, false, List, [], ◌∷◌, ◌++◌, Contains, Option, None, Some, inl, inr, refl, sym, ◌∙◌, subst}
-use Rattle.std.specs.Prelude.{IfSome, is_some, unwrap_or, IsTrue, if◌then◌else◌}
+use Rattle.std.proofs.Common.{◌≡◌, ℕ, suc, Bool, true, false, List, [], Contains, Option, None, Some, inl, inr, refl, sym, subst}
+use Rattle.std.specs.Prelude.{IfSome, is_some, IsTrue}
 use Rattle.std.specs.List.{AllByRecursion}
 use Rattle.std.specs.Option.{option_map}
 use Rattle.kt_tuple.specs.declared.node.NodeId.{NodeId}
-use Rattle.kt_tuple.specs.declared.node.NodeId.TheVariants as ids
-use Rattle.kt_history.specs.declared.note.Note.{Note}
-use Rattle.kt_history.specs.declared.note.Note.TheVariants as notes
-use Rattle.kt_history.specs.Line.{note_at}
-use Rattle.kt_history.specs.WellFormed.{HasNoCut}
-use Rattle.kt_history.proofs.Shared.{note_at-old, note_at-new, note_at-within, note_at-push_cases}
 use Rattle.kt_shard.specs.Table.{at}
 use Rattle.kt_vote.specs.declared.asker.Asker.{Asker}
 use Rattle.kt_vote.specs.declared.vote.Vote.{Vote}
@@ -27,26 +21,20 @@ use Rattle.kt_node.specs.declared.change.Change.{Change}
 use Rattle.kt_node.specs.declared.change.Change.TheVariants as changes
 use Rattle.kt_node.specs.declared.plan.Plan.{Plan}
 use Rattle.kt_node.specs.declared.plan.Write.{Write}
-use Rattle.kt_node.specs.Node.{Live, Node, Down, Alive, opening_node}
+use Rattle.kt_node.specs.Node.{Live, Node, Down, Alive}
 use Rattle.kt_node.specs.Turning.{changed, phase_in}
 use Rattle.kt_node.specs.Voting.{casting, voted, votes}
 use Rattle.kt_node.specs.Joining.{asker_of, cohort, check_asks, held_plan}
 use Rattle.kt_node.specs.Learning.{held_learns, verdict_to}
 use Rattle.kt_node.specs.Deciding.{decide_plan}
 use Rattle.kt_world.specs.declared.step.Step.{Step}
-use Rattle.kt_world.specs.declared.told.Told.{Told}
 use Rattle.kt_world.specs.Step.{owner}
-use Rattle.kt_world.specs.Cast.{Cast, IsCast, is_node, is_shard}
 use Rattle.kt_world.specs.State.{State, node, link_place, role_of, view}
-use Rattle.kt_world.specs.Effect.{taken_off, noted, applied}
-use Rattle.kt_world.specs.Reached.{opening}
-use Rattle.kt_world.specs.inner.Ready.{IsReady}
-use Rattle.kt_world.specs.Headline.{HasCut, IsFailure}
+use Rattle.kt_world.specs.Effect.{taken_off, applied}
 use Rattle.kt_world.proofs.Plans as plans
 use Rattle.kt_world.proofs.Plans.{IsAlive, IsDown, Comes, Votes, PlanOf}
 use Rattle.kt_world.proofs.OnLinks.{taken_off-was, sent-cases, first-holds}
 use Rattle.kt_world.proofs.Frames.{applied-rows}
-use Rattle.kt_world.proofs.Opened.{opening-node, no_messages}
 use Rattle.kt_lines.proofs.Shared.{all-append}
 use Rattle.kt_world.proofs.Lists.{all-from, all-map}
 use Rattle.kt_world.proofs.Leaves.{casting-all}

@@ -22,10 +22,9 @@ use Rattle.kt_world.specs.Cast.{Cast}
 use Rattle.kt_world.specs.State.{State, role_of}
 use Rattle.kt_world.specs.Asks.{setting_of}
 use Rattle.kt_world.specs.Cut.{IsCausallyClosed, is_in_cut, permanent_by, permanent_of, permanent_length, tuples_in, tuples_of, permanent_tuples}
-use Rattle.kt_world.specs.Like.{IsBodyLike, IsSavedOf, HoldsFront, StoresFollowLines}
+use Rattle.kt_world.specs.Like.{IsBodyLike, IsSavedOf, HoldsFront}
 use Rattle.kt_world.specs.PermanentRun.{IsPermanentRun}
 use Rattle.kt_world.proofs.Sound.{IsTentative, IsStored, IsSound}
-use Rattle.kt_world.proofs.HeldActs.{AreHeld}
 use Rattle.kt_world.proofs.NoteSound.{line-long}
 use Rattle.kt_world.proofs.Cuts.{part_run, part_order, part_share}
 

@@ -1,14 +1,12 @@
 -- The history of a world that is resumed is acts alone, no more than were to be placed.
-use Rattle.std.proofs.Common.{◌≡◌, ◌≢◌, ◌⊎◌, ℕ, zero, suc, ◌+◌, ◌≤◌, List, [], ◌∷◌, ◌++◌, length, slice_get, Contains, Option, None, Some, inl, inr, refl, sym, ap, ◌∙◌, subst, arith}
-use Rattle.std.proofs.Common.{length-append}
+use Rattle.std.proofs.Common.{◌≡◌, ℕ, zero, suc, ◌+◌, ◌≤◌, List, [], ◌∷◌, length, Option, None, Some, inl, inr, arith}
 use Rattle.std.specs.Option.{option_map}
 use Rattle.kt_tuple.specs.declared.node.NodeId.{NodeId}
-use Rattle.kt_history.specs.declared.note.Act.{Act}
 use Rattle.kt_history.specs.declared.note.Note.{Note}
 use Rattle.kt_history.specs.declared.note.Note.TheVariants as notes
 use Rattle.kt_history.specs.Line.{note_at, line, IsAct}
 use Rattle.kt_history.specs.WellFormed.{HasNoCut, IsWellFormed}
-use Rattle.kt_history.proofs.Shared.{note_at-push_cases, note_at-within, line-own, Stands-no_cut}
+use Rattle.kt_history.proofs.Shared.{note_at-push_cases, Stands-no_cut}
 use Rattle.kt_world.specs.Effect.{noted}
 use Rattle.kt_ckpt.specs.declared.acts.LineAct.{LineAct}
 use Rattle.kt_world.specs.Placing.{Acts, number_of, act_by, note_of, next_of, or_else, next_note, placed}

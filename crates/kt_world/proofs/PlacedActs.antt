@@ -1,7 +1,6 @@
 -- What is placed of each node are the first of the acts that its permanent checkpoint holds, each as it is held there.
-use Rattle.std.proofs.Common.{◌≡◌, ◌≢◌, ℕ, zero, suc, ◌+◌, ◌<◌, ◌≤◌, Bool, true, false, List, [], ◌∷◌, ◌++◌, length, map, take, slice_get, get_or, Contains, Option, None, Some, inl, inr, refl, sym, ap, ◌∙◌, subst, arith}
+use Rattle.std.proofs.Common.{◌≡◌, ◌≢◌, ℕ, zero, suc, ◌+◌, ◌≤◌, List, [], ◌∷◌, ◌++◌, length, map, take, slice_get, Option, None, Some, inl, inr, refl, sym, ap, ◌∙◌, subst, arith}
 use Rattle.std.proofs.Common.{length-append}
-use Rattle.std.specs.Prelude.{IfSome}
 use Rattle.std.specs.Option.{option_map}
 use Rattle.std.proofs.lemmas.Bool.{cases_Bool}
 use Rattle.std.proofs.lemmas.List.{length-map, map-append, take-append-le, take_more}
@@ -13,7 +12,7 @@ use Rattle.kt_history.specs.declared.note.Note.TheVariants as notes
 use Rattle.kt_history.specs.Line.{note_at, line, same_node, IsAct}
 use Rattle.kt_history.specs.Place.{place}
 use Rattle.kt_history.specs.Closed.{act_of, acts_at, acts_in_line}
-use Rattle.kt_history.specs.WellFormed.{CausesComeFirst, MayFollow}
+use Rattle.kt_history.specs.WellFormed.{CausesComeFirst}
 use Rattle.kt_history.proofs.Shared.{CausesComeFirst-empty, Contains-from_slice_get, acts_in_line-other_act, acts_in_line-own_act, line-empty, line-other_act}
 use Rattle.kt_history.proofs.Shared.{line-own, line-own_act, note_at-old, note_at-within, place-old, place-stands, same_node-true}
 use Rattle.kt_ckpt.specs.declared.acts.LineAct.{LineAct}

@@ -1,10 +1,9 @@
 -- A world that goes on from what a store holds that fits: what is stored settled, it is ready, backed, sound and fitting.
-use Rattle.std.proofs.Common.{◌≡◌, ◌≢◌, ℕ, zero, suc, ◌+◌, ◌-◌, ◌*◌, ◌<◌, ◌≤◌, Bool, true, false, if◌then◌else◌, List, [], ◌∷◌, ◌++◌, length, map, replicate, Contains, take, take_all, All, get_or, Option, None, Some, inl, inr, refl, sym, ap, ◌∙◌, subst, arith}
+use Rattle.std.proofs.Common.{◌≡◌, ℕ, zero, suc, ◌+◌, ◌-◌, ◌*◌, ◌<◌, ◌≤◌, Bool, true, false, if◌then◌else◌, List, [], ◌∷◌, ◌++◌, length, map, Contains, take, Option, None, Some, inl, inr, refl, sym, ap, ◌∙◌, subst, arith}
 use Rattle.std.proofs.Common.{◌⊎◌, ◌==◌, ◌&&◌, length-append}
 use Rattle.std.specs.Prelude.{fold, max, is_some, IfSome, IsTrue, nat_le}
-use Rattle.std.specs.List.{cons_option, find, list_all}
-use Rattle.std.specs.Option.{option_map}
-use Rattle.std.proofs.lemmas.Bool.{and_parts, cases_lt, cases_eq, eqb-true, le-leb}
+use Rattle.std.specs.List.{cons_option, list_all}
+use Rattle.std.proofs.lemmas.Bool.{and_parts, cases_lt, eqb-true, le-leb}
 use Rattle.std.proofs.lemmas.List.{get_or_past, get_or_append_left, get_or-append-add}
 use Rattle.kt_tuple.specs.declared.node.NodeId.{NodeId}
 use Rattle.kt_tuple.specs.declared.node.NodeId.TheVariants as ids
@@ -15,7 +14,6 @@ use Rattle.kt_history.specs.Line.{line, note_at}
 use Rattle.kt_history.specs.Closed.{act_of, acts_at, acts_in_line}
 use Rattle.kt_history.specs.WellFormed.{HasNoCut, IsWellFormed}
 use Rattle.kt_history.proofs.Shared.{CausesComeFirst-from_well_formed, Contains-cons_cases, Contains-none, line-own, note_at-within, Stands-no_cut}
-use Rattle.kt_link.specs.Network.{entry_at}
 use Rattle.kt_shard.specs.Limits.{desks}
 use Rattle.kt_shard.specs.Table.{at}
 use Rattle.kt_ckpt.specs.Acts.{is_about, is_act_of, is_caused, is_done_by}
@@ -30,18 +28,15 @@ use Rattle.kt_store.specs.declared.rows.Tentative.{Tentative}
 use Rattle.kt_store.specs.declared.rows.Verdict.{Verdict}
 use Rattle.kt_store.specs.Content.{Content, next_instance, opening_row, posted, row_of, verdict_of, verdict_on}
 use Rattle.kt_store.proofs.Shared.{above_all}
-use Rattle.kt_node.specs.declared.message.Message.{Message}
 use Rattle.kt_node.specs.Node.{Node, Down, node_number, opening_node}
 use Rattle.kt_world.specs.Limits.{rows}
-use Rattle.kt_world.specs.declared.step.TheConstants.{MAX_NOTES}
 use Rattle.kt_world.specs.Cast.{Cast, IsCast, is_node}
 use Rattle.kt_world.specs.Short.{AreShort}
-use Rattle.kt_world.specs.Asks.{setting_of}
-use Rattle.kt_world.specs.State.{State, node, link_place, role_of}
+use Rattle.kt_world.specs.State.{node, link_place, role_of}
 use Rattle.kt_world.specs.Cut.{permanent_by, permanent_of, permanent_length, acts_held}
 use Rattle.kt_world.specs.Like.{HoldsActs, HoldsFront}
 use Rattle.kt_world.specs.Found.{was_found}
-use Rattle.kt_world.specs.Resumed.{nodes_of, all_held, acts_of, history_of, down_row, down_rows, resumed, IsOf, PassedAsMany, FitsIn, AllFit, IsProper}
+use Rattle.kt_world.specs.Resumed.{nodes_of, all_held, acts_of, history_of, down_row, down_rows, resumed, IsOf, PassedAsMany, AllFit, IsProper}
 use Rattle.kt_world.specs.inner.Ready.{IsNodeReady, IsReady}
 use Rattle.kt_world.specs.inner.Backed.{IsNodeBacked, IsBacked}
 use Rattle.kt_world.proofs.Boards.{found-holds}
@@ -55,7 +50,7 @@ use Rattle.kt_world.proofs.PlacedActs.{all-placed}
 use Rattle.kt_world.proofs.Shaped.{AreMade, IsAboutOwn, IsMadeBy}
 use Rattle.kt_world.proofs.Placed.{placed-no_cut, placed-few, sense-well_formed}
 use Rattle.kt_world.proofs.Scene.{role-id}
-use Rattle.kt_world.proofs.Settle.{settled_by, settled_with, settled_row, settled, settled_content, row-settled, permanent-settled}
+use Rattle.kt_world.proofs.Settle.{settled_by, settled_with, settled_row, settled, settled_content, row-settled}
 use Rattle.kt_world.proofs.Sound.{IsNodeLike, AreKept, EndsAs, IsNodeSound, NodeSoundIn, IsSound}
 
 -- ---- rows of nodes that are down

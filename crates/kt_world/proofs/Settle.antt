@@ -1,9 +1,9 @@
 -- What a store counts for that holds tentative checkpoints from before the world was resumed: each of these is settled,
 -- made permanent where its check has Yes and given up else. A write of a step makes of what is settled what it makes of
 -- what is stored.
-use Rattle.std.proofs.Common.{◌≡◌, ◌≢◌, ◌⊎◌, ℕ, ◌+◌, ◌<◌, ◌≤◌, Bool, true, false, List, [], ◌∷◌, ◌++◌, map, filter, cond, Option, None, Some, inl, inr, refl, sym, ap, ◌∙◌, subst}
-use Rattle.std.proofs.Common.{if◌then◌else◌, arith}
-use Rattle.std.specs.Prelude.{nat_le, IfSome, Contains}
+use Rattle.std.proofs.Common.{◌≡◌, ℕ, ◌+◌, Bool, true, false, List, [], ◌∷◌, ◌++◌, map, filter, cond, Option, None, Some, inl, inr, refl, sym, ap, ◌∙◌, subst}
+use Rattle.std.proofs.Common.{if◌then◌else◌}
+use Rattle.std.specs.Prelude.{IfSome}
 use Rattle.std.specs.List.{find}
 use Rattle.std.specs.Option.{option_map}
 use Rattle.std.proofs.lemmas.Bool.{cases_eq}
@@ -18,13 +18,13 @@ use Rattle.kt_store.specs.declared.rows.Tentative.{Tentative}
 use Rattle.kt_store.specs.declared.rows.Verdict.{Verdict}
 use Rattle.kt_store.specs.declared.rows.Verdict.TheVariants as verdicts
 use Rattle.kt_store.specs.Verdict.{verdict_from}
-use Rattle.kt_store.specs.Content.{Content, next_instance, opening_row, posted, row_of, row_or, verdict_of, verdict_on}
+use Rattle.kt_store.specs.Content.{Content, next_instance, posted, row_of, row_or, verdict_of, verdict_on}
 use Rattle.kt_store.specs.Changes.{opening, decided, promoted_from, storing, taken, with_row}
 use Rattle.kt_store.proofs.Shared.{decided_is_read, others_begun, others_decided}
 use Rattle.kt_node.specs.declared.plan.Write.{Write}
 use Rattle.kt_node.specs.declared.plan.Write.TheVariants as writes
 use Rattle.kt_world.specs.inner.Backed.{IsAllowed}
-use Rattle.kt_world.specs.Cut.{permanent_by, permanent_of, permanent_length, acts_held}
+use Rattle.kt_world.specs.Cut.{permanent_by, permanent_of}
 use Rattle.kt_world.specs.Found.{was_found}
 use Rattle.kt_world.specs.State.{State}
 use Rattle.kt_world.specs.Writing.{content_after}

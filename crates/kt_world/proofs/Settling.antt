@@ -1,16 +1,14 @@
 -- A step of a world is one of the world in which what was found is settled, or a node that is down learns what became of
 -- the tentative checkpoint that was found of it, which changes nothing there.
-use Rattle.std.proofs.Common.{◌≡◌, ◌≢◌, ◌⊎◌, ℕ, ◌<◌, ◌≤◌, Bool, true, false, List, [], ◌∷◌, length, Contains, Option, None, Some, Result, Ok, Err, inl, inr, refl, sym, ap, ◌∙◌, subst, arith}
-use Rattle.std.proofs.Common.{if◌then◌else◌}
-use Rattle.std.specs.Prelude.{IfSome, IsTrue, is_some, unwrap_or}
+use Rattle.std.proofs.Common.{◌≡◌, ◌≢◌, ◌⊎◌, ℕ, Bool, true, false, List, [], ◌∷◌, length, Option, None, Some, Ok, inl, inr, refl, sym, ap, ◌∙◌}
+use Rattle.std.specs.Prelude.{IsTrue, is_some, unwrap_or}
 use Rattle.std.specs.Option.{option_map}
 use Rattle.kt_tuple.specs.declared.node.NodeId.{NodeId}
 use Rattle.kt_store.specs.declared.rows.NodeRow.{NodeRow}
 use Rattle.kt_store.specs.declared.rows.Tentative.{Tentative}
 use Rattle.kt_store.specs.declared.rows.Verdict.{Verdict}
-use Rattle.kt_store.specs.declared.rows.Verdict.TheVariants as verdicts
-use Rattle.kt_store.specs.Content.{Content, next_instance, open_of, permanent_marks, row_of, verdict_of, verdict_on}
-use Rattle.kt_store.specs.Changes.{promoted, discarded, promoted_from, storing, taken}
+use Rattle.kt_store.specs.Content.{Content, next_instance, open_of, row_of, verdict_of, verdict_on}
+use Rattle.kt_store.specs.Changes.{discarded, promoted_from, storing}
 use Rattle.kt_node.specs.declared.message.Message.{Message}
 use Rattle.kt_node.specs.declared.message.Message.TheVariants as messages
 use Rattle.kt_node.specs.declared.change.Change.TheVariants as changes
@@ -18,14 +16,11 @@ use Rattle.kt_node.specs.declared.plan.Plan.{Plan}
 use Rattle.kt_node.specs.declared.plan.Write.{Write}
 use Rattle.kt_node.specs.declared.plan.Write.TheVariants as writes
 use Rattle.kt_node.specs.Node.{Live, Node, Down, Alive, poll_of}
-use Rattle.kt_node.specs.Plan.{empty_plan}
 use Rattle.kt_node.specs.Deciding.{no_plan}
 use Rattle.kt_node.specs.Turning.{changed}
 use Rattle.kt_world.specs.declared.step.Step.{Step}
 use Rattle.kt_world.specs.declared.step.Step.TheVariants.{Issue, Repeat, Deliver, Take, Serve, Check, Decide, Abandon, Learn, Fail, Restart}
-use Rattle.kt_world.specs.declared.step.StepError.{StepError}
 use Rattle.kt_world.specs.declared.told.Told.{Told}
-use Rattle.kt_world.specs.declared.step.TheConstants.{MAX_STEPS, MAX_NOTES}
 use Rattle.kt_world.specs.Step.{owner}
 use Rattle.kt_world.specs.State.{State, node, link, view}
 use Rattle.kt_world.specs.Told.{told, verdict_for, of_poll, of_first, to_learn, tentative_in, stored_of}
@@ -33,12 +28,12 @@ use Rattle.kt_world.specs.Judge.{judged, within_limit, planned, planned_by}
 use Rattle.kt_world.specs.Effect.{applied}
 use Rattle.kt_world.specs.Writing.{content_after}
 use Rattle.kt_world.specs.Found.{was_found, has_found}
-use Rattle.kt_world.specs.inner.Backed.{IsAllowed, IsBacked, IsNodeBacked, IsBoards}
+use Rattle.kt_world.specs.inner.Backed.{IsBacked}
 use Rattle.kt_world.proofs.Frames.{applied-rows}
-use Rattle.kt_world.proofs.Newer.{IsNewer, News, plan-news, newer-after, next-new}
+use Rattle.kt_world.proofs.Newer.{IsNewer, plan-news, next-new}
 use Rattle.kt_world.proofs.Plans as plans
 use Rattle.kt_world.proofs.Plans.{IsAlive, IsDown, Comes, IsDroppedBy, PlanOf}
-use Rattle.kt_world.proofs.PlansFound.{plan-found, plan-few, plan-room}
+use Rattle.kt_world.proofs.PlansFound.{plan-found}
 use Rattle.kt_world.proofs.Settle.{settled_by, settled_with, settled_row, settled, settled_content, row-settled, storing-settled, decided-settled, write-settled, WritesNew}
 use Rattle.kt_world.proofs.StaysBacked.{write-allowed}
 use Rattle.kt_world.proofs.Writes.{row_after, own-row, other-rows}

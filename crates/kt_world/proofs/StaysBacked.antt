@@ -1,6 +1,6 @@
 -- A step of a world over a store that tells what it holds makes a write that the store allows, and leaves the state
 -- backed.
-use Rattle.std.proofs.Common.{◌≡◌, ℕ, ◌+◌, ◌<◌, Bool, true, false, List, [], Option, None, Some, Ok, refl, sym, ap, ◌∙◌, subst}
+use Rattle.std.proofs.Common.{◌≡◌, ℕ, ◌+◌, Bool, true, false, List, [], Option, None, Some, Ok, refl, sym, ap, ◌∙◌, subst}
 use Rattle.std.specs.Prelude.{IfSome}
 use Rattle.std.specs.List.{AllByRecursion}
 use Rattle.kt_tuple.specs.declared.node.NodeId.{NodeId}
@@ -31,7 +31,6 @@ use Rattle.kt_node.specs.Deciding.{decide_plan}
 use Rattle.kt_world.specs.declared.step.Step.{Step}
 use Rattle.kt_world.specs.declared.step.Step.TheVariants.{Restart}
 use Rattle.kt_world.specs.Step.{owner}
-use Rattle.kt_world.specs.declared.step.TheConstants.{MAX_STEPS}
 use Rattle.kt_world.specs.State.{State, role_of, view}
 use Rattle.kt_world.specs.Told.{told, of_poll, to_learn}
 use Rattle.kt_world.specs.Effect.{applied}

@@ -6,7 +6,7 @@ use Rattle.kt_tuple.specs.declared.node.NodeId.{NodeId}
 use Rattle.kt_tuple.specs.Node.{node_eq}
 use Rattle.kt_store.specs.declared.rows.NodeRow.{NodeRow}
 use Rattle.kt_store.specs.declared.rows.Purpose.TheVariants as purposes
-use Rattle.kt_store.specs.Content.{Content, greatest, next_instance, row_or, row_of}
+use Rattle.kt_store.specs.Content.{Content, next_instance, row_or, row_of}
 use Rattle.kt_world.specs.inner.Backed.{AreRising}
 use Rattle.kt_store.specs.Changes.{storing, taken, decided, promoted_from}
 use Rattle.kt_store.specs.Others.{OtherNodesStay}
