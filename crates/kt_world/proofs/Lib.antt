@@ -63,6 +63,7 @@ pub mod Settle
 pub mod Placed
 pub mod PlacedActs
 pub mod AllPlaced
+pub mod Renumbered
 pub mod Sums
 pub mod Fitting
 pub mod Resuming
