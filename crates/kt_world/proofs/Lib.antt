@@ -64,6 +64,7 @@ pub mod Placed
 pub mod PlacedActs
 pub mod AllPlaced
 pub mod Renumbered
+pub mod AllPosted
 pub mod Sums
 pub mod Fitting
 pub mod Resuming
