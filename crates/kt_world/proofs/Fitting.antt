@@ -172,6 +172,7 @@ are-all cast c fit = record {
     | inl x ↦ (fit p x).posted
     | inr e ↦ subst (λ (r : NodeRow). IfSome r.tentative (λ t. IsTrue (is_some (Rattle.kt_store.specs.Content.posted c t.instance)))) (sym e) tt
   ];
+  rows = λ row among. (fit row.node (row, among, refl)).there;
   others = λ p out. elim (held-or c p) [
     | inl x ↦ absurd (apart (sym (fit p x).there ∙ out))
     | inr e ↦ e

@@ -65,6 +65,7 @@ pub mod PlacedActs
 pub mod AllPlaced
 pub mod Renumbered
 pub mod AllPosted
+pub mod OwnRows
 pub mod Sums
 pub mod Fitting
 pub mod Resuming

@@ -148,4 +148,5 @@ pub record AllFit (cast : Cast) (c : Content) : Type 0 where
   pub lives : (p q : NodeId) → IsTrue (are_neighbours cast p q) → (sent_to c p q).incarnation ≤ (row_of c p).incarnation
   pub posted : (p : NodeId) → IfSome (row_of c p).tentative (λ t. IsTrue (is_some (posted c t.instance)))
   -- of others nothing is held
+  pub rows : (row : NodeRow) → Contains c.nodes row → IsTrue (is_node cast row.node)
   pub others : (p : NodeId) → is_node cast p ≡ false → row_of c p ≡ opening_row p
