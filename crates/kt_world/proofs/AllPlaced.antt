@@ -22,7 +22,7 @@ use Rattle.kt_world.proofs.PlacedActs.{IsNextAct, IsNextNote, next-next}
 abbrev pub sum_over : (NodeId → ℕ) → List NodeId → ℕ
 sum_over f nodes = sum_of (map f nodes)
 
-sums-rise : (f g : NodeId → ℕ) (nodes : List NodeId) → ((p : NodeId) → f p ≤ g p) → sum_over f nodes ≤ sum_over g nodes
+pub sums-rise : (f g : NodeId → ℕ) (nodes : List NodeId) → ((p : NodeId) → f p ≤ g p) → sum_over f nodes ≤ sum_over g nodes
 unfolding sum_of
 sums-rise f g [] le = omega arith
 sums-rise f g (p ∷ later) le = let rest = sums-rise f g later le in let one = le p in omega (arith, rest, one)

@@ -66,6 +66,7 @@ pub mod AllPlaced
 pub mod Renumbered
 pub mod AllPosted
 pub mod OwnRows
+pub mod Together
 pub mod Sums
 pub mod Fitting
 pub mod Resuming

@@ -19,12 +19,12 @@ one_way (ids.Worker m) (ids.Shard n) h = refl
 one_way (ids.Shard m) (ids.Worker n) h = absurd cc
 one_way (ids.Shard m) (ids.Shard n) h = grind (arith, h)
 
-itself : (a : NodeId) → is_before a a ≡ false
+pub itself : (a : NodeId) → is_before a a ≡ false
 itself (ids.Worker m) = grind arith
 itself (ids.Shard m) = grind arith
 
 -- each node is before all that follow
-abbrev AreInOrder : List NodeId → Type 0
+abbrev pub AreInOrder : List NodeId → Type 0
 AreInOrder [] = Unit {0}
 AreInOrder (p ∷ later) = AllByRecursion (λ q. is_before p q ≡ true) later × AreInOrder later
 
@@ -45,7 +45,7 @@ shards-rise : (from n : ℕ) → AreInOrder (map (λ i. ids.Shard i) (range_with
 shards-rise from zero = tt
 shards-rise from (suc n) = (after-shards from (from + 1) n (omega arith), shards-rise (from + 1) n)
 
-nodes-rise : (from n m : ℕ) → AreInOrder (map (λ i. ids.Worker i) (range_with_len from n) ++ map (λ i. ids.Shard i) (range_with_len 1 m))
+pub nodes-rise : (from n m : ℕ) → AreInOrder (map (λ i. ids.Worker i) (range_with_len from n) ++ map (λ i. ids.Shard i) (range_with_len 1 m))
 nodes-rise from zero m = shards-rise 1 m
 nodes-rise from (suc n) m = (after-workers from (from + 1) n m (omega arith), nodes-rise (from + 1) n m)
 
