@@ -60,7 +60,7 @@ some-more f g (p ∷ later) = by (cases_Bool (Rattle.std.specs.Prelude.nat_lt (f
 
 -- ---- some act can be placed
 
-abbrev IsAmong : Acts → (NodeId → ℕ → ℕ) → ℕ → Option (NodeId × ℕ) → Type 0
+abbrev pub IsAmong : Acts → (NodeId → ℕ → ℕ) → ℕ → Option (NodeId × ℕ) → Type 0
 IsAmong acts rank m None = Unit {0}
 IsAmong acts rank m (Some by) = (k : ℕ) × (by.1 ≡ suc k) × (k < length (acts by.0)) × (rank by.0 k < m)
 

@@ -67,6 +67,7 @@ pub mod Renumbered
 pub mod AllPosted
 pub mod OwnRows
 pub mod Together
+pub mod NeverUnfit
 pub mod Sums
 pub mod Fitting
 pub mod Resuming

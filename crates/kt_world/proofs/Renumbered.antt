@@ -54,14 +54,14 @@ pub record IsFrontOf (h g : List Note) (many : NodeId → ℕ) : Type 0 where
 -- ---- an act by its place
 
 -- the number is at this place of this node's line
-abbrev IsAt : List Note → NodeId → ℕ → ℕ → Type 0
+abbrev pub IsAt : List Note → NodeId → ℕ → ℕ → Type 0
 IsAt h p i n = slice_get (line h p) i ≡ Some n
 
 -- 0, or a number in a line
 abbrev OfLine : List Note → ℕ → Type 0
 OfLine h n = (n ≡ 0) ⊎ ((p : NodeId) × (i : ℕ) × IsAt h p i n)
 
-name-at : (h : List Note) (p : NodeId) (i n : ℕ) → IsAt h p i n → named h n ≡ Some (p, suc i)
+pub name-at : (h : List Note) (p : NodeId) (i n : ℕ) → IsAt h p i n → named h n ≡ Some (p, suc i)
 name-at h p i n at =
     let own = line-own h p n (Contains-from_slice_get (line h p) i n at) in
     ap (λ o. node_placed (act_of o) (place h n)) own.is_act ∙ ap (node_placed (Some own.act)) (place-stands h p i n at) ∙ ap (λ q. Some (q, suc i)) own.own
@@ -91,10 +91,10 @@ acts-at h (x ∷ xs) all i n a at is =
         cc (both)
     by (suc k) e first rest = rest k n a e is
 
-act-at : (h : List Note) (p : NodeId) (i n : ℕ) (a : Act) → IsAt h p i n → note_at h n ≡ Some (notes.Act a) → slice_get (acts_in_line h p) i ≡ Some a
+pub act-at : (h : List Note) (p : NodeId) (i n : ℕ) (a : Act) → IsAt h p i n → note_at h n ≡ Some (notes.Act a) → slice_get (acts_in_line h p) i ≡ Some a
 act-at h p = acts-at h (line h p) (λ n among. let own = line-own h p n among in (own.act, own.is_act))
 
-slice-map : {X Y : Type 0} (f : X → Y) (xs : List X) (i : ℕ) (x : X) → slice_get xs i ≡ Some x → slice_get (map f xs) i ≡ Some (f x)
+pub slice-map : {X Y : Type 0} (f : X → Y) (xs : List X) (i : ℕ) (x : X) → slice_get xs i ≡ Some x → slice_get (map f xs) i ≡ Some (f x)
 slice-map f [] i x at = absurd (cc (at))
 slice-map f (y ∷ xs) zero x at = let same : y ≡ x = cc (at) in ap (λ z. Some (f z)) same
 slice-map f (y ∷ xs) (suc i) x at = slice-map f xs i x at

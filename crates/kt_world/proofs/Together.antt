@@ -51,9 +51,9 @@ one-more f g q others own (p ∷ later) rise = by (cases_eq (node_index p) (node
     by (inl e) rest =
         let same : p ≡ q = node_index-injective p q e in
         let rest_less = sums-among g f later (λ r among. others r (λ z.
-            let back : is_before p p ≡ true = subst (λ n. is_before p n ≡ true) (z ∙ sym same) (all-after p later rise.0 r among) in
-            let apart : true ≡ false = sym back ∙ itself p in
-            absurd (cc (apart)))) in
+        let back : is_before p p ≡ true = subst (λ n. is_before p n ≡ true) (z ∙ sym same) (all-after p later rise.0 r among) in
+        let apart : true ≡ false = sym back ∙ itself p in
+        absurd (cc (apart)))) in
         let one : g p ≤ f p + 1 = subst (λ n. g n ≤ f n + 1) (sym same) own in
         omega (arith, rest_less, one)
     by (inr d) rest =
