@@ -18,10 +18,10 @@ use Rattle.kt_node.specs.Node.{node_number}
 use Rattle.kt_node.specs.Stored.{sent_in, received_in}
 use Rattle.kt_world.specs.Cut.{permanent_of}
 use Rattle.kt_world.specs.Reached.{IsReached}
-use Rattle.kt_world.specs.Resumed.{heard_from, sent_to}
+use Rattle.kt_world.specs.Resumed.{AreFit, heard_from, sent_to}
 use Rattle.kt_world.specs.State.{State as World}
 use Rattle.kt_world.specs.inner.Ready.{AreNeighbours}
-use Rattle.kt_world.proofs.Shared.{neighbours-turned, permanent-settled, row-settled, settled, settled-incarnation}
+use Rattle.kt_world.proofs.Shared.{never-unfit, neighbours-turned, permanent-settled, row-settled, settled, settled-incarnation}
 use Rattle.kt_protocol.specs.Labels.{UpTo, Under}
 use Rattle.kt_protocol.specs.Lines.{top_sent, top_heard}
 use Rattle.kt_protocol.proofs.Shared.{Invariant, sent-tail, UpTo-Under}
@@ -30,6 +30,7 @@ use Rattle.kt_refinement.proofs.Known.{near-is}
 use Rattle.kt_refinement.proofs.Represents.{Represents}
 use Rattle.kt_refinement.proofs.Refined.{StandsFor, stands-invariant}
 use Rattle.kt_refinement.proofs.Resuming.{reached-stands}
+use Rattle.kt_refinement.proofs.Whole.{closed-reached}
 
 up_to-from : (a b : RealLabel) → UpTo (label_of a) (label_of b) → IsTrue (up_to a b)
 up_to-from a b u = elim (cases_eq a.incarnation b.incarnation) [
@@ -70,3 +71,7 @@ leaves-living s is p q near =
     let life = (f.stands.nodes p).life in
     let same = settled-incarnation s.found s.content p in
     omega (arith, e, lives, life, same)
+
+-- so what is left can be resumed
+pub leaves-fitting : (s : World) → IsReached s → AreFit s.cast s.content
+leaves-fitting s is = never-unfit s is (closed-reached s is) (leaves-agreeing s is) (leaves-living s is)

@@ -12,6 +12,7 @@ ghost use Rattle.kt_world.specs.Cut.{IsCausallyClosed, permanent_length};
 ghost use Rattle.kt_world.specs.Forced.{IsForced};
 ghost use Rattle.kt_world.specs.Headline.{Headline, IsSteadyRun, is_steady};
 ghost use Rattle.kt_world.specs.PermanentRun.{IsPermanentRun};
+ghost use Rattle.kt_world.specs.Resumed.{AreFit};
 
 /// Each act that the permanent checkpoints hold has all of its past among them: they are a consistent cut (Koo and
 /// Toueg, "Checkpointing and Rollback-Recovery for Distributed Systems"). A tentative checkpoint counts from the moment
@@ -49,4 +50,9 @@ pub fn checkpoints_and_rollbacks_are_forced()
 /// states and the survivors' run, as one record.
 pub fn all_that_is_promised_holds()
     ensures headline { (s : State) → IsReached s → Headline s }
+{}
+
+/// What a world leaves in its store, whatever steps were made, fits its scene: a world goes on from it.
+pub fn what_a_world_leaves_can_be_resumed()
+    ensures fits { (s : State) → IsReached s → AreFit s.cast s.content }
 {}

@@ -16,6 +16,7 @@ pub use Rattle.kt_world.proofs.Lasting.{made-noted, one_run-reached, reached-hol
 pub use Rattle.kt_world.proofs.Settling.{Follows, Learns, follows, found-bare}
 pub use Rattle.kt_world.proofs.Lists.{all-filter, all-map, all-numbers, all-through}
 pub use Rattle.kt_world.proofs.Loads.{load-passed}
+pub use Rattle.kt_world.proofs.NeverUnfit.{never-unfit}
 pub use Rattle.kt_world.proofs.NoteSound.{apart, line-long, note_at-next}
 pub use Rattle.kt_world.proofs.OnLinks.{first-holds, sent-cases, sent_between, taken_off-was}
 pub use Rattle.kt_world.proofs.Opened.{at-replicate, length-replicate, opening-node, opening-ready}
