@@ -1,6 +1,6 @@
 -- What the rows of a store keep, whatever was written: they are in order, and no number is above the greatest. And when
 -- no number is left.
-use Rattle.std.specs.Prelude.{◌≡◌, ◌+◌, ◌≤◌, true, nat_lt, List, All, AllPairs, map}
+use Rattle.std.specs.Prelude.{◌≡◌, ◌+◌, ◌≤◌, true, nat_lt, List, All, AllPairs}
 use Rattle.kt_tuple.specs.declared.node.NodeId.{NodeId}
 use Rattle.kt_tuple.specs.Node.{is_before}
 use Rattle.kt_store.specs.declared.rows.NodeRow.{NodeRow}
