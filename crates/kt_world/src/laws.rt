@@ -2,7 +2,7 @@
 //! steps, refused ones among them, leads to from the opening of a scene whose scripts a checkpoint can count, over a
 //! store that tells what it holds, or from what such a store holds that fits the scene.
 
-ghost use Rattle.std.specs.Prelude.{◌≡◌, ◌<◌, ℕ, List, ◌∷◌, ◌++◌, ⊥, None, Ok, IsTrue, length};
+ghost use Rattle.std.specs.Prelude.{◌≡◌, ◌<◌, ℕ, List, ◌∷◌, ◌++◌, None, Ok, IsTrue, length};
 ghost use Rattle.kt_tuple.specs.declared.node.NodeId.{NodeId};
 ghost use Rattle.kt_tuple.specs.declared.node.NodeId.TheVariants.{Shard};
 ghost use Rattle.kt_tuple.specs.declared.op.Answer.{Answer};
