@@ -17,7 +17,7 @@ use kt_link::Links;
 use kt_node::{Message, Node, Plan};
 use kt_script::Script;
 use kt_tuple::NodeId;
-use kt_world::Step;
+use kt_world::{MAX_NOTES, MAX_STEPS, Step};
 use std::alloc::{AllocError, Global};
 
 /// All of a world but its store.
@@ -34,6 +34,8 @@ pub(crate) struct Machine {
     pub(crate) own: Vec<u64>,
     /// How many steps were made, by all nodes together: at most `MAX_STEPS`.
     pub(crate) made: u64,
+    /// Where the world goes on from what a store held: the greatest number of an instance that was found then.
+    pub(crate) found: Option<u64>,
     ghost workers: { links.workers ≡ length scene.scripts },
     ghost shards: { links.shards ≡ scene.shards },
     ghost blank: { no_script ≡ [] },
@@ -63,6 +65,7 @@ impl Machine {
     ghost use Rattle.kt_store.specs.Content.{Content, empty_content};
     ghost use Rattle.kt_world.specs.Step.{owner};
     ghost use Rattle.kt_world.specs.Effect.{applied};
+    ghost use Rattle.kt_world.specs.Judge.{has_room};
     ghost use Rattle.kt_world.specs.Writing.{content_after};
     ghost use Rattle.kt_world.specs.inner.Ready.{IsReady, CanApply};
     ghost use Rattle.kt_world.specs.Reached.{opening};
@@ -86,9 +89,17 @@ impl Machine {
                 past: Past::new(alloc),
                 own,
                 made: 0,
+                found: None,
             }),
             Err(_) => Err(scene),
         }
+    }
+
+    /// Whether one step more may be made: fewer than `MAX_STEPS` were, and the history has fewer than `MAX_NOTES` notes.
+    pub(crate) fn has_room(&self) -> bool
+        ensures { result ≡ has_room (state_of self.now empty_content) }
+    {
+        self.made < MAX_STEPS && (self.past.history().notes().len() as u64) < MAX_NOTES
     }
 
     /// Gathers the acts of a node that the step may have saved, so that its checkpoints share them. Nothing that is to

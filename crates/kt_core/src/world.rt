@@ -172,7 +172,7 @@ impl<S: CkptStore> World<S> {
         ensures honest { IsTrue self.new.is_honest → IsTrue self.old.is_honest }
         ensures lasts { NeverFails S.failures → IsTrue self.old.is_honest → IsTrue self.new.is_honest }
         ensures counts { self.new.counts ≡ step_counted result self.old.counts }
-        ensures cause { IfErr result (IsCause self.new.is_honest) }
+        ensures cause { IfErr result (IsCause self.new.state step self.new.is_honest) }
         ensures called { IsTrue self.new.is_honest → IfErr result (IsCalledFor self.old.state step) }
         ensures headline { IsTrue self.new.is_honest → Headline self.new.state }
         ensures forced { IsTrue self.new.is_honest → OnOk result (IsForced self.old.state step self.new.state) }

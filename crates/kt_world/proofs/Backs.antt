@@ -1,9 +1,12 @@
 -- What a plan has whose write the store allows and that leaves the state backed, told of its parts.
-use Rattle.std.proofs.Common.{◌≡◌, ◌≢◌, ℕ, Bool, true, false, List, [], Contains, Option, None, Some, inl, inr, refl, sym, ap, ◌∙◌, subst}
+use Rattle.std.proofs.Common.{◌≡◌, ◌≢◌, ℕ, ◌+◌, ◌≤◌, Bool, true, false, List, [], Contains, Option, None, Some, inl, inr, refl, sym, ap, ◌∙◌, subst, arith}
 use Rattle.std.specs.Prelude.{IfSome, unwrap_or, is_some}
 use Rattle.std.specs.List.{AllByRecursion}
 use Rattle.std.specs.Option.{option_map}
+use Rattle.std.proofs.lemmas.Bool.{cases_eq}
 use Rattle.kt_tuple.specs.declared.node.NodeId.{NodeId}
+use Rattle.kt_tuple.specs.Node.{node_index}
+use Rattle.kt_tuple.proofs.Shared.{node_index-injective}
 use Rattle.kt_store.specs.declared.rows.NodeRow.{NodeRow}
 use Rattle.kt_store.specs.declared.rows.Tentative.{Tentative}
 use Rattle.kt_store.specs.declared.rows.Verdict.{Verdict}
@@ -42,7 +45,7 @@ use Rattle.kt_world.proofs.Frames.{applied-rows}
 use Rattle.kt_world.proofs.Lists.{all-from, all-map}
 use Rattle.kt_world.proofs.Leaves.{casting-all}
 use Rattle.kt_world.proofs.Boards.{Says}
-use Rattle.kt_world.proofs.Writes.{row_after, own-row, other-rows, says-after, board-after}
+use Rattle.kt_world.proofs.Writes.{row_after, own-row, other-rows, says-after, board-after, incarnation-after, next-after}
 use Rattle.kt_lines.proofs.Shared.{all-at}
 use Rattle.kt_world.specs.Told.{tentative_in, marks_in}
 
@@ -92,11 +95,38 @@ messages-after s is step plan b k m c = elim (sent-cases (link_place s.cast) (ta
   | inr new ↦ all-at (SaysBoards (content_after (owner step) plan.write s.content)) plan.send (new.to, m) b.says new.among
 ]
 
+incarnations-after : (s : State) → ((p : NodeId) → (row_of s.content p).incarnation ≤ s.made + 1) → (step : Step) (plan : Plan) (q : NodeId)
+    → (row_of (applied s step plan).content q).incarnation ≤ s.made + 1 + 1
+incarnations-after s all step plan q = elim (cases_eq (node_index q) (node_index p)) [
+  | inl e ↦ subst (λ (r : NodeId). (row_of new r).incarnation ≤ s.made + 1 + 1) (sym (node_index-injective q p e)) own
+  | inr d ↦
+      let apart : ¬ (q ≡ p) = λ e. d (ap node_index e) in
+      let few = all q in
+      subst (λ (row : NodeRow). row.incarnation ≤ s.made + 1 + 1) (sym (other-rows p plan.write s.content q apart)) (omega (arith, few))
+]
+  where
+    p : NodeId
+    p = owner step
+
+    new : Content
+    new = content_after p plan.write s.content
+
+    own : (row_of new p).incarnation ≤ s.made + 1 + 1
+    own =
+        let few = all p in
+        let one = incarnation-after s.content (row_of s.content p) plan.write in
+        subst (λ (row : NodeRow). row.incarnation ≤ s.made + 1 + 1) (sym (own-row p plan.write s.content)) (omega (arith, few, one))
+
 pub backs-backed : (s : State) (step : Step) (plan : Plan) → IsBacked s → Backs s (owner step) plan → IsBacked (applied s step plan)
 backs-backed s step plan is b = record {
   nodes = nodes-after s is step plan b;
   messages = messages-after s is step plan b;
   board = board-after (owner step) plan.write s.content is.board;
+  few_instances = λ new.
+      let instances = is.few_instances new in
+      let one = next-after (owner step) plan.write s.content in
+      omega (arith, instances, one);
+  few_incarnations = λ new. incarnations-after s (is.few_incarnations new) step plan;
 }
 
 -- ---- a node as it was

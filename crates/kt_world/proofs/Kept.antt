@@ -1,6 +1,6 @@
 -- What every state keeps that steps lead to, from an opening or from what a store holds that fits: it is ready and backed,
 -- and with all settled that was found it is sound.
-use Rattle.std.proofs.Common.{◌≡◌, ℕ, zero, suc, ◌-◌, ◌==◌, cond, map, if◌then◌else◌, ◌⊎◌, Bool, true, false, List, [], ◌∷◌, length, Option, None, Some, Result, Ok, Err, inl, inr, refl, sym, ap, ◌∙◌, subst, arith}
+use Rattle.std.proofs.Common.{◌≡◌, ℕ, zero, suc, ◌+◌, ◌≤◌, ◌-◌, ◌==◌, cond, map, if◌then◌else◌, ◌⊎◌, Bool, true, false, List, [], ◌∷◌, length, Option, None, Some, Result, Ok, Err, inl, inr, refl, sym, ap, ◌∙◌, subst, arith}
 use Rattle.std.specs.Prelude.{IfSome, IsTrue, is_some, unwrap_or, fold, max}
 use Rattle.std.specs.List.{find}
 use Rattle.std.proofs.lemmas.Bool.{cases_eq, eq-eqb}
@@ -13,6 +13,7 @@ use Rattle.kt_history.specs.WellFormed.{HasNoCut}
 use Rattle.kt_store.specs.declared.rows.NodeRow.{NodeRow}
 use Rattle.kt_store.specs.declared.rows.Posted.{Posted}
 use Rattle.kt_store.specs.declared.rows.Tentative.{Tentative}
+use Rattle.kt_store.specs.Proper.{IsProper}
 use Rattle.kt_store.specs.Content.{Content, next_instance, row_of, verdict_on}
 use Rattle.kt_node.specs.declared.message.Message.{Message}
 use Rattle.kt_node.specs.declared.message.Message.TheVariants as messages
@@ -34,7 +35,7 @@ use Rattle.kt_world.specs.Judge.{planned}
 use Rattle.kt_world.specs.Effect.{noted, applied, applied_if}
 use Rattle.kt_world.specs.Writing.{content_after}
 use Rattle.kt_world.specs.Found.{was_found}
-use Rattle.kt_world.specs.Resumed.{resumed, AllFit, IsProper}
+use Rattle.kt_world.specs.Resumed.{resumed, AllFit}
 use Rattle.kt_world.specs.inner.Ready.{IsReady}
 use Rattle.kt_world.specs.inner.Backed.{IsBacked, IsNodeBacked, IsBoards}
 use Rattle.kt_world.proofs.Applying.{Keeps, applied-sound}
@@ -49,7 +50,7 @@ use Rattle.kt_world.proofs.Resuming.{down-rows-hold, resumed-ready, resumed-back
 use Rattle.kt_world.proofs.Newer.{IsNewNode, IsPosted, IsNewer, plan-news, newer-after}
 use Rattle.kt_world.proofs.PlansFound.{plan-found, plan-few, plan-room}
 use Rattle.kt_world.proofs.Shaped.{AreMade, made-noted}
-use Rattle.kt_world.proofs.Settle.{settled, settled_content, row-settled}
+use Rattle.kt_world.proofs.Settle.{settled-incarnation, settled, settled_content, row-settled}
 use Rattle.kt_world.proofs.Settling.{FoundDown, row_found, unfound-same, found-bare, Follows, Learns, follows, downs-after}
 use Rattle.kt_world.proofs.Sound.{IsNodeSound, IsSound}
 use Rattle.kt_world.proofs.StaysBacked.{stays_backed}
@@ -96,6 +97,8 @@ backed-settled s b downs = record {
   nodes = λ p. row p (node s p) refl (b.nodes p);
   messages = λ k m on. boards-settled s.found s.content m (b.messages k m on);
   board = b.board;
+  few_instances = b.few_instances;
+  few_incarnations = λ new p. subst (λ n. n ≤ s.made + 1) (sym (settled-incarnation s.found s.content p)) (b.few_incarnations new p);
 } where
   row : (p : NodeId) (o : Option Node) → node s p ≡ o → IfSome o (λ n. IsNodeBacked n (row_of s.content p).tentative)
       → IfSome o (λ n. IsNodeBacked n (row_of (settled s).content p).tentative)

@@ -1,5 +1,5 @@
 -- What holds of every state that steps lead to, and of every step from it.
-use Rattle.std.proofs.Common.{◌≡◌, ℕ, length, ◌++◌, ◌<◌, ◌≤◌, Bool, true, false, List, ◌∷◌, Option, None, Some, Result, Ok, Err, inl, inr, refl, sym, ap, ◌∙◌, subst}
+use Rattle.std.proofs.Common.{◌≡◌, ℕ, length, ◌++◌, ◌<◌, ◌≤◌, Bool, true, false, List, ◌∷◌, Option, None, Some, Result, Ok, Err, inl, inr, refl, sym, ap, ◌∙◌, subst, arith}
 use Rattle.std.specs.Prelude.{IfSome, IsTrue, is_some}
 use Rattle.std.specs.Option.{option_map}
 use Rattle.kt_tuple.specs.declared.node.NodeId.{NodeId}
@@ -15,6 +15,7 @@ use Rattle.kt_store.specs.declared.rows.NodeRow.{NodeRow}
 use Rattle.kt_store.specs.declared.rows.Verdict.{Verdict}
 use Rattle.kt_store.specs.declared.rows.Verdict.TheVariants as verdicts
 use Rattle.kt_store.specs.Content.{row_of, verdict_of, verdict_on}
+use Rattle.kt_store.specs.Proper.{IsFull, instances, incarnations}
 use Rattle.kt_node.specs.declared.plan.Plan.{Plan}
 use Rattle.kt_node.specs.Loading.{marks_in}
 use Rattle.kt_node.specs.Node.{Node}
@@ -27,6 +28,8 @@ use Rattle.kt_world.specs.declared.told.Told.{Told}
 use Rattle.kt_world.specs.Step.{owner}
 use Rattle.kt_world.specs.State.{State, role_of, view}
 use Rattle.kt_world.specs.Told.{told, to_learn}
+use Rattle.kt_world.specs.inner.Backed.{IsBacked}
+use Rattle.kt_world.specs.inner.Ready.{IsReady}
 use Rattle.kt_world.specs.Judge.{IsUndamaged, judged, planned}
 use Rattle.kt_world.specs.Effect.{applied, applied_if, step_result}
 use Rattle.kt_world.specs.Reached.{IsReached}
@@ -98,6 +101,20 @@ undamaged-reached s is step refusal = by (has_found s.found (row_of s.content (o
       let x = what-found s (owner step) early in
       down-undamaged s step ((reached-kept s is).downs (owner step) early)
       (ap (λ o. is_some (option_map Rattle.kt_world.specs.Told.marks_in o)) x.is) (fit x) refusal
+
+-- a world that was opened has numbers left for all its steps
+pub never-full : (s : State) → IsReady s → IsBacked s → s.found ≡ None → (p : NodeId) → ¬ IsFull s.content p
+never-full s ready backed new p (instances e) =
+    let few = backed.few_instances new in
+    let steps = ready.few_steps in
+    absurd (omega (arith, e, few, steps))
+never-full s ready backed new p (incarnations e) =
+    let few = backed.few_incarnations new p in
+    let steps = ready.few_steps in
+    absurd (omega (arith, e, few, steps))
+
+pub never-full-reached : (s : State) → IsReached s → s.found ≡ None → (p : NodeId) → ¬ IsFull s.content p
+never-full-reached s is = let k = reached-kept s is in never-full s k.ready k.backed
 
 -- where a world was opened and there is no cut nobody is down, so all tuples are there
 pub whole-reached : (s : State) → IsReached s → s.found ≡ None → HasNoCut s.history → IsWhole s

@@ -160,4 +160,6 @@ opening-backed cast is = record {
       (opening-row-backed cast p);
   messages = λ k m on. absurd (no_messages _ k m on);
   board = λ i j d lt within. absurd (omega (arith, within));
+  few_instances = λ new. omega arith;
+  few_incarnations = λ new p. omega arith;
 }

@@ -1,7 +1,7 @@
 -- What was passed where something is planned: each test and each case on the way to an Ok.
-use Rattle.std.proofs.Common.{◌≡◌, ℕ, ◌<◌, Bool, true, false, if◌then◌else◌, Option, Some, None, Result, Ok, Err, refl, ap, ◌&&◌}
+use Rattle.std.proofs.Common.{◌≡◌, ◌<◌, Bool, true, false, if◌then◌else◌, Option, Some, None, Result, Ok, Err, refl, ap, length}
 use Rattle.std.specs.Prelude.{unwrap_or, IsTrue, nat_lt}
-use Rattle.std.proofs.lemmas.Bool.{ltb-true}
+use Rattle.std.proofs.lemmas.Bool.{and_parts, ltb-true}
 use Rattle.kt_tuple.specs.declared.node.NodeId.{NodeId}
 use Rattle.kt_node.specs.declared.live.Phase.{Phase}
 use Rattle.kt_node.specs.declared.live.Phase.TheVariants as phases
@@ -13,7 +13,7 @@ use Rattle.kt_node.specs.Steps.{up_in, up_of, by_up}
 use Rattle.kt_world.specs.declared.step.StepError.{StepError}
 use Rattle.kt_world.specs.declared.step.StepError.TheVariants as refusals
 use Rattle.kt_world.specs.declared.step.TheConstants.{MAX_STEPS, MAX_NOTES}
-use Rattle.kt_world.specs.Judge.{of_owner, of_scene, unless_over, within_limit}
+use Rattle.kt_world.specs.Judge.{has_room, if_room, of_owner, of_scene, within_limit}
 use Rattle.kt_world.specs.State.{State, node, view}
 use Rattle.kt_world.proofs.Plans.{IsAlive}
 
@@ -24,29 +24,29 @@ pub if-passed : (b : Bool) (r : Planned) (refusal : Refusal) (plan : Plan) → (
 if-passed true r refusal plan e = (refl, e)
 if-passed false r refusal plan e = absurd cc
 
-unless_over-passed : {X : Type 0} (made notes : ℕ) (r : Result X StepError) (x : X) → unless_over made notes r ≡ Ok x
-    → (r ≡ Ok x) × (made < MAX_STEPS) × (notes < MAX_NOTES)
-unless_over-passed {X} made notes r x e = by (nat_lt made MAX_STEPS) (nat_lt notes MAX_NOTES) refl refl e
-  where
-    by : (b c : Bool) → nat_lt made MAX_STEPS ≡ b → nat_lt notes MAX_NOTES ≡ c → (if b && c then r else Err refusals.StepLimit) ≡ Ok x
-        → (r ≡ Ok x) × (made < MAX_STEPS) × (notes < MAX_NOTES)
-    by true true below few e = (e, ltb-true made MAX_STEPS below, ltb-true notes MAX_NOTES few)
-    by true false below few e = absurd cc
-    by false c below few e = absurd cc
+if_room-passed : {X : Type 0} (room : Bool) (r : Result X StepError) (x : X) → if_room room r ≡ Ok x → (r ≡ Ok x) × (room ≡ true)
+if_room-passed true r x e = (e, refl)
+if_room-passed false r x e = absurd cc
 
 -- the limit is not reached
-pub limit-passed : {X : Type 0} (made notes : ℕ) (r : Result X StepError) (x : X) → within_limit made notes r ≡ Ok x
-    → (r ≡ Ok x) × (made < MAX_STEPS) × (notes < MAX_NOTES)
-limit-passed made notes (Ok y) x e = unless_over-passed made notes (Ok y) x e
-limit-passed made notes (Err (refusals.Store refusal)) x e = unless_over-passed made notes (Err (refusals.Store refusal)) x e
-limit-passed made notes (Err refusals.NoNode) x e = absurd cc
-limit-passed made notes (Err refusals.WrongMode) x e = absurd cc
-limit-passed made notes (Err refusals.NothingThere) x e = absurd cc
-limit-passed made notes (Err refusals.NoSuchMatch) x e = absurd cc
-limit-passed made notes (Err refusals.NotDecided) x e = absurd cc
-limit-passed made notes (Err refusals.Unresolved) x e = absurd cc
-limit-passed made notes (Err refusals.StepLimit) x e = absurd cc
-limit-passed made notes (Err refusals.OutOfMemory) x e = absurd cc
+pub limit-passed : {X : Type 0} (room : Bool) (r : Result X StepError) (x : X) → within_limit room r ≡ Ok x → (r ≡ Ok x) × (room ≡ true)
+limit-passed room (Ok y) x e = if_room-passed room (Ok y) x e
+limit-passed room (Err (refusals.Store refusal)) x e = if_room-passed room (Err (refusals.Store refusal)) x e
+limit-passed room (Err refusals.NoNode) x e = absurd cc
+limit-passed room (Err refusals.WrongMode) x e = absurd cc
+limit-passed room (Err refusals.NothingThere) x e = absurd cc
+limit-passed room (Err refusals.NoSuchMatch) x e = absurd cc
+limit-passed room (Err refusals.NotDecided) x e = absurd cc
+limit-passed room (Err refusals.Unresolved) x e = absurd cc
+limit-passed room (Err refusals.StepLimit) x e = absurd cc
+limit-passed room (Err refusals.OutOfMemory) x e = absurd cc
+
+-- there is room for a step, and for a note
+pub room-made : (s : State) → has_room s ≡ true → s.made < MAX_STEPS
+room-made s e = ltb-true s.made MAX_STEPS (and_parts (nat_lt s.made MAX_STEPS) (nat_lt (length s.history) MAX_NOTES) e).0
+
+pub room-noted : (s : State) → has_room s ≡ true → length s.history < MAX_NOTES
+room-noted s e = ltb-true (length s.history) MAX_NOTES (and_parts (nat_lt s.made MAX_STEPS) (nat_lt (length s.history) MAX_NOTES) e).1
 
 pub owner-passed : (r : Planned) (plan : Plan) → of_owner r ≡ Ok plan → r ≡ Ok plan
 owner-passed (Ok p) plan e = let same : p ≡ plan = cc in ap (λ q. Ok q) same

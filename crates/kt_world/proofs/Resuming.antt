@@ -26,6 +26,7 @@ use Rattle.kt_store.specs.declared.rows.NodeRow.{NodeRow}
 use Rattle.kt_store.specs.declared.rows.Posted.{Posted}
 use Rattle.kt_store.specs.declared.rows.Tentative.{Tentative}
 use Rattle.kt_store.specs.declared.rows.Verdict.{Verdict}
+use Rattle.kt_store.specs.Proper.{IsProper}
 use Rattle.kt_store.specs.Content.{Content, next_instance, opening_row, posted, row_of, verdict_of, verdict_on}
 use Rattle.kt_store.proofs.Shared.{above_all}
 use Rattle.kt_node.specs.Node.{Node, Down, node_number, opening_node}
@@ -36,7 +37,7 @@ use Rattle.kt_world.specs.State.{node, link_place, role_of}
 use Rattle.kt_world.specs.Cut.{permanent_by, permanent_of, permanent_length, acts_held}
 use Rattle.kt_world.specs.Like.{HoldsActs, HoldsFront}
 use Rattle.kt_world.specs.Found.{was_found}
-use Rattle.kt_world.specs.Resumed.{nodes_of, all_held, acts_of, history_of, down_row, down_rows, resumed, IsOf, PassedAsMany, AllFit, IsProper}
+use Rattle.kt_world.specs.Resumed.{nodes_of, all_held, acts_of, history_of, down_row, down_rows, resumed, IsOf, PassedAsMany, AllFit}
 use Rattle.kt_world.specs.inner.Ready.{IsNodeReady, IsReady}
 use Rattle.kt_world.specs.inner.Backed.{IsNodeBacked, IsBacked}
 use Rattle.kt_world.proofs.Boards.{found-holds}
@@ -294,7 +295,9 @@ pub resumed-backed : (cast : Cast) → IsCast cast → (c : Content) → IsPrope
 resumed-backed cast is c proper d same = record {
   nodes = down-rows-hold cast is c (λ p row. IfSome row (λ n. IsNodeBacked n (row_of d p).tentative)) (λ p. tt) (λ p. tt);
   messages = λ k m on. absurd (no_messages _ k m on);
-  board = subst Rattle.kt_world.specs.inner.Backed.AreRising (sym same) proper.board;
+  board = subst Rattle.kt_world.specs.inner.Backed.AreRising (sym same) proper.board.rising;
+  few_instances = λ new. absurd (cc (new));
+  few_incarnations = λ new p. absurd (cc (new));
 }
 
 pub resumed-sound : (cast : Cast) → IsCast cast → (c : Content) → AllFit cast c → IsSound (settled (resumed cast c))

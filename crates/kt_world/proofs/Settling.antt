@@ -24,7 +24,7 @@ use Rattle.kt_world.specs.declared.told.Told.{Told}
 use Rattle.kt_world.specs.Step.{owner}
 use Rattle.kt_world.specs.State.{State, node, link, view}
 use Rattle.kt_world.specs.Told.{told, verdict_for, of_poll, of_first, to_learn, tentative_in, stored_of}
-use Rattle.kt_world.specs.Judge.{judged, within_limit, planned, planned_by}
+use Rattle.kt_world.specs.Judge.{has_room, judged, within_limit, planned, planned_by}
 use Rattle.kt_world.specs.Effect.{applied}
 use Rattle.kt_world.specs.Writing.{content_after}
 use Rattle.kt_world.specs.Found.{was_found, has_found}
@@ -136,7 +136,7 @@ unfound-follows s backed newer step plan e unfound =
     let is_plan = plan-found s (told s step) step plan e in
     let judge : planned (settled s) step ≡ Ok plan =
     ap (λ (t : Told). planned_by (settled s) t step) (told-settled s step row)
-    ∙ ap (within_limit s.made (length s.history)) (judged-settled s (told s step) step) ∙ e in
+    ∙ ap (within_limit (has_room s)) (judged-settled s (told s step) step) ∙ e in
     let new = plan-news s newer step plan is_plan in record {
       is_plan = plan-found (settled s) (told (settled s) step) step plan judge;
       leads = content-leads s step plan

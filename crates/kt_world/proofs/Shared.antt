@@ -12,7 +12,7 @@ pub use Rattle.kt_world.proofs.Headlines.{bags_held}
 pub use Rattle.kt_world.proofs.Heards.{HeardOf, accepts, answers_again, heard-is, hears, ignores_reply, ignores_request, misses_reply, misses_request}
 pub use Rattle.kt_world.proofs.Holding.{Holds, IsMade, made-holds, opening-holds, step-made}
 pub use Rattle.kt_world.proofs.Kept.{Kept, is-quiet, kept-holds, planned-kept, reached-kept, start-kept}
-pub use Rattle.kt_world.proofs.Lasting.{made-noted, one_run-reached, reached-holds, undamaged-reached}
+pub use Rattle.kt_world.proofs.Lasting.{made-noted, never-full, one_run-reached, reached-holds, undamaged-reached}
 pub use Rattle.kt_world.proofs.Settling.{Follows, Learns, follows, found-bare}
 pub use Rattle.kt_world.proofs.Lists.{all-filter, all-map, all-numbers, all-through}
 pub use Rattle.kt_world.proofs.Loads.{load-passed}

@@ -70,15 +70,18 @@ due s t (Restart p) = restart (view s p) t.stored t.next (is_some t.tentative) t
 abbrev pub judged : State → Told → Step → Result Plan StepError
 judged s t step = of_scene (is_in_scene s.cast step) (due s t step)
 
--- after `MAX_STEPS` steps, or with a history of `MAX_NOTES` notes, no more is made; of a step that is not
--- enabled the limit is not asked
-abbrev pub unless_over : {X : Type 0} → ℕ → ℕ → Result X StepError → Result X StepError
-unless_over made notes due = if nat_lt made MAX_STEPS && nat_lt notes MAX_NOTES then due else Err refusals.StepLimit
+-- after `MAX_STEPS` steps, or with a history of `MAX_NOTES` notes, no more is made
+abbrev pub has_room : State → Bool
+has_room s = nat_lt s.made MAX_STEPS && nat_lt (length s.history) MAX_NOTES
 
-abbrev pub within_limit : {X : Type 0} → ℕ → ℕ → Result X StepError → Result X StepError
-within_limit made notes (Ok plan) = unless_over made notes (Ok plan)
-within_limit made notes (Err (refusals.Store refusal)) = unless_over made notes (Err (refusals.Store refusal))
-within_limit made notes (Err refusal) = Err refusal
+abbrev pub if_room : {X : Type 0} → Bool → Result X StepError → Result X StepError
+if_room room due = if room then due else Err refusals.StepLimit
+
+-- of a step that is not enabled the limit is not asked
+abbrev pub within_limit : {X : Type 0} → Bool → Result X StepError → Result X StepError
+within_limit room (Ok plan) = if_room room (Ok plan)
+within_limit room (Err (refusals.Store refusal)) = if_room room (Err (refusals.Store refusal))
+within_limit room (Err refusal) = Err refusal
 
 -- what the store says fits the node of each step: no step is refused for damage
 abbrev pub IsUndamaged : State → Type 0
@@ -86,7 +89,7 @@ IsUndamaged s = (step : Step) (refusal : StoreError) → ¬ (judged s (told s st
 
 -- the plan of a step whose owner is told so, or its refusal
 abbrev pub planned_by : State → Told → Step → Result Plan StepError
-planned_by s t step = within_limit s.made (length s.history) (judged s t step)
+planned_by s t step = within_limit (has_room s) (judged s t step)
 
 -- the plan of the step, or its refusal
 abbrev pub planned : State → Step → Result Plan StepError

@@ -5,6 +5,7 @@ use Rattle.kt_tuple.specs.declared.node.NodeId.{NodeId}
 use Rattle.kt_tuple.specs.declared.node.NodeId.TheVariants as ids
 use Rattle.kt_shard.specs.Limits.{desks}
 use Rattle.kt_store.specs.Content.{Content, empty_content}
+use Rattle.kt_store.specs.Proper.{IsProper}
 use Rattle.kt_node.specs.Node.{Node, opening_node}
 use Rattle.kt_world.specs.declared.step.Step.{Step}
 use Rattle.kt_world.specs.declared.step.StepError.{StepError}
@@ -13,7 +14,7 @@ use Rattle.kt_world.specs.Cast.{Cast, IsCast, is_node}
 use Rattle.kt_world.specs.Short.{AreShort}
 use Rattle.kt_world.specs.State.{State, role_of}
 use Rattle.kt_world.specs.Effect.{step_result}
-use Rattle.kt_world.specs.Resumed.{IsProper, AllFit, resumed}
+use Rattle.kt_world.specs.Resumed.{AllFit, resumed}
 
 -- the row of a node, which is empty where the scene has no such node
 abbrev pub opening_row : Cast → NodeId → Option Node

@@ -126,11 +126,6 @@ pub record IsFit (cast : Cast) (c : Content) (p : NodeId) : Type 0 where
   pub lives : (q : NodeId) → IsTrue (are_neighbours cast p q) → (sent_to c p q).incarnation ≤ (row_of c p).incarnation
   pub posted : IfSome (row_of c p).tentative (λ t. IsTrue (is_some (posted c t.instance)))
 
--- the rows of nodes rise in node order, and the numbers of instances rise: so every honest store keeps them
-pub record IsProper (c : Content) : Type 0 where
-  pub nodes : AllPairs (λ a b. is_before a.node b.node ≡ true) c.nodes
-  pub board : AllPairs (λ a b. nat_lt a.instance b.instance ≡ true) c.board
-
 -- the store holds something of the node
 abbrev pub IsHeld : Content → NodeId → Type 0
 IsHeld c p = (row : NodeRow) × Contains c.nodes row × (row.node ≡ p)

@@ -11,6 +11,7 @@ use Rattle.kt_world.specs.declared.step.StepError.{StepError}
 use Rattle.kt_world.specs.declared.step.StepError.TheVariants as refusals
 use Rattle.kt_world.specs.declared.told.Told.{Told}
 use Rattle.kt_node.specs.declared.plan.Plan.{Plan}
+use Rattle.kt_core.specs.Store.{IsFault}
 
 abbrev pub voting_due : View → Told → Step → Planned
 voting_due v t (Check p) = check v t.next t.permanent
@@ -27,3 +28,8 @@ is_refused (Ok plan) = false
 is_refused (Err (refusals.Store refusal)) = false
 is_refused (Err refusals.OutOfMemory) = false
 is_refused (Err refusal) = true
+
+-- a refusal from before the write: a store's, for damage or for a full store, comes never while it is honest
+abbrev pub IsReadCause : Bool → StepError → Type 0
+IsReadCause is_honest (refusals.Store refusal) = IsFault is_honest refusal
+IsReadCause is_honest refusal = Unit {0}

@@ -7,13 +7,13 @@ use Rattle.kt_store.specs.Content.{empty_content}
 use Rattle.kt_core.specs.Stepping.{IsByPlan}
 use Rattle.kt_core.specs.World.{Standing}
 use Rattle.kt_core.proofs.Steps.{planned-beside}
-use Rattle.kt_world.proofs.Shared.{reached-holds, undamaged-reached}
+use Rattle.kt_world.proofs.Shared.{reached-kept, undamaged-reached}
 use Rattle.kt_refinement.proofs.Shared.{headline-reached}
 use Rattle.kt_core.proofs.Worlds.{step-forced, step-noted, step-world}
 use Rattle.kt_core.proofs.world.World.step.Goals as goal
 
 pub make-requires-clause-backed : goal.make-requires-clause-backed
-make-requires-clause-backed g c = λ h. (reached-holds _ (c.self.invariant.reached h)).backed
+make-requires-clause-backed g c = λ h. (reached-kept _ (c.self.invariant.reached h)).backed
 
 pub make-requires-clause-undamaged : goal.make-requires-clause-undamaged
 make-requires-clause-undamaged g c = λ h. undamaged-reached _ (c.self.invariant.reached h)
