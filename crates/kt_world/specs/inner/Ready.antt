@@ -85,6 +85,8 @@ pub record IsReady (s : State) : Type 0 where
   pub few_steps : s.made ≤ MAX_STEPS
   pub few_own : (k : ℕ) → at 0 s.own k ≤ s.made
   pub few_notes : length s.history ≤ MAX_NOTES
+  -- a step makes one note at most
+  pub few_made : s.found ≡ None → length s.history ≤ s.made
   pub causes : CausesComeFirst s.history
   pub messages : (k : ℕ) (m : Message) → Contains (at [] s.links k) m → IsMessageReady s.history m
 
