@@ -28,7 +28,7 @@ use Rattle.kt_world.specs.Told.{told}
 use Rattle.kt_world.specs.inner.Ready.{CanApply, IsReady}
 use Rattle.kt_world.specs.State.{State}
 use Rattle.kt_world.specs.Step.{owner}
-use Rattle.kt_world.proofs.Shared.{enough, plan-found, plan-few, plan-room, can_apply, stays_ready}
+use Rattle.kt_world.proofs.Shared.{enough, plan-found, plan-few, plan-room, can_apply, room-none, stays_ready}
 use Rattle.std.specs.Result.{IsErrAnd}
 use Rattle.kt_core.specs.inner.Machine as machine
 use Rattle.kt_core.specs.Store.{IsFault, IsWriteFault}
@@ -82,37 +82,67 @@ limit-store room (Err refusals.Unresolved) x e = e
 limit-store room (Err refusals.StepLimit) x e = e
 limit-store room (Err refusals.OutOfMemory) x e = e
 
--- a checkpoint that does not fit is the store's fault: an honest one gives none
-pub caused : (honest : Bool) (s : State) (step : Step) (t : Told) (e : StepError)
-    → (IsTrue honest → t ≡ told_by (needs_of s step) s.content (owner step)) → (IsTrue honest → IsUndamaged s)
-    → machine.Gives {Y = Plan} (Err e) (planned_by s t step) → IsReadCause honest e
-caused honest s step t refusals.OutOfMemory is fits gives = tt
-caused true s step t (refusals.Store x) is fits gives =
-    absurd (fits refl step x (limit-store (has_room s) (judged s (told s step) step) x (sym (due-planned s step t (is refl)) ∙ gives)))
-caused false s step t (refusals.Store x) is fits gives = fault-of x
-caused honest s step t refusals.NoNode is fits gives = tt
-caused honest s step t refusals.WrongMode is fits gives = tt
-caused honest s step t refusals.NothingThere is fits gives = tt
-caused honest s step t refusals.NoSuchMatch is fits gives = tt
-caused honest s step t refusals.NotDecided is fits gives = tt
-caused honest s step t refusals.Unresolved is fits gives = tt
-caused honest s step t refusals.StepLimit is fits gives = tt
+owner-limit : (r : Planned) → of_owner r ≡ Err refusals.StepLimit → ⊥
+owner-limit (Ok plan) e = absurd cc
+owner-limit (Err reasons.WrongMode) e = absurd cc
+owner-limit (Err reasons.NothingThere) e = absurd cc
+owner-limit (Err reasons.NoSuchMatch) e = absurd cc
+owner-limit (Err reasons.NotDecided) e = absurd cc
+owner-limit (Err reasons.Unresolved) e = absurd cc
+owner-limit (Err reasons.Damaged) e = absurd cc
+owner-limit (Err reasons.OutOfMemory) e = absurd cc
 
--- so it is a cause of the step's refusal
-pub read-caused : (s : State) (step : Step) (honest : Bool) (e : StepError) → IsReadCause honest e → IsCause s step honest e
-read-caused s step honest (refusals.Store x) fault =
+scene-limit : (there : Bool) (r : Planned) → of_scene there r ≡ Err refusals.StepLimit → ⊥
+scene-limit true r e = owner-limit r e
+scene-limit false r e = absurd cc
+
+-- the limit is told where there is no room
+limit-reached : (room : Bool) (r : Result Plan StepError) → (r ≡ Err refusals.StepLimit → ⊥) → within_limit room r ≡ Err refusals.StepLimit → room ≡ false
+limit-reached false r other e = refl
+limit-reached true (Ok plan) other e = absurd cc
+limit-reached true (Err (refusals.Store y)) other e = absurd cc
+limit-reached true (Err refusals.NoNode) other e = absurd cc
+limit-reached true (Err refusals.WrongMode) other e = absurd cc
+limit-reached true (Err refusals.NothingThere) other e = absurd cc
+limit-reached true (Err refusals.NoSuchMatch) other e = absurd cc
+limit-reached true (Err refusals.NotDecided) other e = absurd cc
+limit-reached true (Err refusals.Unresolved) other e = absurd cc
+limit-reached true (Err refusals.StepLimit) other e = absurd (other e)
+limit-reached true (Err refusals.OutOfMemory) other e = absurd cc
+
+-- a checkpoint that does not fit is the store's fault: an honest one gives none
+pub caused : (honest : Bool) (s b : State) (step : Step) (t : Told) (e : StepError) → IsReady b → (IsTrue honest → t ≡ told_by (needs_of s step) s.content (owner step))
+    → (IsTrue honest → IsUndamaged s) → machine.Gives {Y = Plan} (Err e) (planned_by s t step) → machine.Gives {Y = Plan} (Err e) (planned_by b t step)
+    → IsReadCause b honest e
+caused honest s b step t refusals.OutOfMemory ready is fits gives there = tt
+caused true s b step t (refusals.Store x) ready is fits gives there =
+    absurd (fits refl step x (limit-store (has_room s) (judged s (told s step) step) x (sym (due-planned s step t (is refl)) ∙ gives)))
+caused false s b step t (refusals.Store x) ready is fits gives there = fault-of x
+caused honest s b step t refusals.NoNode ready is fits gives there = tt
+caused honest s b step t refusals.WrongMode ready is fits gives there = tt
+caused honest s b step t refusals.NothingThere ready is fits gives there = tt
+caused honest s b step t refusals.NoSuchMatch ready is fits gives there = tt
+caused honest s b step t refusals.NotDecided ready is fits gives there = tt
+caused honest s b step t refusals.Unresolved ready is fits gives there = tt
+caused honest s b step t refusals.StepLimit ready is fits gives there =
+    room-none b ready (limit-reached (has_room b) (judged b t step) (scene-limit (is_in_scene b.cast step) (due b t step)) there)
+
+-- so it is a cause of the step's refusal, whatever the store holds
+pub read-caused : (b : State) (c : Content) (step : Step) (honest : Bool) (e : StepError) → IsReadCause b honest e
+    → IsCause (record b { content = c }) step honest e
+read-caused b c step honest (refusals.Store x) fault =
     (record { damaged = fault.damaged; full = λ e h. absurd (apart (sym h ∙ fault.full e)) }, λ new. fault)
   where
     apart : true ≡ false → ⊥
     apart e = cc (e)
-read-caused s step honest refusals.OutOfMemory fault = tt
-read-caused s step honest refusals.NoNode fault = tt
-read-caused s step honest refusals.WrongMode fault = tt
-read-caused s step honest refusals.NothingThere fault = tt
-read-caused s step honest refusals.NoSuchMatch fault = tt
-read-caused s step honest refusals.NotDecided fault = tt
-read-caused s step honest refusals.Unresolved fault = tt
-read-caused s step honest refusals.StepLimit fault = tt
+read-caused b c step honest refusals.OutOfMemory fault = tt
+read-caused b c step honest refusals.NoNode fault = tt
+read-caused b c step honest refusals.WrongMode fault = tt
+read-caused b c step honest refusals.NothingThere fault = tt
+read-caused b c step honest refusals.NoSuchMatch fault = tt
+read-caused b c step honest refusals.NotDecided fault = tt
+read-caused b c step honest refusals.Unresolved fault = tt
+read-caused b c step honest refusals.StepLimit fault = fault
 
 -- and so is what refuses its write; where a world was opened, no store that is honest is full
 pub write-caused : (old new : State) (step : Step) (c : Content) (p : NodeId) (honest : Bool) (x : StoreError) → IsWriteFault honest c p x → p ≡ owner step
@@ -204,6 +234,7 @@ ready-beside s c r = record {
   few_steps = r.few_steps;
   few_own = r.few_own;
   few_notes = r.few_notes;
+  few_made = r.few_made;
   causes = r.causes;
   messages = r.messages;
 }

@@ -1,12 +1,12 @@
 -- Why a step is refused.
-use Rattle.std.specs.Prelude.{◌≡◌, ◌≢◌, Bool, Result, Ok, Err, None, IsOk}
+use Rattle.std.specs.Prelude.{◌≡◌, ◌≢◌, Bool, Result, Ok, Err, None, IsOk, IsTrue}
 use Rattle.kt_node.specs.declared.plan.Plan.{Plan}
 use Rattle.kt_world.specs.declared.step.Step.{Step}
 use Rattle.kt_world.specs.declared.step.StepError.{StepError}
 use Rattle.kt_world.specs.declared.step.StepError.TheVariants as refusals
 use Rattle.kt_world.specs.declared.told.Told.{Told}
 use Rattle.kt_world.specs.Effect.{applied}
-use Rattle.kt_world.specs.Judge.{planned, planned_by}
+use Rattle.kt_world.specs.Judge.{is_at_limit, planned, planned_by}
 use Rattle.kt_world.specs.Needs.{needs_of, no_needs}
 use Rattle.kt_world.specs.State.{State}
 use Rattle.kt_world.specs.Step.{owner}
@@ -21,10 +21,11 @@ Refuses (refusals.Store refusal) due = Unit {0}
 Refuses refusal due = due ≡ Err refusal
 
 -- a store's refusal for damage comes never while it is honest; that for a full store only where it has no number left
--- for the step's owner, and so never in a world that was opened
+-- for the step's owner, and so never in a world that was opened. The limit is told only where it is reached.
 abbrev pub IsCause : State → Step → Bool → StepError → Type 0
 IsCause s step is_honest (refusals.Store refusal) =
     IsWriteFault is_honest s.content (owner step) refusal × (s.found ≡ None → IsFault is_honest refusal)
+IsCause s step is_honest refusals.StepLimit = IsTrue (is_at_limit s)
 IsCause s step is_honest refusal = Unit {0}
 
 -- what a step leaves of the store's counts: raised by the store's own refusal, and by nothing else. So a step that the

@@ -44,7 +44,7 @@ fn prepare<S: CkptStore>(
     ensures honest { IsTrue (S.is_honest store.new) → IsTrue (S.is_honest store.old) }
     ensures lasts { NeverFails S.failures → IsTrue (S.is_honest store.old) → IsTrue (S.is_honest store.new) }
     ensures counts { S.counts store.new ≡ step_counted result (S.counts store.old) }
-    ensures cause { IfErr result (IsReadCause (S.is_honest store.new)) }
+    ensures cause { IfErr result (IsReadCause (state_of machine.old empty_content) (S.is_honest store.new)) }
     ensures called { IsTrue (S.is_honest store.new) →
         IfErr result (IsCalledFor (state_of machine.old (S.content store.old)) step) }
 {

@@ -82,6 +82,10 @@ impl<S: Alter> CkptStore for SqlStore<S> {
         Ok(self.has_no_node()? && self.has_no_posted()?)
     }
 
+    fn nodes(&mut self, alloc: Global) -> Result<Vec<NodeId>, StoreError> {
+        self.node_names(alloc)
+    }
+
     fn begin_check(&mut self, node: NodeId, ckpt: &Ckpt) -> Result<(), StoreError> {
         let last = self.last_instance()?;
         if last == GREATEST {

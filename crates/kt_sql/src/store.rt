@@ -8,7 +8,8 @@ ghost use Rattle.sqlite.specs.State.{HasCleanDisk};
 ghost use Rattle.kt_tuple.specs.Node.{node_eq};
 ghost use Rattle.kt_store.specs.declared.rows.Posted.{Posted as PostedFields};
 ghost use Rattle.kt_store.specs.Verdict.{is_open};
-ghost use Rattle.kt_store.specs.Content.{greatest, is_empty, permanent_marks, row_of, tentative_marks};
+ghost use Rattle.kt_store.specs.Content.{greatest, is_empty, nodes_in, permanent_marks, row_of, tentative_marks};
+ghost use Rattle.kt_store.specs.Proper.{IsProper};
 ghost use Rattle.kt_store.specs.Changes.{storing, taken};
 ghost use Rattle.kt_store.specs.Calls.{HasCause, nothing_counted};
 ghost use Rattle.kt_tables.specs.Cells.{cells_node, AreSaid};
@@ -145,6 +146,7 @@ impl<S: Alter> SqlStore<S> {
     pub(crate) fn incarnation_of(&mut self, node: NodeId) -> Result<u64, StoreError>
         ensures value { IsTrue (is_sure S.Store self.new.tables)
             → IfOk result (λ n. n ≡ (row_of (content_of S.Store self.old.tables) node).incarnation) }
+        ensures most { IfOk result (λ n. n ≤ greatest) }
         ensures same { IsTrue (is_sure S.Store self.new.tables)
             → content_of S.Store self.new.tables ≡ content_of S.Store self.old.tables }
         ensures honest { IsTrue (is_sure S.Store self.new.tables) → IsTrue (is_sure S.Store self.old.tables) }
@@ -154,6 +156,25 @@ impl<S: Alter> SqlStore<S> {
         ensures cause { HasCause self.old.counts self.new.counts (is_sure S.Store self.new.tables) ⊥ result }
     {
         let answer = self.tables.incarnation_of(node);
+        self.counts.count(&answer);
+        answer
+    }
+
+    /// The nodes that have a row, in node order.
+    pub(crate) fn node_names(&mut self, alloc: Global) -> Result<Vec<NodeId>, StoreError>
+        ensures value { IsTrue (is_sure S.Store self.new.tables)
+            → IfOk result (λ nodes. nodes.items ≡ nodes_in (content_of S.Store self.old.tables)) }
+        ensures proper { IsTrue (is_sure S.Store self.new.tables)
+            → OnOk result (IsProper (content_of S.Store self.old.tables)) }
+        ensures same { IsTrue (is_sure S.Store self.new.tables)
+            → content_of S.Store self.new.tables ≡ content_of S.Store self.old.tables }
+        ensures honest { IsTrue (is_sure S.Store self.new.tables) → IsTrue (is_sure S.Store self.old.tables) }
+        ensures lasts { failures (state S.Store self.new.tables.conn) ≡ 0 → IsTrue (is_sure S.Store self.old.tables)
+            → IsTrue (is_sure S.Store self.new.tables) }
+        ensures intact { IsErrOf result StoreError.Damaged → is_sound S.Store self.new.tables ≡ false }
+        ensures cause { HasCause self.old.counts self.new.counts (is_sure S.Store self.new.tables) ⊥ result }
+    {
+        let answer = self.tables.nodes(alloc);
         self.counts.count(&answer);
         answer
     }

@@ -1,7 +1,12 @@
 -- What the calls on tables answer.
 use Rattle.std.proofs.Common.{◌≡◌, inl, inr, ℕ, ◌≤◌, Bool, true, false, List, None, Ok, Err, Result, IfOk, IfErr, IfSome, OnOk, OnErr, arith}
 use Rattle.std.proofs.Common.{option_map, slice_get, refl, sym, ap, subst, ◌∙◌, ◌==◌, ◌&&◌, map, [], ◌∷◌, cond, length, fold, max, Ordering, ◌<◌}
-use Rattle.std.specs.Prelude.{IsTrue}
+use Rattle.std.specs.Prelude.{IsTrue, All, AllPairs, nat_lt}
+use Rattle.std.proofs.Common.{zero, suc, ◌++◌, get_or, take, take_all, length-map}
+use Rattle.sqlite.specs.Tree.{Trees}
+use Rattle.sqlite_trees.specs.Tree.{IsAscending}
+use Rattle.kt_tuple.specs.Node.{is_before}
+use Rattle.kt_store.specs.Proper.{IsProper}
 use Rattle.std.specs.List.{find, AllByRecursion}
 use Rattle.sqlite.specs.Store.{Ghosts}
 use Rattle.sqlite.specs.Order.{Row}
@@ -20,9 +25,9 @@ use Rattle.kt_store.specs.Verdict.{is_open}
 use Rattle.kt_store.specs.Content.{Content, greatest, is_empty}
 use Rattle.kt_tables.specs.Reason.{HasReason}
 use Rattle.kt_tables.specs.Schema.{kt_schema}
-use Rattle.kt_tables.specs.inner.Text.{put_node_text, put_posted_text, get_node_text, first_node_text, get_posted_text, last_posted_text, open_posted_text}
+use Rattle.kt_tables.specs.inner.Text.{all_ids_text, put_node_text, put_posted_text, get_node_text, first_node_text, get_posted_text, last_posted_text, open_posted_text}
 use Rattle.kt_tables.specs.Rows.{whole, id_of, HasId, node_given, posted_given, IsNodeRow, IsPosted, Holds, content_in, placing}
-use Rattle.kt_tables.specs.inner.Showing.{Gives, IsReadError, number_of}
+use Rattle.kt_tables.specs.inner.Showing.{Gives, IsReadError, id_given, number_of}
 use Rattle.kt_tables.specs.Held.{Tabled, is_sure, content_of, IsKept}
 use Rattle.sqlite.specs.Held.{Held}
 use Rattle.sqlite.specs.State.{HasCleanDisk, Executes}
@@ -39,7 +44,7 @@ use Rattle.kt_tables.proofs.CellLemmas.{spelled_given}
 use Rattle.kt_tables.proofs.TabledLemmas.{stayed, wrote}
 use Rattle.kt_tables.proofs.OrderLemmas.{all_inserted}
 use Rattle.kt_tables.proofs.WriteLemmas.{node_changes, posted_changes}
-use Rattle.kt_tables.proofs.FoundLemmas.{node_found, some_node_found, posted_found, open_found, last_found, found_is}
+use Rattle.kt_tables.proofs.FoundLemmas.{ids_found, node_found, some_node_found, posted_found, open_found, last_found, found_is}
 use Rattle.kt_tables.proofs.ReadLemmas.{downwards, first_or_0, first_is_greatest}
 use Rattle.sqlite_keyed.specs.Lists.{sort_by, insert_sorted}
 use Rattle.std.specs.Ordering.{is_gt}
@@ -67,6 +72,10 @@ each_err (Err e) A a = a
 pub on_err_of : {X E : Type 0} (r : Result X E) (A B : Type 0) → (A → B) → OnErr r A → OnErr r B
 on_err_of (Ok x) A B go h = tt
 on_err_of (Err e) A B go h = go h
+
+pub each_on : {X E : Type 0} (r : Result X E) (A : Type 0) → A → OnOk r A
+each_on (Ok x) A a = a
+each_on (Err e) A a = tt
 
 -- what holds of each holds of the answer
 pub each_ok : {X E : Type 0} (r : Result X E) (P : X → Type 0) → ((x : X) → P x) → IfOk r P
@@ -173,6 +182,56 @@ sorted_empty : (ps : List Posted) → is_empty (sorted_board ps) ≡ is_empty ps
 sorted_empty [] = refl
 sorted_empty (p ∷ ps) = never_empty p (sorted_board ps)
 
+-- ---- rows in order, one by one
+
+all-listed : {X : Type 0} (P : X → Type 0) (xs : List X) → AllByRecursion P xs → All P xs
+all-listed P [] h k d lt = absurd (omega (arith, lt))
+all-listed P (x ∷ xs) h zero d lt = h.0
+all-listed P (x ∷ xs) h (suc k) d lt = all-listed P xs h.1 k d (omega (arith, lt))
+
+pairs-listed : {X : Type 0} (R : X → X → Type 0) (xs : List X) → IsAscending R xs → AllPairs R xs
+pairs-listed R [] h i j d lt within = absurd (omega (arith, within))
+pairs-listed R (x ∷ xs) h i zero d lt within = absurd (omega (arith, lt))
+pairs-listed R (x ∷ xs) h zero (suc j) d lt within = all-listed (R x) xs h.0 j d (omega (arith, within))
+pairs-listed R (x ∷ xs) h (suc i) (suc j) d lt within = pairs-listed R xs h.1 i j d (omega (arith, lt)) (omega (arith, within))
+
+held_proper : (db : Trees) (c : Content) → Holds db c → IsProper c
+held_proper db c held = record {
+  nodes = record {
+    rising = pairs-listed (λ (a b : NodeRow). is_before a.node b.node ≡ true) c.nodes held.nodes.rise;
+    within = all-listed (λ (r : NodeRow). r.incarnation ≤ greatest) c.nodes (all_weaker _ _ (λ r good. good.last) c.nodes held.nodes.said);
+  };
+  board = record {
+    rising = pairs-listed (λ (a b : Posted). nat_lt a.instance b.instance ≡ true) c.board held.board.rise;
+    within = all-listed (λ (p : Posted). p.instance ≤ greatest) c.board (all_weaker _ _ (λ p good. good.last) c.board held.board.said);
+  };
+}
+
+-- the keys that are shown, one by one
+pub record IsIdAt (ns : List NodeRow) (rows : List Row) (i : ℕ) : Type 0 where
+  pub row : NodeRow
+  pub good : IsNodeRow row
+  pub is : (d : Row) → get_or rows i d ≡ id_given row
+  pub more : map (λ (r : NodeRow). r.node) (take (suc i) ns) ≡ map (λ (r : NodeRow). r.node) (take i ns) ++ row.node ∷ []
+
+id_among : (ns : List NodeRow) (i : ℕ) → AllByRecursion IsNodeRow ns → i < length (map id_given ns) → IsIdAt ns (map id_given ns) i
+id_among [] i said lt = absurd (omega (arith, lt))
+id_among (r ∷ ns) zero said lt = record { row = r; good = said.0; is = λ d. refl; more = refl }
+id_among (r ∷ ns) (suc i) said lt =
+    let later = id_among ns i said.1 (omega (arith, lt)) in
+    record { row = later.row; good = later.good; is = later.is; more = ap (λ l. r.node ∷ l) later.more }
+
+pub id_at_place : (ns : List NodeRow) (rows : List Row) (i : ℕ) → AllByRecursion IsNodeRow ns → rows ≡ map id_given ns → i < length rows → IsIdAt ns rows i
+id_at_place ns rows i said is lt =
+    let P : List Row → Type 0 = λ l. i < length l → IsIdAt ns l i in
+    subst P (sym is) (id_among ns i said) lt
+
+pub all_ids_listed : (ns : List NodeRow) (rows : List Row) → rows ≡ map id_given ns
+    → map (λ (r : NodeRow). r.node) (take (length rows) ns) ≡ map (λ (r : NodeRow). r.node) ns
+all_ids_listed ns rows is =
+    let long : length rows ≡ length ns = ap (λ (l : List Row). length l) is ∙ length-map ns id_given in
+    ap (map (λ (r : NodeRow). r.node)) (take_all (length rows) ns (omega (arith, long)))
+
 module _ {S : Type 0} (g : Ghosts S) (s n : Tabled S) (kept : IsKept g n) (same : (state g n.conn).now ≡ (state g s.conn).now) where
   abbrev was : Content
   was = content_of g s
@@ -204,6 +263,18 @@ module _ {S : Type 0} (g : Ghosts S) (s n : Tabled S) (kept : IsKept g n) (same 
   nodes_read rows h =
       empty_where node_given was.nodes rows
       (some_node_found (state g s.conn) (state g n.conn) was (was_schema g s n kept same) (was_held g s n kept same) rows h)
+
+  -- the keys of all nodes that have a row
+  pub ids_read : (rows : List Row) → Shown all_ids_text [] (state g s.conn) (state g n.conn) rows
+      → AllByRecursion IsNodeRow was.nodes × (rows ≡ map id_given was.nodes)
+  ids_read rows h = (
+    (was_held g s n kept same).nodes.said,
+    ids_found (state g s.conn) (state g n.conn) was (was_schema g s n kept same) (was_held g s n kept same) rows h,
+  )
+
+  -- the tables were in order
+  pub was_proper : IsProper was
+  was_proper = held_proper (state g s.conn).now.trees was (was_held g s n kept same)
 
   pub board_read : (rows : List Row) → Shown last_posted_text [] (state g s.conn) (state g n.conn) rows → (length rows == 0) ≡ is_empty was.board
   board_read rows h = empty_where posted_given (sorted_board was.board) rows (last_read rows h).0 ∙ sorted_empty was.board

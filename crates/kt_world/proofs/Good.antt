@@ -90,6 +90,7 @@ good-ready s step plan ready g few room =
       few_own = put-holds (λ (n : ℕ). n ≤ s.made + 1) 0 s.own (node_index p) _ (let h = ready.few_own (node_index p) in omega (arith, h))
           (λ k. let h = ready.few_own k in omega (arith, h));
       few_notes = let one = length-noted s.history plan.note in omega (arith, room, one);
+      few_made = λ new. let one = length-noted s.history plan.note in let h = ready.few_made new in omega (arith, h, one);
       causes = noted-causes s.history plan.note ready.causes g.note;
       messages = messages-after s ready step plan g;
     }

@@ -81,6 +81,7 @@ ready-settled s r = record {
   few_steps = r.few_steps;
   few_own = r.few_own;
   few_notes = r.few_notes;
+  few_made = r.few_made;
   causes = r.causes;
   messages = r.messages;
 }

@@ -141,6 +141,7 @@ opening-ready cast is short = record {
   few_steps = omega arith;
   few_own = λ k. let h = at-replicate {A = ℕ} 0 rows k in omega (arith, h);
   few_notes = omega arith;
+  few_made = λ new. omega arith;
   causes = CausesComeFirst-empty;
   messages = λ k m on. absurd (no_messages _ k m on);
 }

@@ -1,7 +1,7 @@
 -- What was passed where something is planned: each test and each case on the way to an Ok.
-use Rattle.std.proofs.Common.{◌≡◌, ◌<◌, Bool, true, false, if◌then◌else◌, Option, Some, None, Result, Ok, Err, refl, ap, length}
+use Rattle.std.proofs.Common.{◌≡◌, ℕ, ◌<◌, ◌&&◌, ◌||◌, arith, Bool, true, false, if◌then◌else◌, Option, Some, None, Result, Ok, Err, refl, ap, length}
 use Rattle.std.specs.Prelude.{unwrap_or, IsTrue, nat_lt}
-use Rattle.std.proofs.lemmas.Bool.{and_parts, ltb-true}
+use Rattle.std.proofs.lemmas.Bool.{and_parts, le-leb, ltb-false, ltb-true}
 use Rattle.kt_tuple.specs.declared.node.NodeId.{NodeId}
 use Rattle.kt_node.specs.declared.live.Phase.{Phase}
 use Rattle.kt_node.specs.declared.live.Phase.TheVariants as phases
@@ -13,8 +13,9 @@ use Rattle.kt_node.specs.Steps.{up_in, up_of, by_up}
 use Rattle.kt_world.specs.declared.step.StepError.{StepError}
 use Rattle.kt_world.specs.declared.step.StepError.TheVariants as refusals
 use Rattle.kt_world.specs.declared.step.TheConstants.{MAX_STEPS, MAX_NOTES}
-use Rattle.kt_world.specs.Judge.{has_room, if_room, of_owner, of_scene, within_limit}
+use Rattle.kt_world.specs.Judge.{has_room, if_room, is_at_limit, of_owner, of_scene, within_limit}
 use Rattle.kt_world.specs.State.{State, node, view}
+use Rattle.kt_world.specs.inner.Ready.{IsReady}
 use Rattle.kt_world.proofs.Plans.{IsAlive}
 
 abbrev pub planned : Plan → Planned
@@ -47,6 +48,30 @@ room-made s e = ltb-true s.made MAX_STEPS (and_parts (nat_lt s.made MAX_STEPS) (
 
 pub room-noted : (s : State) → has_room s ≡ true → length s.history < MAX_NOTES
 room-noted s e = ltb-true (length s.history) MAX_NOTES (and_parts (nat_lt s.made MAX_STEPS) (nat_lt (length s.history) MAX_NOTES) e).1
+
+-- where there is none, all steps were made, or what was found was too much
+pub room-none : (s : State) → IsReady s → has_room s ≡ false → is_at_limit s ≡ true
+room-none s ready e = by (nat_lt s.made MAX_STEPS) (nat_lt (length s.history) MAX_NOTES) s.found refl refl refl e
+  where
+    left : (b c : Bool) → b ≡ true → (b || c) ≡ true
+    left true c is = refl
+    left false c is = absurd cc
+
+    right : (b c : Bool) → c ≡ true → (b || c) ≡ true
+    right true c is = refl
+    right false c is = is
+
+    by : (b c : Bool) (found : Option ℕ) → nat_lt s.made MAX_STEPS ≡ b → nat_lt (length s.history) MAX_NOTES ≡ c → s.found ≡ found → (b && c) ≡ false
+        → is_at_limit s ≡ true
+    by true true found made noted is e = absurd cc
+    by false c found made noted is e = left _ _ (le-leb MAX_STEPS s.made (ltb-false s.made MAX_STEPS made))
+    by true false None made noted is e =
+        let few = ready.few_made is in
+        let all = ltb-false (length s.history) MAX_NOTES noted in
+        let more = ready.few_steps in
+        absurd (omega (arith, few, all, more))
+    by true false (Some most) made noted is e =
+        right _ _ (rw is (le-leb MAX_NOTES (length s.history) (ltb-false (length s.history) MAX_NOTES noted)))
 
 pub owner-passed : (r : Planned) (plan : Plan) → of_owner r ≡ Ok plan → r ≡ Ok plan
 owner-passed (Ok p) plan e = let same : p ≡ plan = cc in ap (λ q. Ok q) same

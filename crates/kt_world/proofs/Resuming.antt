@@ -280,6 +280,7 @@ resumed-ready cast is short c fit = record {
   few_steps = omega arith;
   few_own = λ k. let h = at-replicate {A = ℕ} 0 rows k in omega (arith, h);
   few_notes = let few = placed-few (acts_of c) (nodes_of cast) (all_held c (nodes_of cast)) [] in let most = fit.short in omega (arith, few, most);
+  few_made = λ new. absurd (cc (new));
   causes = CausesComeFirst-from_well_formed (history_of cast c) (history-well_formed cast c fit);
   messages = λ k m on. absurd (no_messages _ k m on);
 } where

@@ -20,7 +20,7 @@ pub use Rattle.kt_world.proofs.NeverUnfit.{never-unfit}
 pub use Rattle.kt_world.proofs.NoteSound.{apart, line-long, note_at-next}
 pub use Rattle.kt_world.proofs.OnLinks.{first-holds, sent-cases, sent_between, taken_off-was}
 pub use Rattle.kt_world.proofs.Opened.{at-replicate, length-replicate, opening-node, opening-ready}
-pub use Rattle.kt_world.proofs.Passed.{owner-passed}
+pub use Rattle.kt_world.proofs.Passed.{owner-passed, room-none}
 pub use Rattle.kt_world.proofs.Lasting.{permanent-reached, stores-reached}
 pub use Rattle.kt_world.proofs.Plans.{Comes, Fit, IsAlive, IsDown, IsDroppedBy, PlanOf, TentativeFits, Votes, holds, rolls}
 pub use Rattle.kt_world.proofs.PlansFound.{plan-few, plan-found, plan-room}

@@ -1,5 +1,5 @@
 -- The plan of a step, or its refusal: of several refusals the first that stands is given.
-use Rattle.std.specs.Prelude.{◌≡◌, ℕ, nat_lt, Bool, true, false, ◌&&◌, if◌then◌else◌, List, [], ◌∷◌, length, is_some, Result, Ok, Err}
+use Rattle.std.specs.Prelude.{◌≡◌, ℕ, nat_le, nat_lt, Bool, true, false, ◌&&◌, ◌||◌, if◌then◌else◌, List, [], ◌∷◌, length, is_some, Result, Ok, Err}
 use Rattle.kt_tuple.specs.declared.node.NodeId.{NodeId}
 use Rattle.kt_store.specs.declared.error.StoreError.{StoreError}
 use Rattle.kt_node.specs.declared.message.Message.{Message}
@@ -73,6 +73,10 @@ judged s t step = of_scene (is_in_scene s.cast step) (due s t step)
 -- after `MAX_STEPS` steps, or with a history of `MAX_NOTES` notes, no more is made
 abbrev pub has_room : State → Bool
 has_room s = nat_lt s.made MAX_STEPS && nat_lt (length s.history) MAX_NOTES
+
+-- why there is none: all steps were made, or, where the world goes on from what was found, the history is full
+abbrev pub is_at_limit : State → Bool
+is_at_limit s = nat_le MAX_STEPS s.made || (is_some s.found && nat_le MAX_NOTES (length s.history))
 
 abbrev pub if_room : {X : Type 0} → Bool → Result X StepError → Result X StepError
 if_room room due = if room then due else Err refusals.StepLimit

@@ -1,6 +1,6 @@
 -- What the state of a world keeps so that each step can be made, whatever a store answers. The tables have their rows,
 -- the counts are small, each node is of its kind, and who sent, asked or was asked is a neighbour.
-use Rattle.std.specs.Prelude.{◌≡◌, ◌≢◌, ℕ, ◌<◌, ◌≤◌, List, [], length, Contains, IfSome, IsTrue, is_some}
+use Rattle.std.specs.Prelude.{◌≡◌, ◌≢◌, ℕ, ◌<◌, ◌≤◌, List, [], length, Contains, IfSome, IsTrue, is_some, None}
 use Rattle.std.specs.List.{AllByRecursion}
 use Rattle.kt_tuple.specs.declared.node.NodeId.{NodeId}
 use Rattle.kt_tuple.specs.declared.node.NodeId.TheVariants as ids
@@ -85,6 +85,8 @@ pub record IsReady (s : State) : Type 0 where
   pub few_steps : s.made ≤ MAX_STEPS
   pub few_own : (k : ℕ) → at 0 s.own k ≤ s.made
   pub few_notes : length s.history ≤ MAX_NOTES
+  -- a step makes one note at most
+  pub few_made : s.found ≡ None → length s.history ≤ s.made
   pub causes : CausesComeFirst s.history
   pub messages : (k : ℕ) (m : Message) → Contains (at [] s.links k) m → IsMessageReady s.history m
 

@@ -34,11 +34,13 @@ write-requires-clause-allowed g c =
 
 pub returns-in_err-plan-clause-cause : goal.returns-in_err-plan-clause-cause
 returns-in_err-plan-clause-cause g c =
-    let new = state_of c.prepare.new.machine (g.S.CkptStore.content c.prepare.new.store) in
+    let content = g.S.CkptStore.content c.prepare.new.store in
     let honest = g.S.CkptStore.is_honest c.prepare.new.store in
-    let Caused : StepError → Type 0 = IsCause new c.args.step honest in
+    let Caused : StepError → Type 0 = IsCause (state_of c.prepare.new.machine content) c.args.step honest in
+    let At : State → Type 0 = λ s. IsCause s c.args.step honest c.in_err-plan.field-0.0 in
     on-refusal c.from_residual-in_err-plan.result _ Caused c.from_residual-in_err-plan.ensures.1
-    (λ e is. subst Caused (sym is) (read-caused new c.args.step honest c.in_err-plan.field-0.0 c.in_err-plan.ensures.cause))
+    (λ e is. subst Caused (sym is) (subst At (sym (c.in_err-plan.ensures.same content))
+    (read-caused (state_of c.args.machine.now empty_content) content c.args.step honest c.in_err-plan.field-0.0 c.in_err-plan.ensures.cause)))
 
 pub returns-in_err-write-clause-cause : goal.returns-in_err-write-clause-cause
 returns-in_err-write-clause-cause g c =
