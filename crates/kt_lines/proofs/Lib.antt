@@ -17,4 +17,5 @@ pub mod Shares
 pub mod Hearings
 pub mod NamedCauses
 pub mod Renamed
+pub mod SameServices
 pub mod Shared

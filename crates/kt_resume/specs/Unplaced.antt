@@ -1,0 +1,15 @@
+-- The acts of one node that are not placed yet.
+use Rattle.std.specs.Prelude.{List, reverse}
+use Rattle.std.specs.declared.vec.Vec.{Vec}
+use Rattle.std.specs.declared.alloc.Global.{Global}
+use Rattle.kt_tuple.specs.declared.node.NodeId.{NodeId}
+use Rattle.kt_ckpt.specs.declared.acts.LineAct.{LineAct}
+
+-- whose they are, and the acts in the order of its line
+pub record Left : Type 0 where
+  pub node : NodeId
+  pub acts : List LineAct
+
+-- they are kept with the next one last
+abbrev pub left_of : NodeId → Vec LineAct Global → Left
+left_of node kept = record { node = node; acts = reverse kept.items }

@@ -1,0 +1,13 @@
+//! What a resumed world is made of again: the history of the acts that checkpoints hold.
+//!
+//! - Contract: what is placed is the history that `Placing` of kt_world defines (`place_all`, clause `placed`).
+//! - Stands on: kt_tuple, kt_history, kt_ckpt, kt_world
+//! - Used by: kt_core
+//! - Begin in: `placing.rt`.
+#![tactic(auto)]
+
+mod placing;
+mod unplaced;
+
+pub use placing::place_all;
+pub use unplaced::Unplaced;
