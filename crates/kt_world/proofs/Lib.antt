@@ -68,6 +68,7 @@ pub mod AllPosted
 pub mod OwnRows
 pub mod Together
 pub mod NeverUnfit
+pub mod ResumedServices
 pub mod Sums
 pub mod Fitting
 pub mod Resuming

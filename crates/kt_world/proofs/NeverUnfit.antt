@@ -190,7 +190,7 @@ module _ (s : State) (is : IsReached s) (closed : IsCausallyClosed s.history (pe
       ap (λ (f : NodeId → ℕ). sum_over f (nodes_of s.cast)) same in
       all-are-placed (acts_of s.content) (nodes_of s.cast) rank ordered (all_held s.content (nodes_of s.cast)) (omega (arith, sums)) p
 
-  front : IsFrontOf s.history (history_of s.cast s.content) (permanent_length s.content)
+  pub front : IsFrontOf s.history (history_of s.cast s.content) (permanent_length s.content)
   front = record {
     formed = formed;
     causes = (placed-acts s.cast s.content).causes;

@@ -103,7 +103,7 @@ module _ (h g : List Note) (many : NodeId → ℕ) (front : IsFrontOf h g many) 
   -- ---- the old and the new number of an act
 
   -- both are the number of an act of this name, or 0
-  abbrev IsNew : ℕ → ℕ → Type 0
+  abbrev pub IsNew : ℕ → ℕ → Type 0
   IsNew m n = (named h m ≡ named g n) × OfLine g n
 
   one-new : (m n k : ℕ) → IsNew m n → IsNew m k → n ≡ k
@@ -164,7 +164,7 @@ module _ (h g : List Note) (many : NodeId → ℕ) (front : IsFrontOf h g many) 
       (as-act a b head (all b (Contains-here b ys)), are-as xs ys tail (λ c among. all c (Contains-there b ys c among)))
 
   -- the acts of a line are those of the old one, but for the numbers of their causes
-  line-as : (p : NodeId) → AreAs IsNew (take (many p) (acts_in_line h p)) (acts_in_line g p)
+  pub line-as : (p : NodeId) → AreAs IsNew (take (many p) (acts_in_line h p)) (acts_in_line g p)
   line-as p =
       are-as (take (many p) (acts_in_line h p)) (acts_in_line g p)
       (sym (take-map (line_act h) (many p) (acts_in_line h p)) ∙ sym (front.same p))
