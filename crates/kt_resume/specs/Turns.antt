@@ -21,10 +21,10 @@ abbrev pub AreLeft : Acts → List Note → List Left → Type 0
 AreLeft acts h [] = Unit {0}
 AreLeft acts h (x ∷ later) = (x.acts ≡ drop (length (line h x.node)) (acts x.node)) × AreLeft acts h later
 
--- no node has two lists
-abbrev pub AreApart : List Left → Type 0
+-- no node stands twice
+abbrev pub AreApart : List NodeId → Type 0
 AreApart [] = Unit {0}
-AreApart (x ∷ later) = AllByRecursion (λ (y : Left). y.node ≢ x.node) later × AreApart later
+AreApart (p ∷ later) = AllByRecursion (λ q. q ≢ p) later × AreApart later
 
 -- the note of the next act of these, if its cause is placed
 abbrev pub next_in : List Note → Left → Option Note
@@ -34,3 +34,8 @@ next_in h x = note_of h x.node (slice_get x.acts 0)
 unfoldable pub first_in : List Note → List Left → Option Note
 first_in h [] = None
 first_in h (x ∷ later) = or_else (next_in h x) (first_in h later)
+
+-- that of a list, if there is one
+abbrev pub next_at : List Note → Option Left → Option Note
+next_at h None = None
+next_at h (Some x) = next_in h x

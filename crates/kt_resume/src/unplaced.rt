@@ -26,7 +26,7 @@ impl Model for Unplaced {
 }
 
 impl Unplaced {
-    ghost use Rattle.std.specs.Prelude.{Some, None, OnNone, OnSome, IfSome, length};
+    ghost use Rattle.std.specs.Prelude.{Some, None, IfSome, length};
     ghost use Rattle.kt_ckpt.specs.declared.acts.LineAct.{LineAct};
 
     /// All acts of the node, oldest first.
@@ -55,7 +55,7 @@ impl Unplaced {
 
     /// Takes the next act out.
     pub(crate) fn take(&mut self) -> Option<LineAct>
-        ensures none { OnNone result ((self.old.acts ≡ []) × (self.new ≡ self.old)) }
+        ensures none { result ≡ None → (self.old.acts ≡ []) × (self.new ≡ self.old) }
         ensures some { IfSome result (λ a. self.old.acts ≡ a ∷ self.new.acts) }
         ensures node { self.new.node ≡ self.old.node }
     {
