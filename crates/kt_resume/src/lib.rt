@@ -8,6 +8,8 @@
 
 mod placing;
 mod unplaced;
+mod worker;
 
 pub use placing::place_all;
 pub use unplaced::Unplaced;
+pub use worker::remake_worker;
