@@ -49,6 +49,12 @@ def checks(tenths):
     return scenario([['out ("a", 1)']], ["check w1", "decide w1", "learn w1"] * (3300 * tenths))
 
 
+def acts_and_checks(tenths):
+    """2,490 rounds for every tenth: a worker asks once more and checks, so that each checkpoint has an act more."""
+    round_of_steps = ["repeat w1", "check w1", "decide w1", "learn w1"]
+    return scenario([['out ("a", 1)']], ["issue w1", *round_of_steps * (2490 * tenths)])
+
+
 def checks_and_failures(turns):
     """Eight workers in turn put or take a tuple and check with the shard. When all have, the shard fails, and all roll
     back with it: 131 steps a turn."""

@@ -47,7 +47,7 @@ def imports_of(words):
         place = words.index("{")
         path, names = words[:place], " ".join(words[place + 1 : words.index("}")]).split(",")
     path = [word for word in path if word not in (".", "as")]
-    if len(path) < 4 or not path[1] in CRATES or path[2] != "specs" or path[3] == "declared":
+    if len(path) < 4 or not path[1] in CRATES or path[2] != "specs" or path[3] in ("contracts", "declared"):
         return {}
     found = {}
     for name in names:

@@ -22,6 +22,8 @@ ONE_PAGE = 32 + 24 + 512
 SHARD_BYTES = (
     "4b54435002020100000000000000020100000000000000010000000000000001000000000000000100000000000000010000000102020161"
     "0100000000000000010001010000000000000001010202016101000000000000000100"
+    "0301010101000000000000000100000000000000010102020161010000000000000001"
+    "040101010100000000000000010000000000000001010202016101000000000000000100"
 )
 NODES = "SELECT id, incarnation, length(permanent), length(tentative), instance FROM kt_node ORDER BY id"
 BOARD = "SELECT instance, initiator, purpose, verdict FROM kt_board ORDER BY instance"
@@ -149,7 +151,7 @@ def shown(folder, file):
     if not shutil.which("sqlite3"):
         print("skipped what sqlite3 shows and makes: it is not there")
         return
-    yield told("who holds what checkpoint", "1|1|61||\n101|1|91||\n", asked(file, NODES))
+    yield told("who holds what checkpoint", "1|1|122||\n101|1|162||\n", asked(file, NODES))
     yield told("the board", "1|1|1|1\n", asked(file, BOARD))
     yield told("the open instances", "", asked(file, OPEN))
     bytes_of = "SELECT lower(hex(permanent)) FROM kt_node WHERE id = 101"
@@ -166,7 +168,8 @@ def shown(folder, file):
     yield tell("the page's tables, made by sqlite3", (CHECKPOINT_OF_TWO, b"", 0), replayed(made))
     earlier = f"{folder}/earlier.db"
     subprocess.run(["sqlite3", earlier, *tables, "INSERT INTO kt_meta VALUES (1, 1)"], check=True)
-    yield from refused("a store of version 1", earlier, DAMAGED)
+    yield tell("a store of version 1 without rows, which is raised", (CHECKPOINT_OF_TWO, b"", 0), replayed(earlier))
+    yield told("its version then", "1|2\n", asked(earlier, "SELECT id, version FROM kt_meta"))
     changed = f"{folder}/changed.db"
     copied_to(file, changed)
     subprocess.run(["sqlite3", changed, ONE_BYTE], check=True)

@@ -163,9 +163,11 @@ HELP = report(
     "Usage: linda_kt <COMMAND>",
     "",
     "Commands:",
-    "  replay  Makes the steps of the scenario on standard input and writes the report to standard output",
-    "  run     Runs the scenario on standard input, by a thread for each node, and writes the report to standard"
+    "  replay   Makes the steps of the scenario on standard input and writes the report to standard output",
+    "  run      Runs the scenario on standard input, by a thread for each node, and writes the report to standard"
     " output",
+    "  migrate  Carries a store of version 1 over, by the journal on standard input that made it, and writes the report"
+    " to standard output",
     "",
     "Options:",
     "  -h, --help     Print help",
@@ -188,6 +190,16 @@ HELP_OF_RUN = report(
     "Options:",
     "      --store <FILE>  Keeps the checkpoints in FILE, which is absent, empty or a fresh store",
     "      --journal       Writes the report as remarks, and then the steps that were made, as a scenario for replay",
+    "  -h, --help          Print help",
+)
+HELP_OF_MIGRATE = report(
+    "Carries a store of version 1 over, by the journal on standard input that made it, and writes the report to"
+    " standard output",
+    "",
+    "Usage: linda_kt migrate --store <FILE>",
+    "",
+    "Options:",
+    "      --store <FILE>  The store of version 1, which holds what the journal makes and nothing else",
     "  -h, --help          Print help",
 )
 VERSION = report("linda_kt 0.1.0")

@@ -1,14 +1,14 @@
 -- A checkpoint is a field, and is all of its bytes.
 use Rattle.std.proofs.Common.{append_assoc, ◌≡◌, ℕ, ◌^◌, ◌<◌, Bool, true, false, cond, eqb, List, [], ◌∷◌, ◌++◌, length, map, Result, Ok, Err, refl, sym, ap}
 use Rattle.std.proofs.Common.{◌≤◌, take, subst, ◌∙◌, arith}
-use Rattle.std.specs.Prelude.{◌≢◌, IfOk, OnOk}
+use Rattle.std.specs.Prelude.{◌≢◌, All, IfOk, OnOk}
 use Rattle.std.specs.Global.{Vec}
 use Rattle.std.specs.declared.alloc.AllocError.{AllocError}
-use Rattle.std.specs.List.{zip}
+use Rattle.std.specs.List.{flat_map, zip}
 use Rattle.std.specs.Int.{w64, to_be_bytes}
 use Rattle.std.proofs.lemmas.Bool.{eqb-true, ne_eqb}
 use Rattle.std.proofs.lemmas.List.{append-nil, length-map, nil_from_length}
-use Rattle.std.proofs.lemmas.List.Elements.{All-map, All-weaker}
+use Rattle.std.proofs.lemmas.List.Elements.{All-cons, All-head, All-map, All-nil, All-tail, All-weaker}
 use Rattle.kt_tuple.specs.declared.node.NodeId.{NodeId}
 use Rattle.kt_tuple.specs.declared.node.NodeId.TheVariants.{Worker, Shard}
 use Rattle.kt_link.specs.declared.label.Label.{Label}
@@ -18,14 +18,18 @@ use Rattle.kt_ckpt.specs.declared.state.State.{State}
 use Rattle.kt_ckpt.specs.declared.state.State.TheVariants as states
 use Rattle.kt_ckpt.specs.Fields.{WorkerFields, ShardFields}
 use Rattle.kt_ckpt.specs.Limits.{magic, version}
-use Rattle.kt_ckpt.specs.Reading.{◌>>=◌, Gives, made, number_at}
+use Rattle.kt_ckpt.specs.declared.acts.LineAct.{LineAct}
+use Rattle.kt_ckpt.specs.Acts.{IsActOf, IsSpelledAct, act_bytes, act_at}
+use Rattle.kt_ckpt.specs.Reading.{◌>>=◌, Gives, made, number_at, list_at}
+use Rattle.kt_ckpt.proofs.ActFields.{IsHeldAct, act_field, act_lasts}
 use Rattle.kt_ckpt.specs.State.{IsWorker, IsShard}
-use Rattle.kt_ckpt.specs.Checkpoint.{Checkpoint, IsNode, Suits, IsLabel, IsState, IsCheckpoint, node_bytes, peers_bytes, state_bytes, spelling, magic_at}
+use Rattle.kt_ckpt.specs.Node.{IsNode, node_bytes, node_at}
+use Rattle.kt_ckpt.specs.Checkpoint.{Checkpoint, Suits, IsLabel, IsState, IsCheckpoint, peers_bytes, state_bytes, spelling, magic_at}
 use Rattle.kt_ckpt.specs.Marks.{MarkFields, fields_of, marks_at, marks_of}
-use Rattle.kt_ckpt.specs.Checkpoint.{version_at, node_at, peers_at, state_at, checkpoint_of, checkpoint_at, read}
+use Rattle.kt_ckpt.specs.Checkpoint.{version_at, peers_at, state_at, checkpoint_of, checkpoint_at, read}
 use Rattle.kt_ckpt.proofs.Field.{IsBytes, Takes, IsField, Lasts, the_ok, bind_ok, front_is_cut}
 use Rattle.kt_ckpt.proofs.Combined.{behind, behind_lasts, made_field, made_lasts}
-use Rattle.kt_ckpt.proofs.Primitive.{wide64, number_field, number_lasts}
+use Rattle.kt_ckpt.proofs.Primitive.{wide64, number_field, number_lasts, list_field, list_lasts}
 use Rattle.kt_ckpt.proofs.Loop.{both_appended}
 use Rattle.kt_ckpt.proofs.States.{worker_field, worker_lasts, shard_field, shard_lasts}
 use Rattle.kt_ckpt.proofs.Front.{magic_field, magic_lasts, version_field, version_lasts, too_few, other_magic, other_version}
@@ -58,8 +62,12 @@ state_lasts (Shard i) = let l = made_lasts states.Shard shard_lasts in record { 
 
 -- ---- a checkpoint
 
+-- the acts behind the state
+abbrev with_state : NodeId → ℕ → List (Label × Label) → State → List ℕ → Result (Checkpoint × List ℕ) CkptError
+with_state n l ps s bytes = made (checkpoint_of n l ps s) (list_at (act_at n) l bytes)
+
 abbrev with_peers : NodeId → ℕ → List (Label × Label) → List ℕ → Result (Checkpoint × List ℕ) CkptError
-with_peers n l ps bytes = made (checkpoint_of n l ps) (state_at n bytes)
+with_peers n l ps bytes = state_at n bytes >>= λ s. with_state n l ps s.0 s.1
 
 abbrev with_line : NodeId → ℕ → List ℕ → Result (Checkpoint × List ℕ) CkptError
 with_line n l bytes = peers_at bytes >>= λ ps. with_peers n l ps.0 ps.1
@@ -73,8 +81,11 @@ with_version v bytes = node_at bytes >>= λ n. with_node n.0 n.1
 abbrev with_magic : List ℕ → List ℕ → Result (Checkpoint × List ℕ) CkptError
 with_magic m bytes = version_at bytes >>= λ v. with_version v.0 v.1
 
+abbrev from_state : Checkpoint → List ℕ
+from_state c = state_bytes c.state ++ flat_map act_bytes c.acts
+
 abbrev from_peers : Checkpoint → List ℕ
-from_peers c = peers_bytes (zip c.sent c.received) ++ state_bytes c.state
+from_peers c = peers_bytes (zip c.sent c.received) ++ from_state c
 
 abbrev from_line : Checkpoint → List ℕ
 from_line c = to_be_bytes w64 c.line_len ++ from_peers c
@@ -87,18 +98,20 @@ have_peers c h =
     let len = zip_len c.sent c.received h.peers.2 in
     ((omega (arith, len, h.peers.0), omega (arith, len, h.peers.1)), zip_all c.sent c.received h.sent h.received)
 
-checkpoint_is : (n : NodeId) (l : ℕ) (ps : List (Label × Label)) (c : Checkpoint) → n ≡ c.node → l ≡ c.line_len → ps ≡ zip c.sent c.received
-    → length c.sent ≡ length c.received → checkpoint_of n l ps c.state ≡ c
-checkpoint_is n l ps c a b d e =
-    let of : NodeId → ℕ → List Label → List Label → Checkpoint = λ n l s r. record { node = n; line_len = l; sent = s; received = r; state = c.state } in
-    ap (λ (n : NodeId). checkpoint_of n l ps c.state) a ∙ ap (λ (l : ℕ). checkpoint_of c.node l ps c.state) b
-    ∙ ap (λ (ps : List (Label × Label)). checkpoint_of c.node c.line_len ps c.state) d
+checkpoint_is : (n : NodeId) (l : ℕ) (ps : List (Label × Label)) (s : State) (c : Checkpoint) → n ≡ c.node → l ≡ c.line_len → ps ≡ zip c.sent c.received
+    → s ≡ c.state → length c.sent ≡ length c.received → checkpoint_of n l ps s c.acts ≡ c
+checkpoint_is n l ps s c a b d g e =
+    let of : NodeId → ℕ → List Label → List Label → Checkpoint =
+    λ n l s r. record { node = n; line_len = l; sent = s; received = r; state = c.state; acts = c.acts } in
+    ap (λ (n : NodeId). checkpoint_of n l ps s c.acts) a ∙ ap (λ (l : ℕ). checkpoint_of c.node l ps s c.acts) b
+    ∙ ap (λ (ps : List (Label × Label)). checkpoint_of c.node c.line_len ps s c.acts) d
+    ∙ ap (λ (s : State). checkpoint_of c.node c.line_len (zip c.sent c.received) s c.acts) g
     ∙ ap (λ (s : List Label). of c.node c.line_len s (map (λ p. p.1) (zip c.sent c.received))) (firsts c.sent c.received e)
     ∙ ap (λ (r : List Label). of c.node c.line_len c.sent r) (seconds c.sent c.received e)
 
-made_checkpoint : (n : NodeId) (l : ℕ) (ps : List (Label × Label)) (s : State) → IsNode n → l < 2 ^ 64 → HavePeers ps → Suits n s × IsState s
-    → IsCheckpoint (checkpoint_of n l ps s)
-made_checkpoint n l ps s hn hl hp hs = record {
+made_checkpoint : (n : NodeId) (l : ℕ) (ps : List (Label × Label)) (s : State) (acts : List LineAct) → IsNode n → l < 2 ^ 64 → HavePeers ps
+    → Suits n s × IsState s → (length acts ≡ l) × All (IsHeldAct n) acts → IsCheckpoint (checkpoint_of n l ps s acts)
+made_checkpoint n l ps s acts hn hl hp hs ha = record {
   node = hn;
   line_len = hl;
   peers = (
@@ -110,7 +123,16 @@ made_checkpoint n l ps s hn hl hp hs = record {
   received = All-map IsLabel (λ (p : Label × Label). p.1) ps (All-weaker IsPeer (λ p. IsLabel p.1) (λ p h. h.1) ps hp.1);
   suits = hs.0;
   state = hs.1;
+  long = ha.0;
+  acts = All-weaker (IsHeldAct n) (IsActOf n) (λ a h. h.0) acts ha.1;
+  spelled = All-weaker (IsHeldAct n) IsSpelledAct (λ a h. h.1) acts ha.1;
 }
+
+all-both : (n : NodeId) (acts : List LineAct) → All (IsActOf n) acts → All IsSpelledAct acts → All (IsHeldAct n) acts
+all-both n [] a b = All-nil (IsHeldAct n)
+all-both n (x ∷ xs) a b =
+    All-cons (IsHeldAct n) x xs (All-head (IsActOf n) x xs a, All-head IsSpelledAct x xs b)
+    (all-both n xs (All-tail (IsActOf n) x xs a) (All-tail IsSpelledAct x xs b))
 
 checkpoint_field : IsField spelling IsCheckpoint checkpoint_at
 unfolding checkpoint_at
@@ -120,18 +142,25 @@ checkpoint_field =
     (λ v hv. behind node_field (λ (c : Checkpoint). c.node) from_line (λ c. (IsCheckpoint c × (m ≡ magic)) × (v ≡ version)) with_node (λ c h. h.0.0.node)
     (λ n hn. behind (number_field w64 (2 ^ 64) wide64) (λ (c : Checkpoint). c.line_len) from_peers
     (λ c. ((IsCheckpoint c × (m ≡ magic)) × (v ≡ version)) × (n ≡ c.node)) (with_line n) (λ c h. h.0.0.0.line_len)
-    (λ l hl. behind peers_field (λ (c : Checkpoint). zip c.sent c.received) (λ c. state_bytes c.state)
+    (λ l hl. behind peers_field (λ (c : Checkpoint). zip c.sent c.received) from_state
     (λ c. (((IsCheckpoint c × (m ≡ magic)) × (v ≡ version)) × (n ≡ c.node)) × (l ≡ c.line_len)) (with_peers n l) (λ c h. have_peers c h.0.0.0.0)
-    (λ ps hp. made_field (state_field n) (checkpoint_of n l ps) (λ c. state_bytes c.state)
-    (λ c. ((((IsCheckpoint c × (m ≡ magic)) × (v ≡ version)) × (n ≡ c.node)) × (l ≡ c.line_len)) × (ps ≡ zip c.sent c.received)) (λ s h. refl)
-    (λ s h. (((((made_checkpoint n l ps s hn hl hp h, hm), hv), refl), refl), zipped ps))
+    (λ ps hp. behind (state_field n) (λ (c : Checkpoint). c.state) (λ c. flat_map act_bytes c.acts)
+    (λ c. ((((IsCheckpoint c × (m ≡ magic)) × (v ≡ version)) × (n ≡ c.node)) × (l ≡ c.line_len)) × (ps ≡ zip c.sent c.received)) (with_state n l ps)
+    (λ c h. (subst (λ (k : NodeId). Suits k c.state) (sym h.0.0.1) h.0.0.0.0.0.suits, h.0.0.0.0.0.state))
+    (λ s hs. made_field (list_field (act_field n hn) l) (checkpoint_of n l ps s) (λ c. flat_map act_bytes c.acts)
+    (λ c. (((((IsCheckpoint c × (m ≡ magic)) × (v ≡ version)) × (n ≡ c.node)) × (l ≡ c.line_len)) × (ps ≡ zip c.sent c.received)) × (s ≡ c.state))
+    (λ acts h. refl)
+    (λ acts h. ((((((made_checkpoint n l ps s acts hn hl hp hs h, hm), hv), refl), refl), zipped ps), refl))
     (λ c h. (
-      c.state,
+      c.acts,
       (
-        (subst (λ (k : NodeId). Suits k c.state) (sym h.0.0.1) h.0.0.0.0.0.suits, h.0.0.0.0.0.state),
-        checkpoint_is n l ps c h.0.0.1 h.0.1 h.1 h.0.0.0.0.0.peers.2,
+        (
+          h.0.0.0.0.0.0.long ∙ sym h.0.0.1,
+          all-both n c.acts (subst (λ (k : NodeId). All (IsActOf k) c.acts) (sym h.0.0.0.1) h.0.0.0.0.0.0.acts) h.0.0.0.0.0.0.spelled,
+        ),
+        checkpoint_is n l ps s c h.0.0.0.1 h.0.0.1 h.0.1 h.1 h.0.0.0.0.0.0.peers.2,
       ),
-    ))))))) in
+    )))))))) in
     record { again = f.again; takes = f.takes }
 
 checkpoint_lasts : Lasts checkpoint_at
@@ -142,7 +171,8 @@ checkpoint_lasts =
     (λ v. behind_lasts with_node node_lasts
     (λ n. behind_lasts (with_line n) (number_lasts w64)
     (λ l. behind_lasts (with_peers n l) peers_lasts
-    (λ ps. made_lasts (checkpoint_of n l ps) (state_lasts n)))))) in
+    (λ ps. behind_lasts (with_state n l ps) (state_lasts n)
+    (λ s. made_lasts (checkpoint_of n l ps s) (list_lasts (act_lasts n) l))))))) in
     record { goes_on = l.goes_on }
 
 -- ---- its marks
@@ -241,18 +271,19 @@ is_read_back (Err x) c e h = tt
 -- ---- what the code does step by step
 
 pub read_checkpoint : (bytes r1 r2 : List ℕ) (n : NodeId) (r3 : List ℕ) (l : ℕ) (r4 : List ℕ) (ps : List (Label × Label)) (r5 : List ℕ) (s : State)
-    (r6 : List ℕ)
+    (r6 : List ℕ) (acts : List LineAct) (r7 : List ℕ)
     → magic_at bytes ≡ Ok (magic, r1) → version_at r1 ≡ Ok (version, r2) → node_at r2 ≡ Ok (n, r3) → number_at w64 r3 ≡ Ok (l, r4)
     → peers_at r4 ≡ Ok (ps, r5) → state_at n r5 ≡ Ok (s, r6)
-    → checkpoint_at bytes ≡ Ok (checkpoint_of n l ps s, r6)
+    → list_at (act_at n) l r6 ≡ Ok (acts, r7) → checkpoint_at bytes ≡ Ok (checkpoint_of n l ps s acts, r7)
 unfolding checkpoint_at
-read_checkpoint bytes r1 r2 n r3 l r4 ps r5 s r6 a b c d e f =
+read_checkpoint bytes r1 r2 n r3 l r4 ps r5 s r6 acts r7 a b c d e f g =
     ap (λ (r : Result (List ℕ × List ℕ) CkptError). r >>= λ m. with_magic m.0 m.1) a
     ∙ ap (λ (r : Result (ℕ × List ℕ) CkptError). r >>= λ v. with_version v.0 v.1) b
     ∙ ap (λ (r : Result (NodeId × List ℕ) CkptError). r >>= λ n. with_node n.0 n.1) c
     ∙ ap (λ (r : Result (ℕ × List ℕ) CkptError). r >>= λ l. with_line n l.0 l.1) d
     ∙ ap (λ (r : Result (List (Label × Label) × List ℕ) CkptError). r >>= λ ps. with_peers n l ps.0 ps.1) e
-    ∙ ap (made (checkpoint_of n l ps)) f
+    ∙ ap (λ (r : Result (State × List ℕ) CkptError). r >>= λ s. with_state n l ps s.0 s.1) f
+    ∙ ap (made (checkpoint_of n l ps s)) g
 
 -- the marks of a checkpoint are read of its spelling
 pub marks_again : (c : Checkpoint) → IsCheckpoint c → marks_at (spelling c) ≡ Ok (marks_of c)
@@ -264,26 +295,28 @@ marks_again c h =
     let n = bind_ok (node_at v.0.1) (λ n. with_node n.0 n.1) all.0 v.2 in
     let l = bind_ok (number_at w64 n.0.1) (λ l. with_line n.0.0 l.0 l.1) all.0 n.2 in
     let ps = bind_ok (peers_at l.0.1) (λ ps. with_peers n.0.0 l.0.0 ps.0 ps.1) all.0 l.2 in
-    let s = bind_ok (state_at n.0.0 ps.0.1) (λ s. the_ok (checkpoint_of n.0.0 l.0.0 ps.0.0 s.0, s.1)) all.0 ps.2 in
+    let s = bind_ok (state_at n.0.0 ps.0.1) (λ s. with_state n.0.0 l.0.0 ps.0.0 s.0 s.1) all.0 ps.2 in
+    let acts = bind_ok (list_at (act_at n.0.0) l.0.0 s.0.1) (λ a. the_ok (checkpoint_of n.0.0 l.0.0 ps.0.0 s.0.0 a.0, a.1)) all.0 s.2 in
     ap (λ (r : Result (List ℕ × List ℕ) CkptError). r >>= λ m. marks_magic m.1) m.1
     ∙ ap (λ (r : Result (ℕ × List ℕ) CkptError). r >>= λ v. marks_version v.1) v.1
     ∙ ap (λ (r : Result (NodeId × List ℕ) CkptError). r >>= λ n. marks_node n.0 n.1) n.1
     ∙ ap (λ (r : Result (ℕ × List ℕ) CkptError). r >>= λ l. marks_line n.0.0 l.0 l.1) l.1
     ∙ ap (λ (r : Result (List (Label × Label) × List ℕ) CkptError). r >>= λ ps. marks_peers n.0.0 l.0.0 ps.0) ps.1
-    ∙ ap (λ (k : Checkpoint). the_ok (marks_of k)) (same_checkpoint s.2 (ended all.0 c all.2))
+    ∙ ap (λ (k : Checkpoint). the_ok (marks_of k)) (same_checkpoint acts.2 (ended all.0 c all.2))
 
-pub spelled_out : (o0 o1 o2 o3 o4 o5 : List ℕ) (c : Checkpoint) → o0 ≡ [] → o1 ≡ o0 ++ (magic ++ version ∷ []) → o2 ≡ o1 ++ node_bytes c.node
+pub spelled_out : (o0 o1 o2 o3 o4 o5 o6 : List ℕ) (c : Checkpoint) → o0 ≡ [] → o1 ≡ o0 ++ (magic ++ version ∷ []) → o2 ≡ o1 ++ node_bytes c.node
     → o3 ≡ o2 ++ to_be_bytes w64 c.line_len → o4 ≡ o3 ++ peers_bytes (zip c.sent c.received) → o5 ≡ o4 ++ state_bytes c.state
-    → o5 ≡ spelling c
-spelled_out o0 o1 o2 o3 o4 o5 c e0 e1 e2 e3 e4 e5 =
+    → o6 ≡ o5 ++ flat_map act_bytes c.acts → o6 ≡ spelling c
+spelled_out o0 o1 o2 o3 o4 o5 o6 c e0 e1 e2 e3 e4 e5 e6 =
+    let more : o6 ≡ o4 ++ from_state c = both_appended o4 o5 o6 (state_bytes c.state) (flat_map act_bytes c.acts) e5 e6 in
     let a1 : o1 ≡ magic ++ version ∷ [] = e1 ∙ ap (λ (o : List ℕ). o ++ (magic ++ version ∷ [])) e0 in
     let a2 = both_appended [] o1 o2 (magic ++ version ∷ []) (node_bytes c.node) a1 e2 in
     let a3 = both_appended [] o2 o3 ((magic ++ version ∷ []) ++ node_bytes c.node) (to_be_bytes w64 c.line_len) a2 e3 in
     let a4 = both_appended [] o3 o4 (((magic ++ version ∷ []) ++ node_bytes c.node) ++ to_be_bytes w64 c.line_len)
     (peers_bytes (zip c.sent c.received)) a3 e4 in
-    let a5 = both_appended [] o4 o5 ((((magic ++ version ∷ []) ++ node_bytes c.node) ++ to_be_bytes w64 c.line_len) ++ peers_bytes (zip c.sent c.received))
-    (state_bytes c.state) a4 e5 in
-    a5 ∙ regrouped (magic ++ version ∷ []) (node_bytes c.node) (to_be_bytes w64 c.line_len) (peers_bytes (zip c.sent c.received)) (state_bytes c.state)
+    let a5 = both_appended [] o4 o6 ((((magic ++ version ∷ []) ++ node_bytes c.node) ++ to_be_bytes w64 c.line_len) ++ peers_bytes (zip c.sent c.received))
+    (from_state c) a4 more in
+    a5 ∙ regrouped (magic ++ version ∷ []) (node_bytes c.node) (to_be_bytes w64 c.line_len) (peers_bytes (zip c.sent c.received)) (from_state c)
   where
     regrouped : (a b c d e : List ℕ) → (((a ++ b) ++ c) ++ d) ++ e ≡ a ++ (b ++ (c ++ (d ++ e)))
     regrouped a b c d e = simp append_assoc

@@ -8,7 +8,7 @@ use Rattle.kt_ckpt.specs.declared.error.CkptError.TheVariants.{Field}
 use Rattle.kt_ckpt.specs.Limits.{worker_code, shard_code}
 use Rattle.kt_tuple.specs.declared.node.TheConstants.{MAX_WORKERS, MAX_SHARDS}
 use Rattle.kt_ckpt.specs.Reading.{made, byte_within}
-use Rattle.kt_ckpt.specs.Checkpoint.{IsNode, node_bytes, node_behind, node_at}
+use Rattle.kt_ckpt.specs.Node.{IsNode, node_bytes, node_behind, node_at}
 use Rattle.kt_ckpt.proofs.Field.{IsField, Lasts}
 use Rattle.kt_ckpt.proofs.Combined.{fault, refused, refused_lasts, same_field, either_lasts, behind, behind_lasts, made_field, made_lasts}
 use Rattle.kt_ckpt.proofs.Primitive.{byte_field, byte_lasts, byte_within_field, byte_within_lasts}

@@ -11,9 +11,11 @@ use Rattle.kt_ckpt.specs.declared.error.CkptError.{CkptError}
 use Rattle.kt_ckpt.specs.declared.error.CkptError.TheVariants.{Magic, Version, Field, Extra}
 use Rattle.kt_ckpt.specs.declared.state.State.{State}
 use Rattle.kt_ckpt.specs.declared.state.State.TheVariants as states
-use Rattle.kt_ckpt.specs.Limits.{magic, version, worker_code, shard_code}
+use Rattle.kt_ckpt.specs.Limits.{magic, version}
 use Rattle.kt_ckpt.specs.declared.limits.TheConstants.{MAX_PEERS}
-use Rattle.kt_tuple.specs.declared.node.TheConstants.{MAX_WORKERS, MAX_SHARDS}
+use Rattle.kt_ckpt.specs.declared.acts.LineAct.{LineAct}
+use Rattle.kt_ckpt.specs.Node.{IsNode, node_bytes, node_at}
+use Rattle.kt_ckpt.specs.Acts.{IsActOf, IsSpelledAct, act_bytes, act_at}
 use Rattle.kt_ckpt.specs.Reading.{◌>>=◌, made, byte_at, bytes_at, byte_within, number_at, list_at}
 use Rattle.kt_ckpt.specs.State.{IsWorker, IsShard, IsCountedWorker, IsCountedShard}
 use Rattle.kt_ckpt.specs.State.{worker_bytes, shard_bytes, worker_at, shard_at}
@@ -26,20 +28,17 @@ pub record Checkpoint : Type 0 where
   pub sent : List Label
   pub received : List Label
   pub state : State
+  pub acts : List LineAct
 
-abbrev pub made_of : NodeId → ℕ → List Label → List Label → State → Checkpoint
-made_of node line_len sent received state = record {
+abbrev pub made_of : NodeId → ℕ → List Label → List Label → State → List LineAct → Checkpoint
+made_of node line_len sent received state acts = record {
   node = node;
   line_len = line_len;
   sent = sent;
   received = received;
   state = state;
+  acts = acts;
 }
-
--- one of the workers or shards that there may be
-abbrev pub IsNode : NodeId → Type 0
-IsNode (Worker i) = (1 ≤ i) × (i ≤ MAX_WORKERS)
-IsNode (Shard i) = (1 ≤ i) × (i ≤ MAX_SHARDS)
 
 -- a worker has a worker's state, a shard a shard's
 abbrev pub Suits : NodeId → State → Type 0
@@ -62,6 +61,11 @@ pub record HasCounts (c : Checkpoint) : Type 0 where
   pub peers : ArePeers c.sent c.received
   pub suits : Suits c.node c.state
   pub state : IsCountedState c.state
+  pub long : length c.acts ≡ c.line_len
+
+-- each act may stand in the node's line
+abbrev pub HasShape : Checkpoint → Type 0
+HasShape c = All (IsActOf c.node) c.acts
 
 abbrev pub IsLabel : Label → Type 0
 IsLabel l = (l.incarnation < 2 ^ 64) × (l.count < 2 ^ 64)
@@ -80,10 +84,9 @@ pub record IsCheckpoint (c : Checkpoint) : Type 0 where
   pub received : All IsLabel c.received
   pub suits : Suits c.node c.state
   pub state : IsState c.state
-
-abbrev pub node_bytes : NodeId → List ℕ
-node_bytes (Worker i) = worker_code ∷ i ∷ []
-node_bytes (Shard i) = shard_code ∷ i ∷ []
+  pub long : length c.acts ≡ c.line_len
+  pub acts : HasShape c
+  pub spelled : All IsSpelledAct c.acts
 
 abbrev pub label_bytes : Label → List ℕ
 label_bytes l = to_be_bytes w64 l.incarnation ++ to_be_bytes w64 l.count
@@ -103,7 +106,7 @@ state_bytes (states.Shard s) = shard_bytes s
 abbrev pub spelling : Checkpoint → List ℕ
 spelling c =
     magic ++ (version ∷ (node_bytes c.node ++ (to_be_bytes w64 c.line_len
-    ++ (peers_bytes (zip c.sent c.received) ++ state_bytes c.state))))
+    ++ (peers_bytes (zip c.sent c.received) ++ (state_bytes c.state ++ flat_map act_bytes c.acts)))))
 
 -- the magic bytes are one field
 unfoldable pub magic_at : List ℕ → Result (List ℕ × List ℕ) CkptError
@@ -115,18 +118,6 @@ unfoldable pub version_at : List ℕ → Result (ℕ × List ℕ) CkptError
 version_at bytes = do
   read ← byte_at bytes
   if read.0 == version then Ok (version, read.1) else Err Version
-
--- the node behind the code of its kind
-abbrev pub node_behind : ℕ → List ℕ → Result (NodeId × List ℕ) CkptError
-node_behind kind bytes =
-    if kind == worker_code then made Worker (byte_within 1 MAX_WORKERS bytes)
-    else if kind == shard_code then made Shard (byte_within 1 MAX_SHARDS bytes)
-    else Err Field
-
-unfoldable pub node_at : List ℕ → Result (NodeId × List ℕ) CkptError
-node_at bytes = do
-  kind ← byte_at bytes
-  node_behind kind.0 kind.1
 
 unfoldable pub label_at : List ℕ → Result (Label × List ℕ) CkptError
 label_at bytes = do
@@ -150,8 +141,9 @@ unfoldable pub state_at : NodeId → List ℕ → Result (State × List ℕ) Ckp
 state_at (Worker i) bytes = made states.Worker (worker_at bytes)
 state_at (Shard i) bytes = made states.Shard (shard_at bytes)
 
-abbrev pub checkpoint_of : NodeId → ℕ → List (Label × Label) → State → Checkpoint
-checkpoint_of node line_len peers state = made_of node line_len (map (λ p. p.0) peers) (map (λ p. p.1) peers) state
+abbrev pub checkpoint_of : NodeId → ℕ → List (Label × Label) → State → List LineAct → Checkpoint
+checkpoint_of node line_len peers state acts =
+    made_of node line_len (map (λ p. p.0) peers) (map (λ p. p.1) peers) state acts
 
 -- a checkpoint, and the bytes behind it
 unfoldable pub checkpoint_at : List ℕ → Result (Checkpoint × List ℕ) CkptError
@@ -162,7 +154,8 @@ checkpoint_at bytes = do
   line_len ← number_at w64 node.1
   peers ← peers_at line_len.1
   state ← state_at node.0 peers.1
-  Ok (checkpoint_of node.0 line_len.0 peers.0 state.0, state.1)
+  acts ← list_at (act_at node.0) line_len.0 state.1
+  Ok (checkpoint_of node.0 line_len.0 peers.0 state.0 acts.0, acts.1)
 
 -- a checkpoint is all of the bytes
 unfoldable pub read : List ℕ → Result Checkpoint CkptError

@@ -6,5 +6,13 @@ pub mod Tuple
 pub mod Op
 pub mod Fields
 pub mod State
+pub mod Node
+pub mod Acts
+pub mod LineActs
 pub mod Checkpoint
 pub mod Marks
+pub mod OldLimits
+pub mod OldParts
+pub mod OldState
+pub mod Old
+pub mod inner

@@ -61,3 +61,25 @@ got_code = 1
 
 abbrev pub none_code : ℕ
 none_code = 2
+
+-- which act
+abbrev pub issue_code : ℕ
+issue_code = 1
+
+abbrev pub repeat_code : ℕ
+repeat_code = 2
+
+abbrev pub heard_code : ℕ
+heard_code = 3
+
+abbrev pub served_code : ℕ
+served_code = 4
+
+abbrev pub again_code : ℕ
+again_code = 5
+
+abbrev pub accepted_code : ℕ
+accepted_code = 6
+
+abbrev pub ignored_code : ℕ
+ignored_code = 7

@@ -5,7 +5,8 @@ use Rattle.kt_tuple.specs.declared.node.NodeId.{NodeId}
 use Rattle.kt_link.specs.declared.label.Label.{Label}
 use Rattle.kt_ckpt.specs.declared.error.CkptError.{CkptError}
 use Rattle.kt_ckpt.specs.Reading.{◌>>=◌, number_at}
-use Rattle.kt_ckpt.specs.Checkpoint.{Checkpoint, magic_at, version_at, node_at, peers_at}
+use Rattle.kt_ckpt.specs.Checkpoint.{Checkpoint, magic_at, version_at, peers_at}
+use Rattle.kt_ckpt.specs.Node.{node_at}
 
 -- a node, the length of its line, and for each neighbour in node order the last label sent to it and heard from it
 pub record MarkFields : Type 0 where

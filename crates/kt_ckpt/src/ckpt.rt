@@ -2,6 +2,7 @@
 
 ghost use Rattle.std.specs.Prelude.{◌≡◌, IfOk};
 
+use crate::chain::Acts;
 use crate::marks::Marks;
 use crate::state::State;
 use kt_link::Label;
@@ -13,33 +14,39 @@ use std::sync::Arc;
 /// The checkpoint of a node (Koo and Toueg, "Checkpointing and Rollback-Recovery for Distributed Systems"): what the
 /// node needs to go on from a moment of its past. It has plain fields and no worker or shard, since bytes allow more
 /// than a node can hold. Whether it fits a node is asked where the node is made of it (docs/DECISIONS.md#checkpoints).
-/// It is two shared blocks, its marks and its state, so that node and store hold one checkpoint in one place.
+/// Its marks, its state and its acts are shared, so that node and store hold one checkpoint in one place, and the acts
+/// of an older checkpoint stand in one place with those of a newer one.
 #[derive(Debug, Drop)]
 pub struct Ckpt {
     pub(crate) marks: Marks,
     pub(crate) state: Arc<State, Global>,
+    pub(crate) acts: Acts,
 }
 
 impl Model for Ckpt {
     ghost use Rattle.std.specs.Arc.{arc_value};
-    ghost use Rattle.kt_ckpt.specs.Checkpoint.{Checkpoint, HasCounts, made_of};
+    ghost use Rattle.kt_ckpt.specs.Checkpoint.{Checkpoint, HasCounts, HasShape, made_of};
 
     ghost Value = { Checkpoint };
 
-    ghost view = { λ c. made_of c.marks.node c.marks.line_len c.marks.sent c.marks.received (arc_value c.state) };
+    ghost view = { λ c.
+        made_of c.marks.node c.marks.line_len c.marks.sent c.marks.received (arc_value c.state) c.acts };
 
-    ghost invariant = { λ c. HasCounts
-        (made_of c.marks.node c.marks.line_len c.marks.sent c.marks.received (arc_value c.state)) };
+    ghost invariant = { λ c.
+        HasCounts (made_of c.marks.node c.marks.line_len c.marks.sent c.marks.received (arc_value c.state) c.acts)
+        × HasShape
+        (made_of c.marks.node c.marks.line_len c.marks.sent c.marks.received (arc_value c.state) c.acts) };
 }
 
 impl Ckpt {
-    ghost use Rattle.kt_ckpt.specs.Checkpoint.{HasCounts, made_of};
+    ghost use Rattle.kt_ckpt.specs.Checkpoint.{HasCounts, HasShape, made_of};
     ghost use Rattle.kt_ckpt.specs.Marks.{marks_of};
 
     /// The checkpoint of this node, whose log (`line`) has this length. For each neighbour, in node order, it has the
     /// label of the last message sent to it and of the last heard from it, and it has the node's state. The node is one
     /// of the workers or shards that there may be, it has a neighbour and no more than `MAX_PEERS`, and the state is
-    /// one of such a node, with counts within the format. It asks for these counts and refuses nothing but for want of
+    /// one of such a node, with counts within the format. The acts are those of the line, as many as its length, and
+    /// each may stand in it, as `are_acts_of` tells. It asks for counts and shape and refuses nothing but for want of
     /// memory: a node keeps them.
     pub fn new(
         alloc: Global,
@@ -48,13 +55,15 @@ impl Ckpt {
         sent: Vec<Label>,
         received: Vec<Label>,
         state: State,
+        acts: Acts,
     ) -> Result<Ckpt, AllocError>
-        requires { HasCounts (made_of node line_len sent.items received.items state) }
-        ensures { IfOk result (λ c. c ≡ made_of node line_len sent.items received.items state) }
+        requires counts { HasCounts (made_of node line_len sent.items received.items state acts) }
+        requires shape { HasShape (made_of node line_len sent.items received.items state acts) }
+        ensures { IfOk result (λ c. c ≡ made_of node line_len sent.items received.items state acts) }
     {
         let marks = Marks::new(alloc, node, line_len, sent, received)?;
         let state = Arc::new(alloc, state)?;
-        Ok(Ckpt { marks, state })
+        Ok(Ckpt { marks, state, acts })
     }
 
     /// Whose checkpoint it is.
@@ -93,20 +102,28 @@ impl Ckpt {
         &self.state
     }
 
-    /// All of it but the state. They share their block with this checkpoint: they take no memory.
+    /// The acts of the node's line when it was taken, oldest first.
+    pub fn acts(&self) -> &Acts
+        ensures { result.now ≡ self.now.acts }
+    {
+        &self.acts
+    }
+
+    /// All of it but the state and the acts. They share their block with this checkpoint: they take no memory.
     pub fn marks(&self, alloc: Global) -> Result<Marks, AllocError>
         ensures { IfOk result (λ m. m ≡ marks_of self.now) }
     {
         self.marks.copy(alloc)
     }
 
-    /// An equal checkpoint, which shares marks and state with this one: it takes no memory.
+    /// An equal checkpoint, which shares marks, state and acts with this one: it takes no memory.
     pub fn copy(&self, alloc: Global) -> Result<Ckpt, AllocError>
         ensures { IfOk result (λ c. c ≡ self.now) }
     {
         Ok(Ckpt {
             marks: self.marks.copy(alloc)?,
             state: Arc::try_clone(&self.state)?,
+            acts: self.acts.copy()?,
         })
     }
 }

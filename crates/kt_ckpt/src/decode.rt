@@ -1,13 +1,18 @@
 //! A checkpoint, read.
 
-ghost use Rattle.std.specs.Prelude.{◌≡◌, ◌≢◌, ℕ, ◌<◌, ◌≤◌, List, ◌∷◌, ◌++◌, IfOk, Ok, Err, length, map, take};
-ghost use Rattle.kt_ckpt.specs.Checkpoint.{Checkpoint, IsCheckpoint, HasCounts, IsNode, IsCountedState, Suits};
-ghost use Rattle.kt_ckpt.specs.Checkpoint.{spelling, read, magic_at, version_at, node_behind, node_at};
+ghost use Rattle.std.specs.Prelude.{◌≡◌, ◌≢◌, All, ℕ, ◌<◌, ◌≤◌, List, ◌∷◌, ◌++◌, IfOk, Ok, Err, length, map, take};
+ghost use Rattle.kt_ckpt.specs.Acts.{IsActOf};
+ghost use Rattle.kt_ckpt.specs.Checkpoint.{Checkpoint, IsCheckpoint, HasCounts, IsCountedState, Suits};
+ghost use Rattle.kt_ckpt.specs.Checkpoint.{spelling, read, magic_at, version_at};
 ghost use Rattle.kt_ckpt.specs.Checkpoint.{label_at, peer_at, peers_at, state_at, checkpoint_of, checkpoint_at};
 ghost use Rattle.kt_ckpt.specs.Limits.{magic, version};
 ghost use Rattle.kt_ckpt.specs.Marks.{fields_of, marks_at};
+ghost use Rattle.kt_ckpt.specs.Node.{IsNode, node_behind, node_at};
 ghost use Rattle.kt_ckpt.specs.Reading.{Gives};
 
+use crate::act_bytes::acts_at;
+use crate::acts::LineAct;
+use crate::chain::Acts;
 use crate::ckpt::Ckpt;
 use crate::error::CkptError;
 use crate::limits::{MAGIC, MAX_PEERS, SHARD, VERSION, WORKER};
@@ -116,28 +121,33 @@ fn checkpoint_at(alloc: Global, bytes: &[u8]) -> Result<(Ckpt, &[u8]), CkptError
     let (line_len, rest) = u64_at(rest)?;
     let (peers, rest) = peers_at(alloc, rest)?;
     let (state, rest) = state_at(alloc, node, rest)?;
-    let ckpt = ckpt_of(alloc, node, line_len, &peers, state)?;
+    let (acts, rest) = acts_at(alloc, node, line_len, rest)?;
+    let ckpt = ckpt_of(alloc, node, line_len, &peers, state, acts)?;
     Ok((ckpt, rest))
 }
 
 /// The checkpoint with these labels sent to its neighbours, and received from them.
 #[tactic(auto, using(crate::proofs::Peers::counted_peers))]
-fn ckpt_of(
+pub(crate) fn ckpt_of(
     alloc: Global,
     node: NodeId,
     line_len: u64,
     peers: &[(Label, Label)],
     state: State,
+    acts: Vec<LineAct>,
 ) -> Result<Ckpt, AllocError>
     requires node { IsNode node }
     requires few { (1 ≤ length peers.now) × (length peers.now ≤ MAX_PEERS) }
     requires suits { Suits node state }
     requires counted { IsCountedState state }
-    ensures { IfOk result (λ c. c ≡ checkpoint_of node line_len peers.now state) }
+    requires long { length acts.items ≡ line_len }
+    requires shape { All (IsActOf node) acts.items }
+    ensures { IfOk result (λ c. c ≡ checkpoint_of node line_len peers.now state acts.items) }
 {
     let sent = sent_of(alloc, peers)?;
     let received = received_of(alloc, peers)?;
-    Ckpt::new(alloc, node, line_len, sent, received, state)
+    let acts = Acts::none().with(alloc, acts)?;
+    Ckpt::new(alloc, node, line_len, sent, received, state, acts)
 }
 
 fn sent_of(alloc: Global, peers: &[(Label, Label)]) -> Result<Vec<Label>, AllocError>
@@ -154,7 +164,7 @@ fn received_of(alloc: Global, peers: &[(Label, Label)]) -> Result<Vec<Label>, Al
 
 /// The bytes behind the magic ones; else `Cut` or `Magic`.
 #[tactic(auto, unfolding(crate::specs::Checkpoint::magic_at))]
-fn magic_at(bytes: &[u8]) -> Result<&[u8], CkptError>
+pub(crate) fn magic_at(bytes: &[u8]) -> Result<&[u8], CkptError>
     ensures { Gives (λ rest. (magic, rest.now)) result (magic_at bytes.now) }
 {
     // The four magic bytes are one field: how many there are is judged before what they are.
@@ -179,7 +189,7 @@ fn version_at(bytes: &[u8]) -> Result<&[u8], CkptError>
     }
 }
 
-#[tactic(auto, unfolding(crate::specs::Checkpoint::node_at))]
+#[tactic(auto, unfolding(crate::specs::Node::node_at))]
 fn node_at(bytes: &[u8]) -> Result<(NodeId, &[u8]), CkptError>
     ensures value { Gives (λ x. (x.0, x.1.now)) result (node_at bytes.now) }
     ensures is { IfOk result (λ x. IsNode x.0) }

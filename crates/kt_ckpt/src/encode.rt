@@ -2,11 +2,14 @@
 
 ghost use Rattle.std.specs.Prelude.{◌≡◌, ◌++◌, ◌∷◌, [], All, IfOk, OnOk, Ok, length};
 ghost use Rattle.std.specs.List.{flat_map, zip};
-ghost use Rattle.kt_ckpt.specs.Checkpoint.{IsCheckpoint, HasCounts, IsCountedState, IsLabel, IsState, ArePeers};
-ghost use Rattle.kt_ckpt.specs.Checkpoint.{spelling, read, node_bytes, label_bytes, peer_bytes, peers_bytes};
-ghost use Rattle.kt_ckpt.specs.Checkpoint.{state_bytes, made_of};
+ghost use Rattle.kt_ckpt.specs.Checkpoint.{ArePeers, HasCounts, HasShape, IsCheckpoint, IsCountedState, IsLabel};
+ghost use Rattle.kt_ckpt.specs.Checkpoint.{spelling, read, label_bytes, peer_bytes, peers_bytes};
+ghost use Rattle.kt_ckpt.specs.Checkpoint.{IsState, made_of, state_bytes};
 ghost use Rattle.kt_ckpt.specs.Limits.{magic, version};
+ghost use Rattle.kt_ckpt.specs.Node.{node_bytes};
 
+use crate::act_bytes::push_line;
+use crate::chain::Acts;
 use crate::ckpt::Ckpt;
 use crate::limits::{MAGIC, SHARD, VERSION, WORKER};
 use crate::numbers::push_u64;
@@ -32,6 +35,7 @@ impl Ckpt {
             self.sent(),
             self.received(),
             &self.state,
+            self.acts(),
         )
     }
 }
@@ -43,10 +47,13 @@ fn encode_parts(
     sent: &[Label],
     received: &[Label],
     state: &State,
+    acts: &Acts,
 ) -> Result<Vec<u8>, AllocError>
-    requires { HasCounts (made_of node line_len sent.now received.now state.now) }
-    ensures value { IfOk result (λ v. v.items ≡ spelling (made_of node line_len sent.now received.now state.now)) }
-    ensures held { OnOk result (IsCheckpoint (made_of node line_len sent.now received.now state.now)) }
+    requires counts { HasCounts (made_of node line_len sent.now received.now state.now acts.now) }
+    requires shape { HasShape (made_of node line_len sent.now received.now state.now acts.now) }
+    ensures value { IfOk result (λ v.
+        v.items ≡ spelling (made_of node line_len sent.now received.now state.now acts.now)) }
+    ensures held { OnOk result (IsCheckpoint (made_of node line_len sent.now received.now state.now acts.now)) }
 {
     let mut out = Vec::new(alloc);
     push_front(&mut out)?;
@@ -54,6 +61,7 @@ fn encode_parts(
     push_u64(&mut out, line_len)?;
     push_peers(&mut out, sent, received)?;
     push_state(&mut out, state)?;
+    push_line(alloc, &mut out, acts)?;
     Ok(out)
 }
 
@@ -64,7 +72,7 @@ fn push_front(out: &mut Vec<u8>) -> Result<(), AllocError>
     Ok(out.push(VERSION)?)
 }
 
-fn push_node(out: &mut Vec<u8>, node: NodeId) -> Result<(), AllocError>
+pub(crate) fn push_node(out: &mut Vec<u8>, node: NodeId) -> Result<(), AllocError>
     ensures { OnOk result (out.new.items ≡ out.old.items ++ node_bytes node) }
 {
     let (kind, index) = match node {
@@ -83,7 +91,11 @@ fn push_label(out: &mut Vec<u8>, label: Label) -> Result<(), AllocError>
     push_u64(out, label.count)
 }
 
-fn push_peers(out: &mut Vec<u8>, sent: &[Label], received: &[Label]) -> Result<(), AllocError>
+pub(crate) fn push_peers(
+    out: &mut Vec<u8>,
+    sent: &[Label],
+    received: &[Label],
+) -> Result<(), AllocError>
     requires { ArePeers sent.now received.now }
     ensures ok { OnOk result (out.new.items ≡ out.old.items ++ peers_bytes (zip sent.now received.now)) }
     ensures held { OnOk result (All IsLabel sent.now × All IsLabel received.now) }
@@ -108,7 +120,7 @@ fn push_labels(out: &mut Vec<u8>, sent: &[Label], received: &[Label]) -> Result<
     }
 }
 
-fn push_state(out: &mut Vec<u8>, state: &State) -> Result<(), AllocError>
+pub(crate) fn push_state(out: &mut Vec<u8>, state: &State) -> Result<(), AllocError>
     requires { IsCountedState state.now }
     ensures ok { OnOk result (out.new.items ≡ out.old.items ++ state_bytes state.now) }
     ensures held { OnOk result (IsState state.now) }

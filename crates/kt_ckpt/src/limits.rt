@@ -48,3 +48,18 @@ pub(crate) const DONE: u8 = 0;
 pub(crate) const GOT: u8 = 1;
 /// The code of the answer that no tuple matched: nothing follows.
 pub(crate) const NONE: u8 = 2;
+
+/// The code of a worker's first request.
+pub(crate) const ISSUE: u8 = 1;
+/// The code of a worker's request that is sent once more.
+pub(crate) const REPEAT: u8 = 2;
+/// The code of a request that a shard heard.
+pub(crate) const HEARD: u8 = 3;
+/// The code of a service: the answer follows.
+pub(crate) const SERVED: u8 = 4;
+/// The code of a kept answer that a shard sent again, which follows.
+pub(crate) const AGAIN: u8 = 5;
+/// The code of an answer that a worker accepted, which follows.
+pub(crate) const ACCEPTED: u8 = 6;
+/// The code of a message that was ignored: at a worker the answer in it follows.
+pub(crate) const IGNORED: u8 = 7;

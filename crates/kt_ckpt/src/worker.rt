@@ -93,7 +93,7 @@ pub(crate) fn worker_at(alloc: Global, bytes: &[u8]) -> Result<(WorkerState, &[u
 }
 
 #[tactic(auto, unfolding(crate::specs::State::pc_at))]
-fn pc_at(bytes: &[u8]) -> Result<(u16, &[u8]), CkptError>
+pub(crate) fn pc_at(bytes: &[u8]) -> Result<(u16, &[u8]), CkptError>
     ensures value { Gives (λ x. (x.0, x.1.now)) result (pc_at bytes.now) }
     ensures few { IfOk result (λ x. x.0 ≤ MAX_COMMANDS) }
 {

@@ -29,6 +29,11 @@ command_of word has_flag =
     else if is_word word (codes "run") then Some (Run (output_of has_flag))
     else None
 
+-- what a program is asked to do: a command, over the store in a file or in memory; or to carry the store in a file over
+pub data Asked : Type 0 where
+  Makes : Command → Option Text → Asked
+  Carries : Text → Asked
+
 -- the texts behind references
 abbrev pub texts : List (Bor Text) → List Text
 texts = map (λ w. w.now)

@@ -3,7 +3,9 @@ use Rattle.std.specs.Prelude.{◌≡◌, ℕ, Option, None, Some, Result, Ok, Er
 use Rattle.kt_store.specs.declared.store.CkptStore.{Ghosts}
 use Rattle.kt_scene.specs.Outside.{Reader, Writer}
 use Rattle.kt_command.specs.declared.command.Command.{Command}
-use Rattle.kt_command.specs.Command.{Text}
+use Rattle.kt_command.specs.Carried.{EndsCarried}
+use Rattle.kt_command.specs.Command.{Asked, Carries, Makes, Text}
+use Rattle.kt_store.specs.Content.{Content}
 use Rattle.kt_command.specs.Status.{EndsAs, EndsInMemory}
 
 -- how a command over the store ends, by some store of its kind, which stands for the one that was left
@@ -32,3 +34,11 @@ abbrev pub Ends : {S F : Type 0} → Ghosts S → (Text → Result S F → Type 
 Ends kind gives command None before after old new n = EndsInMemory command before after old new n
 Ends kind gives command (Some path) before after old new n =
     EndsInFile kind gives command path before after old new n
+
+-- how a program ends, by what it is asked to do
+abbrev pub EndsAsked : {S C F : Type 0} → Ghosts S → (Text → Result S F → Type 0) → (Text → Result C F → Type 0)
+    → (C → Content → Result (Unit {0}) F → Type 0) → Asked → (before after : Reader) (old new : Writer) → ℕ → Type 0
+EndsAsked kind gives connects carries (Makes command file) before after old new n =
+    Ends kind gives command file before after old new n
+EndsAsked kind gives connects carries (Carries path) before after old new n =
+    EndsCarried connects carries path before after old new n

@@ -3,12 +3,15 @@
 //!
 //! - Contract: `run_request`, clause `told`: a command ends with status 0 where its report or journal is written, and
 //!   else with the status of the fault that stopped it. It does so over a fresh store in memory, or over the very store
-//!   that was opened at the path that is named.
+//!   that was opened at the path that is named. A store of the version before is carried over by the journal that made
+//!   it (`carry_over`, clause `told`).
 //! - Stands on: kt_store, kt_world, kt_core, kt_scene, kt_stage, kt_run
 //! - Used by: linda_kt, kt_quick
-//! - Begin in: `request.rt`, then `running.rt`, and `status.rt` for the exit statuses.
+//! - Begin in: `request.rt`, then `running.rt` and `carrying.rt`, and `status.rt` for the exit statuses.
 #![tactic(auto)]
 
+mod carries;
+mod carrying;
 mod command;
 mod opens;
 mod request;
@@ -16,6 +19,8 @@ mod running;
 mod status;
 mod words;
 
+pub use carries::Carries;
+pub use carrying::carry_over;
 pub use command::Command;
 pub use opens::Opens;
 pub use request::{Request, run_request};

@@ -1,7 +1,10 @@
 //! What a program is asked to do, and over which store it does so.
-ghost use Rattle.std.specs.Prelude.{◌≡◌, option_map};
-ghost use Rattle.kt_command.specs.Opened.{Ends, EndsOpened};
+ghost use Rattle.std.specs.Prelude.{◌≡◌};
+ghost use Rattle.kt_command.specs.Asking.{asked};
+ghost use Rattle.kt_command.specs.Opened.{EndsAsked, EndsOpened};
 
+use crate::carries::Carries;
+use crate::carrying::carry_over;
 use crate::command::Command;
 use crate::opens::Opens;
 use crate::running::{run_in_memory, run_over};
@@ -14,21 +17,30 @@ use std::io::{Read, Write};
 use std::sync::Wait;
 use std::thread::Threads;
 
-/// A command, and the file that it is to keep its store in.
+/// What a program is asked to do.
 #[derive(Clone, Copy, Debug, PartialEq, Eq)]
-pub struct Request<'a> {
-    /// What is to be done.
-    pub command: Command,
-    /// None for a store in memory.
-    pub store: Option<&'a str>,
+pub enum Request<'a> {
+    /// A command over a store.
+    Make {
+        /// What is to be done.
+        command: Command,
+        /// The file that the store is to be kept in; none for a store in memory.
+        store: Option<&'a str>,
+    },
+    /// The store of the version before in a file is to be carried over, by the journal that made it.
+    Migrate {
+        /// The file.
+        store: &'a str,
+    },
 }
 
-/// Does what is asked, over a fresh store in memory or over the one that the opener opens at the path that is named. It
-/// is opened before anything is read.
+/// Does what is asked: a command over a fresh store in memory or over the one that the opener opens at the path that is
+/// named, which is opened before anything is read; or it carries the store at the path over.
 pub fn run_request<
     S: CkptStore + Send + Drop,
+    C: Drop,
     F: Display + Drop,
-    O: Opens<S, F>,
+    O: Opens<S, F> + Carries<C, F>,
     T: Threads + Wait + Sync,
     R: Read,
     W: Write,
@@ -42,23 +54,20 @@ pub fn run_request<
     writer: &mut Sink<W>,
     errors: &mut E,
 ) -> u8
-    ensures told { Ends S.CkptStore (O.gives opener) request.entry.command
-        (option_map (λ s. s.now) request.entry.store) reader.old reader.new writer.old writer.new result }
+    ensures told { EndsAsked S.CkptStore (O.gives opener) (O.connects opener) O.carries (asked request.entry)
+        reader.old reader.new writer.old writer.new result }
     ensures done_without_a_word { result ≡ DONE → errors.new ≡ errors.old }
 {
-    match request.store {
-        None => run_in_memory(threads, alloc, request.command, reader, writer, errors),
-        Some(path) => {
-            let opened = opener.open(path);
-            run_opened(
-                threads,
-                alloc,
-                request.command,
-                opened,
-                reader,
-                writer,
-                errors,
-            )
+    match request {
+        Request::Make { command, store } => match store {
+            None => run_in_memory(threads, alloc, command, reader, writer, errors),
+            Some(path) => {
+                let opened = opener.open(path);
+                run_opened(threads, alloc, command, opened, reader, writer, errors)
+            }
+        },
+        Request::Migrate { store } => {
+            carry_over::<C, F, O, R, W, E>(opener, alloc, store, reader, writer, errors)
         }
     }
 }
@@ -93,8 +102,8 @@ fn run_opened<
     }
 }
 
-/// Tells why a store was not opened.
-fn refuse_store<F: Display, E: Write>(fault: &F, errors: &mut E) -> u8
+/// Tells why a store was not opened, or not carried over.
+pub(crate) fn refuse_store<F: Display, E: Write>(fault: &F, errors: &mut E) -> u8
     ensures { result ≡ STORE }
 {
     // A standard error that is closed leaves the status alone to tell.

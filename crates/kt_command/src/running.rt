@@ -7,7 +7,7 @@ use crate::status::{DONE, end_replay, end_run};
 use kt_run::run_text_over;
 use kt_scene::{Sink, Source, replay_over};
 use kt_stage::OpenGate;
-use kt_store::{CkptStore, MemStore};
+use kt_store::{CkptStore, MemStore, memory_may_go};
 use std::alloc::Global;
 use std::io::{Read, Write};
 use std::sync::Wait;
@@ -55,6 +55,7 @@ pub fn run_in_memory<T: Threads + Wait + Sync, R: Read, W: Write, E: Write>(
     ensures done_without_a_word { result ≡ DONE → errors.new ≡ errors.old }
 {
     let store = MemStore::new(alloc);
+    memory_may_go();
     let (status, left) = run_over(threads, alloc, command, store, reader, writer, errors);
     drop(left);
     status

@@ -40,10 +40,10 @@ impl Machine {
         requires { AreNeighbours self.old.scene node to }
         ensures same { (c : Content) → state_of self.new c ≡ state_of self.old c }
         ensures link { OnOk result (1 ≤ room self.new.links node to) }
-        ensures history { OnOk result (1 ≤ room_of self.new.history node) }
+        ensures history { OnOk result (1 ≤ room_of self.new.past node) }
     {
         self.links.reserve(node, to, 1)?;
-        self.history.make_room(node)
+        self.past.make_room(node)
     }
 
     /// The worker says this, for which there is room, and it is noted.
@@ -51,7 +51,7 @@ impl Machine {
         requires ready { IsReady (state_of self.old empty_content) }
         requires can { CanApply (state_of self.old empty_content) node (said_plan node said) }
         requires link { 1 ≤ room self.old.links node said.to }
-        requires history { 1 ≤ room_of self.old.history node }
+        requires history { 1 ≤ room_of self.old.past node }
         ensures { (c : Content) → state_of self.new c ≡
             applied (state_of self.old c) (steps.Repeat node) (said_plan node said) }
     {
@@ -59,7 +59,7 @@ impl Machine {
         let to = said.to;
         let (message, note) = said.into_parts(node);
         send_one(&mut self.links, node, to, message);
-        self.history.add(note);
+        self.past.add(note);
         say_in_row(&mut self.nodes, row, to);
         count(&mut self.own, row);
         self.made += 1;

@@ -1,7 +1,7 @@
 //! What a step's owner makes of it: the table of steps, over what each node plans.
 
 ghost use Rattle.std.specs.Prelude.{◌≡◌, ◌+◌, ◌<◌, ◌^◌, IfOk, IfErr, IsTrue, is_ok};
-ghost use Rattle.kt_store.specs.Content.{empty_content};
+ghost use Rattle.kt_store.specs.Content.{Content, empty_content};
 ghost use Rattle.kt_node.specs.Plan.{Gives as Plans, Planned};
 ghost use Rattle.kt_node.specs.Ready.{CanAct};
 ghost use Rattle.kt_node.specs.Saving.{CanSaveNode};
@@ -125,8 +125,7 @@ impl Machine {
             Some(node) => Ok(View {
                 role,
                 node,
-                next: self.history.notes().len() as u64 + 1,
-                line: self.history.line(id),
+                past: &self.past,
             }),
             _ => Err(StepError::NoNode),
         }
@@ -168,7 +167,7 @@ impl Machine {
                 place,
             } => {
                 let number = worker.number();
-                let by = cause_of_waiting(&self.history, shard, number);
+                let by = cause_of_waiting(self.past.history(), shard, number);
                 seen.serve(alloc, number, place, by)
             }
             _ => voting(seen, alloc, told, step),
@@ -201,5 +200,20 @@ impl Machine {
             return judged;
         }
         Err(StepError::StepLimit)
+    }
+    /// As `plan`, once the acts are gathered that the step may save. Nothing changes that is to be seen.
+    pub(crate) fn gathered_plan(
+        &mut self,
+        alloc: Global,
+        told: Told,
+        step: Step,
+    ) -> Result<Plan, StepError>
+        requires ready { IsReady (state_of self.old empty_content) }
+        requires small { told.stored.incarnation + 1 < 2 ^ 64 }
+        ensures plan { Gives result (planned_by (state_of self.old empty_content) told step) }
+        ensures same { (c : Content) → state_of self.new c ≡ state_of self.old c }
+    {
+        self.gather(alloc, step);
+        self.plan(alloc, told, step)
     }
 }

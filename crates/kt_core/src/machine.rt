@@ -12,7 +12,7 @@ use crate::change::{change_node, count, make_room_in_row};
 use crate::opening::{no_counts, opening_nodes, scripts_are_short};
 use crate::scene::Scene;
 use crate::traffic::{add_note, make_room_on_links, send_all, take_off};
-use kt_history::History;
+use kt_ckpt::Past;
 use kt_link::Links;
 use kt_node::{Message, Node, Plan};
 use kt_script::Script;
@@ -29,7 +29,7 @@ pub(crate) struct Machine {
     /// By the nodes' numbers. A row is `None` where the scene has no such node; one that is down has its row.
     pub(crate) nodes: Vec<Option<Node>>,
     pub(crate) links: Links<Message>,
-    pub(crate) history: History,
+    pub(crate) past: Past,
     /// How many steps each node made, by the nodes' numbers.
     pub(crate) own: Vec<u64>,
     /// How many steps were made, by all nodes together: at most `MAX_STEPS`.
@@ -83,11 +83,29 @@ impl Machine {
                 no_script,
                 nodes,
                 links,
-                history: History::new(alloc),
+                past: Past::new(alloc),
                 own,
                 made: 0,
             }),
             Err(_) => Err(scene),
+        }
+    }
+
+    /// Gathers the acts of a node that the step may have saved, so that its checkpoints share them. Nothing that is to
+    /// be seen changes.
+    pub(crate) fn gather(&mut self, alloc: Global, step: Step)
+        ensures { (c : Content) → state_of self.new c ≡ state_of self.old c }
+    {
+        let saves = match step {
+            Step::Check { .. } => true,
+            Step::Deliver { from, to } => {
+                matches!(self.links.front(from, to), Some(Message::CheckAsk(_)))
+            }
+            _ => false,
+        };
+        if saves {
+            // Where memory is wanting the plan makes them itself, or is refused for it.
+            let _ = self.past.gather(alloc, step.owner());
         }
     }
 
@@ -100,7 +118,7 @@ impl Machine {
     {
         make_room_in_row(&mut self.nodes, owner.index())?;
         make_room_on_links(&mut self.links, owner, plan.send.messages())?;
-        self.history.make_room(owner)
+        self.past.make_room(owner)
     }
 
     /// Carries out the plan of the step, for which there is room; its write was made.
@@ -121,7 +139,7 @@ impl Machine {
         let row = owner.index();
         take_off(&mut self.links, step);
         send_all(&mut self.links, owner, send.into_messages());
-        add_note(&mut self.history, note);
+        add_note(&mut self.past, note);
         change_node(&mut self.nodes, row, change);
         count(&mut self.own, row);
         self.made += 1;

@@ -88,7 +88,7 @@ impl Machine {
         let number = worker.number();
         match self.seen(shard) {
             Ok(seen) => {
-                let by = cause_of_waiting(&self.history, shard, number);
+                let by = cause_of_waiting(self.past.history(), shard, number);
                 seen.short_serve(alloc, number, place, by)
             }
             Err(_) => Ok(None),
@@ -124,7 +124,7 @@ impl Machine {
     {
         make_room_in_row(&mut self.nodes, owner.index())?;
         make_room_on_link(&mut self.links, owner, &short.send)?;
-        self.history.make_room(owner)
+        self.past.make_room(owner)
     }
 
     /// Carries out the short plan of the step, for which there is room.
@@ -139,7 +139,7 @@ impl Machine {
         let row = owner.index();
         take_off(&mut self.links, step);
         send_if_any(&mut self.links, owner, send);
-        add_note(&mut self.history, note);
+        add_note(&mut self.past, note);
         turn_in_row(&mut self.nodes, row, turn);
         count(&mut self.own, row);
         self.made += 1;

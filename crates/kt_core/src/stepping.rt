@@ -49,7 +49,7 @@ fn prepare<S: CkptStore>(
 {
     let owner = step.owner();
     let told = tell(store, alloc, owner, machine.needs(step))?;
-    let plan = machine.plan(alloc, told, step)?;
+    let plan = machine.gathered_plan(alloc, told, step)?;
     // All room is made before the one write, and the tables change after it: a refusal leaves all as it was, and no
     // write is made for a step that is refused then (docs/DECISIONS.md#the-world-over-a-store).
     machine.make_room(owner, &plan)?;

@@ -8,7 +8,8 @@ ghost use Rattle.kt_link.specs.Network.{AreNeighbours, place, room};
 ghost use Rattle.kt_world.specs.Effect.{sent, taken_off, noted};
 ghost use Rattle.kt_core.specs.inner.Traffic.{IsSameTraffic};
 
-use kt_history::{History, Note};
+use kt_ckpt::Past;
+use kt_history::Note;
 use kt_link::Links;
 use kt_node::Message;
 use kt_tuple::NodeId;
@@ -106,12 +107,12 @@ pub(crate) fn send_if_any(
 }
 
 /// Makes the note, if there is one, for which there is room.
-pub(crate) fn add_note(history: &mut History, note: Option<Note>)
-    requires follows { IfSome note (MayFollow history.old.notes) }
-    requires room { IfSome note (λ n. 1 ≤ room_of history.old (node_of n)) }
-    ensures { history.new.notes ≡ noted history.old.notes note }
+pub(crate) fn add_note(past: &mut Past, note: Option<Note>)
+    requires follows { IfSome note (MayFollow past.old.notes) }
+    requires room { IfSome note (λ n. 1 ≤ room_of past.old (node_of n)) }
+    ensures { past.new.notes ≡ noted past.old.notes note }
 {
     if let Some(note) = note {
-        history.add(note);
+        past.add(note);
     }
 }

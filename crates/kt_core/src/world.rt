@@ -225,7 +225,7 @@ impl<S: CkptStore> World<S> {
         ensures reached { IsTrue self.now.is_honest → IsReached self.now.state }
         ensures headline { IsTrue self.now.is_honest → Headline self.now.state }
     {
-        &self.machine.history
+        self.machine.past.history()
     }
 
     /// How many steps were made so far, `MAX_STEPS` at most.

@@ -30,6 +30,7 @@ Agrees-empty = record {
   lengths = refl;
   survive = λ k lt. absurd (omega (arith, lt));
   previous = λ k a e. absurd (none-some (notes.Act a) e);
+  place = λ k a e. absurd (none-some (notes.Act a) e);
   back = λ k lt. absurd (omega (arith, lt));
   counted = refl;
 }
@@ -87,6 +88,7 @@ Agrees-same_rows h rows more marks lost a same = record {
   lengths = a.lengths;
   survive = a.survive;
   previous = a.previous;
+  place = a.place;
   back = a.back;
   counted = a.counted;
 }

@@ -24,8 +24,8 @@ use Rattle.kt_history.proofs.Keeping.{Agrees-lasts, Agrees-same_rows, Agrees-at}
 pub Agrees-act : (h : List Note) (rows : List (List ℕ)) (marks : List Mark) (lost : ℕ) (act : Act) → Agrees h rows marks lost → MayFollow h (notes.Act act)
     → node_index act.node < length rows → Agrees (h ++ notes.Act act ∷ [])
     (set rows (node_index act.node) (row_at rows (node_index act.node) ++ suc (length h) ∷ []))
-    (marks ++ act_mark marks (last_of (line h act.node)) act.by ∷ [])
-    (lost + cond (is_lost (notes.Act act) (act_mark marks (last_of (line h act.node)) act.by)) 1 0)
+    (marks ++ act_mark marks (last_of (line h act.node)) act.by (length (line h act.node) + 1) ∷ [])
+    (lost + cond (is_lost (notes.Act act) (act_mark marks (last_of (line h act.node)) act.by (length (line h act.node) + 1))) 1 0)
 Agrees-act h rows marks lost act a may lt = record {
   causes = w';
   lines = lines;
@@ -51,6 +51,20 @@ Agrees-act h rows marks lost act a may lt = record {
         ∙ ap (λ (c : Act). last_of (line h c.node)) same
         ∙ ap (λ past. last_of (line past b.node)) (sym (before-new h (notes.Act act))))
   ];
+  place = λ k b e. elim (note_at-push_cases h (notes.Act act) (suc k) (notes.Act b) e) [
+    | inl old ↦
+        let small : k < length h = omega (arith, old.0) in
+        ap (λ (m : Mark). m.place) (old_mark k small) ∙ a.place k b old.1
+        ∙ ap (λ past. length (line past b.node) + 1) (sym (before-old h (notes.Act act ∷ []) (suc k) (omega (arith, small))))
+    | inr new ↦
+        let here : k ≡ length h = omega (arith, new.0) in
+        let same : act ≡ b = let both = new.1 in cc in
+        let P : ℕ → Type 0 = λ j. (mark_at (marks ++ mark ∷ []) j).place ≡ length (line (before (h ++ notes.Act act ∷ []) (suc j)) b.node) + 1 in
+        subst P (sym here)
+        (ap (λ (m : Mark). m.place) new_mark
+        ∙ ap (λ (c : Act). length (line h c.node) + 1) same
+        ∙ ap (λ past. length (line past b.node) + 1) (sym (before-new h (notes.Act act))))
+  ];
   back = λ k within. elim (cases_lt k (length h)) [
     | inl old ↦ omega (arith, ap (λ (m : Mark). m.previous) (old_mark k old), a.back k old)
     | inr new ↦
@@ -61,16 +75,19 @@ Agrees-act h rows marks lost act a may lt = record {
   counted = omega (arith, lost_among-push h marks (notes.Act act) mark a.lengths, a.counted);
 } where
   mark : Mark
-  mark = act_mark marks (last_of (line h act.node)) act.by
+  mark = act_mark marks (last_of (line h act.node)) act.by (length (line h act.node) + 1)
 
   w' : CausesComeFirst (h ++ notes.Act act ∷ [])
   w' = CausesComeFirst-push h (notes.Act act) a.causes may
 
-  old_mark : (k : ℕ) → k < length h → mark_at (marks ++ act_mark marks (last_of (line h act.node)) act.by ∷ []) k ≡ mark_at marks k
-  old_mark k old = get_or_append_left marks (act_mark marks (last_of (line h act.node)) act.by ∷ []) no_mark k (omega (arith, old, a.lengths))
+  old_mark : (k : ℕ) → k < length h → mark_at (marks ++ act_mark marks (last_of (line h act.node)) act.by (length (line h act.node) + 1) ∷ []) k
+      ≡ mark_at marks k
+  old_mark k old = get_or_append_left marks (act_mark marks (last_of (line h act.node)) act.by (length (line h act.node) + 1) ∷ [])
+      no_mark k (omega (arith, old, a.lengths))
 
-  new_mark : mark_at (marks ++ act_mark marks (last_of (line h act.node)) act.by ∷ []) (length h) ≡ act_mark marks (last_of (line h act.node)) act.by
-  new_mark = get_or_push marks (act_mark marks (last_of (line h act.node)) act.by) no_mark (length h) a.lengths
+  new_mark : mark_at (marks ++ act_mark marks (last_of (line h act.node)) act.by (length (line h act.node) + 1) ∷ []) (length h)
+      ≡ act_mark marks (last_of (line h act.node)) act.by (length (line h act.node) + 1)
+  new_mark = get_or_push marks (act_mark marks (last_of (line h act.node)) act.by (length (line h act.node) + 1)) no_mark (length h) a.lengths
 
   new_survives : (lasts_in marks (last_of (line h act.node)) && lasts_in marks act.by) ≡ (lasts h (last_of (line h act.node)) && lasts h act.by)
   new_survives =
@@ -97,14 +114,16 @@ Agrees-act h rows marks lost act a may lt = record {
 -- an act more, as it is written down
 pub Agrees-pushed_act : (h : List Note) (table more : List (Vec ℕ Global)) (marks : List Mark) (lost : ℕ) (act : Act) → Agrees h (rows_of table) marks lost
     → MayFollow h (notes.Act act) → ((i : ℕ) → row_at (rows_of more) i ≡ row_at (rows_of table) i)
-    → (i number previous : ℕ) (mark : Mark) (table' : List (Vec ℕ Global)) → i ≡ node_index act.node → i < length more → number ≡ suc (length h)
-    → previous ≡ last_of (line h act.node) → mark ≡ act_mark marks previous act.by
+    → (i number previous spot : ℕ) (mark : Mark) (table' : List (Vec ℕ Global)) → i ≡ node_index act.node → i < length more → number ≡ suc (length h)
+    → previous ≡ last_of (line h act.node) → spot ≡ length (line h act.node) + 1 → mark ≡ act_mark marks previous act.by spot
     → rows_of table' ≡ set (rows_of more) i (row_at (rows_of more) i ++ number ∷ [])
     → Agrees (h ++ notes.Act act ∷ []) (rows_of table') (marks ++ mark ∷ []) (lost + cond (is_lost (notes.Act act) mark) 1 0)
-Agrees-pushed_act h table more marks lost act a may same i number previous mark table' place lt is_number is_previous is_mark is_table =
+Agrees-pushed_act h table more marks lost act a may same i number previous spot mark table' place lt is_number is_previous is_spot is_mark is_table =
     let b = Agrees-same_rows h (rows_of table) (rows_of more) marks lost a same in
     let len = length-map more (λ (row : Vec ℕ Global). row.items) in
-    let marked : mark ≡ act_mark marks (last_of (line h act.node)) act.by = is_mark ∙ ap (λ n. act_mark marks n act.by) is_previous in
+    let marked : mark ≡ act_mark marks (last_of (line h act.node)) act.by (length (line h act.node) + 1) =
+    is_mark ∙ ap (λ n. act_mark marks n act.by spot) is_previous
+    ∙ ap (act_mark marks (last_of (line h act.node)) act.by) is_spot in
     Agrees-at _ _ _ _ _ _ _ _ refl
     (is_table ∙ ap (λ n. set (rows_of more) i (row_at (rows_of more) i ++ n ∷ [])) is_number
     ∙ ap (λ j. set (rows_of more) j (row_at (rows_of more) j ++ suc (length h) ∷ [])) place)

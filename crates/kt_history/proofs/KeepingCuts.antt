@@ -22,7 +22,7 @@ use Rattle.kt_history.proofs.Lines.{note_at-new, note_at-within, note_at-push_ca
 use Rattle.kt_history.proofs.Pasts.{CausesComeFirst-push}
 use Rattle.kt_history.proofs.Survivors.{survives-decides, Survives-act}
 use Rattle.kt_history.proofs.Changes.{cause_within, survives-cut, survives-cut_before, drop-line-from_first}
-use Rattle.kt_history.proofs.MarkSteps.{lost_among-push, renewed-previous}
+use Rattle.kt_history.proofs.MarkSteps.{lost_among-push, renewed-place, renewed-previous}
 use Rattle.kt_history.proofs.Keeping.{lasts-step, Agrees-at}
 
 -- what a cut takes out of a line
@@ -103,9 +103,10 @@ cut_survive_some h rows marks new lost p keep a w' some l (suc bound) k small wi
 cut_agrees : (h : List Note) (rows : List (List ℕ)) (marks new : List Mark) (lost more : ℕ) (p : NodeId) (keep : ℕ) → Agrees h rows marks lost
     → CausesComeFirst (h ++ notes.Cut p keep ∷ []) → length new ≡ length marks
     → ((k : ℕ) → k < length h → (mark_at new k).survives ≡ survives (h ++ notes.Cut p keep ∷ []) (suc k))
-    → ((k : ℕ) → k < length h → (mark_at new k).previous ≡ (mark_at marks k).previous) → more ≡ lost_among h new
+    → ((k : ℕ) → k < length h → (mark_at new k).previous ≡ (mark_at marks k).previous)
+    → ((k : ℕ) → k < length h → (mark_at new k).place ≡ (mark_at marks k).place) → more ≡ lost_among h new
     → Agrees (h ++ notes.Cut p keep ∷ []) (set rows (node_index p) (take keep (row_at rows (node_index p)))) (new ++ no_mark ∷ []) more
-cut_agrees h rows marks new lost more p keep a w' len survive previous counted = record {
+cut_agrees h rows marks new lost more p keep a w' len survive previous placed counted = record {
   causes = w';
   lines = lines;
   lengths = omega (arith, length_push new no_mark, length_push h (notes.Cut p keep), a.lengths, len);
@@ -122,6 +123,13 @@ cut_agrees h rows marks new lost more p keep a w' len survive previous counted =
         let small : k < length h = omega (arith, old.0) in
         ap (λ (m : Mark). m.previous) (old_mark k small) ∙ previous k small ∙ a.previous k b old.1
         ∙ ap (λ past. last_of (line past b.node)) (sym (before-old h (notes.Cut p keep ∷ []) (suc k) (omega (arith, small))))
+    | inr late ↦ let both = late.1 in cc
+  ];
+  place = λ k b e. elim (note_at-push_cases h (notes.Cut p keep) (suc k) (notes.Act b) e) [
+    | inl old ↦
+        let small : k < length h = omega (arith, old.0) in
+        ap (λ (m : Mark). m.place) (old_mark k small) ∙ placed k small ∙ a.place k b old.1
+        ∙ ap (λ past. length (line past b.node) + 1) (sym (before-old h (notes.Cut p keep ∷ []) (suc k) (omega (arith, small))))
     | inr late ↦ let both = late.1 in cc
   ];
   back = λ k within. elim (cases_lt k (length h)) [
@@ -172,6 +180,7 @@ Agrees-cut h rows marks new lost more p keep a may none some counted = elim (cas
       cut_agrees h rows marks new lost more p keep a w' (ap length same)
       (λ k lt. ap (λ ms. (mark_at ms k).survives) same ∙ a.survive k lt ∙ sym (cut_survive_none h p keep a.causes w' nothing (suc k) (omega (arith, lt))))
       (λ k lt. ap (λ ms. (mark_at ms k).previous) same)
+      (λ k lt. ap (λ ms. (mark_at ms k).place) same)
       counted
   | inr something ↦
       let positive : 0 < length (drop keep (line h p)) = omega (arith, something) in
@@ -182,6 +191,11 @@ Agrees-cut h rows marks new lost more p keep a may none some counted = elim (cas
         | inl before_all ↦ ap (λ (m : Mark). m.previous) (lose.below k before_all)
         | inr behind ↦ ap (λ (m : Mark). m.previous) (lose.above k behind lt)
             ∙ renewed-previous (slice_get h k) (unmarked (drop keep (line h p)) k (mark_at marks k)) new
+      ])
+      (λ k lt. elim (cases_lt (suc k) (get_or (drop keep (line h p)) 0 0)) [
+        | inl before_all ↦ ap (λ (m : Mark). m.place) (lose.below k before_all)
+        | inr behind ↦ ap (λ (m : Mark). m.place) (lose.above k behind lt)
+            ∙ renewed-place (slice_get h k) (unmarked (drop keep (line h p)) k (mark_at marks k)) new
       ])
       counted
 ] where

@@ -1,5 +1,6 @@
 pub mod Lists
 pub mod Lines
+pub mod Places
 pub mod Pasts
 pub mod Survivors
 pub mod Changes

@@ -15,15 +15,16 @@ use Rattle.kt_history.specs.inner.Marks.{IsRenewed, IsUnmarked, AreLost, HasLost
 
 -- one more number is lost
 pub unmarked-push : (xs : List ℕ) (n k : ℕ) (m : Mark)
-    → unmarked (xs ++ n ∷ []) k m ≡ cond (n == suc k) (record { previous = m.previous; survives = false }) (unmarked xs k m)
+    → unmarked (xs ++ n ∷ []) k m ≡ cond (n == suc k) (record { previous = m.previous; place = m.place; survives = false }) (unmarked xs k m)
 unmarked-push xs n k m = go (n == suc k) refl where
-  go : (b : Bool) → (n == suc k) ≡ b → unmarked (xs ++ n ∷ []) k m ≡ cond b (record { previous = m.previous; survives = false }) (unmarked xs k m)
+  go : (b : Bool) → (n == suc k) ≡ b
+      → unmarked (xs ++ n ∷ []) k m ≡ cond b (record { previous = m.previous; place = m.place; survives = false }) (unmarked xs k m)
   go true e =
-      ap (λ t. let x : Mark = record { previous = m.previous; survives = m.survives && not t } in x)
+      ap (λ t. let x : Mark = record { previous = m.previous; place = m.place; survives = m.survives && not t } in x)
       (list_any-append (λ i. i == suc k) xs (n ∷ []) ∙ ap (λ t. list_any (λ i. i == suc k) xs || (t || false)) e ∙ or-true (list_any (λ i. i == suc k) xs))
-      ∙ ap (λ t. let x : Mark = record { previous = m.previous; survives = t } in x) (and-false m.survives)
+      ∙ ap (λ t. let x : Mark = record { previous = m.previous; place = m.place; survives = t } in x) (and-false m.survives)
   go false e =
-      ap (λ t. let x : Mark = record { previous = m.previous; survives = m.survives && not t } in x)
+      ap (λ t. let x : Mark = record { previous = m.previous; place = m.place; survives = m.survives && not t } in x)
       (list_any-append (λ i. i == suc k) xs (n ∷ []) ∙ ap (λ t. list_any (λ i. i == suc k) xs || (t || false)) e ∙ or-false (list_any (λ i. i == suc k) xs))
 
 -- so far these numbers are lost
@@ -32,26 +33,32 @@ pub record UnmarkedUpTo (numbers : List ℕ) (old now : List Mark) : Type 0 wher
   pub each : (k : ℕ) → k < length old → mark_at now k ≡ unmarked numbers k (mark_at old k)
 
 pub UnmarkedUpTo-push : (numbers : List ℕ) (n : ℕ) (old now : List Mark) → UnmarkedUpTo numbers old now → 1 ≤ n → n ≤ length old
-    → UnmarkedUpTo (numbers ++ n ∷ []) old (set now (n - 1) (record { previous = (mark_at now (n - 1)).previous; survives = false }))
+    → UnmarkedUpTo (numbers ++ n ∷ []) old (set now (n - 1)
+    (record { previous = (mark_at now (n - 1)).previous; place = (mark_at now (n - 1)).place; survives = false }))
 UnmarkedUpTo-push numbers n old now u low high = record {
   lengths = length-set now (n - 1) _ ∙ u.lengths;
   each = λ k lt. elim (cases_eq k (n - 1)) [
     | inl here ↦
-        let P : ℕ → Type 0 = λ i. mark_at (set now (n - 1) (record { previous = (mark_at now (n - 1)).previous; survives = false })) i ≡ unmarked
-        (numbers ++ n ∷ []) i (mark_at old i) in
+        let P : ℕ → Type 0 = λ i. mark_at (set now (n - 1)
+        (record { previous = (mark_at now (n - 1)).previous; place = (mark_at now (n - 1)).place; survives = false })) i
+        ≡ unmarked (numbers ++ n ∷ []) i (mark_at old i) in
         let same : n ≡ suc (n - 1) = omega (arith, low) in
         let within : n - 1 < length now = omega (arith, low, high, u.lengths) in
         subst P (sym here)
-        (get_or-set_same now (n - 1) (record { previous = (mark_at now (n - 1)).previous; survives = false }) no_mark within
-        ∙ ap (λ (m : Mark). let x : Mark = record { previous = m.previous; survives = false } in x) (u.each (n - 1) (omega (arith, within, u.lengths)))
+        (get_or-set_same now (n - 1) (record { previous = (mark_at now (n - 1)).previous; place = (mark_at now (n - 1)).place; survives = false })
+        no_mark within
+        ∙ ap (λ (m : Mark). let x : Mark = record { previous = m.previous; place = m.place; survives = false } in x)
+        (u.each (n - 1) (omega (arith, within, u.lengths)))
         ∙ sym (unmarked-push numbers n (n - 1) (mark_at old (n - 1))
-        ∙ ap (λ b. cond b (let x : Mark = record { previous = (mark_at old (n - 1)).previous; survives = false } in x)
+        ∙ ap (λ b. cond b (let x : Mark = record { previous = (mark_at old (n - 1)).previous; place = (mark_at old (n - 1)).place; survives = false } in x)
         (unmarked numbers (n - 1) (mark_at old (n - 1)))) (eq-eqb n (suc (n - 1)) same)))
     | inr other ↦
-        get_or-set_other now (n - 1) k (record { previous = (mark_at now (n - 1)).previous; survives = false }) no_mark other
+        get_or-set_other now (n - 1) k (record { previous = (mark_at now (n - 1)).previous; place = (mark_at now (n - 1)).place; survives = false })
+        no_mark other
         ∙ u.each k lt
         ∙ sym (unmarked-push numbers n k (mark_at old k)
-        ∙ ap (λ b. cond b (let x : Mark = record { previous = (mark_at old k).previous; survives = false } in x) (unmarked numbers k (mark_at old k)))
+        ∙ ap (λ b. cond b (let x : Mark = record { previous = (mark_at old k).previous; place = (mark_at old k).place; survives = false } in x)
+        (unmarked numbers k (mark_at old k)))
         (ne_eqb n (suc k) (λ e. other (omega (arith, e)))))
   ];
 }
@@ -66,14 +73,20 @@ pub renewed-agree : (o : Option Note) (m : Mark) (ms ks : List Mark) (i : ℕ) �
 renewed-agree None m ms ks i back le same = refl
 renewed-agree (Some (notes.Cut p keep)) m ms ks i back le same = refl
 renewed-agree (Some (notes.Act a)) m ms ks i back le same =
-    ap (λ b. let x : Mark = record { previous = m.previous; survives = m.survives && (b && lasts_in ms a.by) } in x) (lasts_in-agree ms ks m.previous i le same)
-    ∙ ap (λ b. let x : Mark = record { previous = m.previous; survives = m.survives && (lasts_in ks m.previous && b) } in x)
+    ap (λ b. let x : Mark = record { previous = m.previous; place = m.place; survives = m.survives && (b && lasts_in ms a.by) } in x)
+    (lasts_in-agree ms ks m.previous i le same)
+    ∙ ap (λ b. let x : Mark = record { previous = m.previous; place = m.place; survives = m.survives && (lasts_in ks m.previous && b) } in x)
     (lasts_in-agree ms ks a.by i back same)
 
 pub renewed-previous : (o : Option Note) (m : Mark) (ms : List Mark) → (renewed o m ms).previous ≡ m.previous
 renewed-previous None m ms = refl
 renewed-previous (Some (notes.Cut p keep)) m ms = refl
 renewed-previous (Some (notes.Act a)) m ms = refl
+
+pub renewed-place : (o : Option Note) (m : Mark) (ms : List Mark) → (renewed o m ms).place ≡ m.place
+renewed-place None m ms = refl
+renewed-place (Some (notes.Cut p keep)) m ms = refl
+renewed-place (Some (notes.Act a)) m ms = refl
 
 -- from first on, the marks before place are looked at anew
 pub record RenewedUpTo (h : List Note) (old now : List Mark) (first place : ℕ) : Type 0 where
@@ -122,8 +135,8 @@ lost_among-split (suc n) (x ∷ xs) (m ∷ ms) e =
 -- a mark stays where its number is not among the lost ones
 pub unmarked-other : (numbers : List ℕ) (k : ℕ) (m : Mark) → list_any (λ n. n == suc k) numbers ≡ false → unmarked numbers k m ≡ m
 unmarked-other numbers k m e =
-    ap (λ b. let x : Mark = record { previous = m.previous; survives = m.survives && not b } in x) e
-    ∙ ap (λ b. let x : Mark = record { previous = m.previous; survives = b } in x) (and-true m.survives)
+    ap (λ b. let x : Mark = record { previous = m.previous; place = m.place; survives = m.survives && not b } in x) e
+    ∙ ap (λ b. let x : Mark = record { previous = m.previous; place = m.place; survives = b } in x) (and-true m.survives)
 
 pub HasLost-from : (h : List Note) (numbers : List ℕ) (old mid new : List Mark) → AreLost h numbers → AreMarksOf h old → IsUnmarked numbers old mid
     → IsRenewed h mid new (get_or numbers 0 0 - 1) → HasLost h numbers old new

@@ -10,3 +10,4 @@ pub use Rattle.kt_history.proofs.Fronts.{acts_at-append, acts_at-take, acts_in_l
 pub use Rattle.kt_history.proofs.Fronts.{acts_in_line-own_cut, marked_front}
 pub use Rattle.kt_history.proofs.Runs.{IsPermutation-uncons, RunsFrom-one, like_none}
 pub use Rattle.kt_history.proofs.Sense.{CausesComeFirst-from_well_formed, IsWellFormed-empty, IsWellFormed-push, Stands-no_cut}
+pub use Rattle.kt_history.proofs.Places.{place-old, place-stands}

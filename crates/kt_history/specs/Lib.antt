@@ -1,4 +1,5 @@
 pub mod Line
+pub mod Place
 pub mod Past
 pub mod Survival
 pub mod WellFormed

@@ -4,6 +4,7 @@ ghost use Rattle.std.specs.Prelude.{◌≡◌, ◌≤◌, ◌↔◌, ◌∷◌, 
 ghost use Rattle.std.specs.Option.{option_copied};
 ghost use Rattle.kt_history.specs.Closed.{act_of};
 ghost use Rattle.kt_history.specs.Line.{IsAct, line, note_at};
+ghost use Rattle.kt_history.specs.Place.{place};
 ghost use Rattle.kt_history.specs.Survival.{AreSurvivors, IsLostCount, Survives, services, lost_count};
 ghost use Rattle.kt_history.specs.inner.Marks.{kept_service};
 ghost use Rattle.kt_history.specs.Chronicle.{node_of, room_of};
@@ -11,7 +12,7 @@ ghost use Rattle.kt_history.specs.WellFormed.{CausesComeFirst, MayFollow};
 
 use crate::mark::{Mark, act_mark, lose, lost_with};
 use crate::note::{Act, Note};
-use crate::rows::{Rows, append, behind, last_number, reserve_row, shorten};
+use crate::rows::{Rows, append, behind, last_number, next_place, reserve_row, shorten};
 use kt_tuple::{NodeId, Service};
 use std::alloc::{AllocError, Global};
 use std::marker::Model;
@@ -75,6 +76,15 @@ impl History {
             Some(Note::Act(act)) => Some(act),
             _ => None,
         }
+    }
+
+    /// Where the act of this number stood in its node's line when it was added, counted from 1; none where the
+    /// number names no act.
+    pub fn place(&self, number: u64) -> Option<u64>
+        ensures { result ≡ place self.now.notes number }
+    {
+        self.act(number)?;
+        Some(self.marks[number as usize - 1].place)
     }
 
     /// The numbers of the node's acts that were not cut off, oldest first.
@@ -153,7 +163,9 @@ impl History {
     {
         let place = act.node.index();
         let number = self.notes.len() as u64 + 1;
-        let mark = act_mark(&self.marks, last_number(&self.lines[place]), act.by);
+        let previous = last_number(&self.lines[place]);
+        let spot = next_place(&self.lines[place]);
+        let mark = act_mark(&self.marks, previous, act.by, spot);
         let note = Note::Act(act);
         self.lost = lost_with(self.lost, &note, mark);
         append(&mut self.lines, place, number);

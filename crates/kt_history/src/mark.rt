@@ -12,6 +12,8 @@ use crate::note::Note;
 pub(crate) struct Mark {
     /// The act that stood last in the node's line before this one, or 0.
     pub(crate) previous: u64,
+    /// Where an act stood in its node's line when it was added, counted from 1.
+    pub(crate) place: u64,
     /// Whether it is an act with nothing lost in its past.
     pub(crate) survives: bool,
 }
@@ -20,6 +22,7 @@ impl Mark {
     /// The mark of a note that is no act.
     pub(crate) const NONE: Mark = Mark {
         previous: 0,
+        place: 0,
         survives: false,
     };
 }
@@ -32,14 +35,15 @@ fn lasts(marks: &[Mark], number: u64) -> bool
     number == 0 || marks[number as usize - 1].survives
 }
 
-/// The mark of an act that comes next, by the act before it in its line and by its cause.
-pub(crate) fn act_mark(marks: &[Mark], previous: u64, cause: u64) -> Mark
+/// The mark of an act that comes next, by the act before it in its line, by its cause and its place.
+pub(crate) fn act_mark(marks: &[Mark], previous: u64, cause: u64, place: u64) -> Mark
     requires previous { previous ≤ length marks.now }
     requires cause { cause ≤ length marks.now }
-    ensures { result ≡ act_mark marks.now previous cause }
+    ensures { result ≡ act_mark marks.now previous cause place }
 {
     Mark {
         previous,
+        place,
         survives: lasts(marks, previous) && lasts(marks, cause),
     }
 }
@@ -92,11 +96,16 @@ fn unmark_one(marks: &mut [Mark], number: u64)
     requires positive { 1 ≤ number }
     requires within { number ≤ length marks.old }
     ensures { marks.new ≡ slice_set marks.old (number - 1)
-        (record { previous = (mark_at marks.old (number - 1)).previous; survives = false }) }
+        (record {
+          previous = (mark_at marks.old (number - 1)).previous;
+          place = (mark_at marks.old (number - 1)).place;
+          survives = false;
+        }) }
 {
-    let place = number as usize - 1;
-    marks[place] = Mark {
-        previous: marks[place].previous,
+    let at = number as usize - 1;
+    marks[at] = Mark {
+        previous: marks[at].previous,
+        place: marks[at].place,
         survives: false,
     };
 }
@@ -126,6 +135,7 @@ fn renew_at(notes: &[Note], marks: &mut [Mark], place: usize)
         let survives = mark.survives && lasts(marks, mark.previous) && lasts(marks, act.by);
         marks[place] = Mark {
             previous: mark.previous,
+            place: mark.place,
             survives,
         };
     }

@@ -51,6 +51,24 @@ pub enum Note {
     Cut { node: NodeId, keep: u64 },
 }
 
+impl What {
+    /// An equal one.
+    pub fn copy(&self, alloc: Global) -> Result<What, AllocError>
+        ensures { IfOk result (λ what. what ≡ self.now) }
+    {
+        match self {
+            What::Issue => Ok(What::Issue),
+            What::Repeat => Ok(What::Repeat),
+            What::Heard => Ok(What::Heard),
+            What::Served(answer) => Ok(What::Served(answer.copy(alloc)?)),
+            What::Again(answer) => Ok(What::Again(answer.copy(alloc)?)),
+            What::Accepted(answer) => Ok(What::Accepted(answer.copy(alloc)?)),
+            What::Ignored(None) => Ok(What::Ignored(None)),
+            What::Ignored(Some(answer)) => Ok(What::Ignored(Some(answer.copy(alloc)?))),
+        }
+    }
+}
+
 impl Note {
     ghost use Rattle.kt_history.specs.Chronicle.{node_of};
     ghost use Rattle.kt_history.specs.Survival.{is_service, note_service};

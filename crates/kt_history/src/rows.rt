@@ -1,6 +1,6 @@
 //! The lines of the nodes, a row for each.
 
-ghost use Rattle.std.specs.Prelude.{◌≡◌, ◌∷◌, ◌++◌, [], ℕ, ◌<◌, take, drop, length, slice_set, vec_len, OnOk};
+ghost use Rattle.std.specs.Prelude.{◌≡◌, ◌∷◌, ◌++◌, [], ℕ, ◌+◌, ◌<◌, take, drop, length, slice_set, vec_len, OnOk};
 ghost use Rattle.kt_tuple.specs.Node.{names};
 ghost use Rattle.kt_history.specs.Line.{last_of};
 ghost use Rattle.kt_history.specs.inner.Marks.{rows_of, row_at, HasRoom, SameRows};
@@ -19,6 +19,13 @@ pub(crate) fn last_number(numbers: &[u64]) -> u64
         Some(number) => *number,
         None => 0,
     }
+}
+
+/// Where one more number will stand, counted from 1.
+pub(crate) fn next_place(numbers: &[u64]) -> u64
+    ensures { result ≡ length numbers.now + 1 }
+{
+    numbers.len() as u64 + 1
 }
 
 /// Makes room for one more number in the row at this place, and empty rows up to it where there are too few.

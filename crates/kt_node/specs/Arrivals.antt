@@ -19,7 +19,7 @@ use Rattle.kt_node.specs.declared.refusal.Refusal.TheVariants as refusals
 use Rattle.kt_node.specs.Labels.{up_to, label_at, first_at, reaches}
 use Rattle.kt_node.specs.Node.{Live, Node, Down, Alive, node_number}
 use Rattle.kt_node.specs.View.{View}
-use Rattle.kt_node.specs.Stored.{fits, is_undecided, sent_in}
+use Rattle.kt_node.specs.Stored.{fits, acts_fit, is_undecided, sent_in}
 use Rattle.kt_node.specs.Plan.{Planned, empty_plan, no_turn, turning_to}
 use Rattle.kt_node.specs.Voting.{casting, poll_after, vote_for, votes}
 use Rattle.kt_node.specs.Joining.{asker_of, join_check_plan, join_rollback_plan}
@@ -71,14 +71,15 @@ answer_plan from ask agreed = record {
   write = None;
 }
 
-abbrev pub check_plan : View → Live → NodeId → Ask → Option Marks → Reaction → Plan
-check_plan v n from ask permanent (reactions.Says agreed) = answer_plan from ask agreed
-check_plan v n from ask permanent reactions.Joins = join_check_plan v n from ask permanent
+abbrev pub check_plan : View → Live → NodeId → Ask → Option Marks → Reaction → Planned
+check_plan v n from ask permanent (reactions.Says agreed) = Ok (answer_plan from ask agreed)
+check_plan v n from ask permanent reactions.Joins =
+    if acts_fit v.role v.acts then Ok (join_check_plan v n from ask permanent) else Err refusals.Damaged
 
 abbrev pub check_fitting : View → NodeId → Ask → Option Verdict → Option Marks → Option Marks → Live → Planned
 check_fitting v from ask verdict permanent tentative n =
     if fits v.role v.line_len permanent && fits v.role v.line_len tentative
-    then Ok (check_plan v n from ask permanent (check_reaction n from ask verdict permanent tentative))
+    then check_plan v n from ask permanent (check_reaction n from ask verdict permanent tentative)
     else Err refusals.Damaged
 
 -- what a live node makes of what comes to it

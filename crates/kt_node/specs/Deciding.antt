@@ -1,6 +1,6 @@
 -- The table of steps, those of checks and rollbacks: what a node may do of itself, and why it may not. Of several
 -- refusals the lowest is given.
-use Rattle.std.specs.Prelude.{ℕ, Bool, true, false, if◌then◌else◌, List, [], Option, None, Some, Ok, Err}
+use Rattle.std.specs.Prelude.{ℕ, Bool, true, false, ◌&&◌, if◌then◌else◌, List, [], Option, None, Some, Ok, Err}
 use Rattle.kt_tuple.specs.declared.node.NodeId.{NodeId}
 use Rattle.kt_ckpt.specs.declared.marks.Marks.{Marks}
 use Rattle.kt_store.specs.declared.rows.Verdict.{Verdict}
@@ -16,7 +16,7 @@ use Rattle.kt_node.specs.declared.plan.Write.TheVariants as writes
 use Rattle.kt_node.specs.declared.refusal.Refusal.TheVariants as refusals
 use Rattle.kt_node.specs.Node.{Live, Node, Down, Alive}
 use Rattle.kt_node.specs.View.{View}
-use Rattle.kt_node.specs.Stored.{fits, is_undecided}
+use Rattle.kt_node.specs.Stored.{fits, acts_fit, is_undecided}
 use Rattle.kt_node.specs.Plan.{Planned, no_turn, turning_to}
 use Rattle.kt_node.specs.Voting.{vote_for, voted, votes}
 use Rattle.kt_node.specs.Joining.{begin_check_plan}
@@ -27,7 +27,8 @@ use Rattle.kt_node.specs.Learning.{verdict_to, held_learns, rolling_learns, down
 
 abbrev pub check_fitting : View → ℕ → Option Marks → Live → Planned
 check_fitting v next permanent n =
-    if fits v.role v.line_len permanent then Ok (begin_check_plan v n next permanent) else Err refusals.Damaged
+    if fits v.role v.line_len permanent && acts_fit v.role v.acts then Ok (begin_check_plan v n next permanent)
+    else Err refusals.Damaged
 
 abbrev pub check_in : View → ℕ → Option Marks → Live → Phase → Planned
 check_in v next permanent n phases.Up = check_fitting v next permanent n

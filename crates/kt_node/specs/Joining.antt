@@ -63,7 +63,7 @@ held_plan n b write = record {
 
 -- the checkpoint of this moment
 abbrev pub checkpoint_now : View → Live → Ckpt
-checkpoint_now v n = checkpoint_of v.role n v.line_len
+checkpoint_now v n = checkpoint_of v.role n v.line_len v.acts
 
 -- the node begins a check of its own, which has this number
 abbrev pub begin_check_plan : View → Live → ℕ → Option Marks → Plan

@@ -13,6 +13,7 @@ use Rattle.kt_shard.specs.declared.desk.Desk.{Desk}
 use Rattle.kt_shard.specs.Limits.{desks as desk_count}
 use Rattle.kt_tuple.specs.declared.node.TheConstants.{MAX_WORKERS}
 use Rattle.kt_shard.specs.Shard.{Shard, desk_of}
+use Rattle.kt_ckpt.specs.declared.acts.LineAct.{LineAct}
 use Rattle.kt_ckpt.specs.declared.ckpt.Ckpt.{Ckpt}
 use Rattle.kt_ckpt.specs.declared.state.State.{State}
 use Rattle.kt_ckpt.specs.declared.state.State.TheVariants as states
@@ -53,14 +54,15 @@ abbrev pub body_fields : Body → State
 body_fields (IsWorker x) = states.Worker (worker_fields x)
 body_fields (IsShard y) = states.Shard (shard_fields y)
 
--- the checkpoint of a node that remembers so many acts
-abbrev pub checkpoint_of : Role → Live → ℕ → Ckpt
-checkpoint_of role n line_len = record {
+-- the checkpoint of a node that remembers so many acts, these
+abbrev pub checkpoint_of : Role → Live → ℕ → List LineAct → Ckpt
+checkpoint_of role n line_len acts = record {
   node = role.id;
   line_len = line_len;
   sent = listed role.peers n.sent;
   received = listed role.peers n.received;
   state = body_fields n.body;
+  acts = acts;
 }
 
 -- ---- and back

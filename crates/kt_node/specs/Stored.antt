@@ -1,5 +1,8 @@
 -- What the store says to a node of its checkpoints: nothing stored is the beginning.
-use Rattle.std.specs.Prelude.{ℕ, ◌==◌, nat_le, Bool, true, false, ◌&&◌, length, Option, None, Some}
+use Rattle.std.specs.Prelude.{ℕ, ◌==◌, nat_le, Bool, true, false, ◌&&◌, length, List, Option, None, Some}
+use Rattle.std.specs.List.{list_all}
+use Rattle.kt_ckpt.specs.declared.acts.LineAct.{LineAct}
+use Rattle.kt_ckpt.specs.Acts.{is_act_of}
 use Rattle.kt_tuple.specs.Node.{node_eq}
 use Rattle.kt_link.specs.declared.label.Label.{Label}
 use Rattle.kt_ckpt.specs.declared.marks.Marks.{Marks}
@@ -7,6 +10,10 @@ use Rattle.kt_store.specs.declared.rows.Verdict.{Verdict}
 use Rattle.kt_store.specs.Verdict.{is_open}
 use Rattle.kt_node.specs.Labels.{no_label, listed_at}
 use Rattle.kt_node.specs.Node.{Role}
+
+-- each act may stand in the line of the node; while the store is honest they always do
+abbrev pub acts_fit : Role → List LineAct → Bool
+acts_fit role acts = list_all (is_act_of role.id) acts
 
 -- an instance that was begun and has no verdict
 abbrev pub is_undecided : Option Verdict → Bool

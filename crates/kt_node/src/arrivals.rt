@@ -124,14 +124,19 @@ impl View<'_> {
         ask: Ask,
         permanent: Option<&Marks>,
         reaction: Reaction,
-    ) -> Result<Plan, AllocError>
+    ) -> Result<Plan, Refusal>
         requires { CanSave (view_of self) (live_view live.now) }
-        ensures { IfOk result (λ p. p ≡
-            check_plan (view_of self.entry) (live_view live.now) from ask (option_copied permanent.entry) reaction) }
+        ensures { Gives result
+            (check_plan (view_of self.entry) (live_view live.now) from ask (option_copied permanent.entry) reaction) }
     {
         match reaction {
-            Reaction::Says(yes) => answer_plan(alloc, from, ask, yes),
-            Reaction::Joins => self.join_check_plan(alloc, live, from, ask, permanent),
+            Reaction::Says(yes) => Ok(answer_plan(alloc, from, ask, yes)?),
+            Reaction::Joins => {
+                let Some(acts) = self.acts(alloc)? else {
+                    return Err(Refusal::Damaged);
+                };
+                Ok(self.join_check_plan(alloc, live, from, ask, permanent, acts)?)
+            }
         }
     }
 
@@ -159,7 +164,7 @@ impl View<'_> {
             return Err(Refusal::Damaged);
         }
         let reaction = live.check_reaction(from, ask, verdict, permanent, tentative);
-        Ok(self.check_plan(alloc, live, from, ask, permanent, reaction)?)
+        self.check_plan(alloc, live, from, ask, permanent, reaction)
     }
 
     /// An ask to roll back. `verdict` is what the board has of its instance, `permanent` the marks of the node's

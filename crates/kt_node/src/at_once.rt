@@ -69,7 +69,7 @@ impl<'a> View<'a> {
             number,
             op,
             label: live.next_label(),
-            by: self.next,
+            by: self.next(),
         })
     }
 }

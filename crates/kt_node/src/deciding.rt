@@ -168,7 +168,10 @@ impl View<'_> {
         if !fits(self.role, self.line_len(), permanent) {
             return Err(Refusal::Damaged);
         }
-        Ok(self.begin_check_plan(alloc, live, next, permanent)?)
+        let Some(acts) = self.acts(alloc)? else {
+            return Err(Refusal::Damaged);
+        };
+        Ok(self.begin_check_plan(alloc, live, next, permanent, acts)?)
     }
 
     /// Who began an instance that is open writes Yes where nothing is awaited, and No as soon as one refused.

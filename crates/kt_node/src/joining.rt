@@ -1,7 +1,8 @@
 //! How a node begins to vote in an instance.
 
-ghost use Rattle.std.specs.Prelude.{◌≡◌, ◌++◌, IfOk, None, Some, filter};
+ghost use Rattle.std.specs.Prelude.{◌≡◌, ◌++◌, All, IfOk, None, Some, filter};
 ghost use Rattle.std.specs.Option.{option_copied};
+ghost use Rattle.kt_ckpt.specs.Acts.{IsActOf};
 ghost use Rattle.kt_vote.specs.Order.{IsInOrder};
 ghost use Rattle.kt_vote.specs.Poll.{asking_poll};
 ghost use Rattle.kt_node.specs.Node.{across, neighbours};
@@ -26,7 +27,7 @@ use crate::role::{Role, View};
 use crate::saving::checkpoint_of;
 use crate::stored::received_in;
 use crate::voting::{add_vote, cast};
-use kt_ckpt::Marks;
+use kt_ckpt::{Acts, Marks};
 use kt_tuple::NodeId;
 use kt_vote::{Asker, Ballot};
 use std::alloc::{AllocError, Global};
@@ -147,15 +148,18 @@ impl View<'_> {
         live: &Live,
         instance: u64,
         permanent: Option<&Marks>,
+        acts: Acts,
     ) -> Result<Plan, AllocError>
-        requires { CanSave (view_of self) (live_view live.now) }
+        requires can { CanSave (view_of self) (live_view live.now) }
+        requires acts { acts ≡ (view_of self).acts }
+        requires shape { All (IsActOf self.role.id) acts }
         ensures { IfOk result (λ p. p ≡
             begin_check_plan (view_of self.entry) (live_view live.now) instance (option_copied permanent.entry)) }
     {
         let asked = cohort(alloc, self.role, permanent, live)?;
         let ballot = Ballot::asking(alloc, instance, live.incarnation, None, asked)?;
         let (ballot, send) = held_ballot(alloc, live, ballot)?;
-        let checkpoint = checkpoint_of(alloc, self.role, live, self.line_len())?;
+        let checkpoint = checkpoint_of(alloc, self.role, live, self.line_len(), acts)?;
         held_plan(alloc, ballot, send, Write::BeginCheck(checkpoint))
     }
 
@@ -167,8 +171,11 @@ impl View<'_> {
         from: NodeId,
         ask: Ask,
         permanent: Option<&Marks>,
+        acts: Acts,
     ) -> Result<Plan, AllocError>
-        requires { CanSave (view_of self) (live_view live.now) }
+        requires can { CanSave (view_of self) (live_view live.now) }
+        requires acts { acts ≡ (view_of self).acts }
+        requires shape { All (IsActOf self.role.id) acts }
         ensures { IfOk result (λ p. p ≡
             join_check_plan (view_of self.entry) (live_view live.now) from ask (option_copied permanent.entry)) }
     {
@@ -177,7 +184,7 @@ impl View<'_> {
         let parent = Some(asker_of(from, ask));
         let ballot = Ballot::asking(alloc, instance, incarnation, parent, asked)?;
         let (ballot, send) = held_ballot(alloc, live, ballot)?;
-        let checkpoint = checkpoint_of(alloc, self.role, live, self.line_len())?;
+        let checkpoint = checkpoint_of(alloc, self.role, live, self.line_len(), acts)?;
         let write = Write::PutTentative {
             instance,
             checkpoint,

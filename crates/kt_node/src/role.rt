@@ -1,10 +1,12 @@
 //! Who makes a step, and what it sees.
 
-ghost use Rattle.std.specs.Prelude.{◌≡◌};
+ghost use Rattle.std.specs.Prelude.{◌≡◌, All, IfErr, IfOk, IfSome, true};
 
 use crate::node::Node;
+use kt_ckpt::{Acts, Past};
 use kt_script::Script;
 use kt_tuple::NodeId;
+use std::alloc::{AllocError, Global};
 
 /// Who a node is, which the scene says.
 #[derive(Clone, Copy, Debug)]
@@ -24,19 +26,38 @@ pub struct View<'a> {
     pub role: Role<'a>,
     /// The owner as it is before the step, down or not.
     pub node: &'a Node,
-    /// The number that the next note will have, counted from 1.
-    pub next: u64,
-    /// The owner's line: the numbers of the acts that it remembers, oldest first.
-    pub line: &'a [u64],
+    /// What happened so far, to all nodes.
+    pub past: &'a Past,
 }
 
 impl View<'_> {
+    ghost use Rattle.kt_ckpt.specs.Acts.{IsActOf};
+    ghost use Rattle.kt_ckpt.specs.LineActs.{fitting};
+    ghost use Rattle.kt_node.specs.Stored.{acts_fit};
     ghost use Rattle.kt_node.specs.View.{view_of};
+    ghost use Rattle.kt_node.specs.Views.{role_view};
+
+    /// The number that the next note will have, counted from 1.
+    pub(crate) fn next(self) -> u64
+        ensures { result ≡ (view_of self.entry).next }
+    {
+        self.past.history().notes().len() as u64 + 1
+    }
 
     /// How many acts the owner remembers.
     pub(crate) fn line_len(self) -> u64
         ensures { result ≡ (view_of self.entry).line_len }
     {
-        self.line.len() as u64
+        self.past.history().line(self.role.id).len() as u64
+    }
+
+    /// The acts that the owner remembers, as a checkpoint holds them; `None` where one of them may not stand in its
+    /// line. While the store is honest each may. Want of memory hides no such act.
+    pub(crate) fn acts(self, alloc: Global) -> Result<Option<Acts>, AllocError>
+        ensures acts { IfOk result (λ found. found ≡ fitting self.entry.role.id (view_of self.entry).acts) }
+        ensures shape { IfOk result (λ found. IfSome found (All (IsActOf self.entry.role.id))) }
+        ensures refused { IfErr result (λ _. acts_fit (role_view self.entry.role) (view_of self.entry).acts ≡ true) }
+    {
+        self.past.acts(alloc, self.role.id)
     }
 }

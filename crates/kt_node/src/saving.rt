@@ -1,6 +1,7 @@
 //! The checkpoint of a moment.
 
-ghost use Rattle.std.specs.Prelude.{◌≡◌, ◌≤◌, ◌++◌, IfOk, OnOk};
+ghost use Rattle.std.specs.Prelude.{◌≡◌, ◌≤◌, ◌++◌, All, IfOk, OnOk};
+ghost use Rattle.kt_ckpt.specs.Acts.{IsActOf};
 ghost use Rattle.kt_ckpt.specs.Checkpoint.{HasCounts, IsCountedState};
 ghost use Rattle.kt_script.specs.declared.script.TheConstants.{MAX_COMMANDS};
 ghost use Rattle.kt_shard.specs.Shard.{desk_of};
@@ -11,27 +12,29 @@ ghost use Rattle.kt_node.specs.inner.Codes.{body_view, live_view};
 
 use crate::live::{Body, Live};
 use crate::role::Role;
-use kt_ckpt::{Ckpt, ShardState, State, WorkerState};
+use kt_ckpt::{Acts, Ckpt, ShardState, State, WorkerState};
 use kt_link::Label;
 use kt_shard::{Kept, Request, Shard};
 use kt_tuple::{MAX_WORKERS, Op, Value, copy_values};
 use kt_worker::Worker;
 use std::alloc::{AllocError, Global};
 
-/// The checkpoint of the node, which remembers so many acts.
+/// The checkpoint of the node, which remembers so many acts, these.
 pub(crate) fn checkpoint_of(
     alloc: Global,
     role: Role<'_>,
     live: &Live,
     line_len: u64,
+    acts: Acts,
 ) -> Result<Ckpt, AllocError>
-    requires { HasCounts (checkpoint_of (role_view role) (live_view live.now) line_len) }
-    ensures { IfOk result (λ c. c ≡ checkpoint_of (role_view role.entry) (live_view live.now) line_len) }
+    requires counts { HasCounts (checkpoint_of (role_view role) (live_view live.now) line_len acts) }
+    requires shape { All (IsActOf role.id) acts }
+    ensures { IfOk result (λ c. c ≡ checkpoint_of (role_view role.entry) (live_view live.now) line_len acts) }
 {
     let sent = listed(alloc, role.peers, &live.sent)?;
     let received = listed(alloc, role.peers, &live.received)?;
     let state = body_state(alloc, &live.body)?;
-    Ckpt::new(alloc, role.id, line_len, sent, received, state)
+    Ckpt::new(alloc, role.id, line_len, sent, received, state, acts)
 }
 
 /// The labels of so many neighbours.

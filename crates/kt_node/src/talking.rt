@@ -65,7 +65,7 @@ impl View<'_> {
         Message::Post(Post {
             talk,
             label: live.next_label(),
-            by: self.next,
+            by: self.next(),
         })
     }
 

@@ -136,7 +136,7 @@ begins_check s c inv is h p n there alive up = record {
     tent = record {
       instance = refl;
       whole = refl;
-      stands = taken-stands s.cast s.history p n (c.node o).line was.line was.state.sent was.state.received;
+      stands = taken-stands s.cast s.history p n (c.node o).line (view s p).acts was.line was.state.sent was.state.received;
     };
     lower = was.lower;
   })

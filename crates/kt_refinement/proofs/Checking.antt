@@ -13,6 +13,7 @@ use Rattle.kt_node.specs.declared.message.Message.{Message as RealMessage}
 use Rattle.kt_node.specs.declared.message.Message.TheVariants as messages
 use Rattle.kt_node.specs.Labels.{no_label, label_at, listed, listed_at, up_to}
 use Rattle.kt_node.specs.Node.{Live, node_number}
+use Rattle.kt_ckpt.specs.declared.acts.LineAct.{LineAct}
 use Rattle.kt_node.specs.State.{checkpoint_of}
 use Rattle.kt_node.specs.Stored.{received_in}
 use Rattle.kt_node.specs.Joining.{is_in_cohort, check_asks}
@@ -50,10 +51,10 @@ listed-labels cast p table top acts are q near =
     ap label_of (listed-label (role_of cast p).peers table (node_number q) low high) ∙ are q near
 
 -- it stands for the whole line
-pub taken-stands : (cast : Cast) (h : List Note) (p : NodeId) (n : Live) (acts : List Act) → Reads h (line h p) acts
+pub taken-stands : (cast : Cast) (h : List Note) (p : NodeId) (n : Live) (acts : List Act) (saved : List LineAct) → Reads h (line h p) acts
     → LabelsAre cast p (label_at n.sent) top_sent acts → LabelsAre cast p (label_at n.received) top_heard acts
-    → Stands cast h p (line h p) (Some (checkpoint_of (role_of cast p) n (length (line h p)))) acts
-taken-stands cast h p n acts reads sent received = record {
+    → Stands cast h p (line h p) (Some (checkpoint_of (role_of cast p) n (length (line h p)) saved)) acts
+taken-stands cast h p n acts saved reads sent received = record {
   reads = subst (λ l. Reads h l acts) (sym (take_all (length (line h p)) (line h p) (omega arith))) reads;
   sent = listed-labels cast p n.sent top_sent acts sent;
   received = listed-labels cast p n.received top_heard acts received;

@@ -147,7 +147,7 @@ held-is-node s c is h p q n ask alive up opened b mode of said phase = subst Now
   tent = record {
     instance = refl;
     whole = refl;
-    stands = taken-stands s.cast s.history q n (c.node (node_index q)).line was.line was.state.sent was.state.received;
+    stands = taken-stands s.cast s.history q n (c.node (node_index q)).line (view s q).acts was.line was.state.sent was.state.received;
   };
   lower = was.lower;
 }) where

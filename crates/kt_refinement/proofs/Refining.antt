@@ -44,7 +44,7 @@ by-leaf s c inv is h (Deliver p q) plan may (plans.puts_by {n = n} {post = post}
 by-leaf s c inv is h (Deliver p q) plan may (plans.drops {message = message} comes dropped) = drops s c is h p q message comes dropped
 by-leaf s c inv is h (Deliver p q) plan may (plans.answers_check {n = n} {ask = ask} {agreed = agreed} comes alive says) =
     answers_check s c is h p q n ask agreed comes alive says
-by-leaf s c inv is h (Deliver p q) plan may (plans.joins_check {n = n} {ask = ask} comes alive up undecided joins fit fits) =
+by-leaf s c inv is h (Deliver p q) plan may (plans.joins_check {n = n} {ask = ask} comes alive up undecided joins fit fits shaped) =
     joins_check s c is h p q n ask comes alive up undecided joins
 by-leaf s c inv is h (Deliver p q) plan may (plans.answers_rollback {n = n} {ask = ask} {agreed = agreed} comes alive says) =
     answers_rollback s c is p q n ask agreed comes alive says
@@ -60,7 +60,7 @@ by-leaf s c inv is h (Deliver p q) plan may
 by-leaf s c inv is h (Deliver p q) plan may
     (plans.told_to_go_on {n = n} {b = b} {parent = parent} {instance = instance} comes alive rolling joined same) =
     told_to_go_on s c inv is h p q n b parent instance comes alive rolling joined same
-by-leaf s c inv is h (Check p) plan may (plans.begins_check {n = n} there alive up fit) = begins_check s c inv is h p n there alive up
+by-leaf s c inv is h (Check p) plan may (plans.begins_check {n = n} there alive up fit shaped) = begins_check s c inv is h p n there alive up
 by-leaf s c inv is h (Decide p) plan may (plans.decides {n = n} {b = b} {phase = phase} {agreed = agreed} there alive votes_so began undecided outcome) =
     decides s c inv is p n b phase agreed alive votes_so began undecided outcome
 by-leaf s c inv is h (Abandon p) plan may (plans.gives_up {n = n} {b = b} {phase = phase} there alive votes_so began undecided) =

@@ -134,7 +134,7 @@ turns s t step plan u (plans.hears {p = p} {q = q} {n = n} {post = post} comes a
 turns s t step plan u (plans.puts_by comes at rolls) = leaves (λ n alive up v. still n.phase up v)
 turns s t step plan u (plans.drops comes may) = leaves (λ n alive up v. still n.phase up v)
 turns s t step plan u (plans.answers_check comes at says) = leaves (λ n alive up v. still n.phase up v)
-turns s t step plan u (plans.joins_check comes at up undecided joins fit other) = starts modes.Held (joins_check comes at up undecided joins) (λ n. refl)
+turns s t step plan u (plans.joins_check comes at up undecided joins fit other shaped) = starts modes.Held (joins_check comes at up undecided joins) (λ n. refl)
 turns s t step plan u (plans.answers_rollback comes at says) = leaves (λ n alive up v. still n.phase up v)
 turns s t step plan u (plans.joins_rollback comes at up undecided above fit) =
     starts modes.Rolling (joins_rollback comes at up undecided above) (λ n. refl)
@@ -142,7 +142,7 @@ turns s t step plan u (plans.counts_vote {q = q} {n = n} {b = b} {phase = phase}
 turns s t step plan u (plans.told_when_held {q = q} {n = n} {b = b} comes at held same) = not-held s q u n b at held
 turns s t step plan u (plans.told_to_roll {q = q} {n = n} {b = b} comes at rolls asked same loads) = not-rolling s q u n b at rolls
 turns s t step plan u (plans.told_to_go_on {q = q} {n = n} {b = b} comes at rolls asked same) = not-rolling s q u n b at rolls
-turns s t step plan u (plans.begins_check there at up fit) = starts modes.Held begins (λ n. refl)
+turns s t step plan u (plans.begins_check there at up fit shaped) = starts modes.Held begins (λ n. refl)
 turns s t step plan u (plans.decides {p = p} {n = n} {b = b} {phase = phase} there at voting own undecided outcome) = not-voting s p u n b phase at voting
 turns s t step plan u (plans.gives_up {p = p} {n = n} {b = b} {phase = phase} there at voting own undecided) = not-voting s p u n b phase at voting
 turns s t step plan u (plans.gives_up_down {p = p} there down has) = not-down s p u down

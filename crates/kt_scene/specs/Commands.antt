@@ -1,6 +1,6 @@
 -- The line of a command.
-use Rattle.std.specs.Prelude.{ℕ, zero, suc, ℤ, pos, nat_le, nat_eq, ◌==◌, Bool, true, false, not, if◌then◌else◌, List, [], ◌∷◌}
-use Rattle.std.specs.Prelude.{take, drop, codes, Option, Some, None, Result, Ok, Err}
+use Rattle.std.specs.Prelude.{ℕ, zero, suc, ℤ, pos, nat_le, nat_eq, ◌==◌, Bool, true, false, not, if◌then◌else◌}
+use Rattle.std.specs.Prelude.{List, [], ◌∷◌, take, drop, codes, Option, Some, None, Result, Ok, Err}
 use Rattle.std.specs.Cmp.Lexicographic.{pointwise}
 use Rattle.std.specs.List.{position_or_len}
 use Rattle.std.specs.Option.{option_map}

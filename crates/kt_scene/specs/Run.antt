@@ -15,7 +15,7 @@ use Rattle.kt_scene.specs.Runs.{RunsTo, IsRefusedAt}
 use Rattle.kt_scene.specs.Reading.{Play}
 use Rattle.kt_scene.specs.Work.{kind_of, steps_of, work_in}
 use Rattle.kt_scene.specs.Scenario.{IsScenario}
-use Rattle.kt_scene.specs.Report.{WritesReport, WritesReportFront}
+use Rattle.kt_scene.specs.Report.{IsReportOf, WritesReport, WritesReportFront}
 use Rattle.kt_scene.specs.Outside.{Reader, Writer}
 use Rattle.kt_scene.specs.Stream.{IsAllRead, IsReadFault, IsReportFault}
 use Rattle.kt_scene.specs.declared.fault.ReplayFault.{ReplayFault}
@@ -86,6 +86,14 @@ pub record WritesReplayed (was left : StoreValue) (before after : Reader) (old n
   pub kept : IsTrue left.is_honest → left.content ≡ state.content
   pub counts : left.counts ≡ was.counts
   pub report : WritesReport left.is_honest state old new
+
+-- the text is that report, of which nothing is written yet
+pub record IsReplayedReport (was left : StoreValue) (before after : Reader) (text : List ℕ) : Type 0 where
+  pub state : State
+  pub replayed : IsReplayed before after left.is_honest (is_fresh was.content) state
+  pub kept : IsTrue left.is_honest → left.content ≡ state.content
+  pub counts : left.counts ≡ was.counts
+  pub report : IsReportOf left.is_honest state text
 
 -- the writer failed, and a front of that report is written
 pub record WritesReplayedFront (was left : StoreValue) (before after : Reader) (old new : Writer) : Type 0 where

@@ -9,7 +9,7 @@ use crate::fault::ReplayFault;
 use crate::reading::line_at;
 use crate::report::report_text;
 use crate::sink::Sink;
-use crate::stream::put;
+use crate::stream::write_text;
 use crate::writing::push_scenario;
 use kt_core::{Scene, Step, World};
 use kt_store::CkptStore;
@@ -40,7 +40,7 @@ pub fn write_journal<S: CkptStore, W: Write>(
 {
     match report_text(alloc, world) {
         Ok(report) => match journal_of(alloc, &report, world.scene(), steps) {
-            Ok(text) => put(writer, &text),
+            Ok(text) => write_text(writer, &text),
             Err(AllocError) => Err(ReplayFault::Memory),
         },
         Err(fault) => Err(fault),

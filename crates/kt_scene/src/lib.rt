@@ -36,10 +36,10 @@ pub use laws::{
     what_was_read_is_written,
 };
 pub use reading::{MAX_TEXT, read_scene};
-pub use replaying::{replay, replay_over, replay_world};
+pub use replaying::{replay, replay_over, replay_world, report_over};
 pub use report::write_report;
 pub use scenario::{Scenario, Work, WorkKind};
 pub use sink::Sink;
 pub use source::{MAX_READS, Outcome, Source};
-pub use stream::read_text;
+pub use stream::{read_text, write_text};
 pub use writing::write_scene;

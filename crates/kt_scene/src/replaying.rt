@@ -1,11 +1,11 @@
 //! From the bytes of a scenario to the bytes of its report.
 
-ghost use Rattle.std.specs.Prelude.{◌≡◌, true, Err, IfOk, IfErr, IsTrue, OnOk};
+ghost use Rattle.std.specs.Prelude.{◌≡◌, ◌≢◌, true, Err, IfOk, IfErr, IsTrue, OnOk};
 ghost use Rattle.kt_store.specs.Content.{is_fresh};
 ghost use Rattle.kt_world.specs.Reached.{opening};
 ghost use Rattle.kt_scene.specs.Work.{steps_of};
 ghost use Rattle.kt_scene.specs.Runs.{RunsTo};
-ghost use Rattle.kt_scene.specs.Run.{play_in, LeadsTo, IsTextFault, IsReplayed, IsWorldFault};
+ghost use Rattle.kt_scene.specs.Run.{play_in, LeadsTo, IsTextFault, IsReplayed, IsReplayedReport, IsWorldFault};
 ghost use Rattle.kt_scene.specs.inner.Making.{IsStepFault, IsRunFault};
 ghost use Rattle.kt_scene.specs.Run.{WritesReplayed, WritesReplayedFront, IsReplayFault};
 ghost use Rattle.kt_scene.specs.Stream.{UnlessWrite};
@@ -13,7 +13,7 @@ ghost use Rattle.kt_core.specs.Store.{IsLeftSome, store_value};
 
 use crate::fault::{ReplayFault, SceneFault};
 use crate::reading::read_scene;
-use crate::report::write_report;
+use crate::report::{report_text, write_report};
 use crate::scenario::{Scenario, WorkKind};
 use crate::sink::Sink;
 use crate::source::Source;
@@ -75,6 +75,28 @@ pub fn replay_over<R: Read, W: Write, S: CkptStore + Drop>(
             (answer, world.into_store())
         }
         Err((fault, left)) => (Err(fault), left),
+    }
+}
+
+/// As `replay_over` up to the writing: it gives the report and the store. A command that has to do something between
+/// the two then writes the report by `write_text`.
+pub fn report_over<R: Read, S: CkptStore + Drop>(
+    alloc: Global,
+    reader: &mut Source<R>,
+    store: S,
+) -> Result<(Vec<u8>, S), (ReplayFault, S)>
+    ensures told { IfOk result (λ r. IsReplayedReport (store_value S.CkptStore store)
+        (store_value S.CkptStore r.1) reader.old reader.new r.0.items) }
+    ensures fault { IfErr result (λ e. IsReplayFault (store_value S.CkptStore store)
+        (store_value S.CkptStore e.1) reader.old reader.new e.0) }
+    ensures unwritten { IfErr result (λ e. e.0 ≢ ReplayFault.Write) }
+{
+    match world_over(alloc, reader, store) {
+        Ok(mut world) => match report_text(alloc, &mut world) {
+            Ok(report) => Ok((report, world.into_store())),
+            Err(refused) => Err((refused, world.into_store())),
+        },
+        Err(refused) => Err(refused),
     }
 }
 

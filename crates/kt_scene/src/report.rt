@@ -12,7 +12,7 @@ ghost use Rattle.kt_scene.specs.Stream.{UnlessWrite, IsReportFault};
 
 use crate::fault::ReplayFault;
 use crate::sink::Sink;
-use crate::stream::put;
+use crate::stream::write_text;
 use kt_core::World;
 use kt_history::space_of;
 use kt_space::Bag;
@@ -42,7 +42,7 @@ pub fn write_report<S: CkptStore, W: Write>(
     ensures only { IfErr result (IsReportFault world.old.counts world.new.counts world.new.is_honest) }
 {
     match report_text(alloc, world) {
-        Ok(report) => put(writer, &report),
+        Ok(report) => write_text(writer, &report),
         Err(fault) => Err(fault),
     }
 }

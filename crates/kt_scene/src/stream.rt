@@ -45,7 +45,7 @@ pub fn read_text<R: Read>(alloc: Global, reader: &mut Source<R>) -> Result<Vec<u
 }
 
 /// Writes all bytes and has the writer pass them on.
-pub(crate) fn put<W: Write>(writer: &mut Sink<W>, bytes: &[u8]) -> Result<(), ReplayFault>
+pub fn write_text<W: Write>(writer: &mut Sink<W>, bytes: &[u8]) -> Result<(), ReplayFault>
     ensures whole { OnOk result (WritesAll writer.old writer.new bytes.now) }
     ensures front { OnErr result (WritesFront writer.old writer.new bytes.now) }
     ensures only { IfErr result (λ fault. fault ≡ ReplayFault.Write) }

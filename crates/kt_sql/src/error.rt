@@ -12,9 +12,16 @@ pub enum SqlOpenError {
     /// The device failed, or the file can't be opened; so too for `:memory:`, which names no file.
     #[error("Device")]
     Device,
-    /// The tables are not those of a store of this version, or the file is no database.
+    /// The tables are not those of a store, or of a version that is not known, or the file is no database.
     #[error("Damaged")]
     Damaged,
+    /// The tables are those of a store of version 1, and hold something: they can be carried over by the journal that
+    /// made them.
+    #[error("Version")]
+    Version,
+    /// What is to be carried over is not what the journal makes, in version 1.
+    #[error("Mismatch")]
+    Mismatch,
 }
 
 impl From<AllocError> for SqlOpenError {

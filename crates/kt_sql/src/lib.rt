@@ -7,17 +7,19 @@
 //! - Stands on: kt_tuple, kt_ckpt, kt_store, kt_tables; of the kit: sqlite, sqlite_std_file, sqlite_trees,
 //!   thiserror
 //! - Used by: linda_kt
-//! - Begin in: `open.rt` for how a store is opened, then `calls.rt` for what each call makes of a row. `store.rt`
-//!   has each answer counted by `tally.rt`.
+//! - Begin in: `open.rt` for how a store is opened and `migrating.rt` for how one of version 1 is carried over, then
+//!   `calls.rt` for what each call makes of a row. `store.rt` has each answer counted by `tally.rt`.
 #![tactic(auto)]
 
 mod calls;
 mod error;
 mod laws;
+mod migrating;
 mod open;
 mod store;
 mod tally;
 
 pub use error::SqlOpenError;
 pub use laws::nothing_fails_a_store_in_memory;
+pub use migrating::connect;
 pub use store::SqlStore;

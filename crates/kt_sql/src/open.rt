@@ -10,13 +10,12 @@ ghost use Rattle.kt_store.specs.Calls.{nothing_counted};
 ghost use Rattle.kt_store.specs.Content.{empty_content};
 ghost use Rattle.kt_tables.specs.Schema.{kt_schema, no_schema};
 ghost use Rattle.kt_tables.specs.Rows.{AreAsSaid};
-ghost use Rattle.kt_tables.specs.Opened.{IsThisVersion};
+ghost use Rattle.kt_tables.specs.Opened.{HasNoRow, IsOldVersion, IsThisVersion};
 ghost use Rattle.kt_tables.specs.Held.{is_sure, content_of};
 
 use crate::error::SqlOpenError;
 use crate::store::SqlStore;
-use kt_store::StoreError;
-use kt_tables::readied;
+use kt_tables::{ReadyError, readied};
 use sqlite::{Alter, Connection, Error, ErrorCode, File, FileStore, MemStore, Options, Unknown};
 use sqlite_std_file::OpenError as PathError;
 use std::alloc::Global;
@@ -70,7 +69,7 @@ fn options(rt: &HostRuntime) -> Result<Options, SqlOpenError>
 
 /// The connection to the database at the path: as the kit's `Connection::open` makes it, but for these options, and it
 /// tells no time.
-fn file_connection(
+pub(crate) fn file_connection(
     rt: &HostRuntime,
     path: &str,
 ) -> Result<Connection<FileStore<File>>, SqlOpenError>
@@ -92,29 +91,33 @@ fn file_connection(
 }
 
 /// Closes a connection that was refused, and hands back why it was.
-fn closed(conn: Connection<FileStore<File>>, error: SqlOpenError) -> SqlOpenError
+pub(crate) fn closed(conn: Connection<FileStore<File>>, error: SqlOpenError) -> SqlOpenError
     ensures { result ≡ error }
 {
     let _ = conn.close();
     error
 }
 
-/// Why a connection is no store's: for memory, for damage, or for the device, as which `Full` is told too.
-fn open_error(error: StoreError) -> SqlOpenError
-    ensures memory { result ≡ SqlOpenError.Memory ↔ error ≡ StoreError.Memory }
-    ensures damaged { result ≡ SqlOpenError.Damaged ↔ error ≡ StoreError.Damaged }
+/// Why a connection is no store's.
+fn open_error(error: ReadyError) -> SqlOpenError
+    ensures memory { result ≡ SqlOpenError.Memory ↔ error ≡ ReadyError.Memory }
+    ensures damaged { result ≡ SqlOpenError.Damaged ↔ error ≡ ReadyError.Damaged }
+    ensures version { result ≡ SqlOpenError.Version ↔ error ≡ ReadyError.Version }
+    ensures opened { result ≢ SqlOpenError.Mismatch }
 {
     match error {
-        StoreError::Memory => SqlOpenError::Memory,
-        StoreError::Damaged => SqlOpenError::Damaged,
-        StoreError::Device | StoreError::Full => SqlOpenError::Device,
+        ReadyError::Memory => SqlOpenError::Memory,
+        ReadyError::Device => SqlOpenError::Device,
+        ReadyError::Damaged => SqlOpenError::Damaged,
+        ReadyError::Version => SqlOpenError::Version,
     }
 }
 
 impl<S: Alter> SqlStore<S> {
     /// The store in the tables of the connection, which has no transaction open. Where there are no tables they are
-    /// made. Where they are those of a store, each row is read, and the store is honest where all are as said. A
-    /// refusal hands the connection back.
+    /// made. Where they are those of a store, each row is read, and the store is honest where all are as said. Tables
+    /// of version 1 are raised where they have no row, and are refused where they have one, whatever it holds:
+    /// `migrate` carries them over. A refusal hands the connection back.
     pub fn adopt(
         alloc: Global,
         mut conn: Connection<S>,
@@ -124,8 +127,11 @@ impl<S: Alter> SqlStore<S> {
             → (state S.Store conn).now.schema ≡ no_schema
             → IsTrue (is_sure S.Store s.tables) × (content_of S.Store s.tables ≡ empty_content)) }
         ensures found { IfOk result (λ s. HasCleanDisk (state S.Store s.tables.conn)
-            → (state S.Store conn).now.schema ≢ no_schema
+            → IsThisVersion (state S.Store conn).now
             → (state S.Store s.tables.conn).now ≡ (state S.Store conn).now) }
+        ensures raised { IfOk result (λ s. HasCleanDisk (state S.Store s.tables.conn)
+            → IsOldVersion (state S.Store conn).now → HasNoRow (state S.Store conn).now
+            × IsTrue (is_sure S.Store s.tables) × (content_of S.Store s.tables ≡ empty_content)) }
         ensures version { IfOk result (λ s. HasCleanDisk (state S.Store s.tables.conn)
             → IsThisVersion (state S.Store s.tables.conn).now) }
         ensures honest { IfOk result (λ s. HasCleanDisk (state S.Store s.tables.conn)
@@ -137,7 +143,12 @@ impl<S: Alter> SqlStore<S> {
         ensures foreign_name { (state S.Store conn).now.schema ≢ no_schema
             → (state S.Store conn).now.schema ≢ kt_schema → IfErr result (λ e. e.0 ≡ SqlOpenError.Damaged) }
         ensures damaged { IfErr result (λ e. e.0 ≡ SqlOpenError.Damaged → HasCleanDisk (state S.Store e.1)
-            → ((state S.Store conn).now.schema ≢ no_schema) × (IsThisVersion (state S.Store conn).now → ⊥)) }
+            → ((state S.Store conn).now.schema ≢ no_schema) × (IsThisVersion (state S.Store conn).now → ⊥)
+            × (IsOldVersion (state S.Store conn).now → ⊥)) }
+        // Rows of version 1 are refused by this name, and nothing else is.
+        ensures old { IfErr result (λ e. e.0 ≡ SqlOpenError.Version → HasCleanDisk (state S.Store e.1)
+            → IsOldVersion (state S.Store conn).now × (HasNoRow (state S.Store conn).now → ⊥)) }
+        ensures opened { IfErr result (λ e. e.0 ≢ SqlOpenError.Mismatch) }
         ensures unchanged { IfErr result (λ e. HasCleanDisk (state S.Store e.1)
             → IsTrue (state S.Store e.1).is_open → (state S.Store e.1).now ≡ (state S.Store conn).now) }
         ensures ended { IfErr result (λ e. e.1.in_transaction ≡ false) }

@@ -1,7 +1,7 @@
 -- What the policy's rules ask of a node is enough for its step to be planned. A checkpoint that does not fit is the
 -- store's fault, and does not make a step one that is not allowed.
 use Rattle.std.proofs.Common.{◌≡◌, ℕ, ◌+◌, Bool, true, false, List, [], ◌∷◌, Result, Ok, Err, refl, ap}
-use Rattle.std.specs.Prelude.{Option, None, Some, is_some, if◌then◌else◌, slice_get}
+use Rattle.std.specs.Prelude.{◌&&◌, Option, None, Some, is_some, if◌then◌else◌, slice_get}
 use Rattle.kt_tuple.specs.declared.node.NodeId.{NodeId}
 use Rattle.kt_tuple.specs.declared.node.NodeId.TheVariants as ids
 use Rattle.kt_ckpt.specs.declared.ckpt.Ckpt.{Ckpt}
@@ -28,7 +28,8 @@ use Rattle.kt_node.specs.declared.reaction.Reaction.TheVariants as reactions
 use Rattle.kt_node.specs.Loading.{load, loaded_by, marks_in}
 use Rattle.kt_node.specs.Stored.{fits}
 use Rattle.kt_node.specs.Learning.{restored, rolling_learns, verdict_to}
-use Rattle.kt_node.specs.Arrivals.{check_fitting, is_in, rollback_plan, rollback_reaction, unless_down, verdict_by_parent, verdict_in, vote_in}
+use Rattle.kt_node.specs.Arrivals.{check_fitting, check_plan, check_reaction, is_in, rollback_plan, rollback_reaction, unless_down}
+use Rattle.kt_node.specs.Arrivals.{verdict_by_parent, verdict_in, vote_in}
 use Rattle.kt_node.specs.Deciding.{check_in, check_of}
 use Rattle.kt_node.specs.Failing.{fail_of, restart_after, restart_by, restart_in, restart_of, restarted}
 use Rattle.kt_node.specs.State.{body_at, body_from, if_fits}
@@ -95,9 +96,20 @@ hear-or : (v : View) (t : Told) (from : NodeId) (m : Message) → is_planned (of
 hear-or v t from (messages.Post post) = refl
 hear-or v t from (messages.CheckAsk ask) = by v.node
   where
+    of : (n : Live) (r : Reaction) → is_planned (of_owner (check_plan v n from ask t.permanent r)) ≡ true
+    of n (reactions.Says agreed) = refl
+    of n reactions.Joins = fits-or _ _
+
+    fitting : (n : Live) (r : Reaction) (b : Bool)
+        → is_planned (of_owner (if b then check_plan v n from ask t.permanent r else Err reasons.Damaged)) ≡ true
+    fitting n r true = of n r
+    fitting n r false = refl
+
     by : (n : Node) → is_planned (of_owner (unless_down n (check_fitting v from ask t.verdict t.permanent t.tentative))) ≡ true
     by Down = refl
-    by (Alive n) = fits-or _ _
+    by (Alive n) =
+        fitting n (check_reaction n from ask t.verdict t.permanent t.tentative)
+        (fits v.role v.line_len t.permanent && fits v.role v.line_len t.tentative)
 hear-or v t from (messages.RollAsk ask) = by v.node
   where
     of : (n : Live) (r : Reaction) → is_planned (of_owner (rollback_plan v n from ask t.permanent r)) ≡ true

@@ -14,6 +14,7 @@
 
 mod asking;
 mod closing;
+mod crossing;
 mod desk;
 mod ending;
 mod error;

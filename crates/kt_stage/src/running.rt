@@ -2,6 +2,7 @@
 
 ghost use Rattle.std.specs.Prelude.{◌≡◌, length, true, IfErr, IfOk, IsTrue, None, Ok};
 ghost use denote.Param.Send.{IsSend, IsSync};
+ghost use Rattle.kt_stage.specs.contracts.stage.Stage.{the_row as stage_row};
 ghost use Rattle.kt_stage.specs.Journal.{Replays, all_made};
 ghost use Rattle.kt_stage.specs.Order.{nodes_of};
 ghost use Rattle.kt_stage.specs.Policy.{first_unfinished, spent_by};
@@ -12,6 +13,7 @@ ghost use Rattle.kt_store.specs.Content.{is_fresh};
 ghost use Rattle.kt_world.specs.Reached.{opening};
 
 use crate::closing::CloseError;
+use crate::crossing::stage_may_be_shared;
 use crate::ending::unfinished;
 use crate::gate::Gate;
 use crate::journal::Journal;
@@ -100,11 +102,14 @@ where
     L: Naming + Send + Sync,
     G: Gate + Sync,
 {
+    stage_may_be_shared::<S, L>();
     thread::scope(
         thread::scope_env(),
         rt,
         move |scope| -> Result<Vec<Seat<L>>, Halted>
-            requires { IsSync R.row × IsSend S.row × IsSend L.row × IsSync L.row × IsSync G.row }
+            requires { IsSync R.row × IsSend S.row × IsSend L.row × IsSync L.row × IsSync G.row
+                × IsSync (stage_row S.row L.row S.CkptStore (record { opening = L.opening })
+                (record { name = L.name; parts = L.parts })) }
         {
             let mut seats = Vec::new(alloc);
             let mut handles = Vec::new(alloc);

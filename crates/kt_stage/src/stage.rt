@@ -39,6 +39,8 @@ pub(crate) struct Refused {
 /// What the lock keeps: the desk, and what a run by threads has to know.
 #[derive(Drop)]
 pub(crate) struct Floor<S: CkptStore, L: Naming> {
+    /// What was refused in a run, while nothing was tried since: why it ends early.
+    pub(crate) refused: Option<Refused>,
     pub(crate) desk: Desk<S, L>,
     /// The fault lines that are left. A node's lines are looked at and spent by its own steps alone.
     pub(crate) faults: Faults,
@@ -46,8 +48,6 @@ pub(crate) struct Floor<S: CkptStore, L: Naming> {
     pub(crate) asleep: Flags,
     /// Whether the run has ended: each thread that finds it so makes no further step.
     pub(crate) is_over: bool,
-    /// What was refused in a run, while nothing was tried since: why it ends early.
-    pub(crate) refused: Option<Refused>,
     ghost due: { ForSome refused (λ r. IsRefusedAt L.opening.counts desk.journal r.at r.cause) },
 }
 

@@ -60,6 +60,20 @@ impl Contents {
         }
     }
 
+    /// The rows of nodes.
+    pub(crate) fn nodes(&self) -> &[NodeRow]
+        ensures { result.now ≡ self.now.nodes }
+    {
+        &self.nodes
+    }
+
+    /// The board.
+    pub(crate) fn board(&self) -> &[Posted]
+        ensures { result.now ≡ self.now.board }
+    {
+        &self.board
+    }
+
     /// The node's incarnation. A node without a row is in the first, so that a store needs no list of the nodes there
     /// are.
     pub(crate) fn incarnation_of(&self, node: NodeId) -> u64

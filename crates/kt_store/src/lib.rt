@@ -5,7 +5,7 @@
 //!   nothing (`CkptStore::promote` and its sisters, clauses `written` and `unchanged`). The store in memory,
 //!   `MemStore`, always is. A store counts exactly how often its device failed and how often memory was refused
 //!   (clause `cause`). `FaultStore` keeps all this over any other store, and counts its own fault.
-//! - Stands on: kt_tuple, kt_ckpt; of the kit: thiserror
+//! - Stands on: kt_tuple, kt_history, kt_ckpt; of the kit: thiserror
 //! - Used by: kt_tables, kt_sql, kt_node, kt_world, kt_refinement, kt_core, kt_scene, kt_stage, kt_run, kt_command,
 //!   linda_kt, kt_example, kt_memory_tests
 //! - Begin in: `store.rt` for the promises and `rows.rt` for what is stored. `memory.rt` is the store in memory, over
@@ -14,6 +14,7 @@
 
 mod change;
 mod contents;
+mod crossing;
 mod error;
 mod faulty;
 mod laws;
@@ -22,6 +23,7 @@ mod posted;
 mod rows;
 mod store;
 
+pub use crossing::memory_may_go;
 pub use error::StoreError;
 pub use faulty::FaultStore;
 pub use laws::{other_instances_stay, other_nodes_stay, what_is_written_is_read};

@@ -6,7 +6,7 @@ ghost use Rattle.kt_store.specs.Calls.{raised};
 use crate::change::Change;
 use crate::contents::Contents;
 use crate::error::StoreError;
-use crate::rows::{Purpose, Tentative, TentativeMarks, Verdict};
+use crate::rows::{NodeRow, Posted, Purpose, Tentative, TentativeMarks, Verdict};
 use crate::store::CkptStore;
 use kt_ckpt::{Ckpt, Marks};
 use kt_tuple::NodeId;
@@ -44,6 +44,20 @@ impl MemStore {
             contents: Contents::new(alloc),
             wants: 0,
         }
+    }
+
+    /// The rows of the nodes that have one, in node order.
+    pub fn nodes(&self) -> &[NodeRow]
+        ensures { result.now ≡ self.now.content.nodes }
+    {
+        self.contents.nodes()
+    }
+
+    /// The rows of the board, in the order of their instances.
+    pub fn board(&self) -> &[Posted]
+        ensures { result.now ≡ self.now.content.board }
+    {
+        self.contents.board()
     }
 }
 

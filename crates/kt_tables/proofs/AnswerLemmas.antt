@@ -1,5 +1,5 @@
 -- What the calls on tables answer.
-use Rattle.std.proofs.Common.{◌≡◌, inl, inr, ℕ, ◌≤◌, Bool, true, false, List, None, Ok, Err, Result, IfOk, IfErr, IfSome, OnOk, arith}
+use Rattle.std.proofs.Common.{◌≡◌, inl, inr, ℕ, ◌≤◌, Bool, true, false, List, None, Ok, Err, Result, IfOk, IfErr, IfSome, OnOk, OnErr, arith}
 use Rattle.std.proofs.Common.{option_map, slice_get, refl, sym, ap, subst, ◌∙◌, ◌==◌, ◌&&◌, map, [], ◌∷◌, cond, length, fold, max, Ordering, ◌<◌}
 use Rattle.std.specs.Prelude.{IsTrue}
 use Rattle.std.specs.List.{find, AllByRecursion}
@@ -55,6 +55,23 @@ gives_memory x (Err e) h = h
 pub through_ok : {X E : Type 0} (r : Result X E) (P Q : X → Type 0) → ((x : X) → P x → Q x) → IfOk r P → IfOk r Q
 through_ok (Ok x) P Q go h = go x h
 through_ok (Err e) P Q go h = tt
+
+pub on_ok_of : {X E : Type 0} (r : Result X E) (P : X → Type 0) (A : Type 0) → ((x : X) → P x → A) → IfOk r P → OnOk r A
+on_ok_of (Ok x) P A go h = go x h
+on_ok_of (Err e) P A go h = tt
+
+pub each_err : {X E : Type 0} (r : Result X E) (A : Type 0) → A → OnErr r A
+each_err (Ok x) A a = tt
+each_err (Err e) A a = a
+
+pub on_err_of : {X E : Type 0} (r : Result X E) (A B : Type 0) → (A → B) → OnErr r A → OnErr r B
+on_err_of (Ok x) A B go h = tt
+on_err_of (Err e) A B go h = go h
+
+-- what holds of each holds of the answer
+pub each_ok : {X E : Type 0} (r : Result X E) (P : X → Type 0) → ((x : X) → P x) → IfOk r P
+each_ok (Ok x) P all = all x
+each_ok (Err e) P all = tt
 
 -- what holds where there is an answer holds of it
 pub where_ok : {X E : Type 0} (r : Result X E) (A : Type 0) (P : X → Type 0) → OnOk r A → (A → IfOk r P) → IfOk r P

@@ -14,4 +14,10 @@ pub mod TableRows
 pub mod TabledLemmas
 pub mod Texts
 pub mod WriteLemmas
+pub mod CarriedRows
+pub mod CarriedLoop
+pub mod CarriedTables
+pub mod CarryLemmas
+pub mod OldLemmas
+pub mod ReadyLemmas
 pub mod Shared

@@ -84,10 +84,10 @@ meta_made old new count has none bare h =
 abbrev meta_terms : List Term
 meta_terms = lit (Int (pos 1)) ∷ lit Null ∷ lit (Int (pos this_version)) ∷ []
 
-abbrev meta_row : Row
+abbrev pub meta_row : Row
 meta_row = Int (pos 1) ∷ Null ∷ Int (pos this_version) ∷ []
 
-puts_meta : PutsInto 2 first_meta_text [] meta_row (pos 1)
+pub puts_meta : PutsInto 2 first_meta_text [] meta_row (pos 1)
 unfolding understood everything
 puts_meta = record {
   name = meta_table.name;

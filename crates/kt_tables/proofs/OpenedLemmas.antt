@@ -1,9 +1,10 @@
 -- What is found where a store is opened.
-use Rattle.std.proofs.Common.{◌≡◌, ℕ, ◌+◌, ◌<◌, ◌≤◌, negsuc, Bool, true, false, ◌&&◌, List, [], ◌∷◌, map, flat_map}
+use Rattle.std.proofs.Common.{◌≡◌, ℕ, ◌+◌, ◌<◌, ◌≤◌, negsuc, Bool, true, false, ◌&&◌, List, [], ◌∷◌, length, map, flat_map}
 use Rattle.std.proofs.Common.{refl, sym, ap, ap₂, subst, subst₂, ◌∙◌, arith, IsPermutation}
 use Rattle.std.specs.Prelude.{◌↔◌, IsTrue}
 use Rattle.std.specs.List.{AllByRecursion}
-use Rattle.std.proofs.lemmas.List.Sorted.{IsPermutation-map, IsPermutation-sym}
+use Rattle.std.proofs.lemmas.List.{length-map}
+use Rattle.std.proofs.lemmas.List.Sorted.{IsPermutation-map, IsPermutation-sym, length_permutation}
 use Rattle.sqlite_value.specs.Order.{Row}
 use Rattle.sqlite_trees.specs.Tree.{Trees, IsAscending}
 use Rattle.sqlite_sql.specs.Term.{Term, col, eval_all}
@@ -20,7 +21,7 @@ use Rattle.kt_tables.specs.Rows.{number_in, node_given, posted_given, IsNodeRow,
 use Rattle.kt_tables.specs.Settled.{IsSettled}
 use Rattle.kt_tables.specs.inner.Looking.{Looks}
 use Rattle.kt_tables.proofs.StateLemmas.{look_clean, look_open}
-use Rattle.kt_tables.specs.Opened.{meta_shown, meta_given, IsThisVersion, IsReady}
+use Rattle.kt_tables.specs.Opened.{meta_shown, meta_of, HasNoRow, IsVersion, IsThisVersion, IsOldVersion, IsReady}
 use Rattle.kt_tables.specs.inner.Testing.{key_of, IsRowOf, AreRowsFrom}
 use Rattle.kt_tables.proofs.Texts.{Asks, from_table, rising, all_nodes_is, all_posted_is, meta, meta_is, node_names, posted_names}
 use Rattle.kt_tables.proofs.TableRows.{Table, HoldsAll, nodes_table, posted_table}
@@ -49,7 +50,7 @@ flat_ones : {A B C : Type 0} (e : A → B) (f : B → C) (xs : List A) → map f
 flat_ones e f [] = refl
 flat_ones e f (x ∷ xs) = ap (λ l. f (e x) ∷ l) (flat_ones e f xs)
 
-shown_bag : (tree : ℕ) (columns : List Term) (db : Trees) (rows : List Row) → IsAnswer (from_table tree [] columns rising (negsuc 0)) db [] rows
+pub shown_bag : (tree : ℕ) (columns : List Term) (db : Trees) (rows : List Row) → IsAnswer (from_table tree [] columns rising (negsuc 0)) db [] rows
     → IsPermutation (map (λ (r : Row). eval_all columns ([] ∷ r ∷ [])) (db tree)) rows
 shown_bag tree columns db rows answer =
     let q = from_table tree [] columns rising (negsuc 0) in
@@ -100,7 +101,7 @@ module _ {X : Type 0} {IsSaid : X → Type 0} (t : Table IsSaid) where
 
   module _ (sql : List ℕ) (names : List (List ℕ)) (asks : Asks sql (from_table t.tree [] t.columns rising (negsuc 0)) names) (old new : State)
       (has : old.now.schema ≡ kt_schema) (rows : List Row) (h : Shown sql [] old new rows) where
-    all_found : (xs : List X) → HoldsAll t (old.now.trees t.tree) xs → rows ≡ map t.given xs
+    pub all_found : (xs : List X) → HoldsAll t (old.now.trees t.tree) xs → rows ≡ map t.given xs
     all_found xs held =
         in_order t old.now.trees xs held.shown (keyed t xs held.said held.rise) [] (negsuc 0) [] (λ _. true) (λ r. refl) (λ r. refl) rows
         (answered sql [] old new _ names asks has rows h)
@@ -130,14 +131,44 @@ module _ {X : Type 0} {IsSaid : X → Type 0} (t : Table IsSaid) where
           },
     )
 
+-- nothing is shown just where the table has no row
+nothing_by : {X : Type 0} (f : X → Row) (xs : List X) (rows : List Row) → IsPermutation (map f xs) rows → (length rows ≡ 0) ↔ (xs ≡ [])
+nothing_by {X} f xs rows bag =
+    let len = length_permutation _ _ bag in
+    (λ none. empty xs (grind (arith, len, none, length-map xs f)), λ is. grind (arith, len, ap (λ l. length (map f l)) is))
+  where
+    empty : (xs : List X) → length xs ≡ 0 → xs ≡ []
+    empty [] same = refl
+    empty (x ∷ xs) same = absurd (omega (arith, same))
+
+pub none_shown : {X : Type 0} {IsSaid : X → Type 0} (t : Table IsSaid) (sql : List ℕ) (names : List (List ℕ))
+    → Asks sql (from_table t.tree [] t.columns rising (negsuc 0)) names → (old new : State) → old.now.schema ≡ kt_schema
+    → (rows : List Row) → Shown sql [] old new rows → (length rows ≡ 0) ↔ (old.now.trees t.tree ≡ [])
+none_shown t sql names asks old new has rows h =
+    nothing_by _ (old.now.trees t.tree) rows (shown_bag t.tree t.columns old.now.trees rows (answered sql [] old new _ names asks has rows h))
+
 module _ (old new : State) (has : old.now.schema ≡ kt_schema) (rows : List Row) where
-  pub meta_held : Shown meta_text [] old new rows → (rows ≡ meta_given ∷ []) ↔ (map meta_shown (old.now.trees 2) ≡ meta_given ∷ [])
-  meta_held h =
+  pub meta_held : (version : ℕ) → Shown meta_text [] old new rows
+      → (rows ≡ meta_of version ∷ []) ↔ (map meta_shown (old.now.trees 2) ≡ meta_of version ∷ [])
+  meta_held version h =
       let bag : IsPermutation (map meta_shown (old.now.trees 2)) rows =
       shown_bag 2 (col 1 0 ∷ col 1 2 ∷ []) old.now.trees rows (answered meta_text [] old new meta _ meta_is has rows h) in (
-        λ is. one_permutation meta_given _ (IsPermutation-sym _ _ (subst (IsPermutation (map meta_shown (old.now.trees 2))) is bag)),
-        λ is. one_permutation meta_given _ (subst (λ l. IsPermutation l rows) is bag),
+        λ is. one_permutation (meta_of version) _ (IsPermutation-sym _ _ (subst (IsPermutation (map meta_shown (old.now.trees 2))) is bag)),
+        λ is. one_permutation (meta_of version) _ (subst (λ l. IsPermutation l rows) is bag),
       )
+
+-- where the row of the third table is told by what is seen of it, the version is
+pub version_told : (old new : State) → old.now.schema ≡ kt_schema → (seen rows : List Row) → seen ≡ rows → Shown meta_text [] old new rows
+    → (version : ℕ) (told : Bool) → (IsTrue told ↔ (seen ≡ meta_of version ∷ [])) → IsTrue told ↔ IsVersion version old.now
+version_told old new has seen rows same h version told is =
+    let held = meta_held old new has rows version h in (
+      λ t. record { schema = has; meta = held.0 (sym same ∙ is.0 t) },
+      λ v. is.1 (same ∙ held.1 v.meta),
+    )
+
+-- tables have one version
+pub one_version : (db : Database) → IsThisVersion db → IsOldVersion db → ⊥
+one_version db this old = let both = sym this.meta ∙ old.meta in absurd cc
 
 in_turn : {P Q R : Type 0} → P ↔ Q → Q ↔ R → P ↔ R
 in_turn h g = (λ p. g.0 (h.0 p), λ r. h.1 (g.1 r))
@@ -152,34 +183,50 @@ both_said db true b h g = (
 )
 both_said db false b h g = (λ is. absurd cc, λ it. absurd (let bad : IsTrue false = h.1 (it.0.nodes, it.1.nodes) in cc))
 
--- the tables were tested, by three looks one after the other
-module _ (old one two last : State) (a b : Bool) (clean : HasCleanDisk last) (on : IsTrue last.is_open) (settled : IsTrue old.is_open → IsSettled old)
-    (first : Looks old one) (second : Looks one two) (third : Looks two last) where
-  pub tested_ready : (HasCleanDisk one → IsThisVersion old.now)
-      → (HasCleanDisk one → IsTrue one.is_open → IsSettled old → (one.now ≡ old.now) × IsSettled one)
-      → (HasCleanDisk two → (rows : List Row) × Shown all_nodes_text [] one two rows × (IsTrue a ↔ AreRowsFrom node_given IsNodeRow 0 rows))
+both_none : (db : Database) (a b : Bool) → (IsTrue a ↔ (db.trees 0 ≡ [])) → (IsTrue b ↔ (db.trees 1 ≡ []))
+    → IsTrue (a && b) ↔ HasNoRow db
+both_none db true b nodes board = (λ t. record { nodes = nodes.0 refl; board = board.0 t }, λ n. board.1 n.board)
+both_none db false b nodes board = (λ t. absurd cc, λ n. let t = nodes.1 n.nodes in absurd cc)
+
+-- two looks at the tables, one after the other
+module _ (old two last : State) (a b : Bool) (clean : HasCleanDisk last) (on : IsTrue last.is_open) (settled : IsSettled old)
+    (first : Looks old two) (second : Looks two last) where
+  between : old.now.schema ≡ kt_schema → (two.now ≡ old.now) × IsSettled two
+  between has = (first.stays (look_clean two last second clean) (look_open two last second clean on)).rest settled has
+
+  -- they were tested
+  pub tested_ready : IsThisVersion old.now
+      → (HasCleanDisk two → (rows : List Row) × Shown all_nodes_text [] old two rows × (IsTrue a ↔ AreRowsFrom node_given IsNodeRow 0 rows))
       → (HasCleanDisk last → (rows : List Row) × Shown all_posted_text [] two last rows × (IsTrue b ↔ AreRowsFrom posted_given IsPosted 0 rows))
       → IsReady last (a && b)
-  tested_ready was same nodes board =
-      let clean-2 = look_clean two last third clean in
-      let clean-1 = look_clean one two second clean-2 in
-      let on-2 = look_open two last third clean on in
-      let on-1 = look_open one two second clean-2 on-2 in
-      let version = was clean-1 in
-      let now-1 = same clean-1 on-1 (settled (look_open old one first clean-1 on-1)) in
-      let has-1 = ap (λ (d : Database). d.schema) now-1.0 ∙ version.schema in
-      let now-2 = (second.stays clean-2 on-2).rest now-1.1 has-1 in
-      let has-2 = ap (λ (d : Database). d.schema) now-2.0 ∙ has-1 in
-      let now-3 = (third.stays clean on).rest now-2.1 has-2 in
-      let ns = nodes clean-2 in
+  tested_ready version nodes board =
+      let now-2 = between version.schema in
+      let has-2 = ap (λ (d : Database). d.schema) now-2.0 ∙ version.schema in
+      let now-3 = (second.stays clean on).rest now-2.1 has-2 in
+      let ns = nodes (look_clean two last second clean) in
       let ps = board clean in
-      let in_nodes = in_turn ns.2 (all_held nodes_table all_nodes_text node_names all_nodes_is one two has-1 ns.0 ns.1) in
+      let in_nodes = in_turn ns.2 (all_held nodes_table all_nodes_text node_names all_nodes_is old two version.schema ns.0 ns.1) in
       let in_board = in_turn ps.2 (all_held posted_table all_posted_text posted_names all_posted_is two last has-2 ps.0 ps.1) in
       record {
         is_open = on;
         settled = now-3.1;
-        version = subst IsThisVersion (sym (now-3.0 ∙ now-2.0 ∙ now-1.0)) version;
+        version = subst IsThisVersion (sym (now-3.0 ∙ now-2.0)) version;
         trusted = both_said last.now.trees a b
             (subst (λ (d : Database). IsTrue a ↔ ((nodes : List NodeRow) × HoldsNodes (d.trees 0) nodes)) (sym (now-3.0 ∙ now-2.0)) in_nodes)
             (subst (λ (d : Database). IsTrue b ↔ ((board : List Posted) × HoldsBoard (d.trees 1) board)) (sym now-3.0) in_board);
       }
+
+  -- neither has a row
+  pub no_row_told : old.now.schema ≡ kt_schema
+      → (HasCleanDisk two → (rows : List Row) × Shown all_nodes_text [] old two rows × (IsTrue a ↔ (length rows ≡ 0)))
+      → (HasCleanDisk last → (rows : List Row) × Shown all_posted_text [] two last rows × (IsTrue b ↔ (length rows ≡ 0)))
+      → IsTrue (a && b) ↔ HasNoRow old.now
+  no_row_told has nodes board =
+      let now-2 = between has in
+      let has-2 = ap (λ (d : Database). d.schema) now-2.0 ∙ has in
+      let ns = nodes (look_clean two last second clean) in
+      let ps = board clean in
+      let in_nodes = in_turn ns.2 (none_shown nodes_table all_nodes_text node_names all_nodes_is old two has ns.0 ns.1) in
+      let in_board = in_turn ps.2 (none_shown posted_table all_posted_text posted_names all_posted_is two last has-2 ps.0 ps.1) in
+      let board_was = subst (λ (d : Database). IsTrue b ↔ (d.trees 1 ≡ [])) now-2.0 in_board in
+      both_none old.now a b in_nodes board_was

@@ -1,5 +1,5 @@
 -- Rows in the tables, and back.
-use Rattle.std.proofs.Common.{◌≡◌, ◌+◌, ◌-◌, ltb, lt-ltb, false, cond, List, [], ◌∷◌, map, Option, None, Some, Ok, refl}
+use Rattle.std.proofs.Common.{◌≡◌, ◌+◌, ◌-◌, ltb, lt-ltb, false, cond, List, [], ◌∷◌, length, map, Option, None, Some, Ok, refl}
 use Rattle.std.proofs.Common.{ap, ap₂, ◌∙◌, arith}
 use Rattle.std.specs.List.{AllByRecursion}
 use Rattle.sqlite.specs.Order.{Row}
@@ -20,6 +20,7 @@ use Rattle.kt_store.specs.declared.rows.Verdict.TheVariants.{Open, Yes, No}
 use Rattle.kt_tables.specs.Rows.{id_of, node_of, HasId, purpose_code, purpose_of, verdict_code, verdict_of, spelled, checkpoint_value, instance_value}
 use Rattle.kt_tables.specs.Rows.{checkpoint_in, number_in, tentative_of, node_in, node_given, posted_in, posted_given, IsSpelled, IsTaken, IsNodeRow, IsPosted}
 use Rattle.kt_tables.specs.Rows.{when_ok, bytes_of}
+use Rattle.kt_tables.specs.inner.Showing.{ShowsNode}
 
 pub node_back : (n : NodeId) → HasId n → node_of (id_of n) ≡ n
 node_back (Worker n) low = ap (λ b. cond b (Worker n) (Shard (n - SHARD_IDS))) (lt-ltb n SHARD_IDS low)
@@ -67,3 +68,13 @@ pub map_back : {X : Type 0} (P : X → Type 0) (out : X → Row) (back : Row →
     → map back (map out xs) ≡ xs
 map_back P out back same [] h = refl
 map_back P out back same (x ∷ xs) h = ap₂ ◌∷◌ (same x h.0) (map_back P out back same xs h.1)
+
+-- a row of five columns that shows a node is that of the node
+pub shown_given : (row : Row) (r : NodeRow) → ShowsNode row r → length row ≡ 5 → row ≡ node_given r
+shown_given [] r h five = absurd (omega (arith, five))
+shown_given (a ∷ []) r h five = absurd (omega (arith, five))
+shown_given (a ∷ b ∷ []) r h five = absurd (omega (arith, five))
+shown_given (a ∷ b ∷ d ∷ []) r h five = absurd (omega (arith, five))
+shown_given (a ∷ b ∷ d ∷ e ∷ []) r h five = absurd (omega (arith, five))
+shown_given (a ∷ b ∷ d ∷ e ∷ f ∷ []) r h five = rw (h.id, h.incarnation, h.permanent, h.tentative, h.instance) refl
+shown_given (a ∷ b ∷ d ∷ e ∷ f ∷ k ∷ more) r h five = absurd (omega (arith, five))

@@ -12,9 +12,10 @@ use Rattle.sqlite_resolve.specs.declared.error.CompileError.{CompileError}
 use Rattle.sqlite_resolve.specs.declared.compiled.Compiled.{Compiled}
 use Rattle.sqlite_schema.specs.declared.command.Returning.{Returning}
 use Rattle.sqlite.specs.State.{State, Shows, Runs, IsUnchanged, IsRolledBack, Fails, RunsCommand, shows_rows, IsNotRun, Executes, ExecutesIn}
-use Rattle.sqlite.specs.State.{ExecutesInside, FailsToShow, FailsToQuery, ShowsRows, Shown, HasCleanDisk}
+use Rattle.sqlite.specs.State.{ExecutesInside, FailsToShow, FailsToQuery, ShowsRows, Shown, HasCleanDisk, Survives, CommitsShowing}
 use Rattle.sqlite.specs.Listing.{understood}
-use Rattle.sqlite.proofs.Callers.{IsPlain}
+use Rattle.sqlite.specs.Tree.{Trees}
+use Rattle.sqlite.proofs.Callers.{IsPlain, never_commits}
 use Rattle.kt_tables.specs.Schema.{kt_schema}
 use Rattle.kt_tables.specs.Settled.{IsSettled}
 use Rattle.kt_tables.specs.inner.Looking.{Stays, Looks}
@@ -92,6 +93,14 @@ shows_open old new sql c params rows (Some what) h = h.1.shown.is_open
 pub query_open : (sql : List ℕ) (params : Row) (old new : State) (rows : List Row) → Shown sql params old new rows → IsTrue new.is_open
 unfolding Shown
 query_open sql params old new rows h = shows_open old new sql h.0 _ rows h.0.returning h.2
+
+-- a query commits nothing
+pub query_leaves : (sql : List ℕ) (params : Row) (old new : State) → IsPlain (understood kt_schema sql) → Survives old new (CommitsShowing sql params old)
+    → HasCleanDisk new → old.now.schema ≡ kt_schema → (db : Trees) → new.may_leave db → old.may_leave db
+query_leaves sql params old new plain survives clean has db may = elim (survives.crash clean db may) [
+  | inl before ↦ before
+  | inr made ↦ absurd (never_commits sql params old db (subst (λ s. IsPlain (understood s sql)) (sym has) plain) made)
+]
 
 -- a write that was made
 pub written_settled : (old new : State) → IsSettled old → Shows old new new.now (cond old.in_transaction old.committed new.now) old.in_transaction

@@ -3,7 +3,7 @@ use Rattle.std.proofs.Common.{◌≡◌, ◌≤◌, ℕ, Bool, true, false, ◌&
 use Rattle.std.specs.Prelude.{◌↔◌, ◌⊎◌, IsTrue}
 use Rattle.sqlite.specs.Store.{Ghosts}
 use Rattle.sqlite.specs.Held.{Held, state}
-use Rattle.sqlite.specs.State.{HasCleanDisk}
+use Rattle.sqlite.specs.State.{HasCleanDisk, State}
 use Rattle.sqlite_trees.specs.View.{doubt}
 use Rattle.sqlite_trees.proofs.Doubt.{no_doubt, clean_of}
 use Rattle.sqlite.specs.Effect.{Database}
@@ -14,6 +14,7 @@ use Rattle.kt_tables.specs.Opened.{IsReady}
 use Rattle.kt_tables.specs.Rows.{AreAsSaid, Holds, content_in}
 use Rattle.kt_store.specs.Content.{Content, empty_content}
 use Rattle.kt_tables.specs.Made.{IsMade}
+use Rattle.kt_tables.specs.Old.{IsCarried}
 use Rattle.kt_tables.specs.Held.{Tabled, content_of, is_sound, is_sure, IsKept, Lasts}
 use Rattle.kt_tables.specs.inner.Lasting as Connection
 use Rattle.sqlite_disk.specs.Disk.{MoreFaults}
@@ -39,6 +40,10 @@ two false b h = absurd cc
 -- a count that is 0 has not risen
 no_more : (old new : ℕ) → new ≡ 0 → MoreFaults old new → ⊥
 no_more old new none more = grind (arith, none, more)
+
+-- tables that were carried over are as said
+pub carried_ready : (s : State) (c : Content) → IsCarried s c → IsReady s true
+carried_ready s c h = record { is_open = h.is_open; settled = h.settled; version = h.version; trusted = (λ _. (c, h.holds), λ _. refl) }
 
 module _ {S : Type 0} (g : Ghosts S) where
   pub record IsSure (s : Tabled S) : Type 0 where
@@ -101,6 +106,14 @@ module _ {S : Type 0} (g : Ghosts S) where
       → let s : Tabled S = record { conn = h; is_trusted = trusted } in IsTrue (is_sure g s) × (content_of g s ≡ empty_content)
   made_fresh h trusted clean ready made =
       ((ready_sure h trusted clean ready).1 ((made_ready (state g h) made).trusted.0 refl), empty_content_in (state g h).now.trees made.nodes made.board)
+
+  -- and one over tables that were carried over is honest, and holds what they hold
+  pub carried_sure : (h : Held S) (c : Content) → HasCleanDisk (state g h) → IsCarried (state g h) c
+      → let s : Tabled S = record { conn = h; is_trusted = true } in IsTrue (is_sure g s) × (content_of g s ≡ c)
+  carried_sure h c clean carried = (
+    (ready_sure h true clean (carried_ready (state g h) c carried)).1 (c, carried.holds),
+    holds_content c carried.holds,
+  )
 
   -- a call after which the store is sure, and which changed nothing
   pub stayed : (s : Tabled S) (h : Held S) → (IsTrue (is_sure g s) → IsKept g s) → doubt (state g s.conn).is_clean ≤ doubt (state g h).is_clean

@@ -1,6 +1,7 @@
 pub mod Cells
 pub mod Held
 pub mod Made
+pub mod Old
 pub mod Opened
 pub mod Reason
 pub mod Rows

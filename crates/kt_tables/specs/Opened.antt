@@ -11,17 +11,32 @@ use Rattle.kt_tables.specs.Rows.{whole, AreAsSaid}
 abbrev pub meta_shown : Row → Row
 meta_shown r = column r 0 ∷ column r 2 ∷ []
 
--- the version of the tables, which the third says
+-- the version of the tables that are made, which the third says; and the one before it, which differs in the bytes of
+-- checkpoints
 abbrev pub this_version : ℕ
 this_version = 2
 
-abbrev pub meta_given : Row
-meta_given = whole 1 ∷ whole this_version ∷ []
+abbrev pub old_version : ℕ
+old_version = 1
 
--- the three tables are there and nothing else, and the third says this version
-pub record IsThisVersion (db : Database) : Type 0 where
+abbrev pub meta_of : ℕ → Row
+meta_of version = whole 1 ∷ whole version ∷ []
+
+-- the three tables are there and nothing else, and the third says the version
+pub record IsVersion (version : ℕ) (db : Database) : Type 0 where
   pub schema : db.schema ≡ kt_schema
-  pub meta : map meta_shown (db.trees 2) ≡ meta_given ∷ []
+  pub meta : map meta_shown (db.trees 2) ≡ meta_of version ∷ []
+
+abbrev pub IsThisVersion : Database → Type 0
+IsThisVersion = IsVersion this_version
+
+abbrev pub IsOldVersion : Database → Type 0
+IsOldVersion = IsVersion old_version
+
+-- no node and no instance has a row
+pub record HasNoRow (db : Database) : Type 0 where
+  pub nodes : db.trees 0 ≡ []
+  pub board : db.trees 1 ≡ []
 
 -- an open connection over the tables of a store, and whether each row is as said
 pub record IsReady (s : State) (is_trusted : Bool) : Type 0 where

@@ -7,3 +7,6 @@ pub mod Testing
 pub mod Showing
 pub mod Looking
 pub mod Lasting
+pub mod Carrying
+pub mod OldRows
+pub mod Ready

@@ -116,7 +116,7 @@ pub(crate) fn first_cells(id: u32) -> NodeCells
 
 /// The bytes of a checkpoint, which a blob of the table holds as they are.
 #[tactic(auto, unfolding(crate::specs::Rows::bytes_of))]
-fn encoded(alloc: Global, checkpoint: &Ckpt) -> Result<Vec<u8>, AllocError>
+pub(crate) fn encoded(alloc: Global, checkpoint: &Ckpt) -> Result<Vec<u8>, AllocError>
     ensures { IfOk result (λ v. IsCheckpoint checkpoint.now × (v.items ≡ bytes_of checkpoint.now)) }
 {
     checkpoint.encode(alloc)
@@ -148,22 +148,33 @@ pub(crate) fn with_tentative(
     })
 }
 
+/// What the instance is for and how it ended, by their codes.
+pub(crate) fn posted_codes(row: &Posted) -> (u32, u32)
+    ensures purpose { result.0 ≡ purpose_code row.now.purpose }
+    ensures verdict { result.1 ≡ verdict_code row.now.verdict }
+{
+    let purpose = match row.purpose {
+        Purpose::Check => 1,
+        Purpose::Rollback => 2,
+    };
+    let verdict = match row.verdict {
+        Verdict::Open => 0,
+        Verdict::Yes => 1,
+        Verdict::No => 2,
+    };
+    (purpose, verdict)
+}
+
 /// The cells of the row; `None` where the tables have no id for the initiator, or the instance is above 2^62.
 pub(crate) fn posted_cells(row: Posted) -> Option<PostedCells>
     requires { 1 ≤ row.instance }
     ensures { IfSome result (λ c. IsPosted row × SpellsPosted c row) }
 {
+    let (purpose, verdict) = posted_codes(&row);
     Some(PostedCells {
         instance: Number::new(row.instance)?,
         initiator: id_of(row.initiator)?,
-        purpose: match row.purpose {
-            Purpose::Check => 1,
-            Purpose::Rollback => 2,
-        },
-        verdict: match row.verdict {
-            Verdict::Open => 0,
-            Verdict::Yes => 1,
-            Verdict::No => 2,
-        },
+        purpose,
+        verdict,
     })
 }

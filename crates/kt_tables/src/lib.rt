@@ -8,15 +8,17 @@
 //!   sqlite_trees, sqlite_resolve, sqlite_rules, sqlite_schema, sqlite_keyed, sqlite_typed
 //! - Used by: kt_sql, linda_kt
 //! - Begin in: `tables.rt` for how they are made, then `held.rt` for `Tables` and `reads.rt`. `cells.rt` and `rows.rt`
-//!   have the rows, out and in.
+//!   have the rows, out and in. `old.rt` and `carrying.rt` are of tables of version 1.
 #![tactic(auto)]
 
+mod carrying;
 mod cells;
 mod changes;
 mod firsts;
 mod held;
 mod ids;
 mod number;
+mod old;
 mod opened;
 mod reads;
 mod ready;
@@ -26,7 +28,8 @@ mod schema;
 mod statements;
 mod tables;
 
+pub use carrying::carried;
 pub use cells::NodeCells;
 pub use changes::{bumped, discarded, permanent_in, promoted, tentative_in};
 pub use held::Tables;
-pub use ready::readied;
+pub use ready::{ReadyError, readied};

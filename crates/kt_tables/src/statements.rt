@@ -22,6 +22,9 @@ pub(crate) const PUT_NODE: &str = "INSERT OR REPLACE INTO kt_node VALUES (?1, ?2
 /// Puts the row of an instance, in place of the one with its number.
 pub(crate) const PUT_POSTED: &str = "INSERT OR REPLACE INTO kt_board VALUES (?1, ?2, ?3, ?4)";
 
+/// Puts the one row of the third table, which says the version.
+pub(crate) const PUT_VERSION: &str = "INSERT OR REPLACE INTO kt_meta VALUES (1, 2)";
+
 /// Runs a statement inside a transaction.
 pub(crate) fn run<S: Alter>(
     tx: &mut Transaction<'_, S>,

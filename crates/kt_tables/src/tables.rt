@@ -7,7 +7,7 @@ ghost use Rattle.sqlite.specs.State.{HasCleanDisk};
 ghost use Rattle.kt_tables.specs.Schema.{no_schema};
 ghost use Rattle.kt_tables.specs.Made.{IsMade};
 
-use crate::statements::run;
+use crate::statements::{PUT_VERSION, run};
 use sqlite::{Alter, Connection, Error};
 
 const CREATE_NODE: &str =
@@ -20,9 +20,6 @@ const CREATE_BOARD: &str =
 
 const CREATE_META: &str =
     "CREATE TABLE kt_meta (id INTEGER PRIMARY KEY, version INTEGER NOT NULL) STRICT";
-
-/// The one row of the third table says the version of the tables.
-const FIRST_META: &str = "INSERT OR REPLACE INTO kt_meta VALUES (1, 2)";
 
 /// Makes the three tables, or none of them.
 pub(crate) fn create_tables<S: Alter>(conn: &mut Connection<S>) -> Result<(), Error>
@@ -39,7 +36,7 @@ pub(crate) fn create_tables<S: Alter>(conn: &mut Connection<S>) -> Result<(), Er
     run(&mut tx, CREATE_NODE, &[])?;
     run(&mut tx, CREATE_BOARD, &[])?;
     run(&mut tx, CREATE_META, &[])?;
-    run(&mut tx, FIRST_META, &[])?;
+    run(&mut tx, PUT_VERSION, &[])?;
     tx.commit()?;
     Ok(())
 }

@@ -16,6 +16,7 @@ pub mod ValuesRead
 pub mod PlaceLaws
 pub mod PlacesRead
 pub mod Faults
+pub mod Fronts
 pub mod Findings
 pub mod Making
 pub mod Wholes

@@ -58,9 +58,20 @@ pub fn after_place(text: &[u8]) -> Result<Option<&[u8]>, &[u8]>
 pub fn word_at<'a>(text: &'a [u8], word: &[u8]) -> Result<&'a [u8], &'a [u8]>
     ensures { Gives (λ x. x.now) (λ e. e.now) result (word_at text.now word.now) }
 {
+    // Most words stand there, which is seen at once.
+    match text.strip_prefix(word) {
+        Some(rest) => Ok(rest),
+        None => word_by_bytes(text, word),
+    }
+}
+
+/// The same byte by byte, up to the first that differs.
+fn word_by_bytes<'a>(text: &'a [u8], word: &[u8]) -> Result<&'a [u8], &'a [u8]>
+    ensures { Gives (λ x. x.now) (λ e. e.now) result (word_at text.now word.now) }
+{
     match (word.split_first(), text.split_first()) {
         (None, _) => Ok(text),
-        (Some((wanted, word)), Some((found, rest))) if wanted == found => word_at(rest, word),
+        (Some((wanted, word)), Some((found, rest))) if wanted == found => word_by_bytes(rest, word),
         _ => Err(text),
     }
 }

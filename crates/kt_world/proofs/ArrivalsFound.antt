@@ -19,7 +19,7 @@ use Rattle.kt_node.specs.declared.refusal.Refusal.{Refusal}
 use Rattle.kt_node.specs.declared.refusal.Refusal.TheVariants as refusals
 use Rattle.kt_node.specs.Labels.{up_to, label_at}
 use Rattle.kt_node.specs.Node.{Live, Node, Down, Alive, node_number}
-use Rattle.kt_node.specs.Stored.{fits, is_undecided, sent_in}
+use Rattle.kt_node.specs.Stored.{fits, acts_fit, is_undecided, sent_in}
 use Rattle.kt_node.specs.Posts.{post_when_up, post_in, post_plan, hear_app}
 use Rattle.kt_node.specs.Loading.{load}
 use Rattle.kt_node.specs.Learning.{restored, verdict_to, held_learns, rolling_learns}
@@ -84,12 +84,13 @@ check-found s t p q ask plan comes e = by (view s q).node refl e
     joins n false e = absurd cc
 
     reacts : (n : Live) → IsAlive s q n → IsTrue fit → (r : Reaction) → check_reaction n p ask t.verdict t.permanent t.tentative ≡ r
-        → planned (check_plan (view s q) n p ask t.permanent r) ≡ Ok plan → Goal plan
+        → check_plan (view s q) n p ask t.permanent r ≡ Ok plan → Goal plan
     reacts n at fit (reactions.Says agreed) is e = this Goal _ plan (plans.answers_check comes at is) e
     reacts n at fit reactions.Joins is e =
         let how = joins n (is_undecided t.verdict) is in
         let both = and_parts (fits (role_of s.cast q) (view s q).line_len t.permanent) (fits (role_of s.cast q) (view s q).line_len t.tentative) fit in
-        this Goal _ plan (plans.joins_check comes at how.1 how.0 is both.0 both.1) e
+        let shaped = if-passed (acts_fit (role_of s.cast q) (view s q).acts) _ refusals.Damaged plan e in
+        this Goal _ plan (plans.joins_check comes at how.1 how.0 is both.0 both.1 shaped.0) shaped.1
 
     by : (x : Node) → (view s q).node ≡ x → unless_down x (check_fitting (view s q) p ask t.verdict t.permanent t.tentative) ≡ Ok plan → Goal plan
     by Down is e = this Goal _ plan (plans.drops comes is) e

@@ -58,7 +58,7 @@ plan-good s ready t step plan (plans.puts_by {p = p} {q = q} {n = n} {post = pos
 plan-good s ready t step plan (plans.drops {p = p} {q = q} comes may) = stay-good s ready q None None (there s p q _ comes) tt tt
 plan-good s ready t step plan (plans.answers_check {p = p} {q = q} {n = n} {ask = ask} {agreed = agreed} comes at says) =
     answer-good s ready q p n ask agreed (there s p q _ comes) at (near s p q _ comes)
-plan-good s ready t step plan (plans.joins_check {p = p} {q = q} {n = n} {ask = ask} comes at up open_yet joins fit other) =
+plan-good s ready t step plan (plans.joins_check {p = p} {q = q} {n = n} {ask = ask} comes at up open_yet joins fit other shaped) =
     join_check-good s ready q p n ask t.permanent (there s p q _ comes) at (near s p q _ comes)
 plan-good s ready t step plan (plans.answers_rollback {p = p} {q = q} {n = n} {ask = ask} {agreed = agreed} comes at says) =
     sieved-good s ready q p n ask agreed (there s p q _ comes) at (near s p q _ comes)
@@ -76,7 +76,7 @@ plan-good s ready t step plan (plans.told_to_go_on {p = p} {q = q} {n = n} {b = 
     release-good s ready q n _ (there s p q _ comes) at
     (verdicts-near s.cast q instance false b.asked (asked-near s ready q n b phases.Rolling at rolls plans.rolls))
     (verdicts-say s.history instance false b.asked)
-plan-good s ready t step plan (plans.begins_check {p = p} {n = n} is at up fit) = begin_check-good s ready p n t.next t.permanent is at
+plan-good s ready t step plan (plans.begins_check {p = p} {n = n} is at up fit shaped) = begin_check-good s ready p n t.next t.permanent is at
 plan-good s ready t step plan (plans.decides {p = p} {n = n} {b = b} {phase = phase} {agreed = agreed} is at voting own open_yet comes) =
     decide-good s ready p n b phase agreed is at voting
 plan-good s ready t step plan (plans.gives_up {p = p} {n = n} {b = b} {phase = phase} is at voting own open_yet) = give_up-good s ready p n b phase is at voting

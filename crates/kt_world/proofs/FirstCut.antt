@@ -213,7 +213,7 @@ plan-goes s ready is t step plan (plans.hears {p = p} {q = q} {n = n} {post = po
 plan-goes s ready is t step plan (plans.puts_by {q = q} {n = n} comes at rolls) = inr (turn-calm s q n plan _ refl at tt (live-calm s is q n at) tt)
 plan-goes s ready is t step plan (plans.drops {q = q} comes may) = inr (drop-calm s is q plan refl refl refl)
 plan-goes s ready is t step plan (plans.answers_check {q = q} {n = n} comes at says) = inr (turn-calm s q n plan _ refl at tt (live-calm s is q n at) (tt, tt))
-plan-goes s ready is t step plan (plans.joins_check {p = p} {q = q} {n = n} {ask = ask} comes at up undecided joins fit other) =
+plan-goes s ready is t step plan (plans.joins_check {p = p} {q = q} {n = n} {ask = ask} comes at up undecided joins fit other shaped) =
     inr (check-calm s q n (asking_poll ask.instance n.incarnation (Some (asker_of p ask)) (cohort (role_of s.cast q) t.permanent n)) _ at)
 plan-goes s ready is t step plan (plans.answers_rollback {p = p} {q = q} {ask = ask} comes at says) = absurd (none-asked s is p q (messages.RollAsk ask) comes)
 plan-goes s ready is t step plan (plans.joins_rollback {p = p} {q = q} {ask = ask} comes at up undecided above fit) =
@@ -224,7 +224,7 @@ plan-goes s ready is t step plan (plans.told_when_held {q = q} {n = n} {b = b} {
     inr (held-calm s q n agreed _ at (verdicts-calm instance agreed b.asked))
 plan-goes s ready is t step plan (plans.told_to_roll {q = q} {n = n} {b = b} comes at rolls asked same loads) = absurd (none-rolls s is q n b at rolls)
 plan-goes s ready is t step plan (plans.told_to_go_on {q = q} {n = n} {b = b} comes at rolls asked same) = absurd (none-rolls s is q n b at rolls)
-plan-goes s ready is t step plan (plans.begins_check {p = p} {n = n} there at up fit) =
+plan-goes s ready is t step plan (plans.begins_check {p = p} {n = n} there at up fit shaped) =
     inr (check-calm s p n (asking_poll t.next n.incarnation None (cohort (role_of s.cast p) t.permanent n)) _ at)
 plan-goes s ready is t step plan (plans.decides {p = p} {n = n} {b = b} {agreed = agreed} there at voting own undecided outcome) =
     inr (decide-calm s is p n b agreed at)

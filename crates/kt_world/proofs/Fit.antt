@@ -328,7 +328,7 @@ plan-fits s ready backed is step plan (plans.hears {p = p} {q = q} {n = n} {post
 plan-fits s ready backed is step plan (plans.puts_by {q = q} comes at rolls) = turn-fits s is q plan _ refl tt tt
 plan-fits s ready backed is step plan (plans.drops {q = q} comes may) = stay-fits s is q plan refl tt tt
 plan-fits s ready backed is step plan (plans.answers_check {q = q} comes at says) = turn-fits s is q plan _ refl tt tt
-plan-fits s ready backed is step plan (plans.joins_check {q = q} {n = n} comes at up undecided joins fit other) =
+plan-fits s ready backed is step plan (plans.joins_check {q = q} {n = n} comes at up undecided joins fit other shaped) =
     turn-fits s is q plan _ refl tt (now-own s ready q n at)
 plan-fits s ready backed is step plan (plans.answers_rollback {q = q} comes at says) = turn-fits s is q plan _ refl tt tt
 plan-fits s ready backed is step plan (plans.joins_rollback {q = q} comes at up undecided above fit) = turn-fits s is q plan _ refl tt tt
@@ -337,7 +337,7 @@ plan-fits s ready backed is step plan (plans.told_when_held {q = q} {agreed = ag
 plan-fits s ready backed is step plan (plans.told_to_roll {q = q} {n = n} {b = b} comes at rolls asked same loads) =
     none-fits s q plan tt (backed-in s backed q n (phases.Rolling b) at rolls)
 plan-fits s ready backed is step plan (plans.told_to_go_on {q = q} comes at rolls asked same) = turn-fits s is q plan _ refl tt tt
-plan-fits s ready backed is step plan (plans.begins_check {p = p} {n = n} there at up fit) = turn-fits s is p plan _ refl tt (now-own s ready p n at)
+plan-fits s ready backed is step plan (plans.begins_check {p = p} {n = n} there at up fit shaped) = turn-fits s is p plan _ refl tt (now-own s ready p n at)
 plan-fits s ready backed is step plan (plans.decides {p = p} {n = n} {b = b} {agreed = agreed} there at voting own undecided comes) =
     decide-fits s is p b n.phase agreed
 plan-fits s ready backed is step plan (plans.gives_up {p = p} there at voting own undecided) = turn-fits s is p plan _ refl tt tt

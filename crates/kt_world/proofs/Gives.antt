@@ -1,6 +1,6 @@
 -- What a store that tells what it holds gives of a node fits the node.
 use Rattle.std.proofs.Common.{◌≡◌, ℕ, ◌≤◌, ◌==◌, ◌&&◌, Bool, true, false, length, Option, None, Some, refl}
-use Rattle.std.proofs.Common.{subst, arith, eq-eqb}
+use Rattle.std.proofs.Common.{subst, sym, arith, eq-eqb}
 use Rattle.std.specs.Prelude.{IfSome, nat_le}
 use Rattle.std.specs.Option.{option_map}
 use Rattle.std.proofs.lemmas.Bool.{le-leb}
@@ -14,7 +14,11 @@ use Rattle.kt_store.specs.declared.rows.Tentative.{Tentative}
 use Rattle.kt_store.specs.Content.{permanent_marks, row_of}
 use Rattle.kt_node.specs.Node.{Role, Live, Alive}
 use Rattle.kt_node.specs.State.{body_at}
-use Rattle.kt_node.specs.Stored.{fits, marks_fit}
+use Rattle.kt_node.specs.Stored.{fits, acts_fit, marks_fit}
+use Rattle.std.specs.List.{list_all}
+use Rattle.kt_ckpt.specs.Acts.{is_act_of}
+use Rattle.kt_world.proofs.Scene.{role-id}
+use Rattle.kt_world.proofs.Shaped.{AreMade, acts-shaped}
 use Rattle.kt_world.specs.Cut.{acts_held}
 use Rattle.kt_world.specs.inner.Ready.{IsReady}
 use Rattle.kt_world.specs.State.{State, role_of, view}
@@ -52,14 +56,15 @@ taken-fits role long (Some t) is short = marks-fit role long t.checkpoint is sho
 pub record GivesFitting (s : State) (p : NodeId) : Type 0 where
   pub permanent : fits (role_of s.cast p) (view s p).line_len (permanent_marks s.content p) ≡ true
   pub body : Fine (body_at (role_of s.cast p) (row_of s.content p).permanent)
+  pub shaped : acts_fit (role_of s.cast p) (view s p).acts ≡ true
   pub tentative : (n : Live) → (view s p).node ≡ Alive n → fits (role_of s.cast p) (view s p).line_len (tentative_in s.content p) ≡ true
 
 numbered-of : (role : Role) (o : Option Ckpt) → IfSome o (IsOfNode role) → IfSome o (λ c. IsNumbered c.state)
 numbered-of role None is = tt
 numbered-of role (Some c) is = is.numbered
 
-pub gives-fitting : (s : State) → IsReady s → IsSound s → IsFitting s → (p : NodeId) → GivesFitting s p
-gives-fitting s ready sound is p =
+pub gives-fitting : (s : State) → IsReady s → IsSound s → IsFitting s → AreMade s.cast s.history → (p : NodeId) → GivesFitting s p
+gives-fitting s ready sound is made p =
     let stored = (sound.nodes p).stored in
     let long = line-long s.history p in
     let row = is.rows p in
@@ -68,6 +73,8 @@ gives-fitting s ready sound is p =
           (let short = stored.permanent.short in omega (arith, long, short));
       body = body_at-fine s.cast ready.scripts p (acts_in_line s.history p) (row_of s.content p).permanent stored.permanent
           (numbered-of (role_of s.cast p) (row_of s.content p).permanent row.permanent);
+      shaped = subst (λ q. list_all (is_act_of q) (view s p).acts ≡ true) (sym (role-id s.cast p))
+          (acts-shaped s.cast ready.cast s.history sound.well_formed made p);
       tentative = λ n at. taken-fits (role_of s.cast p) (length (line s.history p)) (row_of s.content p).tentative row.tentative
           (subst (EndsIn (length (line s.history p)) (row_of s.content p).tentative) (alive-is s p n at) (is.ends p));
     }

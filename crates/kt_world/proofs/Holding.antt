@@ -33,7 +33,9 @@ use Rattle.kt_world.specs.Workers.{WorkersFollowLines}
 use Rattle.kt_world.proofs.Plans.{PlanOf}
 use Rattle.kt_world.proofs.PlansFound.{plan-found, plan-few}
 use Rattle.kt_world.proofs.CanApplies.{stays_ready}
-use Rattle.kt_world.proofs.StaysBacked.{stays_backed}
+use Rattle.kt_world.proofs.StaysBacked.{stays_backed, write-allowed}
+use Rattle.kt_world.proofs.Shaped.{AreMade, made-none, made-noted as made-stays}
+use Rattle.kt_world.proofs.HeldActs.{AreHeld, applied-held, opening-held, plan-now, plan-owner}
 use Rattle.kt_world.proofs.Opened.{opening-ready, opening-backed}
 use Rattle.kt_world.proofs.Sound.{IsSound}
 use Rattle.kt_world.proofs.StepSound.{step_keeps, step_sound}
@@ -51,6 +53,8 @@ pub record Holds (s : State) : Type 0 where
   pub sound : IsSound s
   pub calm : HasNoCut s.history → IsCalm s
   pub fitting : IsFitting s
+  pub made : AreMade s.cast s.history
+  pub held : (p : NodeId) → AreHeld s p
 
 -- how a step was made
 pub record IsMade (s : State) (step : Step) (new : State) : Type 0 where
@@ -74,6 +78,11 @@ made-holds s step new h m = let P : State → Type 0 = Holds in subst P m.leads 
   calm = stays_calm s h.ready h.calm (told s step) step m.plan m.is_plan;
   fitting = fits-fitting s step m.plan h.fitting (step_keeps s h.ready h.backed h.sound step m.plan m.is_plan).may
       (plan-fits s h.ready h.backed h.fitting step m.plan m.is_plan);
+  made = made-stays s.cast s.history (owner step) m.plan.note (plan-owner s (told s step) step m.plan m.is_plan)
+      (step_keeps s h.ready h.backed h.sound step m.plan m.is_plan).may h.made;
+  held = applied-held s step m.plan h.sound (step_sound s h.ready h.backed h.sound step m.plan m.is_plan)
+      (step_keeps s h.ready h.backed h.sound step m.plan m.is_plan).noes (write-allowed s h.backed step m.plan m.is_plan)
+      (plan-now s (told s step) step m.plan m.is_plan) h.held;
 })
 
 result-holds : (s : State) (step : Step) (r : Result State StepError) → Holds s → step_result s step ≡ r → Holds (or_as_it_was r s)
@@ -93,6 +102,8 @@ opening-holds cast is short = record {
   sound = opening_sound cast;
   calm = λ none. opening_calm cast is;
   fitting = opening-fitting cast;
+  made = made-none cast;
+  held = opening-held cast;
 }
 
 pub reached-holds : (s : State) → IsReached s → Holds s
@@ -112,7 +123,7 @@ services-reached s is = service_heard s (reached-holds s is).sound
 
 -- what is stored fits its node
 pub undamaged-reached : (s : State) → IsReached s → IsUndamaged s
-undamaged-reached s is = let h = reached-holds s is in never-damaged s h.ready h.sound h.fitting
+undamaged-reached s is = let h = reached-holds s is in never-damaged s h.ready h.sound h.fitting h.made
 
 -- without a cut nobody is down, so all tuples are there
 pub whole-reached : (s : State) → IsReached s → HasNoCut s.history → IsWhole s

@@ -29,6 +29,8 @@ pub mod StaysBacked
 pub mod Standing
 pub mod Sound
 pub mod NoteSound
+pub mod LineActs
+pub mod Shaped
 pub mod Noes
 pub mod Applying
 pub mod Saved
@@ -44,6 +46,7 @@ pub mod Cutting
 pub mod FailLeaves
 pub mod RollLeaves
 pub mod StepSound
+pub mod HeldActs
 pub mod OpenedSound
 pub mod Headlines
 pub mod LinesAfter

@@ -83,14 +83,14 @@ cut_forgets s t (Deliver p q) plan (plans.hears {n = n} {post = post} comes aliv
 cut_forgets s t (Deliver p q) plan (plans.puts_by comes alive not_rolling) cuts = absurd (cc (cuts.2))
 cut_forgets s t (Deliver p q) plan (plans.drops comes may) cuts = absurd (cc (cuts.2))
 cut_forgets s t (Deliver p q) plan (plans.answers_check comes alive says) cuts = absurd (cc (cuts.2))
-cut_forgets s t (Deliver p q) plan (plans.joins_check comes alive up undecided joins fit fits) cuts = absurd (cc (cuts.2))
+cut_forgets s t (Deliver p q) plan (plans.joins_check comes alive up undecided joins fit fits shaped) cuts = absurd (cc (cuts.2))
 cut_forgets s t (Deliver p q) plan (plans.answers_rollback comes alive says) cuts = absurd (cc (cuts.2))
 cut_forgets s t (Deliver p q) plan (plans.joins_rollback comes alive up undecided above fit) cuts = absurd (cc (cuts.2))
 cut_forgets s t (Deliver p q) plan (plans.counts_vote comes alive votes_so counts_it) cuts = absurd (cc (cuts.2))
 cut_forgets s t (Deliver p q) plan (plans.told_when_held comes alive holds same) cuts = told_forgets s p q _ comes refl
 cut_forgets s t (Deliver p q) plan (plans.told_to_roll comes alive rolling joined same from_store) cuts = told_forgets s p q _ comes refl
 cut_forgets s t (Deliver p q) plan (plans.told_to_go_on comes alive rolling joined same) cuts = told_forgets s p q _ comes refl
-cut_forgets s t (Check p) plan (plans.begins_check is alive up fit) cuts = absurd (cc (cuts.2))
+cut_forgets s t (Check p) plan (plans.begins_check is alive up fit shaped) cuts = absurd (cc (cuts.2))
 cut_forgets s t (Decide p) plan (plans.decides is alive votes_so began undecided outcome) cuts = absurd (cc (cuts.2))
 cut_forgets s t (Abandon p) plan (plans.gives_up is alive votes_so began undecided) cuts = absurd (cc (cuts.2))
 cut_forgets s t (Abandon p) plan (plans.gives_up_down is down undecided) cuts = absurd (cc (cuts.2))

@@ -12,7 +12,7 @@ use Rattle.kt_world.proofs.Holding.{reached-holds}
 
 -- each checkpoint that counts, or may yet, holds the state behind the front of its node's line
 pub stores-reached : (s : State) → IsReached s → StoresFollowLines s
-stores-reached s is = stores_follow s (reached-holds s is).sound
+stores-reached s is = let h = reached-holds s is in stores_follow s h.sound h.held
 
 pub within-reached : (s : State) → IsReached s → (p : NodeId) → permanent_length s.content p ≤ length (line s.history p)
 within-reached s is p = permanent_within s (reached-holds s is).sound p

@@ -25,7 +25,7 @@ use Rattle.kt_node.specs.declared.reaction.Reaction.TheVariants as reactions
 use Rattle.kt_node.specs.Labels.{up_to, label_at}
 use Rattle.kt_node.specs.Node.{Live, Down, Alive, IsWorker, IsShard, node_number}
 use Rattle.kt_node.specs.Plan.{empty_plan, no_turn}
-use Rattle.kt_node.specs.Stored.{fits, is_undecided}
+use Rattle.kt_node.specs.Stored.{fits, acts_fit, is_undecided}
 use Rattle.kt_node.specs.Posts.{keep_plan}
 use Rattle.kt_node.specs.Voting.{casting, poll_after, voted}
 use Rattle.kt_node.specs.Talking.{issue_plan, repeat_plan, service_plan, heard_plan}
@@ -67,6 +67,10 @@ IsDroppedBy s q (messages.Verdict instance agreed) = Unit {0}
 -- what is known of a checkpoint that fits
 abbrev pub Fit : State → NodeId → Told → Type 0
 Fit s p t = IsTrue (fits (role_of s.cast p) (view s p).line_len t.permanent)
+
+-- the acts of the line may stand in a checkpoint
+abbrev pub ActsFit : State → NodeId → Type 0
+ActsFit s p = IsTrue (acts_fit (role_of s.cast p) (view s p).acts)
 
 abbrev pub TentativeFits : State → NodeId → Told → Type 0
 TentativeFits s p t = IsTrue (fits (role_of s.cast p) (view s p).line_len t.tentative)
@@ -110,7 +114,7 @@ pub data PlanOf (s : State) (t : Told) : Step → Plan → Type 0 where
   joins_check : {p q : NodeId} {n : Live} {ask : Ask}
       → Comes s p q (messages.CheckAsk ask) → IsAlive s q n → n.phase ≡ phases.Up → IsTrue (is_undecided t.verdict)
       → check_reaction n p ask t.verdict t.permanent t.tentative ≡ reactions.Joins
-      → Fit s q t → TentativeFits s q t
+      → Fit s q t → TentativeFits s q t → ActsFit s q
       → PlanOf s t (Deliver p q) (join_check_plan (view s q) n p ask t.permanent)
   -- an ask to roll back
   answers_rollback : {p q : NodeId} {n : Live} {ask : Ask} {agreed : Bool}
@@ -137,7 +141,7 @@ pub data PlanOf (s : State) (t : Told) : Step → Plan → Type 0 where
       → PlanOf s t (Deliver p q) (release_plan (verdict_to instance false b.asked))
   -- the steps of checks and rollbacks
   begins_check : {p : NodeId} {n : Live}
-      → IsTrue (is_node s.cast p) → IsAlive s p n → n.phase ≡ phases.Up → Fit s p t
+      → IsTrue (is_node s.cast p) → IsAlive s p n → n.phase ≡ phases.Up → Fit s p t → ActsFit s p
       → PlanOf s t (Check p) (begin_check_plan (view s p) n t.next t.permanent)
   decides : {p : NodeId} {n : Live} {b : Poll} {phase : Poll → Phase} {agreed : Bool}
       → IsTrue (is_node s.cast p) → IsAlive s p n → Votes n.phase b phase → b.parent ≡ None → IsTrue (is_undecided t.verdict) → outcome_of b ≡ Some agreed

@@ -9,7 +9,8 @@ use Rattle.kt_tuple.specs.declared.node.NodeId.TheVariants as ids
 use Rattle.kt_link.specs.declared.label.Label.{Label}
 use Rattle.kt_tuple.specs.declared.node.TheConstants.{MAX_WORKERS}
 use Rattle.kt_ckpt.specs.Reading.{IsRising}
-use Rattle.kt_ckpt.specs.Checkpoint.{IsNode as IsNamed, Suits, IsCountedState, ArePeers}
+use Rattle.kt_ckpt.specs.Checkpoint.{Suits, IsCountedState, ArePeers}
+use Rattle.kt_ckpt.specs.Node.{IsNode as IsNamed}
 use Rattle.kt_node.specs.declared.live.Phase.{Phase}
 use Rattle.kt_node.specs.declared.live.Phase.TheVariants as phases
 use Rattle.kt_node.specs.Labels.{label_at, listed, numbers}
@@ -25,6 +26,8 @@ use Rattle.kt_world.proofs.Plans.{IsAlive, IsDown}
 use Rattle.kt_world.proofs.Passed.{alive-is}
 use Rattle.kt_world.proofs.Scene.{IsNode, a_worker, a_shard, of_node, some_peers, few_peers, neighbour-place}
 use Rattle.kt_world.proofs.Lists.{length-numbers}
+use Rattle.kt_world.proofs.LineActs.{acts-long}
+use Rattle.kt_world.proofs.NoteSound.{line-long}
 use Rattle.kt_world.proofs.Loads.{script-short}
 use Rattle.kt_world.proofs.Good.{live-ready}
 use Rattle.kt_world.proofs.Leaves.{can-count}
@@ -124,6 +127,7 @@ can_save s ready p n at = record {
   peers = are-peers s ready p n.sent n.received;
   suits = suits s p n.body (live-ready s ready p n at).body;
   state = counted s ready p n.body (live-ready s ready p n at).body;
+  long = acts-long s.history p ∙ line-long s.history p;
 }
 
 pub can_save_node : (s : State) → IsReady s → (p : NodeId) → CanSaveNode (view s p) (view s p).node

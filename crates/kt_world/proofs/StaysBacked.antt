@@ -135,7 +135,7 @@ plan-backs s is step plan (plans.hears {p = p} {q = q} {n = n} {post = post} com
 plan-backs s is step plan (plans.puts_by {q = q} {n = n} comes at rolls) = turn-backs s q n plan _ refl at tt (phase-backed s is q n at) tt
 plan-backs s is step plan (plans.drops {q = q} comes may) = stay-backs s is q plan refl refl refl
 plan-backs s is step plan (plans.answers_check {q = q} {n = n} comes at says) = turn-backs s q n plan _ refl at tt (phase-backed s is q n at) (tt, tt)
-plan-backs s is step plan (plans.joins_check {p = p} {q = q} {n = n} {ask = ask} comes at up undecided joins fit other) =
+plan-backs s is step plan (plans.joins_check {p = p} {q = q} {n = n} {ask = ask} comes at up undecided joins fit other shaped) =
     let b = asking_poll ask.instance n.incarnation (Some (asker_of p ask)) (cohort (role_of s.cast q) (told s step).permanent n) in
     let c = (content_after q plan.write s.content) in
     turn-backs s q n plan _ refl at (backed-in s is q n phases.Up at up)
@@ -165,7 +165,7 @@ plan-backs s is step plan (plans.told_to_roll {p = p} {q = q} {n = n} {live = li
 plan-backs s is step plan (plans.told_to_go_on {p = p} {q = q} {n = n} {b = b} {instance = instance} comes at rolls asked same) =
     let says : Says s.content instance false = comes-boards s is p q (messages.Verdict instance false) comes in
     turn-backs s q n plan _ refl at tt (backed-in s is q n (phases.Rolling b) at rolls) (verdicts-board s.content instance false b.asked says)
-plan-backs s is step plan (plans.begins_check {p = p} {n = n} there at up fit) =
+plan-backs s is step plan (plans.begins_check {p = p} {n = n} there at up fit shaped) =
     let b = asking_poll (next_instance s.content) n.incarnation None (cohort (role_of s.cast p) (told s step).permanent n) in
     let c = content_after p plan.write s.content in
     turn-backs s p n plan _ refl at (backed-in s is p n phases.Up at up)

@@ -35,7 +35,7 @@ step_keeps s ready backed sound (Deliver p q) plan (plans.puts_by {n = n} {post 
 step_keeps s ready backed sound (Deliver p q) plan (plans.drops comes may) = idle_keeps s q sound
 step_keeps s ready backed sound (Deliver p q) plan (plans.answers_check {n = n} {ask = ask} {agreed = agreed} comes alive says) =
     answers_check s sound p q n ask agreed alive
-step_keeps s ready backed sound (Deliver p q) plan (plans.joins_check {n = n} {ask = ask} comes alive up undecided joins fit fits) =
+step_keeps s ready backed sound (Deliver p q) plan (plans.joins_check {n = n} {ask = ask} comes alive up undecided joins fit fits shaped) =
     joins_check s sound p q n ask _ alive
 step_keeps s ready backed sound (Deliver p q) plan (plans.answers_rollback {n = n} {ask = ask} {agreed = agreed} comes alive says) =
     answers_rollback s sound p q n ask agreed alive
@@ -50,7 +50,7 @@ step_keeps s ready backed sound (Deliver p q) plan
     rolls_back s ready backed sound q n live b _ alive rolling from_store (verdicts_well s.cast.shards _ q instance true b.asked)
 step_keeps s ready backed sound (Deliver p q) plan (plans.told_to_go_on {n = n} {b = b} {instance = instance} comes alive rolling joined same) =
     goes_on s sound q n _ alive (verdicts_well s.cast.shards s.history q instance false b.asked)
-step_keeps s ready backed sound (Check p) plan (plans.begins_check {n = n} is alive up fit) = begins_check s sound p n _ _ alive
+step_keeps s ready backed sound (Check p) plan (plans.begins_check {n = n} is alive up fit shaped) = begins_check s sound p n _ _ alive
 step_keeps s ready backed sound (Decide p) plan (plans.decides {n = n} {b = b} {phase = phase} {agreed = agreed} is alive votes_so began undecided outcome) =
     decides s sound p n b phase agreed alive votes_so undecided
 step_keeps s ready backed sound (Abandon p) plan (plans.gives_up {n = n} {b = b} is alive votes_so began undecided) = gives_up s sound p n b alive

@@ -13,7 +13,7 @@ use Rattle.kt_node.specs.declared.plan.Plan.{Plan}
 use Rattle.kt_node.specs.declared.refusal.Refusal.{Refusal}
 use Rattle.kt_node.specs.declared.refusal.Refusal.TheVariants as refusals
 use Rattle.kt_node.specs.Node.{Live, Node, Down, Alive}
-use Rattle.kt_node.specs.Stored.{fits, is_undecided}
+use Rattle.kt_node.specs.Stored.{fits, acts_fit, is_undecided}
 use Rattle.kt_node.specs.Voting.{voted}
 use Rattle.kt_node.specs.Loading.{load, marks_in}
 use Rattle.kt_node.specs.Learning.{restored}
@@ -45,8 +45,10 @@ check-found s t p plan there e = by (view s p).node refl e
 
     phase : (n : Live) → IsAlive s p n → (x : Phase) → n.phase ≡ x → check_in (view s p) t.next t.permanent n x ≡ Ok plan → Goal plan
     phase n at phases.Up is e =
-        let passed = if-passed (fits (role_of s.cast p) (view s p).line_len t.permanent) _ refusals.Damaged plan e in
-        this Goal _ plan (plans.begins_check there at is passed.0) passed.1
+        let passed = if-passed (fits (role_of s.cast p) (view s p).line_len t.permanent && acts_fit (role_of s.cast p) (view s p).acts)
+        _ refusals.Damaged plan e in
+        let both = and_parts (fits (role_of s.cast p) (view s p).line_len t.permanent) (acts_fit (role_of s.cast p) (view s p).acts) passed.0 in
+        this Goal _ plan (plans.begins_check there at is both.0 both.1) passed.1
     phase n at (phases.Held b) is e = absurd cc
     phase n at (phases.Rolling b) is e = absurd cc
 

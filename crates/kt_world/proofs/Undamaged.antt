@@ -28,7 +28,7 @@ use Rattle.kt_node.specs.declared.refusal.Refusal.{Refusal}
 use Rattle.kt_node.specs.declared.refusal.Refusal.TheVariants as reasons
 use Rattle.kt_node.specs.declared.stored.Stored.{Stored}
 use Rattle.kt_node.specs.Arrivals.{rollback_plan, rollback_reaction, unless_down, verdict_by_parent, verdict_in, vote_in}
-use Rattle.kt_node.specs.Arrivals.{check_fitting as joining, is_in}
+use Rattle.kt_node.specs.Arrivals.{check_fitting as joining, check_plan, check_reaction, is_in}
 use Rattle.kt_node.specs.Deciding.{abandon, abandon_by, abandon_down, abandon_in, abandon_of, check, check_in, check_of, decide, decide_by}
 use Rattle.kt_node.specs.Deciding.{decide_if, decide_in, decide_of, learn, learn_by, learn_held, learn_in, learn_of}
 use Rattle.kt_node.specs.Deciding.{learn_rolling, learn_settled, settled}
@@ -40,7 +40,7 @@ use Rattle.kt_node.specs.Plan.{Planned}
 use Rattle.kt_node.specs.State.{body_at}
 use Rattle.kt_node.specs.Steps.{by_up, first_kept, issue, issue_by, issue_found, issue_unless_kept, repeat, repeat_by, repeat_found, serve, serve_by}
 use Rattle.kt_node.specs.Steps.{serve_found, take, take_first, up_in, up_of}
-use Rattle.kt_node.specs.Stored.{fits, is_undecided}
+use Rattle.kt_node.specs.Stored.{fits, acts_fit, is_undecided}
 use Rattle.kt_node.specs.View.{View}
 use Rattle.kt_world.specs.declared.step.Step.{Step}
 use Rattle.kt_world.specs.declared.step.Step.TheVariants.{Issue, Repeat, Deliver, Take, Serve, Check, Decide, Abandon, Learn, Fail, Restart}
@@ -56,6 +56,7 @@ use Rattle.kt_world.proofs.Sound.{IsSound}
 use Rattle.kt_world.proofs.FitBodies.{Fine}
 use Rattle.kt_world.proofs.Fit.{IsFitting}
 use Rattle.kt_world.proofs.Gives.{GivesFitting, gives-fitting}
+use Rattle.kt_world.proofs.Shaped.{AreMade}
 
 -- ---- what is not refused for damage
 
@@ -143,6 +144,11 @@ serve-fine v worker place cause = by_up-fine v.node (λ n. serve_by v n worker p
     serves n None = wrong
     serves n (Some y) = finds n (service y worker place)
 
+both-fit : (a b : Bool) → a ≡ true → b ≡ true → (a && b) ≡ true
+both-fit true true e f = refl
+both-fit true false e f = absurd cc
+both-fit false b e f = absurd cc
+
 -- ---- checks and rollbacks
 
 loads-fine : (s : State) (p : NodeId) → GivesFitting s p → Fine (load (view s p) (stored_of s.content p))
@@ -154,11 +160,11 @@ loads-fine s p gives =
     by (Ok b) f = fine _
     by (Err refusal) f = λ e. f (let same : refusal ≡ reasons.Damaged = cc in ap (λ x. Err x) same)
 
-check-fine : (v : View) (next : ℕ) (o : Option Marks) → fits v.role v.line_len o ≡ true → Fine (check v next o)
-check-fine v next o fit = by v.node
+check-fine : (v : View) (next : ℕ) (o : Option Marks) → fits v.role v.line_len o ≡ true → acts_fit v.role v.acts ≡ true → Fine (check v next o)
+check-fine v next o fit shaped = by v.node
   where
     in_phase : (n : Live) (phase : Phase) → Fine (check_in v next o n phase)
-    in_phase n phases.Up = passes (fits v.role v.line_len o) _ fit (fine _)
+    in_phase n phases.Up = passes (fits v.role v.line_len o && acts_fit v.role v.acts) _ (both-fit _ _ fit shaped) (fine _)
     in_phase n (phases.Held b) = wrong
     in_phase n (phases.Rolling b) = wrong
 
@@ -276,11 +282,6 @@ restart-fine v s next is_tentative own verdict loads = by v.node
 
 -- ---- what arrives
 
-both-fit : (a b : Bool) → a ≡ true → b ≡ true → (a && b) ≡ true
-both-fit true true e f = refl
-both-fit true false e f = absurd cc
-both-fit false b e f = absurd cc
-
 -- what the store says to who hears a message
 abbrev told_on_arrival : State → NodeId → Step → Told
 told_on_arrival s q step =
@@ -295,6 +296,10 @@ hear-fine : (s : State) (p q : NodeId) → GivesFitting s q → (step : Step) �
 hear-fine s p q gives step own (messages.Post post) = fine _
 hear-fine s p q gives step own (messages.CheckAsk ask) = by (view s q).node refl
   where
+    reacts : (n : Live) (r : Reaction) → Fine (check_plan (view s q) n p ask (permanent_marks s.content q) r)
+    reacts n (reactions.Says agreed) = fine _
+    reacts n reactions.Joins = passes (acts_fit (role_of s.cast q) (view s q).acts) _ gives.shaped (fine _)
+
     by : (x : Node) → (view s q).node ≡ x
         → Fine (unless_down x
         (joining (view s q) p ask (told s step).verdict (permanent_marks s.content q) (tentative_in s.content q)))
@@ -302,7 +307,8 @@ hear-fine s p q gives step own (messages.CheckAsk ask) = by (view s q).node refl
     by (Alive n) at =
         let Fits : Option Marks → Bool = fits (role_of s.cast q) (view s q).line_len in
         passes (Fits (permanent_marks s.content q) && Fits (tentative_in s.content q)) _
-        (both-fit _ _ gives.permanent (gives.tentative n at)) (fine _)
+        (both-fit _ _ gives.permanent (gives.tentative n at))
+        (reacts n (check_reaction n p ask (told s step).verdict (permanent_marks s.content q) (tentative_in s.content q)))
 hear-fine s p q gives step own (messages.RollAsk ask) = by (view s q).node
   where
     reacts : (n : Live) (r : Reaction) → Fine (rollback_plan (view s q) n p ask (permanent_marks s.content q) r)
@@ -346,7 +352,7 @@ due-fine s gives (Repeat p) = repeat-fine (view s p)
 due-fine s gives (Deliver p q) = delivered s p q (gives q) (link s p q)
 due-fine s gives (Take p) = take-fine (view s p)
 due-fine s gives (Serve p w place) = serve-fine (view s p) (node_number w) place _
-due-fine s gives (Check p) = check-fine (view s p) _ (permanent_marks s.content p) (gives p).permanent
+due-fine s gives (Check p) = check-fine (view s p) _ (permanent_marks s.content p) (gives p).permanent (gives p).shaped
 due-fine s gives (Decide p) = decide-fine (view s p) _
 due-fine s gives (Abandon p) = abandon-fine (view s p) _ _
 due-fine s gives (Learn p) = learn-fine (view s p) (stored_of s.content p) _ _ (loads-fine s p (gives p)) (gives p).permanent
@@ -375,6 +381,6 @@ scene-damaged : (there : Bool) (r : Planned) (x : StoreError) → of_scene there
 scene-damaged true r x e = owner-damaged r x e
 scene-damaged false r x e = absurd cc
 
-pub never-damaged : (s : State) → IsReady s → IsSound s → IsFitting s → IsUndamaged s
-never-damaged s ready sound is step x e =
-    due-fine s (gives-fitting s ready sound is) step (scene-damaged (is_in_scene s.cast step) (due s (told s step) step) x e)
+pub never-damaged : (s : State) → IsReady s → IsSound s → IsFitting s → AreMade s.cast s.history → IsUndamaged s
+never-damaged s ready sound is made step x e =
+    due-fine s (gives-fitting s ready sound is made) step (scene-damaged (is_in_scene s.cast step) (due s (told s step) step) x e)

@@ -172,7 +172,7 @@ pub record Headline (s : State) : Type 0 where
   pub survivors : HasOneRun s
   -- while no node is down or rolls back, nothing remembered is lost, and the shards hold that run's tuples
   pub steady : IsTrue (is_steady s) → IsSteadyRun s
-  -- each stored checkpoint that may count holds the state behind the first acts of its node's line
+  -- each stored checkpoint that may count holds the first acts of its node's line, and the state behind these
   pub stored : StoresFollowLines s
   -- with each act that the permanent checkpoints hold they hold all of its past
   pub closed : IsCausallyClosed s.history (permanent_length s.content)

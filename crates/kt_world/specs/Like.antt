@@ -1,9 +1,10 @@
 -- What stands in a node, or is stored of it, is like what its acts make of it: the state that the empty one reaches by
 -- them, the tuples in some order.
-use Rattle.std.specs.Prelude.{◌≡◌, ℕ, ◌≤◌, List, length, take, Option, None, Some, IfSome, IsPermutation}
+use Rattle.std.specs.Prelude.{◌≡◌, ℕ, ◌≤◌, List, [], length, take, Option, None, Some, IfSome, IsPermutation}
 use Rattle.kt_tuple.specs.declared.node.NodeId.{NodeId}
 use Rattle.kt_tuple.specs.declared.node.NodeId.TheVariants as ids
 use Rattle.kt_history.specs.declared.note.Act.{Act}
+use Rattle.kt_history.specs.declared.note.Note.{Note}
 use Rattle.kt_history.specs.Closed.{acts_in_line}
 use Rattle.kt_script.specs.declared.command.Command.{Command}
 use Rattle.kt_worker.specs.declared.worker.Worker.{Worker}
@@ -11,7 +12,9 @@ use Rattle.kt_worker.specs.After.{IsAfter}
 use Rattle.kt_shard.specs.Shard.{Shard}
 use Rattle.kt_shard.specs.Table.{at}
 use Rattle.kt_shard.specs.Desk.{empty_desk}
+use Rattle.kt_ckpt.specs.declared.acts.LineAct.{LineAct}
 use Rattle.kt_ckpt.specs.declared.ckpt.Ckpt.{Ckpt}
+use Rattle.kt_ckpt.specs.LineActs.{line_acts}
 use Rattle.kt_store.specs.declared.rows.Verdict.{Verdict}
 use Rattle.kt_store.specs.declared.rows.Verdict.TheVariants as verdicts
 use Rattle.kt_store.specs.Content.{row_of, verdict_on}
@@ -60,12 +63,24 @@ pub record HoldsFront (cast : Cast) (p : NodeId) (acts : List Act) (stored : Opt
 abbrev pub IsNotNo : Option Verdict → Type 0
 IsNotNo verdict = ¬ (verdict ≡ Some verdicts.No)
 
+-- the acts that a checkpoint holds; nothing stored is the beginning
+abbrev pub acts_stored : Option Ckpt → List LineAct
+acts_stored None = []
+acts_stored (Some c) = c.acts
+
+-- these are the first acts of the line of p, as many as the checkpoint's length says
+abbrev pub HoldsActs : List Note → NodeId → Option Ckpt → Type 0
+HoldsActs h p stored = acts_stored stored ≡ take (acts_held stored) (line_acts h p)
+
 -- each stored permanent checkpoint, and each tentative one whose verdict is not No, holds the state behind the first
--- acts of its node's line
+-- acts of its node's line, and holds these acts
 pub record HoldsItsActs (s : State) (p : NodeId) : Type 0 where
   pub permanent : HoldsFront s.cast p (acts_in_line s.history p) (row_of s.content p).permanent
+  pub permanent_acts : HoldsActs s.history p (row_of s.content p).permanent
   pub tentative : IsNotNo (verdict_on s.content (row_of s.content p).tentative)
       → IfSome (row_of s.content p).tentative (λ t. HoldsFront s.cast p (acts_in_line s.history p) (Some t.checkpoint))
+  pub tentative_acts : IsNotNo (verdict_on s.content (row_of s.content p).tentative)
+      → IfSome (row_of s.content p).tentative (λ t. HoldsActs s.history p (Some t.checkpoint))
 
 abbrev pub StoresFollowLines : State → Type 0
 StoresFollowLines s = (p : NodeId) → HoldsItsActs s p

@@ -6,6 +6,7 @@ use Rattle.kt_tuple.specs.Node.{node_index}
 use Rattle.kt_history.specs.declared.note.Note.{Note}
 use Rattle.kt_history.specs.Line.{line}
 use Rattle.kt_link.specs.Network.{place, entry_at}
+use Rattle.kt_ckpt.specs.LineActs.{line_acts}
 use Rattle.kt_shard.specs.Table.{at}
 use Rattle.kt_store.specs.Content.{Content}
 use Rattle.kt_node.specs.declared.message.Message.{Message}
@@ -50,4 +51,5 @@ view s p = record {
   node = unwrap_or (node s p) Down;
   next = length s.history + 1;
   line_len = length (line s.history p);
+  acts = line_acts s.history p;
 }

@@ -1,6 +1,6 @@
 -- What a parse by the program's own command line can give.
 use Rattle.std.proofs.Common.{◌≡◌, Bool, true, false, cond, List, [], ◌∷◌, Option, Some, None, option_map, codes, ap, refl, subst, sym, inl, inr, ◌∙◌}
-use Rattle.std.specs.Prelude.{◌⊎◌, is_some, option_and_then}
+use Rattle.std.specs.Prelude.{◌⊎◌, if◌then◌else◌, is_some, option_and_then, unwrap_or}
 use Rattle.std.specs.Borrow.{Bor}
 use Rattle.clap.specs.Words.{App, HasMatchesOf, Kinds, Row, Shape, Text, built, fault_of, first_of, first_value, found_of, is_simple, rows_of}
 use Rattle.clap.specs.Words.{subcommand_of, subcommand_name_of, subcommand_rows_of}
@@ -13,12 +13,12 @@ use Rattle.clap.specs.declared.parser.matches.Found.{Found}
 use Rattle.clap.specs.declared.parser.matches.ArgMatches.TheViews.{out-ArgMatches}
 use Rattle.clap.proofs.WalkLemmas.{first_value-rows}
 use Rattle.kt_command.specs.declared.command.Command.{Command}
-use Rattle.kt_command.specs.Command.{command_of}
-use Rattle.linda_kt.specs.Words.{asked_by, command_line_app, has_flag, is_true, request_of, words_fault}
+use Rattle.kt_command.specs.Command.{Asked, Carries, Makes, command_of, is_word}
+use Rattle.linda_kt.specs.Words.{asked_by, command_line_app, has_flag, is_true, request_of, required_text, words_fault}
 
--- the text is there, and is one of these two
-abbrev pub IsOneOf : Text → Text → Option Text → Type 0
-IsOneOf a b o = (o ≡ Some a) ⊎ (o ≡ Some b)
+-- the text is there, and is the name of a command
+abbrev pub IsCommand : Option Text → Type 0
+IsCommand o = (o ≡ Some (codes "replay")) ⊎ ((o ≡ Some (codes "run")) ⊎ (o ≡ Some (codes "migrate")))
 
 -- where two steps have no fault, the second has none
 rest_empty : (a b : Kinds) → or_else a b ≡ [] → b ≡ []
@@ -44,22 +44,28 @@ checks_pass : (rows : List Row) (has : Bool) → check_fault (built command_line
 checks_pass rows true e = refl
 checks_pass rows false e = cc
 
--- a command that is found is one of the two
-found_is : (b d : Bool) (r s : Shape) (words : List Text)
-    → is_some (option_map (λ s. rows_at s words) (cond b (Some r) (cond d (Some s) None))) ≡ true
-    → IsOneOf r.name s.name (option_map (λ p. p.0) (option_map (λ s. rows_at s words) (cond b (Some r) (cond d (Some s) None))))
-found_is true d r s words e = inl refl
-found_is false true r s words e = inr refl
-found_is false false r s words e = cc
+-- the shape that is found among three, by the tests of each
+abbrev pub first_found : (b d f : Bool) (r s t : Shape) → Option Shape
+first_found b d f r s t = cond b (Some r) (cond d (Some s) (cond f (Some t) None))
+
+-- a command that is found is one of the three
+found_is : (b d f : Bool) (r s t : Shape) (words : List Text)
+    → is_some (option_map (λ s. rows_at s words) (first_found b d f r s t)) ≡ true
+    → let name = option_map (λ p. p.0) (option_map (λ s. rows_at s words) (first_found b d f r s t)) in
+    (name ≡ Some r.name) ⊎ ((name ≡ Some s.name) ⊎ (name ≡ Some t.name))
+found_is true d f r s t words e = inl refl
+found_is false true f r s t words e = inr (inl refl)
+found_is false false true r s t words e = inr (inr refl)
+found_is false false false r s t words e = cc
 
 entered_is : (stop : Option (Text × List Text)) → is_some (entered (built command_line_app) stop) ≡ true
-    → IsOneOf (codes "replay") (codes "run") (option_map (λ p. p.0) (entered (built command_line_app) stop))
+    → IsCommand (option_map (λ p. p.0) (entered (built command_line_app) stop))
 entered_is None e = cc
-entered_is (Some p) e = found_is _ _ _ _ p.1 e
+entered_is (Some p) e = found_is _ _ _ _ _ _ p.1 e
 
--- words without a fault name `replay` or `run`
+-- words without a fault name a command
 pub names_command : (words : List Text) → fault_of command_line_app words ≡ []
-    → IsOneOf (codes "replay") (codes "run") (option_map (λ p. p.0) (subcommand_of command_line_app words))
+    → IsCommand (option_map (λ p. p.0) (subcommand_of command_line_app words))
 names_command words e =
     let a = built command_line_app in
     let end = walk a.top.rules (names_of a) nothing_held words in
@@ -74,13 +80,13 @@ fused g f (Some x) = refl
 
 -- a parse of words without a fault met one of the commands
 pub met_command : (a : App) (words : List Text) (m : ArgMatches) → a ≡ command_line_app → HasMatchesOf a words m
-    → fault_of a words ≡ [] → IsOneOf (codes "replay") (codes "run") (subcommand_name_of m)
+    → fault_of a words ≡ [] → IsCommand (subcommand_name_of m)
 met_command a words m same has none =
     let rows : subcommand_rows_of m ≡ subcommand_of command_line_app words =
     (has (ap is_simple same)).1 ∙ ap (λ x. subcommand_of x words) same in
     let name : option_map (λ p. p.0) (subcommand_of command_line_app words) ≡ subcommand_name_of m =
     ap (option_map (λ p. p.0)) (sym rows) ∙ fused _ _ (out-ArgMatches m).subcommand in
-    subst (IsOneOf (codes "replay") (codes "run")) name (names_command words (sym (ap (λ x. fault_of x words) same) ∙ none))
+    subst IsCommand name (names_command words (sym (ap (λ x. fault_of x words) same) ∙ none))
 
 -- a parse of words without a fault is one of the program's own command line
 pub has_no_fault : (a : App) (words : List Text) → a ≡ command_line_app → fault_of a words ≡ [] → words_fault words ≡ []
@@ -99,11 +105,14 @@ Lent = Bor Text × Bor ArgMatches
 pub is_that : (o : Option Lent) (p : Lent) (n : Text) → option_map (λ (q : Lent). q.0.now) o ≡ Some n → o ≡ Some p → p.0.now ≡ n
 is_that o p n e some = let same : Some p.0.now ≡ Some n = ap (option_map (λ (q : Lent). q.0.now)) (sym some) ∙ e in cc
 
--- a command whose name is one of the two is known
-pub is_known : (o : Option Lent) (p : Lent) (has_flag : Bool) → IsOneOf (codes "replay") (codes "run") (option_map (λ (q : Lent). q.0.now) o)
-    → o ≡ Some p → is_some (command_of p.0.now has_flag) ≡ true
-is_known o p has_flag (inl e) some = ap (λ (t : Text). is_some (command_of t has_flag)) (is_that o p _ e some)
-is_known o p has_flag (inr e) some = ap (λ (t : Text). is_some (command_of t has_flag)) (is_that o p _ e some)
+-- a command that is met and does not carry a file over is known
+pub is_known : (o : Option Lent) (p : Lent) (has_flag : Bool) → IsCommand (option_map (λ (q : Lent). q.0.now) o)
+    → is_word p.0.now (codes "migrate") ≡ false → o ≡ Some p → is_some (command_of p.0.now has_flag) ≡ true
+is_known o p has_flag (inl e) other some = ap (λ (t : Text). is_some (command_of t has_flag)) (is_that o p _ e some)
+is_known o p has_flag (inr (inl e)) other some = ap (λ (t : Text). is_some (command_of t has_flag)) (is_that o p _ e some)
+is_known o p has_flag (inr (inr e)) other some =
+    let no : true ≡ false = sym (ap (λ (t : Text). is_word t (codes "migrate")) (is_that o p _ e some)) ∙ other in
+    cc
 
 some_is : {X : Type 0} (a b : X) → Some a ≡ Some b → a ≡ b
 some_is a b e = cc
@@ -114,24 +123,57 @@ both None x y first second = cc
 both (Some p) x y first second =
     ap (λ (a : Text). Some (a, p.1)) (some_is _ _ first) ∙ ap (λ (b : List Row). Some (x, b)) (some_is _ _ second)
 
--- the command and the file that were met are those that the words name
-pub asked_is : (a : App) (words : List Text) (m : ArgMatches) (o : Option Lent) (p : Lent) (command : Command) (store : Option (Bor Text))
+-- the name that was met and the rows of its words are those of the words
+met_is : (a : App) (words : List Text) (m : ArgMatches) (o : Option Lent) (p : Lent)
     → a ≡ command_line_app → HasMatchesOf a words m → option_map (λ (q : Lent). q.0.now) o ≡ subcommand_name_of m
     → option_map (λ (q : Lent). rows_of (found_of q.1.now)) o ≡ option_map (λ p. p.1) (subcommand_rows_of m) → o ≡ Some p
-    → command_of p.0.now (has_flag (rows_of (found_of p.1.now))) ≡ Some command
-    → option_map (λ (s : Bor Text). s.now) store ≡ first_value (found_of p.1.now) (codes "store")
-    → asked_by words ≡ Some (command, option_map (λ (s : Bor Text). s.now) store)
-asked_is a words m o p command store same has name rows some is file =
+    → subcommand_of command_line_app words ≡ Some (p.0.now, rows_of (found_of p.1.now))
+met_is a words m o p same has name rows some =
     let met : subcommand_rows_of m ≡ subcommand_of command_line_app words =
     (has (ap is_simple same)).1 ∙ ap (λ x. subcommand_of x words) same in
     let first : option_map (λ p. p.0) (subcommand_rows_of m) ≡ Some p.0.now =
     fused _ _ (out-ArgMatches m).subcommand ∙ sym name ∙ ap (option_map (λ (q : Lent). q.0.now)) some in
     let second : option_map (λ p. p.1) (subcommand_rows_of m) ≡ Some (rows_of (found_of p.1.now)) =
     sym rows ∙ ap (option_map (λ (q : Lent). rows_of (found_of q.1.now))) some in
-    let whole : subcommand_of command_line_app words ≡ Some (p.0.now, rows_of (found_of p.1.now)) =
-    sym met ∙ both (subcommand_rows_of m) _ _ first second in
-    let of_file : first_of (codes "store") (rows_of (found_of p.1.now)) ≡ option_map (λ (s : Bor Text). s.now) store =
+    sym met ∙ both (subcommand_rows_of m) _ _ first second
+
+-- the command and the file that were met are those that the words name
+pub asked_is : (a : App) (words : List Text) (m : ArgMatches) (o : Option Lent) (p : Lent) (command : Command) (store : Option (Bor Text))
+    → a ≡ command_line_app → HasMatchesOf a words m → option_map (λ (q : Lent). q.0.now) o ≡ subcommand_name_of m
+    → option_map (λ (q : Lent). rows_of (found_of q.1.now)) o ≡ option_map (λ p. p.1) (subcommand_rows_of m) → o ≡ Some p
+    → is_word p.0.now (codes "migrate") ≡ false
+    → command_of p.0.now (has_flag (rows_of (found_of p.1.now))) ≡ Some command
+    → option_map (λ (s : Bor Text). s.now) store ≡ first_value (found_of p.1.now) (codes "store")
+    → asked_by words ≡ Some (Makes command (option_map (λ (s : Bor Text). s.now) store))
+asked_is a words m o p command store same has name rows some other is file =
+    let found : List Row = rows_of (found_of p.1.now) in
+    let of_file : first_of (codes "store") found ≡ option_map (λ (s : Bor Text). s.now) store =
     sym (file ∙ first_value-rows (found_of p.1.now) (codes "store")) in
-    ap (option_and_then request_of) whole
-    ∙ ap (option_map (λ (c : Command). (c, first_of (codes "store") (rows_of (found_of p.1.now))))) is
-    ∙ ap (λ (f : Option Text). Some (command, f)) of_file
+    let made : Option Asked = option_map (λ (c : Command). Makes c (first_of (codes "store") found)) (command_of p.0.now (has_flag found)) in
+    ap (option_and_then request_of) (met_is a words m o p same has name rows some)
+    ∙ ap (λ (b : Bool). if b then Some (Carries (required_text (first_of (codes "store") found))) else made) other
+    ∙ ap (option_map (λ (c : Command). Makes c (first_of (codes "store") found))) is
+    ∙ ap (λ (f : Option Text). Some (Makes command f)) of_file
+
+-- the text of an option, or none
+text_or : (o : Option (Bor Text)) (none text : Bor Text) → text ≡ unwrap_or o none → none.now ≡ []
+    → text.now ≡ required_text (option_map (λ (s : Bor Text). s.now) o)
+text_or None none text is empty = ap (λ (s : Bor Text). s.now) is ∙ empty
+text_or (Some s) none text is empty = ap (λ (s : Bor Text). s.now) is
+
+-- the file that is to be carried over is the one that the words name
+pub carried_is : (a : App) (words : List Text) (m : ArgMatches) (o : Option Lent) (p : Lent) (store : Option (Bor Text)) (none text : Bor Text)
+    → a ≡ command_line_app → HasMatchesOf a words m → option_map (λ (q : Lent). q.0.now) o ≡ subcommand_name_of m
+    → option_map (λ (q : Lent). rows_of (found_of q.1.now)) o ≡ option_map (λ p. p.1) (subcommand_rows_of m) → o ≡ Some p
+    → is_word p.0.now (codes "migrate") ≡ true
+    → option_map (λ (s : Bor Text). s.now) store ≡ first_value (found_of p.1.now) (codes "store")
+    → text ≡ unwrap_or store none → none.now ≡ [] → asked_by words ≡ Some (Carries text.now)
+carried_is a words m o p store none text same has name rows some this file is empty =
+    let found : List Row = rows_of (found_of p.1.now) in
+    let of_file : first_of (codes "store") found ≡ option_map (λ (s : Bor Text). s.now) store =
+    sym (file ∙ first_value-rows (found_of p.1.now) (codes "store")) in
+    let made : Option Asked = option_map (λ (c : Command). Makes c (first_of (codes "store") found)) (command_of p.0.now (has_flag found)) in
+    ap (option_and_then request_of) (met_is a words m o p same has name rows some)
+    ∙ ap (λ (b : Bool). if b then Some (Carries (required_text (first_of (codes "store") found))) else made) this
+    ∙ ap (λ (f : Option Text). Some (Carries (required_text f))) of_file
+    ∙ ap (λ (t : Text). Some (Carries t)) (sym (text_or store none text is empty))

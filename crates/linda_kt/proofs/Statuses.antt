@@ -5,6 +5,7 @@ use Rattle.clap.specs.Words.{kind_of, HasKind, Kinds, Text}
 use Rattle.clap.specs.declared.error.Error.{Error}
 use Rattle.clap.specs.declared.error.kind.ErrorKind.TheVariants as kind
 use Rattle.kt_scene.specs.Outside.{Reader, Writer}
+use Rattle.kt_store.specs.Content.{Content}
 use Rattle.kt_store.specs.declared.store.CkptStore.{Ghosts}
 use Rattle.linda_kt.specs.Status.{IsRunStatus}
 use Rattle.linda_kt.specs.Words.{words_fault}
@@ -27,9 +28,12 @@ not_version e memory version = cc
 pub asks_for_no_text : (e : Error) → kind_of e ≡ kind.OutOfMemory → (kind_of e ≢ kind.DisplayHelp) × (kind_of e ≢ kind.DisplayVersion)
 asks_for_no_text e memory = (not_help e memory, not_version e memory)
 
-module _ {S F : Type 0} (kind : Ghosts S) (gives : Text → Result S F → Type 0) (before after : Reader) (old new : Writer) (n : ℕ) where
+module _ {S C F : Type 0} (kind : Ghosts S) (gives : Text → Result S F → Type 0) (connects : Text → Result C F → Type 0)
+    (carries : C → Content → Result (Unit {0}) F → Type 0) (before after : Reader) (old new : Writer) (n : ℕ) where
   -- what is told of words is told of the same words
-  pub told_of_same : (u v : List Text) → u ≡ v → (words_fault u ≡ [] → IsRunStatus kind gives u before after old new n)
-      → words_fault v ≡ [] → IsRunStatus kind gives v before after old new n
+  pub told_of_same : (u v : List Text) → u ≡ v
+      → (words_fault u ≡ [] → IsRunStatus kind gives connects carries u before after old new n)
+      → words_fault v ≡ [] → IsRunStatus kind gives connects carries v before after old new n
   told_of_same u v same told =
-      subst (λ (ws : List Text). words_fault ws ≡ [] → IsRunStatus kind gives ws before after old new n) same told
+      let P : List Text → Type 0 = λ ws. words_fault ws ≡ [] → IsRunStatus kind gives connects carries ws before after old new n in
+      subst P same told

@@ -1,22 +1,17 @@
 -- The words of the command line.
 use Rattle.std.specs.Prelude.{◌≡◌, ◌≢◌, ◌⊎◌, Bool, true, false, List, [], ◌∷◌, Option, None, Some, refl, codes}
-use Rattle.std.specs.Prelude.{option_map, option_and_then}
+use Rattle.std.specs.Prelude.{option_map, option_and_then, unwrap_or, if◌then◌else◌}
 use Rattle.clap.specs.Words.{App, IsAmong, Kinds, Row, Rule, Shape, Text, fault_of, first_of, new_app, new_rule}
 use Rattle.clap.specs.Words.{subcommand_of, with_subcommand}
 use Rattle.clap.specs.declared.builder.action.ArgAction.TheVariants.{SetTrue}
 use Rattle.clap.specs.Simple.{new_shape, on_top}
 use Rattle.clap.specs.declared.error.kind.ErrorKind.TheVariants.{DisplayHelp, DisplayVersion, InvalidSubcommand}
-use Rattle.clap.specs.declared.error.kind.ErrorKind.TheVariants.{InvalidValue, MissingSubcommand, UnknownArgument}
+use Rattle.clap.specs.declared.error.kind.ErrorKind.TheVariants.{InvalidValue, MissingRequiredArgument}
+use Rattle.clap.specs.declared.error.kind.ErrorKind.TheVariants.{MissingSubcommand, UnknownArgument}
 use Rattle.clap.proofs.OnLiterals.{clap_on_literals}
 use Rattle.kt_run.specs.declared.running.Output.TheVariants as outputs
-use Rattle.kt_command.specs.declared.command.Command.{Command}
 use Rattle.kt_command.specs.declared.command.Command.TheVariants.{Replay, Run}
-use Rattle.kt_command.specs.Command.{command_of, is_word}
-use Rattle.kt_command.specs.declared.request.Request.{Request}
-
--- a command, and the file that is named for its store, or none
-abbrev pub asked : Request → Command × Option Text
-asked r = (r.command, option_map (λ s. s.now) r.store)
+use Rattle.kt_command.specs.Command.{Asked, Carries, Makes, command_of, is_word}
 
 -- the program's name, and that it has a version
 abbrev pub program_app : App
@@ -36,14 +31,26 @@ journal_rule = record (new_rule (codes "journal")) { long = Some (codes "journal
 abbrev pub run_shape : Shape
 run_shape = record (new_shape (codes "run")) { rules = store_rule ∷ journal_rule ∷ [] }
 
--- the command line: no program's name, no command `help`, and one command, which must stand
-abbrev pub command_line_app : App
-command_line_app =
+-- the option `--store` where it must stand
+abbrev pub old_store_rule : Rule
+old_store_rule = record store_rule { required = true }
+
+abbrev pub migrate_shape : Shape
+migrate_shape = record (new_shape (codes "migrate")) { rules = old_store_rule ∷ [] }
+
+-- the command line of the commands over a store: no program's name, no command `help`, and one command, which must
+-- stand
+abbrev pub running_app : App
+running_app =
     with_subcommand (with_subcommand (on_top (λ s. record s {
       no_binary_name = true;
       subcommand_required = true;
       disable_help_subcommand = true;
     }) program_app) replay_shape) run_shape
+
+-- the command line
+abbrev pub command_line_app : App
+command_line_app = with_subcommand running_app migrate_shape
 
 -- the flag stands among a command's words: its text is that of `true` then
 abbrev pub is_true : Option Text → Bool
@@ -53,12 +60,18 @@ is_true (Some text) = is_word text (codes "true")
 abbrev pub has_flag : List Row → Bool
 has_flag rows = is_true (first_of (codes "journal") rows)
 
--- the command of a subcommand and its words, and the file of its store
-abbrev pub request_of : Text × List Row → Option (Command × Option Text)
-request_of p = option_map (λ c. (c, first_of (codes "store") p.1)) (command_of p.0 (has_flag p.1))
+-- the text of an option that has to stand: words without it have a fault
+abbrev pub required_text : Option Text → Text
+required_text o = unwrap_or o []
 
--- the command that the words name, and the file of its store, by the rules of `clap`
-abbrev pub asked_by : List Text → Option (Command × Option Text)
+-- what a subcommand and its words ask: a command, and the file of its store; or the file that is to be carried over
+abbrev pub request_of : Text × List Row → Option Asked
+request_of p =
+    if is_word p.0 (codes "migrate") then Some (Carries (required_text (first_of (codes "store") p.1)))
+    else option_map (λ c. Makes c (first_of (codes "store") p.1)) (command_of p.0 (has_flag p.1))
+
+-- what the words ask, by the rules of `clap`
+abbrev pub asked_by : List Text → Option Asked
 asked_by words = option_and_then request_of (subcommand_of command_line_app words)
 
 -- what is wrong with the words, by the rules of `clap`: nothing, or the kinds that its error may have
@@ -75,27 +88,44 @@ AreWrong words = (words_fault words ≢ []) × (AskForHelp words → ⊥)
 
 -- `replay` has no fault and names the command, and no file
 pub replay_passes : (words_fault (codes "replay" ∷ []) ≡ [])
-    × (asked_by (codes "replay" ∷ []) ≡ Some (Replay, None))
+    × (asked_by (codes "replay" ∷ []) ≡ Some (Makes Replay None))
 unfolding clap_on_literals
 replay_passes = (refl, refl)
 
 -- a file is named behind `--store`, as a word of its own or behind `=`
 pub store_passes : (words_fault (codes "replay" ∷ codes "--store" ∷ codes "a.db" ∷ []) ≡ [])
-    × (asked_by (codes "replay" ∷ codes "--store" ∷ codes "a.db" ∷ []) ≡ Some (Replay, Some (codes "a.db")))
+    × (asked_by (codes "replay" ∷ codes "--store" ∷ codes "a.db" ∷ []) ≡ Some (Makes Replay (Some (codes "a.db"))))
     × (words_fault (codes "replay" ∷ codes "--store=a.db" ∷ []) ≡ [])
-    × (asked_by (codes "replay" ∷ codes "--store=a.db" ∷ []) ≡ Some (Replay, Some (codes "a.db")))
+    × (asked_by (codes "replay" ∷ codes "--store=a.db" ∷ []) ≡ Some (Makes Replay (Some (codes "a.db"))))
 unfolding clap_on_literals
 store_passes = (refl, refl, refl, refl)
 
 -- `run` has no fault either, with its flag or without it, and with a file
-pub run_passes : (words_fault (codes "run" ∷ []) ≡ []) × (asked_by (codes "run" ∷ []) ≡ Some (Run outputs.Report, None))
+pub run_passes : (words_fault (codes "run" ∷ []) ≡ [])
+    × (asked_by (codes "run" ∷ []) ≡ Some (Makes (Run outputs.Report) None))
     × (words_fault (codes "run" ∷ codes "--journal" ∷ []) ≡ [])
-    × (asked_by (codes "run" ∷ codes "--journal" ∷ []) ≡ Some (Run outputs.Journal, None))
+    × (asked_by (codes "run" ∷ codes "--journal" ∷ []) ≡ Some (Makes (Run outputs.Journal) None))
     × (words_fault (codes "run" ∷ codes "--store" ∷ codes "a.db" ∷ codes "--journal" ∷ []) ≡ [])
     × (asked_by (codes "run" ∷ codes "--store" ∷ codes "a.db" ∷ codes "--journal" ∷ [])
-    ≡ Some (Run outputs.Journal, Some (codes "a.db")))
+    ≡ Some (Makes (Run outputs.Journal) (Some (codes "a.db"))))
 unfolding clap_on_literals
 run_passes = (refl, refl, refl, refl, refl, refl)
+
+-- `migrate` has no fault with its file, which it names, and wants it
+pub migrate_passes : (words_fault (codes "migrate" ∷ codes "--store" ∷ codes "a.db" ∷ []) ≡ [])
+    × (asked_by (codes "migrate" ∷ codes "--store" ∷ codes "a.db" ∷ []) ≡ Some (Carries (codes "a.db")))
+unfolding clap_on_literals
+migrate_passes = (refl, refl)
+
+pub migrate_wants_a_file : words_fault (codes "migrate" ∷ []) ≡ MissingRequiredArgument ∷ []
+unfolding clap_on_literals
+migrate_wants_a_file = refl
+
+-- nor has it the flag
+pub migrate_has_no_flag : words_fault (codes "migrate" ∷ codes "--store" ∷ codes "a.db" ∷ codes "--journal" ∷ [])
+    ≡ UnknownArgument ∷ []
+unfolding clap_on_literals
+migrate_has_no_flag = refl
 
 -- `replay` has no flag
 pub flag_fails : words_fault (codes "replay" ∷ codes "--journal" ∷ []) ≡ UnknownArgument ∷ []

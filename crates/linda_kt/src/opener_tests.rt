@@ -1,10 +1,11 @@
 //! The program over an opener that notes what it is asked.
 use crate::program::run_program;
 use crate::tests::{PUT_AND_TAKE, PUT_AND_TAKE_REPORT};
-use kt_command::Opens;
+use kt_command::{Carries, Opens};
 use kt_scene::{Sink, Source};
 use kt_sql::{SqlOpenError, SqlStore};
-use sqlite::MemStore;
+use sqlite::{Connection, MemStore};
+use std::alloc::Global;
 use std::cell::Cell;
 use std::test::Fail;
 
@@ -30,8 +31,41 @@ impl Opens<SqlStore<MemStore>, SqlOpenError> for Noting<'_> {
     }
 }
 
+/// It connects to a fresh database for the same path.
+impl Carries<Connection<MemStore>, SqlOpenError> for Noting<'_> {
+    ghost use Rattle.std.specs.Prelude.{◌≡◌, false, ⊤};
+
+    ghost connects = { λ _ _ _. ⊤ };
+
+    ghost carries = { λ _ _ _. ⊤ };
+
+    ghost ready = { λ c. c.in_transaction ≡ false };
+
+    fn connect(self, path: &str) -> Result<Connection<MemStore>, SqlOpenError> {
+        self.asked.set(self.asked.get().saturating_add(1));
+        if path != self.path {
+            return Err(SqlOpenError::Damaged);
+        }
+        Ok(Connection::open_in_memory(self.rt.alloc())?)
+    }
+
+    fn carry(
+        alloc: Global,
+        connection: Connection<MemStore>,
+        store: &kt_store::MemStore,
+    ) -> Result<(), SqlOpenError>
+        requires { connection.in_transaction ≡ false }
+        ensures { ⊤ }
+    {
+        match SqlStore::migrate(alloc, connection, store) {
+            Ok(_) => Ok(()),
+            Err((error, _)) => Err(error),
+        }
+    }
+}
+
 /// Words, how often the opener of `a.db` is asked, the output, the line on the errors, and the status.
-const ROWS: [(&[&str], u32, &str, &str, u8); 5] = [
+const ROWS: [(&[&str], u32, &str, &str, u8); 9] = [
     (&["replay"], 0, PUT_AND_TAKE_REPORT, "", 0),
     (
         &["replay", "--store", "a.db"],
@@ -43,6 +77,22 @@ const ROWS: [(&[&str], u32, &str, &str, u8); 5] = [
     (&["replay", "--store=a.db"], 1, PUT_AND_TAKE_REPORT, "", 0),
     (&["replay", "--store", "b.db"], 1, "", "store: Damaged\n", 5),
     (&["run", "--store", "a.db"], 1, "", "line 6: 2 Word\n", 3),
+    (
+        &["migrate", "--store", "a.db"],
+        1,
+        "",
+        "store: Mismatch\n",
+        5,
+    ),
+    (&["migrate", "--store=a.db"], 1, "", "store: Mismatch\n", 5),
+    (
+        &["migrate", "--store", "b.db"],
+        1,
+        "",
+        "store: Damaged\n",
+        5,
+    ),
+    (&["replay", "--store=b.db"], 1, "", "store: Damaged\n", 5),
 ];
 
 /// The opener is asked once, for the path that is named, and not at all where none is.

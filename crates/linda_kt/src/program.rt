@@ -12,7 +12,9 @@ ghost use Rattle.linda_kt.specs.Words.{AreWrong, words_fault};
 use crate::words::{read_words, refuse_bytes};
 use clap::Error;
 use clap::error::ErrorKind;
-use kt_command::{COMMAND_LINE, DONE, MEMORY, Opens, STREAM, run_request, texts_of, words_behind};
+use kt_command::{
+    COMMAND_LINE, Carries, DONE, MEMORY, Opens, STREAM, run_request, texts_of, words_behind,
+};
 use kt_scene::{Outcome, Sink, Source};
 use kt_sql::{SqlOpenError, SqlStore};
 use kt_store::CkptStore;
@@ -29,7 +31,8 @@ use std::thread::Threads;
 /// threads by `threads`.
 pub fn run_arguments<
     D: Alter + Drop + Send,
-    O: Opens<SqlStore<D>, SqlOpenError>,
+    C: Drop,
+    O: Opens<SqlStore<D>, SqlOpenError> + Carries<C, SqlOpenError>,
     T: Threads + Wait + Sync,
     R: Read,
     W: Write,
@@ -48,7 +51,8 @@ pub fn run_arguments<
     ensures no_text_reads_nothing { IsErr arguments → reader.new ≡ reader.old }
     ensures no_text_prints_nothing { IsErr arguments → writer.new ≡ writer.old }
     ensures told { IfOk arguments (λ a. words_fault (words_behind (into_iter_items a)) ≡ []
-        → IsRunStatus ⟦<SqlStore<D> as CkptStore>⟧ (O.gives opener) (words_behind (into_iter_items a))
+        → IsRunStatus ⟦<SqlStore<D> as CkptStore>⟧ (O.gives opener) (O.connects opener)
+        O.carries (words_behind (into_iter_items a))
         reader.old reader.new writer.old writer.new result) }
     ensures wrong_words { IfOk arguments (λ a. AreWrong (words_behind (into_iter_items a))
         → (result ≡ COMMAND_LINE) ⊎ (result ≡ MEMORY)) }
@@ -76,7 +80,8 @@ pub fn run_arguments<
 /// Runs the program on these texts, of which the first is its name.
 fn run_texts<
     D: Alter + Drop + Send,
-    O: Opens<SqlStore<D>, SqlOpenError>,
+    C: Drop,
+    O: Opens<SqlStore<D>, SqlOpenError> + Carries<C, SqlOpenError>,
     T: Threads + Wait + Sync,
     R: Read,
     W: Write,
@@ -91,7 +96,8 @@ fn run_texts<
     errors: &mut E,
 ) -> u8
     ensures told { words_fault (words_behind arguments.now) ≡ []
-        → IsRunStatus ⟦<SqlStore<D> as CkptStore>⟧ (O.gives opener) (words_behind arguments.now)
+        → IsRunStatus ⟦<SqlStore<D> as CkptStore>⟧ (O.gives opener) (O.connects opener)
+        O.carries (words_behind arguments.now)
         reader.old reader.new writer.old writer.new result }
     ensures wrong_words { AreWrong (words_behind arguments.now) → (result ≡ COMMAND_LINE) ⊎ (result ≡ MEMORY) }
     ensures wrong_words_print_nothing { AreWrong (words_behind arguments.now) → writer.new ≡ writer.old }
@@ -117,7 +123,8 @@ fn run_texts<
 /// A fault is one line on `errors`; of wrong words it is the text of `clap`.
 pub fn run_program<
     D: Alter + Drop + Send,
-    O: Opens<SqlStore<D>, SqlOpenError>,
+    C: Drop,
+    O: Opens<SqlStore<D>, SqlOpenError> + Carries<C, SqlOpenError>,
     T: Threads + Wait + Sync,
     R: Read,
     W: Write,
@@ -132,7 +139,8 @@ pub fn run_program<
     errors: &mut E,
 ) -> u8
     ensures told { words_fault (texts words.now) ≡ []
-        → IsRunStatus ⟦<SqlStore<D> as CkptStore>⟧ (O.gives opener) (texts words.now)
+        → IsRunStatus ⟦<SqlStore<D> as CkptStore>⟧ (O.gives opener) (O.connects opener)
+        O.carries (texts words.now)
         reader.old reader.new writer.old writer.new result }
     ensures done_without_a_word { result ≡ DONE → errors.new ≡ errors.old }
     ensures wrong_words { AreWrong (texts words.now)

@@ -3,17 +3,19 @@ ghost use Rattle.std.specs.Prelude.{◌≡◌, ◌⊎◌, false, IfOk, Some};
 ghost use Rattle.clap.specs.Words.{app_of, FailsBy, found_of, kind_of, rows_of, rule_of};
 ghost use Rattle.clap.specs.declared.builder.command.Command.TheViews.{out-Command as fields_of};
 ghost use Rattle.clap.specs.Simple.{shape_of};
+ghost use Rattle.kt_command.specs.Asking.{asked};
 ghost use Rattle.kt_command.specs.Command.{texts};
-ghost use Rattle.linda_kt.specs.Words.{asked, asked_by, command_line_app, has_flag, journal_rule};
-ghost use Rattle.linda_kt.specs.Words.{program_app, replay_shape, run_shape, store_rule, words_fault};
+ghost use Rattle.linda_kt.specs.Words.{asked_by, command_line_app, has_flag, journal_rule, migrate_shape};
+ghost use Rattle.linda_kt.specs.Words.{old_store_rule, program_app, replay_shape, run_shape, running_app, store_rule};
+ghost use Rattle.linda_kt.specs.Words.{words_fault};
 
 use clap::error::ErrorKind;
 use clap::{Arg, ArgAction, ArgMatches, Error};
 use kt_command::{Command, Request};
 use std::alloc::{AllocError, Global};
 
-/// The command that the words name, and the file of its store; the words are those after the program's
-/// name. Any other words are an error of `clap`, whose text is for the user.
+/// What the words ask: a command and the file of its store, or the file that is to be carried over. The words are those
+/// after the program's name. Any other words are an error of `clap`, whose text is for the user.
 pub fn read_words<'a>(alloc: Global, words: &'a [&'a str]) -> Result<Request<'a>, Error>
     ensures command { IfOk result (λ r. asked_by (texts words.entry.now) ≡ Some (asked r)) }
     ensures refused { FailsBy (words_fault (texts words.entry.now)) result }
@@ -21,9 +23,14 @@ pub fn read_words<'a>(alloc: Global, words: &'a [&'a str]) -> Result<Request<'a>
     let matches = command_line(alloc)?.try_get_matches_from(words)?;
     // Words that pass have one of the names.
     let (name, options) = matches.subcommand().unwrap();
-    let command = Command::of_name(name, has_journal(options)).unwrap();
     let store = options.get_str("store");
-    Ok(Request { command, store })
+    if name == "migrate" {
+        // Words that pass name the file, so no request has the empty text.
+        let store = store.unwrap_or("");
+        return Ok(Request::Migrate { store });
+    }
+    let command = Command::of_name(name, has_journal(options)).unwrap();
+    Ok(Request::Make { command, store })
 }
 
 /// Whether `--journal` stands among a command's words.
@@ -40,6 +47,15 @@ fn has_journal(options: &ArgMatches<'_>) -> bool
 /// The grammar of the command line: one subcommand, which must be there.
 fn command_line<'a>(alloc: Global) -> Result<clap::Command<'a>, AllocError>
     ensures { IfOk result (λ c. app_of c ≡ command_line_app) }
+{
+    let migrate = migrate_command(alloc)?;
+    running_commands(alloc)?.subcommand(migrate)
+}
+
+/// The grammar with the commands over a store alone.
+fn running_commands<'a>(alloc: Global) -> Result<clap::Command<'a>, AllocError>
+    ensures app { IfOk result (λ c. app_of c ≡ running_app) }
+    ensures local { IfOk result (λ c. (fields_of c).has_globals ≡ false) }
 {
     let replay = replay_command(alloc)?;
     let run = run_command(alloc)?;
@@ -74,6 +90,18 @@ fn run_command<'a>(alloc: Global) -> Result<clap::Command<'a>, AllocError>
     run.arg(store_option(alloc))?.arg(journal_flag(alloc))
 }
 
+/// `migrate` with its option, which must stand.
+fn migrate_command<'a>(alloc: Global) -> Result<clap::Command<'a>, AllocError>
+    ensures shape { IfOk result (λ c. shape_of c ≡ migrate_shape) }
+    ensures local { IfOk result (λ c. (fields_of c).has_globals ≡ false) }
+{
+    let migrate = clap::Command::new(alloc, "migrate").about(
+        "Carries a store of version 1 over, by the journal on standard input that made it, and writes the report to \
+         standard output",
+    );
+    migrate.arg(old_store_option(alloc))
+}
+
 /// `--journal`.
 fn journal_flag<'a>(alloc: Global) -> Arg<'a>
     ensures rule { rule_of result ≡ journal_rule }
@@ -98,9 +126,22 @@ fn store_option<'a>(alloc: Global) -> Arg<'a>
         .help("Keeps the checkpoints in FILE, which is absent, empty or a fresh store")
 }
 
+/// `--store FILE` of `migrate`.
+fn old_store_option<'a>(alloc: Global) -> Arg<'a>
+    ensures rule { rule_of result ≡ old_store_rule }
+    ensures local { result.global ≡ false }
+{
+    Arg::new(alloc, "store")
+        .long("store")
+        .value_name("FILE")
+        .required(true)
+        .help("The store of version 1, which holds what the journal makes and nothing else")
+}
+
 /// The program's name, what it is, and its version.
 fn described<'a>(alloc: Global) -> clap::Command<'a>
-    ensures { app_of result ≡ program_app }
+    ensures app { app_of result ≡ program_app }
+    ensures local { (fields_of result).has_globals ≡ false }
 {
     clap::Command::new(alloc, "linda_kt")
         .about("A Linda tuple space that survives failures")

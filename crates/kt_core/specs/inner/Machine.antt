@@ -21,7 +21,7 @@ state_of m content = record {
   nodes = map row_view m.nodes.items;
   links = m.links.queues;
   content = content;
-  history = m.history.notes;
+  history = m.past.notes;
   own = m.own.items;
   made = m.made;
 }
@@ -30,7 +30,7 @@ state_of m content = record {
 pub record HasRoomFor (m : Machine) (p : NodeId) (plan : Plan) : Type 0 where
   pub node : HasRoom (at None m.nodes.items (node_index p))
   pub links : AllByRecursion (λ x. length plan.send ≤ room m.links p x.0) plan.send
-  pub history : 1 ≤ room_of m.history p
+  pub history : 1 ≤ room_of m.past p
 
 -- the refusal is the one that is due; where none is, memory ran out
 abbrev pub Refuses : {Y : Type 0} → StepError → Result Y StepError → Type 0

@@ -23,7 +23,7 @@ lasts h n = n == 0 || survives h n
 
 -- the mark of a note that is no act
 abbrev pub no_mark : Mark
-no_mark = record { previous = 0; survives = false }
+no_mark = record { previous = 0; place = 0; survives = false }
 
 -- the mark of the note at this place, counted from 0
 abbrev pub mark_at : List Mark → ℕ → Mark
@@ -38,6 +38,7 @@ lasts_in marks (suc k) = (mark_at marks k).survives
 abbrev pub unmarked : List ℕ → ℕ → Mark → Mark
 unmarked numbers k mark = record {
   previous = mark.previous;
+  place = mark.place;
   survives = mark.survives && not (list_any (λ m. m == suc k) numbers);
 }
 
@@ -46,6 +47,7 @@ abbrev pub renewed : Option Note → Mark → List Mark → Mark
 renewed None mark marks = mark
 renewed (Some (notes.Act a)) mark marks = record {
   previous = mark.previous;
+  place = mark.place;
   survives = mark.survives && (lasts_in marks mark.previous && lasts_in marks a.by);
 }
 renewed (Some (notes.Cut p keep)) mark marks = mark
@@ -92,10 +94,10 @@ pub record HasLost (h : List Note) (numbers : List ℕ) (old new : List Mark) : 
 abbrev pub kept_service : Note → Mark → List Service
 kept_service note mark = if mark.survives then option_to_list (note_service note) else []
 
--- the mark of an act with this number before it in its line, and this cause
-abbrev pub act_mark : List Mark → ℕ → ℕ → Mark
-act_mark marks before_it cause =
-    record { previous = before_it; survives = lasts_in marks before_it && lasts_in marks cause }
+-- the mark of an act with this number before it in its line, this cause and this place
+abbrev pub act_mark : List Mark → ℕ → ℕ → ℕ → Mark
+act_mark marks before_it cause place =
+    record { previous = before_it; place = place; survives = lasts_in marks before_it && lasts_in marks cause }
 
 -- the note is a service, and by its mark it does not survive
 abbrev pub is_lost : Note → Mark → Bool
@@ -132,5 +134,7 @@ pub record Agrees (h : List Note) (rows : List (List ℕ)) (marks : List Mark) (
   pub survive : (k : ℕ) → k < length h → (mark_at marks k).survives ≡ survives h (suc k)
   pub previous : (k : ℕ) (a : Act) → note_at h (suc k) ≡ Some (notes.Act a)
       → (mark_at marks k).previous ≡ last_of (line (before h (suc k)) a.node)
+  pub place : (k : ℕ) (a : Act) → note_at h (suc k) ≡ Some (notes.Act a)
+      → (mark_at marks k).place ≡ length (line (before h (suc k)) a.node) + 1
   pub back : (k : ℕ) → k < length h → (mark_at marks k).previous ≤ k
   pub counted : lost ≡ lost_among h marks

@@ -1,6 +1,7 @@
 -- A look at the tables.
 use Rattle.std.specs.Prelude.{◌≡◌, ◌≤◌, false, IsTrue}
 use Rattle.sqlite_trees.specs.View.{doubt}
+use Rattle.sqlite.specs.Tree.{Trees}
 use Rattle.sqlite.specs.State.{State, HasCleanDisk}
 use Rattle.kt_tables.specs.Schema.{kt_schema}
 use Rattle.kt_tables.specs.Settled.{IsSettled}
@@ -15,3 +16,5 @@ pub record Looks (old new : State) : Type 0 where
   pub clean : doubt old.is_clean ≤ doubt new.is_clean
   pub mode : old.in_transaction ≡ false → new.in_transaction ≡ false
   pub stays : HasCleanDisk new → IsTrue new.is_open → Stays old new
+  -- nothing was committed, so a stop leaves what it could leave before
+  pub leaves : HasCleanDisk new → old.now.schema ≡ kt_schema → (db : Trees) → new.may_leave db → old.may_leave db

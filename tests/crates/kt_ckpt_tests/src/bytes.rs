@@ -10,8 +10,9 @@ use std::test::*;
 
 /// The second worker: a line of five acts, two neighbours, the next command is the fourth, the last request has
 /// the number 2 and no answer yet, `inp ("a", ?int, ?bool)`, the last answer was none, and the variables are -1, `hi`
-/// and `true`.
-const WORKER: [u8; 115] = [
+/// and `true`. It issued `out ("hi", true)` and accepted its answer, issued the second request, sent it once more, and
+/// ignored a late answer to the first.
+const WORKER: [u8; 237] = [
     0x4b, 0x54, 0x43, 0x50, 2, // magic, version
     1, 2, // the second worker
     0, 0, 0, 0, 0, 0, 0, 5, // line length
@@ -28,6 +29,23 @@ const WORKER: [u8; 115] = [
     1, 0xff, 0xff, 0xff, 0xff, 0xff, 0xff, 0xff, 0xff, // -1
     2, 2, 0x68, 0x69, // "hi"
     3, 1, // true
+    1, 2, 0, // it issued
+    0, 0, 0, 0, 0, 0, 0, 1, // request 1
+    1, 2, 2, 2, 0x68, 0x69, 3, 1, // out ("hi", true)
+    6, 2, 1, 2, 8, 0, 0, 0, 0, 0, 0, 0, 3, // it accepted what the third act of the eighth shard sent
+    0, 0, 0, 0, 0, 0, 0, 1, // request 1
+    1, 2, 2, 2, 0x68, 0x69, 3, 1, // out ("hi", true)
+    0, // done
+    1, 2, 0, // it issued
+    0, 0, 0, 0, 0, 0, 0, 2, // request 2
+    4, 3, 2, 1, 0x61, 0x81, 0x83, // inp ("a", ?int, ?bool)
+    2, 2, 0, // it repeated
+    0, 0, 0, 0, 0, 0, 0, 2, // request 2
+    4, 3, 2, 1, 0x61, 0x81, 0x83, // inp ("a", ?int, ?bool)
+    7, 2, 1, 2, 8, 0, 0, 0, 0, 0, 0, 0, 9, // it ignored what the ninth act of the eighth shard sent
+    0, 0, 0, 0, 0, 0, 0, 1, // request 1
+    1, 2, 2, 2, 0x68, 0x69, 3, 1, // out ("hi", true)
+    1, 2, 2, 2, 0x68, 0x69, 3, 1, // got ("hi", true)
 ];
 
 /// Whether the bytes are read, and what is read is written as these bytes again.
@@ -139,13 +157,15 @@ fn other_version(rt: HostRuntime) {
     assert!(rt; matches!(Ckpt::decode(rt.alloc(), &bytes), Err(CkptError::Magic)));
 }
 
-/// How many of the changed bytes are read was worked out by hand: numbers, characters, and what is one of few.
+/// How many of the changed bytes are read was worked out by hand: numbers that count nothing, characters, and what is
+/// one of few. Of an act that is what was done, where another has the same parts, the place of what was heard, and of a
+/// worker's act the shard that sent it.
 #[test]
 fn changed_bytes(rt: HostRuntime) -> Result<(), Fail> {
-    assert_eq!(rt; changed(&rt, rt.alloc(), &FIRST_WORKER)?, (3_099, 12_456));
-    assert_eq!(rt; changed(&rt, rt.alloc(), &SHARD)?, (6_670, 16_535));
+    assert_eq!(rt; changed(&rt, rt.alloc(), &FIRST_WORKER)?, (10_304, 20_806));
+    assert_eq!(rt; changed(&rt, rt.alloc(), &SHARD)?, (14_378, 26_932));
     let (refused, read) = changed(&rt, rt.alloc(), &WORKER)?;
-    assert!(rt; refused > 0 && read > 0 && refused + read == 115 * 255);
+    assert!(rt; refused > 0 && read > 0 && refused + read == 237 * 255);
     Ok(())
 }
 

@@ -15,8 +15,10 @@ pub(crate) fn checkpoint(
     out.extend_from_slice(b"KTCP")?;
     out.push(2)?;
     out.push(if worker { 1 } else { 2 })?;
-    out.push(draws.byte(1, if worker { MAX_WORKERS } else { MAX_SHARDS }))?;
-    push_drawn(&mut out, draws, 8)?;
+    let node = draws.byte(1, if worker { MAX_WORKERS } else { MAX_SHARDS });
+    out.push(node)?;
+    let acts = draws.byte(0, 12);
+    out.extend_from_slice(&[0, 0, 0, 0, 0, 0, 0, acts])?;
     out.push(peers)?;
     for _ in 0..peers {
         push_drawn(&mut out, draws, 32)?;
@@ -25,6 +27,13 @@ pub(crate) fn checkpoint(
         push_worker(&mut out, draws)?;
     } else {
         push_shard(&mut out, draws)?;
+    }
+    for _ in 0..acts {
+        if worker {
+            push_act_of_worker(&mut out, draws, node)?;
+        } else {
+            push_act_of_shard(&mut out, draws)?;
+        }
     }
     Ok(out)
 }
@@ -94,7 +103,7 @@ fn push_op(out: &mut Vec<u8>, draws: &mut Draws) -> Result<(), AllocError> {
     let places = draws.byte(1, MAX_PLACES as u8);
     out.push(places)?;
     for _ in 0..places {
-        push_place(out, draws)?;
+        push_template_place(out, draws)?;
     }
     Ok(())
 }
@@ -117,7 +126,7 @@ fn push_tuple(out: &mut Vec<u8>, draws: &mut Draws) -> Result<(), AllocError> {
     Ok(())
 }
 
-fn push_place(out: &mut Vec<u8>, draws: &mut Draws) -> Result<(), AllocError> {
+fn push_template_place(out: &mut Vec<u8>, draws: &mut Draws) -> Result<(), AllocError> {
     match draws.byte(0, 5) {
         0 => Ok(out.push(0x81)?),
         1 => Ok(out.push(0x82)?),
@@ -139,6 +148,42 @@ fn push_value(out: &mut Vec<u8>, draws: &mut Draws) -> Result<(), AllocError> {
     out.push(characters)?;
     for _ in 0..characters {
         out.push(draws.byte(0x20, 0x7e))?;
+    }
+    Ok(())
+}
+
+/// A place in a line, counted from 1.
+fn push_place_in_line(out: &mut Vec<u8>, draws: &mut Draws) -> Result<(), AllocError> {
+    push_drawn(out, draws, 7)?;
+    Ok(out.push(draws.byte(1, 255))?)
+}
+
+/// An act of the worker: it issues, repeats, accepts or ignores.
+fn push_act_of_worker(out: &mut Vec<u8>, draws: &mut Draws, node: u8) -> Result<(), AllocError> {
+    let heard = draws.byte(0, 1);
+    let what = draws.byte(1, 2) + 5 * heard;
+    out.extend_from_slice(&[what, node, heard])?;
+    if heard == 1 {
+        out.extend_from_slice(&[2, draws.byte(1, MAX_SHARDS)])?;
+        push_place_in_line(out, draws)?;
+    }
+    push_drawn(out, draws, 8)?;
+    push_op(out, draws)?;
+    if heard == 1 {
+        push_answer(out, draws)?;
+    }
+    Ok(())
+}
+
+/// An act of a shard: it hears, serves, answers again or ignores, and has heard of a worker each time.
+fn push_act_of_shard(out: &mut Vec<u8>, draws: &mut Draws) -> Result<(), AllocError> {
+    let (what, worker) = (draws.byte(0, 3), draws.byte(1, MAX_WORKERS));
+    out.extend_from_slice(&[[3, 4, 5, 7][usize::from(what)], worker, 1, 1, worker])?;
+    push_place_in_line(out, draws)?;
+    push_drawn(out, draws, 8)?;
+    push_op(out, draws)?;
+    if what == 1 || what == 2 {
+        push_answer(out, draws)?;
     }
     Ok(())
 }

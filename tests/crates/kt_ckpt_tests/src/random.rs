@@ -2,19 +2,51 @@
 
 use crate::drawn::checkpoint;
 use crate::seen::Seen;
-use kt_ckpt::{Ckpt, CkptError, MAX_PEERS, ShardState, State, WorkerState};
+use kt_ckpt::{Acts, Ckpt, CkptError, MAX_PEERS, ShardState, State, WorkerState};
 use kt_draws::Draws;
 use kt_shard::{Kept, Request};
 use kt_tuple::Op;
 use std::alloc::{AllocError, Global};
 use std::test::*;
 
-fn is_same(a: &Ckpt, b: &Ckpt) -> bool {
+/// Whether the two are equal in all fields.
+pub(crate) fn is_same(alloc: Global, a: &Ckpt, b: &Ckpt) -> Result<bool, AllocError> {
+    Ok(has_same_fields(a, b) && are_same_acts(alloc, a.acts(), b.acts())?)
+}
+
+fn has_same_fields(a: &Ckpt, b: &Ckpt) -> bool {
     a.node() == b.node()
         && a.line_len() == b.line_len()
         && a.sent() == b.sent()
         && a.received() == b.received()
         && is_same_state(a.state(), b.state())
+}
+
+/// Whether the two have the same acts.
+fn are_same_acts(alloc: Global, a: &Acts, b: &Acts) -> Result<bool, AllocError> {
+    let (a, b) = (a.listed(alloc)?, b.listed(alloc)?);
+    for (a, b) in a.iter().zip(&b) {
+        let is_same = a.what == b.what && a.by == b.by && a.op == b.op;
+        if !is_same || a.worker != b.worker || a.number != b.number {
+            return Ok(false);
+        }
+    }
+    Ok(a.len() == b.len())
+}
+
+/// The acts made again, some at a time: so many, then one more each time.
+fn acts_made_again(alloc: Global, acts: &Acts) -> Result<Acts, AllocError> {
+    let (mut again, mut some) = (Acts::none(), Vec::new(alloc));
+    let mut wanted = 0;
+    for act in acts.listed(alloc)? {
+        some.push(act.copy(alloc)?)?;
+        if some.len() > wanted {
+            again = again.with(alloc, some)?;
+            some = Vec::new(alloc);
+            wanted += 1;
+        }
+    }
+    again.with(alloc, some)
 }
 
 fn is_same_state(a: &State, b: &State) -> bool {
@@ -74,7 +106,16 @@ fn made_again(alloc: Global, ckpt: &Ckpt) -> Result<Ckpt, AllocError> {
     let state = state_made_again(ckpt.state().copy(alloc)?);
     let sent = Vec::from_slice(alloc, ckpt.sent())?;
     let received = Vec::from_slice(alloc, ckpt.received())?;
-    Ckpt::new(alloc, ckpt.node(), ckpt.line_len(), sent, received, state)
+    let acts = acts_made_again(alloc, ckpt.acts())?;
+    Ckpt::new(
+        alloc,
+        ckpt.node(),
+        ckpt.line_len(),
+        sent,
+        received,
+        state,
+        acts,
+    )
 }
 
 fn state_made_again(state: State) -> State {
@@ -97,22 +138,24 @@ fn is_written_as(alloc: Global, ckpt: &Ckpt, bytes: &[u8]) -> Result<bool, Alloc
 
 fn is_read_of(alloc: Global, ckpt: &Ckpt, bytes: &[u8]) -> Result<bool, CkptError> {
     let again = Ckpt::decode(alloc, bytes)?;
-    Ok(is_same(ckpt, &again))
+    Ok(is_same(alloc, ckpt, &again)?)
 }
 
 /// Whether its copy is the same, and what is made of the copy's parts.
 fn is_copied(alloc: Global, ckpt: &Ckpt) -> Result<bool, AllocError> {
     let copy = ckpt.copy(alloc)?;
-    if !is_same(ckpt, &copy) {
+    if !is_same(alloc, ckpt, &copy)? {
         return Ok(false);
     }
-    Ok(is_same(ckpt, &made_again(alloc, &copy)?))
+    let again = made_again(alloc, &copy)?;
+    is_same(alloc, ckpt, &again)
 }
 
 /// Whether the bytes are a checkpoint that is written as these bytes again, and read the same once more.
 fn comes_back(alloc: Global, bytes: &[u8], seen: &mut Seen) -> Result<bool, CkptError> {
     let ckpt = Ckpt::decode(alloc, bytes)?;
     seen.see(ckpt.state());
+    seen.see_acts(&ckpt.acts().listed(alloc)?);
     Ok(
         is_written_as(alloc, &ckpt, bytes)?
             && is_read_of(alloc, &ckpt, bytes)?

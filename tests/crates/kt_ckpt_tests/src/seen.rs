@@ -1,6 +1,7 @@
-//! Which operations, answers and values were among the checkpoints.
+//! Which operations, answers, values and acts were among the checkpoints.
 
-use kt_ckpt::State;
+use kt_ckpt::{LineAct, State};
+use kt_history::What;
 use kt_tuple::{Answer, Op, Value};
 
 /// What was seen so far.
@@ -9,6 +10,7 @@ pub(crate) struct Seen {
     ops: [bool; 5],
     answers: [bool; 3],
     values: [bool; 3],
+    whats: [bool; 8],
 }
 
 impl Seen {
@@ -17,12 +19,16 @@ impl Seen {
             ops: [false; 5],
             answers: [false; 3],
             values: [false; 3],
+            whats: [false; 8],
         }
     }
 
     /// Whether all that there can be was seen.
     pub(crate) fn is_all(&self) -> bool {
-        self.ops == [true; 5] && self.answers == [true; 3] && self.values == [true; 3]
+        self.ops == [true; 5]
+            && self.answers == [true; 3]
+            && self.values == [true; 3]
+            && self.whats == [true; 8]
     }
 
     /// What the state holds is seen.
@@ -45,6 +51,23 @@ impl Seen {
                     self.see_answer(&entry.1.answer);
                 }
             }
+        }
+    }
+
+    /// These acts are seen.
+    pub(crate) fn see_acts(&mut self, acts: &[&LineAct]) {
+        for act in acts {
+            let place = match act.what {
+                What::Issue => 0,
+                What::Repeat => 1,
+                What::Heard => 2,
+                What::Served(_) => 3,
+                What::Again(_) => 4,
+                What::Accepted(_) => 5,
+                What::Ignored(None) => 6,
+                What::Ignored(Some(_)) => 7,
+            };
+            self.whats[place] = true;
         }
     }
 

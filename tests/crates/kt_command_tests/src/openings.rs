@@ -1,6 +1,6 @@
 //! A request over openers whose stores lie in memory, and on a disk that fails.
 
-use kt_command::{Command, Opens, Request, run_request};
+use kt_command::{Carries, Command, Opens, Request, run_request};
 use kt_run::Output;
 use kt_scene::{Sink, Source};
 use kt_sql::{SqlOpenError, SqlStore};
@@ -16,12 +16,12 @@ use std::thread::Threads;
 /// The path that each opener here knows.
 const PATH: &str = "a.db";
 
-const REPLAY: Request<'static> = Request {
+const REPLAY: Request<'static> = Request::Make {
     command: Command::Replay,
     store: Some(PATH),
 };
 
-const RUN: Request<'static> = Request {
+const RUN: Request<'static> = Request::Make {
     command: Command::Run(Output::Report),
     store: Some(PATH),
 };
@@ -90,6 +90,43 @@ impl Opens<SqlStore<MemStore>, SqlOpenError> for InMemory<'_> {
     }
 }
 
+/// It connects to the same.
+impl Carries<Connection<MemStore>, SqlOpenError> for InMemory<'_> {
+    ghost use Rattle.std.specs.Prelude.{◌≡◌, false, ⊤};
+
+    ghost connects = { λ _ _ _. ⊤ };
+
+    ghost carries = { λ _ _ _. ⊤ };
+
+    ghost ready = { λ c. c.in_transaction ≡ false };
+
+    fn connect(self, path: &str) -> Result<Connection<MemStore>, SqlOpenError> {
+        self.asked.note(path);
+        Ok(Connection::open_in_memory(self.alloc)?)
+    }
+
+    fn carry(
+        alloc: Global,
+        connection: Connection<MemStore>,
+        store: &kt_store::MemStore,
+    ) -> Result<(), SqlOpenError> {
+        carried(alloc, connection, store)
+    }
+}
+
+fn carried<D: Alter + Drop>(
+    alloc: Global,
+    connection: Connection<D>,
+    store: &kt_store::MemStore,
+) -> Result<(), SqlOpenError>
+    requires { connection.in_transaction ≡ false }
+{
+    match SqlStore::migrate(alloc, connection, store) {
+        Ok(_) => Ok(()),
+        Err((error, _)) => Err(error),
+    }
+}
+
 /// How many pages of a file are kept in memory.
 const CACHE_PAGES: usize = 16;
 
@@ -108,6 +145,24 @@ impl Opens<SqlStore<FileStore<Fuse<Memory>>>, SqlOpenError> for OnFuses<'_> {
     ghost gives = { λ _ _ _. ⊤ };
 
     fn open(self, path: &str) -> Result<SqlStore<FileStore<Fuse<Memory>>>, SqlOpenError> {
+        let alloc = self.alloc;
+        match SqlStore::adopt(alloc, self.connect(path)?) {
+            Ok(store) => Ok(store),
+            Err((error, _)) => Err(error),
+        }
+    }
+}
+
+impl Carries<Connection<FileStore<Fuse<Memory>>>, SqlOpenError> for OnFuses<'_> {
+    ghost use Rattle.std.specs.Prelude.{◌≡◌, false, ⊤};
+
+    ghost connects = { λ _ _ _. ⊤ };
+
+    ghost carries = { λ _ _ _. ⊤ };
+
+    ghost ready = { λ c. c.in_transaction ≡ false };
+
+    fn connect(self, path: &str) -> Result<Connection<FileStore<Fuse<Memory>>>, SqlOpenError> {
         self.asked.note(path);
         let files = Files {
             log: Fuse::new(Memory::new(self.alloc), self.log),
@@ -115,13 +170,18 @@ impl Opens<SqlStore<FileStore<Fuse<Memory>>>, SqlOpenError> for OnFuses<'_> {
         };
         let mut options = Options::new(7);
         options.cache_pages = CACHE_PAGES;
-        let Ok(conn) = Connection::open_files(self.alloc, files, options) else {
-            return Err(SqlOpenError::Device);
-        };
-        match SqlStore::adopt(self.alloc, conn) {
-            Ok(store) => Ok(store),
-            Err((error, _)) => Err(error),
+        match Connection::open_files(self.alloc, files, options) {
+            Ok(conn) => Ok(conn),
+            Err(_) => Err(SqlOpenError::Device),
         }
+    }
+
+    fn carry(
+        alloc: Global,
+        connection: Connection<FileStore<Fuse<Memory>>>,
+        store: &kt_store::MemStore,
+    ) -> Result<(), SqlOpenError> {
+        carried(alloc, connection, store)
     }
 }
 
@@ -142,7 +202,11 @@ impl Ended {
     }
 }
 
-fn end_of<D: Alter + Drop + Send, O: Opens<SqlStore<D>, SqlOpenError>, T: Threads + Wait + Sync>(
+fn end_of<
+    D: Alter + Drop + Send,
+    O: Opens<SqlStore<D>, SqlOpenError> + Carries<Connection<D>, SqlOpenError>,
+    T: Threads + Wait + Sync,
+>(
     alloc: Global,
     threads: &T,
     opener: O,
@@ -188,9 +252,12 @@ fn opens_once(rt: HostRuntime) -> Result<(), Fail> {
             alloc,
             asked: &asked,
         };
-        let in_memory = Request {
-            store: None,
-            ..request
+        let in_memory = match request {
+            Request::Make { command, store: _ } => Request::Make {
+                command,
+                store: None,
+            },
+            Request::Migrate { store: _ } => return Err(Fail::from("a command")),
         };
         let over_memory = end_of(alloc, &rt, opener, in_memory, input);
         assert!(rt; over_memory.is(report, "", 0), "{over_memory:?}");
@@ -245,5 +312,41 @@ fn ends_where_the_disk_fails(rt: HostRuntime) -> Result<(), Fail> {
     let db = failures_of(&rt, &rt, alloc, false);
     let log = failures_of(&rt, &rt, alloc, true);
     assert!(rt; db.0 > 0 && log.0 > 0 && log.1 > 0, "{db:?} and {log:?}");
+    Ok(())
+}
+
+const MIGRATE: Request<'static> = Request::Migrate { store: PATH };
+
+const STORES_NOTHING: &str =
+    "linda-kt 1\nshards 1\nworker\nout (\"a\", 1)\nsteps\nissue w1\nend\n";
+
+/// A file is connected to once, before anything is read, and one without tables is no store of version 1. A scenario
+/// that has a fault is told before that, and nothing is written.
+#[test]
+fn carries_over_what_is_of_version_1(rt: HostRuntime) -> Result<(), Fail> {
+    let alloc = rt.alloc();
+    for (input, line, status) in [
+        (STORES_NOTHING, "store: Mismatch\n", 5),
+        (FAILS_AFTER_YES, "store: Mismatch\n", 5),
+        (NO_FAULTS, "line 5: 2 Word\n", 3),
+    ] {
+        let asked = Asked::nothing();
+        let opener = InMemory {
+            alloc,
+            asked: &asked,
+        };
+        let left = end_of(alloc, &rt, opener, MIGRATE, input);
+        assert!(rt; left.is("", line, status), "{left:?}");
+        assert!(rt; asked.was(1) && left.has_read, "{asked:?}");
+    }
+    let asked = Asked::nothing();
+    let opener = OnFuses {
+        alloc,
+        log: 0,
+        db: 0,
+        asked: &asked,
+    };
+    let left = end_of(alloc, &rt, opener, MIGRATE, STORES_NOTHING);
+    assert!(rt; left.is("", "store: Device\n", 5) && !left.has_read, "{left:?}");
     Ok(())
 }

@@ -1,7 +1,7 @@
-//! What a stored checkpoint must hold: what the acts of its node's line up to its length make of a node, worked out
-//! act by act.
+//! What a stored checkpoint must hold: the acts of its node's line up to its length, and what they make of a node,
+//! worked out act by act.
 
-use kt_ckpt::{Ckpt, ShardState, State, WorkerState};
+use kt_ckpt::{Ckpt, LineAct, ShardState, State, WorkerState};
 use kt_history::{Act, Note, What};
 use kt_script::Script;
 use kt_shard::{Kept, Request};
@@ -136,7 +136,43 @@ fn holds_shard(
     )
 }
 
-/// The checkpoint holds what its acts make of its node.
+/// The act of this number by its node, and its place: how many its node remembered when it was done.
+fn placed(alloc: Global, notes: &[Note], number: usize) -> Result<Option<(NodeId, u64)>, Finding> {
+    let Some(act) = act_at(notes, number) else {
+        return Ok(None);
+    };
+    let line = line_after(alloc, &notes[..number], act.node)?;
+    Ok(Some((act.node, line.len() as u64)))
+}
+
+/// The checkpoint says of the act of this number what happened.
+fn holds_act(alloc: Global, found: &LineAct, notes: &[Note], number: usize) -> Result<(), Finding> {
+    let act = act_at(notes, number).ok_or(Finding::NotMade("an act"))?;
+    let is_same = found.worker == act.worker && found.number == act.number;
+    holds(
+        is_same && found.op == act.op && found.what == act.what,
+        "an act of a checkpoint",
+    )?;
+    let by = placed(alloc, notes, act.by as usize)?;
+    holds(found.by == by, "what an act of a checkpoint heard")
+}
+
+/// The checkpoint holds these acts.
+fn holds_acts(
+    alloc: Global,
+    checkpoint: &Ckpt,
+    notes: &[Note],
+    acts: &[usize],
+) -> Result<(), Finding> {
+    let found = checkpoint.acts().listed(alloc)?;
+    holds(found.len() == acts.len(), "as many acts in a checkpoint")?;
+    for (act, number) in found.iter().zip(acts) {
+        holds_act(alloc, act, notes, *number)?;
+    }
+    Ok(())
+}
+
+/// The checkpoint holds its acts, and what they make of its node.
 fn holds_state(
     alloc: Global,
     checkpoint: &Ckpt,
@@ -147,6 +183,7 @@ fn holds_state(
     let length = checkpoint.line_len() as usize;
     holds(length <= acts.len(), "a checkpoint within its line")?;
     acts.truncate(length);
+    holds_acts(alloc, checkpoint, notes, &acts)?;
     match (checkpoint.node(), checkpoint.state()) {
         (NodeId::Worker(number), State::Worker(state)) => {
             let place = usize::from(number).saturating_sub(1);
@@ -159,8 +196,8 @@ fn holds_state(
     }
 }
 
-/// Each permanent checkpoint, and each tentative one whose instance did not get No, holds the state that the acts of
-/// its node's line up to its length lead to.
+/// Each permanent checkpoint, and each tentative one whose instance did not get No, holds the acts of its node's line
+/// up to its length, and the state that they lead to.
 pub(crate) fn agree(
     alloc: Global,
     store: &mut MemStore,

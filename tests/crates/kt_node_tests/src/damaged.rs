@@ -1,6 +1,7 @@
-//! Stored checkpoints that do not fit the node. What a step is refused for without them comes before.
+//! Stored checkpoints that do not fit the node, and acts that may not stand in its line. What a step is refused for
+//! without them comes before.
 
-use crate::cases::{SHARD_1, WORKER_1, tells_of};
+use crate::cases::{SHARD_1, WORKER_1, tells, tells_of};
 use crate::solo::{Setting, Solo};
 use kt_ckpt::Ckpt;
 use kt_store::Tentative;
@@ -96,6 +97,34 @@ fn tells_with_tentative_misfits(
         tells_of(rt, alloc, solo, case)?;
     }
     Ok(())
+}
+
+/// Over a store that is not honest a shard may serve what it never heard, or what another worker asked for. It takes no
+/// checkpoint then. An ask that is only answered is answered.
+#[test]
+fn acts_that_may_not_stand_in_a_line_are_in_no_checkpoint(rt: HostRuntime) -> Result<(), Fail> {
+    tells(
+        &rt,
+        rt.alloc(),
+        SHARD_1,
+        ". w1: request 1 1.1 by 1 out (1, 1); serve w1 0 by 0; board 7 open
+        > check
+        refused: Damaged
+        > w1: check-ask 7 1.1 1
+        refused: Damaged
+        > w1: check-ask 7 1.2 1
+        to w1: vote 7 1 no
+        Up
+
+        . w1: request 1 1.1 by 1 out (1, 1); w2: request 1 1.1 by 2 out (1, 1); serve w2 0 by 1; board 7 open
+        > check
+        refused: Damaged
+        > w1: check-ask 7 1.1 1
+        to w1: vote 7 1 no
+        Up
+        > w2: check-ask 7 1.1 1
+        refused: Damaged",
+    )
 }
 
 #[test]

@@ -14,13 +14,21 @@ use std::test::Fail;
 #[derive(Drop)]
 pub(crate) struct Line {
     bytes: Vec<u8>,
+    /// Numbers of acts, each with the one that stands for it.
+    told: Vec<(u64, u64)>,
 }
 
 impl Line {
     pub(crate) fn new(alloc: Global) -> Line {
         Line {
             bytes: Vec::new(alloc),
+            told: Vec::new(alloc),
         }
+    }
+
+    /// From now on each of these numbers of acts is told by the one beside it.
+    pub(crate) fn names_acts(&mut self, told: Vec<(u64, u64)>) {
+        self.told = told;
     }
 
     pub(crate) fn into_text(self) -> Result<String, Fail> {
@@ -34,6 +42,15 @@ impl Line {
     fn number(&mut self, number: u64) -> Result<(), AllocError> {
         let mut buffer = Buffer::new();
         self.word(buffer.format(number))
+    }
+
+    /// The number of an act, as it is told.
+    fn act_number(&mut self, number: u64) -> Result<(), AllocError> {
+        let told = match self.told.iter().find(|told| told.0 == number) {
+            Some(told) => told.1,
+            None => number,
+        };
+        self.number(told)
     }
 
     fn node(&mut self, node: NodeId) -> Result<(), AllocError> {
@@ -153,7 +170,7 @@ impl Line {
         self.number(number)?;
         self.label(post.label)?;
         self.word(" by ")?;
-        self.number(post.by)
+        self.act_number(post.by)
     }
 
     fn ask(&mut self, kind: &str, ask: Ask) -> Result<(), AllocError> {
@@ -187,7 +204,7 @@ impl Line {
     fn act(&mut self, act: &Act) -> Result<(), AllocError> {
         self.node(act.node)?;
         self.word(" by ")?;
-        self.number(act.by)?;
+        self.act_number(act.by)?;
         self.word(": ")?;
         self.node(NodeId::Worker(act.worker))?;
         self.word(".")?;

@@ -45,8 +45,7 @@ impl Solo {
                 script: &self.script,
             },
             node: &self.node,
-            next: self.next,
-            line: &self.line,
+            past: &self.past,
         }
     }
 
@@ -158,7 +157,9 @@ impl Solo {
             Call::Issue => view.issue(alloc),
             Call::Repeat => view.repeat(alloc),
             Call::Take => view.take(alloc),
-            Call::Serve { worker, place, by } => view.serve(alloc, *worker, *place, *by),
+            Call::Serve { worker, place, by } => {
+                view.serve(alloc, *worker, *place, self.act_told(*by))
+            }
             Call::Post(from, post) => view.hear_app(alloc, *from, post),
             Call::Vote(from, vote) => view.hear_vote(alloc, *from, *vote),
             Call::Abandon => view.abandon(alloc, self.own_verdict(), self.undecided()),

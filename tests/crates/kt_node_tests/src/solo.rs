@@ -1,8 +1,9 @@
-//! A node by itself, with all that a world would hold of it: its row of the store, the board, how long its line is.
+//! A node by itself, with all that a world would hold of it: its row of the store, the board, what happened.
 
 use crate::making::script;
-use kt_ckpt::{Ckpt, MAX_PEERS};
-use kt_node::{Node, Role};
+use kt_ckpt::{Ckpt, MAX_PEERS, Past};
+use kt_history::{Act, Note, What};
+use kt_node::{Node, Post, Role, Talk};
 use kt_script::Script;
 use kt_store::{Tentative, Verdict};
 use kt_tuple::NodeId;
@@ -28,10 +29,13 @@ pub(crate) struct Solo {
     pub(crate) node: Node,
     /// How many changes it went through.
     pub(crate) made: u64,
-    /// The number of the next note.
-    pub(crate) next: u64,
-    /// The numbers of the acts that it remembers, oldest first.
-    pub(crate) line: Vec<u64>,
+    /// What happened: what it did itself, and of others the acts by which it heard something.
+    pub(crate) past: Past,
+    /// How many notes of its own there are.
+    pub(crate) own_notes: u64,
+    /// The acts of others, each by its number and by the one that the case gives it. A case counts the node's own notes
+    /// alone, and names by any number what the node hears.
+    pub(crate) heard: Vec<(u64, u64)>,
     pub(crate) incarnation: u64,
     pub(crate) permanent: Option<Ckpt>,
     pub(crate) tentative: Option<Tentative>,
@@ -68,8 +72,9 @@ impl Setting {
             script,
             node,
             made: 0,
-            next: 1,
-            line: Vec::new(alloc),
+            past: Past::new(alloc),
+            own_notes: 0,
+            heard: Vec::new(alloc),
             incarnation: 1,
             permanent: None,
             tentative: None,
@@ -109,6 +114,48 @@ impl Solo {
         self.board.push((instance, verdict))?;
         self.instances = self.instances.max(instance);
         Ok(())
+    }
+
+    /// Another's act by which this node hears what the case says is by so much: its number.
+    pub(crate) fn hears_of(&mut self, act: Act, told: u64) -> Result<u64, AllocError> {
+        self.past.make_room(act.node)?;
+        self.past.add(Note::Act(act));
+        let number = self.past.history().notes().len() as u64;
+        self.heard.push((number, told))?;
+        Ok(number)
+    }
+
+    /// The act by which another sent this.
+    pub(crate) fn sending(
+        &self,
+        alloc: Global,
+        from: NodeId,
+        post: &Post,
+    ) -> Result<Act, AllocError> {
+        let (request, what) = match &post.talk {
+            Talk::Request(request) => (request, What::Issue),
+            Talk::Reply { request, answer } => (request, What::Served(answer.copy(alloc)?)),
+        };
+        let worker = match self.id {
+            NodeId::Worker(number) => number,
+            NodeId::Shard(_) => from.number(),
+        };
+        Ok(Act {
+            node: from,
+            by: 0,
+            worker,
+            number: request.number,
+            op: request.op.copy(alloc)?,
+            what,
+        })
+    }
+
+    /// The number of the act that the case says something is by: 0 where there is none.
+    pub(crate) fn act_told(&self, told: u64) -> u64 {
+        match self.heard.iter().rev().find(|heard| heard.1 == told) {
+            Some(heard) => heard.0,
+            None => 0,
+        }
     }
 
     /// Its tentative checkpoint.

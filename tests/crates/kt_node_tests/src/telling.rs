@@ -89,13 +89,29 @@ impl Solo {
     }
 
     /// The line gets the act, or is cut back.
-    fn note(&mut self, note: &Note) -> Result<(), AllocError> {
-        match note {
-            Note::Act(_) => self.line.push(self.next)?,
-            Note::Cut { keep, .. } => self.line.truncate(*keep as usize),
-        }
-        self.next = self.next.saturating_add(1);
+    fn note(&mut self, note: Note) -> Result<(), AllocError> {
+        self.past.make_room(note.node())?;
+        self.past.add(note);
+        self.own_notes = self.own_notes.saturating_add(1);
         Ok(())
+    }
+
+    /// The call as it is among all that happened: what it hears is an act of another.
+    fn placed(&mut self, alloc: Global, call: Call) -> Result<Call, AllocError> {
+        let Call::Post(from, mut post) = call else {
+            return Ok(call);
+        };
+        let act = self.sending(alloc, from, &post)?;
+        post.by = self.hears_of(act, post.by)?;
+        Ok(Call::Post(from, post))
+    }
+
+    /// The numbers of acts, each with the one that the case gives it: of what was heard, and of the next note.
+    fn told(&self, alloc: Global) -> Result<Vec<(u64, u64)>, AllocError> {
+        let mut told = Vec::from_slice(alloc, &self.heard)?;
+        let next = self.past.history().notes().len() as u64 + 1;
+        told.push((next, self.own_notes.saturating_add(1)))?;
+        Ok(told)
     }
 
     #[tactic(auto, using(crate::proofs::Bounds::can_change, crate::proofs::Bounds::sends, crate::proofs::Bounds::puts))]
@@ -118,7 +134,7 @@ impl Solo {
             ..
         } = plan;
         self.change(change)?;
-        if let Some(note) = &note {
+        if let Some(note) = note {
             self.note(note)?;
         }
         match write {
@@ -152,6 +168,8 @@ impl Solo {
             line.worker(&self.node)?;
         } else {
             let call = call_of(alloc, text)?;
+            let call = self.placed(alloc, call)?;
+            line.names_acts(self.told(alloc)?);
             self.make(alloc, &call, &mut line)?;
         }
         line.into_text()

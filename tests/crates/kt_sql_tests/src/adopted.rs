@@ -20,6 +20,8 @@ pub(crate) const META: &str =
 
 pub(crate) const VERSION: &str = "INSERT INTO kt_meta VALUES (1, 2)";
 
+pub(crate) const OLD_VERSION: &str = "INSERT INTO kt_meta VALUES (1, 1)";
+
 const FIRST: NodeId = NodeId::Worker(1);
 
 /// A connection on which these statements were run, outside a transaction.
@@ -46,14 +48,36 @@ pub(crate) fn adopted(
 }
 
 /// Tables, and how their opening ends.
-const OPENINGS: [(&[&str], Result<(), SqlOpenError>); 17] = [
+const OPENINGS: [(&[&str], Result<(), SqlOpenError>); 20] = [
     (&[], Ok(())),
     (&[NODES, BOARD, META, VERSION], Ok(())),
     // kt_meta
     (&[NODES, BOARD, META], Err(SqlOpenError::Damaged)),
     (
-        &[NODES, BOARD, META, "INSERT INTO kt_meta VALUES (1, 1)"],
+        &[NODES, BOARD, META, "INSERT INTO kt_meta VALUES (1, 0)"],
         Err(SqlOpenError::Damaged),
+    ),
+    // version 1, which is raised where there is no row
+    (&[NODES, BOARD, META, OLD_VERSION], Ok(())),
+    (
+        &[
+            NODES,
+            BOARD,
+            META,
+            OLD_VERSION,
+            "INSERT INTO kt_node VALUES (1, 2, NULL, NULL, NULL)",
+        ],
+        Err(SqlOpenError::Version),
+    ),
+    (
+        &[
+            NODES,
+            BOARD,
+            META,
+            OLD_VERSION,
+            "INSERT INTO kt_board VALUES (1, 1, 1, 0)",
+        ],
+        Err(SqlOpenError::Version),
     ),
     (
         &[NODES, BOARD, META, "INSERT INTO kt_meta VALUES (1, 3)"],

@@ -147,8 +147,8 @@ fn one_cell_at_a_time(rt: HostRuntime) -> Result<(), Fail> {
             }
         }
     }
-    assert_eq!(rt; (taken, not_taken), (42, 33));
-    assert_eq!(rt; damaged, 96);
+    assert_eq!(rt; (taken, not_taken), (43, 33));
+    assert_eq!(rt; damaged, 98);
     Ok(())
 }
 

@@ -10,8 +10,12 @@ mod cells;
 #[cfg(test)]
 mod damaged;
 #[cfg(test)]
+mod migrations;
+#[cfg(test)]
 mod spoiled;
 #[cfg(test)]
 mod spoiled_walks;
+#[cfg(test)]
+mod stops;
 #[cfg(test)]
 mod walks;

@@ -4,6 +4,7 @@ use crate::calls;
 use crate::plain::{Plain, Row};
 use kt_ckpt::{Ckpt, Marks};
 use kt_draws::Draws;
+use kt_link::Label;
 use kt_store::{CkptStore, StoreError};
 use kt_tuple::NodeId;
 use std::alloc::Global;
@@ -48,7 +49,7 @@ const NODES: [NodeId; 6] = [
     NodeId::Shard(2),
 ];
 
-/// The checkpoint of the first shard with an empty bag and one neighbour.
+/// The checkpoint of the first shard with no acts, an empty bag and one neighbour.
 pub(crate) const EMPTY: [u8; 54] = [
     0x4b, 0x54, 0x43, 0x50, 2, // magic, version
     2, 1, // the first shard
@@ -61,12 +62,37 @@ pub(crate) const EMPTY: [u8; 54] = [
     0, // no answer is kept
 ];
 
-/// One with a line of some length below 2^16.
+/// An act of the shard: it heard the first request of the first worker, `out (1)`.
+const HEARD: [u8; 32] = [
+    3, 1, // it heard of the first worker
+    1, 1, 1, 0, 0, 0, 0, 0, 0, 0, 1, // the first act of the first worker
+    0, 0, 0, 0, 0, 0, 0, 1, // request 1
+    1, 1, 1, 0, 0, 0, 0, 0, 0, 0, 1, // out (1)
+];
+
+/// One with up to three acts, and with a label sent last that has some count below 2^16.
 fn checkpoint(alloc: Global, draws: &mut Draws) -> Result<Ckpt, Apart> {
-    let mut bytes = EMPTY;
-    bytes[13] = draws.below(256) as u8;
-    bytes[14] = draws.below(256) as u8;
+    let mut bytes = Vec::from_slice(alloc, &EMPTY).map_err(|_| Apart::Bytes)?;
+    let acts = draws.below(4);
+    bytes[14] = acts as u8;
+    bytes[30] = draws.below(256) as u8;
+    bytes[31] = draws.below(256) as u8;
+    for _ in 0..acts {
+        bytes.extend_from_slice(&HEARD).map_err(|_| Apart::Bytes)?;
+    }
     Ckpt::decode(alloc, &bytes).map_err(|_| Apart::Bytes)
+}
+
+/// The number by which the map knows such a checkpoint: of the count of the label sent last, and of the line's length.
+pub(crate) fn number_of(line_len: u64, sent: &[Label]) -> u64 {
+    match sent.first() {
+        Some(label) => label.count.wrapping_mul(4).wrapping_add(line_len),
+        None => line_len,
+    }
+}
+
+fn number_in(ckpt: &Ckpt) -> u64 {
+    number_of(ckpt.line_len(), ckpt.sent())
 }
 
 /// One call of some kind for some node or instance.
@@ -110,16 +136,16 @@ fn agrees_on_node<C: CkptStore>(
     let tentative = store.tentative(alloc, row.node)?;
     Ok(
         store.incarnation(row.node)? == row.incarnation
-            && permanent.map(|c| c.line_len()) == row.permanent
-            && tentative.map(|t| (t.instance, t.checkpoint.line_len())) == row.tentative
+            && permanent.map(|c| number_in(&c)) == row.permanent
+            && tentative.map(|t| (t.instance, number_in(&t.checkpoint))) == row.tentative
             && store.open_of(row.node)? == open,
     )
 }
 
-/// Whether these are the marks of such a checkpoint, whose line has this length.
-fn is_marked(marks: &Marks, line_len: u64) -> bool {
+/// Whether these are the marks of such a checkpoint, which the map knows by this number.
+fn is_marked(marks: &Marks, number: u64) -> bool {
     marks.node() == NodeId::Shard(1)
-        && marks.line_len() == line_len
+        && number_of(marks.line_len(), marks.sent()) == number
         && marks.sent().len() == 1
         && marks.received().len() == 1
 }
@@ -131,12 +157,12 @@ fn agrees_on_marks<C: CkptStore>(
     row: &Row,
 ) -> Result<bool, StoreError> {
     let permanent = match (store.permanent_marks(alloc, row.node)?, row.permanent) {
-        (Some(marks), Some(line_len)) => is_marked(&marks, line_len),
-        (marks, line_len) => marks.is_none() && line_len.is_none(),
+        (Some(marks), Some(number)) => is_marked(&marks, number),
+        (marks, number) => marks.is_none() && number.is_none(),
     };
     let tentative = match (store.tentative_marks(alloc, row.node)?, row.tentative) {
-        (Some(read), Some((instance, line_len))) => {
-            read.instance == instance && is_marked(&read.marks, line_len)
+        (Some(read), Some((instance, number))) => {
+            read.instance == instance && is_marked(&read.marks, number)
         }
         (read, stored) => read.is_none() && stored.is_none(),
     };
@@ -175,9 +201,7 @@ fn agrees<C: CkptStore>(
             return Ok(false);
         }
     }
-    Ok(store.next_instance()? == plain.next_instance()
-        && store.faults() == 0
-        && store.wants() == 0)
+    Ok(store.next_instance()? == plain.next_instance() && store.faults() == 0 && store.wants() == 0)
 }
 
 /// Makes the calls of a fresh store and of the map. It answers the number that the next instance gets.

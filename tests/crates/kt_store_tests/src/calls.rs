@@ -1,5 +1,6 @@
 //! One call of the store, where its condition holds, and what the plain map makes of it.
 
+use crate::beside::number_of;
 use crate::plain::{Plain, Row};
 use kt_ckpt::Ckpt;
 use kt_store::{CkptStore, StoreError, Verdict};
@@ -47,7 +48,7 @@ pub(crate) fn begin_check<C: CkptStore>(
     };
     if is_free(store, alloc, row.node)? {
         store.begin_check(row.node, ckpt)?;
-        row.tentative = Some((instance, ckpt.line_len()));
+        row.tentative = Some((instance, number_of(ckpt.line_len(), ckpt.sent())));
         let node = row.node;
         plain.post(node)?;
     }
@@ -63,7 +64,7 @@ pub(crate) fn put_tentative<C: CkptStore>(
 ) -> Result<(), StoreError> {
     if is_free(store, alloc, row.node)? {
         store.put_tentative(row.node, instance, ckpt)?;
-        row.tentative = Some((instance, ckpt.line_len()));
+        row.tentative = Some((instance, number_of(ckpt.line_len(), ckpt.sent())));
     }
     Ok(())
 }

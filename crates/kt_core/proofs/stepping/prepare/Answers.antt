@@ -2,7 +2,7 @@ use Rattle.std.proofs.Common.{◌∙◌, subst, sym}
 use Rattle.kt_store.specs.Content.{empty_content}
 use Rattle.kt_world.specs.declared.step.StepError.{StepError}
 use Rattle.kt_world.specs.Judge.{planned}
-use Rattle.kt_world.specs.inner.Ready.{CanApply}
+use Rattle.kt_world.specs.inner.Ready.{CanApply, IsReady}
 use Rattle.kt_core.specs.inner.Machine.{state_of}
 use Rattle.kt_core.specs.Stepping.{IsCalledFor, IsCause, Refuses}
 use Rattle.kt_core.proofs.Steps.{asked, called-plan, due-planned, refused, caused, only-damaged, plan-counted, is-ok, planned-can, planned-leads, on-refusal}
@@ -10,26 +10,36 @@ use Rattle.kt_core.proofs.stepping.prepare.Goals as goal
 
 pub returns-clause-can : goal.returns-clause-can
 returns-clause-can g c =
-    planned-can (state_of c.args.machine.now empty_content) c.args.step c.in_ok-told.told c.in_ok-plan.plan c.requires.ready c.in_ok-plan.ensures
+    planned-can (state_of c.args.machine.now empty_content) c.args.step c.in_ok-told.told c.in_ok-plan.plan c.requires.ready c.in_ok-plan.ensures.plan
 
 pub returns-clause-leads : goal.returns-clause-leads
 returns-clause-leads g c =
-    planned-leads (state_of c.args.machine.now empty_content) c.args.step c.in_ok-told.told c.in_ok-plan.plan c.requires.ready c.in_ok-plan.ensures
+    planned-leads (state_of c.args.machine.now empty_content) c.args.step c.in_ok-told.told c.in_ok-plan.plan c.requires.ready c.in_ok-plan.ensures.plan
 
 pub make_room-requires-clause-can : goal.make_room-requires-clause-can
 make_room-requires-clause-can g c =
-    subst (λ p. CanApply (state_of c.args.machine.now empty_content) p c.in_ok-plan.plan) (sym c.owner-owner.ensures)
-    (planned-can (state_of c.args.machine.now empty_content) c.args.step c.in_ok-told.told c.in_ok-plan.plan c.requires.ready c.in_ok-plan.ensures)
+    subst (λ s. CanApply s c.owner-owner.result c.in_ok-plan.plan) (sym (c.in_ok-plan.ensures.same empty_content))
+    (subst (λ p. CanApply (state_of c.args.machine.now empty_content) p c.in_ok-plan.plan) (sym c.owner-owner.ensures)
+    (planned-can (state_of c.args.machine.now empty_content) c.args.step c.in_ok-told.told c.in_ok-plan.plan c.requires.ready c.in_ok-plan.ensures.plan))
+
+pub make_room-requires-clause-ready : goal.make_room-requires-clause-ready
+make_room-requires-clause-ready g c = subst IsReady (sym (c.in_ok-plan.ensures.same empty_content)) c.requires.ready
+
+pub returns-clause-same : goal.returns-clause-same
+returns-clause-same g c = λ content. c.in_ok-make_room.ensures.same content ∙ c.in_ok-plan.ensures.same content
+
+pub returns-in_err-make_room-clause-same : goal.returns-in_err-make_room-clause-same
+returns-in_err-make_room-clause-same g c = λ content. c.in_err-make_room.ensures.same content ∙ c.in_ok-plan.ensures.same content
 
 pub returns-clause-told : goal.returns-clause-told
-returns-clause-told g c = (c.in_ok-told.told, c.in_ok-plan.ensures)
+returns-clause-told g c = (c.in_ok-told.told, c.in_ok-plan.ensures.plan)
 
 pub returns-clause-plan : goal.returns-clause-plan
 returns-clause-plan g c =
     let s = state_of c.args.machine.now (g.S.CkptStore.content c.args.store.now) in
     λ h. sym (due-planned s c.args.step c.in_ok-told.told
     (asked s c.args.step c.in_ok-told.told c.needs.result c.owner-owner.result (c.in_ok-told.ensures.told.value h) c.needs.ensures c.owner-owner.ensures))
-    ∙ c.in_ok-plan.ensures
+    ∙ c.in_ok-plan.ensures.plan
 
 pub returns-in_err-plan-clause-refusal : goal.returns-in_err-plan-clause-refusal
 returns-in_err-plan-clause-refusal g c =
@@ -38,7 +48,7 @@ returns-in_err-plan-clause-refusal g c =
     λ h. on-refusal c.from_residual-in_err-plan.result _ Due c.from_residual-in_err-plan.ensures.1
     (λ e is. subst Due (sym is) (refused s c.args.step c.in_ok-told.told c.in_err-plan.field-0.0
     (asked s c.args.step c.in_ok-told.told c.needs.result c.owner-owner.result (c.in_ok-told.ensures.told.value h) c.needs.ensures c.owner-owner.ensures)
-    c.in_err-plan.ensures))
+    c.in_err-plan.ensures.plan))
 
 pub returns-in_err-plan-clause-cause : goal.returns-in_err-plan-clause-cause
 returns-in_err-plan-clause-cause g c =
@@ -48,14 +58,14 @@ returns-in_err-plan-clause-cause g c =
     on-refusal c.from_residual-in_err-plan.result _ Caused c.from_residual-in_err-plan.ensures.1
     (λ e is. subst Caused (sym is) (caused honest s c.args.step c.in_ok-told.told c.in_err-plan.field-0.0
     (λ h. asked s c.args.step c.in_ok-told.told c.needs.result c.owner-owner.result (c.in_ok-told.ensures.told.value h)
-    c.needs.ensures c.owner-owner.ensures) (λ h. c.requires.undamaged (c.in_ok-told.ensures.told.honest h)) c.in_err-plan.ensures))
+    c.needs.ensures c.owner-owner.ensures) (λ h. c.requires.undamaged (c.in_ok-told.ensures.told.honest h)) c.in_err-plan.ensures.plan))
 
 pub returns-in_err-plan-clause-counts : goal.returns-in_err-plan-clause-counts
 returns-in_err-plan-clause-counts g c =
     let s = state_of c.args.machine.now (g.S.CkptStore.content c.args.store.now) in
     plan-counted c.from_residual-in_err-plan.result c.in_err-plan.field-0.0 (g.S.CkptStore.counts c.args.store.now) (g.S.CkptStore.counts c.tell.new.store)
     c.from_residual-in_err-plan.ensures.1 c.in_ok-told.ensures.told.counts
-    (only-damaged s c.in_ok-told.told c.args.step c.in_err-plan.field-0.0 c.in_err-plan.ensures)
+    (only-damaged s c.in_ok-told.told c.args.step c.in_err-plan.field-0.0 c.in_err-plan.ensures.plan)
 
 pub returns-in_err-plan-clause-called : goal.returns-in_err-plan-clause-called
 returns-in_err-plan-clause-called g c =
@@ -64,7 +74,7 @@ returns-in_err-plan-clause-called g c =
     λ h. on-refusal c.from_residual-in_err-plan.result _ Called c.from_residual-in_err-plan.ensures.1
     (λ e is. subst Called (sym is) (called-plan s c.args.step c.in_ok-told.told c.in_err-plan.field-0.0
     (asked s c.args.step c.in_ok-told.told c.needs.result c.owner-owner.result (c.in_ok-told.ensures.told.value h) c.needs.ensures c.owner-owner.ensures)
-    (c.requires.undamaged (c.in_ok-told.ensures.told.honest h)) c.in_err-plan.ensures))
+    (c.requires.undamaged (c.in_ok-told.ensures.told.honest h)) c.in_err-plan.ensures.plan))
 
 pub returns-in_err-make_room-clause-refusal : goal.returns-in_err-make_room-clause-refusal
 returns-in_err-make_room-clause-refusal g c =
@@ -74,4 +84,4 @@ returns-in_err-make_room-clause-refusal g c =
     (λ e is. subst Due (sym is) (is-ok (planned s c.args.step) c.in_ok-plan.plan
     (sym (due-planned s c.args.step c.in_ok-told.told
     (asked s c.args.step c.in_ok-told.told c.needs.result c.owner-owner.result (c.in_ok-told.ensures.told.value h) c.needs.ensures c.owner-owner.ensures))
-    ∙ c.in_ok-plan.ensures)))
+    ∙ c.in_ok-plan.ensures.plan)))

@@ -7,12 +7,14 @@ pub returns-in-Ok-journal_of-clause-written : goal.returns-in-Ok-journal_of-clau
 returns-in-Ok-journal_of-clause-written g c =
     let there = c.scene.ensures ∙ ap (λ (s : State). s.cast) c.in-Ok.ensures.beside in
     let is = c.deref-in-Ok-journal_of.ensures.value ∙ c.in-Ok-journal_of.ensures in
-    journal_whole c.put.result _ c.args.world.now.state c.args.steps.now c.args.writer.now c.put.new.writer c.in-Ok.report.items _ c.in-Ok.ensures.report
-    (journal_told _ _ c.in-Ok.report.items _ _ _ is c.deref.ensures.value there) c.put.ensures.whole
+    journal_whole c.write_text.result _ c.args.world.now.state c.args.steps.now c.args.writer.now c.write_text.new.writer
+    c.in-Ok.report.items _ c.in-Ok.ensures.report
+    (journal_told _ _ c.in-Ok.report.items _ _ _ is c.deref.ensures.value there) c.write_text.ensures.whole
 
 pub returns-in-Ok-journal_of-clause-front : goal.returns-in-Ok-journal_of-clause-front
 returns-in-Ok-journal_of-clause-front g c =
     let there = c.scene.ensures ∙ ap (λ (s : State). s.cast) c.in-Ok.ensures.beside in
     let is = c.deref-in-Ok-journal_of.ensures.value ∙ c.in-Ok-journal_of.ensures in
-    journal_front c.put.result _ c.args.world.now.state c.args.steps.now c.args.writer.now c.put.new.writer c.in-Ok.report.items _ c.in-Ok.ensures.report
-    (journal_told _ _ c.in-Ok.report.items _ _ _ is c.deref.ensures.value there) c.put.ensures.front
+    journal_front c.write_text.result _ c.args.world.now.state c.args.steps.now c.args.writer.now c.write_text.new.writer
+    c.in-Ok.report.items _ c.in-Ok.ensures.report
+    (journal_told _ _ c.in-Ok.report.items _ _ _ is c.deref.ensures.value there) c.write_text.ensures.front

@@ -1,5 +1,5 @@
 use Rattle.std.proofs.Common.{[]}
-use Rattle.kt_tables.proofs.StateLemmas.{query_stays, query_refused_stays, query_open}
+use Rattle.kt_tables.proofs.StateLemmas.{query_leaves, query_stays, query_refused_stays, query_open}
 use Rattle.kt_tables.proofs.opened.ask.Goals as goal
 
 pub returns-in-Ok-clause-looks : goal.returns-in-Ok-clause-looks
@@ -7,6 +7,7 @@ returns-in-Ok-clause-looks g c = record {
   clean = c.query_all.ensures.survives.clean;
   mode = c.query_all.ensures.mode;
   stays = λ clean _. query_stays c.args.sql.now [] _ _ c.in-Ok.rows.items c.requires (c.in-Ok.ensures.ok clean);
+  leaves = query_leaves c.args.sql.now [] _ _ c.requires c.query_all.ensures.survives;
 }
 
 pub returns-in-Ok-clause-is_open : goal.returns-in-Ok-clause-is_open
@@ -17,4 +18,5 @@ returns-in-Err-clause-looks g c = record {
   clean = c.query_all.ensures.survives.clean;
   mode = c.query_all.ensures.mode;
   stays = λ clean is_open. query_refused_stays c.args.sql.now [] _ _ c.in-Err.error (c.in-Err.ensures.err clean) is_open;
+  leaves = query_leaves c.args.sql.now [] _ _ c.requires c.query_all.ensures.survives;
 }

@@ -12,22 +12,20 @@ pub answers_said-requires-2 : goal.answers_said-requires-2
 answers_said-requires-2 g c = all_posted_is.plain
 
 pub returns-then-are_nodes-clause-ready : goal.returns-then-are_nodes-clause-ready
-returns-then-are_nodes-clause-ready g c clean settled =
+returns-then-are_nodes-clause-ready g c clean settled version =
     let last = state g.S.Store c.answers_said-2.new.conn in
     subst (λ (t : Bool). IsReady last (t && c.in_ok-are_posted.are_posted)) c.if-are_nodes.true
-    (tested_ready (state g.S.Store c.args.conn.now) (state g.S.Store c.is_this_version.new.conn) (state g.S.Store c.answers_said.new.conn) last
+    (tested_ready (state g.S.Store c.args.conn.now) (state g.S.Store c.answers_said.new.conn) last
     c.in_ok-are_nodes.are_nodes c.in_ok-are_posted.are_posted clean (c.in_ok-are_posted.ensures.is_open clean) settled
-    c.is_this_version.ensures.looks c.answers_said.ensures.looks c.answers_said-2.ensures.looks
-    (λ first. (c.in_ok-is_this_version.ensures.value first).0 c.if-not-branch.false) c.is_this_version.ensures.same
+    c.answers_said.ensures.looks c.answers_said-2.ensures.looks version
     c.in_ok-are_nodes.ensures.value c.in_ok-are_posted.ensures.value)
 
 pub returns-else-are_nodes-clause-ready : goal.returns-else-are_nodes-clause-ready
-returns-else-are_nodes-clause-ready g c clean settled =
+returns-else-are_nodes-clause-ready g c clean settled version =
     let last = state g.S.Store c.answers_said-2.new.conn in
     let told = c.if-are_nodes.false in
     subst (IsReady last) (ap (λ t. t && c.in_ok-are_posted.are_posted) told ∙ sym told)
-    (tested_ready (state g.S.Store c.args.conn.now) (state g.S.Store c.is_this_version.new.conn) (state g.S.Store c.answers_said.new.conn) last
+    (tested_ready (state g.S.Store c.args.conn.now) (state g.S.Store c.answers_said.new.conn) last
     c.in_ok-are_nodes.are_nodes c.in_ok-are_posted.are_posted clean (c.in_ok-are_posted.ensures.is_open clean) settled
-    c.is_this_version.ensures.looks c.answers_said.ensures.looks c.answers_said-2.ensures.looks
-    (λ first. (c.in_ok-is_this_version.ensures.value first).0 c.if-not-branch.false) c.is_this_version.ensures.same
+    c.answers_said.ensures.looks c.answers_said-2.ensures.looks version
     c.in_ok-are_nodes.ensures.value c.in_ok-are_posted.ensures.value)

@@ -4,7 +4,7 @@ use Rattle.linda_kt.proofs.Statuses.{without_fault, asks_for_no_text}
 use Rattle.linda_kt.proofs.program.run_program.Goals as goal
 
 pub returns-in-Ok-clause-told : goal.returns-in-Ok-clause-told
-returns-in-Ok-clause-told g c = λ none. did _ _ c.in-Ok.ensures.command c.run_request.ensures.told
+returns-in-Ok-clause-told g c = λ none. did _ c.in-Ok.ensures.command c.run_request.ensures.told
 
 pub returns-in-Err-clause-told : goal.returns-in-Err-clause-told
 returns-in-Err-clause-told g c = λ none.

@@ -1,0 +1,15 @@
+use Rattle.std.proofs.Common.{subst, sym}
+use Rattle.kt_store.specs.Content.{empty_content}
+use Rattle.kt_world.specs.Judge.{planned_by}
+use Rattle.kt_world.specs.State.{State}
+use Rattle.kt_world.specs.inner.Ready.{IsReady}
+use Rattle.kt_core.specs.inner.Machine.{Gives}
+use Rattle.kt_core.proofs.machine.Machine.gathered_plan.Goals as goal
+
+pub plan-requires-clause-ready : goal.plan-requires-clause-ready
+plan-requires-clause-ready c = subst IsReady (sym (c.gather.ensures empty_content)) c.requires.ready
+
+pub returns-clause-plan : goal.returns-clause-plan
+returns-clause-plan c =
+    let P : State → Type 0 = λ s. Gives c.plan.result (planned_by s c.args.told c.args.step) in
+    subst P (c.gather.ensures empty_content) c.plan.ensures

@@ -1,0 +1,32 @@
+use Rattle.std.proofs.Common.{Bool, ◌&&◌, ap, sym, subst, ◌∙◌}
+use Rattle.std.specs.Prelude.{◌↔◌, IsTrue}
+use Rattle.sqlite.specs.Held.{state}
+use Rattle.kt_tables.specs.Opened.{HasNoRow}
+use Rattle.kt_tables.proofs.OpenedLemmas.{no_row_told}
+use Rattle.kt_tables.proofs.Texts.{all_nodes_is, all_posted_is}
+use Rattle.kt_tables.proofs.opened.has_no_row.Goals as goal
+
+pub answers_nothing-requires : goal.answers_nothing-requires
+answers_nothing-requires g c = all_nodes_is.plain
+
+pub answers_nothing-requires-2 : goal.answers_nothing-requires-2
+answers_nothing-requires-2 g c = all_posted_is.plain
+
+pub returns-then-no_nodes-clause-value : goal.returns-then-no_nodes-clause-value
+returns-then-no_nodes-clause-value g c clean settled has =
+    let old = state g.S.Store c.args.conn.now in
+    let last = state g.S.Store c.answers_nothing-2.new.conn in
+    subst (λ (t : Bool). IsTrue (t && c.in_ok-no_posted.no_posted) ↔ HasNoRow old.now) c.if-no_nodes.true
+    (no_row_told old (state g.S.Store c.answers_nothing.new.conn) last c.in_ok-no_nodes.no_nodes c.in_ok-no_posted.no_posted clean
+    (c.in_ok-no_posted.ensures.is_open clean) settled c.answers_nothing.ensures.looks c.answers_nothing-2.ensures.looks has
+    c.in_ok-no_nodes.ensures.value c.in_ok-no_posted.ensures.value)
+
+pub returns-else-no_nodes-clause-value : goal.returns-else-no_nodes-clause-value
+returns-else-no_nodes-clause-value g c clean settled has =
+    let old = state g.S.Store c.args.conn.now in
+    let last = state g.S.Store c.answers_nothing-2.new.conn in
+    let told = c.if-no_nodes.false in
+    subst (λ (t : Bool). IsTrue t ↔ HasNoRow old.now) (ap (λ t. t && c.in_ok-no_posted.no_posted) told ∙ sym told)
+    (no_row_told old (state g.S.Store c.answers_nothing.new.conn) last c.in_ok-no_nodes.no_nodes c.in_ok-no_posted.no_posted clean
+    (c.in_ok-no_posted.ensures.is_open clean) settled c.answers_nothing.ensures.looks c.answers_nothing-2.ensures.looks has
+    c.in_ok-no_nodes.ensures.value c.in_ok-no_posted.ensures.value)
