@@ -43,7 +43,7 @@ resumed_services s is closed =
         let R = IsNew s.history (history_of s.cast s.content) (permanent_length s.content) f in
         let old = cut_acts s.history (permanent_length s.content) closed q (within-reached s is q) in
         let new = all_marked (history_of s.cast s.content) (survives (history_of s.cast s.content))
-            (survives-closed (history_of s.cast s.content) f.causes) q (all-survive q) in
+        (survives-closed (history_of s.cast s.content) f.causes) q (all-survive q) in
         subst (λ (l : List Act). AreAs R l (own q (marked_acts (survives (history_of s.cast s.content)) (history_of s.cast s.content)))) (sym old)
         (subst (λ (l : List Act). AreAs R (take (permanent_length s.content q) (acts_in_line s.history q)) l) (sym new)
         (line-as s.history (history_of s.cast s.content) (permanent_length s.content) f q))

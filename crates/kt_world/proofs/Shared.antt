@@ -24,6 +24,7 @@ pub use Rattle.kt_world.proofs.Passed.{owner-passed, room-none}
 pub use Rattle.kt_world.proofs.Lasting.{permanent-reached, stores-reached}
 pub use Rattle.kt_world.proofs.Plans.{Comes, Fit, IsAlive, IsDown, IsDroppedBy, PlanOf, TentativeFits, Votes, holds, rolls}
 pub use Rattle.kt_world.proofs.PlansFound.{plan-few, plan-found, plan-room}
+pub use Rattle.kt_world.proofs.ResumedServices.{resumed_services}
 pub use Rattle.kt_world.proofs.Saves.{can_act, can_save_node}
 pub use Rattle.kt_world.proofs.Scene.{Ends, IsNode, a_shard, a_worker, across-neighbour, ends, from_ends, home-neighbour, linked, neighbour-node}
 pub use Rattle.kt_world.proofs.Scene.{neighbour-place, neighbours-turned, of_node, role-id, shard-node, some_peers, to_shard, to_worker, worker-neighbour}
