@@ -1,5 +1,5 @@
 -- What was passed where something is planned: each test and each case on the way to an Ok.
-use Rattle.std.proofs.Common.{◌≡◌, ℕ, ◌<◌, ◌&&◌, ◌||◌, arith, Bool, true, false, if◌then◌else◌, Option, Some, None, Result, Ok, Err, refl, ap, length}
+use Rattle.std.proofs.Common.{◌≡◌, ◌∙◌, ℕ, nat_le, is_some, ◌<◌, ◌&&◌, ◌||◌, arith, Bool, true, false, if◌then◌else◌, Option, Some, None, Result, Ok, Err, refl, ap, length}
 use Rattle.std.specs.Prelude.{unwrap_or, IsTrue, nat_lt}
 use Rattle.std.proofs.lemmas.Bool.{and_parts, le-leb, ltb-false, ltb-true}
 use Rattle.kt_tuple.specs.declared.node.NodeId.{NodeId}
@@ -71,7 +71,9 @@ room-none s ready e = by (nat_lt s.made MAX_STEPS) (nat_lt (length s.history) MA
         let more = ready.few_steps in
         absurd (omega (arith, few, all, more))
     by true false (Some most) made noted is e =
-        right _ _ (rw is (le-leb MAX_NOTES (length s.history) (ltb-false (length s.history) MAX_NOTES noted)))
+        let full : nat_le MAX_NOTES (length s.history) ≡ true = le-leb MAX_NOTES (length s.history) (ltb-false (length s.history) MAX_NOTES noted) in
+        right (nat_le MAX_STEPS s.made) (is_some s.found && nat_le MAX_NOTES (length s.history))
+        (ap (λ f. is_some f && nat_le MAX_NOTES (length s.history)) is ∙ full)
 
 pub owner-passed : (r : Planned) (plan : Plan) → of_owner r ≡ Ok plan → r ≡ Ok plan
 owner-passed (Ok p) plan e = let same : p ≡ plan = cc in ap (λ q. Ok q) same
