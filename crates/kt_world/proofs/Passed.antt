@@ -1,6 +1,6 @@
 -- What was passed where something is planned: each test and each case on the way to an Ok.
 use Rattle.std.proofs.Common.{◌≡◌, ℕ, ◌<◌, ◌&&◌, ◌||◌, arith, Bool, true, false, if◌then◌else◌, Option, Some, None, Result, Ok, Err, refl, ap, length}
-use Rattle.std.specs.Prelude.{unwrap_or, IsTrue, nat_lt}
+use Rattle.std.specs.Prelude.{unwrap_or, IsTrue, nat_lt, nat_le, is_some}
 use Rattle.std.proofs.lemmas.Bool.{and_parts, le-leb, ltb-false, ltb-true}
 use Rattle.kt_tuple.specs.declared.node.NodeId.{NodeId}
 use Rattle.kt_node.specs.declared.live.Phase.{Phase}
@@ -64,14 +64,14 @@ room-none s ready e = by (nat_lt s.made MAX_STEPS) (nat_lt (length s.history) MA
     by : (b c : Bool) (found : Option ℕ) → nat_lt s.made MAX_STEPS ≡ b → nat_lt (length s.history) MAX_NOTES ≡ c → s.found ≡ found → (b && c) ≡ false
         → is_at_limit s ≡ true
     by true true found made noted is e = absurd cc
-    by false c found made noted is e = left _ _ (le-leb MAX_STEPS s.made (ltb-false s.made MAX_STEPS made))
+    by false c found made noted is e = left (nat_le MAX_STEPS s.made) _ (le-leb MAX_STEPS s.made (ltb-false s.made MAX_STEPS made))
     by true false None made noted is e =
         let few = ready.few_made is in
         let all = ltb-false (length s.history) MAX_NOTES noted in
         let more = ready.few_steps in
         absurd (omega (arith, few, all, more))
     by true false (Some most) made noted is e =
-        right _ _ (rw is (le-leb MAX_NOTES (length s.history) (ltb-false (length s.history) MAX_NOTES noted)))
+        right (nat_le MAX_STEPS s.made) (is_some s.found && nat_le MAX_NOTES (length s.history)) (rw is (le-leb MAX_NOTES (length s.history) (ltb-false (length s.history) MAX_NOTES noted)))
 
 pub owner-passed : (r : Planned) (plan : Plan) → of_owner r ≡ Ok plan → r ≡ Ok plan
 owner-passed (Ok p) plan e = let same : p ≡ plan = cc in ap (λ q. Ok q) same
