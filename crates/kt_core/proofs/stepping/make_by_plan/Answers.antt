@@ -27,10 +27,12 @@ carry_out-requires-clause-can g c =
     subst P (sym (c.in_ok-plan.ensures.same empty_content)) c.in_ok-plan.ensures.can
 
 pub write-requires : goal.write-requires
-write-requires g c =
-    λ h. allowed (state_of c.args.machine.now (g.S.CkptStore.content c.args.store.now)) c.args.step c.in_ok-plan.plan
-    (g.S.CkptStore.content c.prepare.new.store) c.owner.result
-    (c.requires.backed (c.in_ok-plan.ensures.honest h)) (c.in_ok-plan.ensures.plan h) (c.in_ok-plan.ensures.content h) c.owner.ensures
+write-requires g c = record {
+  allowed = λ h.
+      allowed (state_of c.args.machine.now (g.S.CkptStore.content c.args.store.now)) c.args.step c.in_ok-plan.plan
+      (g.S.CkptStore.content c.prepare.new.store) c.owner.result
+      (c.requires.backed (c.in_ok-plan.ensures.honest h)) (c.in_ok-plan.ensures.plan h) (c.in_ok-plan.ensures.content h) c.owner.ensures;
+}
 
 pub returns-in_err-plan-clause-cause : goal.returns-in_err-plan-clause-cause
 returns-in_err-plan-clause-cause g c =
