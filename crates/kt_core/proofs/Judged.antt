@@ -1,7 +1,6 @@
 -- What the parts of judging a step come to.
-use Rattle.std.proofs.Common.{◌≡◌, ℕ, ◌<◌, ◌≤◌, true, false, List, [], ◌∷◌, Some, None, Result, Ok, Err, refl, sym, ap, ◌∙◌, subst}
-use Rattle.std.specs.Prelude.{nat_lt, slice_get}
-use Rattle.std.proofs.lemmas.Bool.{lt-ltb, le-ltb}
+use Rattle.std.proofs.Common.{◌≡◌, Bool, true, false, List, [], ◌∷◌, Some, None, Result, Ok, Err, refl, sym, ap, ◌∙◌, subst}
+use Rattle.std.specs.Prelude.{slice_get}
 use Rattle.kt_tuple.specs.declared.node.NodeId.{NodeId}
 use Rattle.kt_node.specs.declared.message.Message.{Message}
 use Rattle.kt_node.specs.declared.message.Message.TheVariants as messages
@@ -17,11 +16,10 @@ use Rattle.kt_world.specs.declared.step.Step.TheVariants as steps
 use Rattle.kt_world.specs.declared.step.StepError.{StepError}
 use Rattle.kt_world.specs.declared.step.StepError.TheVariants as refusals
 use Rattle.kt_world.specs.declared.told.Told.{Told}
-use Rattle.kt_world.specs.declared.step.TheConstants.{MAX_STEPS}
 use Rattle.kt_world.specs.Step.{owner}
 use Rattle.kt_world.specs.State.{State, link, view}
 use Rattle.kt_world.specs.Cast.{are_neighbours}
-use Rattle.kt_world.specs.Judge.{delivery, due, hear, judged, of_scene, planned, within_limit}
+use Rattle.kt_world.specs.Judge.{delivery, due, has_room, hear, judged, of_scene, planned, within_limit}
 use Rattle.kt_world.specs.Told.{told}
 use Rattle.kt_core.specs.inner.Machine.{Gives}
 use Rattle.kt_core.specs.inner.Judged.{is_refused}
@@ -48,45 +46,36 @@ pub due-none : (s : State) (t : Told) (step : Step) (p q : NodeId) → step ≡ 
 due-none s t step p q is none = ap (due s t) is ∙ delivery-none (view s q) t p (link s p q) none
 
 -- what is heard of workers and shards, below the limit
-pub heard-planned : (s : State) (p q : NodeId) (post : Post) (plan : Plan) → are_neighbours s.cast p q ≡ true → s.made < MAX_STEPS
+pub heard-planned : (s : State) (p q : NodeId) (post : Post) (plan : Plan) → are_neighbours s.cast p q ≡ true → has_room s ≡ true
     → slice_get (link s p q) 0 ≡ Some (messages.Post post) → hear_app (view s q) p post ≡ Ok plan → planned s (steps.Deliver p q) ≡ Ok plan
 heard-planned s p q post plan there few first heard =
     let step : Step = steps.Deliver p q in
     let t = told s step in
     let is : due s t step ≡ Ok plan = delivery-first (view s q) t p (link s p q) (messages.Post post) first ∙ heard in
     let of : judged s t step ≡ Ok plan = ap (λ b. of_scene b (due s t step)) there ∙ ap (of_scene true) is in
-    let within : within_limit s.made (Ok plan) ≡ Ok plan = rw (lt-ltb s.made MAX_STEPS few) refl in
-    ap (within_limit s.made) of ∙ within
+    let within : within_limit (has_room s) (Ok plan) ≡ Ok plan = rw few refl in
+    ap (within_limit (has_room s)) of ∙ within
 
 -- the limit is asked where the step is allowed
-pub over : (made : ℕ) (r : Result Plan StepError) (due : Result Plan StepError) → Gives r due
-    → is_refused r ≡ false → MAX_STEPS ≤ made → within_limit made due ≡ Err refusals.StepLimit
-over made r due gives not le = by r due gives not
+pub over : (room : Bool) (r : Result Plan StepError) (due : Result Plan StepError) → Gives r due
+    → is_refused r ≡ false → room ≡ false → within_limit room due ≡ Err refusals.StepLimit
+over room (Ok x) due gives not past = ap (within_limit room) gives ∙ rw past refl
+over room (Err (refusals.Store e)) due gives not past = ap (within_limit room) gives ∙ rw past refl
+over room (Err refusals.OutOfMemory) (Ok x) gives not past = rw past refl
+over room (Err refusals.OutOfMemory) (Err e) gives not past = absurd cc
+over room (Err refusals.NoNode) due gives not past = absurd cc
+over room (Err refusals.WrongMode) due gives not past = absurd cc
+over room (Err refusals.NothingThere) due gives not past = absurd cc
+over room (Err refusals.NoSuchMatch) due gives not past = absurd cc
+over room (Err refusals.NotDecided) due gives not past = absurd cc
+over room (Err refusals.Unresolved) due gives not past = absurd cc
+over room (Err refusals.StepLimit) due gives not past = absurd cc
+
+pub below : (room : Bool) (r due : Result Plan StepError) → Gives r due → room ≡ true → Gives r (within_limit room due)
+below room r due gives is = subst (Gives r) (sym (same due)) gives
   where
-    past : nat_lt made MAX_STEPS ≡ false
-    past = le-ltb made MAX_STEPS le
-
-    by : (r due : Result Plan StepError) → Gives r due → is_refused r ≡ false → within_limit made due ≡ Err refusals.StepLimit
-    by (Ok x) due gives not = ap (within_limit made) gives ∙ rw past refl
-    by (Err (refusals.Store e)) due gives not = ap (within_limit made) gives ∙ rw past refl
-    by (Err refusals.OutOfMemory) (Ok x) gives not = rw past refl
-    by (Err refusals.OutOfMemory) (Err e) gives not = absurd cc
-    by (Err refusals.NoNode) due gives not = absurd cc
-    by (Err refusals.WrongMode) due gives not = absurd cc
-    by (Err refusals.NothingThere) due gives not = absurd cc
-    by (Err refusals.NoSuchMatch) due gives not = absurd cc
-    by (Err refusals.NotDecided) due gives not = absurd cc
-    by (Err refusals.Unresolved) due gives not = absurd cc
-    by (Err refusals.StepLimit) due gives not = absurd cc
-
-pub below : (made : ℕ) (r due : Result Plan StepError) → Gives r due → made < MAX_STEPS → Gives r (within_limit made due)
-below made r due gives lt = subst (Gives r) (sym (same due)) gives
-  where
-    less : nat_lt made MAX_STEPS ≡ true
-    less = lt-ltb made MAX_STEPS lt
-
-    same : (due : Result Plan StepError) → within_limit made due ≡ due
-    same (Ok x) = rw less refl
+    same : (due : Result Plan StepError) → within_limit room due ≡ due
+    same (Ok x) = rw is refl
     same (Err refusals.NoNode) = refl
     same (Err refusals.WrongMode) = refl
     same (Err refusals.NothingThere) = refl
@@ -94,17 +83,17 @@ below made r due gives lt = subst (Gives r) (sym (same due)) gives
     same (Err refusals.NotDecided) = refl
     same (Err refusals.Unresolved) = refl
     same (Err refusals.StepLimit) = refl
-    same (Err (refusals.Store e)) = rw less refl
+    same (Err (refusals.Store e)) = rw is refl
     same (Err refusals.OutOfMemory) = refl
 
-pub refused : (made : ℕ) (r due : Result Plan StepError) → Gives r due → is_refused r ≡ true → Gives r (within_limit made due)
-refused made (Ok x) due gives is = absurd cc
-refused made (Err (refusals.Store e)) due gives is = absurd cc
-refused made (Err refusals.OutOfMemory) due gives is = absurd cc
-refused made (Err refusals.NoNode) due gives is = ap (within_limit made) gives
-refused made (Err refusals.WrongMode) due gives is = ap (within_limit made) gives
-refused made (Err refusals.NothingThere) due gives is = ap (within_limit made) gives
-refused made (Err refusals.NoSuchMatch) due gives is = ap (within_limit made) gives
-refused made (Err refusals.NotDecided) due gives is = ap (within_limit made) gives
-refused made (Err refusals.Unresolved) due gives is = ap (within_limit made) gives
-refused made (Err refusals.StepLimit) due gives is = ap (within_limit made) gives
+pub refused : (room : Bool) (r due : Result Plan StepError) → Gives r due → is_refused r ≡ true → Gives r (within_limit room due)
+refused room (Ok x) due gives is = absurd cc
+refused room (Err (refusals.Store e)) due gives is = absurd cc
+refused room (Err refusals.OutOfMemory) due gives is = absurd cc
+refused room (Err refusals.NoNode) due gives is = ap (within_limit room) gives
+refused room (Err refusals.WrongMode) due gives is = ap (within_limit room) gives
+refused room (Err refusals.NothingThere) due gives is = ap (within_limit room) gives
+refused room (Err refusals.NoSuchMatch) due gives is = ap (within_limit room) gives
+refused room (Err refusals.NotDecided) due gives is = ap (within_limit room) gives
+refused room (Err refusals.Unresolved) due gives is = ap (within_limit room) gives
+refused room (Err refusals.StepLimit) due gives is = ap (within_limit room) gives

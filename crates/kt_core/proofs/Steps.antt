@@ -3,7 +3,8 @@ use Rattle.std.proofs.Common.{◌≡◌, ℕ, ◌+◌, ◌<◌, ◌^◌, if◌th
 use Rattle.std.specs.Prelude.{nat_lt, not, IfErr, IfSome, IsOk, IsTrue, OnErr, OnOk}
 use Rattle.kt_store.specs.declared.error.StoreError.{StoreError}
 use Rattle.kt_store.specs.declared.error.StoreError.TheVariants as stores
-use Rattle.kt_store.specs.Content.{Content, row_of}
+use Rattle.kt_store.specs.Content.{Content}
+use Rattle.kt_store.specs.Proper.{IsFull}
 use Rattle.kt_node.specs.declared.plan.Plan.{Plan}
 use Rattle.kt_world.specs.declared.step.Step.{Step}
 use Rattle.kt_world.specs.declared.step.StepError.{StepError}
@@ -11,15 +12,14 @@ use Rattle.kt_world.specs.declared.step.StepError.TheVariants as refusals
 use Rattle.kt_world.specs.declared.told.Told.{Told}
 use Rattle.kt_world.specs.declared.needs.Needs.{Needs}
 use Rattle.kt_tuple.specs.declared.node.NodeId.{NodeId}
-use Rattle.kt_world.specs.Judge.{IsUndamaged, due, is_planned, judged, of_owner, of_scene, planned, planned_by, within_limit}
+use Rattle.kt_world.specs.Judge.{IsUndamaged, due, has_room, is_planned, judged, of_owner, of_scene, planned, planned_by, within_limit}
 use Rattle.kt_world.specs.Cast.{is_in_scene}
-use Rattle.kt_world.specs.declared.step.TheConstants.{MAX_STEPS}
 use Rattle.kt_node.specs.declared.refusal.Refusal.TheVariants as reasons
 use Rattle.kt_node.specs.Plan.{Planned}
 use Rattle.kt_world.specs.Effect.{applied, applied_if, step_result}
 use Rattle.kt_world.specs.Writing.{content_after}
-use Rattle.kt_world.specs.inner.Backed.{HasNumbers, IsAllowed, IsBacked}
-use Rattle.kt_world.proofs.Shared.{planned-allowed, planned-numbers}
+use Rattle.kt_world.specs.inner.Backed.{IsAllowed, IsBacked}
+use Rattle.kt_world.proofs.Shared.{never-full, planned-allowed}
 use Rattle.kt_core.specs.declared.machine.Machine.{Machine}
 use Rattle.kt_core.specs.inner.Machine.{state_of}
 use Rattle.kt_world.specs.Needs.{needs_of}
@@ -28,11 +28,11 @@ use Rattle.kt_world.specs.Told.{told}
 use Rattle.kt_world.specs.inner.Ready.{CanApply, IsReady}
 use Rattle.kt_world.specs.State.{State}
 use Rattle.kt_world.specs.Step.{owner}
-use Rattle.kt_world.proofs.Shared.{enough, plan-found, plan-few, can_apply, stays_ready}
+use Rattle.kt_world.proofs.Shared.{enough, plan-found, plan-few, plan-room, can_apply, room-none, stays_ready}
 use Rattle.std.specs.Result.{IsErrAnd}
 use Rattle.kt_core.specs.inner.Machine as machine
-use Rattle.kt_core.specs.Store.{IsFault}
-use Rattle.kt_core.specs.inner.Judged.{is_refused}
+use Rattle.kt_core.specs.Store.{IsFault, IsWriteFault}
+use Rattle.kt_core.specs.inner.Judged.{IsReadCause, is_refused}
 use Rattle.kt_store.specs.Calls.{Counts, raised_by}
 use Rattle.kt_core.specs.Stepping.{IsByPlan, IsCalledFor, IsCause, Refuses, Writes, has_write, step_counted}
 use Rattle.kt_core.specs.World.{beside}
@@ -44,7 +44,7 @@ asked s step t needs p is n o = is ∙ ap (λ (x : Needs). told_by x s.content p
 
 -- an owner that is told just what the rule looks at makes the plan that is due
 pub due-planned : (s : State) (step : Step) (t : Told) → t ≡ told_by (needs_of s step) s.content (owner step) → planned_by s t step ≡ planned s step
-due-planned s step t is = ap (λ (x : Told). planned_by s x step) is ∙ ap (within_limit s.made) (enough s step)
+due-planned s step t is = ap (λ (x : Told). planned_by s x step) is ∙ ap (within_limit (has_room s)) (enough s step)
 
 -- the same where the limit is left aside
 pub due-judged : (s : State) (step : Step) (t : Told) → t ≡ told_by (needs_of s step) s.content (owner step) → judged s t step ≡ judged s (told s step) step
@@ -68,50 +68,100 @@ refused s step t e is gives = weaker e (planned s step) (subst (machine.Refuses 
 fault-of : (refusal : StoreError) → IsFault false refusal
 fault-of refusal = record { damaged = λ e. refl; full = λ e. refl }
 
-limit-store : (made : ℕ) (r : Result Plan StepError) (x : StoreError) → within_limit made r ≡ Err (refusals.Store x) → r ≡ Err (refusals.Store x)
-limit-store made r x = by (nat_lt made MAX_STEPS) refl r
-  where
-    stored : Result Plan StepError
-    stored = Err (refusals.Store x)
+limit-store : (room : Bool) (r : Result Plan StepError) (x : StoreError) → within_limit room r ≡ Err (refusals.Store x) → r ≡ Err (refusals.Store x)
+limit-store true (Ok plan) x e = e
+limit-store false (Ok plan) x e = absurd (cc (e))
+limit-store true (Err (refusals.Store y)) x e = e
+limit-store false (Err (refusals.Store y)) x e = absurd (cc (e))
+limit-store room (Err refusals.NoNode) x e = e
+limit-store room (Err refusals.WrongMode) x e = e
+limit-store room (Err refusals.NothingThere) x e = e
+limit-store room (Err refusals.NoSuchMatch) x e = e
+limit-store room (Err refusals.NotDecided) x e = e
+limit-store room (Err refusals.Unresolved) x e = e
+limit-store room (Err refusals.StepLimit) x e = e
+limit-store room (Err refusals.OutOfMemory) x e = e
 
-    Comes : Result Plan StepError → Bool → Type 0
-    Comes r b = (if b then r else Err refusals.StepLimit) ≡ stored
+owner-limit : (r : Planned) → of_owner r ≡ Err refusals.StepLimit → ⊥
+owner-limit (Ok plan) e = absurd cc
+owner-limit (Err reasons.WrongMode) e = absurd cc
+owner-limit (Err reasons.NothingThere) e = absurd cc
+owner-limit (Err reasons.NoSuchMatch) e = absurd cc
+owner-limit (Err reasons.NotDecided) e = absurd cc
+owner-limit (Err reasons.Unresolved) e = absurd cc
+owner-limit (Err reasons.Damaged) e = absurd cc
+owner-limit (Err reasons.OutOfMemory) e = absurd cc
 
-    no-plan : (plan : Plan) → Comes (Ok plan) true → ⊥
-    no-plan plan e = cc
+scene-limit : (there : Bool) (r : Planned) → of_scene there r ≡ Err refusals.StepLimit → ⊥
+scene-limit true r e = owner-limit r e
+scene-limit false r e = absurd cc
 
-    no-limit : (r : Result Plan StepError) → Comes r false → ⊥
-    no-limit r e = cc
-
-    by : (b : Bool) → nat_lt made MAX_STEPS ≡ b → (r : Result Plan StepError) → within_limit made r ≡ Err (refusals.Store x) → r ≡ Err (refusals.Store x)
-    by true lt (Ok plan) e = absurd (no-plan plan (subst (Comes (Ok plan)) lt e))
-    by false lt (Ok plan) e = absurd (no-limit (Ok plan) (subst (Comes (Ok plan)) lt e))
-    by true lt (Err (refusals.Store y)) e = subst (Comes (Err (refusals.Store y))) lt e
-    by false lt (Err (refusals.Store y)) e = absurd (no-limit (Err (refusals.Store y)) (subst (Comes (Err (refusals.Store y))) lt e))
-    by b lt (Err refusals.NoNode) e = e
-    by b lt (Err refusals.WrongMode) e = e
-    by b lt (Err refusals.NothingThere) e = e
-    by b lt (Err refusals.NoSuchMatch) e = e
-    by b lt (Err refusals.NotDecided) e = e
-    by b lt (Err refusals.Unresolved) e = e
-    by b lt (Err refusals.StepLimit) e = e
-    by b lt (Err refusals.OutOfMemory) e = e
+-- the limit is told where there is no room
+limit-reached : (room : Bool) (r : Result Plan StepError) → (r ≡ Err refusals.StepLimit → ⊥) → within_limit room r ≡ Err refusals.StepLimit → room ≡ false
+limit-reached false r other e = refl
+limit-reached true (Ok plan) other e = absurd cc
+limit-reached true (Err (refusals.Store y)) other e = absurd cc
+limit-reached true (Err refusals.NoNode) other e = absurd cc
+limit-reached true (Err refusals.WrongMode) other e = absurd cc
+limit-reached true (Err refusals.NothingThere) other e = absurd cc
+limit-reached true (Err refusals.NoSuchMatch) other e = absurd cc
+limit-reached true (Err refusals.NotDecided) other e = absurd cc
+limit-reached true (Err refusals.Unresolved) other e = absurd cc
+limit-reached true (Err refusals.StepLimit) other e = absurd (other e)
+limit-reached true (Err refusals.OutOfMemory) other e = absurd cc
 
 -- a checkpoint that does not fit is the store's fault: an honest one gives none
-pub caused : (honest : Bool) (s : State) (step : Step) (t : Told) (e : StepError)
-    → (IsTrue honest → t ≡ told_by (needs_of s step) s.content (owner step)) → (IsTrue honest → IsUndamaged s)
-    → machine.Gives {Y = Plan} (Err e) (planned_by s t step) → IsCause honest e
-caused honest s step t refusals.OutOfMemory is fits gives = tt
-caused true s step t (refusals.Store x) is fits gives =
-    absurd (fits refl step x (limit-store s.made (judged s (told s step) step) x (sym (due-planned s step t (is refl)) ∙ gives)))
-caused false s step t (refusals.Store x) is fits gives = fault-of x
-caused honest s step t refusals.NoNode is fits gives = tt
-caused honest s step t refusals.WrongMode is fits gives = tt
-caused honest s step t refusals.NothingThere is fits gives = tt
-caused honest s step t refusals.NoSuchMatch is fits gives = tt
-caused honest s step t refusals.NotDecided is fits gives = tt
-caused honest s step t refusals.Unresolved is fits gives = tt
-caused honest s step t refusals.StepLimit is fits gives = tt
+pub caused : (honest : Bool) (s b : State) (step : Step) (t : Told) (e : StepError) → IsReady b → (IsTrue honest → t ≡ told_by (needs_of s step) s.content (owner step))
+    → (IsTrue honest → IsUndamaged s) → machine.Gives {Y = Plan} (Err e) (planned_by s t step) → machine.Gives {Y = Plan} (Err e) (planned_by b t step)
+    → IsReadCause b honest e
+caused honest s b step t refusals.OutOfMemory ready is fits gives there = tt
+caused true s b step t (refusals.Store x) ready is fits gives there =
+    absurd (fits refl step x (limit-store (has_room s) (judged s (told s step) step) x (sym (due-planned s step t (is refl)) ∙ gives)))
+caused false s b step t (refusals.Store x) ready is fits gives there = fault-of x
+caused honest s b step t refusals.NoNode ready is fits gives there = tt
+caused honest s b step t refusals.WrongMode ready is fits gives there = tt
+caused honest s b step t refusals.NothingThere ready is fits gives there = tt
+caused honest s b step t refusals.NoSuchMatch ready is fits gives there = tt
+caused honest s b step t refusals.NotDecided ready is fits gives there = tt
+caused honest s b step t refusals.Unresolved ready is fits gives there = tt
+caused honest s b step t refusals.StepLimit ready is fits gives there =
+    room-none b ready (limit-reached (has_room b) (judged b t step) (scene-limit (is_in_scene b.cast step) (due b t step)) there)
+
+-- so it is a cause of the step's refusal, whatever the store holds
+pub read-caused : (b : State) (c : Content) (step : Step) (honest : Bool) (e : StepError) → IsReadCause b honest e
+    → IsCause (record b { content = c }) step honest e
+read-caused b c step honest (refusals.Store x) fault =
+    (record { damaged = fault.damaged; full = λ e h. absurd (apart (sym h ∙ fault.full e)) }, λ new. fault)
+  where
+    apart : true ≡ false → ⊥
+    apart e = cc (e)
+read-caused b c step honest refusals.OutOfMemory fault = tt
+read-caused b c step honest refusals.NoNode fault = tt
+read-caused b c step honest refusals.WrongMode fault = tt
+read-caused b c step honest refusals.NothingThere fault = tt
+read-caused b c step honest refusals.NoSuchMatch fault = tt
+read-caused b c step honest refusals.NotDecided fault = tt
+read-caused b c step honest refusals.Unresolved fault = tt
+read-caused b c step honest refusals.StepLimit fault = fault
+
+-- and so is what refuses its write; where a world was opened, no store that is honest is full
+pub write-caused : (old new : State) (step : Step) (c : Content) (p : NodeId) (honest : Bool) (x : StoreError) → IsWriteFault honest c p x → p ≡ owner step
+    → (IsTrue honest → c ≡ old.content) → (IsTrue honest → new.content ≡ c) → new.found ≡ old.found → IsReady old → (IsTrue honest → IsBacked old)
+    → IsCause new step honest (refusals.Store x)
+write-caused old new step c p honest x fault owned was stays found ready backed = (
+  record { damaged = fault.damaged; full = λ e h. at new.content (owner step) h (sym (stays h)) owned (fault.full e h) },
+  λ none. record { damaged = fault.damaged; full = λ e. by honest refl (λ h. opened h none (at old.content p h (was h) refl (fault.full e h))) },
+)
+  where
+    at : (d : Content) (q : NodeId) → IsTrue honest → c ≡ d → p ≡ q → IsFull c p → IsFull d q
+    at d q h same own full = subst (λ (r : NodeId). IsFull d r) own (subst (λ (e : Content). IsFull e p) same full)
+
+    opened : IsTrue honest → new.found ≡ None → IsFull old.content p → ⊥
+    opened h none full = never-full old ready (backed h) (sym found ∙ none) p full
+
+    by : (b : Bool) → honest ≡ b → (IsTrue honest → ⊥) → honest ≡ false
+    by true is wrong = absurd (wrong is)
+    by false is wrong = is
 
 owner-damaged : (r : Planned) (x : StoreError) → of_owner r ≡ Err (refusals.Store x) → x ≡ stores.Damaged
 owner-damaged (Ok plan) x e = absurd cc
@@ -133,7 +183,7 @@ pub only-damaged : (s : State) (t : Told) (step : Step) (e : StepError) → mach
 only-damaged s t step e gives x is =
     let P : StepError → Type 0 = λ y. machine.Refuses y (planned_by s t step) in
     let h : planned_by s t step ≡ Err (refusals.Store x) = subst P is gives in
-    scene-damaged (is_in_scene s.cast step) (due s t step) x (limit-store s.made (judged s t step) x h)
+    scene-damaged (is_in_scene s.cast step) (due s t step) x (limit-store (has_room s) (judged s t step) x h)
 
 -- so it raises no count of the store
 plan-uncounted : (T : Type 0) (e : StepError) (c : Counts) → ((x : StoreError) → e ≡ refusals.Store x → x ≡ stores.Damaged) → c ≡ step_counted {T = T} (Err e) c
@@ -161,7 +211,7 @@ planned-can s step t plan ready gives = can_apply s ready t step plan (plan-foun
 
 pub planned-leads : (s : State) (step : Step) (t : Told) (plan : Plan) → IsReady s → machine.Gives (Ok plan) (planned_by s t step)
     → IsReady (applied s step plan)
-planned-leads s step t plan ready gives = stays_ready s ready (plan-few s t step plan gives) t step plan (plan-found s t step plan gives)
+planned-leads s step t plan ready gives = stays_ready s ready (plan-few s t step plan gives) (plan-room s t step plan gives) t step plan (plan-found s t step plan gives)
 
 -- what is said of the refusal holds of it where that follows from how it came about
 pub on-refusal : {T E : Type 0} (r : Result T E) (P Q : E → Type 0) → IsErrAnd r P → ((e : E) → P e → Q e) → IfErr r Q
@@ -184,6 +234,7 @@ ready-beside s c r = record {
   few_steps = r.few_steps;
   few_own = r.few_own;
   few_notes = r.few_notes;
+  few_made = r.few_made;
   causes = r.causes;
   messages = r.messages;
 }
@@ -192,7 +243,7 @@ ready-beside s c r = record {
 pub called-plan : (s : State) (step : Step) (t : Told) (e : StepError) → t ≡ told_by (needs_of s step) s.content (owner step) → IsUndamaged s
     → machine.Gives {Y = Plan} (Err e) (planned_by s t step) → IsCalledFor s step e
 called-plan s step t (refusals.Store x) is fits gives =
-    absurd (fits step x (limit-store s.made (judged s (told s step) step) x (sym (due-planned s step t is) ∙ gives)))
+    absurd (fits step x (limit-store (has_room s) (judged s (told s step) step) x (sym (due-planned s step t is) ∙ gives)))
 called-plan s step t refusals.OutOfMemory is fits gives = tt
 called-plan s step t refusals.NoNode is fits gives = tt
 called-plan s step t refusals.WrongMode is fits gives = tt
@@ -242,11 +293,6 @@ allowed s step plan c p backed is read owned =
     subst (λ (d : Content). IfSome plan.write (IsAllowed d p)) (sym read)
     (subst (λ (q : NodeId). IfSome plan.write (IsAllowed s.content q)) (sym owned) (planned-allowed s backed step plan is))
 
-pub numbers : (s : State) (step : Step) (plan : Plan) (c : Content) (p : NodeId) → IsBacked s → planned s step ≡ Ok plan
-    → c ≡ s.content → p ≡ owner step → HasNumbers c p
-numbers s step plan c p backed is read owned =
-    subst (λ (d : Content). HasNumbers d p) (sym read) (subst (HasNumbers s.content) (sym owned) (planned-numbers s backed step plan is))
-
 -- what is not refused is enabled
 pub enabled : (r due : Result Plan StepError) → machine.Gives r due → not (is_refused r) ≡ is_planned due
 enabled (Ok plan) due gives = ap is_planned (sym gives)
@@ -260,7 +306,3 @@ enabled (Err refusals.NoSuchMatch) due gives = ap is_planned (sym gives)
 enabled (Err refusals.NotDecided) due gives = ap is_planned (sym gives)
 enabled (Err refusals.Unresolved) due gives = ap is_planned (sym gives)
 enabled (Err refusals.StepLimit) due gives = ap is_planned (sym gives)
-
--- no incarnation is the greatest number of all
-pub small-incarnation : (s : State) → IsReady s → IsBacked s → (p : NodeId) → (row_of s.content p).incarnation + 1 < 2 ^ 64
-small-incarnation s ready backed p = let few = backed.few_incarnations p in let steps = ready.few_steps in omega (arith, few, steps)

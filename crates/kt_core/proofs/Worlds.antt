@@ -14,7 +14,7 @@ use Rattle.kt_world.specs.Effect.{step_result}
 use Rattle.kt_world.specs.Forced.{IsForced}
 use Rattle.kt_world.specs.Headline.{IsNoted}
 use Rattle.kt_world.specs.inner.Ready.{IsReady}
-use Rattle.kt_world.specs.Reached.{opening, next_state, or_as_it_was, after, IsReached}
+use Rattle.kt_world.specs.Reached.{opening, next_state, or_as_it_was, after, IsReached, opened as opens}
 use Rattle.kt_world.specs.State.{State}
 use Rattle.kt_core.specs.declared.machine.Machine.{Machine}
 use Rattle.kt_core.specs.inner.Machine.{state_of}
@@ -27,11 +27,10 @@ after-push s (first ∷ later) step = after-push (next_state s first) later step
 
 pub made-reached : (s new : State) (step : Step) → IsReached s → step_result s step ≡ Ok new → IsReached new
 made-reached s new step r e = record {
-  cast = r.cast;
-  is_cast = r.is_cast;
-  are_short = r.are_short;
+  start = r.start;
+  is_start = r.is_start;
   steps = r.steps ++ step ∷ [];
-  leads = after-push (opening r.cast) r.steps step ∙ ap (λ (x : State). next_state x step) r.leads ∙ ap (λ (x : Result State StepError). or_as_it_was x s) e;
+  leads = after-push r.start r.steps step ∙ ap (λ (x : State). next_state x step) r.leads ∙ ap (λ (x : Result State StepError). or_as_it_was x s) e;
 }
 
 -- a world stays one, whether the step was made or refused
@@ -81,5 +80,5 @@ pub opened-world : (m : Machine) (cast : Cast) (c : Content) (honest : Bool) →
 unfolding after
 opened-world m cast c honest opened is short fresh = record {
   ready = let P : State → Type 0 = IsReady in subst P (sym opened) (opening-ready cast is short);
-  reached = λ h. record { cast = cast; is_cast = is; are_short = short; steps = []; leads = sym (opened-state m cast c opened (fresh h)) };
+  reached = λ h. record { start = opening cast; is_start = opens cast is short; steps = []; leads = sym (opened-state m cast c opened (fresh h)) };
 }

@@ -1,16 +1,17 @@
 -- Why a step is refused.
-use Rattle.std.specs.Prelude.{◌≡◌, ◌≢◌, Bool, Result, Ok, Err, None, IsOk}
+use Rattle.std.specs.Prelude.{◌≡◌, ◌≢◌, Bool, Result, Ok, Err, None, IsOk, IsTrue}
 use Rattle.kt_node.specs.declared.plan.Plan.{Plan}
 use Rattle.kt_world.specs.declared.step.Step.{Step}
 use Rattle.kt_world.specs.declared.step.StepError.{StepError}
 use Rattle.kt_world.specs.declared.step.StepError.TheVariants as refusals
 use Rattle.kt_world.specs.declared.told.Told.{Told}
 use Rattle.kt_world.specs.Effect.{applied}
-use Rattle.kt_world.specs.Judge.{planned, planned_by}
+use Rattle.kt_world.specs.Judge.{is_at_limit, planned, planned_by}
 use Rattle.kt_world.specs.Needs.{needs_of, no_needs}
 use Rattle.kt_world.specs.State.{State}
+use Rattle.kt_world.specs.Step.{owner}
 use Rattle.kt_store.specs.Calls.{Counts, raised_by}
-use Rattle.kt_core.specs.Store.{IsFault}
+use Rattle.kt_core.specs.Store.{IsFault, IsWriteFault}
 use Rattle.kt_core.specs.World.{beside}
 
 -- the refusal is the one that is due; want of memory comes only where none is. A store's refusal stands for itself.
@@ -19,10 +20,13 @@ Refuses refusals.OutOfMemory due = IsOk due
 Refuses (refusals.Store refusal) due = Unit {0}
 Refuses refusal due = due ≡ Err refusal
 
--- a store's refusal for damage or for a full store comes never while it is honest
-abbrev pub IsCause : Bool → StepError → Type 0
-IsCause is_honest (refusals.Store refusal) = IsFault is_honest refusal
-IsCause is_honest refusal = Unit {0}
+-- a store's refusal for damage comes never while it is honest; that for a full store only where it has no number left
+-- for the step's owner, and so never in a world that was opened. The limit is told only where it is reached.
+abbrev pub IsCause : State → Step → Bool → StepError → Type 0
+IsCause s step is_honest (refusals.Store refusal) =
+    IsWriteFault is_honest s.content (owner step) refusal × (s.found ≡ None → IsFault is_honest refusal)
+IsCause s step is_honest refusals.StepLimit = IsTrue (is_at_limit s)
+IsCause s step is_honest refusal = Unit {0}
 
 -- what a step leaves of the store's counts: raised by the store's own refusal, and by nothing else. So a step that the
 -- store refused for memory is told from one that had no memory itself.

@@ -16,7 +16,6 @@ use crate::machine::Machine;
 use crate::traffic::send_one;
 use kt_node::{Again, Said};
 use kt_tuple::NodeId;
-use kt_world::MAX_STEPS;
 use std::alloc::{AllocError, Global};
 
 impl Machine {
@@ -26,7 +25,7 @@ impl Machine {
         ensures { IfSome result (λ r. (c : Content) →
             planned (state_of self.now c) (steps.Repeat node) ≡ Ok (again_plan node r)) }
     {
-        if !self.scene.has_worker(node) || self.made >= MAX_STEPS {
+        if !self.scene.has_worker(node) || !self.has_room() {
             return None;
         }
         match self.seen(node) {

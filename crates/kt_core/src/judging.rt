@@ -16,7 +16,7 @@ use crate::causes::cause_of_waiting;
 use crate::machine::Machine;
 use kt_node::{Message, Plan, Refusal, View};
 use kt_tuple::NodeId;
-use kt_world::{MAX_STEPS, Step, StepError, Told};
+use kt_world::{Step, StepError, Told};
 use std::alloc::Global;
 
 /// The owner's plan or refusal, as that of the step.
@@ -196,7 +196,7 @@ impl Machine {
         let judged = self.judged(alloc, told, step);
         // The limit stands behind all reasons of the tables: a step that is not enabled has its own reason at the limit
         // too (docs/DECISIONS.md#steps).
-        if self.made < MAX_STEPS || is_refused(&judged) {
+        if self.has_room() || is_refused(&judged) {
             return judged;
         }
         Err(StepError::StepLimit)

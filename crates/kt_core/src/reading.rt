@@ -1,7 +1,7 @@
 //! What the store says to the owner of a step.
 
 ghost use Rattle.std.specs.Prelude.{◌≡◌, ◌+◌, ◌<◌, ◌^◌, IfOk, IsOk, IsTrue, None, false, if◌then◌else◌};
-ghost use Rattle.kt_store.specs.Content.{next_instance, open_of, permanent_marks, row_of};
+ghost use Rattle.kt_store.specs.Content.{next_instance, open_of, permanent_marks};
 ghost use Rattle.kt_world.specs.Needs.{no_needs, nothing_stored};
 ghost use Rattle.kt_world.specs.inner.Telling.{answer_to, told_by};
 ghost use Rattle.kt_world.specs.Told.{stored_of, tentative_in};
@@ -83,7 +83,6 @@ fn stored_told<S: CkptStore>(
     node: NodeId,
     is_asked: bool,
 ) -> Result<Stored, StoreError>
-    requires { IsTrue (S.is_honest store.old) → (row_of (S.content store.old) node).incarnation + 1 < 2 ^ 64 }
     ensures told { IsRead S.CkptStore store.old store.new
         (λ c s. s ≡ (if is_asked then stored_of c node else nothing_stored)) result }
     ensures quiet { is_asked ≡ false → IsOk result }
@@ -137,7 +136,6 @@ pub(crate) fn tell<S: CkptStore>(
     node: NodeId,
     needs: Needs,
 ) -> Result<Told, StoreError>
-    requires { IsTrue (S.is_honest store.old) → (row_of (S.content store.old) node).incarnation + 1 < 2 ^ 64 }
     ensures told { IsRead S.CkptStore store.old store.new
         (λ c t. t ≡ told_by needs c node) result }
     ensures quiet { needs ≡ no_needs → IsOk result }

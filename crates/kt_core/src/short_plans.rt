@@ -17,7 +17,7 @@ use crate::machine::Machine;
 use crate::traffic::{add_note, make_room_on_link, send_if_any, take_off};
 use kt_node::{Message, ShortPlan};
 use kt_tuple::NodeId;
-use kt_world::{MAX_STEPS, Step};
+use kt_world::Step;
 use std::alloc::{AllocError, Global};
 
 impl Machine {
@@ -28,7 +28,7 @@ impl Machine {
             planned (state_of self.now c) (steps.Issue node) ≡ Ok (plan_of e))) }
         ensures enabled { OnErr result ((c : Content) → IsOk (planned (state_of self.now c) (steps.Issue node))) }
     {
-        if !self.scene.has_worker(node) || self.made >= MAX_STEPS {
+        if !self.scene.has_worker(node) || !self.has_room() {
             return Ok(None);
         }
         match self.seen(node) {
@@ -51,7 +51,7 @@ impl Machine {
         ensures enabled { OnErr result ((c : Content) →
             IsOk (planned (state_of self.now c) (steps.Deliver from to))) }
     {
-        if !self.scene.are_neighbours(from, to) || self.made >= MAX_STEPS {
+        if !self.scene.are_neighbours(from, to) || !self.has_room() {
             return Ok(None);
         }
         let Some(Message::Post(post)) = self.links.front(from, to) else {
@@ -82,7 +82,7 @@ impl Machine {
             worker,
             place,
         };
-        if !self.scene.is_for(step) || self.made >= MAX_STEPS {
+        if !self.scene.is_for(step) || !self.has_room() {
             return Ok(None);
         }
         let number = worker.number();

@@ -9,6 +9,7 @@ ghost use Rattle.kt_world.specs.Judge.{IsUndamaged, planned, planned_by};
 ghost use Rattle.kt_world.specs.declared.told.Told.{Told};
 ghost use Rattle.kt_world.specs.inner.Ready.{CanApply, IsReady};
 ghost use Rattle.kt_world.specs.Step.{owner};
+ghost use Rattle.kt_core.specs.inner.Judged.{IsReadCause};
 ghost use Rattle.kt_core.specs.inner.Machine.{HasRoomFor, state_of};
 ghost use Rattle.kt_core.specs.Stepping.{IsByPlan, IsCalledFor, IsCause, Refuses, step_counted};
 
@@ -43,7 +44,7 @@ fn prepare<S: CkptStore>(
     ensures honest { IsTrue (S.is_honest store.new) → IsTrue (S.is_honest store.old) }
     ensures lasts { NeverFails S.failures → IsTrue (S.is_honest store.old) → IsTrue (S.is_honest store.new) }
     ensures counts { S.counts store.new ≡ step_counted result (S.counts store.old) }
-    ensures cause { IfErr result (IsCause (S.is_honest store.new)) }
+    ensures cause { IfErr result (IsReadCause (state_of machine.old empty_content) (S.is_honest store.new)) }
     ensures called { IsTrue (S.is_honest store.new) →
         IfErr result (IsCalledFor (state_of machine.old (S.content store.old)) step) }
 {
@@ -81,7 +82,8 @@ fn make_by_plan<S: CkptStore>(
     ensures honest { IsTrue (S.is_honest store.new) → IsTrue (S.is_honest store.old) }
     ensures lasts { NeverFails S.failures → IsTrue (S.is_honest store.old) → IsTrue (S.is_honest store.new) }
     ensures counts { S.counts store.new ≡ step_counted result (S.counts store.old) }
-    ensures cause { IfErr result (IsCause (S.is_honest store.new)) }
+    ensures cause { IfErr result
+        (IsCause (state_of machine.new (S.content store.new)) step (S.is_honest store.new)) }
     ensures called { IsTrue (S.is_honest store.new) →
         IfErr result (IsCalledFor (state_of machine.old (S.content store.old)) step) }
 {
@@ -114,7 +116,8 @@ pub(crate) fn make<S: CkptStore>(
     ensures honest { IsTrue (S.is_honest store.new) → IsTrue (S.is_honest store.old) }
     ensures lasts { NeverFails S.failures → IsTrue (S.is_honest store.old) → IsTrue (S.is_honest store.new) }
     ensures counts { S.counts store.new ≡ step_counted result (S.counts store.old) }
-    ensures cause { IfErr result (IsCause (S.is_honest store.new)) }
+    ensures cause { IfErr result
+        (IsCause (state_of machine.new (S.content store.new)) step (S.is_honest store.new)) }
     ensures called { IsTrue (S.is_honest store.new) →
         IfErr result (IsCalledFor (state_of machine.old (S.content store.old)) step) }
 {

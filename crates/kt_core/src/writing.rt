@@ -1,7 +1,7 @@
 //! The write of a plan.
 
 ghost use Rattle.std.specs.Prelude.{◌≡◌, IfSome, IsOk, IsTrue, None};
-ghost use Rattle.kt_world.specs.inner.Backed.{HasNumbers, IsAllowed};
+ghost use Rattle.kt_world.specs.inner.Backed.{IsAllowed};
 ghost use Rattle.kt_world.specs.Writing.{content_after};
 ghost use Rattle.kt_core.specs.inner.Calls.{IsWritten};
 
@@ -16,8 +16,7 @@ pub(crate) fn write<S: CkptStore>(
     write: &Option<Write>,
 ) -> Result<(), StoreError>
     requires allowed { IsTrue (S.is_honest store.old) → IfSome write.now (IsAllowed (S.content store.old) node) }
-    requires numbers { IsTrue (S.is_honest store.old) → HasNumbers (S.content store.old) node }
-    ensures written { IsWritten S.CkptStore store.old store.new
+    ensures written { IsWritten S.CkptStore store.old store.new node
         (content_after node write.now) result }
     ensures quiet { write.now ≡ None → IsOk result }
 {

@@ -16,4 +16,6 @@ pub mod Traces
 pub mod Shares
 pub mod Hearings
 pub mod NamedCauses
+pub mod Renamed
+pub mod SameServices
 pub mod Shared

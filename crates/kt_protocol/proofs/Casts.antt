@@ -1,13 +1,13 @@
 -- Votes cast.
 use Rattle.std.proofs.Common.{◌≡◌, ◌⊎◌, ℕ, Bool, true, false, IsTrue, List, ◌∷◌, Some, None, inl, inr, refl, sym, ap, subst, ◌∙◌}
 use Rattle.std.proofs.lemmas.Bool.{cases_eq}
-use Rattle.kt_protocol.specs.Labels.{Label, no_label, Under, UpTo, at}
+use Rattle.kt_protocol.specs.Labels.{Label, Under, UpTo, at}
 use Rattle.kt_protocol.specs.Lines.{IsIn, here, there, top_sent, top_heard}
 use Rattle.kt_protocol.specs.Machine.{Instance, Check, Rollback, Open, Key, Ballot, Within, Post, Message, Ask, Vote, Mark, Node, Board, State, instance_of}
 use Rattle.kt_protocol.specs.Steps.{change, casting, saying, answering, IsAgreed}
 use Rattle.kt_protocol.specs.Runs.{AreNeighbours}
-use Rattle.kt_protocol.proofs.Labels.{UpTo-trans, UpTo-least, Label-cases}
-use Rattle.kt_protocol.proofs.Lines.{sent-top, heard-attained}
+use Rattle.kt_protocol.proofs.Labels.{UpTo-trans, Label-cases}
+use Rattle.kt_protocol.proofs.Lines.{sent-tail, sent-top, heard-attained}
 use Rattle.kt_protocol.proofs.Streams.{in-cons}
 use Rattle.kt_protocol.proofs.Invariant.{core, a_vote, a_key, a_member, a_mark, IsMember, Gone, Caused, made, lost, cut_soon, Calm, Cover}
 use Rattle.kt_protocol.proofs.Invariant.{NoVote, OneChild, ChildrenSaid, HasVoted, asked, waiting, voted, Standing, top_of, TokenOf, Pair}
@@ -85,19 +85,20 @@ cast_token B p o np n kept link i b k y ms j d e par unvoted member grows said c
 -- what a holder heard from a node that holds in the same check, that node's tentative checkpoint has sent
 held_cover : {peer : ℕ → ℕ → Bool} {B : Board} {p o : ℕ} {np n : Node} {kept : List Post} {link : List Message} (k : ℕ) (b d : Ballot)
     → n.mode ≡ Within (Check k) b → np.mode ≡ Within (Check k) d → np.tent ≡ Some k → B.verdict (Check k) ≡ Open
-    → Local peer B o n → Pair B o p n np kept link → Cover (Check k) (core n) p (top_heard np.line o)
-held_cover {B = B} {p} {o} {np} {n} k b d e f tent opened w r = inr (
+    → Local peer B o n → Local peer B p np → Pair B o p n np kept link → Cover (Check k) (core n) p (top_heard np.line o)
+held_cover {B = B} {p} {o} {np} {n} k b d e f tent opened w v r = inr (
   w.present (Check k) (b.parent, (w.ballot (Check k) b e).member) opened,
-  go (Label-cases (top_heard np.line o) no_label),
+  go (Label-cases (top_heard np.line o) (top_heard np.perm o)),
 ) where
   caused : (y : ℕ) → Caused B o p (core n) np.mode np.perm y (top_heard np.line o) → UpTo (top_heard np.line o) (top_sent n.line p)
   caused y (made j) = sent-top n.line w.falls j
   caused y (lost u) = absurd (subst Gone e u.gone)
   caused y (cut_soon c) = check-rollback (some-one (sym (ap instance_of f) ∙ c.rolls))
 
-  go : UpTo (top_heard np.line o) no_label ⊎ Under no_label (top_heard np.line o) → UpTo (top_heard np.line o) (top_sent n.line p)
-  go (inl u) = UpTo-trans u (UpTo-least (top_sent n.line p))
-  go (inr u) = let h = heard-attained o np.line no_label u in caused h.0 (r.caused h.0 (top_heard np.line o) h.1)
+  go : UpTo (top_heard np.line o) (top_heard np.perm o) ⊎ Under (top_heard np.perm o) (top_heard np.line o)
+      → UpTo (top_heard np.line o) (top_sent n.line p)
+  go (inl u) = UpTo-trans u (UpTo-trans r.agree (sent-tail p w.tail w.falls))
+  go (inr u) = let h = heard-attained o v.tail u in caused h.0 (r.caused h.0 (top_heard np.line o) h.1)
 
 -- who stands behind a node whose ballot is agreed
 agreed_token : {peer : ℕ → ℕ → Bool} {s : State} (o : ℕ) (i : Instance) (b : Ballot) (q : ℕ) → (s.node o).mode ≡ Within i b → s.board.verdict i ≡ Open
@@ -201,7 +202,7 @@ step_agrees peer near s o i b k e par unvoted agreed w =
 
     covers : (p : ℕ) → IsTrue (peer p o) → (j : Instance) (d : Ballot) → (s.node p).mode ≡ Within j d → Standing s.board j (s.node p).tent → j ≡ i
         → Cover j (core n) p (top_of j (s.node p).line (s.node p).perm o)
-    covers p u (Check m) d g st same = held_cover m b d (e ∙ ap (λ j. Within j b) (sym same)) g st ((w.local p).holding m st).0 (w.local o)
+    covers p u (Check m) d g st same = held_cover m b d (e ∙ ap (λ j. Within j b) (sym same)) g st ((w.local p).holding m st).0 (w.local o) (w.local p)
         (w.pair o p (near.both p o u))
     covers p u (Rollback m) d g st same = inl (ap instance_of e ∙ ap Some (sym same))
 

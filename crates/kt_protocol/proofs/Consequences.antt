@@ -116,7 +116,7 @@ must_roll : {peer : ℕ → ℕ → Bool} {s t : State} → Invariant peer s
     → s.link x o ≡ Ask (Rollback k) l c ∷ rest → t.link x o ≡ rest → s.board.verdict (Rollback k) ≡ Open
     → Under l (top_heard (s.node o).line x) → MustRoll s t o
 must_roll {peer} {s} {t} w o x k l c rest near front taken opened u =
-    let h = heard-attained x (s.node o).line l u in
+    let h = heard-attained x (w.local o).tail above in
     record {
       asker = x;
       number = k;
@@ -132,6 +132,10 @@ must_roll {peer} {s} {t} w o x k l c rest near front taken opened u =
     } where
       label : l ≡ top_sent (s.node x).perm o
       label = (((w.pair x o near).asks (Rollback k) l c (subst (λ m. IsIn (Ask (Rollback k) l c) m) (sym front) here)).meant opened).2
+
+      -- the permanent checkpoint heard no more than the asker's has sent
+      above : Under (top_heard (s.node o).perm x) (top_heard (s.node o).line x)
+      above = UpTo-Under (UpTo-trans (w.pair x o near).agree (UpTo-eq (sym label))) u
 
 pub forced_to_roll : {peer : ℕ → ℕ → Bool} → AreNeighbours peer → {s t : State} → Invariant peer s → Step peer s t → (o : ℕ)
     → (s.node o).mode ≡ Up → IsRolling (t.node o).mode
@@ -149,7 +153,7 @@ must_hold : {peer : ℕ → ℕ → Bool} → AreNeighbours peer → {s t : Stat
     → s.link x o ≡ Ask (Check k) l c ∷ rest → t.link x o ≡ rest → s.board.verdict (Check k) ≡ Open
     → Under (top_sent (s.node o).perm x) l → MustHold s t o
 must_hold {peer} near {s} {t} w o x k l c rest link up front taken opened u =
-    let h = heard-attained o (s.node x).line (top_sent (s.node o).perm x) above in
+    let h = heard-attained o (w.local x).tail (UpTo-Under (w.pair o x (near.both x o link)).agree above) in
     record {
       asker = x;
       number = k;

@@ -7,8 +7,9 @@ use Rattle.kt_protocol.specs.Machine.{Check, Rollback, Open, Yes, Ballot, Up, Ap
 use Rattle.kt_protocol.specs.Steps.{sends, hears, joins, begins, restarts, grants, counts, agrees, decides_rollback, decides_check, learns_yes, fails}
 use Rattle.kt_protocol.specs.Steps.{fails_holding, change, pull, push, begin, decide, promote, sending, hearing, joining, loading, sifting, sieve, asking, only}
 use Rattle.kt_protocol.specs.Steps.{answering, consenting, counting, rising, falling, cutting, counted, IsAgreed, IsCohort, MustAsk}
-use Rattle.kt_protocol.specs.Runs.{AreNeighbours, IsBeginning, Run, nothing_done, one_more}
+use Rattle.kt_protocol.specs.Runs.{AreNeighbours, new, IsBeginning, Run, nothing_done, one_more}
 use Rattle.kt_protocol.specs.Laws.{CutsALine, ChecksWhileDown}
+use Rattle.kt_protocol.proofs.Labels.{UpTo-refl}
 use Rattle.kt_protocol.proofs.Cases.{true-false}
 
 -- the nodes 0 and 1 are neighbours, and no others
@@ -23,12 +24,14 @@ new_node = record { mode = Up; life = 1; count = 0; line = []; perm = []; tent =
 abbrev start : State
 start = record { node = λ x. new_node; link = λ p q. []; board = record { verdict = λ i. Open; begun = λ i. false } }
 
-start_is : IsBeginning start
+start_is : IsBeginning pair start
+unfolding top_sent top_heard
 start_is = record {
-  new = λ p. record { mode = refl; line = refl; perm = refl; tent = refl; kept = λ x. refl; votes = refl; joined = refl; said = refl };
+  first = 0;
+  nodes = λ p. new (record { mode = refl; line = refl; perm = refl; tent = refl; kept = λ x. refl; votes = refl; joined = refl; said = refl });
   empty = λ p q. refl;
-  unbegun = λ i. refl;
-  undecided = λ i. refl;
+  fresh = λ i e. refl;
+  agree = λ p q near. UpTo-refl _;
 }
 
 abbrev first : Post

@@ -17,6 +17,7 @@ pub mod Cuts
 pub mod Rises
 pub mod Checks
 pub mod Main
+pub mod Grounds
 pub mod Consequences
 pub mod Rows
 pub mod Examples

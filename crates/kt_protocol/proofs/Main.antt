@@ -1,19 +1,19 @@
 -- The invariant holds in every state that is reached, and what follows from it.
-use Rattle.std.proofs.Common.{◌≡◌, ℕ, Bool, true, List, [], ◌++◌, Some, None, sym, ap, subst, ◌∙◌, arith}
-use Rattle.kt_protocol.specs.Labels.{Under, UpTo}
-use Rattle.kt_protocol.specs.Lines.{IsIn, here, Hears, IsTail, all, top_sent, top_heard}
-use Rattle.kt_protocol.specs.Machine.{Check, Rollback, Post, Message, Ask, Member, Node, Board, State, next_label}
+use Rattle.std.proofs.Common.{◌≡◌, ◌⊎◌, ℕ, Bool, true, List, [], ◌∷◌, ◌++◌, Option, Some, None, inl, inr, sym, ap, subst, ◌∙◌, arith}
+use Rattle.kt_protocol.specs.Labels.{Label, Under, UpTo}
+use Rattle.kt_protocol.specs.Lines.{IsIn, here, there, Hears, Resumes, IsTail, all, top_sent, top_heard}
+use Rattle.kt_protocol.specs.Machine.{Instance, Check, Rollback, Ballot, Mode, Up, Within, Down, Post, Message, Ask, Member, Node, Board, State, next_label}
 use Rattle.kt_protocol.specs.Steps.{Step, sends, hears, keeps, takes, drops, ignores, refuses, grants, joins, begins, restarts, counts, agrees, declines}
 use Rattle.kt_protocol.specs.Steps.{decides_rollback, decides_check, gives_up_rollback, gives_up_check, learns_yes, learns_no, releases, fails, fails_holding}
 use Rattle.kt_protocol.specs.Steps.{change, pull, consenting}
-use Rattle.kt_protocol.specs.Runs.{AreNeighbours, IsNew, IsBeginning, Run, nothing_done, one_more}
+use Rattle.kt_protocol.specs.Runs.{AreNeighbours, IsNew, IsResumed, IsFirst, new, resumed, IsBeginning, Run, nothing_done, one_more}
 use Rattle.kt_protocol.specs.Laws.{IsReached}
-use Rattle.kt_protocol.proofs.Labels.{at-here}
+use Rattle.kt_protocol.proofs.Labels.{at-here, UpTo-Under, UpTo-least}
 use Rattle.kt_protocol.proofs.Lines.{Falls}
 use Rattle.kt_protocol.proofs.Streams.{apps, Rising, ends}
 use Rattle.kt_protocol.proofs.Invariant.{core, a_vote, a_key, a_member, a_mark, Carried, Pair, Way, Local, Invariant}
 use Rattle.kt_protocol.proofs.Frames.{at-same}
-use Rattle.kt_protocol.proofs.Cases.{up-voting, some-none}
+use Rattle.kt_protocol.proofs.Cases.{up-voting, down-voting, some-none}
 use Rattle.kt_protocol.proofs.Talks.{step_sends, step_hears}
 use Rattle.kt_protocol.proofs.Keeps.{step_keeps, step_takes, step_drops}
 use Rattle.kt_protocol.proofs.Answers.{step_ignores, step_refuses, step_grants}
@@ -26,55 +26,105 @@ use Rattle.kt_protocol.proofs.Rises.{step_learns_yes, step_learns_no, step_relea
 use Rattle.kt_protocol.proofs.Checks.{step_gives_up_check, step_promotes}
 
 -- the beginning
-new-local : (peer : ℕ → ℕ → Bool) (B : Board) (o : ℕ) (n : Node) → IsNew n → Local peer B o n
+empty : {A : Type 0} {x : A} → IsIn x [] → ⊥
+empty i = elim i [ ]
+
+-- a node at rest: nothing is to be cut off its line, and it knows nothing of the others but the last labels
+record IsAtRest (n : Node) : Type 0 where
+  mode : (n.mode ≡ Up) ⊎ (n.mode ≡ Down)
+  cut : n.line ≡ n.perm
+  falls : Falls n.line
+  room : (q : ℕ) → Under (top_sent n.line q) (next_label n)
+  silent : (b x : ℕ) (l : Label) → IsIn (Hears b x l) n.line → ⊥
+  tent : n.tent ≡ None
+  kept : (x : ℕ) → n.kept x ≡ []
+  votes : n.votes ≡ []
+  joined : n.joined ≡ []
+  said : n.said ≡ []
+
+new-rests : (n : Node) → IsNew n → IsAtRest n
 unfolding top_sent
-new-local peer B o n w = record {
+new-rests n w = record {
+  mode = inl w.mode;
+  cut = w.line ∙ sym w.perm;
   falls = subst Falls (sym w.line) tt;
-  tail = subst (λ t. IsTail n.perm t) (w.perm ∙ sym w.line) all;
   room = λ q. subst (λ t. Under (top_sent t q) (next_label n)) (sym w.line) (first q);
-  from = λ b x l i. absurd (empty (subst (λ t. IsIn (Hears b x l) t) w.line i));
-  way = subst (λ m. Way m n.tent) (sym w.mode) w.tent;
-  ballot = λ i b e. up-voting w.mode e;
-  root = λ k b e. up-voting w.mode e;
+  silent = λ b x l i. empty (subst (λ t. IsIn (Hears b x l) t) w.line i);
+  tent = w.tent;
+  kept = w.kept;
+  votes = w.votes;
+  joined = w.joined;
+  said = w.said;
+} where
+  first : (q : ℕ) → Under (top_sent [] q) (next_label n)
+  first q = omega arith
+
+resumed-rests : (first o : ℕ) (n : Node) → IsResumed first o n → IsAtRest n
+unfolding top_sent top_heard
+resumed-rests first o n w = record {
+  mode = inr w.mode;
+  cut = w.line ∙ sym w.perm;
+  falls = subst Falls (sym w.line) (λ q. UpTo-least (w.sent q), λ q. UpTo-least (w.heard q), tt);
+  room = λ q. subst (λ t. Under (top_sent t q) (next_label n)) (sym w.line) (w.room q);
+  silent = λ b x l i. only b x l (subst (λ t. IsIn (Hears b x l) t) w.line i);
+  tent = w.tent;
+  kept = w.kept;
+  votes = w.votes;
+  joined = w.joined;
+  said = w.said;
+} where
+  only : (b x : ℕ) (l : Label) → IsIn (Hears b x l) (Resumes o first w.sent w.heard ∷ []) → ⊥
+  only b x l (there i) = empty i
+
+rests : (first o : ℕ) (n : Node) → IsFirst first o n → IsAtRest n
+rests first o n (new w) = new-rests n w
+rests first o n (resumed w) = resumed-rests first o n w
+
+unvoting : {X : Type 0} {m : Mode} {i : Instance} {b : Ballot} → (m ≡ Up) ⊎ (m ≡ Down) → m ≡ Within i b → X
+unvoting (inl up) e = up-voting up e
+unvoting (inr down) e = down-voting down e
+
+rest-way : {m : Mode} {tent : Option ℕ} → (m ≡ Up) ⊎ (m ≡ Down) → tent ≡ None → Way m tent
+rest-way {tent = tent} (inl up) e = subst (λ m. Way m tent) (sym up) e
+rest-way {tent = tent} (inr down) e = subst (λ m. Way m tent) (sym down) tt
+
+rest-local : (peer : ℕ → ℕ → Bool) (B : Board) (o : ℕ) (n : Node) → IsAtRest n → Local peer B o n
+rest-local peer B o n w = record {
+  falls = w.falls;
+  tail = subst (λ t. IsTail n.perm t) (sym w.cut) all;
+  room = w.room;
+  from = λ b x l i. absurd (w.silent b x l i);
+  way = rest-way w.mode w.tent;
+  ballot = λ i b e. unvoting w.mode e;
+  root = λ k b e. unvoting w.mode e;
   members = λ i c m. absurd (empty (subst (λ t. IsIn (a_member i c m.0) t) w.joined m.1));
   present = λ i m e. absurd (empty (subst (λ t. IsIn (a_member i n.life m.0) t) w.joined m.1));
   marks = λ i c m. absurd (empty (subst (λ t. IsIn (a_mark i c) t) w.said m));
   holding = λ k e. some-none (sym e ∙ w.tent);
-} where
-  empty : {A : Type 0} {x : A} → IsIn x [] → ⊥
-  empty i = elim i [ ]
+}
 
-  first : (q : ℕ) → Under (top_sent [] q) (next_label n)
-  first q = omega arith
-
-new-pair : (B : Board) (p q : ℕ) (np nq : Node) (kept : List Post) (link : List Message) → IsNew np → IsNew nq → kept ≡ [] → link ≡ []
-    → Pair B p q np nq kept link
-unfolding top_sent top_heard
-new-pair B p q np nq kept link u v e f = record {
-  agree = subst (λ t. UpTo (top_heard t p) (top_sent np.perm q)) (sym v.perm) (subst (λ t. UpTo (top_heard [] p) (top_sent t q)) (sym u.perm) low);
-  caused = λ b l i. absurd (empty (subst (λ t. IsIn (Hears b p l) t) v.line i));
+rest-pair : (B : Board) (p q : ℕ) (np nq : Node) (kept : List Post) (link : List Message) → IsAtRest np → IsAtRest nq → kept ≡ [] → link ≡ []
+    → UpTo (top_heard nq.perm p) (top_sent np.perm q) → Pair B p q np nq kept link
+rest-pair B p q np nq kept link u v e f agree = record {
+  agree = agree;
+  caused = λ b l i. absurd (v.silent b p l i);
   chain = subst (λ k. Rising (Carried (core np) q) (next_label np) (top_heard nq.line p) (k ++ apps link)) (sym e)
-      (subst (λ m. Rising (Carried (core np) q) (next_label np) (top_heard nq.line p) ([] ++ apps m)) (sym f)
-      (subst (λ t. Rising (Carried (core np) q) (next_label np) (top_heard t p) []) (sym v.line) (ends first)));
+      (subst (λ m. Rising (Carried (core np) q) (next_label np) (top_heard nq.line p) ([] ++ apps m)) (sym f) (ends below));
   asks = λ i l c m. absurd (empty (subst (λ t. IsIn (Ask i l c) t) f m));
-  token = λ i b g. up-voting u.mode g;
+  token = λ i b g. unvoting u.mode g;
   votes = λ i c y m. absurd (empty (subst (λ t. IsIn (a_vote i (a_key p c) y) t) v.votes m));
   cover = λ k g. some-none (sym g ∙ u.tent);
 } where
-  empty : {A : Type 0} {x : A} → IsIn x [] → ⊥
-  empty i = elim i [ ]
+  below : Under (top_heard nq.line p) (next_label np)
+  below = UpTo-Under (subst (λ t. UpTo (top_heard t p) (top_sent np.line q)) (sym v.cut)
+      (subst (λ t. UpTo (top_heard nq.perm p) (top_sent t q)) (sym u.cut) agree)) (u.room q)
 
-  low : UpTo (top_heard [] p) (top_sent [] q)
-  low = omega arith
-
-  first : Under (top_heard [] p) (next_label np)
-  first = omega arith
-
-beginning : (peer : ℕ → ℕ → Bool) (s : State) → IsBeginning s → Invariant peer s
+beginning : (peer : ℕ → ℕ → Bool) (s : State) → IsBeginning peer s → Invariant peer s
 beginning peer s w = record {
-  fresh = λ i e. w.undecided i;
-  local = λ o. new-local peer s.board o (s.node o) (w.new o);
-  pair = λ p q t. new-pair s.board p q (s.node p) (s.node q) ((s.node q).kept p) (s.link p q) (w.new p) (w.new q) ((w.new q).kept p) (w.empty p q);
+  fresh = w.fresh;
+  local = λ o. rest-local peer s.board o (s.node o) (at_rest o);
+  pair = λ p q t. rest-pair s.board p q (s.node p) (s.node q) ((s.node q).kept p) (s.link p q) (at_rest p) (at_rest q)
+      ((at_rest q).kept p) (w.empty p q) (w.agree p q t);
   trees = record {
     descends = λ x i c m. absurd (nobody x (a_member i c m.0) m.1);
     below = λ x i c k m. absurd (nobody x (a_member i c (Some k)) m);
@@ -84,10 +134,11 @@ beginning peer s w = record {
     asker = λ x i c k m. absurd (nobody x (a_member i c (Some k)) m);
   };
 } where
+  at_rest : (p : ℕ) → IsAtRest (s.node p)
+  at_rest p = rests w.first p (s.node p) (w.nodes p)
+
   nobody : (x : ℕ) (m : Member) → IsIn m (s.node x).joined → ⊥
-  nobody x m i = empty (subst (λ t. IsIn m t) (w.new x).joined i) where
-    empty : IsIn m [] → ⊥
-    empty i = elim i [ ]
+  nobody x m i = empty (subst (λ t. IsIn m t) (at_rest x).joined i)
 
 -- each step
 stays : (peer : ℕ → ℕ → Bool) → AreNeighbours peer → (s t : State) → Invariant peer s → Step peer s t → Invariant peer t

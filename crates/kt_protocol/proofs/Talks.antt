@@ -3,7 +3,7 @@ use Rattle.std.proofs.Common.{◌≡◌, ◌≢◌, ◌⊎◌, ℕ, suc, Bool, I
 use Rattle.std.proofs.Common.{append-nil, arith}
 use Rattle.std.proofs.lemmas.Bool.{cases_eq, eq-eqb, ne_eqb}
 use Rattle.kt_protocol.specs.Labels.{Label, Under, UpTo}
-use Rattle.kt_protocol.specs.Lines.{IsIn, here, there, Act, Sends, Hears, top_sent, top_heard, more}
+use Rattle.kt_protocol.specs.Lines.{IsIn, here, there, Act, Sends, Hears, Resumes, top_sent, top_heard, more}
 use Rattle.kt_protocol.specs.Machine.{Instance, Check, Rollback, Mode, Up, Post, Message, App, Ask, Member, Mark, Node, Board, State, instance_of, next_label}
 use Rattle.kt_protocol.specs.Steps.{change, pull, push, only, sending, hearing}
 use Rattle.kt_protocol.specs.Runs.{AreNeighbours}
@@ -30,14 +30,17 @@ fine-up {c = c} {q = q} {i} {l} up none f =
 abbrev act_by : Act → ℕ
 act_by (Sends b x l) = b
 act_by (Hears b x l) = b
+act_by (Resumes _ _ _ _) = 0
 
 abbrev act_peer : Act → ℕ
 act_peer (Sends b x l) = x
 act_peer (Hears b x l) = x
+act_peer (Resumes _ _ _ _) = 0
 
 abbrev act_label : Act → Label
 act_label (Sends b x l) = l
 act_label (Hears b x l) = l
+act_label (Resumes _ _ _ _) = record { life = 0; count = 0 }
 
 pub app-ask : {m : Post} {i : Instance} {l : Label} {c : ℕ} {X : Type 0} → Ask i l c ≡ App m → X
 app-ask e = absurd (subst IsAsk e tt) where
@@ -152,7 +155,7 @@ step_sends peer near s o y by t up w = lift peer near s o new (push o (only y m)
     mine : Local peer s.board o new
     mine = record {
       falls = (was.room y, was.falls);
-      tail = more was.tail;
+      tail = more tt was.tail;
       room = λ q. room q (cases_eq y q);
       from = λ b x l i. was.from b x l (heard-one i);
       way = was.way;
@@ -255,7 +258,7 @@ pub hears-local : {peer : ℕ → ℕ → Bool} {B : Board} {o : ℕ} {n : Node}
     → Local peer B o record n { line = Hears m.by x m.label ∷ n.line; kept = held }
 hears-local {peer} {B} {o} {n} x m held up t u was = record {
   falls = (u, was.falls);
-  tail = more was.tail;
+  tail = more tt was.tail;
   room = λ q. subst (λ l. Under l (next_label n)) (sym (sent-heard m.by x q m.label n.line)) (was.room q);
   from = λ b y l i. from b y l (in-cons i);
   way = was.way;

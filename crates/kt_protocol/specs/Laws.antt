@@ -30,7 +30,7 @@ IsSteady s = (x : ℕ) → IsStanding (s.node x).mode
 pub record IsReached (peer : ℕ → ℕ → Bool) (t : State) : Type 0 where
   pub near : AreNeighbours peer
   pub start : State
-  pub begins : IsBeginning start
+  pub begins : IsBeginning peer start
   pub run : Run peer start t
 
 -- the step from s to t takes an ask of a rollback off a link to o, and o heard from the asker what the asker's

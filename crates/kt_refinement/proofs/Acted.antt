@@ -23,7 +23,7 @@ use Rattle.kt_world.proofs.Shared.{IsAlive, backed-in, line-long, Holds}
 use Rattle.kt_protocol.specs.Labels.{Label}
 use Rattle.kt_protocol.specs.Lines.{IsIn, Act, Sends, Hears, top_sent, top_heard}
 use Rattle.kt_protocol.specs.Machine.{Node, Post, State}
-use Rattle.kt_refinement.proofs.Reading.{IsSaying, Says, WasHeard}
+use Rattle.kt_refinement.proofs.Reading.{IsSaying, Says, IsKnown, AllTalk}
 use Rattle.kt_refinement.proofs.Represents.{kept_from, LabelsAre, NodeIs, NodeIn, Stands, TentativeIs, undecided, Represents}
 use Rattle.kt_refinement.proofs.Known.{alive-is}
 use Rattle.kt_refinement.proofs.RollsBack.{stored-stands}
@@ -43,7 +43,8 @@ pub record ActsAs (s : World) (p : NodeId) (n : Live) (t : Turning) (a : Done) (
   pub sends : (by y : ℕ) (l : Label) → IsIn (Sends by y l) acts → by ≡ length s.history + 1
   pub says : IsSaying a.what → Says (length s.history + 1) acts
   pub hears : (by x : ℕ) (l : Label) → IsIn (Hears by x l) acts → a.by ≡ by
-  pub cause : a.by ≢ 0 → WasHeard a.by (acts ++ x.line)
+  pub cause : a.by ≢ 0 → IsKnown a.by (acts ++ x.line)
+  pub talks : AllTalk acts
   pub counted : said_count n.count t.said ≡ count
   pub sent : LabelsAre s.cast p (label_at (said_in (next_label n) n.sent t.said)) top_sent (acts ++ x.line)
   pub received : LabelsAre s.cast p (label_at (heard_in n.received t.heard)) top_heard (acts ++ x.line)
@@ -57,7 +58,7 @@ pub acted-is : (s : World) (c : State) → Represents s c → Holds s → (p : N
     (Some (Alive (turned (act_turn body change heard said) n))) (row_of s.content p)
     (verdict_on s.content (row_of s.content p).tentative) (acted acts count kept (c.node (node_index p)))
 acted-is s c is h p n body change heard said a acts count kept alive up so = subst Numbers (sym (line-more s.history a p so.own)) (record {
-  line = reads-more s.history a numbers x.line acts was.line so.sends so.says so.hears so.cause;
+  line = reads-more s.history a numbers x.line acts was.line so.sends so.says so.hears so.cause so.talks;
   life = was.life;
   state = record {
     phase = was.state.phase;

@@ -22,10 +22,10 @@ use Rattle.kt_world.specs.Effect.{noted}
 use Rattle.kt_world.specs.inner.Ready.{AreNeighbours}
 use Rattle.kt_world.proofs.Shared.{note_at-next}
 use Rattle.kt_protocol.specs.Labels.{Label}
-use Rattle.kt_protocol.specs.Lines.{IsIn, there, Act, Sends, Hears, top_sent, top_heard}
+use Rattle.kt_protocol.specs.Lines.{IsIn, here, there, Act, Sends, Hears, Resumes, top_sent, top_heard}
 use Rattle.kt_protocol.proofs.Shared.{sent-here, sent-else, sent-heard, heard-here, heard-else, heard-sent}
 use Rattle.kt_refinement.proofs.Numbers.{label_of}
-use Rattle.kt_refinement.proofs.Reading.{IsSaying, Says, Reads, nothing, one, WasHeard, reads-later}
+use Rattle.kt_refinement.proofs.Reading.{IsSaying, Says, Reads, nothing, found, one, IsKnown, was_heard, was_before, AllTalk, reads-later}
 use Rattle.kt_refinement.proofs.Represents.{LabelsAre, Stands}
 use Rattle.kt_refinement.proofs.Cohorts.{is_across}
 use Rattle.kt_refinement.proofs.Frames.{cases-node, apart-index}
@@ -52,11 +52,11 @@ stands-more cast h next p numbers n stored acts short s = record {
 -- the stack with the acts of the next note on it
 pub reads-more : (h : List Note) (a : Done) (numbers : List ℕ) (acts new : List Act) → Reads h numbers acts
     → ((by y : ℕ) (l : Label) → IsIn (Sends by y l) new → by ≡ length h + 1) → (IsSaying a.what → Says (length h + 1) new)
-    → ((by x : ℕ) (l : Label) → IsIn (Hears by x l) new → a.by ≡ by) → (a.by ≢ 0 → WasHeard a.by (new ++ acts))
+    → ((by x : ℕ) (l : Label) → IsIn (Hears by x l) new → a.by ≡ by) → (a.by ≢ 0 → IsKnown a.by (new ++ acts)) → AllTalk new
     → Reads (h ++ notes.Act a ∷ []) (numbers ++ (length h + 1) ∷ []) (new ++ acts)
-reads-more h a numbers acts new reads sends says hears cause =
+reads-more h a numbers acts new reads sends says hears cause talks =
     one (length h + 1) new (reads-later (Some (notes.Act a)) reads)
-    (record { act = a; is_act = note_at-next h (notes.Act a); sends = sends; says = says; hears = hears; cause = cause })
+    (record { act = a; is_act = note_at-next h (notes.Act a); sends = sends; says = says; hears = hears; cause = cause; talks = talks })
 
 -- ---- tables
 
@@ -110,19 +110,34 @@ same-act h n m a b e f g = inner (sym f ∙ ap (note_at h) e ∙ g) where
   inner : Some (notes.Act a) ≡ Some (notes.Act b) → a ≡ b
   inner e = cc (e)
 
--- the cause of an act that stands in the line was heard
+pub known-more : (new acts : List Act) (by : ℕ) → IsKnown by acts → IsKnown by (new ++ acts)
+known-more new acts by (was_heard w) =
+    was_heard (record { from = w.from; label = w.label; among = in-append new acts (Hears by w.from w.label) w.among })
+known-more new acts by (was_before w) = was_before (record {
+  node = w.node;
+  first = w.first;
+  sent = w.sent;
+  heard = w.heard;
+  among = in-append new acts (Resumes w.node w.first w.sent w.heard) w.among;
+  below = w.below;
+})
+
+-- the cause of an act that stands in the line was heard, or came before the node was resumed
 pub cause-heard : {h : List Note} {numbers : List ℕ} {acts : List Act} → Reads h numbers acts → (n : ℕ) (a : Done)
-    → Contains numbers n → note_at h n ≡ Some (notes.Act a) → a.by ≢ 0 → WasHeard a.by acts
+    → Contains numbers n → note_at h n ≡ Some (notes.Act a) → a.by ≢ 0 → IsKnown a.by acts
 cause-heard {h} nothing n a on is some = absurd (Contains-none n on)
+cause-heard {h} (found numbers p first sent heard all) n a on is some = was_before (record {
+  node = node_index p;
+  first = first;
+  sent = sent;
+  heard = heard;
+  among = here;
+  below = all.causes n a on is;
+})
 cause-heard {h} (one {numbers} {acts} m new reads act) n a on is some =
     elim (Contains-push_cases numbers m n on) [
-      | inl old ↦ let w = cause-heard reads n a old is some in record {
-        from = w.from;
-        label = w.label;
-        among = in-append new acts
-            (Hears a.by w.from w.label) w.among;
-      }
+      | inl old ↦ known-more new acts a.by (cause-heard reads n a old is some)
       | inr e ↦
           let same : act.act ≡ a = same-act h n m act.act a e act.is_act is in
-          subst (λ (b : Done). b.by ≢ 0 → WasHeard b.by (new ++ acts)) same act.cause some
+          subst (λ (b : Done). b.by ≢ 0 → IsKnown b.by (new ++ acts)) same act.cause some
     ]

@@ -1,11 +1,12 @@
 -- What the machine's theorem says of a state of the world that stands for one of the machine: its permanent checkpoints
 -- hold with each act all of its past, and where no node is down or rolls back, so do the lines.
-use Rattle.std.proofs.Common.{◌≡◌, ℕ, Bool, true, IsTrue, List, take, take_all, length, Contains, Option, Some, None, refl, sym, subst, arith}
+use Rattle.std.proofs.Common.{◌≡◌, ℕ, ◌≤◌, Bool, true, IsTrue, List, take, take_all, length, Contains, Option, Some, None, refl, sym, subst, arith}
 use Rattle.std.specs.Prelude.{is_some}
 use Rattle.kt_tuple.specs.declared.node.NodeId.{NodeId}
 use Rattle.kt_tuple.specs.declared.node.NodeId.TheVariants as ids
 use Rattle.kt_tuple.specs.Node.{node_index}
-use Rattle.kt_history.specs.Line.{line}
+use Rattle.kt_history.specs.Line.{line, IsAct}
+use Rattle.kt_history.specs.WellFormed.{CausesComeFirst}
 use Rattle.kt_history.specs.Survival.{Stands, Survives}
 use Rattle.kt_lines.proofs.Shared.{surviving_tuples, survivors_run}
 use Rattle.kt_history.proofs.Shared.{CausesComeFirst-from_well_formed}
@@ -14,24 +15,43 @@ use Rattle.kt_node.specs.declared.live.Phase.TheVariants as phases
 use Rattle.kt_node.specs.Node.{Node as RealNode, Live, Alive, Down as IsDownNode, mode_in}
 use Rattle.kt_world.specs.Asks.{setting_of}
 use Rattle.kt_world.specs.Cast.{Cast, is_shard}
-use Rattle.kt_world.specs.Cut.{IsCausallyClosed, permanent_length}
+use Rattle.kt_world.specs.Cut.{IsInCut, IsCausallyClosed, permanent_length}
 use Rattle.kt_world.specs.Headline.{IsSteady, is_steady_row, is_steady_mode}
 use Rattle.kt_world.specs.State.{State as World, node}
 use Rattle.kt_world.proofs.Shared.{IsAlive, bags_held, shard-node, Holds}
 use Rattle.kt_protocol.specs.Machine.{Mode, Node, State}
 use Rattle.kt_protocol.specs.Laws.{IsStanding, IsSteady as IsMachineSteady}
-use Rattle.kt_protocol.proofs.Shared.{Invariant, agree, remembered}
+use Rattle.kt_protocol.specs.Lines.{Act}
+use Rattle.kt_protocol.proofs.Shared.{Invariant, HasGround, OnGround, agree, remembered, tail-in}
 use Rattle.kt_world.specs.Headline.{IsSteadyRun}
 use Rattle.kt_refinement.proofs.Numbers.{named, index-named, peers}
-use Rattle.kt_refinement.proofs.Reading.{Reads}
+use Rattle.kt_refinement.proofs.Letters.{Lettered}
+use Rattle.kt_refinement.proofs.Reading.{Reads, IsFound}
 use Rattle.kt_refinement.proofs.Represents.{StateIs, PhaseIs, Represents}
-use Rattle.kt_refinement.proofs.Closing.{closed-by}
+use Rattle.kt_refinement.proofs.Closing.{closed-by, before-stands}
 
 -- ---- the permanent checkpoints
 
-pub permanent-closed : (s : World) (c : State) → Invariant (peers s.cast) c → Represents s c → IsCausallyClosed s.history (permanent_length s.content)
-permanent-closed s c inv is =
+-- an act that came before its hearer was resumed came before its own node was, whose permanent checkpoint has it
+early-act : (s : World) (c : State) → (letters : Lettered s.history c) → (acts : List Act) (q : NodeId) → OnGround letters.first (node_index q) acts
+    → (g : ℕ) → IsFound g acts → (is : IsAct s.history g)
+    → HasGround letters.first (node_index is.0.node) (c.node (node_index is.0.node)).perm × (g ≤ letters.first)
+early-act s c letters acts q on g early is =
+    let ground = on early.node early.first early.sent early.heard early.among in
+    let below : g ≤ letters.first = let le = early.below in let e = ground.1 in omega (arith, le, e) in
+    (letters.has g is.0 below is.1, below)
+
+pub permanent-closed : (s : World) (c : State) → Invariant (peers s.cast) c → Represents s c → Lettered s.history c → CausesComeFirst s.history
+    → IsCausallyClosed s.history (permanent_length s.content)
+permanent-closed s c inv is letters causes =
     closed-by s.history (permanent_length s.content) (λ k. (c.node k).perm) (λ p. (is.nodes p).perm.reads) (λ p q by l heard. agree inv p q by l heard)
+    early causes
+  where
+    early : (q : NodeId) (g : ℕ) → IsFound g (c.node (node_index q)).perm → IsAct s.history g → IsInCut s.history (permanent_length s.content) g
+    early q g found act =
+        let has = early-act s c letters (c.node (node_index q)).perm q (letters.grounds (node_index q)).perm g found act in
+        let p = act.0.node in
+        (p, before-stands (is.nodes p).perm.reads p letters.first has.0.sent has.0.heard has.0.among g act.0 has.1 act.1 refl)
 
 -- ---- steady states
 
@@ -50,23 +70,31 @@ steady-is s c is steady k =
     let P : ℕ → Type 0 = λ j. IsStanding (c.node j).mode in
     subst P (index-named k) (standing-row s.cast (named k) (node s (named k)) (c.node (node_index (named k))) (is.nodes (named k)).state (steady (named k)))
 
-pub steady-closed : (s : World) (c : State) → Invariant (peers s.cast) c → Represents s c → IsSteady s
+pub steady-closed : (s : World) (c : State) → Invariant (peers s.cast) c → Represents s c → Lettered s.history c → CausesComeFirst s.history → IsSteady s
     → IsCausallyClosed s.history (λ p. length (line s.history p))
-steady-closed s c inv is steady =
-    closed-by s.history (λ p. length (line s.history p)) (λ k. (c.node k).line) (λ p.
-    subst (λ (l : List ℕ). Reads s.history l (c.node (node_index p)).line) (sym (whole p)) (is.nodes p).line)
-    (λ p q by l heard. remembered inv (steady-is s c is steady) p q by l heard)
+steady-closed s c inv is letters causes steady =
+    closed-by s.history (λ p. length (line s.history p)) (λ k. (c.node k).line) reads
+    (λ p q by l heard. remembered inv (steady-is s c is steady) p q by l heard) early causes
   where
     whole : (p : NodeId) → take (length (line s.history p)) (line s.history p) ≡ line s.history p
     whole p = take_all (length (line s.history p)) (line s.history p) (omega arith)
 
+    reads : (p : NodeId) → Reads s.history (take (length (line s.history p)) (line s.history p)) (c.node (node_index p)).line
+    reads p = subst (λ (l : List ℕ). Reads s.history l (c.node (node_index p)).line) (sym (whole p)) (is.nodes p).line
+
+    early : (q : NodeId) (g : ℕ) → IsFound g (c.node (node_index q)).line → IsAct s.history g → IsInCut s.history (λ p. length (line s.history p)) g
+    early q g found act =
+        let has = early-act s c letters (c.node (node_index q)).line q (letters.grounds (node_index q)).line g found act in
+        let p = act.0.node in
+        (p, before-stands (reads p) p letters.first has.0.sent has.0.heard (tail-in (inv.local (node_index p)).tail has.0.among) g act.0 has.1 act.1 refl)
+
 -- each act that is remembered survives
-pub steady-survives : (s : World) (c : State) → Invariant (peers s.cast) c → Represents s c → IsSteady s → (n : ℕ) → Stands s.history n → Survives s.history n
-steady-survives s c inv is steady n stands e past lost =
+pub steady-survives : (s : World) (c : State) → Invariant (peers s.cast) c → Represents s c → Lettered s.history c → CausesComeFirst s.history → IsSteady s → (n : ℕ) → Stands s.history n → Survives s.history n
+steady-survives s c inv is letters causes steady n stands e past lost =
     let whole : (p : NodeId) → take (length (line s.history p)) (line s.history p) ≡ line s.history p =
     λ p. take_all (length (line s.history p)) (line s.history p) (omega arith) in
     let C : ℕ → List ℕ → Type 0 = λ k l. Contains l k in
-    let among = steady-closed s c inv is steady e n past (stands.0, subst (C n) (sym (whole stands.0)) stands.1) in
+    let among = steady-closed s c inv is letters causes steady e n past (stands.0, subst (C n) (sym (whole stands.0)) stands.1) in
     lost (among.0, subst (C e) (whole among.0) among.1)
 
 -- and no shard is down
@@ -80,9 +108,9 @@ steady-alive s h steady r there =
     by (Some IsDownNode) e some steady = absurd (cc (steady))
     by (Some (Alive n)) e some steady = (n, e)
 
-pub steady-run : (s : World) (c : State) → Invariant (peers s.cast) c → Represents s c → Holds s → IsSteady s → IsSteadyRun s
-steady-run s c inv is h steady =
-    let all = steady-survives s c inv is steady in record {
+pub steady-run : (s : World) (c : State) → Invariant (peers s.cast) c → Represents s c → Lettered s.history c → Holds s → IsSteady s → IsSteadyRun s
+steady-run s c inv is letters h steady =
+    let all = steady-survives s c inv is letters (CausesComeFirst-from_well_formed s.history h.sound.well_formed) steady in record {
       all_survive = all;
       tuples = surviving_tuples s.history;
       one_run = survivors_run (setting_of s.cast) s.history (CausesComeFirst-from_well_formed s.history h.sound.well_formed) h.sound.legal;

@@ -29,13 +29,13 @@ use Rattle.kt_world.specs.Cut.{permanent_length}
 use Rattle.kt_world.specs.Told.{told, tentative_in}
 use Rattle.kt_world.specs.Effect.{applied}
 use Rattle.kt_world.proofs.Shared.{IsAlive, Comes, PlanOf, neighbours-turned, Holds}
-use Rattle.kt_protocol.specs.Labels.{Label, Under}
-use Rattle.kt_protocol.specs.Lines.{IsIn, here, Act, Sends, Hears, top_sent, top_heard}
+use Rattle.kt_protocol.specs.Labels.{Label, Under, UpTo}
+use Rattle.kt_protocol.specs.Lines.{IsIn, here, there, Act, Sends, Hears, Resumes, top_sent, top_heard}
 use Rattle.kt_protocol.specs.Machine.{Check, Rollback, Ask, Message, State}
-use Rattle.kt_protocol.proofs.Shared.{Under-not, Under-UpTo, UpTo-eq, Falls-tail, sent-top, heard-attained, tail-in, up-gone, some-none, rolling-none}
+use Rattle.kt_protocol.proofs.Shared.{Under-not, Under-UpTo, UpTo-Under, UpTo-trans, UpTo-eq, Falls-tail, sent-top, heard-attained, tail-in, up-gone, some-none, rolling-none}
 use Rattle.kt_protocol.proofs.Shared.{up_to-false, core, Caused, made, lost, cut_soon, Invariant}
 use Rattle.kt_refinement.proofs.Numbers.{peers, label_of}
-use Rattle.kt_refinement.proofs.Reading.{IsSaying, Says, Reads, nothing, one}
+use Rattle.kt_refinement.proofs.Reading.{IsSaying, Says, Reads, nothing, found, one, IsFound}
 use Rattle.kt_refinement.proofs.Mail.{in-front, in-parts}
 use Rattle.kt_refinement.proofs.Letters.{IsSaid, Fits, Lettered, same-to, same-label}
 use Rattle.kt_refinement.proofs.Represents.{carried, Represents}
@@ -60,6 +60,7 @@ pub record WasCaused (h : List Note) (numbers : List ℕ) (by : ℕ) : Type 0 wh
 pub heard-stands : {h : List Note} {numbers : List ℕ} {acts : List Act} → Reads h numbers acts → (by x : ℕ) (l : Label) → IsIn (Hears by x l) acts
     → WasCaused h numbers by
 heard-stands nothing by x l i = elim i [ ]
+heard-stands (found numbers p first sent heard all) by x l (there i) = elim i [ ]
 heard-stands (one {numbers} {acts} n new reads act) by x l i = elim (in-parts new acts (Hears by x l) i) [
   | inl now ↦ record {
     act = n;
@@ -78,13 +79,23 @@ heard-stands (one {numbers} {acts} n new reads act) by x l i = elim (in-parts ne
       }
 ]
 
--- an act among the numbers that sends by its kind has sent
-pub said-stands : {h : List Note} {numbers : List ℕ} {acts : List Act} → Reads h numbers acts → (by p : ℕ) → IsSaid h by p → Contains numbers by
-    → Says by acts
-said-stands nothing by p said among = absurd (Contains-none by among)
-said-stands {h} (one {numbers} {acts} n new reads act) by p said among = elim (Contains-push_cases numbers n by among) [
+-- an act among the numbers that sends by its kind has sent, if it came since its node was resumed
+pub said-stands : {h : List Note} {numbers : List ℕ} {acts : List Act} → Reads h numbers acts → (by p : ℕ) → IsSaid h by p → (IsFound by acts → ⊥)
+    → Contains numbers by → Says by acts
+said-stands nothing by p said since among = absurd (Contains-none by among)
+said-stands (found numbers q first sent heard all) by p said since among =
+    absurd (since (record { node = node_index q; first = first; sent = sent; heard = heard; among = here; below = all.below by among }))
+said-stands {h} (one {numbers} {acts} n new reads act) by p said since among = elim (Contains-push_cases numbers n by among) [
   | inl old ↦
-      let w = said-stands reads by p said old in record { to = w.to; label = w.label; among = in-append new acts (Sends by w.to w.label) w.among }
+      let later : IsFound by acts → ⊥ = λ f. since (record {
+        node = f.node;
+        first = f.first;
+        sent = f.sent;
+        heard = f.heard;
+        among = in-append new acts (Resumes f.node f.first f.sent f.heard) f.among;
+        below = f.below;
+      }) in
+      let w = said-stands reads by p said later old in record { to = w.to; label = w.label; among = in-append new acts (Sends by w.to w.label) w.among }
   | inr e ↦
       let same : act.act ≡ said.act = same-act h by n act.act said.act e act.is_act said.is_act in
       let w : Says n new = act.says (subst (λ (a : Done). IsSaying a.what) (sym same) said.saying) in
@@ -105,7 +116,7 @@ beyond s c inv is letters hearer sender by l i above = (
     cause = by;
     heard = record { act = w.done; is_act = w.is_act; names = w.names; some = some };
     sent = record { act = fits.said.act; is_act = fits.said.is_act; own = node_index-injective fits.said.act.node sender fits.said.own };
-    beyond = λ among. lacks (said-stands (is.nodes sender).perm.reads by x fits.said among);
+    beyond = λ among. lacks (said-stands (is.nodes sender).perm.reads by x fits.said since among);
   },
   refl,
 ) where
@@ -118,8 +129,16 @@ beyond s c inv is letters hearer sender by l i above = (
   w : WasCaused s.history (line s.history hearer) by
   w = heard-stands (is.nodes hearer).line by (node_index sender) l i
 
-  fits : Fits s.history letters.letter by (node_index sender) (node_index hearer) l
+  fits : Fits s.history letters.first letters.letter by (node_index sender) (node_index hearer) l
   fits = (letters.fit.nodes (node_index hearer)).heard by (node_index sender) l i
+
+  since : IsFound by (c.node (node_index sender)).perm → ⊥
+  since f =
+      let ground = (letters.grounds (node_index sender)).perm f.node f.first f.sent f.heard f.among in
+      let low = f.below in
+      let high = fits.since in
+      let e = ground.1 in
+      omega (arith, low, high, e)
 
   some : by ≢ 0
   some e = let within = note_at-within s.history by (notes.Act fits.said.act) fits.said.is_act in omega (arith, within.0, e)
@@ -127,7 +146,7 @@ beyond s c inv is letters hearer sender by l i above = (
   lacks : Says by (c.node (node_index sender)).perm → ⊥
   lacks said =
       let own = inv.local x in
-      let other : Fits s.history letters.letter by x said.to said.label =
+      let other : Fits s.history letters.first letters.letter by x said.to said.label =
       (letters.fit.nodes x).sent by said.to said.label (tail-in own.tail said.among) in
       let P : ℕ → Type 0 = λ k. IsIn (Sends by k said.label) (c.node x).perm in
       let Q : Label → Type 0 = λ m. IsIn (Sends by o m) (c.node x).perm in
@@ -141,7 +160,7 @@ pub has-to-roll : (s : World) (c : State) → Invariant (peers s.cast) c → Rep
     → Comes s p q (messages.RollAsk ask) → IsAlive s q n → IsTrue (is_undecided (told s (Deliver p q)).verdict)
     → up_to (label_at n.received (node_number p)) ask.label ≡ false → HasHeardBeyond s.history q p (permanent_length s.content p)
 has-to-roll s c inv is letters p q n ask comes alive undecided above =
-    let heard = heard-attained (node_index p) (c.node (node_index q)).line (label_of ask.label) over in
+    let heard = heard-attained (node_index p) (inv.local (node_index q)).tail (UpTo-Under low over) in
     (beyond s c inv is letters q p heard.0 (top_heard (c.node (node_index q)).line (node_index p)) heard.1
     (subst (λ l. Under l (top_heard (c.node (node_index q)).line (node_index p))) meant over)).0
   where
@@ -160,6 +179,10 @@ has-to-roll s c inv is letters p q n ask comes alive undecided above =
         (label_of ask.label) ask.incarnation on in
         (fine.meant (rollback-open s c is ask.instance (asked-open s p q (messages.RollAsk ask) ask.instance comes refl undecided))).2
 
+    -- what its own permanent checkpoint has heard, the asker's has sent
+    low : UpTo (top_heard (c.node (node_index q)).perm (node_index p)) (label_of ask.label)
+    low = UpTo-trans (inv.pair (node_index p) (node_index q) (near-is s p q comes.neighbours)).agree (UpTo-eq (sym meant))
+
 -- ---- an ask to take a checkpoint
 
 pub has-to-hold : (s : World) (c : State) → Invariant (peers s.cast) c → Represents s c → Holds s → Lettered s.history c → (p q : NodeId) (n : Live)
@@ -167,7 +190,7 @@ pub has-to-hold : (s : World) (c : State) → Invariant (peers s.cast) c → Rep
     → check_reaction n p ask (told s (Deliver p q)).verdict (told s (Deliver p q)).permanent (told s (Deliver p q)).tentative ≡ reactions.Joins
     → HasHeardAhead s.history p q (permanent_length s.content q)
 has-to-hold s c inv is h letters p q n ask comes alive up undecided reacts =
-    let heard = heard-attained o (c.node x).line (top_sent (c.node o).perm x) over in
+    let heard = heard-attained o (inv.local x).tail (UpTo-Under (inv.pair o x (near-is s q p (neighbours-turned s.cast p q comes.neighbours))).agree over) in
     let more = beyond s c inv is letters p q heard.0 (top_heard (c.node x).line o) heard.1 over in
     let sent = by_whom heard.0 (top_heard (c.node x).line o)
     ((inv.pair o x (near-is s q p (neighbours-turned s.cast p q comes.neighbours))).caused heard.0 (top_heard (c.node x).line o) heard.1) in

@@ -32,7 +32,7 @@ use Rattle.kt_protocol.specs.Steps.{sends, sending, only, change, push}
 use Rattle.kt_protocol.specs.Runs.{Run, one_more}
 use Rattle.kt_protocol.proofs.Shared.{at-here}
 use Rattle.kt_refinement.proofs.Numbers.{peers, label_of}
-use Rattle.kt_refinement.proofs.Reading.{IsSaying, WasHeard}
+use Rattle.kt_refinement.proofs.Reading.{IsSaying, IsKnown, was_heard}
 use Rattle.kt_refinement.proofs.Letters.{Quiet}
 use Rattle.kt_refinement.proofs.Represents.{carried, kept_from, LabelsAre, NodeIn, NodeIs, Represents}
 use Rattle.kt_refinement.proofs.Links.{to}
@@ -128,7 +128,7 @@ hears_only s c is h step n turn from post body a alive up heard_so own silent by
   was = alive-is s c is (owner step) n alive
 
   Cause : ℕ → Type 0
-  Cause k = WasHeard k (hearing_of from post ∷ (c.node o).line)
+  Cause k = IsKnown k (hearing_of from post ∷ (c.node o).line)
 
   becomes : NodeIs s.cast (s.history ++ notes.Act a ∷ []) (owner step) (line (s.history ++ notes.Act a ∷ []) (owner step))
       (Some (Alive (turned (act_turn body turn (Some (from, post.label)) None) n))) (row_of s.content (owner step))
@@ -139,7 +139,8 @@ hears_only s c is h step n turn from post body a alive up heard_so own silent by
         sends = none-sent (length s.history + 1) (node_index from) (label_of post.label) post.by;
         says = λ t. absurd (silent t);
         hears = λ b x l i. heard-here post.by (node_index from) (label_of post.label) a.by b x l by i;
-        cause = λ some. subst Cause (sym by) (record { from = node_index from; label = label_of post.label; among = here });
+        cause = λ some. subst Cause (sym by) (was_heard (record { from = node_index from; label = label_of post.label; among = here }));
+        talks = (tt, tt);
         counted = was.state.count;
         sent = sent-unheard s.cast (owner step) (label_at n.sent) post.by (node_index from) (label_of post.label) (c.node o).line was.state.sent;
         received = heard-more s.cast (owner step) from n.received post.label post.by (c.node o).line heard_so.near was.state.received;
@@ -204,7 +205,7 @@ hears_again s c is h step n turn from post reply a alive up heard_so own saying 
   told = Sends reply.by (node_index from) (next_of (c.node o))
 
   Cause : ℕ → Type 0
-  Cause k = WasHeard k (told ∷ hearing_of from post ∷ (c.node o).line)
+  Cause k = IsKnown k (told ∷ hearing_of from post ∷ (c.node o).line)
 
   Sent : Label → Type 0
   Sent l = LabelsAre s.cast (owner step) (label_at (put no_label n.sent (node_number from) (next_label n))) top_sent
@@ -221,7 +222,8 @@ hears_again s c is h step n turn from post reply a alive up heard_so own saying 
         says = λ t. says-here reply.by (length s.history + 1) (node_index from) (next_of (c.node o)) (hearing_of from post ∷ []) by_is;
         hears = λ b x l i.
             heard-behind reply.by (node_index from) (next_of (c.node o)) post.by (node_index from) (label_of post.label) a.by b x l by i;
-        cause = λ some. subst Cause (sym by) (record { from = node_index from; label = label_of post.label; among = there here });
+        cause = λ some. subst Cause (sym by) (was_heard (record { from = node_index from; label = label_of post.label; among = there here }));
+        talks = (tt, (tt, tt));
         counted = let e = was.state.count in omega (arith, e);
         sent = subst Sent label (sent-more s.cast (owner step) from n.sent (next_label n) reply.by (hearing_of from post ∷ (c.node o).line) heard_so.near
             (sent-unheard s.cast (owner step) (label_at n.sent) post.by (node_index from) (label_of post.label) (c.node o).line was.state.sent));

@@ -39,6 +39,10 @@ pub mod Hearing
 pub mod Hears
 pub mod Refining
 pub mod Refined
+pub mod Resumed
+pub mod LearnsFound
+pub mod Resuming
+pub mod Leaving
 pub mod Closing
 pub mod Agreeing
 pub mod Whole

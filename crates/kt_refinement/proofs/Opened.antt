@@ -14,7 +14,7 @@ use Rattle.kt_world.specs.Reached.{opening, opening_row}
 use Rattle.kt_world.proofs.Shared.{at-replicate, length-replicate, opening-node}
 use Rattle.kt_protocol.specs.Lines.{top_sent, top_heard}
 use Rattle.kt_protocol.specs.Machine.{Up, Open, Node, State}
-use Rattle.kt_protocol.specs.Runs.{IsBeginning}
+use Rattle.kt_protocol.specs.Runs.{new, IsBeginning}
 use Rattle.kt_protocol.proofs.Shared.{UpTo-refl}
 use Rattle.kt_refinement.proofs.Numbers.{label_of}
 use Rattle.kt_refinement.proofs.Reading.{nothing}
@@ -42,12 +42,14 @@ beginning = record {
   board = record { verdict = λ i. Open; begun = λ i. false };
 }
 
-pub beginning-begins : IsBeginning beginning
-beginning-begins = record {
-  new = λ p. record { mode = refl; line = refl; perm = refl; tent = refl; kept = λ x. refl; votes = refl; joined = refl; said = refl };
+pub beginning-begins : (peer : ℕ → ℕ → Bool) → IsBeginning peer beginning
+unfolding top_sent top_heard
+beginning-begins peer = record {
+  first = 0;
+  nodes = λ p. new (record { mode = refl; line = refl; perm = refl; tent = refl; kept = λ x. refl; votes = refl; joined = refl; said = refl });
   empty = λ p q. refl;
-  unbegun = λ i. refl;
-  undecided = λ i. refl;
+  fresh = λ i e. refl;
+  agree = λ p q near. UpTo-refl _;
 }
 
 no-labels : (k : ℕ) → label_of (Rattle.kt_node.specs.Labels.label_at (replicate table_size no_label) k) ≡ record { life = 0; count = 0 }

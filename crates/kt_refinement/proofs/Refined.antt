@@ -1,13 +1,13 @@
 -- Each state of a world that steps lead to stands for a state of the machine that is reached, so the machine's theorem
 -- holds of what it stands for.
-use Rattle.std.proofs.Common.{◌≡◌, List, [], ◌∷◌, Ok, Err, Result, refl, ap, subst}
+use Rattle.std.proofs.Common.{[], ap, subst, arith}
+use Rattle.kt_history.specs.declared.note.Note.TheVariants as notes
+use Rattle.kt_history.proofs.Shared.{note_at-within}
 use Rattle.kt_world.specs.declared.step.Step.{Step}
-use Rattle.kt_world.specs.declared.step.StepError.{StepError}
 use Rattle.kt_world.specs.Cast.{Cast, IsCast}
 use Rattle.kt_world.specs.State.{State as World}
-use Rattle.kt_world.specs.Effect.{step_result}
-use Rattle.kt_world.specs.Reached.{IsReached, opening, or_as_it_was, next_state, after}
-use Rattle.kt_world.proofs.Shared.{neighbours-turned, Holds, IsMade, step-made, made-holds, opening-holds}
+use Rattle.kt_world.specs.Reached.{opening}
+use Rattle.kt_world.proofs.Shared.{neighbours-turned, Holds, IsMade}
 use Rattle.kt_protocol.specs.Labels.{no_label}
 use Rattle.kt_protocol.specs.Machine.{State}
 use Rattle.kt_protocol.specs.Runs.{AreNeighbours, nothing_done}
@@ -40,9 +40,13 @@ stands-invariant s f = holds_where_reached f.state f.reached
 pub opening-stands : (cast : Cast) → IsCast cast → StandsFor (opening cast)
 opening-stands cast is = record {
   state = beginning;
-  reached = record { near = peers-are cast; start = beginning; begins = beginning-begins; run = nothing_done };
+  reached = record { near = peers-are cast; start = beginning; begins = beginning-begins (peers cast); run = nothing_done };
   stands = opening-represents cast is;
   letters = record {
+    first = 0;
+    told = omega arith;
+    grounds = λ x. record { line = λ y g sent heard i. elim i [ ]; perm = λ y g sent heard i. elim i [ ] };
+    has = λ n a le is. absurd (let within = note_at-within [] n (notes.Act a) is in omega (arith, within, le));
     letter = λ n. a_letter 0 0 no_label;
     fit = record {
       nodes = λ o. record { sent = λ by y l i. elim i [ ]; heard = λ by x l i. elim i [ ]; keeps = λ x m i. elim i [ ] };
@@ -61,25 +65,3 @@ made-stands s step new h f m =
       stands = next.stands;
       letters = letters-through (peers-are s.cast) inv s.history m.plan.note f.letters next.run next.fresh;
     })
-
--- what is kept through all steps
-record Keeps (s : World) : Type 0 where
-  holds : Holds s
-  stands : StandsFor s
-
-result-keeps : (s : World) (step : Step) (r : Result World StepError) → Keeps s → step_result s step ≡ r → Keeps (or_as_it_was r s)
-result-keeps s step (Ok new) k e =
-    let m = step-made s step new e in record { holds = made-holds s step new k.holds m; stands = made-stands s step new k.holds k.stands m }
-result-keeps s step (Err refusal) k e = k
-
--- the induction
-steps-keep : (s : World) (steps : List Step) → Keeps s → Keeps (after s steps)
-unfolding after
-steps-keep s [] k = k
-steps-keep s (step ∷ later) k = steps-keep (next_state s step) later (result-keeps s step (step_result s step) k refl)
-
-pub reached-stands : (s : World) → IsReached s → StandsFor s
-reached-stands s is =
-    let first : Keeps (opening is.cast) =
-    record { holds = opening-holds is.cast is.is_cast is.are_short; stands = opening-stands is.cast is.is_cast } in
-    subst StandsFor is.leads (steps-keep (opening is.cast) is.steps first).stands

@@ -34,13 +34,13 @@ use Rattle.kt_protocol.specs.Machine.{App, Node, State, Message, next_label as n
 use Rattle.kt_protocol.specs.Steps.{sends, sending, only, change, push}
 use Rattle.kt_protocol.specs.Runs.{nothing_done, one_more}
 use Rattle.kt_refinement.proofs.Numbers.{label_of}
-use Rattle.kt_refinement.proofs.Reading.{IsSaying, Says, WasHeard}
+use Rattle.kt_refinement.proofs.Reading.{IsSaying, Says, IsKnown}
 use Rattle.kt_refinement.proofs.Letters.{IsSaid}
 use Rattle.kt_refinement.proofs.Represents.{carried, LabelsAre, NodeIs, NodeIn, Represents}
 use Rattle.kt_refinement.proofs.Links.{to}
 use Rattle.kt_refinement.proofs.Frames.{cases-node, apart-index, Refines, owner-in, nodes-at, votes-at, sends-only, leads-represents}
 use Rattle.kt_refinement.proofs.Known.{alive-is, up-is, near-is}
-use Rattle.kt_refinement.proofs.Acting.{sent-more, heard-unsent}
+use Rattle.kt_refinement.proofs.Acting.{sent-more, heard-unsent, known-more}
 use Rattle.kt_refinement.proofs.Acted.{act_turn, acted-is}
 use Rattle.kt_tuple.proofs.Shared.{node_eq-refl}
 use Rattle.kt_refinement.proofs.Kept.{node-else}
@@ -88,7 +88,7 @@ said-next h a p by own saying is = (
 
 pub says_so : (s : World) (c : State) → Represents s c → Holds s → (step : Step) (n : Live) (body : BodyChange) (q : NodeId) (post : RealPost) (a : Done)
     → ((x y : NodeId) → step ≡ Deliver x y → ⊥) → IsAlive s (owner step) n → n.phase ≡ phases.Up → AreNeighbours s.cast (owner step) q
-    → a.node ≡ owner step → IsSaying a.what → (a.by ≢ 0 → WasHeard a.by (c.node (node_index (owner step))).line)
+    → a.node ≡ owner step → IsSaying a.what → (a.by ≢ 0 → IsKnown a.by (c.node (node_index (owner step))).line)
     → post.by ≡ length s.history + 1 → post.label ≡ next_label n
     → MayNote s.cast s.history (owner step) (Some (notes.Act a)) → Refines s step (saying_plan body q post a) c
 says_so s c is h step n body q post a no_delivery alive up near own saying cause by_is label_is may = record {
@@ -130,8 +130,8 @@ says_so s c is h step n body q post a no_delivery alive up near own saying cause
   same : message ≡ App record { by = post.by; label = label_of post.label }
   same = ap (λ l. App record { by = post.by; label = l }) (sym label ∙ ap label_of (sym label_is))
 
-  heard : WasHeard a.by (c.node o).line → WasHeard a.by (Sends post.by (node_index q) (next_of (c.node o)) ∷ (c.node o).line)
-  heard w = record { from = w.from; label = w.label; among = there w.among }
+  heard : IsKnown a.by (c.node o).line → IsKnown a.by (Sends post.by (node_index q) (next_of (c.node o)) ∷ (c.node o).line)
+  heard k = known-more (Sends post.by (node_index q) (next_of (c.node o)) ∷ []) (c.node o).line a.by k
 
   Sent : Label → Type 0
   Sent l = LabelsAre s.cast p (label_at (put no_label n.sent (node_number q) (next_label n))) top_sent (Sends post.by (node_index q) l ∷ (c.node o).line)
@@ -145,6 +145,7 @@ says_so s c is h step n body q post a no_delivery alive up near own saying cause
         says = λ t. says-here post.by (length s.history + 1) (node_index q) (next_of (c.node o)) [] by_is;
         hears = λ b x l i. none-heard post.by (node_index q) (next_of (c.node o)) a.by b x l i;
         cause = λ some. heard (cause some);
+        talks = (tt, tt);
         counted = let e = was.state.count in omega (arith, e);
         sent = subst Sent label (sent-more s.cast p q n.sent (next_label n) post.by (c.node o).line near was.state.sent);
         received = heard-unsent s.cast p (label_at n.received) post.by (node_index q) (next_of (c.node o)) (c.node o).line was.state.received;

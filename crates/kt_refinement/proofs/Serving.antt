@@ -20,7 +20,7 @@ use Rattle.kt_world.specs.Cast.{is_worker, is_shard}
 use Rattle.kt_world.specs.State.{State as World, role_of, view}
 use Rattle.kt_world.proofs.Shared.{IsAlive, worker-neighbour, role-id, MayNote, Holds}
 use Rattle.kt_protocol.specs.Machine.{State}
-use Rattle.kt_refinement.proofs.Reading.{WasHeard}
+use Rattle.kt_refinement.proofs.Reading.{IsKnown}
 use Rattle.kt_refinement.proofs.Represents.{Represents}
 use Rattle.kt_refinement.proofs.Frames.{Refines}
 use Rattle.kt_refinement.proofs.Acting.{cause-heard}
@@ -32,14 +32,14 @@ service_act s p worker by v = act_of (role_of s.cast p).id by worker v.request (
 
 -- a shard may serve only what was heard, and by the act that was heard
 cause-of-service : (s : World) (c : State) → Represents s c → (p : NodeId) (worker by : ℕ) (v : Service) → IsTrue (is_shard s.cast p)
-    → MayNote s.cast s.history p (Some (notes.Act (service_act s p worker by v))) → by ≢ 0 → WasHeard by (c.node (node_index p)).line
+    → MayNote s.cast s.history p (Some (notes.Act (service_act s p worker by v))) → by ≢ 0 → IsKnown by (c.node (node_index p)).line
 cause-of-service s c is (ids.Worker w) worker by v shard may some = absurd (cc (shard))
 cause-of-service s c is (ids.Shard r) worker by v shard may some =
     let acts = acts_in_line s.history (ids.Shard r) in
     let heard = waits_heard acts worker v.request may.1.1.0 in
     let n = Contains-acts_at s.history (line s.history (ids.Shard r)) heard.act heard.among in
     let same : heard.act.by ≡ by = heard.by ∙ sym may.1.1.1 in
-    let Heard : ℕ → Type 0 = λ k. k ≢ 0 → WasHeard k (c.node (node_index (ids.Shard r))).line in
+    let Heard : ℕ → Type 0 = λ k. k ≢ 0 → IsKnown k (c.node (node_index (ids.Shard r))).line in
     subst Heard same (cause-heard (is.nodes (ids.Shard r)).line n.0 heard.act n.1 n.2) some
 
 pub serves : (s : World) (c : State) → Represents s c → Holds s → (p w : NodeId) (n : Live) (place : ℕ) (v : Service) → IsTrue (is_shard s.cast p)

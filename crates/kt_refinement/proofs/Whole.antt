@@ -1,21 +1,28 @@
 -- Of every state that steps lead to: the permanent checkpoints hold one run, in order, and while no node is down or rolls
 -- back, nothing that is remembered has lost anything of its past. So all that is promised holds.
-use Rattle.std.proofs.Common.{◌≡◌, ℕ, zero, suc, true, Bool, List, [], ◌∷◌, None, IsTrue, refl}
+use Rattle.std.proofs.Common.{◌≡◌, ℕ, zero, suc, true, Bool, List, [], ◌∷◌, None, IsTrue, refl, subst}
 use Rattle.std.specs.List.{list_all}
 use Rattle.kt_tuple.specs.Node.{node_index}
+use Rattle.kt_history.proofs.Shared.{CausesComeFirst-from_well_formed}
 use Rattle.kt_shard.specs.Table.{at}
 use Rattle.kt_world.specs.State.{State as World}
 use Rattle.kt_world.specs.Reached.{IsReached}
-use Rattle.kt_world.specs.Cut.{IsCausallyClosed, permanent_length}
+use Rattle.kt_world.specs.Cut.{IsCausallyClosed, acts_held, permanent_length}
 use Rattle.kt_world.specs.Headline.{Headline, IsSteady, IsSteadyRun, is_steady, is_steady_row}
 use Rattle.kt_world.specs.PermanentRun.{IsPermanentRun}
-use Rattle.kt_world.proofs.Shared.{one_run-reached, reached-holds, permanent-reached, stores-reached}
+use Rattle.kt_world.proofs.Shared.{one_run-reached, reached-holds, permanent-reached, permanent-settled, settled, stores-reached}
 use Rattle.std.proofs.lemmas.Bool.{and_parts}
-use Rattle.kt_refinement.proofs.Refined.{reached-stands, stands-invariant}
+use Rattle.kt_refinement.proofs.Refined.{stands-invariant}
+use Rattle.kt_refinement.proofs.Resuming.{reached-stands}
 use Rattle.kt_refinement.proofs.Agreeing.{permanent-closed, steady-run}
 
 pub closed-reached : (s : World) → IsReached s → IsCausallyClosed s.history (permanent_length s.content)
-closed-reached s is = let f = reached-stands s is in permanent-closed s f.state (stands-invariant s f) f.stands
+closed-reached s is =
+    let f = reached-stands s is in
+    let closed = permanent-closed (settled s) f.state (stands-invariant (settled s) f) f.stands f.letters
+    (CausesComeFirst-from_well_formed s.history (reached-holds s is).sound.well_formed) in
+    let same : permanent_length (settled s).content ≡ permanent_length s.content = λ i p. acts_held (permanent-settled s.found s.content p i) in
+    subst (IsCausallyClosed s.history) same closed
 
 pub permanent_run-reached : (s : World) → IsReached s → IsPermanentRun s
 permanent_run-reached s is = permanent-reached s is (closed-reached s is)
@@ -32,7 +39,8 @@ each-steady s steady p = row-at is_steady_row s.nodes None (node_index p) refl s
 pub steady-reached : (s : World) → IsReached s → IsTrue (is_steady s) → IsSteadyRun s
 steady-reached s is steady =
     let f = reached-stands s is in
-    steady-run s f.state (stands-invariant s f) f.stands (reached-holds s is) (each-steady s steady)
+    let x = steady-run (settled s) f.state (stands-invariant (settled s) f) f.stands f.letters (reached-holds s is) (each-steady s steady) in
+    record { all_survive = x.all_survive; tuples = x.tuples; one_run = x.one_run; are_held = x.are_held }
 
 pub headline-reached : (s : World) → IsReached s → Headline s
 headline-reached s is = record {

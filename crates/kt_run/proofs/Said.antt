@@ -1,6 +1,6 @@
 -- Each step that is made can be said by a line: its nodes are of the scene, and its place is below the number of steps made.
 use Rattle.std.proofs.Common.{◌≡◌, ℕ, zero, suc, ◌<◌, ◌≤◌, Bool, true, false, cond, eqb, ltb, List, [], ◌∷◌, length, Option, Some, None, Result, Ok, Err, refl}
-use Rattle.std.proofs.Common.{ap, subst, arith}
+use Rattle.std.proofs.Common.{ap, sym, ◌∙◌, subst, arith}
 use Rattle.std.proofs.lemmas.Bool.{eqb-true, ltb-true, and_parts}
 use Rattle.std.proofs.lemmas.List.Elements.{All-nil, All-cons, All-head, All-tail}
 use Rattle.std.proofs.lemmas.List.Filters.{length-filter_both}
@@ -35,7 +35,7 @@ use Rattle.kt_world.specs.declared.step.StepError.{StepError}
 use Rattle.kt_world.specs.declared.step.StepError.TheVariants as refusals
 use Rattle.kt_world.specs.Cast.{Cast, IsCast, is_worker, is_shard, is_in_scene}
 use Rattle.kt_world.specs.Effect.{applied_if, step_result}
-use Rattle.kt_world.specs.Judge.{of_scene, due, judged, within_limit, planned}
+use Rattle.kt_world.specs.Judge.{of_scene, due, has_room, judged, within_limit, planned}
 use Rattle.kt_world.specs.declared.step.TheConstants.{MAX_STEPS}
 use Rattle.kt_lines.specs.Cause.{cause_of_waiting}
 use Rattle.kt_world.specs.Reached.{opening}
@@ -43,7 +43,7 @@ use Rattle.kt_world.specs.inner.Ready.{IsReady, IsBodyReady, IsLiveReady, IsNode
 use Rattle.kt_world.specs.Short.{IsShort, AreShort}
 use Rattle.kt_world.specs.State.{State, node, role_of, view}
 use Rattle.kt_world.specs.Told.{told}
-use Rattle.kt_world.proofs.Shared.{Holds, owner-passed, step-made, made-holds, opening-holds, Ends, to_shard, to_worker, ends, worker-node, shard-node}
+use Rattle.kt_world.proofs.Shared.{Holds, owner-passed, plan-few, step-made, made-holds, opening-holds, Ends, to_shard, to_worker, ends, worker-node, shard-node}
 use Rattle.kt_scene.specs.Runs.{RunsTo}
 use Rattle.kt_scene.specs.Scenario.{IsStepNode, IsStep}
 use Rattle.kt_scene.proofs.Shared.{node_said}
@@ -65,32 +65,30 @@ limit_by_test : (b : Bool) (r : Result Plan StepError) (plan : Plan) → cond b 
 limit_by_test true r plan e = (refl, e)
 limit_by_test false r plan e = absurd cc
 
-never_planned : (refusal : StepError) (made : ℕ) (plan : Plan) → within_limit made (Err refusal) ≡ Ok plan → ⊥
-never_planned (refusals.Store cause) made plan e =
-    let h = limit_by_test (ltb made MAX_STEPS) (Err (refusals.Store cause)) plan e in
+never_planned : (refusal : StepError) (room : Bool) (plan : Plan) → within_limit room (Err refusal) ≡ Ok plan → ⊥
+never_planned (refusals.Store cause) room plan e =
+    let h = limit_by_test room (Err (refusals.Store cause)) plan e in
     let never = h.1 in
     absurd cc
-never_planned refusals.NoNode made plan e = absurd cc
-never_planned refusals.WrongMode made plan e = absurd cc
-never_planned refusals.NothingThere made plan e = absurd cc
-never_planned refusals.NoSuchMatch made plan e = absurd cc
-never_planned refusals.NotDecided made plan e = absurd cc
-never_planned refusals.Unresolved made plan e = absurd cc
-never_planned refusals.StepLimit made plan e = absurd cc
-never_planned refusals.OutOfMemory made plan e = absurd cc
+never_planned refusals.NoNode room plan e = absurd cc
+never_planned refusals.WrongMode room plan e = absurd cc
+never_planned refusals.NothingThere room plan e = absurd cc
+never_planned refusals.NoSuchMatch room plan e = absurd cc
+never_planned refusals.NotDecided room plan e = absurd cc
+never_planned refusals.Unresolved room plan e = absurd cc
+never_planned refusals.StepLimit room plan e = absurd cc
+never_planned refusals.OutOfMemory room plan e = absurd cc
 
-limit_plans : (r : Result Plan StepError) (made : ℕ) (plan : Plan) → within_limit made r ≡ Ok plan → (r ≡ Ok plan) × (made < MAX_STEPS)
-limit_plans (Ok found) made plan e =
-    let h = limit_by_test (ltb made MAX_STEPS) (Ok found) plan e in
-    (h.1, ltb-true made MAX_STEPS h.0)
-limit_plans (Err refusal) made plan e = absurd (never_planned refusal made plan e)
+limit_plans : (r : Result Plan StepError) (room : Bool) (plan : Plan) → within_limit room r ≡ Ok plan → r ≡ Ok plan
+limit_plans (Ok found) room plan e = (limit_by_test room (Ok found) plan e).1
+limit_plans (Err refusal) room plan e = absurd (never_planned refusal room plan e)
 
 due_by_plan : (r : Result Plan StepError) (s : State) (step : Step) (new : State) → planned s step ≡ r → applied_if s step r ≡ Ok new → IsDue s step
 due_by_plan (Err refusal) s step new is e = absurd cc
 due_by_plan (Ok plan) s step new is e =
-    let h = limit_plans (judged s (told s step) step) s.made plan is in
-    let k = scene_plans (is_in_scene s.cast step) (due s (told s step) step) plan h.0 in
-    record { there = k.0; plan = plan; is_due = k.1; few = h.1 }
+    let h = limit_plans (judged s (told s step) step) (has_room s) plan is in
+    let k = scene_plans (is_in_scene s.cast step) (due s (told s step) step) plan h in
+    record { there = k.0; plan = plan; is_due = k.1; few = plan-few s (told s step) step plan is }
 
 made_due : (s : State) (step : Step) (new : State) → step_result s step ≡ Ok new → IsDue s step
 made_due s step new e = due_by_plan (planned s step) s step new refl e
@@ -189,21 +187,22 @@ module _ (s : State) (p : NodeId) (worker place cause : ℕ) (plan : Plan) where
   by_live None is e = absurd cc
   by_live (Some n) is e = by_shard (shard_in n.body) n (alive_in (node s p) n (up_is_alive (view s p).node n is)) refl e
 
--- with no more tuples than steps were made
-bag_by_name : (p : NodeId) (script : List Command) (made : ℕ) (y : Shard) (cast : Cast) → is_shard cast p ≡ true → IsBodyReady script made p (IsShard y)
-    → length y.bag ≤ made
-bag_by_name (ids.Worker n) script made y cast there h = absurd h
-bag_by_name (ids.Shard n) script made y cast there h = h
+-- with no more tuples than there are notes
+bag_by_name : (p : NodeId) (script : List Command) (notes : ℕ) (y : Shard) (cast : Cast) → is_shard cast p ≡ true → IsBodyReady script notes p (IsShard y)
+    → length y.bag ≤ notes
+bag_by_name (ids.Worker n) script notes y cast there h = absurd h
+bag_by_name (ids.Shard n) script notes y cast there h = h
 
-place_small : (s : State) (p : NodeId) (worker place : ℕ) → IsReady s → s.made < MAX_STEPS → is_shard s.cast p ≡ true → IsServing s p worker place
-    → place ≤ 99999
-place_small s p worker place ready few there h =
+place_small : (s : State) (p : NodeId) (worker place : ℕ) → IsReady s → s.found ≡ None → s.made < MAX_STEPS → is_shard s.cast p ≡ true
+    → IsServing s p worker place → place ≤ 99999
+place_small s p worker place ready new few there h =
     let Held : Option Node → Type 0 = λ row. IfSome row (IsNodeReady s.cast s.history s.made p) in
     let live : IsLiveReady s.cast s.history s.made p h.live = subst Held h.alive (ready.nodes p) in
-    let body = subst (IsBodyReady (role_of s.cast p).script s.made p) h.is_shard live.body in
-    let bag = bag_by_name p (role_of s.cast p).script s.made h.shard s.cast there body in
+    let body = subst (IsBodyReady (role_of s.cast p).script (length s.history) p) h.is_shard live.body in
+    let bag = bag_by_name p (role_of s.cast p).script (length s.history) h.shard s.cast there body in
+    let notes = ready.few_made new in
     let at = by_waiting (desk_of h.shard worker).waiting h.shard.bag place h.found h.serves in
-    omega (arith, few, bag, at)
+    omega (arith, few, bag, notes, at)
 
 -- ---- each step
 
@@ -211,31 +210,33 @@ neighbours_said : (cast : Cast) → IsCast cast → (p q : NodeId) → Ends cast
 neighbours_said cast is p q (to_shard a b c d) = ((a, omega (arith, b, is.few_workers)), (c, omega (arith, d, is.few_shards)))
 neighbours_said cast is p q (to_worker a b c d) = ((c, omega (arith, d, is.few_shards)), (a, omega (arith, b, is.few_workers)))
 
-step_said : (s : State) (step : Step) → IsReady s → IsDue s step → IsStep step
-step_said s (Issue p) ready h = node_said s.cast ready.cast p (worker-node s.cast p h.there)
-step_said s (Repeat p) ready h = node_said s.cast ready.cast p (worker-node s.cast p h.there)
-step_said s (Deliver p q) ready h = neighbours_said s.cast ready.cast p q (ends s.cast p q h.there)
-step_said s (Take p) ready h = node_said s.cast ready.cast p h.there
-step_said s (Serve p w place) ready h =
+step_said : (s : State) (step : Step) → IsReady s → s.found ≡ None → IsDue s step → IsStep step
+step_said s (Issue p) ready new h = node_said s.cast ready.cast p (worker-node s.cast p h.there)
+step_said s (Repeat p) ready new h = node_said s.cast ready.cast p (worker-node s.cast p h.there)
+step_said s (Deliver p q) ready new h = neighbours_said s.cast ready.cast p q (ends s.cast p q h.there)
+step_said s (Take p) ready new h = node_said s.cast ready.cast p h.there
+step_said s (Serve p w place) ready new h =
     let both = and_parts (is_shard s.cast p) (is_worker s.cast w) h.there in
     let cause = cause_of_waiting s.history p (node_number w) in
     let serving = by_live s p (node_number w) place cause h.plan (up_of (view s p).node) refl h.is_due in (
       node_said s.cast ready.cast p (shard-node s.cast p both.0),
       node_said s.cast ready.cast w (worker-node s.cast w both.1),
-      place_small s p (node_number w) place ready h.few both.0 serving,
+      place_small s p (node_number w) place ready new h.few both.0 serving,
     )
-step_said s (Check p) ready h = node_said s.cast ready.cast p h.there
-step_said s (Decide p) ready h = node_said s.cast ready.cast p h.there
-step_said s (Abandon p) ready h = node_said s.cast ready.cast p h.there
-step_said s (Learn p) ready h = node_said s.cast ready.cast p h.there
-step_said s (Fail p) ready h = node_said s.cast ready.cast p h.there
-step_said s (Restart p) ready h = node_said s.cast ready.cast p h.there
+step_said s (Check p) ready new h = node_said s.cast ready.cast p h.there
+step_said s (Decide p) ready new h = node_said s.cast ready.cast p h.there
+step_said s (Abandon p) ready new h = node_said s.cast ready.cast p h.there
+step_said s (Learn p) ready new h = node_said s.cast ready.cast p h.there
+step_said s (Fail p) ready new h = node_said s.cast ready.cast p h.there
+step_said s (Restart p) ready new h = node_said s.cast ready.cast p h.there
 
-steps_said : (s : State) (steps : List Step) (t : State) → Holds s → RunsTo s steps t → All IsStep steps
-steps_said s [] t holds runs = All-nil IsStep
-steps_said s (step ∷ later) t holds runs =
-    let here = step_said s step holds.ready (made_due s step runs.0 runs.1) in
-    All-cons IsStep step later here (steps_said runs.0 later t (made-holds s step runs.0 holds (step-made s step runs.0 runs.1)) runs.2)
+steps_said : (s : State) (steps : List Step) (t : State) → Holds s → s.found ≡ None → RunsTo s steps t → All IsStep steps
+steps_said s [] t holds new runs = All-nil IsStep
+steps_said s (step ∷ later) t holds new runs =
+    let here = step_said s step holds.ready new (made_due s step runs.0 runs.1) in
+    let made = step-made s step runs.0 runs.1 in
+    let still : runs.0.found ≡ None = ap (λ (x : State). x.found) (sym made.leads) ∙ new in
+    All-cons IsStep step later here (steps_said runs.0 later t (made-holds s step runs.0 holds made) still runs.2)
 
 short_at : (scripts : List (List Command)) (n : ℕ) → All IsScript scripts → IfSome (slice_get scripts n) IsShort
 short_at [] n h = tt
@@ -248,4 +249,4 @@ all_short cast h (suc n) = short_at cast.scripts n h
 
 -- the steps that lead from an opening can be said
 pub made_is_said : (cast : Cast) (steps : List Step) (s : State) → IsCast cast → All IsScript cast.scripts → RunsTo (opening cast) steps s → All IsStep steps
-made_is_said cast steps s is scripts runs = steps_said (opening cast) steps s (opening-holds cast is (all_short cast scripts)) runs
+made_is_said cast steps s is scripts runs = steps_said (opening cast) steps s (opening-holds cast is (all_short cast scripts)) refl runs

@@ -30,7 +30,7 @@ made_more old steps i between step new lt at runs e =
 -- the step at this place was the first refused
 pub refused_at : (old : State) (steps : List Step) (i : ℕ) (between : State) (step : Step) (cause : StepError) (left : Content) → i < length steps
     → step ≡ get_or steps i step → RunsTo old (take i steps) between → Refuses cause (planned between step) → IsCalledFor between step cause
-    → IsCause true cause → left ≡ between.content → IsRefusedAt old steps (i + 1) cause left
+    → IsCause between step true cause → left ≡ between.content → IsRefusedAt old steps (i + 1) cause left
 refused_at old steps i between step cause left lt at runs e called why same = record {
   made = take i steps;
   refused = step;
@@ -53,9 +53,9 @@ made_next old steps i between d new lt runs e = made_more old steps i between (g
 
 pub refused_next : (old : State) (steps : List Step) (i : ℕ) (between : State) (d : Step) (cause : StepError) (honest : Bool) (left : State)
     → i < length steps → RunsTo old (take i steps) between → Refuses cause (planned between (get_or steps i d))
-    → IsCalledFor between (get_or steps i d) cause → IsTrue honest → IsCause honest cause → left ≡ between
+    → IsCalledFor between (get_or steps i d) cause → IsTrue honest → IsCause left (get_or steps i d) honest cause → left ≡ between
     → IsRefusedAt old steps (i + 1) cause left.content
 refused_next old steps i between d cause honest left lt runs e called is_honest why same =
     let step = get_or steps i d in
     refused_at old steps i between step cause left.content lt (get_or_default steps i d step lt) runs e called
-    (cause_honest honest cause is_honest why) (ap (λ (s : State). s.content) same)
+    (subst (λ (s : State). IsCause s step true cause) same (cause_honest left step honest cause is_honest why)) (ap (λ (s : State). s.content) same)

@@ -14,7 +14,7 @@ RunsTo old [] new = new ≡ old
 RunsTo old (step ∷ later) new = (between : State) × (step_result old step ≡ Ok between) × RunsTo between later new
 
 -- the step with this number, counted from 1, is the first that is refused, for this cause. An honest store refuses for
--- no damage, and holds what it held before that step.
+-- no damage, for being full only where it has no number left, and holds what it held before that step.
 pub record IsRefusedAt (old : State) (steps : List Step) (at : ℕ) (cause : StepError) (left : Content) : Type 0 where
   pub made : List Step
   pub refused : Step
@@ -25,5 +25,5 @@ pub record IsRefusedAt (old : State) (steps : List Step) (at : ℕ) (cause : Ste
   pub runs : RunsTo old made reached
   pub refusal : Refuses cause (planned reached refused)
   pub called : IsCalledFor reached refused cause
-  pub why : IsCause true cause
+  pub why : IsCause reached refused true cause
   pub content : left ≡ reached.content

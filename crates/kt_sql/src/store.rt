@@ -8,13 +8,15 @@ ghost use Rattle.sqlite.specs.State.{HasCleanDisk};
 ghost use Rattle.kt_tuple.specs.Node.{node_eq};
 ghost use Rattle.kt_store.specs.declared.rows.Posted.{Posted as PostedFields};
 ghost use Rattle.kt_store.specs.Verdict.{is_open};
-ghost use Rattle.kt_store.specs.Content.{greatest, is_empty, permanent_marks, row_of, tentative_marks};
+ghost use Rattle.kt_store.specs.Content.{greatest, is_empty, nodes_in, permanent_marks, row_of, tentative_marks};
+ghost use Rattle.kt_store.specs.Proper.{IsProper};
 ghost use Rattle.kt_store.specs.Changes.{storing, taken};
 ghost use Rattle.kt_store.specs.Calls.{HasCause, nothing_counted};
 ghost use Rattle.kt_tables.specs.Cells.{cells_node, AreSaid};
 ghost use Rattle.kt_tables.specs.Rows.{IsPosted, placing};
 ghost use Rattle.kt_tables.specs.Opened.{IsReady};
 ghost use Rattle.kt_tables.specs.Held.{content_of, is_sound, is_sure};
+ghost use Rattle.kt_tables.specs.Stopped.{Answers, StopKeeps, StopLeaves};
 ghost use Rattle.kt_tables.specs.inner.Lasting.{failures};
 
 use crate::tally::Tally;
@@ -55,6 +57,14 @@ impl<S: Alter> SqlStore<S> {
             tables: Tables::over(alloc, conn, is_trusted),
             counts: Tally::new(),
         }
+    }
+
+    /// Between two calls a stop leaves a store of just what this one holds, while it is honest. There is nothing to do: a
+    /// caller's proof is told so.
+    pub fn rests(&self)
+        ensures { StopKeeps S.Store self.now.tables self.now.tables }
+    {
+        self.tables.rests();
     }
 
     /// The connection as it is now; the counts are forgotten.
@@ -105,6 +115,8 @@ impl<S: Alter> SqlStore<S> {
             → IfOk result (λ c. cells_node c ≡ row_of (content_of S.Store self.old.tables) node) }
         ensures same { IsTrue (is_sure S.Store self.new.tables)
             → content_of S.Store self.new.tables ≡ content_of S.Store self.old.tables }
+        ensures stop { StopKeeps S.Store self.old.tables self.new.tables }
+        ensures answers { Answers S.Store self.old.tables self.new.tables result }
         ensures honest { IsTrue (is_sure S.Store self.new.tables) → IsTrue (is_sure S.Store self.old.tables) }
         ensures lasts { failures (state S.Store self.new.tables.conn) ≡ 0 → IsTrue (is_sure S.Store self.old.tables)
             → IsTrue (is_sure S.Store self.new.tables) }
@@ -130,6 +142,8 @@ impl<S: Alter> SqlStore<S> {
             }) }
         ensures same { IsTrue (is_sure S.Store self.new.tables)
             → content_of S.Store self.new.tables ≡ content_of S.Store self.old.tables }
+        ensures stop { StopKeeps S.Store self.old.tables self.new.tables }
+        ensures answers { Answers S.Store self.old.tables self.new.tables result }
         ensures honest { IsTrue (is_sure S.Store self.new.tables) → IsTrue (is_sure S.Store self.old.tables) }
         ensures lasts { failures (state S.Store self.new.tables.conn) ≡ 0 → IsTrue (is_sure S.Store self.old.tables)
             → IsTrue (is_sure S.Store self.new.tables) }
@@ -145,6 +159,7 @@ impl<S: Alter> SqlStore<S> {
     pub(crate) fn incarnation_of(&mut self, node: NodeId) -> Result<u64, StoreError>
         ensures value { IsTrue (is_sure S.Store self.new.tables)
             → IfOk result (λ n. n ≡ (row_of (content_of S.Store self.old.tables) node).incarnation) }
+        ensures most { IfOk result (λ n. n ≤ greatest) }
         ensures same { IsTrue (is_sure S.Store self.new.tables)
             → content_of S.Store self.new.tables ≡ content_of S.Store self.old.tables }
         ensures honest { IsTrue (is_sure S.Store self.new.tables) → IsTrue (is_sure S.Store self.old.tables) }
@@ -154,6 +169,25 @@ impl<S: Alter> SqlStore<S> {
         ensures cause { HasCause self.old.counts self.new.counts (is_sure S.Store self.new.tables) ⊥ result }
     {
         let answer = self.tables.incarnation_of(node);
+        self.counts.count(&answer);
+        answer
+    }
+
+    /// The nodes that have a row, in node order.
+    pub(crate) fn node_names(&mut self, alloc: Global) -> Result<Vec<NodeId>, StoreError>
+        ensures value { IsTrue (is_sure S.Store self.new.tables)
+            → IfOk result (λ nodes. nodes.items ≡ nodes_in (content_of S.Store self.old.tables)) }
+        ensures proper { IsTrue (is_sure S.Store self.new.tables)
+            → OnOk result (IsProper (content_of S.Store self.old.tables)) }
+        ensures same { IsTrue (is_sure S.Store self.new.tables)
+            → content_of S.Store self.new.tables ≡ content_of S.Store self.old.tables }
+        ensures honest { IsTrue (is_sure S.Store self.new.tables) → IsTrue (is_sure S.Store self.old.tables) }
+        ensures lasts { failures (state S.Store self.new.tables.conn) ≡ 0 → IsTrue (is_sure S.Store self.old.tables)
+            → IsTrue (is_sure S.Store self.new.tables) }
+        ensures intact { IsErrOf result StoreError.Damaged → is_sound S.Store self.new.tables ≡ false }
+        ensures cause { HasCause self.old.counts self.new.counts (is_sure S.Store self.new.tables) ⊥ result }
+    {
+        let answer = self.tables.nodes(alloc);
         self.counts.count(&answer);
         answer
     }
@@ -208,6 +242,8 @@ impl<S: Alter> SqlStore<S> {
         ensures found { IfOk result (λ o. IfSome o IsPosted) }
         ensures same { IsTrue (is_sure S.Store self.new.tables)
             → content_of S.Store self.new.tables ≡ content_of S.Store self.old.tables }
+        ensures stop { StopKeeps S.Store self.old.tables self.new.tables }
+        ensures answers { Answers S.Store self.old.tables self.new.tables result }
         ensures honest { IsTrue (is_sure S.Store self.new.tables) → IsTrue (is_sure S.Store self.old.tables) }
         ensures lasts { failures (state S.Store self.new.tables.conn) ≡ 0 → IsTrue (is_sure S.Store self.old.tables)
             → IsTrue (is_sure S.Store self.new.tables) }
@@ -245,6 +281,8 @@ impl<S: Alter> SqlStore<S> {
         ensures within { IfOk result (λ n. n ≤ greatest) }
         ensures same { IsTrue (is_sure S.Store self.new.tables)
             → content_of S.Store self.new.tables ≡ content_of S.Store self.old.tables }
+        ensures stop { StopKeeps S.Store self.old.tables self.new.tables }
+        ensures answers { Answers S.Store self.old.tables self.new.tables result }
         ensures honest { IsTrue (is_sure S.Store self.new.tables) → IsTrue (is_sure S.Store self.old.tables) }
         ensures lasts { failures (state S.Store self.new.tables.conn) ≡ 0 → IsTrue (is_sure S.Store self.old.tables)
             → IsTrue (is_sure S.Store self.new.tables) }
@@ -298,6 +336,10 @@ impl<S: Alter> SqlStore<S> {
             ≡ storing (cells_node cells) (content_of S.Store self.old.tables)) }
         ensures unchanged { IsTrue (is_sure S.Store self.new.tables)
             → OnErr result (content_of S.Store self.new.tables ≡ content_of S.Store self.old.tables) }
+        ensures stop { StopLeaves S.Store self.old.tables self.new.tables
+            (storing (cells_node cells) (content_of S.Store self.old.tables)) }
+        ensures clean { HasCleanDisk (state S.Store self.new.tables.conn)
+            → HasCleanDisk (state S.Store self.old.tables.conn) }
         ensures honest { IsTrue (is_sure S.Store self.new.tables) → IsTrue (is_sure S.Store self.old.tables) }
         ensures lasts { failures (state S.Store self.new.tables.conn) ≡ 0 → IsTrue (is_sure S.Store self.old.tables)
             → IsTrue (is_sure S.Store self.new.tables) }
@@ -316,6 +358,10 @@ impl<S: Alter> SqlStore<S> {
             → OnOk result (content_of S.Store self.new.tables ≡ placing row (content_of S.Store self.old.tables)) }
         ensures unchanged { IsTrue (is_sure S.Store self.new.tables)
             → OnErr result (content_of S.Store self.new.tables ≡ content_of S.Store self.old.tables) }
+        ensures stop { StopLeaves S.Store self.old.tables self.new.tables
+            (placing row (content_of S.Store self.old.tables)) }
+        ensures clean { HasCleanDisk (state S.Store self.new.tables.conn)
+            → HasCleanDisk (state S.Store self.old.tables.conn) }
         ensures honest { IsTrue (is_sure S.Store self.new.tables) → IsTrue (is_sure S.Store self.old.tables) }
         ensures lasts { failures (state S.Store self.new.tables.conn) ≡ 0 → IsTrue (is_sure S.Store self.old.tables)
             → IsTrue (is_sure S.Store self.new.tables) }
@@ -336,6 +382,10 @@ impl<S: Alter> SqlStore<S> {
             (storing (cells_node cells) (content_of S.Store self.old.tables))) }
         ensures unchanged { IsTrue (is_sure S.Store self.new.tables)
             → OnErr result (content_of S.Store self.new.tables ≡ content_of S.Store self.old.tables) }
+        ensures stop { StopLeaves S.Store self.old.tables self.new.tables
+            (placing posted (storing (cells_node cells) (content_of S.Store self.old.tables))) }
+        ensures clean { HasCleanDisk (state S.Store self.new.tables.conn)
+            → HasCleanDisk (state S.Store self.old.tables.conn) }
         ensures honest { IsTrue (is_sure S.Store self.new.tables) → IsTrue (is_sure S.Store self.old.tables) }
         ensures lasts { failures (state S.Store self.new.tables.conn) ≡ 0 → IsTrue (is_sure S.Store self.old.tables)
             → IsTrue (is_sure S.Store self.new.tables) }

@@ -1,80 +1,54 @@
 -- Why a run halts.
 use Rattle.std.proofs.Common.{◌≡◌, ◌+◌, ◌≤◌, ℕ, Bool, true, false, if◌then◌else◌, Result, Ok, Err, Option, None, Some, refl, sym, ap, subst, ◌∙◌, arith}
-use Rattle.std.proofs.Common.{lt-ltb, ltb-true, ltb-false, le-leb}
-use Rattle.std.specs.Prelude.{◌==◌, nat_lt, not, ◌||◌, IsTrue, IfErr, IfOk, IfSome}
+use Rattle.std.proofs.Common.{eq-eqb, lt-ltb, ltb-true}
+use Rattle.std.specs.List.{find, list_any}
+use Rattle.std.specs.Prelude.{◌==◌, List, [], ◌∷◌, cond, is_some, nat_lt, not, ◌&&◌, ◌||◌, IsTrue, IfErr, IfOk, IfSome}
 use Rattle.kt_tuple.specs.declared.node.NodeId.{NodeId}
 use Rattle.kt_store.specs.declared.error.StoreError.{StoreError}
 use Rattle.kt_store.specs.declared.error.StoreError.TheVariants as stores
+use Rattle.kt_tuple.specs.Node.{node_eq}
+use Rattle.kt_store.specs.declared.rows.NodeRow.{NodeRow}
+use Rattle.kt_store.specs.Content.{Content, greatest, next_instance, row_or}
+use Rattle.kt_store.specs.Proper.{IsFull, instances, incarnations}
 use Rattle.kt_store.specs.Calls.{Counts, counted, most, raised, raised_by}
 use Rattle.kt_node.specs.declared.plan.Plan.{Plan}
 use Rattle.kt_world.specs.declared.step.Step.{Step}
 use Rattle.kt_world.specs.declared.step.StepError.{StepError}
 use Rattle.kt_world.specs.declared.step.StepError.TheVariants as refusals
-use Rattle.kt_world.specs.Judge.{is_planned, judged, planned, within_limit}
-use Rattle.kt_world.specs.declared.step.TheConstants.{MAX_STEPS}
+use Rattle.kt_world.specs.Judge.{has_room, is_planned, judged, planned, within_limit}
 use Rattle.kt_world.specs.State.{State}
 use Rattle.kt_world.specs.Step.{owner}
 use Rattle.kt_world.specs.Told.{told}
 use Rattle.kt_core.specs.Lent.{is_allowed}
 use Rattle.kt_core.specs.World.{Standing}
-use Rattle.kt_core.specs.Store.{AreLater, IsFault}
+use Rattle.kt_core.specs.Store.{AreLater, IsFault, IsWriteFault}
 use Rattle.kt_stage.specs.declared.error.ActError.TheVariants as errors
 use Rattle.kt_stage.specs.Acting.{IsActed}
 use Rattle.kt_stage.specs.Journal.{Journal}
-use Rattle.kt_stage.specs.Running.{IsRefusedAt, has_risen, is_fault_since, is_run_cause}
+use Rattle.kt_stage.specs.Running.{IsRefusedAt, has_risen, is_fault_since, is_full, is_run_cause}
 use Rattle.kt_stage.specs.Settling.{is_any_steps}
 use Rattle.kt_stage.specs.inner.Halting.{IsGiven}
 
 -- ---- a step that is allowed is refused by the limit, by the store, or for want of memory
 
-abbrev refused : StepError → Result Plan StepError
-refused e = Err e
-
-planned-any : (made : ℕ) (r : Result Plan StepError) (e : StepError) → is_planned r ≡ true → within_limit made r ≡ Err e → is_any_steps e ≡ true
-planned-any made (Ok plan) e is same = by (nat_lt made MAX_STEPS) same
-  where
-    by : (b : Bool) → (if b then Ok plan else refused refusals.StepLimit) ≡ refused e → is_any_steps e ≡ true
-    by true same = absurd cc
-    by false same = ap is_any_steps (let here : e ≡ refusals.StepLimit = cc in here)
-planned-any made (Err (refusals.Store x)) e is same = by (nat_lt made MAX_STEPS) same
-  where
-    by : (b : Bool) → (if b then refused (refusals.Store x) else refused refusals.StepLimit) ≡ refused e → is_any_steps e ≡ true
-    by true same = ap is_any_steps (let here : e ≡ refusals.Store x = cc in here)
-    by false same = ap is_any_steps (let here : e ≡ refusals.StepLimit = cc in here)
-planned-any made (Err refusals.NoNode) e is same = absurd cc
-planned-any made (Err refusals.WrongMode) e is same = absurd cc
-planned-any made (Err refusals.NothingThere) e is same = absurd cc
-planned-any made (Err refusals.NoSuchMatch) e is same = absurd cc
-planned-any made (Err refusals.NotDecided) e is same = absurd cc
-planned-any made (Err refusals.Unresolved) e is same = absurd cc
-planned-any made (Err refusals.StepLimit) e is same = absurd cc
-planned-any made (Err refusals.OutOfMemory) e is same = absurd cc
-
-limit-reached : (made : ℕ) (r : Result Plan StepError) → is_planned r ≡ true → within_limit made r ≡ Err refusals.StepLimit → MAX_STEPS ≤ made
-limit-reached made (Ok plan) is same = by (nat_lt made MAX_STEPS) refl same
-  where
-    by : (b : Bool) → nat_lt made MAX_STEPS ≡ b → (if b then Ok plan else refused refusals.StepLimit) ≡ refused refusals.StepLimit → MAX_STEPS ≤ made
-    by true at same = absurd cc
-    by false at same = ltb-false made MAX_STEPS at
-limit-reached made (Err (refusals.Store x)) is same = by (nat_lt made MAX_STEPS) refl same
-  where
-    by : (b : Bool) → nat_lt made MAX_STEPS ≡ b → (if b then refused (refusals.Store x) else refused refusals.StepLimit) ≡ refused refusals.StepLimit
-        → MAX_STEPS ≤ made
-    by true at same = absurd cc
-    by false at same = ltb-false made MAX_STEPS at
-limit-reached made (Err refusals.NoNode) is same = absurd cc
-limit-reached made (Err refusals.WrongMode) is same = absurd cc
-limit-reached made (Err refusals.NothingThere) is same = absurd cc
-limit-reached made (Err refusals.NoSuchMatch) is same = absurd cc
-limit-reached made (Err refusals.NotDecided) is same = absurd cc
-limit-reached made (Err refusals.Unresolved) is same = absurd cc
-limit-reached made (Err refusals.StepLimit) is same = absurd cc
-limit-reached made (Err refusals.OutOfMemory) is same = absurd cc
+planned-any : (room : Bool) (r : Result Plan StepError) (e : StepError) → is_planned r ≡ true → within_limit room r ≡ Err e → is_any_steps e ≡ true
+planned-any true (Ok plan) e is same = absurd cc
+planned-any false (Ok plan) e is same = ap is_any_steps (let here : e ≡ refusals.StepLimit = cc in here)
+planned-any true (Err (refusals.Store x)) e is same = ap is_any_steps (let here : e ≡ refusals.Store x = cc in here)
+planned-any false (Err (refusals.Store x)) e is same = ap is_any_steps (let here : e ≡ refusals.StepLimit = cc in here)
+planned-any room (Err refusals.NoNode) e is same = absurd cc
+planned-any room (Err refusals.WrongMode) e is same = absurd cc
+planned-any room (Err refusals.NothingThere) e is same = absurd cc
+planned-any room (Err refusals.NoSuchMatch) e is same = absurd cc
+planned-any room (Err refusals.NotDecided) e is same = absurd cc
+planned-any room (Err refusals.Unresolved) e is same = absurd cc
+planned-any room (Err refusals.StepLimit) e is same = absurd cc
+planned-any room (Err refusals.OutOfMemory) e is same = absurd cc
 
 -- no other refusal comes while the store is honest
 pub never : (s : State) (step : Step) (e : StepError) → is_any_steps e ≡ false → IsTrue (is_allowed s step) → planned s step ≡ Err e → ⊥
 never s step e other allowed due =
-    let any : is_any_steps e ≡ true = planned-any s.made (judged s (told s step) step) e allowed due in
+    let any : is_any_steps e ≡ true = planned-any (has_room s) (judged s (told s step) step) e allowed due in
     let off : false ≡ true = sym other ∙ any in
     absurd cc
 
@@ -112,7 +86,46 @@ fault-since before old w stores.Device le is f =
 fault-since before old w stores.Memory le is f =
     ap (λ (c : Counts). has_risen before.wants c.wants) is ∙ risen before.wants old.wants le.wants
 fault-since before old w stores.Damaged le is f = ap not (f.damaged refl)
-fault-since before old w stores.Full le is f = ap not (f.full refl)
+fault-since before old w stores.Full le is f = left-holds (not w.is_honest) _ (ap not (f.full refl))
+
+-- a store that is full shows it
+held-full : (p : NodeId) (rows : List NodeRow) → (row_or p (find (λ (row : NodeRow). node_eq row.node p) rows)).incarnation ≡ greatest
+    → list_any (λ (row : NodeRow). row.incarnation == greatest) rows ≡ true
+held-full p [] e = absurd (omega (arith, e))
+held-full p (x ∷ rows) e = by (node_eq x.node p) (x.incarnation == greatest) refl e (held-full p rows)
+  where
+    by : (b c : Bool) → (x.incarnation == greatest) ≡ c → (row_or p (cond b (Some x) (find (λ (row : NodeRow). node_eq row.node p) rows))).incarnation ≡ greatest
+        → ((row_or p (find (λ (row : NodeRow). node_eq row.node p) rows)).incarnation ≡ greatest → list_any (λ (row : NodeRow). row.incarnation == greatest) rows ≡ true)
+        → (c || list_any (λ (row : NodeRow). row.incarnation == greatest) rows) ≡ true
+    by b true is e later = refl
+    by true false is e later = absurd (apart (sym (eq-eqb x.incarnation greatest e) ∙ is))
+      where
+        apart : true ≡ false → ⊥
+        apart f = cc (f)
+    by false false is e later = later e
+
+shows-full : (c : Content) (p : NodeId) → IsFull c p → is_full c ≡ true
+shows-full c p (instances e) = left-holds _ _ (eq-eqb (next_instance c) (greatest + 1) e)
+shows-full c p (incarnations e) = right-holds _ _ (held-full p c.nodes e)
+
+-- the refusal of a write, by a store that is full only where it is, and never in a world that was opened
+write-since : (before old : Counts) (w : Standing) (p : NodeId) (e : StoreError) → AreLater before old → w.counts ≡ raised_by e old
+    → IsWriteFault w.is_honest w.state.content p e → (w.state.found ≡ None → IsFault w.is_honest e) → is_fault_since before w e ≡ true
+write-since before old w p stores.Device le is f opened =
+    ap (λ (c : Counts). has_risen before.faults c.faults) is ∙ risen before.faults old.faults le.faults
+write-since before old w p stores.Memory le is f opened =
+    ap (λ (c : Counts). has_risen before.wants c.wants) is ∙ risen before.wants old.wants le.wants
+write-since before old w p stores.Damaged le is f opened = ap not (f.damaged refl)
+write-since before old w p stores.Full le is f opened = by w.is_honest refl w.state.found refl
+  where
+    both : (a b : Bool) → a ≡ true → b ≡ true → (a && b) ≡ true
+    both a b x y = rw (x, y) refl
+
+    by : (b : Bool) → w.is_honest ≡ b → (found : Option ℕ) → w.state.found ≡ found
+        → (not w.is_honest || (is_some w.state.found && is_full w.state.content)) ≡ true
+    by false e found is = left-holds _ _ (ap not e)
+    by true e None is = left-holds _ _ (ap not ((opened is).full refl))
+    by true e (Some last) is = right-holds _ _ (both _ _ (ap is_some is) (shows-full w.state.content p (f.full refl e)))
 
 fault-older : (older old : Counts) (w : Standing) (e : StoreError) → AreLater older old → is_fault_since old w e ≡ true → is_fault_since older w e ≡ true
 fault-older older old w stores.Device le is = risen-older older.faults old.faults w.counts.faults le.faults is
@@ -138,11 +151,9 @@ never-honest false f = refl
 
 pub given-cause : (before : Counts) (old new : Journal) (p : NodeId) (step : Step) (e : StepError) → AreLater before old.world.counts → IsGiven old.world p step
     → IsActed old new p step (Err (errors.Step e)) → is_run_cause before new.world e ≡ true
-given-cause before old new p step refusals.StepLimit later given acted = unless-honest new.world.is_honest _ (λ h.
-    le-leb MAX_STEPS new.world.state.made (subst (λ (s : State). MAX_STEPS ≤ s.made) (sym (acted.same h))
-    (limit-reached old.world.state.made (judged old.world.state (told old.world.state step) step) (given (acted.honest h)).1 (acted.refusal h))))
+given-cause before old new p step refusals.StepLimit later given acted = unless-honest new.world.is_honest _ (λ h. acted.cause)
 given-cause before old new p step (refusals.Store refusal) later given acted =
-    fault-since before old.world.counts new.world refusal later acted.counts acted.cause
+    write-since before old.world.counts new.world (owner step) refusal later acted.counts acted.cause.0 acted.cause.1
 given-cause before old new p step refusals.OutOfMemory later given acted = refl
 given-cause before old new p step refusals.NoNode later given acted = never-honest new.world.is_honest (λ h.
     never old.world.state step refusals.NoNode refl (given (acted.honest h)).1 (acted.refusal h))

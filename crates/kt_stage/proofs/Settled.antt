@@ -8,17 +8,21 @@ use Rattle.kt_history.proofs.Shared.{slice_get-append_left}
 use Rattle.kt_store.specs.declared.error.StoreError.{StoreError}
 use Rattle.kt_store.specs.Calls.{Counts, raised_by}
 use Rattle.kt_node.specs.declared.plan.Plan.{Plan}
+use Rattle.kt_tuple.specs.declared.node.NodeId.TheVariants.{Worker}
 use Rattle.kt_world.specs.declared.step.Step.{Step}
+use Rattle.kt_world.specs.declared.step.Step.TheVariants.{Issue}
 use Rattle.kt_world.specs.declared.step.StepError.{StepError}
 use Rattle.kt_world.specs.declared.step.StepError.TheVariants as refusals
 use Rattle.kt_world.specs.Effect.{step_result}
-use Rattle.kt_world.specs.Judge.{judged, planned, within_limit}
+use Rattle.kt_world.specs.Judge.{planned}
 use Rattle.kt_world.specs.declared.step.TheConstants.{MAX_STEPS}
 use Rattle.kt_world.specs.State.{State}
+use Rattle.kt_world.proofs.Shared.{plan-few}
 use Rattle.kt_core.specs.declared.faults.FaultLine.{FaultLine}
 use Rattle.kt_core.specs.Faults.{spent}
 use Rattle.kt_core.specs.Lent.{is_allowed}
-use Rattle.kt_core.specs.Stepping.{IsByPlan, Refuses, step_counted}
+use Rattle.kt_core.specs.Store.{IsFault}
+use Rattle.kt_core.specs.Stepping.{IsByPlan, IsCause, Refuses, step_counted}
 use Rattle.kt_core.specs.World.{Standing, beside}
 use Rattle.kt_stage.specs.Journal.{all_made}
 use Rattle.kt_stage.specs.Policy.{spent_by}
@@ -146,30 +150,33 @@ refused_counted {T = T} (Err y) e old mid new is rose same =
 
 -- ---- that it ends
 
-planned-room : (made : ℕ) (r : Result Plan StepError) (plan : Plan) → within_limit made r ≡ Ok plan → made < MAX_STEPS
-planned-room made (Ok x) plan is = by (nat_lt made MAX_STEPS) refl is
-  where
-    by : (b : Bool) → nat_lt made MAX_STEPS ≡ b → (if b then Ok x else Err refusals.StepLimit) ≡ Ok plan → made < MAX_STEPS
-    by true at same = ltb-true made MAX_STEPS at
-    by false at same = absurd cc
-planned-room made (Err (refusals.Store x)) plan is = by (nat_lt made MAX_STEPS) is
-  where
-    by : (b : Bool) → (if b then Err (refusals.Store x) else Err refusals.StepLimit) ≡ Ok plan → made < MAX_STEPS
-    by true same = absurd cc
-    by false same = absurd cc
-planned-room made (Err refusals.NoNode) plan is = absurd cc
-planned-room made (Err refusals.WrongMode) plan is = absurd cc
-planned-room made (Err refusals.NothingThere) plan is = absurd cc
-planned-room made (Err refusals.NoSuchMatch) plan is = absurd cc
-planned-room made (Err refusals.NotDecided) plan is = absurd cc
-planned-room made (Err refusals.Unresolved) plan is = absurd cc
-planned-room made (Err refusals.StepLimit) plan is = absurd cc
-planned-room made (Err refusals.OutOfMemory) plan is = absurd cc
-
 -- each step leaves room for fewer
 pub fewer_left : (old new : State) (asked : State) (step : Step) → IsByPlan asked step new → new.made ≡ asked.made + 1 → beside asked ≡ beside old
     → MAX_STEPS - new.made < MAX_STEPS - old.made
 fewer_left old new asked step by_plan one same =
-    let room = planned-room asked.made (judged asked by_plan.told step) by_plan.plan by_plan.is in
+    let room = plan-few asked by_plan.told step by_plan.plan by_plan.is in
     let was : asked.made ≡ old.made = ap (λ (t : State). t.made) same in
     omega (arith, room, one, was)
+
+-- ---- why it ended early
+
+-- the store was asked, and refused
+pub asked-cause : {T : Type 0} (out : Result T StepError) (w : Standing) (refusal : StoreError) → IsErrAnd out (λ y. y ≡ refusals.Store refusal)
+    → IsFault w.is_honest refusal → IfErr out (λ e. (step : Step) × IsCause w.state step w.is_honest e)
+asked-cause (Ok x) w refusal is fault = tt
+asked-cause (Err y) w refusal is fault =
+    let Caused : StepError → Type 0 = λ e. (step : Step) × IsCause w.state step w.is_honest e in
+    let cause : IsCause w.state (Issue (Worker 0)) w.is_honest (refusals.Store refusal) =
+    (record { damaged = fault.damaged; full = λ e h. absurd (apart (sym h ∙ fault.full e)) }, λ opened. fault) in
+    subst Caused (sym is) (Issue (Worker 0), cause)
+  where
+    apart : true ≡ false → ⊥
+    apart e = cc (e)
+
+-- a step was refused
+pub step-cause : {T : Type 0} (out : Result T StepError) (w : Standing) (step : Step) (e : StepError) → IsErrAnd out (λ y. y ≡ e)
+    → IsCause w.state step w.is_honest e → IfErr out (λ e. (step : Step) × IsCause w.state step w.is_honest e)
+step-cause (Ok x) w step e is cause = tt
+step-cause (Err y) w step e is cause =
+    let Caused : StepError → Type 0 = λ e. (step : Step) × IsCause w.state step w.is_honest e in
+    subst Caused (sym is) (step, cause)

@@ -31,10 +31,10 @@ abbrev pub RefusesAct : {Y : Type 0} → ActError → Result Y StepError → Typ
 RefusesAct errors.NotOwner due = Unit {0}
 RefusesAct (errors.Step refusal) due = RefusesStep refusal due
 
--- a store's refusal for damage or for a full store comes never while it is honest
-abbrev pub IsActCause : Bool → ActError → Type 0
-IsActCause is_honest errors.NotOwner = Unit {0}
-IsActCause is_honest (errors.Step refusal) = IsCause is_honest refusal
+-- as the refusal of a step in this state
+abbrev pub IsActCause : State → Step → Bool → ActError → Type 0
+IsActCause s step is_honest errors.NotOwner = Unit {0}
+IsActCause s step is_honest (errors.Step refusal) = IsCause s step is_honest refusal
 
 -- what it leaves of the store's counts: raised by the store's own refusal and by nothing else
 abbrev pub act_counted : {T : Type 0} → Result T ActError → Counts → Counts
@@ -58,7 +58,7 @@ pub record IsActed (old new : Journal) (p : NodeId) (step : Step) (result : Resu
   pub not_owner : IfErr result (IsOthers p step)
   pub others : owner step ≢ p → result ≡ Err errors.NotOwner
   pub refusal : IsTrue new.world.is_honest → IfErr result (λ e. RefusesAct e (planned old.world.state step))
-  pub cause : IfErr result (IsActCause new.world.is_honest)
+  pub cause : IfErr result (IsActCause new.world.state step new.world.is_honest)
   pub counts : new.world.counts ≡ act_counted result old.world.counts
   pub called : IsTrue new.world.is_honest → IfErr result (IsActCalledFor old.world.state step)
   -- and then nothing has changed

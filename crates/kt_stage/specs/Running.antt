@@ -1,11 +1,14 @@
 -- Why a run by threads did not come to its end.
-use Rattle.std.specs.Prelude.{◌≡◌, ℕ, ◌+◌, ◌==◌, nat_lt, nat_le, Bool, true, not, ◌||◌, length, List, Ok, Some}
+use Rattle.std.specs.Prelude.{◌≡◌, ℕ, ◌+◌, ◌==◌, nat_lt, Bool, true, not, ◌&&◌, ◌||◌, is_some, length, List, Ok, Some}
 use Rattle.std.specs.Prelude.{IsTrue}
+use Rattle.std.specs.List.{list_any}
+use Rattle.kt_store.specs.declared.rows.NodeRow.{NodeRow}
+use Rattle.kt_store.specs.Content.{Content, greatest, next_instance}
 use Rattle.kt_tuple.specs.declared.node.NodeId.{NodeId}
 use Rattle.kt_world.specs.declared.step.Step.{Step}
 use Rattle.kt_world.specs.declared.step.StepError.{StepError}
 use Rattle.kt_world.specs.declared.step.StepError.TheVariants as refusals
-use Rattle.kt_world.specs.declared.step.TheConstants.{MAX_STEPS}
+use Rattle.kt_world.specs.Judge.{is_at_limit}
 use Rattle.kt_store.specs.declared.error.StoreError.{StoreError}
 use Rattle.kt_store.specs.declared.error.StoreError.TheVariants as stores
 use Rattle.kt_store.specs.Calls.{Counts, most}
@@ -37,18 +40,23 @@ pub record IsLeftOver (left : StoreValue) (cast : Cast) (lines : List FaultLine)
 abbrev pub has_risen : (before now : ℕ) → Bool
 has_risen before now = nat_lt before now || (now == most)
 
--- a refusal for the device or for memory where the store counted one since; for damage, or for a store that is full,
--- never while the store is honest
+-- no number is left for an instance, or for an incarnation of some node
+abbrev pub is_full : Content → Bool
+is_full c = (next_instance c == greatest + 1) || list_any (λ (row : NodeRow). row.incarnation == greatest) c.nodes
+
+-- a refusal for the device or for memory where the store counted one since; for damage never while the store is honest;
+-- for a store that is full only where it is, and never in a world that was opened while the store is honest
 abbrev pub is_fault_since : Counts → Standing → StoreError → Bool
 is_fault_since before world stores.Device = has_risen before.faults world.counts.faults
 is_fault_since before world stores.Memory = has_risen before.wants world.counts.wants
 is_fault_since before world stores.Damaged = not world.is_honest
-is_fault_since before world stores.Full = not world.is_honest
+is_fault_since before world stores.Full =
+    not world.is_honest || (is_some world.state.found && is_full world.state.content)
 
 -- the refusal is due in this world, whose store had these counts at the opening: the limit of steps where it is
 -- reached, a refusal of the store, want of memory; no other while the store is honest
 abbrev pub is_run_cause : Counts → Standing → StepError → Bool
-is_run_cause before world refusals.StepLimit = not world.is_honest || nat_le MAX_STEPS world.state.made
+is_run_cause before world refusals.StepLimit = not world.is_honest || is_at_limit world.state
 is_run_cause before world (refusals.Store refusal) = is_fault_since before world refusal
 is_run_cause before world refusals.OutOfMemory = true
 is_run_cause before world refusal = not world.is_honest

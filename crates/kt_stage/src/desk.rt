@@ -60,7 +60,7 @@ impl<S: CkptStore> Journal<S> {
         ensures counts { self.new.world.counts ≡ step_counted result self.old.world.counts }
         ensures refusal { IsTrue self.new.world.is_honest
             → IfErr result (λ e. RefusesStep e (planned self.old.world.state step)) }
-        ensures cause { IfErr result (IsCause self.new.world.is_honest) }
+        ensures cause { IfErr result (IsCause self.new.world.state step self.new.world.is_honest) }
         ensures called { IsTrue self.new.world.is_honest → IfErr result (IsCalledFor self.old.world.state step) }
     {
         if self.steps.reserve(1).is_err() {
@@ -142,7 +142,8 @@ impl<S: CkptStore, L: Naming> Desk<S, L> {
         ensures others { owner step ≢ seat.old.node → result ≡ Err ActError.NotOwner }
         ensures refusal { IsTrue self.new.journal.world.is_honest
             → IfErr result (λ e. RefusesAct e (planned self.old.journal.world.state step)) }
-        ensures cause { IfErr result (IsActCause self.new.journal.world.is_honest) }
+        ensures cause { IfErr result
+            (IsActCause self.new.journal.world.state step self.new.journal.world.is_honest) }
         ensures called { IsTrue self.new.journal.world.is_honest
             → IfErr result (IsActCalledFor self.old.journal.world.state step) }
         ensures same_seat { OnErr result (seat.new.receipts ≡ seat.old.receipts) }

@@ -49,7 +49,7 @@ pub fn settle<S: CkptStore>(
     ensures settles { (steps : List Made) × Settles world.old world.new faults.old faults.new steps }
     ensures over { IsTrue world.new.is_honest → OnOk result (next_of_first world.new.state faults.new ≡ None) }
     ensures held_up { IsTrue world.new.is_honest → IfErr result (IsHeldUp world.new.state faults.new) }
-    ensures cause { IfErr result (IsCause world.new.is_honest) }
+    ensures cause { IfErr result (λ e. (step : Made) × IsCause world.new.state step world.new.is_honest e) }
     ensures lasts { NeverFails S.failures → IsTrue world.old.is_honest → IsTrue world.new.is_honest }
     ensures counts { world.new.counts ≡ step_counted result world.old.counts }
 {

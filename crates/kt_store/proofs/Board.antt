@@ -7,7 +7,7 @@ use Rattle.std.proofs.lemmas.List.Quantifiers.{all_pairs_push}
 use Rattle.kt_store.specs.declared.rows.Posted.{Posted}
 use Rattle.kt_store.specs.Verdict.{verdict_from}
 use Rattle.kt_store.specs.Content.{Content, greatest, posted}
-use Rattle.kt_store.specs.inner.Rising.{IsBoard}
+use Rattle.kt_store.specs.Proper.{IsBoard}
 use Rattle.kt_store.specs.Changes.{decided, with_posted}
 use Rattle.kt_store.proofs.Tables.{IsOrder, placed_at, placed_last}
 

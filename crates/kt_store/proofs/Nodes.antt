@@ -10,7 +10,7 @@ use Rattle.kt_store.specs.declared.rows.NodeRow.{NodeRow}
 use Rattle.kt_store.specs.declared.change.Change.{Change}
 use Rattle.kt_store.specs.declared.change.Change.TheVariants.{Incarnation, Take, Promote, Discard}
 use Rattle.kt_store.specs.Content.{row_or, greatest}
-use Rattle.kt_store.specs.inner.Rising.{IsNodes}
+use Rattle.kt_store.specs.Proper.{IsNodes}
 use Rattle.kt_store.specs.Changes.{with_row}
 use Rattle.kt_store.specs.inner.Row.{changed, IsWithin}
 use Rattle.kt_store.proofs.Tables.{IsOrder, placed_all, placed_among, placed_at, placed_last, placed_rising, none_passes, position_none}

@@ -15,7 +15,8 @@ use Rattle.kt_tuple.specs.Node.{node_eq}
 use Rattle.kt_store.specs.declared.posted.Opened.{Opened}
 use Rattle.kt_store.specs.declared.rows.Posted.{Posted}
 use Rattle.kt_store.specs.Verdict.{is_open, verdict_from}
-use Rattle.kt_store.specs.inner.Rising.{IsBoard, IsNumberedFrom, opened, opened_of}
+use Rattle.kt_store.specs.Proper.{IsBoard}
+use Rattle.kt_store.specs.inner.Rising.{IsNumberedFrom, opened, opened_of}
 use Rattle.kt_store.proofs.Tables.{position_found}
 
 behind : (x : Posted) (rows : List Posted) (n : ℕ) → IsNumberedFrom n (x ∷ rows) → IsNumberedFrom (suc n) rows

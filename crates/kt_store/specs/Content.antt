@@ -48,6 +48,10 @@ permanent_marks c p = option_map marks_of (row_of c p).permanent
 abbrev pub tentative_marks : Content → NodeId → Option TentativeMarks
 tentative_marks c p = option_map marks_in (row_of c p).tentative
 
+-- the nodes that have a row, in node order
+abbrev pub nodes_in : Content → List NodeId
+nodes_in c = map (λ (row : NodeRow). row.node) c.nodes
+
 -- what is posted of an instance, if it was begun
 abbrev pub posted : Content → ℕ → Option Posted
 posted c i = find (λ (row : Posted). row.instance == i) c.board

@@ -5,7 +5,7 @@ ghost use Rattle.std.specs.List.{find, position};
 ghost use Rattle.kt_tuple.specs.Node.{node_eq, is_before};
 ghost use Rattle.kt_store.specs.declared.rows.NodeRow.{NodeRow};
 ghost use Rattle.kt_store.specs.Content.{row_or};
-ghost use Rattle.kt_store.specs.inner.Rising.{IsNodes};
+ghost use Rattle.kt_store.specs.Proper.{IsNodes};
 ghost use Rattle.kt_store.specs.Changes.{with_row};
 ghost use Rattle.kt_store.specs.inner.Row.{changed, IsWithin};
 

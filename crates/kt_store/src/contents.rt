@@ -10,8 +10,10 @@ ghost use Rattle.kt_store.specs.declared.posted.Opened.{Opened};
 ghost use Rattle.kt_store.specs.declared.rows.NodeRow.{NodeRow};
 ghost use Rattle.kt_store.specs.declared.rows.Posted.{Posted};
 ghost use Rattle.kt_store.specs.Content.{row_of, verdict_of, initiator_of, open_of, next_instance};
-ghost use Rattle.kt_store.specs.inner.Rising.{IsBoard, IsNumbered, opened};
-ghost use Rattle.kt_store.specs.Content.{is_fresh, greatest, permanent_marks, tentative_marks};
+ghost use Rattle.kt_store.specs.Proper.{IsBoard};
+ghost use Rattle.kt_store.specs.inner.Rising.{IsNumbered, opened};
+ghost use Rattle.kt_store.specs.Content.{is_fresh, greatest, nodes_in, permanent_marks, tentative_marks};
+ghost use Rattle.kt_store.specs.Proper.{IsProper};
 ghost use Rattle.kt_store.specs.Changes.{decided, opening, storing};
 ghost use Rattle.kt_store.specs.inner.Row.{changed, IsWithin};
 
@@ -36,7 +38,8 @@ pub(crate) struct Contents {
 impl Model for Contents {
     ghost use Rattle.std.specs.Prelude.{◌≡◌};
     ghost use Rattle.kt_store.specs.Content.{Content};
-    ghost use Rattle.kt_store.specs.inner.Rising.{IsBoard, IsNodes, IsNumbered, opened};
+    ghost use Rattle.kt_store.specs.Proper.{IsBoard, IsNodes};
+    ghost use Rattle.kt_store.specs.inner.Rising.{IsNumbered, opened};
 
     ghost Value = { Content };
 
@@ -230,6 +233,18 @@ impl Contents {
         };
         post(&mut self.board, &mut self.undecided, new);
         Ok(())
+    }
+
+    /// The nodes that have a row, in node order.
+    pub(crate) fn node_names(&self, alloc: Global) -> Result<Vec<NodeId>, AllocError>
+        ensures value { IfOk result (λ nodes. nodes.items ≡ nodes_in self.now) }
+        ensures proper { IsProper self.now }
+    {
+        let mut nodes = Vec::with_capacity(alloc, self.nodes.len())?;
+        for row in &self.nodes {
+            nodes.push(row.node)?;
+        }
+        Ok(nodes)
     }
 
     /// Whether nothing was ever stored: no node has a row, and nothing is on the board.

@@ -169,6 +169,13 @@ impl<S: CkptStore> CkptStore for FaultStore<S> {
         self.inner.is_fresh()
     }
 
+    fn nodes(&mut self, alloc: Global) -> Result<Vec<NodeId>, StoreError> {
+        if self.fails() {
+            return Err(StoreError::Device);
+        }
+        self.inner.nodes(alloc)
+    }
+
     fn begin_check(&mut self, node: NodeId, ckpt: &Ckpt) -> Result<(), StoreError> {
         if self.fails() {
             return Err(StoreError::Device);

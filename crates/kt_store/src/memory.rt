@@ -47,7 +47,7 @@ impl MemStore {
     }
 
     /// The rows of the nodes that have one, in node order.
-    pub fn nodes(&self) -> &[NodeRow]
+    pub fn rows(&self) -> &[NodeRow]
         ensures { result.now ≡ self.now.content.nodes }
     {
         self.contents.nodes()
@@ -132,6 +132,11 @@ impl CkptStore for MemStore {
 
     fn is_fresh(&mut self) -> Result<bool, StoreError> {
         Ok(self.contents.has_nothing())
+    }
+
+    fn nodes(&mut self, alloc: Global) -> Result<Vec<NodeId>, StoreError> {
+        let answer = self.contents.node_names(alloc);
+        count(&mut self.wants, answer)
     }
 
     fn begin_check(&mut self, node: NodeId, ckpt: &Ckpt) -> Result<(), StoreError> {

@@ -11,7 +11,8 @@ ghost use Rattle.kt_store.specs.declared.rows.Posted.{Posted};
 ghost use Rattle.kt_store.specs.Changes.{with_posted};
 ghost use Rattle.kt_store.specs.Content.{greatest};
 ghost use Rattle.kt_store.specs.Verdict.{is_open};
-ghost use Rattle.kt_store.specs.inner.Rising.{IsBoard, IsNumbered, opened};
+ghost use Rattle.kt_store.specs.Proper.{IsBoard};
+ghost use Rattle.kt_store.specs.inner.Rising.{IsNumbered, opened};
 
 use crate::rows::Posted;
 use kt_tuple::NodeId;

@@ -1,11 +1,12 @@
 //! What a store of checkpoints and verdicts promises.
 
-ghost use Rattle.std.specs.Prelude.{◌≡◌, ◌⊎◌, ◌+◌, ℕ, Bool, None, Some, false, IsTrue, IsErrOf, IfOk, OnOk, OnErr};
+ghost use Rattle.std.specs.Prelude.{◌≡◌, ◌⊎◌, ◌+◌, ◌≤◌, ℕ, Bool, None, Some, false, IsTrue, IsErrOf, IfOk, OnOk, OnErr};
 ghost use Rattle.kt_store.specs.declared.rows.Verdict.TheVariants as verdicts;
-ghost use Rattle.kt_store.specs.Content.{Content, HasVerdict, greatest, initiator_of, is_fresh, next_instance};
+ghost use Rattle.kt_store.specs.Content.{Content, HasVerdict, greatest, initiator_of, is_fresh, next_instance, nodes_in};
 ghost use Rattle.kt_store.specs.Content.{open_of, permanent_marks, row_of, tentative_marks, verdict_of};
 ghost use Rattle.kt_store.specs.Changes.{bumped, check_begun, decided, discarded};
 ghost use Rattle.kt_store.specs.Changes.{promoted, restart_begun, tentative_put};
+ghost use Rattle.kt_store.specs.Proper.{IsProper};
 ghost use Rattle.kt_store.specs.Calls.{Counts, HasCause, NeverFails};
 
 use crate::error::StoreError;
@@ -48,6 +49,7 @@ pub trait CkptStore {
     fn incarnation(&mut self, node: NodeId) -> Result<u64, StoreError>
         ensures value { IsTrue (is_honest self.new)
             → IfOk result (λ n. n ≡ (row_of (content self.old) node).incarnation) }
+        ensures most { IsTrue (is_honest self.new) → IfOk result (λ n. n ≤ greatest) }
         ensures same { IsTrue (is_honest self.new) → content self.new ≡ content self.old }
         ensures honest { IsTrue (is_honest self.new) → IsTrue (is_honest self.old) }
         ensures lasts { NeverFails failures → IsTrue (is_honest self.old) → IsTrue (is_honest self.new) }
@@ -139,6 +141,17 @@ pub trait CkptStore {
     /// Whether nothing was ever stored: no node's row and no instance.
     fn is_fresh(&mut self) -> Result<bool, StoreError>
         ensures value { IsTrue (is_honest self.new) → IfOk result (λ fresh. fresh ≡ is_fresh (content self.old)) }
+        ensures same { IsTrue (is_honest self.new) → content self.new ≡ content self.old }
+        ensures honest { IsTrue (is_honest self.new) → IsTrue (is_honest self.old) }
+        ensures lasts { NeverFails failures → IsTrue (is_honest self.old) → IsTrue (is_honest self.new) }
+        ensures intact { IsErrOf result StoreError.Damaged → is_intact self.new ≡ false }
+        ensures cause { HasCause (counts self.old) (counts self.new) (is_honest self.new) ⊥ result };
+
+    /// The nodes that have a row, in node order: those of which anything was ever written. Rows are in order, and no
+    /// number is above 2^62.
+    fn nodes(&mut self, alloc: Global) -> Result<Vec<NodeId>, StoreError>
+        ensures value { IsTrue (is_honest self.new) → IfOk result (λ nodes. nodes.items ≡ nodes_in (content self.old)) }
+        ensures proper { IsTrue (is_honest self.new) → OnOk result (IsProper (content self.old)) }
         ensures same { IsTrue (is_honest self.new) → content self.new ≡ content self.old }
         ensures honest { IsTrue (is_honest self.new) → IsTrue (is_honest self.old) }
         ensures lasts { NeverFails failures → IsTrue (is_honest self.old) → IsTrue (is_honest self.new) }

@@ -1,9 +1,10 @@
 -- What each query of the store finds.
-use Rattle.std.proofs.Common.{◌≡◌, ℕ, ℤ, pos, negsuc, Bool, true, false, ◌&&◌, ◌==◌, cond, List, [], ◌∷◌}
+use Rattle.std.proofs.Common.{◌≡◌, ℕ, ℤ, pos, negsuc, Bool, true, false, ◌&&◌, ◌==◌, cond, List, [], ◌∷◌, map, subst, IsPermutation}
 use Rattle.std.proofs.Common.{slice_get, option_map, Some, IfSome, refl, sym, ap, ap₂, ◌∙◌, arith, ◌<ℤ◌}
 use Rattle.std.specs.List.{AllByRecursion, find}
 use Rattle.std.specs.Ordering.{int_eq}
 use Rattle.std.proofs.lemmas.Int.{ints}
+use Rattle.std.proofs.lemmas.List.Sorted.{IsPermutation-map}
 use Rattle.sqlite_value.specs.declared.value.Value.TheVariants.{Int}
 use Rattle.sqlite_value.specs.Order.{Row}
 use Rattle.sqlite_trees.specs.Tree.{IsAscending}
@@ -13,7 +14,7 @@ use Rattle.std.proofs.lemmas.Option.{slice_get-map}
 use Rattle.sqlite.specs.State.{State, Shown}
 use Rattle.sqlite_keyed.specs.Keyed.{IsKeyedBy}
 use Rattle.sqlite_keyed.specs.Lists.{sort_by}
-use Rattle.sqlite_keyed.proofs.ListLemmas.{all_both, all_of, all_weaker, filter_all}
+use Rattle.sqlite_keyed.proofs.ListLemmas.{all_both, all_of, all_weaker, filter_all, map-map}
 use Rattle.sqlite_typed.proofs.TestLemmas.{at_ints, then_term, last_term}
 use Rattle.sqlite_typed.proofs.AnswerLemmas.{first_shown, first_of}
 use Rattle.kt_tuple.specs.declared.node.NodeId.{NodeId}
@@ -26,11 +27,13 @@ use Rattle.kt_store.specs.declared.rows.Verdict.TheVariants.{Open, Yes, No}
 use Rattle.kt_store.specs.Verdict.{is_open}
 use Rattle.kt_store.specs.Content.{Content}
 use Rattle.kt_tables.specs.Schema.{kt_schema}
-use Rattle.kt_tables.specs.inner.Text.{get_node_text, first_node_text, get_posted_text, last_posted_text, open_posted_text}
-use Rattle.kt_tables.specs.Rows.{whole, id_of, HasId, verdict_code, node_given, posted_given, Holds}
+use Rattle.kt_tables.specs.inner.Text.{all_ids_text, get_node_text, first_node_text, get_posted_text, last_posted_text, open_posted_text}
+use Rattle.kt_tables.specs.Rows.{whole, id_of, HasId, verdict_code, node_given, node_shown, posted_given, Holds}
+use Rattle.kt_tables.specs.inner.Showing.{id_given, id_shown}
+use Rattle.kt_tables.proofs.Texts.{all_ids, all_ids_is, id_names}
 use Rattle.kt_tables.proofs.Texts.{equals, get_node, get_node_is, first_node, first_node_is, get_posted, get_posted_is, last_posted, last_posted_is}
 use Rattle.kt_tables.proofs.Texts.{open_posted, open_posted_is, node_names, posted_names}
-use Rattle.kt_tables.proofs.TableRows.{Table, nodes_table, posted_table}
+use Rattle.kt_tables.proofs.TableRows.{Table, ids_table, nodes_table, posted_table}
 use Rattle.kt_tables.proofs.ReadLemmas.{answered, in_order, from_last, first_given, downwards}
 
 -- ---- lists
@@ -105,6 +108,18 @@ module _ (old new : State) (c : Content) (has : old.now.schema ≡ kt_schema) (h
       in_order nodes_table old.now.trees c.nodes held.nodes.shown nodes_rise [] (pos 1) [] (λ _. true) (λ r. refl) (λ r. refl) rows answer in
       first_of _ is ∙ slice_get-map node_given _ 0
       ∙ ap (λ (l : List NodeRow). option_map node_given (slice_get l 0)) (filter_all (λ _. true) c.nodes (all_of _ (λ _. refl) c.nodes))
+
+  pub ids_found : (rows : List Row) → Shown all_ids_text [] old new rows → rows ≡ map id_given c.nodes
+  ids_found rows h =
+      let db = old.now.trees in
+      let answer = answered all_ids_text [] old new all_ids id_names all_ids_is has rows h in
+      let keys : IsPermutation (map id_shown (map node_given c.nodes)) (map id_shown (map node_shown (db 0))) =
+      IsPermutation-map id_shown _ _ held.nodes.shown in
+      let bag : IsPermutation (map id_given c.nodes) (map id_shown (db 0)) =
+      subst (IsPermutation (map id_given c.nodes)) (map-map id_shown node_shown (db 0))
+      (subst (λ l. IsPermutation l (map id_shown (map node_shown (db 0)))) (map-map id_shown node_given c.nodes) keys) in
+      in_order ids_table db c.nodes bag nodes_rise [] (negsuc 0) [] (λ _. true) (λ r. refl) (λ r. refl) rows answer
+      ∙ ap (map id_given) (filter_all (λ _. true) c.nodes (all_of _ (λ _. refl) c.nodes))
 
   pub posted_found : (i : ℕ) → (rows : List Row) → Shown get_posted_text (whole i ∷ []) old new rows
       → slice_get rows 0 ≡ option_map posted_given (find (λ (p : Posted). p.instance == i) c.board)

@@ -10,9 +10,9 @@ use Rattle.kt_store.specs.declared.rows.Posted.{Posted}
 use Rattle.kt_tuple.specs.Node.{is_before}
 use Rattle.kt_store.proofs.Shared.{IsOrder, by_node_order, by_number_order}
 use Rattle.kt_tables.specs.Rows.{id_of, node_given, node_shown, posted_given, posted_shown, IsNodeRow, IsPosted, HoldsRows}
-use Rattle.kt_tables.specs.inner.Showing.{node_stored, posted_stored}
+use Rattle.kt_tables.specs.inner.Showing.{id_given, id_shown, id_stored, node_stored, posted_stored}
 use Rattle.kt_tables.proofs.RowLemmas.{by_id}
-use Rattle.kt_tables.proofs.Texts.{node_columns, posted_columns}
+use Rattle.kt_tables.proofs.Texts.{id_columns, node_columns, posted_columns}
 
 -- the row with the place of the key's column, which is empty
 abbrev pub widened : Row → Row
@@ -54,6 +54,28 @@ nodes_table = record {
   given = node_given;
   stored = node_stored;
   shown = node_shown;
+  numbered = λ r. refl;
+  given_number = λ r. refl;
+  same_number = λ r. refl;
+  opens = λ r. refl;
+  back = λ r. refl;
+  shows = λ params r. refl;
+  again = λ r. refl;
+  first = λ r. refl;
+}
+
+-- the table of nodes, of which the key alone is asked
+abbrev pub ids_table : Table IsNodeRow
+ids_table = record {
+  tree = 0;
+  columns = id_columns;
+  number = λ (r : NodeRow). id_of r.node;
+  before = λ (a b : NodeRow). is_before a.node b.node;
+  order = by_node_order;
+  by_number = λ a b h g. by_id a.node b.node h.node g.node;
+  given = id_given;
+  stored = id_stored;
+  shown = id_shown;
   numbered = λ r. refl;
   given_number = λ r. refl;
   same_number = λ r. refl;

@@ -15,7 +15,7 @@ use Rattle.sqlite_tied.specs.Compute.{everything}
 use Rattle.sqlite.specs.Listing.{understood, reads_listing}
 use Rattle.sqlite.proofs.Callers.{IsPlain, command_of}
 use Rattle.kt_tables.specs.Schema.{kt_schema}
-use Rattle.kt_tables.specs.inner.Text.{put_node_text, put_posted_text, get_node_text, all_nodes_text, first_node_text, get_posted_text, last_posted_text}
+use Rattle.kt_tables.specs.inner.Text.{put_node_text, put_posted_text, get_node_text, all_nodes_text, all_ids_text, first_node_text, get_posted_text, last_posted_text}
 use Rattle.kt_tables.specs.inner.Text.{open_posted_text, all_posted_text, meta_text}
 
 -- ---- writes
@@ -85,6 +85,12 @@ get_node = from_table 0 (equals (col 1 0) (col 0 0) ∷ []) node_columns rising 
 abbrev pub all_nodes : Query
 all_nodes = from_table 0 [] node_columns rising (negsuc 0)
 
+abbrev pub id_columns : List Term
+id_columns = col 1 0 ∷ []
+
+abbrev pub all_ids : Query
+all_ids = from_table 0 [] id_columns rising (negsuc 0)
+
 abbrev pub first_node : Query
 first_node = from_table 0 [] node_columns rising (pos 1)
 
@@ -123,6 +129,13 @@ get_node_is = record { is = refl; own = refl; plain = (refl, refl) }
 pub all_nodes_is : Asks all_nodes_text all_nodes node_names
 unfolding understood everything
 all_nodes_is = record { is = refl; own = refl; plain = (refl, refl) }
+
+abbrev pub id_names : List (List ℕ)
+id_names = codes "id" ∷ []
+
+pub all_ids_is : Asks all_ids_text all_ids id_names
+unfolding understood everything
+all_ids_is = record { is = refl; own = refl; plain = (refl, refl) }
 
 pub first_node_is : Asks first_node_text first_node node_names
 unfolding understood everything

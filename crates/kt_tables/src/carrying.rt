@@ -150,7 +150,7 @@ pub fn carried<S: Alter>(
         return Ok(false);
     }
     // All memory is taken before anything is written.
-    let cells = all_cells_of(alloc, store.nodes())?;
+    let cells = all_cells_of(alloc, store.rows())?;
     match put_in_one(conn, &cells) {
         Ok(()) => Ok(true),
         Err(error) => Err(statement_error(error)),

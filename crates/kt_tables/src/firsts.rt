@@ -1,19 +1,21 @@
-//! The first row of an answer.
+//! The first row of an answer, and keys of all its rows.
 
-ghost use Rattle.std.specs.Prelude.{◌≡◌, ◌==◌, ◌≤◌, Option, option_map, IfOk, IfErr, IfSome, length, slice_get};
+ghost use Rattle.std.specs.List.{AllByRecursion};
+ghost use Rattle.std.specs.Prelude.{◌≡◌, ◌==◌, ◌≤◌, List, Option, map, option_map, IfOk, IfErr, IfSome, length, slice_get};
 ghost use Rattle.kt_store.specs.declared.rows.NodeRow.{NodeRow as NodeFields};
 ghost use Rattle.kt_store.specs.declared.rows.Posted.{Posted as PostedFields};
 ghost use Rattle.kt_store.specs.Content.{greatest};
 ghost use Rattle.kt_tables.specs.Rows.{node_given, posted_given, IsNodeRow, IsPosted};
 ghost use Rattle.kt_tables.specs.inner.Cells.{GivesRow};
-ghost use Rattle.kt_tables.specs.inner.Showing.{Gives, IsReadError, number_of};
+ghost use Rattle.kt_tables.specs.inner.Showing.{Gives, IsReadError, id_given, number_of};
 ghost use Rattle.kt_tables.specs.inner.Showing.{incarnation_of, permanent_of, tentative_of};
 
 use crate::cells::{NodeCells, cells_at, first_cells};
 use crate::records::Record;
-use crate::rows::{marks_at, positive_at, tentative_marks_at};
+use crate::rows::{marks_at, node_at, positive_at, tentative_marks_at};
 use kt_ckpt::Marks;
 use kt_store::{NodeRow, Posted, StoreError, TentativeMarks};
+use kt_tuple::NodeId;
 use sqlite::Row;
 use std::alloc::Global;
 
@@ -54,6 +56,7 @@ pub(crate) fn first_cells_of(
 pub(crate) fn first_incarnation(rows: &[Row]) -> Result<u64, StoreError>
     ensures exact { (o : Option NodeFields) → IfSome o IsNodeRow → slice_get rows.now 0 ≡ option_map node_given o
         → Gives (incarnation_of o) result }
+    ensures most { IfOk result (λ n. n ≤ greatest) }
     ensures named { IfErr result IsReadError }
 {
     match rows.first() {
@@ -94,6 +97,22 @@ pub(crate) fn has_no_row(rows: &[Row]) -> bool
     ensures { result ≡ (length rows.now == 0) }
 {
     rows.is_empty()
+}
+
+/// The nodes whose keys the rows show, each in one column.
+pub(crate) fn nodes_of(alloc: Global, rows: &[Row]) -> Result<Vec<NodeId>, StoreError>
+    ensures value { (ns : List NodeFields) → AllByRecursion IsNodeRow ns → rows.now ≡ map id_given ns
+        → IfOk result (λ nodes. nodes.items ≡ map (λ r. r.node) ns) }
+    ensures memory { (ns : List NodeFields) → AllByRecursion IsNodeRow ns → rows.now ≡ map id_given ns
+        → IfErr result (λ e. e ≡ StoreError.Memory) }
+    ensures named { IfErr result IsReadError }
+{
+    let mut nodes = Vec::with_capacity(alloc, rows.len())?;
+    for row in rows {
+        let node = node_at(row, 0)?;
+        nodes.push(node).map_err(|_| StoreError::Memory)?;
+    }
+    Ok(nodes)
 }
 
 /// The number of the instance of the first row, 0 where there is none.

@@ -261,7 +261,7 @@ pub(crate) fn are_old<S: Alter>(
     if kind_of(conn)? != Kind::Old {
         return Ok(false);
     }
-    if !holds_nodes(alloc, conn, store.nodes())? {
+    if !holds_nodes(alloc, conn, store.rows())? {
         return Ok(false);
     }
     holds_board(conn, store.board())

@@ -1,24 +1,26 @@
 //! What is read of the tables.
 
 ghost use Rattle.std.specs.Prelude.{◌≡◌, ◌==◌, ◌&&◌, ◌≤◌, Option, fold, map, max, IfOk, IfSome};
-ghost use Rattle.std.specs.Prelude.{IsTrue};
+ghost use Rattle.std.specs.Prelude.{IsTrue, OnOk};
 ghost use Rattle.std.specs.List.{find};
 ghost use Rattle.kt_tuple.specs.Node.{node_eq};
 ghost use Rattle.kt_store.specs.declared.rows.NodeRow.{NodeRow as NodeFields};
 ghost use Rattle.kt_store.specs.declared.rows.Posted.{Posted as PostedFields};
 ghost use Rattle.kt_store.specs.Verdict.{is_open};
-ghost use Rattle.kt_store.specs.Content.{greatest, is_empty, permanent_marks, row_of, tentative_marks};
+ghost use Rattle.kt_store.specs.Content.{greatest, is_empty, nodes_in, permanent_marks, row_of, tentative_marks};
+ghost use Rattle.kt_store.specs.Proper.{IsProper};
 ghost use Rattle.kt_store.specs.Changes.{taken};
 ghost use Rattle.kt_tables.specs.Reason.{HasReason};
 ghost use Rattle.kt_tables.specs.Cells.{cells_node, AreSaid};
 ghost use Rattle.kt_tables.specs.Rows.{IsNodeRow, IsPosted};
 ghost use Rattle.kt_tables.specs.inner.Showing.{AreRowsOf};
 ghost use Rattle.kt_tables.specs.Held.{content_of, is_sound, is_sure, Lasts};
+ghost use Rattle.kt_tables.specs.Stopped.{Answers, StopKeeps};
 
 use crate::cells::{NodeCells, with_tentative};
 use crate::firsts::{
     first_cells_of, first_incarnation, first_number, first_of, first_permanent, first_tentative,
-    has_no_row,
+    has_no_row, nodes_of,
 };
 use crate::held::Tables;
 use crate::ids::id_of;
@@ -31,6 +33,8 @@ use std::alloc::Global;
 
 const GET_NODE: &str =
     "SELECT id, incarnation, permanent, tentative, instance FROM kt_node WHERE id = ?1 ORDER BY id";
+
+const ALL_IDS: &str = "SELECT id FROM kt_node ORDER BY id";
 
 const FIRST_NODE: &str =
     "SELECT id, incarnation, permanent, tentative, instance FROM kt_node ORDER BY id LIMIT 1";
@@ -55,6 +59,8 @@ impl<S: Alter> Tables<S> {
             → IfOk result (λ rows. (row : Option NodeFields) × AreRowsOf row rows.items) }
         ensures same { IsTrue (is_sure S.Store self.new) → content_of S.Store self.new ≡ content_of S.Store self.old }
         ensures honest { IsTrue (is_sure S.Store self.new) → IsTrue (is_sure S.Store self.old) }
+        ensures stop { StopKeeps S.Store self.old self.new }
+        ensures answers { Answers S.Store self.old self.new result }
         ensures lasts { Lasts S.Store self.old self.new }
         ensures trusted { self.new.is_trusted ≡ self.old.is_trusted }
         ensures reason { HasReason (is_sound S.Store self.new) result }
@@ -88,6 +94,7 @@ impl<S: Alter> Tables<S> {
     pub fn incarnation_of(&mut self, node: NodeId) -> Result<u64, StoreError>
         ensures value { IsTrue (is_sure S.Store self.new)
             → IfOk result (λ n. n ≡ (row_of (content_of S.Store self.old) node).incarnation) }
+        ensures most { IfOk result (λ n. n ≤ greatest) }
         ensures same { IsTrue (is_sure S.Store self.new) → content_of S.Store self.new ≡ content_of S.Store self.old }
         ensures honest { IsTrue (is_sure S.Store self.new) → IsTrue (is_sure S.Store self.old) }
         ensures lasts { Lasts S.Store self.old self.new }
@@ -165,14 +172,16 @@ impl<S: Alter> Tables<S> {
             → IfOk result (λ c. cells_node c ≡ row_of (content_of S.Store self.old) node) }
         ensures same { IsTrue (is_sure S.Store self.new) → content_of S.Store self.new ≡ content_of S.Store self.old }
         ensures honest { IsTrue (is_sure S.Store self.new) → IsTrue (is_sure S.Store self.old) }
+        ensures stop { StopKeeps S.Store self.old self.new }
+        ensures answers { Answers S.Store self.old self.new result }
         ensures lasts { Lasts S.Store self.old self.new }
         ensures trusted { self.new.is_trusted ≡ self.old.is_trusted }
         ensures reason { HasReason (is_sound S.Store self.new) result }
     {
+        let alloc = self.allocator();
         let Some(id) = id_of(node) else {
             return Err(StoreError::Device);
         };
-        let alloc = self.allocator();
         let is_trusted = self.is_trusted();
         let rows = self.rows_of(node)?;
         first_cells_of(alloc, id, is_trusted, &rows)
@@ -191,6 +200,8 @@ impl<S: Alter> Tables<S> {
             ≡ record (row_of (content_of S.Store self.old) node) { tentative = taken instance ckpt.now }) }
         ensures same { IsTrue (is_sure S.Store self.new) → content_of S.Store self.new ≡ content_of S.Store self.old }
         ensures honest { IsTrue (is_sure S.Store self.new) → IsTrue (is_sure S.Store self.old) }
+        ensures stop { StopKeeps S.Store self.old self.new }
+        ensures answers { Answers S.Store self.old self.new result }
         ensures lasts { Lasts S.Store self.old self.new }
         ensures trusted { self.new.is_trusted ≡ self.old.is_trusted }
         ensures reason { HasReason (is_sound S.Store self.new) result }
@@ -211,6 +222,8 @@ impl<S: Alter> Tables<S> {
         ensures found { IfOk result (λ o. IfSome o IsPosted) }
         ensures same { IsTrue (is_sure S.Store self.new) → content_of S.Store self.new ≡ content_of S.Store self.old }
         ensures honest { IsTrue (is_sure S.Store self.new) → IsTrue (is_sure S.Store self.old) }
+        ensures stop { StopKeeps S.Store self.old self.new }
+        ensures answers { Answers S.Store self.old self.new result }
         ensures lasts { Lasts S.Store self.old self.new }
         ensures trusted { self.new.is_trusted ≡ self.old.is_trusted }
         ensures reason { HasReason (is_sound S.Store self.new) result }
@@ -251,6 +264,8 @@ impl<S: Alter> Tables<S> {
         ensures within { IfOk result (λ n. n ≤ greatest) }
         ensures same { IsTrue (is_sure S.Store self.new) → content_of S.Store self.new ≡ content_of S.Store self.old }
         ensures honest { IsTrue (is_sure S.Store self.new) → IsTrue (is_sure S.Store self.old) }
+        ensures stop { StopKeeps S.Store self.old self.new }
+        ensures answers { Answers S.Store self.old self.new result }
         ensures lasts { Lasts S.Store self.old self.new }
         ensures trusted { self.new.is_trusted ≡ self.old.is_trusted }
         ensures reason { HasReason (is_sound S.Store self.new) result }
@@ -258,6 +273,21 @@ impl<S: Alter> Tables<S> {
         let alloc = self.allocator();
         let rows = self.ask(LAST_POSTED, params![])?;
         first_number(alloc, &rows)
+    }
+
+    /// The nodes that have a row, in node order. Nothing else of a row is read.
+    pub fn nodes(&mut self, alloc: Global) -> Result<Vec<NodeId>, StoreError>
+        ensures value { IsTrue (is_sure S.Store self.new)
+            → IfOk result (λ nodes. nodes.items ≡ nodes_in (content_of S.Store self.old)) }
+        ensures proper { IsTrue (is_sure S.Store self.new) → OnOk result (IsProper (content_of S.Store self.old)) }
+        ensures same { IsTrue (is_sure S.Store self.new) → content_of S.Store self.new ≡ content_of S.Store self.old }
+        ensures honest { IsTrue (is_sure S.Store self.new) → IsTrue (is_sure S.Store self.old) }
+        ensures lasts { Lasts S.Store self.old self.new }
+        ensures trusted { self.new.is_trusted ≡ self.old.is_trusted }
+        ensures reason { HasReason (is_sound S.Store self.new) result }
+    {
+        let rows = self.ask(ALL_IDS, params![])?;
+        nodes_of(alloc, &rows)
     }
 
     /// Whether the table of nodes has no row. Only whether there is one is asked, so a damaged row is not told here.

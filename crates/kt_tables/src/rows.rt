@@ -196,7 +196,7 @@ fn paired(checkpoint: Option<Ckpt>, instance: Option<u64>) -> Result<Option<Tent
 }
 
 /// The node whose number is in a column.
-fn node_at(row: &Row, at: usize) -> Result<NodeId, StoreError>
+pub(crate) fn node_at(row: &Row, at: usize) -> Result<NodeId, StoreError>
     ensures found { IfOk result (λ n. HasId n × (column row.now at ≡ whole (id_of n))) }
     ensures exact { (n : NodeName) → HasId n → at < length row.now → column row.now at ≡ whole (id_of n)
         → Gives n result }

@@ -1,5 +1,5 @@
 -- What a plan has whose write the store allows and that leaves the state backed, told of its parts.
-use Rattle.std.proofs.Common.{◌≡◌, ◌≢◌, ℕ, ◌+◌, ◌<◌, ◌≤◌, Bool, true, false, List, [], Contains, Option, None, Some, inl, inr, refl, sym, ap, ◌∙◌, subst, arith}
+use Rattle.std.proofs.Common.{◌≡◌, ◌≢◌, ℕ, ◌+◌, ◌≤◌, Bool, true, false, List, [], Contains, Option, None, Some, inl, inr, refl, sym, ap, ◌∙◌, subst, arith}
 use Rattle.std.specs.Prelude.{IfSome, unwrap_or, is_some}
 use Rattle.std.specs.List.{AllByRecursion}
 use Rattle.std.specs.Option.{option_map}
@@ -35,18 +35,17 @@ use Rattle.kt_node.specs.Learning.{verdict_to}
 use Rattle.kt_node.specs.Deciding.{settled}
 use Rattle.kt_world.specs.declared.step.Step.{Step}
 use Rattle.kt_world.specs.Step.{owner}
-use Rattle.kt_world.specs.declared.step.TheConstants.{MAX_STEPS}
 use Rattle.kt_world.specs.State.{State, node, link_place}
 use Rattle.kt_world.specs.Writing.{content_after}
 use Rattle.kt_world.specs.Effect.{taken_off, applied}
-use Rattle.kt_world.specs.inner.Backed.{IsTakenIn, IsPhaseBacked, IsNodeBacked, IsBoards, IsBacked, IsAllowed, HasNumbers}
+use Rattle.kt_world.specs.inner.Backed.{IsTakenIn, IsPhaseBacked, IsNodeBacked, IsBoards, IsBacked, IsAllowed}
 use Rattle.kt_world.proofs.Plans.{IsAlive, IsDown, Comes}
 use Rattle.kt_world.proofs.OnLinks.{taken_off-was, sent-cases, first-holds}
 use Rattle.kt_world.proofs.Frames.{applied-rows}
 use Rattle.kt_world.proofs.Lists.{all-from, all-map}
 use Rattle.kt_world.proofs.Leaves.{casting-all}
 use Rattle.kt_world.proofs.Boards.{Says}
-use Rattle.kt_world.proofs.Writes.{row_after, own-row, other-rows, incarnation-after, says-after, board-after, next-after}
+use Rattle.kt_world.proofs.Writes.{row_after, own-row, other-rows, says-after, board-after, incarnation-after, next-after}
 use Rattle.kt_lines.proofs.Shared.{all-at}
 use Rattle.kt_world.specs.Told.{tentative_in, marks_in}
 
@@ -64,12 +63,6 @@ pub record Backs (s : State) (p : NodeId) (plan : Plan) : Type 0 where
   pub says : AllByRecursion (SaysBoards (content_after p plan.write s.content)) plan.send
 
 -- ---- the state after it
-
-pub numbers-left : (s : State) → IsBacked s → s.made < MAX_STEPS → (p : NodeId) → HasNumbers s.content p
-numbers-left s is few p = record {
-  instance = let instances = is.few_instances in omega (arith, few, instances);
-  incarnation = let incarnations = is.few_incarnations p in omega (arith, few, incarnations);
-}
 
 nodes-after : (s : State) → IsBacked s → (step : Step) (plan : Plan) → Backs s (owner step) plan → (q : NodeId)
     → IsRowBacked (row_of (applied s step plan).content q).tentative (node (applied s step plan) q)
@@ -102,12 +95,13 @@ messages-after s is step plan b k m c = elim (sent-cases (link_place s.cast) (ta
   | inr new ↦ all-at (SaysBoards (content_after (owner step) plan.write s.content)) plan.send (new.to, m) b.says new.among
 ]
 
-incarnations-after : (s : State) → IsBacked s → (step : Step) (plan : Plan) (q : NodeId) → (row_of (applied s step plan).content q).incarnation ≤ s.made + 1 + 1
-incarnations-after s is step plan q = elim (cases_eq (node_index q) (node_index p)) [
+incarnations-after : (s : State) → ((p : NodeId) → (row_of s.content p).incarnation ≤ s.made + 1) → (step : Step) (plan : Plan) (q : NodeId)
+    → (row_of (applied s step plan).content q).incarnation ≤ s.made + 1 + 1
+incarnations-after s all step plan q = elim (cases_eq (node_index q) (node_index p)) [
   | inl e ↦ subst (λ (r : NodeId). (row_of new r).incarnation ≤ s.made + 1 + 1) (sym (node_index-injective q p e)) own
   | inr d ↦
       let apart : ¬ (q ≡ p) = λ e. d (ap node_index e) in
-      let few = is.few_incarnations q in
+      let few = all q in
       subst (λ (row : NodeRow). row.incarnation ≤ s.made + 1 + 1) (sym (other-rows p plan.write s.content q apart)) (omega (arith, few))
 ]
   where
@@ -119,21 +113,21 @@ incarnations-after s is step plan q = elim (cases_eq (node_index q) (node_index 
 
     own : (row_of new p).incarnation ≤ s.made + 1 + 1
     own =
-        let few = is.few_incarnations p in
+        let few = all p in
         let one = incarnation-after s.content (row_of s.content p) plan.write in
         subst (λ (row : NodeRow). row.incarnation ≤ s.made + 1 + 1) (sym (own-row p plan.write s.content)) (omega (arith, few, one))
 
-pub backs-backed : (s : State) (step : Step) (plan : Plan) → IsBacked s → s.made < MAX_STEPS → Backs s (owner step) plan → IsBacked (applied s step plan)
-backs-backed s step plan is few b =
-    let instances = is.few_instances in
-    let one = next-after (owner step) plan.write s.content in
-    record {
-      nodes = nodes-after s is step plan b;
-      messages = messages-after s is step plan b;
-      board = board-after (owner step) plan.write s.content (omega (arith, few, instances)) is.board;
-      few_instances = omega (arith, instances, one);
-      few_incarnations = incarnations-after s is step plan;
-    }
+pub backs-backed : (s : State) (step : Step) (plan : Plan) → IsBacked s → Backs s (owner step) plan → IsBacked (applied s step plan)
+backs-backed s step plan is b = record {
+  nodes = nodes-after s is step plan b;
+  messages = messages-after s is step plan b;
+  board = board-after (owner step) plan.write s.content is.board;
+  few_instances = λ new.
+      let instances = is.few_instances new in
+      let one = next-after (owner step) plan.write s.content in
+      omega (arith, instances, one);
+  few_incarnations = λ new. incarnations-after s (is.few_incarnations new) step plan;
+}
 
 -- ---- a node as it was
 

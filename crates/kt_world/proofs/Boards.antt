@@ -12,16 +12,16 @@ use Rattle.kt_store.specs.declared.rows.Purpose.{Purpose}
 use Rattle.kt_store.specs.declared.rows.Verdict.{Verdict}
 use Rattle.kt_store.specs.declared.rows.Verdict.TheVariants as verdicts
 use Rattle.kt_store.specs.Verdict.{is_open, verdict_from}
-use Rattle.kt_store.specs.Content.{Content, greatest, next_instance, open_of, posted, verdict_of}
-use Rattle.kt_store.specs.inner.Rising.{IsBoard}
+use Rattle.kt_store.specs.Content.{Content, next_instance, open_of, posted, verdict_of}
+use Rattle.kt_world.specs.inner.Backed.{AreRising}
 use Rattle.kt_store.specs.Changes.{opening, decided, deciding, with_posted}
-use Rattle.kt_store.proofs.Shared.{above_all, others_begun, others_decided, decided_is_read, greatest_within, posted_last, still_board}
+use Rattle.kt_store.proofs.Shared.{above_all, others_begun, others_decided, decided_is_read, greatest_within}
 use Rattle.kt_store.proofs.Shared.{by_number_order, placed_rising, placed_all}
 
 -- ---- what is found
 
 -- what is found passes, and is one of the rows
-found-holds : {A : Type 0} (P : A → Type 0) (q : A → Bool) (rows : List A) (row : A) → All P rows → find q rows ≡ Some row → P row × (q row ≡ true)
+pub found-holds : {A : Type 0} (P : A → Type 0) (q : A → Bool) (rows : List A) (row : A) → All P rows → find q rows ≡ Some row → P row × (q row ≡ true)
 found-holds P q [] row all e = absurd cc
 found-holds P q (x ∷ rows) row all e = by (q x) refl e (found-holds P q rows row (λ k d lt. all (suc k) d (omega (arith, lt))))
   where
@@ -57,7 +57,7 @@ open-is verdicts.Yes e = absurd cc
 open-is verdicts.No e = absurd cc
 
 -- an instance that is found open is open
-pub open-verdict : (c : Content) (p : NodeId) (i : ℕ) → IsBoard c.board → open_of c p ≡ Some i → verdict_of c i ≡ Some verdicts.Open
+pub open-verdict : (c : Content) (p : NodeId) (i : ℕ) → AreRising c.board → open_of c p ≡ Some i → verdict_of c i ≡ Some verdicts.Open
 open-verdict c p i board e = by (find q c.board) refl e
   where
     q : Posted → Bool
@@ -69,7 +69,7 @@ open-verdict c p i board e = by (find q c.board) refl e
         let same : row.instance ≡ i = cc in
         let passes = (found-holds (λ (x : Posted). Unit {0}) q c.board row (λ k d lt. tt) is).1 in
         let open_yet = open-is row.verdict (and_parts (node_eq row.initiator p) (is_open row.verdict) passes).1 in
-        ap (verdict_of c) (sym same) ∙ ap (option_map (λ (x : Posted). x.verdict)) (found-own q c.board row board.rising is)
+        ap (verdict_of c) (sym same) ∙ ap (option_map (λ (x : Posted). x.verdict)) (found-own q c.board row board is)
         ∙ ap (λ (v : Verdict). Some v) open_yet
 
 -- ---- the next instance
@@ -125,23 +125,19 @@ decided-own i agreed c v e =
 
 -- ---- a board stays one
 
-pub begun-board : (p : NodeId) (purpose : Purpose) (c : Content) → next_instance c ≤ greatest → IsBoard c.board → IsBoard (opening p purpose c).board
-begun-board p purpose c room is =
+pub begun-board : (p : NodeId) (purpose : Purpose) (c : Content) → AreRising c.board → AreRising (opening p purpose c).board
+begun-board p purpose c is =
     let new : Posted = record { instance = next_instance c; initiator = p; purpose = purpose; verdict = verdicts.Open } in
-    subst IsBoard (posted_last new c.board refl) (still_board new c.board refl room is)
+    placed_rising (λ (a b : Posted). nat_lt a.instance b.instance) new c.board by_number_order is
 
-pub decided-board : (i : ℕ) (agreed : Bool) (c : Content) → IsBoard c.board → IsBoard (decided i agreed c).board
-decided-board i agreed c is = by (posted c i) refl
+pub decided-board : (i : ℕ) (agreed : Bool) (c : Content) → AreRising c.board → AreRising (decided i agreed c).board
+decided-board i agreed c is = by (posted c i)
   where
-    by : (o : Option Posted) → posted c i ≡ o → IsBoard (deciding agreed o c).board
-    by None e = is
-    by (Some row) e =
+    by : (o : Option Posted) → AreRising (deciding agreed o c).board
+    by None = is
+    by (Some row) =
         let new : Posted = record row { verdict = verdict_from agreed } in
-        record {
-          rising = placed_rising (λ (a b : Posted). nat_lt a.instance b.instance) new c.board by_number_order is.rising;
-          within = placed_all (λ (x : Posted). x.instance ≤ greatest) (λ (a b : Posted). nat_lt a.instance b.instance) new c.board
-              (found-holds (λ (x : Posted). x.instance ≤ greatest) (λ (x : Posted). x.instance == i) c.board row is.within e).0 is.within;
-        }
+        placed_rising (λ (a b : Posted). nat_lt a.instance b.instance) new c.board by_number_order is
 
 -- ---- one instance more at most
 

@@ -1,5 +1,5 @@
 -- In a ready state every plan can be carried out, and leaves the state ready, whatever the store says.
-use Rattle.std.proofs.Common.{◌≡◌, ◌<◌, true, false, [], List, Contains, None, sym, subst}
+use Rattle.std.proofs.Common.{◌≡◌, ◌<◌, true, false, [], List, Contains, None, sym, subst, length}
 use Rattle.std.specs.Prelude.{IsTrue}
 use Rattle.kt_tuple.specs.declared.node.NodeId.{NodeId}
 use Rattle.kt_history.proofs.Shared.{Contains-here}
@@ -15,7 +15,7 @@ use Rattle.kt_node.specs.Node.{Live}
 use Rattle.kt_world.specs.declared.step.Step.{Step}
 use Rattle.kt_world.specs.declared.told.Told.{Told}
 use Rattle.kt_world.specs.Step.{owner}
-use Rattle.kt_world.specs.declared.step.TheConstants.{MAX_STEPS}
+use Rattle.kt_world.specs.declared.step.TheConstants.{MAX_STEPS, MAX_NOTES}
 use Rattle.kt_world.specs.Cast.{is_node}
 use Rattle.kt_world.specs.State.{State}
 use Rattle.kt_world.specs.Effect.{applied}
@@ -98,5 +98,6 @@ plan-good s ready t step plan (plans.restarts_anew {p = p} {live = live} is at r
 pub can_apply : (s : State) → IsReady s → (t : Told) (step : Step) (plan : Plan) → PlanOf s t step plan → CanApply s (owner step) plan
 can_apply s ready t step plan of = good-applies s (owner step) plan ready (plan-good s ready t step plan of)
 
-pub stays_ready : (s : State) → IsReady s → s.made < MAX_STEPS → (t : Told) (step : Step) (plan : Plan) → PlanOf s t step plan → IsReady (applied s step plan)
-stays_ready s ready few t step plan of = good-ready s step plan ready (plan-good s ready t step plan of) few
+pub stays_ready : (s : State) → IsReady s → s.made < MAX_STEPS → length s.history < MAX_NOTES → (t : Told) (step : Step) (plan : Plan)
+    → PlanOf s t step plan → IsReady (applied s step plan)
+stays_ready s ready few room t step plan of = good-ready s step plan ready (plan-good s ready t step plan of) few room

@@ -291,7 +291,7 @@ now-own s ready p n at = (
     own = refl;
     sent = length-listed (role_of s.cast p).peers n.sent;
     received = length-listed (role_of s.cast p).peers n.received;
-    numbered = body-numbered (role_of s.cast p).script s.made p n.body (live-ready s ready p n at).body;
+    numbered = body-numbered (role_of s.cast p).script (length s.history) p n.body (live-ready s ready p n at).body;
   },
   omega arith,
 )

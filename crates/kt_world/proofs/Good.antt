@@ -26,7 +26,7 @@ use Rattle.kt_node.specs.Ready.{CanTurn, CanChange}
 use Rattle.kt_node.specs.Turning.{changed, changed_body, changed_kept, is_above, phase_in, said_count, turned}
 use Rattle.kt_world.specs.declared.step.Step.{Step}
 use Rattle.kt_world.specs.Step.{owner}
-use Rattle.kt_world.specs.declared.step.TheConstants.{MAX_STEPS}
+use Rattle.kt_world.specs.declared.step.TheConstants.{MAX_STEPS, MAX_NOTES}
 use Rattle.kt_world.specs.Cast.{Cast, is_node}
 use Rattle.kt_world.specs.State.{State, node, link_place, role_of, view}
 use Rattle.kt_world.specs.Effect.{noted, taken_off, applied}
@@ -72,16 +72,16 @@ messages-after s ready step plan g k m c =
       | inr new ↦ all-at (λ (x : NodeId × Message). IsMessageReady (noted s.history plan.note) x.1) plan.send (new.to, m) g.says new.among
     ]
 
-pub good-ready : (s : State) (step : Step) (plan : Plan) → IsReady s → IsGood s (owner step) plan → s.made < MAX_STEPS → IsReady (applied s step plan)
-good-ready s step plan ready g few =
+pub good-ready : (s : State) (step : Step) (plan : Plan) → IsReady s → IsGood s (owner step) plan → s.made < MAX_STEPS → length s.history < MAX_NOTES → IsReady (applied s step plan)
+good-ready s step plan ready g few room =
     let p = owner step in
     let row = node-row s.cast ready.cast p g.there in
-    let room : node_index p < length s.nodes = let rows = ready.rows in omega (arith, row, rows) in
+    let row_room : node_index p < length s.nodes = let rows = ready.rows in omega (arith, row, rows) in
     let own_room : node_index p < length s.own = let counts = ready.counts in omega (arith, row, counts) in
     record {
       cast = ready.cast;
       scripts = ready.scripts;
-      rows = length-put None s.nodes (node_index p) _ room ∙ ready.rows;
+      rows = length-put None s.nodes (node_index p) _ row_room ∙ ready.rows;
       counts = length-put 0 s.own (node_index p) _ own_room ∙ ready.counts;
       there = there-after s ready step plan;
       nodes = applied-rows s step plan (λ q x. IfSome x (IsNodeReady s.cast (noted s.history plan.note) (s.made + 1) q)) g.becomes
@@ -89,7 +89,8 @@ good-ready s step plan ready g few =
       few_steps = omega (arith, few);
       few_own = put-holds (λ (n : ℕ). n ≤ s.made + 1) 0 s.own (node_index p) _ (let h = ready.few_own (node_index p) in omega (arith, h))
           (λ k. let h = ready.few_own k in omega (arith, h));
-      few_notes = let h = ready.few_notes in let one = length-noted s.history plan.note in omega (arith, h, one);
+      few_notes = let one = length-noted s.history plan.note in omega (arith, room, one);
+      few_made = λ new. let one = length-noted s.history plan.note in let h = ready.few_made new in omega (arith, h, one);
       causes = noted-causes s.history plan.note ready.causes g.note;
       messages = messages-after s ready step plan g;
     }
@@ -104,7 +105,7 @@ IsKeeping cast h p _ = Unit {0}
 -- the parts of a turn that leaves its node ready
 pub record TurnsWell (s : State) (note : Option Note) (p : NodeId) (n : Live) (t : Turn) : Type 0 where
   pub can : CanTurn n t
-  pub body : IsBodyReady (role_of s.cast p).script (s.made + 1) p (changed_body n.body t.body)
+  pub body : IsBodyReady (role_of s.cast p).script (length (noted s.history note)) p (changed_body n.body t.body)
   pub kept : IsKeeping s.cast s.history p t.kept
   pub phase : IfSome t.phase (IsPhaseReady s.cast p)
 

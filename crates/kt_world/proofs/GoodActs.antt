@@ -1,5 +1,5 @@
 -- The acts of workers and shards can be carried out, and leave the state ready.
-use Rattle.std.proofs.Common.{◌≡◌, ℕ, ◌+◌, [], None, Some, refl}
+use Rattle.std.proofs.Common.{◌≡◌, ℕ, [], None, Some, refl, length, ◌++◌, ◌∷◌}
 use Rattle.std.specs.Prelude.{IsTrue}
 use Rattle.kt_tuple.specs.declared.node.NodeId.{NodeId}
 use Rattle.kt_tuple.specs.declared.node.NodeId.TheVariants as ids
@@ -46,7 +46,7 @@ issue-good s ready p n x r there at body =
     turn-good s ready p n _ _ _ None (worker-node s.cast p there) at
     (record {
       can = record { body = works n.body _; heard = tt; said = record { count = can-count s ready p n at; place = place } };
-      body = work-body (role_of s.cast p).script s.made p n.body x _ body (issued-within (role_of s.cast p).script x) (live-ready s ready p n at).body;
+      body = work-body (role_of s.cast p).script s.history _ p n.body x _ body (issued-within (role_of s.cast p).script x) (live-ready s ready p n at).body;
       kept = tt;
       phase = tt;
     })
@@ -60,7 +60,7 @@ repeat-good s ready p n r there at =
     turn-good s ready p n _ _ _ None (worker-node s.cast p there) at
     (record {
       can = record { body = can-stay n.body; heard = tt; said = record { count = can-count s ready p n at; place = place } };
-      body = stay-body (role_of s.cast p).script s.made p n.body (live-ready s ready p n at).body;
+      body = stay-body (role_of s.cast p).script s.history (repeat_plan (view s p) n r).note p n.body (live-ready s ready p n at).body;
       kept = tt;
       phase = tt;
     })
@@ -74,7 +74,7 @@ serve-good s ready p w n v there other at =
     turn-good s ready p n _ _ _ None (shard-node s.cast p there) at
     (record {
       can = record { body = serves n.body (node_number w) v place; heard = tt; said = record { count = can-count s ready p n at; place = place } };
-      body = serve-body (role_of s.cast p).script s.made p n.body (node_number w) v (live-ready s ready p n at).body;
+      body = serve-body (role_of s.cast p).script s.history _ p n.body (node_number w) v (live-ready s ready p n at).body;
       kept = tt;
       phase = tt;
     })
@@ -90,7 +90,7 @@ comes-ready s ready p q m comes = first-holds s p q m (IsMessageReady s.history)
 hearing-good : (s : State) → IsReady s → (p from : NodeId) (n : Live) (kept : KeptChange) (post : Post) (change : BodyChange) (a : Act)
     → IsTrue (is_node s.cast p) → IsAlive s p n
     → AreNeighbours s.cast p from → IsKeeping s.cast s.history p kept → CanChangeBody n.body change
-    → IsBodyReady (role_of s.cast p).script (s.made + 1) p (changed_body n.body change) → NamesAct s.history a.by → a.node ≡ p
+    → IsBodyReady (role_of s.cast p).script (length (s.history ++ notes.Act a ∷ [])) p (changed_body n.body change) → NamesAct s.history a.by → a.node ≡ p
     → IsGood s p (hearing kept from post.label change (Some (notes.Act a)))
 hearing-good s ready p from n kept post change a there at near keeping can body names own =
     turn-good s ready p n _ [] _ None there at
@@ -106,34 +106,34 @@ heard-by : (s : State) → IsReady s → (p from : NodeId) (n : Live) (kept : Ke
     → AreNeighbours s.cast p from → NamesAct s.history post.by → IsKeeping s.cast s.history p kept → HeardOf (view s p) n kept from post plan → IsGood s p plan
 heard-by s ready p from n kept post plan there at near names keeping (ways.misses_request body talk) =
     hearing-good s ready p from n kept post _ _ there at near keeping (can-stay n.body)
-    (stay-body (role_of s.cast p).script s.made p n.body (live-ready s ready p n at).body) names (role-id s.cast p)
+    (stay-body (role_of s.cast p).script s.history (Some (notes.Act _)) p n.body (live-ready s ready p n at).body) names (role-id s.cast p)
 heard-by s ready p from n kept post plan there at near names keeping (ways.accepts {x = x} body talk awaited) =
     hearing-good s ready p from n kept post _ _ there at near keeping (works n.body _)
-    (work-body (role_of s.cast p).script s.made p n.body x _ body (heard-within (role_of s.cast p).script x _) (live-ready s ready p n at).body) names
+    (work-body (role_of s.cast p).script s.history _ p n.body x _ body (heard-within (role_of s.cast p).script x _) (live-ready s ready p n at).body) names
     (role-id s.cast p)
 heard-by s ready p from n kept post plan there at near names keeping (ways.ignores_reply body talk other) =
     hearing-good s ready p from n kept post _ _ there at near keeping (can-stay n.body)
-    (stay-body (role_of s.cast p).script s.made p n.body (live-ready s ready p n at).body) names (role-id s.cast p)
+    (stay-body (role_of s.cast p).script s.history (Some (notes.Act _)) p n.body (live-ready s ready p n at).body) names (role-id s.cast p)
 heard-by s ready p from n kept post plan there at near names keeping (ways.hears {request = request} body talk new) =
     hearing-good s ready p from n kept post _ _ there at near keeping
     (waits n.body (node_number from) request (neighbour-place s.cast ready.cast p from near))
-    (wait-body (role_of s.cast p).script s.made p n.body (node_number from) request (live-ready s ready p n at).body) names (role-id s.cast p)
+    (wait-body (role_of s.cast p).script s.history _ p n.body (node_number from) request (live-ready s ready p n at).body) names (role-id s.cast p)
 heard-by s ready p from n kept post plan there at near names keeping (ways.answers_again body talk old is) =
     let place = neighbour-place s.cast ready.cast p from near in
     turn-good s ready p n _ _ _ None there at
     (record {
       can = record { body = can-stay n.body; heard = place; said = record { count = can-count s ready p n at; place = place } };
-      body = stay-body (role_of s.cast p).script s.made p n.body (live-ready s ready p n at).body;
+      body = stay-body (role_of s.cast p).script s.history plan.note p n.body (live-ready s ready p n at).body;
       kept = keeping;
       phase = tt;
     })
     (near, tt) ((λ some. next-act s.history _), tt) names (role-id s.cast p)
 heard-by s ready p from n kept post plan there at near names keeping (ways.ignores_request body talk old none) =
     hearing-good s ready p from n kept post _ _ there at near keeping (can-stay n.body)
-    (stay-body (role_of s.cast p).script s.made p n.body (live-ready s ready p n at).body) names (role-id s.cast p)
+    (stay-body (role_of s.cast p).script s.history (Some (notes.Act _)) p n.body (live-ready s ready p n at).body) names (role-id s.cast p)
 heard-by s ready p from n kept post plan there at near names keeping (ways.misses_reply body talk) =
     hearing-good s ready p from n kept post _ _ there at near keeping (can-stay n.body)
-    (stay-body (role_of s.cast p).script s.made p n.body (live-ready s ready p n at).body) names (role-id s.cast p)
+    (stay-body (role_of s.cast p).script s.history (Some (notes.Act _)) p n.body (live-ready s ready p n at).body) names (role-id s.cast p)
 
 pub heard-good : (s : State) → IsReady s → (p from : NodeId) (n : Live) (kept : KeptChange) (post : Post) → IsTrue (is_node s.cast p) → IsAlive s p n
     → AreNeighbours s.cast p from → NamesAct s.history post.by → IsKeeping s.cast s.history p kept → IsGood s p (heard_plan (view s p) n kept from post)
@@ -146,7 +146,7 @@ keep-good s ready p from n post there at near names =
     turn-good s ready p n _ [] None None there at
     (record {
       can = record { body = can-stay n.body; heard = tt; said = tt };
-      body = stay-body (role_of s.cast p).script s.made p n.body (live-ready s ready p n at).body;
+      body = stay-body (role_of s.cast p).script s.history None p n.body (live-ready s ready p n at).body;
       kept = record { from = near; names = names };
       phase = tt;
     })

@@ -59,7 +59,7 @@ phase-good s ready p n kept phase promoted send write there at keeping is near s
     turn-good s ready p n _ send None write there at
     (record {
       can = record { body = can-stay n.body; heard = tt; said = tt };
-      body = stay-body (role_of s.cast p).script s.made p n.body (live-ready s ready p n at).body;
+      body = stay-body (role_of s.cast p).script s.history None p n.body (live-ready s ready p n at).body;
       kept = keeping;
       phase = is;
     })

@@ -43,10 +43,15 @@ body-grown script made more (ids.Worker n) (IsShard y) le is = is
 body-grown script made more (ids.Shard n) (IsWorker x) le is = is
 body-grown script made more (ids.Shard n) (IsShard y) le is = omega (arith, le, is)
 
+-- a history with a note more, or none, is no shorter
+pub long-noted : (h : List Note) (note : Option Note) → length h ≤ length (noted h note)
+long-noted h None = omega arith
+long-noted h (Some note) = omega (arith, length-append h (note ∷ []))
+
 pub live-grown : (cast : Cast) (h : List Note) (note : Option Note) (made : ℕ) (p : NodeId) (n : Live) → IsLiveReady cast h made p n
     → IsLiveReady cast (noted h note) (made + 1) p n
 live-grown cast h note made p n is = record {
-  body = body-grown (role_of cast p).script made (made + 1) p n.body (omega arith) is.body;
+  body = body-grown (role_of cast p).script (length h) (length (noted h note)) p n.body (long-noted h note) is.body;
   count = let few = is.count in omega (arith, few);
   phase = is.phase;
   kept = λ x c. kept-noted cast h note p x (is.kept x c);

@@ -1,5 +1,5 @@
 -- Each stored checkpoint that counts, or may yet, holds the first acts of its node's line.
-use Rattle.std.proofs.Common.{◌≡◌, ◌≢◌, ℕ, ◌≤◌, Bool, true, false, List, [], ◌∷◌, take, length, Option, Some, None, inl, inr, refl, sym, ap, ◌∙◌, subst, arith}
+use Rattle.std.proofs.Common.{◌≡◌, ◌≢◌, ◌≤◌, Bool, true, false, List, [], take, length, Option, Some, None, inl, inr, refl, sym, ap, ◌∙◌, subst, arith}
 use Rattle.std.specs.Prelude.{IfSome, IsTrue}
 use Rattle.std.proofs.lemmas.Bool.{cases_eq}
 use Rattle.kt_tuple.specs.declared.node.NodeId.{NodeId}
@@ -11,7 +11,6 @@ use Rattle.kt_history.specs.Line.{line}
 use Rattle.kt_history.specs.Closed.{acts_in_line}
 use Rattle.kt_history.specs.WellFormed.{CausesComeFirst}
 use Rattle.kt_history.proofs.Shared.{CausesComeFirst-from_well_formed}
-use Rattle.kt_ckpt.specs.declared.acts.LineAct.{LineAct}
 use Rattle.kt_ckpt.specs.declared.ckpt.Ckpt.{Ckpt}
 use Rattle.kt_ckpt.specs.LineActs.{line_acts}
 use Rattle.kt_store.specs.declared.rows.NodeRow.{NodeRow}
@@ -19,7 +18,7 @@ use Rattle.kt_store.specs.declared.rows.Tentative.{Tentative}
 use Rattle.kt_store.specs.declared.rows.Verdict.{Verdict}
 use Rattle.kt_store.specs.declared.rows.Verdict.TheVariants as verdicts
 use Rattle.kt_store.specs.Changes.{promoted_from, taken}
-use Rattle.kt_store.specs.Content.{Content, next_instance, row_of, verdict_of, verdict_on, empty_content}
+use Rattle.kt_store.specs.Content.{Content, row_of, verdict_on}
 use Rattle.kt_node.specs.declared.change.KeptChange.{KeptChange}
 use Rattle.kt_node.specs.declared.change.KeptChange.TheVariants as keeps
 use Rattle.kt_node.specs.declared.message.Message.{Message}
@@ -33,9 +32,9 @@ use Rattle.kt_world.specs.declared.step.Step.{Step}
 use Rattle.kt_world.specs.declared.told.Told.{Told}
 use Rattle.kt_world.specs.Step.{owner}
 use Rattle.kt_world.specs.Cast.{Cast, is_node}
-use Rattle.kt_world.specs.Cut.{acts_held}
+use Rattle.kt_world.specs.Cut.{acts_held, permanent_by, permanent_of}
 use Rattle.kt_world.specs.Effect.{noted, applied}
-use Rattle.kt_world.specs.Like.{IsNotNo, acts_stored, HoldsActs}
+use Rattle.kt_world.specs.Like.{IsNotNo, HoldsActs}
 use Rattle.kt_world.specs.Reached.{opening}
 use Rattle.kt_world.specs.State.{State, view}
 use Rattle.kt_world.specs.Writing.{content_after}
@@ -45,7 +44,7 @@ use Rattle.kt_world.proofs.Heards.{HeardOf, heard-is}
 use Rattle.kt_world.proofs.Plans as plans
 use Rattle.kt_world.proofs.Plans.{PlanOf}
 use Rattle.kt_world.proofs.Scene.{neighbour-node, shard-node, worker-node}
-use Rattle.kt_world.proofs.Sound.{IsStored, IsTentative, IsSound, NoesStay}
+use Rattle.kt_world.proofs.Sound.{IsTentative, IsSound, NoesStay}
 use Rattle.kt_world.proofs.Writes.{row_after, own-row, other-rows}
 use Rattle.kt_world.proofs.LineActs.{acts-long, front-noted, take-whole}
 use Rattle.kt_world.proofs.NoteSound.{line-long}
@@ -73,7 +72,7 @@ WritesNow h p news (Some writes.BeginRestart) = Unit {0}
 WritesNow h p news (Some writes.Bump) = Unit {0}
 WritesNow h p news (Some (writes.Decide instance agreed)) = Unit {0}
 
-abbrev Now : State → NodeId → Plan → Type 0
+abbrev pub Now : State → NodeId → Plan → Type 0
 Now s p plan = WritesNow s.history p plan.note plan.write
 
 heard-now : (s : State) (p from : NodeId) (n : Live) (kept : KeptChange) (post : Post) (plan : Plan) → HeardOf (view s p) n kept from post plan → Now s p plan
@@ -274,15 +273,16 @@ verdict-stays : (c d : Content) (o : Option Tentative) → NoesStay c d → verd
 verdict-stays c d None stays e = absurd cc
 verdict-stays c d (Some t) stays e = stays t.instance e
 
-allowed-promoted : (c : Content) (p : NodeId) (write : Option Write) → IfSome write (IsAllowed c p) → write ≡ Some writes.Promote
+pub allowed-promoted : (c : Content) (p : NodeId) (write : Option Write) → IfSome write (IsAllowed c p) → write ≡ Some writes.Promote
     → verdict_on c (row_of c p).tentative ≡ Some verdicts.Yes
 allowed-promoted c p write allowed e = subst (λ (w : Option Write). IfSome w (IsAllowed c p)) e allowed
 
 pub applied-held : (s : State) (step : Step) (plan : Plan) → IsSound s → IsSound (applied s step plan)
     → NoesStay s.content (content_after (owner step) plan.write s.content)
-    → IfSome plan.write (IsAllowed s.content (owner step)) → Now s (owner step) plan → ((p : NodeId) → AreHeld s p)
+    → (plan.write ≡ Some writes.Promote → verdict_on s.content (row_of s.content (owner step)).tentative ≡ Some verdicts.Yes)
+    → Now s (owner step) plan → ((p : NodeId) → AreHeld s p)
     → (q : NodeId) → AreHeld (applied s step plan) q
-applied-held s step plan sound after noes allowed now held q = elim (cases_eq (node_index p) (node_index q)) [
+applied-held s step plan sound after noes promotes now held q = elim (cases_eq (node_index p) (node_index q)) [
   | inl e ↦ subst (AreHeld (applied s step plan)) (node_index-injective p q e) own
   | inr d ↦ other (λ e. d (ap node_index e))
 ]
@@ -305,7 +305,7 @@ applied-held s step plan sound after noes allowed now held q = elim (cases_eq (n
         let At : NodeRow → Type 0 = λ x. RowShort (noted s.history plan.note) p x (verdict_on new x.tentative) in
         let short : At (row_after s.content row plan.write) = subst At (own-row p plan.write s.content) (row-short (applied s step plan) after p) in
         let done = written-held s.history plan.note causes p s.content row plan.write (verdict_on s.content row.tentative)
-        (verdict_on new (row_after s.content row plan.write).tentative) (allowed-promoted s.content p plan.write allowed)
+        (verdict_on new (row_after s.content row plan.write).tentative) promotes
         (λ t was is no. ap (verdict_on new) is ∙ verdict-stays s.content new (Some t) noes (ap (verdict_on s.content) (sym was) ∙ no))
         now (row-short s sound p) short (as_row p) in
         let Held : NodeRow → Type 0 = λ x. RowHeld (noted s.history plan.note) p x (verdict_on new x.tentative) in
@@ -323,6 +323,21 @@ applied-held s step plan sound after noes allowed now held q = elim (cases_eq (n
         let Held : NodeRow → Type 0 = λ x. RowHeld (noted s.history plan.note) q x (verdict_on new x.tentative) in
         let there : Held (row_of new q) = subst Held (sym same) done in
         record { permanent = there.permanent; tentative = there.tentative }
+
+-- ---- what counts as permanent
+
+permanent_by_acts : (h : List Note) (p : NodeId) (old : Option Ckpt) (taken : Option Tentative) (verdict : Option Verdict) → HoldsActs h p old
+    → (IsNotNo verdict → IfSome taken (λ t. HoldsActs h p (Some t.checkpoint))) → HoldsActs h p (permanent_by verdict taken old)
+permanent_by_acts h p old (Some t) (Some verdicts.Yes) held has = has (λ e. cc (e))
+permanent_by_acts h p old None (Some verdicts.Yes) held has = held
+permanent_by_acts h p old taken (Some verdicts.Open) held has = held
+permanent_by_acts h p old taken (Some verdicts.No) held has = held
+permanent_by_acts h p old taken None held has = held
+
+pub permanent_acts : (s : State) (p : NodeId) → AreHeld s p → HoldsActs s.history p (permanent_of s.content p)
+permanent_acts s p held =
+    permanent_by_acts s.history p (row_of s.content p).permanent (row_of s.content p).tentative
+    (verdict_on s.content (row_of s.content p).tentative) held.permanent held.tentative
 
 -- ---- the opening, over a store in which nothing is
 

@@ -1,5 +1,6 @@
 -- What the leaves of the tables are made of: whom they send to, and what becomes of a node's work.
-use Rattle.std.proofs.Common.{◌≡◌, ℕ, ◌+◌, Bool, true, false, List, Contains, Option, None, Some, sym, subst, arith, refl, ap, ◌∙◌}
+use Rattle.kt_world.specs.Effect.{noted}
+use Rattle.std.proofs.Common.{◌≡◌, ℕ, Bool, true, false, List, Contains, Option, None, Some, sym, subst, arith, refl, ap, ◌∙◌, length, ◌∷◌, [], length-append}
 use Rattle.std.specs.Prelude.{IfSome, IsTrue, unwrap_or}
 use Rattle.std.specs.List.{AllByRecursion}
 use Rattle.kt_tuple.specs.declared.node.NodeId.{NodeId}
@@ -32,7 +33,7 @@ use Rattle.kt_world.proofs.Plans as plans
 use Rattle.kt_world.proofs.Plans.{IsAlive, Votes}
 use Rattle.kt_world.proofs.Scene.{role-id, across-neighbour}
 use Rattle.kt_world.proofs.Lists.{all-from, all-map, all-numbers, filter-was}
-use Rattle.kt_world.proofs.Growing.{body-grown}
+use Rattle.kt_world.proofs.Growing.{body-grown, long-noted}
 use Rattle.kt_world.proofs.Within.{length-left}
 use Rattle.kt_world.proofs.Good.{live-ready}
 use Rattle.kt_lines.proofs.Shared.{all-at}
@@ -41,28 +42,34 @@ use Rattle.kt_world.specs.Told.{of_poll}
 
 -- ---- the work
 
-pub stay-body : (script : List Command) (made : ℕ) (p : NodeId) (b : Body) → IsBodyReady script made p b
-    → IsBodyReady script (made + 1) p (changed_body b bodies.Stay)
-stay-body script made p (IsWorker x) is = body-grown script made (made + 1) p (IsWorker x) (omega arith) is
-stay-body script made p (IsShard y) is = body-grown script made (made + 1) p (IsShard y) (omega arith) is
+pub stay-body : (script : List Command) (h : List Note) (note : Option Note) (p : NodeId) (b : Body) → IsBodyReady script (length h) p b
+    → IsBodyReady script (length (noted h note)) p (changed_body b bodies.Stay)
+stay-body script h note p (IsWorker x) is = body-grown script (length h) (length (noted h note)) p (IsWorker x) (long-noted h note) is
+stay-body script h note p (IsShard y) is = body-grown script (length h) (length (noted h note)) p (IsShard y) (long-noted h note) is
 
-pub work-body : (script : List Command) (made : ℕ) (p : NodeId) (b : Body) (x new : Worker) → b ≡ IsWorker x → (IsWithin script x → IsWithin script new)
-    → IsBodyReady script made p b → IsBodyReady script (made + 1) p (changed_body b (bodies.Work new))
-work-body script made (ids.Worker n) (IsWorker w) x new e keeps is = let same : w ≡ x = cc in keeps (subst (IsWithin script) same is)
-work-body script made (ids.Shard n) (IsWorker w) x new e keeps is = absurd is
-work-body script made p (IsShard y) x new e keeps is = absurd cc
+pub work-body : (script : List Command) (h : List Note) (note : Note) (p : NodeId) (b : Body) (x new : Worker) → b ≡ IsWorker x
+    → (IsWithin script x → IsWithin script new)
+    → IsBodyReady script (length h) p b → IsBodyReady script (length (noted h (Some note))) p (changed_body b (bodies.Work new))
+work-body script h note (ids.Worker n) (IsWorker w) x new e keeps is = let same : w ≡ x = cc in keeps (subst (IsWithin script) same is)
+work-body script h note (ids.Shard n) (IsWorker w) x new e keeps is = absurd is
+work-body script h note p (IsShard y) x new e keeps is = absurd cc
 
-pub wait-body : (script : List Command) (made : ℕ) (p : NodeId) (b : Body) (worker : ℕ) (request : Request) → IsBodyReady script made p b
-    → IsBodyReady script (made + 1) p (changed_body b (bodies.Wait worker request))
-wait-body script made p (IsWorker x) worker request is = body-grown script made (made + 1) p (IsWorker x) (omega arith) is
-wait-body script made (ids.Worker n) (IsShard y) worker request is = absurd is
-wait-body script made (ids.Shard n) (IsShard y) worker request is = omega (arith, is)
+pub wait-body : (script : List Command) (h : List Note) (note : Note) (p : NodeId) (b : Body) (worker : ℕ) (request : Request)
+    → IsBodyReady script (length h) p b → IsBodyReady script (length (noted h (Some note))) p (changed_body b (bodies.Wait worker request))
+wait-body script h note p (IsWorker x) worker request is =
+    body-grown script (length h) (length (noted h (Some note))) p (IsWorker x) (long-noted h (Some note)) is
+wait-body script h note (ids.Worker n) (IsShard y) worker request is = absurd is
+wait-body script h note (ids.Shard n) (IsShard y) worker request is = let long = long-noted h (Some note) in omega (arith, is, long)
 
-pub serve-body : (script : List Command) (made : ℕ) (p : NodeId) (b : Body) (worker : ℕ) (v : Service) → IsBodyReady script made p b
-    → IsBodyReady script (made + 1) p (changed_body b (bodies.Serve worker v))
-serve-body script made p (IsWorker x) worker v is = body-grown script made (made + 1) p (IsWorker x) (omega arith) is
-serve-body script made (ids.Worker n) (IsShard y) worker v is = absurd is
-serve-body script made (ids.Shard n) (IsShard y) worker v is = let long = length-left y.bag v.request.op v.place in omega (arith, is, long)
+pub serve-body : (script : List Command) (h : List Note) (note : Note) (p : NodeId) (b : Body) (worker : ℕ) (v : Service)
+    → IsBodyReady script (length h) p b → IsBodyReady script (length (noted h (Some note))) p (changed_body b (bodies.Serve worker v))
+serve-body script h note p (IsWorker x) worker v is =
+    body-grown script (length h) (length (noted h (Some note))) p (IsWorker x) (long-noted h (Some note)) is
+serve-body script h note (ids.Worker n) (IsShard y) worker v is = absurd is
+serve-body script h note (ids.Shard n) (IsShard y) worker v is =
+    let long = length-left y.bag v.request.op v.place in
+    let one = length-append h (note ∷ []) in
+    omega (arith, is, long, one)
 
 -- a live node can count one message more
 pub can-count : (s : State) → IsReady s → (p : NodeId) (n : Live) → IsAlive s p n → CanCount n

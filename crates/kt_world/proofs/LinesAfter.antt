@@ -73,7 +73,7 @@ told_forgets : (s : State) (p q : NodeId) (m : Message) → Comes s p q m → is
 told_forgets s p q m comes verdict = subst (λ l. is_verdict_first l ≡ true) (sym comes.on) verdict
 
 -- only a failure and a verdict bring a cut
-cut_forgets : (s : State) (t : Told) (step : Step) (plan : Plan) → PlanOf s t step plan → Cuts plan → IsTrue (may_forget s step)
+pub cut_forgets : (s : State) (t : Told) (step : Step) (plan : Plan) → PlanOf s t step plan → Cuts plan → IsTrue (may_forget s step)
 cut_forgets s t (Issue p) plan (plans.issues is alive up works kept next) cuts = absurd (cc (cuts.2))
 cut_forgets s t (Repeat p) plan (plans.repeats is alive up works again) cuts = absurd (cc (cuts.2))
 cut_forgets s t (Serve p w place) plan (plans.serves is there alive up works chosen) cuts = absurd (cc (cuts.2))
@@ -102,7 +102,7 @@ cut_forgets s t (Restart p) plan (plans.restarts_anew is alive rolling began ver
 
 -- ---- what is noted
 
-noted_one : (cast : Cast) (h : List Note) (p : NodeId) (note : Option Note) → MayNote cast h p note → NotesOneAtMost p h (noted h note)
+pub noted_one : (cast : Cast) (h : List Note) (p : NodeId) (note : Option Note) → MayNote cast h p note → NotesOneAtMost p h (noted h note)
 noted_one cast h p None may = nothing
 noted_one cast h p (Some (notes.Act a)) may = one (notes.Act a) may.0
 noted_one cast h p (Some (notes.Cut q keep)) may = one (notes.Cut q keep) may.0
@@ -112,7 +112,7 @@ notes_one s step plan keeps = noted_one s.cast s.history (owner step) plan.note 
 
 -- ---- what is remembered
 
-line_noted : (s : State) (step : Step) (note : Option Note) → MayNote s.cast s.history (owner step) note
+pub line_noted : (s : State) (step : Step) (note : Option Note) → MayNote s.cast s.history (owner step) note
     → ((q : NodeId) (keep : ℕ) → note ≡ Some (notes.Cut q keep) → IsTrue (may_forget s step))
     → (q : NodeId) → LineAfter s step (noted s.history note) q
 line_noted s step None may forgets q = stays refl

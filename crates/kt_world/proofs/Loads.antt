@@ -128,19 +128,19 @@ script-short s ready n = short-script s.cast ready.scripts n
 within-opening : (script : List Command) → IsShort script → length (zeros_of (variables_of script)) ≤ length (variables_of script)
 within-opening script short = let same = length-map (variables_of script) (λ v. zero_of (Some v.1)) in omega (arith, same)
 
-body-from : (s : State) → IsReady s → (p : NodeId) (long : ℕ) (held : Held) (body : Body) → long ≤ s.made
-    → body_from (role_of s.cast p) long (role_of s.cast p).id held ≡ Ok body → IsBodyReady (role_of s.cast p).script s.made p body
+body-from : (s : State) → IsReady s → (p : NodeId) (long : ℕ) (held : Held) (body : Body) → long ≤ length s.history
+    → body_from (role_of s.cast p) long (role_of s.cast p).id held ≡ Ok body → IsBodyReady (role_of s.cast p).script (length s.history) p body
 body-from s ready (ids.Worker n) long (states.Worker w) body le e =
     let script : List Command = unwrap_or (script_at s.cast.scripts n) [] in
     let passed = if_fits-passed (worker_fits (role_of s.cast (ids.Worker n)) w) (IsWorker (standing_from w)) body e in
-    subst (IsBodyReady script s.made (ids.Worker n)) passed.1 (within-misfit script (standing_from w) (script-short s ready n) passed.0)
+    subst (IsBodyReady script (length s.history) (ids.Worker n)) passed.1 (within-misfit script (standing_from w) (script-short s ready n) passed.0)
 body-from s ready (ids.Worker n) long (states.Shard y) body le e = absurd cc
 body-from s ready (ids.Shard n) long (states.Worker w) body le e = absurd cc
 body-from s ready (ids.Shard n) long (states.Shard y) body le e =
     let passed = if_fits-passed (shard_fits (role_of s.cast (ids.Shard n)) long y) (IsShard (shard_from y)) body e in
     let front : Bool = are_of_scene (length s.cast.scripts) y.waiting && are_of_scene (length s.cast.scripts) y.kept in
     let few : length y.bag ≤ long = leb-true (length y.bag) long (and_parts front (nat_le (length y.bag) long) passed.0).1 in
-    subst (IsBodyReady [] s.made (ids.Shard n)) passed.1 (omega (arith, few, le))
+    subst (IsBodyReady [] (length s.history) (ids.Shard n)) passed.1 (omega (arith, few, le))
 
 -- what a node works with at first
 pub opening-body : (cast : Cast) → AreShort cast → (made : ℕ) (p : NodeId)
@@ -154,15 +154,14 @@ opening-body cast short made (ids.Shard n) = omega arith
 
 body-at : (s : State) → IsReady s → (p : NodeId) (stored : Option Ckpt) (body : Body)
     → IsTrue (fits (role_of s.cast p) (view s p).line_len (option_map marks_of stored))
-    → body_at (role_of s.cast p) stored ≡ Ok body → IsBodyReady (role_of s.cast p).script s.made p body
+    → body_at (role_of s.cast p) stored ≡ Ok body → IsBodyReady (role_of s.cast p).script (length s.history) p body
 body-at s ready p None body fit e =
     let same : opening_body (role_of s.cast p) (role_of s.cast p).id ≡ body = cc in
-    subst (IsBodyReady (role_of s.cast p).script s.made p) same (opening-body s.cast ready.scripts s.made p)
+    subst (IsBodyReady (role_of s.cast p).script (length s.history) p) same (opening-body s.cast ready.scripts (length s.history) p)
 body-at s ready p (Some c) body fit e =
     let acts = acts-fit (role_of s.cast p) (view s p).line_len (Some (marks_of c)) fit in
     let long = length-line s.history p in
-    let few = ready.few_notes in
-    body-from s ready p c.line_len c.state body (omega (arith, acts, long, few)) e
+    body-from s ready p c.line_len c.state body (omega (arith, acts, long)) e
 
 -- ---- the node
 
@@ -177,10 +176,10 @@ load-fits s p stored live e = (load-passed (fits (role_of s.cast p) (view s p).l
 
 -- a live node in its first moments
 pub fresh-ready : (cast : Cast) (h : List Note) (made : ℕ) (p : NodeId) (incarnation : ℕ) (body : Body) (sent received : List Label)
-    → IsBodyReady (role_of cast p).script made p body → IsLiveReady cast h made p (fresh_live phases.Up incarnation body sent received)
+    → IsBodyReady (role_of cast p).script (length h) p body → IsLiveReady cast h made p (fresh_live phases.Up incarnation body sent received)
 fresh-ready cast h made p incarnation body sent received is = record { body = is; count = omega arith; phase = tt; kept = λ x c. absurd (Contains-none x c) }
 
-loaded-ready : (s : State) (p : NodeId) (stored : Option Ckpt) (incarnation : ℕ) (body : Body) → IsBodyReady (role_of s.cast p).script s.made p body
+loaded-ready : (s : State) (p : NodeId) (stored : Option Ckpt) (incarnation : ℕ) (body : Body) → IsBodyReady (role_of s.cast p).script (length s.history) p body
     → IsLiveReady s.cast s.history s.made p (loaded_from stored incarnation body)
 loaded-ready s p None incarnation body is = fresh-ready s.cast s.history s.made p incarnation body _ _ is
 loaded-ready s p (Some c) incarnation body is = fresh-ready s.cast s.history s.made p incarnation body _ _ is
@@ -191,7 +190,7 @@ load-ready s ready p stored live e =
     let passed = load-passed (fits (role_of s.cast p) (view s p).line_len (marks_in stored)) _ live e in
     by (body_at (role_of s.cast p) stored.permanent) (λ body is. body-at s ready p stored.permanent body passed.0 is) passed.1
   where
-    by : (r : Result Body Refusal) → ((body : Body) → r ≡ Ok body → IsBodyReady (role_of s.cast p).script s.made p body)
+    by : (r : Result Body Refusal) → ((body : Body) → r ≡ Ok body → IsBodyReady (role_of s.cast p).script (length s.history) p body)
         → loaded_by stored.permanent (stored.incarnation + 1) r ≡ Ok live → IsLiveReady s.cast s.history s.made p live
     by (Err refusal) body e = absurd cc
     by (Ok b) body e =

@@ -92,7 +92,7 @@ none-past cast is p (a_worker low high) past = omega (arith, high, past, is.few_
 none-past cast is p (a_shard low high) past = omega (arith, high, past, is.few_shards)
 
 -- a node past the tables is none of the scene's
-past-none : (cast : Cast) → IsCast cast → (p : NodeId) → desks ≤ node_number p → opening_row cast p ≡ None
+pub past-none : (cast : Cast) → IsCast cast → (p : NodeId) → desks ≤ node_number p → opening_row cast p ≡ None
 past-none cast is p past = by (is_node cast p) refl
   where
     by : (b : Bool) → is_node cast p ≡ b → (if b then Some (opening_node (role_of cast p)) else None) ≡ None
@@ -141,6 +141,7 @@ opening-ready cast is short = record {
   few_steps = omega arith;
   few_own = λ k. let h = at-replicate {A = ℕ} 0 rows k in omega (arith, h);
   few_notes = omega arith;
+  few_made = λ new. omega arith;
   causes = CausesComeFirst-empty;
   messages = λ k m on. absurd (no_messages _ k m on);
 }
@@ -159,7 +160,7 @@ opening-backed cast is = record {
   nodes = λ p. subst (λ (row : Option Node). IfSome row (λ x. IsNodeBacked x (row_of empty_content p).tentative)) (sym (opening-node cast is p))
       (opening-row-backed cast p);
   messages = λ k m on. absurd (no_messages _ k m on);
-  board = record { rising = λ i j d lt within. absurd (omega (arith, within)); within = λ k d lt. absurd (omega (arith, lt)) };
-  few_instances = omega arith;
-  few_incarnations = λ p. omega arith;
+  board = λ i j d lt within. absurd (omega (arith, within));
+  few_instances = λ new. omega arith;
+  few_incarnations = λ new p. omega arith;
 }

@@ -45,7 +45,7 @@ opening_like cast (ids.Worker w) = record { asked = refl; after = opening-after 
 opening_like cast (ids.Shard r) =
     record { bag = IsPermutation-refl []; desks = λ w. at-replicate empty_desk desks w; others = λ w none. at-replicate empty_desk desks w }
 
-nothing_stored : (cast : Cast) (p : NodeId) → HoldsFront cast p [] None
+pub nothing_stored : (cast : Cast) (p : NodeId) → HoldsFront cast p [] None
 nothing_stored cast p =
     record { short = omega arith; body = opening_body (role_of cast p) (role_of cast p).id; saved = refl; like = opening_like cast p }
 
@@ -65,7 +65,7 @@ no_node_sound cast p = node_sound cast p false
 -- ---- the opening
 
 -- nothing is on its way in a new world
-nothing_sent : (n : ℕ) (k : Option ℕ) (m : Message) → Contains (entry_at [] (replicate n []) k) m → ⊥
+pub nothing_sent : (n : ℕ) (k : Option ℕ) (m : Message) → Contains (entry_at [] (replicate n []) k) m → ⊥
 nothing_sent n None m c = Contains-none m c
 nothing_sent n (Some k) m c = no_messages n k m c
 

@@ -1,7 +1,7 @@
 -- What was passed where something is planned: each test and each case on the way to an Ok.
-use Rattle.std.proofs.Common.{◌≡◌, ℕ, ◌<◌, Bool, true, false, if◌then◌else◌, Option, Some, None, Result, Ok, Err, refl, ap}
+use Rattle.std.proofs.Common.{◌≡◌, ◌∙◌, ℕ, nat_le, is_some, ◌<◌, ◌&&◌, ◌||◌, arith, Bool, true, false, if◌then◌else◌, Option, Some, None, Result, Ok, Err, refl, ap, length}
 use Rattle.std.specs.Prelude.{unwrap_or, IsTrue, nat_lt}
-use Rattle.std.proofs.lemmas.Bool.{ltb-true}
+use Rattle.std.proofs.lemmas.Bool.{and_parts, le-leb, ltb-false, ltb-true}
 use Rattle.kt_tuple.specs.declared.node.NodeId.{NodeId}
 use Rattle.kt_node.specs.declared.live.Phase.{Phase}
 use Rattle.kt_node.specs.declared.live.Phase.TheVariants as phases
@@ -12,9 +12,10 @@ use Rattle.kt_node.specs.Plan.{Planned}
 use Rattle.kt_node.specs.Steps.{up_in, up_of, by_up}
 use Rattle.kt_world.specs.declared.step.StepError.{StepError}
 use Rattle.kt_world.specs.declared.step.StepError.TheVariants as refusals
-use Rattle.kt_world.specs.declared.step.TheConstants.{MAX_STEPS}
-use Rattle.kt_world.specs.Judge.{of_owner, of_scene, unless_over, within_limit}
+use Rattle.kt_world.specs.declared.step.TheConstants.{MAX_STEPS, MAX_NOTES}
+use Rattle.kt_world.specs.Judge.{has_room, if_room, is_at_limit, of_owner, of_scene, within_limit}
 use Rattle.kt_world.specs.State.{State, node, view}
+use Rattle.kt_world.specs.inner.Ready.{IsReady}
 use Rattle.kt_world.proofs.Plans.{IsAlive}
 
 abbrev pub planned : Plan → Planned
@@ -24,25 +25,55 @@ pub if-passed : (b : Bool) (r : Planned) (refusal : Refusal) (plan : Plan) → (
 if-passed true r refusal plan e = (refl, e)
 if-passed false r refusal plan e = absurd cc
 
-unless_over-passed : {X : Type 0} (made : ℕ) (r : Result X StepError) (x : X) → unless_over made r ≡ Ok x → (r ≡ Ok x) × (made < MAX_STEPS)
-unless_over-passed {X} made r x e = by (nat_lt made MAX_STEPS) refl e
-  where
-    by : (b : Bool) → nat_lt made MAX_STEPS ≡ b → (if b then r else Err refusals.StepLimit) ≡ Ok x → (r ≡ Ok x) × (made < MAX_STEPS)
-    by true below e = (e, ltb-true made MAX_STEPS below)
-    by false below e = absurd cc
+if_room-passed : {X : Type 0} (room : Bool) (r : Result X StepError) (x : X) → if_room room r ≡ Ok x → (r ≡ Ok x) × (room ≡ true)
+if_room-passed true r x e = (e, refl)
+if_room-passed false r x e = absurd cc
 
 -- the limit is not reached
-pub limit-passed : {X : Type 0} (made : ℕ) (r : Result X StepError) (x : X) → within_limit made r ≡ Ok x → (r ≡ Ok x) × (made < MAX_STEPS)
-limit-passed made (Ok y) x e = unless_over-passed made (Ok y) x e
-limit-passed made (Err (refusals.Store refusal)) x e = unless_over-passed made (Err (refusals.Store refusal)) x e
-limit-passed made (Err refusals.NoNode) x e = absurd cc
-limit-passed made (Err refusals.WrongMode) x e = absurd cc
-limit-passed made (Err refusals.NothingThere) x e = absurd cc
-limit-passed made (Err refusals.NoSuchMatch) x e = absurd cc
-limit-passed made (Err refusals.NotDecided) x e = absurd cc
-limit-passed made (Err refusals.Unresolved) x e = absurd cc
-limit-passed made (Err refusals.StepLimit) x e = absurd cc
-limit-passed made (Err refusals.OutOfMemory) x e = absurd cc
+pub limit-passed : {X : Type 0} (room : Bool) (r : Result X StepError) (x : X) → within_limit room r ≡ Ok x → (r ≡ Ok x) × (room ≡ true)
+limit-passed room (Ok y) x e = if_room-passed room (Ok y) x e
+limit-passed room (Err (refusals.Store refusal)) x e = if_room-passed room (Err (refusals.Store refusal)) x e
+limit-passed room (Err refusals.NoNode) x e = absurd cc
+limit-passed room (Err refusals.WrongMode) x e = absurd cc
+limit-passed room (Err refusals.NothingThere) x e = absurd cc
+limit-passed room (Err refusals.NoSuchMatch) x e = absurd cc
+limit-passed room (Err refusals.NotDecided) x e = absurd cc
+limit-passed room (Err refusals.Unresolved) x e = absurd cc
+limit-passed room (Err refusals.StepLimit) x e = absurd cc
+limit-passed room (Err refusals.OutOfMemory) x e = absurd cc
+
+-- there is room for a step, and for a note
+pub room-made : (s : State) → has_room s ≡ true → s.made < MAX_STEPS
+room-made s e = ltb-true s.made MAX_STEPS (and_parts (nat_lt s.made MAX_STEPS) (nat_lt (length s.history) MAX_NOTES) e).0
+
+pub room-noted : (s : State) → has_room s ≡ true → length s.history < MAX_NOTES
+room-noted s e = ltb-true (length s.history) MAX_NOTES (and_parts (nat_lt s.made MAX_STEPS) (nat_lt (length s.history) MAX_NOTES) e).1
+
+-- where there is none, all steps were made, or what was found was too much
+pub room-none : (s : State) → IsReady s → has_room s ≡ false → is_at_limit s ≡ true
+room-none s ready e = by (nat_lt s.made MAX_STEPS) (nat_lt (length s.history) MAX_NOTES) s.found refl refl refl e
+  where
+    left : (b c : Bool) → b ≡ true → (b || c) ≡ true
+    left true c is = refl
+    left false c is = absurd cc
+
+    right : (b c : Bool) → c ≡ true → (b || c) ≡ true
+    right true c is = refl
+    right false c is = is
+
+    by : (b c : Bool) (found : Option ℕ) → nat_lt s.made MAX_STEPS ≡ b → nat_lt (length s.history) MAX_NOTES ≡ c → s.found ≡ found → (b && c) ≡ false
+        → is_at_limit s ≡ true
+    by true true found made noted is e = absurd cc
+    by false c found made noted is e = left _ _ (le-leb MAX_STEPS s.made (ltb-false s.made MAX_STEPS made))
+    by true false None made noted is e =
+        let few = ready.few_made is in
+        let all = ltb-false (length s.history) MAX_NOTES noted in
+        let more = ready.few_steps in
+        absurd (omega (arith, few, all, more))
+    by true false (Some most) made noted is e =
+        let full : nat_le MAX_NOTES (length s.history) ≡ true = le-leb MAX_NOTES (length s.history) (ltb-false (length s.history) MAX_NOTES noted) in
+        right (nat_le MAX_STEPS s.made) (is_some s.found && nat_le MAX_NOTES (length s.history))
+        (ap (λ f. is_some f && nat_le MAX_NOTES (length s.history)) is ∙ full)
 
 pub owner-passed : (r : Planned) (plan : Plan) → of_owner r ≡ Ok plan → r ≡ Ok plan
 owner-passed (Ok p) plan e = let same : p ≡ plan = cc in ap (λ q. Ok q) same

@@ -22,29 +22,19 @@ use Rattle.kt_world.specs.Cast.{Cast}
 use Rattle.kt_world.specs.State.{State, role_of}
 use Rattle.kt_world.specs.Asks.{setting_of}
 use Rattle.kt_world.specs.Cut.{IsCausallyClosed, is_in_cut, permanent_by, permanent_of, permanent_length, tuples_in, tuples_of, permanent_tuples}
-use Rattle.kt_world.specs.Like.{IsBodyLike, IsSavedOf, HoldsFront, StoresFollowLines}
+use Rattle.kt_world.specs.Like.{IsBodyLike, IsSavedOf, HoldsFront}
 use Rattle.kt_world.specs.PermanentRun.{IsPermanentRun}
 use Rattle.kt_world.proofs.Sound.{IsTentative, IsStored, IsSound}
-use Rattle.kt_world.proofs.HeldActs.{AreHeld}
 use Rattle.kt_world.proofs.NoteSound.{line-long}
 use Rattle.kt_world.proofs.Cuts.{part_run, part_order, part_share}
 
 -- ---- each stored checkpoint
 
-fronts_in : (cast : Cast) (p : NodeId) (acts : List Act) (old : Option Ckpt) (taken : Option Tentative)
+pub fronts_in : (cast : Cast) (p : NodeId) (acts : List Act) (old : Option Ckpt) (taken : Option Tentative)
     → IfSome taken (λ t. IsTentative cast p acts old t.checkpoint)
     → IfSome taken (λ t. HoldsFront cast p acts (Some t.checkpoint))
 fronts_in cast p acts old None some = tt
 fronts_in cast p acts old (Some t) some = some.front
-
-pub stores_follow : (s : State) → IsSound s → ((p : NodeId) → AreHeld s p) → StoresFollowLines s
-stores_follow s sound held p =
-    let stored = (sound.nodes p).stored in record {
-      permanent = stored.permanent;
-      permanent_acts = (held p).permanent;
-      tentative_acts = (held p).tentative;
-      tentative = λ fine. fronts_in s.cast p (acts_in_line s.history p) (row_of s.content p).permanent (row_of s.content p).tentative (stored.tentative fine);
-    }
 
 -- ---- the permanent ones, among which a tentative one counts that has Yes
 

@@ -25,25 +25,25 @@ use Rattle.kt_shard.specs.Table.{put}
 use Rattle.kt_history.specs.Line.{line, line_from}
 use Rattle.kt_space.specs.Picking.{without_match}
 
-abbrev w : NodeId
+abbrev pub w : NodeId
 w = ids.Worker 1
 
 abbrev v : NodeId
 v = ids.Worker 2
 
-abbrev s : NodeId
+abbrev pub s : NodeId
 s = ids.Shard 1
 
-abbrev both : List NodeId
+abbrev pub both : List NodeId
 both = w ∷ s ∷ []
 
 abbrev row : List Step → Report
 row steps = report both (run 0 (opening record { shards = 1; scripts = put_one ∷ [] }) steps)
 
-abbrev a : List Step
+abbrev pub a : List Step
 a = Issue w ∷ Deliver w s ∷ Serve s w 0 ∷ Deliver s w ∷ []
 
-abbrev is : Mode → List ℕ → ℕ → ℕ → ℕ → Seen
+abbrev pub is : Mode → List ℕ → ℕ → ℕ → ℕ → Seen
 is mode line incarnation permanent tuples =
     record { mode = mode; line = line; incarnation = incarnation; permanent = permanent; tuples = tuples }
 
@@ -65,7 +65,7 @@ pub shard_fails_and_restarts : row (a ++ Fail s ∷ Restart s ∷ Deliver s w �
 unfolding run sent opening_rows numbers put line line_from
 shard_fails_and_restarts = refl
 
-abbrev votes_of_two : List Step
+abbrev pub votes_of_two : List Step
 votes_of_two = a ++ Check w ∷ Deliver w s ∷ Deliver s w ∷ Deliver w s ∷ Deliver s w ∷ Decide w ∷ []
 
 pub checkpoint_of_two : row (votes_of_two ++ Learn w ∷ Deliver w s ∷ Deliver s w ∷ Fail s ∷ [])

@@ -104,13 +104,13 @@ named : (s : State) → IsReady s → (p : NodeId) → IsNode s.cast p → IsNam
 named s ready p (a_worker low high) = let few = ready.cast.few_workers in (low, omega (arith, high, few))
 named s ready p (a_shard low high) = let few = ready.cast.few_shards in (low, omega (arith, high, few))
 
-suits : (s : State) (p : NodeId) (b : Body) → IsBodyReady (role_of s.cast p).script s.made p b → Suits (role_of s.cast p).id (body_fields b)
+suits : (s : State) (p : NodeId) (b : Body) → IsBodyReady (role_of s.cast p).script (length s.history) p b → Suits (role_of s.cast p).id (body_fields b)
 suits s (ids.Worker n) (IsWorker x) is = tt
 suits s (ids.Worker n) (IsShard y) is = is
 suits s (ids.Shard n) (IsWorker x) is = is
 suits s (ids.Shard n) (IsShard y) is = tt
 
-counted : (s : State) → IsReady s → (p : NodeId) (b : Body) → IsBodyReady (role_of s.cast p).script s.made p b → IsCountedState (body_fields b)
+counted : (s : State) → IsReady s → (p : NodeId) (b : Body) → IsBodyReady (role_of s.cast p).script (length s.history) p b → IsCountedState (body_fields b)
 counted s ready (ids.Worker n) (IsWorker x) is =
     let short = (script-short s ready n).commands in
     let within = is.pc in
@@ -118,8 +118,8 @@ counted s ready (ids.Worker n) (IsWorker x) is =
 counted s ready (ids.Worker n) (IsShard y) is = absurd is
 counted s ready (ids.Shard n) (IsWorker x) is = absurd is
 counted s ready (ids.Shard n) (IsShard y) is =
-    let steps = ready.few_steps in
-    (omega (arith, is, steps), rising-entries _, rising-entries _)
+    let notes = ready.few_notes in
+    (omega (arith, is, notes), rising-entries _, rising-entries _)
 
 pub can_save : (s : State) → IsReady s → (p : NodeId) (n : Live) → IsAlive s p n → CanSave (view s p) n
 can_save s ready p n at = record {

@@ -1,6 +1,6 @@
 -- Each act that a node remembers may stand in the node's checkpoint: it is one that such a node does, about a worker of the
 -- scene, and what it heard was sent by a neighbour.
-use Rattle.std.proofs.Common.{◌≡◌, ℕ, zero, suc, ◌+◌, ◌≤◌, ◌==◌, ◌&&◌, Bool, true, false, List, [], ◌∷◌, ◌++◌, length, map, Contains}
+use Rattle.std.proofs.Common.{◌≡◌, ℕ, zero, suc, ◌+◌, ◌≤◌, ◌==◌, ◌&&◌, true, false, List, [], ◌∷◌, length, map, Contains}
 use Rattle.std.proofs.Common.{Option, Some, None, inl, inr, refl, sym, ap, ◌∙◌, subst, arith, eq-eqb}
 use Rattle.std.specs.List.{cons_option, list_all}
 use Rattle.std.specs.Prelude.{IsTrue, nat_le}
@@ -14,12 +14,10 @@ use Rattle.kt_history.specs.declared.note.Act.{Act}
 use Rattle.kt_history.specs.declared.note.Note.{Note}
 use Rattle.kt_history.specs.declared.note.Note.TheVariants as notes
 use Rattle.kt_history.specs.Line.{note_at, before, line}
-use Rattle.kt_history.specs.Place.{place_of, place}
+use Rattle.kt_history.specs.Place.{place_of}
 use Rattle.kt_history.specs.Closed.{act_of, acts_at, acts_in_line}
 use Rattle.kt_history.specs.WellFormed.{ActFits, HeardReply, HeardRequest, IsAsking, IsShard as IsShardNamed, IsWellFormed}
 use Rattle.kt_history.proofs.Shared.{line-own, note_at-push_cases, note_before, Contains-here, Contains-there}
-use Rattle.kt_tuple.specs.declared.node.TheConstants.{MAX_WORKERS}
-use Rattle.kt_ckpt.specs.declared.acts.LineAct.{LineAct}
 use Rattle.kt_ckpt.specs.Acts.{is_about, is_act_of, is_caused, is_done_by}
 use Rattle.kt_ckpt.specs.LineActs.{line_act, line_acts, node_placed, placed}
 use Rattle.kt_lines.specs.Order.{Setting}
@@ -36,7 +34,7 @@ use Rattle.kt_world.proofs.Scene.{IsNode, a_shard, a_worker, of_node}
 use Rattle.kt_world.proofs.Sound.{MayNote}
 
 -- a worker's acts are about its own requests
-abbrev IsAboutOwn : NodeId → ℕ → Type 0
+abbrev pub IsAboutOwn : NodeId → ℕ → Type 0
 IsAboutOwn (ids.Worker i) worker = worker ≡ i
 IsAboutOwn (ids.Shard i) worker = Unit {0}
 
@@ -46,7 +44,7 @@ pub record IsMadeBy (cast : Cast) (a : Act) : Type 0 where
   pub about : IsAboutOwn a.node a.worker
 
 -- each act of the history, those that were cut off among them
-pub AreMade : Cast → List Note → Type 0
+unfoldable pub AreMade : Cast → List Note → Type 0
 AreMade cast h = (n : ℕ) (a : Act) → note_at h n ≡ Some (notes.Act a) → IsMadeBy cast a
 
 -- ---- one act more

@@ -1,6 +1,6 @@
 -- A step of a world over a store that tells what it holds makes a write that the store allows, and leaves the state
 -- backed.
-use Rattle.std.proofs.Common.{◌≡◌, ℕ, ◌+◌, ◌<◌, Bool, true, false, List, [], Option, None, Some, Ok, refl, sym, ap, ◌∙◌, subst}
+use Rattle.std.proofs.Common.{◌≡◌, ℕ, ◌+◌, Bool, true, false, List, [], Option, None, Some, Ok, refl, sym, ap, ◌∙◌, subst}
 use Rattle.std.specs.Prelude.{IfSome}
 use Rattle.std.specs.List.{AllByRecursion}
 use Rattle.kt_tuple.specs.declared.node.NodeId.{NodeId}
@@ -31,7 +31,6 @@ use Rattle.kt_node.specs.Deciding.{decide_plan}
 use Rattle.kt_world.specs.declared.step.Step.{Step}
 use Rattle.kt_world.specs.declared.step.Step.TheVariants.{Restart}
 use Rattle.kt_world.specs.Step.{owner}
-use Rattle.kt_world.specs.declared.step.TheConstants.{MAX_STEPS}
 use Rattle.kt_world.specs.State.{State, role_of, view}
 use Rattle.kt_world.specs.Told.{told, of_poll, to_learn}
 use Rattle.kt_world.specs.Effect.{applied}
@@ -79,7 +78,7 @@ phase-again : (x : Phase) (b c : Poll) (phase : Poll → Phase) (stored : Option
 phase-again x b c phase stored plans.holds same is = subst (λ (i : ℕ). IsTakenIn i stored) (sym same) is
 phase-again x b c phase stored plans.rolls same is = is
 
-after-instance : (b : Poll) (vote : Option (NodeId × Vote)) → (poll_after b vote).instance ≡ b.instance
+pub after-instance : (b : Poll) (vote : Option (NodeId × Vote)) → (poll_after b vote).instance ≡ b.instance
 after-instance b None = refl
 after-instance b (Some vote) = refl
 
@@ -205,6 +204,6 @@ pub write-allowed : (s : State) → IsBacked s → (step : Step) (plan : Plan) �
     → IfSome plan.write (IsAllowed s.content (owner step))
 write-allowed s is step plan of = (plan-backs s is step plan of).allowed
 
-pub stays_backed : (s : State) → IsBacked s → s.made < MAX_STEPS → (step : Step) (plan : Plan) → PlanOf s (told s step) step plan
+pub stays_backed : (s : State) → IsBacked s → (step : Step) (plan : Plan) → PlanOf s (told s step) step plan
     → IsBacked (applied s step plan)
-stays_backed s is few step plan of = backs-backed s step plan is few (plan-backs s is step plan of)
+stays_backed s is step plan of = backs-backed s step plan is (plan-backs s is step plan of)

@@ -1,6 +1,6 @@
 -- No step is refused for damage in a state that steps lead to.
 use Rattle.std.proofs.Common.{◌≡◌, ℕ, ◌+◌, ◌&&◌, if◌then◌else◌, Bool, true, false, List, [], ◌∷◌, Option, None, Some, Result, Ok, Err, refl}
-use Rattle.std.proofs.Common.{ap}
+use Rattle.std.proofs.Common.{ap, subst, sym}
 use Rattle.std.specs.Prelude.{is_some}
 use Rattle.kt_tuple.specs.declared.node.NodeId.{NodeId}
 use Rattle.kt_tuple.specs.declared.op.Op.{Op}
@@ -32,7 +32,7 @@ use Rattle.kt_node.specs.Arrivals.{check_fitting as joining, check_plan, check_r
 use Rattle.kt_node.specs.Deciding.{abandon, abandon_by, abandon_down, abandon_in, abandon_of, check, check_in, check_of, decide, decide_by}
 use Rattle.kt_node.specs.Deciding.{decide_if, decide_in, decide_of, learn, learn_by, learn_held, learn_in, learn_of}
 use Rattle.kt_node.specs.Deciding.{learn_rolling, learn_settled, settled}
-use Rattle.kt_node.specs.Failing.{fail_of, restart, restart_after, restart_by, restart_in, restart_of, restart_plan, restarted}
+use Rattle.kt_node.specs.Failing.{fail, fail_of, restart, restart_after, restart_by, restart_in, restart_of, restart_plan, restarted}
 use Rattle.kt_node.specs.Learning.{restored, rolling_learns}
 use Rattle.kt_node.specs.Loading.{load, loaded_by, marks_in}
 use Rattle.kt_node.specs.Node.{Body, Live, Node, Down, Alive, node_number, shard_in, worker_in}
@@ -48,7 +48,7 @@ use Rattle.kt_world.specs.declared.step.StepError.TheVariants as refusals
 use Rattle.kt_world.specs.Cast.{is_in_scene}
 use Rattle.kt_world.specs.declared.told.Told.{Told}
 use Rattle.kt_world.specs.Step.{owner}
-use Rattle.kt_world.specs.Judge.{IsUndamaged, delivery, due, hear, of_owner, of_scene}
+use Rattle.kt_world.specs.Judge.{judged, IsUndamaged, delivery, due, hear, of_owner, of_scene}
 use Rattle.kt_world.specs.inner.Ready.{IsReady}
 use Rattle.kt_world.specs.State.{State, link, role_of, view}
 use Rattle.kt_world.specs.Told.{stored_of, tentative_in, told}
@@ -384,3 +384,65 @@ scene-damaged false r x e = absurd cc
 pub never-damaged : (s : State) → IsReady s → IsSound s → IsFitting s → AreMade s.cast s.history → IsUndamaged s
 never-damaged s ready sound is made step x e =
     due-fine s (gives-fitting s ready sound is made) step (scene-damaged (is_in_scene s.cast step) (due s (told s step) step) x e)
+
+-- ---- a node that is down, of which something tentative is stored, whatever its checkpoints are
+
+at-down : (v : View) (P : View → Type 0) → v.node ≡ Down → P record v { node = Down } → P v
+at-down v P down is = subst (λ (x : Node). P record v { node = x }) (sym down) is
+
+check-down : (v : View) (next : ℕ) (o : Option Marks) → v.node ≡ Down → Fine (check v next o)
+check-down v next o down = at-down v (λ u. Fine (check u next o)) down wrong
+
+fail-down : (v : View) (verdict : Option Verdict) (o t : Option Marks) → v.node ≡ Down → Fine (fail v verdict o t)
+fail-down v verdict o t down = at-down v (λ u. Fine (fail u verdict o t)) down wrong
+
+restart-down : (v : View) (s : Stored) (next : ℕ) (own : Option ℕ) (verdict : Option Verdict) → v.node ≡ Down → Fine (restart v s next true own verdict)
+restart-down v s next own verdict down = at-down v (λ u. Fine (restart u s next true own verdict)) down unresolved
+
+-- only a No asks what the permanent checkpoint is
+learn-down : (v : View) (s : Stored) (is_tentative : Bool) (verdict : Option Verdict) → v.node ≡ Down
+    → (verdict ≡ Some verdicts.No → fits v.role v.line_len (marks_in s) ≡ true) → Fine (learn v s is_tentative verdict)
+learn-down v s is_tentative verdict down fit =
+    at-down v (λ u. (verdict ≡ Some verdicts.No → fits u.role u.line_len (marks_in s) ≡ true) → Fine (learn u s is_tentative verdict)) down
+    (λ fit. either is_tentative _ _ (by verdict fit) nothing) fit
+  where
+    by : (o : Option Verdict) → (o ≡ Some verdicts.No → fits v.role v.line_len (marks_in s) ≡ true) → Fine (learn_settled record v { node = Down } s (settled o))
+    by None fit = undecided
+    by (Some verdicts.Open) fit = undecided
+    by (Some verdicts.Yes) fit = fine _
+    by (Some verdicts.No) fit = passes (fits v.role v.line_len (marks_in s)) _ (fit refl) (fine _)
+
+hear-down : (v : View) (t : Told) (p : NodeId) (m : Message) → v.node ≡ Down → Fine (hear v t p m)
+hear-down v t p (messages.Post post) down = at-down v (λ u. Fine (hear u t p (messages.Post post))) down (fine _)
+hear-down v t p (messages.CheckAsk ask) down = at-down v (λ u. Fine (hear u t p (messages.CheckAsk ask))) down (fine _)
+hear-down v t p (messages.RollAsk ask) down = at-down v (λ u. Fine (hear u t p (messages.RollAsk ask))) down (fine _)
+hear-down v t p (messages.Vote vote) down = at-down v (λ u. Fine (hear u t p (messages.Vote vote))) down (fine _)
+hear-down v t p (messages.Verdict instance agreed) down = at-down v (λ u. Fine (hear u t p (messages.Verdict instance agreed))) down (fine _)
+
+delivered-down : (v : View) (t : Told) (p : NodeId) (l : List Message) → v.node ≡ Down → Fine (delivery v t p l)
+delivered-down v t p [] down = nothing
+delivered-down v t p (m ∷ later) down = hear-down v t p m down
+
+down-fine : (s : State) (step : Step) → (view s (owner step)).node ≡ Down → is_some (told s step).tentative ≡ true
+    → ((p : NodeId) → step ≡ Learn p → (told s (Learn p)).verdict ≡ Some verdicts.No
+    → fits (role_of s.cast p) (view s p).line_len (marks_in (told s (Learn p)).stored) ≡ true)
+    → Fine (due s (told s step) step)
+down-fine s (Issue p) down some fit = issue-fine (view s p)
+down-fine s (Repeat p) down some fit = repeat-fine (view s p)
+down-fine s (Deliver p q) down some fit = delivered-down (view s q) (told s (Deliver p q)) p (link s p q) down
+down-fine s (Take p) down some fit = take-fine (view s p)
+down-fine s (Serve p w place) down some fit = serve-fine (view s p) _ _ _
+down-fine s (Check p) down some fit = check-down (view s p) _ _ down
+down-fine s (Decide p) down some fit = decide-fine (view s p) _
+down-fine s (Abandon p) down some fit = abandon-fine (view s p) _ _
+down-fine s (Learn p) down some fit = learn-down (view s p) _ _ _ down (fit p refl)
+down-fine s (Fail p) down some fit = fail-down (view s p) _ _ _ down
+down-fine s (Restart p) down some fit =
+    subst (λ b. Fine (restart (view s p) (told s (Restart p)).stored (told s (Restart p)).next b (told s (Restart p)).undecided (told s (Restart p)).verdict)) (sym some)
+    (restart-down (view s p) (told s (Restart p)).stored (told s (Restart p)).next (told s (Restart p)).undecided (told s (Restart p)).verdict down)
+
+pub down-undamaged : (s : State) (step : Step) → (view s (owner step)).node ≡ Down → is_some (told s step).tentative ≡ true
+    → ((p : NodeId) → step ≡ Learn p → (told s (Learn p)).verdict ≡ Some verdicts.No
+    → fits (role_of s.cast p) (view s p).line_len (marks_in (told s (Learn p)).stored) ≡ true)
+    → (refusal : StoreError) → ¬ (judged s (told s step) step ≡ Err (refusals.Store refusal))
+down-undamaged s step down some fit x e = down-fine s step down some fit (scene-damaged (is_in_scene s.cast step) (due s (told s step) step) x e)

@@ -6,8 +6,8 @@ use Rattle.kt_tuple.specs.declared.node.NodeId.{NodeId}
 use Rattle.kt_tuple.specs.Node.{node_eq}
 use Rattle.kt_store.specs.declared.rows.NodeRow.{NodeRow}
 use Rattle.kt_store.specs.declared.rows.Purpose.TheVariants as purposes
-use Rattle.kt_store.specs.Content.{Content, greatest, next_instance, row_or, row_of}
-use Rattle.kt_store.specs.inner.Rising.{IsBoard}
+use Rattle.kt_store.specs.Content.{Content, next_instance, row_or, row_of}
+use Rattle.kt_world.specs.inner.Backed.{AreRising}
 use Rattle.kt_store.specs.Changes.{storing, taken, decided, promoted_from}
 use Rattle.kt_store.specs.Others.{OtherNodesStay}
 use Rattle.kt_store.proofs.Shared.{others_stay_of, own_row, stored_is_read, nodes_stay}
@@ -87,17 +87,17 @@ says-after p (Some writes.BeginRestart) c allowed i agreed says =
 says-after p (Some writes.Bump) c allowed i agreed says = says
 says-after p (Some (writes.Decide instance said)) c allowed i agreed says = decided-says instance said c allowed i agreed says
 
-pub board-after : (p : NodeId) (write : Option Write) (c : Content) → next_instance c ≤ greatest → IsBoard c.board → IsBoard (content_after p write c).board
-board-after p None c room is = is
-board-after p (Some (writes.BeginCheck checkpoint)) c room is =
-    begun-board p purposes.Check (storing record (row_of c p) { tentative = taken (next_instance c) checkpoint } c) room is
-board-after p (Some (writes.PutTentative instance checkpoint)) c room is = is
-board-after p (Some writes.Promote) c room is = is
-board-after p (Some writes.Discard) c room is = is
-board-after p (Some writes.BeginRestart) c room is =
-    begun-board p purposes.Rollback (storing record (row_of c p) { incarnation = (row_of c p).incarnation + 1 } c) room is
-board-after p (Some writes.Bump) c room is = is
-board-after p (Some (writes.Decide instance agreed)) c room is = decided-board instance agreed c is
+pub board-after : (p : NodeId) (write : Option Write) (c : Content) → AreRising c.board → AreRising (content_after p write c).board
+board-after p None c is = is
+board-after p (Some (writes.BeginCheck checkpoint)) c is =
+    begun-board p purposes.Check (storing record (row_of c p) { tentative = taken (next_instance c) checkpoint } c) is
+board-after p (Some (writes.PutTentative instance checkpoint)) c is = is
+board-after p (Some writes.Promote) c is = is
+board-after p (Some writes.Discard) c is = is
+board-after p (Some writes.BeginRestart) c is =
+    begun-board p purposes.Rollback (storing record (row_of c p) { incarnation = (row_of c p).incarnation + 1 } c) is
+board-after p (Some writes.Bump) c is = is
+board-after p (Some (writes.Decide instance agreed)) c is = decided-board instance agreed c is
 
 pub next-after : (p : NodeId) (write : Option Write) (c : Content) → next_instance (content_after p write c) ≤ next_instance c + 1
 next-after p None c = omega arith

@@ -54,6 +54,7 @@ applied s step plan =
       history = noted s.history plan.note;
       own = put 0 s.own (node_index p) (at 0 s.own (node_index p) + 1);
       made = s.made + 1;
+      found = s.found;
     }
 
 abbrev pub applied_if : State → Step → Result Plan StepError → Result State StepError

@@ -159,11 +159,11 @@ IsFailure (Fail p) = Unit {0}
 IsFailure step = ⊥
 
 -- what a step that is made does to the history: one note more at most, of its owner; no line but its owner's becomes
--- shorter, and that only where the owner may forget; and only a failure makes the first cut
+-- shorter, and that only where the owner may forget; and only a failure makes the first cut of a world that was opened
 pub record IsNoted (s : State) (step : Step) (new : State) : Type 0 where
   pub one_note : NotesOneAtMost (owner step) s.history new.history
   pub own_line : (q : NodeId) → LineAfter s step new.history q
-  pub first_cut : HasNoCut s.history → HasCut new.history → IsFailure step
+  pub first_cut : s.found ≡ None → HasNoCut s.history → HasCut new.history → IsFailure step
 
 -- ---- all of it
 

@@ -1,5 +1,5 @@
 -- The plan of a step, or its refusal: of several refusals the first that stands is given.
-use Rattle.std.specs.Prelude.{◌≡◌, ℕ, nat_lt, Bool, true, false, if◌then◌else◌, List, [], ◌∷◌, is_some, Result, Ok, Err}
+use Rattle.std.specs.Prelude.{◌≡◌, ℕ, nat_le, nat_lt, Bool, true, false, ◌&&◌, ◌||◌, if◌then◌else◌, List, [], ◌∷◌, length, is_some, Result, Ok, Err}
 use Rattle.kt_tuple.specs.declared.node.NodeId.{NodeId}
 use Rattle.kt_store.specs.declared.error.StoreError.{StoreError}
 use Rattle.kt_node.specs.declared.message.Message.{Message}
@@ -20,7 +20,7 @@ use Rattle.kt_world.specs.declared.step.Step.TheVariants.{Learn, Fail, Restart}
 use Rattle.kt_world.specs.declared.step.StepError.{StepError}
 use Rattle.kt_world.specs.declared.step.StepError.TheVariants as refusals
 use Rattle.kt_world.specs.declared.told.Told.{Told}
-use Rattle.kt_world.specs.declared.step.TheConstants.{MAX_STEPS}
+use Rattle.kt_world.specs.declared.step.TheConstants.{MAX_STEPS, MAX_NOTES}
 use Rattle.kt_world.specs.Cast.{is_in_scene}
 use Rattle.kt_world.specs.State.{State, link, view}
 use Rattle.kt_lines.specs.Cause.{cause_of_waiting}
@@ -70,14 +70,22 @@ due s t (Restart p) = restart (view s p) t.stored t.next (is_some t.tentative) t
 abbrev pub judged : State → Told → Step → Result Plan StepError
 judged s t step = of_scene (is_in_scene s.cast step) (due s t step)
 
--- after `MAX_STEPS` steps no more is made; of a step that is not enabled the limit is not asked
-abbrev pub unless_over : {X : Type 0} → ℕ → Result X StepError → Result X StepError
-unless_over made due = if nat_lt made MAX_STEPS then due else Err refusals.StepLimit
+-- after `MAX_STEPS` steps, or with a history of `MAX_NOTES` notes, no more is made
+abbrev pub has_room : State → Bool
+has_room s = nat_lt s.made MAX_STEPS && nat_lt (length s.history) MAX_NOTES
 
-abbrev pub within_limit : {X : Type 0} → ℕ → Result X StepError → Result X StepError
-within_limit made (Ok plan) = unless_over made (Ok plan)
-within_limit made (Err (refusals.Store refusal)) = unless_over made (Err (refusals.Store refusal))
-within_limit made (Err refusal) = Err refusal
+-- why there is none: all steps were made, or, where the world goes on from what was found, the history is full
+abbrev pub is_at_limit : State → Bool
+is_at_limit s = nat_le MAX_STEPS s.made || (is_some s.found && nat_le MAX_NOTES (length s.history))
+
+abbrev pub if_room : {X : Type 0} → Bool → Result X StepError → Result X StepError
+if_room room due = if room then due else Err refusals.StepLimit
+
+-- of a step that is not enabled the limit is not asked
+abbrev pub within_limit : {X : Type 0} → Bool → Result X StepError → Result X StepError
+within_limit room (Ok plan) = if_room room (Ok plan)
+within_limit room (Err (refusals.Store refusal)) = if_room room (Err (refusals.Store refusal))
+within_limit room (Err refusal) = Err refusal
 
 -- what the store says fits the node of each step: no step is refused for damage
 abbrev pub IsUndamaged : State → Type 0
@@ -85,7 +93,7 @@ IsUndamaged s = (step : Step) (refusal : StoreError) → ¬ (judged s (told s st
 
 -- the plan of a step whose owner is told so, or its refusal
 abbrev pub planned_by : State → Told → Step → Result Plan StepError
-planned_by s t step = within_limit s.made (judged s t step)
+planned_by s t step = within_limit (has_room s) (judged s t step)
 
 -- the plan of the step, or its refusal
 abbrev pub planned : State → Step → Result Plan StepError

@@ -10,10 +10,13 @@ pub mod Needs
 pub mod Judge
 pub mod Writing
 pub mod Effect
-pub mod Reached
 pub mod Workers
 pub mod Cut
+pub mod Found
 pub mod Like
+pub mod Placing
+pub mod Resumed
+pub mod Reached
 pub mod PermanentRun
 pub mod Headline
 pub mod Forced

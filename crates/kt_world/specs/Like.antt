@@ -1,6 +1,6 @@
 -- What stands in a node, or is stored of it, is like what its acts make of it: the state that the empty one reaches by
 -- them, the tuples in some order.
-use Rattle.std.specs.Prelude.{◌≡◌, ℕ, ◌≤◌, List, [], length, take, Option, None, Some, IfSome, IsPermutation}
+use Rattle.std.specs.Prelude.{◌≡◌, ℕ, ◌≤◌, false, List, [], length, take, Option, None, Some, IfSome, IsPermutation}
 use Rattle.kt_tuple.specs.declared.node.NodeId.{NodeId}
 use Rattle.kt_tuple.specs.declared.node.NodeId.TheVariants as ids
 use Rattle.kt_history.specs.declared.note.Act.{Act}
@@ -25,7 +25,8 @@ use Rattle.kt_node.specs.State.{body_fields}
 use Rattle.kt_world.specs.Cast.{Cast, script_at}
 use Rattle.kt_world.specs.State.{State, role_of}
 use Rattle.kt_world.specs.Asks.{script_numbered}
-use Rattle.kt_world.specs.Cut.{acts_held}
+use Rattle.kt_world.specs.Cut.{acts_held, permanent_of}
+use Rattle.kt_world.specs.Found.{has_found}
 
 -- a worker of this script is like what its acts make of it
 pub record IsWorkerLike (script : List Command) (made : MadeWorker) (x : Worker) : Type 0 where
@@ -72,14 +73,21 @@ acts_stored (Some c) = c.acts
 abbrev pub HoldsActs : List Note → NodeId → Option Ckpt → Type 0
 HoldsActs h p stored = acts_stored stored ≡ take (acts_held stored) (line_acts h p)
 
--- each stored permanent checkpoint, and each tentative one whose verdict is not No, holds the state behind the first
--- acts of its node's line, and holds these acts
+-- nothing tentative of the node was found when the world was resumed, or it is settled since
+abbrev pub IsSettled : State → NodeId → Type 0
+IsSettled s p = has_found s.found (row_of s.content p).tentative ≡ false
+
+-- what counts as permanent, and, unless something tentative was found that is not settled yet, the stored permanent
+-- checkpoint and the tentative one whose verdict is not No, hold the state behind the first acts of the node's line,
+-- and hold these acts
 pub record HoldsItsActs (s : State) (p : NodeId) : Type 0 where
-  pub permanent : HoldsFront s.cast p (acts_in_line s.history p) (row_of s.content p).permanent
-  pub permanent_acts : HoldsActs s.history p (row_of s.content p).permanent
-  pub tentative : IsNotNo (verdict_on s.content (row_of s.content p).tentative)
+  pub counts : HoldsFront s.cast p (acts_in_line s.history p) (permanent_of s.content p)
+  pub counted_acts : HoldsActs s.history p (permanent_of s.content p)
+  pub permanent : IsSettled s p → HoldsFront s.cast p (acts_in_line s.history p) (row_of s.content p).permanent
+  pub permanent_acts : IsSettled s p → HoldsActs s.history p (row_of s.content p).permanent
+  pub tentative : IsSettled s p → IsNotNo (verdict_on s.content (row_of s.content p).tentative)
       → IfSome (row_of s.content p).tentative (λ t. HoldsFront s.cast p (acts_in_line s.history p) (Some t.checkpoint))
-  pub tentative_acts : IsNotNo (verdict_on s.content (row_of s.content p).tentative)
+  pub tentative_acts : IsSettled s p → IsNotNo (verdict_on s.content (row_of s.content p).tentative)
       → IfSome (row_of s.content p).tentative (λ t. HoldsActs s.history p (Some t.checkpoint))
 
 abbrev pub StoresFollowLines : State → Type 0

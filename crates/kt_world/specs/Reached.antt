@@ -4,7 +4,8 @@ use Rattle.std.specs.Prelude.{None, Some, Result, Ok, Err}
 use Rattle.kt_tuple.specs.declared.node.NodeId.{NodeId}
 use Rattle.kt_tuple.specs.declared.node.NodeId.TheVariants as ids
 use Rattle.kt_shard.specs.Limits.{desks}
-use Rattle.kt_store.specs.Content.{empty_content}
+use Rattle.kt_store.specs.Content.{Content, empty_content}
+use Rattle.kt_store.specs.Proper.{IsProper}
 use Rattle.kt_node.specs.Node.{Node, opening_node}
 use Rattle.kt_world.specs.declared.step.Step.{Step}
 use Rattle.kt_world.specs.declared.step.StepError.{StepError}
@@ -13,6 +14,7 @@ use Rattle.kt_world.specs.Cast.{Cast, IsCast, is_node}
 use Rattle.kt_world.specs.Short.{AreShort}
 use Rattle.kt_world.specs.State.{State, role_of}
 use Rattle.kt_world.specs.Effect.{step_result}
+use Rattle.kt_world.specs.Resumed.{AllFit, resumed}
 
 -- the row of a node, which is empty where the scene has no such node
 abbrev pub opening_row : Cast → NodeId → Option Node
@@ -33,6 +35,7 @@ opening cast = record {
   history = [];
   own = replicate rows 0;
   made = 0;
+  found = None;
 }
 
 abbrev pub or_as_it_was : Result State StepError → State → State
@@ -48,10 +51,14 @@ unfoldable pub after : State → List Step → State
 after s [] = s
 after s (step ∷ later) = after (next_state s step) later
 
--- some list of steps leads to this state from the opening of some scene whose scripts a checkpoint can count
+-- the first state of a world: it was opened, or goes on from what a store holds that fits the scene
+pub data IsStart : State → Type 0 where
+  opened : (cast : Cast) → IsCast cast → AreShort cast → IsStart (opening cast)
+  resumes : (cast : Cast) (c : Content) → IsCast cast → AreShort cast → IsProper c → AllFit cast c → IsStart (resumed cast c)
+
+-- some list of steps leads to this state from the first state of some world whose scripts a checkpoint can count
 pub record IsReached (s : State) : Type 0 where
-  pub cast : Cast
-  pub is_cast : IsCast cast
-  pub are_short : AreShort cast
+  pub start : State
+  pub is_start : IsStart start
   pub steps : List Step
-  pub leads : after (opening cast) steps ≡ s
+  pub leads : after start steps ≡ s

@@ -16,7 +16,8 @@ use Rattle.kt_world.specs.Cast.{Cast, script_at}
 
 -- the cast; the nodes by their numbers, with an empty row where the scene has no such node; the links, each a list of
 -- what is on its way, first sent first; what the store holds; what happened; the steps that
--- each node made, by the nodes' numbers; all steps made
+-- each node made, by the nodes' numbers; all steps made; and, where the world was resumed, the greatest number of an
+-- instance that was found then
 pub record State : Type 0 where
   pub cast : Cast
   pub nodes : List (Option Node)
@@ -25,6 +26,7 @@ pub record State : Type 0 where
   pub history : List Note
   pub own : List ℕ
   pub made : ℕ
+  pub found : Option ℕ
 
 -- where the link from p to q stands, if they are neighbours
 abbrev pub link_place : Cast → NodeId → NodeId → Option ℕ

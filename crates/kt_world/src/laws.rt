@@ -1,8 +1,8 @@
 //! Laws of the world, each the contract of a function with nothing to do. They speak of every state that a list of
 //! steps, refused ones among them, leads to from the opening of a scene whose scripts a checkpoint can count, over a
-//! store that tells what it holds.
+//! store that tells what it holds, or from what such a store holds that fits the scene.
 
-ghost use Rattle.std.specs.Prelude.{◌≡◌, ◌<◌, ℕ, List, ◌∷◌, ◌++◌, Ok, IsTrue, length};
+ghost use Rattle.std.specs.Prelude.{◌≡◌, ◌<◌, ℕ, List, ◌∷◌, ◌++◌, None, Ok, IsTrue, length};
 ghost use Rattle.kt_tuple.specs.declared.node.NodeId.{NodeId};
 ghost use Rattle.kt_tuple.specs.declared.node.NodeId.TheVariants.{Shard};
 ghost use Rattle.kt_tuple.specs.declared.op.Answer.{Answer};
@@ -12,6 +12,7 @@ ghost use Rattle.kt_history.specs.Line.{line};
 ghost use Rattle.kt_history.specs.Closed.{acts_in_line};
 ghost use Rattle.kt_history.specs.WellFormed.{HasNoCut};
 ghost use Rattle.kt_lines.specs.Hearing.{WasHeardFor};
+ghost use Rattle.kt_store.specs.Proper.{IsFull};
 ghost use Rattle.kt_world.specs.declared.step.Step.{Step};
 ghost use Rattle.kt_world.specs.Step.{owner};
 ghost use Rattle.kt_world.specs.State.{State};
@@ -30,9 +31,10 @@ pub fn survivors_are_one_run()
     ensures one_run { (s : State) → IsReached s → HasOneRun s }
 {}
 
-/// Without a cut no act is lost, each survives, and the shards hold just the tuples of the surviving run.
+/// In a world that was opened: without a cut no act is lost, each survives, and the shards hold just the tuples of the
+/// surviving run.
 pub fn without_a_cut_nothing_is_lost()
-    ensures whole { (s : State) → IsReached s → HasNoCut s.history → IsWhole s }
+    ensures whole { (s : State) → IsReached s → s.found ≡ None → HasNoCut s.history → IsWhole s }
 {}
 
 /// Each worker that is not down has unanswered what its line says, and stands in its script as after the answers in its
@@ -64,15 +66,21 @@ pub fn lines_are_cut_by_their_own_node_alone()
         → (owner step ≡ q) × IsTrue (may_forget s step) }
 {}
 
-/// The step that makes the first cut of a history is a failure.
+/// The step that makes the first cut of the history of a world that was opened is a failure.
 pub fn only_a_failure_makes_the_first_cut()
     ensures first { (s : State) → IsReached s → (step : Step) (new : State) → step_result s step ≡ Ok new
-        → HasNoCut s.history → HasCut new.history → IsFailure step }
+        → s.found ≡ None → HasNoCut s.history → HasCut new.history → IsFailure step }
 {}
 
 /// What is stored fits its node: no step is refused because a checkpoint does not.
 pub fn no_step_is_refused_for_damage()
     ensures undamaged { (s : State) → IsReached s → IsUndamaged s }
+{}
+
+/// The store of a world that was opened always has a number left for the next instance, and for the next incarnation of
+/// each node: each step uses up one at most, and `MAX_STEPS` of them are made.
+pub fn the_store_of_an_opened_world_is_never_full()
+    ensures never { (s : State) → IsReached s → s.found ≡ None → (p : NodeId) → IsFull s.content p → ⊥ }
 {}
 
 /// Each stored permanent checkpoint, and each tentative one whose instance did not get No, holds the state behind the

@@ -7,7 +7,7 @@
 //!   too.
 //! - Stands on: kt_tuple, kt_script, kt_space, kt_link, kt_shard, kt_worker, kt_vote, kt_history, kt_ckpt, kt_store,
 //!   kt_lines, kt_node; of the kit: thiserror
-//! - Used by: kt_refinement, kt_core, kt_scene, kt_stage, kt_run, kt_command, kt_example
+//! - Used by: kt_resume, kt_refinement, kt_core, kt_scene, kt_stage, kt_run, kt_command, kt_example
 //! - Begin in: `step.rt`, the steps and why one is refused, then `specs/State.antt` and `specs/Effect.antt`.
 #![tactic(auto)]
 
@@ -20,8 +20,9 @@ pub use laws::{
     checkpoints_hold_the_fronts_of_lines, lines_are_cut_by_their_own_node_alone,
     no_step_is_refused_for_damage, only_a_failure_makes_the_first_cut,
     services_have_the_cause_of_their_hearing, steps_note_one_thing_at_most, survivors_are_one_run,
-    without_a_cut_nothing_is_lost, workers_stand_as_their_answers_say,
+    the_store_of_an_opened_world_is_never_full, without_a_cut_nothing_is_lost,
+    workers_stand_as_their_answers_say,
 };
 pub use needs::{Needs, Question};
-pub use step::{MAX_STEPS, Step, StepError};
+pub use step::{MAX_NOTES, MAX_STEPS, Step, StepError};
 pub use told::Told;

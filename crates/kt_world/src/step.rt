@@ -11,6 +11,10 @@ use thiserror::Error;
 /// The most steps of a world, by all its nodes together.
 pub const MAX_STEPS: u64 = 100_000;
 
+/// The most notes of a world's history, those of before it was resumed among them: fewer than a number of 32 bits
+/// can count.
+pub const MAX_NOTES: u64 = (1 << 32) - 1;
+
 /// One step of one node: a scenario of steps has a line for each.
 #[derive(Clone, Copy, Debug, PartialEq, Eq)]
 pub enum Step {
@@ -109,7 +113,7 @@ pub enum StepError {
     /// A tentative checkpoint or an open instance stands in the way.
     #[error("Unresolved")]
     Unresolved,
-    /// `MAX_STEPS` steps were made. It comes only of a step that no reason above this one refuses.
+    /// `MAX_STEPS` steps were made, or the history has `MAX_NOTES` notes. It comes only of a step that no reason above this one refuses.
     #[error("StepLimit")]
     StepLimit,
     /// A call of the store was refused, or gave a checkpoint that does not fit the node, which no honest store does.

@@ -1,5 +1,5 @@
 -- How the judging of a step is split: the steps of checks and rollbacks apart from the acts, and the limit last.
-use Rattle.std.specs.Prelude.{Bool, true, false, is_some, Result, Ok, Err}
+use Rattle.std.specs.Prelude.{IsTrue, Bool, true, false, is_some, Result, Ok, Err}
 use Rattle.kt_node.specs.declared.refusal.Refusal.TheVariants as reasons
 use Rattle.kt_node.specs.View.{View}
 use Rattle.kt_node.specs.Plan.{Planned}
@@ -11,6 +11,9 @@ use Rattle.kt_world.specs.declared.step.StepError.{StepError}
 use Rattle.kt_world.specs.declared.step.StepError.TheVariants as refusals
 use Rattle.kt_world.specs.declared.told.Told.{Told}
 use Rattle.kt_node.specs.declared.plan.Plan.{Plan}
+use Rattle.kt_world.specs.Judge.{is_at_limit}
+use Rattle.kt_world.specs.State.{State}
+use Rattle.kt_core.specs.Store.{IsFault}
 
 abbrev pub voting_due : View → Told → Step → Planned
 voting_due v t (Check p) = check v t.next t.permanent
@@ -27,3 +30,9 @@ is_refused (Ok plan) = false
 is_refused (Err (refusals.Store refusal)) = false
 is_refused (Err refusals.OutOfMemory) = false
 is_refused (Err refusal) = true
+
+-- a refusal from before the write: a store's, for damage or for a full store, comes never while it is honest
+abbrev pub IsReadCause : State → Bool → StepError → Type 0
+IsReadCause s is_honest (refusals.Store refusal) = IsFault is_honest refusal
+IsReadCause s is_honest refusals.StepLimit = IsTrue (is_at_limit s)
+IsReadCause s is_honest refusal = Unit {0}

@@ -24,6 +24,7 @@ state_of m content = record {
   history = m.past.notes;
   own = m.own.items;
   made = m.made;
+  found = m.found;
 }
 
 -- what the plan of the node p brings takes no more memory

@@ -25,6 +25,16 @@ posted_stored p =
     whole p.instance ∷ Null ∷ whole (id_of p.initiator) ∷ whole (purpose_code p.purpose)
     ∷ whole (verdict_code p.verdict) ∷ []
 
+-- of a node its key alone, as a query shows it and as one would keep it, and what a query shows of any row
+abbrev pub id_given : NodeRow → Row
+id_given r = whole (id_of r.node) ∷ []
+
+abbrev pub id_stored : NodeRow → Row
+id_stored r = whole (id_of r.node) ∷ Null ∷ []
+
+abbrev pub id_shown : Row → Row
+id_shown r = column r 0 ∷ []
+
 -- the row shows this node, column by column
 pub record ShowsNode (row : Row) (r : NodeRow) : Type 0 where
   pub id : column row 0 ≡ whole (id_of r.node)

@@ -29,6 +29,9 @@ get_node_text = codes "SELECT id, incarnation, permanent, tentative, instance FR
 abbrev pub all_nodes_text : List ℕ
 all_nodes_text = codes "SELECT id, incarnation, permanent, tentative, instance FROM kt_node ORDER BY id"
 
+abbrev pub all_ids_text : List ℕ
+all_ids_text = codes "SELECT id FROM kt_node ORDER BY id"
+
 abbrev pub first_node_text : List ℕ
 first_node_text = codes "SELECT id, incarnation, permanent, tentative, instance FROM kt_node ORDER BY id LIMIT 1"
 

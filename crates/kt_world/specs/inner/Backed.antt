@@ -1,12 +1,12 @@
 -- What a store that is honest keeps of the nodes of a world, so that each write of a step is one that the store allows.
-use Rattle.std.specs.Prelude.{◌≡◌, ℕ, ◌+◌, ◌<◌, ◌≤◌, [], Option, None, Some, Contains, IfSome}
+use Rattle.std.specs.Prelude.{◌≡◌, ℕ, ◌+◌, ◌≤◌, true, nat_lt, List, [], AllPairs, Option, None, Some, Contains, IfSome}
 use Rattle.kt_tuple.specs.declared.node.NodeId.{NodeId}
 use Rattle.kt_shard.specs.Table.{at}
 use Rattle.kt_store.specs.declared.rows.Tentative.{Tentative}
 use Rattle.kt_store.specs.Verdict.{verdict_from}
 use Rattle.kt_store.specs.declared.rows.Verdict.TheVariants as verdicts
-use Rattle.kt_store.specs.Content.{Content, HasVerdict, greatest, next_instance, row_of, verdict_of}
-use Rattle.kt_store.specs.inner.Rising.{IsBoard}
+use Rattle.kt_store.specs.declared.rows.Posted.{Posted}
+use Rattle.kt_store.specs.Content.{Content, HasVerdict, next_instance, row_of, verdict_of}
 use Rattle.kt_node.specs.declared.message.Message.{Message}
 use Rattle.kt_node.specs.declared.message.Message.TheVariants as messages
 use Rattle.kt_node.specs.declared.plan.Write.{Write}
@@ -37,12 +37,17 @@ abbrev pub IsBoards : Content → Message → Type 0
 IsBoards c (messages.Verdict instance agreed) = verdict_of c instance ≡ Some (verdict_from agreed)
 IsBoards c message = Unit {0}
 
+-- the numbers of instances rise
+abbrev pub AreRising : List Posted → Type 0
+AreRising board = AllPairs (λ a b. nat_lt a.instance b.instance ≡ true) board
+
 pub record IsBacked (s : State) : Type 0 where
   pub nodes : (p : NodeId) → IfSome (node s p) (λ n. IsNodeBacked n (row_of s.content p).tentative)
   pub messages : (k : ℕ) (m : Message) → Contains (at [] s.links k) m → IsBoards s.content m
-  pub board : IsBoard s.content.board
-  pub few_instances : next_instance s.content ≤ s.made + 1
-  pub few_incarnations : (p : NodeId) → (row_of s.content p).incarnation ≤ s.made + 1
+  pub board : AreRising s.content.board
+  -- each step uses up one number at most, so where a world was opened few are used up
+  pub few_instances : s.found ≡ None → next_instance s.content ≤ s.made + 1
+  pub few_incarnations : s.found ≡ None → (p : NodeId) → (row_of s.content p).incarnation ≤ s.made + 1
 
 -- the store allows the write of p: a tentative checkpoint is taken where there is none, and made permanent or given up
 -- by the verdict of its instance, and only an open instance is decided
@@ -54,8 +59,3 @@ IsAllowed c p writes.Discard = HasVerdict c p verdicts.No
 IsAllowed c p writes.BeginRestart = Unit {0}
 IsAllowed c p writes.Bump = Unit {0}
 IsAllowed c p (writes.Decide instance agreed) = verdict_of c instance ≡ Some verdicts.Open
-
--- the store has a number for one instance and one incarnation more
-pub record HasNumbers (c : Content) (p : NodeId) : Type 0 where
-  pub instance : next_instance c < greatest
-  pub incarnation : (row_of c p).incarnation < greatest

@@ -1,6 +1,6 @@
 -- What the state of a world keeps so that each step can be made, whatever a store answers. The tables have their rows,
 -- the counts are small, each node is of its kind, and who sent, asked or was asked is a neighbour.
-use Rattle.std.specs.Prelude.{◌≡◌, ◌≢◌, ℕ, ◌<◌, ◌≤◌, List, [], length, Contains, IfSome, IsTrue, is_some}
+use Rattle.std.specs.Prelude.{◌≡◌, ◌≢◌, ℕ, ◌<◌, ◌≤◌, List, [], length, Contains, IfSome, IsTrue, is_some, None}
 use Rattle.std.specs.List.{AllByRecursion}
 use Rattle.kt_tuple.specs.declared.node.NodeId.{NodeId}
 use Rattle.kt_tuple.specs.declared.node.NodeId.TheVariants as ids
@@ -22,7 +22,7 @@ use Rattle.kt_node.specs.declared.plan.Plan.{Plan}
 use Rattle.kt_node.specs.Node.{Body, IsWorker, IsShard, Live, Node, Down, Alive, poll_in}
 use Rattle.kt_node.specs.Ready.{CanChange}
 use Rattle.kt_world.specs.Limits.{rows as row_count}
-use Rattle.kt_world.specs.declared.step.TheConstants.{MAX_STEPS}
+use Rattle.kt_world.specs.declared.step.TheConstants.{MAX_STEPS, MAX_NOTES}
 use Rattle.kt_world.specs.Cast.{Cast, IsCast, is_node, are_neighbours}
 use Rattle.kt_world.specs.Short.{AreShort}
 use Rattle.kt_world.specs.State.{State, node, role_of, view}
@@ -37,12 +37,12 @@ pub record IsWithin (script : List Command) (x : Worker) : Type 0 where
   pub numbered : x.number ≤ x.position.pc
   pub values : length x.position.memory.values ≤ MAX_VARIABLES
 
--- what a node of this name works with is of its kind, with no more tuples than steps were made
+-- what a node of this name works with is of its kind, with no more tuples than there are notes
 abbrev pub IsBodyReady : List Command → ℕ → NodeId → Body → Type 0
-IsBodyReady script made (ids.Worker n) (IsWorker x) = IsWithin script x
-IsBodyReady script made (ids.Worker n) (IsShard y) = ⊥
-IsBodyReady script made (ids.Shard n) (IsWorker x) = ⊥
-IsBodyReady script made (ids.Shard n) (IsShard y) = length y.bag ≤ made
+IsBodyReady script notes (ids.Worker n) (IsWorker x) = IsWithin script x
+IsBodyReady script notes (ids.Worker n) (IsShard y) = ⊥
+IsBodyReady script notes (ids.Shard n) (IsWorker x) = ⊥
+IsBodyReady script notes (ids.Shard n) (IsShard y) = length y.bag ≤ notes
 
 -- the message names the act that sent it, if it names one
 abbrev pub NamesAct : List Note → ℕ → Type 0
@@ -66,7 +66,7 @@ pub record IsKeptReady (cast : Cast) (h : List Note) (p : NodeId) (x : NodeId ×
   pub names : NamesAct h x.1.by
 
 pub record IsLiveReady (cast : Cast) (h : List Note) (made : ℕ) (p : NodeId) (n : Live) : Type 0 where
-  pub body : IsBodyReady (role_of cast p).script made p n.body
+  pub body : IsBodyReady (role_of cast p).script (length h) p n.body
   pub count : n.count ≤ made
   pub phase : IsPhaseReady cast p n.phase
   pub kept : (x : NodeId × Post) → Contains n.kept x → IsKeptReady cast h p x
@@ -84,7 +84,9 @@ pub record IsReady (s : State) : Type 0 where
   pub nodes : (p : NodeId) → IfSome (node s p) (IsNodeReady s.cast s.history s.made p)
   pub few_steps : s.made ≤ MAX_STEPS
   pub few_own : (k : ℕ) → at 0 s.own k ≤ s.made
-  pub few_notes : length s.history ≤ s.made
+  pub few_notes : length s.history ≤ MAX_NOTES
+  -- a step makes one note at most
+  pub few_made : s.found ≡ None → length s.history ≤ s.made
   pub causes : CausesComeFirst s.history
   pub messages : (k : ℕ) (m : Message) → Contains (at [] s.links k) m → IsMessageReady s.history m
 

@@ -7,9 +7,9 @@ use Rattle.kt_world.specs.Step.{owner}
 use Rattle.kt_world.specs.Writing.{content_after}
 use Rattle.kt_core.specs.inner.Machine.{state_of}
 use Rattle.kt_world.specs.declared.step.StepError.{StepError}
-use Rattle.kt_core.specs.Stepping.{IsCalledFor}
+use Rattle.kt_core.specs.Stepping.{IsCalledFor, IsCause}
 use Rattle.kt_core.specs.World.{beside}
-use Rattle.kt_core.proofs.Steps.{allowed, called-write, effect, numbers, on-error, on-refusal, ready-beside}
+use Rattle.kt_core.proofs.Steps.{allowed, called-write, effect, on-error, on-refusal, read-caused, ready-beside, write-caused}
 use Rattle.kt_core.proofs.stepping.make_by_plan.Goals as goal
 
 pub returns-in_err-plan-clause-ready : goal.returns-in_err-plan-clause-ready
@@ -26,17 +26,36 @@ carry_out-requires-clause-can g c =
     let P : State → Type 0 = λ s. CanApply s (owner c.args.step) c.in_ok-plan.plan in
     subst P (sym (c.in_ok-plan.ensures.same empty_content)) c.in_ok-plan.ensures.can
 
-pub write-requires-clause-allowed : goal.write-requires-clause-allowed
-write-requires-clause-allowed g c =
-    λ h. allowed (state_of c.args.machine.now (g.S.CkptStore.content c.args.store.now)) c.args.step c.in_ok-plan.plan
-    (g.S.CkptStore.content c.prepare.new.store) c.owner.result
-    (c.requires.backed (c.in_ok-plan.ensures.honest h)) (c.in_ok-plan.ensures.plan h) (c.in_ok-plan.ensures.content h) c.owner.ensures
+pub write-requires : goal.write-requires
+write-requires g c = record {
+  allowed = λ h.
+      allowed (state_of c.args.machine.now (g.S.CkptStore.content c.args.store.now)) c.args.step c.in_ok-plan.plan
+      (g.S.CkptStore.content c.prepare.new.store) c.owner.result
+      (c.requires.backed (c.in_ok-plan.ensures.honest h)) (c.in_ok-plan.ensures.plan h) (c.in_ok-plan.ensures.content h) c.owner.ensures;
+}
 
-pub write-requires-clause-numbers : goal.write-requires-clause-numbers
-write-requires-clause-numbers g c =
-    λ h. numbers (state_of c.args.machine.now (g.S.CkptStore.content c.args.store.now)) c.args.step c.in_ok-plan.plan
-    (g.S.CkptStore.content c.prepare.new.store) c.owner.result
-    (c.requires.backed (c.in_ok-plan.ensures.honest h)) (c.in_ok-plan.ensures.plan h) (c.in_ok-plan.ensures.content h) c.owner.ensures
+pub returns-in_err-plan-clause-cause : goal.returns-in_err-plan-clause-cause
+returns-in_err-plan-clause-cause g c =
+    let content = g.S.CkptStore.content c.prepare.new.store in
+    let honest = g.S.CkptStore.is_honest c.prepare.new.store in
+    let Caused : StepError → Type 0 = IsCause (state_of c.prepare.new.machine content) c.args.step honest in
+    let At : State → Type 0 = λ s. IsCause s c.args.step honest c.in_err-plan.field-0.0 in
+    on-refusal c.from_residual.result _ Caused c.from_residual.ensures.1
+    (λ e is. subst Caused (sym is) (subst At (sym (c.in_err-plan.ensures.same content))
+    (read-caused (state_of c.args.machine.now empty_content) content c.args.step honest c.in_err-plan.field-0.0 c.in_err-plan.ensures.cause)))
+
+pub returns-in_err-write-clause-cause : goal.returns-in_err-write-clause-cause
+returns-in_err-write-clause-cause g c =
+    let old = state_of c.args.machine.now (g.S.CkptStore.content c.args.store.now) in
+    let new = state_of c.prepare.new.machine (g.S.CkptStore.content c.write.new.store) in
+    let honest = g.S.CkptStore.is_honest c.write.new.store in
+    let Caused : StepError → Type 0 = IsCause new c.args.step honest in
+    on-refusal c.from_residual-in_err-write.result _ Caused c.from_residual-in_err-write.ensures.1
+    (λ e is. subst Caused (sym is) (write-caused old new c.args.step (g.S.CkptStore.content c.prepare.new.store) c.owner.result honest c.in_err-write.field-0.0
+    c.in_err-write.ensures.written.cause c.owner.ensures (λ h. c.in_ok-plan.ensures.content (c.write.ensures.written.honest h))
+    c.in_err-write.ensures.written.unchanged (ap (λ (s : State). s.found) (c.in_ok-plan.ensures.same empty_content))
+    (ready-beside (state_of c.args.machine.now empty_content) (g.S.CkptStore.content c.args.store.now) c.requires.ready)
+    (λ h. c.requires.backed (c.in_ok-plan.ensures.honest (c.write.ensures.written.honest h)))))
 
 pub returns-in_err-write-clause-ready : goal.returns-in_err-write-clause-ready
 returns-in_err-write-clause-ready g c = let P : State → Type 0 = IsReady in subst P (sym (c.in_ok-plan.ensures.same empty_content)) c.requires.ready

@@ -4,7 +4,8 @@ use Rattle.kt_world.specs.declared.step.StepError.{StepError}
 use Rattle.kt_world.specs.Judge.{planned}
 use Rattle.kt_world.specs.inner.Ready.{CanApply, IsReady}
 use Rattle.kt_core.specs.inner.Machine.{state_of}
-use Rattle.kt_core.specs.Stepping.{IsCalledFor, IsCause, Refuses}
+use Rattle.kt_core.specs.Stepping.{IsCalledFor, Refuses}
+use Rattle.kt_core.specs.inner.Judged.{IsReadCause}
 use Rattle.kt_core.proofs.Steps.{asked, called-plan, due-planned, refused, caused, only-damaged, plan-counted, is-ok, planned-can, planned-leads, on-refusal}
 use Rattle.kt_core.proofs.stepping.prepare.Goals as goal
 
@@ -54,11 +55,12 @@ pub returns-in_err-plan-clause-cause : goal.returns-in_err-plan-clause-cause
 returns-in_err-plan-clause-cause g c =
     let s = state_of c.args.machine.now (g.S.CkptStore.content c.args.store.now) in
     let honest = g.S.CkptStore.is_honest c.tell.new.store in
-    let Caused : StepError → Type 0 = IsCause honest in
+    let beside = state_of c.args.machine.now empty_content in
+    let Caused : StepError → Type 0 = IsReadCause beside honest in
     on-refusal c.from_residual-in_err-plan.result _ Caused c.from_residual-in_err-plan.ensures.1
-    (λ e is. subst Caused (sym is) (caused honest s c.args.step c.in_ok-told.told c.in_err-plan.field-0.0
+    (λ e is. subst Caused (sym is) (caused honest s beside c.args.step c.in_ok-told.told c.in_err-plan.field-0.0 c.requires.ready
     (λ h. asked s c.args.step c.in_ok-told.told c.needs.result c.owner-owner.result (c.in_ok-told.ensures.told.value h)
-    c.needs.ensures c.owner-owner.ensures) (λ h. c.requires.undamaged (c.in_ok-told.ensures.told.honest h)) c.in_err-plan.ensures.plan))
+    c.needs.ensures c.owner-owner.ensures) (λ h. c.requires.undamaged (c.in_ok-told.ensures.told.honest h)) c.in_err-plan.ensures.plan c.in_err-plan.ensures.plan))
 
 pub returns-in_err-plan-clause-counts : goal.returns-in_err-plan-clause-counts
 returns-in_err-plan-clause-counts g c =

@@ -3,7 +3,7 @@ use Rattle.std.specs.Prelude.{IfSome, IsTrue}
 use Rattle.kt_world.specs.declared.step.Step.{Step}
 use Rattle.kt_world.specs.State.{State}
 use Rattle.kt_core.specs.Lent.{is_allowed}
-use Rattle.kt_stage.proofs.Settled.{asked_counted, asked_next, fewer_left, held_at, not_over, refused_counted, settles_more, settles_none, settles_stays}
+use Rattle.kt_stage.proofs.Settled.{asked-cause, asked_counted, asked_next, fewer_left, held_at, not_over, refused_counted, settles_more, settles_none, settles_stays, step-cause}
 use Rattle.kt_stage.proofs.settling.settle.Goals as goal
 
 pub loop-step-init : goal.loop-step-init
@@ -66,6 +66,15 @@ returns-in_err-step-2-clause-counts g c =
     refused_counted c.from_residual-in_err-step-2.result c.in_err-step-2.field-0.0 c.args.world.now.counts c.next_among.new.world.counts
     c.step.new.self.counts c.from_residual-in_err-step-2.ensures.1 c.in_err-step-2.ensures.counts
     (c.in_ok-step.ensures.next.counts ∙ c.loop-step.invariant.counts)
+
+pub returns-in_err-step-clause-cause : goal.returns-in_err-step-clause-cause
+returns-in_err-step-clause-cause g c =
+    asked-cause c.from_residual.result c.next_among.new.world c.in_err-step.field-0.0 c.from_residual.ensures.1 c.in_err-step.ensures.next.cause
+
+pub returns-in_err-step-2-clause-cause : goal.returns-in_err-step-2-clause-cause
+returns-in_err-step-2-clause-cause g c =
+    step-cause c.from_residual-in_err-step-2.result c.step.new.self c.in-Some.step c.in_err-step-2.field-0.0 c.from_residual-in_err-step-2.ensures.1
+    c.in_err-step-2.ensures.cause
 
 pub loop-step-smaller : goal.loop-step-smaller
 loop-step-smaller g c =

@@ -1,6 +1,7 @@
 use Rattle.std.proofs.Common.{◌∙◌, ◌+◌, ◌++◌, ◌∷◌, [], ℕ, List, sym, subst, ap}
 use Rattle.kt_store.specs.declared.posted.Opened.{Opened}
-use Rattle.kt_store.specs.inner.Rising.{IsBoard, IsNumbered, opened, opened_of}
+use Rattle.kt_store.specs.Proper.{IsBoard}
+use Rattle.kt_store.specs.inner.Rising.{IsNumbered, opened, opened_of}
 use Rattle.kt_store.proofs.Board.{posted_last, still_board}
 use Rattle.kt_store.proofs.Numbered.{greatest_numbered, next_numbered, opened_next}
 use Rattle.kt_store.proofs.posted.post.Goals as goal

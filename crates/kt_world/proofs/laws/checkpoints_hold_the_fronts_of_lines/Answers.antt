@@ -1,4 +1,4 @@
-use Rattle.kt_world.proofs.PermanentReached.{stores-reached, permanent-reached}
+use Rattle.kt_world.proofs.Lasting.{stores-reached, permanent-reached}
 use Rattle.kt_world.proofs.laws.checkpoints_hold_the_fronts_of_lines.Goals as goal
 
 pub returns-clause-fronts : goal.returns-clause-fronts

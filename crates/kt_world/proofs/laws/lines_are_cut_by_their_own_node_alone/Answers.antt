@@ -1,4 +1,4 @@
-use Rattle.kt_world.proofs.Holding.{made-lines, made-shorter}
+use Rattle.kt_world.proofs.Lasting.{made-lines, made-shorter}
 use Rattle.kt_world.proofs.laws.lines_are_cut_by_their_own_node_alone.Goals as goal
 
 pub returns-clause-lines : goal.returns-clause-lines

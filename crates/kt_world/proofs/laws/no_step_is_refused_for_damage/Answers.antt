@@ -1,4 +1,4 @@
-use Rattle.kt_world.proofs.Holding.{undamaged-reached}
+use Rattle.kt_world.proofs.Lasting.{undamaged-reached}
 use Rattle.kt_world.proofs.laws.no_step_is_refused_for_damage.Goals as goal
 
 pub returns : goal.returns

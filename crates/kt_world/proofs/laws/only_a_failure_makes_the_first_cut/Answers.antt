@@ -1,4 +1,4 @@
-use Rattle.kt_world.proofs.Holding.{made-first_cut}
+use Rattle.kt_world.proofs.Lasting.{made-first_cut}
 use Rattle.kt_world.proofs.laws.only_a_failure_makes_the_first_cut.Goals as goal
 
 pub returns : goal.returns

@@ -1,4 +1,4 @@
-use Rattle.kt_world.proofs.Holding.{services-reached}
+use Rattle.kt_world.proofs.Lasting.{services-reached}
 use Rattle.kt_world.proofs.laws.services_have_the_cause_of_their_hearing.Goals as goal
 
 pub returns : goal.returns

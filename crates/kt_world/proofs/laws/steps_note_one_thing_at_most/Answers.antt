@@ -1,4 +1,4 @@
-use Rattle.kt_world.proofs.Holding.{made-notes}
+use Rattle.kt_world.proofs.Lasting.{made-notes}
 use Rattle.kt_world.proofs.laws.steps_note_one_thing_at_most.Goals as goal
 
 pub returns : goal.returns

@@ -1,4 +1,4 @@
-use Rattle.kt_world.proofs.Holding.{one_run-reached}
+use Rattle.kt_world.proofs.Lasting.{one_run-reached}
 use Rattle.kt_world.proofs.laws.survivors_are_one_run.Goals as goal
 
 pub returns : goal.returns

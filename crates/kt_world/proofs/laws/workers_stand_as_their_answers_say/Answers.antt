@@ -1,4 +1,4 @@
-use Rattle.kt_world.proofs.Holding.{workers-reached}
+use Rattle.kt_world.proofs.Lasting.{workers-reached}
 use Rattle.kt_world.proofs.laws.workers_stand_as_their_answers_say.Goals as goal
 
 pub returns : goal.returns

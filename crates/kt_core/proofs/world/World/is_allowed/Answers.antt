@@ -1,14 +1,10 @@
 use Rattle.std.proofs.Common.{◌≡◌, ◌∙◌, ap, subst}
 use Rattle.std.specs.Prelude.{not, IsTrue}
-use Rattle.kt_world.proofs.Shared.{reached-holds}
 use Rattle.kt_core.specs.inner.Machine.{state_of, Gives}
 use Rattle.kt_core.specs.Lent.{is_allowed}
 use Rattle.kt_core.specs.World.{Standing}
-use Rattle.kt_core.proofs.Steps.{asked, due-judged, enabled, small-incarnation}
+use Rattle.kt_core.proofs.Steps.{asked, due-judged, enabled}
 use Rattle.kt_core.proofs.world.World.is_allowed.Goals as goal
-
-pub tell-requires : goal.tell-requires
-tell-requires g c = λ h. let holds = reached-holds _ (c.self.invariant.reached h) in small-incarnation _ holds.ready holds.backed c.owner.result
 
 pub returns-clause-value : goal.returns-clause-value
 returns-clause-value g c =
