@@ -160,9 +160,8 @@ impl<S: CkptStore> World<S> {
     /// Makes the step. It makes a node that is up roll back, or take a checkpoint that it did not begin, only where
     /// that has to be (`IsForced`). It notes one thing at most, and cuts no line but its owner's (`IsNoted`). What it
     /// leaves in the store fits the scene (`AreFit`), so that a world can go on from there. A refused step changes
-    /// nothing. Of several refusals the first that stands comes. A refusal of the store comes before all
-    /// that the store would have told, and only of a step for which it is called. `OutOfMemory` comes only of a step
-    /// that is enabled.
+    /// nothing. Of several refusals the first that stands comes. A refusal of the store comes before all that the store
+    /// would have told, and only of a step for which it is called. `OutOfMemory` comes only of a step that is enabled.
     pub fn step(&mut self, alloc: Global, step: Step) -> Result<(), StepError>
         ensures effect { IsTrue self.new.is_honest → OnOk result (step_result self.old.state step ≡ Ok self.new.state) }
         ensures by_plan { OnOk result (IsByPlan self.old.state step self.new.state) }

@@ -1,6 +1,7 @@
 //! Laws of the world with checkpoints, rollbacks and failures, each the contract of a function with nothing to do. They
 //! speak of every state that a list of steps, refused ones among them, leads to from the opening of a scene whose
-//! scripts a checkpoint can count, over a store that tells what it holds.
+//! scripts a checkpoint can count, over a store that tells what it holds, or from what such a store holds that fits the
+//! scene.
 
 ghost use Rattle.std.specs.Prelude.{◌≡◌, ℕ, Ok, IsPermutation, IsTrue};
 ghost use Rattle.kt_history.specs.Survival.{Stands, Survives, services};

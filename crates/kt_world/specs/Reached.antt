@@ -1,4 +1,5 @@
--- The states that a world can be in: those that steps lead to from the opening of a scene.
+-- The states that a world can be in: those that steps lead to from the opening of a scene, or from what a store holds
+-- that fits the scene.
 use Rattle.std.specs.Prelude.{◌≡◌, ℕ, zero, suc, ◌*◌, if◌then◌else◌, length, List, [], ◌∷◌, ◌++◌, replicate, Option}
 use Rattle.std.specs.Prelude.{None, Some, Result, Ok, Err}
 use Rattle.kt_tuple.specs.declared.node.NodeId.{NodeId}

@@ -39,7 +39,9 @@ use Rattle.kt_world.specs.Placing.{placed}
 
 -- the nodes of the scene, in node order
 abbrev pub nodes_of : Cast → List NodeId
-nodes_of cast = map (λ n. ids.Worker n) (range_with_len 1 (length cast.scripts)) ++ map (λ n. ids.Shard n) (range_with_len 1 cast.shards)
+nodes_of cast =
+    map (λ n. ids.Worker n) (range_with_len 1 (length cast.scripts))
+    ++ map (λ n. ids.Shard n) (range_with_len 1 cast.shards)
 
 unfoldable pub sum_of : List ℕ → ℕ
 sum_of [] = 0
@@ -101,7 +103,8 @@ pub record IsOf (cast : Cast) (p : NodeId) (checkpoint : Ckpt) : Type 0 where
 
 -- each act of the node makes sense where it is placed
 abbrev pub MakesSense : List Note → NodeId → Type 0
-MakesSense h p = (n : ℕ) (a : Act) → Contains (line h p) n → note_at h n ≡ Some (notes.Act a) → Fits (before h n) (notes.Act a)
+MakesSense h p =
+    (n : ℕ) (a : Act) → Contains (line h p) n → note_at h n ≡ Some (notes.Act a) → Fits (before h n) (notes.Act a)
 
 -- what the permanent checkpoint of p holds, with its acts placed in this history
 pub record FitsIn (cast : Cast) (c : Content) (h : List Note) (p : NodeId) : Type 0 where
@@ -130,8 +133,8 @@ pub record IsFit (cast : Cast) (c : Content) (p : NodeId) : Type 0 where
 abbrev pub IsHeld : Content → NodeId → Type 0
 IsHeld c p = (row : NodeRow) × Contains c.nodes row × (row.node ≡ p)
 
--- each node of which the store holds something fits: `World::resume` refuses by Unfit of the first in node order that does
--- not
+-- each node of which the store holds something fits: `World::resume` refuses by Unfit of the first in node order that
+-- does not
 abbrev pub AreFit : Cast → Content → Type 0
 AreFit cast c = (p : NodeId) → IsHeld c p → IsFit cast c p
 
