@@ -26,11 +26,13 @@ carry_out-requires-clause-can g c =
     let P : State → Type 0 = λ s. CanApply s (owner c.args.step) c.in_ok-plan.plan in
     subst P (sym (c.in_ok-plan.ensures.same empty_content)) c.in_ok-plan.ensures.can
 
-pub write-requires-clause-allowed : goal.write-requires-clause-allowed
-write-requires-clause-allowed g c =
-    λ h. allowed (state_of c.args.machine.now (g.S.CkptStore.content c.args.store.now)) c.args.step c.in_ok-plan.plan
-    (g.S.CkptStore.content c.prepare.new.store) c.owner.result
-    (c.requires.backed (c.in_ok-plan.ensures.honest h)) (c.in_ok-plan.ensures.plan h) (c.in_ok-plan.ensures.content h) c.owner.ensures
+pub write-requires : goal.write-requires
+write-requires g c = record {
+  allowed = λ h.
+      allowed (state_of c.args.machine.now (g.S.CkptStore.content c.args.store.now)) c.args.step c.in_ok-plan.plan
+      (g.S.CkptStore.content c.prepare.new.store) c.owner.result
+      (c.requires.backed (c.in_ok-plan.ensures.honest h)) (c.in_ok-plan.ensures.plan h) (c.in_ok-plan.ensures.content h) c.owner.ensures;
+}
 
 pub returns-in_err-plan-clause-cause : goal.returns-in_err-plan-clause-cause
 returns-in_err-plan-clause-cause g c =
@@ -38,7 +40,7 @@ returns-in_err-plan-clause-cause g c =
     let honest = g.S.CkptStore.is_honest c.prepare.new.store in
     let Caused : StepError → Type 0 = IsCause (state_of c.prepare.new.machine content) c.args.step honest in
     let At : State → Type 0 = λ s. IsCause s c.args.step honest c.in_err-plan.field-0.0 in
-    on-refusal c.from_residual-in_err-plan.result _ Caused c.from_residual-in_err-plan.ensures.1
+    on-refusal c.from_residual.result _ Caused c.from_residual.ensures.1
     (λ e is. subst Caused (sym is) (subst At (sym (c.in_err-plan.ensures.same content))
     (read-caused (state_of c.args.machine.now empty_content) content c.args.step honest c.in_err-plan.field-0.0 c.in_err-plan.ensures.cause)))
 
