@@ -32,27 +32,32 @@ impl Opens<SqlStore<FileStore<File>>, SqlOpenError> for Files<'_> {
     }
 }
 
+/// A connection to the file that is to be carried over.
+#[derive(Drop)]
+pub struct OldFile {
+    connection: Connection<FileStore<File>>,
+}
+
 /// What is known of a file that was carried over is what `SqlStore::migrate` says of the connection to it.
-impl Carries<Connection<FileStore<File>>, SqlOpenError> for Files<'_> {
+impl Carries<OldFile, SqlOpenError> for Files<'_> {
     ghost connects = { λ _ path answer. ConnectsFile path answer };
 
-    ghost carries = { λ c content answer. CarriesFile over_files c content answer };
+    ghost carries = { λ old content answer. CarriesFile over_files old.connection content answer };
 
-    ghost ready = { λ c. c.in_transaction ≡ false };
+    ghost ready = { λ old. old.connection.in_transaction ≡ false };
 
-    fn connect(self, path: &str) -> Result<Connection<FileStore<File>>, SqlOpenError> {
-        connect(self.rt, path)
+    fn connect(self, path: &str) -> Result<OldFile, SqlOpenError> {
+        match connect(self.rt, path) {
+            Ok(connection) => Ok(OldFile { connection }),
+            Err(error) => Err(error),
+        }
     }
 
-    fn carry(
-        alloc: Global,
-        connection: Connection<FileStore<File>>,
-        store: &MemStore,
-    ) -> Result<(), SqlOpenError>
-        requires { connection.in_transaction ≡ false }
-        ensures { CarriesFile over_files connection store.now.content result }
+    fn carry(alloc: Global, old: OldFile, store: &MemStore) -> Result<(), SqlOpenError>
+        requires { old.connection.in_transaction ≡ false }
+        ensures { CarriesFile over_files old.connection store.now.content result }
     {
-        match SqlStore::migrate(alloc, connection, store) {
+        match SqlStore::migrate(alloc, old.connection, store) {
             Ok(_) => Ok(()),
             Err((error, _)) => Err(error),
         }

@@ -18,7 +18,7 @@ use kt_command::{
 use kt_scene::{Outcome, Sink, Source};
 use kt_sql::{SqlOpenError, SqlStore};
 use kt_store::CkptStore;
-use sqlite::{Alter, Connection};
+use sqlite::Alter;
 use std::alloc::{AllocError, Global};
 use std::env::Args;
 use std::io;
@@ -31,7 +31,8 @@ use std::thread::Threads;
 /// threads by `threads`.
 pub fn run_arguments<
     D: Alter + Drop + Send,
-    O: Opens<SqlStore<D>, SqlOpenError> + Carries<Connection<D>, SqlOpenError>,
+    C: Drop,
+    O: Opens<SqlStore<D>, SqlOpenError> + Carries<C, SqlOpenError>,
     T: Threads + Wait + Sync,
     R: Read,
     W: Write,
@@ -79,7 +80,8 @@ pub fn run_arguments<
 /// Runs the program on these texts, of which the first is its name.
 fn run_texts<
     D: Alter + Drop + Send,
-    O: Opens<SqlStore<D>, SqlOpenError> + Carries<Connection<D>, SqlOpenError>,
+    C: Drop,
+    O: Opens<SqlStore<D>, SqlOpenError> + Carries<C, SqlOpenError>,
     T: Threads + Wait + Sync,
     R: Read,
     W: Write,
@@ -121,7 +123,8 @@ fn run_texts<
 /// A fault is one line on `errors`; of wrong words it is the text of `clap`.
 pub fn run_program<
     D: Alter + Drop + Send,
-    O: Opens<SqlStore<D>, SqlOpenError> + Carries<Connection<D>, SqlOpenError>,
+    C: Drop,
+    O: Opens<SqlStore<D>, SqlOpenError> + Carries<C, SqlOpenError>,
     T: Threads + Wait + Sync,
     R: Read,
     W: Write,

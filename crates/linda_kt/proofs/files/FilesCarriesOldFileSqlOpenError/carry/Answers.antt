@@ -1,4 +1,4 @@
-use Rattle.linda_kt.proofs.files.FilesCarriesConnectionFileStoreFileSqlOpenError.carry.Goals as goal
+use Rattle.linda_kt.proofs.files.FilesCarriesOldFileSqlOpenError.carry.Goals as goal
 
 pub returns-in-Ok : goal.returns-in-Ok
 returns-in-Ok c =
