@@ -45,7 +45,14 @@ impl Model for Node {
 
 impl Node {
     ghost use Rattle.kt_node.specs.Kept.{kept_of};
-    ghost use Rattle.kt_node.specs.Node.{mode_of, worker_of, shard_of, poll_of};
+    ghost use Rattle.kt_node.specs.Node.{Down, mode_of, worker_of, shard_of, poll_of};
+
+    /// A node that is down, as each is where a world goes on from what a store holds.
+    pub fn down() -> Node
+        ensures { result.node ≡ Down }
+    {
+        Node { live: None }
+    }
 
     /// Which of the four modes it is in. One that is down has nothing but its name.
     pub fn mode(&self) -> Mode
