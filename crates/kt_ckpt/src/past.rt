@@ -166,8 +166,17 @@ impl Past {
     pub fn new(alloc: Global) -> Past
         ensures { result.notes ≡ [] }
     {
+        Past::of(alloc, History::new(alloc))
+    }
+
+    /// What happened, of which nothing is gathered yet.
+    pub fn of(alloc: Global, history: History) -> Past
+        ensures { result ≡ history }
+    {
+        // For the proof alone, which learns so that each note might follow those before it.
+        history.notes();
         Past {
-            history: History::new(alloc),
+            history,
             gathered: Vec::new(alloc),
         }
     }

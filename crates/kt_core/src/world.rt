@@ -92,6 +92,7 @@ impl<S: CkptStore> World<S> {
     ghost use Rattle.kt_world.specs.Judge.{is_enabled, planned};
     ghost use Rattle.kt_world.specs.Needs.{needs_of, no_needs, poll_at};
     ghost use Rattle.kt_world.specs.Reached.{IsReached, opening};
+    ghost use Rattle.kt_world.specs.Resumed.{AreFit};
     ghost use Rattle.kt_world.specs.State.{link, node};
     ghost use Rattle.kt_node.specs.Node.{mode_of};
 
@@ -157,8 +158,9 @@ impl<S: CkptStore> World<S> {
     }
 
     /// Makes the step. It makes a node that is up roll back, or take a checkpoint that it did not begin, only where
-    /// that has to be (`IsForced`). It notes one thing at most, and cuts no line but its owner's (`IsNoted`). A refused
-    /// step changes nothing. Of several refusals the first that stands comes. A refusal of the store comes before all
+    /// that has to be (`IsForced`). It notes one thing at most, and cuts no line but its owner's (`IsNoted`). What it
+    /// leaves in the store fits the scene (`AreFit`), so that a world can go on from there. A refused step changes
+    /// nothing. Of several refusals the first that stands comes. A refusal of the store comes before all
     /// that the store would have told, and only of a step for which it is called. `OutOfMemory` comes only of a step
     /// that is enabled.
     pub fn step(&mut self, alloc: Global, step: Step) -> Result<(), StepError>
@@ -177,6 +179,7 @@ impl<S: CkptStore> World<S> {
         ensures headline { IsTrue self.new.is_honest → Headline self.new.state }
         ensures forced { IsTrue self.new.is_honest → OnOk result (IsForced self.old.state step self.new.state) }
         ensures noted { IsTrue self.new.is_honest → OnOk result (IsNoted self.old.state step self.new.state) }
+        ensures fits { IsTrue self.new.is_honest → AreFit self.new.state.cast self.new.state.content }
     {
         make(&mut self.machine, &mut self.store, alloc, step)
     }

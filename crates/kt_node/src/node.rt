@@ -47,7 +47,7 @@ impl Node {
     ghost use Rattle.kt_node.specs.Kept.{kept_of};
     ghost use Rattle.kt_node.specs.Node.{Down, mode_of, worker_of, shard_of, poll_of};
 
-    /// A node that is down: it has nothing but its name.
+    /// A node that is down, as each is where a world goes on from what a store holds.
     pub fn down() -> Node
         ensures { result.node ≡ Down }
     {

@@ -8,7 +8,7 @@ use Rattle.kt_core.specs.Stepping.{IsByPlan}
 use Rattle.kt_core.specs.World.{Standing}
 use Rattle.kt_core.proofs.Steps.{planned-beside}
 use Rattle.kt_world.proofs.Shared.{reached-kept, undamaged-reached}
-use Rattle.kt_refinement.proofs.Shared.{headline-reached}
+use Rattle.kt_refinement.proofs.Shared.{headline-reached, leaves-fitting}
 use Rattle.kt_core.proofs.Worlds.{step-forced, step-noted, step-world}
 use Rattle.kt_core.proofs.world.World.step.Goals as goal
 
@@ -53,3 +53,11 @@ returns-clause-by_plan g c =
     let now = g.S.CkptStore.content c.make.new.store in
     let P : Standing → Type 0 = λ w. OnOk c.make.result (IsByPlan w.state c.args.step (state_of c.make.new.machine now)) in
     subst P c.self.view_is (planned-beside c.make.result c.self.inside.machine c.make.new.machine empty_content old now c.args.step c.make.ensures.by_plan)
+
+pub returns-clause-fits : goal.returns-clause-fits
+returns-clause-fits g c =
+    let world = step-world c.make.result c.self.inside.machine c.make.new.machine
+    (g.S.CkptStore.content c.self.inside.store) (g.S.CkptStore.content c.make.new.store)
+    (g.S.CkptStore.is_honest c.self.inside.store) (g.S.CkptStore.is_honest c.make.new.store) c.args.step
+    c.self.invariant c.make.ensures.ready c.make.ensures.honest c.make.ensures.effect
+    c.make.ensures.same c.make.ensures.content in λ h. leaves-fitting _ (world.reached h)
