@@ -181,16 +181,6 @@ impl Past {
         }
     }
 
-    /// All this happened; nothing of it is gathered yet. Its notes are moved and not copied.
-    pub fn of(alloc: Global, history: History) -> Past
-        ensures { result ≡ history }
-    {
-        Past {
-            history,
-            gathered: Vec::new(alloc),
-        }
-    }
-
     /// What happened, as a history.
     pub fn history(&self) -> &History
         ensures { result.now ≡ self.now }
