@@ -1,6 +1,8 @@
 pub mod Store
 pub mod Stepping
 pub mod World
+pub mod Resuming
+pub mod Starting
 pub mod Faults
 pub mod Lent
 pub mod inner

@@ -5,4 +5,5 @@ pub mod Traffic
 pub mod Rows
 pub mod Machine
 pub mod Calls
+pub mod Gathering
 pub mod Kept

@@ -7,12 +7,14 @@ ghost use Rattle.kt_world.specs.Cast.{IsCast};
 ghost use Rattle.kt_world.specs.Short.{AreShort};
 ghost use Rattle.kt_core.specs.inner.Rows.{row_view};
 ghost use Rattle.kt_world.specs.Reached.{opening_rows};
+ghost use Rattle.kt_world.specs.Resumed.{down_rows};
 
 use crate::change::{change_node, count, make_room_in_row};
-use crate::opening::{no_counts, opening_nodes, scripts_are_short};
+use crate::opening::{down_nodes, no_counts, opening_nodes, scripts_are_short};
 use crate::scene::Scene;
 use crate::traffic::{add_note, make_room_on_links, send_all, take_off};
 use kt_ckpt::Past;
+use kt_history::History;
 use kt_link::Links;
 use kt_node::{Message, Node, Plan};
 use kt_script::Script;
@@ -41,9 +43,10 @@ pub(crate) struct Machine {
     ghost blank: { no_script ≡ [] },
 }
 
-/// The nodes, the links and the counts of a world that was just opened.
+/// The nodes, the links and the counts of a world in which no step was made.
 type Tables = (Vec<Option<Node>>, Links<Message>, Vec<u64>);
 
+/// Those of a world that was just opened.
 fn opening_tables(alloc: Global, scene: &Scene, no_script: &Script) -> Result<Tables, AllocError>
     requires { no_script.now ≡ [] }
     ensures cast { IsCast scene.now }
@@ -60,15 +63,33 @@ fn opening_tables(alloc: Global, scene: &Scene, no_script: &Script) -> Result<Ta
     Ok((nodes, links, own))
 }
 
+/// Those of a world that was just resumed.
+fn resumed_tables(alloc: Global, scene: &Scene) -> Result<Tables, AllocError>
+    ensures cast { IsCast scene.now }
+    ensures nodes { IfOk result (λ t. map row_view t.0.items ≡ down_rows scene.now desks) }
+    ensures workers { IfOk result (λ t. t.1.workers ≡ length scene.now.scripts) }
+    ensures shards { IfOk result (λ t. t.1.shards ≡ scene.now.shards) }
+    ensures links { IfOk result (λ t. t.1.queues ≡ replicate (2 * (length scene.now.scripts * scene.now.shards)) []) }
+    ensures own { IfOk result (λ t. t.2.items ≡ replicate rows 0) }
+{
+    let (workers, shards) = (scene.scripts().len() as u8, scene.shards());
+    let nodes = down_nodes(alloc, scene)?;
+    let links = Links::new(alloc, workers, shards)?;
+    let own = no_counts(alloc)?;
+    Ok((nodes, links, own))
+}
+
 impl Machine {
     ghost use Rattle.std.specs.Prelude.{Ok, IfErr};
-    ghost use Rattle.kt_store.specs.Content.{Content, empty_content};
+    ghost use Rattle.std.specs.Prelude.{◌-◌};
+    ghost use Rattle.kt_store.specs.Content.{Content, empty_content, next_instance};
     ghost use Rattle.kt_world.specs.Step.{owner};
     ghost use Rattle.kt_world.specs.Effect.{applied};
     ghost use Rattle.kt_world.specs.Judge.{has_room};
     ghost use Rattle.kt_world.specs.Writing.{content_after};
     ghost use Rattle.kt_world.specs.inner.Ready.{IsReady, CanApply};
     ghost use Rattle.kt_world.specs.Reached.{opening};
+    ghost use Rattle.kt_world.specs.Resumed.{history_of, resumed};
     ghost use Rattle.kt_core.specs.inner.Machine.{state_of, HasRoomFor};
 
     /// The machine of the scene, in which nothing was done yet, or the scene where memory runs out.
@@ -90,6 +111,38 @@ impl Machine {
                 own,
                 made: 0,
                 found: None,
+            }),
+            Err(_) => Err(scene),
+        }
+    }
+
+    /// The machine of the scene in which every node is down, and this happened: what a store holds, where the greatest
+    /// number of an instance was found. Where memory runs out the scene comes back.
+    pub(crate) fn resumed(
+        alloc: Global,
+        scene: Scene,
+        history: History,
+        found: u64,
+    ) -> Result<Machine, Scene>
+        ensures resumed { IfOk result (λ m. (c : Content) → history.notes ≡ history_of scene c
+            → found ≡ next_instance c - 1 → state_of m c ≡ resumed scene c) }
+        ensures scene { IfOk result (λ m. m.scene ≡ scene) }
+        ensures made { IfOk result (λ m. m.made ≡ 0) }
+        ensures cast { IsCast scene }
+        ensures short { AreShort scene }
+        ensures back { IfErr result (λ back. back ≡ scene) }
+    {
+        scripts_are_short(scene.scripts());
+        match resumed_tables(alloc, &scene) {
+            Ok((nodes, links, own)) => Ok(Machine {
+                scene,
+                no_script: Script::new(alloc),
+                nodes,
+                links,
+                past: Past::of(alloc, history),
+                own,
+                made: 0,
+                found: Some(found),
             }),
             Err(_) => Err(scene),
         }

@@ -1,10 +1,11 @@
-//! The tables of a world that was just opened.
+//! The tables of a world that was just opened or resumed.
 
 ghost use Rattle.std.specs.Prelude.{◌≡◌, ℕ, map, [], IfOk, IfSome, replicate, slice_get};
 ghost use Rattle.kt_world.specs.Limits.{rows};
 ghost use Rattle.kt_shard.specs.Limits.{desks};
 ghost use Rattle.kt_core.specs.inner.Rows.{row_view};
 ghost use Rattle.kt_world.specs.Reached.{opening_row, opening_rows};
+ghost use Rattle.kt_world.specs.Resumed.{down_row, down_rows};
 ghost use Rattle.kt_world.specs.Short.{IsShort};
 
 use crate::scene::Scene;
@@ -49,6 +50,29 @@ pub(crate) fn opening_nodes(
         let shard = row(alloc, scene, no_script, NodeId::Shard(number))?;
         nodes.push(worker)?;
         nodes.push(shard)?;
+    }
+    Ok(nodes)
+}
+
+/// The row of a node that is down, which is empty where the scene has no such node.
+fn down_row(scene: &Scene, id: NodeId) -> Option<Node>
+    ensures { row_view result ≡ down_row scene.now id }
+{
+    if scene.has(id) {
+        Some(Node::down())
+    } else {
+        None
+    }
+}
+
+/// The table of nodes as in `opening_nodes`, where each is down.
+pub(crate) fn down_nodes(alloc: Global, scene: &Scene) -> Result<Vec<Option<Node>>, AllocError>
+    ensures { IfOk result (λ nodes. map row_view nodes.items ≡ down_rows scene.now desks) }
+{
+    let mut nodes = Vec::with_capacity(alloc, ROWS)?;
+    for number in 0..DESKS {
+        nodes.push(down_row(scene, NodeId::Worker(number)))?;
+        nodes.push(down_row(scene, NodeId::Shard(number)))?;
     }
     Ok(nodes)
 }

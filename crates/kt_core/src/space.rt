@@ -26,7 +26,7 @@ fn counts<S: CkptStore>(store: &mut S, alloc: Global, node: NodeId) -> Result<bo
 }
 
 /// The node's tentative checkpoint, `None` where it has none.
-fn tentative_of<S: CkptStore>(
+pub(crate) fn tentative_of<S: CkptStore>(
     store: &mut S,
     alloc: Global,
     node: NodeId,

@@ -55,11 +55,11 @@ pub struct OpenRefused<S> {
 
 /// The workers and shards of a scene, what is on its way between them, what happened so far, and the store with their
 /// checkpoints. While the store is honest, each value is what some list of steps leads to from the opening of some
-/// scene.
+/// scene, or from what a store held that was resumed.
 #[derive(Debug, Drop)]
 pub struct World<S: CkptStore> {
-    machine: Machine,
-    store: S,
+    pub(crate) machine: Machine,
+    pub(crate) store: S,
 }
 
 impl<S: CkptStore> Model for World<S> {

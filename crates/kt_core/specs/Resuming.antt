@@ -1,0 +1,36 @@
+-- Why a world is not resumed, and what that leaves.
+use Rattle.std.specs.Prelude.{◌≡◌, Bool, IsTrue}
+use Rattle.kt_tuple.specs.declared.node.NodeId.{NodeId}
+use Rattle.kt_tuple.specs.Node.{is_before}
+use Rattle.kt_store.specs.Calls.{Counts, raised_by}
+use Rattle.kt_store.specs.Content.{Content}
+use Rattle.kt_world.specs.Cast.{Cast}
+use Rattle.kt_world.specs.Resumed.{IsFit, IsHeld}
+use Rattle.kt_core.specs.declared.resuming.ResumeError.{ResumeError}
+use Rattle.kt_core.specs.declared.resuming.ResumeError.TheVariants as refusals
+use Rattle.kt_core.specs.Store.{IsFault, StoreValue}
+
+-- the store holds something of p that does not fit, and what it holds of each node before p fits
+pub record IsFirstUnfit (cast : Cast) (c : Content) (p : NodeId) : Type 0 where
+  pub held : IsHeld c p
+  pub unfit : ¬ IsFit cast c p
+  pub before : (q : NodeId) → IsHeld c q → IsTrue (is_before q p) → IsFit cast c q
+
+-- a store's refusal for damage or for a full store comes never while it is honest
+abbrev pub IsResumeCause : Bool → ResumeError → Type 0
+IsResumeCause is_honest (refusals.Store refusal) = IsFault is_honest refusal
+IsResumeCause is_honest cause = Unit {0}
+
+-- what a refused resuming leaves of the store's counts: raised by the store's own refusal and by nothing else
+abbrev pub resuming_counted : ResumeError → Counts → Counts
+resuming_counted (refusals.Store refusal) before = raised_by refusal before
+resuming_counted cause before = before
+
+-- no world of this scene was resumed, for this cause, and the store that was given is left as it was, but for what it
+-- counts
+pub record IsResumeRefused (cast : Cast) (was left : StoreValue) (cause : ResumeError) : Type 0 where
+  pub content : IsTrue left.is_honest → left.content ≡ was.content
+  pub honest : IsTrue left.is_honest → IsTrue was.is_honest
+  pub counts : left.counts ≡ resuming_counted cause was.counts
+  pub why : IsResumeCause left.is_honest cause
+  pub unfit : (p : NodeId) → cause ≡ refusals.Unfit p → IsTrue left.is_honest → IsFirstUnfit cast was.content p

@@ -1,0 +1,73 @@
+-- What is gathered of a store to go on from it.
+use Rattle.std.specs.Prelude.{◌≡◌, ℕ, Bool, true, is_some, Option, None, Some, Result, Ok, Err, IfOk, IfErr, IsTrue}
+use Rattle.std.specs.Prelude.{List, ◌∷◌, ◌++◌, Contains}
+use Rattle.std.specs.Option.{option_map}
+use Rattle.kt_tuple.specs.declared.node.NodeId.{NodeId}
+use Rattle.kt_store.specs.Calls.{Counts, NeverFails}
+use Rattle.kt_store.specs.Content.{Content, posted, row_of}
+use Rattle.kt_store.specs.declared.rows.Tentative.{Tentative}
+use Rattle.kt_store.specs.declared.store.CkptStore.{Ghosts}
+use Rattle.kt_world.specs.Cast.{Cast}
+use Rattle.kt_world.specs.Cut.{permanent_of}
+use Rattle.kt_world.specs.Resumed.{IsFit}
+use Rattle.kt_resume.specs.declared.found.Found.{Found}
+use Rattle.kt_resume.specs.Found.{content_of}
+use Rattle.kt_core.specs.declared.resuming.ResumeError.{ResumeError}
+use Rattle.kt_core.specs.declared.resuming.ResumeError.TheVariants as refusals
+use Rattle.kt_core.specs.Resuming.{IsResumeCause, resuming_counted}
+
+-- the instance of the node's tentative checkpoint, if it has one
+abbrev pub instance_in : Content → NodeId → Option ℕ
+instance_in c p = option_map (λ (t : Tentative). t.instance) (row_of c p).tentative
+
+abbrev pub stands_on : Content → Option ℕ → Bool
+stands_on c None = true
+stands_on c (Some i) = is_some (posted c i)
+
+-- what the store holds of the node
+abbrev pub found_in : Content → NodeId → Found
+found_in c p = record {
+  node = p;
+  incarnation = (row_of c p).incarnation;
+  checkpoint = permanent_of c p;
+  is_posted = stands_on c (instance_in c p);
+}
+
+-- what the store's refusal leaves of its counts; want of memory that the store was not asked for leaves them
+abbrev pub gathering_counted : {T : Type 0} → Result T ResumeError → Counts → Counts
+gathering_counted (Ok x) before = before
+gathering_counted (Err cause) before = resuming_counted cause before
+
+-- what was gathered is of what an honest store holds, which stays as it was
+pub record IsGatheredBy {S T : Type 0} (kind : Ghosts S) (old new : S) (Says : Content → T → Type 0)
+    (result : Result T ResumeError) : Type 0 where
+  pub value : IsTrue (kind.is_honest new) → IfOk result (Says (kind.content old))
+  pub same : IsTrue (kind.is_honest new) → kind.content new ≡ kind.content old
+  pub honest : IsTrue (kind.is_honest new) → IsTrue (kind.is_honest old)
+  pub lasts : NeverFails kind.failures → IsTrue (kind.is_honest old) → IsTrue (kind.is_honest new)
+  pub counts : kind.counts new ≡ gathering_counted result (kind.counts old)
+  pub cause : IfErr result (IsResumeCause (kind.is_honest new))
+
+-- what was found of the node fits the scene
+abbrev pub IsFoundFit : Cast → List Found → Found → Type 0
+IsFoundFit cast found f = IsFit cast (content_of found) f.node × IsTrue f.is_posted
+
+-- what was found of each node does
+abbrev pub AreFound : Cast → List Found → Type 0
+AreFound cast found = (f : Found) → Contains found f → IsFoundFit cast found f
+
+-- what was found of p does not, and what was found before it does
+pub record IsFirstMisfit (cast : Cast) (found : List Found) (p : NodeId) : Type 0 where
+  pub earlier : List Found
+  pub misfit : Found
+  pub later : List Found
+  pub split : found ≡ earlier ++ misfit ∷ later
+  pub node : misfit.node ≡ p
+  pub unfit : ¬ IsFoundFit cast found misfit
+  pub before : (f : Found) → Contains earlier f → IsFoundFit cast found f
+
+-- what was found is refused as unfit only for the first that does not fit
+abbrev pub IsFoundUnfit : Cast → List Found → ResumeError → Type 0
+IsFoundUnfit cast found (refusals.Unfit p) = IsFirstMisfit cast found p
+IsFoundUnfit cast found (refusals.Store refusal) = ⊥
+IsFoundUnfit cast found refusals.OutOfMemory = Unit {0}
