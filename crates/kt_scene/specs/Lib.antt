@@ -14,5 +14,6 @@ pub mod Scenario
 pub mod Faults
 pub mod Journal
 pub mod Runs
+pub mod Unbegun
 pub mod Run
 pub mod inner
