@@ -4,7 +4,7 @@
 //! - Contract: while the store is honest, a step that is made has the effect of its rule (`World::step`, clause
 //!   `effect`), and a refused one changes nothing (`same`). Every state keeps the headline then (`headline`).
 //! - Stands on: kt_tuple, kt_script, kt_space, kt_link, kt_shard, kt_worker, kt_vote, kt_history, kt_ckpt, kt_store,
-//!   kt_protocol, kt_lines, kt_node, kt_world, kt_refinement; of the kit: arrayvec, thiserror
+//!   kt_protocol, kt_lines, kt_node, kt_world, kt_resume, kt_refinement; of the kit: arrayvec, thiserror
 //! - Used by: kt_scene, kt_stage, kt_run, kt_command, kt_example, kt_memory_tests
 //! - Begin in: `world.rt`, which has all public calls of a world, then `stepping.rt` for the order within a step.
 #![tactic(auto)]

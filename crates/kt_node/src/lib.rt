@@ -5,7 +5,7 @@
 //!   refusal that stands (its clause is `Gives result` with that rule). `Node::change` carries a plan's change out.
 //! - Stands on: kt_tuple, kt_script, kt_space, kt_link, kt_shard, kt_worker, kt_vote, kt_history, kt_ckpt, kt_store; of
 //!   the kit: thiserror
-//! - Used by: kt_world, kt_refinement, kt_core, kt_stage, kt_run
+//! - Used by: kt_world, kt_resume, kt_refinement, kt_core, kt_stage, kt_run
 //! - Begin in: `plan.rt`, which says what a plan is, then `steps.rt` for steps and `arrivals.rt` for messages.
 #![tactic(auto)]
 

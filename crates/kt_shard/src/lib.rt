@@ -4,7 +4,7 @@
 //!   (`Shard::serve`, clause `step`). A request waits once, and is answered again once it was served (`Shard::hear`,
 //!   clause `comes_of_it`).
 //! - Stands on: kt_tuple, kt_space; of the kit: thiserror
-//! - Used by: kt_ckpt, kt_lines, kt_node, kt_world, kt_refinement, kt_core, kt_stage, kt_run
+//! - Used by: kt_ckpt, kt_lines, kt_node, kt_world, kt_resume, kt_refinement, kt_core, kt_stage, kt_run
 //! - Begin in: `desk.rt`, a worker's slot (`Desk`) at the shard, then `arrival.rt` for what hearing does and
 //!   `service.rt` for what serving does. `parts.rt` puts them together, and `shard.rt` shares them.
 #![tactic(auto)]
