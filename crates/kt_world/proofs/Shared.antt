@@ -36,3 +36,5 @@ pub use Rattle.kt_world.proofs.Writes.{other-rows, own-row, row_after}
 pub use Rattle.kt_world.proofs.Resuming.{down-node, history-no_cut, history-well_formed, resumed-backed, resumed-fitting, resumed-ready, resumed-sound}
 pub use Rattle.kt_world.proofs.Resuming.{all-settled, IsAllSettled}
 pub use Rattle.kt_world.proofs.Settle.{permanent-settled, row-settled, settled-incarnation, settled, settled_content, settled_row}
+pub use Rattle.kt_world.proofs.Fitting.{are-all}
+pub use Rattle.kt_world.proofs.Sums.{before_one_way, not_before_itself}

@@ -13,15 +13,15 @@ use Rattle.kt_world.specs.Resumed.{nodes_of, all_held, sum_of}
 
 -- ---- node order
 
-one_way : (a b : NodeId) → is_before a b ≡ true → is_before b a ≡ false
-one_way (ids.Worker m) (ids.Worker n) h = grind (arith, h)
-one_way (ids.Worker m) (ids.Shard n) h = refl
-one_way (ids.Shard m) (ids.Worker n) h = absurd cc
-one_way (ids.Shard m) (ids.Shard n) h = grind (arith, h)
+pub before_one_way : (a b : NodeId) → is_before a b ≡ true → is_before b a ≡ false
+before_one_way (ids.Worker m) (ids.Worker n) h = grind (arith, h)
+before_one_way (ids.Worker m) (ids.Shard n) h = refl
+before_one_way (ids.Shard m) (ids.Worker n) h = absurd cc
+before_one_way (ids.Shard m) (ids.Shard n) h = grind (arith, h)
 
-pub itself : (a : NodeId) → is_before a a ≡ false
-itself (ids.Worker m) = grind arith
-itself (ids.Shard m) = grind arith
+pub not_before_itself : (a : NodeId) → is_before a a ≡ false
+not_before_itself (ids.Worker m) = grind arith
+not_before_itself (ids.Shard m) = grind arith
 
 -- each node is before all that follow
 abbrev pub AreInOrder : List NodeId → Type 0
@@ -54,7 +54,7 @@ nodes-rise from (suc n) m = (after-workers from (from + 1) n m (omega arith), no
 none-before : (p : NodeId) (later : List NodeId) → AllByRecursion (λ q. is_before p q ≡ true) later → filter (λ q. is_before q p) later ≡ []
 none-before p [] all = refl
 none-before p (q ∷ later) all =
-    ap (λ b. cond b (q ∷ filter (λ r. is_before r p) later) (filter (λ r. is_before r p) later)) (one_way p q all.0) ∙ none-before p later all.1
+    ap (λ b. cond b (q ∷ filter (λ r. is_before r p) later) (filter (λ r. is_before r p) later)) (before_one_way p q all.0) ∙ none-before p later all.1
 
 here-before : (p q : NodeId) (xs later : List NodeId) → AllByRecursion (λ r. is_before q r ≡ true) (xs ++ p ∷ later) → is_before q p ≡ true
 here-before p q [] later all = all.0
@@ -63,7 +63,7 @@ here-before p q (x ∷ xs) later all = here-before p q xs later all.1
 -- just the nodes in front of it
 front-before : (p : NodeId) (xs later : List NodeId) → AreInOrder (xs ++ p ∷ later) → filter (λ q. is_before q p) (xs ++ p ∷ later) ≡ xs
 front-before p [] later rise =
-    ap (λ b. cond b (p ∷ filter (λ r. is_before r p) later) (filter (λ r. is_before r p) later)) (itself p) ∙ none-before p later rise.0
+    ap (λ b. cond b (p ∷ filter (λ r. is_before r p) later) (filter (λ r. is_before r p) later)) (not_before_itself p) ∙ none-before p later rise.0
 front-before p (q ∷ xs) later rise =
     ap (λ b. cond b (q ∷ filter (λ r. is_before r p) (xs ++ p ∷ later)) (filter (λ r. is_before r p) (xs ++ p ∷ later)))
     (here-before p q xs later rise.0)

@@ -20,7 +20,7 @@ use Rattle.kt_script.specs.declared.command.Command.{Command}
 use Rattle.kt_world.specs.Cast.{Cast, is_among, is_node, script_at}
 use Rattle.kt_world.specs.Resumed.{nodes_of, sum_of}
 use Rattle.kt_world.proofs.AllPlaced.{sum_over}
-use Rattle.kt_world.proofs.Sums.{AreInOrder, itself, nodes-rise}
+use Rattle.kt_world.proofs.Sums.{AreInOrder, not_before_itself, nodes-rise}
 
 -- ---- sums
 
@@ -52,7 +52,7 @@ one-more f g q others own (p ∷ later) rise = by (cases_eq (node_index p) (node
         let same : p ≡ q = node_index-injective p q e in
         let rest_less = sums-among g f later (λ r among. others r (λ z.
         let back : is_before p p ≡ true = subst (λ n. is_before p n ≡ true) (z ∙ sym same) (all-after p later rise.0 r among) in
-        let apart : true ≡ false = sym back ∙ itself p in
+        let apart : true ≡ false = sym back ∙ not_before_itself p in
         absurd (cc (apart)))) in
         let one : g p ≤ f p + 1 = subst (λ n. g n ≤ f n + 1) (sym same) own in
         omega (arith, rest_less, one)
