@@ -194,6 +194,14 @@ impl<S: CkptStore> World<S> {
         }
     }
 
+    /// The greatest number of an instance that its store held when it was resumed, 0 where it held none; `None` of a world
+    /// that was opened.
+    pub fn found(&self) -> Option<u64>
+        ensures { result ≡ self.now.state.found }
+    {
+        self.machine.found
+    }
+
     /// As `resume`, with what was gathered: want of memory alone refuses it.
     fn resume_with(
         alloc: Global,
