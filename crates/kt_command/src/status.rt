@@ -101,7 +101,7 @@ fn resume_status(cause: ResumeError) -> u8
 {
     match cause {
         ResumeError::OutOfMemory => MEMORY,
-        _ => STORE,
+        ResumeError::Unfit { node: _ } | ResumeError::Store(_) => STORE,
     }
 }
 

@@ -14,6 +14,5 @@ pub mod Scenario
 pub mod Faults
 pub mod Journal
 pub mod Runs
-pub mod Unbegun
 pub mod Run
 pub mod inner

@@ -105,7 +105,7 @@ pub enum ReplayFault {
 
 impl From<StartError> for ReplayFault {
     ghost use Rattle.std.specs.Prelude.{◌≡◌};
-    ghost use Rattle.kt_scene.specs.Unbegun.{fault_of};
+    ghost use Rattle.kt_scene.specs.inner.Unbegun.{fault_of};
 
     ghost from_gives = { λ cause fault. fault ≡ fault_of cause };
 

@@ -7,6 +7,5 @@ pub mod Acting
 pub mod Glancing
 pub mod Closing
 pub mod Running
-pub mod Unbegun
 pub mod Settling
 pub mod inner

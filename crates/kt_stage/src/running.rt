@@ -57,7 +57,7 @@ pub enum RunFault {
 
 impl From<StartError> for RunFault {
     ghost use Rattle.std.specs.Prelude.{◌≡◌};
-    ghost use Rattle.kt_stage.specs.Unbegun.{fault_of};
+    ghost use Rattle.kt_stage.specs.inner.Unbegun.{fault_of};
 
     ghost from_gives = { λ cause fault. fault ≡ fault_of cause };
 
