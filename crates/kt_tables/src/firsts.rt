@@ -110,7 +110,7 @@ pub(crate) fn nodes_of(alloc: Global, rows: &[Row]) -> Result<Vec<NodeId>, Store
     let mut nodes = Vec::with_capacity(alloc, rows.len())?;
     for row in rows {
         let node = node_at(row, 0)?;
-        nodes.push(node)?;
+        nodes.push(node).map_err(|_| StoreError::Memory)?;
     }
     Ok(nodes)
 }
