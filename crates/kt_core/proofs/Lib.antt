@@ -7,7 +7,6 @@ pub mod Shorts
 pub mod Steps
 pub mod AtOnce
 pub mod Worlds
-pub mod Alike
 pub mod Judged
 pub mod Traffics
 pub mod Shared
