@@ -16,7 +16,8 @@ use Rattle.kt_ckpt.specs.declared.acts.LineAct.{LineAct}
 use Rattle.kt_world.specs.Effect.{noted}
 use Rattle.kt_world.specs.Placing.{Acts, number_in, number_of, act_by, note_of, next_of, or_else, next_note, placed}
 use Rattle.kt_resume.specs.Unplaced.{Left}
-use Rattle.kt_resume.specs.Turns.{AreApart, AreLeft, count_left, first_in, next_in, next_at, nodes_in}
+use Rattle.kt_resume.specs.Turns.{AreApart, AreLeft, count_left, nodes_in}
+use Rattle.kt_resume.specs.inner.Next.{first_in, next_in, next_at}
 
 -- ---- one act
 

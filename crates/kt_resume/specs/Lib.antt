@@ -1,3 +1,4 @@
 pub mod Unplaced
 pub mod Turns
 pub mod Found
+pub mod inner

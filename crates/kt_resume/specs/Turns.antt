@@ -1,10 +1,10 @@
--- What is placed next, of acts that are left.
-use Rattle.std.specs.Prelude.{◌≡◌, ◌≢◌, ℕ, ◌+◌, Bool, List, [], ◌∷◌, length, map, drop, slice_get, Option, None, Some}
+-- Lists of acts that are left: whose they are, how many, and that they are what these nodes did next.
+use Rattle.std.specs.Prelude.{◌≡◌, ◌≢◌, ℕ, ◌+◌, List, [], ◌∷◌, length, map, drop}
 use Rattle.std.specs.List.{AllByRecursion}
 use Rattle.kt_tuple.specs.declared.node.NodeId.{NodeId}
 use Rattle.kt_history.specs.declared.note.Note.{Note}
 use Rattle.kt_history.specs.Line.{line}
-use Rattle.kt_world.specs.Placing.{Acts, note_of, or_else}
+use Rattle.kt_world.specs.Placing.{Acts}
 use Rattle.kt_resume.specs.Unplaced.{Left}
 
 -- the nodes whose acts these are
@@ -25,17 +25,3 @@ AreLeft acts h (x ∷ later) = (x.acts ≡ drop (length (line h x.node)) (acts x
 abbrev pub AreApart : List NodeId → Type 0
 AreApart [] = Unit {0}
 AreApart (p ∷ later) = AllByRecursion (λ q. q ≢ p) later × AreApart later
-
--- the note of the next act of these, if its cause is placed
-abbrev pub next_in : List Note → Left → Option Note
-next_in h x = note_of h x.node (slice_get x.acts 0)
-
--- that of the first list whose next act can be placed
-unfoldable pub first_in : List Note → List Left → Option Note
-first_in h [] = None
-first_in h (x ∷ later) = or_else (next_in h x) (first_in h later)
-
--- that of a list, if there is one
-abbrev pub next_at : List Note → Option Left → Option Note
-next_at h None = None
-next_at h (Some x) = next_in h x

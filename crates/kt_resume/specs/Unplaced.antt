@@ -1,7 +1,5 @@
 -- The acts of one node that are not placed yet.
-use Rattle.std.specs.Prelude.{List, reverse}
-use Rattle.std.specs.declared.vec.Vec.{Vec}
-use Rattle.std.specs.declared.alloc.Global.{Global}
+use Rattle.std.specs.Prelude.{List}
 use Rattle.kt_tuple.specs.declared.node.NodeId.{NodeId}
 use Rattle.kt_ckpt.specs.declared.acts.LineAct.{LineAct}
 
@@ -9,7 +7,3 @@ use Rattle.kt_ckpt.specs.declared.acts.LineAct.{LineAct}
 pub record Left : Type 0 where
   pub node : NodeId
   pub acts : List LineAct
-
--- they are kept with the next one last
-abbrev pub left_of : NodeId → Vec LineAct Global → Left
-left_of node kept = record { node = node; acts = reverse kept.items }

@@ -4,7 +4,8 @@ ghost use Rattle.std.specs.Prelude.{◌≡◌, ◌+◌, ◌<◌, ◌∷◌, [], 
 ghost use Rattle.std.specs.Prelude.{if◌then◌else◌, is_some, length, drop, slice_get};
 ghost use Rattle.kt_world.specs.Effect.{noted};
 ghost use Rattle.kt_world.specs.Placing.{Acts, number_of, placed};
-ghost use Rattle.kt_resume.specs.Turns.{AreApart, AreLeft, count_left, first_in, next_in, next_at, nodes_in};
+ghost use Rattle.kt_resume.specs.Turns.{AreApart, AreLeft, count_left, nodes_in};
+ghost use Rattle.kt_resume.specs.inner.Next.{first_in, next_in, next_at};
 
 use crate::unplaced::Unplaced;
 use kt_history::{Act, History, Note};

@@ -16,7 +16,8 @@ pub struct Unplaced {
 }
 
 impl Model for Unplaced {
-    ghost use Rattle.kt_resume.specs.Unplaced.{Left, left_of};
+    ghost use Rattle.kt_resume.specs.Unplaced.{Left};
+    ghost use Rattle.kt_resume.specs.inner.Kept.{left_of};
 
     ghost Value = { Left };
 

@@ -123,9 +123,9 @@ write-since before old w p stores.Full le is f opened = by w.is_honest refl w.st
 
     by : (b : Bool) → w.is_honest ≡ b → (found : Option ℕ) → w.state.found ≡ found
         → (not w.is_honest || (is_some w.state.found && is_full w.state.content)) ≡ true
-    by false no found is = left-holds _ _ (ap not no)
-    by true yes None is = left-holds _ _ (ap not ((opened is).full refl))
-    by true yes (Some most) is = right-holds _ _ (both _ _ (ap is_some is) (shows-full w.state.content p (f.full refl yes)))
+    by false e found is = left-holds _ _ (ap not e)
+    by true e None is = left-holds _ _ (ap not ((opened is).full refl))
+    by true e (Some last) is = right-holds _ _ (both _ _ (ap is_some is) (shows-full w.state.content p (f.full refl e)))
 
 fault-older : (older old : Counts) (w : Standing) (e : StoreError) → AreLater older old → is_fault_since old w e ≡ true → is_fault_since older w e ≡ true
 fault-older older old w stores.Device le is = risen-older older.faults old.faults w.counts.faults le.faults is

@@ -2,7 +2,8 @@
 use Rattle.std.proofs.Common.{◌≡◌, inl, inr, ℕ, ◌≤◌, Bool, true, false, List, None, Ok, Err, Result, IfOk, IfErr, IfSome, OnOk, OnErr, arith}
 use Rattle.std.proofs.Common.{option_map, slice_get, refl, sym, ap, subst, ◌∙◌, ◌==◌, ◌&&◌, map, [], ◌∷◌, cond, length, fold, max, Ordering, ◌<◌}
 use Rattle.std.specs.Prelude.{IsTrue, All, AllPairs, nat_lt}
-use Rattle.std.proofs.Common.{zero, suc, ◌++◌, get_or, take, take_all, length-map}
+use Rattle.std.proofs.Common.{zero, suc, ◌++◌, get_or, take, take_all}
+use Rattle.std.proofs.lemmas.List.{length-map}
 use Rattle.sqlite.specs.Tree.{Trees}
 use Rattle.sqlite_trees.specs.Tree.{IsAscending}
 use Rattle.kt_tuple.specs.Node.{is_before}
@@ -30,20 +31,21 @@ use Rattle.kt_tables.specs.Rows.{whole, id_of, HasId, node_given, posted_given, 
 use Rattle.kt_tables.specs.inner.Showing.{Gives, IsReadError, id_given, number_of}
 use Rattle.kt_tables.specs.Held.{Tabled, is_sure, content_of, IsKept}
 use Rattle.sqlite.specs.Held.{Held}
-use Rattle.sqlite.specs.State.{HasCleanDisk, Executes}
+use Rattle.sqlite.specs.State.{HasCleanDisk, CommitsBy, Executes}
 use Rattle.sqlite.specs.declared.error.Error.{Error}
 use Rattle.sqlite_trees.specs.View.{doubt}
 use Rattle.kt_store.specs.Changes.{storing}
 use Rattle.kt_tables.specs.inner.Looking.{Stays}
 use Rattle.kt_tables.proofs.StateLemmas.{executed_open, refused_stays, written_settled}
-use Rattle.kt_tables.specs.inner.Both.{RanBoth}
+use Rattle.kt_tables.specs.inner.Both.{PutsBoth, RanBoth}
+use Rattle.kt_tables.specs.Stored.{IsStoreOf}
 use Rattle.kt_tables.specs.inner.Changing.{Changes}
 use Rattle.kt_tables.specs.declared.cells.NodeCells.{NodeCells}
 use Rattle.kt_tables.specs.Cells.{cells_given, cells_node, AreSaid}
 use Rattle.kt_tables.proofs.CellLemmas.{spelled_given}
 use Rattle.kt_tables.proofs.TabledLemmas.{stayed, wrote}
 use Rattle.kt_tables.proofs.OrderLemmas.{all_inserted}
-use Rattle.kt_tables.proofs.WriteLemmas.{node_changes, posted_changes}
+use Rattle.kt_tables.proofs.WriteLemmas.{node_changes, node_commits, posted_changes, posted_commits}
 use Rattle.kt_tables.proofs.FoundLemmas.{ids_found, node_found, some_node_found, posted_found, open_found, last_found, found_is}
 use Rattle.kt_tables.proofs.ReadLemmas.{downwards, first_or_0, first_is_greatest}
 use Rattle.sqlite_keyed.specs.Lists.{sort_by, insert_sorted}
@@ -105,7 +107,7 @@ module _ {S : Type 0} (g : Ghosts S) (s n : Tabled S) (kept : IsKept g n) (same 
   was_schema = ap (λ (d : Database). d.schema) (sym same) ∙ kept.schema
 
   pub was_held : Holds (state g s.conn).now.trees (content_of g s)
-  was_held = subst (λ (d : Database). Holds d.trees (content_in d.trees)) same kept.holds
+  was_held = subst (λ (d : Database). Holds d.trees (content_in d.trees)) same kept.store.holds
 
   pub node_read : (node : NodeId) (rows : List Row) → HasId node → Shown get_node_text (whole (id_of node) ∷ []) (state g s.conn) (state g n.conn) rows
       → (slice_get rows 0 ≡ option_map node_given (find (λ (r : NodeRow). node_eq r.node node) (content_of g s).nodes))
@@ -130,17 +132,17 @@ module _ {S : Type 0} (g : Ghosts S) (s : Tabled S) (kept : IsKept g s) where
   pub no_node_read : (node : NodeId) → ¬ HasId node → find (λ (r : NodeRow). node_eq r.node node) (content_of g s).nodes ≡ None
   no_node_read node none =
       none_found (λ (r : NodeRow). node_eq r.node node) (content_of g s).nodes
-      (all_weaker _ _ (λ r good. other r.node node good.node none) _ kept.holds.nodes.said)
+      (all_weaker _ _ (λ r good. other r.node node good.node none) _ kept.store.holds.nodes.said)
 
   pub no_posted_read : (i : ℕ) → greatest < i → find (λ (p : Posted). p.instance == i) (content_of g s).board ≡ None
   no_posted_read i high =
       none_found (λ (p : Posted). p.instance == i) (content_of g s).board
-      (all_weaker _ _ (λ p good. let low = good.last in grind (arith, high, low)) _ kept.holds.board.said)
+      (all_weaker _ _ (λ p good. let low = good.last in grind (arith, high, low)) _ kept.store.holds.board.said)
 
   pub no_open_read : (node : NodeId) → ¬ HasId node → find (λ (p : Posted). node_eq p.initiator node && is_open p.verdict) (content_of g s).board ≡ None
   no_open_read node none =
       none_found (λ (p : Posted). node_eq p.initiator node && is_open p.verdict) (content_of g s).board
-      (all_weaker _ _ (λ p good. ap (λ b. b && is_open p.verdict) (other p.initiator node good.initiator none)) _ kept.holds.board.said)
+      (all_weaker _ _ (λ p good. ap (λ b. b && is_open p.verdict) (other p.initiator node good.initiator none)) _ kept.store.holds.board.said)
 
 -- ---- the first of the rows, where the greatest number comes first
 
@@ -284,16 +286,35 @@ module _ {S : Type 0} (g : Ghosts S) (s n : Tabled S) (kept : IsKept g n) (same 
 module _ {S : Type 0} (g : Ghosts S) (row : Row) where
   -- the change that a row makes which is given by the cells of a node, where they are as said
   pub cells_change : (c : NodeCells) → row ≡ cells_given c → AreSaid c → Changes g put_node_text row (storing (cells_node c))
-  cells_change c is are old new was count has held h =
-      let spelt = is ∙ spelled_given c (cells_node c) are.spells in
-      node_changes (cells_node c) are.said (state g old) (state g new) was count has held
-      (subst (λ (r : Row). Executes put_node_text r (state g old) (state g new) (Ok count)) spelt h)
+  cells_change c is are =
+      let r = cells_node c in
+      let spelt = is ∙ spelled_given c r are.spells in
+      record {
+        runs = λ old new was count has store h.
+            node_changes r are.said (state g old) was has store (state g new) count
+            (subst (λ (r : Row). Executes put_node_text r (state g old) (state g new) (Ok count)) spelt h);
+        commits = λ old was db on has store h.
+            node_commits r are.said (state g old) was has store db on (subst (λ (r : Row). CommitsBy put_node_text r (state g old) db) spelt h);
+      }
 
   -- and by those of an instance
   pub posted_change : (p : Posted) → row ≡ posted_given p → IsPosted p → Changes g put_posted_text row (placing p)
-  posted_change p is good old new was count has held h =
-      posted_changes p good (state g old) (state g new) was count has held
-      (subst (λ (r : Row). Executes put_posted_text r (state g old) (state g new) (Ok count)) is h)
+  posted_change p is good = record {
+    runs = λ old new was count has store h.
+        posted_changes p good (state g old) was has store (state g new) count
+        (subst (λ (r : Row). Executes put_posted_text r (state g old) (state g new) (Ok count)) is h);
+    commits = λ old was db on has store h.
+        posted_commits p good (state g old) was has store db on (subst (λ (r : Row). CommitsBy put_posted_text r (state g old) db) is h);
+  }
+
+-- what both rows make of the tables
+pub both_put : {S : Type 0} (g : Ghosts S) (c : NodeCells) (p : Posted) (old : Held S) (was : Content) → AreSaid c → IsPosted p
+    → (state g old).now.schema ≡ kt_schema → IsStoreOf (state g old).now.trees was → (both : PutsBoth g (cells_given c) p old)
+    → ((state g both.last).now.schema ≡ kt_schema) × IsStoreOf (state g both.last).now.trees (placing p (storing (cells_node c) was))
+both_put g c p old was are fine has store both =
+    let one = (cells_change g (cells_given c) c refl are).runs (record old { in_transaction = true }) both.mid was both.counts.0 has store both.one in
+    let two = posted_changes p fine (state g both.mid) (storing (cells_node c) was) one.schema one.store (state g both.last) both.counts.1 both.two in
+    (two.schema, two.store)
 
 module _ {S : Type 0} (g : Ghosts S) (s : Tabled S) (h : Held S) (kept : IsTrue (is_sure g s) → IsKept g s)
     (clean : doubt (state g s.conn).is_clean ≤ doubt (state g h).is_clean) where
@@ -306,8 +327,8 @@ module _ {S : Type 0} (g : Ghosts S) (s : Tabled S) (h : Held S) (kept : IsTrue 
   statement_wrote sql params change count changes ran =
       wrote g s h (change (content_of g s)) kept clean (λ cl on. executed_open sql params _ _ count (ran cl) on)
       (λ cl was k.
-      let it = changes was s.conn h (content_of g s) count k.schema k.holds (ran cl) in
-      (written_settled _ _ k.settled it.shown, it.schema, it.holds))
+      let it = (changes was).runs s.conn h (content_of g s) count k.schema k.store (ran cl) in
+      (written_settled _ _ k.settled it.shown, it.schema, it.store))
 
   pub not_wrote : (sql : List ℕ) (params : Row) (e : Error) → (HasCleanDisk (state g h) → Executes sql params (state g s.conn) (state g h) (Err e))
       → IsTrue (is_sure g after) → IsTrue (is_sure g s) × (content_of g after ≡ content_of g s) × IsKept g after
@@ -320,16 +341,13 @@ module _ {S : Type 0} (g : Ghosts S) (s : Tabled S) (h : Held S) (kept : IsTrue 
       → IsTrue (is_sure g after)
       → IsTrue (is_sure g s) × (content_of g after ≡ placing p (storing (cells_node c) (content_of g s))) × IsKept g after
   both_wrote c p are fine ran =
-      let r = cells_node c in
-      wrote g s h (placing p (storing r (content_of g s))) kept clean (λ cl _. (ran cl).was_open)
+      wrote g s h (placing p (storing (cells_node c) (content_of g s))) kept clean (λ cl _. (ran cl).was_open)
       (λ cl was k.
       let it = ran cl in
-      let one = cells_change g (cells_given c) c refl (are was) (record s.conn { in_transaction = true }) it.mid (content_of g s) it.counts.0
-      k.schema k.holds it.one in
-      let two = posted_changes p fine (state g it.mid) (state g it.last) (storing r (content_of g s)) it.counts.1 one.schema one.holds it.two in (
+      let put = both_put g c p s.conn (content_of g s) (are was) fine k.schema k.store it.puts in (
         it.settled,
-        ap (λ (d : Database). d.schema) it.now ∙ two.schema,
-        subst (λ (d : Database). Holds d.trees (placing p (storing r (content_of g s)))) (sym it.now) two.holds,
+        ap (λ (d : Database). d.schema) it.now ∙ put.0,
+        subst (λ (d : Database). IsStoreOf d.trees (placing p (storing (cells_node c) (content_of g s)))) (sym it.now) put.1,
       ))
 
   pub neither_wrote : (HasCleanDisk (state g h) → IsTrue (state g h).is_open → Stays (state g s.conn) (state g h))

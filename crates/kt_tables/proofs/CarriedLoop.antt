@@ -26,17 +26,21 @@ pub record HavePut (Before : Database → Type 0) (cells : List NodeCells) (old 
   pub kept : HasCleanDisk new → IsTrue old.in_transaction → KeepsCommit old new
   pub put : HasCleanDisk new → IsTrue old.in_transaction → Before old.now → AllPut cells old.now new.now
 
+-- a call that does nothing
+pub nothing_survives : (s : State) (P : Trees → Type 0) → Survives s s P
+nothing_survives s P = record {
+  clean = omega arith;
+  shield = λ h. h;
+  counts = omega arith;
+  limit = refl;
+  closes = λ clean on. inl on;
+  crash = λ clean db may. inl may;
+}
+
 -- none at first
 pub none_put : (Before : Database → Type 0) (s : State) → (Before s.now → s.now.schema ≡ kt_schema) → HavePut Before [] s s
 none_put Before s has = record {
-  survives = record {
-    clean = omega arith;
-    shield = λ h. h;
-    counts = omega arith;
-    limit = refl;
-    closes = λ clean on. inl on;
-    crash = λ clean db may. inl may;
-  };
+  survives = nothing_survives s (λ _. ⊥);
   inside = λ clean on. on;
   kept = λ clean on. record { was_open = λ h. h; committed = λ h. refl };
   put = λ clean on before. record { schema = has before; nodes = refl; others = λ m apart. refl };
@@ -76,13 +80,20 @@ still_table cells a b has put = record {
 pub one_longer : {X : Type 0} (xs : List X) (i : ℕ) (x : X) → x ≡ get_or xs i x → i < length xs → take i xs ++ x ∷ [] ≡ take (i + 1) xs
 one_longer xs i x is within = rw add-one (ap (λ y. take i xs ++ y ∷ []) is ∙ sym (take-suc xs i x within))
 
--- all was put in one transaction: a stop leaves what it could leave before, or what was committed
-pub whole_survives : (begun mid last end : State) (P : Trees → Type 0) → Survives begun mid (λ _. ⊥) → Survives mid last (λ _. ⊥)
+-- two steps inside a transaction commit nothing
+pub inside_survives : (begun mid last : State) → Survives begun mid (λ _. ⊥) → Survives mid last (λ _. ⊥) → Survives begun last (λ _. ⊥)
+inside_survives begun mid last one two = survives_then begun mid last _ _ (λ _. ⊥) (λ _ db none. none) (λ _ db none. none) one two
+
+-- all was done in one transaction: a stop leaves what it could leave before, or what was committed
+pub once_survives : (begun last end : State) (P : Trees → Type 0) → Survives begun last (λ _. ⊥)
     → Survives last end (λ db. db ≡ last.now.trees) → (HasCleanDisk last → P last.now.trees) → Survives begun end P
-whole_survives begun mid last end P one two three made =
-    let inside = survives_then begun mid last _ _ (λ _. ⊥) (λ _ db none. none) (λ _ db none. none) one two in
+once_survives begun last end P inside three made =
     survives_then begun last end _ _ P (λ _ db none. absurd none)
     (λ clean db is. subst P (sym is) (made (omega (arith, three.clean, clean)))) inside three
+
+pub whole_survives : (begun mid last end : State) (P : Trees → Type 0) → Survives begun mid (λ _. ⊥) → Survives mid last (λ _. ⊥)
+    → Survives last end (λ db. db ≡ last.now.trees) → (HasCleanDisk last → P last.now.trees) → Survives begun end P
+whole_survives begun mid last end P one two three made = once_survives begun last end P (inside_survives begun mid last one two) three made
 
 -- ---- what a stop leaves
 

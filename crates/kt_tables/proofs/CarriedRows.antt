@@ -129,5 +129,5 @@ puts_cells c = record {
 pub put_row_does : (old new : State) (c : NodeCells) (count : ℕ) → HasTable old.now → Executes put_node_text (cells_given c) old new (Ok count)
     → (new.now.schema ≡ kt_schema) × (new.now.trees 0 ≡ put_over c (old.now.trees 0)) × ((m : ℕ) → m ≢ 0 → new.now.trees m ≡ old.now.trees m)
 put_row_does old new c count has h =
-    let put = put_ran (puts_cells c) old new count has.schema (numbered (old.now.trees 0) has.numbered) h in
+    let put = put_ran (puts_cells c) old has.schema (numbered (old.now.trees 0) has.numbered) new count h in
     (put.schema, put.rows, λ m apart. put.others m apart)

@@ -24,6 +24,9 @@ use Rattle.kt_tables.specs.declared.cells.NodeCells.{NodeCells}
 use Rattle.kt_tables.specs.Cells.{cells_given}
 use Rattle.kt_tables.specs.inner.Carrying.{cells_stored, RiseById, AreShown, put_all, HasTable, AllPut, IsOld, AreNewTrees}
 use Rattle.kt_tables.specs.inner.Text.{first_meta_text}
+use Rattle.kt_store.specs.Content.{empty_content}
+use Rattle.kt_tables.specs.Stored.{IsStoreOf}
+use Rattle.kt_tables.proofs.HeldLemmas.{empty_store}
 use Rattle.kt_tables.proofs.MadeLemmas.{meta_row, puts_meta}
 use Rattle.kt_tables.proofs.CarriedRows.{HasKey, put_over, over_front, gone}
 
@@ -150,7 +153,7 @@ pub put_version_does : (old new : State) (count : ℕ) → old.now.schema ≡ kt
     → (new.now.schema ≡ kt_schema) × (map meta_shown (new.now.trees 2) ≡ meta_of this_version ∷ []) × ((m : ℕ) → m ≢ 2 → new.now.trees m ≡ old.now.trees m)
 put_version_does old new count has meta h =
     let only = only_meta (old.now.trees 2) meta in
-    let put = put_ran puts_meta old new count has only.0 h in
+    let put = put_ran puts_meta old has only.0 new count h in
     (put.schema, ap (map meta_shown) (put.rows ∙ ap (put_row meta_row) only.1), λ m apart. put.others m apart)
 
 -- where no table but the third has a row, they are as those that were just made
@@ -162,6 +165,14 @@ raised_made old new count version none h =
       did.2 0 (λ same. absurd cc) ∙ none.nodes,
       did.2 1 (λ same. absurd cc) ∙ none.board,
     )
+
+-- and that is an empty store
+pub raised_store : (old new : State) (count : ℕ) → IsOldVersion old.now → HasNoRow old.now → Executes first_meta_text [] old new (Ok count)
+    → IsStoreOf new.now.trees empty_content
+raised_store old new count version none h =
+    let did = raised_made old new count version none h in
+    let put = put_ran puts_meta old version.schema (only_meta (old.now.trees 2) version.meta).0 new count h in
+    empty_store new.now put.sound did.0 did.1 did.2
 
 -- ---- all of it
 

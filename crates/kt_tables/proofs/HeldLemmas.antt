@@ -17,6 +17,10 @@ use Rattle.std.specs.List.{AllByRecursion}
 use Rattle.sqlite.specs.Order.{Row}
 use Rattle.sqlite_trees.specs.Tree.{IsAscending}
 use Rattle.kt_tables.specs.Made.{IsMade}
+use Rattle.kt_tables.specs.Opened.{IsThisVersion}
+use Rattle.kt_tables.specs.Stored.{IsStoreOf}
+use Rattle.sqlite.specs.Effect.{Database, IsDatabase}
+use Rattle.sqlite_catalog.specs.Listing.{IsSound}
 use Rattle.sqlite.specs.Tree.{Trees}
 use Rattle.kt_tables.proofs.RowLemmas.{map_back, row_back, posted_back}
 use Rattle.kt_tables.proofs.TableRows.{Table, HoldsAll, nodes_table, posted_table}
@@ -58,6 +62,14 @@ empty_holds db none bare =
       nodes = record { shown = IsPermutation-same [] _ (sym (ap (map node_shown) none)); said = tt; rise = tt };
       board = record { shown = IsPermutation-same [] _ (sym (ap (map posted_shown) bare)); said = tt; rise = tt };
     }
+
+-- such tables are those of an empty store
+pub empty_store : (db : Database) → IsDatabase db → IsThisVersion db → db.trees 0 ≡ [] → db.trees 1 ≡ [] → IsStoreOf db.trees empty_content
+empty_store db sound version none bare = record {
+  lists = subst (λ schema. IsSound schema db.trees) version.schema sound;
+  meta = version.meta;
+  holds = subst (Holds db.trees) (empty_content_in db.trees none bare) (empty_holds db.trees none bare);
+}
 
 -- tables that were just made
 pub made_ready : (s : State) → IsMade s → IsReady s true

@@ -2,6 +2,7 @@ pub mod AnswerLemmas
 pub mod CellLemmas
 pub mod FoundLemmas
 pub mod HeldLemmas
+pub mod ListedLemmas
 pub mod MadeLemmas
 pub mod OpenedLemmas
 pub mod OrderLemmas

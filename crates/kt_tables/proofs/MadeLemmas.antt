@@ -19,6 +19,9 @@ use Rattle.sqlite_tied.specs.Compute.{everything}
 use Rattle.kt_tables.specs.Schema.{kt_schema, no_schema, node_table, board_table, meta_table}
 use Rattle.kt_tables.specs.Opened.{meta_shown, this_version, IsThisVersion}
 use Rattle.kt_tables.specs.inner.Text.{create_node_text, create_board_text, create_meta_text, first_meta_text}
+use Rattle.kt_store.specs.Content.{empty_content}
+use Rattle.kt_tables.specs.Stored.{IsStoreOf}
+use Rattle.kt_tables.proofs.HeldLemmas.{empty_store}
 use Rattle.kt_tables.proofs.PutLemmas.{went, same_value, AreNumbered, PutsInto, put_ran}
 use Rattle.kt_tables.proofs.WriteLemmas.{cast_meta}
 
@@ -103,11 +106,14 @@ puts_meta = record {
   fixed = cast_meta;
 }
 
+numbered_none : (rows : List Row) → rows ≡ [] → AreNumbered rows
+numbered_none rows empty = subst AreNumbered (sym empty) (λ r has. absurd has)
+
 pub meta_put : (old new : State) (count : ℕ) → old.now.schema ≡ kt_schema → old.now.trees 0 ≡ [] → old.now.trees 1 ≡ [] → old.now.trees 2 ≡ []
     → Executes first_meta_text [] old new (Ok count)
     → IsThisVersion new.now × (new.now.trees 0 ≡ []) × (new.now.trees 1 ≡ [])
 meta_put old new count has none bare empty h =
-    let put = put_ran puts_meta old new count has (subst AreNumbered (sym empty) (λ r has. absurd has)) h in (
+    let put = put_ran puts_meta old has (numbered_none (old.now.trees 2) empty) new count h in (
       record {
         schema = put.schema;
         meta = ap (map meta_shown) (put.rows ∙ ap (λ rows. put_row meta_row (without_rowid (pos 1) rows)) empty);
@@ -115,3 +121,15 @@ meta_put old new count has none bare empty h =
       put.others 0 (λ same. absurd cc) ∙ none,
       put.others 1 (λ same. absurd cc) ∙ bare,
     )
+
+-- all four statements, one after the other, make an empty store
+pub store_made : (old one two three new : State) (a b c d : ℕ) → old.now.schema ≡ no_schema → Executes create_node_text [] old one (Ok a)
+    → Executes create_board_text [] one two (Ok b) → Executes create_meta_text [] two three (Ok c) → Executes first_meta_text [] three new (Ok d)
+    → IsStoreOf new.now.trees empty_content
+store_made old one two three new a b c d has first second third fourth =
+    let nodes = node_made old one a has first in
+    let board = board_made one two b nodes.0 nodes.1 second in
+    let meta = meta_made two three c board.0 board.1 board.2 third in
+    let whole = meta_put three new d meta.0 meta.1 meta.2 meta.3 fourth in
+    let put = put_ran puts_meta three meta.0 (numbered_none (three.now.trees 2) meta.3) new d fourth in
+    empty_store new.now put.sound whole.0 whole.1 whole.2

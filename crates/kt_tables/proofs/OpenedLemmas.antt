@@ -188,6 +188,14 @@ both_none : (db : Database) (a b : Bool) → (IsTrue a ↔ (db.trees 0 ≡ [])) 
 both_none db true b nodes board = (λ t. record { nodes = nodes.0 refl; board = board.0 t }, λ n. board.1 n.board)
 both_none db false b nodes board = (λ t. absurd cc, λ n. let t = nodes.1 n.nodes in absurd cc)
 
+-- a stop behind two looks at the tables leaves what it could leave before both
+pub both_leave : (old two last : State) → HasCleanDisk last → IsSettled old → old.now.schema ≡ kt_schema → Looks old two
+    → (HasCleanDisk two → IsTrue two.is_open) → Looks two last → (db : Trees) → last.may_leave db → old.may_leave db
+both_leave old two last clean settled has first on second db may =
+    let clean-2 = look_clean two last second clean in
+    let it = (first.stays clean-2 (on clean-2)).rest settled has in
+    first.leaves clean-2 has db (second.leaves clean (ap (λ (d : Database). d.schema) it.0 ∙ has) db may)
+
 -- two looks at the tables, one after the other
 module _ (old two last : State) (a b : Bool) (clean : HasCleanDisk last) (on : IsTrue last.is_open) (settled : IsSettled old)
     (first : Looks old two) (second : Looks two last) where

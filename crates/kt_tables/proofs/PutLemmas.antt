@@ -1,6 +1,7 @@
 -- What INSERT OR REPLACE makes of a table whose only key is its rowid.
 use Rattle.std.proofs.Common.{◌≡◌, ◌⊎◌, inl, inr, ◌≢◌, ℕ, ◌/◌, ℤ, Bool, true, false, not, ◌&&◌, ◌||◌, cond, List, [], ◌∷◌, ◌++◌, length}
-use Rattle.std.proofs.Common.{drop, slice_get, Option, None, Some, Ok, Err, Result, refl, sym, ap, subst, ◌∙◌}
+use Rattle.std.proofs.Common.{drop, slice_get, Option, None, Some, Ok, Err, Result, refl, sym, ap, subst, subst₂, ◌∙◌, append-nil}
+use Rattle.std.specs.Prelude.{IsTrue}
 use Rattle.std.specs.Ordering.{int_eq}
 use Rattle.std.proofs.lemmas.Bool.{cases_Bool}
 use Rattle.std.specs.List.{AllByRecursion}
@@ -25,12 +26,14 @@ use Rattle.sqlite_rules.specs.Cast.{cast_row}
 use Rattle.sqlite_rules.specs.Edit.{edit_of, id_in, without_all, with_rowid, next_rowid}
 use Rattle.sqlite.specs.Table.{Table}
 use Rattle.sqlite.specs.Source.TheVariants.{Values}
+use Rattle.sqlite.specs.Command.{Command}
 use Rattle.sqlite.specs.Command.TheVariants.{InsertOr}
 use Rattle.sqlite.specs.Does.{Tally, AtPlace, Does, OnRows}
-use Rattle.sqlite.specs.Effect.{Database, value_rows}
+use Rattle.sqlite.specs.Effect.{Database, IsDatabase, value_rows}
 use Rattle.sqlite.specs.Listing.{understood}
 use Rattle.sqlite.specs.Rows.{Task, Written, Puts, Clears, Judged, Tries, TriesEach, InsertsOr, mended, nothing, count_of}
-use Rattle.sqlite.specs.State.{State, mode_of, Shows, Executes}
+use Rattle.sqlite.specs.State.{State, mode_of, Shows, Executes, CommitsBy, MayCommit}
+use Rattle.sqlite_schema.specs.declared.schema.Schema.{Schema}
 use Rattle.sqlite.proofs.Callers.{IsPlain, command_of, one_step, runs_as, statement_of}
 use Rattle.sqlite_typed.proofs.TestLemmas.{at_ints}
 use Rattle.sqlite_keyed.proofs.KeyedLemmas.{same_int}
@@ -182,23 +185,69 @@ pub record HasPut (tree : ℕ) (row : Row) (key : ℤ) (old new : State) : Type 
   pub schema : new.now.schema ≡ kt_schema
   pub rows : new.now.trees tree ≡ put_row row (without_rowid key (old.now.trees tree))
   pub others : (m : ℕ) → m ≢ tree → new.now.trees m ≡ old.now.trees m
+  pub sound : IsDatabase new.now
 
-pub put_ran : {tree : ℕ} {sql : List ℕ} {params row : Row} {key : ℤ} → PutsInto tree sql params row key → (old new : State) (count : ℕ)
-    → old.now.schema ≡ kt_schema → AreNumbered (old.now.trees tree) → Executes sql params old new (Ok count) → HasPut tree row key old new
-put_ran {tree} {sql} {params} {row} {key} p old new count has numbered h =
-    let command = InsertOr tree Replace (Values p.terms p.width) [] in
-    let w = runs_as sql params old new kt_schema has command p.is p.plain count h in
-    let text = statement_of sql (understood kt_schema sql) in
-    let does = subst (λ s. Does old.step_limit (mode_of old) params (record old.now { schema = s }) text None command (Ok (w.tally, new.now))) has w.changed in
-    let on = λ (table : Table). OnRows (record { limit = old.step_limit; keys = Enforced; schema = kt_schema; table = table; params = params })
-    (mode_of old) None command old.now.trees in
-    let done = went (subst (λ table. AtPlace on table (Ok (w.tally, new.now))) p.at does) in
-    let now = ap (λ (p : Tally × Database). p.1) (same_value (went (went done.2).2).2) in
-    let next = replaces p.name tree p.columns old.step_limit params row key p.numbered p.terms p.width row p.given p.mends p.fixed old.now.trees numbered
-    done.0 done.1 in
-    record {
-      shown = w.shown;
-      schema = ap (λ (d : Database). d.schema) now;
-      rows = ap (λ (d : Database). d.trees tree) now ∙ next.0;
-      others = λ m apart. ap (λ (d : Database). d.trees m) now ∙ next.1 m apart;
-    }
+-- what a text of one statement that has no RETURNING may commit
+commits_as : (sql : List ℕ) (params : Row) (old : State) (schema : Schema) → old.now.schema ≡ schema → (command : Command)
+    → command_of (understood schema sql) ≡ command → IsPlain (understood schema sql) → (db : Trees) → CommitsBy sql params old db
+    → MayCommit old None command (statement_of sql (understood schema sql)) params db
+unfolding CommitsBy
+commits_as sql params old schema has command is plain db h =
+    let known = sym h.1.is ∙ ap (λ s. understood s sql) has in
+    let bare = subst IsPlain (sym known) plain in
+    subst₂ (λ k t. MayCommit old None k t params db) (ap command_of known ∙ is) (ap (statement_of sql) known)
+    (rw (bare.0, bare.1, append-nil params) at h.2)
+
+module _ {tree : ℕ} {sql : List ℕ} {params row : Row} {key : ℤ} (p : PutsInto tree sql params row key) (old : State) (has : old.now.schema ≡ kt_schema)
+    (numbered : AreNumbered (old.now.trees tree)) where
+  abbrev puts_row : Command
+  puts_row = InsertOr tree Replace (Values p.terms p.width) []
+
+  -- what it does to the database
+  put_does : (tally : Tally) (after : Database)
+      → Does old.step_limit (mode_of old) params old.now (statement_of sql (understood kt_schema sql)) None puts_row (Ok (tally, after))
+      → (after.schema ≡ kt_schema) × (after.trees tree ≡ put_row row (without_rowid key (old.now.trees tree)))
+      × ((m : ℕ) → m ≢ tree → after.trees m ≡ old.now.trees m)
+  put_does tally after changed =
+      let text = statement_of sql (understood kt_schema sql) in
+      let does = subst (λ s. Does old.step_limit (mode_of old) params (record old.now { schema = s }) text None puts_row (Ok (tally, after))) has changed in
+      let on = λ (table : Table). OnRows (record { limit = old.step_limit; keys = Enforced; schema = kt_schema; table = table; params = params })
+      (mode_of old) None puts_row old.now.trees in
+      let done = went (subst (λ table. AtPlace on table (Ok (tally, after))) p.at does) in
+      let now = ap (λ (p : Tally × Database). p.1) (same_value (went (went done.2).2).2) in
+      let next = replaces p.name tree p.columns old.step_limit params row key p.numbered p.terms p.width row p.given p.mends p.fixed old.now.trees numbered
+      done.0 done.1 in
+      (ap (λ (d : Database). d.schema) now, ap (λ (d : Database). d.trees tree) now ∙ next.0, λ m apart. ap (λ (d : Database). d.trees m) now ∙ next.1 m apart)
+
+  pub put_ran : (new : State) (count : ℕ) → Executes sql params old new (Ok count) → HasPut tree row key old new
+  put_ran new count h =
+      let w = runs_as sql params old new kt_schema has puts_row p.is p.plain count h in
+      let did = put_does w.tally new.now w.changed in
+      record { shown = w.shown; schema = did.0; rows = did.1; others = did.2; sound = w.sound }
+
+  -- what a stop inside it may commit is what it leaves where it runs to its end
+  pub put_committed : (db : Trees) → IsTrue old.is_open → CommitsBy sql params old db → (new : State) × HasPut tree row key old new × (new.now.trees ≡ db)
+  put_committed db on h = by (commits_as sql params old kt_schema has puts_row p.is p.plain db h)
+    where
+      by : MayCommit old None puts_row (statement_of sql (understood kt_schema sql)) params db
+          → (new : State) × HasPut tree row key old new × (new.now.trees ≡ db)
+      by (inl ends) = absurd (elim ends.0 [ inl is ↦ let e = is in cc | inr it ↦ let e = it.2 in cc ])
+      by (inr w) =
+          let did = put_does w.1 w.2 w.3 in
+          let new : State = record old { now = w.2; committed = w.2; is_open = true } in (
+            new,
+            record {
+              shown = record {
+                was_open = on;
+                is_open = refl;
+                now_is = refl;
+                committed_is = ap (λ b. cond b old.committed w.2) (sym w.0);
+                mode = refl;
+              };
+              schema = did.0;
+              rows = did.1;
+              others = did.2;
+              sound = w.4;
+            },
+            sym w.5,
+          )

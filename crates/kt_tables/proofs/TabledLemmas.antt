@@ -3,10 +3,12 @@ use Rattle.std.proofs.Common.{◌≡◌, ◌≤◌, ℕ, Bool, true, false, ◌&
 use Rattle.std.specs.Prelude.{◌↔◌, ◌⊎◌, IsTrue}
 use Rattle.sqlite.specs.Store.{Ghosts}
 use Rattle.sqlite.specs.Held.{Held, state}
-use Rattle.sqlite.specs.State.{HasCleanDisk, State}
+use Rattle.sqlite.specs.State.{HasCleanDisk, IsLive, State, Survives}
 use Rattle.sqlite_trees.specs.View.{doubt}
 use Rattle.sqlite_trees.proofs.Doubt.{no_doubt, clean_of}
 use Rattle.sqlite.specs.Effect.{Database}
+use Rattle.sqlite.specs.Tree.{Trees}
+use Rattle.sqlite_catalog.specs.Listing.{IsSound}
 use Rattle.kt_tables.specs.Schema.{kt_schema}
 use Rattle.kt_tables.specs.Settled.{IsSettled}
 use Rattle.kt_tables.specs.inner.Looking.{Stays}
@@ -16,6 +18,8 @@ use Rattle.kt_store.specs.Content.{Content, empty_content}
 use Rattle.kt_tables.specs.Made.{IsMade}
 use Rattle.kt_tables.specs.Old.{IsCarried}
 use Rattle.kt_tables.specs.Held.{Tabled, content_of, is_sound, is_sure, IsKept, Lasts}
+use Rattle.kt_tables.specs.Stopped.{StopKeeps, StopLeaves}
+use Rattle.kt_tables.specs.Stored.{IsStoreOf}
 use Rattle.kt_tables.specs.inner.Lasting as Connection
 use Rattle.sqlite_disk.specs.Disk.{MoreFaults}
 use Rattle.kt_tables.proofs.HeldLemmas.{holds_content, empty_content_in, made_ready}
@@ -88,10 +92,19 @@ module _ {S : Type 0} (g : Ghosts S) where
       by (inr more) = absurd (no_more (state g old.conn).faults (state g new.conn).faults (omega (arith, none)) more)
 
   -- a store whose tables were made or tested
-  pub ready_kept : (s : Tabled S) → IsReady (state g s.conn) s.is_trusted → IsTrue s.is_trusted → IsKept g s
-  ready_kept s r trusted =
+  pub ready_kept : (s : Tabled S) → IsReady (state g s.conn) s.is_trusted → IsLive (state g s.conn) → IsTrue s.is_trusted → IsKept g s
+  ready_kept s r live trusted =
       let held = r.trusted.0 trusted in
-      record { settled = r.settled; schema = r.version.schema; holds = subst (Holds (state g s.conn).now.trees) (sym (holds_content held.0 held.1)) held.1 }
+      let db = (state g s.conn).now.trees in
+      record {
+        settled = r.settled;
+        schema = r.version.schema;
+        store = record {
+          lists = subst (λ schema. IsSound schema db) r.version.schema (live r.is_open).0;
+          meta = r.version.meta;
+          holds = subst (Holds db) (sym (holds_content held.0 held.1)) held.1;
+        };
+      }
 
   -- it is honest just where each row is as said
   pub ready_sure : (h : Held S) (trusted : Bool) → HasCleanDisk (state g h) → IsReady (state g h) trusted
@@ -131,7 +144,7 @@ module _ {S : Type 0} (g : Ghosts S) where
         record {
           settled = now.1;
           schema = ap (λ (d : Database). d.schema) now.0 ∙ k.schema;
-          holds = subst (λ (d : Database). Holds d.trees (content_in d.trees)) (sym now.0) k.holds;
+          store = subst (λ (d : Database). IsStoreOf d.trees (content_in d.trees)) (sym now.0) k.store;
         },
       )
 
@@ -140,12 +153,39 @@ module _ {S : Type 0} (g : Ghosts S) where
       → doubt (state g s.conn).is_clean ≤ doubt (state g h).is_clean
       → (HasCleanDisk (state g h) → IsTrue (state g h).is_open → IsTrue (state g s.conn).is_open)
       → (HasCleanDisk (state g h) → IsTrue (is_sure g s) → IsKept g s
-      → IsSettled (state g h) × ((state g h).now.schema ≡ kt_schema) × Holds (state g h).now.trees c)
+      → IsSettled (state g h) × ((state g h).now.schema ≡ kt_schema) × IsStoreOf (state g h).now.trees c)
       → let after : Tabled S = record { conn = h; is_trusted = s.is_trusted } in
       IsTrue (is_sure g after) → IsTrue (is_sure g s) × (content_of g after ≡ c) × IsKept g after
   wrote s h c kept clean opened does sure =
       let is = sure_parts (record { conn = h; is_trusted = s.is_trusted }) sure in
       let was = sure_whole s (record { trusted = is.trusted; is_open = opened is.clean is.is_open; clean = omega (arith, clean, is.clean) }) in
       let done = does is.clean was (kept was) in
-      let same = holds_content c done.2 in
-      (was, same, record { settled = done.0; schema = done.1; holds = subst (Holds (state g h).now.trees) (sym same) done.2 })
+      let same = holds_content c done.2.holds in
+      (was, same, record { settled = done.0; schema = done.1; store = subst (IsStoreOf (state g h).now.trees) (sym same) done.2 })
+
+  -- ---- what a stop leaves, of tables of which it is known what a stop between two calls leaves
+
+  module _ (s : Tabled S) (kept : IsTrue (is_sure g s) → IsKept g s)
+      (settled : (db : Trees) → IsTrue (state g s.conn).is_open → (state g s.conn).may_leave db → db ≡ (state g s.conn).committed.trees) where
+    -- what the tables hold
+    pub rested : IsTrue (is_sure g s) → (db : Trees) → (state g s.conn).may_leave db → IsStoreOf db (content_of g s)
+    rested sure db may =
+        let k = kept sure in
+        let same = settled db (sure_parts s sure).is_open may ∙ sym (ap (λ (d : Database). d.trees) k.settled.same) in
+        subst (λ t. IsStoreOf t (content_of g s)) (sym same) k.store
+
+    -- after a call that commits this or nothing, that or this
+    pub stopped : (t : Tabled S) (Commits : Trees → Type 0) (after : Content) → Survives (state g s.conn) (state g t.conn) Commits
+        → ((db : Trees) → IsTrue (is_sure g s) → IsKept g s → Commits db → IsStoreOf db after) → StopLeaves g s t after
+    stopped t Commits after survives made clean sure db may = elim (survives.crash clean db may) [
+      | inl before ↦ inl (rested sure db before)
+      | inr commits ↦ inr (made db sure (kept sure) commits)
+    ]
+
+    -- after a call that commits nothing, that
+    pub untouched : (t : Tabled S) (Commits : Trees → Type 0) → Survives (state g s.conn) (state g t.conn) Commits
+        → ((db : Trees) → IsKept g s → Commits db → ⊥) → StopKeeps g s t
+    untouched t Commits survives none clean sure db may = elim (survives.crash clean db may) [
+      | inl before ↦ rested sure db before
+      | inr commits ↦ absurd (none db (kept sure) commits)
+    ]

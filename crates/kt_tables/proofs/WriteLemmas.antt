@@ -1,7 +1,8 @@
 -- What a write of one row makes of what the tables hold.
-use Rattle.std.proofs.Common.{◌≡◌, inl, inr, ℕ, ℤ, pos, ltb, Bool, true, false, not, cond, List, [], ◌∷◌, map, filter, Option}
+use Rattle.std.proofs.Common.{◌≡◌, ◌≢◌, inl, inr, ℕ, ℤ, pos, ltb, Bool, true, false, not, cond, List, [], ◌∷◌, map, filter, Option}
 use Rattle.std.proofs.Common.{None, Some, Ok, refl, sym, ap, ap₂, subst, subst₂, ◌∙◌, arith, Ordering, Less, Equal, Greater, int_cmp}
 use Rattle.std.proofs.Common.{IsPermutation}
+use Rattle.std.specs.Prelude.{IsTrue}
 use Rattle.std.specs.List.{AllByRecursion}
 use Rattle.std.specs.Ordering.{match_ordering, int_eq, is_eq}
 use Rattle.std.proofs.lemmas.Bool.{not-true}
@@ -14,11 +15,12 @@ use Rattle.sqlite.specs.Order.{Row}
 use Rattle.sqlite_value.specs.Order.{value_cmp}
 use Rattle.sqlite.specs.Kind.TheVariants.{Integer}
 use Rattle.sqlite.specs.Ops.{unary}
-use Rattle.sqlite_trees.specs.Tree.{IsAscending, rowid, has_rowid, put_row, without_rowid}
+use Rattle.sqlite_trees.specs.Tree.{Trees, IsAscending, rowid, has_rowid, put_row, without_rowid}
+use Rattle.sqlite_catalog.specs.Listing.{IsSound}
 use Rattle.sqlite.specs.Cast.{cast}
 use Rattle.sqlite_rules.specs.Cast.{cast_row}
 use Rattle.sqlite_rules.specs.Lists.{Has}
-use Rattle.sqlite.specs.State.{State, Executes}
+use Rattle.sqlite.specs.State.{State, CommitsBy, Executes}
 use Rattle.sqlite_keyed.specs.Keyed.{insert_by}
 use Rattle.sqlite_keyed.specs.Lists.{without_key}
 use Rattle.sqlite_keyed.proofs.ListLemmas.{filter_all, filter_none, filter_same, filter-map, all_map, all_unmap, all_of, all_both, all_weaker, all-append}
@@ -32,14 +34,15 @@ use Rattle.kt_store.specs.Changes.{storing}
 use Rattle.kt_store.specs.Content.{Content}
 use Rattle.kt_store.proofs.Shared.{placed, IsOrder}
 use Rattle.kt_tables.specs.Schema.{kt_schema, node_table, board_table, meta_table}
-use Rattle.kt_tables.specs.Opened.{this_version}
+use Rattle.kt_tables.specs.Opened.{meta_shown, this_version}
+use Rattle.kt_tables.specs.Stored.{IsStoreOf}
 use Rattle.kt_tables.specs.inner.Text.{put_node_text, put_posted_text}
 use Rattle.kt_tables.specs.Rows.{placing, whole, id_of, instance_value, node_given, posted_given, IsNodeRow, IsPosted, HoldsNodes, HoldsBoard, Holds}
 use Rattle.kt_tables.specs.inner.Showing.{node_stored}
 use Rattle.kt_tables.specs.Rows.{purpose_code, verdict_code}
 use Rattle.kt_tables.specs.inner.Changing.{ChangesTo}
 use Rattle.kt_tables.specs.inner.Showing.{posted_stored}
-use Rattle.kt_tables.proofs.PutLemmas.{AreNumbered, HasPut, PutsInto, put_ran}
+use Rattle.kt_tables.proofs.PutLemmas.{AreNumbered, HasPut, PutsInto, put_committed, put_ran}
 use Rattle.kt_tables.proofs.TableRows.{Table, HoldsAll, nodes_table, posted_table}
 use Rattle.kt_tables.proofs.Texts.{node_terms, posted_terms, put_node_is, put_node_plain, put_posted_is, put_posted_plain}
 
@@ -245,16 +248,51 @@ puts_posted p = record {
   fixed = cast_posted p;
 }
 
-pub node_changes : (r : NodeRow) → IsNodeRow r → (old new : State) (c : Content) (count : ℕ) → old.now.schema ≡ kt_schema → Holds old.now.trees c
-    → Executes put_node_text (node_given r) old new (Ok count) → ChangesTo old new (storing r c)
-node_changes r good old new c count has held h =
-    let put = put_ran (puts_node r) old new count has (numbered_rows nodes_table c.nodes (old.now.trees 0) held.nodes.shown) h in
-    let board = subst (λ (rows : List Row). HoldsBoard rows c.board) (sym (put.others 1 (λ same. absurd cc))) held.board in
-    record { shown = put.shown; schema = put.schema; holds = record { nodes = put_held nodes_table r c.nodes old new good held.nodes put; board = board } }
+-- the tables are those of a store still, which holds this
+changed : (tree : ℕ) (row : Row) (key : ℤ) (old new : State) (c after : Content) → tree ≢ 2 → IsStoreOf old.now.trees c → HasPut tree row key old new
+    → Holds new.now.trees after → ChangesTo old new after
+changed tree row key old new c after apart store put held = record {
+  shown = put.shown;
+  schema = put.schema;
+  store = record {
+    lists = subst (λ s. IsSound s new.now.trees) put.schema put.sound;
+    meta = ap (map meta_shown) (put.others 2 (λ same. apart (sym same))) ∙ store.meta;
+    holds = held;
+  };
+}
 
-pub posted_changes : (p : Posted) → IsPosted p → (old new : State) (c : Content) (count : ℕ) → old.now.schema ≡ kt_schema → Holds old.now.trees c
-    → Executes put_posted_text (posted_given p) old new (Ok count) → ChangesTo old new (placing p c)
-posted_changes p good old new c count has held h =
-    let put = put_ran (puts_posted p) old new count has (numbered_rows posted_table c.board (old.now.trees 1) held.board.shown) h in
-    let nodes = subst (λ (rows : List Row). HoldsNodes rows c.nodes) (sym (put.others 0 (λ same. absurd cc))) held.nodes in
-    record { shown = put.shown; schema = put.schema; holds = record { nodes = nodes; board = put_held posted_table p c.board old new good held.board put } }
+module _ (r : NodeRow) (good : IsNodeRow r) (old : State) (c : Content) (has : old.now.schema ≡ kt_schema) (store : IsStoreOf old.now.trees c) where
+  numbered_nodes : AreNumbered (old.now.trees 0)
+  numbered_nodes = numbered_rows nodes_table c.nodes (old.now.trees 0) store.holds.nodes.shown
+
+  node_put : (new : State) → HasPut 0 (node_stored r) (pos (id_of r.node)) old new → ChangesTo old new (storing r c)
+  node_put new put =
+      let board = subst (λ (rows : List Row). HoldsBoard rows c.board) (sym (put.others 1 (λ same. absurd cc))) store.holds.board in
+      let nodes = put_held nodes_table r c.nodes old new good store.holds.nodes put in
+      changed 0 _ _ old new c (storing r c) (λ same. absurd cc) store put (record { nodes = nodes; board = board })
+
+  pub node_changes : (new : State) (count : ℕ) → Executes put_node_text (node_given r) old new (Ok count) → ChangesTo old new (storing r c)
+  node_changes new count h = node_put new (put_ran (puts_node r) old has numbered_nodes new count h)
+
+  pub node_commits : (db : Trees) → IsTrue old.is_open → CommitsBy put_node_text (node_given r) old db → IsStoreOf db (storing r c)
+  node_commits db on h =
+      let it = put_committed (puts_node r) old has numbered_nodes db on h in
+      subst (λ t. IsStoreOf t (storing r c)) it.2 (node_put it.0 it.1).store
+
+module _ (p : Posted) (good : IsPosted p) (old : State) (c : Content) (has : old.now.schema ≡ kt_schema) (store : IsStoreOf old.now.trees c) where
+  numbered_board : AreNumbered (old.now.trees 1)
+  numbered_board = numbered_rows posted_table c.board (old.now.trees 1) store.holds.board.shown
+
+  posted_put : (new : State) → HasPut 1 (posted_stored p) (pos p.instance) old new → ChangesTo old new (placing p c)
+  posted_put new put =
+      let nodes = subst (λ (rows : List Row). HoldsNodes rows c.nodes) (sym (put.others 0 (λ same. absurd cc))) store.holds.nodes in
+      let board = put_held posted_table p c.board old new good store.holds.board put in
+      changed 1 _ _ old new c (placing p c) (λ same. absurd cc) store put (record { nodes = nodes; board = board })
+
+  pub posted_changes : (new : State) (count : ℕ) → Executes put_posted_text (posted_given p) old new (Ok count) → ChangesTo old new (placing p c)
+  posted_changes new count h = posted_put new (put_ran (puts_posted p) old has numbered_board new count h)
+
+  pub posted_commits : (db : Trees) → IsTrue old.is_open → CommitsBy put_posted_text (posted_given p) old db → IsStoreOf db (placing p c)
+  posted_commits db on h =
+      let it = put_committed (puts_posted p) old has numbered_board db on h in
+      subst (λ t. IsStoreOf t (placing p c)) it.2 (posted_put it.0 it.1).store

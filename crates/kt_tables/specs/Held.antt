@@ -8,7 +8,8 @@ use Rattle.sqlite_disk.specs.Disk.{MoreFaults}
 use Rattle.kt_store.specs.Content.{Content}
 use Rattle.kt_tables.specs.Schema.{kt_schema}
 use Rattle.kt_tables.specs.Settled.{IsSettled}
-use Rattle.kt_tables.specs.Rows.{Holds, content_in}
+use Rattle.kt_tables.specs.Rows.{content_in}
+use Rattle.kt_tables.specs.Stored.{IsStoreOf}
 
 pub record Tabled (S : Type 0) : Type 0 where
   pub conn : Held S
@@ -39,7 +40,7 @@ module _ {S : Type 0} (g : Ghosts S) where
   pub record IsKept (s : Tabled S) : Type 0 where
     pub settled : IsSettled (state g s.conn)
     pub schema : (state g s.conn).now.schema ≡ kt_schema
-    pub holds : Holds (state g s.conn).now.trees (content_of s)
+    pub store : IsStoreOf (state g s.conn).now.trees (content_of s)
 
   -- tables that were sure are so still, unless the disk failed since or did not return what was written
   abbrev pub Lasts : (old new : Tabled S) → Type 0

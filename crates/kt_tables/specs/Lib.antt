@@ -7,4 +7,6 @@ pub mod Reason
 pub mod Rows
 pub mod Schema
 pub mod Settled
+pub mod Stopped
+pub mod Stored
 pub mod inner

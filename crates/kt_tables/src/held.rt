@@ -17,6 +17,7 @@ ghost use Rattle.sqlite.specs.Given.{IsPlain};
 ghost use Rattle.kt_tables.specs.Reason.{HasReason};
 ghost use Rattle.kt_tables.specs.Schema.{kt_schema};
 ghost use Rattle.kt_tables.specs.Held.{content_of, is_sound, is_sure, IsKept, Lasts};
+ghost use Rattle.kt_tables.specs.Stopped.{Answers, StopKeeps, StopLeaves};
 
 use crate::cells::{NodeCells, PostedCells, posted_cells};
 use crate::opened::statement_error;
@@ -69,6 +70,8 @@ impl<S: Alter> Tables<S> {
         requires { HasCleanDisk (state S.Store conn) → IsReady (state S.Store conn) is_trusted }
         ensures { result ≡ record { conn = conn; is_trusted = is_trusted } }
     {
+        // What a connection shows is a database: the clause of its schema tells a proof so.
+        let _ = conn.schema();
         Tables {
             conn,
             is_trusted,
@@ -88,11 +91,21 @@ impl<S: Alter> Tables<S> {
         conn
     }
 
-    /// Where rows take their memory from. Its clause tells a proof what the tables hold while they are sure.
+    /// Where rows take their memory from. Its clauses tell a proof what the tables hold while they are sure, and that a
+    /// stop leaves just that.
     pub fn allocator(&self) -> Global
         ensures kept { IsTrue (is_sure S.Store self.now) → IsKept S.Store self.now }
+        ensures rests { StopKeeps S.Store self.now self.now }
     {
         self.alloc
+    }
+
+    /// Between two calls a stop leaves what the tables hold, while they are sure. There is nothing to do: a caller's proof
+    /// is told so.
+    pub fn rests(&self)
+        ensures rests { StopKeeps S.Store self.now self.now }
+    {
+        let _ = self.allocator();
     }
 
     /// All rows of the answer to a query. Over a connection that is shut none is answered: tables that are sound have
@@ -108,6 +121,8 @@ impl<S: Alter> Tables<S> {
         ensures lasts { Lasts S.Store self.old self.new }
         ensures sure { IsTrue (is_sound S.Store self.new) → OnOk result (IsTrue (is_sure S.Store self.new)) }
         ensures kept { IsTrue (is_sure S.Store self.new) → IsKept S.Store self.new }
+        ensures stop { StopKeeps S.Store self.old self.new }
+        ensures answers { Answers S.Store self.old self.new result }
         ensures trusted { self.new.is_trusted ≡ self.old.is_trusted }
         ensures reason { HasReason (is_sound S.Store self.new) result }
     {
@@ -131,6 +146,8 @@ impl<S: Alter> Tables<S> {
             → OnOk result (content_of S.Store self.new ≡ storing (cells_node cells) (content_of S.Store self.old)) }
         ensures unchanged { IsTrue (is_sure S.Store self.new)
             → OnErr result (content_of S.Store self.new ≡ content_of S.Store self.old) }
+        ensures stop { StopLeaves S.Store self.old self.new (storing (cells_node cells) (content_of S.Store self.old)) }
+        ensures clean { HasCleanDisk (state S.Store self.new.conn) → HasCleanDisk (state S.Store self.old.conn) }
         ensures honest { IsTrue (is_sure S.Store self.new) → IsTrue (is_sure S.Store self.old) }
         ensures lasts { Lasts S.Store self.old self.new }
         ensures trusted { self.new.is_trusted ≡ self.old.is_trusted }
@@ -147,6 +164,8 @@ impl<S: Alter> Tables<S> {
             → OnOk result (content_of S.Store self.new ≡ placing row (content_of S.Store self.old)) }
         ensures unchanged { IsTrue (is_sure S.Store self.new)
             → OnErr result (content_of S.Store self.new ≡ content_of S.Store self.old) }
+        ensures stop { StopLeaves S.Store self.old self.new (placing row (content_of S.Store self.old)) }
+        ensures clean { HasCleanDisk (state S.Store self.new.conn) → HasCleanDisk (state S.Store self.old.conn) }
         ensures honest { IsTrue (is_sure S.Store self.new) → IsTrue (is_sure S.Store self.old) }
         ensures lasts { Lasts S.Store self.old self.new }
         ensures trusted { self.new.is_trusted ≡ self.old.is_trusted }
@@ -154,7 +173,10 @@ impl<S: Alter> Tables<S> {
     {
         match posted_cells(row) {
             Some(cells) => self.write(PUT_POSTED, &cells.params()),
-            None => Err(StoreError::Device),
+            None => {
+                self.rests();
+                Err(StoreError::Device)
+            }
         }
     }
 
@@ -168,6 +190,10 @@ impl<S: Alter> Tables<S> {
             → OnOk result (content_of S.Store self.new ≡ change (content_of S.Store self.old)) }
         ensures unchanged { IsTrue (is_sure S.Store self.new)
             → OnErr result (content_of S.Store self.new ≡ content_of S.Store self.old) }
+        ensures stop { (change : Content → Content)
+            → (IsTrue (is_sure S.Store self.old) → Changes S.Store sql.now (bound params.now) change)
+            → StopLeaves S.Store self.old self.new (change (content_of S.Store self.old)) }
+        ensures clean { HasCleanDisk (state S.Store self.new.conn) → HasCleanDisk (state S.Store self.old.conn) }
         ensures honest { IsTrue (is_sure S.Store self.new) → IsTrue (is_sure S.Store self.old) }
         ensures lasts { Lasts S.Store self.old self.new }
         ensures trusted { self.new.is_trusted ≡ self.old.is_trusted }
@@ -189,6 +215,9 @@ impl<S: Alter> Tables<S> {
             (storing (cells_node cells) (content_of S.Store self.old))) }
         ensures unchanged { IsTrue (is_sure S.Store self.new)
             → OnErr result (content_of S.Store self.new ≡ content_of S.Store self.old) }
+        ensures stop { StopLeaves S.Store self.old self.new
+            (placing posted (storing (cells_node cells) (content_of S.Store self.old))) }
+        ensures clean { HasCleanDisk (state S.Store self.new.conn) → HasCleanDisk (state S.Store self.old.conn) }
         ensures honest { IsTrue (is_sure S.Store self.new) → IsTrue (is_sure S.Store self.old) }
         ensures lasts { Lasts S.Store self.old self.new }
         ensures trusted { self.new.is_trusted ≡ self.old.is_trusted }
@@ -196,7 +225,10 @@ impl<S: Alter> Tables<S> {
     {
         match posted_cells(posted) {
             Some(posted) => self.write_both(&cells, posted),
-            None => Err(StoreError::Device),
+            None => {
+                self.rests();
+                Err(StoreError::Device)
+            }
         }
     }
 
@@ -208,6 +240,10 @@ impl<S: Alter> Tables<S> {
             (storing (cells_node node.now) (content_of S.Store self.old))) }
         ensures unchanged { IsTrue (is_sure S.Store self.new)
             → OnErr result (content_of S.Store self.new ≡ content_of S.Store self.old) }
+        ensures stop { (p : PostedFields) → IsPosted p → SpellsPosted posted p
+            → StopLeaves S.Store self.old self.new
+            (placing p (storing (cells_node node.now) (content_of S.Store self.old))) }
+        ensures clean { HasCleanDisk (state S.Store self.new.conn) → HasCleanDisk (state S.Store self.old.conn) }
         ensures honest { IsTrue (is_sure S.Store self.new) → IsTrue (is_sure S.Store self.old) }
         ensures lasts { Lasts S.Store self.old self.new }
         ensures trusted { self.new.is_trusted ≡ self.old.is_trusted }

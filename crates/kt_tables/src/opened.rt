@@ -8,13 +8,14 @@ ghost use Rattle.sqlite.specs.declared.types.Value.TheVariants.{Int};
 ghost use Rattle.sqlite.specs.Given.{IsPlain};
 ghost use Rattle.sqlite.specs.Held.{state};
 ghost use Rattle.sqlite.specs.Listing.{understood};
-ghost use Rattle.sqlite.specs.State.{HasCleanDisk, Shown};
+ghost use Rattle.sqlite.specs.State.{HasCleanDisk, Shown, Survives};
 ghost use Rattle.sqlite.specs.Tree.{Trees};
-ghost use Rattle.kt_store.specs.Content.{greatest};
+ghost use Rattle.kt_store.specs.Content.{empty_content, greatest};
 ghost use Rattle.kt_tables.specs.Schema.{kt_schema};
 ghost use Rattle.kt_tables.specs.Settled.{IsSettled};
 ghost use Rattle.kt_tables.specs.inner.Looking.{Looks};
 ghost use Rattle.kt_tables.specs.Made.{IsMade};
+ghost use Rattle.kt_tables.specs.Stored.{IsStoreOf};
 ghost use Rattle.kt_tables.specs.Opened.{meta_of, HasNoRow, IsOldVersion, IsThisVersion, IsReady};
 ghost use Rattle.kt_tables.specs.inner.Testing.{key_of, IsRowOf, AreRowsFrom};
 
@@ -189,6 +190,9 @@ pub(crate) fn tested<S: Alter>(alloc: Global, conn: &mut Connection<S>) -> Resul
         → (state S.Store conn.new).now ≡ (state S.Store conn.old).now }
     ensures was_open { HasCleanDisk (state S.Store conn.new)
         → IsTrue (state S.Store conn.new).is_open → IsTrue (state S.Store conn.old).is_open }
+    ensures leaves { HasCleanDisk (state S.Store conn.new) → IsSettled (state S.Store conn.old)
+        → IsThisVersion (state S.Store conn.old).now → (db : Trees) → (state S.Store conn.new).may_leave db
+        → (state S.Store conn.old).may_leave db }
     ensures clean { doubt (state S.Store conn.old).is_clean ≤ doubt (state S.Store conn.new).is_clean }
     ensures named { IfErr result (λ e. (e ≡ StoreError.Memory) ⊎ (e ≡ StoreError.Device)) }
     ensures mode { (state S.Store conn.old).in_transaction ≡ false → (state S.Store conn.new).in_transaction ≡ false }
@@ -222,6 +226,9 @@ pub(crate) fn has_no_row<S: Alter>(conn: &mut Connection<S>) -> Result<bool, Sto
     ensures was_open { HasCleanDisk (state S.Store conn.new)
         → IsTrue (state S.Store conn.new).is_open → IsTrue (state S.Store conn.old).is_open }
     ensures is_open { HasCleanDisk (state S.Store conn.new) → OnOk result (IsTrue (state S.Store conn.new).is_open) }
+    ensures leaves { HasCleanDisk (state S.Store conn.new) → IsSettled (state S.Store conn.old)
+        → (state S.Store conn.old).now.schema ≡ kt_schema → (db : Trees) → (state S.Store conn.new).may_leave db
+        → (state S.Store conn.old).may_leave db }
     ensures clean { doubt (state S.Store conn.old).is_clean ≤ doubt (state S.Store conn.new).is_clean }
     ensures named { IfErr result (λ e. (e ≡ StoreError.Memory) ⊎ (e ≡ StoreError.Device)) }
     ensures mode { (state S.Store conn.old).in_transaction ≡ false → (state S.Store conn.new).in_transaction ≡ false }
@@ -241,6 +248,8 @@ pub(crate) fn raise<S: Alter>(conn: &mut Connection<S>) -> Result<(), StoreError
         → OnErr result ((state S.Store conn.new).now ≡ (state S.Store conn.old).now) }
     ensures was_open { HasCleanDisk (state S.Store conn.new)
         → IsTrue (state S.Store conn.new).is_open → IsTrue (state S.Store conn.old).is_open }
+    ensures survives { IsOldVersion (state S.Store conn.old).now → HasNoRow (state S.Store conn.old).now
+        → Survives (state S.Store conn.old) (state S.Store conn.new) (λ db. IsStoreOf db empty_content) }
     ensures clean { doubt (state S.Store conn.old).is_clean ≤ doubt (state S.Store conn.new).is_clean }
     ensures named { IfErr result (λ e. (e ≡ StoreError.Memory) ⊎ (e ≡ StoreError.Device)) }
     ensures mode { (state S.Store conn.old).in_transaction ≡ false → (state S.Store conn.new).in_transaction ≡ false }
@@ -264,6 +273,8 @@ fn put_version<S: Alter>(conn: &mut Connection<S>) -> Result<(), Error>
     ensures was_open { HasCleanDisk (state S.Store conn.new)
         → IsTrue (state S.Store conn.new).is_open → IsTrue (state S.Store conn.old).is_open }
     ensures ended { conn.new.in_transaction ≡ false }
+    ensures survives { IsOldVersion (state S.Store conn.old).now → HasNoRow (state S.Store conn.old).now
+        → Survives (state S.Store conn.old) (state S.Store conn.new) (λ db. IsStoreOf db empty_content) }
     ensures clean { doubt (state S.Store conn.old).is_clean ≤ doubt (state S.Store conn.new).is_clean }
 {
     let mut tx = conn.transaction();

@@ -15,6 +15,7 @@ ghost use Rattle.kt_tables.specs.Cells.{cells_node, AreSaid};
 ghost use Rattle.kt_tables.specs.Rows.{IsNodeRow, IsPosted};
 ghost use Rattle.kt_tables.specs.inner.Showing.{AreRowsOf};
 ghost use Rattle.kt_tables.specs.Held.{content_of, is_sound, is_sure, Lasts};
+ghost use Rattle.kt_tables.specs.Stopped.{Answers, StopKeeps};
 
 use crate::cells::{NodeCells, with_tentative};
 use crate::firsts::{
@@ -58,6 +59,8 @@ impl<S: Alter> Tables<S> {
             → IfOk result (λ rows. (row : Option NodeFields) × AreRowsOf row rows.items) }
         ensures same { IsTrue (is_sure S.Store self.new) → content_of S.Store self.new ≡ content_of S.Store self.old }
         ensures honest { IsTrue (is_sure S.Store self.new) → IsTrue (is_sure S.Store self.old) }
+        ensures stop { StopKeeps S.Store self.old self.new }
+        ensures answers { Answers S.Store self.old self.new result }
         ensures lasts { Lasts S.Store self.old self.new }
         ensures trusted { self.new.is_trusted ≡ self.old.is_trusted }
         ensures reason { HasReason (is_sound S.Store self.new) result }
@@ -169,14 +172,16 @@ impl<S: Alter> Tables<S> {
             → IfOk result (λ c. cells_node c ≡ row_of (content_of S.Store self.old) node) }
         ensures same { IsTrue (is_sure S.Store self.new) → content_of S.Store self.new ≡ content_of S.Store self.old }
         ensures honest { IsTrue (is_sure S.Store self.new) → IsTrue (is_sure S.Store self.old) }
+        ensures stop { StopKeeps S.Store self.old self.new }
+        ensures answers { Answers S.Store self.old self.new result }
         ensures lasts { Lasts S.Store self.old self.new }
         ensures trusted { self.new.is_trusted ≡ self.old.is_trusted }
         ensures reason { HasReason (is_sound S.Store self.new) result }
     {
+        let alloc = self.allocator();
         let Some(id) = id_of(node) else {
             return Err(StoreError::Device);
         };
-        let alloc = self.allocator();
         let is_trusted = self.is_trusted();
         let rows = self.rows_of(node)?;
         first_cells_of(alloc, id, is_trusted, &rows)
@@ -195,6 +200,8 @@ impl<S: Alter> Tables<S> {
             ≡ record (row_of (content_of S.Store self.old) node) { tentative = taken instance ckpt.now }) }
         ensures same { IsTrue (is_sure S.Store self.new) → content_of S.Store self.new ≡ content_of S.Store self.old }
         ensures honest { IsTrue (is_sure S.Store self.new) → IsTrue (is_sure S.Store self.old) }
+        ensures stop { StopKeeps S.Store self.old self.new }
+        ensures answers { Answers S.Store self.old self.new result }
         ensures lasts { Lasts S.Store self.old self.new }
         ensures trusted { self.new.is_trusted ≡ self.old.is_trusted }
         ensures reason { HasReason (is_sound S.Store self.new) result }
@@ -215,6 +222,8 @@ impl<S: Alter> Tables<S> {
         ensures found { IfOk result (λ o. IfSome o IsPosted) }
         ensures same { IsTrue (is_sure S.Store self.new) → content_of S.Store self.new ≡ content_of S.Store self.old }
         ensures honest { IsTrue (is_sure S.Store self.new) → IsTrue (is_sure S.Store self.old) }
+        ensures stop { StopKeeps S.Store self.old self.new }
+        ensures answers { Answers S.Store self.old self.new result }
         ensures lasts { Lasts S.Store self.old self.new }
         ensures trusted { self.new.is_trusted ≡ self.old.is_trusted }
         ensures reason { HasReason (is_sound S.Store self.new) result }
@@ -255,6 +264,8 @@ impl<S: Alter> Tables<S> {
         ensures within { IfOk result (λ n. n ≤ greatest) }
         ensures same { IsTrue (is_sure S.Store self.new) → content_of S.Store self.new ≡ content_of S.Store self.old }
         ensures honest { IsTrue (is_sure S.Store self.new) → IsTrue (is_sure S.Store self.old) }
+        ensures stop { StopKeeps S.Store self.old self.new }
+        ensures answers { Answers S.Store self.old self.new result }
         ensures lasts { Lasts S.Store self.old self.new }
         ensures trusted { self.new.is_trusted ≡ self.old.is_trusted }
         ensures reason { HasReason (is_sound S.Store self.new) result }

@@ -1,13 +1,16 @@
 //! How tables are made ready for a store.
 
-ghost use Rattle.std.specs.Prelude.{◌≡◌, ◌≢◌, ◌≤◌, false, Err, IfOk, OnOk, OnErr, IsTrue};
+ghost use Rattle.std.specs.Prelude.{◌≡◌, ◌≢◌, ◌⊎◌, ◌≤◌, false, Err, IfOk, OnOk, OnErr, IsTrue};
 ghost use Rattle.sqlite_trees.specs.View.{doubt};
 ghost use Rattle.sqlite.specs.Held.{state};
 ghost use Rattle.sqlite.specs.State.{HasCleanDisk};
+ghost use Rattle.sqlite.specs.Tree.{Trees};
+ghost use Rattle.kt_store.specs.Content.{empty_content};
 ghost use Rattle.kt_tables.specs.Schema.{kt_schema, no_schema};
 ghost use Rattle.kt_tables.specs.Settled.{IsSettled};
 ghost use Rattle.kt_tables.specs.Opened.{HasNoRow, IsOldVersion, IsThisVersion, IsReady};
 ghost use Rattle.kt_tables.specs.Made.{IsMade};
+ghost use Rattle.kt_tables.specs.Stored.{IsStoreOf, IsUnused};
 
 use crate::opened::{Kind, has_no_row, kind_of, raise, statement_error, tested};
 use crate::schema::is_no_schema;
@@ -63,6 +66,10 @@ pub fn readied<S: Alter>(alloc: Global, conn: &mut Connection<S>) -> Result<bool
         → IsOldVersion (state S.Store conn.old).now × (HasNoRow (state S.Store conn.old).now → ⊥) }
     ensures unchanged { HasCleanDisk (state S.Store conn.new) → IsTrue (state S.Store conn.new).is_open
         → OnErr result ((state S.Store conn.new).now ≡ (state S.Store conn.old).now) }
+    // A stop leaves the tables as they were or, where nothing was stored there, those of an empty store.
+    ensures stop { HasCleanDisk (state S.Store conn.new) → IsTrue (state S.Store conn.old).is_open
+        → (db : Trees) → (state S.Store conn.new).may_leave db → (db ≡ (state S.Store conn.old).committed.trees)
+        ⊎ (IsUnused (state S.Store conn.old).now × IsStoreOf db empty_content) }
     ensures ended { conn.new.in_transaction ≡ false }
 {
     // Outside a transaction what is seen is what was committed.
@@ -95,6 +102,11 @@ fn raised<S: Alter>(conn: &mut Connection<S>) -> Result<bool, ReadyError>
         → (IsTrue (state S.Store conn.old).is_open → IsSettled (state S.Store conn.old))
         → IsOldVersion (state S.Store conn.old).now
         → OnErr result ((state S.Store conn.new).now ≡ (state S.Store conn.old).now) }
+    ensures stop { HasCleanDisk (state S.Store conn.new)
+        → (IsTrue (state S.Store conn.old).is_open → IsSettled (state S.Store conn.old))
+        → IsTrue (state S.Store conn.old).is_open → IsOldVersion (state S.Store conn.old).now
+        → (db : Trees) → (state S.Store conn.new).may_leave db → (state S.Store conn.old).may_leave db
+        ⊎ (HasNoRow (state S.Store conn.old).now × IsStoreOf db empty_content) }
     ensures undamaged { result ≢ Err ReadyError.Damaged }
     ensures clean { doubt (state S.Store conn.old).is_clean ≤ doubt (state S.Store conn.new).is_clean }
     ensures mode { (state S.Store conn.old).in_transaction ≡ false → (state S.Store conn.new).in_transaction ≡ false }

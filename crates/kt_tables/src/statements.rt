@@ -8,7 +8,7 @@ ghost use Rattle.sqlite.specs.Values.{bound};
 ghost use Rattle.kt_store.specs.declared.rows.Posted.{Posted as PostedFields};
 ghost use Rattle.kt_tables.specs.Cells.{cells_given};
 ghost use Rattle.kt_tables.specs.inner.Cells.{SpellsPosted};
-ghost use Rattle.kt_tables.specs.inner.Both.{RanBoth};
+ghost use Rattle.kt_tables.specs.inner.Both.{CommitsBoth, RanBoth};
 ghost use Rattle.kt_tables.specs.inner.Lasting.{Lasts};
 
 use crate::cells::{NodeCells, PostedCells};
@@ -62,6 +62,8 @@ pub(crate) fn execute_both<S: Alter>(
     ensures ended { OnErr result (conn.new.in_transaction ≡ false) }
     ensures settled { OnErr result (IsTrue (state S.Store conn.old).is_open
         → (state S.Store conn.old).now ≡ (state S.Store conn.old).committed) }
+    ensures survives { (p : PostedFields) → SpellsPosted posted p
+        → Survives (state S.Store conn.old) (state S.Store conn.new) (CommitsBoth S.Store (cells_given node.now) p conn.old) }
     ensures not_begun { IfOk result (λ done. done ≡ false
         → (conn.new ≡ conn.old) × ((state S.Store conn.old).in_transaction ≡ true)) }
     ensures clean { doubt (state S.Store conn.old).is_clean ≤ doubt (state S.Store conn.new).is_clean }

@@ -3,9 +3,11 @@
 ghost use Rattle.std.specs.Prelude.{◌≡◌, ◌≤◌, false, OnOk, OnErr, IsTrue};
 ghost use Rattle.sqlite_trees.specs.View.{doubt};
 ghost use Rattle.sqlite.specs.Held.{state};
-ghost use Rattle.sqlite.specs.State.{HasCleanDisk};
+ghost use Rattle.sqlite.specs.State.{HasCleanDisk, Survives};
 ghost use Rattle.kt_tables.specs.Schema.{no_schema};
 ghost use Rattle.kt_tables.specs.Made.{IsMade};
+ghost use Rattle.kt_tables.specs.Stored.{IsStoreOf};
+ghost use Rattle.kt_store.specs.Content.{empty_content};
 
 use crate::statements::{PUT_VERSION, run};
 use sqlite::{Alter, Connection, Error};
@@ -31,6 +33,8 @@ pub(crate) fn create_tables<S: Alter>(conn: &mut Connection<S>) -> Result<(), Er
         × IsTrue (state S.Store conn.old).is_open) }
     ensures ended { conn.new.in_transaction ≡ false }
     ensures clean { doubt (state S.Store conn.old).is_clean ≤ doubt (state S.Store conn.new).is_clean }
+    ensures survives { (state S.Store conn.old).now.schema ≡ no_schema
+        → Survives (state S.Store conn.old) (state S.Store conn.new) (λ db. IsStoreOf db empty_content) }
 {
     let mut tx = conn.transaction();
     run(&mut tx, CREATE_NODE, &[])?;

@@ -229,7 +229,7 @@ module _ (s : State) (is : IsReached s) (closed : IsCausallyClosed s.history (pe
   short : (p : NodeId) → IsTrue (is_node s.cast p)
       → all_held s.content (filter (λ q. is_before q p) (nodes_of s.cast)) + permanent_length s.content p < 2 ^ 32
   short p there =
-      let some = some-of (permanent_length s.content) (λ q. is_before q p) p (Rattle.kt_world.proofs.Sums.itself p) (nodes_of s.cast) (among-nodes s.cast p there) in
+      let some = some-of (permanent_length s.content) (λ q. is_before q p) p (Rattle.kt_world.proofs.Sums.not_before_itself p) (nodes_of s.cast) (among-nodes s.cast p there) in
       let all = sums-rise (permanent_length s.content) (λ q. length (line s.history q)) (nodes_of s.cast) (within-reached s is) in
       let together = lines-together (nodes_of s.cast) (scene-rises s.cast) s.history in
       let few = (reached-kept s is).ready.few_notes in

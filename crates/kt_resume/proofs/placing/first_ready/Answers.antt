@@ -3,7 +3,7 @@ use Rattle.std.specs.Prelude.{is_some, IsTrue}
 use Rattle.std.proofs.lemmas.Option.{slice_get_read}
 use Rattle.kt_history.specs.declared.note.Note.{Note}
 use Rattle.kt_resume.specs.Unplaced.{Left}
-use Rattle.kt_resume.specs.Turns.{first_in, next_in, next_at}
+use Rattle.kt_resume.specs.inner.Next.{first_in, next_in, next_at}
 use Rattle.kt_resume.proofs.Turned.{first-found, first-none, first-skips, none-found}
 use Rattle.kt_resume.proofs.placing.first_ready.Goals as goal
 

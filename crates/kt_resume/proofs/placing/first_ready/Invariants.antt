@@ -1,5 +1,5 @@
 use Rattle.std.proofs.Common.{◌≡◌, drop}
-use Rattle.kt_resume.specs.Turns.{first_in}
+use Rattle.kt_resume.specs.inner.Next.{first_in}
 use Rattle.kt_resume.proofs.placing.first_ready.Given as goal
 
 -- none of those that were looked at can be placed

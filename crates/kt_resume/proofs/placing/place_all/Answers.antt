@@ -1,6 +1,7 @@
 use Rattle.std.proofs.Common.{◌≡◌, ◌+◌, true, false, sym, ap, ◌∙◌, subst, None}
 use Rattle.std.specs.Prelude.{if◌then◌else◌}
-use Rattle.kt_resume.specs.Turns.{AreApart, count_left, first_in, nodes_in}
+use Rattle.kt_resume.specs.Turns.{AreApart, count_left, nodes_in}
+use Rattle.kt_resume.specs.inner.Next.{first_in}
 use Rattle.kt_resume.proofs.Turned.{due-more, due-none, none-found}
 use Rattle.kt_resume.proofs.placing.place_all.Goals as goal
 

@@ -2,7 +2,7 @@ use Rattle.std.proofs.Common.{◌≡◌, Option, Some, get_or, slice_get, subst}
 use Rattle.std.specs.Prelude.{is_some, IsTrue}
 use Rattle.std.proofs.lemmas.Option.{slice_get-get_or}
 use Rattle.kt_resume.specs.Unplaced.{Left}
-use Rattle.kt_resume.specs.Turns.{next_at}
+use Rattle.kt_resume.specs.inner.Next.{next_at}
 use Rattle.kt_resume.proofs.Turned.{count-set, nodes-set, ready-within, turned}
 use Rattle.kt_resume.proofs.placing.place_next.Goals as goal
 

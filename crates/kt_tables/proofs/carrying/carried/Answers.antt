@@ -12,7 +12,7 @@ pub put_in_one-requires-clause-rise : goal.put_in_one-requires-clause-rise
 put_in_one-requires-clause-rise g c =
     let content = c.args.store.now.content in
     let olds = c.in_ok-are_old.ensures.these c.if-not-branch.false in
-    let given = cells_for c.nodes.result.now content.nodes c.deref.result.now c.in_ok-cells.cells.items c.nodes.ensures c.deref.ensures.value
+    let given = cells_for c.rows.result.now content.nodes c.deref.result.now c.in_ok-cells.cells.items c.rows.ensures c.deref.ensures.value
     c.in_ok-cells.ensures.value olds.said in
     rise_by_id c.deref.result.now content.nodes given.1 olds.said olds.rise
 
@@ -77,7 +77,7 @@ returns-in-Ok-clause-done g c clean _ =
     let it = to_carry old mid content c.in_ok-are_old.field-0 c.if-not-branch.false clean-1 settled (c.in_ok-are_old.ensures.is_open clean-1)
     c.are_old.ensures.was_open c.are_old.ensures.same (c.in_ok-are_old.ensures.value clean-1 settled) in
     let olds = c.in_ok-are_old.ensures.these c.if-not-branch.false in
-    let given = cells_for c.nodes.result.now content.nodes c.deref.result.now c.in_ok-cells.cells.items c.nodes.ensures c.deref.ensures.value
+    let given = cells_for c.rows.result.now content.nodes c.deref.result.now c.in_ok-cells.cells.items c.rows.ensures c.deref.ensures.value
     c.in_ok-cells.ensures.value olds.said in (
       it.was,
       is_carried content c.deref.result.now mid.now end it.is given.1 given.0
@@ -96,7 +96,7 @@ returns-in-Ok-clause-stop g c clean on db may =
     let it = to_carry old mid content c.in_ok-are_old.field-0 c.if-not-branch.false clean-1 settled (c.in_ok-are_old.ensures.is_open clean-1)
     c.are_old.ensures.was_open c.are_old.ensures.same (c.in_ok-are_old.ensures.value clean-1 settled) in
     let olds = c.in_ok-are_old.ensures.these c.if-not-branch.false in
-    let given = cells_for c.nodes.result.now content.nodes c.deref.result.now c.in_ok-cells.cells.items c.nodes.ensures c.deref.ensures.value
+    let given = cells_for c.rows.result.now content.nodes c.deref.result.now c.in_ok-cells.cells.items c.rows.ensures c.deref.ensures.value
     c.in_ok-cells.ensures.value olds.said in
     stop_leaves old mid end content c.deref.result.now it.is given.1 given.0 (λ t before. g.met.S.Store.settled c.args.conn.now.store t on before)
     (c.are_old.ensures.leaves clean-1 settled)
@@ -114,7 +114,7 @@ returns-clause-stop g c clean on db may =
     let it = to_carry old mid content c.in_ok-are_old.field-0 c.if-not-branch.false clean-1 settled (c.in_ok-are_old.ensures.is_open clean-1)
     c.are_old.ensures.was_open c.are_old.ensures.same (c.in_ok-are_old.ensures.value clean-1 settled) in
     let olds = c.in_ok-are_old.ensures.these c.if-not-branch.false in
-    let given = cells_for c.nodes.result.now content.nodes c.deref.result.now c.in_ok-cells.cells.items c.nodes.ensures c.deref.ensures.value
+    let given = cells_for c.rows.result.now content.nodes c.deref.result.now c.in_ok-cells.cells.items c.rows.ensures c.deref.ensures.value
     c.in_ok-cells.ensures.value olds.said in
     stop_leaves old mid end content c.deref.result.now it.is given.1 given.0 (λ t before. g.met.S.Store.settled c.args.conn.now.store t on before)
     (c.are_old.ensures.leaves clean-1 settled)
@@ -132,7 +132,7 @@ returns-in-Ok-clause-lasts g c clean _ db may =
     let it = to_carry old mid content c.in_ok-are_old.field-0 c.if-not-branch.false clean-1 settled (c.in_ok-are_old.ensures.is_open clean-1)
     c.are_old.ensures.was_open c.are_old.ensures.same (c.in_ok-are_old.ensures.value clean-1 settled) in
     let olds = c.in_ok-are_old.ensures.these c.if-not-branch.false in
-    let given = cells_for c.nodes.result.now content.nodes c.deref.result.now c.in_ok-cells.cells.items c.nodes.ensures c.deref.ensures.value
+    let given = cells_for c.rows.result.now content.nodes c.deref.result.now c.in_ok-cells.cells.items c.rows.ensures c.deref.ensures.value
     c.in_ok-cells.ensures.value olds.said in
     stop_lasts mid end content c.deref.result.now it.is given.1 given.0
     (λ t on left. g.met.S.Store.settled c.put_in_one.new.conn.store t on left)

@@ -28,7 +28,7 @@ returns-then-not-branch-clause-value g c clean settled =
     let is-1 = c.in_ok-holds_nodes.ensures.value clean f.is.schema in (
       λ bad. absurd (false≢true bad),
       λ held. absurd (old_untold old mid one c.args.store.now.content f c.in_ok-holds_nodes.field-0 c.if-not-branch.true
-          (subst (λ (ns : List NodeRow). IsTrue c.in_ok-holds_nodes.field-0 ↔ HoldsOldNodes (mid.now.trees 0) ns) c.nodes.ensures is-1) held),
+          (subst (λ (ns : List NodeRow). IsTrue c.in_ok-holds_nodes.field-0 ↔ HoldsOldNodes (mid.now.trees 0) ns) c.rows.ensures is-1) held),
     )
 
 pub returns-clause-value : goal.returns-clause-value
@@ -45,7 +45,7 @@ returns-clause-value g c clean settled =
     let stays = c.holds_nodes.ensures.looks.stays clean-2 (c.in_ok-holds_nodes.ensures.is_open clean-2) in
     let next = stays.rest f.settled f.is.schema in
     let has = ap (λ (d : Database). d.schema) next.0 ∙ f.is.schema in
-    let nodes = subst (λ (ns : List NodeRow). HoldsOldNodes (mid.now.trees 0) ns) c.nodes.ensures
+    let nodes = subst (λ (ns : List NodeRow). HoldsOldNodes (mid.now.trees 0) ns) c.rows.ensures
     ((c.in_ok-holds_nodes.ensures.value clean-2 f.is.schema).0 c.if-not-branch.false) in
     through_ok c.holds_board.result _ _
     (λ told is-2. old_told old mid one c.args.store.now.content f next.0 nodes told
@@ -54,7 +54,7 @@ returns-clause-value g c clean settled =
 
 pub returns-clause-these : goal.returns-clause-these
 returns-clause-these g c =
-    let olds = subst AreOldRows c.nodes.ensures (c.in_ok-holds_nodes.ensures.these c.if-not-branch.false) in
+    let olds = subst AreOldRows c.rows.ensures (c.in_ok-holds_nodes.ensures.these c.if-not-branch.false) in
     each_ok c.holds_board.result _ (λ told is. olds)
 
 pub returns-clause-is_open : goal.returns-clause-is_open

@@ -2,7 +2,7 @@ use Rattle.std.proofs.Common.{Bool, ◌&&◌, ap, sym, subst, ◌∙◌}
 use Rattle.std.specs.Prelude.{◌↔◌, IsTrue}
 use Rattle.sqlite.specs.Held.{state}
 use Rattle.kt_tables.specs.Opened.{HasNoRow}
-use Rattle.kt_tables.proofs.OpenedLemmas.{no_row_told}
+use Rattle.kt_tables.proofs.OpenedLemmas.{both_leave, no_row_told}
 use Rattle.kt_tables.proofs.Texts.{all_nodes_is, all_posted_is}
 use Rattle.kt_tables.proofs.opened.has_no_row.Goals as goal
 
@@ -30,3 +30,21 @@ returns-else-no_nodes-clause-value g c clean settled has =
     (no_row_told old (state g.S.Store c.answers_nothing.new.conn) last c.in_ok-no_nodes.no_nodes c.in_ok-no_posted.no_posted clean
     (c.in_ok-no_posted.ensures.is_open clean) settled c.answers_nothing.ensures.looks c.answers_nothing-2.ensures.looks has
     c.in_ok-no_nodes.ensures.value c.in_ok-no_posted.ensures.value)
+
+pub returns-in_err-no_nodes-clause-leaves : goal.returns-in_err-no_nodes-clause-leaves
+returns-in_err-no_nodes-clause-leaves g c clean settled has db may = c.answers_nothing.ensures.looks.leaves clean has db may
+
+pub returns-in_err-no_posted-clause-leaves : goal.returns-in_err-no_posted-clause-leaves
+returns-in_err-no_posted-clause-leaves g c clean settled has db may =
+    both_leave (state g.S.Store c.args.conn.now) (state g.S.Store c.answers_nothing.new.conn) (state g.S.Store c.answers_nothing-2.new.conn) clean settled has
+    c.answers_nothing.ensures.looks c.in_ok-no_nodes.ensures.is_open c.answers_nothing-2.ensures.looks db may
+
+pub returns-then-no_nodes-clause-leaves : goal.returns-then-no_nodes-clause-leaves
+returns-then-no_nodes-clause-leaves g c clean settled has db may =
+    both_leave (state g.S.Store c.args.conn.now) (state g.S.Store c.answers_nothing.new.conn) (state g.S.Store c.answers_nothing-2.new.conn) clean settled has
+    c.answers_nothing.ensures.looks c.in_ok-no_nodes.ensures.is_open c.answers_nothing-2.ensures.looks db may
+
+pub returns-else-no_nodes-clause-leaves : goal.returns-else-no_nodes-clause-leaves
+returns-else-no_nodes-clause-leaves g c clean settled has db may =
+    both_leave (state g.S.Store c.args.conn.now) (state g.S.Store c.answers_nothing.new.conn) (state g.S.Store c.answers_nothing-2.new.conn) clean settled has
+    c.answers_nothing.ensures.looks c.in_ok-no_nodes.ensures.is_open c.answers_nothing-2.ensures.looks db may

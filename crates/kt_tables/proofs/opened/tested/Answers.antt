@@ -1,7 +1,7 @@
 use Rattle.std.proofs.Common.{◌∙◌, Bool, ◌&&◌, ap, sym, subst}
 use Rattle.sqlite.specs.Held.{state}
 use Rattle.kt_tables.specs.Opened.{IsReady}
-use Rattle.kt_tables.proofs.OpenedLemmas.{tested_ready}
+use Rattle.kt_tables.proofs.OpenedLemmas.{both_leave, tested_ready}
 use Rattle.kt_tables.proofs.Texts.{all_nodes_is, all_posted_is}
 use Rattle.kt_tables.proofs.opened.tested.Goals as goal
 
@@ -29,3 +29,21 @@ returns-else-are_nodes-clause-ready g c clean settled version =
     c.in_ok-are_nodes.are_nodes c.in_ok-are_posted.are_posted clean (c.in_ok-are_posted.ensures.is_open clean) settled
     c.answers_said.ensures.looks c.answers_said-2.ensures.looks version
     c.in_ok-are_nodes.ensures.value c.in_ok-are_posted.ensures.value)
+
+pub returns-in_err-are_nodes-clause-leaves : goal.returns-in_err-are_nodes-clause-leaves
+returns-in_err-are_nodes-clause-leaves g c clean settled version db may = c.answers_said.ensures.looks.leaves clean version.schema db may
+
+pub returns-in_err-are_posted-clause-leaves : goal.returns-in_err-are_posted-clause-leaves
+returns-in_err-are_posted-clause-leaves g c clean settled version db may =
+    both_leave (state g.S.Store c.args.conn.now) (state g.S.Store c.answers_said.new.conn) (state g.S.Store c.answers_said-2.new.conn) clean settled version.schema
+    c.answers_said.ensures.looks c.in_ok-are_nodes.ensures.is_open c.answers_said-2.ensures.looks db may
+
+pub returns-then-are_nodes-clause-leaves : goal.returns-then-are_nodes-clause-leaves
+returns-then-are_nodes-clause-leaves g c clean settled version db may =
+    both_leave (state g.S.Store c.args.conn.now) (state g.S.Store c.answers_said.new.conn) (state g.S.Store c.answers_said-2.new.conn) clean settled version.schema
+    c.answers_said.ensures.looks c.in_ok-are_nodes.ensures.is_open c.answers_said-2.ensures.looks db may
+
+pub returns-else-are_nodes-clause-leaves : goal.returns-else-are_nodes-clause-leaves
+returns-else-are_nodes-clause-leaves g c clean settled version db may =
+    both_leave (state g.S.Store c.args.conn.now) (state g.S.Store c.answers_said.new.conn) (state g.S.Store c.answers_said-2.new.conn) clean settled version.schema
+    c.answers_said.ensures.looks c.in_ok-are_nodes.ensures.is_open c.answers_said-2.ensures.looks db may

@@ -1,4 +1,4 @@
-use Rattle.std.proofs.Common.{◌∙◌, refl, sym, subst, arith}
+use Rattle.std.proofs.Common.{◌∙◌, inl, inr, refl, sym, subst, arith}
 use Rattle.std.proofs.lemmas.Bool.{false≢true}
 use Rattle.sqlite.specs.Held.{state}
 use Rattle.sqlite.specs.State.{HasCleanDisk}
@@ -34,3 +34,33 @@ returns-clause-made g c clean settled version =
     let same = c.has_no_row.ensures.same clean-1 on-1 was version.schema in
     let none = (c.in_ok-has_no_row.ensures.value clean-1 was version.schema).0 c.if-not-branch.false in
     (refl, none, c.in_ok-raise.ensures.made clean same.1 (subst IsOldVersion (sym same.0) version) (subst HasNoRow (sym same.0) none))
+
+pub returns-then-not-branch-clause-stop : goal.returns-then-not-branch-clause-stop
+returns-then-not-branch-clause-stop g c clean settled on version db may = inl (c.has_no_row.ensures.leaves clean (settled on) version.schema db may)
+
+pub returns-in_err-has_no_row-clause-stop : goal.returns-in_err-has_no_row-clause-stop
+returns-in_err-has_no_row-clause-stop g c clean settled on version db may = inl (c.has_no_row.ensures.leaves clean (settled on) version.schema db may)
+
+pub returns-clause-stop : goal.returns-clause-stop
+returns-clause-stop g c clean settled on version db may =
+    let clean-1 : HasCleanDisk (state g.S.Store c.has_no_row.new.conn) = omega (arith, c.raise.ensures.clean, clean) in
+    let was = settled on in
+    let same = c.has_no_row.ensures.same clean-1 (c.in_ok-has_no_row.ensures.is_open clean-1) was version.schema in
+    let none = (c.in_ok-has_no_row.ensures.value clean-1 was version.schema).0 c.if-not-branch.false in
+    let survives = c.raise.ensures.survives (subst IsOldVersion (sym same.0) version) (subst HasNoRow (sym same.0) none) in
+    elim (survives.crash clean db may) [
+      | inl before ↦ inl (c.has_no_row.ensures.leaves clean-1 was version.schema db before)
+      | inr made ↦ inr (none, made)
+    ]
+
+pub returns-in_err-raise-clause-stop : goal.returns-in_err-raise-clause-stop
+returns-in_err-raise-clause-stop g c clean settled on version db may =
+    let clean-1 : HasCleanDisk (state g.S.Store c.has_no_row.new.conn) = omega (arith, c.raise.ensures.clean, clean) in
+    let was = settled on in
+    let same = c.has_no_row.ensures.same clean-1 (c.in_ok-has_no_row.ensures.is_open clean-1) was version.schema in
+    let none = (c.in_ok-has_no_row.ensures.value clean-1 was version.schema).0 c.if-not-branch.false in
+    let survives = c.raise.ensures.survives (subst IsOldVersion (sym same.0) version) (subst HasNoRow (sym same.0) none) in
+    elim (survives.crash clean db may) [
+      | inl before ↦ inl (c.has_no_row.ensures.leaves clean-1 was version.schema db before)
+      | inr made ↦ inr (none, made)
+    ]

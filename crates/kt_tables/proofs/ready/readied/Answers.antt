@@ -1,4 +1,4 @@
-use Rattle.std.proofs.Common.{◌≡◌, ◌∙◌, sym, subst, arith}
+use Rattle.std.proofs.Common.{◌≡◌, ◌∙◌, sym, subst, arith, inl, inr}
 use Rattle.std.proofs.lemmas.Bool.{false≢true}
 use Rattle.std.specs.Prelude.{IsTrue}
 use Rattle.sqlite.specs.Held.{state}
@@ -152,3 +152,61 @@ returns-in_err-kind_of-clause-unchanged g c clean on =
     let settled : IsTrue old.is_open → IsSettled old =
     was_settled old c.is_autocommit-is_settled.result c.is_autocommit-is_settled.ensures.value c.is_autocommit-is_settled.ensures.settled c.requires in
     each_err _ _ ((c.kind_of.ensures.same clean on (settled (c.kind_of.ensures.looks.stays clean on).was_open)).0)
+
+pub returns-in-Ok-clause-stop : goal.returns-in-Ok-clause-stop
+returns-in-Ok-clause-stop g c clean on db may =
+    let none = sym c.schema.ensures.value ∙ c.is_no_schema.ensures.0 c.if-is_no_schema.true in
+    elim ((c.create_tables.ensures.survives none).crash clean db may) [
+      | inl before ↦ inl (g.met.S.Store.settled c.args.conn.now.store db on before)
+      | inr made ↦ inr (inl none, made)
+    ]
+
+pub returns-in-Err-clause-stop : goal.returns-in-Err-clause-stop
+returns-in-Err-clause-stop g c clean on db may =
+    let none = sym c.schema.ensures.value ∙ c.is_no_schema.ensures.0 c.if-is_no_schema.true in
+    elim ((c.create_tables.ensures.survives none).crash clean db may) [
+      | inl before ↦ inl (g.met.S.Store.settled c.args.conn.now.store db on before)
+      | inr made ↦ inr (inl none, made)
+    ]
+
+pub returns-in-Other-clause-stop : goal.returns-in-Other-clause-stop
+returns-in-Other-clause-stop g c clean on db may = inl (g.met.S.Store.settled c.args.conn.now.store db on (c.kind_of.ensures.leaves clean db may))
+
+pub returns-in_err-kind_of-clause-stop : goal.returns-in_err-kind_of-clause-stop
+returns-in_err-kind_of-clause-stop g c clean on db may = inl (g.met.S.Store.settled c.args.conn.now.store db on (c.kind_of.ensures.leaves clean db may))
+
+pub returns-in_ok-tested-in-This-clause-stop : goal.returns-in_ok-tested-in-This-clause-stop
+returns-in_ok-tested-in-This-clause-stop g c clean on db may =
+    let old = state g.S.Store c.args.conn.now in
+    let settled : IsTrue old.is_open → IsSettled old =
+    was_settled old c.is_autocommit-is_settled.result c.is_autocommit-is_settled.ensures.value c.is_autocommit-is_settled.ensures.settled c.requires in
+    let mid = state g.S.Store c.kind_of.new.conn in
+    let clean-1 : HasCleanDisk mid = omega (arith, c.tested.ensures.clean, clean) in
+    let f = found this_version old mid c.kind_of.ensures.looks clean-1 (c.in_ok-kind_of.ensures.is_open clean-1) settled
+    ((c.in_ok-kind_of.ensures.this clean-1).0 c.in-This.is) in
+    inl (g.met.S.Store.settled c.args.conn.now.store db on (c.kind_of.ensures.leaves clean-1 db (c.tested.ensures.leaves clean f.settled f.is db may)))
+
+pub returns-in_err-tested-in-This-clause-stop : goal.returns-in_err-tested-in-This-clause-stop
+returns-in_err-tested-in-This-clause-stop g c clean on db may =
+    let old = state g.S.Store c.args.conn.now in
+    let settled : IsTrue old.is_open → IsSettled old =
+    was_settled old c.is_autocommit-is_settled.result c.is_autocommit-is_settled.ensures.value c.is_autocommit-is_settled.ensures.settled c.requires in
+    let mid = state g.S.Store c.kind_of.new.conn in
+    let clean-1 : HasCleanDisk mid = omega (arith, c.tested.ensures.clean, clean) in
+    let f = found this_version old mid c.kind_of.ensures.looks clean-1 (c.in_ok-kind_of.ensures.is_open clean-1) settled
+    ((c.in_ok-kind_of.ensures.this clean-1).0 c.in-This.is) in
+    inl (g.met.S.Store.settled c.args.conn.now.store db on (c.kind_of.ensures.leaves clean-1 db (c.tested.ensures.leaves clean f.settled f.is db may)))
+
+pub returns-in-Old-clause-stop : goal.returns-in-Old-clause-stop
+returns-in-Old-clause-stop g c clean on db may =
+    let old = state g.S.Store c.args.conn.now in
+    let settled : IsTrue old.is_open → IsSettled old =
+    was_settled old c.is_autocommit-is_settled.result c.is_autocommit-is_settled.ensures.value c.is_autocommit-is_settled.ensures.settled c.requires in
+    let mid = state g.S.Store c.kind_of.new.conn in
+    let clean-1 : HasCleanDisk mid = omega (arith, c.raised.ensures.clean, clean) in
+    let f = found old_version old mid c.kind_of.ensures.looks clean-1 (c.in_ok-kind_of.ensures.is_open clean-1) settled
+    ((c.in_ok-kind_of.ensures.old clean-1).0 c.in-Old.is) in
+    elim (c.raised.ensures.stop clean (λ _. f.settled) (c.in_ok-kind_of.ensures.is_open clean-1 f.was.schema) f.is db may) [
+      | inl before ↦ inl (g.met.S.Store.settled c.args.conn.now.store db on (c.kind_of.ensures.leaves clean-1 db before))
+      | inr made ↦ inr (inr (f.was, subst HasNoRow f.same made.0), made.1)
+    ]

@@ -1,10 +1,13 @@
-use Rattle.std.proofs.Common.{◌≡◌, ◌∙◌, true, ap, subst}
+use Rattle.std.proofs.Common.{◌≡◌, ◌∙◌, true, sym, ap, subst, arith}
 use Rattle.sqlite.specs.Held.{state}
-use Rattle.sqlite.specs.State.{Shown}
+use Rattle.sqlite.specs.State.{HasCleanDisk, Shown}
+use Rattle.sqlite.specs.Listing.{understood}
+use Rattle.sqlite.proofs.Callers.{IsPlain, never_commits}
 use Rattle.sqlite.specs.Values.{bound}
 use Rattle.kt_tables.specs.Held.{Lasts, Tabled, is_sure}
+use Rattle.kt_tables.specs.Stopped.{StopKeeps}
 use Rattle.kt_tables.proofs.StateLemmas.{query_open, query_refused_stays, query_stays}
-use Rattle.kt_tables.proofs.TabledLemmas.{lasted, sound_sure, stayed, sure_parts}
+use Rattle.kt_tables.proofs.TabledLemmas.{lasted, sound_sure, stayed, sure_parts, sure_whole, untouched}
 use Rattle.kt_tables.proofs.held.Tables.ask.Goals as goal
 use Rattle.kt_tables.proofs.held.Tables.ask.Goals.{in-Ok, in-Err}
 
@@ -84,3 +87,32 @@ returns-clause-sure g c sound =
           (λ clean. query_open c.args.sql.now (bound c.args.params.now) _ _ w.in-Ok.rows.items (w.in-Ok.ensures.ok clean)))
       | in-Err w ↦ rw w.result-is tt
     ]
+
+pub returns-clause-answers : goal.returns-clause-answers
+returns-clause-answers g c clean =
+    let s : Tabled _ = record { conn = c.self.inside.conn; is_trusted = c.self.inside.is_trusted } in
+    let now : Tabled _ = record { conn = c.query_all.new.self; is_trusted = c.self.inside.is_trusted } in
+    let was : HasCleanDisk (state g.S.Store s.conn) = omega (arith, c.query_all.ensures.survives.clean, clean) in (
+      subst (λ (t : Tabled _). HasCleanDisk (state g.S.Store t.conn)) c.self.view_is was,
+      λ sure.
+          let trusted = (sure_parts g.S.Store s (subst (λ (t : Tabled _). is_sure g.S.Store t ≡ true) (sym c.self.view_is) sure)).trusted in
+          elim c.match-query_all.branch [
+            | in-Ok w ↦
+                rw w.result-is
+                (sure_whole g.S.Store now (record {
+                  trusted = trusted;
+                  is_open = query_open c.args.sql.now (bound c.args.params.now) _ _ w.in-Ok.rows.items (w.in-Ok.ensures.ok clean);
+                  clean = clean;
+                }))
+            | in-Err w ↦ rw w.result-is tt
+          ],
+    )
+
+pub returns-clause-stop : goal.returns-clause-stop
+returns-clause-stop g c =
+    let s : Tabled _ = record { conn = c.self.inside.conn; is_trusted = c.self.inside.is_trusted } in
+    let now : Tabled _ = record { conn = c.query_all.new.self; is_trusted = c.self.inside.is_trusted } in
+    subst (λ (t : Tabled _). StopKeeps g.S.Store t now) c.self.view_is
+    (untouched g.S.Store s c.self.invariant (λ db on may. g.met.S.Store.settled c.self.inside.conn.store db on may) now _ c.query_all.ensures.survives
+    (λ db k commits. never_commits c.args.sql.now (bound c.args.params.now) (state g.S.Store s.conn) db
+    (subst (λ schema. IsPlain (understood schema c.args.sql.now)) (sym k.schema) c.requires) commits))

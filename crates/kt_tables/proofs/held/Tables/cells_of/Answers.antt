@@ -4,7 +4,7 @@ use Rattle.kt_tuple.specs.Node.{node_eq}
 use Rattle.kt_store.specs.declared.rows.NodeRow.{NodeRow}
 use Rattle.kt_tables.specs.Cells.{AreSaid}
 use Rattle.kt_tables.specs.Held.{content_of, is_sound}
-use Rattle.kt_tables.proofs.AnswerLemmas.{read_reason, through_ok}
+use Rattle.kt_tables.proofs.AnswerLemmas.{each_on, read_reason, through_ok}
 use Rattle.kt_tables.proofs.CellLemmas.{gives_row}
 use Rattle.kt_tables.proofs.held.Tables.cells_of.Goals as goal
 
@@ -32,3 +32,6 @@ returns-clause-reason g c =
     let shown = found.1 in
     let first = c.first_cells_of.ensures.exact o shown.1 (ap (λ rows. slice_get rows 0) c.deref.ensures.value ∙ shown.0) in
     (gives_row c.args.node c.in-Some.id o c.first_cells_of.result c.in-Some.ensures.0 c.in-Some.ensures.1 shown.1 first).1)
+
+pub returns-clause-answers : goal.returns-clause-answers
+returns-clause-answers g c clean = let it = c.in_ok-rows.ensures.answers clean in (it.0, λ sure. each_on c.first_cells_of.result _ (it.1 sure))

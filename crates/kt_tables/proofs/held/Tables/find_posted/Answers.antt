@@ -5,7 +5,7 @@ use Rattle.kt_tables.specs.inner.Text.{get_posted_text}
 use Rattle.kt_tables.specs.Rows.{whole}
 use Rattle.kt_tables.specs.Held.{is_sound}
 use Rattle.kt_tables.proofs.Texts.{get_posted_is}
-use Rattle.kt_tables.proofs.AnswerLemmas.{gives_value, gives_memory, read_reason, posted_read, no_posted_read}
+use Rattle.kt_tables.proofs.AnswerLemmas.{each_on, gives_value, gives_memory, read_reason, posted_read, no_posted_read}
 use Rattle.kt_tables.proofs.held.Tables.find_posted.Goals as goal
 
 pub ask-requires : goal.ask-requires
@@ -34,3 +34,6 @@ returns-clause-reason g c =
     let read = posted_read g.S.Store c.args.self.now c.ask.new.self (c.in_ok-rows.ensures.kept sure)
     (c.in_ok-rows.ensures.same sure) c.args.instance c.in_ok-rows.rows.items shown in
     gives_memory _ c.first_of.result (c.first_of.ensures.exact _ read.1 (ap (λ rows. slice_get rows 0) c.deref.ensures.value ∙ read.0)))
+
+pub returns-clause-answers : goal.returns-clause-answers
+returns-clause-answers g c clean = let it = c.in_ok-rows.ensures.answers clean in (it.0, λ sure. each_on c.first_of.result _ (it.1 sure))

@@ -12,3 +12,8 @@ pub returns-clause-written : goal.returns-clause-written
 returns-clause-written g c =
     c.write.ensures.written (storing (cells_node c.args.cells))
     (λ sure. cells_change g.S.Store (bound c.params.result) c.args.cells c.params.ensures (c.requires sure))
+
+pub returns-clause-stop : goal.returns-clause-stop
+returns-clause-stop g c =
+    c.write.ensures.stop (storing (cells_node c.args.cells))
+    (λ sure. cells_change g.S.Store (bound c.params.result) c.args.cells c.params.ensures (c.requires sure))

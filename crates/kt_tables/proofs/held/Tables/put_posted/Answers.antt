@@ -13,3 +13,9 @@ returns-in-Some-clause-written g c =
     let good = c.in-Some.ensures in
     c.write.ensures.written (placing c.args.row)
     (λ _. posted_change g.S.Store (bound c.params.result) c.args.row (c.params.ensures c.args.row good.1) good.0)
+
+pub returns-in-Some-clause-stop : goal.returns-in-Some-clause-stop
+returns-in-Some-clause-stop g c =
+    let good = c.in-Some.ensures in
+    c.write.ensures.stop (placing c.args.row)
+    (λ _. posted_change g.S.Store (bound c.params.result) c.args.row (c.params.ensures c.args.row good.1) good.0)

@@ -1,13 +1,17 @@
-use Rattle.std.proofs.Common.{◌≡◌, ◌∙◌, true, sym, ap, subst}
+use Rattle.std.proofs.Common.{◌≡◌, ◌∙◌, true, sym, ap, subst, arith}
 use Rattle.std.specs.Prelude.{IsTrue}
-use Rattle.sqlite.specs.Held.{Held}
+use Rattle.sqlite.specs.Held.{Held, state}
+use Rattle.sqlite.specs.State.{HasCleanDisk}
 use Rattle.kt_store.specs.Changes.{storing}
+use Rattle.kt_store.specs.Content.{Content}
 use Rattle.kt_tables.specs.Rows.{placing}
 use Rattle.kt_tables.specs.Cells.{cells_node, AreSaid}
 use Rattle.kt_tables.specs.Held.{Lasts, Tabled, is_sure, content_of, IsKept}
 use Rattle.kt_tables.proofs.StateLemmas.{undone_stays}
-use Rattle.kt_tables.proofs.AnswerLemmas.{both_wrote, neither_wrote}
-use Rattle.kt_tables.proofs.TabledLemmas.{lasted}
+use Rattle.kt_tables.specs.Stopped.{StopLeaves}
+use Rattle.kt_tables.specs.Stored.{IsStoreOf}
+use Rattle.kt_tables.proofs.AnswerLemmas.{both_put, both_wrote, neither_wrote}
+use Rattle.kt_tables.proofs.TabledLemmas.{lasted, stopped}
 use Rattle.kt_tables.proofs.held.Tables.write_both.Goals as goal
 use Rattle.kt_tables.proofs.held.Tables.write_both.Goals.{in-Ok-true, in-Ok-false, in-Err}
 
@@ -87,3 +91,20 @@ returns-clause-lasts g c =
     let now : Tabled _ = record { conn = c.execute_both.new.conn; is_trusted = c.self.inside.is_trusted } in
     subst (λ (t : Tabled _). Lasts g.S.Store t now) c.self.view_is
     (lasted g.S.Store s c.execute_both.new.conn c.execute_both.ensures.lasts)
+
+pub returns-clause-stop : goal.returns-clause-stop
+returns-clause-stop g c p fine posted =
+    let s : Tabled _ = record { conn = c.self.inside.conn; is_trusted = c.self.inside.is_trusted } in
+    let now : Tabled _ = record { conn = c.execute_both.new.conn; is_trusted = c.self.inside.is_trusted } in
+    let are = subst (λ (s : Tabled _). is_sure g.S.Store s ≡ true → AreSaid c.args.node.now) (sym c.self.view_is) c.requires.node in
+    let after : Tabled _ → Content = λ t. placing p (storing (cells_node c.args.node.now) (content_of g.S.Store t)) in
+    subst (λ (t : Tabled _). StopLeaves g.S.Store t now (after t)) c.self.view_is
+    (stopped g.S.Store s c.self.invariant (λ db on may. g.met.S.Store.settled c.self.inside.conn.store db on may) now _ (after s)
+    (c.execute_both.ensures.survives p posted)
+    (λ db sure k commits. subst (λ t. IsStoreOf t (after s)) (sym commits.1)
+    (both_put g.S.Store c.args.node.now p s.conn (content_of g.S.Store s) (are sure) fine k.schema k.store commits.0).1))
+
+pub returns-clause-clean : goal.returns-clause-clean
+returns-clause-clean g c clean =
+    let was : HasCleanDisk (state g.S.Store c.self.inside.conn) = omega (arith, c.execute_both.ensures.clean, clean) in
+    subst (λ (t : Tabled _). HasCleanDisk (state g.S.Store t.conn)) c.self.view_is was

@@ -1,0 +1,19 @@
+-- The note that is placed next, of acts that are left.
+use Rattle.std.specs.Prelude.{List, [], ◌∷◌, slice_get, Option, None, Some}
+use Rattle.kt_history.specs.declared.note.Note.{Note}
+use Rattle.kt_world.specs.Placing.{note_of, or_else}
+use Rattle.kt_resume.specs.Unplaced.{Left}
+
+-- the note of the next act of these, if its cause is placed
+abbrev pub next_in : List Note → Left → Option Note
+next_in h x = note_of h x.node (slice_get x.acts 0)
+
+-- that of the first list whose next act can be placed
+unfoldable pub first_in : List Note → List Left → Option Note
+first_in h [] = None
+first_in h (x ∷ later) = or_else (next_in h x) (first_in h later)
+
+-- that of a list, if there is one
+abbrev pub next_at : List Note → Option Left → Option Note
+next_at h None = None
+next_at h (Some x) = next_in h x
