@@ -9,7 +9,7 @@ use Rattle.kt_tables.specs.Stored.{IsStoreOf}
 use Rattle.kt_tables.specs.declared.ready.ReadyError.{ReadyError}
 use Rattle.kt_tables.specs.Schema.{no_schema}
 use Rattle.kt_tables.specs.Opened.{HasNoRow, IsOldVersion}
-use Rattle.kt_tables.specs.Rows.{AreAsSaid, Holds, content_in}
+use Rattle.kt_tables.specs.Rows.{AreAsSaid, Holds}
 use Rattle.kt_tables.specs.Held.{Tabled, is_sure, content_of}
 use Rattle.kt_tables.proofs.Shared.{holds_content, made_fresh, one_version, ready_sure, store_version}
 use Rattle.kt_sql.proofs.OpenLemmas.{only_two}
