@@ -7,18 +7,10 @@
 //! - Begin in: `placing.rt`.
 #![tactic(auto)]
 
-mod found;
-mod judging;
-mod lines;
 mod placing;
-mod shard;
 mod unplaced;
 mod worker;
 
-pub use found::Found;
-pub use judging::first_unfit;
-pub use lines::history_of;
 pub use placing::place_all;
-pub use shard::{Remade, remake_shard};
 pub use unplaced::Unplaced;
 pub use worker::remake_worker;
