@@ -1,2 +1,3 @@
 pub mod Unplaced
 pub mod Turns
+pub mod Found

@@ -39,3 +39,7 @@ first_in h (x ∷ later) = or_else (next_in h x) (first_in h later)
 abbrev pub next_at : List Note → Option Left → Option Note
 next_at h None = None
 next_at h (Some x) = next_in h x
+
+-- all that the node did, of which nothing is placed
+abbrev pub line_of : Acts → NodeId → Left
+line_of acts p = record { node = p; acts = acts p }

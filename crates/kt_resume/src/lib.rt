@@ -7,10 +7,15 @@
 //! - Begin in: `placing.rt`.
 #![tactic(auto)]
 
+mod found;
+mod lines;
 mod placing;
+mod scene;
 mod unplaced;
 mod worker;
 
+pub use found::Found;
+pub use lines::history_of;
 pub use placing::place_all;
 pub use unplaced::Unplaced;
 pub use worker::remake_worker;
