@@ -47,11 +47,11 @@ checkpoint_in (Some f) = f.checkpoint
 pub permanent-found : (found : List Found) (p : NodeId) (o : Option Found) → found_of found p ≡ o → permanent_of (content_of found) p ≡ checkpoint_in o
 permanent-found found p o is =
     ap (λ (r : NodeRow). permanent_by (verdict_on (content_of found) r.tentative) r.tentative r.permanent) (row-found found p o is) ∙ by o where
-  by : (o : Option Found)
-      → permanent_by (verdict_on (content_of found) (row_or p (option_map row_from o)).tentative) (row_or p (option_map row_from o)).tentative (row_or p (option_map row_from o)).permanent
-      ≡ checkpoint_in o
-  by None = refl
-  by (Some f) = refl
+      by : (o : Option Found)
+          → permanent_by (verdict_on (content_of found) (row_or p (option_map row_from o)).tentative) (row_or p (option_map row_from o)).tentative (row_or p (option_map row_from o)).permanent
+          ≡ checkpoint_in o
+      by None = refl
+      by (Some f) = refl
 
 -- nothing of it is tentative
 pub tentative-none : (found : List Found) (p : NodeId) → (row_of (content_of found) p).tentative ≡ None
@@ -86,10 +86,12 @@ apart-rising [] rise = tt
 apart-rising (p ∷ later) rise = (others later rise.0, apart-rising later rise.1) where
   others : (xs : List NodeId) → AllByRecursion (λ q. is_before p q ≡ true) xs → AllByRecursion (λ q. q ≢ p) xs
   others [] all = tt
-  others (q ∷ xs) all =
-      (λ e. let back : is_before p p ≡ true = subst (λ n. is_before p n ≡ true) e all.0 in
-      let apart : true ≡ false = sym back ∙ not_before_itself p in
-      absurd (cc (apart)), others xs all.1)
+  others (q ∷ xs) all = (
+    λ e. let back : is_before p p ≡ true = subst (λ n. is_before p n ≡ true) e all.0 in
+        let apart : true ≡ false = sym back ∙ not_before_itself p in
+        absurd (cc (apart)),
+    others xs all.1,
+  )
 
 pub line-is : (acts : Acts) (p : NodeId) (x : Left) → x.node ≡ p → x.acts ≡ acts p → x ≡ line_of acts p
 line-is acts p x node same = λ i. record { node = node i; acts = same i }

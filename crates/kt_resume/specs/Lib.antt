@@ -1,3 +1,5 @@
 pub mod Unplaced
 pub mod Turns
 pub mod Found
+pub mod Sense
+pub mod Labels

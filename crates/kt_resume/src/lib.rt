@@ -1,16 +1,21 @@
-//! What a resumed world is made of again: the history of the acts that checkpoints hold.
+//! What a resumed world is made of again: the history of the acts that checkpoints hold, and whether all fits the scene.
 //!
-//! - Contract: what is placed is the history that `Placing` of kt_world defines (`place_all`, clause `placed`).
+//! - Contract: the history is the one that `Resumed` of kt_world defines for what was found (`history_of`, clause
+//!   `notes`), and a node is named as unfit just where what was found of it is not what a world of the scene leaves
+//!   (`first_unfit`, clauses `none` and `first`).
 //! - Stands on: kt_tuple, kt_script, kt_space, kt_link, kt_shard, kt_worker, kt_history, kt_ckpt, kt_store, kt_lines,
 //!   kt_node, kt_world
 //! - Used by: kt_core
-//! - Begin in: `placing.rt`.
+//! - Begin in: `found.rt`, then `judging.rt`; `placing.rt` places the acts.
 #![tactic(auto)]
 
 mod found;
+mod labels;
 mod lines;
+mod parts;
 mod placing;
 mod scene;
+mod sense;
 mod unplaced;
 mod worker;
 

@@ -1,4 +1,4 @@
-use Rattle.std.proofs.Common.{◌≡◌, None, Some, sym, ◌∙◌}
+use Rattle.std.proofs.Common.{None, Some, sym, ◌∙◌}
 use Rattle.kt_resume.proofs.Founds.{permanent-found}
 use Rattle.kt_resume.proofs.found.checkpoint_of.Goals as goal
 

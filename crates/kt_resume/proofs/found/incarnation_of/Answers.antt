@@ -1,4 +1,4 @@
-use Rattle.std.proofs.Common.{◌≡◌, ap, None, Some, sym}
+use Rattle.std.proofs.Common.{ap, None, Some, sym}
 use Rattle.kt_store.specs.declared.rows.NodeRow.{NodeRow}
 use Rattle.kt_resume.proofs.Founds.{row-found}
 use Rattle.kt_resume.proofs.found.incarnation_of.Goals as goal
