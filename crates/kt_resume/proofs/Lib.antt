@@ -4,3 +4,4 @@ pub mod Senses
 pub mod Founds
 pub mod Links
 pub mod Rooms
+pub mod Fits

@@ -3,3 +3,6 @@ pub mod Turns
 pub mod Found
 pub mod Sense
 pub mod Labels
+pub mod Remade
+pub mod Suits
+pub mod Judging

@@ -10,17 +10,24 @@
 #![tactic(auto)]
 
 mod found;
+mod judging;
 mod labels;
+mod leads;
 mod lines;
 mod parts;
 mod placing;
 mod scene;
 mod sense;
+mod shard;
+mod suits;
 mod unplaced;
 mod worker;
 
 pub use found::Found;
+pub use judging::{first_unfit, is_fit};
 pub use lines::history_of;
 pub use placing::place_all;
+pub use shard::{Remade, remake_shard};
+pub use suits::{suits_shard, suits_worker};
 pub use unplaced::Unplaced;
 pub use worker::remake_worker;
