@@ -239,11 +239,11 @@ shard-told cast node name stored x h (Ok leads) is same told = λ few.
 -- a shard that was made again, and was compared with what is stored
 pub shard-suited : (shards workers name : ℕ) (acts : List Act) (stored : ShardFields) (remade : RemadeShard) (r : Result Bool AllocError)
     → ShardLine shards name new_shard acts → IsRemade (shard_of_acts new_shard acts) remade
-    → IfOk r (λ (suits : Bool). (scripts : List (List Command)) (made : MadeShard) → length scripts ≡ workers → IsRemade made remade
-    → (IsTrue suits ↔ SuitsShard scripts made stored))
+    → ((scripts : List (List Command)) (made : MadeShard) → length scripts ≡ workers → IsRemade made remade
+    → IfOk r (λ (suits : Bool). IsTrue suits ↔ SuitsShard scripts made stored))
     → IfOk r (λ (leads : Bool). (cast : Cast) → cast.shards ≡ shards → length cast.scripts ≡ workers → All (λ (a : Act). a.worker < desks) acts
     → (IsTrue leads ↔ LeadsTo cast (ids.Shard name) acts (saved.Shard stored)))
-shard-suited shards workers name acts stored remade (Err e) legal is told = told
+shard-suited shards workers name acts stored remade (Err e) legal is told = tt
 shard-suited shards workers name acts stored remade (Ok suits) legal is told = λ cast same many few.
     let both = told cast.scripts (shard_of_acts new_shard acts) many is in
     let own : ShardLine cast.shards name new_shard acts = subst (λ n. ShardLine n name new_shard acts) (sym same) legal in

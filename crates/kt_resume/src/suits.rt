@@ -28,8 +28,8 @@ pub fn suits_shard(
     stored: &ShardState,
     remade: Remade,
 ) -> Result<bool, AllocError>
-    ensures { IfOk result (λ suits. (scripts : List (List Command)) (made : MadeShard)
-        → length scripts ≡ workers → IsRemade made remade → IsTrue suits ↔ SuitsShard scripts made stored.now) }
+    ensures { (scripts : List (List Command)) (made : MadeShard) → length scripts ≡ workers → IsRemade made remade
+        → IfOk result (λ suits. IsTrue suits ↔ SuitsShard scripts made stored.now) }
 {
     Ok(false)
 }
