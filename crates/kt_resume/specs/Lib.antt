@@ -1,2 +1,4 @@
 pub mod Unplaced
 pub mod Turns
+pub mod Remade
+pub mod Suits
