@@ -1,8 +1,8 @@
 -- A list of what workers have, by rising worker.
-use Rattle.std.proofs.Common.{◌≡◌, ℕ, zero, suc, ◌+◌, ◌<◌, ◌≤◌, Bool, IsTrue, List, [], ◌∷◌, ◌++◌, length, refl, sym, ap, ◌∙◌, arith}
-use Rattle.std.specs.Prelude.{◌↔◌}
+use Rattle.std.proofs.Common.{◌≡◌, ℕ, zero, suc, ◌+◌, ◌<◌, ◌≤◌, Bool, IsTrue, List, [], ◌∷◌, ◌++◌, length, refl, sym, ap, ◌∙◌, arith, eq-eqb, eqb-true}
+use Rattle.std.specs.Prelude.{◌==◌, ◌↔◌}
 use Rattle.std.specs.List.{flat_map}
-use Rattle.std.proofs.lemmas.List.{append-nil, append_assoc, append_cancel_left}
+use Rattle.std.proofs.lemmas.List.{append-nil, append_assoc, append_cancel_left, nil_from_length}
 use Rattle.kt_node.specs.Labels.{numbers}
 use Rattle.kt_node.proofs.Numbers.{flat_from_one}
 
@@ -41,6 +41,10 @@ listed-apart f n m listed rest lt is other whole =
     distance n zero lt = absurd (omega arith)
     distance zero (suc m) lt = (m, omega arith)
     distance (suc n) (suc m) lt = let d = distance n m (omega arith) in (d.0, let e : m ≡ n + 1 + d.0 = d.1 in omega (arith, e))
+
+pub empty_is : {A : Type 0} (xs : List A) (empty : Bool) → empty ≡ (length xs == 0) → IsTrue empty ↔ (xs ≡ [])
+empty_is xs empty e =
+    (λ h. nil_from_length xs (eqb-true (length xs) 0 (sym e ∙ h)), λ is. e ∙ eq-eqb (length xs) 0 (ap (λ l. length l) is))
 
 pub listed-end : {A : Type 0} (f : ℕ → List A) (n m : ℕ) (listed rest : List A) (empty : Bool) → n ≤ m → m ≤ n → listed ≡ flat_map f (numbers 1 n) ++ rest
     → IsTrue empty ↔ (rest ≡ []) → IsTrue empty ↔ (listed ≡ flat_map f (numbers 1 m))

@@ -5,6 +5,7 @@ use Rattle.std.specs.Option.{option_copied}
 use Rattle.std.proofs.lemmas.Bool.{false≢true, and_from, and_parts}
 use Rattle.std.proofs.lemmas.Option.{same_Some}
 use Rattle.kt_tuple.specs.declared.op.Answer.{Answer}
+use Rattle.kt_tuple.specs.declared.op.Op.{Op}
 use Rattle.kt_tuple.specs.Op.{answer_eq, answer_eq_decides, op_eq, op_eq_decides}
 use Rattle.kt_shard.specs.declared.request.Request.{Request}
 use Rattle.kt_shard.specs.declared.request.Kept.{Kept}
@@ -23,6 +24,27 @@ same_request_decides a b = (
   λ e.
       and_from (a.number == b.number) (op_eq a.op b.op) (eq-eqb a.number b.number (ap (λ (r : Request). r.number) e))
       ((op_eq_decides a.op b.op).1 (ap (λ (r : Request). r.op) e)),
+)
+
+-- two of one number are one where their operations are
+pub request_eq : (a b : Request) (same : Bool) → a.number ≡ b.number → same ≡ op_eq a.op b.op → IsTrue same ↔ (a ≡ b)
+request_eq a b same n e = (
+  λ h. let o : a.op ≡ b.op = (op_eq_decides a.op b.op).0 (sym e ∙ h) in λ i. record { number = n i; op = o i },
+  λ is. e ∙ (op_eq_decides a.op b.op).1 (ap (λ (r : Request). r.op) is),
+)
+
+-- two answers that are kept of one request
+pub kept_eq : (a b : Kept) (same : Bool) → a.request ≡ b.request → same ≡ answer_eq a.answer b.answer → IsTrue same ↔ (a ≡ b)
+kept_eq a b same n e = (
+  λ h. let o : a.answer ≡ b.answer = (answer_eq_decides a.answer b.answer).0 (sym e ∙ h) in λ i. record { request = n i; answer = o i },
+  λ is. e ∙ (answer_eq_decides a.answer b.answer).1 (ap (λ (k : Kept). k.answer) is),
+)
+
+-- two operations, where there are two
+pub ops_same : (o p : Option Op) (a b : Op) (same : Bool) → o ≡ Some a → p ≡ Some b → same ≡ op_eq a b → IsTrue same ↔ (o ≡ p)
+ops_same o p a b same one other e = (
+  λ h. one ∙ ap (λ x. Some x) ((op_eq_decides a b).0 (sym e ∙ h)) ∙ sym other,
+  λ is. e ∙ (op_eq_decides a b).1 (same_Some a b (sym one ∙ is ∙ other)),
 )
 
 -- a worker that waits with a request waits with this one just where both are one

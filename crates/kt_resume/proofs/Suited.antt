@@ -1,11 +1,14 @@
 -- When what a checkpoint has of its node is what the acts of its line made again.
-use Rattle.std.proofs.Common.{◌≡◌, ℕ, zero, suc, ◌+◌, ◌<◌, ◌≤◌, List, [], ◌∷◌, ◌++◌, length, map, take, get_or, Contains, IsPermutation, Option, Some, None, refl, sym, ap, subst, ◌∙◌, arith, inl, inr}
+use Rattle.std.proofs.Common.{◌≡◌, ℕ, Bool, IsTrue, zero, suc, ◌+◌, ◌<◌, ◌≤◌, List, [], ◌∷◌, ◌++◌, length, map, take, get_or, Contains, IsPermutation, Option, Some, None, refl, sym, ap, subst, ◌∙◌, arith, inl, inr}
 use Rattle.std.specs.Prelude.{◌↔◌}
 use Rattle.std.specs.List.{slice_get}
 use Rattle.std.proofs.lemmas.List.{append-nil, get_or_past}
 use Rattle.std.proofs.lemmas.Bool.{cases_lt}
 use Rattle.std.proofs.lemmas.List.Sorted.{IsPermutation-sym, IsPermutation-trans, length_permutation}
 use Rattle.std.proofs.lemmas.Option.{none-some, slice_get_cases, slice_get_past}
+use Rattle.std.specs.Cmp.Lexicographic.{pointwise, pointwise_decides}
+use Rattle.kt_tuple.specs.Equality.{value_eq, value_eq_decides}
+use Rattle.kt_tuple.specs.declared.value.Value.{Value}
 use Rattle.kt_tuple.specs.declared.tuple.Tuple.{Tuple}
 use Rattle.kt_tuple.specs.declared.op.Answer.{Answer}
 use Rattle.kt_script.specs.declared.command.Command.{Command}
@@ -23,7 +26,7 @@ use Rattle.kt_node.specs.State.{entries, shard_fields, worker_fields}
 use Rattle.kt_world.specs.Cast.{script_at}
 use Rattle.kt_world.specs.Like.{IsShardLike, IsWorkerLike}
 use Rattle.kt_resume.specs.Remade.{IsRemade, RemadeShard, Slot, empty_slot}
-use Rattle.kt_resume.specs.Suits.{SuitsShard, SuitsWorker}
+use Rattle.kt_resume.specs.Suits.{HasDesks, SuitsShard, SuitsWorker}
 use Rattle.kt_resume.proofs.EqualTuples.{taken_there}
 use Rattle.kt_resume.proofs.Remakes.{slot_at}
 
@@ -40,6 +43,17 @@ one_standing script made x y a b =
 pub worker_suits : (script : List Command) (made : MadeWorker) (x : Standing) (stored : WorkerFields) → IsWorkerLike script made x
     → (stored ≡ worker_fields x) ↔ SuitsWorker script made stored
 worker_suits script made x stored like = (λ e. (x, e, like), λ (y, e, other). e ∙ ap worker_fields (one_standing script made y x other like))
+
+-- a worker stands so where each field is the same
+pub fields_same : (s : WorkerFields) (x : Standing) (xs ys : List Value) (same : Bool) → s.pc ≡ x.position.pc → s.number ≡ x.number
+    → s.was_none ≡ x.position.memory.was_none → s.asked ≡ x.asked → xs ≡ s.variables → ys ≡ x.position.memory.values → same ≡ pointwise value_eq xs ys
+    → IsTrue same ↔ (s ≡ worker_fields x)
+fields_same s x xs ys same pc number was_none asked mine its is = (
+  λ h.
+      let values : s.variables ≡ x.position.memory.values = sym mine ∙ (pointwise_decides value_eq_decides xs ys).0 (sym is ∙ h) ∙ its in
+      λ i. record { pc = pc i; number = number i; was_none = was_none i; asked = asked i; variables = values i },
+  λ e. is ∙ (pointwise_decides value_eq_decides xs ys).1 (mine ∙ ap (λ (f : WorkerFields). f.variables) e ∙ sym its),
+)
 
 -- ---- the bag
 
@@ -117,9 +131,7 @@ empty-all workers slots n before past k out = elim (cases_lt k n) [
 -- the checkpoint has the tuples and the desks that were made again, and those of no worker of the scene are empty
 pub record IsSuited (workers : ℕ) (r : RemadeShard) (stored : ShardFields) : Type 0 where
   pub bag : IsPermutation r.bag stored.bag
-  pub waiting : stored.waiting ≡ entries (λ w. (at empty_slot r.slots w).desk.waiting)
-  pub kept : stored.kept ≡ entries (λ w. (at empty_slot r.slots w).desk.kept)
-  pub others : (n : ℕ) → ¬ ((1 ≤ n) × (n ≤ workers)) → (at empty_slot r.slots n).desk ≡ empty_desk
+  pub desks : HasDesks workers r.slots stored
 
 pub suited-suits : (workers : ℕ) (scripts : List (List Command)) (made : MadeShard) (r : RemadeShard) (stored : ShardFields) → length scripts ≡ workers
     → IsRemade made r → IsSuited workers r stored → SuitsShard scripts made stored
@@ -127,14 +139,14 @@ suited-suits workers scripts made r stored many like is =
     let desks = map (λ (s : Slot). s.desk) r.slots in
     let y : Shard = record { bag = stored.bag; desks = desks } in
     let same : (λ (w : ℕ). (at empty_slot r.slots w).desk) ≡ (λ (w : ℕ). at empty_desk desks w) = λ i w. sym (at-desks r.slots w) i in
-    let waiting = is.waiting ∙ ap (λ (of : ℕ → Desk). entries (λ w. (of w).waiting)) same in
-    let kept = is.kept ∙ ap (λ (of : ℕ → Desk). entries (λ w. (of w).kept)) same in (
+    let waiting = is.desks.waiting ∙ ap (λ (of : ℕ → Desk). entries (λ w. (of w).waiting)) same in
+    let kept = is.desks.kept ∙ ap (λ (of : ℕ → Desk). entries (λ w. (of w).kept)) same in (
       y,
       λ i. record { bag = stored.bag; waiting = waiting i; kept = kept i },
       record {
         bag = IsPermutation-trans made.bag r.bag stored.bag like.bag is.bag;
         desks = λ w. at-desks r.slots w ∙ like.desks w;
-        others = λ w none. at-desks r.slots w ∙ is.others w
+        others = λ w none. at-desks r.slots w ∙ is.desks.others w
             (λ within. outside scripts w none (within.0, subst (λ n. w ≤ n) (sym many) within.1));
       },
     )
@@ -146,9 +158,11 @@ suits-suited workers scripts made r stored many like (y, saved, other) =
     record {
       bag = subst (λ (l : List Tuple). IsPermutation r.bag l) (sym (ap (λ (s : ShardFields). s.bag) saved))
           (IsPermutation-trans r.bag made.bag y.bag (IsPermutation-sym made.bag r.bag like.bag) other.bag);
-      waiting = ap (λ (s : ShardFields). s.waiting) saved ∙ ap (λ (of : ℕ → Desk). entries (λ w. (of w).waiting)) same;
-      kept = ap (λ (s : ShardFields). s.kept) saved ∙ ap (λ (of : ℕ → Desk). entries (λ w. (of w).kept)) same;
-      others = λ n out.
-          sym (ap (λ (of : ℕ → Desk). of n) same)
-          ∙ other.others n (no_script scripts n (λ within. out (within.0, subst (λ k. n ≤ k) many within.1)));
+      desks = record {
+        waiting = ap (λ (s : ShardFields). s.waiting) saved ∙ ap (λ (of : ℕ → Desk). entries (λ w. (of w).waiting)) same;
+        kept = ap (λ (s : ShardFields). s.kept) saved ∙ ap (λ (of : ℕ → Desk). entries (λ w. (of w).kept)) same;
+        others = λ n out.
+            sym (ap (λ (of : ℕ → Desk). of n) same)
+            ∙ other.others n (no_script scripts n (λ within. out (within.0, subst (λ k. n ≤ k) many within.1)));
+      };
     }

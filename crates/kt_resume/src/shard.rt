@@ -1,10 +1,11 @@
 //! A shard is made again by the acts of its line.
 
-ghost use Rattle.std.specs.Prelude.{◌≡◌, ◌≤◌, ◌<◌, All, IfOk, IfSome, IsTrue, Some, None, length, replicate};
+ghost use Rattle.std.specs.Prelude.{◌≡◌, ◌↔◌, ◌≤◌, ◌<◌, All, IfOk, IfSome, IsTrue, Some, None, length, replicate};
 ghost use Rattle.kt_history.specs.Closed.{acts_in_line};
 ghost use Rattle.kt_shard.specs.Limits.{desks};
 ghost use Rattle.kt_tuple.specs.declared.node.NodeId.TheVariants as ids;
-ghost use Rattle.kt_lines.specs.ShardLine.{MadeShard, ShardLine, ShardMakes, new_shard, shard_after, shard_of_acts};
+ghost use Rattle.kt_lines.specs.ShardLine.{Ignores, MadeShard, ShardLine, ShardMakes, new_shard, request_of};
+ghost use Rattle.kt_lines.specs.ShardLine.{shard_after, shard_of_acts};
 ghost use Rattle.kt_resume.specs.Remade.{IsRemade, empty_slot};
 
 use crate::slot::Slot;
@@ -101,18 +102,33 @@ impl Remade {
                 Ok(may)
             }
             What::Again(told) => Ok(self.slots[worker].answers_again(act, told)),
-            What::Ignored(None) => Ok(self.slots[worker].ignores(act)),
+            What::Ignored(None) => Ok(self.ignores(act)),
             _ => Ok(false),
         }
     }
 
-    /// Its tuples and what it knows of each worker, by the worker's number.
-    pub(crate) fn into_parts(self) -> (Bag, Vec<Slot>)
-        ensures bag { result.0.tuples ≡ self.bag }
-        ensures slots { result.1.items ≡ self.slots }
-        ensures long { length result.1.items ≡ desks }
+    /// Whether the request of the act is neither new nor to be answered again.
+    fn ignores(&self, act: &Act) -> bool
+        requires { act.now.worker < desks }
+        ensures { (made : MadeShard) → IsRemade made self.now
+            → IsTrue result ↔ Ignores (request_of act.now) (made.desk act.now.worker) }
     {
-        (self.bag, self.slots)
+        self.slots[usize::from(act.worker)].ignores(act)
+    }
+
+    /// What it knows of each worker, by the worker's number from 0.
+    pub(crate) fn slots(&self) -> &[Slot]
+        ensures slots { result.now ≡ self.now.slots }
+        ensures long { length result.now ≡ desks }
+    {
+        &self.slots
+    }
+
+    /// Its tuples.
+    pub(crate) fn into_bag(self) -> Bag
+        ensures { result.tuples ≡ self.bag }
+    {
+        self.bag
     }
 }
 

@@ -7,10 +7,11 @@ ghost use Rattle.kt_lines.specs.ShardLine.{MadeShard};
 ghost use Rattle.kt_lines.specs.WorkerLine.{MadeWorker};
 ghost use Rattle.kt_node.specs.State.{worker_fields};
 ghost use Rattle.kt_shard.specs.Desk.{empty_desk};
+ghost use Rattle.kt_shard.specs.Limits.{desks};
 ghost use Rattle.kt_shard.specs.Table.{at};
 ghost use Rattle.kt_world.specs.Like.{IsWorkerLike};
 ghost use Rattle.kt_resume.specs.Remade.{IsRemade, empty_slot};
-ghost use Rattle.kt_resume.specs.Suits.{SuitsShard, SuitsWorker};
+ghost use Rattle.kt_resume.specs.Suits.{HasDesks, SuitsShard, SuitsWorker};
 
 use crate::entries::has_entries;
 use crate::shard::Remade;
@@ -29,11 +30,25 @@ pub fn suits_worker(stored: &WorkerState, worker: &Worker) -> bool
     ensures like { (script : List Command) (made : MadeWorker) → IsWorkerLike script made worker.now
         → IsTrue result ↔ SuitsWorker script made stored.now }
 {
-    usize::from(stored.pc()) == worker.pc()
-        && stored.number() == worker.number()
-        && stored.was_none() == worker.was_none()
-        && are_same(stored.asked(), worker.asked())
-        && stored.variables() == worker.values()
+    has_standing(stored, worker)
+}
+
+fn has_standing(stored: &WorkerState, worker: &Worker) -> bool
+    ensures { IsTrue result ↔ (stored.now ≡ worker_fields worker.now) }
+{
+    if usize::from(stored.pc()) != worker.pc() {
+        return false;
+    }
+    if stored.number() != worker.number() {
+        return false;
+    }
+    if stored.was_none() != worker.was_none() {
+        return false;
+    }
+    if !are_same(stored.asked(), worker.asked()) {
+        return false;
+    }
+    stored.variables() == worker.values()
 }
 
 /// Whether both are one operation, or none.
@@ -58,17 +73,24 @@ pub fn suits_shard(
     ensures { (scripts : List (List Command)) (made : MadeShard) → length scripts ≡ workers → IsRemade made remade
         → IfOk result (λ suits. IsTrue suits ↔ SuitsShard scripts made stored.now) }
 {
-    let (bag, slots) = remade.into_parts();
-    if !has_entries(stored.waiting(), &slots) {
+    if !has_desks(workers, stored, remade.slots()) {
         return Ok(false);
     }
-    if !has_entries(stored.kept(), &slots) {
-        return Ok(false);
+    has_just(alloc, remade.into_bag(), stored.bag())
+}
+
+/// Whether the checkpoint has what is on the desks, and nothing is on those of workers that the scene has not.
+fn has_desks(workers: u8, stored: &ShardState, slots: &[Slot]) -> bool
+    requires { length slots.now ≡ desks }
+    ensures { IsTrue result ↔ HasDesks workers slots.now stored.now }
+{
+    if !has_entries(stored.waiting(), slots) {
+        return false;
     }
-    if !are_empty_outside(workers, &slots) {
-        return Ok(false);
+    if !has_entries(stored.kept(), slots) {
+        return false;
     }
-    has_just(alloc, bag, stored.bag())
+    are_empty_outside(workers, slots)
 }
 
 /// Whether nothing is on the desk of number 0 and on those of numbers above this one.

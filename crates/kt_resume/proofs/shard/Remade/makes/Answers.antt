@@ -1,6 +1,7 @@
 use Rattle.std.proofs.Common.{◌≡◌, ◌∙◌, ◌+◌, ◌%◌, ◌<◌, ℕ, IsTrue, List, length, Some, None, IsPermutation, get_or, set, ap, refl, subst, sym, arith}
 use Rattle.kt_tuple.specs.declared.tuple.Tuple.{Tuple}
 use Rattle.kt_tuple.specs.Signature.{kinds_of_op, shard_of}
+use Rattle.kt_tuple.specs.declared.op.Answer.{Answer}
 use Rattle.kt_tuple.specs.Space.{SpaceStep}
 use Rattle.kt_history.specs.declared.note.What.{What}
 use Rattle.kt_history.specs.declared.note.What.TheVariants as whats
@@ -16,7 +17,7 @@ pub returns-in_ok-may-in-Served-clause-may : goal.returns-in_ok-may-in-Served-cl
 returns-in_ok-may-in-Served-clause-may c = λ made like may.
     let a = c.args.act.now in
     let r = c.args.self.now in
-    let told = c.in-Served.told.now in
+    let told : Answer = c.in-Served.told in
     let what : a.what ≡ whats.Served told = c.in-Served.is in
     let slot = c.index_mut-in-Served.result.now in
     let home : shard_of c.args.shards (kinds_of_op a.op) ≡ c.args.name =
@@ -35,7 +36,7 @@ pub returns-in_ok-may-in-Served-clause-all : goal.returns-in_ok-may-in-Served-cl
 returns-in_ok-may-in-Served-clause-all c = λ made like lt makes.
     let a = c.args.act.now in
     let r = c.args.self.now in
-    let told = c.in-Served.told.now in
+    let told : Answer = c.in-Served.told in
     let what : a.what ≡ whats.Served told = c.in-Served.is in
     let slot = c.index_mut-in-Served.result.now in
     let slots : c.self.inside.slots.items ≡ r.slots = ap (λ (x : RemadeShard). x.slots) c.self.view_is in
@@ -53,7 +54,7 @@ pub returns-in_ok-may-in-Served-clause-after : goal.returns-in_ok-may-in-Served-
 returns-in_ok-may-in-Served-clause-after c = λ made like may.
     let a = c.args.act.now in
     let r = c.args.self.now in
-    let told = c.in-Served.told.now in
+    let told : Answer = c.in-Served.told in
     let what : a.what ≡ whats.Served told = c.in-Served.is in
     let slot = c.index_mut-in-Served.result.now in
     let slots : c.self.inside.slots.items ≡ r.slots = ap (λ (x : RemadeShard). x.slots) c.self.view_is in
@@ -73,31 +74,3 @@ returns-in_ok-may-in-Served-clause-after c = λ made like may.
     let items : set r.slots a.worker c.serve.new.self ≡ set c.self.inside.slots.items c.from-worker.result c.serve.new.self =
     ap (λ (l : List Slot). set l a.worker c.serve.new.self) (sym slots) ∙ ap (λ k. set c.self.inside.slots.items k c.serve.new.self) (sym c.from-worker.ensures) in
     subst (λ (l : List Slot). IsRemade (shard_after made a) (record { bag = new; slots = l })) items done
-
-pub returns-in-Ignored-None-clause-may : goal.returns-in-Ignored-None-clause-may
-returns-in-Ignored-None-clause-may c = λ made like may.
-    let a = c.args.act.now in
-    let r = c.args.self.now in
-    let none : c.in-Ignored-None.field-0 ≡ None = c.in-Ignored-None.field-0-is in
-    let what : a.what ≡ whats.Ignored None = c.in-Ignored-None.is ∙ ap whats.Ignored none in
-    let slot = c.index-in-Ignored-None.result.now in
-    let home : shard_of c.args.shards (kinds_of_op a.op) ≡ c.args.name =
-    sym (c.shard_of.ensures ∙ ap (λ n. n % c.args.shards + 1) c.signature.ensures) ∙ c.if-shard_of-name.false in
-    let slots : c.self.inside.slots.items ≡ r.slots = ap (λ (x : RemadeShard). x.slots) c.self.view_is in
-    let is : slot ≡ at empty_slot r.slots a.worker =
-    slot_found r.slots c.self.inside.slots.items a.worker c.from-worker.result desks slot slots c.self.invariant c.from-worker.ensures
-    c.if-act-ge-DESKS.false c.index-in-Ignored-None.ensures in
-    makes_where c.args.shards c.args.name made r a (whats.Ignored None) slot like is what home (c.ignores.ensures.0 may)
-
-pub returns-in-Ignored-None-clause-all : goal.returns-in-Ignored-None-clause-all
-returns-in-Ignored-None-clause-all c = λ made like lt makes.
-    let a = c.args.act.now in
-    let r = c.args.self.now in
-    let none : c.in-Ignored-None.field-0 ≡ None = c.in-Ignored-None.field-0-is in
-    let what : a.what ≡ whats.Ignored None = c.in-Ignored-None.is ∙ ap whats.Ignored none in
-    let slot = c.index-in-Ignored-None.result.now in
-    let slots : c.self.inside.slots.items ≡ r.slots = ap (λ (x : RemadeShard). x.slots) c.self.view_is in
-    let is : slot ≡ at empty_slot r.slots a.worker =
-    slot_found r.slots c.self.inside.slots.items a.worker c.from-worker.result desks slot slots c.self.invariant c.from-worker.ensures
-    c.if-act-ge-DESKS.false c.index-in-Ignored-None.ensures in
-    c.ignores.ensures.1 (allows c.args.shards c.args.name made r a (whats.Ignored None) slot like is what makes)
