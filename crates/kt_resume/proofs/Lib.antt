@@ -5,3 +5,8 @@ pub mod Founds
 pub mod Links
 pub mod Rooms
 pub mod Fits
+pub mod EqualTuples
+pub mod Requests
+pub mod Remakes
+pub mod Listed
+pub mod Suited

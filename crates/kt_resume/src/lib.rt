@@ -2,13 +2,16 @@
 //!
 //! - Contract: the history is the one that `Resumed` of kt_world defines for what was found (`history_of`, clause
 //!   `notes`), and a node is named as unfit just where what was found of it is not what a world of the scene leaves
-//!   (`first_unfit`, clauses `none` and `first`).
+//!   (`first_unfit`, clauses `none` and `first`). For that a worker and a shard are made again by the acts of their
+//!   lines, where they may make them (`remake_worker` and `remake_shard`, clauses `made` and `none`), and compared with
+//!   what a checkpoint has of them (`suits_worker` and `suits_shard`).
 //! - Stands on: kt_tuple, kt_script, kt_space, kt_link, kt_shard, kt_worker, kt_history, kt_ckpt, kt_store, kt_lines,
 //!   kt_node, kt_world
 //! - Used by: kt_core
 //! - Begin in: `found.rt`, then `judging.rt`; `placing.rt` places the acts.
 #![tactic(auto)]
 
+mod entries;
 mod found;
 mod judging;
 mod labels;
@@ -19,6 +22,8 @@ mod placing;
 mod scene;
 mod sense;
 mod shard;
+mod slot;
+mod space;
 mod suits;
 mod unplaced;
 mod worker;
