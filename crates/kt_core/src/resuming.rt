@@ -1,13 +1,14 @@
 //! How a world goes on from what a store holds.
 
-ghost use Rattle.std.specs.Prelude.{◌≡◌, ◌+◌, ◌-◌, IfErr, IfOk, IsTrue, OnOk, map};
+ghost use Rattle.std.specs.Prelude.{◌≡◌, ◌-◌, All, IfErr, IfOk, IsTrue, OnOk, map};
 ghost use Rattle.kt_store.specs.Calls.{NeverFails};
 ghost use Rattle.kt_store.specs.Content.{next_instance, nodes_in};
 ghost use Rattle.kt_world.specs.Resumed.{AreFit, history_of, resumed};
 ghost use Rattle.kt_resume.specs.Found.{content_of};
+ghost use Rattle.kt_resume.specs.Judging.{IsGood};
 ghost use Rattle.kt_core.specs.declared.resuming.ResumeError.TheVariants as refusals;
 ghost use Rattle.kt_core.specs.inner.Calls.{IsRead};
-ghost use Rattle.kt_core.specs.inner.Gathering.{AreFound, IsFoundUnfit, IsGatheredBy, found_in, instance_in};
+ghost use Rattle.kt_core.specs.inner.Gathering.{IsFoundUnfit, IsGatheredBy, found_in, instance_in};
 ghost use Rattle.kt_core.specs.inner.Machine.{state_of};
 ghost use Rattle.kt_core.specs.Resuming.{IsFirstUnfit, resuming_counted};
 
@@ -123,7 +124,7 @@ fn find_all<S: CkptStore>(store: &mut S, alloc: Global) -> Result<Vec<Found>, Re
 /// The history of what was found, where it fits the scene.
 fn fitting_history(alloc: Global, scene: &Scene, found: &[Found]) -> Result<History, ResumeError>
     ensures notes { IfOk result (λ h. h.notes ≡ history_of scene.now (content_of found.now)) }
-    ensures fits { OnOk result (AreFound scene.now found.now) }
+    ensures fits { OnOk result (All (IsGood scene.now (content_of found.now)) found.now) }
     ensures refused { IfErr result (IsFoundUnfit scene.now found.now) }
 {
     let (shards, scripts) = (scene.shards(), scene.scripts());

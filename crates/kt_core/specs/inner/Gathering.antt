@@ -1,6 +1,6 @@
 -- What is gathered of a store to go on from it.
 use Rattle.std.specs.Prelude.{◌≡◌, ℕ, Bool, true, is_some, Option, None, Some, Result, Ok, Err, IfOk, IfErr, IsTrue}
-use Rattle.std.specs.Prelude.{List, ◌∷◌, ◌++◌, Contains}
+use Rattle.std.specs.Prelude.{List}
 use Rattle.std.specs.Option.{option_map}
 use Rattle.kt_tuple.specs.declared.node.NodeId.{NodeId}
 use Rattle.kt_store.specs.Calls.{Counts, NeverFails}
@@ -9,9 +9,9 @@ use Rattle.kt_store.specs.declared.rows.Tentative.{Tentative}
 use Rattle.kt_store.specs.declared.store.CkptStore.{Ghosts}
 use Rattle.kt_world.specs.Cast.{Cast}
 use Rattle.kt_world.specs.Cut.{permanent_of}
-use Rattle.kt_world.specs.Resumed.{IsFit}
 use Rattle.kt_resume.specs.declared.found.Found.{Found}
 use Rattle.kt_resume.specs.Found.{content_of}
+use Rattle.kt_resume.specs.Judging.{IsFirstUnfit}
 use Rattle.kt_core.specs.declared.resuming.ResumeError.{ResumeError}
 use Rattle.kt_core.specs.declared.resuming.ResumeError.TheVariants as refusals
 use Rattle.kt_core.specs.Resuming.{IsResumeCause, resuming_counted}
@@ -48,26 +48,8 @@ pub record IsGatheredBy {S T : Type 0} (kind : Ghosts S) (old new : S) (Says : C
   pub counts : kind.counts new ≡ gathering_counted result (kind.counts old)
   pub cause : IfErr result (IsResumeCause (kind.is_honest new))
 
--- what was found of the node fits the scene
-abbrev pub IsFoundFit : Cast → List Found → Found → Type 0
-IsFoundFit cast found f = IsFit cast (content_of found) f.node × IsTrue f.is_posted
-
--- what was found of each node does
-abbrev pub AreFound : Cast → List Found → Type 0
-AreFound cast found = (f : Found) → Contains found f → IsFoundFit cast found f
-
--- what was found of p does not, and what was found before it does
-pub record IsFirstMisfit (cast : Cast) (found : List Found) (p : NodeId) : Type 0 where
-  pub earlier : List Found
-  pub misfit : Found
-  pub later : List Found
-  pub split : found ≡ earlier ++ misfit ∷ later
-  pub node : misfit.node ≡ p
-  pub unfit : ¬ IsFoundFit cast found misfit
-  pub before : (f : Found) → Contains earlier f → IsFoundFit cast found f
-
 -- what was found is refused as unfit only for the first that does not fit
 abbrev pub IsFoundUnfit : Cast → List Found → ResumeError → Type 0
-IsFoundUnfit cast found (refusals.Unfit p) = IsFirstMisfit cast found p
+IsFoundUnfit cast found (refusals.Unfit p) = IsFirstUnfit cast (content_of found) found p
 IsFoundUnfit cast found (refusals.Store refusal) = ⊥
 IsFoundUnfit cast found refusals.OutOfMemory = Unit {0}
