@@ -18,7 +18,8 @@ use Rattle.linda_kt.specs.Words.{asked_by, command_line_app, has_flag, is_true, 
 
 -- the text is there, and is the name of a command
 abbrev pub IsCommand : Option Text → Type 0
-IsCommand o = (o ≡ Some (codes "replay")) ⊎ ((o ≡ Some (codes "run")) ⊎ (o ≡ Some (codes "migrate")))
+IsCommand o =
+    (o ≡ Some (codes "replay")) ⊎ ((o ≡ Some (codes "run")) ⊎ ((o ≡ Some (codes "resume")) ⊎ (o ≡ Some (codes "migrate"))))
 
 -- where two steps have no fault, the second has none
 rest_empty : (a b : Kinds) → or_else a b ≡ [] → b ≡ []
@@ -44,24 +45,25 @@ checks_pass : (rows : List Row) (has : Bool) → check_fault (built command_line
 checks_pass rows true e = refl
 checks_pass rows false e = cc
 
--- the shape that is found among three, by the tests of each
-abbrev pub first_found : (b d f : Bool) (r s t : Shape) → Option Shape
-first_found b d f r s t = cond b (Some r) (cond d (Some s) (cond f (Some t) None))
+-- the shape that is found among four, by the tests of each
+abbrev pub first_found : (b d f g : Bool) (r s t u : Shape) → Option Shape
+first_found b d f g r s t u = cond b (Some r) (cond d (Some s) (cond f (Some t) (cond g (Some u) None)))
 
--- a command that is found is one of the three
-found_is : (b d f : Bool) (r s t : Shape) (words : List Text)
-    → is_some (option_map (λ s. rows_at s words) (first_found b d f r s t)) ≡ true
-    → let name = option_map (λ p. p.0) (option_map (λ s. rows_at s words) (first_found b d f r s t)) in
-    (name ≡ Some r.name) ⊎ ((name ≡ Some s.name) ⊎ (name ≡ Some t.name))
-found_is true d f r s t words e = inl refl
-found_is false true f r s t words e = inr (inl refl)
-found_is false false true r s t words e = inr (inr refl)
-found_is false false false r s t words e = cc
+-- a command that is found is one of the four
+found_is : (b d f g : Bool) (r s t u : Shape) (words : List Text)
+    → is_some (option_map (λ s. rows_at s words) (first_found b d f g r s t u)) ≡ true
+    → let name = option_map (λ p. p.0) (option_map (λ s. rows_at s words) (first_found b d f g r s t u)) in
+    (name ≡ Some r.name) ⊎ ((name ≡ Some s.name) ⊎ ((name ≡ Some t.name) ⊎ (name ≡ Some u.name)))
+found_is true d f g r s t u words e = inl refl
+found_is false true f g r s t u words e = inr (inl refl)
+found_is false false true g r s t u words e = inr (inr (inl refl))
+found_is false false false true r s t u words e = inr (inr (inr refl))
+found_is false false false false r s t u words e = cc
 
 entered_is : (stop : Option (Text × List Text)) → is_some (entered (built command_line_app) stop) ≡ true
     → IsCommand (option_map (λ p. p.0) (entered (built command_line_app) stop))
 entered_is None e = cc
-entered_is (Some p) e = found_is _ _ _ _ _ _ p.1 e
+entered_is (Some p) e = found_is _ _ _ _ _ _ _ _ p.1 e
 
 -- words without a fault name a command
 pub names_command : (words : List Text) → fault_of command_line_app words ≡ []
@@ -92,10 +94,10 @@ met_command a words m same has none =
 pub has_no_fault : (a : App) (words : List Text) → a ≡ command_line_app → fault_of a words ≡ [] → words_fault words ≡ []
 has_no_fault a words same none = sym (ap (λ x. fault_of x words) same) ∙ none
 
--- whether the flag stands among a command's words, by the text that is lent for it
-pub flag_of : (f : Found) (text : Option (Bor Text)) → option_map (λ (s : Bor Text). s.now) text ≡ first_value f (codes "journal")
-    → is_true (option_map (λ (s : Bor Text). s.now) text) ≡ has_flag (rows_of f)
-flag_of f text read = ap is_true (read ∙ first_value-rows f (codes "journal"))
+-- whether a flag stands among a command's words, by the text that is lent for it
+pub flag_of : (flag : Text) (f : Found) (text : Option (Bor Text)) → option_map (λ (s : Bor Text). s.now) text ≡ first_value f flag
+    → is_true (option_map (λ (s : Bor Text). s.now) text) ≡ has_flag flag (rows_of f)
+flag_of flag f text read = ap is_true (read ∙ first_value-rows f flag)
 
 -- a subcommand as `clap` lends it: its name, and the matches of its own words
 abbrev pub Lent : Type 0
@@ -106,11 +108,13 @@ pub is_that : (o : Option Lent) (p : Lent) (n : Text) → option_map (λ (q : Le
 is_that o p n e some = let same : Some p.0.now ≡ Some n = ap (option_map (λ (q : Lent). q.0.now)) (sym some) ∙ e in cc
 
 -- a command that is met and does not carry a file over is known
-pub is_known : (o : Option Lent) (p : Lent) (has_flag : Bool) → IsCommand (option_map (λ (q : Lent). q.0.now) o)
-    → is_word p.0.now (codes "migrate") ≡ false → o ≡ Some p → is_some (command_of p.0.now has_flag) ≡ true
-is_known o p has_flag (inl e) other some = ap (λ (t : Text). is_some (command_of t has_flag)) (is_that o p _ e some)
-is_known o p has_flag (inr (inl e)) other some = ap (λ (t : Text). is_some (command_of t has_flag)) (is_that o p _ e some)
-is_known o p has_flag (inr (inr e)) other some =
+pub is_known : (o : Option Lent) (p : Lent) (is_resumed has_journal : Bool) → IsCommand (option_map (λ (q : Lent). q.0.now) o)
+    → is_word p.0.now (codes "migrate") ≡ false → o ≡ Some p → is_some (command_of p.0.now is_resumed has_journal) ≡ true
+is_known o p is_resumed has_journal (inl e) other some = ap (λ (t : Text). is_some (command_of t is_resumed has_journal)) (is_that o p _ e some)
+is_known o p is_resumed has_journal (inr (inl e)) other some = ap (λ (t : Text). is_some (command_of t is_resumed has_journal)) (is_that o p _ e some)
+is_known o p is_resumed has_journal (inr (inr (inl e))) other some =
+    ap (λ (t : Text). is_some (command_of t is_resumed has_journal)) (is_that o p _ e some)
+is_known o p is_resumed has_journal (inr (inr (inr e))) other some =
     let no : true ≡ false = sym (ap (λ (t : Text). is_word t (codes "migrate")) (is_that o p _ e some)) ∙ other in
     cc
 
@@ -142,14 +146,15 @@ pub asked_is : (a : App) (words : List Text) (m : ArgMatches) (o : Option Lent) 
     → a ≡ command_line_app → HasMatchesOf a words m → option_map (λ (q : Lent). q.0.now) o ≡ subcommand_name_of m
     → option_map (λ (q : Lent). rows_of (found_of q.1.now)) o ≡ option_map (λ p. p.1) (subcommand_rows_of m) → o ≡ Some p
     → is_word p.0.now (codes "migrate") ≡ false
-    → command_of p.0.now (has_flag (rows_of (found_of p.1.now))) ≡ Some command
+    → command_of p.0.now (has_flag (codes "resume") (rows_of (found_of p.1.now))) (has_flag (codes "journal") (rows_of (found_of p.1.now)))
+    ≡ Some command
     → option_map (λ (s : Bor Text). s.now) store ≡ first_value (found_of p.1.now) (codes "store")
     → asked_by words ≡ Some (Makes command (option_map (λ (s : Bor Text). s.now) store))
 asked_is a words m o p command store same has name rows some other is file =
     let found : List Row = rows_of (found_of p.1.now) in
     let of_file : first_of (codes "store") found ≡ option_map (λ (s : Bor Text). s.now) store =
     sym (file ∙ first_value-rows (found_of p.1.now) (codes "store")) in
-    let made : Option Asked = option_map (λ (c : Command). Makes c (first_of (codes "store") found)) (command_of p.0.now (has_flag found)) in
+    let made : Option Asked = option_map (λ (c : Command). Makes c (first_of (codes "store") found)) (command_of p.0.now (has_flag (codes "resume") found) (has_flag (codes "journal") found)) in
     ap (option_and_then request_of) (met_is a words m o p same has name rows some)
     ∙ ap (λ (b : Bool). if b then Some (Carries (required_text (first_of (codes "store") found))) else made) other
     ∙ ap (option_map (λ (c : Command). Makes c (first_of (codes "store") found))) is
@@ -172,7 +177,7 @@ carried_is a words m o p store none text same has name rows some this file is em
     let found : List Row = rows_of (found_of p.1.now) in
     let of_file : first_of (codes "store") found ≡ option_map (λ (s : Bor Text). s.now) store =
     sym (file ∙ first_value-rows (found_of p.1.now) (codes "store")) in
-    let made : Option Asked = option_map (λ (c : Command). Makes c (first_of (codes "store") found)) (command_of p.0.now (has_flag found)) in
+    let made : Option Asked = option_map (λ (c : Command). Makes c (first_of (codes "store") found)) (command_of p.0.now (has_flag (codes "resume") found) (has_flag (codes "journal") found)) in
     ap (option_and_then request_of) (met_is a words m o p same has name rows some)
     ∙ ap (λ (b : Bool). if b then Some (Carries (required_text (first_of (codes "store") found))) else made) this
     ∙ ap (λ (f : Option Text). Some (Carries (required_text f))) of_file
