@@ -58,8 +58,8 @@ found-row c p = by (find (λ (r : NodeRow). node_eq r.node p) c.nodes) refl wher
       ⊎ ((row_of (content_of (all_found c)) p ≡ opening_row p) × (row_of c p ≡ opening_row p))
   by None e = inr (ap (row_or p) (find-found c p c.nodes ∙ ap (option_map (λ (r : NodeRow). row_from (found_in c r.node))) e), ap (row_or p) e)
   by (Some row) e = inl (
-    ap (row_or p) (find-found c p c.nodes ∙ ap (option_map (λ (r : NodeRow). row_from (found_in c r.node))) e)
-    ∙ ap (λ (q : NodeId). row_from (found_in c q)) (find-node p c.nodes row e))
+      ap (row_or p) (find-found c p c.nodes ∙ ap (option_map (λ (r : NodeRow). row_from (found_in c r.node))) e)
+      ∙ ap (λ (q : NodeId). row_from (found_in c q)) (find-node p c.nodes row e))
 
 permanent-by : (d : Content) (p : NodeId) (row : NodeRow) → row_of d p ≡ row → permanent_of d p ≡ permanent_by (verdict_on d row.tentative) row.tentative row.permanent
 permanent-by d p row e = ap (λ (r : NodeRow). permanent_by (verdict_on d r.tentative) r.tentative r.permanent) e
@@ -98,7 +98,7 @@ found-fit cast c p fits = fit-alike cast c (content_of (all_found c)) (found-ali
 pub fit-found : (cast : Cast) (c : Content) (p : NodeId) → IsFit cast c p → IsGood cast (content_of (all_found c)) (found_in c p)
 fit-found cast c p fit = (
   fit-alike cast (content_of (all_found c)) c (turned c (content_of (all_found c)) (found-alike c)) p
-  (subst (λ o. IfSome o (λ t. IsTrue (is_some (posted (content_of (all_found c)) t.instance)))) (sym (found-settled c p)) tt) fit,
+      (subst (λ o. IfSome o (λ t. IsTrue (is_some (posted (content_of (all_found c)) t.instance)))) (sym (found-settled c p)) tt) fit,
   posted-begun c (row_of c p).tentative fit.posted,
 )
 

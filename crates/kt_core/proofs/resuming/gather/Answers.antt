@@ -26,10 +26,10 @@ returns-in_err-history-clause-unfit g c =
     let old = g.S.CkptStore.content c.args.store.now in
     let Unfit : ResumeError → Type 0 = λ e. (p : NodeId) → e ≡ refusals.Unfit p → IsFirstUnfit c.args.scene.now old p in
     λ h.
-        let all : AreAllFound old c.deref.result.now =
-        subst (AreAllFound old) (sym c.deref.ensures.value) (c.in_ok-found.ensures.found.value (c.in_ok-next.ensures.honest h)) in
-        on-refusal c.from_residual-in_err-history.result _ Unfit c.from_residual-in_err-history.ensures.1
-        (λ e is. subst Unfit (sym is) (found-unfit c.args.scene.now old c.deref.result.now c.in_err-history.field-0.0 all c.in_err-history.ensures.refused))
+    let all : AreAllFound old c.deref.result.now =
+    subst (AreAllFound old) (sym c.deref.ensures.value) (c.in_ok-found.ensures.found.value (c.in_ok-next.ensures.honest h)) in
+    on-refusal c.from_residual-in_err-history.result _ Unfit c.from_residual-in_err-history.ensures.1
+    (λ e is. subst Unfit (sym is) (found-unfit c.args.scene.now old c.deref.result.now c.in_err-history.field-0.0 all c.in_err-history.ensures.refused))
 
 pub returns-clause-some : goal.returns-clause-some
 returns-clause-some g c =
