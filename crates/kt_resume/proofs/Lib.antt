@@ -1,2 +1,12 @@
 pub mod Turned
 pub mod Workers
+pub mod Senses
+pub mod Founds
+pub mod Links
+pub mod Rooms
+pub mod Fits
+pub mod EqualTuples
+pub mod Requests
+pub mod Remakes
+pub mod Listed
+pub mod Suited

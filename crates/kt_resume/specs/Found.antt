@@ -1,13 +1,27 @@
--- What was read of a store, as the content of one.
-use Rattle.std.specs.Prelude.{List, [], map, None}
+-- What was read of a store's nodes, and the content that these facts are of.
+use Rattle.std.specs.Prelude.{ℕ, List, [], map, Option, None, Some}
+use Rattle.std.specs.List.{find}
+use Rattle.kt_tuple.specs.declared.node.NodeId.{NodeId}
+use Rattle.kt_tuple.specs.Node.{node_eq}
+use Rattle.kt_script.specs.declared.command.Command.{Command}
+use Rattle.kt_ckpt.specs.declared.ckpt.Ckpt.{Ckpt}
 use Rattle.kt_store.specs.declared.rows.NodeRow.{NodeRow}
 use Rattle.kt_store.specs.Content.{Content}
+use Rattle.kt_world.specs.Cast.{Cast}
 use Rattle.kt_resume.specs.declared.found.Found.{Found}
 
--- a row that holds what was found, its permanent checkpoint by what counts as such
-abbrev pub row_of_found : Found → NodeRow
-row_of_found f = record { node = f.node; incarnation = f.incarnation; permanent = f.checkpoint; tentative = None }
+-- so many shards, and a worker for each of these scripts
+abbrev pub cast_of : ℕ → List (List Command) → Cast
+cast_of shards scripts = record { shards = shards; scripts = scripts }
 
--- a store that holds just that
+-- a row in which what counts as permanent is the stored permanent checkpoint
+abbrev pub row_from : Found → NodeRow
+row_from f = record { node = f.node; incarnation = f.incarnation; permanent = f.checkpoint; tentative = None }
+
+-- the store that holds just what was found, and that has nothing tentative and no instance
 abbrev pub content_of : List Found → Content
-content_of found = record { nodes = map row_of_found found; board = [] }
+content_of found = record { nodes = map row_from found; board = [] }
+
+-- what was found of the node, if anything was
+abbrev pub found_of : List Found → NodeId → Option Found
+found_of found p = find (λ (f : Found). node_eq f.node p) found

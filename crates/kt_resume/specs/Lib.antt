@@ -1,4 +1,9 @@
 pub mod Unplaced
 pub mod Turns
 pub mod Found
+pub mod Sense
+pub mod Labels
+pub mod Remade
+pub mod Suits
+pub mod Judging
 pub mod inner

@@ -1,4 +1,10 @@
-//! What was found of a node when a world is resumed.
+//! What a store holds of its nodes.
+
+ghost use Rattle.std.specs.Prelude.{◌≡◌};
+ghost use Rattle.std.specs.Option.{option_copied};
+ghost use Rattle.kt_store.specs.Content.{row_of};
+ghost use Rattle.kt_world.specs.Cut.{permanent_of};
+ghost use Rattle.kt_resume.specs.Found.{content_of, found_of};
 
 use kt_ckpt::Ckpt;
 use kt_tuple::NodeId;
@@ -8,25 +14,41 @@ use kt_tuple::NodeId;
 pub struct Found {
     /// Whose it is.
     pub node: NodeId,
-    /// The node's incarnation.
+    /// The node's last incarnation.
     pub incarnation: u64,
-    /// What counts as its permanent checkpoint; `None` where that is the initial one.
+    /// The checkpoint that counts as permanent; `None` where it is the initial one.
     pub checkpoint: Option<Ckpt>,
-    /// Whether the instance of its tentative checkpoint stands on the board; so too where it has none.
+    /// Whether the instance of its tentative checkpoint, if it has one, is on the board.
     pub is_posted: bool,
 }
 
-impl Found {
-    /// How many acts its permanent checkpoint holds.
-    pub(crate) fn line_len(&self) -> u64 {
-        match &self.checkpoint {
-            Some(checkpoint) => checkpoint.line_len(),
-            None => 0,
-        }
+/// What was found of the node, if anything was.
+fn found_of(found: &[Found], node: NodeId) -> Option<&Found>
+    ensures { option_copied result ≡ found_of found.now node }
+{
+    match found.split_first() {
+        Some((first, _)) if first.node == node => Some(first),
+        Some((_, later)) => found_of(later, node),
+        None => None,
     }
 }
 
-/// What was found of the node, if anything was.
-pub(crate) fn found_of(found: &[Found], node: NodeId) -> Option<&Found> {
-    found.iter().find(|row| row.node == node)
+/// The checkpoint of the node that counts as permanent.
+pub(crate) fn checkpoint_of(found: &[Found], node: NodeId) -> Option<&Ckpt>
+    ensures { option_copied result ≡ permanent_of (content_of found.now) node }
+{
+    match found_of(found, node) {
+        Some(held) => held.checkpoint.as_ref(),
+        None => None,
+    }
+}
+
+/// The node's last incarnation: the first, where nothing was found of it.
+pub(crate) fn incarnation_of(found: &[Found], node: NodeId) -> u64
+    ensures { result ≡ (row_of (content_of found.now) node).incarnation }
+{
+    match found_of(found, node) {
+        Some(held) => held.incarnation,
+        None => 1,
+    }
 }

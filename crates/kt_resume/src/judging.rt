@@ -1,261 +1,108 @@
 //! Whether what a store holds of each node fits the scene.
 
-use crate::found::{Found, found_of};
-use crate::shard::{Remade, remake_shard, takes};
-use crate::worker::remake_worker;
-use kt_ckpt::{Ckpt, ShardState, State, WorkerState};
-use kt_history::{Act, History, What};
-use kt_link::Label;
+ghost use Rattle.std.specs.Prelude.{◌≡◌, ◌↔◌, ◌≤◌, All, IfOk, IfSome, IsTrue, None, length};
+ghost use Rattle.kt_tuple.specs.declared.node.TheConstants.{MAX_WORKERS};
+ghost use Rattle.kt_world.specs.Cast.{is_node};
+ghost use Rattle.kt_world.specs.Resumed.{FitsIn, IsFit, history_of};
+ghost use Rattle.kt_resume.specs.Found.{cast_of, content_of};
+ghost use Rattle.kt_resume.specs.Judging.{IsFirstUnfit, IsGood};
+
+use crate::found::{Found, checkpoint_of};
+use crate::labels::labels_fit;
+use crate::leads::leads_to;
+use crate::parts::{are_its_acts, is_of, is_short};
+use crate::scene::{is_in_scene, nodes_of};
+use crate::sense::makes_sense;
+use kt_history::History;
 use kt_script::Script;
-use kt_tuple::{Answer, NodeId};
-use kt_worker::Worker;
+use kt_tuple::NodeId;
 use std::alloc::{AllocError, Global};
 
-/// All lines together are shorter than this.
-const MOST_ACTS: u64 = 1 << 32;
-
-/// The scene, what was found of its nodes, and the history of all acts that were found.
-#[derive(Clone, Copy)]
-struct Case<'a> {
-    shards: u8,
-    scripts: &'a [Script],
-    found: &'a [Found],
-    history: &'a History,
-}
-
-/// The first of the nodes of which something was found that does not fit the scene.
+/// The first node, in the order of what was found, of which a world of so many shards and a worker for each script does
+/// not leave that; none where all fit. The history is that of what was found, as `history_of` makes it.
 pub fn first_unfit(
     alloc: Global,
     shards: u8,
     scripts: &[Script],
     found: &[Found],
     history: &History,
-) -> Result<Option<NodeId>, AllocError> {
-    let case = Case {
-        shards,
-        scripts,
-        found,
-        history,
-    };
-    for row in found {
-        if !is_fit(alloc, case, row)? {
-            return Ok(Some(row.node));
+) -> Result<Option<NodeId>, AllocError>
+    requires few { length scripts.now ≤ MAX_WORKERS }
+    requires notes { history.now.notes ≡ history_of (cast_of shards scripts.now) (content_of found.now) }
+    ensures none { IfOk result (λ node. node ≡ None
+        → All (IsGood (cast_of shards scripts.now) (content_of found.now)) found.now) }
+    ensures first { IfOk result (λ node. IfSome node
+        (IsFirstUnfit (cast_of shards scripts.now) (content_of found.now) found.now)) }
+{
+    for held in found {
+        let fits = is_fit(alloc, shards, scripts, found, history, held.node)?;
+        if !(fits && held.is_posted) {
+            return Ok(Some(held.node));
         }
     }
     Ok(None)
 }
 
-fn is_fit(alloc: Global, case: Case<'_>, row: &Found) -> Result<bool, AllocError> {
-    if !is_node(case, row.node) || !is_short(case, row) || !is_placed(case, row) {
+/// Whether what was found of the node is what a world of so many shards and a worker for each script leaves of it, but
+/// for what is said of tentative checkpoints.
+pub fn is_fit(
+    alloc: Global,
+    shards: u8,
+    scripts: &[Script],
+    found: &[Found],
+    history: &History,
+    node: NodeId,
+) -> Result<bool, AllocError>
+    requires few { length scripts.now ≤ MAX_WORKERS }
+    requires notes { history.now.notes ≡ history_of (cast_of shards scripts.now) (content_of found.now) }
+    ensures { IfOk result (λ fits. IsTrue fits
+        ↔ IsFit (cast_of shards scripts.now) (content_of found.now) node) }
+{
+    if !is_in_scene(shards, scripts, node) {
         return Ok(false);
     }
-    if !is_made_again(alloc, case, row)? {
+    let nodes = nodes_of(alloc, shards, scripts.len() as u8)?;
+    if !is_short(&nodes, found, node) {
         return Ok(false);
     }
-    Ok(are_sensible(case, row.node) && are_labels_fit(case, row) && row.is_posted)
-}
-
-fn is_node(case: Case<'_>, node: NodeId) -> bool {
-    let number = usize::from(node.number());
-    match node {
-        NodeId::Worker(_) => 1 <= number && number <= case.scripts.len(),
-        NodeId::Shard(_) => 1 <= number && number <= usize::from(case.shards),
+    if !fits_in(alloc, shards, scripts, found, history, node)? {
+        return Ok(false);
     }
+    Ok(labels_fit(&nodes, found, node))
 }
 
-fn is_short(case: Case<'_>, row: &Found) -> bool {
-    let mut acts = row.line_len();
-    for other in case.found {
-        if is_node(case, other.node) && other.node.is_before(row.node) {
-            acts = acts.saturating_add(other.line_len());
-        }
-    }
-    acts < MOST_ACTS
-}
-
-fn is_placed(case: Case<'_>, row: &Found) -> bool {
-    case.history.line(row.node).len() as u64 == row.line_len()
-}
-
-fn is_made_again(alloc: Global, case: Case<'_>, row: &Found) -> Result<bool, AllocError> {
-    let peers = match row.node {
-        NodeId::Worker(_) => usize::from(case.shards),
-        NodeId::Shard(_) => case.scripts.len(),
+/// Whether the node's checkpoint, with its acts placed in the history, is what a world leaves.
+fn fits_in(
+    alloc: Global,
+    shards: u8,
+    scripts: &[Script],
+    found: &[Found],
+    history: &History,
+    node: NodeId,
+) -> Result<bool, AllocError>
+    requires few { length scripts.now ≤ MAX_WORKERS }
+    requires notes { history.now.notes ≡ history_of (cast_of shards scripts.now) (content_of found.now) }
+    requires there { IsTrue (is_node (cast_of shards scripts.now) node) }
+    ensures { IfOk result (λ fits. IsTrue fits
+        ↔ FitsIn (cast_of shards scripts.now) (content_of found.now) history.now.notes node) }
+{
+    let placed = history.line(node).len() as u64;
+    let Some(checkpoint) = checkpoint_of(found, node) else {
+        // It goes on from its beginning, at which it did nothing.
+        return Ok(placed == 0);
     };
-    if let Some(checkpoint) = &row.checkpoint {
-        if !is_of(checkpoint, row.node, peers) {
-            return Ok(false);
-        }
+    let state = checkpoint.state();
+    if !is_of(shards, scripts.len() as u8, node, checkpoint) {
+        return Ok(false);
     }
-    let state = row.checkpoint.as_ref().map(Ckpt::state);
-    match row.node {
-        NodeId::Worker(name) => {
-            let script = &case.scripts[usize::from(name) - 1];
-            Ok(match remake_worker(alloc, script, name, case.history)? {
-                Some(worker) => suits_worker(state, &worker),
-                None => false,
-            })
-        }
-        NodeId::Shard(name) => Ok(
-            match remake_shard(alloc, case.shards, name, case.history)? {
-                Some(shard) => suits_shard(state, case.scripts.len(), shard),
-                None => false,
-            },
-        ),
+    if placed != checkpoint.line_len() {
+        return Ok(false);
     }
-}
-
-fn is_of(checkpoint: &Ckpt, node: NodeId, peers: usize) -> bool {
-    checkpoint.node() == node
-        && checkpoint.sent().len() == peers
-        && checkpoint.received().len() == peers
-}
-
-fn suits_worker(state: Option<&State>, worker: &Worker) -> bool {
-    match state {
-        None => true,
-        Some(State::Worker(stored)) => is_worker(stored, worker),
-        Some(State::Shard(_)) => false,
+    if !are_its_acts(alloc, checkpoint)? {
+        return Ok(false);
     }
-}
-
-fn is_worker(stored: &WorkerState, worker: &Worker) -> bool {
-    let asked = match (stored.asked(), worker.asked()) {
-        (None, None) => true,
-        (Some(op), Some(other)) => *op == *other,
-        _ => false,
-    };
-    asked
-        && usize::from(stored.pc()) == worker.pc()
-        && stored.number() == worker.number()
-        && stored.was_none() == worker.was_none()
-        && stored.variables() == worker.values()
-}
-
-fn suits_shard(state: Option<&State>, workers: usize, shard: Remade) -> bool {
-    match state {
-        None => true,
-        Some(State::Shard(stored)) => is_shard(stored, workers, shard),
-        Some(State::Worker(_)) => false,
+    if !leads_to(alloc, shards, scripts, history, node, state)? {
+        return Ok(false);
     }
-}
-
-fn is_shard(stored: &ShardState, workers: usize, shard: Remade) -> bool {
-    let mut bag = shard.bag;
-    for tuple in stored.bag() {
-        if !takes(&mut bag, tuple) {
-            return false;
-        }
-    }
-    bag.is_empty() && are_desks(stored, workers, &shard.desks)
-}
-
-fn are_desks(stored: &ShardState, workers: usize, desks: &[kt_shard::Desk]) -> bool {
-    for (number, desk) in desks.iter().enumerate() {
-        let waiting = stored
-            .waiting()
-            .iter()
-            .find(|entry| usize::from(entry.0) == number);
-        let kept = stored
-            .kept()
-            .iter()
-            .find(|entry| usize::from(entry.0) == number);
-        let is_waiting = match (waiting, &desk.waiting) {
-            (None, None) => true,
-            (Some((_, one)), Some(other)) => one.number == other.number && one.op == other.op,
-            _ => false,
-        };
-        let is_kept = match (kept, &desk.kept) {
-            (None, None) => true,
-            (Some((_, one)), Some(other)) => {
-                one.request.number == other.request.number
-                    && one.request.op == other.request.op
-                    && one.answer == other.answer
-            }
-            _ => false,
-        };
-        let is_there = 1 <= number && number <= workers;
-        let is_empty = desk.waiting.is_none() && desk.kept.is_none();
-        if !is_waiting || !is_kept || !(is_there || is_empty) {
-            return false;
-        }
-    }
-    true
-}
-
-// ---- what each act makes of the one that it names as its cause
-
-fn are_sensible(case: Case<'_>, node: NodeId) -> bool {
-    case.history.line(node).iter().all(|number| match case.history.act(*number) {
-        Some(act) => is_sensible(case.history, act),
-        None => false,
-    })
-}
-
-fn is_sensible(history: &History, act: &Act) -> bool {
-    let cause = history.act(act.by);
-    match &act.what {
-        What::Issue | What::Repeat => act.by == 0,
-        What::Heard | What::Served(_) | What::Again(_) | What::Ignored(None) => {
-            cause.is_some_and(|cause| is_same(cause, act) && is_asking(cause))
-        }
-        What::Accepted(answer) | What::Ignored(Some(answer)) => {
-            cause.is_some_and(|cause| is_same(cause, act) && is_answering(cause, answer))
-        }
-    }
-}
-
-fn is_same(cause: &Act, act: &Act) -> bool {
-    cause.worker == act.worker && cause.number == act.number && cause.op == act.op
-}
-
-fn is_asking(cause: &Act) -> bool {
-    matches!(cause.what, What::Issue | What::Repeat)
-}
-
-fn is_answering(cause: &Act, answer: &Answer) -> bool {
-    let NodeId::Shard(_) = cause.node else {
-        return false;
-    };
-    match &cause.what {
-        What::Served(given) | What::Again(given) => *given == *answer,
-        _ => false,
-    }
-}
-
-// ---- labels
-
-fn are_labels_fit(case: Case<'_>, row: &Found) -> bool {
-    let peers = match row.node {
-        NodeId::Worker(_) => case.shards,
-        NodeId::Shard(_) => case.scripts.len() as u8,
-    };
-    (0..peers).all(|before| is_label_fit(case, row, before + 1))
-}
-
-fn is_label_fit(case: Case<'_>, row: &Found, number: u8) -> bool {
-    let peer = match row.node {
-        NodeId::Worker(_) => NodeId::Shard(number),
-        NodeId::Shard(_) => NodeId::Worker(number),
-    };
-    let heard = label_at(Some(row), number, Ckpt::received);
-    let sent = label_at(Some(row), number, Ckpt::sent);
-    let sent_by_peer = label_at(found_of(case.found, peer), row.node.number(), Ckpt::sent);
-    !sent_by_peer.is_below(heard) && sent.incarnation <= row.incarnation
-}
-
-fn label_at(row: Option<&Found>, number: u8, labels: impl Fn(&Ckpt) -> &[Label]) -> Label {
-    let Some(
-        Found {
-            checkpoint: Some(checkpoint),
-            ..
-        },
-    ) = row
-    else {
-        return Label::default();
-    };
-    match labels(checkpoint).get(usize::from(number) - 1) {
-        Some(label) => *label,
-        None => Label::default(),
-    }
+    Ok(makes_sense(history, node))
 }

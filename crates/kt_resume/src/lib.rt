@@ -1,24 +1,38 @@
-//! What a resumed world is made of again: the history of the acts that checkpoints hold.
+//! What a resumed world is made of again: the history of the acts that checkpoints hold, and whether all fits the scene.
 //!
-//! - Contract: what is placed is the history that `Placing` of kt_world defines (`place_all`, clause `placed`).
+//! - Contract: the history is the one that `Resumed` of kt_world defines for what was found (`history_of`, clause
+//!   `notes`), and a node is named as unfit just where what was found of it is not what a world of the scene leaves
+//!   (`first_unfit`, clauses `none` and `first`). For that a worker and a shard are made again by the acts of their
+//!   lines, where they may make them (`remake_worker` and `remake_shard`, clauses `made` and `none`), and compared with
+//!   what a checkpoint has of them (`suits_worker` and `suits_shard`).
 //! - Stands on: kt_tuple, kt_script, kt_space, kt_link, kt_shard, kt_worker, kt_history, kt_ckpt, kt_store, kt_lines,
 //!   kt_node, kt_world
 //! - Used by: kt_core
-//! - Begin in: `placing.rt`.
+//! - Begin in: `found.rt`, then `judging.rt`; `placing.rt` places the acts.
 #![tactic(auto)]
 
+mod entries;
 mod found;
 mod judging;
+mod labels;
+mod leads;
 mod lines;
+mod parts;
 mod placing;
+mod scene;
+mod sense;
 mod shard;
+mod slot;
+mod space;
+mod suits;
 mod unplaced;
 mod worker;
 
 pub use found::Found;
-pub use judging::first_unfit;
+pub use judging::{first_unfit, is_fit};
 pub use lines::history_of;
 pub use placing::place_all;
 pub use shard::{Remade, remake_shard};
+pub use suits::{suits_shard, suits_worker};
 pub use unplaced::Unplaced;
 pub use worker::remake_worker;

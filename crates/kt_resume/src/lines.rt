@@ -1,56 +1,75 @@
-//! The history that was found.
+//! The history of the acts that checkpoints hold.
 
-ghost use Rattle.std.specs.Prelude.{◌≡◌, IfOk};
-ghost use Rattle.kt_world.specs.Resumed.{history_of};
-ghost use Rattle.kt_resume.specs.Found.{content_of};
+ghost use Rattle.std.specs.Prelude.{◌≡◌, ◌≤◌, All, IfOk, length, map};
+ghost use Rattle.kt_tuple.specs.declared.node.TheConstants.{MAX_WORKERS};
+ghost use Rattle.kt_world.specs.Cut.{permanent_length};
+ghost use Rattle.kt_world.specs.Resumed.{acts_of, history_of};
+ghost use Rattle.kt_resume.specs.Found.{cast_of, content_of};
+ghost use Rattle.kt_resume.specs.Turns.{line_of};
 
-use crate::found::{Found, found_of};
+use crate::found::{Found, checkpoint_of};
 use crate::placing::place_all;
+use crate::scene::nodes_of;
 use crate::unplaced::Unplaced;
-use kt_ckpt::LineAct;
+use kt_ckpt::{Ckpt, LineAct};
 use kt_history::History;
 use kt_script::Script;
 use kt_tuple::NodeId;
 use std::alloc::{AllocError, Global};
 
-/// The acts of all permanent checkpoints of the scene's nodes, in the order in which each can be placed first.
+/// The history of a world of so many shards and a worker for each script that goes on from what was found: the acts of
+/// all checkpoints, each placed once its cause is. Nothing of what was found is taken.
 pub fn history_of(
     alloc: Global,
     shards: u8,
     scripts: &[Script],
     found: &[Found],
 ) -> Result<History, AllocError>
+    requires few { length scripts.now ≤ MAX_WORKERS }
     ensures notes { IfOk result (λ h.
-        h.notes ≡ history_of (record { shards = shards; scripts = scripts.now }) (content_of found.now)) }
+        h.notes ≡ history_of (cast_of shards scripts.now) (content_of found.now)) }
 {
-    let mut lines = Vec::new(alloc);
-    for number in 0..scripts.len() {
-        let node = NodeId::Worker(number as u8 + 1);
-        lines.push(unplaced(alloc, found, node)?)?;
-    }
-    for number in 0..shards {
-        let node = NodeId::Shard(number + 1);
-        lines.push(unplaced(alloc, found, node)?)?;
-    }
+    let nodes = nodes_of(alloc, shards, scripts.len() as u8)?;
+    let mut lines = lines_of(alloc, &nodes, found)?;
     place_all(alloc, &mut lines)
 }
 
-/// What was found of the node, of which nothing is placed yet.
-fn unplaced(alloc: Global, found: &[Found], node: NodeId) -> Result<Unplaced, AllocError> {
-    let acts = match found_of(found, node) {
-        Some(row) => acts_in(alloc, row)?,
-        None => Vec::new(alloc),
-    };
-    Ok(Unplaced::new(node, acts))
+/// For each of these nodes the acts that its checkpoint holds, none where there is no checkpoint.
+fn lines_of(alloc: Global, nodes: &[NodeId], found: &[Found]) -> Result<Vec<Unplaced>, AllocError>
+    ensures lines { IfOk result (λ lines. lines.items ≡ map (line_of (acts_of (content_of found.now))) nodes.now) }
+    ensures long { IfOk result (λ lines. All
+        (λ p. length (acts_of (content_of found.now) p) ≡ permanent_length (content_of found.now) p) nodes.now) }
+{
+    let mut lines = Vec::with_capacity(alloc, nodes.len())?;
+    for node in nodes {
+        let acts = acts_of(alloc, found, *node)?;
+        lines.push(Unplaced::new(*node, acts))?;
+    }
+    Ok(lines)
 }
 
-fn acts_in(alloc: Global, row: &Found) -> Result<Vec<LineAct>, AllocError> {
-    let Some(checkpoint) = &row.checkpoint else {
-        return Ok(Vec::new(alloc));
-    };
+/// The acts that the node's checkpoint holds, as many as it counts.
+fn acts_of(alloc: Global, found: &[Found], node: NodeId) -> Result<Vec<LineAct>, AllocError>
+    ensures acts { IfOk result (λ acts. acts.items ≡ acts_of (content_of found.now) node) }
+    ensures long { IfOk result (λ acts.
+        length (acts_of (content_of found.now) node) ≡ permanent_length (content_of found.now) node) }
+{
+    match checkpoint_of(found, node) {
+        Some(checkpoint) => acts_in(alloc, checkpoint),
+        None => Ok(Vec::new(alloc)),
+    }
+}
+
+/// The acts of the checkpoint, oldest first, with memory of their own. They are as many as it counts, which it says
+/// where it lends its state.
+fn acts_in(alloc: Global, checkpoint: &Ckpt) -> Result<Vec<LineAct>, AllocError>
+    ensures acts { IfOk result (λ acts. acts.items ≡ checkpoint.now.acts) }
+    ensures long { length checkpoint.now.acts ≡ checkpoint.now.line_len }
+{
+    checkpoint.state();
     let listed = checkpoint.acts().listed(alloc)?;
     let mut acts = Vec::with_capacity(alloc, listed.len())?;
-    for act in listed {
+    for act in &listed {
         acts.push(act.copy(alloc)?)?;
     }
     Ok(acts)

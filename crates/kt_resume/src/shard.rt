@@ -1,173 +1,144 @@
 //! A shard is made again by the acts of its line.
 
-use kt_history::{Act, History, What};
-use kt_shard::{DESKS, Desk, Kept, Request};
-use kt_tuple::{Answer, NodeId, Op, Template, Tuple};
-use std::alloc::{AllocError, Global};
+ghost use Rattle.std.specs.Prelude.{◌≡◌, ◌↔◌, ◌≤◌, ◌<◌, All, IfOk, IfSome, IsTrue, Some, None, length, replicate};
+ghost use Rattle.kt_history.specs.Closed.{acts_in_line};
+ghost use Rattle.kt_shard.specs.Limits.{desks};
+ghost use Rattle.kt_tuple.specs.declared.node.NodeId.TheVariants as ids;
+ghost use Rattle.kt_lines.specs.ShardLine.{Ignores, MadeShard, ShardLine, ShardMakes, new_shard, request_of};
+ghost use Rattle.kt_lines.specs.ShardLine.{shard_after, shard_of_acts};
+ghost use Rattle.kt_resume.specs.Remade.{IsRemade, empty_slot};
 
-/// What the acts of a shard's line make of it.
+use crate::slot::Slot;
+use crate::space::answer;
+use kt_history::{Act, History, What};
+use kt_shard::DESKS;
+use kt_space::Bag;
+use kt_tuple::NodeId;
+use std::alloc::{AllocError, Global};
+use std::marker::Model;
+
+/// A shard that made the acts of its line again: its tuples, and what it knows of each worker.
 #[derive(Debug, Drop)]
 pub struct Remade {
-    pub(crate) bag: Vec<Tuple>,
-    /// By the worker's number.
-    pub(crate) desks: Vec<Desk>,
-    /// The cause of the last hearing of each worker, by its number.
-    causes: Vec<u64>,
+    bag: Bag,
+    /// By the worker's number, from 0.
+    slots: Vec<Slot>,
 }
 
-/// The shard of this number among so many that made the acts of its line, one after the other from its first state; none
-/// where it may not make one of them.
+impl Model for Remade {
+    ghost use Rattle.std.specs.Prelude.{◌≡◌, length};
+    ghost use Rattle.kt_shard.specs.Limits.{desks};
+    ghost use Rattle.kt_resume.specs.Remade.{RemadeShard};
+
+    ghost Value = { RemadeShard };
+
+    ghost view = { λ r. record { bag = r.bag.tuples; slots = r.slots.items } };
+
+    ghost invariant = { λ r. length r.slots.items ≡ desks };
+}
+
+/// What the shard of this number, of so many shards, made of itself by the acts of its line, one after the other from
+/// an empty bag; none where it may not make one of them.
 pub fn remake_shard(
     alloc: Global,
     shards: u8,
     name: u8,
     history: &History,
-) -> Result<Option<Remade>, AllocError> {
-    let mut shard = new_shard(alloc)?;
+) -> Result<Option<Remade>, AllocError>
+    requires { 1 ≤ shards }
+    ensures made { IfOk result (λ r. IfSome r (λ r. ShardLine shards name new_shard
+        (acts_in_line history.now.notes (ids.Shard name)))) }
+    ensures like { IfOk result (λ r. IfSome r (λ r. IsRemade
+        (shard_of_acts new_shard (acts_in_line history.now.notes (ids.Shard name))) r)) }
+    // Each act is about a worker that there may be, as those of a checkpoint are.
+    ensures none { IfOk result (λ r. r ≡ None
+        → All (λ a. a.worker < desks) (acts_in_line history.now.notes (ids.Shard name))
+        → ¬ ShardLine shards name new_shard (acts_in_line history.now.notes (ids.Shard name))) }
+{
+    let mut remade = Remade::new(alloc)?;
     for number in history.line(NodeId::Shard(name)) {
+        // Each number of a line is of an act.
         if let Some(act) = history.act(*number) {
-            let is_home = act.op.signature().shard_of(shards) == name;
-            if !is_home || !makes(alloc, &mut shard, act)? {
+            if !remade.makes(alloc, shards, name, act)? {
                 return Ok(None);
             }
         }
     }
-    Ok(Some(shard))
+    Ok(Some(remade))
 }
 
-fn new_shard(alloc: Global) -> Result<Remade, AllocError> {
-    let mut desks = Vec::with_capacity(alloc, usize::from(DESKS))?;
-    let mut causes = Vec::with_capacity(alloc, usize::from(DESKS))?;
-    for _ in 0..DESKS {
-        desks.push(Desk {
-            waiting: None,
-            kept: None,
-        })?;
-        causes.push(0)?;
+impl Remade {
+    /// A shard that made no act: an empty bag, and no worker heard of.
+    fn new(alloc: Global) -> Result<Remade, AllocError>
+        ensures { IfOk result (λ r. IsRemade new_shard r) }
+    {
+        Ok(Remade {
+            bag: Bag::new(alloc),
+            slots: empty_slots(alloc)?,
+        })
     }
-    Ok(Remade {
-        bag: Vec::new(alloc),
-        desks,
-        causes,
-    })
-}
 
-/// Has the shard make the act, and says whether it may.
-fn makes(alloc: Global, shard: &mut Remade, act: &Act) -> Result<bool, AllocError> {
-    let row = usize::from(act.worker);
-    if DESKS <= act.worker {
-        return Ok(false);
-    }
-    match &act.what {
-        What::Heard => hears(alloc, shard, row, act),
-        What::Served(answer) => serves(alloc, shard, row, act, answer),
-        What::Again(answer) => Ok(answers_again(&shard.desks[row], act, answer)),
-        What::Ignored(None) => Ok(ignores(&shard.desks[row], act)),
-        _ => Ok(false),
-    }
-}
-
-fn hears(alloc: Global, shard: &mut Remade, row: usize, act: &Act) -> Result<bool, AllocError> {
-    if act.number <= newest(&shard.desks[row]) {
-        return Ok(false);
-    }
-    shard.desks[row].waiting = Some(request_of(alloc, act)?);
-    shard.causes[row] = act.by;
-    Ok(true)
-}
-
-fn serves(
-    alloc: Global,
-    shard: &mut Remade,
-    row: usize,
-    act: &Act,
-    answer: &Answer,
-) -> Result<bool, AllocError> {
-    let is_asked = match &shard.desks[row].waiting {
-        Some(request) => is_about(request, act),
-        None => false,
-    };
-    if !is_asked || act.by != shard.causes[row] || !answers(&mut shard.bag, &act.op, answer)? {
-        return Ok(false);
-    }
-    shard.desks[row] = Desk {
-        waiting: None,
-        kept: Some(Kept {
-            request: request_of(alloc, act)?,
-            answer: answer.copy(alloc)?,
-        }),
-    };
-    Ok(true)
-}
-
-/// Makes the operation's step of the space with this answer, and says whether there is such a one.
-fn answers(bag: &mut Vec<Tuple>, op: &Op, answer: &Answer) -> Result<bool, AllocError> {
-    match (op, answer) {
-        (Op::Out(tuple), Answer::Done) => {
-            bag.push(tuple.copy(*bag.allocator())?)?;
-            Ok(true)
+    /// Makes the act, and says whether the shard of this number may.
+    fn makes(&mut self, alloc: Global, shards: u8, name: u8, act: &Act) -> Result<bool, AllocError>
+        requires { 1 ≤ shards }
+        ensures may { (made : MadeShard) → IsRemade made self.old
+            → IfOk result (λ makes. IsTrue makes → ShardMakes shards name made act.now) }
+        ensures all { (made : MadeShard) → IsRemade made self.old → act.now.worker < desks
+            → ShardMakes shards name made act.now → IfOk result (λ makes. IsTrue makes) }
+        ensures after { (made : MadeShard) → IsRemade made self.old
+            → IfOk result (λ makes. IsTrue makes → IsRemade (shard_after made act.now) self.new) }
+    {
+        if act.op.signature().shard_of(shards) != name || DESKS <= act.worker {
+            return Ok(false);
         }
-        (Op::In(template) | Op::Inp(template), Answer::Got(tuple)) => {
-            Ok(template.matches(tuple) && takes(bag, tuple))
+        let worker = usize::from(act.worker);
+        match &act.what {
+            What::Heard => self.slots[worker].hear(alloc, act),
+            What::Served(told) => {
+                if !self.slots[worker].serve(alloc, act, told)? {
+                    return Ok(false);
+                }
+                let may = answer(alloc, &mut self.bag, &act.op, told)?;
+                Ok(may)
+            }
+            What::Again(told) => Ok(self.slots[worker].answers_again(act, told)),
+            What::Ignored(None) => Ok(self.ignores(act)),
+            _ => Ok(false),
         }
-        (Op::Rd(template) | Op::Rdp(template), Answer::Got(tuple)) => {
-            Ok(template.matches(tuple) && bag.iter().any(|other| *other == *tuple))
-        }
-        (Op::Inp(template) | Op::Rdp(template), Answer::None) => Ok(has_none(bag, template)),
-        _ => Ok(false),
+    }
+
+    /// Whether the request of the act is neither new nor to be answered again.
+    fn ignores(&self, act: &Act) -> bool
+        requires { act.now.worker < desks }
+        ensures { (made : MadeShard) → IsRemade made self.now
+            → IsTrue result ↔ Ignores (request_of act.now) (made.desk act.now.worker) }
+    {
+        self.slots[usize::from(act.worker)].ignores(act)
+    }
+
+    /// What it knows of each worker, by the worker's number from 0.
+    pub(crate) fn slots(&self) -> &[Slot]
+        ensures slots { result.now ≡ self.now.slots }
+        ensures long { length result.now ≡ desks }
+    {
+        &self.slots
+    }
+
+    /// Its tuples.
+    pub(crate) fn into_bag(self) -> Bag
+        ensures { result.tuples ≡ self.bag }
+    {
+        self.bag
     }
 }
 
-/// Takes an equal tuple out, and says whether there was one.
-pub(crate) fn takes(bag: &mut Vec<Tuple>, tuple: &Tuple) -> bool {
-    match bag.iter().position(|other| *other == *tuple) {
-        Some(place) => {
-            bag.remove(place);
-            true
-        }
-        None => false,
+/// A slot for each number that a worker can have, and for 0.
+fn empty_slots(alloc: Global) -> Result<Vec<Slot>, AllocError>
+    ensures { IfOk result (λ made. made.items ≡ replicate desks empty_slot) }
+{
+    let mut slots = Vec::with_capacity(alloc, usize::from(DESKS))?;
+    for number in 0..DESKS {
+        slots.push(Slot::new())?;
     }
-}
-
-fn has_none(bag: &[Tuple], template: &Template) -> bool {
-    bag.iter().all(|tuple| !template.matches(tuple))
-}
-
-fn answers_again(desk: &Desk, act: &Act, answer: &Answer) -> bool {
-    match (&desk.waiting, &desk.kept) {
-        (None, Some(kept)) => is_about(&kept.request, act) && kept.answer == *answer,
-        _ => false,
-    }
-}
-
-fn ignores(desk: &Desk, act: &Act) -> bool {
-    let is_kept = match (&desk.waiting, &desk.kept) {
-        (None, Some(kept)) => is_about(&kept.request, act),
-        _ => false,
-    };
-    act.number <= newest(desk) && !is_kept
-}
-
-/// The greatest number that was heard, 0 before the first.
-fn newest(desk: &Desk) -> u64 {
-    let waiting = match &desk.waiting {
-        Some(request) => request.number,
-        None => 0,
-    };
-    let kept = match &desk.kept {
-        Some(kept) => kept.request.number,
-        None => 0,
-    };
-    waiting.max(kept)
-}
-
-fn is_about(request: &Request, act: &Act) -> bool {
-    request.number == act.number && request.op == act.op
-}
-
-fn request_of(alloc: Global, act: &Act) -> Result<Request, AllocError> {
-    Ok(Request {
-        number: act.number,
-        op: act.op.copy(alloc)?,
-    })
+    Ok(slots)
 }

@@ -1,7 +1,14 @@
 //! The calls of a store. A write reads the cells of a row, changes them and writes the row whole; it decodes no
 //! checkpoint, and a question about an incarnation or about marks decodes no state (docs/DECISIONS.md#stores).
 
+ghost use Rattle.std.specs.Prelude.{◌≡◌, ◌⊎◌, ◌+◌, None, Some, false, IsTrue, IsErrOf, OnOk, OnErr};
+ghost use Rattle.kt_store.specs.declared.rows.Verdict.TheVariants as verdicts;
+ghost use Rattle.kt_store.specs.Content.{HasVerdict, greatest, next_instance, row_of, verdict_of};
+ghost use Rattle.kt_store.specs.Changes.{bumped, check_begun, decided, discarded};
+ghost use Rattle.kt_store.specs.Changes.{promoted, restart_begun, tentative_put};
+ghost use Rattle.kt_store.specs.Calls.{HasCause};
 ghost use Rattle.kt_tables.specs.Held.{content_of, is_sound, is_sure};
+ghost use Rattle.kt_tables.specs.Stopped.{StopLeaves};
 ghost use Rattle.kt_tables.specs.inner.Lasting.{failures};
 ghost use Rattle.sqlite.specs.Held.{state};
 
@@ -86,7 +93,24 @@ impl<S: Alter> CkptStore for SqlStore<S> {
         self.node_names(alloc)
     }
 
-    fn begin_check(&mut self, node: NodeId, ckpt: &Ckpt) -> Result<(), StoreError> {
+    fn begin_check(&mut self, node: NodeId, ckpt: &Ckpt) -> Result<(), StoreError>
+        requires { IsTrue (is_sure S.Store self.old.tables)
+            → (row_of (content_of S.Store self.old.tables) node).tentative ≡ None }
+        ensures written { IsTrue (is_sure S.Store self.new.tables)
+            → OnOk result (content_of S.Store self.new.tables
+            ≡ check_begun node ckpt.now (content_of S.Store self.old.tables)) }
+        ensures unchanged { IsTrue (is_sure S.Store self.new.tables)
+            → OnErr result (content_of S.Store self.new.tables ≡ content_of S.Store self.old.tables) }
+        ensures honest { IsTrue (is_sure S.Store self.new.tables) → IsTrue (is_sure S.Store self.old.tables) }
+        ensures lasts { failures (state S.Store self.new.tables.conn) ≡ 0 → IsTrue (is_sure S.Store self.old.tables)
+            → IsTrue (is_sure S.Store self.new.tables) }
+        ensures intact { IsErrOf result StoreError.Damaged → is_sound S.Store self.new.tables ≡ false }
+        ensures cause { HasCause self.old.counts self.new.counts (is_sure S.Store self.new.tables)
+            (IsTrue (is_sure S.Store self.new.tables)
+            → next_instance (content_of S.Store self.old.tables) ≡ greatest + 1) result }
+        ensures stop { StopLeaves S.Store self.old.tables self.new.tables
+            (check_begun node ckpt.now (content_of S.Store self.old.tables)) }
+    {
         let last = self.last_instance()?;
         if last == GREATEST {
             return Err(StoreError::Full);
@@ -101,27 +125,81 @@ impl<S: Alter> CkptStore for SqlStore<S> {
         self.put_both(cells, check)
     }
 
-    fn put_tentative(
-        &mut self,
-        node: NodeId,
-        instance: u64,
-        ckpt: &Ckpt,
-    ) -> Result<(), StoreError> {
+    fn put_tentative(&mut self, node: NodeId, instance: u64, ckpt: &Ckpt) -> Result<(), StoreError>
+        requires { IsTrue (is_sure S.Store self.old.tables)
+            → (row_of (content_of S.Store self.old.tables) node).tentative ≡ None }
+        ensures written { IsTrue (is_sure S.Store self.new.tables)
+            → OnOk result (content_of S.Store self.new.tables
+            ≡ tentative_put node instance ckpt.now (content_of S.Store self.old.tables)) }
+        ensures unchanged { IsTrue (is_sure S.Store self.new.tables)
+            → OnErr result (content_of S.Store self.new.tables ≡ content_of S.Store self.old.tables) }
+        ensures honest { IsTrue (is_sure S.Store self.new.tables) → IsTrue (is_sure S.Store self.old.tables) }
+        ensures lasts { failures (state S.Store self.new.tables.conn) ≡ 0 → IsTrue (is_sure S.Store self.old.tables)
+            → IsTrue (is_sure S.Store self.new.tables) }
+        ensures intact { IsErrOf result StoreError.Damaged → is_sound S.Store self.new.tables ≡ false }
+        ensures cause { HasCause self.old.counts self.new.counts (is_sure S.Store self.new.tables) ⊥ result }
+        ensures stop { StopLeaves S.Store self.old.tables self.new.tables
+            (tentative_put node instance ckpt.now (content_of S.Store self.old.tables)) }
+    {
         let cells = self.cells_with(node, instance, ckpt)?;
         self.put_node(cells)
     }
 
-    fn promote(&mut self, node: NodeId) -> Result<(), StoreError> {
+    fn promote(&mut self, node: NodeId) -> Result<(), StoreError>
+        requires { IsTrue (is_sure S.Store self.old.tables)
+            → HasVerdict (content_of S.Store self.old.tables) node verdicts.Yes }
+        ensures written { IsTrue (is_sure S.Store self.new.tables)
+            → OnOk result (content_of S.Store self.new.tables ≡ promoted node (content_of S.Store self.old.tables)) }
+        ensures unchanged { IsTrue (is_sure S.Store self.new.tables)
+            → OnErr result (content_of S.Store self.new.tables ≡ content_of S.Store self.old.tables) }
+        ensures honest { IsTrue (is_sure S.Store self.new.tables) → IsTrue (is_sure S.Store self.old.tables) }
+        ensures lasts { failures (state S.Store self.new.tables.conn) ≡ 0 → IsTrue (is_sure S.Store self.old.tables)
+            → IsTrue (is_sure S.Store self.new.tables) }
+        ensures intact { IsErrOf result StoreError.Damaged → is_sound S.Store self.new.tables ≡ false }
+        ensures cause { HasCause self.old.counts self.new.counts (is_sure S.Store self.new.tables) ⊥ result }
+        ensures stop { StopLeaves S.Store self.old.tables self.new.tables
+            (promoted node (content_of S.Store self.old.tables)) }
+    {
         let cells = promoted(self.cells_of(node)?);
         self.put_node(cells)
     }
 
-    fn discard(&mut self, node: NodeId) -> Result<(), StoreError> {
+    fn discard(&mut self, node: NodeId) -> Result<(), StoreError>
+        requires { IsTrue (is_sure S.Store self.old.tables)
+            → HasVerdict (content_of S.Store self.old.tables) node verdicts.No }
+        ensures written { IsTrue (is_sure S.Store self.new.tables)
+            → OnOk result (content_of S.Store self.new.tables ≡ discarded node (content_of S.Store self.old.tables)) }
+        ensures unchanged { IsTrue (is_sure S.Store self.new.tables)
+            → OnErr result (content_of S.Store self.new.tables ≡ content_of S.Store self.old.tables) }
+        ensures honest { IsTrue (is_sure S.Store self.new.tables) → IsTrue (is_sure S.Store self.old.tables) }
+        ensures lasts { failures (state S.Store self.new.tables.conn) ≡ 0 → IsTrue (is_sure S.Store self.old.tables)
+            → IsTrue (is_sure S.Store self.new.tables) }
+        ensures intact { IsErrOf result StoreError.Damaged → is_sound S.Store self.new.tables ≡ false }
+        ensures cause { HasCause self.old.counts self.new.counts (is_sure S.Store self.new.tables) ⊥ result }
+        ensures stop { StopLeaves S.Store self.old.tables self.new.tables
+            (discarded node (content_of S.Store self.old.tables)) }
+    {
         let cells = discarded(self.cells_of(node)?);
         self.put_node(cells)
     }
 
-    fn begin_restart(&mut self, node: NodeId) -> Result<(), StoreError> {
+    fn begin_restart(&mut self, node: NodeId) -> Result<(), StoreError>
+        ensures written { IsTrue (is_sure S.Store self.new.tables)
+            → OnOk result (content_of S.Store self.new.tables
+            ≡ restart_begun node (content_of S.Store self.old.tables)) }
+        ensures unchanged { IsTrue (is_sure S.Store self.new.tables)
+            → OnErr result (content_of S.Store self.new.tables ≡ content_of S.Store self.old.tables) }
+        ensures honest { IsTrue (is_sure S.Store self.new.tables) → IsTrue (is_sure S.Store self.old.tables) }
+        ensures lasts { failures (state S.Store self.new.tables.conn) ≡ 0 → IsTrue (is_sure S.Store self.old.tables)
+            → IsTrue (is_sure S.Store self.new.tables) }
+        ensures intact { IsErrOf result StoreError.Damaged → is_sound S.Store self.new.tables ≡ false }
+        ensures cause { HasCause self.old.counts self.new.counts (is_sure S.Store self.new.tables)
+            (IsTrue (is_sure S.Store self.new.tables)
+            → (next_instance (content_of S.Store self.old.tables) ≡ greatest + 1)
+            ⊎ ((row_of (content_of S.Store self.old.tables) node).incarnation ≡ greatest)) result }
+        ensures stop { StopLeaves S.Store self.old.tables self.new.tables
+            (restart_begun node (content_of S.Store self.old.tables)) }
+    {
         let last = self.last_instance()?;
         if last == GREATEST {
             return Err(StoreError::Full);
@@ -138,14 +216,43 @@ impl<S: Alter> CkptStore for SqlStore<S> {
         self.put_both(cells, rollback)
     }
 
-    fn bump(&mut self, node: NodeId) -> Result<(), StoreError> {
+    fn bump(&mut self, node: NodeId) -> Result<(), StoreError>
+        ensures written { IsTrue (is_sure S.Store self.new.tables)
+            → OnOk result (content_of S.Store self.new.tables ≡ bumped node (content_of S.Store self.old.tables)) }
+        ensures unchanged { IsTrue (is_sure S.Store self.new.tables)
+            → OnErr result (content_of S.Store self.new.tables ≡ content_of S.Store self.old.tables) }
+        ensures honest { IsTrue (is_sure S.Store self.new.tables) → IsTrue (is_sure S.Store self.old.tables) }
+        ensures lasts { failures (state S.Store self.new.tables.conn) ≡ 0 → IsTrue (is_sure S.Store self.old.tables)
+            → IsTrue (is_sure S.Store self.new.tables) }
+        ensures intact { IsErrOf result StoreError.Damaged → is_sound S.Store self.new.tables ≡ false }
+        ensures cause { HasCause self.old.counts self.new.counts (is_sure S.Store self.new.tables)
+            (IsTrue (is_sure S.Store self.new.tables)
+            → (row_of (content_of S.Store self.old.tables) node).incarnation ≡ greatest) result }
+        ensures stop { StopLeaves S.Store self.old.tables self.new.tables
+            (bumped node (content_of S.Store self.old.tables)) }
+    {
         match bumped(self.cells_of(node)?) {
             Some(cells) => self.put_node(cells),
             None => Err(StoreError::Full),
         }
     }
 
-    fn decide(&mut self, instance: u64, yes: bool) -> Result<(), StoreError> {
+    fn decide(&mut self, instance: u64, yes: bool) -> Result<(), StoreError>
+        requires { IsTrue (is_sure S.Store self.old.tables)
+            → verdict_of (content_of S.Store self.old.tables) instance ≡ Some verdicts.Open }
+        ensures written { IsTrue (is_sure S.Store self.new.tables)
+            → OnOk result (content_of S.Store self.new.tables
+            ≡ decided instance yes (content_of S.Store self.old.tables)) }
+        ensures unchanged { IsTrue (is_sure S.Store self.new.tables)
+            → OnErr result (content_of S.Store self.new.tables ≡ content_of S.Store self.old.tables) }
+        ensures honest { IsTrue (is_sure S.Store self.new.tables) → IsTrue (is_sure S.Store self.old.tables) }
+        ensures lasts { failures (state S.Store self.new.tables.conn) ≡ 0 → IsTrue (is_sure S.Store self.old.tables)
+            → IsTrue (is_sure S.Store self.new.tables) }
+        ensures intact { IsErrOf result StoreError.Damaged → is_sound S.Store self.new.tables ≡ false }
+        ensures cause { HasCause self.old.counts self.new.counts (is_sure S.Store self.new.tables) ⊥ result }
+        ensures stop { StopLeaves S.Store self.old.tables self.new.tables
+            (decided instance yes (content_of S.Store self.old.tables)) }
+    {
         match self.find_posted(instance)? {
             Some(mut posted) => {
                 posted.verdict = Verdict::of(yes);

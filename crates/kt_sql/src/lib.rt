@@ -3,7 +3,8 @@
 //!
 //! - Contract: `SqlStore` keeps each promise of `CkptStore` while its tables keep theirs, and counts exactly how often
 //!   its device failed and how often memory was refused (clause `cause` of each call). A connection that was shut is no
-//!   damage (clause `intact`).
+//!   damage (clause `intact`). A stop inside a write leaves the content before it or after it (clause `stop`), and over
+//!   that the next opening gives a store of just that content (`SqlStore::adopt`, clause `reopened`).
 //! - Stands on: kt_tuple, kt_ckpt, kt_store, kt_tables; of the kit: sqlite, sqlite_std_file, sqlite_trees,
 //!   thiserror
 //! - Used by: linda_kt

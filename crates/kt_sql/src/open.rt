@@ -6,12 +6,14 @@ ghost use Rattle.sqlite.specs.Files.{over_files, file_state};
 ghost use Rattle.sqlite.specs.Held.{state};
 ghost use Rattle.sqlite.specs.State.{HasCleanDisk};
 ghost use Rattle.sqlite.specs.Steps.{over_memory};
+ghost use Rattle.sqlite.specs.Tree.{Trees};
 ghost use Rattle.kt_store.specs.Calls.{nothing_counted};
-ghost use Rattle.kt_store.specs.Content.{empty_content};
+ghost use Rattle.kt_store.specs.Content.{Content, empty_content};
 ghost use Rattle.kt_tables.specs.Schema.{kt_schema, no_schema};
 ghost use Rattle.kt_tables.specs.Rows.{AreAsSaid};
 ghost use Rattle.kt_tables.specs.Opened.{HasNoRow, IsOldVersion, IsThisVersion};
 ghost use Rattle.kt_tables.specs.Held.{is_sure, content_of};
+ghost use Rattle.kt_tables.specs.Stored.{IsStoreOf, IsUnused};
 
 use crate::error::SqlOpenError;
 use crate::store::SqlStore;
@@ -152,7 +154,25 @@ impl<S: Alter> SqlStore<S> {
         ensures unchanged { IfErr result (λ e. HasCleanDisk (state S.Store e.1)
             → IsTrue (state S.Store e.1).is_open → (state S.Store e.1).now ≡ (state S.Store conn).now) }
         ensures ended { IfErr result (λ e. e.1.in_transaction ≡ false) }
+        // Over what a stop of a store left, which is a store of one content or of another, it gives a store that is
+        // honest and holds just that, or is refused for memory or the device alone.
+        ensures reopened { IfOk result (λ s. HasCleanDisk (state S.Store s.tables.conn)
+            → IsTrue (state S.Store conn).is_open → (c : Content) → IsStoreOf (state S.Store conn).now.trees c
+            → IsTrue (is_sure S.Store s.tables) × (content_of S.Store s.tables ≡ c)) }
+        ensures reopens { IfErr result (λ e. HasCleanDisk (state S.Store e.1)
+            → IsTrue (state S.Store conn).is_open → (c : Content) → IsStoreOf (state S.Store conn).now.trees c
+            → (e.0 ≡ SqlOpenError.Memory) ⊎ (e.0 ≡ SqlOpenError.Device)) }
+        // A stop inside the call leaves what was there or, where nothing was stored there, an empty store; and once it
+        // has answered with the store, what that shows.
+        ensures stop { IfErr result (λ e. HasCleanDisk (state S.Store e.1) → IsTrue (state S.Store conn).is_open
+            → (db : Trees) → (state S.Store e.1).may_leave db → (db ≡ (state S.Store conn).committed.trees)
+            ⊎ (IsUnused (state S.Store conn).now × IsStoreOf db empty_content)) }
+        ensures rests { IfOk result (λ s. HasCleanDisk (state S.Store s.tables.conn)
+            → (db : Trees) → (state S.Store s.tables.conn).may_leave db
+            → db ≡ (state S.Store s.tables.conn).now.trees) }
     {
+        // What a connection shows is a database: the clause of its schema tells a proof so.
+        let _ = conn.schema();
         match readied(alloc, &mut conn) {
             Ok(is_trusted) => Ok(SqlStore::over(alloc, conn, is_trusted)),
             Err(error) => Err((open_error(error), conn)),

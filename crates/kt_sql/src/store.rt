@@ -16,6 +16,7 @@ ghost use Rattle.kt_tables.specs.Cells.{cells_node, AreSaid};
 ghost use Rattle.kt_tables.specs.Rows.{IsPosted, placing};
 ghost use Rattle.kt_tables.specs.Opened.{IsReady};
 ghost use Rattle.kt_tables.specs.Held.{content_of, is_sound, is_sure};
+ghost use Rattle.kt_tables.specs.Stopped.{Answers, StopKeeps, StopLeaves};
 ghost use Rattle.kt_tables.specs.inner.Lasting.{failures};
 
 use crate::tally::Tally;
@@ -56,6 +57,14 @@ impl<S: Alter> SqlStore<S> {
             tables: Tables::over(alloc, conn, is_trusted),
             counts: Tally::new(),
         }
+    }
+
+    /// Between two calls a stop leaves a store of just what this one holds, while it is honest. There is nothing to do: a
+    /// caller's proof is told so.
+    pub fn rests(&self)
+        ensures { StopKeeps S.Store self.now.tables self.now.tables }
+    {
+        self.tables.rests();
     }
 
     /// The connection as it is now; the counts are forgotten.
@@ -106,6 +115,8 @@ impl<S: Alter> SqlStore<S> {
             → IfOk result (λ c. cells_node c ≡ row_of (content_of S.Store self.old.tables) node) }
         ensures same { IsTrue (is_sure S.Store self.new.tables)
             → content_of S.Store self.new.tables ≡ content_of S.Store self.old.tables }
+        ensures stop { StopKeeps S.Store self.old.tables self.new.tables }
+        ensures answers { Answers S.Store self.old.tables self.new.tables result }
         ensures honest { IsTrue (is_sure S.Store self.new.tables) → IsTrue (is_sure S.Store self.old.tables) }
         ensures lasts { failures (state S.Store self.new.tables.conn) ≡ 0 → IsTrue (is_sure S.Store self.old.tables)
             → IsTrue (is_sure S.Store self.new.tables) }
@@ -131,6 +142,8 @@ impl<S: Alter> SqlStore<S> {
             }) }
         ensures same { IsTrue (is_sure S.Store self.new.tables)
             → content_of S.Store self.new.tables ≡ content_of S.Store self.old.tables }
+        ensures stop { StopKeeps S.Store self.old.tables self.new.tables }
+        ensures answers { Answers S.Store self.old.tables self.new.tables result }
         ensures honest { IsTrue (is_sure S.Store self.new.tables) → IsTrue (is_sure S.Store self.old.tables) }
         ensures lasts { failures (state S.Store self.new.tables.conn) ≡ 0 → IsTrue (is_sure S.Store self.old.tables)
             → IsTrue (is_sure S.Store self.new.tables) }
@@ -229,6 +242,8 @@ impl<S: Alter> SqlStore<S> {
         ensures found { IfOk result (λ o. IfSome o IsPosted) }
         ensures same { IsTrue (is_sure S.Store self.new.tables)
             → content_of S.Store self.new.tables ≡ content_of S.Store self.old.tables }
+        ensures stop { StopKeeps S.Store self.old.tables self.new.tables }
+        ensures answers { Answers S.Store self.old.tables self.new.tables result }
         ensures honest { IsTrue (is_sure S.Store self.new.tables) → IsTrue (is_sure S.Store self.old.tables) }
         ensures lasts { failures (state S.Store self.new.tables.conn) ≡ 0 → IsTrue (is_sure S.Store self.old.tables)
             → IsTrue (is_sure S.Store self.new.tables) }
@@ -266,6 +281,8 @@ impl<S: Alter> SqlStore<S> {
         ensures within { IfOk result (λ n. n ≤ greatest) }
         ensures same { IsTrue (is_sure S.Store self.new.tables)
             → content_of S.Store self.new.tables ≡ content_of S.Store self.old.tables }
+        ensures stop { StopKeeps S.Store self.old.tables self.new.tables }
+        ensures answers { Answers S.Store self.old.tables self.new.tables result }
         ensures honest { IsTrue (is_sure S.Store self.new.tables) → IsTrue (is_sure S.Store self.old.tables) }
         ensures lasts { failures (state S.Store self.new.tables.conn) ≡ 0 → IsTrue (is_sure S.Store self.old.tables)
             → IsTrue (is_sure S.Store self.new.tables) }
@@ -319,6 +336,10 @@ impl<S: Alter> SqlStore<S> {
             ≡ storing (cells_node cells) (content_of S.Store self.old.tables)) }
         ensures unchanged { IsTrue (is_sure S.Store self.new.tables)
             → OnErr result (content_of S.Store self.new.tables ≡ content_of S.Store self.old.tables) }
+        ensures stop { StopLeaves S.Store self.old.tables self.new.tables
+            (storing (cells_node cells) (content_of S.Store self.old.tables)) }
+        ensures clean { HasCleanDisk (state S.Store self.new.tables.conn)
+            → HasCleanDisk (state S.Store self.old.tables.conn) }
         ensures honest { IsTrue (is_sure S.Store self.new.tables) → IsTrue (is_sure S.Store self.old.tables) }
         ensures lasts { failures (state S.Store self.new.tables.conn) ≡ 0 → IsTrue (is_sure S.Store self.old.tables)
             → IsTrue (is_sure S.Store self.new.tables) }
@@ -337,6 +358,10 @@ impl<S: Alter> SqlStore<S> {
             → OnOk result (content_of S.Store self.new.tables ≡ placing row (content_of S.Store self.old.tables)) }
         ensures unchanged { IsTrue (is_sure S.Store self.new.tables)
             → OnErr result (content_of S.Store self.new.tables ≡ content_of S.Store self.old.tables) }
+        ensures stop { StopLeaves S.Store self.old.tables self.new.tables
+            (placing row (content_of S.Store self.old.tables)) }
+        ensures clean { HasCleanDisk (state S.Store self.new.tables.conn)
+            → HasCleanDisk (state S.Store self.old.tables.conn) }
         ensures honest { IsTrue (is_sure S.Store self.new.tables) → IsTrue (is_sure S.Store self.old.tables) }
         ensures lasts { failures (state S.Store self.new.tables.conn) ≡ 0 → IsTrue (is_sure S.Store self.old.tables)
             → IsTrue (is_sure S.Store self.new.tables) }
@@ -357,6 +382,10 @@ impl<S: Alter> SqlStore<S> {
             (storing (cells_node cells) (content_of S.Store self.old.tables))) }
         ensures unchanged { IsTrue (is_sure S.Store self.new.tables)
             → OnErr result (content_of S.Store self.new.tables ≡ content_of S.Store self.old.tables) }
+        ensures stop { StopLeaves S.Store self.old.tables self.new.tables
+            (placing posted (storing (cells_node cells) (content_of S.Store self.old.tables))) }
+        ensures clean { HasCleanDisk (state S.Store self.new.tables.conn)
+            → HasCleanDisk (state S.Store self.old.tables.conn) }
         ensures honest { IsTrue (is_sure S.Store self.new.tables) → IsTrue (is_sure S.Store self.old.tables) }
         ensures lasts { failures (state S.Store self.new.tables.conn) ≡ 0 → IsTrue (is_sure S.Store self.old.tables)
             → IsTrue (is_sure S.Store self.new.tables) }

@@ -13,7 +13,8 @@ use Rattle.sqlite.specs.Order.{Row}
 use Rattle.sqlite_value.proofs.OrderLemmas.{value_cmp-Int}
 use Rattle.sqlite_trees.specs.Tree.{rowid, has_rowid, put_row, without_rowid}
 use Rattle.sqlite_trees.proofs.ListLemmas.{all-permutation}
-use Rattle.sqlite.specs.Effect.{Database}
+use Rattle.sqlite.specs.Effect.{Database, IsDatabase}
+use Rattle.sqlite_catalog.specs.Listing.{IsSound}
 use Rattle.sqlite.specs.State.{State, Executes}
 use Rattle.sqlite_keyed.proofs.ListLemmas.{all-filter, all_weaker, all_both, all_unmap, IsPermutation-filter}
 use Rattle.kt_tables.specs.Schema.{kt_schema}
@@ -148,13 +149,17 @@ only_meta (r ∷ []) h =
     numbers r at s (inr none) = absurd none
 only_meta (r ∷ s ∷ more) h = absurd cc
 
+-- what one statement did to the version
+abbrev pub DidVersion : Database → Database → Type 0
+DidVersion b d = (d.schema ≡ kt_schema) × (map meta_shown (d.trees 2) ≡ meta_of this_version ∷ []) × ((m : ℕ) → m ≢ 2 → d.trees m ≡ b.trees m)
+    × IsDatabase d
+
 pub put_version_does : (old new : State) (count : ℕ) → old.now.schema ≡ kt_schema → map meta_shown (old.now.trees 2) ≡ meta_of old_version ∷ []
-    → Executes first_meta_text [] old new (Ok count)
-    → (new.now.schema ≡ kt_schema) × (map meta_shown (new.now.trees 2) ≡ meta_of this_version ∷ []) × ((m : ℕ) → m ≢ 2 → new.now.trees m ≡ old.now.trees m)
+    → Executes first_meta_text [] old new (Ok count) → DidVersion old.now new.now
 put_version_does old new count has meta h =
     let only = only_meta (old.now.trees 2) meta in
     let put = put_ran puts_meta old has only.0 new count h in
-    (put.schema, ap (map meta_shown) (put.rows ∙ ap (put_row meta_row) only.1), λ m apart. put.others m apart)
+    (put.schema, ap (map meta_shown) (put.rows ∙ ap (put_row meta_row) only.1), λ m apart. put.others m apart, put.sound)
 
 -- where no table but the third has a row, they are as those that were just made
 pub raised_made : (old new : State) (count : ℕ) → IsOldVersion old.now → HasNoRow old.now → Executes first_meta_text [] old new (Ok count)
@@ -171,14 +176,9 @@ pub raised_store : (old new : State) (count : ℕ) → IsOldVersion old.now → 
     → IsStoreOf new.now.trees empty_content
 raised_store old new count version none h =
     let did = raised_made old new count version none h in
-    let put = put_ran puts_meta old version.schema (only_meta (old.now.trees 2) version.meta).0 new count h in
-    empty_store new.now put.sound did.0 did.1 did.2
+    empty_store new.now (put_version_does old new count version.schema version.meta h).3 did.0 did.1 did.2
 
 -- ---- all of it
-
--- what one statement did to the version
-abbrev pub DidVersion : Database → Database → Type 0
-DidVersion b d = (d.schema ≡ kt_schema) × (map meta_shown (d.trees 2) ≡ meta_of this_version ∷ []) × ((m : ℕ) → m ≢ 2 → d.trees m ≡ b.trees m)
 
 -- the version is still 1 where rows of the nodes alone were put
 pub still_meta : (cells : List NodeCells) (a b : Database) → IsOld a cells → AllPut cells a b → map meta_shown (b.trees 2) ≡ meta_of old_version ∷ []
@@ -192,5 +192,6 @@ all_done old mid last cells is rise put raised = (
     nodes = subst (AreShown cells) (sym (raised.2 0 (λ same. absurd cc) ∙ put.nodes)) (all_shown old cells rise is);
     board = raised.2 1 (λ same. absurd cc) ∙ put.others 1 (λ same. absurd cc);
     meta = raised.1;
+    lists = subst (λ schema. IsSound schema last.trees) raised.0 raised.3;
   },
 )

@@ -83,6 +83,7 @@ new_of c cells old new h same said made = record {
     board = subst (λ (rows : List Row). HoldsBoard rows c.board) (sym made.board) h.board;
   };
   meta = made.meta;
+  lists = made.lists;
 }
 
 pub is_carried : (c : Content) (cells : List NodeCells) (old : Database) (new : State) → IsOldOf old c → AreCellsOf cells c.nodes

@@ -1,5 +1,5 @@
 -- Tables of version 1 that hold a content, and what it is to carry them over.
-use Rattle.std.specs.Prelude.{◌≡◌, ◌≤◌, List, [], ◌∷◌, map, Option, None, Some, ⊤, IsTrue}
+use Rattle.std.specs.Prelude.{◌≤◌, List, [], ◌∷◌, Option, None, Some, ⊤, IsTrue}
 use Rattle.sqlite.specs.declared.types.Value.{Value}
 use Rattle.sqlite.specs.declared.types.Value.TheVariants.{Blob}
 use Rattle.sqlite.specs.Values.{or_null}
@@ -13,10 +13,11 @@ use Rattle.kt_ckpt.specs.OldLimits.{is_old}
 use Rattle.kt_store.specs.declared.rows.NodeRow.{NodeRow}
 use Rattle.kt_store.specs.Content.{Content, greatest}
 use Rattle.kt_tuple.specs.Node.{is_before}
-use Rattle.kt_tables.specs.Opened.{IsOldVersion, IsThisVersion, meta_of, meta_shown, this_version}
+use Rattle.kt_tables.specs.Opened.{IsOldVersion, IsThisVersion}
 use Rattle.kt_tables.specs.Rows.{whole, id_of, instance_value, node_shown, taken_checkpoint, taken_instance}
 use Rattle.kt_tables.specs.Rows.{HasId, IsLow, Holds, HoldsRows, HoldsBoard}
 use Rattle.kt_tables.specs.Settled.{IsSettled}
+use Rattle.kt_tables.specs.Stored.{IsStoreOf}
 
 -- the bytes of a checkpoint in format 1, which has no acts
 abbrev pub spelled_old : Option Ckpt → Value
@@ -50,10 +51,9 @@ pub record IsOldOf (db : Database) (c : Content) : Type 0 where
   pub nodes : HoldsOldNodes (db.trees 0) c.nodes
   pub board : HoldsBoard (db.trees 1) c.board
 
--- the rows of the three tables in the version that is made now: they hold this content
-pub record AreNewOf (db : Trees) (c : Content) : Type 0 where
-  pub holds : Holds db c
-  pub meta : map meta_shown (db 2) ≡ meta_of this_version ∷ []
+-- the tables that are made of them: those of a store of this content, in the version that is made now
+abbrev pub AreNewOf : Trees → Content → Type 0
+AreNewOf = IsStoreOf
 
 -- they were carried over, and that is committed
 pub record IsCarried (s : State) (c : Content) : Type 0 where

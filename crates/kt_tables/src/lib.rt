@@ -3,7 +3,8 @@
 //!
 //! - Contract: a call reads or makes its one change of what the tables hold (`Tables::row_of`, clause `value`;
 //!   `Tables::put_node`, clauses `written` and `unchanged`). This is said while the connection is open, the disk
-//!   returns what was written, and each row was as said at the opening.
+//!   returns what was written, and each row was as said at the opening. A stop inside a write leaves what the tables
+//!   held before it or hold after it (clause `stop`).
 //! - Stands on: kt_tuple, kt_ckpt, kt_store; of the kit: sqlite, sqlite_disk, sqlite_tied, sqlite_sql, sqlite_value,
 //!   sqlite_trees, sqlite_resolve, sqlite_rules, sqlite_schema, sqlite_catalog, sqlite_keyed,
 //!   sqlite_typed

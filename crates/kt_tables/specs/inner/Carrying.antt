@@ -8,6 +8,7 @@ use Rattle.sqlite.specs.Tree.{Trees}
 use Rattle.sqlite.specs.Effect.{Database}
 use Rattle.sqlite.specs.State.{State}
 use Rattle.sqlite_trees.specs.Tree.{IsAscending, rowid, put_row, without_rowid}
+use Rattle.sqlite_catalog.specs.Listing.{IsSound}
 use Rattle.kt_tables.specs.declared.cells.NodeCells.{NodeCells}
 use Rattle.kt_tables.specs.declared.number.Number.{Number}
 use Rattle.kt_tables.specs.Cells.{cells_given}
@@ -59,6 +60,7 @@ pub record AreNewTrees (cells : List NodeCells) (old new : Trees) : Type 0 where
   pub nodes : AreShown cells (new 0)
   pub board : new 1 ≡ old 1
   pub meta : map meta_shown (new 2) ≡ meta_of this_version ∷ []
+  pub lists : IsSound kt_schema new
 
 -- all was put and committed
 pub record ArePut (cells : List NodeCells) (old : Database) (new : State) : Type 0 where

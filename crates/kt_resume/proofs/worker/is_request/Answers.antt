@@ -1,4 +1,4 @@
-use Rattle.std.proofs.Common.{◌≡◌, sym, ◌∙◌}
+use Rattle.std.proofs.Common.{sym, ◌∙◌}
 use Rattle.kt_tuple.specs.Op.{op_eq_decides}
 use Rattle.kt_resume.proofs.worker.is_request.Goals as goal
 

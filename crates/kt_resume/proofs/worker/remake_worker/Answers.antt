@@ -1,4 +1,4 @@
-use Rattle.std.proofs.Common.{◌≡◌, ◌+◌, ◌<◌, ◌∙◌, ◌++◌, List, ℕ, [], ◌∷◌, Some, None, false, true, sym, ap, subst, take, get_or, length, arith}
+use Rattle.std.proofs.Common.{◌≡◌, ◌+◌, ◌<◌, ◌∙◌, List, ℕ, Some, None, false, true, sym, ap, subst, take, get_or, length, arith}
 use Rattle.std.specs.Option.{option_copied}
 use Rattle.kt_history.specs.declared.note.Act.{Act}
 use Rattle.kt_history.specs.Closed.{act_of, acts_at}

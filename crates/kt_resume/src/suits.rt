@@ -1,0 +1,127 @@
+//! Whether a checkpoint has of its node what the acts of its line made again.
+
+ghost use Rattle.std.specs.Prelude.{◌≡◌, ◌≤◌, ◌↔◌, ℕ, List, Option, IsPermutation, IsTrue, IfOk, length};
+ghost use Rattle.std.specs.Option.{option_copied};
+ghost use Rattle.kt_script.specs.declared.command.Command.{Command};
+ghost use Rattle.kt_lines.specs.ShardLine.{MadeShard};
+ghost use Rattle.kt_lines.specs.WorkerLine.{MadeWorker};
+ghost use Rattle.kt_node.specs.State.{worker_fields};
+ghost use Rattle.kt_shard.specs.Desk.{empty_desk};
+ghost use Rattle.kt_shard.specs.Limits.{desks};
+ghost use Rattle.kt_shard.specs.Table.{at};
+ghost use Rattle.kt_world.specs.Like.{IsWorkerLike};
+ghost use Rattle.kt_resume.specs.Remade.{IsRemade, empty_slot};
+ghost use Rattle.kt_resume.specs.Suits.{HasDesks, SuitsShard, SuitsWorker};
+
+use crate::entries::has_entries;
+use crate::shard::Remade;
+use crate::slot::Slot;
+use crate::space::take_equal;
+use kt_ckpt::{ShardState, WorkerState};
+use kt_space::Bag;
+use kt_tuple::{Op, Tuple};
+use kt_worker::Worker;
+use std::alloc::{AllocError, Global};
+
+/// Whether a checkpoint has of its worker where this one stands. Acts leave one way alone for a worker to stand, so
+/// that it is this one.
+pub fn suits_worker(stored: &WorkerState, worker: &Worker) -> bool
+    ensures exact { IsTrue result ↔ (stored.now ≡ worker_fields worker.now) }
+    ensures like { (script : List Command) (made : MadeWorker) → IsWorkerLike script made worker.now
+        → IsTrue result ↔ SuitsWorker script made stored.now }
+{
+    has_standing(stored, worker)
+}
+
+fn has_standing(stored: &WorkerState, worker: &Worker) -> bool
+    ensures { IsTrue result ↔ (stored.now ≡ worker_fields worker.now) }
+{
+    if usize::from(stored.pc()) != worker.pc() {
+        return false;
+    }
+    if stored.number() != worker.number() {
+        return false;
+    }
+    if stored.was_none() != worker.was_none() {
+        return false;
+    }
+    if !are_same(stored.asked(), worker.asked()) {
+        return false;
+    }
+    stored.variables() == worker.values()
+}
+
+/// Whether both are one operation, or none.
+fn are_same(one: Option<&Op>, other: Option<&Op>) -> bool
+    ensures { IsTrue result ↔ (option_copied one.entry ≡ option_copied other.entry) }
+{
+    match (one, other) {
+        (Some(one), Some(other)) => one == other,
+        (None, None) => true,
+        _ => false,
+    }
+}
+
+/// Whether a checkpoint has of its shard what was made again, in a scene of so many workers: the tuples in any order,
+/// just these desks, and nothing on the desks of workers that the scene has not.
+pub fn suits_shard(
+    alloc: Global,
+    workers: u8,
+    stored: &ShardState,
+    remade: Remade,
+) -> Result<bool, AllocError>
+    ensures { (scripts : List (List Command)) (made : MadeShard) → length scripts ≡ workers → IsRemade made remade
+        → IfOk result (λ suits. IsTrue suits ↔ SuitsShard scripts made stored.now) }
+{
+    if !has_desks(workers, stored, remade.slots()) {
+        return Ok(false);
+    }
+    has_just(alloc, remade.into_bag(), stored.bag())
+}
+
+/// Whether the checkpoint has what is on the desks, and nothing is on those of workers that the scene has not.
+fn has_desks(workers: u8, stored: &ShardState, slots: &[Slot]) -> bool
+    requires { length slots.now ≡ desks }
+    ensures { IsTrue result ↔ HasDesks workers slots.now stored.now }
+{
+    if !has_entries(stored.waiting(), slots) {
+        return false;
+    }
+    if !has_entries(stored.kept(), slots) {
+        return false;
+    }
+    are_empty_outside(workers, slots)
+}
+
+/// Whether nothing is on the desk of number 0 and on those of numbers above this one.
+fn are_empty_outside(workers: u8, slots: &[Slot]) -> bool
+    ensures { IsTrue result ↔ ((number : ℕ) → ¬ ((1 ≤ number) × (number ≤ workers))
+        → (at empty_slot slots.now number).desk ≡ empty_desk) }
+{
+    for (number, slot) in slots.iter().enumerate() {
+        if !is_allowed(workers, number, slot) {
+            return false;
+        }
+    }
+    true
+}
+
+/// Whether the worker of this number may have what is on its desk: one of the scene may have anything.
+fn is_allowed(workers: u8, number: usize, slot: &Slot) -> bool
+    ensures { IsTrue result ↔ (¬ ((1 ≤ number) × (number ≤ workers)) → slot.now.desk ≡ empty_desk) }
+{
+    (1 <= number && number <= usize::from(workers)) || slot.is_empty()
+}
+
+/// Whether the bag has just these tuples, in any order. Each is taken out of it, and then none is left.
+fn has_just(alloc: Global, bag: Bag, tuples: &[Tuple]) -> Result<bool, AllocError>
+    ensures { IfOk result (λ has. IsTrue has ↔ IsPermutation bag.tuples tuples.now) }
+{
+    let mut left = bag;
+    for tuple in tuples {
+        if !take_equal(alloc, &mut left, tuple)? {
+            return Ok(false);
+        }
+    }
+    Ok(left.is_empty())
+}
