@@ -25,7 +25,7 @@ abbrev pub IsGood : Cast → Content → Found → Type 0
 IsGood cast c f = IsFit cast c f.node × IsTrue f.is_posted
 
 -- p is the node of the first of these that is not so
-pub record IsFirstUnfit (cast : Cast) (c : Content) (found : List Found) (p : NodeId) : Type 0 where
+pub record IsFirstMisfit (cast : Cast) (c : Content) (found : List Found) (p : NodeId) : Type 0 where
   pub before : List Found
   pub first : Found
   pub later : List Found
