@@ -7,6 +7,9 @@ pub mod Shorts
 pub mod Steps
 pub mod AtOnce
 pub mod Worlds
+pub mod Alike
+pub mod Founds
+pub mod Resumes
 pub mod Judged
 pub mod Traffics
 pub mod Shared

@@ -1,14 +1,40 @@
--- Why a world is not resumed, and what that leaves.
-use Rattle.std.specs.Prelude.{◌≡◌, Bool, IsTrue}
+-- How a world is resumed, why one is not, and what that leaves.
+use Rattle.std.specs.Prelude.{◌≡◌, ℕ, ◌*◌, Bool, IsTrue, List, [], length, replicate, Some}
 use Rattle.kt_tuple.specs.declared.node.NodeId.{NodeId}
 use Rattle.kt_tuple.specs.Node.{is_before}
 use Rattle.kt_store.specs.Calls.{Counts, raised_by}
-use Rattle.kt_store.specs.Content.{Content}
+use Rattle.kt_store.specs.Content.{Content, empty_content}
+use Rattle.kt_history.specs.declared.note.Note.{Note}
+use Rattle.kt_shard.specs.Limits.{desks}
+use Rattle.kt_world.specs.Limits.{rows}
 use Rattle.kt_world.specs.Cast.{Cast}
-use Rattle.kt_world.specs.Resumed.{IsFit, IsHeld}
+use Rattle.kt_world.specs.Resumed.{AreFit, IsFit, IsHeld, down_rows, history_of}
+use Rattle.kt_world.specs.State.{State}
 use Rattle.kt_core.specs.declared.resuming.ResumeError.{ResumeError}
 use Rattle.kt_core.specs.declared.resuming.ResumeError.TheVariants as refusals
 use Rattle.kt_core.specs.Store.{IsFault, StoreValue}
+use Rattle.kt_core.specs.World.{beside}
+
+-- all nodes are down after this history, where instances up to this number were found, and no step was made; what the
+-- store holds is left aside
+abbrev pub going_on : Cast → List Note → ℕ → State
+going_on cast history found = record {
+  cast = cast;
+  nodes = down_rows cast desks;
+  links = replicate (2 * (length cast.scripts * cast.shards)) [];
+  content = empty_content;
+  history = history;
+  own = replicate rows 0;
+  made = 0;
+  found = Some found;
+}
+
+-- the world goes on from some content that fits the scene, whatever its store holds
+pub record GoesOn (cast : Cast) (s : State) : Type 0 where
+  pub content : Content
+  pub fits : AreFit cast content
+  pub found : ℕ
+  pub is : beside s ≡ going_on cast (history_of cast content) found
 
 -- the store holds something of p that does not fit, and what it holds of each node before p fits
 pub record IsFirstUnfit (cast : Cast) (c : Content) (p : NodeId) : Type 0 where

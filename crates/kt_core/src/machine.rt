@@ -81,15 +81,14 @@ fn resumed_tables(alloc: Global, scene: &Scene) -> Result<Tables, AllocError>
 
 impl Machine {
     ghost use Rattle.std.specs.Prelude.{Ok, IfErr};
-    ghost use Rattle.std.specs.Prelude.{◌-◌};
-    ghost use Rattle.kt_store.specs.Content.{Content, empty_content, next_instance};
+    ghost use Rattle.kt_store.specs.Content.{Content, empty_content};
     ghost use Rattle.kt_world.specs.Step.{owner};
     ghost use Rattle.kt_world.specs.Effect.{applied};
     ghost use Rattle.kt_world.specs.Judge.{has_room};
     ghost use Rattle.kt_world.specs.Writing.{content_after};
     ghost use Rattle.kt_world.specs.inner.Ready.{IsReady, CanApply};
     ghost use Rattle.kt_world.specs.Reached.{opening};
-    ghost use Rattle.kt_world.specs.Resumed.{history_of, resumed};
+    ghost use Rattle.kt_core.specs.Resuming.{going_on};
     ghost use Rattle.kt_core.specs.inner.Machine.{state_of, HasRoomFor};
 
     /// The machine of the scene, in which nothing was done yet, or the scene where memory runs out.
@@ -124,10 +123,7 @@ impl Machine {
         history: History,
         found: u64,
     ) -> Result<Machine, Scene>
-        ensures resumed { IfOk result (λ m. (c : Content) → history.notes ≡ history_of scene c
-            → found ≡ next_instance c - 1 → state_of m c ≡ resumed scene c) }
-        ensures scene { IfOk result (λ m. m.scene ≡ scene) }
-        ensures made { IfOk result (λ m. m.made ≡ 0) }
+        ensures resumed { IfOk result (λ m. state_of m empty_content ≡ going_on scene history.notes found) }
         ensures cast { IsCast scene }
         ensures short { AreShort scene }
         ensures back { IfErr result (λ back. back ≡ scene) }

@@ -1,14 +1,14 @@
 //! How a world goes on from what a store holds.
 
-ghost use Rattle.std.specs.Prelude.{◌≡◌, ◌-◌, All, IfErr, IfOk, IsTrue, OnOk, map};
+ghost use Rattle.std.specs.Prelude.{◌≡◌, All, IfErr, IfOk, IsTrue, OnOk};
 ghost use Rattle.kt_store.specs.Calls.{NeverFails};
-ghost use Rattle.kt_store.specs.Content.{next_instance, nodes_in};
 ghost use Rattle.kt_world.specs.Resumed.{AreFit, history_of, resumed};
 ghost use Rattle.kt_resume.specs.Found.{content_of};
 ghost use Rattle.kt_resume.specs.Judging.{IsGood};
 ghost use Rattle.kt_core.specs.declared.resuming.ResumeError.TheVariants as refusals;
 ghost use Rattle.kt_core.specs.inner.Calls.{IsRead};
-ghost use Rattle.kt_core.specs.inner.Gathering.{IsFoundUnfit, IsGatheredBy, found_in, instance_in};
+ghost use Rattle.kt_core.specs.inner.Gathering.{AreAllFound, IsFoundUnfit, IsGatheredBy, IsOfContent, IsOfSome, IsUnjudged};
+ghost use Rattle.kt_core.specs.inner.Gathering.{found_in, instance_in};
 ghost use Rattle.kt_core.specs.inner.Machine.{state_of};
 ghost use Rattle.kt_core.specs.Resuming.{IsFirstUnfit, resuming_counted};
 
@@ -109,13 +109,14 @@ fn find<S: CkptStore>(store: &mut S, alloc: Global, node: NodeId) -> Result<Foun
 
 /// What the store holds of each node, in node order.
 fn find_all<S: CkptStore>(store: &mut S, alloc: Global) -> Result<Vec<Found>, ResumeError>
-    ensures { IsGatheredBy S.CkptStore store.old store.new
-        (λ c found. found.items ≡ map (found_in c) (nodes_in c)) result }
+    ensures unjudged { IfErr result IsUnjudged }
+    ensures found { IsGatheredBy S.CkptStore store.old store.new
+        (λ c found. AreAllFound c found.items) result }
 {
     let nodes = store.nodes(alloc)?;
     let mut found = Vec::with_capacity(alloc, nodes.len())?;
-    for node in nodes {
-        let row = find(store, alloc, node)?;
+    for node in &nodes {
+        let row = find(store, alloc, *node)?;
         found.push(row).map_err(AllocError::from)?;
     }
     Ok(found)
@@ -143,7 +144,8 @@ fn gather<S: CkptStore>(
     scene: &Scene,
 ) -> Result<(History, u64), ResumeError>
     ensures gathered { IsGatheredBy S.CkptStore store.old store.new
-        (λ c g. (g.0.notes ≡ history_of scene.now c) × (g.1 ≡ next_instance c - 1) × AreFit scene.now c) result }
+        (λ c g. IsOfContent scene.now c g.0.notes g.1) result }
+    ensures some { IfOk result (λ g. IsOfSome scene.now g.0.notes) }
     ensures unfit { IsTrue (S.is_honest store.new) → IfErr result (λ e. (p : NodeId)
         → e ≡ refusals.Unfit p → IsFirstUnfit scene.now (S.content store.old) p) }
 {
@@ -156,8 +158,7 @@ fn gather<S: CkptStore>(
 impl<S: CkptStore> World<S> {
     ghost use Rattle.kt_tuple.specs.declared.node.NodeId.{NodeId};
     ghost use Rattle.kt_world.specs.Headline.{Headline};
-    ghost use Rattle.kt_core.specs.Resuming.{IsResumeCause};
-    ghost use Rattle.kt_core.specs.World.{beside};
+    ghost use Rattle.kt_core.specs.Resuming.{GoesOn, IsResumeCause};
 
     /// The world of the scene that goes on from what the store holds, after the program was stopped: every node is
     /// down, nothing is on its way, and what happened are the acts that the permanent checkpoints hold. Nothing is
@@ -170,8 +171,7 @@ impl<S: CkptStore> World<S> {
         ensures honest { IfOk result (λ w. IsTrue w.is_honest → IsTrue (S.is_honest store)) }
         ensures lasts { IfOk result (λ w. NeverFails S.failures → IsTrue (S.is_honest store) → IsTrue w.is_honest) }
         ensures headline { IfOk result (λ w. IsTrue w.is_honest → Headline w.state) }
-        ensures scene { IfOk result (λ w. w.state.cast ≡ scene) }
-        ensures unmade { IfOk result (λ w. w.state.made ≡ 0) }
+        ensures goes_on { IfOk result (λ w. GoesOn scene w.state) }
         ensures scene_back { IfErr result (λ refused. refused.scene ≡ scene) }
         ensures content_back { IfErr result (λ refused.
             IsTrue (S.is_honest refused.store) → S.content refused.store ≡ S.content store) }
@@ -195,8 +195,8 @@ impl<S: CkptStore> World<S> {
         }
     }
 
-    /// The greatest number of an instance that its store held when it was resumed, 0 where it held none; `None` of a world
-    /// that was opened.
+    /// The greatest number of an instance that its store held when it was resumed, 0 where it held none; `None` of a
+    /// world that was opened.
     pub fn found(&self) -> Option<u64>
         ensures { result ≡ self.now.state.found }
     {
@@ -211,13 +211,12 @@ impl<S: CkptStore> World<S> {
         history: History,
         found: u64,
     ) -> Result<World<S>, ResumeRefused<S>>
-        requires gathered { IsTrue (S.is_honest store) → (history.notes ≡ history_of scene (S.content store))
-            × (found ≡ next_instance (S.content store) - 1) × AreFit scene (S.content store) }
+        requires some { IsOfSome scene history.notes }
+        requires gathered { IsTrue (S.is_honest store) → IsOfContent scene (S.content store) history.notes found }
         ensures resumed { IfOk result (λ w. IsTrue w.is_honest → w.state ≡ resumed scene (S.content store)) }
         ensures honest { IfOk result (λ w. w.is_honest ≡ S.is_honest store) }
         ensures headline { IfOk result (λ w. IsTrue w.is_honest → Headline w.state) }
-        ensures scene { IfOk result (λ w. w.state.cast ≡ scene) }
-        ensures unmade { IfOk result (λ w. w.state.made ≡ 0) }
+        ensures goes_on { IfOk result (λ w. GoesOn scene w.state) }
         ensures counts { IfOk result (λ w. w.counts ≡ S.counts store) }
         ensures scene_back { IfErr result (λ refused. refused.scene ≡ scene) }
         ensures store_back { IfErr result (λ refused. refused.store ≡ store) }

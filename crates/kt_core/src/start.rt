@@ -59,8 +59,14 @@ impl Start {
             (store_value S.CkptStore store) (store_value S.CkptStore refused.store) refused.cause) }
     {
         match self {
-            Start::Open => World::open(alloc, scene, store).map_err(unopened),
-            Start::Resume => World::resume(alloc, scene, store).map_err(unresumed),
+            Start::Open => match World::open(alloc, scene, store) {
+                Ok(world) => Ok(world),
+                Err(refused) => Err(unopened(refused)),
+            },
+            Start::Resume => match World::resume(alloc, scene, store) {
+                Ok(world) => Ok(world),
+                Err(refused) => Err(unresumed(refused)),
+            },
         }
     }
 }

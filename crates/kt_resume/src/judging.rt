@@ -5,7 +5,7 @@ ghost use Rattle.kt_tuple.specs.declared.node.TheConstants.{MAX_WORKERS};
 ghost use Rattle.kt_world.specs.Cast.{is_node};
 ghost use Rattle.kt_world.specs.Resumed.{FitsIn, IsFit, history_of};
 ghost use Rattle.kt_resume.specs.Found.{cast_of, content_of};
-ghost use Rattle.kt_resume.specs.Judging.{IsFirstUnfit, IsGood};
+ghost use Rattle.kt_resume.specs.Judging.{IsFirstMisfit, IsGood};
 
 use crate::found::{Found, checkpoint_of};
 use crate::labels::labels_fit;
@@ -32,7 +32,7 @@ pub fn first_unfit(
     ensures none { IfOk result (λ node. node ≡ None
         → All (IsGood (cast_of shards scripts.now) (content_of found.now)) found.now) }
     ensures first { IfOk result (λ node. IfSome node
-        (IsFirstUnfit (cast_of shards scripts.now) (content_of found.now) found.now)) }
+        (IsFirstMisfit (cast_of shards scripts.now) (content_of found.now) found.now)) }
 {
     for held in found {
         let fits = is_fit(alloc, shards, scripts, found, history, held.node)?;

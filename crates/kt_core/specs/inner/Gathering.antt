@@ -1,17 +1,20 @@
 -- What is gathered of a store to go on from it.
-use Rattle.std.specs.Prelude.{◌≡◌, ℕ, Bool, true, is_some, Option, None, Some, Result, Ok, Err, IfOk, IfErr, IsTrue}
-use Rattle.std.specs.Prelude.{List}
+use Rattle.std.specs.Prelude.{◌≡◌, ℕ, ◌-◌, Bool, true, is_some, Option, None, Some, Result, Ok, Err, IfOk, IfErr, IsTrue}
+use Rattle.std.specs.Prelude.{List, map}
 use Rattle.std.specs.Option.{option_map}
 use Rattle.kt_tuple.specs.declared.node.NodeId.{NodeId}
 use Rattle.kt_store.specs.Calls.{Counts, NeverFails}
-use Rattle.kt_store.specs.Content.{Content, posted, row_of}
+use Rattle.kt_history.specs.declared.note.Note.{Note}
+use Rattle.kt_store.specs.Content.{Content, next_instance, nodes_in, posted, row_of}
+use Rattle.kt_store.specs.Proper.{IsProper}
 use Rattle.kt_store.specs.declared.rows.Tentative.{Tentative}
 use Rattle.kt_store.specs.declared.store.CkptStore.{Ghosts}
 use Rattle.kt_world.specs.Cast.{Cast}
 use Rattle.kt_world.specs.Cut.{permanent_of}
+use Rattle.kt_world.specs.Resumed.{AreFit, history_of}
 use Rattle.kt_resume.specs.declared.found.Found.{Found}
 use Rattle.kt_resume.specs.Found.{content_of}
-use Rattle.kt_resume.specs.Judging.{IsFirstUnfit}
+use Rattle.kt_resume.specs.Judging.{IsFirstMisfit}
 use Rattle.kt_core.specs.declared.resuming.ResumeError.{ResumeError}
 use Rattle.kt_core.specs.declared.resuming.ResumeError.TheVariants as refusals
 use Rattle.kt_core.specs.Resuming.{IsResumeCause, resuming_counted}
@@ -33,6 +36,11 @@ found_in c p = record {
   is_posted = stands_on c (instance_in c p);
 }
 
+-- this is what a store holds of each node that it holds anything of; its rows are in order
+pub record AreAllFound (c : Content) (found : List Found) : Type 0 where
+  pub each : found ≡ map (found_in c) (nodes_in c)
+  pub proper : IsProper c
+
 -- what the store's refusal leaves of its counts; want of memory that the store was not asked for leaves them
 abbrev pub gathering_counted : {T : Type 0} → Result T ResumeError → Counts → Counts
 gathering_counted (Ok x) before = before
@@ -48,8 +56,26 @@ pub record IsGatheredBy {S T : Type 0} (kind : Ghosts S) (old new : S) (Says : C
   pub counts : kind.counts new ≡ gathering_counted result (kind.counts old)
   pub cause : IfErr result (IsResumeCause (kind.is_honest new))
 
+-- this is the history of some content that fits the scene
+pub record IsOfSome (cast : Cast) (history : List Note) : Type 0 where
+  pub content : Content
+  pub fits : AreFit cast content
+  pub is : history ≡ history_of cast content
+
+-- a world can go on from the content so
+pub record IsOfContent (cast : Cast) (c : Content) (notes : List Note) (most : ℕ) : Type 0 where
+  pub fits : AreFit cast c
+  pub proper : IsProper c
+  pub history : notes ≡ history_of cast c
+  pub found : most ≡ next_instance c - 1
+
 -- what was found is refused as unfit only for the first that does not fit
 abbrev pub IsFoundUnfit : Cast → List Found → ResumeError → Type 0
-IsFoundUnfit cast found (refusals.Unfit p) = IsFirstUnfit cast (content_of found) found p
+IsFoundUnfit cast found (refusals.Unfit p) = IsFirstMisfit cast (content_of found) found p
 IsFoundUnfit cast found (refusals.Store refusal) = ⊥
 IsFoundUnfit cast found refusals.OutOfMemory = Unit {0}
+
+-- nothing was judged: no node is refused
+abbrev pub IsUnjudged : ResumeError → Type 0
+IsUnjudged (refusals.Unfit p) = ⊥
+IsUnjudged cause = Unit {0}
