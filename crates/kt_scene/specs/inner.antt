@@ -6,4 +6,3 @@ pub mod Texts
 pub mod Making
 pub mod Starts
 pub mod Room
-pub mod Unbegun

@@ -18,8 +18,6 @@ mod mutants;
 #[cfg(test)]
 mod replays;
 #[cfg(test)]
-mod resumes;
-#[cfg(test)]
 mod rollbacks;
 #[cfg(test)]
 mod scenes;
