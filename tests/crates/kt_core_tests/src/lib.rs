@@ -16,6 +16,8 @@ mod random_walks;
 #[cfg(test)]
 mod repeats;
 #[cfg(test)]
+mod resumes;
+#[cfg(test)]
 mod rows;
 #[cfg(test)]
 mod states;
