@@ -7,7 +7,7 @@ use Rattle.std.specs.Cmp.Lexicographic.{pointwise}
 use Rattle.kt_run.specs.declared.running.Output.{Output}
 use Rattle.kt_run.specs.declared.running.Output.TheVariants as outputs
 use Rattle.kt_core.specs.declared.start.Start.{Start}
-use Rattle.kt_core.specs.declared.start.Start.TheVariants as starts
+pub use Rattle.kt_core.specs.declared.start.Start.TheVariants.{Open, Resume}
 use Rattle.kt_command.specs.declared.command.Command.{Command}
 use Rattle.kt_command.specs.declared.command.Command.TheVariants.{Replay, Run}
 
@@ -21,8 +21,8 @@ is_word text word = pointwise nat_eq text word
 
 -- how the world of a run begins, with the flag that it is resumed or without it
 abbrev pub start_of : Bool → Start
-start_of true = starts.Resume
-start_of false = starts.Open
+start_of true = Resume
+start_of false = Open
 
 -- what is written of a run, with the flag for its journal or without it
 abbrev pub output_of : Bool → Output
@@ -32,8 +32,8 @@ output_of false = outputs.Report
 -- the command that a word asks for, with each of the flags behind it or without
 abbrev pub command_of : Text → (is_resumed has_journal : Bool) → Option Command
 command_of word is_resumed has_journal =
-    if is_word word (codes "replay") then Some (Replay starts.Open)
-    else if is_word word (codes "resume") then Some (Replay starts.Resume)
+    if is_word word (codes "replay") then Some (Replay Open)
+    else if is_word word (codes "resume") then Some (Replay Resume)
     else if is_word word (codes "run") then Some (Run (start_of is_resumed) (output_of has_journal))
     else None
 

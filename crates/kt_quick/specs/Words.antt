@@ -2,17 +2,16 @@
 use Rattle.std.specs.Prelude.{◌≡◌, ℕ, Bool, false, if◌then◌else◌, List, [], ◌∷◌, Option, None, Some, codes}
 use Rattle.kt_scene.specs.Outside.{Reader, Writer}
 use Rattle.kt_run.specs.declared.running.Output.TheVariants as outputs
-use Rattle.kt_core.specs.declared.start.Start.TheVariants as starts
 use Rattle.kt_command.specs.declared.command.Command.{Command}
 use Rattle.kt_command.specs.declared.command.Command.TheVariants.{Run}
-use Rattle.kt_command.specs.Command.{Text, command_of, is_word}
+use Rattle.kt_command.specs.Command.{Open, Text, command_of, is_word}
 use Rattle.kt_command.specs.Status.{EndsInMemory}
 
 -- the command that two words name
 abbrev pub command_of_two : Text → Text → Option Command
 command_of_two name flag =
     if is_word name (codes "run")
-    then if is_word flag (codes "--journal") then Some (Run starts.Open outputs.Journal) else None
+    then if is_word flag (codes "--journal") then Some (Run Open outputs.Journal) else None
     else None
 
 -- the command that one word names: those that go on from a file are none

@@ -1,10 +1,14 @@
 -- What a parse by the program's own command line can give.
 use Rattle.std.proofs.Common.{◌≡◌, Bool, true, false, cond, List, [], ◌∷◌, Option, Some, None, option_map, codes, ap, refl, subst, sym, inl, inr, ◌∙◌}
-use Rattle.std.specs.Prelude.{◌⊎◌, if◌then◌else◌, is_some, option_and_then, unwrap_or}
+use Rattle.std.specs.Prelude.{◌⊎◌, ◌&&◌, not, if◌then◌else◌, is_some, option_and_then, unwrap_or}
 use Rattle.std.specs.Borrow.{Bor}
 use Rattle.clap.specs.Words.{App, HasMatchesOf, Kinds, Row, Shape, Text, built, fault_of, first_of, first_value, found_of, is_simple, rows_of}
 use Rattle.clap.specs.Words.{subcommand_of, subcommand_name_of, subcommand_rows_of}
-use Rattle.clap.specs.Kinds.{or_else}
+use Rattle.clap.specs.Kinds.{HasKind, IsAmong, or_else}
+use Rattle.clap.specs.Values.{kind_of}
+use Rattle.clap.specs.declared.error.Error.{Error}
+use Rattle.clap.specs.declared.error.kind.ErrorKind.{ErrorKind}
+use Rattle.clap.specs.declared.error.kind.ErrorKind.TheVariants.{MissingRequiredArgument}
 use Rattle.clap.specs.Walk.{Held, Names, finished, nothing_held, settled, walk, walk_from}
 use Rattle.clap.specs.Simple.{entered, names_of, rows_at}
 use Rattle.clap.specs.Faults.{check_fault, defaults_fault, entered_fault, level_fault, settle_fault, walk_fault}
@@ -14,7 +18,8 @@ use Rattle.clap.specs.declared.parser.matches.ArgMatches.TheViews.{out-ArgMatche
 use Rattle.clap.proofs.WalkLemmas.{first_value-rows}
 use Rattle.kt_command.specs.declared.command.Command.{Command}
 use Rattle.kt_command.specs.Command.{Asked, Carries, Makes, command_of, is_word}
-use Rattle.linda_kt.specs.Words.{asked_by, command_line_app, has_flag, is_true, request_of, required_text, words_fault}
+use Rattle.linda_kt.specs.Words.{asked_by, command_line_app, forgotten, has_flag, is_true, or_forgotten, request_of, required_text}
+use Rattle.linda_kt.specs.Words.{words_fault}
 
 -- the text is there, and is the name of a command
 abbrev pub IsCommand : Option Text → Type 0
@@ -91,8 +96,25 @@ met_command a words m same has none =
     subst IsCommand name (names_command words (sym (ap (λ x. fault_of x words) same) ∙ none))
 
 -- a parse of words without a fault is one of the program's own command line
-pub has_no_fault : (a : App) (words : List Text) → a ≡ command_line_app → fault_of a words ≡ [] → words_fault words ≡ []
+has_no_fault : (a : App) (words : List Text) → a ≡ command_line_app → fault_of a words ≡ [] → fault_of command_line_app words ≡ []
 has_no_fault a words same none = sym (ap (λ x. fault_of x words) same) ∙ none
+
+-- a kind that the rules of `clap` have stays one of the words
+kept_kind : (k : ErrorKind) (kinds : Kinds) (found : Option (Text × List Row)) → IsAmong k kinds → IsAmong k (or_forgotten kinds found)
+kept_kind k [] found among = absurd among
+kept_kind k (x ∷ xs) found among = among
+
+-- an error of the parse has a kind of the words' fault
+pub still_fails : (a : App) (words : List Text) (e : Error) → a ≡ command_line_app → HasKind (fault_of a words) e
+    → HasKind (words_fault words) e
+still_fails a words e same (inl memory) = inl memory
+still_fails a words e same (inr among) =
+    inr (kept_kind _ _ (subcommand_of command_line_app words)
+    (subst (λ (x : App). IsAmong (kind_of e) (fault_of x words)) same among))
+
+some_stays : (o : Option (Bor Text)) → is_some (option_map (λ (s : Bor Text). s.now) o) ≡ is_some o
+some_stays None = refl
+some_stays (Some s) = refl
 
 -- whether a flag stands among a command's words, by the text that is lent for it
 pub flag_of : (flag : Text) (f : Found) (text : Option (Bor Text)) → option_map (λ (s : Bor Text). s.now) text ≡ first_value f flag
@@ -140,6 +162,23 @@ met_is a words m o p same has name rows some =
     let second : option_map (λ p. p.1) (subcommand_rows_of m) ≡ Some (rows_of (found_of p.1.now)) =
     sym rows ∙ ap (option_map (λ (q : Lent). rows_of (found_of q.1.now))) some in
     sym met ∙ both (subcommand_rows_of m) _ _ first second
+
+-- what is wrong with words that pass the rules of `clap`: a run goes on, and no file is named
+pub fault_is : (a : App) (words : List Text) (m : ArgMatches) (o : Option Lent) (p : Lent) (is_resumed : Bool) (store : Option (Bor Text))
+    → a ≡ command_line_app → HasMatchesOf a words m → fault_of a words ≡ []
+    → option_map (λ (q : Lent). q.0.now) o ≡ subcommand_name_of m
+    → option_map (λ (q : Lent). rows_of (found_of q.1.now)) o ≡ option_map (λ p. p.1) (subcommand_rows_of m) → o ≡ Some p
+    → is_resumed ≡ has_flag (codes "resume") (rows_of (found_of p.1.now))
+    → option_map (λ (s : Bor Text). s.now) store ≡ first_value (found_of p.1.now) (codes "store")
+    → words_fault words ≡ (if is_resumed && not (is_some store) then MissingRequiredArgument ∷ [] else [])
+fault_is a words m o p is_resumed store same has none name rows some flag file =
+    let found : List Row = rows_of (found_of p.1.now) in
+    let of_file : is_some (first_of (codes "store") found) ≡ is_some store =
+    ap is_some (sym (file ∙ first_value-rows (found_of p.1.now) (codes "store"))) ∙ some_stays store in
+    ap (λ (k : Kinds). or_forgotten k (subcommand_of command_line_app words)) (has_no_fault a words same none)
+    ∙ ap forgotten (met_is a words m o p same has name rows some)
+    ∙ ap (λ (b : Bool). if b && not (is_some (first_of (codes "store") found)) then MissingRequiredArgument ∷ [] else []) (sym flag)
+    ∙ ap (λ (b : Bool). if is_resumed && not b then MissingRequiredArgument ∷ [] else []) of_file
 
 -- the command and the file that were met are those that the words name
 pub asked_is : (a : App) (words : List Text) (m : ArgMatches) (o : Option Lent) (p : Lent) (command : Command) (store : Option (Bor Text))

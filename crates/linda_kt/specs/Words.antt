@@ -9,10 +9,9 @@ use Rattle.clap.specs.declared.error.kind.ErrorKind.TheVariants.{DisplayHelp, Di
 use Rattle.clap.specs.declared.error.kind.ErrorKind.TheVariants.{InvalidValue, MissingRequiredArgument}
 use Rattle.clap.specs.declared.error.kind.ErrorKind.TheVariants.{MissingSubcommand, UnknownArgument}
 use Rattle.clap.proofs.OnLiterals.{clap_on_literals}
-use Rattle.kt_core.specs.declared.start.Start.TheVariants as starts
 use Rattle.kt_run.specs.declared.running.Output.TheVariants as outputs
 use Rattle.kt_command.specs.declared.command.Command.TheVariants.{Replay, Run}
-use Rattle.kt_command.specs.Command.{Asked, Carries, Makes, command_of, is_word}
+use Rattle.kt_command.specs.Command.{Asked, Carries, Makes, Open, Resume, command_of, is_word}
 
 -- the program's name, and that it has a version
 abbrev pub program_app : App
@@ -118,33 +117,33 @@ AreWrong words = (words_fault words ≢ []) × (AskForHelp words → ⊥)
 
 -- `replay` has no fault and names the command, and no file
 pub replay_passes : (words_fault (codes "replay" ∷ []) ≡ [])
-    × (asked_by (codes "replay" ∷ []) ≡ Some (Makes (Replay starts.Open) None))
+    × (asked_by (codes "replay" ∷ []) ≡ Some (Makes (Replay Open) None))
 unfolding clap_on_literals
 replay_passes = (refl, refl)
 
 -- a file is named behind `--store`, as a word of its own or behind `=`
 pub store_passes : (words_fault (codes "replay" ∷ codes "--store" ∷ codes "a.db" ∷ []) ≡ [])
-    × (asked_by (codes "replay" ∷ codes "--store" ∷ codes "a.db" ∷ []) ≡ Some (Makes (Replay starts.Open) (Some (codes "a.db"))))
+    × (asked_by (codes "replay" ∷ codes "--store" ∷ codes "a.db" ∷ []) ≡ Some (Makes (Replay Open) (Some (codes "a.db"))))
     × (words_fault (codes "replay" ∷ codes "--store=a.db" ∷ []) ≡ [])
-    × (asked_by (codes "replay" ∷ codes "--store=a.db" ∷ []) ≡ Some (Makes (Replay starts.Open) (Some (codes "a.db"))))
+    × (asked_by (codes "replay" ∷ codes "--store=a.db" ∷ []) ≡ Some (Makes (Replay Open) (Some (codes "a.db"))))
 unfolding clap_on_literals
 store_passes = (refl, refl, refl, refl)
 
 -- `run` has no fault either, with its flag or without it, and with a file
 pub run_passes : (words_fault (codes "run" ∷ []) ≡ [])
-    × (asked_by (codes "run" ∷ []) ≡ Some (Makes (Run starts.Open outputs.Report) None))
+    × (asked_by (codes "run" ∷ []) ≡ Some (Makes (Run Open outputs.Report) None))
     × (words_fault (codes "run" ∷ codes "--journal" ∷ []) ≡ [])
-    × (asked_by (codes "run" ∷ codes "--journal" ∷ []) ≡ Some (Makes (Run starts.Open outputs.Journal) None))
+    × (asked_by (codes "run" ∷ codes "--journal" ∷ []) ≡ Some (Makes (Run Open outputs.Journal) None))
     × (words_fault (codes "run" ∷ codes "--store" ∷ codes "a.db" ∷ codes "--journal" ∷ []) ≡ [])
     × (asked_by (codes "run" ∷ codes "--store" ∷ codes "a.db" ∷ codes "--journal" ∷ [])
-    ≡ Some (Makes (Run starts.Open outputs.Journal) (Some (codes "a.db"))))
+    ≡ Some (Makes (Run Open outputs.Journal) (Some (codes "a.db"))))
 unfolding clap_on_literals
 run_passes = (refl, refl, refl, refl, refl, refl)
 
 -- `resume` has no fault with its file, which it names, and wants it
 pub resume_passes : (words_fault (codes "resume" ∷ codes "--store" ∷ codes "a.db" ∷ []) ≡ [])
     × (asked_by (codes "resume" ∷ codes "--store" ∷ codes "a.db" ∷ [])
-    ≡ Some (Makes (Replay starts.Resume) (Some (codes "a.db"))))
+    ≡ Some (Makes (Replay Resume) (Some (codes "a.db"))))
 unfolding clap_on_literals
 resume_passes = (refl, refl)
 
@@ -155,9 +154,9 @@ resume_wants_a_file = refl
 -- so does a run that goes on from a file, with its journal or without
 pub resumed_run_passes : (words_fault (codes "run" ∷ codes "--resume" ∷ codes "--store" ∷ codes "a.db" ∷ []) ≡ [])
     × (asked_by (codes "run" ∷ codes "--resume" ∷ codes "--store" ∷ codes "a.db" ∷ [])
-    ≡ Some (Makes (Run starts.Resume outputs.Report) (Some (codes "a.db"))))
+    ≡ Some (Makes (Run Resume outputs.Report) (Some (codes "a.db"))))
     × (asked_by (codes "run" ∷ codes "--store" ∷ codes "a.db" ∷ codes "--journal" ∷ codes "--resume" ∷ [])
-    ≡ Some (Makes (Run starts.Resume outputs.Journal) (Some (codes "a.db"))))
+    ≡ Some (Makes (Run Resume outputs.Journal) (Some (codes "a.db"))))
 unfolding clap_on_literals
 resumed_run_passes = (refl, refl, refl)
 

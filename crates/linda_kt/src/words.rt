@@ -24,14 +24,14 @@ pub fn read_words<'a>(alloc: Global, words: &'a [&'a str]) -> Result<Request<'a>
     // Words that pass have one of the names.
     let (name, options) = matches.subcommand().unwrap();
     let store = options.get_str("store");
+    let is_resumed = has_flag(options, "resume");
+    if is_resumed && store.is_none() {
+        return Err(forgotten_file(alloc));
+    }
     if name == "migrate" {
         // Words that pass name the file, so no request has the empty text.
         let store = store.unwrap_or("");
         return Ok(Request::Migrate { store });
-    }
-    let is_resumed = has_flag(options, "resume");
-    if is_resumed && store.is_none() {
-        return Err(forgotten_file(alloc));
     }
     let command = Command::of_name(name, is_resumed, has_flag(options, "journal")).unwrap();
     Ok(Request::Make { command, store })
