@@ -11,4 +11,4 @@ refuse-requires g c =
     let Acted : ActError → Type 0 = λ e. IsActed old new c.args.player.now.seat.node c.args.step (Err e) in
     let due = given-cause g.L.Naming.opening.counts old new c.args.player.now.seat.node c.args.step c.in-Err-Step.cause c.args.self.now.desk.later c.requires
     (subst Acted c.in-Err-Step.field-0-is c.in-Err-Step.ensures.acted) in
-    rw ← c.in-Err-Step.cause-is at due
+    rw (← c.in-Err-Step.cause-is) at due
