@@ -1,22 +1,25 @@
 -- What a run has come to.
-use Rattle.std.proofs.Common.{◌≡◌, List, Ok, None, Some, IsTrue, refl, sym, ap, ◌∙◌}
+use Rattle.std.proofs.Common.{◌≡◌, List, Ok, None, Some, IsTrue, refl, sym, subst, ap, ◌∙◌}
 use Rattle.kt_world.specs.declared.step.Step.{Step}
 use Rattle.kt_world.specs.Cast.{Cast}
 use Rattle.kt_world.specs.State.{State}
 use Rattle.kt_core.specs.declared.faults.FaultLine.{FaultLine}
 use Rattle.kt_core.specs.Store.{AreLater, StoreValue}
-use Rattle.kt_core.specs.Starting.{Begins}
+use Rattle.kt_core.specs.Starting.{Begins, IsErrorOf, IsUnbegun}
 use Rattle.kt_core.specs.World.{Standing, store_of}
 use Rattle.kt_core.specs.declared.start.Start.{Start}
+use Rattle.kt_core.specs.declared.start.StartError.{StartError}
+use Rattle.kt_core.specs.declared.start.StartError.TheVariants as unbegun
 use Rattle.kt_store.specs.Content.{Content}
 use Rattle.kt_tuple.specs.declared.node.NodeId.{NodeId}
 use Rattle.kt_stage.specs.declared.running.RunFault.{RunFault}
 use Rattle.kt_stage.specs.declared.running.RunFault.TheVariants as runs
 use Rattle.kt_stage.specs.Journal.{Journal, Replays, all_made}
 use Rattle.kt_stage.specs.Policy.{first_unfinished, spent_by}
-use Rattle.kt_stage.specs.Running.{IsLeftJournal, IsStopped, Leads}
+use Rattle.kt_stage.specs.Running.{IsLeftJournal, IsStopped, IsUnbegunFault, Leads}
 use Rattle.kt_stage.proofs.Halts.{refused-since}
 use Rattle.kt_stage.specs.inner.Halting.{IsHalted}
+use Rattle.kt_stage.specs.inner.Unbegun.{fault_of}
 
 -- the steps lead from the start of the scene's world to the world, which was then looked at
 pub made-from-start : (start : Start) (c : Content) (scene : Cast) (first old new : Standing) (steps same : List Step)
@@ -40,6 +43,24 @@ pub still-left : (old new : Standing) (lines : List FaultLine) (steps same : Lis
     → first_unfinished new.state (spent_by lines same) ≡ Some p
 still-left old new lines steps same p some is stays =
     ap (λ (s : State). first_unfinished s (spent_by lines same)) stays ∙ ap (λ (xs : List Step). first_unfinished old.state (spent_by lines xs)) is ∙ sym some
+
+-- ---- of a run whose world did not begin
+
+pub unbegun-stopped : (start : Start) (was left : StoreValue) (cast : Cast) (lines : List FaultLine) (cause : StartError) (fault : RunFault)
+    → fault ≡ fault_of cause → IsErrorOf start cause → IsUnbegun cast was left cause → IsStopped start was left cast lines fault
+unbegun-stopped start was left cast lines cause fault is kind h =
+    subst (IsStopped start was left cast lines) (sym is) (by cause kind h)
+  where
+    by : (cause : StartError) → IsErrorOf start cause → IsUnbegun cast was left cause → IsStopped start was left cast lines (fault_of cause)
+    by (unbegun.Open e) kind h = (kind, h)
+    by (unbegun.Resume e) kind h = (kind, h)
+
+pub unbegun-left : (cause : StartError) (fault : RunFault) → fault ≡ fault_of cause → IsUnbegunFault fault
+unbegun-left cause fault is = subst IsUnbegunFault (sym is) (by cause)
+  where
+    by : (cause : StartError) → IsUnbegunFault (fault_of cause)
+    by (unbegun.Open e) = tt
+    by (unbegun.Resume e) = tt
 
 -- ---- of a run that began, and its journal
 
