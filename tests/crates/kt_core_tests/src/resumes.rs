@@ -3,7 +3,7 @@
 use crate::making::{SHARD_1, WORKER_1, opened, scripts};
 use crate::rows::leaves;
 use crate::worlds::PUTTER_AND_TAKER;
-use kt_core::{ResumeError, Scene, World};
+use kt_core::{OpenError, ResumeError, Scene, Start, StartError, World};
 use kt_history::{Note, What};
 use kt_node::Mode;
 use kt_store::{CkptStore, MemStore};
@@ -155,4 +155,19 @@ fn nothing_was_stored(rt: HostRuntime) -> Result<(), Fail> {
     let world = resumed(alloc, stopped(&rt, alloc, &[&PUT])?)?;
     assert_eq!(rt; (world.mode(WORKER_1), world.found()), (Some(Mode::Down), Some(0)));
     leaves(&rt, alloc, &world, &[], &[])
+}
+
+/// A world begins in either way; a store on which something is stored is not fresh.
+#[test]
+fn both_beginnings(rt: HostRuntime) -> Result<(), Fail> {
+    let alloc = rt.alloc();
+    let fresh = Start::Open.begin(alloc, scene(alloc, &PUTTER_AND_TAKER)?, MemStore::new(alloc));
+    let world = fresh.ok().ok_or("a world")?;
+    assert_eq!(rt; (world.mode(WORKER_1), world.found()), (Some(Mode::Up), None));
+    let store = stopped(&rt, alloc, &[&PUT, &AGREED])?;
+    let refused = Start::Open.begin(alloc, scene(alloc, &PUTTER_AND_TAKER)?, store);
+    let refused = refused.err().ok_or("a refusal")?;
+    assert_eq!(rt; refused.cause, StartError::Open(OpenError::NotFresh));
+    let world = Start::Resume.begin(alloc, refused.scene, refused.store).ok().ok_or("a world")?;
+    leaves(&rt, alloc, &world, &STORED, &["(\"a\", 1)"])
 }

@@ -122,6 +122,10 @@ impl<S: CkptStore + Alter> CkptStore for Spoiled<S> {
         self.next()?.next_instance()
     }
 
+    fn nodes(&mut self, alloc: Global) -> Result<Vec<NodeId>, StoreError> {
+        self.next()?.nodes(alloc)
+    }
+
     fn is_fresh(&mut self) -> Result<bool, StoreError> {
         self.next()?.is_fresh()
     }
