@@ -43,7 +43,7 @@ use Rattle.kt_world.specs.Resumed.{FitsIn, IsOf, MakesSense, acts_of, history_of
 use Rattle.kt_world.proofs.OpenedSound.{nothing_stored}
 use Rattle.kt_world.proofs.PlacedActs.{placed-acts}
 use Rattle.kt_world.proofs.Scene.{IsNode, a_shard, a_worker, of_node}
-use Rattle.kt_resume.specs.Judging.{LeadsTo}
+use Rattle.kt_resume.specs.inner.Leading.{LeadsTo}
 use Rattle.kt_resume.specs.Remade.{IsRemade, RemadeShard}
 use Rattle.kt_resume.specs.Suits.{SuitsShard, SuitsWorker}
 

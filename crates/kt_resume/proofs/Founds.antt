@@ -21,8 +21,10 @@ use Rattle.kt_world.specs.Resumed.{acts_of, all_held, history_of, nodes_of, sum_
 use Rattle.kt_world.proofs.Together.{scene-rises}
 use Rattle.kt_world.proofs.Sums.{AreInOrder, not_before_itself}
 use Rattle.kt_resume.specs.declared.found.Found.{Found}
-use Rattle.kt_resume.specs.Found.{content_of, found_of, row_from}
-use Rattle.kt_resume.specs.Turns.{AreApart, AreLeft, count_left, line_of, nodes_in}
+use Rattle.kt_resume.specs.Found.{content_of, row_from}
+use Rattle.kt_resume.specs.inner.Found.{found_of}
+use Rattle.kt_resume.specs.Turns.{AreApart, AreLeft, count_left, nodes_in}
+use Rattle.kt_resume.specs.inner.Next.{line_of}
 use Rattle.kt_resume.specs.Unplaced.{Left}
 
 -- ---- what was found of a node

@@ -13,7 +13,7 @@ use Rattle.kt_world.specs.Cast.{Cast, are_neighbours, is_node}
 use Rattle.kt_world.specs.Resumed.{heard_from, nodes_of, sent_to}
 use Rattle.kt_world.proofs.Scene.{Ends, IsNode, a_shard, a_worker, ends, from_ends, neighbour-node, of_node, to_shard, to_worker}
 use Rattle.kt_world.proofs.Together.{among-nodes}
-use Rattle.kt_resume.specs.Labels.{LabelsFit, are_across, link_fits}
+use Rattle.kt_resume.specs.inner.Labels.{LabelsFit, are_across, link_fits}
 
 -- ---- the nodes of the scene
 

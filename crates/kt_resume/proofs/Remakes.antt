@@ -23,7 +23,8 @@ use Rattle.kt_shard.proofs.Shared.{at-put_other, at-put_same, put-set}
 use Rattle.kt_lines.specs.Bag.{served_bag}
 use Rattle.kt_lines.specs.ShardLine.{MadeShard, ShardLine, ShardMakes, ShardMay, bag_after, cause_after, desk_after, new_shard, put_row, shard_after, shard_of_acts}
 use Rattle.kt_lines.proofs.Shared.{put_row_holds, step_like}
-use Rattle.kt_resume.specs.Remade.{IsRemade, RemadeShard, Slot, empty_slot, slot_after}
+use Rattle.kt_resume.specs.Remade.{IsRemade, RemadeShard, Slot, empty_slot}
+use Rattle.kt_resume.specs.inner.Slots.{slot_after}
 use Rattle.kt_resume.proofs.Workers.{acts-more}
 
 -- ---- one act

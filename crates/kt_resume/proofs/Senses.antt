@@ -27,7 +27,7 @@ use Rattle.kt_lines.specs.WorkerLine.{MadeWorker, WorkerLine, WorkerMakes, Worke
 use Rattle.kt_lines.proofs.Traces.{Contains-acts_at, ServedIn, keeps_served}
 use Rattle.kt_shard.specs.declared.request.Request.{Request}
 use Rattle.kt_shard.specs.declared.request.Kept.{Kept}
-use Rattle.kt_resume.specs.Sense.{CauseFits}
+use Rattle.kt_resume.specs.inner.Sense.{CauseFits}
 use Rattle.kt_world.specs.Resumed.{MakesSense}
 
 -- ---- the cause

@@ -26,7 +26,8 @@ use Rattle.kt_node.specs.State.{entries, shard_fields, worker_fields}
 use Rattle.kt_world.specs.Cast.{script_at}
 use Rattle.kt_world.specs.Like.{IsShardLike, IsWorkerLike}
 use Rattle.kt_resume.specs.Remade.{IsRemade, RemadeShard, Slot, empty_slot}
-use Rattle.kt_resume.specs.Suits.{HasDesks, SuitsShard, SuitsWorker}
+use Rattle.kt_resume.specs.Suits.{SuitsShard, SuitsWorker}
+use Rattle.kt_resume.specs.inner.Suits.{HasDesks}
 use Rattle.kt_resume.proofs.EqualTuples.{taken_there}
 use Rattle.kt_resume.proofs.Remakes.{slot_at}
 

@@ -1,12 +1,10 @@
 -- A shard that was made again, as plain data, and when it is what acts make of a shard.
 use Rattle.std.specs.Prelude.{◌≡◌, ℕ, List, IsPermutation}
 use Rattle.kt_tuple.specs.declared.tuple.Tuple.{Tuple}
-use Rattle.kt_history.specs.declared.note.Act.{Act}
-use Rattle.kt_history.specs.declared.note.What.{What}
 use Rattle.kt_shard.specs.declared.desk.Desk.{Desk}
 use Rattle.kt_shard.specs.Desk.{empty_desk}
 use Rattle.kt_shard.specs.Table.{at}
-use Rattle.kt_lines.specs.ShardLine.{MadeShard, desk_after, cause_after}
+use Rattle.kt_lines.specs.ShardLine.{MadeShard}
 
 -- what is known of a worker: its desk, and the cause of its last hearing
 pub record Slot : Type 0 where
@@ -15,10 +13,6 @@ pub record Slot : Type 0 where
 
 abbrev pub empty_slot : Slot
 empty_slot = record { desk = empty_desk; cause = 0 }
-
--- the slot of the act's worker after it
-abbrev pub slot_after : Slot → Act → What → Slot
-slot_after s a what = record { desk = desk_after s.desk a what; cause = cause_after s.cause a what }
 
 -- the tuples in order of arrival, and a slot for each worker, by the worker's number
 pub record RemadeShard : Type 0 where

@@ -25,7 +25,3 @@ AreLeft acts h (x ∷ later) = (x.acts ≡ drop (length (line h x.node)) (acts x
 abbrev pub AreApart : List NodeId → Type 0
 AreApart [] = Unit {0}
 AreApart (p ∷ later) = AllByRecursion (λ q. q ≢ p) later × AreApart later
-
--- all that the node did, of which nothing is placed
-abbrev pub line_of : Acts → NodeId → Left
-line_of acts p = record { node = p; acts = acts p }

@@ -4,7 +4,8 @@ ghost use Rattle.std.specs.Prelude.{◌≡◌};
 ghost use Rattle.std.specs.Option.{option_copied};
 ghost use Rattle.kt_store.specs.Content.{row_of};
 ghost use Rattle.kt_world.specs.Cut.{permanent_of};
-ghost use Rattle.kt_resume.specs.Found.{content_of, found_of};
+ghost use Rattle.kt_resume.specs.Found.{content_of};
+ghost use Rattle.kt_resume.specs.inner.Found.{found_of};
 
 use kt_ckpt::Ckpt;
 use kt_tuple::NodeId;

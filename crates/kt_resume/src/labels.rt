@@ -7,7 +7,7 @@ ghost use Rattle.kt_node.specs.Node.{node_number};
 ghost use Rattle.kt_world.specs.Cast.{Cast, is_node};
 ghost use Rattle.kt_world.specs.Resumed.{heard_from, nodes_of, sent_to};
 ghost use Rattle.kt_resume.specs.Found.{content_of};
-ghost use Rattle.kt_resume.specs.Labels.{LabelsFit, are_across, link_fits};
+ghost use Rattle.kt_resume.specs.inner.Labels.{LabelsFit, are_across, link_fits};
 
 use crate::found::{Found, checkpoint_of, incarnation_of};
 use kt_link::Label;

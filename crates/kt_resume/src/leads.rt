@@ -9,7 +9,7 @@ ghost use Rattle.kt_ckpt.specs.declared.state.State.TheVariants as saved;
 ghost use Rattle.kt_shard.specs.Limits.{desks};
 ghost use Rattle.kt_world.specs.Cast.{Cast, is_node, is_worker};
 ghost use Rattle.kt_resume.specs.Found.{cast_of};
-ghost use Rattle.kt_resume.specs.Judging.{LeadsTo};
+ghost use Rattle.kt_resume.specs.inner.Leading.{LeadsTo};
 
 use crate::scene::script_of;
 use crate::shard::remake_shard;

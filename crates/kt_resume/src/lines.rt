@@ -5,7 +5,7 @@ ghost use Rattle.kt_tuple.specs.declared.node.TheConstants.{MAX_WORKERS};
 ghost use Rattle.kt_world.specs.Cut.{permanent_length};
 ghost use Rattle.kt_world.specs.Resumed.{acts_of, history_of};
 ghost use Rattle.kt_resume.specs.Found.{cast_of, content_of};
-ghost use Rattle.kt_resume.specs.Turns.{line_of};
+ghost use Rattle.kt_resume.specs.inner.Next.{line_of};
 
 use crate::found::{Found, checkpoint_of};
 use crate::placing::place_all;

@@ -7,7 +7,7 @@ ghost use Rattle.kt_history.specs.WellFormed.{IsShard, SameRequest};
 ghost use Rattle.kt_lines.specs.Legal.{IsLine};
 ghost use Rattle.kt_lines.specs.Order.{Setting};
 ghost use Rattle.kt_world.specs.Resumed.{MakesSense};
-ghost use Rattle.kt_resume.specs.Sense.{CauseFits};
+ghost use Rattle.kt_resume.specs.inner.Sense.{CauseFits};
 
 use kt_history::{Act, History, What};
 use kt_tuple::{Answer, NodeId};

@@ -5,7 +5,8 @@ ghost use Rattle.std.specs.Option.{option_copied};
 ghost use Rattle.kt_history.specs.declared.note.What.TheVariants as whats;
 ghost use Rattle.kt_lines.specs.ShardLine.{AnswersAgain, Hears, Ignores, request_of};
 ghost use Rattle.kt_shard.specs.Desk.{empty_desk, kept_answer, newest, same_request};
-ghost use Rattle.kt_resume.specs.Remade.{empty_slot, slot_after};
+ghost use Rattle.kt_resume.specs.Remade.{empty_slot};
+ghost use Rattle.kt_resume.specs.inner.Slots.{slot_after};
 
 use kt_history::Act;
 use kt_shard::{Desk, Kept, Request};

@@ -11,7 +11,8 @@ ghost use Rattle.kt_shard.specs.Limits.{desks};
 ghost use Rattle.kt_shard.specs.Table.{at};
 ghost use Rattle.kt_world.specs.Like.{IsWorkerLike};
 ghost use Rattle.kt_resume.specs.Remade.{IsRemade, empty_slot};
-ghost use Rattle.kt_resume.specs.Suits.{HasDesks, SuitsShard, SuitsWorker};
+ghost use Rattle.kt_resume.specs.Suits.{SuitsShard, SuitsWorker};
+ghost use Rattle.kt_resume.specs.inner.Suits.{HasDesks};
 
 use crate::entries::has_entries;
 use crate::shard::Remade;

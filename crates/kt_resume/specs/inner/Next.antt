@@ -1,7 +1,8 @@
--- The note that is placed next, of acts that are left.
+-- The note that is placed next, of acts that are left; and all acts of a node, before one is placed.
+use Rattle.kt_tuple.specs.declared.node.NodeId.{NodeId}
 use Rattle.std.specs.Prelude.{List, [], ◌∷◌, slice_get, Option, None, Some}
 use Rattle.kt_history.specs.declared.note.Note.{Note}
-use Rattle.kt_world.specs.Placing.{note_of, or_else}
+use Rattle.kt_world.specs.Placing.{Acts, note_of, or_else}
 use Rattle.kt_resume.specs.Unplaced.{Left}
 
 -- the note of the next act of these, if its cause is placed
@@ -17,3 +18,7 @@ first_in h (x ∷ later) = or_else (next_in h x) (first_in h later)
 abbrev pub next_at : List Note → Option Left → Option Note
 next_at h None = None
 next_at h (Some x) = next_in h x
+
+-- all that the node did, of which nothing is placed
+abbrev pub line_of : Acts → NodeId → Left
+line_of acts p = record { node = p; acts = acts p }

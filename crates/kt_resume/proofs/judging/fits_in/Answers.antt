@@ -4,7 +4,7 @@ use Rattle.kt_history.specs.Closed.{acts_in_line}
 use Rattle.kt_ckpt.specs.declared.state.State.{State as Saved}
 use Rattle.kt_world.specs.Asks.{setting_of}
 use Rattle.kt_resume.specs.Found.{cast_of, content_of}
-use Rattle.kt_resume.specs.Judging.{LeadsTo}
+use Rattle.kt_resume.specs.inner.Leading.{LeadsTo}
 use Rattle.kt_resume.proofs.Fits.{acts-few, causes-first, fits-none, fits-some, leads-some, none-placed, shaped-of}
 use Rattle.kt_resume.proofs.judging.fits_in.Goals as goal
 

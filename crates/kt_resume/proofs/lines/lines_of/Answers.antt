@@ -5,7 +5,7 @@ use Rattle.kt_tuple.specs.declared.node.NodeId.{NodeId}
 use Rattle.kt_world.specs.Cut.{permanent_length}
 use Rattle.kt_world.specs.Resumed.{acts_of}
 use Rattle.kt_resume.specs.Found.{content_of}
-use Rattle.kt_resume.specs.Turns.{line_of}
+use Rattle.kt_resume.specs.inner.Next.{line_of}
 use Rattle.kt_resume.specs.Unplaced.{Left}
 use Rattle.kt_resume.proofs.Founds.{line-is}
 use Rattle.kt_resume.proofs.lines.lines_of.Goals as goal

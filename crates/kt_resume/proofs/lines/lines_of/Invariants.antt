@@ -3,7 +3,7 @@ use Rattle.std.specs.Prelude.{All}
 use Rattle.kt_world.specs.Cut.{permanent_length}
 use Rattle.kt_world.specs.Resumed.{acts_of}
 use Rattle.kt_resume.specs.Found.{content_of}
-use Rattle.kt_resume.specs.Turns.{line_of}
+use Rattle.kt_resume.specs.inner.Next.{line_of}
 use Rattle.kt_resume.proofs.lines.lines_of.Given as goal
 
 -- a list for each node that was looked at

@@ -5,7 +5,7 @@ use Rattle.kt_history.specs.declared.note.Act.{Act}
 use Rattle.kt_history.specs.Closed.{act_of}
 use Rattle.kt_history.specs.Line.{line, note_at}
 use Rattle.kt_resume.proofs.Senses.{AreCaused, caused-more, caused-none, caused-sense, not-sense}
-use Rattle.kt_resume.specs.Sense.{CauseFits}
+use Rattle.kt_resume.specs.inner.Sense.{CauseFits}
 use Rattle.kt_resume.proofs.sense.makes_sense.Goals as goal
 use Rattle.kt_resume.proofs.sense.makes_sense.Goals.{in-Some+else-not-has_cause, in_default}
 

@@ -3,7 +3,8 @@ use Rattle.std.proofs.lemmas.Bool.{false≢true}
 use Rattle.std.proofs.lemmas.Result.{IfOk-weaker}
 use Rattle.kt_tuple.specs.declared.tuple.Tuple.{Tuple}
 use Rattle.kt_resume.specs.Remade.{Slot}
-use Rattle.kt_resume.specs.Suits.{HasDesks, SuitsShard}
+use Rattle.kt_resume.specs.Suits.{SuitsShard}
+use Rattle.kt_resume.specs.inner.Suits.{HasDesks}
 use Rattle.kt_resume.proofs.Suited.{suited-suits, suits-suited}
 use Rattle.kt_resume.proofs.suits.suits_shard.Goals as goal
 

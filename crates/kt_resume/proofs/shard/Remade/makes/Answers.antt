@@ -9,7 +9,8 @@ use Rattle.kt_lines.specs.Bag.{served_bag}
 use Rattle.kt_lines.specs.ShardLine.{bag_after, request_of, shard_after}
 use Rattle.kt_shard.specs.Limits.{desks}
 use Rattle.kt_shard.specs.Table.{at}
-use Rattle.kt_resume.specs.Remade.{IsRemade, RemadeShard, Slot, empty_slot, slot_after}
+use Rattle.kt_resume.specs.Remade.{IsRemade, RemadeShard, Slot, empty_slot}
+use Rattle.kt_resume.specs.inner.Slots.{slot_after}
 use Rattle.kt_resume.proofs.Remakes.{allows, answered, answers, makes_where, remade_after, slot_found}
 use Rattle.kt_resume.proofs.shard.Remade.makes.Goals as goal
 
