@@ -17,9 +17,9 @@ use std::alloc::{AllocError, Global};
 use std::io::Write;
 
 /// Writes the report of the world with `# ` before each line, and then the scenario of the world's scene and these
-/// steps. Of a world that was resumed the first line says after which instance. Where it is not too long and a line can say each step, what is written is the text of a scenario of these
-/// steps (`what_a_journal_tells_is_read`). That they lead to this world is the caller's to know. Refused as
-/// `write_report` is.
+/// steps. Of a world that was resumed the first line says after which instance. Where it is not too long and a line can
+/// say each step, what is written is the text of a scenario of these steps (`what_a_journal_tells_is_read`). That they
+/// lead to this world is the caller's to know. Refused as `write_report` is.
 pub fn write_journal<S: CkptStore, W: Write>(
     alloc: Global,
     world: &mut World<S>,
